@@ -1,0 +1,17 @@
+// Bril programs as trees of names and as numbered programs, and their written meaning.
+#![tactic(auto)]
+
+pub mod bytes;
+pub mod function_tree;
+pub mod import;
+pub mod limits;
+pub mod name;
+pub mod numbered;
+pub mod numbered_function;
+pub mod operation;
+pub mod program;
+pub mod sequence;
+pub mod text;
+pub mod tree;
+pub mod types;
+pub mod value;

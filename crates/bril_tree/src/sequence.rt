@@ -1,0 +1,49 @@
+// Lists that contracts see as lists.
+
+ghost use Rattle.std.specs.Prelude.{◌≡◌, [], ◌∷◌, ◌++◌, List, OnOk, OnErr};
+
+use std::alloc::{AllocError, Global};
+use std::marker::Model;
+
+/// A list of items, in order. It keeps its allocator.
+#[derive(Drop)]
+pub struct Seq<T> {
+    held: Vec<T>,
+}
+
+impl<T> Model for Seq<T> {
+    ghost use Rattle.std.specs.Prelude.{List};
+
+    ghost Value = { List T };
+
+    ghost view = { λ s. s.held.items };
+}
+
+impl<T> Seq<T> {
+    /// The empty list, whose items will lie in memory of `alloc`. Takes no memory.
+    pub fn new(alloc: Global) -> Seq<T>
+        ensures { result ≡ [] }
+    {
+        Seq {
+            held: Vec::new(alloc),
+        }
+    }
+
+    /// The items, first to last. Takes no memory.
+    pub fn as_slice(&self) -> &[T]
+        ensures { result.now ≡ self.now }
+    {
+        self.held.as_slice()
+    }
+}
+
+impl<T: Drop> Seq<T> {
+    /// Adds the item at the end. Where memory is wanting the item is dropped and the list stays as it was.
+    pub fn push(&mut self, item: T) -> Result<(), AllocError>
+        ensures ok { OnOk result (self.new ≡ self.old ++ item ∷ []) }
+        ensures err { OnErr result (self.new ≡ self.old) }
+    {
+        self.held.push(item)?;
+        Ok(())
+    }
+}
