@@ -3,3 +3,7 @@ pub mod Identifier
 pub mod Path
 pub mod ProgramForm
 pub mod Value
+pub mod State
+pub mod Operand
+pub mod Outcome
+pub mod Step
