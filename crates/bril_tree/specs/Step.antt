@@ -214,7 +214,7 @@ module _ (p : Prog) (limits : Limits) where
   abbrev pub frees : Value → Frame → List Frame → State → State
   frees pointer f older s =
       if is_freeable (live_block s.blocks (block_of pointer)) (offset_of pointer) then
-          passes f older (record s { blocks = changed_block s.blocks (block_of pointer) (λ b. record b { is_live = false }) })
+      passes f older (record s { blocks = changed_block s.blocks (block_of pointer) (λ b. record b { is_live = false }) })
       else faulted fault.BadFree s
 
   abbrev pub stores : Option ℕ → Value → Value → Frame → List Frame → State → State
