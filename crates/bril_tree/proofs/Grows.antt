@@ -2,6 +2,7 @@
 use Rattle.std.proofs.Common.{◌≡◌, ℕ, zero, suc, ◌+◌, Bool, true, false, cond, refl, sym, ap, List, [], ◌∷◌, ◌++◌, length, Option, Some, None, ℤ, map}
 use Rattle.std.specs.Prelude.{IsSome, slice_index}
 use Rattle.simulation.specs.System.{System, IsSystem, IsPrefix}
+use Rattle.simulation.proofs.Prefix.{IsPrefix-equal}
 use Rattle.bril_tree.specs.declared.limits.End.{End}
 use Rattle.bril_tree.specs.declared.limits.Fault.{Fault}
 use Rattle.bril_tree.specs.declared.limits.Limits.{Limits}
@@ -17,10 +18,7 @@ use Rattle.bril_tree.specs.State.{State, Frame}
 use Rattle.bril_tree.specs.Step.{returns, ends, calls, allocates, frees, stores, loads, loads_held, guards, acts, acts_at, by_outcome, item_step, frames_step, running_step, step, item_at}
 
 same : {a b : List ℕ} → b ≡ a → IsPrefix a b
-same {a} {b} e = ([], grow e)
-  where
-    grow : b ≡ a → b ≡ a ++ []
-    grow e = simp e
+same {a} {b} e = IsPrefix-equal a b (sym e)
 
 -- a choice between two states that grew
 by_choice : (xs : List ℕ) (b : Bool) (s t : State) → IsPrefix xs s.printed → IsPrefix xs t.printed → IsPrefix xs (cond b s t).printed
@@ -90,7 +88,7 @@ module _ (p : Prog) (limits : Limits) where
   step_grows (Some how) s = same refl
 
   step_rests : (o : Option End) (s : State) → IsSome o → running_step p limits o s ≡ s
-  step_rests None s final = absurd final
+  step_rests None s final = cc
   step_rests (Some how) s final = refl
 
   pub program_is_system : IsSystem (program p limits)
