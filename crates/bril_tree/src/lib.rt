@@ -12,6 +12,8 @@ pub mod numbered_function;
 pub mod operation;
 pub mod program;
 pub mod sequence;
+#[cfg(test)]
+mod tests;
 pub mod text;
 pub mod tree;
 pub mod types;

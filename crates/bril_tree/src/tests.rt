@@ -1,0 +1,39 @@
+// One happy path for each call that may want memory.
+
+use crate::bytes::Bytes;
+use crate::name::{IdentFault, Name};
+use crate::sequence::Seq;
+use crate::text::Text;
+use std::test::Fail;
+
+#[test]
+fn lists_and_texts_keep_what_they_get(rt: HostRuntime) -> Result<(), Fail> {
+    let mut items: Seq<u32> = Seq::new(rt.alloc());
+    items.push(7)?;
+    items.push(9)?;
+    assert_eq!(rt; items.as_slice(), [7, 9].as_slice());
+    let mut bytes = Bytes::new(rt.alloc());
+    bytes.add(b"br")?;
+    bytes.add(b"il")?;
+    assert_eq!(rt; bytes.as_slice(), b"bril".as_slice());
+    let text = Text::of(rt.alloc(), "\u{e9}")?;
+    assert_eq!(rt; text.as_bytes(), [0xc3, 0xa9].as_slice());
+    Ok(())
+}
+
+#[test]
+fn identifiers_are_names(rt: HostRuntime) -> Result<(), Fail> {
+    for good in [b"x".as_slice(), b"_1.a", b"%x", b"A.b%c_9"] {
+        let name = Name::ident(rt.alloc(), good)?;
+        assert_eq!(rt; name.as_bytes(), good);
+        let copy = name.copied(rt.alloc())?;
+        assert_eq!(rt; copy.as_bytes(), good);
+    }
+    for bad in [b"".as_slice(), b"1x", b".a", b"a-b", b"a b", b"\xc3\xa9"] {
+        match Name::ident(rt.alloc(), bad) {
+            Ok(_) => assert!(rt; false, "an identifier"),
+            Err(fault) => assert_eq!(rt; fault, IdentFault::NotIdent),
+        }
+    }
+    Ok(())
+}
