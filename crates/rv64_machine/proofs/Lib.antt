@@ -1,2 +1,3 @@
 pub mod Encodings
 mod Fields
+pub mod Words
