@@ -1,3 +1,6 @@
+mod Calls
 pub mod Encodings
 mod Fields
+pub mod Runs
+mod Starts
 pub mod Words

@@ -43,9 +43,9 @@ zeros_at zero = refl
 zeros_at (suc zero) = refl
 zeros_at (suc (suc k)) = refl
 
--- two words at first
-pub words_of-zeros : (n : ℕ) → words_of (replicate n 0) ≡ words_of (0 ∷ 0 ∷ [])
-words_of-zeros n = words_of-replicate n ∙ sym (same_words _ _ zeros_at)
+-- two zeros at first
+pub words_of-two_zeros : words_of (0 ∷ 0 ∷ []) ≡ (λ _. 0)
+words_of-two_zeros = same_words _ _ zeros_at
 
 -- one more argument stands on the stack
 pub words_of-more : {X : Type 0} (f : X → ℕ) (xs : List ℕ) (args : List X) (k v : ℕ) (d : X) → k + 2 < length xs → k < length args
