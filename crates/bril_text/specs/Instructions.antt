@@ -1,7 +1,6 @@
 -- Straight-line programs of ints: one function `@main` of constants, sums and prints.
-use Rattle.std.specs.Prelude.{◌≡◌, ℕ, ℤ, List, [], ◌∷◌, map, Option, Some, None, FitsSigned}
+use Rattle.std.specs.Prelude.{◌≡◌, ℕ, ℤ, List, [], ◌∷◌, map, Option, Some, None}
 use Rattle.std.specs.List.{AllByRecursion}
-use Rattle.std.specs.Int.{w64}
 use Rattle.std.proofs.Common.{lit≤}
 use Rattle.bril_tree.specs.declared.tree.Tree.{Tree}
 use Rattle.bril_tree.specs.declared.function_tree.FuncTree.{FuncTree}
@@ -38,9 +37,8 @@ main_of items = record { imports = []; funcs = record { name = main_name; args =
 abbrev pub tree_of : List Instruction → Tree
 tree_of code = main_of (map item_of code)
 
--- an int of 64 bits
 abbrev pub IsIntLiteral : Lit → Type 0
-IsIntLiteral (Int value) = FitsSigned w64 value
+IsIntLiteral (Int value) = Unit {0}
 IsIntLiteral (Bool value) = ⊥
 IsIntLiteral (Char value) = ⊥
 
