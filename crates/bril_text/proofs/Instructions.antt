@@ -53,7 +53,7 @@ named_takes (printing arg) item e =
     let x = name_takes arg a.0 a.1 in
     (x.0, sym (same_Some (item_of (printing a.0)) item a.2) ∙ ap (λ (n : List ℕ). item_of (printing n)) (sym x.1))
 
-named_again : (i : Instruction) → IsNamed i → named_item i ≡ Some (item_of i)
+pub named_again : (i : Instruction) → IsNamed i → named_item i ≡ Some (item_of i)
 unfolding named_item
 named_again (constant dest value) h = rw (name_again dest h) refl
 named_again (addition dest left right) h = rw (name_again dest h.0, name_again left h.1, name_again right h.2) refl
