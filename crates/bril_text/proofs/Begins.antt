@@ -1,14 +1,11 @@
 -- What the readers of words, marks and numbers take are texts of pieces, and texts of pieces are what they take.
-use Rattle.std.proofs.Common.{◌≡◌, ℕ, ◌+◌, ◌<◌, ◌≤◌, Bool, true, false, ◌&&◌, ◌||◌, eqb, ◌⊎◌, inl, inr, List, [], ◌∷◌, ◌++◌, length, ℤ, Option, Some, None, refl, sym, ap, ◌∙◌, subst, append_assoc, arith}
-use Rattle.std.specs.Prelude.{FitsSigned, codes, option_and_then}
-use Rattle.std.specs.Int.{w64}
+use Rattle.std.proofs.Common.{◌≡◌, ℕ, ◌<◌, ◌≤◌, true, false, ◌||◌, eqb, inl, inr, List, [], ◌∷◌, ◌++◌, length, ℤ, Option, Some, None, refl, sym, ap, ◌∙◌, subst, append_assoc, arith}
 use Rattle.std.specs.List.{list_all}
 use Rattle.std.specs.Char.{is_ascii_digit}
 use Rattle.std.specs.Str.{bytes_eq}
 use Rattle.std.specs.Str.Parse.{AllDigits, IsNumeral}
 use Rattle.std.proofs.lemmas.Bool.{cases_Bool, and_parts, and_from, or_cases, or_left, or_right, eqb-true, eq-eqb, not-true, both_ways}
 use Rattle.std.proofs.lemmas.Bool.Decides.{nat_tests}
-use Rattle.std.proofs.lemmas.List.Folds.{list_all-append}
 use Rattle.std.proofs.lemmas.Option.{cond_some, same_Some}
 use Rattle.std.proofs.lemmas.Slice.Eq.{bytes_eq-Decides}
 use Rattle.std.proofs.lemmas.Str.Parse.{digit_from_value}
@@ -17,9 +14,9 @@ use Rattle.bril_nums.proofs.IntText.{int_of-sound, int_of-complete}
 use Rattle.bril_tree.specs.Identifier.{begins_identifier, continues_identifier, is_identifier}
 use Rattle.bril_text.specs.declared.scan.Kind.{Kind}
 use Rattle.bril_text.specs.declared.scan.Kind.TheVariants as kind
-use Rattle.bril_text.specs.Spelling.{is_blank, AreBlanks, has_sign, IsLiteral, Piece, blanks, gap, exactly, identifier, literal, IsText, Begins}
+use Rattle.bril_text.specs.Spelling.{is_blank, has_sign, IsLiteral, Piece, blanks, gap, exactly, identifier, literal, Begins}
 use Rattle.bril_text.specs.Reading.{◌>>=◌, is_of, run, after_run, after_blanks, word, after_word, after_byte, after_mark, after_keyword, number_at, is_first}
-use Rattle.bril_text.proofs.Runs.{Stops, run_parts, run-yes, run-no, run_fits, run_stops, run_again, after_run_again}
+use Rattle.bril_text.proofs.Runs.{Stops, run_parts, run-yes, run-no, run_fits, run_again, after_run_again}
 
 -- the value of a step that gave one
 pub bind_some : {A B : Type 0} (o : Option A) (f : A → Option B) (y : B) → (o >>= f) ≡ Some y → (x : A) × (o ≡ Some x) × (f x ≡ Some y)
@@ -192,9 +189,9 @@ gap_is_long [] stops h = absurd cc
 gap_is_long (byte ∷ bytes) stops h = elim (cases_Bool (is_blank byte)) [
   | inl same ↦ rw (run-yes kind.Blank byte bytes same).0 (omega arith)
   | inr other ↦
-    let here : is_identifier (word (byte ∷ bytes)) ≡ true = subst (λ (b : List ℕ). is_identifier (word b) ≡ true) (run-no kind.Blank byte bytes other).1 h in
-    let none : is_identifier (word (byte ∷ bytes)) ≡ false = ap is_identifier (run-no kind.Identifier byte bytes stops).0 in
-    absurd (both_ways (is_identifier (word (byte ∷ bytes))) none here)
+      let here : is_identifier (word (byte ∷ bytes)) ≡ true = subst (λ (b : List ℕ). is_identifier (word b) ≡ true) (run-no kind.Blank byte bytes other).1 h in
+      let none : is_identifier (word (byte ∷ bytes)) ≡ false = ap is_identifier (run-no kind.Identifier byte bytes stops).0 in
+      absurd (both_ways (is_identifier (word (byte ∷ bytes))) none here)
 ]
 
 pub gap_then : (pieces : List Piece) (bytes rest : List ℕ) → Stops kind.Identifier bytes → is_identifier (word (after_blanks bytes)) ≡ true → Begins pieces (after_blanks bytes) rest → Begins (gap ∷ pieces) bytes rest

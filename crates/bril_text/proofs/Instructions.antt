@@ -1,8 +1,7 @@
 -- Reading an instruction: what is read is spelled so, and what is spelled so is read.
-use Rattle.std.proofs.Common.{◌≡◌, ℕ, ◌<◌, ◌≤◌, Bool, true, false, cond, ◌⊎◌, inl, inr, List, [], ◌∷◌, ◌++◌, length, ℤ, Option, Some, None, refl, sym, ap, ◌∙◌, subst, arith}
+use Rattle.std.proofs.Common.{◌≡◌, ℕ, Bool, true, false, List, [], ◌∷◌, Option, Some, None, refl, sym, ap, ◌∙◌, subst}
 use Rattle.std.specs.Prelude.{codes}
 use Rattle.std.specs.Str.{bytes_eq}
-use Rattle.std.proofs.lemmas.Bool.{cases_Bool}
 use Rattle.std.proofs.lemmas.Option.{cond_some, same_Some}
 use Rattle.std.proofs.lemmas.Slice.Eq.{bytes_eq-Decides}
 use Rattle.bril_tree.specs.declared.function_tree.Item.{Item}
@@ -14,8 +13,8 @@ use Rattle.bril_text.specs.declared.scan.Kind.TheVariants as kind
 use Rattle.bril_text.specs.Instructions.{Instruction, constant, addition, printing, int_type, item_of}
 use Rattle.bril_text.specs.Spelling.{Piece, blanks, gap, exactly, identifier, literal, Begins, assigned, ended, instruction_pieces}
 use Rattle.bril_text.specs.Reading.{◌>>=◌, after_run, after_blanks, word, after_word, after_mark, after_keyword, number_at, constant_at, sum_at, value_at, assignment_at, print_at, is_first, instruction_at, name_of, named_item, item_at}
-use Rattle.bril_text.proofs.Runs.{Stops, run_parts, run_stops}
-use Rattle.bril_text.proofs.Begins.{bind_some, blank_ends_word, blank_ends_number, identifier_fits, StartsName, starts_name, name_is_no_blank, not_first, stops_exactly, stops_blanks, stops_gap, stops_literal, blanks_then, mark_then, keyword_is, exactly_then, keyword_then, identifier_then, gap_then, literal_then, number_is, Solid, gap_is_blanks, word_again, mark_again, keyword_again, literal_again}
+use Rattle.bril_text.proofs.Runs.{run_stops}
+use Rattle.bril_text.proofs.Begins.{bind_some, blanks_then, mark_then, keyword_is, exactly_then, keyword_then, identifier_then, gap_then, literal_then, number_is}
 
 -- ---- names
 
@@ -84,7 +83,7 @@ constant_takes dest bytes i rest keyword e =
     let end = ended_then (after_run kind.Literal (after_word bytes)) b.0 (ap (after_mark 59) n.1 ∙ b.1) in
     let text = exactly_then (codes "const") (literal a.0.0 ∷ ended) bytes b.0 keyword (literal_then a.0.0 ended (after_run kind.Identifier bytes) b.0 (run_stops kind.Identifier bytes) n.0 end) in
     subst (λ (y : Instruction × List ℕ). IsNamed y.0 → IsAssigned dest bytes y.0 y.1) (same_Some (answer (constant dest a.0.0) b.0) (answer i rest) b.2)
-        (λ named. record { operation = exactly (codes "const") ∷ literal a.0.0 ∷ ended; pieces = refl; named = named; text = text })
+    (λ named. record { operation = exactly (codes "const") ∷ literal a.0.0 ∷ ended; pieces = refl; named = named; text = text })
 
 sum_takes : (dest bytes : List ℕ) (i : Instruction) (rest : List ℕ) → word bytes ≡ codes "add" → sum_at dest (after_word bytes) ≡ Some (answer i rest) → IsNamed i → IsAssigned dest bytes i rest
 unfolding sum_at
@@ -94,16 +93,16 @@ sum_takes dest bytes i rest keyword e =
     let a = bind_some (after_mark 59 (after_word second)) (λ r. Some (answer (addition dest (word first) (word second)) r)) (answer i rest) e in
     let end = ended_then (after_run kind.Identifier second) a.0 a.1 in
     subst (λ (y : Instruction × List ℕ). IsNamed y.0 → IsAssigned dest bytes y.0 y.1) (same_Some (answer (addition dest (word first) (word second)) a.0) (answer i rest) a.2)
-        (λ named.
-            let right = gap_then (identifier (word second) ∷ ended) (after_run kind.Identifier first) a.0 (run_stops kind.Identifier first) named.2 (identifier_then ended second a.0 named.2 end) in
-            let left = gap_then (identifier (word first) ∷ gap ∷ identifier (word second) ∷ ended) (after_run kind.Identifier bytes) a.0 (run_stops kind.Identifier bytes) named.1
-                (identifier_then (gap ∷ identifier (word second) ∷ ended) first a.0 named.1 right) in
-            record {
-              operation = exactly (codes "add") ∷ gap ∷ identifier (word first) ∷ gap ∷ identifier (word second) ∷ ended;
-              pieces = refl;
-              named = named.0;
-              text = exactly_then (codes "add") (gap ∷ identifier (word first) ∷ gap ∷ identifier (word second) ∷ ended) bytes a.0 keyword left;
-            })
+    (λ named.
+    let right = gap_then (identifier (word second) ∷ ended) (after_run kind.Identifier first) a.0 (run_stops kind.Identifier first) named.2 (identifier_then ended second a.0 named.2 end) in
+    let left = gap_then (identifier (word first) ∷ gap ∷ identifier (word second) ∷ ended) (after_run kind.Identifier bytes) a.0 (run_stops kind.Identifier bytes) named.1
+    (identifier_then (gap ∷ identifier (word second) ∷ ended) first a.0 named.1 right) in
+    record {
+      operation = exactly (codes "add") ∷ gap ∷ identifier (word first) ∷ gap ∷ identifier (word second) ∷ ended;
+      pieces = refl;
+      named = named.0;
+      text = exactly_then (codes "add") (gap ∷ identifier (word first) ∷ gap ∷ identifier (word second) ∷ ended) bytes a.0 keyword left;
+    })
 
 value_takes : (dest bytes : List ℕ) (i : Instruction) (rest : List ℕ) → value_at dest bytes ≡ Some (answer i rest) → IsNamed i → IsAssigned dest bytes i rest
 unfolding value_at
@@ -126,7 +125,7 @@ assignment_takes bytes i rest e named =
     let colon = mark_then 58 (exactly (codes "int") ∷ blanks ∷ exactly (codes "=") ∷ blanks ∷ v.operation) (after_word bytes) a.0 rest a.1 ty in
     let behind = blanks_then (exactly (codes ":") ∷ blanks ∷ exactly (codes "int") ∷ blanks ∷ exactly (codes "=") ∷ blanks ∷ v.operation) (after_run kind.Identifier bytes) rest colon in
     subst (λ (pieces : List Piece). Begins pieces bytes rest) (sym v.pieces)
-        (identifier_then (blanks ∷ exactly (codes ":") ∷ blanks ∷ exactly (codes "int") ∷ blanks ∷ exactly (codes "=") ∷ blanks ∷ v.operation) bytes rest v.named behind)
+    (identifier_then (blanks ∷ exactly (codes ":") ∷ blanks ∷ exactly (codes "int") ∷ blanks ∷ exactly (codes "=") ∷ blanks ∷ v.operation) bytes rest v.named behind)
 
 print_takes : (bytes : List ℕ) (i : Instruction) (rest : List ℕ) → print_at bytes ≡ Some (answer i rest) → IsNamed i → Begins (instruction_pieces i) bytes rest
 unfolding print_at
@@ -135,12 +134,12 @@ print_takes bytes i rest e =
     let b = bind_some (after_mark 59 (after_word a.0)) (λ r. Some (answer (printing (word a.0)) r)) (answer i rest) a.2 in
     let k = keyword_is (codes "print") bytes a.0 a.1 in
     subst (λ (y : Instruction × List ℕ). IsNamed y.0 → Begins (instruction_pieces y.0) bytes y.1) (same_Some (answer (printing (word a.0)) b.0) (answer i rest) b.2)
-        (λ named.
-            let name = identifier_then ended a.0 b.0 named (ended_then (after_run kind.Identifier a.0) b.0 b.1) in
-            let here = subst (λ (t : List ℕ). Begins (identifier (word a.0) ∷ ended) t b.0) (sym k.1) name in
-            let h : is_identifier (word (after_word bytes)) ≡ true = ap (λ (t : List ℕ). is_identifier (word t)) k.1 ∙ named in
-            exactly_then (codes "print") (gap ∷ identifier (word a.0) ∷ ended) bytes b.0 k.0
-                (gap_then (identifier (word a.0) ∷ ended) (after_run kind.Identifier bytes) b.0 (run_stops kind.Identifier bytes) h here))
+    (λ named.
+    let name = identifier_then ended a.0 b.0 named (ended_then (after_run kind.Identifier a.0) b.0 b.1) in
+    let here = subst (λ (t : List ℕ). Begins (identifier (word a.0) ∷ ended) t b.0) (sym k.1) name in
+    let h : is_identifier (word (after_word bytes)) ≡ true = ap (λ (t : List ℕ). is_identifier (word t)) k.1 ∙ named in
+    exactly_then (codes "print") (gap ∷ identifier (word a.0) ∷ ended) bytes b.0 k.0
+    (gap_then (identifier (word a.0) ∷ ended) (after_run kind.Identifier bytes) b.0 (run_stops kind.Identifier bytes) h here))
 
 instruction_takes : (bytes : List ℕ) (i : Instruction) (rest : List ℕ) → instruction_at bytes ≡ Some (answer i rest) → IsNamed i → Begins (instruction_pieces i) bytes rest
 unfolding instruction_at

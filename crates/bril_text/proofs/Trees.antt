@@ -1,9 +1,10 @@
 -- Reading a whole file: what is read is spelled so, what is spelled so is read, and a text spells one tree at most.
-use Rattle.std.proofs.Common.{◌≡◌, ℕ, zero, suc, ◌+◌, ◌<◌, ◌≤◌, Bool, true, false, cond, eqb, ◌⊎◌, inl, inr, List, [], ◌∷◌, ◌++◌, length, map, Option, Some, None, Result, Ok, Err, refl, sym, ap, ◌∙◌, subst, append_assoc, arith}
+use Rattle.std.proofs.Common.{◌≡◌, ℕ, zero, suc, ◌<◌, ◌≤◌, true, cond, eqb, inl, inr, List, [], ◌∷◌, ◌++◌, length, map, Some, None, Result, Ok, Err, refl, sym, ap, ◌∙◌, subst, append_assoc, arith}
 use Rattle.std.specs.Prelude.{codes, IfOk, IfErr, IsErr, MatchResult}
 use Rattle.std.specs.List.{flat_map, AllByRecursion}
-use Rattle.std.proofs.lemmas.Bool.{cases_Bool, eqb-true, both_ways}
-use Rattle.std.proofs.lemmas.List.{append-nil, nil_from_length, length-append}
+use Rattle.std.proofs.lemmas.Bool.{cases_Bool, eqb-true}
+use Rattle.std.proofs.lemmas.List.{nil_from_length, length-append}
+use Rattle.std.proofs.lemmas.List.Elements.{All-from_recursion}
 use Rattle.std.proofs.lemmas.List.Concat.{flat_map-cons}
 use Rattle.std.proofs.lemmas.Option.{cond_some, same_Some, none-some}
 use Rattle.bril_tree.specs.declared.tree.Tree.{Tree}
@@ -14,11 +15,11 @@ use Rattle.bril_text.specs.declared.fault.TextFault.{TextFault}
 use Rattle.bril_text.specs.declared.fault.TextFault.TheVariants.{Grammar, Memory}
 use Rattle.bril_text.specs.declared.scan.Kind.TheVariants as kind
 use Rattle.bril_text.specs.Fault.{IsCause}
-use Rattle.bril_text.specs.Instructions.{Instruction, constant, addition, printing, item_of, main_of, tree_of, IsStraightLineItem, IsStraightLineTree}
+use Rattle.bril_text.specs.Instructions.{Instruction, constant, addition, printing, item_of, main_of, IsStraightLineItem, IsStraightLineTree}
 use Rattle.bril_text.specs.Spelling.{Piece, blanks, gap, exactly, identifier, literal, Begins, ended, instruction_pieces, program_pieces, Spells, IsUnspelled}
 use Rattle.bril_text.specs.Reading.{◌>>=◌, Gives, after_blanks, after_word, after_byte, after_mark, after_keyword, is_first, item_at, items_at, program_at, tree_at}
 use Rattle.bril_text.proofs.Runs.{Stops}
-use Rattle.bril_text.proofs.Begins.{bind_some, StartsName, name_is_no_blank, not_first, stops_exactly, stops_blanks, blank_ends_word, blanks_then, byte_then, mark_then, keyword_then, Solid, blanks_again, byte_again, mark_again, keyword_again}
+use Rattle.bril_text.proofs.Begins.{bind_some, name_is_no_blank, not_first, stops_exactly, stops_blanks, blank_ends_word, blanks_then, byte_then, mark_then, keyword_then, Solid, blanks_again, byte_again, mark_again, keyword_again}
 use Rattle.bril_text.proofs.Instructions.{item_takes}
 use Rattle.bril_text.proofs.Written.{behind_name, item_again, instruction_front}
 
@@ -70,19 +71,21 @@ items_take zero bytes code rest e =
     ([], ap (λ (y : List Item × List ℕ). y.0) (sym same), ap (λ (y : List Item × List ℕ). y.1) same)
 items_take (suc most) bytes code rest e = elim (cases_Bool (is_first 125 bytes)) [
   | inl closed ↦
-    let done : Some (items [] bytes) ≡ Some (items code rest) = rw closed at e in
-    let same : items [] bytes ≡ items code rest = same_Some (items [] bytes) (items code rest) done in
-    ([], ap (λ (y : List Item × List ℕ). y.0) (sym same), ap (λ (y : List Item × List ℕ). y.1) same)
+      let done : Some (items [] bytes) ≡ Some (items code rest) = rw closed at e in
+      let same : items [] bytes ≡ items code rest = same_Some (items [] bytes) (items code rest) done in
+      ([], ap (λ (y : List Item × List ℕ). y.0) (sym same), ap (λ (y : List Item × List ℕ). y.1) same)
   | inr open_ ↦
-    let more : (item_at bytes >>= λ x. items_at most x.1 >>= λ y. Some (items (x.0 ∷ y.0) y.1)) ≡ Some (items code rest) = rw open_ at e in
-    let a = bind_some (item_at bytes) (λ x. items_at most x.1 >>= λ y. Some (items (x.0 ∷ y.0) y.1)) (items code rest) more in
-    let b = bind_some (items_at most a.0.1) (λ y. Some (items (a.0.0 ∷ y.0) y.1)) (items code rest) a.2 in
-    let i = item_takes bytes a.0.0 a.0.1 a.1 in
-    let others = items_take most a.0.1 b.0.0 b.0.1 b.1 in
-    let same : items (a.0.0 ∷ b.0.0) b.0.1 ≡ items code rest = same_Some (items (a.0.0 ∷ b.0.0) b.0.1) (items code rest) b.2 in
-    let pieces = Begins-append (instruction_pieces i.0) (code_pieces others.0) bytes a.0.1 b.0.1 i.2 others.2 in
-    (i.0 ∷ others.0, ap (λ (y : List Item × List ℕ). y.0) (sym same) ∙ ap (λ (x : Item). x ∷ b.0.0) i.1 ∙ ap (λ (xs : List Item). item_of i.0 ∷ xs) others.1,
-        rw flat_map-cons (subst (λ (y : List Item × List ℕ). Begins (instruction_pieces i.0 ++ code_pieces others.0) bytes y.1) same pieces))
+      let more : (item_at bytes >>= λ x. items_at most x.1 >>= λ y. Some (items (x.0 ∷ y.0) y.1)) ≡ Some (items code rest) = rw open_ at e in
+      let a = bind_some (item_at bytes) (λ x. items_at most x.1 >>= λ y. Some (items (x.0 ∷ y.0) y.1)) (items code rest) more in
+      let b = bind_some (items_at most a.0.1) (λ y. Some (items (a.0.0 ∷ y.0) y.1)) (items code rest) a.2 in
+      let i = item_takes bytes a.0.0 a.0.1 a.1 in
+      let others = items_take most a.0.1 b.0.0 b.0.1 b.1 in
+      let same : items (a.0.0 ∷ b.0.0) b.0.1 ≡ items code rest = same_Some (items (a.0.0 ∷ b.0.0) b.0.1) (items code rest) b.2 in
+      let pieces = Begins-append (instruction_pieces i.0) (code_pieces others.0) bytes a.0.1 b.0.1 i.2 others.2 in (
+        i.0 ∷ others.0,
+        ap (λ (y : List Item × List ℕ). y.0) (sym same) ∙ ap (λ (x : Item). x ∷ b.0.0) i.1 ∙ ap (λ (xs : List Item). item_of i.0 ∷ xs) others.1,
+        rw flat_map-cons (subst (λ (y : List Item × List ℕ). Begins (instruction_pieces i.0 ++ code_pieces others.0) bytes y.1) same pieces),
+      )
 ]
 
 -- what stands behind the items
@@ -144,8 +147,8 @@ program_again source code b =
     let c = byte_again 64 name (after_blanks source) [] a in
     let t = c.3 in
     let k = keyword_again main_name t.1 brace c.0 [] (t.2 ∙ ap (λ (x : List ℕ). x ++ t.1) t.3) refl
-        (stops_blanks kind.Identifier brace t.1 [] blank_ends_word (λ bytes. stops_exactly kind.Identifier 123 [] (blanks ∷ body) bytes [] refl) t.4)
-        (λ bytes. stops_exactly kind.Blank 123 [] (blanks ∷ body) bytes [] refl) t.4 in
+    (stops_blanks kind.Identifier brace t.1 [] blank_ends_word (λ bytes. stops_exactly kind.Identifier 123 [] (blanks ∷ body) bytes [] refl) t.4)
+    (λ bytes. stops_exactly kind.Blank 123 [] (blanks ∷ body) bytes [] refl) t.4 in
     let m = mark_again 123 body (after_word c.0) [] (solid_code code []) k.1 in
     let read = items_again (length m.0) code m.0 [] (omega arith) m.3 in
     let end = mark_again 125 [] read.0 [] (λ bytes e. subst (Stops kind.Blank) (sym e) tt) read.2 in
@@ -175,7 +178,7 @@ items_are_straight (printing arg ∷ code) = ((tt, refl, refl), items_are_straig
 
 pub IsStraightLineTree-spelled : (source : List ℕ) (tree : Tree) → Spells source tree → IsStraightLineTree tree
 IsStraightLineTree-spelled source tree s =
-    subst IsStraightLineTree (sym s.tree_is) (record { imports = refl; main = record { name = refl; args = refl; ret = refl; items = items_are_straight s.code } })
+    subst IsStraightLineTree (sym s.tree_is) (record { imports = refl; main = record { name = refl; args = refl; ret = refl; items = All-from_recursion IsStraightLineItem (map item_of s.code) (items_are_straight s.code) } })
 
 -- ---- what a function that gives `tree_at` answers
 

@@ -1,15 +1,13 @@
 -- An instruction that is spelled is read.
-use Rattle.std.proofs.Common.{◌≡◌, ℕ, Bool, true, false, List, [], ◌∷◌, ◌++◌, ℤ, Option, Some, None, refl, sym, ap, ◌∙◌, subst}
+use Rattle.std.proofs.Common.{◌≡◌, ℕ, true, false, List, [], ◌∷◌, ◌++◌, ℤ, Some, refl, sym, ap, ◌∙◌, subst}
 use Rattle.std.specs.Prelude.{codes}
 use Rattle.std.specs.Str.{bytes_eq}
-use Rattle.std.proofs.lemmas.Slice.Eq.{bytes_eq-Decides}
-use Rattle.bril_tree.specs.declared.function_tree.Item.{Item}
-use Rattle.bril_tree.specs.Identifier.{begins_identifier, is_identifier}
+use Rattle.bril_tree.specs.Identifier.{is_identifier}
 use Rattle.bril_text.specs.declared.scan.Kind.{Kind}
 use Rattle.bril_text.specs.declared.scan.Kind.TheVariants as kind
 use Rattle.bril_text.specs.Instructions.{Instruction, constant, addition, printing, item_of}
 use Rattle.bril_text.specs.Spelling.{is_blank, Piece, blanks, gap, exactly, identifier, literal, Begins, assigned, ended, instruction_pieces}
-use Rattle.bril_text.specs.Reading.{◌>>=◌, is_of, run, after_run, after_blanks, word, after_word, after_mark, after_keyword, number_at, constant_at, sum_at, value_at, assignment_at, print_at, is_first, instruction_at, named_item, item_at}
+use Rattle.bril_text.specs.Reading.{is_of, after_blanks, word, after_word, after_mark, constant_at, sum_at, value_at, assignment_at, print_at, is_first, instruction_at, item_at}
 use Rattle.bril_text.proofs.Runs.{Stops, run_again, after_run_again}
 use Rattle.bril_text.proofs.Begins.{blank_ends_word, blank_ends_number, identifier_fits, StartsName, starts_name, name_is_no_blank, not_first, stops_exactly, stops_blanks, stops_gap, stops_literal, Solid, blanks_again, gap_is_blanks, word_again, mark_again, keyword_again, literal_again}
 use Rattle.bril_text.proofs.Instructions.{IsNamed, named_again}
@@ -67,7 +65,7 @@ marked_again : (name : List ℕ) (mark : ℕ) (pieces : List Piece) (bytes rest 
     → (is_identifier name ≡ true) × (word bytes ≡ name) × Begins (exactly (mark ∷ []) ∷ pieces) (after_word bytes) rest
 marked_again name mark pieces bytes rest solid other b =
     let w = word_again name b.1 (exactly (mark ∷ []) ∷ pieces) bytes rest (text_is name b.0 bytes b.1 b.2 b.3.0) (identifier_fits name b.3.1) (mark_stops kind.Identifier mark pieces b.1 rest blank_ends_word other b.4)
-        (solid_exactly mark [] pieces rest solid) b.4 in
+    (solid_exactly mark [] pieces rest solid) b.4 in
     (b.3.1, w.0, w.1)
 
 sum_again : (dest left right bytes rest : List ℕ) → Stops kind.Blank rest → Begins (exactly (codes "add") ∷ gap ∷ identifier left ∷ gap ∷ identifier right ∷ ended) bytes rest
@@ -82,7 +80,7 @@ sum_again dest left right bytes rest stops b =
     let is_const : bytes_eq (word bytes) (codes "const") ≡ false = ap (λ (t : List ℕ). bytes_eq t (codes "const")) k.0 in
     let is_add : bytes_eq (word bytes) (codes "add") ≡ true = ap (λ (t : List ℕ). bytes_eq t (codes "add")) k.0 in
     let is : Some (addition dest (word (after_word bytes)) (word (after_word (after_word bytes))), rest) ≡ Some (addition dest left right, rest) =
-        ap (λ (t : List ℕ). Some (addition dest t (word (after_word (after_word bytes))), rest)) x.1 ∙ ap (λ (t : List ℕ). Some (addition dest left t, rest)) y.1 in
+    ap (λ (t : List ℕ). Some (addition dest t (word (after_word (after_word bytes))), rest)) x.1 ∙ ap (λ (t : List ℕ). Some (addition dest left t, rest)) y.1 in
     (rw (is_const, is_add, end) is, x.0, y.0)
 
 -- ---- instructions
@@ -104,7 +102,7 @@ assigned_again dest operation bytes rest solid b =
     let c = mark_again 58 ty (after_word bytes) rest (solid_exactly 105 (codes "nt") (blanks ∷ equals) rest refl) n.2 in
     let t = c.3 in
     let k = keyword_again (codes "int") t.1 equals c.0 rest (text_is (codes "int") t.0 c.0 t.1 t.2 t.3) refl (mark_stops kind.Identifier 61 (blanks ∷ operation) t.1 rest blank_ends_word refl t.4)
-        (solid_exactly 61 [] (blanks ∷ operation) rest refl) t.4 in
+    (solid_exactly 61 [] (blanks ∷ operation) rest refl) t.4 in
     let m = mark_again 61 operation (after_word c.0) rest solid k.1 in
     record { value = m.0; named = n.0; colon = c.2; reads = rw (c.1, k.0, m.1) (ap (λ (d : List ℕ). value_at d m.0) n.1); text = m.3 }
 

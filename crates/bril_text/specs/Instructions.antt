@@ -1,6 +1,5 @@
 -- Straight-line programs of ints: one function `@main` of constants, sums and prints.
-use Rattle.std.specs.Prelude.{◌≡◌, ℕ, ℤ, List, [], ◌∷◌, map, Option, Some, None}
-use Rattle.std.specs.List.{AllByRecursion}
+use Rattle.std.specs.Prelude.{◌≡◌, ℕ, ℤ, All, List, [], ◌∷◌, map, Option, Some, None}
 use Rattle.std.proofs.Common.{lit≤}
 use Rattle.bril_tree.specs.declared.tree.Tree.{Tree}
 use Rattle.bril_tree.specs.declared.function_tree.FuncTree.{FuncTree}
@@ -21,6 +20,7 @@ pub data Instruction : Type 0 where
   addition : List ℕ → List ℕ → List ℕ → Instruction
   printing : List ℕ → Instruction
 
+-- the type `int`
 abbrev pub int_type : Ty
 int_type = record { depth = 0; base = base.Int; nests = lit≤ tt }
 
@@ -34,9 +34,11 @@ item_of (printing arg) = Act None Print (arg ∷ []) [] []
 abbrev pub main_of : List Item → Tree
 main_of items = record { imports = []; funcs = record { name = main_name; args = []; ret = None; code = items } ∷ [] }
 
+-- the file of a `@main` with this code
 abbrev pub tree_of : List Instruction → Tree
 tree_of code = main_of (map item_of code)
 
+-- a number, and neither a boolean nor a char
 abbrev pub IsIntLiteral : Lit → Type 0
 IsIntLiteral (Int value) = Unit {0}
 IsIntLiteral (Bool value) = ⊥
@@ -59,8 +61,9 @@ pub record IsStraightLineMain (function : FuncTree) : Type 0 where
   pub name : function.name ≡ main_name
   pub args : function.args ≡ []
   pub ret : function.ret ≡ None
-  pub items : AllByRecursion IsStraightLineItem function.code
+  pub items : All IsStraightLineItem function.code
 
+-- one function, which is such a `@main`
 abbrev pub IsOneMain : List FuncTree → Type 0
 IsOneMain [] = ⊥
 IsOneMain (main ∷ []) = IsStraightLineMain main

@@ -11,3 +11,6 @@ mod scan;
 pub use fault::TextFault;
 pub use laws::one_tree;
 pub use reading::read_text;
+
+#[cfg(test)]
+mod tests;

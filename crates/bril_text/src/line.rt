@@ -9,9 +9,18 @@ use crate::scan::{begins_with, skip_keyword, skip_mark, split_number, split_word
 // An instruction, whose words lie in the text and may be no identifiers yet.
 #[derive(Clone, Copy)]
 pub enum Line<'a> {
-    Constant { dest: &'a [u8], value: i64 },
-    Sum { dest: &'a [u8], left: &'a [u8], right: &'a [u8] },
-    Print { arg: &'a [u8] },
+    Constant {
+        dest: &'a [u8],
+        value: i64,
+    },
+    Sum {
+        dest: &'a [u8],
+        left: &'a [u8],
+        right: &'a [u8],
+    },
+    Print {
+        arg: &'a [u8],
+    },
 }
 
 // The constant that is assigned, behind its `const`.

@@ -10,7 +10,7 @@ ghost use Rattle.bril_text.specs.Reading.{Gives, instruction_of, name_of, named_
 ghost use Rattle.bril_text.specs.Spelling.{Spells, IsUnspelled};
 
 use crate::fault::TextFault;
-use crate::line::{split_line, Line};
+use crate::line::{Line, split_line};
 use crate::scan::{begins_with, skip_blanks, skip_byte, skip_keyword, skip_mark};
 use bril_tree::function_tree::{Dest, FuncTree, Item};
 use bril_tree::name::Name;
