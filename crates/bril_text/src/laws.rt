@@ -6,5 +6,6 @@ ghost use Rattle.bril_text.specs.Spelling.{Spells};
 
 /// A text spells one tree at most.
 pub fn one_tree()
-    ensures { (source : List ℕ) (first second : Tree) → Spells source first → Spells source second → first ≡ second }
+    ensures { (source : List ℕ) (first second : Tree) → Spells source first
+        → Spells source second → first ≡ second }
 {}

@@ -145,6 +145,7 @@ fn main_of(alloc: Global, code: Seq<Item>) -> Result<Tree, TextFault>
     })
 }
 
+// The tree that the whole source is.
 #[tactic(auto, unfolding(crate::specs::Reading::tree_at))]
 fn tree(alloc: Global, source: &[u8]) -> Result<Tree, TextFault>
     ensures { Gives (λ tree. tree) result (tree_at source.now) }
@@ -168,7 +169,8 @@ pub fn read_text(alloc: Global, source: &[u8]) -> Result<Tree, TextFault>
     // What is read is spelled so.
     ensures ok { IfOk result (λ tree. Spells source.now tree) }
     // What is spelled so is read, unless memory runs out.
-    ensures reads { (tree : Tree) → Spells source.now tree → MatchResult result (λ read. read ≡ tree) (λ fault. fault ≡ Memory) }
+    ensures reads { (tree : Tree) → Spells source.now tree
+        → MatchResult result (λ read. read ≡ tree) (λ fault. fault ≡ Memory) }
     // The cause of each error.
     ensures cause { IfErr result (IsCause source.now) }
     // What spells no tree is refused.
