@@ -1,5 +1,15 @@
 pub mod FunctionForm
 pub mod Identifier
+pub mod Laws
+pub mod Numbered
+pub mod Operand
+pub mod Outcome
 pub mod Path
 pub mod ProgramForm
+pub mod Run
+pub mod State
+pub mod Step
 pub mod Value
+pub use Rattle.simulation.specs.System
+pub use Rattle.simulation.specs.Refinement
+pub use Rattle.simulation.specs.Simulation

@@ -1,0 +1,4 @@
+pub mod System
+pub mod Refinement
+pub mod Simulation
+pub mod Laws

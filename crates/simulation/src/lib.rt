@@ -1,0 +1,62 @@
+//! Systems that make steps, when one of them does what another does, and how that is shown by a
+//! relation between their states.
+//!
+//! A system has a step, says of a state how it ended or that it runs, and what it has printed. What
+//! is defined here, in `specs/`, speaks of any two such systems: of two programs, or of a program
+//! and the machine that runs it. Each function is a law; its contract says it, and a call of it does
+//! nothing.
+//!
+//! The laws are those of forward simulation (N. Lynch and F. Vaandrager, "Forward and Backward
+//! Simulations", 1995), with bounds on the numbers of steps. `LockStep` and `Drifting` are the "plus"
+//! and the "star" diagram of the CompCert compiler's `Smallstep.v`.
+#![tactic(auto)]
+
+ghost use Rattle.simulation.specs.Laws.{FollowsItself, FollowsOn, FollowsSlower, SimulationFollows, LockStepFollows, DriftingFollows, LockStepTracks};
+
+/// A relation between the states of one system, of the type `S`, and those of another, `T`.
+pub trait Relates<S, T> {
+    /// The two states stand for each other.
+    ghost related: { S → T → Type 0 };
+}
+
+/// Each system follows itself, step by step.
+pub fn follows_itself<E, S>()
+    ensures { FollowsItself E S }
+{}
+
+/// Where a second system follows a first one and a third the second, the third follows the first,
+/// and the factors on the numbers of steps multiply.
+pub fn follows_on<E, S, T, U>()
+    ensures { FollowsOn E S T U }
+{}
+
+/// A system that follows another within a number of steps for each of its steps does so within any
+/// greater number.
+pub fn follows_slower<E, S, T>()
+    ensures { FollowsSlower E S T }
+{}
+
+/// Where related states agree, and from related states that run some steps of both systems lead to
+/// related states again, the second system follows the first from related states on.
+pub fn simulation_follows<E, S, T, R: Relates<S, T>>()
+    ensures { SimulationFollows E R.related }
+{}
+
+/// The same where each step of the first system is one step or more of the second.
+pub fn lock_step_follows<E, S, T, R: Relates<S, T>>()
+    ensures { LockStepFollows E R.related }
+{}
+
+/// The same where the first system may also make steps alone, while a distance falls.
+pub fn drifting_follows<E, S, T, R: Relates<S, T>>()
+    ensures { DriftingFollows E R.related }
+{}
+
+/// Where each step of the first system is one step or more of the second, the second has a state
+/// related to each state of the first, after a number of steps that is bounded and never falls.
+pub fn lock_step_tracks<E, S, T, R: Relates<S, T>>()
+    ensures { LockStepTracks E R.related }
+{}
+
+#[cfg(test)]
+mod tests;
