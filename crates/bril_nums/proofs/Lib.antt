@@ -1,0 +1,4 @@
+pub mod Wraps
+pub mod Quotients
+pub mod IntText
+pub mod PlainText

@@ -1,0 +1,31 @@
+// Sinks: what bytes are written to.
+
+ghost use Rattle.std.specs.Prelude.{OnOk, OnErr, ◌++◌};
+ghost use Rattle.bril_outside.specs.Sink.{SinkSeen, Rose, TookAll, TookSome, AmountIsLength};
+
+use thiserror::Error;
+
+/// A write did not take all of its bytes. The one error of a sink.
+#[derive(Clone, Copy, PartialEq, Eq, Debug, Drop, Error)]
+#[error("the write failed")]
+pub struct Failed;
+
+/// What bytes are written to.
+pub trait Sink {
+    /// What is told of the sink.
+    ghost seen: { Self → SinkSeen };
+
+    /// Writes the piece. Takes no memory.
+    ///
+    /// `Ok`: the whole piece was written. `Failed`: the sink counted a fault in this call, and the first
+    /// bytes of the piece, perhaps none, were written. A sink that takes nothing of a piece that isn't
+    /// empty counts a fault. What the sink tells before a call it tells after it, except an amount that
+    /// would pass `u64::MAX`; what it does not tell before it does not tell after.
+    fn put(&mut self, piece: &[u8]) -> Result<(), Failed>
+        ensures ok { OnOk result (TookAll (seen self.old) piece.now (seen self.new)) }
+        ensures err { OnErr result (TookSome (seen self.old) piece.now (seen self.new)
+            × Rose (seen self.old).faults (seen self.new).faults) };
+
+    /// The amount is the length of what was written, where both are told.
+    ghost amount_is_length: { (s : Self) → AmountIsLength (seen s) };
+}

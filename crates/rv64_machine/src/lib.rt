@@ -1,0 +1,7 @@
+// A machine for RV64I words: their encoding, their meaning, and a machine that runs them.
+#![tactic(auto)]
+
+pub mod field;
+pub mod image;
+pub mod trap;
+pub mod word;
