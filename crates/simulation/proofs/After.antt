@@ -11,6 +11,9 @@ after-suc step (suc n) s = after-suc step n (step s)
 pub after-add_one : {S : Type 0} (step : S → S) (n : ℕ) (s : S) → after step (n + 1) s ≡ step (after step n s)
 after-add_one step n s = let e : n + 1 ≡ suc n = omega arith in ap (λ k. after step k s) e ∙ after-suc step n s
 
+-- what a loop that makes one step in each turn wants
+pub ruleset stepping = (after-suc, after-add_one)
+
 -- one more step at the start
 pub after-step : {S : Type 0} (step : S → S) (n : ℕ) (s : S) → after step (n + 1) s ≡ after step n (step s)
 after-step step n s = let e : n + 1 ≡ suc n = omega arith in ap (λ k. after step k s) e

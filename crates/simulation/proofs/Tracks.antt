@@ -1,5 +1,5 @@
 -- In lock step there is a state of Q beside each state of P.
-use Rattle.std.proofs.Common.{◌≡◌, ℕ, zero, suc, ◌+◌, ◌-◌, ◌*◌, ◌≤◌, ◌<◌, None, sym, ◌∙◌, subst, ⊎_elim, arith, le_refl, le_trans}
+use Rattle.std.proofs.Common.{◌≡◌, ℕ, zero, suc, ◌+◌, ◌-◌, ◌*◌, ◌≤◌, ◌<◌, None, sym, ◌∙◌, subst, ⊎_elim, arith, le_refl, le_trans, mul-le-mul_right}
 use Rattle.std.proofs.lemmas.Bool.{cases_lt}
 use Rattle.simulation.specs.System.{System, after, IsFinal, IsPrefix, IsSystem, Agree}
 use Rattle.simulation.specs.Refinement.{Follows}
@@ -106,4 +106,16 @@ Tracks-from_lock_step P Q R soundP soundQ c lock s t lead early start = record {
   agrees = λ n. lock.agrees (after P.step n s) (after Q.step (besides P Q R soundP c lock s t lead early start n).count t) (besides P Q R soundP c lock s t lead early start n).related;
   ends_only = ends_back P Q R soundP c lock s t lead early start soundQ;
   prints_only = prints_back P Q R soundP c lock s t lead early start soundQ;
+}
+
+-- a larger bound and a weaker relation serve too
+pub Tracks-weaker : {E S T : Type 0} (P : System E S) (Q : System E T) (R W : S → T → Type 0) (c d : ℕ) (s : S) (t : T) → c ≤ d → ((x : S) (y : T) → R x y → W x y) → Tracks P Q c R s t → Tracks P Q d W s t
+Tracks-weaker P Q R W c d s t h weaker tracks = record {
+  count = tracks.count;
+  bounded = λ n. le_trans (tracks.bounded n) (mul-le-mul_right (n + 1) h);
+  rising = tracks.rising;
+  related = λ n. weaker (after P.step n s) (after Q.step (tracks.count n) t) (tracks.related n);
+  agrees = tracks.agrees;
+  ends_only = tracks.ends_only;
+  prints_only = tracks.prints_only;
 }

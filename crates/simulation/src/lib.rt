@@ -3,10 +3,12 @@
 //!
 //! A system has a step, says of a state how it ended or that it runs, and what it has printed. What
 //! is defined here, in `specs/`, speaks of any two such systems: of two programs, or of a program
-//! and the machine that runs it. Each function is a law; its contract says it, and it does nothing
-//! when it is called. The definitions are those of simulation and refinement with bounds on the
-//! numbers of steps, as in N. Lynch and F. Vaandrager, "Forward and Backward Simulations" (1995),
-//! and in the correctness proofs of the CompCert compiler.
+//! and the machine that runs it. Each function is a law; its contract says it, and a call of it does
+//! nothing.
+//!
+//! The laws are those of forward simulation (N. Lynch and F. Vaandrager, "Forward and Backward
+//! Simulations", 1995), with bounds on the numbers of steps. `LockStep` and `Drifting` are the "plus"
+//! and the "star" diagram of the CompCert compiler's `Smallstep.v`.
 #![tactic(auto)]
 
 ghost use Rattle.simulation.specs.Laws.{FollowsItself, FollowsOn, FollowsSlower, SimulationFollows, LockStepFollows, DriftingFollows, LockStepTracks};
@@ -55,3 +57,6 @@ pub fn drifting_follows<E, S, T, R: Relates<S, T>>()
 pub fn lock_step_tracks<E, S, T, R: Relates<S, T>>()
     ensures { LockStepTracks E R.related }
 {}
+
+#[cfg(test)]
+mod tests;

@@ -1,0 +1,21 @@
+// Each law at concrete types.
+ghost use Rattle.std.specs.Prelude.{◌≡◌};
+
+use super::*;
+
+struct Equal;
+
+impl Relates<u8, u8> for Equal {
+    ghost related = { λ s t. s ≡ t };
+}
+
+#[test]
+fn each_law_is_called_at_a_relation_between_numbers() {
+    follows_itself::<bool, u8>();
+    follows_on::<bool, u8, u8, u8>();
+    follows_slower::<bool, u8, u8>();
+    simulation_follows::<bool, u8, u8, Equal>();
+    lock_step_follows::<bool, u8, u8, Equal>();
+    drifting_follows::<bool, u8, u8, Equal>();
+    lock_step_tracks::<bool, u8, u8, Equal>();
+}
