@@ -1,5 +1,5 @@
 -- What contracts say of a sink of bytes.
-use Rattle.std.specs.Prelude.{ℕ, ◌≡◌, ◌+◌, ◌-◌, ◌^◌, ◌≤◌, min, nat_lt, List, ◌++◌, length, Option, Some, None, if◌then◌else◌}
+use Rattle.std.specs.Prelude.{ℕ, ◌≡◌, ◌+◌, ◌-◌, ◌^◌, ◌≤◌, min, nat_le, List, ◌++◌, length, Option, Some, None, if◌then◌else◌}
 use Rattle.std.specs.Option.{option_map}
 
 -- What is told of a sink: the bytes that were written to it and how many they are, where it tells them, and
@@ -13,10 +13,10 @@ pub record SinkSeen : Type 0 where
 abbrev pub Rose : ℕ → ℕ → Type 0
 Rose before now = min (before + 1) (2 ^ 64 - 1) ≤ now
 
--- an amount with so many more; past the end of its type nothing is told
+-- an amount with so many more; past 2 ^ 64 - 1, the end of its type, nothing is told
 abbrev pub amount_after : Option ℕ → ℕ → Option ℕ
 amount_after None more = None
-amount_after (Some n) more = if nat_lt (n + more) (2 ^ 64) then Some (n + more) else None
+amount_after (Some n) more = if nat_le more ((2 ^ 64 - 1) - n) then Some (n + more) else None
 
 -- the sink took all of the bytes
 pub record TookAll (s : SinkSeen) (bytes : List ℕ) (t : SinkSeen) : Type 0 where
