@@ -1,6 +1,13 @@
 // The command line of Roolvist.
 #![tactic(auto)]
 
+mod emission;
+mod numbering;
+mod report;
+mod status;
+mod top;
+mod work;
+
 use std::io;
 
 fn main(rt: HostRuntime) -> io::Result<()> {
