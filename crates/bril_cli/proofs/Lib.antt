@@ -1,3 +1,4 @@
+pub mod Appearance
 pub mod Commands
 pub mod Ending
 pub mod MachinePrints
