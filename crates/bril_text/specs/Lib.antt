@@ -1,0 +1,4 @@
+pub mod Fault
+pub mod Instructions
+pub mod Reading
+pub mod Spelling
