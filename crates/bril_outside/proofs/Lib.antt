@@ -1,1 +1,4 @@
-pub mod Writes
+pub mod FileReads
+pub mod MemoryWrites
+pub mod SinkWrites
+pub mod Stored

@@ -50,12 +50,15 @@ pub fn put_two<S: Sink>(sink: &mut S, first: &[u8], second: &[u8]) -> Result<(),
 ///
 /// `Ok`: all three were written. `Failed`: the sink counted a fault, and the first bytes of the three,
 /// perhaps none, were written.
-pub fn put_three<S: Sink>(sink: &mut S, first: &[u8], second: &[u8], third: &[u8]) -> Result<(), Failed>
-    ensures ok {
-        OnOk result (TookAll (S.seen sink.old) (first.now ++ second.now ++ third.now) (S.seen sink.new)) }
-    ensures err {
-        OnErr result (TookSome (S.seen sink.old) (first.now ++ second.now ++ third.now) (S.seen sink.new)
-            × Rose (S.seen sink.old).faults (S.seen sink.new).faults) }
+pub fn put_three<S: Sink>(
+    sink: &mut S,
+    first: &[u8],
+    second: &[u8],
+    third: &[u8],
+) -> Result<(), Failed>
+    ensures ok { OnOk result (TookAll (S.seen sink.old) (first.now ++ second.now ++ third.now) (S.seen sink.new)) }
+    ensures err { OnErr result (TookSome (S.seen sink.old) (first.now ++ second.now ++ third.now) (S.seen sink.new)
+        × Rose (S.seen sink.old).faults (S.seen sink.new).faults) }
 {
     put_two(sink, first, second)?;
     match sink.put(third) {

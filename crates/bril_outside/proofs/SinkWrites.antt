@@ -1,5 +1,5 @@
 -- Several writes to a sink, one after another.
-use Rattle.std.proofs.Common.{◌≡◌, ℕ, ◌+◌, ◌-◌, ◌^◌, ◌<◌, ◌≤◌, min, List, [], ◌++◌, length, Option, Some, None, refl, ap, sym, ◌∙◌, append_assoc, append-nil, length-append, arith}
+use Rattle.std.proofs.Common.{◌≡◌, ℕ, ◌+◌, ◌^◌, ◌<◌, ◌≤◌, List, [], ◌++◌, length, Option, Some, None, refl, ap, sym, ◌∙◌, append_assoc, append-nil, length-append, arith}
 use Rattle.std.proofs.lemmas.Grind.{common_steps}
 use Rattle.std.specs.Option.{option_map}
 use Rattle.bril_outside.specs.Sink.{SinkSeen, Rose, amount_after, TookAll, TookSome}
@@ -45,7 +45,7 @@ pub TookAll-append : {s t u : SinkSeen} {a b : List ℕ} → TookAll s a t → T
 TookAll-append {s} {t} {u} {a} {b} one two = record {
   written = two.written ∙ (ap (option_map (λ v. v ++ b)) one.written ∙ written-twice s.written a b);
   amount = two.amount ∙ (ap (λ n. amount_after n (length b)) one.amount ∙ (amount_after-twice s.amount (length a) (length b) ∙ ap (amount_after s.amount) (sym (length-append a b))));
-  faults = omega arith
+  faults = omega arith;
 }
 
 -- all of the bytes are the first of them
@@ -62,7 +62,7 @@ TookSome-longer b some = record {
   part = some.part;
   rest = some.rest ++ b;
   whole = ap (λ v. v ++ b) some.whole ∙ append_assoc some.part some.rest b;
-  took = some.took
+  took = some.took;
 }
 
 -- all of one piece and the first of the next
@@ -71,7 +71,7 @@ TookSome-after {s} {t} {u} {a} {b} one some = record {
   part = a ++ some.part;
   rest = some.rest;
   whole = ap (λ v. a ++ v) some.whole ∙ sym (append_assoc a some.part some.rest);
-  took = TookAll-append one some.took
+  took = TookAll-append one some.took;
 }
 
 -- the faults never fall
@@ -85,3 +85,7 @@ TookAll-written {s} {t} {a} w all told = all.written ∙ ap (option_map (λ v. v
 -- what is told of the amount stays told within its range
 pub TookAll-amount : {s t : SinkSeen} {a : List ℕ} (n : ℕ) → TookAll s a t → s.amount ≡ Some n → n + length a < 2 ^ 64 → t.amount ≡ Some (n + length a)
 TookAll-amount {s} {t} {a} n all told fits = all.amount ∙ (ap (λ m. amount_after m (length a)) told ∙ amount_after-in_range n (length a) fits)
+
+-- bytes that were not told are not told after
+pub TookAll-untold : {s t : SinkSeen} {a : List ℕ} → TookAll s a t → s.written ≡ None → t.written ≡ None
+TookAll-untold {s} {t} {a} all none = all.written ∙ ap (option_map (λ v. v ++ a)) none
