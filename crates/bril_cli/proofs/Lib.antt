@@ -1,0 +1,4 @@
+pub mod Carrying
+pub mod Digits
+pub mod MachineSteps
+pub mod Relation
