@@ -1,5 +1,6 @@
 pub mod FunctionForm
 pub mod Identifier
+pub mod Laws
 pub mod Numbered
 pub mod Operand
 pub mod Outcome

@@ -4,6 +4,7 @@
 pub mod bytes;
 pub mod function_tree;
 pub mod import;
+pub mod laws;
 pub mod limits;
 pub mod name;
 pub mod numbered;
