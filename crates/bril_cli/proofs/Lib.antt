@@ -1,4 +1,6 @@
 pub mod Carrying
 pub mod Digits
+pub mod ImageSystem
 pub mod MachineSteps
 pub mod Relation
+pub mod Start
