@@ -1,5 +1,6 @@
 pub mod Carrying
 pub mod Digits
+pub mod Ending
 pub mod ImageSystem
 pub mod MachineSteps
 pub mod Relation
