@@ -1,2 +1,4 @@
+pub mod Adapter
 pub mod Files
+pub mod Memory
 pub mod Sink

@@ -1,5 +1,5 @@
 -- What contracts say of a sink of bytes.
-use Rattle.std.specs.Prelude.{ℕ, ◌≡◌, ◌+◌, ◌-◌, ◌^◌, ◌≤◌, min, nat_lt, List, ◌++◌, length, Option, Some, None, if◌then◌else◌}
+use Rattle.std.specs.Prelude.{ℕ, ◌≡◌, ◌+◌, ◌-◌, ◌^◌, ◌≤◌, min, nat_lt, nat_le, List, ◌++◌, length, Option, Some, None, if◌then◌else◌}
 use Rattle.std.specs.Option.{option_map}
 
 -- What is told of a sink: the bytes that were written to it and how many they are, where it tells them, and
@@ -13,10 +13,14 @@ pub record SinkSeen : Type 0 where
 abbrev pub Rose : ℕ → ℕ → Type 0
 Rose before now = min (before + 1) (2 ^ 64 - 1) ≤ now
 
--- an amount with so many more; past the end of its type nothing is told
+-- the next of a count that stays at 2 ^ 64 - 1, the end of its type
+abbrev pub next_count : ℕ → ℕ
+next_count n = if nat_lt n (2 ^ 64 - 1) then n + 1 else n
+
+-- an amount with so many more; past 2 ^ 64 - 1, the end of its type, nothing is told
 abbrev pub amount_after : Option ℕ → ℕ → Option ℕ
 amount_after None more = None
-amount_after (Some n) more = if nat_lt (n + more) (2 ^ 64) then Some (n + more) else None
+amount_after (Some n) more = if nat_le more ((2 ^ 64 - 1) - n) then Some (n + more) else None
 
 -- the sink took all of the bytes
 pub record TookAll (s : SinkSeen) (bytes : List ℕ) (t : SinkSeen) : Type 0 where
@@ -40,3 +44,7 @@ IsLengthWhereTold (Some n) (Some bytes) = n ≡ length bytes
 -- the amount of a sink is the length of what was written to it, where it tells both
 abbrev pub AmountIsLength : SinkSeen → Type 0
 AmountIsLength s = IsLengthWhereTold s.amount s.written
+
+-- what is told of a sink that counts its bytes, as long as it knows how many they are
+abbrev pub count_seen : Option ℕ → SinkSeen
+count_seen amount = record { written = None; amount = amount; faults = 0 }

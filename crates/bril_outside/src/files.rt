@@ -1,6 +1,6 @@
 // Files: what bytes are read from, by a path.
 
-ghost use Rattle.std.specs.Prelude.{◌≡◌, ◌≤◌, IfOk, IfErr, OnErr, MatchBool};
+ghost use Rattle.std.specs.Prelude.{◌≡◌, ◌≤◌, ◌++◌, nat_le, length, if◌then◌else◌, IfOk, IfErr, OnErr, MatchBool};
 ghost use Rattle.bril_outside.specs.Files.{FilesSeen, AppendedFile, FoundLonger, MayFail};
 ghost use Rattle.bril_outside.specs.declared.files.FileFault.TheVariants.{Memory};
 
@@ -53,4 +53,20 @@ pub trait Files {
             (FoundLonger (seen self.old).holds path.now most into.old into.new)) }
         ensures err { OnErr result (into.new ≡ into.old) }
         ensures failed { IfErr result (λ e. e ≡ FileFault.Failed → MayFail (seen self.old) (seen self.new) path.now) };
+}
+
+/// Appends the bytes where they are no more than `most`, and says whether it did. Where memory is wanting
+/// nothing changes.
+pub(crate) fn append_short(bytes: &Bytes, most: u64, into: &mut Bytes) -> Result<bool, FileFault>
+    ensures ok { IfOk result (λ whole. whole ≡ nat_le (length bytes.now) most) }
+    ensures into { IfOk result (λ whole. into.new ≡ (if whole then into.old ++ bytes.now else into.old)) }
+    ensures err { OnErr result (into.new ≡ into.old) }
+    ensures memory { IfErr result (λ e. (e ≡ FileFault.Memory) × (length bytes.now ≤ most)) }
+{
+    let bytes = bytes.as_slice();
+    if bytes.len() as u64 > most {
+        return Ok(false);
+    }
+    into.add(bytes)?;
+    Ok(true)
 }

@@ -29,3 +29,40 @@ pub trait Sink {
     /// The amount is the length of what was written, where both are told.
     ghost amount_is_length: { (s : Self) → AmountIsLength (seen s) };
 }
+
+/// Writes the pieces, one after another. Takes no memory.
+///
+/// `Ok`: both were written. `Failed`: the sink counted a fault, and the first bytes of the two, perhaps
+/// none, were written.
+pub fn put_two<S: Sink>(sink: &mut S, first: &[u8], second: &[u8]) -> Result<(), Failed>
+    ensures ok { OnOk result (TookAll (S.seen sink.old) (first.now ++ second.now) (S.seen sink.new)) }
+    ensures err { OnErr result (TookSome (S.seen sink.old) (first.now ++ second.now) (S.seen sink.new)
+        × Rose (S.seen sink.old).faults (S.seen sink.new).faults) }
+{
+    sink.put(first)?;
+    match sink.put(second) {
+        Ok(()) => Ok(()),
+        Err(failed) => Err(failed),
+    }
+}
+
+/// Writes the pieces, one after another. Takes no memory.
+///
+/// `Ok`: all three were written. `Failed`: the sink counted a fault, and the first bytes of the three,
+/// perhaps none, were written.
+pub fn put_three<S: Sink>(
+    sink: &mut S,
+    first: &[u8],
+    second: &[u8],
+    third: &[u8],
+) -> Result<(), Failed>
+    ensures ok { OnOk result (TookAll (S.seen sink.old) (first.now ++ second.now ++ third.now) (S.seen sink.new)) }
+    ensures err { OnErr result (TookSome (S.seen sink.old) (first.now ++ second.now ++ third.now) (S.seen sink.new)
+        × Rose (S.seen sink.old).faults (S.seen sink.new).faults) }
+{
+    put_two(sink, first, second)?;
+    match sink.put(third) {
+        Ok(()) => Ok(()),
+        Err(failed) => Err(failed),
+    }
+}

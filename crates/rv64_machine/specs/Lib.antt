@@ -1,3 +1,5 @@
+pub mod Call
 pub mod Encoding
 pub mod Machine
+pub mod MachineView
 pub mod Region

@@ -1,0 +1,4 @@
+pub mod FileReads
+pub mod MemoryWrites
+pub mod SinkWrites
+pub mod Stored

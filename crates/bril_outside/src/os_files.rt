@@ -1,0 +1,92 @@
+// The files of the system.
+
+ghost use Rattle.std.specs.Prelude.{◌≡◌, ◌≤◌, ◌^◌, ◌-◌, ◌+◌, min, None, IfOk, IfErr, OnErr, MatchBool, length};
+ghost use Rattle.bril_outside.specs.Adapter.{ReadsUpTo};
+
+use crate::files::{FileFault, Files, append_short};
+use bril_tree::bytes::Bytes;
+use bril_tree::text::Text;
+use std::alloc::Global;
+use std::fs;
+use std::io::{ErrorKind, Read};
+
+/// The files of a runtime. They tell no content, and count their faults up to `u64::MAX`.
+pub struct OsFiles<'a, R> {
+    rt: &'a R,
+    faults: u64,
+}
+
+impl<'a, R> Drop for OsFiles<'a, R> {
+    fn drop(self) {
+        let OsFiles { rt: _, faults: _ } = self;
+    }
+}
+
+impl<'a, R: std::rt::Files> OsFiles<'a, R> {
+    /// The files of the runtime. Takes no memory.
+    pub fn new(rt: &'a R) -> OsFiles<'a, R>
+        ensures { result.faults ≡ 0 }
+    {
+        OsFiles { rt, faults: 0 }
+    }
+}
+
+impl<'a, R: std::rt::Files> Files for OsFiles<'a, R> {
+    ghost seen = { λ s. record { holds = None; faults = s.faults } };
+
+    /// Reads the file at the path, of at most `most` bytes. Fails where the file cannot be opened, or a read
+    /// fails other than by an interruption. It takes memory for the bytes a second time while it reads.
+    fn read(
+        &mut self,
+        alloc: Global,
+        path: &Text,
+        most: u64,
+        into: &mut Bytes,
+    ) -> Result<bool, FileFault> {
+        match read_file(self.rt, alloc, path, most) {
+            Ok(bytes) => append_short(&bytes, most, into),
+            Err(FileFault::Failed) => {
+                self.faults = self.faults.saturating_add(1);
+                Err(FileFault::Failed)
+            }
+            Err(FileFault::Memory) => Err(FileFault::Memory),
+        }
+    }
+}
+
+/// The bytes of the file at the path, or its first, more than `most`.
+fn read_file<R: std::rt::Files>(
+    rt: &R,
+    alloc: Global,
+    path: &Text,
+    most: u64,
+) -> Result<Bytes, FileFault> {
+    match fs::open(rt, path.as_str()) {
+        Ok(mut file) => read_up_to(&mut file, alloc, most),
+        Err(_) => Err(FileFault::Failed),
+    }
+}
+
+/// The bytes that the reader has left, or the first of them, more than `most`.
+pub(crate) fn read_up_to<R: Read>(
+    from: &mut R,
+    alloc: Global,
+    most: u64,
+) -> Result<Bytes, FileFault>
+    ensures { IfOk result (λ bytes. ReadsUpTo (R.remaining from.old) (R.remaining from.new) most bytes) }
+{
+    let mut bytes = Bytes::new(alloc);
+    let mut chunk = [0u8; 4096];
+    for _ in 0..u64::MAX {
+        match from.read(&mut chunk) {
+            Ok(0) => return Ok(bytes),
+            Ok(count) => bytes.add(&chunk[..count])?,
+            Err(fault) if fault.kind() == ErrorKind::Interrupted => {}
+            Err(_) => return Err(FileFault::Failed),
+        }
+        if bytes.as_slice().len() as u64 > most {
+            return Ok(bytes);
+        }
+    }
+    Err(FileFault::Failed)
+}
