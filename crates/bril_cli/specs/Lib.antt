@@ -1,3 +1,4 @@
 pub mod Carries
 pub mod Emitted
+pub mod Refusal
 pub mod Straight

@@ -1,6 +1,8 @@
 // The command line of Roolvist.
 #![tactic(auto)]
 
+mod emission;
+
 use std::io;
 
 fn main(rt: HostRuntime) -> io::Result<()> {
