@@ -161,17 +161,17 @@ module _ (decodes : Decodes) (image : Image) (p : Prog) (limits : Limits) (f : F
       let d = store_runs decodes image.words sizes added _ 5 x (code_words rest) five five_not_six x_in few c.ready m.2.1 in
       let stepped = machine.machine_step image.words sizes in
       let steps : after stepped 10 t ≡ d.0 =
-              after-add stepped 3 7 t ∙ ap (after stepped 7) l.1.steps
-              ∙ after-add stepped 3 4 l.0 ∙ ap (after stepped 4) m.1.steps
-              ∙ after-add stepped 1 3 m.0 ∙ ap (after stepped 3) c.steps ∙ d.1.steps in
+      after-add stepped 3 7 t ∙ ap (after stepped 7) l.1.steps
+      ∙ after-add stepped 3 4 l.0 ∙ ap (after stepped 4) m.1.steps
+      ∙ after-add stepped 1 3 m.0 ∙ ap (after stepped 3) c.steps ∙ d.1.steps in
       let va = r.words a a_lt in
       let vb = r.words b b_lt in
       let sum = int_wrap w64 (va.number +ℤ vb.number) in
       let read_a = bril.read r.frame.places.vars a in
       let read_b = bril.read r.frame.places.vars b in
       let value_is : gives p limits (Some x) (Int (int_wrap w64 (int_of read_a +ℤ int_of read_b))) r.frame [] s ≡ gives p limits (Some x) (Int sum) r.frame [] s =
-              ap (λ v. gives p limits (Some x) (Int (int_wrap w64 (int_of v +ℤ int_of read_b))) r.frame [] s) va.value
-              ∙ ap (λ v. gives p limits (Some x) (Int (int_wrap w64 (va.number +ℤ int_of v))) r.frame [] s) vb.value in
+      ap (λ v. gives p limits (Some x) (Int (int_wrap w64 (int_of v +ℤ int_of read_b))) r.frame [] s) va.value
+      ∙ ap (λ v. gives p limits (Some x) (Int (int_wrap w64 (va.number +ℤ int_of v))) r.frame [] s) vb.value in
       let after_is : step p limits s ≡ gives p limits (Some x) (Int sum) r.frame [] s = step_at s t r (Some item) (item_here s t r item rest e) ∙ value_is in
       let fits : FitsSigned w64 sum = SFits-int_wrap w64 (va.number +ℤ vb.number) in
       let one : IsIntWord (Int sum) (cast_unsigned w64 sum) = record { number = sum; value = refl; fits = fits; word = refl } in
@@ -180,8 +180,8 @@ module _ (decodes : Decodes) (image : Image) (p : Prog) (limits : Limits) (f : F
       let in_7 : m.0.registers 7 ≡ cast_unsigned w64 vb.number = m.1.holds ∙ ap (λ g. g (2 + b)) l.1.stack ∙ vb.word in
       let total_is : total ≡ cast_unsigned w64 sum = ap (λ y. (y + m.0.registers 7) % 2 ^ 64) in_5 ∙ ap (λ y. (cast_unsigned w64 va.number + y) % 2 ^ 64) in_7 ∙ sym (sum_word va.number vb.number va.fits vb.fits) in
       let stack_is : d.0.stack ≡ machine.assigned t.stack (2 + x) (cast_unsigned w64 sum) =
-              d.1.stack ∙ ap (λ y. machine.assigned added.stack (2 + x) y) (c.holds ∙ total_is)
-              ∙ ap (λ g. machine.assigned g (2 + x) (cast_unsigned w64 sum)) (c.stack ∙ m.1.stack ∙ l.1.stack) in
+      d.1.stack ∙ ap (λ y. machine.assigned added.stack (2 + x) y) (c.holds ∙ total_is)
+      ∙ ap (λ g. machine.assigned g (2 + x) (cast_unsigned w64 sum)) (c.stack ∙ m.1.stack ∙ l.1.stack) in
       let words = subst (λ g. HoldsWords n (bril.with_value r.frame.places.vars x (Int sum)) g) (sym stack_is) held in
       let next : Runs (gives p limits (Some x) (Int sum) r.frame [] s) d.0 = record {
         frame = record { function = r.frame.function; point = suc r.frame.point; places = record { vars = bril.with_value r.frame.places.vars x (Int sum); shadows = r.frame.places.shadows }; saves = r.frame.saves };

@@ -1,3 +1,4 @@
+pub mod Bounds
 pub mod Carrying
 pub mod Digits
 pub mod Ending

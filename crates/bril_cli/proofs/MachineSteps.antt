@@ -314,11 +314,11 @@ module _ (decodes : Decodes) (bits : List ℕ) (z : Sizes) where
       let t5 = next (with_printed (10 ∷ []) d.0) in
       let step = machine_step bits z in
       let steps : after step 7 t ≡ t5 =
-              after-add step 3 4 t ∙ ap (after step 4) a.1.steps
-              ∙ after-add step 1 3 a.0 ∙ ap (after step 3) b.1.steps
-              ∙ after-add step 1 2 b.0 ∙ ap (after step 2) c.steps
-              ∙ after-add step 1 1 t3 ∙ ap (after step 1) d.1.steps
-              ∙ e.steps in
+      after-add step 3 4 t ∙ ap (after step 4) a.1.steps
+      ∙ after-add step 1 3 a.0 ∙ ap (after step 3) b.1.steps
+      ∙ after-add step 1 2 b.0 ∙ ap (after step 2) c.steps
+      ∙ after-add step 1 1 t3 ∙ ap (after step 1) d.1.steps
+      ∙ e.steps in
       let all : HasPrinted t t5 7 (k + 1 + 1 + 1 + 1 + 1 + 1 + 1) (text ++ 10 ∷ []) = record {
         steps = steps;
         ready = e.ready;
@@ -346,9 +346,9 @@ module _ (decodes : Decodes) (bits : List ℕ) (z : Sizes) where
       let argument : b.0.registers 10 ≡ 0 = b.1.others 10 ten_not_seventeen ten_not_six ∙ a.holds ∙ is in
       let step = machine_step bits z in
       let last : step b.0 ≡ finished Ended b.0 =
-              step_executes Ecall tt b.0 (k + 1 + 1) b.1.ready.running b.1.ready.at has.1.1.0
-              ∙ ap (λ n. called n (b.0.registers 10) b.0) b.1.holds
-              ∙ ap (λ n. ended b.0 (end_of n)) argument in
+      step_executes Ecall tt b.0 (k + 1 + 1) b.1.ready.running b.1.ready.at has.1.1.0
+      ∙ ap (λ n. called n (b.0.registers 10) b.0) b.1.holds
+      ∙ ap (λ n. ended b.0 (end_of n)) argument in
       let all : HasEnded t (finished Ended b.0) 3 = record {
         steps = after-add step 1 2 t ∙ ap (after step 2) a.steps ∙ after-add step 1 1 t1 ∙ ap (after step 1) b.1.steps ∙ last;
         stopped = refl;
