@@ -1,7 +1,13 @@
 pub mod Appearance
+pub mod Bounds
+pub mod Carrying
 pub mod Commands
+pub mod Digits
 pub mod Ending
-pub mod MachinePrints
+pub mod ImageSystem
+pub mod MachineSteps
 pub mod Numberings
+pub mod Relation
 pub mod Runs
 pub mod Sources
+pub mod Start

@@ -59,4 +59,4 @@ pub record Carried {E S T : Type 0} (P : System E S) (Q : System E T) (c : ℕ) 
 -- way, and so it never traps.
 pub record Carries (image : Image) (p : Prog) (limits : Limits) : Type 0 where
   pub carried : (args : List Value) → FitMain p args →
-    Carried (program_system p limits) (image_system image limits) (step_cost p) (first_state p limits args) (machine.start args)
+      Carried (program_system p limits) (image_system image limits) (step_cost p) (first_state p limits args) (machine.start args)

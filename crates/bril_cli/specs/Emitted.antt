@@ -108,3 +108,7 @@ bound_of_function f = 40 + sum_by word_bound f.code
 
 abbrev pub bound_sum : Prog → ℕ
 bound_sum p = 32 + sum_by bound_of_function p.funcs
+
+-- how many items a program has
+abbrev pub items_in : Prog → ℕ
+items_in p = sum_by (λ f. length f.code) p.funcs

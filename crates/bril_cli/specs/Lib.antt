@@ -5,5 +5,4 @@ pub mod Emitted
 pub mod Refusal
 pub mod Source
 pub mod Straight
-pub mod StraightTree
 pub mod Works
