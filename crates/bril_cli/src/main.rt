@@ -1,6 +1,8 @@
 // The command line of Roolvist.
 #![tactic(auto)]
 
+mod variables;
+
 use std::io;
 
 fn main(rt: HostRuntime) -> io::Result<()> {
