@@ -1,1 +1,4 @@
+pub mod Forms
+pub mod Mains
 pub mod Names
+pub mod Steps

@@ -3,14 +3,17 @@ use Rattle.std.specs.Prelude.{ℕ, ◌≡◌, ◌≢◌, true, List, [], ◌∷�
 use Rattle.std.specs.List.{flat_map, list_all, position_or_len, AllByRecursion}
 use Rattle.std.specs.Option.{option_map}
 use Rattle.bril_tree.specs.declared.function_tree.Dest.{Dest}
+use Rattle.bril_tree.specs.declared.function_tree.FuncTree.{FuncTree}
 use Rattle.bril_tree.specs.declared.function_tree.Item.{Item}
 use Rattle.bril_tree.specs.declared.function_tree.Item.TheVariants as item
 use Rattle.bril_tree.specs.declared.numbered.Instr.{Instr}
 use Rattle.bril_tree.specs.declared.numbered.Instr.TheVariants.{Label, Const, Act}
 use Rattle.bril_tree.specs.declared.numbered.VarInfo.{VarInfo}
+use Rattle.bril_tree.specs.declared.numbered_function.Func.{Func}
 use Rattle.bril_tree.specs.declared.types.Ty.{Ty}
 use Rattle.bril_tree.specs.FunctionForm.{known_after, variables_of, label_at, targets_of, callees_of, first_type, dest_is_typed}
-use Rattle.bril_tree.specs.Numbered.{item_tree, variable_names}
+use Rattle.bril_tree.specs.Numbered.{item_tree, function_tree, variable_names}
+use Rattle.bril_tree.specs.ProgramForm.{main_name}
 use Rattle.bril_cli.specs.Straight.{IsStraightItem}
 use Rattle.bril_cli.specs.StraightTree.{is_known}
 
@@ -61,3 +64,11 @@ pub record IsNumbering (items : List Item) (vars : List VarInfo) (code : List In
   pub no_callees : flat_map callees_of code ≡ []
   pub typed : list_all dest_is_typed code ≡ true
   pub straight : AllByRecursion IsStraightItem code
+
+-- the numbering of `main`, the only function
+pub record IsNumberedMain (tree : FuncTree) (f : Func) : Type 0 where
+  pub same : (funcs : List (List ℕ)) → tree ≡ function_tree funcs f
+  pub is_main : f.name ≡ main_name
+  pub no_args : f.args ≡ 0
+  pub no_callees : flat_map callees_of f.code ≡ []
+  pub straight : AllByRecursion IsStraightItem f.code

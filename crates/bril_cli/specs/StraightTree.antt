@@ -80,9 +80,12 @@ abbrev pub are_straight : List (List ℕ) → List Item → Bool
 are_straight names [] = true
 are_straight names (item ∷ items) = is_straight_item names item && are_straight (names_after names item) items
 
+-- `main` that takes and returns nothing
+abbrev pub is_plain_main : FuncTree → Bool
+is_plain_main f = (bytes_eq f.name main_name && (length f.args == 0)) && is_none f.ret
+
 abbrev pub is_straight_function : FuncTree → Bool
-is_straight_function f =
-    ((bytes_eq f.name main_name && (length f.args == 0)) && is_none f.ret) && are_straight [] f.code
+is_straight_function f = is_plain_main f && are_straight [] f.code
 
 abbrev pub is_one_straight : List FuncTree → Bool
 is_one_straight [] = false

@@ -1,6 +1,7 @@
 // The command line of Roolvist.
 #![tactic(auto)]
 
+mod numbering;
 mod variables;
 
 use std::io;

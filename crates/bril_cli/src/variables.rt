@@ -61,4 +61,12 @@ impl<'a> Variables<'a> {
         self.names.insert(name.as_bytes()).unwrap();
         Ok(number)
     }
+
+    /// The variables without the table. Takes no memory.
+    pub fn into_infos(self) -> Seq<VarInfo>
+        ensures { result ≡ self.entry.infos }
+    {
+        let Variables { names: _, infos } = self;
+        infos
+    }
 }
