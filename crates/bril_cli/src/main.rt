@@ -6,6 +6,7 @@ mod numbering;
 mod report;
 mod status;
 mod top;
+mod variables;
 mod work;
 
 use std::io;
