@@ -126,7 +126,7 @@ fn run_image<O: Sink>(alloc: Global, image: &Image, program: &Prog, steps: u64, 
     requires stack { image.now.stack ≡ 8192 * frame_words program.now }
     requires words { length image.now.words ≤ 250000 }
     requires within { IsWithin program.now }
-    requires enough { 1000000000 ≤ steps }
+    requires enough { steps ≡ 1000000000 }
     ensures { RunsImage result program.now (O.seen out.old) (O.seen out.new) }
 {
     let Ok(mut machine) = Machine::new(alloc, image, &[], run_limits()) else {
