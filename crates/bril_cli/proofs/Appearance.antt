@@ -73,7 +73,7 @@ pub record OneAppearance (V W : List (List ℕ)) (xs ys : List ℕ) : Type 0 whe
 
 module _ (V W : List (List ℕ)) (once_V : Differ V) (once_W : Differ W) where
   pub one_appearance : (known : ℕ) (xs ys : List ℕ) → map (named V) xs ≡ map (named W) ys → known_after known xs ≡ Some (length V) → known_after known ys ≡ Some (length W)
-    → AgreeBelow V W known → OneAppearance V W xs ys
+      → AgreeBelow V W known → OneAppearance V W xs ys
   one_appearance known [] [] same ex ey agree =
       let a : known ≡ length V = cc in
       let b : known ≡ length W = cc in
@@ -92,8 +92,8 @@ module _ (V W : List (List ℕ)) (once_V : Differ V) (once_W : Differ W) where
       joined e rest = record { numbers = λ i. e i ∷ rest.numbers i; counts = rest.counts; agree = rest.agree }
 
       by : Seen known x xs → Seen known y ys
-        → ((k : ℕ) → map (named V) xs ≡ map (named W) ys → known_after k xs ≡ Some (length V) → known_after k ys ≡ Some (length W) → AgreeBelow V W k → OneAppearance V W xs ys)
-        → OneAppearance V W (x ∷ xs) (y ∷ ys)
+          → ((k : ℕ) → map (named V) xs ≡ map (named W) ys → known_after k xs ≡ Some (length V) → known_after k ys ≡ Some (length W) → AgreeBelow V W k → OneAppearance V W xs ys)
+          → OneAppearance V W (x ∷ xs) (y ∷ ys)
       by (old hx sx) (old hy sy) again =
           let l = known_after-le known ys (length W) (sym sy ∙ ey) in
           joined (once_W.once x y (omega arith) (omega arith) (sym (agree x hx) ∙ head)) (again known tail (sym sx ∙ ex) (sym sy ∙ ey) agree)
@@ -108,7 +108,7 @@ module _ (V W : List (List ℕ)) (once_V : Differ V) (once_W : Differ W) where
       by (fresh hx sx) (fresh hy sy) again =
           joined (hx ∙ sym hy)
           (again (known + 1) tail (sym sx ∙ ex) (sym sy ∙ ey)
-            (below_more (λ z. named V z ≡ named W z) known agree (ap (named V) (sym hx) ∙ head ∙ ap (named W) hy)))
+          (below_more (λ z. named V z ≡ named W z) known agree (ap (named V) (sym hx) ∙ head ∙ ap (named W) hy)))
       by (strange sx) right again = let f : None ≡ Some (length V) = sym sx ∙ ex in absurd cc
       by (old hx sx) (strange sy) again = let f : None ≡ Some (length W) = sym sy ∙ ey in absurd cc
       by (fresh hx sx) (strange sy) again = let f : None ≡ Some (length W) = sym sy ∙ ey in absurd cc

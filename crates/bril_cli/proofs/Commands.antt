@@ -149,7 +149,7 @@ module _ (c : Call) (path bytes : List ℕ) (asked : path_to_run c.words ≡ Som
 
 -- a program that is within the bounds runs
 pub runs_where : (c : Call) (path : List ℕ) (status : Status) → Ends c path status → (bytes : List ℕ) (p : Prog) → ReadsWell c bytes → length bytes ≤ most_bytes → IsSource bytes p → IsWithin p
-  → ¬ Rose c.out_before.faults c.out_after.faults → UnlessMemory (status_number status) ((status_number status ≡ 0) × Prints c p)
+    → ¬ Rose c.out_before.faults c.out_after.faults → UnlessMemory (status_number status) ((status_number status ≡ 0) × Prints c p)
 runs_where c path status.Done ends bytes p reads short source within sound =
     let e : p ≡ ends.runs.0 = one_program c path bytes ends.asked reads p ends.runs.0 source ends.runs.1 in
     inr (refl, record { output = ends.runs.2.1.output; prints = subst (λ q. EndsPrinting q ends.runs.2.1.output) (sym e) ends.runs.2.1.prints; took = ends.runs.2.1.took })
@@ -165,7 +165,7 @@ runs_where c path status.Unwritten ends bytes p reads short source within sound 
 
 -- a program that isn't is refused
 pub refused_where : (c : Call) (path : List ℕ) (status : Status) → Ends c path status → (bytes : List ℕ) (p : Prog) → ReadsWell c bytes → length bytes ≤ most_bytes → IsSource bytes p → ¬ IsWithin p
-  → UnlessMemory (status_number status) (status_number status ≡ 68)
+    → UnlessMemory (status_number status) (status_number status ≡ 68)
 refused_where c path status.Done ends bytes p reads short source beyond =
     absurd (beyond (subst IsWithin (sym (one_program c path bytes ends.asked reads p ends.runs.0 source ends.runs.1)) ends.runs.2.0))
 refused_where c path status.Unformed ends bytes p reads short source beyond = absurd (not_none c path bytes ends.asked reads p source ends.runs.0)

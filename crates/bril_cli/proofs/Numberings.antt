@@ -71,7 +71,7 @@ AllPlain-straight names (i ∷ items) e =
     (IsPlain-straight names i parts.0, AllPlain-straight (names_after names i) items parts.1)
 
 same_dest : (V W : List (List ℕ)) (d e : Option ℕ) (s t : Option Ty) → both_or_neither d s ≡ true → both_or_neither e t ≡ true → dest_tree V d s ≡ dest_tree W e t
-  → (s ≡ t) × (length (listed d) ≡ length (listed e))
+    → (s ≡ t) × (length (listed d) ≡ length (listed e))
 same_dest V W None None None None h k same = (refl, refl)
 same_dest V W None None None (Some t) h k same = absurd (true≢false (sym k))
 same_dest V W None None (Some s) t h k same = absurd (true≢false (sym h))
@@ -96,11 +96,11 @@ listed_once (Some x) (Some y) same = let e : x ≡ y = cc in ap Some e
 module _ (fs gs V W ls ms : List (List ℕ)) where
   -- two items of one tree's item, with the same variables
   same_act : (d d' : Option ℕ) (ty ty' : Option Ty) (op op' : Op) (args args' cs cs' ts ts' : List ℕ) (r s : List ℕ)
-    → item_tree fs V ls (Act d ty op args cs ts) ≡ item_tree gs W ms (Act d' ty' op' args' cs' ts')
-    → (listed d ++ args) ++ r ≡ (listed d' ++ args') ++ s
-    → both_or_neither d ty ≡ true → both_or_neither d' ty' ≡ true
-    → map (named fs) cs ≡ [] → map (named ls) ts ≡ []
-    → (Act d ty op args cs ts ≡ Act d' ty' op' args' cs' ts') × (r ≡ s)
+      → item_tree fs V ls (Act d ty op args cs ts) ≡ item_tree gs W ms (Act d' ty' op' args' cs' ts')
+      → (listed d ++ args) ++ r ≡ (listed d' ++ args') ++ s
+      → both_or_neither d ty ≡ true → both_or_neither d' ty' ≡ true
+      → map (named fs) cs ≡ [] → map (named ls) ts ≡ []
+      → (Act d ty op args cs ts ≡ Act d' ty' op' args' cs' ts') × (r ≡ s)
   same_act d d' ty ty' op op' args args' cs cs' ts ts' r s same flat typed typed' no_cs no_ts =
       let e_dest : dest_tree V d ty ≡ dest_tree W d' ty' = cc in
       let e_op : op ≡ op' = cc in
@@ -110,7 +110,7 @@ module _ (fs gs V W ls ms : List (List ℕ)) where
       let dest = same_dest V W d d' ty ty' typed typed' e_dest in
       let len_args : length args ≡ length args' = sym (length-map args (named V)) ∙ ap length e_args ∙ length-map args' (named W) in
       let len : length (listed d ++ args) ≡ length (listed d' ++ args') =
-          length-append (listed d) args ∙ (λ i. dest.1 i + len_args i) ∙ sym (length-append (listed d') args') in
+      length-append (listed d) args ∙ (λ i. dest.1 i + len_args i) ∙ sym (length-append (listed d') args') in
       let parts = same_parts (listed d ++ args) (listed d' ++ args') r s len flat in
       let both = same_parts (listed d) (listed d') args args' dest.1 parts.0 in
       let e_d : d ≡ d' = listed_once d d' both.0 in
@@ -123,7 +123,7 @@ module _ (fs gs V W ls ms : List (List ℕ)) where
       (λ i. Act (e_d i) (dest.0 i) (e_op i) (both.1 i) (c i) (t i), parts.1)
 
   same_item : (a b : Instr) (r s : List ℕ) → item_tree fs V ls a ≡ item_tree gs W ms b → variables_of a ++ r ≡ variables_of b ++ s
-    → dest_is_typed a ≡ true → dest_is_typed b ≡ true → IsPlain (item_tree fs V ls a) → (a ≡ b) × (r ≡ s)
+      → dest_is_typed a ≡ true → dest_is_typed b ≡ true → IsPlain (item_tree fs V ls a) → (a ≡ b) × (r ≡ s)
   same_item (Label l) b r s same flat typed typed' plain = absurd plain
   same_item (Const d ty v) (Label l) r s same flat typed typed' plain = absurd cc
   same_item (Const d ty v) (Const d' ty' v') r s same flat typed typed' plain =
@@ -139,7 +139,7 @@ module _ (fs gs V W ls ms : List (List ℕ)) where
       same_act d d' ty ty' op op' args args' cs cs' ts ts' r s same flat typed typed' plain.0 plain.1
 
   same_code : (xs ys : List Instr) → map (item_tree fs V ls) xs ≡ map (item_tree gs W ms) ys → flat_map variables_of xs ≡ flat_map variables_of ys
-    → list_all dest_is_typed xs ≡ true → list_all dest_is_typed ys ≡ true → AllByRecursion IsPlain (map (item_tree fs V ls) xs) → xs ≡ ys
+      → list_all dest_is_typed xs ≡ true → list_all dest_is_typed ys ≡ true → AllByRecursion IsPlain (map (item_tree fs V ls) xs) → xs ≡ ys
   same_code [] [] same flat typed typed' plain = refl
   same_code [] (b ∷ ys) same flat typed typed' plain = absurd cc
   same_code (a ∷ xs) [] same flat typed typed' plain = absurd cc
@@ -203,7 +203,7 @@ same_names (v ∷ V) (w ∷ W) len agree =
 
 -- variables with the same names, and types that follow from their places alone
 same_variables : (types : ℕ → Option Ty) (vs ws : List VarInfo) → variable_names vs ≡ variable_names ws
-  → ((x : ℕ) (v : VarInfo) → slice_get vs x ≡ Some v → v.ty ≡ types x) → ((x : ℕ) (w : VarInfo) → slice_get ws x ≡ Some w → w.ty ≡ types x) → vs ≡ ws
+    → ((x : ℕ) (v : VarInfo) → slice_get vs x ≡ Some v → v.ty ≡ types x) → ((x : ℕ) (w : VarInfo) → slice_get ws x ≡ Some w → w.ty ≡ types x) → vs ≡ ws
 same_variables types [] [] names of_vs of_ws = refl
 same_variables types [] (w ∷ ws) names of_vs of_ws = absurd cc
 same_variables types (v ∷ vs) [] names of_vs of_ws = absurd cc
@@ -224,7 +224,7 @@ first_left_out None xs e = refl
 first_left_out (Some x) xs e = absurd cc
 
 no_args : (args : ℕ) (vars : List VarInfo) → args ≤ length vars → ((x : ℕ) (v : VarInfo) → x < args → slice_get vars x ≡ Some v → IsSome v.ty)
-  → filter_map argument_tree (take args vars) ≡ [] → args ≡ 0
+    → filter_map argument_tree (take args vars) ≡ [] → args ≡ 0
 no_args zero vars few typed none = refl
 no_args (suc k) [] few typed none = absurd (omega arith)
 no_args (suc k) (v ∷ vars) few typed none =
@@ -359,6 +359,6 @@ same_numbering tree p q straight of_p of_q =
     let in_p = one_of (function_tree names_p) p.funcs one.function (sym one.alone ∙ of_p.functions) in
     let in_q = one_of (function_tree names_q) q.funcs one.function (sym one.alone ∙ of_q.functions) in
     let e : in_q.function ≡ in_p.function = same_function names_q names_p one.function in_q.function in_p.function
-      (stands names_q one.function in_q.function one.straight in_q.stands_for) (stands names_p one.function in_p.function one.straight in_p.stands_for) in
+    (stands names_q one.function in_q.function one.straight in_q.stands_for) (stands names_p one.function in_p.function one.straight in_p.stands_for) in
     let funcs : q.funcs ≡ p.funcs = in_q.alone ∙ ap (λ f. f ∷ []) e ∙ sym in_p.alone in
     Prog-equal q p funcs (main_of q in_q.function in_q.alone ∙ sym (main_of p in_p.function in_p.alone))

@@ -99,7 +99,7 @@ module _ (image : Image) (p : Prog) (made : IsImageOf image p) (m : Machine) (fr
           output = output_of p;
           prints = EndsPrinting-straight p made.straight;
           took = TookSome-prefix (reached_after m (suc failed.executed)).printed (output_of p)
-            (shown_before (suc failed.executed) (let h = failed.within in omega arith))
-            failed.print.took;
+              (shown_before (suc failed.executed) (let h = failed.within in omega arith))
+              failed.print.took;
           rose = failed.print.rose;
         }

@@ -22,7 +22,7 @@ pub IsOnlySource-of : (bytes : List ℕ) (tree : Tree) (p : Prog) → SpellsAlon
 IsOnlySource-of bytes tree p spells straight numbered = record {
   source = record { tree = tree; spelled = spells.spelled; straight = straight; numbered = numbered };
   only = λ q source. let P : Tree → Type 0 = λ t. Numbered t q in
-    same_numbering tree p q straight numbered (subst P (sym (spells.alone source.tree source.spelled)) source.numbered);
+      same_numbering tree p q straight numbered (subst P (sym (spells.alone source.tree source.spelled)) source.numbered);
 }
 
 pub IsNoSource-of : (bytes : List ℕ) (tree : Tree) → SpellsAlone bytes tree → is_straight_tree tree ≡ false → IsNoSource bytes

@@ -5,6 +5,8 @@ mod emission;
 mod numbering;
 mod report;
 mod status;
+#[cfg(test)]
+mod tests;
 mod top;
 mod variables;
 mod work;

@@ -6,7 +6,7 @@ ghost use Rattle.bril_cli.specs.Answers.{Says};
 ghost use Rattle.bril_cli.specs.Works.{status_number, status_line, PutsLine, SaysStatus};
 
 use crate::status::Status;
-use bril_outside::sink::{put_three, put_two, Failed, Sink};
+use bril_outside::sink::{Failed, Sink, put_three, put_two};
 use bril_tree::text::Text;
 use itoa::Buffer;
 

@@ -46,47 +46,37 @@ pub fn bril_top<F: Files, O: Sink, E: Sink>(
     ensures faults { (F.seen files.old).faults ≤ (F.seen files.new).faults }
 
     // What each status says.
-    ensures answers {
-        Answers result (call_of words.now (F.seen files.old) (F.seen files.new)
-            (O.seen out.old) (O.seen out.new) (E.seen err.old) (E.seen err.new)) }
-    ensures done {
-        result ≡ 0 → Finished (call_of words.now (F.seen files.old) (F.seen files.new)
-            (O.seen out.old) (O.seen out.new) (E.seen err.old) (E.seen err.new)) }
-    ensures form {
-        result ≡ 65 → Unformed (call_of words.now (F.seen files.old) (F.seen files.new)
-            (O.seen out.old) (O.seen out.new) (E.seen err.old) (E.seen err.new)) }
-    ensures read {
-        result ≡ 66 → Unread (call_of words.now (F.seen files.old) (F.seen files.new)
-            (O.seen out.old) (O.seen out.new) (E.seen err.old) (E.seen err.new)) }
-    ensures size {
-        result ≡ 68 → TooLarge (call_of words.now (F.seen files.old) (F.seen files.new)
-            (O.seen out.old) (O.seen out.new) (E.seen err.old) (E.seen err.new)) }
+    ensures answers { Answers result (call_of words.now (F.seen files.old) (F.seen files.new)
+        (O.seen out.old) (O.seen out.new) (E.seen err.old) (E.seen err.new)) }
+    ensures done { result ≡ 0 → Finished (call_of words.now (F.seen files.old) (F.seen files.new)
+        (O.seen out.old) (O.seen out.new) (E.seen err.old) (E.seen err.new)) }
+    ensures form { result ≡ 65 → Unformed (call_of words.now (F.seen files.old) (F.seen files.new)
+        (O.seen out.old) (O.seen out.new) (E.seen err.old) (E.seen err.new)) }
+    ensures read { result ≡ 66 → Unread (call_of words.now (F.seen files.old) (F.seen files.new)
+        (O.seen out.old) (O.seen out.new) (E.seen err.old) (E.seen err.new)) }
+    ensures size { result ≡ 68 → TooLarge (call_of words.now (F.seen files.old) (F.seen files.new)
+        (O.seen out.old) (O.seen out.new) (E.seen err.old) (E.seen err.new)) }
     ensures write { result ≡ 74 → Rose (O.seen out.old).faults (O.seen out.new).faults }
     ensures silent { 64 ≤ result → result ≤ 71 → O.seen out.new ≡ O.seen out.old }
 
     // When each status comes. Where memory is wanting, 71 comes in place of all but 64.
     ensures misused { (result ≡ 64) ↔ (path_to_run words.now ≡ None) }
-    ensures runs {
-        let call = call_of words.now (F.seen files.old) (F.seen files.new)
-            (O.seen out.old) (O.seen out.new) (E.seen err.old) (E.seen err.new) in
+    ensures runs { let call = call_of words.now (F.seen files.old) (F.seen files.new)
+        (O.seen out.old) (O.seen out.new) (E.seen err.old) (E.seen err.new) in
         (bytes : List ℕ) (program : Prog) → ReadsWell call bytes → length bytes ≤ most_bytes → IsSource bytes program → IsWithin program →
-            ¬ Rose (O.seen out.old).faults (O.seen out.new).faults → UnlessMemory result ((result ≡ 0) × Prints call program) }
-    ensures formless {
-        let call = call_of words.now (F.seen files.old) (F.seen files.new)
-            (O.seen out.old) (O.seen out.new) (E.seen err.old) (E.seen err.new) in
+        ¬ Rose (O.seen out.old).faults (O.seen out.new).faults → UnlessMemory result ((result ≡ 0) × Prints call program) }
+    ensures formless { let call = call_of words.now (F.seen files.old) (F.seen files.new)
+        (O.seen out.old) (O.seen out.new) (E.seen err.old) (E.seen err.new) in
         (bytes : List ℕ) → ReadsWell call bytes → length bytes ≤ most_bytes → IsNoSource bytes → UnlessMemory result (result ≡ 65) }
-    ensures lacking {
-        AsksNone (call_of words.now (F.seen files.old) (F.seen files.new)
-            (O.seen out.old) (O.seen out.new) (E.seen err.old) (E.seen err.new)) → UnlessMemory result (result ≡ 66) }
-    ensures long_file {
-        let call = call_of words.now (F.seen files.old) (F.seen files.new)
-            (O.seen out.old) (O.seen out.new) (E.seen err.old) (E.seen err.new) in
+    ensures lacking { AsksNone (call_of words.now (F.seen files.old) (F.seen files.new)
+        (O.seen out.old) (O.seen out.new) (E.seen err.old) (E.seen err.new)) → UnlessMemory result (result ≡ 66) }
+    ensures long_file { let call = call_of words.now (F.seen files.old) (F.seen files.new)
+        (O.seen out.old) (O.seen out.new) (E.seen err.old) (E.seen err.new) in
         (bytes : List ℕ) → ReadsWell call bytes → most_bytes < length bytes → UnlessMemory result (result ≡ 68) }
-    ensures long_program {
-        let call = call_of words.now (F.seen files.old) (F.seen files.new)
-            (O.seen out.old) (O.seen out.new) (E.seen err.old) (E.seen err.new) in
+    ensures long_program { let call = call_of words.now (F.seen files.old) (F.seen files.new)
+        (O.seen out.old) (O.seen out.new) (E.seen err.old) (E.seen err.new) in
         (bytes : List ℕ) (program : Prog) → ReadsWell call bytes → length bytes ≤ most_bytes → IsSource bytes program → ¬ IsWithin program →
-            UnlessMemory result (result ≡ 68) }
+        UnlessMemory result (result ≡ 68) }
 {
     let Some(path) = path_to_run(words) else {
         say_usage(err);
@@ -102,7 +92,9 @@ fn path_to_run(words: &[Text]) -> Option<&Text>
     ensures { option_copied result ≡ path_to_run words.now }
 {
     match words {
-        [_, command, path] if command.as_str() == "run" && is_operand(path.as_bytes()) => Some(path),
+        [_, command, path] if command.as_str() == "run" && is_operand(path.as_bytes()) => Some(
+            path,
+        ),
         _ => None,
     }
 }

@@ -7,12 +7,12 @@ ghost use Rattle.bril_cli.specs.Source.{most_bytes, run_limits, IsFile, IsNoSour
 ghost use Rattle.bril_cli.specs.Straight.{IsStraight};
 ghost use Rattle.bril_cli.specs.Works.{RefusesFile, RefusesSource, RefusesImage, RunsImage, RunsProgram, RunsFile};
 
-use crate::emission::{emit, EmitFault};
+use crate::emission::{EmitFault, emit};
 use crate::numbering::number;
 use crate::status::Status;
 use bril_outside::files::{FileFault, Files};
 use bril_outside::sink::Sink;
-use bril_text::{read_text, TextFault};
+use bril_text::{TextFault, read_text};
 use bril_tree::bytes::Bytes;
 use bril_tree::limits::{End, Limits};
 use bril_tree::program::Prog;
@@ -120,7 +120,13 @@ fn compile(alloc: Global, program: &Prog) -> Result<Image, Status>
 }
 
 // Runs an image of the straight program on the machine, for so many steps, in which it ends.
-fn run_image<O: Sink>(alloc: Global, image: &Image, program: &Prog, steps: u64, out: &mut O) -> Status
+fn run_image<O: Sink>(
+    alloc: Global,
+    image: &Image,
+    program: &Prog,
+    steps: u64,
+    out: &mut O,
+) -> Status
     requires straight { IsStraight program.now }
     requires carries { Carries image.now program.now run_limits }
     requires stack { image.now.stack ≡ 8192 * frame_words program.now }
