@@ -1,5 +1,5 @@
 -- The form of an item by what stands at its arguments' places.
-use Rattle.std.proofs.Common.{◌≡◌, ℕ, ◌<◌, ◌≤◌, ◌&&◌, List, [], ◌∷◌, length, get_or, Option, Some, None, refl, ap, sym, ◌∙◌, arith}
+use Rattle.std.proofs.Common.{◌≡◌, ℕ, ◌<◌, ◌≤◌, ◌&&◌, List, [], ◌∷◌, length, get_or, Option, Some, None, ap, sym, ◌∙◌, arith}
 use Rattle.bril_tree.specs.declared.function_tree.Dest.{Dest}
 use Rattle.bril_cli.specs.StraightTree.{is_int, is_known, is_sum, is_print}
 

@@ -1,5 +1,5 @@
 -- A program of one function.
-use Rattle.std.proofs.Common.{◌≡◌, ℕ, ◌<◌, ◌≤◌, Bool, true, false, eqb, List, [], ◌∷◌, ◌++◌, length, map, take, get_or, Option, None, Some, is_none, refl, ap, sym, ◌∙◌, arith}
+use Rattle.std.proofs.Common.{◌≡◌, ◌<◌, ◌≤◌, true, eqb, List, [], ◌∷◌, length, map, take, get_or, Option, None, Some, is_none, refl, ap, sym, ◌∙◌, arith}
 use Rattle.std.specs.List.{filter_map}
 use Rattle.std.proofs.lemmas.Bool.{and_parts, eqb-true, true≢false}
 use Rattle.std.proofs.lemmas.List.{append-nil, nil_from_length}
@@ -39,9 +39,9 @@ IsNumberedMain-from tree f plain n name args labels ret =
     let no_ret = none_from tree.ret outer.1 in
     record {
       same = λ funcs.
-        let code : tree.code ≡ map (item_tree funcs (variable_names f.vars) f.labels) f.code = n.named funcs [] ∙ (λ i. map (item_tree funcs (append-nil (variable_names f.vars) i) (sym labels i)) f.code) in
-        let none : tree.args ≡ filter_map argument_tree (take f.args f.vars) = no_args ∙ sym (ap (λ k. filter_map argument_tree (take k f.vars)) args) in
-        (λ i. record { name = sym name i; args = none i; ret = (no_ret ∙ sym ret) i; code = code i });
+          let code : tree.code ≡ map (item_tree funcs (variable_names f.vars) f.labels) f.code = n.named funcs [] ∙ (λ i. map (item_tree funcs (append-nil (variable_names f.vars) i) (sym labels i)) f.code) in
+          let none : tree.args ≡ filter_map argument_tree (take f.args f.vars) = no_args ∙ sym (ap (λ k. filter_map argument_tree (take k f.vars)) args) in
+          (λ i. record { name = sym name i; args = none i; ret = (no_ret ∙ sym ret) i; code = code i });
       is_main = name ∙ is_main;
       no_args = args;
       no_callees = n.no_callees;
@@ -53,8 +53,8 @@ pub Numbered-from : (tree : Tree) (p : Prog) (g : FuncTree) (f : Func) → tree.
 Numbered-from tree p g f alone one funcs main = record {
   alone = alone;
   functions =
-    let names = map (λ (h : Func). h.name) p.funcs in
-    one ∙ (ap (λ t. t ∷ []) (main.same names) ∙ sym (ap (map (function_tree names)) funcs));
+      let names = map (λ (h : Func). h.name) p.funcs in
+      one ∙ (ap (λ t. t ∷ []) (main.same names) ∙ sym (ap (map (function_tree names)) funcs));
 }
 
 pub IsStraight-from : (p : Prog) (g : FuncTree) (f : Func) → p.funcs ≡ f ∷ [] → p.main ≡ 0 → IsNumberedMain g f → IsStraight p

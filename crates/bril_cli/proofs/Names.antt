@@ -1,16 +1,14 @@
 -- Names and their places.
-use Rattle.std.proofs.Common.{◌≡◌, ℕ, ◌+◌, ◌<◌, ◌≤◌, Bool, true, false, cond, not, ◌||◌, ltb, List, [], ◌∷◌, ◌++◌, length, map, get_or, Option, Some, None, position, bytes_eq, refl, ap, sym, ◌∙◌, subst, arith, length-append, Result, Ok, Err, IsOk, IfOk}
+use Rattle.std.proofs.Common.{◌≡◌, ℕ, ◌+◌, ◌<◌, Bool, true, false, cond, not, ◌||◌, ltb, List, [], ◌∷◌, ◌++◌, length, map, Some, None, position, bytes_eq, refl, ap, sym, ◌∙◌, arith, Result, Ok, Err, IsOk, IfOk}
 use Rattle.std.specs.List.{list_any, position_or_len}
-use Rattle.std.proofs.lemmas.Bool.{cond-true, cond-false, ltb-true, true≢false}
+use Rattle.std.proofs.lemmas.Bool.{cond-true, cond-false, true≢false}
 use Rattle.std.proofs.lemmas.Bool.Decides.{nat_tests}
-use Rattle.std.proofs.lemmas.Grind.{common_steps}
 use Rattle.std.proofs.lemmas.List.{length-map, map-append}
-use Rattle.std.proofs.lemmas.Slice.Eq.{bytes_eq-Decides}
 use Rattle.indexmap.specs.IndexSet.{insert_key}
 use Rattle.bril_tree.specs.declared.numbered.VarInfo.{VarInfo}
 use Rattle.bril_tree.specs.declared.types.Ty.{Ty}
-use Rattle.bril_tree.specs.Numbered.{named, variable_names}
-use Rattle.bril_cli.specs.StraightTree.{is_known, with_name}
+use Rattle.bril_tree.specs.Numbered.{variable_names}
+use Rattle.bril_cli.specs.StraightTree.{is_known}
 use Rattle.bril_cli.specs.Numbering.{number_of, with_variable, typed_variable}
 
 -- a place in a list that is made of another

@@ -1,10 +1,8 @@
 -- One more item of a numbering.
-use Rattle.std.proofs.Common.{◌≡◌, ◌≢◌, ℕ, ◌+◌, ◌<◌, ◌≤◌, Bool, true, false, cond, not, ◌&&◌, ◌||◌, ◌⊎◌, inl, inr, zero, suc, option_and_then, eqb, ltb, List, [], ◌∷◌, ◌++◌, length, map, get_or, take, drop, Option, Some, None, IsSome, All, AllPairs, slice_get, bytes_eq, refl, ap, sym, ◌∙◌, subst, ⊎_elim, append_assoc, arith, length-append}
+use Rattle.std.proofs.Common.{◌≡◌, ◌≢◌, ℕ, ◌+◌, ◌<◌, ◌≤◌, Bool, true, false, cond, not, ◌&&◌, ◌||◌, ◌⊎◌, inl, inr, zero, suc, option_and_then, eqb, ltb, List, [], ◌∷◌, ◌++◌, length, map, get_or, take, drop, Option, Some, None, IsSome, All, AllPairs, slice_get, bytes_eq, refl, ap, sym, ◌∙◌, subst, ⊎_elim, append_assoc, arith}
 use Rattle.std.proofs.Math.Numerals.{one-add}
-use Rattle.std.specs.List.{flat_map, list_all, list_any, position_or_len, AllByRecursion}
-use Rattle.std.proofs.lemmas.Bool.{cond-true, cond-false, ltb-true, lt-ltb, le-ltb, eq-eqb, eqb-true, ne_eqb, cases_lt, cases_order, and_parts, true≢false}
-use Rattle.std.proofs.lemmas.Bool.Decides.{nat_tests}
-use Rattle.std.proofs.lemmas.Grind.{common_steps}
+use Rattle.std.specs.List.{flat_map}
+use Rattle.std.proofs.lemmas.Bool.{cond-true, cond-false, lt-ltb, le-ltb, eq-eqb, eqb-true, ne_eqb, cases_lt, cases_order, and_parts, true≢false}
 use Rattle.std.proofs.lemmas.List.{length-map, map-append, map_push, append-nil, get_or_at, get_or-map, nil_from_length, length_push, take_more, at_drop_more}
 use Rattle.std.proofs.lemmas.List.Concat.{flat_map-append}
 use Rattle.std.proofs.lemmas.List.Elements.{All-push, All-head, All-tail, All-from_recursion, recursion_from_All}
@@ -16,7 +14,7 @@ use Rattle.bril_tree.specs.declared.function_tree.Dest.{Dest}
 use Rattle.bril_tree.specs.declared.function_tree.Item.{Item}
 use Rattle.bril_tree.specs.declared.function_tree.Item.TheVariants as item
 use Rattle.bril_tree.specs.declared.numbered.Instr.{Instr}
-use Rattle.bril_tree.specs.declared.numbered.Instr.TheVariants.{Label, Const, Act}
+use Rattle.bril_tree.specs.declared.numbered.Instr.TheVariants.{Const}
 use Rattle.bril_tree.specs.declared.numbered.VarInfo.{VarInfo}
 use Rattle.bril_tree.specs.declared.operation.Op.{Op}
 use Rattle.bril_tree.specs.declared.operation.Op.TheVariants as op
@@ -36,9 +34,9 @@ known_after-append k [] ys m h = ap (λ n. known_after n ys) (same_Some k m h)
 known_after-append k (x ∷ xs) ys m h = by (ltb x k) (eqb x k) h (known_after-append k xs ys m) (known_after-append (k + 1) xs ys m)
   where
     by : (b e : Bool) → cond b (known_after k xs) (cond e (known_after (k + 1) xs) None) ≡ Some m
-       → (known_after k xs ≡ Some m → known_after k (xs ++ ys) ≡ known_after m ys)
-       → (known_after (k + 1) xs ≡ Some m → known_after (k + 1) (xs ++ ys) ≡ known_after m ys)
-       → cond b (known_after k (xs ++ ys)) (cond e (known_after (k + 1) (xs ++ ys)) None) ≡ known_after m ys
+        → (known_after k xs ≡ Some m → known_after k (xs ++ ys) ≡ known_after m ys)
+        → (known_after (k + 1) xs ≡ Some m → known_after (k + 1) (xs ++ ys) ≡ known_after m ys)
+        → cond b (known_after k (xs ++ ys)) (cond e (known_after (k + 1) (xs ++ ys)) None) ≡ known_after m ys
     by true e p old new = old p
     by false true p old new = new p
     by false false p old new = cc
@@ -129,9 +127,9 @@ assigns_known vars name ty typed differ known = record {
   appears = λ xs. cond-true _ _ _ (lt-ltb _ _ (below_known vars name known));
   grows = omega arith;
   types = λ x. ⊎_elim
-    (λ l. type_known vars typed x _ l)
-    (λ l. let b = below_known vars name known in ap (λ b. first_of_two (type_of_variable vars x) (typed_if b (Some ty))) (ne_eqb x _ (λ e. omega arith)) ∙ first_of_two-none (type_of_variable vars x))
-    (cases_lt x (length vars));
+      (λ l. type_known vars typed x _ l)
+      (λ l. let b = below_known vars name known in ap (λ b. first_of_two (type_of_variable vars x) (typed_if b (Some ty))) (ne_eqb x _ (λ e. omega arith)) ∙ first_of_two-none (type_of_variable vars x))
+      (cases_lt x (length vars));
   all_typed = typed;
   vars_differ = differ;
 }
@@ -157,12 +155,12 @@ assigns_new vars name ty typed differ new = record {
   more = name ∷ [];
   names = map-append (λ v. v.name) vars (typed_variable name ty ∷ []);
   gives = λ rest.
-    let names = variable_names vars in
-    let all : variable_names (vars ++ typed_variable name ty ∷ []) ++ rest ≡ names ++ name ∷ rest = ap (λ l. l ++ rest) (map-append (λ v. v.name) vars (typed_variable name ty ∷ [])) ∙ append_assoc names (name ∷ []) rest in
-    ap (λ l. named l (number_of names name)) all ∙ named-new names rest name new;
+      let names = variable_names vars in
+      let all : variable_names (vars ++ typed_variable name ty ∷ []) ++ rest ≡ names ++ name ∷ rest = ap (λ l. l ++ rest) (map-append (λ v. v.name) vars (typed_variable name ty ∷ [])) ∙ append_assoc names (name ∷ []) rest in
+      ap (λ l. named l (number_of names name)) all ∙ named-new names rest name new;
   appears = λ xs.
-    let next = next_new vars name new in
-    cond-false _ _ _ (le-ltb (number_of (variable_names vars) name) (length vars) (omega arith)) ∙ (cond-true _ _ _ (eq-eqb _ _ next) ∙ ap (λ n. known_after n xs) (sym (length_push vars (typed_variable name ty))));
+      let next = next_new vars name new in
+      cond-false _ _ _ (le-ltb (number_of (variable_names vars) name) (length vars) (omega arith)) ∙ (cond-true _ _ _ (eq-eqb _ _ next) ∙ ap (λ n. known_after n xs) (sym (length_push vars (typed_variable name ty))));
   grows = omega (arith, length_push vars (typed_variable name ty));
   types = λ x. types_new vars name ty typed new x (cases_order x (length vars));
   all_typed = All-push (λ v. IsSome v.ty) vars (typed_variable name ty) typed refl;
@@ -195,9 +193,9 @@ record Fits-next (items : List Item) (vars after : List VarInfo) (item : Item) (
 push : (items : List Item) (vars after : List VarInfo) (code : List Instr) (item : Item) (instr : Instr) → IsNumbering items vars code → Fits-next items vars after item instr → IsNumbering (items ++ item ∷ []) after (code ++ instr ∷ [])
 push items vars after code item instr old next = record {
   named = λ funcs rest.
-    let all : variable_names after ++ rest ≡ variable_names vars ++ (next.more ++ rest) = ap (λ l. l ++ rest) next.names ∙ append_assoc (variable_names vars) next.more rest in
-    let before : items ≡ map (item_tree funcs (variable_names after ++ rest) []) code = old.named funcs (next.more ++ rest) ∙ ap (λ l. map (item_tree funcs l []) code) (sym all) in
-    (λ i. before i ++ next.named funcs rest i ∷ []) ∙ sym (map_push (item_tree funcs (variable_names after ++ rest) []) code instr);
+      let all : variable_names after ++ rest ≡ variable_names vars ++ (next.more ++ rest) = ap (λ l. l ++ rest) next.names ∙ append_assoc (variable_names vars) next.more rest in
+      let before : items ≡ map (item_tree funcs (variable_names after ++ rest) []) code = old.named funcs (next.more ++ rest) ∙ ap (λ l. map (item_tree funcs l []) code) (sym all) in
+      (λ i. before i ++ next.named funcs rest i ∷ []) ∙ sym (map_push (item_tree funcs (variable_names after ++ rest) []) code instr);
   appear = ap (known_after 0) (flat_map-append variables_of code (instr ∷ []) ∙ ap (λ l. flat_map variables_of code ++ l) (append-nil (variables_of instr))) ∙ (known_after-append 0 (flat_map variables_of code) (variables_of instr) (length vars) old.appear ∙ next.appears);
   types = λ x. first_type-push x code instr ∙ (ap (λ o. first_of_two o (type_assigned x instr)) (old.types x) ∙ next.types x);
   all_typed = next.all_typed;
@@ -252,11 +250,11 @@ module _ (items : List Item) (vars : List VarInfo) (code : List Instr) (old : Is
         more = s.more;
         names = s.names;
         named = λ fs rest.
-          let all : variable_names after ++ rest ≡ names ++ (s.more ++ rest) = ap (λ l. l ++ rest) s.names ∙ append_assoc names s.more rest in
-          let one = sym (ap (λ l. named l (number_of names a)) all ∙ named-known names (s.more ++ rest) a left) in
-          let two = sym (ap (λ l. named l (number_of names b)) all ∙ named-known names (s.more ++ rest) b right) in
-          let to = sym (s.gives rest) in
-          (λ i. item.Act (Some (typed_name (to i) dest.ty)) op.Add (one i ∷ two i ∷ []) (no_funcs i) (no_targets i));
+            let all : variable_names after ++ rest ≡ names ++ (s.more ++ rest) = ap (λ l. l ++ rest) s.names ∙ append_assoc names s.more rest in
+            let one = sym (ap (λ l. named l (number_of names a)) all ∙ named-known names (s.more ++ rest) a left) in
+            let two = sym (ap (λ l. named l (number_of names b)) all ∙ named-known names (s.more ++ rest) b right) in
+            let to = sym (s.gives rest) in
+            (λ i. item.Act (Some (typed_name (to i) dest.ty)) op.Add (one i ∷ two i ∷ []) (no_funcs i) (no_targets i));
         appears = s.appears (number_of names a ∷ number_of names b ∷ []) ∙ known_two (length after) (number_of names a) (number_of names b) lm rm;
         types = s.types;
         all_typed = s.all_typed;
@@ -276,8 +274,8 @@ module _ (items : List Item) (vars : List VarInfo) (code : List Instr) (old : Is
         more = [];
         names = sym (append-nil names);
         named = λ fs rest.
-          let one = sym (named-known names rest a known) in
-          (λ i. item.Act None op.Print (one i ∷ []) (no_funcs i) (no_targets i));
+            let one = sym (named-known names rest a known) in
+            (λ i. item.Act None op.Print (one i ∷ []) (no_funcs i) (no_targets i));
         appears = known_one (length vars) (number_of names a) (below_known vars a known);
         types = λ x. first_of_two-none (type_of_variable vars x);
         all_typed = old.all_typed;

@@ -234,3 +234,6 @@ fn is_int(ty: Ty) -> bool
 {
     ty.depth == 0 && matches!(&ty.base, Base::Int)
 }
+
+#[cfg(test)]
+mod tests;

@@ -1,4 +1,4 @@
-use Rattle.std.proofs.Common.{◌≡◌, ◌∷◌, [], sym, ap, ◌++◌, ◌∙◌, true, refl}
+use Rattle.std.proofs.Common.{◌≡◌, ◌∷◌, [], sym, ap, ◌++◌, ◌∙◌, refl}
 use Rattle.bril_cli.specs.Numbering.{IsNumberedMain}
 use Rattle.bril_cli.proofs.Mains.{empty_from, one_from, Numbered-from, IsStraight-from}
 use Rattle.bril_cli.proofs.numbering.number.Goals as goal

@@ -1,4 +1,4 @@
-use Rattle.std.proofs.Common.{◌≡◌, sym, ap, subst, ◌∙◌, true, refl}
+use Rattle.std.proofs.Common.{sym, subst, refl}
 use Rattle.bril_cli.specs.Numbering.{IsNumbering}
 use Rattle.bril_cli.proofs.Mains.{IsNumberedMain-from}
 use Rattle.bril_cli.proofs.numbering.number_main.Goals as goal

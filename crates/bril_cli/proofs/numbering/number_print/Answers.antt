@@ -1,4 +1,4 @@
-use Rattle.std.proofs.Common.{sym, ◌∙◌, arith}
+use Rattle.std.proofs.Common.{sym, ◌∙◌}
 use Rattle.bril_tree.specs.Numbered.{variable_names}
 use Rattle.bril_cli.proofs.Forms.{is_print-is}
 use Rattle.bril_cli.proofs.Names.{position-some, position-none}

@@ -1,4 +1,4 @@
-use Rattle.std.proofs.Common.{sym, ◌∙◌, ap, arith, ◌≡◌, ◌++◌, ◌∷◌, [], map, bytes_eq, false, length, length-append}
+use Rattle.std.proofs.Common.{sym, ◌∙◌, ap, arith, ◌≡◌, ◌++◌, ◌∷◌, [], map, bytes_eq, false, length}
 use Rattle.std.proofs.lemmas.List.{length-map, map-append}
 use Rattle.indexmap.specs.IndexSet.{insert_key}
 use Rattle.bril_tree.specs.Numbered.{variable_names}
