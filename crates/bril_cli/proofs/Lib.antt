@@ -1,0 +1,17 @@
+pub mod Appearance
+pub mod Bounds
+pub mod Carrying
+pub mod Commands
+pub mod Digits
+pub mod Ending
+pub mod Forms
+pub mod ImageSystem
+pub mod MachineSteps
+pub mod Mains
+pub mod Names
+pub mod Numberings
+pub mod Relation
+pub mod Runs
+pub mod Sources
+pub mod Start
+pub mod Steps

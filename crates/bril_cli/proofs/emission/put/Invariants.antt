@@ -1,0 +1,6 @@
+use Rattle.std.proofs.Common.{◌≡◌, ◌++◌, map, take}
+use Rattle.rv64_machine.specs.Encoding.{encoded}
+use Rattle.bril_cli.proofs.emission.put.Given as goal
+
+abbrev pub invariant-loop-word : goal.invariant-loop-word
+invariant-loop-word l = l.code ≡ l.initial.code ++ map encoded (take l.word-index l.words)

@@ -1,0 +1,7 @@
+-- The line that has the path in its middle.
+use Rattle.std.proofs.Common.{◌≡◌, ◌++◌, codes}
+use Rattle.bril_cli.specs.Works.{status_line, PutsLine}
+use Rattle.bril_cli.proofs.report.put_status.Goals as goal
+
+pub returns-in-Unread : goal.returns-in-Unread
+returns-in-Unread g c = rw c.in-Unread.is (rw (← c.as_bytes-in-Unread.ensures.value) c.put_around.ensures)

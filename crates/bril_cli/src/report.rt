@@ -1,0 +1,79 @@
+// What is told of how a command ended: its number, and its line on the error output.
+
+ghost use Rattle.std.specs.Prelude.{◌≡◌, ◌++◌, codes};
+ghost use Rattle.std.specs.Fmt.{decimal};
+ghost use Rattle.bril_cli.specs.Answers.{Says};
+ghost use Rattle.bril_cli.specs.Works.{status_number, status_line, PutsLine, SaysStatus};
+
+use crate::status::Status;
+use bril_outside::sink::{Failed, Sink, put_three, put_two};
+use bril_tree::text::Text;
+use itoa::Buffer;
+
+/// The number of a status.
+pub fn status_number(status: Status) -> u8
+    ensures { result ≡ status_number status }
+{
+    match status {
+        Status::Done => 0,
+        Status::Unformed => 65,
+        Status::Unread => 66,
+        Status::FileTooBig | Status::CodeTooBig { .. } | Status::StackTooBig { .. } => 68,
+        Status::OutOfMemory => 71,
+        Status::Unwritten => 74,
+    }
+}
+
+/// Puts the line of a status, for the file at a path, on the error output. Where all was done nothing is put.
+/// A fault of the error output changes nothing else.
+pub fn say<E: Sink>(err: &mut E, path: &Text, status: Status)
+    ensures { SaysStatus status path.now (E.seen err.old) (E.seen err.new) }
+{
+    if !matches!(status, Status::Done) {
+        let _ = put_status(err, path, status);
+    }
+}
+
+/// Puts the line of words that are those of no command on the error output.
+pub fn say_usage<E: Sink>(err: &mut E)
+    ensures { Says (E.seen err.old) (codes "usage\n") (E.seen err.new) }
+{
+    let _ = err.put(b"usage\n");
+}
+
+fn put_status<E: Sink>(err: &mut E, path: &Text, status: Status) -> Result<(), Failed>
+    ensures { PutsLine result (E.seen err.old) (status_line status path.now) (E.seen err.new) }
+{
+    match status {
+        Status::Done => put_line(err, b""),
+        Status::Unformed => put_two(err, path.as_bytes(), b": form\n"),
+        Status::Unread => put_around(err, b"cannot read ", path.as_bytes()),
+        Status::FileTooBig => put_line(err, b"too large: bytes\n"),
+        Status::CodeTooBig { words } => put_number(err, b"too large: code ", words),
+        Status::StackTooBig { words } => put_number(err, b"too large: stack ", words),
+        Status::OutOfMemory => put_line(err, b"out of memory\n"),
+        Status::Unwritten => put_line(err, b"cannot write\n"),
+    }
+}
+
+// Puts a line that is one piece.
+fn put_line<E: Sink>(err: &mut E, line: &[u8]) -> Result<(), Failed>
+    ensures { PutsLine result (E.seen err.old) line.now (E.seen err.new) }
+{
+    err.put(line)
+}
+
+// Puts two pieces and LF.
+fn put_around<E: Sink>(err: &mut E, front: &[u8], back: &[u8]) -> Result<(), Failed>
+    ensures { PutsLine result (E.seen err.old) (front.now ++ back.now ++ codes "\n") (E.seen err.new) }
+{
+    put_three(err, front, back, b"\n")
+}
+
+// Puts a line that ends with a number.
+fn put_number<E: Sink>(err: &mut E, front: &[u8], number: u64) -> Result<(), Failed>
+    ensures { PutsLine result (E.seen err.old) (front.now ++ decimal number ++ codes "\n") (E.seen err.new) }
+{
+    let mut buffer = Buffer::new();
+    put_around(err, front, buffer.format(number).as_bytes())
+}

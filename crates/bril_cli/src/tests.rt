@@ -1,0 +1,222 @@
+// Worked command lines, from their words and files to what they leave.
+
+use crate::top::bril_top;
+use bril_outside::mem_files::MemFiles;
+use bril_outside::mem_sink::MemSink;
+use bril_tree::sequence::Seq;
+use bril_tree::text::Text;
+use std::alloc::{AllocError, Global};
+use std::test::Fail;
+
+// A command line: all its words, the numbers of the writes to the output and to the error output that are to
+// fail, its status, and what the two outputs then hold.
+#[derive(Drop)]
+struct Row {
+    words: &'static [&'static str],
+    outs: &'static [u64],
+    errs: &'static [u64],
+    status: u8,
+    out: &'static str,
+    err: &'static str,
+}
+
+// A command line whose writes all succeed.
+fn plain(words: &'static [&'static str], status: u8, out: &'static str, err: &'static str) -> Row {
+    Row {
+        words,
+        outs: &[],
+        errs: &[],
+        status,
+        out,
+        err,
+    }
+}
+
+const FILES: [(&str, &[u8]); 11] = [
+    ("one.bril", b"@main { v: int = const 4; print v; }"),
+    ("empty.bril", b"@main { }"),
+    ("f.bril", b"@main { print v; }"),
+    ("bytes.bril", b"\xff"),
+    ("label.bril", b"@main { .l: }"),
+    ("second.bril", b"@main { } @other { }"),
+    ("nothing.bril", b""),
+    ("late.bril", b"@main { print v; v: int = const 4; }"),
+    (
+        "wraps.bril",
+        b"@main { a: int = const 9223372036854775807; b: int = const 1; c: int = add a b; print c; }",
+    ),
+    (
+        "again.bril",
+        b"@main { a: int = const 20; b: int = const 1; a: int = add a b; a: int = add a a; print a; print b; }",
+    ),
+    (
+        "ints.bril",
+        b"@main { a: int = const -9223372036854775808; print a; a: int = const -1; print a; a: int = const 0; print a; a: int = const 2047; print a; a: int = const 2048; print a; a: int = const 4096; print a; a: int = const 2147483647; print a; a: int = const 2147483648; print a; a: int = const -2147483649; print a; }",
+    ),
+];
+
+// The command lines. The first read fails.
+fn rows() -> [Row; 26] {
+    [
+        plain(
+            &["bril", "run", "one.bril"],
+            66,
+            "",
+            "cannot read one.bril\n",
+        ),
+        plain(&["bril", "run", "one.bril"], 0, "4\n", ""),
+        plain(&["bril", "run", "empty.bril"], 0, "", ""),
+        plain(&["bril", "run", "again.bril"], 0, "42\n1\n", ""),
+        plain(
+            &["bril", "run", "wraps.bril"],
+            0,
+            "-9223372036854775808\n",
+            "",
+        ),
+        plain(
+            &["bril", "run", "ints.bril"],
+            0,
+            "-9223372036854775808\n-1\n0\n2047\n2048\n4096\n2147483647\n2147483648\n-2147483649\n",
+            "",
+        ),
+        plain(&["bril", "run", "f.bril"], 65, "", "f.bril: form\n"),
+        plain(&["bril", "run", "bytes.bril"], 65, "", "bytes.bril: form\n"),
+        plain(&["bril", "run", "label.bril"], 65, "", "label.bril: form\n"),
+        plain(
+            &["bril", "run", "second.bril"],
+            65,
+            "",
+            "second.bril: form\n",
+        ),
+        plain(
+            &["bril", "run", "nothing.bril"],
+            65,
+            "",
+            "nothing.bril: form\n",
+        ),
+        plain(&["bril", "run", "late.bril"], 65, "", "late.bril: form\n"),
+        plain(
+            &["bril", "run", "nothere.bril"],
+            66,
+            "",
+            "cannot read nothere.bril\n",
+        ),
+        plain(&[], 64, "", "usage\n"),
+        plain(&["bril"], 64, "", "usage\n"),
+        plain(&["bril", "run"], 64, "", "usage\n"),
+        plain(&["bril", "check", "one.bril"], 64, "", "usage\n"),
+        plain(&["bril", "run", "--stats"], 64, "", "usage\n"),
+        plain(&["bril", "run", ""], 64, "", "usage\n"),
+        plain(
+            &["bril", "run", "one.bril", "empty.bril"],
+            64,
+            "",
+            "usage\n",
+        ),
+        Row {
+            words: &["bril", "run", "one.bril"],
+            outs: &[1],
+            errs: &[],
+            status: 74,
+            out: "",
+            err: "cannot write\n",
+        },
+        Row {
+            words: &["bril", "run", "one.bril"],
+            outs: &[2],
+            errs: &[1],
+            status: 74,
+            out: "4",
+            err: "",
+        },
+        plain(&["bril", "run", "variables_1022"], 0, "", ""),
+        plain(
+            &["bril", "run", "variables_1023"],
+            68,
+            "",
+            "too large: stack 8396800\n",
+        ),
+        plain(
+            &["bril", "run", "constants_20828"],
+            68,
+            "",
+            "too large: code 250008\n",
+        ),
+        plain(
+            &["bril", "run", "bytes_16777217"],
+            68,
+            "",
+            "too large: bytes\n",
+        ),
+    ]
+}
+
+fn texts(alloc: Global, words: &[&str]) -> Result<Seq<Text>, AllocError> {
+    let mut all = Seq::new(alloc);
+    for word in words {
+        all.push(Text::of(alloc, word)?)?;
+    }
+    Ok(all)
+}
+
+fn numbers(alloc: Global, listed: &[u64]) -> Result<Seq<u64>, AllocError> {
+    let mut all = Seq::new(alloc);
+    for number in listed {
+        all.push(*number)?;
+    }
+    Ok(all)
+}
+
+// A program of so many variables, each a constant.
+fn many_variables(alloc: Global, count: u32) -> Result<String, AllocError> {
+    let mut source = String::from_str(alloc, "@main {")?;
+    for number in 0..count {
+        let item = format!(in alloc; " x{number}: int = const 0;")?;
+        source.push_str(item.as_str())?;
+    }
+    source.push_str(" }")?;
+    Ok(source)
+}
+
+// A program of so many constants for one variable.
+fn many_constants(alloc: Global, count: u32) -> Result<String, AllocError> {
+    let mut source = String::from_str(alloc, "@main {")?;
+    for _ in 0..count {
+        source.push_str("x:int=const 0;")?;
+    }
+    source.push_str("}")?;
+    Ok(source)
+}
+
+// The files of the command lines, the first read of which fails.
+fn worked_files(alloc: Global) -> Result<MemFiles, AllocError> {
+    let mut files = MemFiles::new(alloc, numbers(alloc, &[1])?);
+    for (path, source) in FILES.iter() {
+        files.add(&Text::of(alloc, path)?, source)?;
+    }
+    let fits = many_variables(alloc, 1022)?;
+    files.add(&Text::of(alloc, "variables_1022")?, fits.as_bytes())?;
+    let deep = many_variables(alloc, 1023)?;
+    files.add(&Text::of(alloc, "variables_1023")?, deep.as_bytes())?;
+    let long = many_constants(alloc, 20828)?;
+    files.add(&Text::of(alloc, "constants_20828")?, long.as_bytes())?;
+    let blanks = vec![in alloc; b' '; 16777217]?;
+    files.add(&Text::of(alloc, "bytes_16777217")?, blanks.as_slice())?;
+    Ok(files)
+}
+
+#[test]
+fn worked_command_lines(rt: HostRuntime) -> Result<(), Fail> {
+    let alloc = rt.alloc();
+    let mut files = worked_files(alloc)?;
+    for row in rows().iter() {
+        let words = texts(alloc, row.words)?;
+        let mut out = MemSink::new(alloc, 4096, numbers(alloc, row.outs)?)?;
+        let mut err = MemSink::new(alloc, 4096, numbers(alloc, row.errs)?)?;
+        let status = bril_top(alloc, words.as_slice(), &mut files, &mut out, &mut err);
+        assert_eq!(rt; status, row.status);
+        assert!(rt; out.bytes() == row.out.as_bytes());
+        assert!(rt; err.bytes() == row.err.as_bytes());
+    }
+    Ok(())
+}
