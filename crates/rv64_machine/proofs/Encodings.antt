@@ -49,7 +49,7 @@ fields opcode rd funct3 rs1 above o d f s = record {
   rd_is = omega arith;
   funct3_is = omega arith;
   rs1_is = omega arith;
-  above_is = omega arith
+  above_is = omega arith;
 }
 
 pub laid_out-below : (opcode rd funct3 rs1 above : ℕ) → opcode < 128 → rd < 32 → funct3 < 8 → rs1 < 32 → above < 4096 → laid_out opcode rd funct3 rs1 above < 2 ^ 32
@@ -103,27 +103,27 @@ lui_row rd u d =
 
 -- a word of format I
 immediate_row : (make : ℕ → ℕ → ℤ → Word) (opcode funct3 rd rs1 : ℕ) (i : ℤ) → opcode < 128 → funct3 < 8 → rd < 32 → rs1 < 32 → IsImmediate i
-  → ((b : ℕ) → opcode_of b ≡ opcode → funct3_of b ≡ funct3 → decoded b ≡ Some (make (rd_of b) (rs1_of b) (signed_12 (above_of b))))
-  → decoded (laid_out opcode rd funct3 rs1 (bits_12 i)) ≡ Some (make rd rs1 i)
+    → ((b : ℕ) → opcode_of b ≡ opcode → funct3_of b ≡ funct3 → decoded b ≡ Some (make (rd_of b) (rs1_of b) (signed_12 (above_of b))))
+    → decoded (laid_out opcode rd funct3 rs1 (bits_12 i)) ≡ Some (make rd rs1 i)
 immediate_row make opcode funct3 rd rs1 i o f d s h at_it =
     let b : ℕ = laid_out opcode rd funct3 rs1 (bits_12 i) in
     let p = fields opcode rd funct3 rs1 (bits_12 i) o d f s in
     at_it b p.opcode_is p.funct3_is
-      ∙ (ap (λ x. Some (make x (rs1_of b) (signed_12 (above_of b)))) p.rd_is
-      ∙ (ap (λ x. Some (make rd x (signed_12 (above_of b)))) p.rs1_is
-      ∙ ap (λ x. Some (make rd rs1 x)) (ap signed_12 p.above_is ∙ signed_12-bits_12 i h)))
+    ∙ (ap (λ x. Some (make x (rs1_of b) (signed_12 (above_of b)))) p.rd_is
+    ∙ (ap (λ x. Some (make rd x (signed_12 (above_of b)))) p.rs1_is
+    ∙ ap (λ x. Some (make rd rs1 x)) (ap signed_12 p.above_is ∙ signed_12-bits_12 i h)))
 
 -- a word with a small number in its upper bits
 small_row : (make : ℕ → ℕ → ℕ → Word) (opcode funct3 rd rs1 k bound : ℕ) → opcode < 128 → funct3 < 8 → rd < 32 → rs1 < 32 → k < bound
-  → ((b : ℕ) → opcode_of b ≡ opcode → funct3_of b ≡ funct3 → above_of b < bound → decoded b ≡ Some (make (rd_of b) (rs1_of b) (above_of b)))
-  → decoded (laid_out opcode rd funct3 rs1 k) ≡ Some (make rd rs1 k)
+    → ((b : ℕ) → opcode_of b ≡ opcode → funct3_of b ≡ funct3 → above_of b < bound → decoded b ≡ Some (make (rd_of b) (rs1_of b) (above_of b)))
+    → decoded (laid_out opcode rd funct3 rs1 k) ≡ Some (make rd rs1 k)
 small_row make opcode funct3 rd rs1 k bound o f d s h at_it =
     let b : ℕ = laid_out opcode rd funct3 rs1 k in
     let p = fields opcode rd funct3 rs1 k o d f s in
     at_it b p.opcode_is p.funct3_is (subst (λ x. x < bound) (sym p.above_is) h)
-      ∙ (ap (λ x. Some (make x (rs1_of b) (above_of b))) p.rd_is
-      ∙ (ap (λ x. Some (make rd x (above_of b))) p.rs1_is
-      ∙ ap (λ x. Some (make rd rs1 x)) p.above_is))
+    ∙ (ap (λ x. Some (make x (rs1_of b) (above_of b))) p.rd_is
+    ∙ (ap (λ x. Some (make rd x (above_of b))) p.rs1_is
+    ∙ ap (λ x. Some (make rd rs1 x)) p.above_is))
 
 store_row : (rs1 rs2 : ℕ) (i : ℤ) → rs1 < 32 → rs2 < 32 → IsImmediate i → decoded (encoded (Sd rs1 rs2 i)) ≡ Some (Sd rs1 rs2 i)
 store_row rs1 rs2 i s t h =
@@ -133,9 +133,9 @@ store_row rs1 rs2 i s t h =
     let r : above_of b % 2 ^ 5 ≡ rs2 = ap (λ x. x % 2 ^ 5) p.above_is ∙ omega arith in
     let u : store_immediate b ≡ bits_12 i = omega arith in
     at_sd b p.opcode_is p.funct3_is
-      ∙ (ap (λ x. Some (Sd x (above_of b % 2 ^ 5) (signed_12 (store_immediate b)))) p.rs1_is
-      ∙ (ap (λ x. Some (Sd rs1 x (signed_12 (store_immediate b)))) r
-      ∙ ap (λ x. Some (Sd rs1 rs2 x)) (ap signed_12 u ∙ signed_12-bits_12 i h)))
+    ∙ (ap (λ x. Some (Sd x (above_of b % 2 ^ 5) (signed_12 (store_immediate b)))) p.rs1_is
+    ∙ (ap (λ x. Some (Sd rs1 x (signed_12 (store_immediate b)))) r
+    ∙ ap (λ x. Some (Sd rs1 rs2 x)) (ap signed_12 u ∙ signed_12-bits_12 i h)))
 
 -- decoding gives the word back
 pub decoded-encoded : (w : Word) → IsWord w → decoded (encoded w) ≡ Some w
@@ -165,12 +165,15 @@ both : (b opcode funct3 : ℕ) → (eqb (opcode_of b) opcode && eqb (funct3_of b
 both b opcode funct3 t = let p = and_parts _ _ t in (eqb-true _ _ p.0, eqb-true _ _ p.1)
 
 immediate_bits : (b opcode funct3 : ℕ) → b < 2 ^ 32 → (eqb (opcode_of b) opcode && eqb (funct3_of b) funct3) ≡ true
-  → (laid_out opcode (rd_of b) funct3 (rs1_of b) (bits_12 (signed_12 (above_of b))) ≡ b) × IsRegister (rd_of b) × IsRegister (rs1_of b) × IsImmediate (signed_12 (above_of b))
+    → (laid_out opcode (rd_of b) funct3 (rs1_of b) (bits_12 (signed_12 (above_of b))) ≡ b) × IsRegister (rd_of b) × IsRegister (rs1_of b) × IsImmediate (signed_12 (above_of b))
 immediate_bits b opcode funct3 h t =
     let p = both b opcode funct3 t in
-    let a : above_of b < 4096 = omega arith in
-    (ap (λ x. laid_out opcode (rd_of b) funct3 (rs1_of b) x) (bits_12-signed_12 (above_of b) a) ∙ laid_out-fields b opcode funct3 h p.0 p.1,
-     omega arith, omega arith, IsImmediate-signed_12 (above_of b) a)
+    let a : above_of b < 4096 = omega arith in (
+      ap (λ x. laid_out opcode (rd_of b) funct3 (rs1_of b) x) (bits_12-signed_12 (above_of b) a) ∙ laid_out-fields b opcode funct3 h p.0 p.1,
+      omega arith,
+      omega arith,
+      IsImmediate-signed_12 (above_of b) a,
+    )
 
 addi_bits : (b : ℕ) → b < 2 ^ 32 → (eqb (opcode_of b) 0x13 && eqb (funct3_of b) 0) ≡ true → Spells b (Addi (rd_of b) (rs1_of b) (signed_12 (above_of b)))
 addi_bits b h t = let p = immediate_bits b 0x13 0 h t in record { spelled = p.0; ranged = (p.1, p.2, p.3) }
@@ -204,7 +207,7 @@ sd_bits b h t =
     let n : store_immediate b < 4096 = omega arith in
     record {
       spelled = store_fields b (bits_12 (signed_12 (store_immediate b))) h p.0 p.1 (bits_12-signed_12 (store_immediate b) n);
-      ranged = (omega arith, omega arith, IsImmediate-signed_12 (store_immediate b) n)
+      ranged = (omega arith, omega arith, IsImmediate-signed_12 (store_immediate b) n);
     }
 
 ecall_bits : (b : ℕ) → eqb b 0x73 ≡ true → Spells b Ecall

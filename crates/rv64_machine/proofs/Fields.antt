@@ -9,7 +9,7 @@ or_at : (x a k b : ℕ) → x ≡ a * 2 ^ k → b < 2 ^ k → bit_or x b ≡ x +
 or_at x a k b e h = rw e (or_shifted a k b h)
 
 pub laid_out-or : (opcode rd funct3 rs1 above : ℕ) → opcode < 2 ^ 7 → rd < 2 ^ 5 → funct3 < 2 ^ 3 → rs1 < 2 ^ 5 → above < 2 ^ 12
-  → bit_or (bit_or (bit_or (bit_or (above * 1048576 % 4294967296) (rs1 * 32768 % 4294967296)) (funct3 * 4096 % 4294967296)) (rd * 128 % 4294967296)) opcode ≡ laid_out opcode rd funct3 rs1 above
+    → bit_or (bit_or (bit_or (bit_or (above * 1048576 % 4294967296) (rs1 * 32768 % 4294967296)) (funct3 * 4096 % 4294967296)) (rd * 128 % 4294967296)) opcode ≡ laid_out opcode rd funct3 rs1 above
 laid_out-or opcode rd funct3 rs1 above o d f s a =
     let one : bit_or (above * 1048576 % 4294967296) (rs1 * 32768 % 4294967296) ≡ above * 1048576 + rs1 * 32768 = or_at (above * 1048576 % 4294967296) above 20 (rs1 * 32768 % 4294967296) (omega arith) (omega arith) ∙ omega arith in
     let two : bit_or (above * 1048576 + rs1 * 32768) (funct3 * 4096 % 4294967296) ≡ above * 1048576 + rs1 * 32768 + funct3 * 4096 = or_at (above * 1048576 + rs1 * 32768) (above * 32 + rs1) 15 (funct3 * 4096 % 4294967296) (omega arith) (omega arith) ∙ omega arith in

@@ -29,9 +29,9 @@ push_at xs v k =
     ⊎_elim
     (λ below. let n : k ≡ length xs → ⊥ = omega arith in rw (ne_eqb k (length xs) n) (get_or_append_left xs (v ∷ []) 0 k below))
     (λ above. ⊎_elim
-        (λ e. rw (eq-eqb k (length xs) e) (get_or_push xs v 0 k (sym e)))
-        (λ n. rw (ne_eqb k (length xs) n) (get_or_past (xs ++ v ∷ []) k 0 (omega arith) ∙ sym (get_or_past xs k 0 above)))
-        (cases_eq k (length xs)))
+    (λ e. rw (eq-eqb k (length xs) e) (get_or_push xs v 0 k (sym e)))
+    (λ n. rw (ne_eqb k (length xs) n) (get_or_past (xs ++ v ∷ []) k 0 (omega arith) ∙ sym (get_or_past xs k 0 above)))
+    (cases_eq k (length xs)))
     (cases_lt k (length xs))
 
 -- one more word at the end
@@ -49,13 +49,13 @@ words_of-two_zeros = same_words _ _ zeros_at
 
 -- one more argument stands on the stack
 pub words_of-more : {X : Type 0} (f : X → ℕ) (xs : List ℕ) (args : List X) (k v : ℕ) (d : X) → k + 2 < length xs → k < length args
-  → words_of xs ≡ words_of (0 ∷ 0 ∷ map f (take k args)) → v ≡ f (get_or args k d)
-  → words_of (set xs (k + 2) v) ≡ words_of (0 ∷ 0 ∷ map f (take (k + 1) args))
+    → words_of xs ≡ words_of (0 ∷ 0 ∷ map f (take k args)) → v ≡ f (get_or args k d)
+    → words_of (set xs (k + 2) v) ≡ words_of (0 ∷ 0 ∷ map f (take (k + 1) args))
 words_of-more f xs args k v d room here same e =
     let ys : List ℕ = 0 ∷ 0 ∷ map f (take k args) in
     let len : length ys ≡ k + 2 = rw (length-map, length-take-le k args (omega arith)) (omega arith) in
     words_of-set xs (k + 2) v room
-      ∙ (ap (λ w. assigned w (k + 2) v) same
-      ∙ (ap (λ n. assigned (words_of ys) n v) (sym len)
-      ∙ (sym (words_of-push ys v)
-      ∙ ap words_of (ap (λ w. 0 ∷ 0 ∷ w) (ap (λ w. map f (take k args) ++ w ∷ []) e ∙ sym (map_more f args k d here))))))
+    ∙ (ap (λ w. assigned w (k + 2) v) same
+    ∙ (ap (λ n. assigned (words_of ys) n v) (sym len)
+    ∙ (sym (words_of-push ys v)
+    ∙ ap words_of (ap (λ w. 0 ∷ 0 ∷ w) (ap (λ w. map f (take k args) ++ w ∷ []) e ∙ sym (map_more f args k d here))))))

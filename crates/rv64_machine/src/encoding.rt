@@ -35,16 +35,18 @@ pub fn encode(word: Word) -> u32
 {
     match word {
         Word::Lui { rd, upper } => upper_word(rd, upper),
-        Word::Addi { rd, rs1, immediate } => immediate_word(0x13, 0, rd, rs1, immediate),
-        Word::Ori { rd, rs1, immediate } => immediate_word(0x13, 6, rd, rs1, immediate),
-        Word::Slli { rd, rs1, shift } => {
-            lay_out(0x13, rd.number() as u32, 1, rs1.number() as u32, shift.amount() as u32)
+        Word::Addi { rd, rs1, immediate } => {
+            word_with(0x13, 0, rd, rs1, immediate_bits(immediate))
         }
-        Word::Add { rd, rs1, rs2 } => {
-            lay_out(0x33, rd.number() as u32, 0, rs1.number() as u32, rs2.number() as u32)
-        }
-        Word::Ld { rd, rs1, immediate } => immediate_word(0x03, 3, rd, rs1, immediate),
-        Word::Sd { rs1, rs2, immediate } => store_word(rs1, rs2, immediate),
+        Word::Ori { rd, rs1, immediate } => word_with(0x13, 6, rd, rs1, immediate_bits(immediate)),
+        Word::Slli { rd, rs1, shift } => word_with(0x13, 1, rd, rs1, shift.amount() as u32),
+        Word::Add { rd, rs1, rs2 } => word_with(0x33, 0, rd, rs1, rs2.number() as u32),
+        Word::Ld { rd, rs1, immediate } => word_with(0x03, 3, rd, rs1, immediate_bits(immediate)),
+        Word::Sd {
+            rs1,
+            rs2,
+            immediate,
+        } => store_word(rs1, rs2, immediate),
         Word::Ecall => 0x73,
     }
 }
@@ -56,13 +58,20 @@ fn upper_word(rd: Register, upper: Upper) -> u32
     upper.bits() << 12 | (rd.number() as u32) << 7 | 0x37
 }
 
-// A word of format I.
-fn immediate_word(opcode: u32, funct3: u32, rd: Register, rs1: Register, immediate: Immediate) -> u32
+// A word that writes `rd` and reads `rs1`, of format I or R.
+fn word_with(opcode: u32, funct3: u32, rd: Register, rs1: Register, above: u32) -> u32
     requires opcode { opcode < 2 ^ 7 }
     requires funct3 { funct3 < 2 ^ 3 }
-    ensures { result ≡ laid_out opcode rd funct3 rs1 (bits_12 immediate) }
+    requires above { above < 2 ^ 12 }
+    ensures { result ≡ laid_out opcode rd funct3 rs1 above }
 {
-    lay_out(opcode, rd.number() as u32, funct3, rs1.number() as u32, immediate_bits(immediate))
+    lay_out(
+        opcode,
+        rd.number() as u32,
+        funct3,
+        rs1.number() as u32,
+        above,
+    )
 }
 
 // A store, of format S.
@@ -70,7 +79,13 @@ fn store_word(rs1: Register, rs2: Register, immediate: Immediate) -> u32
     ensures { result ≡ laid_out 0x23 (bits_12 immediate % 32) 3 rs1 (rs2 + 2 ^ 5 * (bits_12 immediate / 32)) }
 {
     let bits = immediate_bits(immediate);
-    lay_out(0x23, bits % 32, 3, rs1.number() as u32, rs2.number() as u32 + bits / 32 * 32)
+    lay_out(
+        0x23,
+        bits % 32,
+        3,
+        rs1.number() as u32,
+        rs2.number() as u32 + bits / 32 * 32,
+    )
 }
 
 // The field of `width` bits from the bit `low` up.
@@ -111,20 +126,47 @@ pub fn decode(bits: u32) -> Option<Word>
     let rs1 = register_at(bits, 15);
     let above = bits >> 20;
     if opcode == 0x37 {
-        Some(Word::Lui { rd, upper: Upper::of(bits >> 12) })
+        Some(Word::Lui {
+            rd,
+            upper: Upper::of(bits >> 12),
+        })
     } else if opcode == 0x13 && funct3 == 0 {
-        Some(Word::Addi { rd, rs1, immediate: immediate_of(above) })
+        Some(Word::Addi {
+            rd,
+            rs1,
+            immediate: immediate_of(above),
+        })
     } else if opcode == 0x13 && funct3 == 6 {
-        Some(Word::Ori { rd, rs1, immediate: immediate_of(above) })
+        Some(Word::Ori {
+            rd,
+            rs1,
+            immediate: immediate_of(above),
+        })
     } else if opcode == 0x13 && funct3 == 1 && above < 64 {
-        Some(Word::Slli { rd, rs1, shift: Shift::of(above as u8) })
+        Some(Word::Slli {
+            rd,
+            rs1,
+            shift: Shift::of(above as u8),
+        })
     } else if opcode == 0x33 && funct3 == 0 && above < 32 {
-        Some(Word::Add { rd, rs1, rs2: Register::of(above as u8) })
+        Some(Word::Add {
+            rd,
+            rs1,
+            rs2: Register::of(above as u8),
+        })
     } else if opcode == 0x03 && funct3 == 3 {
-        Some(Word::Ld { rd, rs1, immediate: immediate_of(above) })
+        Some(Word::Ld {
+            rd,
+            rs1,
+            immediate: immediate_of(above),
+        })
     } else if opcode == 0x23 && funct3 == 3 {
         let immediate = immediate_of(field(bits, 25, 7) * 32 + field(bits, 7, 5));
-        Some(Word::Sd { rs1, rs2: register_at(bits, 20), immediate })
+        Some(Word::Sd {
+            rs1,
+            rs2: register_at(bits, 20),
+            immediate,
+        })
     } else if bits == 0x73 {
         Some(Word::Ecall)
     } else {

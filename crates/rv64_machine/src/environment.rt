@@ -12,11 +12,9 @@ use bril_tree::limits::{End, Fault};
 
 // Prints the number as a signed decimal, by one `put`.
 pub fn print_number<S: Sink>(number: u64, out: &mut S) -> Result<(), Failed>
-    ensures ok {
-        OnOk result (TookAll (S.seen out.old) (signed_decimal (cast_signed w64 number)) (S.seen out.new)) }
-    ensures err {
-        OnErr result (TookSome (S.seen out.old) (signed_decimal (cast_signed w64 number)) (S.seen out.new)
-            × Rose (S.seen out.old).faults (S.seen out.new).faults) }
+    ensures ok { OnOk result (TookAll (S.seen out.old) (signed_decimal (cast_signed w64 number)) (S.seen out.new)) }
+    ensures err { OnErr result (TookSome (S.seen out.old) (signed_decimal (cast_signed w64 number)) (S.seen out.new)
+        × Rose (S.seen out.old).faults (S.seen out.new).faults) }
 {
     let mut text = [0; 20];
     let count = put_int(number.cast_signed(), &mut text);

@@ -17,7 +17,10 @@ use std::alloc::{AllocError, Global};
 use std::process::Abort;
 use std::test::Fail;
 
-const LIMITS: Limits = Limits { frames: 1, cells: 1 };
+const LIMITS: Limits = Limits {
+    frames: 1,
+    cells: 1,
+};
 
 fn addi(rd: u8, rs1: u8, value: i16) -> Word
     requires rd { rd < 32 }
@@ -41,19 +44,62 @@ fn encodes(rt: HostRuntime) {
     let eight = Immediate::of(8);
     let rows = [
         (addi(10, 0, 1), 0x00100513),
-        (Word::Add { rd: x5, rs1: Register::of(6), rs2: Register::of(7) }, 0x007302b3),
-        (Word::Ld { rd: x10, rs1: x2, immediate: eight }, 0x00813503),
-        (Word::Sd { rs1: x2, rs2: x10, immediate: eight }, 0x00a13423),
-        (Word::Lui { rd: x5, upper: Upper::of(0x12345) }, 0x123452b7),
-        (Word::Slli { rd: x5, rs1: x5, shift: Shift::of(12) }, 0x00c29293),
-        (Word::Ori { rd: x5, rs1: x5, immediate: Immediate::of(-1) }, 0xfff2e293),
+        (
+            Word::Add {
+                rd: x5,
+                rs1: Register::of(6),
+                rs2: Register::of(7),
+            },
+            0x007302b3,
+        ),
+        (
+            Word::Ld {
+                rd: x10,
+                rs1: x2,
+                immediate: eight,
+            },
+            0x00813503,
+        ),
+        (
+            Word::Sd {
+                rs1: x2,
+                rs2: x10,
+                immediate: eight,
+            },
+            0x00a13423,
+        ),
+        (
+            Word::Lui {
+                rd: x5,
+                upper: Upper::of(0x12345),
+            },
+            0x123452b7,
+        ),
+        (
+            Word::Slli {
+                rd: x5,
+                rs1: x5,
+                shift: Shift::of(12),
+            },
+            0x00c29293,
+        ),
+        (
+            Word::Ori {
+                rd: x5,
+                rs1: x5,
+                immediate: Immediate::of(-1),
+            },
+            0xfff2e293,
+        ),
         (Word::Ecall, 0x00000073),
     ];
     for (word, bits) in rows {
         assert_eq!(rt; encode(word), bits, "{word:?}");
         assert_eq!(rt; decode(bits), Some(word), "at {bits}");
     }
-    for bits in [0, 0xffffffff, 0x027302b3, 0x407302b3, 0x04029293, 0x00000173] {
+    for bits in [
+        0, 0xffffffff, 0x027302b3, 0x407302b3, 0x04029293, 0x00000173,
+    ] {
         assert_eq!(rt; decode(bits), None, "at {bits}");
     }
 }
@@ -83,7 +129,11 @@ fn printing() -> [u32; 8] {
     let x2 = Register::of(2);
     let x10 = Register::of(10);
     [
-        encode(Word::Ld { rd: x10, rs1: x2, immediate: Immediate::of(16) }),
+        encode(Word::Ld {
+            rd: x10,
+            rs1: x2,
+            immediate: Immediate::of(16),
+        }),
         encode(addi(17, 0, 1)),
         encode(Word::Ecall),
         encode(addi(17, 0, 5)),
@@ -134,17 +184,61 @@ fn traps(rt: HostRuntime) -> Result<(), Fail> {
     let x0 = Register::of(0);
     let x2 = Register::of(2);
     let x5 = Register::of(5);
-    let odd = encode(Word::Ld { rd: x5, rs1: x2, immediate: Immediate::of(4) });
-    let past = encode(Word::Ld { rd: x5, rs1: x2, immediate: Immediate::of(128) });
-    let table = encode(Word::Lui { rd: x5, upper: Upper::of(0x20000) });
-    let store = encode(Word::Sd { rs1: x5, rs2: x0, immediate: Immediate::of(8) });
+    let odd = encode(Word::Ld {
+        rd: x5,
+        rs1: x2,
+        immediate: Immediate::of(4),
+    });
+    let past = encode(Word::Ld {
+        rd: x5,
+        rs1: x2,
+        immediate: Immediate::of(128),
+    });
+    let table = encode(Word::Lui {
+        rd: x5,
+        upper: Upper::of(0x20000),
+    });
+    let store = encode(Word::Sd {
+        rs1: x5,
+        rs2: x0,
+        immediate: Immediate::of(8),
+    });
     let rows = [
-        ([encode(addi(5, 0, 1)), encode(addi(5, 0, 1))], Trap::Fetch { pc: 8 }, 2),
+        (
+            [encode(addi(5, 0, 1)), encode(addi(5, 0, 1))],
+            Trap::Fetch { pc: 8 },
+            2,
+        ),
         ([encode(addi(5, 0, 1)), 0], Trap::Word { pc: 4 }, 1),
-        ([odd, odd], Trap::Address { pc: 0, at: 0x10000004 }, 0),
-        ([past, past], Trap::Address { pc: 0, at: 0x10000080 }, 0),
-        ([table, store], Trap::Address { pc: 4, at: 0x20000008 }, 1),
-        ([encode(addi(17, 0, 9)), encode(Word::Ecall)], Trap::Call { pc: 4, number: 9 }, 1),
+        (
+            [odd, odd],
+            Trap::Address {
+                pc: 0,
+                at: 0x10000004,
+            },
+            0,
+        ),
+        (
+            [past, past],
+            Trap::Address {
+                pc: 0,
+                at: 0x10000080,
+            },
+            0,
+        ),
+        (
+            [table, store],
+            Trap::Address {
+                pc: 4,
+                at: 0x20000008,
+            },
+            1,
+        ),
+        (
+            [encode(addi(17, 0, 9)), encode(Word::Ecall)],
+            Trap::Call { pc: 4, number: 9 },
+            1,
+        ),
     ];
     for (words, trap, done) in rows {
         let mut out = MemSink::new(alloc, 0, Seq::new(alloc))?;
@@ -154,7 +248,11 @@ fn traps(rt: HostRuntime) -> Result<(), Fail> {
         assert_eq!(rt; machine.step(&mut out), MachAnswer::Trap(trap));
         assert_eq!(rt; machine.done(), done);
     }
-    let ends = [encode(addi(10, 0, 12)), encode(addi(17, 0, 8)), encode(Word::Ecall)];
+    let ends = [
+        encode(addi(10, 0, 12)),
+        encode(addi(17, 0, 8)),
+        encode(Word::Ecall),
+    ];
     let mut out = MemSink::new(alloc, 0, Seq::new(alloc))?;
     let mut machine = machine_of(&rt, alloc, &ends, &[])?;
     let trap = Trap::Call { pc: 8, number: 8 };
