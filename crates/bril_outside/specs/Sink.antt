@@ -36,14 +36,14 @@ pub record TookSome (s : SinkSeen) (bytes : List ℕ) (t : SinkSeen) : Type 0 wh
   pub took : TookAll s part t
 
 -- the number is the length of the list, where both are there
-abbrev pub IsLengthWhereTold : Option ℕ → Option (List ℕ) → Type 0
-IsLengthWhereTold None written = Unit {0}
-IsLengthWhereTold (Some n) None = Unit {0}
-IsLengthWhereTold (Some n) (Some bytes) = n ≡ length bytes
+abbrev pub IsLengthWhereTold : Option (List ℕ) → Option ℕ → Type 0
+IsLengthWhereTold None amount = Unit {0}
+IsLengthWhereTold (Some bytes) None = Unit {0}
+IsLengthWhereTold (Some bytes) (Some n) = n ≡ length bytes
 
 -- the amount of a sink is the length of what was written to it, where it tells both
 abbrev pub AmountIsLength : SinkSeen → Type 0
-AmountIsLength s = IsLengthWhereTold s.amount s.written
+AmountIsLength s = IsLengthWhereTold s.written s.amount
 
 -- what is told of a sink that counts its bytes, as long as it knows how many they are
 abbrev pub count_seen : Option ℕ → SinkSeen

@@ -33,7 +33,12 @@ impl Model for MemFiles {
 
     ghost Value = { FilesMemory };
 
-    ghost view = { λ s. record { files = s.files.items; reads = s.reads; fails = s.fails; faults = s.faults } };
+    ghost view = { λ s. record {
+      files = s.files.items;
+      reads = s.reads;
+      fails = s.fails;
+      faults = s.faults;
+    } };
 }
 
 impl MemFiles {
@@ -54,7 +59,8 @@ impl MemFiles {
     /// Puts a file with these bytes at the path, in place of one that is there. Where memory is wanting
     /// nothing changes.
     pub fn add(&mut self, path: &Text, bytes: &[u8]) -> Result<(), AllocError>
-        ensures ok { OnOk result (ChangesFile (file_at self.old.files) (file_at self.new.files) path.now bytes.now) }
+        ensures ok { OnOk result
+            (ChangesFile (file_at self.old.files) (file_at self.new.files) path.now bytes.now) }
         ensures rest { self.new ≡ record self.old { files = self.new.files } }
         ensures err { OnErr result (self.new ≡ self.old) }
     {

@@ -1,6 +1,6 @@
 // A sink in memory.
 
-ghost use Rattle.std.specs.Prelude.{◌≡◌, ◌≤◌, ◌+◌, ◌++◌, [], ◌==◌, IfOk, OnOk, OnErr, is_ok, length, vec_len, vec_capacity};
+ghost use Rattle.std.specs.Prelude.{◌≡◌, ◌≤◌, ◌+◌, ◌++◌, [], ◌==◌, IfOk, OnOk, OnErr, is_ok, refl, length, vec_len, vec_capacity};
 ghost use Rattle.std.specs.List.{list_any};
 ghost use Rattle.bril_outside.specs.Sink.{TookAll, TookSome, Rose};
 ghost use Rattle.bril_outside.specs.Memory.{SinkMemory, sink_seen, takes_all, after_put};
@@ -29,7 +29,13 @@ impl Model for MemSink {
 
     ghost Value = { SinkMemory };
 
-    ghost view = { λ s. record { held = s.held.items; room = s.room; puts = s.puts; fails = s.fails; faults = s.faults } };
+    ghost view = { λ s. record {
+      held = s.held.items;
+      room = s.room;
+      puts = s.puts;
+      fails = s.fails;
+      faults = s.faults;
+    } };
 
     ghost invariant = { λ s. (vec_len s.held ≤ s.room) × (s.room ≤ vec_capacity s.held) };
 }
@@ -38,7 +44,8 @@ impl MemSink {
     /// A sink with room for so many bytes, which holds none yet; `fails` lists the numbers of the puts,
     /// from 1, that are to fail. Fails only for want of memory.
     pub fn new(alloc: Global, room: u32, fails: Seq<u64>) -> Result<MemSink, AllocError>
-        ensures { IfOk result (λ made. made ≡ record { held = []; room = room; puts = 0; fails = fails; faults = 0 }) }
+        ensures { IfOk result (λ made.
+            made ≡ record { held = []; room = room; puts = 0; fails = fails; faults = 0 }) }
     {
         Ok(MemSink {
             held: Vec::with_capacity(alloc, room as usize)?,
@@ -58,8 +65,6 @@ impl MemSink {
 }
 
 impl Sink for MemSink {
-    ghost use Rattle.std.proofs.Common.{rules};
-
     ghost seen = { sink_seen };
 
     /// Writes the piece. Takes no memory. Fails exactly where the number of the put is on the list, and
@@ -86,11 +91,11 @@ impl Sink for MemSink {
         Ok(())
     }
 
-    ghost amount_is_length = { λ s. Prim.search rules };
+    ghost amount_is_length = { λ s. refl };
 }
 
 /// Whether the number is on the list. Takes no memory.
-pub fn is_listed(list: &[u64], number: u64) -> bool
+pub(crate) fn is_listed(list: &[u64], number: u64) -> bool
     ensures { result ≡ list_any (λ n. n == number) list.now }
 {
     list.iter().any(|n| *n == number)

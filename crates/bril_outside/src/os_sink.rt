@@ -33,8 +33,10 @@ impl<W: Write> Sink for OsSink<W> {
     /// interruption, takes nothing of bytes that are left, or cannot be flushed.
     fn put(&mut self, piece: &[u8]) -> Result<(), Failed>
         ensures ok { OnOk result (Appends (W.contents self.old.out) (W.contents self.new.out) piece.now) }
-        ensures err { OnErr result (AppendsFirst (W.contents self.old.out) (W.contents self.new.out) piece.now) }
-        ensures faults { self.new.faults ≡ (if is_ok result then self.old.faults else next_count self.old.faults) }
+        ensures err { OnErr result
+            (AppendsFirst (W.contents self.old.out) (W.contents self.new.out) piece.now) }
+        ensures faults { self.new.faults
+            ≡ (if is_ok result then self.old.faults else next_count self.old.faults) }
     {
         let done = write_whole(&mut self.out, piece);
         if done.is_err() {
@@ -49,7 +51,8 @@ impl<W: Write> Sink for OsSink<W> {
 /// Writes all of the piece and flushes the writer.
 fn write_whole<W: Write>(out: &mut W, piece: &[u8]) -> Result<(), Failed>
     ensures ok { OnOk result (Appends (W.contents out.old) (W.contents out.new) piece.now) }
-    ensures err { OnErr result (AppendsFirst (W.contents out.old) (W.contents out.new) piece.now) }
+    ensures err { OnErr result
+        (AppendsFirst (W.contents out.old) (W.contents out.new) piece.now) }
 {
     let mut rest = piece;
     for _ in 0..u64::MAX {
