@@ -1,11 +1,11 @@
 -- Writing ints: std's `signed_decimal` is the one plain decimal of an int, and reads back.
-use Rattle.std.proofs.Common.{◌≡◌, ℕ, zero, suc, ◌+◌, ◌^◌, ◌<◌, ◌≤◌, Bool, true, false, List, [], ◌∷◌, ◌++◌, length, get_or, ℤ, pos, negsuc, refl, sym, ap, ◌∙◌, arith, rules, Some, FitsSigned, codes, decimal}
+use Rattle.std.proofs.Common.{◌≡◌, ℕ, zero, suc, ◌^◌, ◌<◌, ◌≤◌, List, ◌∷◌, length, ℤ, pos, negsuc, refl, sym, ap, ◌∙◌, arith, Some, FitsSigned, codes, decimal}
 use Rattle.std.specs.Int.{w64}
 use Rattle.std.specs.Fmt.{signed_decimal, digits}
-use Rattle.std.specs.Str.Parse.{IsNumeral, digits_value, AllDigits}
+use Rattle.std.specs.Str.Parse.{digits_value, AllDigits}
 use Rattle.std.proofs.lemmas.Str.Parse.{IsNumeralModel, numerals_by_value, tells_digits}
 use Rattle.std.proofs.lemmas.Fmt.{decimal_is_IsNumeral, first_decimal, decimal-digits_value, length_signed_le}
-use Rattle.bril_nums.specs.Decimal.{no_sign, plus, minus, IsInt, HasNoLeadingZero, ArePlainDigits, IsPlainDecimal, int_of}
+use Rattle.bril_nums.specs.Decimal.{no_sign, minus, IsInt, HasNoLeadingZero, ArePlainDigits, IsPlainDecimal, int_of}
 use Rattle.bril_nums.proofs.IntText.{int_of-complete}
 
 own : IsNumeralModel (AllDigits 10) (digits_value 10)

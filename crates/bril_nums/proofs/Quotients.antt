@@ -1,8 +1,8 @@
 -- Quotients rounded toward zero.
-use Rattle.std.proofs.Common.{◌≡◌, ℕ, zero, suc, ◌+◌, ◌-◌, ◌*◌, ◌/◌, ◌%◌, ◌^◌, ◌<◌, ◌≤◌, ℤ, pos, negsuc, ◌+ℤ◌, ◌*ℤ◌, neg_ℤ, unsigned_abs, refl, sym, ap, subst, ◌∙◌, arith, FitsSigned, Some, None, Option, int_div, int_rem, ◌≢◌}
+use Rattle.std.proofs.Common.{◌≡◌, ℕ, zero, suc, ◌*◌, ◌^◌, ◌<◌, ◌≤◌, ℤ, pos, negsuc, ◌+ℤ◌, ◌*ℤ◌, neg_ℤ, unsigned_abs, refl, sym, ap, subst, ◌∙◌, arith, FitsSigned, Some, int_div, int_rem, ◌≢◌}
 use Rattle.std.proofs.Math.Nat.{div-le_self, div-mul-le_self}
 use Rattle.std.specs.Int.{int_wrap, w64, cast_signed, cast_unsigned}
-use Rattle.std.proofs.lemmas.Int.{ints, int_wrap_fits, quot-rem, rem_below, unsigned_abs-mul}
+use Rattle.std.proofs.lemmas.Int.{int_wrap_fits, quot-rem, rem_below, unsigned_abs-mul}
 use Rattle.bril_nums.specs.Arith.{quotient, IsTruncatedQuotient}
 use Rattle.bril_nums.proofs.Wraps.{cast_near}
 
@@ -54,10 +54,10 @@ pub quotient_truncated : (a b q : ℤ) → FitsSigned w64 (int_div a b) → quot
 quotient_truncated a b q f e =
     let d = divisor a b q e in
     record {
-        remainder = int_rem a b;
-        whole = quotient_remainder a b q f e;
-        small = rem_below a b d.0;
-        toward_zero = let P : ℤ → Type 0 = λ x. unsigned_abs (x *ℤ b) ≤ unsigned_abs a in subst P (sym (d.1 ∙ int_wrap_fits w64 (int_div a b) f)) (toward a b)
+      remainder = int_rem a b;
+      whole = quotient_remainder a b q f e;
+      small = rem_below a b d.0;
+      toward_zero = let P : ℤ → Type 0 = λ x. unsigned_abs (x *ℤ b) ≤ unsigned_abs a in subst P (sym (d.1 ∙ int_wrap_fits w64 (int_div a b) f)) (toward a b);
     }
 
 -- the one quotient that does not fit

@@ -1,5 +1,5 @@
 -- Bril's ints: 64 bits in two's complement. A sum, a difference and a product wrap, as std's `int_wrap w64` says.
-use Rattle.std.specs.Prelude.{◌≡◌, ℕ, zero, suc, ◌+◌, ◌^◌, ◌<◌, ◌≤◌, ℤ, pos, negsuc, ◌+ℤ◌, ◌*ℤ◌, Option, Some, None, if◌then◌else◌, int_div, unsigned_abs, FitsSigned}
+use Rattle.std.specs.Prelude.{◌≡◌, ℕ, zero, suc, ◌^◌, ◌<◌, ◌≤◌, ℤ, pos, negsuc, ◌+ℤ◌, ◌*ℤ◌, Option, Some, None, if◌then◌else◌, int_div, unsigned_abs, FitsSigned}
 use Rattle.std.specs.Int.{int_wrap, w64}
 use lib.Utf8.{scalar}
 

@@ -1,5 +1,5 @@
 -- How an int is spelled: an optional sign, then one decimal digit or more. Its plain decimal is std's `signed_decimal`.
-use Rattle.std.specs.Prelude.{◌≡◌, ℕ, suc, ◌^◌, Bool, ◌&&◌, List, [], ◌∷◌, ◌++◌, length, ℤ, pos, negsuc, neg_ℤ, Option, Some, None, if◌then◌else◌, nat_lt, slice_index, codes}
+use Rattle.std.specs.Prelude.{◌≡◌, ℕ, suc, ◌^◌, Bool, ◌&&◌, List, [], ◌++◌, length, ℤ, pos, negsuc, neg_ℤ, Option, Some, None, if◌then◌else◌, nat_lt, slice_index, codes}
 use Rattle.std.specs.Str.{all_ascii_digits}
 use Rattle.std.specs.Str.Parse.{IsNumeral, digits_value, without_leading_sign, signed_digits_value}
 

@@ -4,6 +4,8 @@
 mod arith;
 mod decimal;
 mod laws;
+#[cfg(test)]
+mod tests;
 
 pub use arith::{quot, scalar, wrap_add, wrap_mul, wrap_sub};
 pub use decimal::{put_int, read_int};

@@ -1,5 +1,4 @@
-use Rattle.std.proofs.Common.{pos, Some, ap, sym, ◌∙◌, ◌≢◌, ◌≡◌, arith, rules}
-use Rattle.std.specs.Int.{w64, int_wrap}
+use Rattle.std.proofs.Common.{pos, ◌≢◌, arith}
 use Rattle.std.proofs.lemmas.Int.{ints, to_z-of_z}
 use Rattle.bril_nums.proofs.Quotients.{quotient_is, wrapping_div_is}
 use Rattle.bril_nums.proofs.arith.quot.Goals as goal
@@ -8,6 +7,5 @@ pub returns-else-b-eq0-clause-value : goal.returns-else-b-eq0-clause-value
 returns-else-b-eq0-clause-value c =
     let some : c.args.b ≢ pos 0 = λ e. c.if-b-eq0.false (omega (arith, ints)) in
     let divided = wrapping_div_is c.args.a c.args.b c.ranges.a in
-    let by_call = c.wrapping_div.ensures in
-    let by_spec = quotient_is c.args.a c.args.b some in
+    let named = quotient_is c.args.a c.args.b some in
     grind (arith, to_z-of_z)

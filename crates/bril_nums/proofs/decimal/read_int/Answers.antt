@@ -1,4 +1,4 @@
-use Rattle.std.proofs.Common.{◌≡◌, Result, Option, Ok, Err, None, Some, MatchResult, IsUtf8, ap, subst, sym, ◌∙◌, arith, rules}
+use Rattle.std.proofs.Common.{◌≡◌, Result, Ok, Err, None, Some, MatchResult, IsUtf8, ap, subst, sym, ◌∙◌}
 use Rattle.std.specs.Result.{result_ok}
 use Rattle.bril_nums.proofs.IntText.{int_of-parsed, int_of-none, IsUtf8-from_IsInt}
 use Rattle.bril_nums.specs.Decimal.{int_of}
