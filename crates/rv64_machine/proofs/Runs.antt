@@ -1,5 +1,5 @@
 -- Many steps of the machine: they add up, a stopped machine stays, and what was printed before changes nothing.
-use Rattle.std.proofs.Common.{◌≡◌, ℕ, zero, suc, ◌+◌, ◌≤◌, ◌<◌, Bool, true, false, cond, List, [], ◌++◌, Option, Some, None, refl, ap, sym, subst, ◌∙◌, append_assoc, append-nil, arith, zero-add, suc-add, ◌-◌, ◌∷◌}
+use Rattle.std.proofs.Common.{◌≡◌, ℕ, zero, suc, ◌+◌, ◌≤◌, Bool, true, false, cond, List, [], ◌++◌, Option, Some, None, refl, ap, sym, ◌∙◌, append_assoc, append-nil, arith, zero-add, suc-add, ◌-◌, ◌∷◌}
 use Rattle.std.specs.Prelude.{◌==◌}
 use Rattle.std.specs.Int.{w64, cast_signed}
 use Rattle.std.specs.Fmt.{signed_decimal}
@@ -10,7 +10,7 @@ use Rattle.rv64_machine.specs.declared.word.Word.TheVariants.{Lui, Addi, Ori, Sl
 use Rattle.rv64_machine.specs.Call.{unprinted}
 use Rattle.rv64_machine.specs.Encoding.{decoded}
 use Rattle.rv64_machine.specs.Machine.{State, Stop, trapped, with_register, with_printed, next, loaded, stored, read_place, end_of, ended, called, executed, decoded_step, fetched, fetched_step, running_step, machine_step, machine_after}
-use Rattle.rv64_machine.specs.Region.{Sizes, Place, InStack, InTable, InCells, place_at}
+use Rattle.rv64_machine.specs.Region.{Sizes, Place, InStack, InTable, InCells}
 
 -- the state with these bytes printed before
 abbrev pub in_front : List ℕ → State → State

@@ -1,7 +1,7 @@
 -- The 32 bits of a word: the formats I, S, U and R of the RISC-V Unprivileged ISA manual, in which opcode
 -- is the lowest 7 bits, then follow rd (or the low part of a store's immediate), funct3, rs1 and rs2 (or an
 -- immediate), funct7 (or the high part of an immediate).
-use Rattle.std.specs.Prelude.{ℕ, ◌+◌, ◌*◌, ◌/◌, ◌%◌, ◌-◌, ◌^◌, ◌<◌, Bool, ◌&&◌, ◌==◌, if◌then◌else◌, nat_lt, ℤ, pos, negsuc, ◌≤ℤ◌, ◌<ℤ◌, neg_ℤ, Option, Some, None}
+use Rattle.std.specs.Prelude.{ℕ, ◌+◌, ◌*◌, ◌/◌, ◌%◌, ◌-◌, ◌^◌, ◌<◌, ◌&&◌, ◌==◌, if◌then◌else◌, nat_lt, ℤ, pos, negsuc, ◌≤ℤ◌, ◌<ℤ◌, neg_ℤ, Option, Some, None}
 use Rattle.rv64_machine.specs.declared.word.Word.{Word}
 use Rattle.rv64_machine.specs.declared.word.Word.TheVariants.{Lui, Addi, Ori, Slli, Add, Ld, Sd, Ecall}
 

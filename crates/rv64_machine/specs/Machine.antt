@@ -1,6 +1,6 @@
 -- What the machine does: the meaning of each word, by the RISC-V Unprivileged ISA manual, and of the
 -- environment calls.
-use Rattle.std.specs.Prelude.{ℕ, zero, suc, ◌+◌, ◌*◌, ◌/◌, ◌%◌, ◌-◌, ◌^◌, min, Bool, ◌&&◌, ◌==◌, nat_lt, if◌then◌else◌, ℤ, List, [], ◌∷◌, ◌++◌, length, Option, Some, None, bit_or, slice_get, slice_index, map}
+use Rattle.std.specs.Prelude.{ℕ, zero, suc, ◌+◌, ◌*◌, ◌/◌, ◌%◌, ◌-◌, ◌^◌, min, ◌==◌, nat_lt, if◌then◌else◌, ℤ, List, [], ◌∷◌, ◌++◌, Option, Some, None, bit_or, slice_get, slice_index, map}
 use Rattle.std.specs.Option.{option_map}
 use Rattle.std.specs.Int.{w64, cast_unsigned, cast_signed}
 use Rattle.std.specs.Fmt.{signed_decimal}

@@ -1,4 +1,3 @@
-use Rattle.std.proofs.Common.{◌≡◌, ap, ◌∙◌}
 use Rattle.rv64_machine.proofs.Fields.{upper-or}
 use Rattle.rv64_machine.proofs.encoding.upper_word.Goals as goal
 
