@@ -28,7 +28,7 @@ fn immediate_bits(immediate: Immediate) -> u32
     bits as u32
 }
 
-/// The 32 bits of the word, as the manual lays them out.
+/// The 32 bits of the word, as the manual lays them out. Takes no memory.
 pub fn encode(word: Word) -> u32
     ensures bits { result ≡ encoded word }
     ensures decodes { decoded result ≡ Some word }
@@ -115,7 +115,7 @@ fn immediate_of(bits: u32) -> Immediate
     Immediate::of(if value < 2048 { value } else { value - 4096 })
 }
 
-/// The word whose 32 bits these are; `None` where no word has them.
+/// The word whose 32 bits these are; `None` where no word has them. Takes no memory.
 pub fn decode(bits: u32) -> Option<Word>
     ensures value { result ≡ decoded bits }
     ensures encodes { IfSome result (λ word. encoded word ≡ bits) }
