@@ -1,0 +1,11 @@
+pub mod Cuts
+pub mod Fronts
+pub mod Leads
+pub mod Lexemes
+pub mod Longest
+pub mod Numbers
+pub mod Printing
+pub mod Quoted
+pub mod Spans
+pub mod Utf8
+pub mod Values
