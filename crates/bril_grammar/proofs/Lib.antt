@@ -1,0 +1,9 @@
+pub mod Complete
+pub mod Equal
+pub mod First
+pub mod Keywords
+pub mod Whole
+pub mod Places
+pub mod Sound
+pub mod Steps
+pub mod Viable

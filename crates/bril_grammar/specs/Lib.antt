@@ -1,0 +1,8 @@
+pub mod Fault
+pub mod Keyword
+pub mod Laws
+pub mod Machine
+pub mod Pieces
+pub mod State
+pub mod Word
+pub mod Written

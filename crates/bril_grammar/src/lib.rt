@@ -1,0 +1,7 @@
+// The grammar of Bril's text form: which tree a list of tokens spells, and where its first fault is.
+#![tactic(auto)]
+
+pub mod fault;
+pub mod keyword;
+pub mod laws;
+pub mod mark;
