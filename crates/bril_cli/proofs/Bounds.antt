@@ -1,5 +1,5 @@
 -- How many words are emitted, and that each variable has a word in a small frame.
-use Rattle.std.proofs.Common.{◌≡◌, ℕ, zero, suc, ◌+◌, ◌*◌, ◌<◌, ◌≤◌, refl, sym, ap, ◌∙◌, subst, arith, List, [], ◌∷◌, ◌++◌, length, get_or, Option, Some, None, map, length-append}
+use Rattle.std.proofs.Common.{◌≡◌, ℕ, zero, suc, ◌+◌, ◌<◌, ◌≤◌, ap, ◌∙◌, arith, List, [], ◌∷◌, ◌++◌, length, get_or, Option, Some, None, length-append}
 use Rattle.std.specs.List.{AllByRecursion, flat_map, sum_by}
 use Rattle.std.proofs.lemmas.List.Sums.{sum_by-cons}
 use Rattle.bril_tree.specs.declared.numbered.Instr.{Instr}
@@ -11,7 +11,6 @@ use Rattle.bril_tree.specs.declared.program.Prog.{Prog}
 use Rattle.bril_tree.specs.declared.types.Ty.{Ty}
 use Rattle.bril_tree.specs.declared.value.Lit.TheVariants as literal
 use Rattle.bril_tree.specs.FunctionForm.{variables_of}
-use Rattle.rv64_machine.specs.declared.word.Word.{Word}
 use Rattle.bril_cli.specs.Carries.{frame_words, variables_in}
 use Rattle.bril_cli.specs.Emitted.{item_words, code_words, program_words, word_bound, bound_of_function, bound_sum}
 use Rattle.bril_cli.specs.Straight.{IsStraight}

@@ -1,12 +1,12 @@
 -- The image of a straight program carries it: each item's words do what the item does.
-use Rattle.std.proofs.Common.{◌≡◌, ◌≢◌, ℕ, zero, suc, ◌+◌, ◌-◌, ◌*◌, ◌%◌, ◌^◌, ◌<◌, ◌≤◌, Bool, true, false, refl, sym, ap, ◌∙◌, subst, arith, List, [], ◌∷◌, ◌++◌, length, Option, Some, None, ℤ, pos, ◌+ℤ◌, map, append_assoc, length-append}
+use Rattle.std.proofs.Common.{◌≡◌, ◌≢◌, ℕ, suc, ◌+◌, ◌%◌, ◌^◌, ◌<◌, ◌≤◌, false, refl, sym, ap, ◌∙◌, subst, arith, List, [], ◌∷◌, ◌++◌, length, Option, Some, None, ℤ, ◌+ℤ◌, append_assoc, length-append}
 use Rattle.std.specs.Prelude.{slice_get, FitsSigned}
 use Rattle.std.specs.Int.{w64, cast_unsigned, cast_signed, int_wrap}
 use Rattle.std.specs.Fmt.{signed_decimal}
 use Rattle.std.specs.List.{AllByRecursion, flat_map}
 use Rattle.std.specs.Option.{option_map}
 use Rattle.std.proofs.lemmas.Int.{to_z-of_z, SFits-int_wrap}
-use Rattle.simulation.specs.System.{System, after, Agree}
+use Rattle.simulation.specs.System.{after, Agree}
 use Rattle.simulation.specs.Simulation.{LockStep}
 use Rattle.simulation.proofs.After.{after-add}
 use Rattle.bril_tree.specs.declared.limits.End.{End}
@@ -19,25 +19,22 @@ use Rattle.bril_tree.specs.declared.operation.Op.{Op}
 use Rattle.bril_tree.specs.declared.operation.Op.TheVariants as op
 use Rattle.bril_tree.specs.declared.program.Prog.{Prog}
 use Rattle.bril_tree.specs.declared.types.Ty.{Ty}
-use Rattle.bril_tree.specs.declared.value.Lit.{Lit}
 use Rattle.bril_tree.specs.declared.value.Lit.TheVariants as literal
-use Rattle.bril_tree.specs.declared.value.Value.{Value}
 use Rattle.bril_tree.specs.declared.value.Value.TheVariants.{Int}
 use Rattle.bril_tree.specs.FunctionForm.{variables_of}
 use Rattle.bril_tree.specs.State as bril
-use Rattle.bril_tree.specs.Outcome.{Outcome, int_of, outcome_of, argument, computed}
-use Rattle.bril_tree.specs.Step.{step, running_step, frames_step, item_step, by_outcome, acts, item_at, items_of, code_of, gives, passes, prints, returns, ends, is_live_any}
+use Rattle.bril_tree.specs.Outcome.{int_of}
+use Rattle.bril_tree.specs.Step.{step, running_step, frames_step, item_step, item_at, items_of, gives, prints, ends, is_live_any}
 use Rattle.bril_tree.specs.Value.{shown}
 use Rattle.rv64_machine.specs.declared.image.Image.{Image}
 use Rattle.rv64_machine.specs.Machine as machine
 use Rattle.rv64_machine.specs.Region.{Sizes}
-use Rattle.rv64_machine.specs.declared.word.Word.{Word}
 use Rattle.rv64_machine.specs.declared.word.Word.TheVariants.{Add}
 use Rattle.bril_cli.specs.Carries.{program_system, image_system}
-use Rattle.bril_cli.specs.Emitted.{item_words, code_words, store_words, load_words, end_words}
+use Rattle.bril_cli.specs.Emitted.{code_words, store_words, load_words}
 use Rattle.bril_cli.specs.Straight.{IsStraightItem, IsStraightAction}
-use Rattle.bril_cli.proofs.MachineSteps.{HasAt, Ready, Decodes, Became, HasStored, HasPrinted, HasEnded, constant_runs, load_runs, store_runs, print_runs, end_runs, one_write, free_5, free_7, free_10}
-use Rattle.bril_cli.proofs.Relation.{slice_get-seam, slice_get-end, AllByRecursion-back, word_below, sum_word, IsIntWord, HoldsWords, words_assigned}
+use Rattle.bril_cli.proofs.MachineSteps.{HasAt, Ready, Decodes, constant_runs, load_runs, store_runs, print_runs, end_runs, one_write, free_5, free_7}
+use Rattle.bril_cli.proofs.Relation.{slice_get-seam, slice_get-end, word_below, sum_word, IsIntWord, HoldsWords, words_assigned}
 
 module _ (decodes : Decodes) (image : Image) (p : Prog) (limits : Limits) (f : Func) (alone : p.funcs ≡ f ∷ []) (n : ℕ) (room : 2 + n ≤ image.stack) (few : image.stack ≤ 8388608) where
   bits : List ℕ

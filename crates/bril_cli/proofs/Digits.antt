@@ -1,11 +1,11 @@
 -- Numbers in digits of 12 bits, and the offsets of a frame's words.
-use Rattle.std.proofs.Common.{◌≡◌, ℕ, zero, suc, ◌+◌, ◌-◌, ◌*◌, ◌/◌, ◌%◌, ◌^◌, ◌<◌, ◌≤◌, Bool, true, false, cond, ltb, refl, sym, ap, ◌∙◌, subst, ⊎_elim, arith, ℤ, pos, negsuc, neg_ℤ, ◌≤ℤ◌, ◌<ℤ◌}
+use Rattle.std.proofs.Common.{◌≡◌, ℕ, ◌+◌, ◌-◌, ◌*◌, ◌/◌, ◌%◌, ◌^◌, ◌<◌, ◌≤◌, Bool, true, false, cond, ltb, refl, arith, pos, negsuc}
 use Rattle.std.specs.Int.{w64, cast_unsigned}
 use Rattle.std.proofs.lemmas.Bool.Decides.{nat_tests}
 use Rattle.std.proofs.lemmas.Int.{ints}
-use Rattle.rv64_machine.specs.Encoding.{signed_12, IsImmediate}
+use Rattle.rv64_machine.specs.Encoding.{IsImmediate}
 use Rattle.rv64_machine.specs.Machine.{extended_32}
-use Rattle.bril_cli.specs.Emitted.{high_part, low_part, frame_offset}
+use Rattle.bril_cli.specs.Emitted.{high_part, low_part}
 
 -- a digit as a signed number is an immediate
 immediate_by_test : (d : Bool) (n : ℕ) → n < 4096 → ltb n 2048 ≡ d → IsImmediate (cond d (pos n) (negsuc (4095 - n)))

@@ -1,5 +1,5 @@
 -- Where a straight program ends, and that its image has ended by then.
-use Rattle.std.proofs.Common.{◌≡◌, ℕ, zero, suc, ◌+◌, ◌*◌, ◌<◌, ◌≤◌, refl, sym, ap, ◌∙◌, subst, arith, List, [], ◌∷◌, ◌++◌, length, Option, Some, None, ℤ, pos, map, append_assoc, length-append}
+use Rattle.std.proofs.Common.{◌≡◌, ℕ, zero, suc, ◌+◌, ◌*◌, ◌≤◌, refl, sym, ap, ◌∙◌, subst, arith, List, [], ◌∷◌, ◌++◌, length, Option, Some, None, map, append_assoc, length-append}
 use Rattle.std.proofs.lemmas.List.Sums.{sum_by-cons}
 use Rattle.std.specs.Prelude.{slice_get, take, IsSome, is_some}
 use Rattle.std.proofs.Math.Nat.{mul-le-mul_left, mul-le-mul_right}
@@ -17,15 +17,13 @@ use Rattle.bril_tree.specs.declared.operation.Op.TheVariants as op
 use Rattle.bril_tree.specs.declared.program.Prog.{Prog}
 use Rattle.bril_tree.specs.declared.types.Ty.{Ty}
 use Rattle.bril_tree.specs.declared.value.Lit.TheVariants as literal
-use Rattle.bril_tree.specs.declared.value.Value.{Value}
-use Rattle.bril_tree.specs.declared.value.Value.TheVariants.{Int}
 use Rattle.bril_tree.specs.Run.{FitMain, first_state, state_after, types_of, Suits}
 use Rattle.bril_tree.specs.State as bril
-use Rattle.bril_tree.specs.Step.{step, running_step, frames_step, item_step, item_at, items_of, gives, prints, ends, is_live_any}
+use Rattle.bril_tree.specs.Step.{step, running_step, frames_step, item_step, item_at, items_of, ends, is_live_any}
 use Rattle.rv64_machine.specs.declared.image.Image.{Image}
 use Rattle.rv64_machine.specs.Machine as machine
 use Rattle.rv64_machine.specs.Region.{Sizes}
-use Rattle.bril_cli.specs.Carries.{program_system, image_system, Carries, Carried, frame_words, step_cost, variables_in}
+use Rattle.bril_cli.specs.Carries.{image_system, Carries, frame_words, step_cost}
 use Rattle.bril_cli.specs.Emitted.{word_bound, bound_of_function, bound_sum, items_in}
 use Rattle.bril_cli.specs.Straight.{IsStraight, IsStraightItem, IsStraightAction}
 use Rattle.bril_cli.proofs.ImageSystem.{image_is_system}

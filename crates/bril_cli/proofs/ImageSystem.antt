@@ -1,8 +1,8 @@
 -- The machine with an image is a system, and so is a program whose ends are the machine's.
-use Rattle.std.proofs.Common.{◌≡◌, ℕ, zero, suc, Bool, true, false, cond, eqb, refl, sym, ap, List, [], ◌∷◌, ◌++◌, Option, Some, None}
+use Rattle.std.proofs.Common.{◌≡◌, ℕ, zero, suc, Bool, true, false, cond, eqb, refl, sym, List, Option, Some, None}
 use Rattle.std.specs.Prelude.{IsSome}
 use Rattle.std.specs.Option.{option_map}
-use Rattle.simulation.specs.System.{System, IsSystem, IsPrefix}
+use Rattle.simulation.specs.System.{IsSystem, IsPrefix}
 use Rattle.simulation.proofs.Prefix.{IsPrefix-equal}
 use Rattle.bril_tree.specs.declared.limits.End.{End}
 use Rattle.bril_tree.specs.declared.limits.Limits.{Limits}
@@ -13,7 +13,7 @@ use Rattle.rv64_machine.specs.declared.word.Word.{Word}
 use Rattle.rv64_machine.specs.declared.word.Word.TheVariants.{Lui, Addi, Ori, Slli, Add, Ld, Sd, Ecall}
 use Rattle.rv64_machine.specs.Encoding.{decoded}
 use Rattle.rv64_machine.specs.Region.{Sizes, Place, InStack, InTable, InCells}
-use Rattle.rv64_machine.specs.Machine.{State, Stop, Finished, with_register, with_printed, next, loaded, stored, called, ended, executed, decoded_step, fetched_step, fetched, running_step, sizes_of}
+use Rattle.rv64_machine.specs.Machine.{State, Stop, Finished, with_register, next, loaded, stored, called, ended, executed, decoded_step, fetched_step, fetched, running_step, sizes_of}
 use Rattle.bril_cli.specs.Carries.{program_system, image_system}
 
 same : {a b : List ℕ} → b ≡ a → IsPrefix a b

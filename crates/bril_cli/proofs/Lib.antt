@@ -10,8 +10,8 @@ pub mod MachineSteps
 pub mod Mains
 pub mod Names
 pub mod Numberings
+pub mod Outcomes
 pub mod Relation
 pub mod Runs
-pub mod Sources
 pub mod Start
 pub mod Steps

@@ -1,6 +1,6 @@
 -- What stretches of words do, from a machine that runs.
-use Rattle.std.proofs.Common.{◌≡◌, ◌≢◌, ℕ, zero, suc, ◌+◌, ◌-◌, ◌*◌, ◌/◌, ◌%◌, ◌^◌, ◌<◌, ◌≤◌, Bool, true, false, cond, eqb, refl, sym, ap, ◌∙◌, subst, arith, List, [], ◌∷◌, ◌++◌, length, Option, Some, None, pos, map, append_assoc}
-use Rattle.std.specs.Prelude.{slice_get, ◌==◌}
+use Rattle.std.proofs.Common.{◌≡◌, ◌≢◌, ℕ, zero, suc, ◌+◌, ◌*◌, ◌/◌, ◌%◌, ◌^◌, ◌<◌, ◌≤◌, cond, eqb, refl, sym, ap, ◌∙◌, subst, arith, List, [], ◌∷◌, ◌++◌, Some, None, pos, append_assoc}
+use Rattle.std.specs.Prelude.{slice_get}
 use Rattle.std.specs.Int.{w64, cast_unsigned, cast_signed}
 use Rattle.std.specs.Fmt.{signed_decimal}
 use Rattle.bril_tree.specs.declared.limits.End.TheVariants.{Ended}
@@ -10,9 +10,9 @@ use Rattle.simulation.specs.System.{after}
 use Rattle.simulation.proofs.After.{after-add}
 use Rattle.rv64_machine.specs.declared.word.Word.{Word}
 use Rattle.rv64_machine.specs.declared.word.Word.TheVariants.{Lui, Addi, Slli, Add, Ld, Sd, Ecall}
-use Rattle.rv64_machine.specs.Encoding.{encoded, decoded, IsWord, IsRegister, IsImmediate}
-use Rattle.rv64_machine.specs.Region.{Sizes, Place, InStack, place_at, stack_base, is_within}
-use Rattle.rv64_machine.specs.Machine.{State, Stop, assigned, with_register, next, extended_32, plus_immediate, executed, loaded, stored, called, with_printed, ended, end_of, finished, Finished, fetched, fetched_step, decoded_step, running_step, machine_step}
+use Rattle.rv64_machine.specs.Encoding.{encoded, decoded, IsWord, IsImmediate}
+use Rattle.rv64_machine.specs.Region.{Sizes, InStack, place_at, stack_base}
+use Rattle.rv64_machine.specs.Machine.{State, assigned, with_register, next, extended_32, plus_immediate, executed, loaded, stored, called, with_printed, ended, end_of, finished, Finished, fetched, fetched_step, decoded_step, running_step, machine_step}
 use Rattle.bril_cli.specs.Emitted.{high_part, low_part, frame_offset, constant_words, reach_words, load_words, store_words, call_words, print_words, end_words}
 use Rattle.bril_cli.proofs.Digits.{low_part_fits, digit_again, extended_small}
 

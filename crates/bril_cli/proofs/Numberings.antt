@@ -1,5 +1,5 @@
 -- A straight tree has one numbering.
-use Rattle.std.proofs.Common.{◌≡◌, ◌≢◌, ℕ, zero, suc, ◌+◌, ◌-◌, ◌<◌, ◌≤◌, ◌⊎◌, Bool, true, false, ◌&&◌, List, [], ◌∷◌, ◌++◌, length, map, take, get_or, Option, Some, None, refl, sym, ap, ◌∙◌, subst, arith, true≢false}
+use Rattle.std.proofs.Common.{◌≡◌, ℕ, zero, suc, ◌+◌, ◌<◌, ◌≤◌, Bool, true, false, ◌&&◌, List, [], ◌∷◌, ◌++◌, length, map, take, Option, Some, None, refl, sym, ap, ◌∙◌, subst, arith, true≢false}
 use Rattle.std.specs.Prelude.{◌==◌, IsSome, slice_get}
 use Rattle.std.specs.List.{flat_map, filter_map, cons_option, list_all, range_with_len, AllByRecursion}
 use Rattle.std.specs.Option.{option_map}
@@ -21,7 +21,7 @@ use Rattle.bril_tree.specs.FunctionForm.{IsFunctionForm, IsFunctionForm-prop, li
 use Rattle.bril_tree.specs.Numbered.{Numbered, named, variable_names, typed_name, dest_tree, argument_tree, item_tree, function_tree}
 use Rattle.bril_tree.specs.ProgramForm.{IsProgramForm, IsProgramForm-prop, main_name}
 use Rattle.bril_cli.specs.StraightTree.{is_straight_tree, is_straight_function, is_one_straight, are_straight, is_straight_item, names_after}
-use Rattle.bril_cli.proofs.Appearance.{Differ, Differ-variables, AgreeBelow, OneAppearance, one_appearance}
+use Rattle.bril_cli.proofs.Appearance.{Differ-variables, AgreeBelow, OneAppearance, one_appearance}
 
 -- ---- lists
 

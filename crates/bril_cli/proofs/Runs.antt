@@ -1,22 +1,21 @@
 -- What a run of an image leaves.
-use Rattle.std.proofs.Common.{◌≡◌, ◌≢◌, ℕ, zero, suc, ◌+◌, ◌-◌, ◌*◌, ◌<◌, ◌≤◌, ◌⊎◌, Bool, true, false, List, [], ◌++◌, Option, Some, None, refl, sym, ap, ◌∙◌, subst, arith, ⊎_elim, true≢false}
+use Rattle.std.proofs.Common.{◌≡◌, ℕ, suc, ◌+◌, ◌≤◌, false, List, [], Some, None, refl, sym, ap, ◌∙◌, subst, arith, ⊎_elim, true≢false}
 use Rattle.bril_tree.specs.declared.limits.End.{End}
 use Rattle.bril_tree.specs.declared.limits.End.TheVariants.{Ended, Faulted}
 use Rattle.bril_tree.specs.declared.program.Prog.{Prog}
 use Rattle.bril_tree.specs.Run.{state_after}
 use Rattle.bril_outside.proofs.SinkWrites.{TookSome-longer}
-use Rattle.bril_outside.specs.Sink.{SinkSeen, Rose, TookAll, TookSome}
+use Rattle.bril_outside.specs.Sink.{SinkSeen, TookAll, TookSome}
 use Rattle.simulation.specs.System.{after, IsPrefix}
 use Rattle.simulation.proofs.After.{after-grows_le}
-use Rattle.rv64_machine.specs.declared.answer.RunAnswer.{RunAnswer}
 use Rattle.rv64_machine.specs.declared.answer.RunAnswer.TheVariants as run
 use Rattle.rv64_machine.specs.declared.image.Image.{Image}
 use Rattle.rv64_machine.specs.declared.machine.Machine.{Machine}
-use Rattle.rv64_machine.specs.Call.{Ran, RunFailed, Reached, reached_after}
-use Rattle.rv64_machine.specs.Machine.{State, Stop, Finished, Trapped, machine_after, machine_step, sizes_of, start}
+use Rattle.rv64_machine.specs.Call.{Ran, RunFailed, reached_after}
+use Rattle.rv64_machine.specs.Machine.{State, Finished, Trapped, machine_after, machine_step, sizes_of, start}
 use Rattle.rv64_machine.specs.MachineView.{state_of, words_in, sizes_in, has_failed}
-use Rattle.bril_cli.specs.Carries.{Carries, frame_words, image_system}
-use Rattle.bril_cli.specs.Emitted.{bound_sum, items_in}
+use Rattle.bril_cli.specs.Carries.{Carries, image_system}
+use Rattle.bril_cli.specs.Emitted.{items_in}
 use Rattle.bril_cli.specs.Source.{run_limits, EndsPrinting, IsWithin}
 use Rattle.bril_cli.specs.Straight.{IsStraight}
 use Rattle.bril_cli.specs.Works.{RanWhole, RanPartly}

@@ -1,17 +1,12 @@
 -- From the first states on, the image of a straight program carries it.
-use Rattle.std.proofs.Common.{◌≡◌, ℕ, zero, suc, ◌+◌, ◌*◌, ◌<◌, ◌≤◌, refl, sym, ap, ◌∙◌, subst, arith, List, [], ◌∷◌, ◌++◌, length, Option, Some, None, pos, map, append_assoc, length-append}
+use Rattle.std.proofs.Common.{◌≡◌, ℕ, zero, suc, ◌+◌, ◌*◌, ◌≤◌, refl, sym, ap, ◌∙◌, subst, arith, List, [], ◌∷◌, ◌++◌, length, Some, pos, map, append_assoc, length-append}
 use Rattle.std.specs.Prelude.{slice_get, slice_index, take}
-use Rattle.std.specs.Int.{w64, cast_unsigned}
-use Rattle.std.specs.List.{AllByRecursion, AllZip, flat_map}
-use Rattle.simulation.specs.System.{System, after}
-use Rattle.simulation.specs.Simulation.{LockStep, Tracks}
+use Rattle.std.specs.List.{AllZip}
+use Rattle.simulation.specs.Simulation.{Tracks}
 use Rattle.simulation.proofs.Tracks.{Tracks-from_lock_step}
 use Rattle.bril_tree.specs.declared.limits.Limits.{Limits}
-use Rattle.bril_tree.specs.declared.numbered.Instr.{Instr}
-use Rattle.bril_tree.specs.declared.numbered_function.Func.{Func}
 use Rattle.bril_tree.specs.declared.program.Prog.{Prog}
 use Rattle.bril_tree.specs.declared.value.Value.{Value}
-use Rattle.bril_tree.specs.declared.value.Value.TheVariants.{Int}
 use Rattle.bril_tree.specs.Run.{FitMain, first_state, types_of, Suits}
 use Rattle.bril_tree.specs.State as bril
 use Rattle.rv64_machine.specs.declared.image.Image.{Image}
@@ -20,11 +15,11 @@ use Rattle.rv64_machine.specs.Encoding.{encoded}
 use Rattle.rv64_machine.specs.Machine as machine
 use Rattle.bril_cli.specs.Carries.{program_system, image_system, Carried, Carries, frame_words, step_cost, variables_in}
 use Rattle.bril_cli.specs.Emitted.{code_words, program_words}
-use Rattle.bril_cli.specs.Straight.{IsStraight, IsStraightItem}
+use Rattle.bril_cli.specs.Straight.{IsStraight}
 use Rattle.bril_cli.proofs.Carrying.{Related, run, Runs, lock_step}
 use Rattle.bril_cli.proofs.ImageSystem.{image_is_system, mapped_is_system}
-use Rattle.bril_cli.proofs.MachineSteps.{HasAt, Decodes, Ready}
-use Rattle.bril_cli.proofs.Relation.{known_below, IsIntWord, HoldsWords}
+use Rattle.bril_cli.proofs.MachineSteps.{HasAt, Decodes}
+use Rattle.bril_cli.proofs.Relation.{known_below, HoldsWords}
 
 -- encoded words stand in their list
 words_at : (before : List ℕ) (ws : List Word) → HasAt (before ++ map encoded ws) (length before) ws

@@ -1,5 +1,5 @@
 -- When an image does what a program does.
-use Rattle.std.specs.Prelude.{◌≡◌, ℕ, ◌+◌, ◌*◌, ◌≤◌, List, [], ◌∷◌, length, Option, Some, None, max}
+use Rattle.std.specs.Prelude.{ℕ, ◌+◌, ◌*◌, ◌≤◌, List, [], ◌∷◌, length}
 use Rattle.std.specs.Option.{option_map}
 use Rattle.simulation.specs.System.{System, after, IsFinal, IsPrefix, Agree}
 use Rattle.bril_tree.specs.declared.limits.Limits.{Limits}

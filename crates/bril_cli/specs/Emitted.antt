@@ -1,5 +1,5 @@
 -- The words that stand for a straight program.
-use Rattle.std.specs.Prelude.{ℕ, ◌+◌, ◌*◌, ◌/◌, ◌%◌, List, [], ◌∷◌, ◌++◌, length, map, Option, Some, None, ℤ, pos}
+use Rattle.std.specs.Prelude.{ℕ, ◌+◌, ◌*◌, ◌/◌, ◌%◌, List, [], ◌∷◌, ◌++◌, length, Option, Some, None, ℤ, pos}
 use Rattle.std.specs.Int.{w64, cast_unsigned}
 use Rattle.std.specs.List.{flat_map, sum_by}
 use Rattle.bril_tree.specs.declared.numbered.Instr.{Instr}
@@ -12,7 +12,7 @@ use Rattle.bril_tree.specs.declared.value.Lit.{Lit}
 use Rattle.bril_tree.specs.declared.value.Lit.TheVariants as literal
 use Rattle.rv64_machine.specs.declared.word.Word.{Word}
 use Rattle.rv64_machine.specs.declared.word.Word.TheVariants.{Lui, Addi, Slli, Add, Ld, Sd, Ecall}
-use Rattle.rv64_machine.specs.Encoding.{encoded, signed_12}
+use Rattle.rv64_machine.specs.Encoding.{signed_12}
 
 -- a number is its high part times 4,096 plus its low part, which is signed
 abbrev pub high_part : ℕ → ℕ

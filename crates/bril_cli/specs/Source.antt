@@ -1,5 +1,5 @@
 -- The file of a command, and the program that it spells.
-use Rattle.std.specs.Prelude.{ℕ, ◌≡◌, ◌*◌, ◌<◌, ◌≤◌, true, false, List, [], length, Option, Some, None}
+use Rattle.std.specs.Prelude.{ℕ, ◌≡◌, ◌*◌, ◌≤◌, true, false, List, [], length, Option, Some, None}
 use Rattle.std.proofs.Common.{lit≤}
 use Rattle.bril_tree.specs.declared.limits.End.TheVariants.{Ended}
 use Rattle.bril_tree.specs.declared.limits.Limits.{Limits}
@@ -8,7 +8,9 @@ use Rattle.bril_tree.specs.declared.tree.Tree.{Tree}
 use Rattle.bril_tree.specs.Numbered.{Numbered}
 use Rattle.bril_tree.specs.Run.{state_after}
 use Rattle.bril_outside.specs.Files.{FileMap, FilesSeen, MayHold}
-use Rattle.bril_text.specs.Spelling.{Spells}
+use Rattle.bril_text.specs.Canonical.{canonical_text}
+use Rattle.bril_text.specs.Reading.{Spells, HasFault}
+use Rattle.bril_text.specs.declared.fault.TextFault.{TextFault}
 use Rattle.bril_cli.specs.Carries.{frame_words}
 use Rattle.bril_cli.specs.Emitted.{bound_sum}
 use Rattle.bril_cli.specs.StraightTree.{is_straight_tree}
@@ -40,9 +42,23 @@ pub record IsSource (bytes : List ℕ) (p : Prog) : Type 0 where
   pub straight : is_straight_tree tree ≡ true
   pub numbered : Numbered tree p
 
--- the bytes spell no straight program
-abbrev pub IsNoSource : List ℕ → Type 0
-IsNoSource bytes = (tree : Tree) → Spells bytes tree → is_straight_tree tree ≡ false
+-- The bytes spell a tree that is not straight.
+pub record IsFormless (bytes : List ℕ) : Type 0 where
+  pub tree : Tree
+  pub spelled : Spells bytes tree
+  pub unstraight : is_straight_tree tree ≡ false
+
+-- The bytes spell this tree and no other, and have no fault.
+pub record IsOnlyTree (bytes : List ℕ) (tree : Tree) : Type 0 where
+  pub spelled : Spells bytes tree
+  pub alone : (other : Tree) → Spells bytes other → tree ≡ other
+  pub faultless : (fault : TextFault) → HasFault bytes fault → ⊥
+
+-- The bytes have this fault and no other, and spell no tree.
+pub record IsOnlyFault (bytes : List ℕ) (fault : TextFault) : Type 0 where
+  pub has : HasFault bytes fault
+  pub alone : (other : TextFault) → HasFault bytes other → fault ≡ other
+  pub unspelled : (tree : Tree) → Spells bytes tree → ⊥
 
 -- The bytes spell this program and no other.
 pub record IsOnlySource (bytes : List ℕ) (p : Prog) : Type 0 where
@@ -73,3 +89,11 @@ pub record Runs (files : FilesSeen) (path output : List ℕ) : Type 0 where
   pub source : IsOnlySource bytes program
   pub within : IsWithin program
   pub prints : EndsPrinting program output
+
+-- The file at the path spells a tree, and this is its canonical text.
+pub record WritesText (files : FilesSeen) (path output : List ℕ) : Type 0 where
+  pub bytes : List ℕ
+  pub file : IsFile files path bytes
+  pub tree : Tree
+  pub spelled : Spells bytes tree
+  pub text : output ≡ canonical_text tree

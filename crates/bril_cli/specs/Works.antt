@@ -1,22 +1,31 @@
 -- What each step of a command answers, by its status.
-use Rattle.std.specs.Prelude.{ℕ, ◌≡◌, ◌*◌, ◌<◌, ◌≤◌, List, [], ◌++◌, length, Result, Ok, Err, codes}
-use Rattle.std.specs.Fmt.{decimal}
+use Rattle.std.specs.Prelude.{ℕ, true, false, ◌⊎◌, ◌≡◌, ◌*◌, ◌<◌, ◌≤◌, List, [], length, Result, Ok, Err, codes}
 use Rattle.bril_tree.specs.declared.program.Prog.{Prog}
 use Rattle.bril_outside.specs.Files.{FilesSeen, MayHold, MayFail}
 use Rattle.bril_outside.specs.Sink.{SinkSeen, Rose, TookAll, TookSome}
 use Rattle.bril_outside.specs.declared.sink.Failed.{Failed}
 use Rattle.bril_cli.specs.declared.status.Status.{Status}
 use Rattle.bril_cli.specs.declared.status.Status.TheVariants as status
-use Rattle.bril_cli.specs.Answers.{Says, form_line, unread_line, code_line, stack_line}
+use Rattle.bril_tree.specs.declared.tree.Tree.{Tree}
+use Rattle.bril_tree.specs.Numbered.{Numbered}
+use Rattle.bril_text.specs.Canonical.{canonical_text}
+use Rattle.bril_text.specs.declared.fault.TextFault.{TextFault}
+use Rattle.bril_text.specs.declared.fault.TextFault.TheVariants.{Lex, Grammar, IntRange, Float, Deep, Memory}
+use Rattle.bril_cli.specs.declared.action.Action.{Action}
+use Rattle.bril_cli.specs.declared.action.Action.TheVariants.{Run, WriteText}
+use Rattle.bril_cli.specs.Answers.{Says, form_line, misread_line, unread_line, code_line, stack_line}
+use Rattle.bril_cli.specs.CommandLine.{is_json}
+use Rattle.bril_cli.specs.StraightTree.{is_straight_tree}
 use Rattle.bril_cli.specs.Carries.{frame_words}
 use Rattle.bril_cli.specs.Emitted.{bound_sum}
 use Rattle.bril_cli.specs.Refusal.{capped, PassesCode, PassesStack}
-use Rattle.bril_cli.specs.Source.{most_bytes, IsFile, IsNoSource, IsOnlySource, IsWithin, EndsPrinting, Runs}
+use Rattle.bril_cli.specs.Source.{most_bytes, IsFile, IsOnlyTree, IsOnlyFault, IsWithin, EndsPrinting}
 
 -- the number of a status
 abbrev pub status_number : Status → ℕ
 status_number status.Done = 0
 status_number status.Unformed = 65
+status_number (status.Misread fault) = 65
 status_number status.Unread = 66
 status_number status.FileTooBig = 68
 status_number (status.CodeTooBig words) = 68
@@ -28,6 +37,7 @@ status_number status.Unwritten = 74
 abbrev pub status_line : Status → List ℕ → List ℕ
 status_line status.Done path = []
 status_line status.Unformed path = form_line path
+status_line (status.Misread fault) path = misread_line path fault
 status_line status.Unread path = unread_line path
 status_line status.FileTooBig path = codes "too large: bytes\n"
 status_line (status.CodeTooBig words) path = code_line words
@@ -44,6 +54,7 @@ PutsLine (Err failed) s line t = TookSome s line t × Rose s.faults t.faults
 abbrev pub SaysStatus : Status → List ℕ → SinkSeen → SinkSeen → Type 0
 SaysStatus status.Done path s t = t ≡ s
 SaysStatus status.Unformed path s t = Says s (status_line status.Unformed path) t
+SaysStatus (status.Misread fault) path s t = Says s (status_line (status.Misread fault) path) t
 SaysStatus status.Unread path s t = Says s (status_line status.Unread path) t
 SaysStatus status.FileTooBig path s t = Says s (status_line status.FileTooBig path) t
 SaysStatus (status.CodeTooBig words) path s t = Says s (status_line (status.CodeTooBig words) path) t
@@ -64,11 +75,20 @@ RefusesFile status.FileTooBig f g path = IsLongFile f path
 RefusesFile status.OutOfMemory f g path = Unit {0}
 RefusesFile _ f g path = ⊥
 
--- why bytes were not read as a program
-abbrev pub RefusesSource : Status → List ℕ → Type 0
-RefusesSource status.Unformed bytes = IsNoSource bytes
-RefusesSource status.OutOfMemory bytes = Unit {0}
-RefusesSource _ bytes = ⊥
+-- the status of a fault of the text
+abbrev pub status_of : TextFault → Status
+status_of (Lex at) = status.Misread (Lex at)
+status_of (Grammar at) = status.Misread (Grammar at)
+status_of (IntRange at) = status.Misread (IntRange at)
+status_of (Float at) = status.Misread (Float at)
+status_of (Deep at) = status.Misread (Deep at)
+status_of Memory = status.OutOfMemory
+
+-- why bytes were not read as a tree
+abbrev pub RefusesTree : Status → List ℕ → Type 0
+RefusesTree (status.Misread fault) bytes = IsOnlyFault bytes fault
+RefusesTree status.OutOfMemory bytes = Unit {0}
+RefusesTree _ bytes = ⊥
 
 -- why no image was made of a program
 abbrev pub RefusesImage : Status → Prog → Type 0
@@ -108,25 +128,67 @@ RunsProgram (status.StackTooBig words) p s t =
 RunsProgram status.OutOfMemory p s t = t ≡ s
 RunsProgram _ p s t = ⊥
 
--- The file at the path spells this program alone.
-pub record IsFileOf (files : FilesSeen) (path : List ℕ) (p : Prog) : Type 0 where
-  pub bytes : List ℕ
-  pub file : IsFile files path bytes
-  pub source : IsOnlySource bytes p
+-- The tree is straight, and the program is its numbering.
+pub record IsProgramOf (tree : Tree) (p : Prog) : Type 0 where
+  pub straight : is_straight_tree tree ≡ true
+  pub numbered : Numbered tree p
 
--- The file at the path spells no straight program.
-pub record IsFileOfNone (files : FilesSeen) (path : List ℕ) : Type 0 where
-  pub bytes : List ℕ
-  pub file : IsFile files path bytes
-  pub no_source : IsNoSource bytes
+-- what running a tree answers
+abbrev pub RunsTree : Status → Tree → SinkSeen → SinkSeen → Type 0
+RunsTree status.Unformed tree s t = (is_straight_tree tree ≡ false) × (t ≡ s)
+RunsTree status.OutOfMemory tree s t = t ≡ s
+RunsTree status.Done tree s t = (p : Prog) × IsProgramOf tree p × RunsProgram status.Done p s t
+RunsTree status.Unwritten tree s t = (p : Prog) × IsProgramOf tree p × RunsProgram status.Unwritten p s t
+RunsTree (status.CodeTooBig words) tree s t = (p : Prog) × IsProgramOf tree p × RunsProgram (status.CodeTooBig words) p s t
+RunsTree (status.StackTooBig words) tree s t = (p : Prog) × IsProgramOf tree p × RunsProgram (status.StackTooBig words) p s t
+RunsTree _ tree s t = ⊥
 
--- what running a file answers
-abbrev pub RunsFile : Status → FilesSeen → FilesSeen → List ℕ → SinkSeen → SinkSeen → Type 0
-RunsFile status.Unformed f g path s t = IsFileOfNone f path × (t ≡ s)
-RunsFile status.Unread f g path s t = MayFail f g path × (t ≡ s)
-RunsFile status.FileTooBig f g path s t = IsLongFile f path × (t ≡ s)
-RunsFile status.OutOfMemory f g path s t = t ≡ s
-RunsFile status.Done f g path s t = (p : Prog) × IsFileOf f path p × RunsProgram status.Done p s t
-RunsFile status.Unwritten f g path s t = (p : Prog) × IsFileOf f path p × RunsProgram status.Unwritten p s t
-RunsFile (status.CodeTooBig words) f g path s t = (p : Prog) × IsFileOf f path p × RunsProgram (status.CodeTooBig words) p s t
-RunsFile (status.StackTooBig words) f g path s t = (p : Prog) × IsFileOf f path p × RunsProgram (status.StackTooBig words) p s t
+-- what a write of a text answers
+abbrev pub PutsText : Status → List ℕ → SinkSeen → SinkSeen → Type 0
+PutsText status.Done text s t = TookAll s text t
+PutsText status.Unwritten text s t = TookSome s text t × Rose s.faults t.faults
+PutsText status.OutOfMemory text s t = t ≡ s
+PutsText _ text s t = ⊥
+
+-- what writing a tree answers
+abbrev pub WritesTree : Status → Tree → SinkSeen → SinkSeen → Type 0
+WritesTree how tree s t = PutsText how (canonical_text tree) s t
+
+abbrev pub DoesTree : Action → Status → Tree → SinkSeen → SinkSeen → Type 0
+DoesTree Run how tree s t = RunsTree how tree s t
+DoesTree WriteText how tree s t = WritesTree how tree s t
+
+-- a file in JSON isn't read
+pub record RefusesJson (how : Status) (f g : FilesSeen) (path : List ℕ) (s t : SinkSeen) : Type 0 where
+  pub json : is_json path ≡ true
+  pub is : how ≡ status.Unformed
+  pub unread : g ≡ f
+  pub silent : t ≡ s
+
+-- the file was not read
+pub record FailsToRead (how : Status) (f g : FilesSeen) (path : List ℕ) (s t : SinkSeen) : Type 0 where
+  pub no_json : is_json path ≡ false
+  pub refuses : RefusesFile how f g path
+  pub silent : t ≡ s
+
+-- the file's bytes were not read as a tree
+pub record FindsNoTree (how : Status) (f : FilesSeen) (path : List ℕ) (s t : SinkSeen) : Type 0 where
+  pub no_json : is_json path ≡ false
+  pub bytes : List ℕ
+  pub file : IsFile f path bytes
+  pub refuses : RefusesTree how bytes
+  pub silent : t ≡ s
+
+-- the file's tree was dealt with
+pub record DealsWithTree (action : Action) (how : Status) (f : FilesSeen) (path : List ℕ) (s t : SinkSeen) : Type 0 where
+  pub no_json : is_json path ≡ false
+  pub bytes : List ℕ
+  pub file : IsFile f path bytes
+  pub tree : Tree
+  pub only : IsOnlyTree bytes tree
+  pub does : DoesTree action how tree s t
+
+-- what an action on a file answers
+abbrev pub DoesFile : Action → Status → FilesSeen → FilesSeen → List ℕ → SinkSeen → SinkSeen → Type 0
+DoesFile action how f g path s t =
+    RefusesJson how f g path s t ⊎ (FailsToRead how f g path s t ⊎ (FindsNoTree how f path s t ⊎ DealsWithTree action how f path s t))

@@ -1,6 +1,7 @@
 // The command line of Roolvist.
 #![tactic(auto)]
 
+mod action;
 mod emission;
 mod numbering;
 mod report;

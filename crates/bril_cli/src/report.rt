@@ -2,11 +2,12 @@
 
 ghost use Rattle.std.specs.Prelude.{◌≡◌, ◌++◌, codes};
 ghost use Rattle.std.specs.Fmt.{decimal};
-ghost use Rattle.bril_cli.specs.Answers.{Says};
+ghost use Rattle.bril_cli.specs.Answers.{Says, misread_line, text_front, text_place};
 ghost use Rattle.bril_cli.specs.Works.{status_number, status_line, PutsLine, SaysStatus};
 
 use crate::status::Status;
 use bril_outside::sink::{Failed, Sink, put_three, put_two};
+use bril_text::TextFault;
 use bril_tree::text::Text;
 use itoa::Buffer;
 
@@ -16,7 +17,7 @@ pub fn status_number(status: Status) -> u8
 {
     match status {
         Status::Done => 0,
-        Status::Unformed => 65,
+        Status::Unformed | Status::Misread { .. } => 65,
         Status::Unread => 66,
         Status::FileTooBig | Status::CodeTooBig { .. } | Status::StackTooBig { .. } => 68,
         Status::OutOfMemory => 71,
@@ -47,12 +48,66 @@ fn put_status<E: Sink>(err: &mut E, path: &Text, status: Status) -> Result<(), F
     match status {
         Status::Done => put_line(err, b""),
         Status::Unformed => put_two(err, path.as_bytes(), b": form\n"),
+        Status::Misread { fault } => put_misread(err, path.as_bytes(), fault),
         Status::Unread => put_around(err, b"cannot read ", path.as_bytes()),
         Status::FileTooBig => put_line(err, b"too large: bytes\n"),
         Status::CodeTooBig { words } => put_number(err, b"too large: code ", words),
         Status::StackTooBig { words } => put_number(err, b"too large: stack ", words),
         Status::OutOfMemory => put_line(err, b"out of memory\n"),
         Status::Unwritten => put_line(err, b"cannot write\n"),
+    }
+}
+
+// Puts the line of a fault of the text of the file at a path.
+fn put_misread<E: Sink>(err: &mut E, path: &[u8], fault: TextFault) -> Result<(), Failed>
+    ensures { PutsLine result (E.seen err.old) (misread_line path.now fault) (E.seen err.new) }
+{
+    let mut buffer = Buffer::new();
+    put_four(
+        err,
+        path,
+        text_front(fault),
+        buffer.format(text_place(fault)).as_bytes(),
+        b"\n",
+    )
+}
+
+// The kind of a fault of the text, by its number.
+fn text_front(fault: TextFault) -> &'static [u8]
+    ensures { result.now ≡ text_front fault }
+{
+    match fault {
+        TextFault::Lex { .. } => b": text 1 at ",
+        TextFault::Grammar { .. } => b": text 2 at ",
+        TextFault::IntRange { .. } => b": text 3 at ",
+        TextFault::Float { .. } => b": text 4 at ",
+        TextFault::Deep { .. } => b": text 5 at ",
+        TextFault::Memory => b": text 0 at ",
+    }
+}
+
+// The byte at which it stands.
+fn text_place(fault: TextFault) -> u32
+    ensures { result ≡ text_place fault }
+{
+    match fault {
+        TextFault::Lex { at }
+        | TextFault::Grammar { at }
+        | TextFault::IntRange { at }
+        | TextFault::Float { at }
+        | TextFault::Deep { at } => at,
+        TextFault::Memory => 0,
+    }
+}
+
+// Puts four pieces.
+fn put_four<E: Sink>(err: &mut E, a: &[u8], b: &[u8], c: &[u8], d: &[u8]) -> Result<(), Failed>
+    ensures { PutsLine result (E.seen err.old) (a.now ++ b.now ++ (c.now ++ d.now)) (E.seen err.new) }
+{
+    put_two(err, a, b)?;
+    match put_two(err, c, d) {
+        Ok(()) => Ok(()),
+        Err(Failed) => Err(Failed),
     }
 }
 

@@ -1,12 +1,16 @@
 // How a command ends.
 
+use bril_text::TextFault;
+
 /// How a command that was asked for ends.
 #[derive(Clone, Copy, PartialEq, Eq, Debug, Drop)]
 pub enum Status {
     /// All was done.
     Done,
-    /// The file spells no straight program.
+    /// The file is in JSON, or its program isn't straight.
     Unformed,
+    /// The file spells no tree.
+    Misread { fault: TextFault },
     /// The file could not be read.
     Unread,
     /// The file has too many bytes.

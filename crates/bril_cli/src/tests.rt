@@ -32,7 +32,7 @@ fn plain(words: &'static [&'static str], status: u8, out: &'static str, err: &'s
     }
 }
 
-const FILES: [(&str, &[u8]); 11] = [
+const FILES: [(&str, &[u8]); 20] = [
     ("one.bril", b"@main { v: int = const 4; print v; }"),
     ("empty.bril", b"@main { }"),
     ("f.bril", b"@main { print v; }"),
@@ -41,6 +41,27 @@ const FILES: [(&str, &[u8]); 11] = [
     ("second.bril", b"@main { } @other { }"),
     ("nothing.bril", b""),
     ("late.bril", b"@main { print v; v: int = const 4; }"),
+    ("dollar.bril", b"@main { $ }"),
+    ("open.bril", b"@main {"),
+    ("float.bril", b"@main { x: float = const 1.5; }"),
+    ("big.bril", b"@main { v: int = const 9223372036854775808; }"),
+    (
+        "deep.bril",
+        b"@main(p: ptr<ptr<ptr<ptr<ptr<ptr<ptr<ptr<ptr<ptr<ptr<ptr<ptr<ptr<ptr<ptr<ptr<ptr<ptr<ptr<ptr<ptr<ptr<ptr<ptr<ptr<ptr<ptr<ptr<ptr<ptr<ptr<ptr<int>>>>>>>>>>>>>>>>>>>>>>>>>>>>>>>>>) { }",
+    ),
+    ("imports.bril", b"from \"a\" import @f; @main { }"),
+    (
+        "spaced.bril",
+        b"# a comment\n@main{v:int=const 4;\t# more\r\n print v;}#",
+    ),
+    (
+        "two.bril",
+        b"@main(a: int, b: int) { q: int = div a b; print q; }",
+    ),
+    (
+        "all.bril",
+        b"from \"lib.bril\"   import @f,@g as @h; # two parts\n@main(p: ptr<ptr<int>>,ok:bool):int{\n  n:char=const '\\n'; q: char = const ''';\n.loop: x: int = call @f x @h ok; # mixed\nbr ok .loop .end;.end:\nret x;}",
+    ),
     (
         "wraps.bril",
         b"@main { a: int = const 9223372036854775807; b: int = const 1; c: int = add a b; print c; }",
@@ -56,7 +77,7 @@ const FILES: [(&str, &[u8]); 11] = [
 ];
 
 // The command lines. The first read fails.
-fn rows() -> [Row; 26] {
+fn rows() -> [Row; 45] {
     [
         plain(
             &["bril", "run", "one.bril"],
@@ -80,7 +101,98 @@ fn rows() -> [Row; 26] {
             "",
         ),
         plain(&["bril", "run", "f.bril"], 65, "", "f.bril: form\n"),
-        plain(&["bril", "run", "bytes.bril"], 65, "", "bytes.bril: form\n"),
+        plain(
+            &["bril", "run", "bytes.bril"],
+            65,
+            "",
+            "bytes.bril: text 1 at 0\n",
+        ),
+        plain(
+            &["bril", "run", "dollar.bril"],
+            65,
+            "",
+            "dollar.bril: text 1 at 8\n",
+        ),
+        plain(
+            &["bril", "run", "open.bril"],
+            65,
+            "",
+            "open.bril: text 2 at 7\n",
+        ),
+        plain(
+            &["bril", "run", "float.bril"],
+            65,
+            "",
+            "float.bril: text 4 at 11\n",
+        ),
+        plain(
+            &["bril", "run", "big.bril"],
+            65,
+            "",
+            "big.bril: text 3 at 23\n",
+        ),
+        plain(
+            &["bril", "run", "deep.bril"],
+            65,
+            "",
+            "deep.bril: text 5 at 137\n",
+        ),
+        plain(
+            &["bril", "run", "imports.bril"],
+            65,
+            "",
+            "imports.bril: form\n",
+        ),
+        plain(&["bril", "run", "spaced.bril"], 0, "4\n", ""),
+        plain(&["bril", "run", "two.bril"], 65, "", "two.bril: form\n"),
+        plain(&["bril", "run", "one.json"], 65, "", "one.json: form\n"),
+        plain(&["bril", "text", "one.json"], 65, "", "one.json: form\n"),
+        plain(
+            &["bril", "text", "nothere.bril"],
+            66,
+            "",
+            "cannot read nothere.bril\n",
+        ),
+        plain(
+            &["bril", "text", "open.bril"],
+            65,
+            "",
+            "open.bril: text 2 at 7\n",
+        ),
+        plain(
+            &["bril", "text", "deep.bril"],
+            65,
+            "",
+            "deep.bril: text 5 at 137\n",
+        ),
+        plain(
+            &["bril", "text", "two.bril"],
+            0,
+            "@main(a: int, b: int) {\n  q: int = div a b;\n  print q;\n}\n",
+            "",
+        ),
+        plain(
+            &["bril", "text", "all.bril"],
+            0,
+            "from \"lib.bril\" import @f, @g as @h;\n@main(p: ptr<ptr<int>>, ok: bool): int {\n  n: char = const '\\n';\n  q: char = const ''';\n.loop:\n  x: int = call @f @h x ok;\n  br ok .loop .end;\n.end:\n  ret x;\n}\n",
+            "",
+        ),
+        plain(&["bril", "text"], 64, "", "usage\n"),
+        plain(&["bril", "text", "-"], 64, "", "usage\n"),
+        Row {
+            words: &["bril", "text", "two.bril"],
+            outs: &[1],
+            errs: &[],
+            status: 74,
+            out: "",
+            err: "cannot write\n",
+        },
+        plain(
+            &["bril", "text", "bytes_16777217"],
+            68,
+            "",
+            "too large: bytes\n",
+        ),
         plain(&["bril", "run", "label.bril"], 65, "", "label.bril: form\n"),
         plain(
             &["bril", "run", "second.bril"],

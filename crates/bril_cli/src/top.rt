@@ -1,14 +1,21 @@
 // The top call: a command line from its words to its status.
 
-ghost use Rattle.std.specs.Prelude.{◌≡◌, ◌≤◌, ◌<◌, ◌↔◌, ℕ, List, None, Some, length, option_copied};
+ghost use Rattle.std.specs.Prelude.{◌≡◌, ◌≤◌, ◌<◌, ◌↔◌, ℕ, List, None, Some, length};
+ghost use Rattle.std.specs.Option.{option_map};
 ghost use Rattle.bril_tree.specs.declared.program.Prog.{Prog};
-ghost use Rattle.bril_outside.specs.Sink.{Rose};
-ghost use Rattle.bril_cli.specs.Answers.{call_of, Answers, Finished, Unformed, Unread, TooLarge, ReadsWell, AsksNone, Prints, UnlessMemory};
-ghost use Rattle.bril_cli.specs.CommandLine.{is_operand, path_to_run};
-ghost use Rattle.bril_cli.specs.Source.{most_bytes, IsSource, IsNoSource, IsWithin};
+ghost use Rattle.bril_tree.specs.declared.tree.Tree.{Tree};
+ghost use Rattle.bril_text.specs.Canonical.{canonical_text};
+ghost use Rattle.bril_text.specs.Reading.{Spells, HasFault};
+ghost use Rattle.bril_text.specs.declared.fault.TextFault.{TextFault};
+ghost use Rattle.bril_outside.specs.Sink.{Rose, TookAll};
+ghost use Rattle.bril_cli.specs.Answers.{call_of, Answers, Finished, Unformed, Unread, TooLarge, ReadsWell, AsksNone, AsksJson, Prints, UnlessMemory, Says, misread_line};
+ghost use Rattle.bril_cli.specs.CommandLine.{is_operand, action_of, asked_of};
+ghost use Rattle.bril_cli.specs.Source.{most_bytes, IsSource, IsFormless, IsWithin};
+ghost use Rattle.bril_cli.specs.declared.action.Action.{Action};
 
+use crate::action::Action;
 use crate::report::{say, say_usage, status_number};
-use crate::work::run_file;
+use crate::work::do_file;
 use bril_outside::files::Files;
 use bril_outside::sink::Sink;
 use bril_tree::text::Text;
@@ -19,22 +26,25 @@ const MISUSED: u8 = 64;
 
 /// Does what the words ask for, and answers the exit status.
 ///
-/// The words are the program's name, `run`, and the path of a file: one byte or more, of which the first is
-/// no `-`. The file is text that spells a straight program: one function `@main` of constants, sums and prints
-/// of ints, each variable assigned before it is read. It is made into words of RV64I, which a machine runs.
+/// The words are the program's name, a command, and the path of a file: one byte or more, of which the first
+/// is no `-`. The commands are `run`, which runs the file's program, and `text`, which writes the file in
+/// canonical text. The file is in the text form of the Bril documentation. To be run it has to be a straight
+/// program: one function `@main` of constants, sums and prints of ints, each variable assigned before it is
+/// read. It is made into words of RV64I, which a machine runs.
 ///
 /// | Status | Comes | Line on `err` |
 /// |---|---|---|
-/// | 0 | the program ran to its end, and `out` took all that it printed | none |
+/// | 0 | all was done: `out` took all that the program prints up to its end, or the canonical text | none |
 /// | 64 | the words are any others | `usage` |
-/// | 65 | the file spells no straight program | `PATH: form` |
+/// | 65 | the file spells no tree; or it is to be run and isn't straight, or its path ends in `.json` | `PATH: text K at AT`; `PATH: form` |
 /// | 66 | the file is not there, or reading it failed | `cannot read PATH` |
 /// | 68 | the file has more than 16,777,216 bytes, or the program's words may be more than 250,000, or its 8,192 frames need more than 8,388,608 words | `too large: bytes`, `too large: code WORDS`, `too large: stack WORDS` |
-/// | 71 | memory was wanting before the program began to run | `out of memory` |
-/// | 74 | a write to `out` failed, which took the first of what the program prints | `cannot write` |
+/// | 71 | memory was wanting, for `run` before the program began to run | `out of memory` |
+/// | 74 | a write to `out` failed, which took the first of what goes there | `cannot write` |
 ///
-/// At 64 to 71 `out` gets nothing. Each line ends with LF; a fault of `err` changes nothing else. What the
-/// program prints is what the Bril documentation's core language says.
+/// K is 1 where nothing begins at byte AT, 2 where no program goes on with the token there, 3 where a number
+/// is no int, 4 where a float stands, 5 at the 33rd `ptr` of a type. At 64 to 71 `out` gets nothing. Each line
+/// ends with LF; a fault of `err` changes nothing else.
 pub fn bril_top<F: Files, O: Sink, E: Sink>(
     alloc: Global,
     words: &[Text],
@@ -60,41 +70,63 @@ pub fn bril_top<F: Files, O: Sink, E: Sink>(
     ensures silent { 64 ≤ result → result ≤ 71 → O.seen out.new ≡ O.seen out.old }
 
     // When each status comes. Where memory is wanting, 71 comes in place of all but 64.
-    ensures misused { (result ≡ 64) ↔ (path_to_run words.now ≡ None) }
+    ensures misused { (result ≡ 64) ↔ (asked_of words.now ≡ None) }
     ensures runs { let call = call_of words.now (F.seen files.old) (F.seen files.new)
         (O.seen out.old) (O.seen out.new) (E.seen err.old) (E.seen err.new) in
-        (bytes : List ℕ) (program : Prog) → ReadsWell call bytes → length bytes ≤ most_bytes → IsSource bytes program → IsWithin program →
+        (bytes : List ℕ) (program : Prog) → ReadsWell call Action.Run bytes → length bytes ≤ most_bytes → IsSource bytes program → IsWithin program →
         ¬ Rose (O.seen out.old).faults (O.seen out.new).faults → UnlessMemory result ((result ≡ 0) × Prints call program) }
+    ensures writes { let call = call_of words.now (F.seen files.old) (F.seen files.new)
+        (O.seen out.old) (O.seen out.new) (E.seen err.old) (E.seen err.new) in
+        (bytes : List ℕ) (tree : Tree) → ReadsWell call Action.WriteText bytes → length bytes ≤ most_bytes → Spells bytes tree →
+        ¬ Rose (O.seen out.old).faults (O.seen out.new).faults →
+        UnlessMemory result ((result ≡ 0) × TookAll (O.seen out.old) (canonical_text tree) (O.seen out.new)) }
+    ensures misread { let call = call_of words.now (F.seen files.old) (F.seen files.new)
+        (O.seen out.old) (O.seen out.new) (E.seen err.old) (E.seen err.new) in
+        (action : Action) (bytes : List ℕ) (fault : TextFault) → (reads : ReadsWell call action bytes) → length bytes ≤ most_bytes → HasFault bytes fault →
+        UnlessMemory result ((result ≡ 65) × Says (E.seen err.old) (misread_line reads.path fault) (E.seen err.new)) }
     ensures formless { let call = call_of words.now (F.seen files.old) (F.seen files.new)
         (O.seen out.old) (O.seen out.new) (E.seen err.old) (E.seen err.new) in
-        (bytes : List ℕ) → ReadsWell call bytes → length bytes ≤ most_bytes → IsNoSource bytes → UnlessMemory result (result ≡ 65) }
+        (bytes : List ℕ) → ReadsWell call Action.Run bytes → length bytes ≤ most_bytes → IsFormless bytes → UnlessMemory result (result ≡ 65) }
+    ensures json { AsksJson (call_of words.now (F.seen files.old) (F.seen files.new)
+        (O.seen out.old) (O.seen out.new) (E.seen err.old) (E.seen err.new)) → result ≡ 65 }
     ensures lacking { AsksNone (call_of words.now (F.seen files.old) (F.seen files.new)
         (O.seen out.old) (O.seen out.new) (E.seen err.old) (E.seen err.new)) → UnlessMemory result (result ≡ 66) }
     ensures long_file { let call = call_of words.now (F.seen files.old) (F.seen files.new)
         (O.seen out.old) (O.seen out.new) (E.seen err.old) (E.seen err.new) in
-        (bytes : List ℕ) → ReadsWell call bytes → most_bytes < length bytes → UnlessMemory result (result ≡ 68) }
+        (action : Action) (bytes : List ℕ) → ReadsWell call action bytes → most_bytes < length bytes → UnlessMemory result (result ≡ 68) }
     ensures long_program { let call = call_of words.now (F.seen files.old) (F.seen files.new)
         (O.seen out.old) (O.seen out.new) (E.seen err.old) (E.seen err.new) in
-        (bytes : List ℕ) (program : Prog) → ReadsWell call bytes → length bytes ≤ most_bytes → IsSource bytes program → ¬ IsWithin program →
+        (bytes : List ℕ) (program : Prog) → ReadsWell call Action.Run bytes → length bytes ≤ most_bytes → IsSource bytes program → ¬ IsWithin program →
         UnlessMemory result (result ≡ 68) }
 {
-    let Some(path) = path_to_run(words) else {
+    let Some((action, path)) = asked_of(words) else {
         say_usage(err);
         return MISUSED;
     };
-    let status = run_file(alloc, path, files, out);
+    let status = do_file(alloc, action, path, files, out);
     say(err, path, status);
     status_number(status)
 }
 
-// The path that the words ask to run.
-fn path_to_run(words: &[Text]) -> Option<&Text>
-    ensures { option_copied result ≡ path_to_run words.now }
+// What the words ask for: an action, and the path of its file.
+fn asked_of(words: &[Text]) -> Option<(Action, &Text)>
+    ensures { option_map (λ x. (x.0, x.1.now)) result ≡ asked_of words.now }
 {
     match words {
-        [_, command, path] if command.as_str() == "run" && is_operand(path.as_bytes()) => Some(
-            path,
-        ),
+        [_, command, path] if is_operand(path.as_bytes()) => {
+            action_of(command.as_str()).map(|action| (action, path))
+        }
+        _ => None,
+    }
+}
+
+// The action of a command's name.
+fn action_of(name: &str) -> Option<Action>
+    ensures { result ≡ action_of name.now }
+{
+    match name {
+        "run" => Some(Action::Run),
+        "text" => Some(Action::WriteText),
         _ => None,
     }
 }

@@ -1,4 +1,9 @@
-pub mod Fault
-pub mod Instructions
+pub mod Canonical
+pub mod CanonicalForm
+pub mod CanonicalReading
+pub mod Laws
+pub mod Parse
 pub mod Reading
-pub mod Spelling
+pub mod Seen
+pub mod Table
+pub mod Words

@@ -1,19 +1,31 @@
-// Why a text could not be read.
+// Why a source could not be read.
 
 ghost use Rattle.std.specs.Prelude.{◌≡◌};
 ghost use Rattle.bril_text.specs.declared.fault.TextFault.TheVariants.{Memory};
 
-use bril_tree::name::IdentFault;
+use bril_lex::cut::LexFault;
 use std::alloc::AllocError;
 use thiserror::Error;
 
-/// Why a text could not be read.
+/// Why a source is no program of Bril's text form. `at` counts bytes from 0: for `Lex` the byte at which nothing
+/// begins, for the others the first byte of the token that doesn't fit, or the source's length at its end.
 #[derive(Clone, Copy, PartialEq, Eq, Debug, Drop, Error)]
 pub enum TextFault {
-    /// The text is in no form that can be read. `at` is 0.
-    #[error("byte {at}: not Bril")]
+    /// No token, blank or comment begins here. This comes before any other fault.
+    #[error("byte {at}: nothing begins here")]
+    Lex { at: u32 },
+    /// No program goes on with this token.
+    #[error("byte {at}: no program goes on so")]
     Grammar { at: u32 },
-    /// Memory ran out.
+    /// A number where a literal may stand, outside -2^63 to 2^63 - 1.
+    #[error("byte {at}: the number is no int of 64 bits")]
+    IntRange { at: u32 },
+    /// A literal, type or operation of Bril's floating point extension, where one may stand.
+    #[error("byte {at}: floats are not supported")]
+    Float { at: u32 },
+    /// The 33rd `ptr` of one type.
+    #[error("byte {at}: more than 32 ptr in a type")]
+    Deep { at: u32 },
     #[error("out of memory")]
     Memory,
 }
@@ -26,15 +38,15 @@ impl From<AllocError> for TextFault {
     }
 }
 
-impl From<IdentFault> for TextFault {
-    ghost use Rattle.bril_text.specs.Fault.{fault_of};
+impl From<LexFault> for TextFault {
+    ghost use Rattle.bril_text.specs.Reading.{lexed};
 
-    ghost from_gives = { λ fault e. e ≡ fault_of fault };
+    ghost from_gives = { λ fault e. e ≡ lexed fault };
 
-    fn from(fault: IdentFault) -> TextFault {
+    fn from(fault: LexFault) -> TextFault {
         match fault {
-            IdentFault::NotIdent => TextFault::Grammar { at: 0 },
-            IdentFault::Memory => TextFault::Memory,
+            LexFault::At { at } => TextFault::Lex { at },
+            LexFault::Memory => TextFault::Memory,
         }
     }
 }

@@ -1,11 +1,15 @@
-// Laws of the definitions. Each function does nothing, and its contract is the law.
+// Laws of reading. Each function states some, and does nothing when it is called.
 
-ghost use Rattle.std.specs.Prelude.{◌≡◌, ℕ, List};
-ghost use Rattle.bril_tree.specs.declared.tree.Tree.{Tree};
-ghost use Rattle.bril_text.specs.Spelling.{Spells};
+ghost use Rattle.bril_text.specs.Laws.{SourcesSpellOneTree, SourcesHaveOneFault, SpelledHaveNoFault, EachHasTreeOrFault};
 
-/// A text spells one tree at most.
+/// A source spells one tree at most: two readings of the same bytes are one tree.
 pub fn one_tree()
-    ensures { (source : List ℕ) (first second : Tree) → Spells source first
-        → Spells source second → first ≡ second }
+    ensures { SourcesSpellOneTree }
+{}
+
+/// A source spells a tree or has exactly one fault, and never both.
+pub fn tree_or_fault()
+    ensures one { SourcesHaveOneFault }
+    ensures never_both { SpelledHaveNoFault }
+    ensures either { EachHasTreeOrFault }
 {}

@@ -1,16 +1,26 @@
-//! Bril's text form, for straight-line programs of ints: a file is one function `@main` without arguments, whose
-//! instructions are constants of type `int`, sums of two variables and prints of one variable.
+//! Bril's text form: the tree that a source spells, or its first fault, and the canonical text of a tree.
 #![tactic(auto)]
 
 mod fault;
+mod functions;
+mod imports;
+mod items;
+mod keyword;
 mod laws;
-mod line;
+mod literal;
+mod operands;
+mod parse;
 mod reading;
-mod scan;
+mod types;
+mod word;
+mod words;
+mod writing;
 
 pub use fault::TextFault;
-pub use laws::one_tree;
+pub use laws::{one_tree, tree_or_fault};
 pub use reading::read_text;
+pub use writing::laws::canonical_text_is_read;
+pub use writing::write_text;
 
 #[cfg(test)]
 mod tests;

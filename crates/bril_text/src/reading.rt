@@ -1,181 +1,106 @@
-// Reading a whole file.
+// Reading a whole source.
 
-ghost use Rattle.std.specs.Prelude.{◌≡◌, ◌<◌, ◌^◌, length, List, IfOk, IfErr, IsErr, MatchResult};
+ghost use Rattle.std.specs.Prelude.{◌≡◌, ◌⊎◌, ◌^◌, ◌<◌, ◌≤◌, ◌-◌, length, drop, IfOk, IfErr, MatchResult, Ok};
 ghost use Rattle.bril_tree.specs.declared.tree.Tree.{Tree};
-ghost use Rattle.bril_tree.specs.ProgramForm.{main_name};
+ghost use Rattle.bril_grammar.specs.Machine.{read};
+ghost use Rattle.bril_grammar.specs.Word.{words_of};
+ghost use Rattle.bril_text.specs.declared.fault.TextFault.{TextFault};
 ghost use Rattle.bril_text.specs.declared.fault.TextFault.TheVariants.{Memory};
-ghost use Rattle.bril_text.specs.Fault.{IsCause};
-ghost use Rattle.bril_text.specs.Instructions.{int_type, main_of, IsStraightLineTree};
-ghost use Rattle.bril_text.specs.Reading.{Gives, instruction_of, name_of, named_item, item_at, items_at, program_at, tree_at};
-ghost use Rattle.bril_text.specs.Spelling.{Spells, IsUnspelled};
+ghost use Rattle.bril_text.specs.Parse.{Runs};
+ghost use Rattle.bril_text.specs.Reading.{Spells, HasFault, IsFaultOf, place_of, fault_of_kind, text_fault, IsWithin};
 
 use crate::fault::TextFault;
-use crate::line::{Line, split_line};
-use crate::scan::{begins_with, skip_blanks, skip_byte, skip_keyword, skip_mark};
-use bril_tree::function_tree::{Dest, FuncTree, Item};
-use bril_tree::name::Name;
-use bril_tree::operation::Op;
-use bril_tree::sequence::Seq;
+use crate::functions::functions_at;
+use crate::imports::imports_at;
+use crate::parse::ParseFault;
+use crate::words::Words;
+use bril_grammar::fault::FaultKind;
+use bril_lex::cut::tokens;
+use bril_lex::token::Token;
 use bril_tree::tree::Tree;
-use bril_tree::types::{Base, Ty};
-use bril_tree::value::Lit;
 use std::alloc::Global;
 
-// The fault of a text that is in no form that can be read.
-const REFUSED: TextFault = TextFault::Grammar { at: 0 };
-
-// The type `int`.
-fn int_type() -> Ty
-    ensures { result ≡ int_type }
-{
-    Ty {
-        depth: 0,
-        base: Base::Int,
-    }
-}
-
-// The word as a name, where it is an identifier.
-#[tactic(auto, unfolding(crate::specs::Reading::name_of))]
-fn name_of(alloc: Global, word: &[u8]) -> Result<Name, TextFault>
-    ensures { Gives (λ name. name) result (name_of word.now) }
-{
-    Ok(Name::ident(alloc, word)?)
-}
-
-// The item of an instruction, where its words are identifiers.
-#[tactic(auto, unfolding(crate::specs::Reading::named_item))]
-fn item_of(alloc: Global, line: Line<'_>) -> Result<Item, TextFault>
-    ensures { Gives (λ item. item) result (named_item (instruction_of line.entry)) }
-{
-    match line {
-        Line::Constant { dest, value } => Ok(Item::Const {
-            dest: name_of(alloc, dest)?,
-            ty: int_type(),
-            value: Lit::Int(value),
-        }),
-        Line::Sum { dest, left, right } => {
-            let name = name_of(alloc, dest)?;
-            let mut args = Seq::new(alloc);
-            args.push(name_of(alloc, left)?)?;
-            args.push(name_of(alloc, right)?)?;
-            Ok(Item::Act {
-                dest: Some(Dest {
-                    name,
-                    ty: int_type(),
-                }),
-                op: Op::Add,
-                args,
-                funcs: Seq::new(alloc),
-                labels: Seq::new(alloc),
-            })
-        }
-        Line::Print { arg } => {
-            let mut args = Seq::new(alloc);
-            args.push(name_of(alloc, arg)?)?;
-            Ok(Item::Act {
-                dest: None,
-                op: Op::Print,
-                args,
-                funcs: Seq::new(alloc),
-                labels: Seq::new(alloc),
-            })
-        }
-    }
-}
-
-// The item that stands first, and what stands behind it and blanks.
-#[tactic(auto, unfolding(crate::specs::Reading::item_at))]
-fn split_item(alloc: Global, bytes: &[u8]) -> Result<(Item, &[u8]), TextFault>
-    ensures { Gives (λ x. (x.0, x.1.now)) result (item_at bytes.now) }
-{
-    let (line, rest) = split_line(bytes).ok_or(REFUSED)?;
-    Ok((item_of(alloc, line)?, rest))
-}
-
-// The items up to a `}`, and what stands from there on.
-fn split_items(alloc: Global, bytes: &[u8]) -> Result<(Seq<Item>, &[u8]), TextFault>
-    ensures { Gives (λ x. (x.0, x.1.now)) result (items_at (length bytes.now) bytes.now) }
-{
-    let mut code = Seq::new(alloc);
-    let mut rest = bytes;
-    // Each item takes a byte or more.
-    for _ in 0..bytes.len() {
-        if begins_with(b'}', rest) {
-            return Ok((code, rest));
-        }
-        let (item, after) = split_item(alloc, rest)?;
-        code.push(item)?;
-        rest = after;
-    }
-    Ok((code, rest))
-}
-
-// The items of `@main`, from its brace on, which is all that is left.
-#[tactic(auto, unfolding(crate::specs::Reading::program_at))]
-fn program(alloc: Global, source: &[u8]) -> Result<Seq<Item>, TextFault>
-    ensures { Gives (λ code. code) result (program_at source.now) }
-{
-    let rest = skip_byte(b'@', skip_blanks(source)).ok_or(REFUSED)?;
-    let rest = skip_keyword(b"main", rest).ok_or(REFUSED)?;
-    let rest = skip_mark(b'{', rest).ok_or(REFUSED)?;
-    let (code, rest) = split_items(alloc, rest)?;
-    let rest = skip_mark(b'}', rest).ok_or(REFUSED)?;
-    if !rest.is_empty() {
-        return Err(REFUSED);
-    }
-    Ok(code)
-}
-
-// A file of a `@main` with these items.
-fn main_of(alloc: Global, code: Seq<Item>) -> Result<Tree, TextFault>
-    ensures ok { IfOk result (λ tree. tree ≡ main_of code) }
-    ensures err { IfErr result (λ fault. fault ≡ Memory) }
-{
-    let main = FuncTree {
-        name: Name::ident(alloc, b"main")?,
-        args: Seq::new(alloc),
-        ret: None,
-        code,
-    };
-    let mut funcs = Seq::new(alloc);
-    funcs.push(main)?;
-    Ok(Tree {
-        imports: Seq::new(alloc),
-        funcs,
-    })
-}
-
-// The tree that the whole source is.
-#[tactic(auto, unfolding(crate::specs::Reading::tree_at))]
-fn tree(alloc: Global, source: &[u8]) -> Result<Tree, TextFault>
-    ensures { Gives (λ tree. tree) result (tree_at source.now) }
-{
-    let code = program(alloc, source)?;
-    main_of(alloc, code)
-}
-
-/// Reads the text of a straight-line program of ints.
+/// The tree that a source of Bril's text form spells.
 ///
-/// A text is `@main {`, items and `}`, with blanks (space, tab, CR, LF) between any two tokens; a blank must
-/// stand between two tokens that would otherwise be one. An item is `x: int = const N;` with a number of 64 bits,
-/// `x: int = add y z;` or `print x;`. The names are identifiers of Bril's text form; none is reserved. This is
-/// the part of the syntax that the Bril documentation describes under "text format" without labels, other types
-/// and other operations. Whether each variable that is read was assigned is not asked.
+/// `source` has fewer than 2^32 bytes. Its tokens are those of `bril_lex::cut::tokens`: each is the longest that
+/// fits, with blanks and comments between them. An import is `from "path" import @f, @g as @h;`. A function is
+/// `@name`, `(x: int, y: ptr<bool>)` where it has arguments, `: T` where it returns one, and its items between
+/// braces. An item is `.label:`, `x: T = const LITERAL;`, or an operation with its operands and `;`, behind
+/// `x: T = ` where it has a destination. Variables, functions and labels may be mixed among the operands; each
+/// kind makes its own list, in order. No identifier is reserved: one that `:` follows is a destination's name.
 ///
-/// `source` is shorter than 2^32 bytes. `Grammar` with `at` 0 comes exactly where the source is the text of no
-/// tree, and `Memory` where memory is wanting.
+/// - `Lex` comes first: exactly where nothing begins at byte `at`, and all before it are tokens, blanks and
+///   comments.
+/// - Otherwise the fault is at the first token at which one of these holds, in this order: `Float` at a float
+///   where a literal may stand, at `float` where a type may stand, and at an operation on floats where an
+///   operation may stand and `:` doesn't follow; `IntRange` at a number where a literal may stand that is no int
+///   of 64 bits; `Deep` at the 33rd `ptr` of a type; `Grammar` where no program goes on with this token. `at` is
+///   the byte where that token begins, or the source's length at its end.
+/// - `Memory` may come at any time, where memory is wanting.
+///
+/// The text form is that of the Bril documentation (Cornell's CS 6120), "text format", with its memory,
+/// character, SSA, speculative execution and import extensions. Takes time in proportion to the source.
 pub fn read_text(alloc: Global, source: &[u8]) -> Result<Tree, TextFault>
     requires { length source.now < 2 ^ 32 }
-    // What is read is spelled so.
-    ensures ok { IfOk result (λ tree. Spells source.now tree) }
-    // What is spelled so is read, unless memory runs out.
+    // What is read is spelled so, and what is spelled so is read.
+    ensures found { IfOk result (Spells source.now) }
     ensures reads { (tree : Tree) → Spells source.now tree
         → MatchResult result (λ read. read ≡ tree) (λ fault. fault ≡ Memory) }
-    // The cause of each error.
-    ensures cause { IfErr result (IsCause source.now) }
-    // What spells no tree is refused.
-    ensures refused { IsUnspelled source.now → IsErr result }
-    ensures shape { IfOk result IsStraightLineTree }
+
+    // A fault is the source's, and the source's fault is answered.
+    ensures fault { IfErr result (IsFaultOf source.now) }
+    ensures faults { (why : TextFault) → HasFault source.now why
+        → MatchResult result (λ _. ⊥) (λ fault. (fault ≡ why) ⊎ (fault ≡ Memory)) }
 {
-    tree(alloc, source)
+    let found = tokens(alloc, source)?;
+    let list = found.list.as_slice();
+    match program_at(alloc, Words::new(source, list)) {
+        Ok(tree) => Ok(tree),
+        Err(fault) => Err(text_fault(source, list, fault)),
+    }
+}
+
+// The tree of all words.
+fn program_at(alloc: Global, words: Words<'_>) -> Result<Tree, ParseFault>
+    ensures { Runs (read words.entry) result (λ tree. Ok tree) }
+{
+    let (imports, words) = imports_at(alloc, words)?;
+    let funcs = functions_at(alloc, words)?;
+    Ok(Tree { imports, funcs })
+}
+
+// The fault at the byte where its token begins.
+fn text_fault(source: &[u8], tokens: &[Token], fault: ParseFault) -> TextFault
+    requires short { length source.now < 2 ^ 32 }
+    requires within { IsWithin tokens.now fault }
+    ensures { result ≡ text_fault source.now tokens.now fault }
+{
+    match fault {
+        ParseFault::At(fault) => fault_of_kind(fault.kind, place_of(source, tokens, fault.left)),
+        ParseFault::Memory => TextFault::Memory,
+    }
+}
+
+// The first byte of the token where this many are left, or the source's length where none is.
+fn place_of(source: &[u8], tokens: &[Token], left: usize) -> u32
+    requires short { length source.now < 2 ^ 32 }
+    requires few { left ≤ length tokens.now }
+    ensures { result ≡ place_of source.now (drop (length tokens.now - left) tokens.now) }
+{
+    match tokens[tokens.len() - left..].first() {
+        Some(token) => token.from,
+        None => source.len() as u32,
+    }
+}
+
+// The fault of a kind at this byte.
+fn fault_of_kind(kind: FaultKind, at: u32) -> TextFault
+    ensures { result ≡ fault_of_kind kind at }
+{
+    match kind {
+        FaultKind::Float => TextFault::Float { at },
+        FaultKind::IntRange => TextFault::IntRange { at },
+        FaultKind::Deep => TextFault::Deep { at },
+        FaultKind::Grammar => TextFault::Grammar { at },
+    }
 }

@@ -29,6 +29,13 @@ impl Bytes {
         }
     }
 
+    /// No bytes, with the allocator of these. Takes no memory.
+    pub fn fresh(&self) -> Bytes
+        ensures { result ≡ [] }
+    {
+        Bytes::new(*self.held.allocator())
+    }
+
     /// The bytes, first to last. Takes no memory.
     pub fn as_slice(&self) -> &[u8]
         ensures { result.now ≡ self.now }

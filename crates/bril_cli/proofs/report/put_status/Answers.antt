@@ -1,6 +1,4 @@
 -- The line that has the path in its middle.
-use Rattle.std.proofs.Common.{◌≡◌, ◌++◌, codes}
-use Rattle.bril_cli.specs.Works.{status_line, PutsLine}
 use Rattle.bril_cli.proofs.report.put_status.Goals as goal
 
 pub returns-in-Unread : goal.returns-in-Unread

@@ -1,7 +1,7 @@
 -- What the command answers, from what its steps answered.
-use Rattle.std.proofs.Common.{rules, ◌≡◌, sym, ap, ◌∙◌, subst}
-use Rattle.bril_cli.specs.Answers.{Call, call_of, Answers, Finished, TooLarge}
-use Rattle.bril_cli.proofs.Commands.{Ends, Answers-of, runs_where, refused_where}
+use Rattle.std.proofs.Common.{rules, sym, subst}
+use Rattle.bril_cli.specs.Answers.{Call, call_of, Answers}
+use Rattle.bril_cli.proofs.Commands.{Ends, Answers-of, runs_where, refused_where, formless_where, writes_where, misread_where, long_where, json_where, lacking_where}
 use Rattle.bril_cli.proofs.top.bril_top.Given.{Over}
 use Rattle.bril_cli.proofs.top.bril_top.Goals as goal
 use Rattle.bril_cli.proofs.top.bril_top.Goals.{After-status_number}
@@ -9,35 +9,74 @@ use Rattle.bril_cli.proofs.top.bril_top.Goals.{After-status_number}
 -- what is seen of the call
 seen : (g : Over) → After-status_number g → Call
 seen g c =
-    call_of c.args.words.now (g.F.Files.seen c.args.files.now) (g.F.Files.seen c.run_file-status.new.files)
-    (g.O.Sink.seen c.args.out.now) (g.O.Sink.seen c.run_file-status.new.out)
+    call_of c.args.words.now (g.F.Files.seen c.args.files.now) (g.F.Files.seen c.do_file-status.new.files)
+    (g.O.Sink.seen c.args.out.now) (g.O.Sink.seen c.do_file-status.new.out)
     (g.E.Sink.seen c.args.err.now) (g.E.Sink.seen c.say.new.err)
 
-ends : (g : Over) (c : After-status_number g) → Ends (seen g c) c.in-Some.path.now c.run_file-status.result
+ends : (g : Over) (c : After-status_number g) → Ends (seen g c) c.in-Some.action c.in-Some.path.now c.do_file-status.result
 unfolding seen
-ends g c = record { asked = search rules; runs = c.run_file-status.ensures.runs; says = c.say.ensures }
+ends g c = record { asked = search rules; does = c.do_file-status.ensures.does; says = c.say.ensures }
+
+-- what the status says
+told : (g : Over) (c : After-status_number g) → Answers c.status_number.result (seen g c)
+told g c = subst (λ n. Answers n (seen g c)) (sym c.status_number.ensures) (Answers-of (seen g c) c.in-Some.action c.in-Some.path.now c.do_file-status.result (ends g c))
 
 pub returns-clause-answers : goal.returns-clause-answers
 unfolding seen
-returns-clause-answers g c =
-    subst (λ n. Answers n (seen g c)) (sym c.status_number.ensures) (Answers-of (seen g c) c.in-Some.path.now c.run_file-status.result (ends g c))
+returns-clause-answers g c = told g c
 
 pub returns-clause-done : goal.returns-clause-done
 unfolding seen
-returns-clause-done g c = λ e.
-    subst (λ n. Answers n (seen g c)) (sym c.status_number.ensures ∙ e) (Answers-of (seen g c) c.in-Some.path.now c.run_file-status.result (ends g c))
+returns-clause-done g c = λ e. subst (λ n. Answers n (seen g c)) e (told g c)
+
+pub returns-clause-form : goal.returns-clause-form
+unfolding seen
+returns-clause-form g c = λ e. subst (λ n. Answers n (seen g c)) e (told g c)
+
+pub returns-clause-read : goal.returns-clause-read
+unfolding seen
+returns-clause-read g c = λ e. subst (λ n. Answers n (seen g c)) e (told g c)
 
 pub returns-clause-size : goal.returns-clause-size
 unfolding seen
-returns-clause-size g c = λ e.
-    subst (λ n. Answers n (seen g c)) (sym c.status_number.ensures ∙ e) (Answers-of (seen g c) c.in-Some.path.now c.run_file-status.result (ends g c))
+returns-clause-size g c = λ e. subst (λ n. Answers n (seen g c)) e (told g c)
 
 pub returns-clause-runs : goal.returns-clause-runs
 unfolding seen
 returns-clause-runs g c = λ bytes p reads short source within sound.
-    rw c.status_number.ensures (runs_where (seen g c) c.in-Some.path.now c.run_file-status.result (ends g c) bytes p reads short source within sound)
+    rw c.status_number.ensures (runs_where (seen g c) c.in-Some.action c.in-Some.path.now c.do_file-status.result (ends g c) bytes p reads short source within sound)
+
+pub returns-clause-writes : goal.returns-clause-writes
+unfolding seen
+returns-clause-writes g c = λ bytes tree reads short spelled sound.
+    rw c.status_number.ensures (writes_where (seen g c) c.in-Some.action c.in-Some.path.now c.do_file-status.result (ends g c) bytes tree reads short spelled sound)
+
+pub returns-clause-misread : goal.returns-clause-misread
+unfolding seen
+returns-clause-misread g c = λ action bytes fault reads short has.
+    rw c.status_number.ensures (misread_where (seen g c) c.in-Some.action c.in-Some.path.now c.do_file-status.result (ends g c) action bytes fault reads short has)
+
+pub returns-clause-formless : goal.returns-clause-formless
+unfolding seen
+returns-clause-formless g c = λ bytes reads short formless.
+    rw c.status_number.ensures (formless_where (seen g c) c.in-Some.action c.in-Some.path.now c.do_file-status.result (ends g c) bytes reads short formless)
+
+pub returns-clause-json : goal.returns-clause-json
+unfolding seen
+returns-clause-json g c = λ asks.
+    rw c.status_number.ensures (json_where (seen g c) c.in-Some.action c.in-Some.path.now c.do_file-status.result (ends g c) asks)
+
+pub returns-clause-lacking : goal.returns-clause-lacking
+unfolding seen
+returns-clause-lacking g c = λ asks.
+    rw c.status_number.ensures (lacking_where (seen g c) c.in-Some.action c.in-Some.path.now c.do_file-status.result (ends g c) asks)
+
+pub returns-clause-long_file : goal.returns-clause-long_file
+unfolding seen
+returns-clause-long_file g c = λ action bytes reads long.
+    rw c.status_number.ensures (long_where (seen g c) c.in-Some.action c.in-Some.path.now c.do_file-status.result (ends g c) action bytes reads long)
 
 pub returns-clause-long_program : goal.returns-clause-long_program
 unfolding seen
 returns-clause-long_program g c = λ bytes p reads short source beyond.
-    rw c.status_number.ensures (refused_where (seen g c) c.in-Some.path.now c.run_file-status.result (ends g c) bytes p reads short source beyond)
+    rw c.status_number.ensures (refused_where (seen g c) c.in-Some.action c.in-Some.path.now c.do_file-status.result (ends g c) bytes p reads short source beyond)

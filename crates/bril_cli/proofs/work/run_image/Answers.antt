@@ -1,6 +1,5 @@
 -- A run of the image ends as the program does, or a write fails.
-use Rattle.std.proofs.Common.{rules, ◌≡◌, refl, ap, ◌∙◌, subst}
-use Rattle.rv64_machine.specs.Call.{Ran}
+use Rattle.std.proofs.Common.{rules}
 use Rattle.bril_cli.proofs.Runs.{IsFresh, IsImageOf, whole, partly, no_fault, no_trap, not_spent}
 use Rattle.bril_cli.proofs.work.run_image.Given.{Over}
 use Rattle.bril_cli.proofs.work.run_image.Goals as goal

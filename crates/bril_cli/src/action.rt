@@ -1,0 +1,10 @@
+// What a command does.
+
+/// What a command does with its file.
+#[derive(Clone, Copy, PartialEq, Eq, Debug, Drop)]
+pub enum Action {
+    /// Runs its program.
+    Run,
+    /// Writes its canonical text.
+    WriteText,
+}

@@ -1,0 +1,110 @@
+// What the functions of the parser answer.
+
+ghost use Rattle.std.specs.Prelude.{◌≡◌, IfOk, IfErr, IsTrue, length, ◌<◌};
+ghost use Rattle.bril_tree.specs.Identifier.{is_identifier};
+ghost use Rattle.bril_grammar.specs.Machine.{run, marks_alone, way, arg_named};
+ghost use Rattle.bril_grammar.specs.State.{State, Begun, Importing, Expect, AtArg, AtTaken, AfterTaken, AtAlias, AfterAlias};
+ghost use Rattle.bril_grammar.specs.declared.mark.Mark.TheVariants.{Comma};
+ghost use Rattle.std.specs.Prelude.{ℕ, List, [], ◌∷◌, Some, if◌then◌else◌};
+ghost use Rattle.bril_grammar.specs.Word.{words_of};
+ghost use Rattle.bril_text.specs.declared.parse.ParseFault.TheVariants.{Memory};
+ghost use Rattle.bril_text.specs.Parse.{Runs, StopsAtWord, go};
+
+use crate::word::WordRef;
+use crate::words::Words;
+use bril_grammar::fault::{Fault, FaultKind};
+use bril_grammar::mark::Mark;
+use bril_tree::name::{IdentFault, Name};
+use std::alloc::{AllocError, Global};
+
+// Why the parser stopped: a token that doesn't fit, or want of memory.
+#[derive(Clone, Copy, PartialEq, Eq, Debug, Drop)]
+pub enum ParseFault {
+    At(Fault),
+    Memory,
+}
+
+impl From<AllocError> for ParseFault {
+    ghost from_gives = { λ _ e. e ≡ Memory };
+
+    fn from(_fault: AllocError) -> ParseFault {
+        ParseFault::Memory
+    }
+}
+
+// The fault of a kind where this many tokens are left.
+pub fn fault_at(kind: FaultKind, left: usize) -> ParseFault
+    ensures { StopsAtWord result kind left }
+{
+    ParseFault::At(Fault { kind, left })
+}
+
+// The identifier as a name.
+pub fn name_of(alloc: Global, text: &[u8]) -> Result<Name, ParseFault>
+    requires { IsTrue (is_identifier text.now) }
+    ensures ok { IfOk result (λ name. name ≡ text.now) }
+    ensures err { IfErr result (λ fault. fault ≡ Memory) }
+{
+    match Name::ident(alloc, text) {
+        Ok(name) => Ok(name),
+        Err(IdentFault::Memory) => Err(ParseFault::Memory),
+        Err(IdentFault::NotIdent) => unreachable!(),
+    }
+}
+
+// What stands behind this mark, which must come next.
+pub fn expect<'a>(mark: Mark, words: Words<'a>) -> Result<Words<'a>, ParseFault>
+    ensures runs { (next : State) → Runs (run (Expect mark next) (words_of words.entry)) result (λ rest. run next (words_of rest)) }
+    ensures shorter { IfOk result (λ rest. length rest < length words.entry) }
+{
+    let left = words.left();
+    match words.split() {
+        Some((WordRef::Mark(found), rest)) if found == mark => Ok(rest),
+        _ => Err(fault_at(FaultKind::Grammar, left)),
+    }
+}
+
+// Whether a comma comes next; else this mark must. What stands behind either.
+pub fn comma_or<'a>(mark: Mark, words: Words<'a>) -> Result<(bool, Words<'a>), ParseFault>
+    ensures runs { (again end : State) → Runs (go (marks_alone (way Comma again ∷ way mark end ∷ [])) (words_of words.entry)) result
+        (λ x. run (if x.0 then again else end) (words_of x.1)) }
+    ensures shorter { IfOk result (λ x. length x.1 < length words.entry) }
+{
+    if words.begins_with(Mark::Comma) {
+        let rest = expect(Mark::Comma, words)?;
+        Ok((true, rest))
+    } else {
+        let rest = expect(mark, words)?;
+        Ok((false, rest))
+    }
+}
+
+// The identifier that comes next.
+pub fn identifier(words: Words<'_>) -> Result<(&[u8], Words<'_>), ParseFault>
+    ensures runs { (begun : Begun) → Runs (run (AtArg begun) (words_of words.entry)) result
+        (λ x. run (arg_named begun x.0.now) (words_of x.1)) }
+    ensures identifier { IfOk result (λ x. IsTrue (is_identifier x.0.now)) }
+    ensures shorter { IfOk result (λ x. length x.1 < length words.entry) }
+{
+    let left = words.left();
+    match words.split() {
+        Some((WordRef::Name(text), rest)) => Ok((text, rest)),
+        _ => Err(fault_at(FaultKind::Grammar, left)),
+    }
+}
+
+// The function's name that comes next.
+pub fn function_name(words: Words<'_>) -> Result<(&[u8], Words<'_>), ParseFault>
+    ensures taken { (i : Importing) → Runs (run (AtTaken i) (words_of words.entry)) result
+        (λ x. run (AfterTaken i x.0.now) (words_of x.1)) }
+    ensures alias { (i : Importing) (name : List ℕ) → Runs (run (AtAlias i name) (words_of words.entry)) result
+        (λ x. run (AfterAlias i (record { name = name; alias = Some x.0.now })) (words_of x.1)) }
+    ensures identifier { IfOk result (λ x. IsTrue (is_identifier x.0.now)) }
+    ensures shorter { IfOk result (λ x. length x.1 < length words.entry) }
+{
+    let left = words.left();
+    match words.split() {
+        Some((WordRef::Function(text), rest)) => Ok((text, rest)),
+        _ => Err(fault_at(FaultKind::Grammar, left)),
+    }
+}

@@ -1,0 +1,101 @@
+// Lines of the canonical text: labels and instructions.
+
+ghost use Rattle.std.specs.Prelude.{◌≡◌, ◌++◌, OnOk, IfSome, codes};
+ghost use Rattle.bril_text.specs.Canonical.{names_text, operands_text, dest_text, item_text};
+ghost use Rattle.bril_text.specs.CanonicalForm.{IsName, AreNames, IsDest, IsItem};
+
+use crate::writing::word::{operation_name, put_literal, put_typed};
+use bril_tree::bytes::Bytes;
+use bril_tree::function_tree::{Dest, Item};
+use bril_tree::name::Name;
+use bril_tree::sequence::Seq;
+use bril_tree::types::Ty;
+use bril_tree::value::Lit;
+use std::alloc::AllocError;
+
+// Appends each name behind the sign.
+fn put_names(sign: &[u8], names: &Seq<Name>, into: &mut Bytes) -> Result<(), AllocError>
+    ensures text { OnOk result (into.new ≡ into.old ++ names_text sign.now names.now) }
+    ensures valid { OnOk result (AreNames names.now) }
+{
+    for name in names.as_slice() {
+        into.add(sign)?;
+        into.add(name.as_bytes())?;
+    }
+    Ok(())
+}
+
+// Appends the operands: functions, then arguments, then labels.
+fn put_operands(
+    args: &Seq<Name>,
+    funcs: &Seq<Name>,
+    labels: &Seq<Name>,
+    into: &mut Bytes,
+) -> Result<(), AllocError>
+    ensures text { OnOk result (into.new ≡ into.old ++ operands_text args.now funcs.now labels.now) }
+    ensures valid { OnOk result (AreNames args.now × AreNames funcs.now × AreNames labels.now) }
+{
+    put_names(b" @", funcs, into)?;
+    put_names(b" ", args, into)?;
+    put_names(b" .", labels, into)
+}
+
+// Appends `dest: type = ` where there is a destination.
+fn put_dest(dest: &Option<Dest>, into: &mut Bytes) -> Result<(), AllocError>
+    ensures text { OnOk result (into.new ≡ into.old ++ dest_text dest.now) }
+    ensures valid { OnOk result (IfSome dest.now IsDest) }
+{
+    match dest {
+        None => Ok(()),
+        Some(dest) => {
+            put_typed(&dest.name, &dest.ty, into)?;
+            into.add(b" = ")
+        }
+    }
+}
+
+// Appends a label.
+fn put_label(name: &Name, into: &mut Bytes) -> Result<(), AllocError>
+    ensures text { OnOk result (into.new ≡ into.old ++ (codes "." ++ (name.now ++ codes ":\n"))) }
+    ensures valid { OnOk result (IsName name.now) }
+{
+    into.add(b".")?;
+    into.add(name.as_bytes())?;
+    into.add(b":\n")
+}
+
+// Appends a constant.
+fn put_const(dest: &Name, ty: &Ty, value: &Lit, into: &mut Bytes) -> Result<(), AllocError>
+    ensures text { OnOk result (into.new ≡ into.old ++ item_text (Item.Const dest.now ty.now value.now)) }
+    ensures valid { OnOk result (IsItem (Item.Const dest.now ty.now value.now)) }
+{
+    into.add(b"  ")?;
+    put_typed(dest, ty, into)?;
+    into.add(b" = const ")?;
+    put_literal(value, into)?;
+    into.add(b";\n")
+}
+
+// Appends a label or an instruction.
+pub fn put_item(item: &Item, into: &mut Bytes) -> Result<(), AllocError>
+    ensures text { OnOk result (into.new ≡ into.old ++ item_text item.now) }
+    ensures valid { OnOk result (IsItem item.now) }
+{
+    match item {
+        Item::Label(name) => put_label(name, into),
+        Item::Const { dest, ty, value } => put_const(dest, ty, value, into),
+        Item::Act {
+            dest,
+            op,
+            args,
+            funcs,
+            labels,
+        } => {
+            into.add(b"  ")?;
+            put_dest(dest, into)?;
+            into.add(operation_name(*op))?;
+            put_operands(args, funcs, labels, into)?;
+            into.add(b";\n")
+        }
+    }
+}
