@@ -15,7 +15,8 @@ use Rattle.bril_grammar.specs.declared.fault.FaultKind.TheVariants.{Deep}
 use Rattle.bril_grammar.specs.declared.keyword.Keyword.{Keyword}
 use Rattle.bril_grammar.specs.declared.keyword.Keyword.TheVariants as word
 use Rattle.bril_grammar.specs.declared.mark.Mark.TheVariants.{OpenBrace, CloseBrace, CloseParen, Colon, Comma, Semicolon, Equals, Less, Greater}
-use Rattle.bril_grammar.specs.Keyword.{keyword_of, operation_text, base_text, truth_text}
+use Rattle.bril_grammar.specs.Keyword.{keyword_of}
+use Rattle.bril_tree.specs.Spelling.{operation_text, base_text, truth_text}
 use Rattle.bril_grammar.specs.Machine.{Goes, Fails, type_of, import_of, taking, begin, with_arg, with_item, typed, closing, const_of, act, with_variable, with_function, with_label, type_word, first_import_word, import_word, as_word, operation_word, first_word, truth_word, dest_type, decided, go_on, run}
 use Rattle.bril_grammar.specs.State.{Begun, Place, ArgPlace, RetPlace, DestPlace, Importing, Acting, State, AtImport, AtPath, AtImportWord, AtTaken, AfterTaken, AtAlias, AfterAlias, AtFunction, AfterName, AtFirstArg, AtArg, AfterArg, AfterArgs, AtItem, AfterOperation, AtOperation, AtLiteral, AtOperand, AtType, Expect}
 use Rattle.bril_grammar.specs.Word.{Word, Name, Function, Path, Punctuation, ImportPath}

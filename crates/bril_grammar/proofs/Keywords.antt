@@ -7,7 +7,8 @@ use Rattle.bril_tree.specs.declared.types.Base.{Base}
 use Rattle.bril_tree.specs.declared.types.Base.TheVariants as base
 use Rattle.bril_grammar.specs.declared.keyword.Keyword.{Keyword}
 use Rattle.bril_grammar.specs.declared.keyword.Keyword.TheVariants.{From, Import, As, BaseType, Ptr, FloatType, Const, Truth, Operation, FloatOperation, Plain}
-use Rattle.bril_grammar.specs.Keyword.{Entry, entries, keyword_among, keyword_of, operation_text, base_text, truth_text}
+use Rattle.bril_grammar.specs.Keyword.{Entry, entries, keyword_among, keyword_of}
+use Rattle.bril_tree.specs.Spelling.{operation_text, base_text, truth_text}
 
 pub keyword_from : keyword_of (codes "from") ≡ From
 unfolding keyword_of

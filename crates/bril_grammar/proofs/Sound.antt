@@ -17,7 +17,8 @@ use Rattle.bril_grammar.specs.declared.keyword.Keyword.{Keyword}
 use Rattle.bril_grammar.specs.declared.mark.Mark.{Mark}
 use Rattle.bril_grammar.specs.declared.keyword.Keyword.TheVariants as word
 use Rattle.bril_grammar.specs.declared.mark.Mark.TheVariants.{OpenBrace, CloseBrace, OpenParen, CloseParen, Colon, Comma, Semicolon, Equals, Less, Greater}
-use Rattle.bril_grammar.specs.Keyword.{keyword_of, operation_text, base_text}
+use Rattle.bril_grammar.specs.Keyword.{keyword_of}
+use Rattle.bril_tree.specs.Spelling.{operation_text, base_text}
 use Rattle.bril_grammar.specs.Machine.{Goes, Fails, type_of, import_of, begin, with_arg, with_ret, with_item, function_begun, finished, typed, closing, const_of, act, acted, with_variable, with_function, with_label, type_word, first_import_word, import_word, as_word, operation_word, first_word, truth_word, dest_type, decided, at_end, run, way, taken_ways, head_ways, move, import_move, path_move, import_word_move, taken_move, after_taken_move, alias_move, function_move, first_arg_move, arg_move, item_move, operation_move, literal_move, type_move, marks_alone, begins_with_colon}
 use Rattle.bril_grammar.specs.State.{Begun, Place, ArgPlace, RetPlace, DestPlace, Importing, Acting, State, AtImport, AtPath, AtImportWord, AtTaken, AfterTaken, AtAlias, AfterAlias, AtFunction, AfterName, AtFirstArg, AtArg, AfterArg, AfterArgs, AtItem, AfterOperation, AtOperation, AtLiteral, AtOperand, AtType, Expect}
 use Rattle.bril_grammar.specs.Word.{Word, Name, Function, Label, Number, Char, Path, Punctuation, ImportPath}

@@ -15,7 +15,7 @@ use Rattle.bril_tree.specs.declared.value.Lit.{Lit}
 use Rattle.bril_tree.specs.declared.value.Lit.TheVariants as literal
 use Rattle.bril_lex.specs.Lexeme.{Lexeme}
 use Rattle.bril_grammar.specs.declared.mark.Mark.TheVariants.{OpenBrace, CloseBrace, OpenParen, CloseParen, Colon, Comma, Semicolon, Equals, Less, Greater}
-use Rattle.bril_grammar.specs.Keyword.{operation_text, base_text, truth_text}
+use Rattle.bril_tree.specs.Spelling.{operation_text, base_text, truth_text}
 use Rattle.bril_grammar.specs.Word.{Word, words_of}
 
 pub data Operand : Type 0 where

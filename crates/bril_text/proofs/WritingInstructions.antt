@@ -6,11 +6,11 @@ use Rattle.bril_tree.specs.declared.function_tree.Item.{Item}
 use Rattle.bril_tree.specs.declared.function_tree.Item.TheVariants as item
 use Rattle.bril_lex.specs.declared.token.Kind.TheVariants as kind
 use Rattle.bril_grammar.specs.declared.mark.Mark.TheVariants.{Colon, Semicolon, Equals}
-use Rattle.bril_grammar.specs.Keyword.{operation_text}
+use Rattle.bril_tree.specs.Spelling.{operation_text}
 use Rattle.bril_grammar.specs.Word.{Word}
 use Rattle.bril_grammar.specs.Written.{VariableOperand, FunctionOperand, LabelOperand, operand_word, literal_word, typed_words, dest_words, line_words}
 use Rattle.bril_text.specs.Canonical.{names_text, operands_text, literal_text, typed_text, dest_text, item_text}
-use Rattle.bril_text.specs.CanonicalForm.{AreNames, IsDest, IsItem}
+use Rattle.bril_tree.specs.TreeForm.{AreNames, IsDest, IsItem}
 use Rattle.bril_text.proofs.WritingPieces.{Prints, nothing, token, blank, mark, both, same_text}
 use Rattle.bril_text.proofs.WritingTypes.{Ends, typed_prints}
 use Rattle.bril_text.proofs.WritingWords.{literal_prints, operation_prints, names_print, function_each, variable_each, label_each}

@@ -21,7 +21,7 @@ use Rattle.bril_grammar.specs.declared.mark.Mark.TheVariants.{OpenBrace, CloseBr
 use Rattle.bril_grammar.specs.Word.{Word, path_word, word_as, words_of}
 use Rattle.bril_grammar.specs.Written.{alias_words, taken_words, import_words, typed_words, args_words, ret_words, type_words, line_words, function_words, source_words, IsProgram}
 use Rattle.bril_text.specs.Canonical.{alias_text, taken_text, import_text, typed_text, type_text, args_text, ret_text, item_text, function_text, canonical_text}
-use Rattle.bril_text.specs.CanonicalForm.{IsName, IsTaken, IsImport, IsDest, IsItem, IsFunction, IsTree}
+use Rattle.bril_tree.specs.TreeForm.{IsName, IsTaken, IsImport, IsDest, IsItem, IsFunction, IsTree}
 use Rattle.bril_text.specs.CanonicalReading.{CanonicalTextSpells, CanonicalTextSpellsAlone, CanonicalTextTellsTrees}
 use Rattle.bril_text.specs.Reading.{Spells}
 use Rattle.bril_text.proofs.WritingChars.{inside-quoted, path_word-path}

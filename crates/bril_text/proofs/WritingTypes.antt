@@ -10,11 +10,11 @@ use Rattle.bril_tree.specs.declared.types.Ty.{Ty}
 use Rattle.bril_lex.specs.Printed.{ends_before}
 use Rattle.bril_lex.specs.declared.token.Kind.TheVariants as kind
 use Rattle.bril_grammar.specs.declared.mark.Mark.TheVariants.{Comma, Less, Greater}
-use Rattle.bril_grammar.specs.Keyword.{base_text}
+use Rattle.bril_tree.specs.Spelling.{base_text}
 use Rattle.bril_grammar.specs.Word.{Word}
 use Rattle.bril_grammar.specs.Written.{pointer_words, type_words, typed_words}
 use Rattle.bril_text.specs.Canonical.{type_text, typed_text}
-use Rattle.bril_text.specs.CanonicalForm.{IsDest}
+use Rattle.bril_tree.specs.TreeForm.{IsDest}
 use Rattle.bril_text.proofs.WritingPieces.{Prints, nothing, token, blank, mark, both}
 
 -- no identifier, function, label or number goes on into the bytes

@@ -13,7 +13,7 @@ use Rattle.bril_tree.specs.declared.tree.Tree.{Tree}
 use Rattle.bril_tree.specs.declared.types.Ty.{Ty}
 use Rattle.bril_tree.specs.declared.value.Lit.{Lit}
 use Rattle.bril_tree.specs.declared.value.Lit.TheVariants as literal
-use Rattle.bril_grammar.specs.Keyword.{operation_text, base_text, truth_text}
+use Rattle.bril_tree.specs.Spelling.{operation_text, base_text, truth_text}
 
 -- ` as @g` where the function has another name here
 abbrev pub alias_text : Option (List ℕ) → List ℕ

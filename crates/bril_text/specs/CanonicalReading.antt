@@ -2,7 +2,7 @@
 use Rattle.std.specs.Prelude.{◌≡◌}
 use Rattle.bril_tree.specs.declared.tree.Tree.{Tree}
 use Rattle.bril_text.specs.Canonical.{canonical_text}
-use Rattle.bril_text.specs.CanonicalForm.{IsTree}
+use Rattle.bril_tree.specs.TreeForm.{IsTree}
 use Rattle.bril_text.specs.Reading.{Spells}
 
 -- the canonical text of a tree spells that tree

@@ -1,5 +1,4 @@
 pub mod Canonical
-pub mod CanonicalForm
 pub mod CanonicalReading
 pub mod Laws
 pub mod Parse

@@ -3,7 +3,7 @@
 ghost use Rattle.std.specs.Prelude.{◌≡◌, ◌∷◌, ◌++◌, OnOk, OnErr, All, IfSome, codes};
 ghost use Rattle.std.specs.List.{flat_map, join_by};
 ghost use Rattle.bril_text.specs.Canonical.{alias_text, taken_text, import_text, typed_text, args_text, ret_text, item_text, function_text, canonical_text};
-ghost use Rattle.bril_text.specs.CanonicalForm.{IsName, IsTaken, IsImport, IsDest, IsItem, IsFunction, IsTree};
+ghost use Rattle.bril_tree.specs.TreeForm.{IsName, IsTaken, IsImport, IsDest, IsItem, IsFunction, IsTree};
 ghost use Rattle.bril_text.specs.Reading.{Spells};
 
 pub mod laws;

@@ -1,7 +1,7 @@
 -- A program under limits is a system: a run that ended rests, and what was printed only grows.
-use Rattle.std.proofs.Common.{◌≡◌, ℕ, zero, suc, ◌+◌, Bool, true, false, cond, refl, sym, ap, List, [], ◌∷◌, ◌++◌, length, Option, Some, None, ℤ, map}
-use Rattle.std.specs.Prelude.{IsSome, slice_index}
-use Rattle.simulation.specs.System.{System, IsSystem, IsPrefix}
+use Rattle.std.proofs.Common.{◌≡◌, ℕ, Bool, true, false, cond, refl, sym, List, [], ◌∷◌, Option, Some, None, ℤ}
+use Rattle.std.specs.Prelude.{IsSome}
+use Rattle.simulation.specs.System.{IsSystem, IsPrefix}
 use Rattle.simulation.proofs.Prefix.{IsPrefix-equal}
 use Rattle.bril_tree.specs.declared.limits.End.{End}
 use Rattle.bril_tree.specs.declared.limits.Fault.{Fault}
@@ -12,10 +12,10 @@ use Rattle.bril_tree.specs.declared.operation.Op.{Op}
 use Rattle.bril_tree.specs.declared.operation.Op.TheVariants as op
 use Rattle.bril_tree.specs.declared.program.Prog.{Prog}
 use Rattle.bril_tree.specs.declared.value.Value.{Value}
-use Rattle.bril_tree.specs.Outcome.{Outcome, Gives, Fails, Acts, outcome_of}
+use Rattle.bril_tree.specs.Outcome.{Outcome, Gives, Fails, Acts}
 use Rattle.bril_tree.specs.Run.{program}
 use Rattle.bril_tree.specs.State.{State, Frame}
-use Rattle.bril_tree.specs.Step.{returns, ends, calls, allocates, frees, stores, loads, loads_held, guards, acts, acts_at, by_outcome, item_step, frames_step, running_step, step, item_at}
+use Rattle.bril_tree.specs.Step.{returns, ends, allocates, stores, loads, loads_held, guards, acts, acts_at, by_outcome, item_step, frames_step, running_step, item_at}
 
 same : {a b : List ℕ} → b ≡ a → IsPrefix a b
 same {a} {b} e = IsPrefix-equal a b (sym e)

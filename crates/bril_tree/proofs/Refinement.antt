@@ -1,11 +1,9 @@
 -- Refinement of programs composes.
-use Rattle.std.proofs.Common.{◌≡◌, ℕ, ◌*◌, ◌≤◌, refl, sym, ap, ◌∙◌, subst, arith, List, Option}
+use Rattle.std.proofs.Common.{ℕ, ◌*◌, ◌≤◌, refl, ◌∙◌, subst, arith, List, Option}
 use Rattle.std.specs.List.{AllZip}
 use Rattle.simulation.proofs.Refinement.{Follows-refl, Follows-trans}
-use Rattle.bril_tree.specs.declared.limits.Limits.{Limits}
 use Rattle.bril_tree.specs.declared.program.Prog.{Prog}
 use Rattle.bril_tree.specs.declared.types.Ty.{Ty}
-use Rattle.bril_tree.specs.declared.value.Value.{Value}
 use Rattle.bril_tree.specs.Run.{program, first_state, FitMain, Suits, Refines}
 
 pub Refines-refl : (p : Prog) → Refines p p 1

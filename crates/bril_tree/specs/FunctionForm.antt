@@ -1,6 +1,6 @@
 -- The form of a numbered function.
-use Rattle.std.specs.Prelude.{ℕ, ◌≡◌, ◌≢◌, ◌<◌, ◌≤◌, ◌+◌, Bool, true, false, ◌&&◌, ◌==◌, List, [], ◌∷◌, ◌++◌, length, map, Option, Some, None, if◌then◌else◌, IsSome, nat_lt, slice_get}
-use Rattle.std.specs.List.{flat_map, filter_map, list_all, range_with_len, AllPairs}
+use Rattle.std.specs.Prelude.{ℕ, ◌≡◌, ◌≢◌, ◌<◌, ◌≤◌, ◌+◌, Bool, true, false, ◌==◌, List, [], ◌∷◌, ◌++◌, length, Option, Some, None, if◌then◌else◌, IsSome, nat_lt, slice_get}
+use Rattle.std.specs.List.{flat_map, list_all, range_with_len, AllPairs}
 use Rattle.std.proofs.Props.{props}
 use Rattle.bril_tree.specs.declared.numbered.Instr.{Instr}
 use Rattle.bril_tree.specs.declared.numbered.Instr.TheVariants.{Label, Const, Act}

@@ -7,8 +7,10 @@ pub mod Outcome
 pub mod Path
 pub mod ProgramForm
 pub mod Run
+pub mod Spelling
 pub mod State
 pub mod Step
+pub mod TreeForm
 pub mod Value
 pub use Rattle.simulation.specs.System
 pub use Rattle.simulation.specs.Refinement

@@ -1,7 +1,7 @@
 -- What the operations compute from what they read: the Bril documentation's core language, its character
 -- extension, the arithmetic of pointers, and `get` and `undef`.
-use Rattle.std.specs.Prelude.{ℕ, zero, ◌+◌, Bool, true, false, not, ◌&&◌, ◌||◌, ◌==◌, nat_lt, nat_le, List, Option, Some, None, slice_index, if◌then◌else◌, ℤ, pos, negsuc, ◌+ℤ◌, ◌-ℤ◌, ◌*ℤ◌, int_lt, int_le, int_div}
-use Rattle.std.specs.Int.{w32, w64, int_wrap}
+use Rattle.std.specs.Prelude.{ℕ, Bool, true, false, not, ◌&&◌, ◌||◌, ◌==◌, nat_lt, nat_le, List, Option, Some, None, slice_index, if◌then◌else◌, ℤ, pos, negsuc, ◌+ℤ◌, ◌-ℤ◌, ◌*ℤ◌, int_lt, int_le, int_div}
+use Rattle.std.specs.Int.{w64, int_wrap}
 use Rattle.bril_tree.specs.declared.limits.Fault.{Fault}
 use Rattle.bril_tree.specs.declared.limits.Fault.TheVariants.{DivZero, BadChar, PtrRange}
 use Rattle.bril_tree.specs.declared.numbered.Instr.{Instr}

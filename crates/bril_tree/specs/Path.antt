@@ -1,5 +1,5 @@
 -- Paths that an import may name.
-use Rattle.std.specs.Prelude.{ℕ, ◌<◌, ◌≤◌, ◌≡◌, Bool, true, not, ◌&&◌, ◌||◌, ◌==◌, nat_lt, List, length}
+use Rattle.std.specs.Prelude.{ℕ, ◌<◌, ◌≤◌, ◌≡◌, Bool, true, not, ◌&&◌, ◌==◌, nat_lt, List, length}
 use Rattle.std.specs.List.{list_all}
 
 -- neither `"` nor `\` nor a control character

@@ -1,5 +1,5 @@
 -- The form of a numbered program.
-use Rattle.std.specs.Prelude.{ℕ, ◌≡◌, ◌≢◌, true, List, [], ◌∷◌, length, map, Option, Some, nat_lt, slice_get}
+use Rattle.std.specs.Prelude.{ℕ, ◌≡◌, ◌≢◌, true, List, [], ◌∷◌, length, Some, nat_lt, slice_get}
 use Rattle.std.specs.List.{flat_map, list_all, AllPairs}
 use Rattle.std.specs.Option.{option_map}
 use Rattle.std.proofs.Props.{props}

@@ -1,6 +1,6 @@
 -- One step of a program: the Bril documentation's core language with its memory extension, and this
 -- project's `get`, `set`, `undef` and nested speculation.
-use Rattle.std.specs.Prelude.{ℕ, zero, suc, ◌+◌, ◌-◌, Bool, true, false, not, ◌&&◌, ◌||◌, ◌==◌, nat_lt, List, [], ◌∷◌, ◌++◌, length, map, Option, Some, None, slice_get, slice_set, slice_index, if◌then◌else◌, ℤ, pos, negsuc}
+use Rattle.std.specs.Prelude.{ℕ, zero, suc, ◌+◌, Bool, true, false, not, ◌&&◌, ◌==◌, nat_lt, List, [], ◌∷◌, ◌++◌, length, map, Option, Some, None, slice_get, slice_index, if◌then◌else◌, ℤ, pos, negsuc}
 use Rattle.std.specs.List.{list_any, sum_by}
 use Rattle.bril_tree.specs.declared.limits.End.{End}
 use Rattle.bril_tree.specs.declared.limits.End.TheVariants.{Ended, Faulted}

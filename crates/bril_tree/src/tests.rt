@@ -2,8 +2,10 @@
 
 use crate::bytes::Bytes;
 use crate::name::{IdentFault, Name};
+use crate::operation::Op;
 use crate::sequence::Seq;
 use crate::text::Text;
+use crate::types::Base;
 use std::test::Fail;
 
 #[test]
@@ -34,6 +36,17 @@ fn identifiers_are_names(rt: HostRuntime) -> Result<(), Fail> {
             Ok(_) => assert!(rt; false, "an identifier"),
             Err(fault) => assert_eq!(rt; fault, IdentFault::NotIdent),
         }
+    }
+    Ok(())
+}
+
+#[test]
+fn operations_have_their_names(rt: HostRuntime) -> Result<(), Fail> {
+    assert_eq!(rt; Op::named("char2int"), Some(Op::CharToInt));
+    assert_eq!(rt; Op::CharToInt.name(), "char2int");
+    assert_eq!(rt; Base::Char.name(), "char");
+    for other in ["const", "fadd", "Add", ""] {
+        assert_eq!(rt; Op::named(other), None);
     }
     Ok(())
 }

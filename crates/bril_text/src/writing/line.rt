@@ -2,9 +2,9 @@
 
 ghost use Rattle.std.specs.Prelude.{◌≡◌, ◌++◌, OnOk, IfSome, codes};
 ghost use Rattle.bril_text.specs.Canonical.{names_text, operands_text, dest_text, item_text};
-ghost use Rattle.bril_text.specs.CanonicalForm.{IsName, AreNames, IsDest, IsItem};
+ghost use Rattle.bril_tree.specs.TreeForm.{IsName, AreNames, IsDest, IsItem};
 
-use crate::writing::word::{operation_name, put_literal, put_typed};
+use crate::writing::word::{put_literal, put_typed};
 use bril_tree::bytes::Bytes;
 use bril_tree::function_tree::{Dest, Item};
 use bril_tree::name::Name;
@@ -93,7 +93,7 @@ pub fn put_item(item: &Item, into: &mut Bytes) -> Result<(), AllocError>
         } => {
             into.add(b"  ")?;
             put_dest(dest, into)?;
-            into.add(operation_name(*op))?;
+            into.add(op.name().as_bytes())?;
             put_operands(args, funcs, labels, into)?;
             into.add(b";\n")
         }

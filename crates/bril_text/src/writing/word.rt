@@ -5,73 +5,15 @@ ghost use Rattle.std.specs.Char.{IsScalar};
 ghost use Rattle.std.specs.Fmt.{signed_decimal};
 ghost use Rattle.std.specs.Int.{w64};
 ghost use Rattle.std.specs.List.{repeat};
-ghost use Rattle.bril_grammar.specs.Keyword.{operation_text, base_text, truth_text};
 ghost use Rattle.bril_text.specs.Canonical.{type_text, literal_text, inner_char_text};
-ghost use Rattle.bril_text.specs.CanonicalForm.{IsName, IsLiteral};
+ghost use Rattle.bril_tree.specs.TreeForm.{IsName, IsLiteral};
 
 use bril_nums::put_int;
 use bril_tree::bytes::Bytes;
 use bril_tree::name::Name;
-use bril_tree::operation::Op;
-use bril_tree::types::{Base, Ty};
+use bril_tree::types::Ty;
 use bril_tree::value::Lit;
 use std::alloc::AllocError;
-
-// How the operation is spelled.
-pub fn operation_name(op: Op) -> &'static [u8]
-    ensures { result.now ≡ operation_text op }
-{
-    match op {
-        Op::Add => b"add",
-        Op::Sub => b"sub",
-        Op::Mul => b"mul",
-        Op::Div => b"div",
-        Op::Eq => b"eq",
-        Op::Lt => b"lt",
-        Op::Gt => b"gt",
-        Op::Le => b"le",
-        Op::Ge => b"ge",
-        Op::Ceq => b"ceq",
-        Op::Clt => b"clt",
-        Op::Cgt => b"cgt",
-        Op::Cle => b"cle",
-        Op::Cge => b"cge",
-        Op::Not => b"not",
-        Op::And => b"and",
-        Op::Or => b"or",
-        Op::Id => b"id",
-        Op::Nop => b"nop",
-        Op::Jmp => b"jmp",
-        Op::Br => b"br",
-        Op::Call => b"call",
-        Op::Ret => b"ret",
-        Op::Print => b"print",
-        Op::Alloc => b"alloc",
-        Op::Free => b"free",
-        Op::Store => b"store",
-        Op::Load => b"load",
-        Op::PtrAdd => b"ptradd",
-        Op::CharToInt => b"char2int",
-        Op::IntToChar => b"int2char",
-        Op::Get => b"get",
-        Op::Set => b"set",
-        Op::Undef => b"undef",
-        Op::Speculate => b"speculate",
-        Op::Commit => b"commit",
-        Op::Guard => b"guard",
-    }
-}
-
-// How the base of a type is spelled.
-fn base_name(base: Base) -> &'static [u8]
-    ensures { result.now ≡ base_text base }
-{
-    match base {
-        Base::Int => b"int",
-        Base::Bool => b"bool",
-        Base::Char => b"char",
-    }
-}
 
 // Appends the piece as many times as `count` says.
 fn put_times(count: u8, piece: &[u8], into: &mut Bytes) -> Result<(), AllocError>
@@ -88,7 +30,7 @@ pub fn put_type(ty: &Ty, into: &mut Bytes) -> Result<(), AllocError>
     ensures { OnOk result (into.new ≡ into.old ++ type_text ty.now) }
 {
     put_times(ty.depth, b"ptr<", into)?;
-    into.add(base_name(ty.base))?;
+    into.add(ty.base.name().as_bytes())?;
     put_times(ty.depth, b">", into)
 }
 

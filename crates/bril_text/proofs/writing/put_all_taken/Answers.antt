@@ -1,7 +1,7 @@
 use Rattle.std.proofs.Common.{◌++◌, codes}
 use Rattle.bril_tree.specs.declared.import.Taken.{Taken}
 use Rattle.bril_text.specs.Canonical.{taken_text}
-use Rattle.bril_text.specs.CanonicalForm.{IsTaken}
+use Rattle.bril_tree.specs.TreeForm.{IsTaken}
 use Rattle.bril_text.proofs.WritingLists.{items_written, items_valid, two_written}
 use Rattle.bril_text.proofs.writing.put_all_taken.Goals as goal
 

@@ -1,7 +1,7 @@
 use Rattle.std.proofs.Common.{◌++◌, codes}
 use Rattle.bril_tree.specs.declared.function_tree.Dest.{Dest}
 use Rattle.bril_text.specs.Canonical.{typed_text}
-use Rattle.bril_text.specs.CanonicalForm.{IsDest}
+use Rattle.bril_tree.specs.TreeForm.{IsDest}
 use Rattle.bril_text.proofs.WritingLists.{items_written, items_valid, two_written}
 use Rattle.bril_text.proofs.writing.put_arg_list.Goals as goal
 

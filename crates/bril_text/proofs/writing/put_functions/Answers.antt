@@ -1,5 +1,5 @@
 use Rattle.bril_text.specs.Canonical.{function_text}
-use Rattle.bril_text.specs.CanonicalForm.{IsFunction}
+use Rattle.bril_tree.specs.TreeForm.{IsFunction}
 use Rattle.bril_text.proofs.WritingLists.{items_written, items_valid, all_valid}
 use Rattle.bril_text.proofs.writing.put_functions.Goals as goal
 

@@ -1,7 +1,7 @@
 use Rattle.std.proofs.Common.{◌≡◌, ◌++◌, take}
 use Rattle.std.specs.List.{flat_map, All}
 use Rattle.bril_text.specs.Canonical.{function_text}
-use Rattle.bril_text.specs.CanonicalForm.{IsFunction}
+use Rattle.bril_tree.specs.TreeForm.{IsFunction}
 use Rattle.bril_text.proofs.writing.put_functions.Given as goal
 
 abbrev pub invariant-loop-function : goal.invariant-loop-function

@@ -1,5 +1,5 @@
 use Rattle.bril_text.specs.Canonical.{import_text}
-use Rattle.bril_text.specs.CanonicalForm.{IsImport}
+use Rattle.bril_tree.specs.TreeForm.{IsImport}
 use Rattle.bril_text.proofs.WritingLists.{items_written, items_valid, all_valid}
 use Rattle.bril_text.proofs.writing.put_imports.Goals as goal
 

@@ -1,7 +1,7 @@
 use Rattle.std.proofs.Common.{◌≡◌, ◌++◌, take}
 use Rattle.std.specs.List.{flat_map, All}
 use Rattle.bril_text.specs.Canonical.{import_text}
-use Rattle.bril_text.specs.CanonicalForm.{IsImport}
+use Rattle.bril_tree.specs.TreeForm.{IsImport}
 use Rattle.bril_text.proofs.writing.put_imports.Given as goal
 
 abbrev pub invariant-loop-import : goal.invariant-loop-import

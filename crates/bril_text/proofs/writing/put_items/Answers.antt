@@ -1,5 +1,5 @@
 use Rattle.bril_text.specs.Canonical.{item_text}
-use Rattle.bril_text.specs.CanonicalForm.{IsItem}
+use Rattle.bril_tree.specs.TreeForm.{IsItem}
 use Rattle.bril_text.proofs.WritingLists.{items_written, items_valid}
 use Rattle.bril_text.proofs.writing.put_items.Goals as goal
 

@@ -2,7 +2,7 @@ use Rattle.std.proofs.Common.{◌≡◌, sym}
 use Rattle.std.proofs.lemmas.List.Elements.{All-same}
 use Rattle.bril_tree.specs.declared.tree.Tree.{Tree}
 use Rattle.bril_text.specs.Canonical.{canonical_text}
-use Rattle.bril_text.specs.CanonicalForm.{IsImport, IsFunction, IsTree}
+use Rattle.bril_tree.specs.TreeForm.{IsImport, IsFunction, IsTree}
 use Rattle.bril_text.specs.Reading.{Spells}
 use Rattle.bril_text.proofs.WritingLists.{on_ok}
 use Rattle.bril_text.proofs.WritingTrees.{canonical_text_spells, canonical_text_spells_alone}

@@ -1,5 +1,5 @@
 use Rattle.std.proofs.Common.{ℕ, List, ◌++◌}
-use Rattle.bril_text.specs.CanonicalForm.{IsName}
+use Rattle.bril_tree.specs.TreeForm.{IsName}
 use Rattle.bril_text.proofs.WritingLists.{items_written, items_valid, two_written}
 use Rattle.bril_text.proofs.writing.line.put_names.Goals as goal
 

@@ -1,6 +1,6 @@
 use Rattle.std.proofs.Common.{◌≡◌, ◌++◌, take}
 use Rattle.bril_text.specs.Canonical.{names_text}
-use Rattle.bril_text.specs.CanonicalForm.{AreNames}
+use Rattle.bril_tree.specs.TreeForm.{AreNames}
 use Rattle.bril_text.proofs.writing.line.put_names.Given as goal
 
 abbrev pub invariant-loop-name : goal.invariant-loop-name
