@@ -1,0 +1,28 @@
+-- The scalar values of a text.
+use Rattle.std.proofs.Common.{◌≡◌, ℕ, ◌<◌, List, [], ◌∷◌, ◌++◌, length, Ok, Err, refl, sym, ap, ◌∙◌, arith}
+use Rattle.std.specs.Prelude.{IsUtf8, encode_utf8, encode_utf8_all}
+use Rattle.std.specs.Str.{chars}
+use Rattle.std.proofs.lemmas.Str.{chars-nil, chars_past_char, encodes-chars}
+use Rattle.bril_tree.specs.declared.value.Lit.TheVariants.{Char}
+use Rattle.bril_json.specs.Form.{char_of}
+use Rattle.bril_json.specs.declared.fault.JsonFault.TheVariants.{Shape}
+use Rattle.bril_json.specs.declared.place.Place.{Place}
+
+-- an empty text
+pub no_char : (place : Place) (text : List ℕ) → length text ≡ 0 → char_of place (chars text) ≡ Err (Shape place.func place.item)
+no_char place [] e = ap (char_of place) chars-nil
+no_char place (b ∷ bs) e = absurd (omega arith)
+
+-- a text of one scalar value
+pub one_char : (place : Place) (text rest : List ℕ) (c : ℕ) → IsUtf8 text → text ≡ encode_utf8 c ++ rest → length rest ≡ 0 → char_of place (chars text) ≡ Ok (Char c)
+one_char place text [] c utf8 is e = ap (char_of place) (chars_past_char text [] c utf8 is ∙ ap (λ cs. c ∷ cs) chars-nil)
+one_char place text (b ∷ bs) c utf8 is e = absurd (omega arith)
+
+-- a text of several scalar values
+pub more_chars : (place : Place) (text rest : List ℕ) (c : ℕ) → IsUtf8 text → text ≡ encode_utf8 c ++ rest → IsUtf8 rest → 0 < length rest →
+    char_of place (chars text) ≡ Err (Shape place.func place.item)
+more_chars place text rest c utf8 is rest_utf8 some = ap (char_of place) (chars_past_char text rest c utf8 is) ∙ by (chars rest) refl
+  where
+    by : (cs : List ℕ) → chars rest ≡ cs → char_of place (c ∷ cs) ≡ Err (Shape place.func place.item)
+    by [] none = let empty : length rest ≡ 0 = ap length (sym (encodes-chars rest rest_utf8) ∙ ap encode_utf8_all none) in absurd (omega arith)
+    by (d ∷ ds) none = refl

@@ -1,0 +1,13 @@
+pub mod CanonicalJson
+pub mod Chars
+pub mod Each
+pub mod Equal
+pub mod Identifiers
+pub mod Importing
+pub mod Lists
+pub mod Plain
+pub mod PlainTrees
+pub mod Pointers
+pub mod ReadBack
+pub mod Sound
+pub mod Sources

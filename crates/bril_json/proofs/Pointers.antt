@@ -1,0 +1,42 @@
+-- Reading a type, one `ptr` after another.
+use Rattle.std.proofs.Common.{◌≡◌, ℕ, zero, suc, ◌-◌, ◌<◌, List, Option, Some, None, Result, Err, refl, ap, ◌∙◌, arith}
+use Rattle.std.specs.Prelude.{codes}
+use Rattle.serde_json.specs.Data.{Data}
+use Rattle.serde_json.specs.Find.{get, as_str}
+use Rattle.bril_tree.specs.declared.types.Ty.{Ty}
+use Rattle.bril_json.specs.Form.{base_of, type_parts, type_within}
+use Rattle.bril_json.specs.declared.fault.JsonFault.{JsonFault}
+use Rattle.bril_json.specs.declared.fault.JsonFault.TheVariants.{Shape, Deep}
+use Rattle.bril_json.specs.declared.place.Place.{Place}
+
+parts-are : (place : Place) (left : ℕ) (inner : Data → Result Ty JsonFault) (t u : Option (List ℕ)) (p q : Option Data) → t ≡ u → p ≡ q →
+    type_parts place left inner t p ≡ type_parts place left inner u q
+parts-are place left inner t u p q e f = ap (λ x. type_parts place left inner x p) e ∙ ap (type_parts place left inner u) f
+
+-- a text
+pub at_text : (place : Place) (left : ℕ) (d : Data) (text : List ℕ) → as_str d ≡ Some text → type_within place left d ≡ base_of place left text
+unfolding type_within
+at_text place zero d text e = parts-are place zero _ _ _ _ _ e refl
+at_text place (suc left) d text e = parts-are place (suc left) _ _ _ _ _ e refl
+
+-- neither a text nor a `ptr`
+pub at_none : (place : Place) (left : ℕ) (d : Data) → as_str d ≡ None → get (codes "ptr") d ≡ None → type_within place left d ≡ Err (Shape place.func place.item)
+unfolding type_within
+at_none place zero d e f = parts-are place zero _ _ _ _ _ e f
+at_none place (suc left) d e f = parts-are place (suc left) _ _ _ _ _ e f
+
+-- a `ptr` where none is left
+pub at_last : (place : Place) (left : ℕ) (d pointed : Data) → as_str d ≡ None → get (codes "ptr") d ≡ Some pointed → left ≡ 0 →
+    type_within place left d ≡ Err (Deep place.func place.item)
+unfolding type_within
+at_last place zero d pointed e f none = parts-are place zero _ _ _ _ _ e f
+at_last place (suc left) d pointed e f none = absurd (omega arith)
+
+-- a `ptr` where some are left
+pub at_pointer : (place : Place) (left : ℕ) (d pointed : Data) → as_str d ≡ None → get (codes "ptr") d ≡ Some pointed → 0 < left →
+    type_within place left d ≡ type_within place (left - 1) pointed
+unfolding type_within
+at_pointer place zero d pointed e f some = absurd (omega arith)
+at_pointer place (suc left) d pointed e f some =
+    let one : left ≡ suc left - 1 = omega arith in
+    parts-are place (suc left) _ _ _ _ _ e f ∙ ap (λ n. type_within place n pointed) one

@@ -1,0 +1,4 @@
+use Rattle.bril_json.proofs.types.+type_within.Given as goal
+
+abbrev pub decreases-type_within : goal.decreases-type_within
+decreases-type_within l = l.left
