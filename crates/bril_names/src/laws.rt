@@ -1,0 +1,16 @@
+// Laws of numbering. Each function states some, and does nothing when it is called.
+
+ghost use Rattle.bril_names.specs.Laws.{TreesHaveOneProgram, ProgramsHaveOneTree, TreesHaveOneFault, NumberedHaveNoFault, EachHasProgramOrFault};
+
+/// A tree has one numbered program at most, and a program is the numbering of one tree at most.
+pub fn numbering_is_one_to_one()
+    ensures program { TreesHaveOneProgram }
+    ensures tree { ProgramsHaveOneTree }
+{}
+
+/// A tree without imports has a numbered program or exactly one fault, and never both.
+pub fn program_or_fault()
+    ensures one { TreesHaveOneFault }
+    ensures never_both { NumberedHaveNoFault }
+    ensures either { EachHasProgramOrFault }
+{}
