@@ -13,7 +13,7 @@ use Rattle.bril_tree.specs.declared.value.Lit.TheVariants as literal
 use Rattle.bril_tree.specs.FunctionForm.{variables_of}
 use Rattle.bril_cli.specs.Carries.{frame_words, variables_in}
 use Rattle.bril_cli.specs.Emitted.{item_words, code_words, program_words, word_bound, bound_of_function, bound_sum}
-use Rattle.bril_cli.specs.Straight.{IsStraight}
+use Rattle.bril_cli.specs.Straight.{IsStraightCode}
 use Rattle.bril_cli.proofs.Relation.{known_below}
 
 AllByRecursion-front : (P : ℕ → Type 0) (xs ys : List ℕ) → AllByRecursion P (xs ++ ys) → AllByRecursion P xs
@@ -35,7 +35,7 @@ weaker m n le [] h = tt
 weaker m n le (x ∷ xs) h = (omega (arith, h.0), weaker m n le xs h.1)
 
 -- the variables of a program whose frame is small
-pub variables_small : (p : Prog) (f : Func) → IsStraight p → p.funcs ≡ f ∷ [] → frame_words p ≤ 8388608 → AllByRecursion (λ x. x < 8388608) (flat_map variables_of f.code)
+pub variables_small : (p : Prog) (f : Func) → IsStraightCode p → p.funcs ≡ f ∷ [] → frame_words p ≤ 8388608 → AllByRecursion (λ x. x < 8388608) (flat_map variables_of f.code)
 variables_small p f straight alone small =
     let frame : frame_words p ≡ 2 + length f.vars = ap (λ fs. 2 + length (variables_in fs)) alone in
     weaker (length f.vars) 8388608 (omega arith) _ (known_below f.args _ (length f.vars) f.formed.appear)
@@ -74,7 +74,7 @@ code_length code =
     omega arith
 
 -- no image has more words than the sum of the bounds
-pub words_bounded : (p : Prog) → IsStraight p → length (program_words p.funcs) ≤ bound_sum p
+pub words_bounded : (p : Prog) → IsStraightCode p → length (program_words p.funcs) ≤ bound_sum p
 words_bounded p straight =
     let f = straight.function in
     let words : length (program_words p.funcs) ≡ length (code_words f.code) = ap (λ fs. length (program_words fs)) straight.alone in

@@ -1,262 +1,28 @@
--- What an action that was asked for answers.
+-- When each status comes.
 use Rattle.std.proofs.Common.{◌≡◌, ℕ, ◌<◌, ◌≤◌, ◌⊎◌, true, false, List, [], length, Option, Some, None, refl, sym, ap, ◌∙◌, subst, arith, inl, inr, ⊎_elim, true≢false}
+use Rattle.std.specs.Prelude.{◌≢◌}
 use Rattle.bril_tree.specs.declared.program.Prog.{Prog}
 use Rattle.bril_tree.specs.declared.tree.Tree.{Tree}
 use Rattle.bril_tree.specs.Numbered.{Numbered}
 use Rattle.bril_outside.specs.Files.{FileMap, FilesSeen, MayHold, MayFail, LacksFile}
 use Rattle.bril_outside.specs.Sink.{SinkSeen, Rose, TookAll}
+use Rattle.bril_names.specs.declared.fault.NameFault.{NameFault}
 use Rattle.bril_text.specs.Canonical.{canonical_text}
-use Rattle.bril_text.specs.Reading.{Spells, HasFault}
-use Rattle.bril_text.specs.declared.fault.TextFault.{TextFault}
 use Rattle.bril_cli.specs.declared.action.Action.{Action}
-use Rattle.bril_cli.specs.declared.action.Action.TheVariants.{Run, WriteText}
+use Rattle.bril_cli.specs.declared.action.Action.TheVariants.{Run, WriteText, WriteJson}
+use Rattle.bril_cli.specs.declared.source.Format.{Format}
+use Rattle.bril_cli.specs.declared.source.SourceFault.{SourceFault}
 use Rattle.bril_cli.specs.declared.status.Status.{Status}
 use Rattle.bril_cli.specs.declared.status.Status.TheVariants as status
-use Rattle.bril_cli.specs.Answers.{Call, Says, Answers, ReadsWell, AsksNone, AsksJson, Prints, UnlessMemory, code_line, stack_line, misread_line}
-use Rattle.bril_cli.specs.Carries.{frame_words}
-use Rattle.bril_cli.specs.CommandLine.{Asked, asked_of, is_json}
-use Rattle.bril_cli.specs.Emitted.{bound_sum}
-use Rattle.bril_cli.specs.Refusal.{PassesCode, PassesStack}
-use Rattle.bril_cli.specs.Source.{most_bytes, HoldsFile, IsFile, IsSource, IsFormless, IsOnlyTree, IsOnlyFault, IsOnlySource, IsWithin, EndsPrinting, Runs, WritesText}
-use Rattle.bril_cli.specs.StraightTree.{is_straight_tree}
-use Rattle.bril_cli.specs.Works.{status_number, SaysStatus, RefusesFile, RefusesTree, RunsTree, PutsText, DoesTree, DoesFile, RefusesJson, FailsToRead, FindsNoTree, DealsWithTree, IsProgramOf, IsLongFile}
-use Rattle.bril_cli.proofs.Numberings.{same_numbering}
+use Rattle.bril_cli.specs.Answers.{Call, Says, ReadsWell, AsksNone, Prints, UnlessMemory, form_line, misread_line, misnamed_line}
+use Rattle.bril_cli.specs.CommandLine.{Asked, asked_of, format_of}
+use Rattle.bril_cli.specs.Source.{most_bytes, json_line, HoldsFile, ReadsAs, HasFault, HasNameFault, HasImports, IsFormless, IsOnlyTree, IsOnlyFault, IsSource, IsWithin}
+use Rattle.bril_cli.specs.Straight.{is_straight}
+use Rattle.bril_cli.specs.Works.{status_number, SaysStatus, RefusesFile, RefusesTree, RefusesNames, IsOnlyNameFault, IsOnlyProgram, RunsProgram, RunsTree, PutsText, DoesTree, IsLongFile}
+use Rattle.bril_cli.proofs.Statuses.{Ends, Numbered-source, has_in}
 
--- the bytes spell the tree alone, and the program is its numbering: they spell no other program
-pub IsOnlySource-of : (bytes : List ℕ) (tree : Tree) (p : Prog) → IsOnlyTree bytes tree → IsProgramOf tree p → IsOnlySource bytes p
-IsOnlySource-of bytes tree p only program = record {
-  source = record { tree = tree; spelled = only.spelled; straight = program.straight; numbered = program.numbered };
-  only = λ q source. let P : Tree → Type 0 = λ t. Numbered t q in
-      same_numbering tree p q program.straight program.numbered (subst P (sym (only.alone source.tree source.spelled)) source.numbered);
-}
+-- ---- what the words ask for is one
 
--- The words of a call ask for the action and the path, the status is what doing it answered, and it was said.
-pub record Ends (c : Call) (action : Action) (path : List ℕ) (how : Status) : Type 0 where
-  pub asked : asked_of c.words ≡ Some (action, path)
-  pub does : DoesFile action how c.files_before c.files_after path c.out_before c.out_after
-  pub says : SaysStatus how path c.err_before c.err_after
-
-module _ (c : Call) (action : Action) (path : List ℕ) (asked : asked_of c.words ≡ Some (action, path)) where
-  -- ---- what each status says
-
-  Answers-json : (how : Status) → SaysStatus how path c.err_before c.err_after → RefusesJson how c.files_before c.files_after path c.out_before c.out_after → Answers (status_number how) c
-  Answers-json how says refuses = subst (λ (h : Status). Answers (status_number h) c) (sym refuses.is) (record {
-    action = action;
-    path = path;
-    asked = asked;
-    because = inl (record {
-      json = refuses.json;
-      unread = refuses.unread;
-      alone = record { silent = refuses.silent; says = subst (λ (h : Status). SaysStatus h path c.err_before c.err_after) refuses.is says };
-    });
-  })
-
-  Answers-read : (how : Status) → SaysStatus how path c.err_before c.err_after → FailsToRead how c.files_before c.files_after path c.out_before c.out_after → Answers (status_number how) c
-  Answers-read status.Unread says fails = record {
-    action = action;
-    path = path;
-    asked = asked;
-    no_json = fails.no_json;
-    fails = fails.refuses;
-    alone = record { silent = fails.silent; says = says };
-  }
-  Answers-read status.FileTooBig says fails = record {
-    action = action;
-    path = path;
-    asked = asked;
-    no_json = fails.no_json;
-    passes = inl (record { bytes = fails.refuses.bytes; held = fails.refuses.held; long = fails.refuses.long; alone = record { silent = fails.silent; says = says } });
-  }
-  Answers-read status.OutOfMemory says fails = record {
-    action = action;
-    path = path;
-    asked = asked;
-    no_json = fails.no_json;
-    alone = record { silent = fails.silent; says = says };
-  }
-  Answers-read status.Done says fails = absurd fails.refuses
-  Answers-read status.Unformed says fails = absurd fails.refuses
-  Answers-read (status.Misread fault) says fails = absurd fails.refuses
-  Answers-read (status.CodeTooBig words) says fails = absurd fails.refuses
-  Answers-read (status.StackTooBig words) says fails = absurd fails.refuses
-  Answers-read status.Unwritten says fails = absurd fails.refuses
-
-  Answers-none : (how : Status) → SaysStatus how path c.err_before c.err_after → FindsNoTree how c.files_before path c.out_before c.out_after → Answers (status_number how) c
-  Answers-none (status.Misread fault) says finds = record {
-    action = action;
-    path = path;
-    asked = asked;
-    because = inr (inr (record {
-      no_json = finds.no_json;
-      bytes = finds.bytes;
-      file = finds.file;
-      fault = fault;
-      only = finds.refuses;
-      alone = record { silent = finds.silent; says = says };
-    }));
-  }
-  Answers-none status.OutOfMemory says finds = record {
-    action = action;
-    path = path;
-    asked = asked;
-    no_json = finds.no_json;
-    alone = record { silent = finds.silent; says = says };
-  }
-  Answers-none status.Done says finds = absurd finds.refuses
-  Answers-none status.Unformed says finds = absurd finds.refuses
-  Answers-none status.Unread says finds = absurd finds.refuses
-  Answers-none status.FileTooBig says finds = absurd finds.refuses
-  Answers-none (status.CodeTooBig words) says finds = absurd finds.refuses
-  Answers-none (status.StackTooBig words) says finds = absurd finds.refuses
-  Answers-none status.Unwritten says finds = absurd finds.refuses
-
-module _ (c : Call) (path : List ℕ) (asked : asked_of c.words ≡ Some (Run, path)) (no_json : is_json path ≡ false) (bytes : List ℕ) (file : IsFile c.files_before path bytes) (tree : Tree) (only : IsOnlyTree bytes tree) where
-  runs_file : (p : Prog) → IsProgramOf tree p → IsWithin p → (output : List ℕ) → EndsPrinting p output → Runs c.files_before path output
-  runs_file p program within output prints = record {
-    bytes = bytes;
-    file = file;
-    program = p;
-    source = IsOnlySource-of bytes tree p only program;
-    within = within;
-    prints = prints;
-  }
-
-  Answers-run : (how : Status) → SaysStatus how path c.err_before c.err_after → RunsTree how tree c.out_before c.out_after → Answers (status_number how) c
-  Answers-run status.Done says runs = record {
-    action = Run;
-    path = path;
-    asked = asked;
-    no_json = no_json;
-    output = runs.2.1.output;
-    produces = runs_file runs.0 runs.1 runs.2.0 runs.2.1.output runs.2.1.prints;
-    took = runs.2.1.took;
-    quiet = says;
-  }
-  Answers-run status.Unformed says runs = record {
-    action = Run;
-    path = path;
-    asked = asked;
-    because = inr (inl (record {
-      no_json = no_json;
-      runs = refl;
-      bytes = bytes;
-      file = file;
-      formless = record { tree = tree; spelled = only.spelled; unstraight = runs.0 };
-      alone = record { silent = runs.1; says = says };
-    }));
-  }
-  Answers-run (status.CodeTooBig words) says runs = record {
-    action = Run;
-    path = path;
-    asked = asked;
-    no_json = no_json;
-    passes = inr (
-      refl,
-      inl (record {
-        bytes = bytes;
-        file = file;
-        program = runs.0;
-        source = IsOnlySource-of bytes tree runs.0 only runs.1;
-        long = runs.2.0.0;
-        alone = record { silent = runs.2.1; says = subst (λ n. Says c.err_before (code_line n) c.err_after) runs.2.0.1 says };
-      }),
-    );
-  }
-  Answers-run (status.StackTooBig words) says runs = record {
-    action = Run;
-    path = path;
-    asked = asked;
-    no_json = no_json;
-    passes = inr (
-      refl,
-      inr (record {
-        bytes = bytes;
-        file = file;
-        program = runs.0;
-        source = IsOnlySource-of bytes tree runs.0 only runs.1;
-        short_code = runs.2.0.0;
-        long = runs.2.0.1;
-        alone = record { silent = runs.2.1; says = subst (λ n. Says c.err_before (stack_line n) c.err_after) runs.2.0.2 says };
-      }),
-    );
-  }
-  Answers-run status.OutOfMemory says runs = record {
-    action = Run;
-    path = path;
-    asked = asked;
-    no_json = no_json;
-    alone = record { silent = runs; says = says };
-  }
-  Answers-run status.Unwritten says runs = record {
-    action = Run;
-    path = path;
-    asked = asked;
-    no_json = no_json;
-    output = runs.2.1.output;
-    produces = runs_file runs.0 runs.1 runs.2.0 runs.2.1.output runs.2.1.prints;
-    took = runs.2.1.took;
-    rose = runs.2.1.rose;
-    says = says;
-  }
-  Answers-run status.Unread says runs = absurd runs
-  Answers-run status.FileTooBig says runs = absurd runs
-  Answers-run (status.Misread fault) says runs = absurd runs
-
-module _ (c : Call) (path : List ℕ) (asked : asked_of c.words ≡ Some (WriteText, path)) (no_json : is_json path ≡ false) (bytes : List ℕ) (file : IsFile c.files_before path bytes) (tree : Tree) (only : IsOnlyTree bytes tree) where
-  writes_file : WritesText c.files_before path (canonical_text tree)
-  writes_file = record { bytes = bytes; file = file; tree = tree; spelled = only.spelled; text = refl }
-
-  Answers-text : (how : Status) → SaysStatus how path c.err_before c.err_after → PutsText how (canonical_text tree) c.out_before c.out_after → Answers (status_number how) c
-  Answers-text status.Done says puts = record {
-    action = WriteText;
-    path = path;
-    asked = asked;
-    no_json = no_json;
-    output = canonical_text tree;
-    produces = writes_file;
-    took = puts;
-    quiet = says;
-  }
-  Answers-text status.OutOfMemory says puts = record {
-    action = WriteText;
-    path = path;
-    asked = asked;
-    no_json = no_json;
-    alone = record { silent = puts; says = says };
-  }
-  Answers-text status.Unwritten says puts = record {
-    action = WriteText;
-    path = path;
-    asked = asked;
-    no_json = no_json;
-    output = canonical_text tree;
-    produces = writes_file;
-    took = puts.0;
-    rose = puts.1;
-    says = says;
-  }
-  Answers-text status.Unformed says puts = absurd puts
-  Answers-text status.Unread says puts = absurd puts
-  Answers-text status.FileTooBig says puts = absurd puts
-  Answers-text (status.Misread fault) says puts = absurd puts
-  Answers-text (status.CodeTooBig words) says puts = absurd puts
-  Answers-text (status.StackTooBig words) says puts = absurd puts
-
-Answers-tree : (c : Call) (action : Action) (path : List ℕ) (how : Status) → asked_of c.words ≡ Some (action, path) → SaysStatus how path c.err_before c.err_after → DealsWithTree action how c.files_before path c.out_before c.out_after → Answers (status_number how) c
-Answers-tree c Run path how asked says deals = Answers-run c path asked deals.no_json deals.bytes deals.file deals.tree deals.only how says deals.does
-Answers-tree c WriteText path how asked says deals = Answers-text c path asked deals.no_json deals.bytes deals.file deals.tree deals.only how says deals.does
-
--- what each status says
-pub Answers-of : (c : Call) (action : Action) (path : List ℕ) (how : Status) → Ends c action path how → Answers (status_number how) c
-Answers-of c action path how ends =
-    ⊎_elim (Answers-json c action path ends.asked how ends.says)
-    (⊎_elim (Answers-read c action path ends.asked how ends.says)
-    (⊎_elim (Answers-none c action path ends.asked how ends.says) (Answers-tree c action path how ends.asked ends.says)))
-    ends.does
-
--- ---- when each status comes
-
--- what the words ask for is one
 action_in : Option Asked → Action
 action_in None = Run
 action_in (Some asked) = asked.0
@@ -273,7 +39,8 @@ asked_action : (c : Call) (a b : Action) (p q : List ℕ) → asked_of c.words �
 unfolding action_in
 asked_action c a b p q e f = ap action_in (sym f ∙ e)
 
--- where the files tell the bytes, what they may hold is these
+-- ---- where the files tell the bytes, what they may hold is these
+
 held_told : (holds : Option FileMap) (path bytes other : List ℕ) → HoldsFile holds path bytes → MayHold holds path other → other ≡ bytes
 held_told None path bytes other told held = absurd told
 held_told (Some map) path bytes other told held = let e : Some other ≡ Some bytes = sym held ∙ told in cc
@@ -286,6 +53,8 @@ held_not_lacking : (holds : Option FileMap) (path bytes : List ℕ) → MayHold 
 held_not_lacking None path bytes held lacks = absurd lacks
 held_not_lacking (Some map) path bytes held lacks = let e : Some bytes ≡ None = sym held ∙ lacks in cc
 
+-- ---- the causes of a refusal
+
 -- a fault of reading, and a file that is too long, are the only causes of no bytes but want of memory
 read_fails : (how : Status) (f g : FilesSeen) (path : List ℕ) → RefusesFile how f g path
     → (how ≡ status.OutOfMemory) ⊎ (((how ≡ status.Unread) × MayFail f g path) ⊎ ((how ≡ status.FileTooBig) × IsLongFile f path))
@@ -295,21 +64,36 @@ read_fails status.OutOfMemory f g path refuses = inl refl
 read_fails status.Done f g path refuses = absurd refuses
 read_fails status.Unformed f g path refuses = absurd refuses
 read_fails (status.Misread fault) f g path refuses = absurd refuses
+read_fails (status.Misnamed fault) f g path refuses = absurd refuses
 read_fails (status.CodeTooBig words) f g path refuses = absurd refuses
 read_fails (status.StackTooBig words) f g path refuses = absurd refuses
 read_fails status.Unwritten f g path refuses = absurd refuses
 
--- a fault of the text is the only cause of no tree but want of memory
-no_tree : (how : Status) (bytes : List ℕ) → RefusesTree how bytes → (how ≡ status.OutOfMemory) ⊎ ((fault : TextFault) × (how ≡ status.Misread fault) × IsOnlyFault bytes fault)
-no_tree (status.Misread fault) bytes refuses = inr (fault, refl, refuses)
-no_tree status.OutOfMemory bytes refuses = inl refl
-no_tree status.Done bytes refuses = absurd refuses
-no_tree status.Unformed bytes refuses = absurd refuses
-no_tree status.Unread bytes refuses = absurd refuses
-no_tree status.FileTooBig bytes refuses = absurd refuses
-no_tree (status.CodeTooBig words) bytes refuses = absurd refuses
-no_tree (status.StackTooBig words) bytes refuses = absurd refuses
-no_tree status.Unwritten bytes refuses = absurd refuses
+-- a fault of the bytes is the only cause of no tree but want of memory
+no_tree : (how : Status) (format : Format) (bytes : List ℕ) → RefusesTree how format bytes → (how ≡ status.OutOfMemory) ⊎ ((fault : SourceFault) × (how ≡ status.Misread fault) × IsOnlyFault format bytes fault)
+no_tree (status.Misread fault) format bytes refuses = inr (fault, refl, refuses)
+no_tree status.OutOfMemory format bytes refuses = inl refl
+no_tree status.Done format bytes refuses = absurd refuses
+no_tree status.Unformed format bytes refuses = absurd refuses
+no_tree (status.Misnamed fault) format bytes refuses = absurd refuses
+no_tree status.Unread format bytes refuses = absurd refuses
+no_tree status.FileTooBig format bytes refuses = absurd refuses
+no_tree (status.CodeTooBig words) format bytes refuses = absurd refuses
+no_tree (status.StackTooBig words) format bytes refuses = absurd refuses
+no_tree status.Unwritten format bytes refuses = absurd refuses
+
+-- a fault of a name is the only cause of no program but want of memory
+no_program : (how : Status) (tree : Tree) → RefusesNames how tree → (how ≡ status.OutOfMemory) ⊎ ((fault : NameFault) × (how ≡ status.Misnamed fault) × IsOnlyNameFault tree fault)
+no_program (status.Misnamed fault) tree refuses = inr (fault, refl, refuses)
+no_program status.OutOfMemory tree refuses = inl refl
+no_program status.Done tree refuses = absurd refuses
+no_program status.Unformed tree refuses = absurd refuses
+no_program (status.Misread fault) tree refuses = absurd refuses
+no_program status.Unread tree refuses = absurd refuses
+no_program status.FileTooBig tree refuses = absurd refuses
+no_program (status.CodeTooBig words) tree refuses = absurd refuses
+no_program (status.StackTooBig words) tree refuses = absurd refuses
+no_program status.Unwritten tree refuses = absurd refuses
 
 exhausted : (how : Status) (A : Type 0) → how ≡ status.OutOfMemory → UnlessMemory (status_number how) A
 exhausted how A e = inl (ap status_number e)
@@ -325,84 +109,63 @@ module _ (c : Call) (action : Action) (path : List ℕ) (how : Status) (ends : E
   told : HoldsFile c.files_before.holds path bytes
   told = subst (λ p. HoldsFile c.files_before.holds p bytes) same_path reads.told
 
-  no_json : is_json path ≡ false
-  no_json = ap is_json (sym same_path) ∙ reads.no_json
-
   these : (other : List ℕ) → MayHold c.files_before.holds path other → other ≡ bytes
   these other held = held_told c.files_before.holds path bytes other told held
 
   by_cases : (A : Type 0) → (how ≡ status.OutOfMemory → A) → (how ≡ status.FileTooBig → most_bytes < length bytes → A)
-      → ((fault : TextFault) → how ≡ status.Misread fault → IsOnlyFault bytes fault → length bytes ≤ most_bytes → A)
-      → ((tree : Tree) → IsOnlyTree bytes tree → DoesTree asks how tree c.out_before c.out_after → length bytes ≤ most_bytes → A) → A
+      → ((fault : SourceFault) → how ≡ status.Misread fault → IsOnlyFault (format_of path) bytes fault → length bytes ≤ most_bytes → A)
+      → ((tree : Tree) → IsOnlyTree (format_of path) bytes tree → DoesTree asks how tree c.out_before c.out_after → length bytes ≤ most_bytes → A) → A
   by_cases A memory long misread dealt =
-      ⊎_elim (λ json. absurd (true≢false (sym json.json ∙ no_json)))
-      (⊎_elim (λ fails. ⊎_elim memory (⊎_elim (λ may. absurd (⊎_elim reads.sound (told_not_lacking c.files_before.holds path bytes told) may.1)) (λ l. long l.0 (subst (λ b. most_bytes < length b) (these l.1.bytes l.1.held) l.1.long))) (read_fails how _ _ path fails.refuses))
-      (⊎_elim (λ finds. ⊎_elim memory (λ m. misread m.0 m.1 (subst (λ b. IsOnlyFault b m.0) (these finds.bytes finds.file.held) m.2) (subst (λ b. length b ≤ most_bytes) (these finds.bytes finds.file.held) finds.file.short)) (no_tree how finds.bytes finds.refuses))
-      (λ deals. dealt deals.tree (subst (λ b. IsOnlyTree b deals.tree) (these deals.bytes deals.file.held) deals.only)
+      ⊎_elim (λ fails. ⊎_elim memory (⊎_elim (λ may. absurd (⊎_elim reads.sound (told_not_lacking c.files_before.holds path bytes told) may.1)) (λ l. long l.0 (subst (λ b. most_bytes < length b) (these l.1.bytes l.1.held) l.1.long))) (read_fails how _ _ path fails.refuses))
+      (⊎_elim (λ finds. ⊎_elim memory (λ m. misread m.0 m.1 (subst (λ b. IsOnlyFault (format_of path) b m.0) (these finds.bytes finds.file.held) m.2) (subst (λ b. length b ≤ most_bytes) (these finds.bytes finds.file.held) finds.file.short)) (no_tree how (format_of path) finds.bytes finds.refuses))
+      (λ deals. dealt deals.tree (subst (λ b. IsOnlyTree (format_of path) b deals.tree) (these deals.bytes deals.file.held) deals.only)
       (subst (λ a. DoesTree a how deals.tree c.out_before c.out_after) (sym same_action) deals.does)
-      (subst (λ b. length b ≤ most_bytes) (these deals.bytes deals.file.held) deals.file.short))))
+      (subst (λ b. length b ≤ most_bytes) (these deals.bytes deals.file.held) deals.file.short)))
       ends.does
 
--- a tree has one program
-one_program : (tree : Tree) (p q : Prog) → IsProgramOf tree p → IsProgramOf tree q → p ≡ q
-one_program tree p q a b = same_numbering tree q p b.straight b.numbered a.numbered
+  -- the line of a status is put, for the path that the words ask for
+  said : (end : Status) → how ≡ end → SaysStatus end path c.err_before c.err_after
+  said end e = subst (λ (h : Status). SaysStatus h path c.err_before c.err_after) e ends.says
 
-IsProgramOf-source : (bytes : List ℕ) (tree : Tree) (p : Prog) → IsOnlyTree bytes tree → IsSource bytes p → IsProgramOf tree p
-IsProgramOf-source bytes tree p only source = record {
-  straight = subst (λ t. is_straight_tree t ≡ true) (sym (only.alone source.tree source.spelled)) source.straight;
-  numbered = let P : Tree → Type 0 = λ t. Numbered t p in subst P (sym (only.alone source.tree source.spelled)) source.numbered;
-}
+-- From running a tree: it has imports, or memory was wanting, or it has a fault of a name, or its program isn't straight, or its program ran.
+module _ (how : Status) (tree : Tree) (s t : SinkSeen) (runs : RunsTree how tree s t) where
+  by_names : (A : Type 0) → (how ≡ status.OutOfMemory → A) → (tree.imports ≢ [] → how ≡ status.Unformed → A)
+      → (tree.imports ≡ [] → (fault : NameFault) → how ≡ status.Misnamed fault → IsOnlyNameFault tree fault → A)
+      → ((p : Prog) → IsOnlyProgram tree p → is_straight p ≡ false → how ≡ status.Unformed → A)
+      → ((p : Prog) → IsOnlyProgram tree p → is_straight p ≡ true → RunsProgram how p s t → A) → A
+  by_names A memory imports misnamed crooked goes =
+      ⊎_elim (λ form. imports form.0 form.1)
+      (λ named. ⊎_elim (λ refuses. ⊎_elim memory (λ m. misnamed named.0 m.0 m.1 m.2) (no_program how tree refuses.0))
+      (λ program. ⊎_elim (λ form. crooked program.0 program.1 form.0 form.1) (λ run. goes program.0 program.1 run.0 run.1) program.2)
+      named.1)
+      runs
 
-module _ (tree : Tree) (p : Prog) (program : IsProgramOf tree p) where
-  not_code : (q : Prog) → IsProgramOf tree q → IsWithin p → PassesCode q → ⊥
-  not_code q other within long = let w = within.code in let e = ap bound_sum (one_program tree p q program other) in absurd (omega arith)
+-- a program that is within the bounds runs to its end
+runs_within : (c : Call) (p : Prog) (how : Status) → RunsProgram how p c.out_before c.out_after → IsWithin p → ¬ Rose c.out_before.faults c.out_after.faults
+    → UnlessMemory (status_number how) ((status_number how ≡ 0) × Prints c p)
+runs_within c p status.Done runs within sound = inr (refl, record { output = runs.1.output; prints = runs.1.prints; took = runs.1.took })
+runs_within c p status.Unformed runs within sound = absurd runs
+runs_within c p (status.Misread fault) runs within sound = absurd runs
+runs_within c p (status.Misnamed fault) runs within sound = absurd runs
+runs_within c p status.Unread runs within sound = absurd runs
+runs_within c p status.FileTooBig runs within sound = absurd runs
+runs_within c p (status.CodeTooBig words) runs within sound = let w = within.code in let long = runs.0.0 in absurd (omega arith)
+runs_within c p (status.StackTooBig words) runs within sound = let w = within.stack in let long = runs.0.1 in absurd (omega arith)
+runs_within c p status.OutOfMemory runs within sound = inl refl
+runs_within c p status.Unwritten runs within sound = absurd (sound runs.1.rose)
 
-  not_stack : (q : Prog) → IsProgramOf tree q → IsWithin p → PassesStack 8192 q → ⊥
-  not_stack q other within long = let w = within.stack in let e = ap frame_words (one_program tree p q program other) in absurd (omega arith)
-
-  -- a program that is within the bounds runs
-  runs_tree : (c : Call) (how : Status) → RunsTree how tree c.out_before c.out_after → IsWithin p → ¬ Rose c.out_before.faults c.out_after.faults
-      → UnlessMemory (status_number how) ((status_number how ≡ 0) × Prints c p)
-  runs_tree c status.Done runs within sound = inr (
-    refl,
-    record {
-      output = runs.2.1.output;
-      prints = subst (λ q. EndsPrinting q runs.2.1.output) (one_program tree runs.0 p runs.1 program) runs.2.1.prints;
-      took = runs.2.1.took;
-    },
-  )
-  runs_tree c status.Unformed runs within sound = absurd (true≢false (sym program.straight ∙ runs.0))
-  runs_tree c (status.Misread fault) runs within sound = absurd runs
-  runs_tree c status.Unread runs within sound = absurd runs
-  runs_tree c status.FileTooBig runs within sound = absurd runs
-  runs_tree c (status.CodeTooBig words) runs within sound = absurd (not_code runs.0 runs.1 within runs.2.0.0)
-  runs_tree c (status.StackTooBig words) runs within sound = absurd (not_stack runs.0 runs.1 within runs.2.0.1)
-  runs_tree c status.OutOfMemory runs within sound = inl refl
-  runs_tree c status.Unwritten runs within sound = absurd (sound runs.2.1.rose)
-
-  -- a program that isn't is refused
-  refuses_tree : (how : Status) (s t : SinkSeen) → RunsTree how tree s t → ¬ IsWithin p → UnlessMemory (status_number how) (status_number how ≡ 68)
-  refuses_tree status.Done s t runs beyond = absurd (beyond (subst IsWithin (one_program tree runs.0 p runs.1 program) runs.2.0))
-  refuses_tree status.Unformed s t runs beyond = absurd (true≢false (sym program.straight ∙ runs.0))
-  refuses_tree (status.Misread fault) s t runs beyond = absurd runs
-  refuses_tree status.Unread s t runs beyond = absurd runs
-  refuses_tree status.FileTooBig s t runs beyond = absurd runs
-  refuses_tree (status.CodeTooBig words) s t runs beyond = inr refl
-  refuses_tree (status.StackTooBig words) s t runs beyond = inr refl
-  refuses_tree status.OutOfMemory s t runs beyond = inl refl
-  refuses_tree status.Unwritten s t runs beyond = absurd (beyond (subst IsWithin (one_program tree runs.0 p runs.1 program) runs.2.0))
-
--- a tree that isn't straight is refused
-formless_tree : (how : Status) (tree : Tree) (s t : SinkSeen) → RunsTree how tree s t → is_straight_tree tree ≡ false → UnlessMemory (status_number how) (status_number how ≡ 65)
-formless_tree status.Done tree s t runs crooked = absurd (true≢false (sym runs.1.straight ∙ crooked))
-formless_tree status.Unformed tree s t runs crooked = inr refl
-formless_tree (status.Misread fault) tree s t runs crooked = inr refl
-formless_tree status.Unread tree s t runs crooked = absurd runs
-formless_tree status.FileTooBig tree s t runs crooked = absurd runs
-formless_tree (status.CodeTooBig words) tree s t runs crooked = absurd (true≢false (sym runs.1.straight ∙ crooked))
-formless_tree (status.StackTooBig words) tree s t runs crooked = absurd (true≢false (sym runs.1.straight ∙ crooked))
-formless_tree status.OutOfMemory tree s t runs crooked = inl refl
-formless_tree status.Unwritten tree s t runs crooked = absurd (true≢false (sym runs.1.straight ∙ crooked))
+-- a program that isn't is refused
+refused_beyond : (p : Prog) (how : Status) (s t : SinkSeen) → RunsProgram how p s t → ¬ IsWithin p → UnlessMemory (status_number how) (status_number how ≡ 68)
+refused_beyond p status.Done s t runs beyond = absurd (beyond runs.0)
+refused_beyond p status.Unformed s t runs beyond = absurd runs
+refused_beyond p (status.Misread fault) s t runs beyond = absurd runs
+refused_beyond p (status.Misnamed fault) s t runs beyond = absurd runs
+refused_beyond p status.Unread s t runs beyond = absurd runs
+refused_beyond p status.FileTooBig s t runs beyond = absurd runs
+refused_beyond p (status.CodeTooBig words) s t runs beyond = inr refl
+refused_beyond p (status.StackTooBig words) s t runs beyond = inr refl
+refused_beyond p status.OutOfMemory s t runs beyond = inl refl
+refused_beyond p status.Unwritten s t runs beyond = absurd (beyond runs.0)
 
 -- a text is put
 puts_text : (how : Status) (text : List ℕ) (s t : SinkSeen) → PutsText how text s t → ¬ Rose s.faults t.faults → UnlessMemory (status_number how) ((status_number how ≡ 0) × TookAll s text t)
@@ -411,53 +174,133 @@ puts_text status.OutOfMemory text s t puts sound = inl refl
 puts_text status.Unwritten text s t puts sound = absurd (sound puts.1)
 puts_text status.Unformed text s t puts sound = absurd puts
 puts_text (status.Misread fault) text s t puts sound = absurd puts
+puts_text (status.Misnamed fault) text s t puts sound = absurd puts
 puts_text status.Unread text s t puts sound = absurd puts
 puts_text status.FileTooBig text s t puts sound = absurd puts
 puts_text (status.CodeTooBig words) text s t puts sound = absurd puts
 puts_text (status.StackTooBig words) text s t puts sound = absurd puts
 
+-- a tree has one program
+one_program : (tree : Tree) (p q : Prog) → Numbered tree p → IsOnlyProgram tree q → q ≡ p
+one_program tree p q numbered only = only.alone p numbered
+
 -- ---- the clauses
 
 module _ (c : Call) (action : Action) (path : List ℕ) (how : Status) (ends : Ends c action path how) where
-  pub runs_where : (bytes : List ℕ) (p : Prog) → ReadsWell c Run bytes → length bytes ≤ most_bytes → IsSource bytes p → IsWithin p → ¬ Rose c.out_before.faults c.out_after.faults
-      → UnlessMemory (status_number how) ((status_number how ≡ 0) × Prints c p)
-  runs_where bytes p reads short source within sound = by_cases c action path how ends Run bytes reads _ (exhausted how _)
+  -- the bytes' program is that of their tree, and nothing else comes where there is one
+  with_program : (A : Type 0) (bytes : List ℕ) (p : Prog) (reads : ReadsWell c Run bytes) → length bytes ≤ most_bytes → IsSource (format_of reads.path) bytes p
+      → (how ≡ status.OutOfMemory → A) → (is_straight p ≡ false → how ≡ status.Unformed → A) → (is_straight p ≡ true → RunsProgram how p c.out_before c.out_after → A) → A
+  with_program A bytes p reads short source memory crooked goes =
+      let here : IsSource (format_of path) bytes p = subst (λ q. IsSource (format_of q) bytes p) (same_path c action path how ends Run bytes reads) source in
+      by_cases c action path how ends Run bytes reads A memory
       (λ e long. absurd (omega arith))
-      (λ fault e only few. absurd (only.unspelled source.tree source.spelled))
-      (λ tree only does few. runs_tree tree p (IsProgramOf-source bytes tree p only source) c how does within sound)
+      (λ fault e only few. absurd (only.unread here.tree here.reads))
+      (λ tree only does few.
+      let numbered : Numbered tree p = Numbered-source (format_of path) bytes tree only p here in
+      by_names how tree c.out_before c.out_after does A memory
+      (λ imports e. absurd (imports numbered.alone))
+      (λ alone fault e has. absurd (has.unnumbered p numbered))
+      (λ q program bent e. crooked (subst (λ r. is_straight r ≡ false) (one_program tree p q numbered program) bent) e)
+      (λ q program line runs.
+      goes (subst (λ r. is_straight r ≡ true) (one_program tree p q numbered program) line)
+      (subst (λ r. RunsProgram how r c.out_before c.out_after) (one_program tree p q numbered program) runs)))
 
-  pub refused_where : (bytes : List ℕ) (p : Prog) → ReadsWell c Run bytes → length bytes ≤ most_bytes → IsSource bytes p → ¬ IsWithin p
+  pub runs_where : (bytes : List ℕ) (p : Prog) (reads : ReadsWell c Run bytes) → length bytes ≤ most_bytes → IsSource (format_of reads.path) bytes p → is_straight p ≡ true → IsWithin p
+      → ¬ Rose c.out_before.faults c.out_after.faults → UnlessMemory (status_number how) ((status_number how ≡ 0) × Prints c p)
+  runs_where bytes p reads short source straight within sound =
+      with_program _ bytes p reads short source (exhausted how _)
+      (λ bent e. absurd (true≢false (sym straight ∙ bent)))
+      (λ goes runs. runs_within c p how runs within sound)
+
+  pub refused_where : (bytes : List ℕ) (p : Prog) (reads : ReadsWell c Run bytes) → length bytes ≤ most_bytes → IsSource (format_of reads.path) bytes p → is_straight p ≡ true → ¬ IsWithin p
       → UnlessMemory (status_number how) (status_number how ≡ 68)
-  refused_where bytes p reads short source beyond = by_cases c action path how ends Run bytes reads _ (exhausted how _)
-      (λ e long. absurd (omega arith))
-      (λ fault e only few. absurd (only.unspelled source.tree source.spelled))
-      (λ tree only does few. refuses_tree tree p (IsProgramOf-source bytes tree p only source) how c.out_before c.out_after does beyond)
+  refused_where bytes p reads short source straight beyond =
+      with_program _ bytes p reads short source (exhausted how _)
+      (λ bent e. absurd (true≢false (sym straight ∙ bent)))
+      (λ goes runs. refused_beyond p how c.out_before c.out_after runs beyond)
 
-  pub formless_where : (bytes : List ℕ) → ReadsWell c Run bytes → length bytes ≤ most_bytes → IsFormless bytes → UnlessMemory (status_number how) (status_number how ≡ 65)
-  formless_where bytes reads short formless = by_cases c action path how ends Run bytes reads _ (exhausted how _)
-      (λ e long. absurd (omega arith))
-      (λ fault e only few. absurd (only.unspelled formless.tree formless.spelled))
-      (λ tree only does few. formless_tree how tree c.out_before c.out_after does (ap is_straight_tree (only.alone formless.tree formless.spelled) ∙ formless.unstraight))
+  -- the line of a form
+  form_said : (bytes : List ℕ) (reads : ReadsWell c Run bytes) → how ≡ status.Unformed → (status_number how ≡ 65) × Says c.err_before (form_line reads.path) c.err_after
+  form_said bytes reads e = (
+    ap status_number e,
+    let here : Says c.err_before (form_line path) c.err_after = said c action path how ends Run bytes reads status.Unformed e in
+        subst (λ p. Says c.err_before (form_line p) c.err_after) (sym (same_path c action path how ends Run bytes reads)) here,
+  )
 
-  pub writes_where : (bytes : List ℕ) (tree : Tree) → ReadsWell c WriteText bytes → length bytes ≤ most_bytes → Spells bytes tree → ¬ Rose c.out_before.faults c.out_after.faults
-      → UnlessMemory (status_number how) ((status_number how ≡ 0) × TookAll c.out_before (canonical_text tree) c.out_after)
-  writes_where bytes tree reads short spelled sound = by_cases c action path how ends WriteText bytes reads _ (exhausted how _)
+  imports_where : (bytes : List ℕ) (reads : ReadsWell c Run bytes) → length bytes ≤ most_bytes → HasImports (format_of reads.path) bytes
+      → UnlessMemory (status_number how) ((status_number how ≡ 65) × Says c.err_before (form_line reads.path) c.err_after)
+  imports_where bytes reads short has =
+      let here : HasImports (format_of path) bytes = subst (λ q. HasImports (format_of q) bytes) (same_path c action path how ends Run bytes reads) has in
+      by_cases c action path how ends Run bytes reads _ (exhausted how _)
       (λ e long. absurd (omega arith))
-      (λ fault e only few. absurd (only.unspelled tree spelled))
-      (λ other only does few. puts_text how (canonical_text tree) c.out_before c.out_after
-      (subst (λ t. PutsText how (canonical_text t) c.out_before c.out_after) (only.alone tree spelled) does) sound)
+      (λ fault e only few. absurd (only.unread here.tree here.reads))
+      (λ tree only does few.
+      let some : tree.imports ≢ [] = subst (λ (t : Tree). t.imports ≢ []) (sym (only.alone here.tree here.reads)) here.imports in
+      by_names how tree c.out_before c.out_after does _ (exhausted how _)
+      (λ imports e. inr (form_said bytes reads e))
+      (λ alone fault e other. absurd (some alone))
+      (λ q program bent e. absurd (some program.numbered.alone))
+      (λ q program line runs. absurd (some program.numbered.alone)))
 
-  pub misread_where : (asks : Action) (bytes : List ℕ) (fault : TextFault) (reads : ReadsWell c asks bytes) → length bytes ≤ most_bytes → HasFault bytes fault
+  pub formless_where : (bytes : List ℕ) (reads : ReadsWell c Run bytes) → length bytes ≤ most_bytes → IsFormless (format_of reads.path) bytes
+      → UnlessMemory (status_number how) ((status_number how ≡ 65) × Says c.err_before (form_line reads.path) c.err_after)
+  formless_where bytes reads short =
+      ⊎_elim (imports_where bytes reads short)
+      (λ bent. with_program _ bytes bent.program reads short bent.source (exhausted how _)
+      (λ crooked e. inr (form_said bytes reads e))
+      (λ line runs. absurd (true≢false (sym line ∙ bent.crooked))))
+
+  pub misnamed_where : (bytes : List ℕ) (fault : NameFault) (reads : ReadsWell c Run bytes) → length bytes ≤ most_bytes → HasNameFault (format_of reads.path) bytes fault
+      → UnlessMemory (status_number how) ((status_number how ≡ 65) × Says c.err_before (misnamed_line fault) c.err_after)
+  misnamed_where bytes fault reads short has =
+      let here : HasNameFault (format_of path) bytes fault = subst (λ q. HasNameFault (format_of q) bytes fault) (same_path c action path how ends Run bytes reads) has in
+      by_cases c action path how ends Run bytes reads _ (exhausted how _)
+      (λ e long. absurd (omega arith))
+      (λ other e only few. absurd (only.unread here.tree here.reads))
+      (λ tree only does few.
+      let none : tree.imports ≡ [] = subst (λ (t : Tree). t.imports ≡ []) (sym (only.alone here.tree here.reads)) here.alone in
+      by_names how tree c.out_before c.out_after does _ (exhausted how _)
+      (λ imports e. absurd (imports none))
+      (λ alone other e is. inr (
+        ap status_number e,
+        subst (λ (k : NameFault). Says c.err_before (misnamed_line k) c.err_after) (is.alone fault (has_in (format_of path) bytes tree only fault here))
+            (said c action path how ends Run bytes reads (status.Misnamed other) e),
+      ))
+      (λ q program bent e. absurd (program.faultless fault (has_in (format_of path) bytes tree only fault here)))
+      (λ q program line runs. absurd (program.faultless fault (has_in (format_of path) bytes tree only fault here))))
+
+  -- what a tree is written as is put
+  written_where : (asks : Action) (written : Tree → List ℕ) → ((tree : Tree) → DoesTree asks how tree c.out_before c.out_after → PutsText how (written tree) c.out_before c.out_after) → (bytes : List ℕ) (tree : Tree) (reads : ReadsWell c asks bytes) → length bytes ≤ most_bytes → ReadsAs (format_of reads.path) bytes tree
+      → ¬ Rose c.out_before.faults c.out_after.faults → UnlessMemory (status_number how) ((status_number how ≡ 0) × TookAll c.out_before (written tree) c.out_after)
+  written_where asks written puts bytes tree reads short is sound =
+      let here : ReadsAs (format_of path) bytes tree = subst (λ q. ReadsAs (format_of q) bytes tree) (same_path c action path how ends asks bytes reads) is in
+      by_cases c action path how ends asks bytes reads _ (exhausted how _)
+      (λ e long. absurd (omega arith))
+      (λ fault e only few. absurd (only.unread tree here))
+      (λ other only does few. puts_text how (written tree) c.out_before c.out_after
+      (subst (λ t. PutsText how (written t) c.out_before c.out_after) (only.alone tree here) (puts other does)) sound)
+
+  pub writes_where : (bytes : List ℕ) (tree : Tree) (reads : ReadsWell c WriteText bytes) → length bytes ≤ most_bytes → ReadsAs (format_of reads.path) bytes tree
+      → ¬ Rose c.out_before.faults c.out_after.faults → UnlessMemory (status_number how) ((status_number how ≡ 0) × TookAll c.out_before (canonical_text tree) c.out_after)
+  writes_where = written_where WriteText canonical_text (λ tree does. does)
+
+  pub writes_json_where : (bytes : List ℕ) (tree : Tree) (reads : ReadsWell c WriteJson bytes) → length bytes ≤ most_bytes → ReadsAs (format_of reads.path) bytes tree
+      → ¬ Rose c.out_before.faults c.out_after.faults → UnlessMemory (status_number how) ((status_number how ≡ 0) × TookAll c.out_before (json_line tree) c.out_after)
+  writes_json_where = written_where WriteJson json_line (λ tree does. does)
+
+  pub misread_where : (asks : Action) (bytes : List ℕ) (fault : SourceFault) (reads : ReadsWell c asks bytes) → length bytes ≤ most_bytes → HasFault (format_of reads.path) bytes fault
       → UnlessMemory (status_number how) ((status_number how ≡ 65) × Says c.err_before (misread_line reads.path fault) c.err_after)
-  misread_where asks bytes fault reads short has = by_cases c action path how ends asks bytes reads _ (exhausted how _)
+  misread_where asks bytes fault reads short is =
+      let has : HasFault (format_of path) bytes fault = subst (λ q. HasFault (format_of q) bytes fault) (same_path c action path how ends asks bytes reads) is in
+      by_cases c action path how ends asks bytes reads _ (exhausted how _)
       (λ e long. absurd (omega arith))
-      (λ found e only few. inr (ap status_number e, said found e (only.alone fault has)))
+      (λ found e only few. inr (ap status_number e, line found e (only.alone fault has)))
       (λ tree only does few. absurd (only.faultless fault has))
     where
-      said : (found : TextFault) → how ≡ status.Misread found → found ≡ fault → Says c.err_before (misread_line reads.path fault) c.err_after
-      said found e same =
-          let says : Says c.err_before (misread_line path found) c.err_after = subst (λ (h : Status). SaysStatus h path c.err_before c.err_after) e ends.says in
-          let here : Says c.err_before (misread_line path fault) c.err_after = subst (λ (k : TextFault). Says c.err_before (misread_line path k) c.err_after) same says in
+      line : (found : SourceFault) → how ≡ status.Misread found → found ≡ fault → Says c.err_before (misread_line reads.path fault) c.err_after
+      line found e same =
+          let says : Says c.err_before (misread_line path found) c.err_after = said c action path how ends asks bytes reads (status.Misread found) e in
+          let here : Says c.err_before (misread_line path fault) c.err_after = subst (λ (k : SourceFault). Says c.err_before (misread_line path k) c.err_after) same says in
           subst (λ p. Says c.err_before (misread_line p fault) c.err_after) (sym (same_path c action path how ends asks bytes reads)) here
 
   pub long_where : (asks : Action) (bytes : List ℕ) → ReadsWell c asks bytes → most_bytes < length bytes → UnlessMemory (status_number how) (status_number how ≡ 68)
@@ -466,20 +309,11 @@ module _ (c : Call) (action : Action) (path : List ℕ) (how : Status) (ends : E
       (λ found e only few. absurd (omega arith))
       (λ tree only does few. absurd (omega arith))
 
-  pub json_where : AsksJson c → status_number how ≡ 65
-  json_where asks =
-      let e : is_json path ≡ true = ap is_json (sym (asked_path c action asks.action path asks.path ends.asked asks.asked)) ∙ asks.json in
-      ⊎_elim (λ refuses. ap status_number refuses.is)
-      (⊎_elim (λ fails. absurd (true≢false (sym e ∙ fails.no_json)))
-      (⊎_elim (λ finds. absurd (true≢false (sym e ∙ finds.no_json))) (λ deals. absurd (true≢false (sym e ∙ deals.no_json)))))
-      ends.does
-
   pub lacking_where : AsksNone c → UnlessMemory (status_number how) (status_number how ≡ 66)
   lacking_where asks =
       let same : asks.path ≡ path = asked_path c action asks.action path asks.path ends.asked asks.asked in
       let lacks : LacksFile c.files_before.holds path = subst (λ p. LacksFile c.files_before.holds p) same asks.lacks in
-      ⊎_elim (λ refuses. absurd (true≢false (sym refuses.json ∙ (ap is_json (sym same) ∙ asks.no_json))))
-      (⊎_elim (λ fails. ⊎_elim (exhausted how _) (⊎_elim (λ may. inr (ap status_number may.0)) (λ l. absurd (held_not_lacking c.files_before.holds path l.1.bytes l.1.held lacks))) (read_fails how _ _ path fails.refuses))
+      ⊎_elim (λ fails. ⊎_elim (exhausted how _) (⊎_elim (λ may. inr (ap status_number may.0)) (λ l. absurd (held_not_lacking c.files_before.holds path l.1.bytes l.1.held lacks))) (read_fails how _ _ path fails.refuses))
       (⊎_elim (λ finds. absurd (held_not_lacking c.files_before.holds path finds.bytes finds.file.held lacks))
-      (λ deals. absurd (held_not_lacking c.files_before.holds path deals.bytes deals.file.held lacks))))
+      (λ deals. absurd (held_not_lacking c.files_before.holds path deals.bytes deals.file.held lacks)))
       ends.does

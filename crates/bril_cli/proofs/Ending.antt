@@ -25,7 +25,7 @@ use Rattle.rv64_machine.specs.Machine as machine
 use Rattle.rv64_machine.specs.Region.{Sizes}
 use Rattle.bril_cli.specs.Carries.{image_system, Carries, frame_words, step_cost}
 use Rattle.bril_cli.specs.Emitted.{word_bound, bound_of_function, bound_sum, items_in}
-use Rattle.bril_cli.specs.Straight.{IsStraight, IsStraightItem, IsStraightAction}
+use Rattle.bril_cli.specs.Straight.{IsStraightCode, IsStraightItem, IsStraightAction}
 use Rattle.bril_cli.proofs.ImageSystem.{image_is_system}
 use Rattle.bril_cli.proofs.Relation.{slice_get-seam, slice_get-end}
 
@@ -94,7 +94,7 @@ module _ (p : Prog) (limits : Limits) (f : Func) (alone : p.funcs ≡ f ∷ []) 
       ap (λ n. (after (step p limits) n s).ended) shifted ∙ ends_after rest (step p limits s) h.1 (item_further s item rest h.0 r)
 
 -- a straight program ends after its items and one step more
-pub straight_ends : (p : Prog) (limits : Limits) → IsStraight p → (state_after p limits [] (items_in p + 1)).ended ≡ Some Ended
+pub straight_ends : (p : Prog) (limits : Limits) → IsStraightCode p → (state_after p limits [] (items_in p + 1)).ended ≡ Some Ended
 straight_ends p limits straight =
     let f = straight.function in
     let counted : items_in p ≡ length f.code = ap (λ fs. sum_by (λ g. length g.code) fs) straight.alone ∙ omega arith in
@@ -142,7 +142,7 @@ machine_after-after words z (suc m) t = machine_after-after words z m (machine.m
 
 -- An image that carries a straight program has ended as the program does, and has printed the same, within a
 -- thousand million words.
-pub runs_to_end : (image : Image) (p : Prog) (limits : Limits) → IsStraight p → Carries image p limits → bound_sum p ≤ 250000 → limits.frames ≡ 8192 → limits.frames * frame_words p ≤ 8388608 → ((machine.machine_after image.words (machine.sizes_of image limits.cells) 1000000000 (machine.start [])).stopped ≡ Some (machine.Finished Ended)) × ((machine.machine_after image.words (machine.sizes_of image limits.cells) 1000000000 (machine.start [])).printed ≡ (state_after p limits [] (items_in p + 1)).printed)
+pub runs_to_end : (image : Image) (p : Prog) (limits : Limits) → IsStraightCode p → Carries image p limits → bound_sum p ≤ 250000 → limits.frames ≡ 8192 → limits.frames * frame_words p ≤ 8388608 → ((machine.machine_after image.words (machine.sizes_of image limits.cells) 1000000000 (machine.start [])).stopped ≡ Some (machine.Finished Ended)) × ((machine.machine_after image.words (machine.sizes_of image limits.cells) 1000000000 (machine.start [])).printed ≡ (state_after p limits [] (items_in p + 1)).printed)
 runs_to_end image p limits straight carries words frames_are stack =
     let f = straight.function in
     let types_are : types_of (slice_get p.funcs p.main) ≡ [] = ap (λ k. types_of (slice_get p.funcs k)) straight.first ∙ ap (λ fs. types_of (slice_get fs 0)) straight.alone ∙ ap (λ k. map (λ v. v.ty) (take k straight.function.vars)) straight.no_args in

@@ -2,32 +2,87 @@
 use Rattle.std.proofs.Common.{◌≡◌, ◌⊎◌, ℕ, List, ⊎_elim}
 use Rattle.bril_tree.specs.declared.tree.Tree.{Tree}
 use Rattle.bril_tree.specs.declared.program.Prog.{Prog}
-use Rattle.bril_outside.specs.Sink.{SinkSeen}
-use Rattle.bril_text.specs.Reading.{Spells, HasFault, IsFaultOf}
+use Rattle.bril_tree.specs.Numbered.{Numbered}
+use Rattle.bril_json.specs.Reading as json_reading
+use Rattle.bril_json.specs.declared.fault.JsonFault.{JsonFault}
+use Rattle.bril_json.specs.declared.fault.JsonFault.TheVariants as json
+use Rattle.bril_names.specs.Faults as names
+use Rattle.bril_names.specs.declared.fault.NameFault.{NameFault}
+use Rattle.bril_names.specs.declared.fault.NameFault.TheVariants as name
+use Rattle.bril_text.specs.Reading as text_reading
 use Rattle.bril_text.specs.declared.fault.TextFault.{TextFault}
-use Rattle.bril_text.specs.declared.fault.TextFault.TheVariants.{Lex, Grammar, IntRange, Float, Deep, Memory}
-use Rattle.bril_cli.specs.Works.{IsProgramOf, RunsProgram, RunsTree, RefusesTree, status_of}
-use Rattle.bril_cli.specs.declared.status.Status.{Status}
-use Rattle.bril_cli.specs.declared.status.Status.TheVariants as status
+use Rattle.bril_text.specs.declared.fault.TextFault.TheVariants as text
+use Rattle.bril_cli.specs.Source.{HasFault, IsOnlyTree, IsOnlyFault}
+use Rattle.bril_cli.specs.Works.{RefusesTree, RefusesNames, IsOnlyNameFault, text_status, json_status, name_status}
+use Rattle.bril_cli.specs.declared.source.Format.TheVariants.{InText, InJson}
+use Rattle.bril_cli.specs.declared.source.SourceFault.{SourceFault}
+use Rattle.bril_cli.specs.declared.source.SourceFault.TheVariants.{Text, Json}
 
--- what a tree's program does, the tree does
-pub RunsTree-of : (how : Status) (tree : Tree) (p : Prog) (s t : SinkSeen) → IsProgramOf tree p → RunsProgram how p s t → RunsTree how tree s t
-RunsTree-of status.Done tree p s t program runs = (p, program, runs)
-RunsTree-of status.Unformed tree p s t program runs = absurd runs
-RunsTree-of (status.Misread fault) tree p s t program runs = absurd runs
-RunsTree-of status.Unread tree p s t program runs = absurd runs
-RunsTree-of status.FileTooBig tree p s t program runs = absurd runs
-RunsTree-of (status.CodeTooBig words) tree p s t program runs = (p, program, runs)
-RunsTree-of (status.StackTooBig words) tree p s t program runs = (p, program, runs)
-RunsTree-of status.OutOfMemory tree p s t program runs = runs
-RunsTree-of status.Unwritten tree p s t program runs = (p, program, runs)
+-- ---- What a reader answers: what it reads is the only tree, and its fault the only one or want of memory.
 
--- What a reader answers of a fault: it is the bytes' or want of memory, and so is what they spell or have.
 module _ (bytes : List ℕ) where
-  pub RefusesTree-of : (fault : TextFault) → IsFaultOf bytes fault → ((other : TextFault) → HasFault bytes other → (fault ≡ other) ⊎ (fault ≡ Memory)) → ((tree : Tree) → Spells bytes tree → fault ≡ Memory) → RefusesTree (status_of fault) bytes
-  RefusesTree-of (Lex at) is only spells = record { has = ⊎_elim (λ e. absurd (cc)) (λ h. h) is; alone = λ other h. ⊎_elim (λ e. e) (λ e. absurd (cc)) (only other h); unspelled = λ tree s. let e = spells tree s in cc }
-  RefusesTree-of (Grammar at) is only spells = record { has = ⊎_elim (λ e. absurd (cc)) (λ h. h) is; alone = λ other h. ⊎_elim (λ e. e) (λ e. absurd (cc)) (only other h); unspelled = λ tree s. let e = spells tree s in cc }
-  RefusesTree-of (IntRange at) is only spells = record { has = ⊎_elim (λ e. absurd (cc)) (λ h. h) is; alone = λ other h. ⊎_elim (λ e. e) (λ e. absurd (cc)) (only other h); unspelled = λ tree s. let e = spells tree s in cc }
-  RefusesTree-of (Float at) is only spells = record { has = ⊎_elim (λ e. absurd (cc)) (λ h. h) is; alone = λ other h. ⊎_elim (λ e. e) (λ e. absurd (cc)) (only other h); unspelled = λ tree s. let e = spells tree s in cc }
-  RefusesTree-of (Deep at) is only spells = record { has = ⊎_elim (λ e. absurd (cc)) (λ h. h) is; alone = λ other h. ⊎_elim (λ e. e) (λ e. absurd (cc)) (only other h); unspelled = λ tree s. let e = spells tree s in cc }
-  RefusesTree-of Memory is only spells = tt
+  pub IsOnlyTree-text : (tree : Tree) → text_reading.Spells bytes tree → ((other : Tree) → text_reading.Spells bytes other → tree ≡ other) → ((fault : TextFault) → text_reading.HasFault bytes fault → ⊥) → IsOnlyTree InText bytes tree
+  IsOnlyTree-text tree reads alone faultless = record { reads = reads; alone = alone; faultless = none }
+    where
+      none : (fault : SourceFault) → HasFault InText bytes fault → ⊥
+      none (Text fault) has = faultless fault has
+      none (Json fault) has = has
+
+  pub IsOnlyTree-json : (tree : Tree) → json_reading.JsonOf bytes tree → ((other : Tree) → json_reading.JsonOf bytes other → tree ≡ other) → ((fault : JsonFault) → json_reading.HasFault bytes fault → ⊥) → IsOnlyTree InJson bytes tree
+  IsOnlyTree-json tree reads alone faultless = record { reads = reads; alone = alone; faultless = none }
+    where
+      none : (fault : SourceFault) → HasFault InJson bytes fault → ⊥
+      none (Text fault) has = has
+      none (Json fault) has = faultless fault has
+
+  module _ (fault : TextFault) (is : text_reading.IsFaultOf bytes fault) (only : (other : TextFault) → text_reading.HasFault bytes other → (fault ≡ other) ⊎ (fault ≡ text.Memory)) (reads : (tree : Tree) → text_reading.Spells bytes tree → fault ≡ text.Memory) where
+    only_text : (fault ≡ text.Memory → ⊥) → IsOnlyFault InText bytes (Text fault)
+    only_text ample = record { has = ⊎_elim (λ e. absurd (ample e)) (λ h. h) is; alone = one; unread = λ tree s. ample (reads tree s) }
+      where
+        one : (other : SourceFault) → HasFault InText bytes other → Text fault ≡ other
+        one (Text other) has = ⊎_elim (λ e. λ i. Text (e i)) (λ e. absurd (ample e)) (only other has)
+        one (Json other) has = absurd has
+
+  module _ (fault : JsonFault) (is : json_reading.IsFaultOf bytes fault) (only : (other : JsonFault) → json_reading.HasFault bytes other → (fault ≡ other) ⊎ (fault ≡ json.Memory)) (reads : (tree : Tree) → json_reading.JsonOf bytes tree → fault ≡ json.Memory) where
+    only_json : (fault ≡ json.Memory → ⊥) → IsOnlyFault InJson bytes (Json fault)
+    only_json ample = record { has = ⊎_elim (λ e. absurd (ample e)) (λ h. h) is; alone = one; unread = λ tree s. ample (reads tree s) }
+      where
+        one : (other : SourceFault) → HasFault InJson bytes other → Json fault ≡ other
+        one (Text other) has = absurd has
+        one (Json other) has = ⊎_elim (λ e. λ i. Json (e i)) (λ e. absurd (ample e)) (only other has)
+
+  pub RefusesTree-text : (fault : TextFault) → text_reading.IsFaultOf bytes fault → ((other : TextFault) → text_reading.HasFault bytes other → (fault ≡ other) ⊎ (fault ≡ text.Memory)) → ((tree : Tree) → text_reading.Spells bytes tree → fault ≡ text.Memory) → RefusesTree (text_status fault) InText bytes
+  RefusesTree-text (text.Lex at) is only reads = only_text (text.Lex at) is only reads (λ e. cc)
+  RefusesTree-text (text.Grammar at) is only reads = only_text (text.Grammar at) is only reads (λ e. cc)
+  RefusesTree-text (text.IntRange at) is only reads = only_text (text.IntRange at) is only reads (λ e. cc)
+  RefusesTree-text (text.Float at) is only reads = only_text (text.Float at) is only reads (λ e. cc)
+  RefusesTree-text (text.Deep at) is only reads = only_text (text.Deep at) is only reads (λ e. cc)
+  RefusesTree-text text.Memory is only reads = tt
+
+  pub RefusesTree-json : (fault : JsonFault) → json_reading.IsFaultOf bytes fault → ((other : JsonFault) → json_reading.HasFault bytes other → (fault ≡ other) ⊎ (fault ≡ json.Memory)) → ((tree : Tree) → json_reading.JsonOf bytes tree → fault ≡ json.Memory) → RefusesTree (json_status fault) InJson bytes
+  RefusesTree-json json.Syntax is only reads = only_json json.Syntax is only reads (λ e. cc)
+  RefusesTree-json (json.Shape func item) is only reads = only_json (json.Shape func item) is only reads (λ e. cc)
+  RefusesTree-json (json.IntRange func item) is only reads = only_json (json.IntRange func item) is only reads (λ e. cc)
+  RefusesTree-json (json.Float func item) is only reads = only_json (json.Float func item) is only reads (λ e. cc)
+  RefusesTree-json (json.Deep func item) is only reads = only_json (json.Deep func item) is only reads (λ e. cc)
+  RefusesTree-json json.Memory is only reads = tt
+
+-- ---- What numbering answers: its fault is the only one or want of memory.
+
+module _ (tree : Tree) where
+  module _ (fault : NameFault) (is : names.IsFaultOf tree fault) (only : (other : NameFault) → names.HasFault tree other → (fault ≡ other) ⊎ (fault ≡ name.Memory)) (numbers : (p : Prog) → Numbered tree p → fault ≡ name.Memory) where
+    only_name : (fault ≡ name.Memory → ⊥) → IsOnlyNameFault tree fault
+    only_name ample = record {
+      has = ⊎_elim (λ e. absurd (ample e)) (λ h. h) is;
+      alone = λ other has. ⊎_elim (λ e. e) (λ e. absurd (ample e)) (only other has);
+      unnumbered = λ p n. ample (numbers p n);
+    }
+
+  pub RefusesNames-of : (fault : NameFault) → names.IsFaultOf tree fault → ((other : NameFault) → names.HasFault tree other → (fault ≡ other) ⊎ (fault ≡ name.Memory)) → ((p : Prog) → Numbered tree p → fault ≡ name.Memory) → RefusesNames (name_status fault) tree
+  RefusesNames-of (name.NoFunction func item) is only numbers = only_name (name.NoFunction func item) is only numbers (λ e. cc)
+  RefusesNames-of (name.TwiceFunction func) is only numbers = only_name (name.TwiceFunction func) is only numbers (λ e. cc)
+  RefusesNames-of (name.NoLabel func item) is only numbers = only_name (name.NoLabel func item) is only numbers (λ e. cc)
+  RefusesNames-of (name.TwiceLabel func item) is only numbers = only_name (name.TwiceLabel func item) is only numbers (λ e. cc)
+  RefusesNames-of name.NoMain is only numbers = only_name name.NoMain is only numbers (λ e. cc)
+  RefusesNames-of (name.TwiceArg func) is only numbers = only_name (name.TwiceArg func) is only numbers (λ e. cc)
+  RefusesNames-of name.Memory is only numbers = tt

@@ -17,7 +17,7 @@ use Rattle.rv64_machine.specs.MachineView.{state_of, words_in, sizes_in, has_fai
 use Rattle.bril_cli.specs.Carries.{Carries, image_system}
 use Rattle.bril_cli.specs.Emitted.{items_in}
 use Rattle.bril_cli.specs.Source.{run_limits, EndsPrinting, IsWithin}
-use Rattle.bril_cli.specs.Straight.{IsStraight}
+use Rattle.bril_cli.specs.Straight.{IsStraightCode}
 use Rattle.bril_cli.specs.Works.{RanWhole, RanPartly}
 use Rattle.bril_cli.proofs.Ending.{straight_ends, runs_to_end, machine_after-after}
 use Rattle.bril_cli.proofs.ImageSystem.{image_is_system}
@@ -26,7 +26,7 @@ use Rattle.bril_cli.proofs.ImageSystem.{image_is_system}
 abbrev pub output_of : Prog → List ℕ
 output_of p = (state_after p run_limits [] (items_in p + 1)).printed
 
-pub EndsPrinting-straight : (p : Prog) → IsStraight p → EndsPrinting p (output_of p)
+pub EndsPrinting-straight : (p : Prog) → IsStraightCode p → EndsPrinting p (output_of p)
 EndsPrinting-straight p straight = record { steps = items_in p + 1; ended = straight_ends p run_limits straight; prints = refl }
 
 -- the first of some bytes are the first of those with more behind
@@ -42,7 +42,7 @@ pub record IsFresh (m : Machine) (image : Image) : Type 0 where
 
 -- the image was made of the straight program
 pub record IsImageOf (image : Image) (p : Prog) : Type 0 where
-  pub straight : IsStraight p
+  pub straight : IsStraightCode p
   pub carries : Carries image p run_limits
   pub within : IsWithin p
 

@@ -15,7 +15,7 @@ use Rattle.rv64_machine.specs.Encoding.{encoded}
 use Rattle.rv64_machine.specs.Machine as machine
 use Rattle.bril_cli.specs.Carries.{program_system, image_system, Carried, Carries, frame_words, step_cost, variables_in}
 use Rattle.bril_cli.specs.Emitted.{code_words, program_words}
-use Rattle.bril_cli.specs.Straight.{IsStraight}
+use Rattle.bril_cli.specs.Straight.{IsStraightCode}
 use Rattle.bril_cli.proofs.Carrying.{Related, run, Runs, lock_step}
 use Rattle.bril_cli.proofs.ImageSystem.{image_is_system, mapped_is_system}
 use Rattle.bril_cli.proofs.MachineSteps.{HasAt, Decodes}
@@ -50,7 +50,7 @@ once : (k m : ℕ) → 1 ≤ k → m ≤ k * m
 once zero m h = absurd (omega arith)
 once (suc k) m h = grind arith
 
-module _ (decodes : Decodes) (image : Image) (p : Prog) (limits : Limits) (straight : IsStraight p) (words_are : image.words ≡ map encoded (program_words p.funcs)) (stack_is : image.stack ≡ limits.frames * frame_words p) (few : image.stack ≤ 8388608) where
+module _ (decodes : Decodes) (image : Image) (p : Prog) (limits : Limits) (straight : IsStraightCode p) (words_are : image.words ≡ map encoded (program_words p.funcs)) (stack_is : image.stack ≡ limits.frames * frame_words p) (few : image.stack ≤ 8388608) where
   -- how many variables there are
   abbrev n : ℕ
   n = length straight.function.vars

@@ -1,18 +1,27 @@
 -- What the command line answers: its status, and what it does to the files and its two outputs.
-use Rattle.std.specs.Prelude.{ℕ, true, false, ◌≡◌, ◌*◌, ◌<◌, ◌≤◌, ◌⊎◌, ◌==◌, List, ◌++◌, length, Some, None, MatchBool, codes}
+use Rattle.std.specs.Prelude.{ℕ, true, ◌≡◌, ◌*◌, ◌<◌, ◌≤◌, ◌⊎◌, ◌==◌, List, ◌++◌, length, Option, Some, None, MatchBool, codes}
 use Rattle.std.specs.Fmt.{decimal}
 use Rattle.bril_tree.specs.declared.program.Prog.{Prog}
 use Rattle.bril_outside.specs.Files.{FilesSeen, MayHold, MayFail, LacksFile}
 use Rattle.bril_outside.specs.Sink.{SinkSeen, Rose, TookAll, TookSome}
 use Rattle.bril_cli.specs.Carries.{frame_words}
-use Rattle.bril_cli.specs.CommandLine.{asked_of, is_json}
+use Rattle.bril_cli.specs.CommandLine.{asked_of, format_of}
 use Rattle.bril_cli.specs.declared.action.Action.{Action}
-use Rattle.bril_cli.specs.declared.action.Action.TheVariants.{Run, WriteText}
+use Rattle.bril_cli.specs.declared.action.Action.TheVariants.{Run, WriteText, WriteJson}
+use Rattle.bril_cli.specs.declared.report.Place.{Place}
+use Rattle.bril_cli.specs.declared.source.SourceFault.{SourceFault}
+use Rattle.bril_cli.specs.declared.source.SourceFault.TheVariants.{Text, Json}
 use Rattle.bril_cli.specs.Emitted.{bound_sum}
 use Rattle.bril_cli.specs.Refusal.{capped, PassesCode, PassesStack}
-use Rattle.bril_cli.specs.Source.{most_bytes, HoldsFile, IsFile, IsFormless, IsOnlyFault, IsOnlySource, EndsPrinting, Runs, WritesText}
+use Rattle.bril_cli.specs.Source.{most_bytes, json_line, HoldsFile, IsFile, IsFormless, HasOnlyNameFault, IsOnlyFault, IsOnlySource, EndsPrinting, Runs, Writes}
+use Rattle.bril_cli.specs.Straight.{is_straight}
+use Rattle.bril_json.specs.declared.fault.JsonFault.{JsonFault}
+use Rattle.bril_json.specs.declared.fault.JsonFault.TheVariants as json
+use Rattle.bril_names.specs.declared.fault.NameFault.{NameFault}
+use Rattle.bril_names.specs.declared.fault.NameFault.TheVariants as name
+use Rattle.bril_text.specs.Canonical.{canonical_text}
 use Rattle.bril_text.specs.declared.fault.TextFault.{TextFault}
-use Rattle.bril_text.specs.declared.fault.TextFault.TheVariants.{Lex, Grammar, IntRange, Float, Deep, Memory}
+use Rattle.bril_text.specs.declared.fault.TextFault.TheVariants as text
 
 -- What is seen of a call: its words, and its files and its two outputs before and after it.
 pub record Call : Type 0 where
@@ -51,24 +60,77 @@ form_line path = path ++ codes ": form\n"
 
 -- the kind of a fault of the text, by its number
 abbrev pub text_front : TextFault → List ℕ
-text_front (Lex at) = codes ": text 1 at "
-text_front (Grammar at) = codes ": text 2 at "
-text_front (IntRange at) = codes ": text 3 at "
-text_front (Float at) = codes ": text 4 at "
-text_front (Deep at) = codes ": text 5 at "
-text_front Memory = codes ": text 0 at "
+text_front (text.Lex at) = codes ": text 1 at "
+text_front (text.Grammar at) = codes ": text 2 at "
+text_front (text.IntRange at) = codes ": text 3 at "
+text_front (text.Float at) = codes ": text 4 at "
+text_front (text.Deep at) = codes ": text 5 at "
+text_front text.Memory = codes ": text 0 at "
 
 -- the byte at which it stands
 abbrev pub text_place : TextFault → ℕ
-text_place (Lex at) = at
-text_place (Grammar at) = at
-text_place (IntRange at) = at
-text_place (Float at) = at
-text_place (Deep at) = at
-text_place Memory = 0
+text_place (text.Lex at) = at
+text_place (text.Grammar at) = at
+text_place (text.IntRange at) = at
+text_place (text.Float at) = at
+text_place (text.Deep at) = at
+text_place text.Memory = 0
 
-abbrev pub misread_line : List ℕ → TextFault → List ℕ
-misread_line path fault = path ++ text_front fault ++ (decimal (text_place fault) ++ codes "\n")
+-- a function and an item by their numbers, where a fault stands in one
+abbrev pub place_of : Option ℕ → Option ℕ → Place
+place_of func item = record { func = func; item = item }
+
+-- a number, or `-` for none
+abbrev pub number_or_dash : Option ℕ → List ℕ
+number_or_dash None = codes "-"
+number_or_dash (Some n) = decimal n
+
+-- the end of a line that tells a place
+abbrev pub place_end : Place → List ℕ
+place_end place = number_or_dash place.func ++ codes " item " ++ (number_or_dash place.item ++ codes "\n")
+
+-- the kind of a fault of the JSON, by its number
+abbrev pub json_front : JsonFault → List ℕ
+json_front json.Syntax = codes ": json 1 function "
+json_front (json.Shape func item) = codes ": json 2 function "
+json_front (json.IntRange func item) = codes ": json 3 function "
+json_front (json.Float func item) = codes ": json 4 function "
+json_front (json.Deep func item) = codes ": json 5 function "
+json_front json.Memory = codes ": json 0 function "
+
+abbrev pub json_place : JsonFault → Place
+json_place json.Syntax = place_of None None
+json_place (json.Shape func item) = place_of func item
+json_place (json.IntRange func item) = place_of (Some func) (Some item)
+json_place (json.Float func item) = place_of func item
+json_place (json.Deep func item) = place_of func item
+json_place json.Memory = place_of None None
+
+abbrev pub misread_line : List ℕ → SourceFault → List ℕ
+misread_line path (Text fault) = path ++ text_front fault ++ (decimal (text_place fault) ++ codes "\n")
+misread_line path (Json fault) = path ++ json_front fault ++ place_end (json_place fault)
+
+-- the kind of a fault of the names, by its number
+abbrev pub name_front : NameFault → List ℕ
+name_front (name.NoFunction func item) = codes "name 1 function "
+name_front (name.TwiceFunction func) = codes "name 2 function "
+name_front (name.NoLabel func item) = codes "name 3 function "
+name_front (name.TwiceLabel func item) = codes "name 4 function "
+name_front name.NoMain = codes "name 5 function "
+name_front (name.TwiceArg func) = codes "name 6 function "
+name_front name.Memory = codes "name 0 function "
+
+abbrev pub name_place : NameFault → Place
+name_place (name.NoFunction func item) = place_of (Some func) (Some item)
+name_place (name.TwiceFunction func) = place_of (Some func) None
+name_place (name.NoLabel func item) = place_of (Some func) (Some item)
+name_place (name.TwiceLabel func item) = place_of (Some func) (Some item)
+name_place name.NoMain = place_of None None
+name_place (name.TwiceArg func) = place_of (Some func) None
+name_place name.Memory = place_of None None
+
+abbrev pub misnamed_line : NameFault → List ℕ
+misnamed_line fault = name_front fault ++ place_end (name_place fault)
 
 abbrev pub unread_line : List ℕ → List ℕ
 unread_line path = codes "cannot read " ++ path ++ codes "\n"
@@ -81,17 +143,18 @@ stack_line words = codes "too large: stack " ++ decimal words ++ codes "\n"
 
 -- ---- the statuses
 
--- What an action produces of the file at a path: `run` what its program prints, `text` its canonical text.
+-- What an action produces of the file at a path: `run` what its program prints, `text` its canonical text, and
+-- `json` its canonical JSON.
 abbrev pub Produces : Action → FilesSeen → List ℕ → List ℕ → Type 0
 Produces Run files path output = Runs files path output
-Produces WriteText files path output = WritesText files path output
+Produces WriteText files path output = Writes canonical_text files path output
+Produces WriteJson files path output = Writes json_line files path output
 
 -- 0: all was done, and the output took all that the action produces of the file.
 pub record Finished (c : Call) : Type 0 where
   pub action : Action
   pub path : List ℕ
   pub asked : asked_of c.words ≡ Some (action, path)
-  pub no_json : is_json path ≡ false
   pub output : List ℕ
   pub produces : Produces action c.files_before path output
   pub took : TookAll c.out_before output c.out_after
@@ -103,41 +166,41 @@ pub record Misused (c : Call) : Type 0 where
   pub unread : c.files_after ≡ c.files_before
   pub alone : SaysAlone c (codes "usage\n")
 
--- 65: the file is in JSON, which is not read; or `run` is to run a program that isn't straight; or the file
--- spells no tree.
-pub record JsonFile (c : Call) (path : List ℕ) : Type 0 where
-  pub json : is_json path ≡ true
-  pub unread : c.files_after ≡ c.files_before
-  pub alone : SaysAlone c (form_line path)
-
+-- 65: the file's bytes read as no tree; or `run` is to run a tree with a fault of a name, or one that can't run
+-- yet.
 pub record FormlessFile (c : Call) (action : Action) (path : List ℕ) : Type 0 where
-  pub no_json : is_json path ≡ false
   pub runs : action ≡ Run
   pub bytes : List ℕ
   pub file : IsFile c.files_before path bytes
-  pub formless : IsFormless bytes
+  pub formless : IsFormless (format_of path) bytes
   pub alone : SaysAlone c (form_line path)
 
-pub record MisreadFile (c : Call) (path : List ℕ) : Type 0 where
-  pub no_json : is_json path ≡ false
+pub record MisnamedFile (c : Call) (action : Action) (path : List ℕ) : Type 0 where
+  pub runs : action ≡ Run
   pub bytes : List ℕ
   pub file : IsFile c.files_before path bytes
-  pub fault : TextFault
-  pub only : IsOnlyFault bytes fault
+  pub fault : NameFault
+  pub only : HasOnlyNameFault (format_of path) bytes fault
+  pub alone : SaysAlone c (misnamed_line fault)
+
+pub record MisreadFile (c : Call) (path : List ℕ) : Type 0 where
+  pub bytes : List ℕ
+  pub file : IsFile c.files_before path bytes
+  pub fault : SourceFault
+  pub only : IsOnlyFault (format_of path) bytes fault
   pub alone : SaysAlone c (misread_line path fault)
 
 pub record Unformed (c : Call) : Type 0 where
   pub action : Action
   pub path : List ℕ
   pub asked : asked_of c.words ≡ Some (action, path)
-  pub because : JsonFile c path ⊎ (FormlessFile c action path ⊎ MisreadFile c path)
+  pub because : FormlessFile c action path ⊎ (MisnamedFile c action path ⊎ MisreadFile c path)
 
 -- 66: reading failed, or the files are told and lack the path.
 pub record Unread (c : Call) : Type 0 where
   pub action : Action
   pub path : List ℕ
   pub asked : asked_of c.words ≡ Some (action, path)
-  pub no_json : is_json path ≡ false
   pub fails : MayFail c.files_before c.files_after path
   pub alone : SaysAlone c (unread_line path)
 
@@ -152,7 +215,8 @@ pub record LongCode (c : Call) (path : List ℕ) : Type 0 where
   pub bytes : List ℕ
   pub file : IsFile c.files_before path bytes
   pub program : Prog
-  pub source : IsOnlySource bytes program
+  pub source : IsOnlySource (format_of path) bytes program
+  pub straight : is_straight program ≡ true
   pub long : PassesCode program
   pub alone : SaysAlone c (code_line (capped (bound_sum program)))
 
@@ -160,7 +224,8 @@ pub record LongStack (c : Call) (path : List ℕ) : Type 0 where
   pub bytes : List ℕ
   pub file : IsFile c.files_before path bytes
   pub program : Prog
-  pub source : IsOnlySource bytes program
+  pub source : IsOnlySource (format_of path) bytes program
+  pub straight : is_straight program ≡ true
   pub short_code : bound_sum program ≤ 250000
   pub long : PassesStack 8192 program
   pub alone : SaysAlone c (stack_line (capped (8192 * frame_words program)))
@@ -169,7 +234,6 @@ pub record TooLarge (c : Call) : Type 0 where
   pub action : Action
   pub path : List ℕ
   pub asked : asked_of c.words ≡ Some (action, path)
-  pub no_json : is_json path ≡ false
   pub passes : LongFile c path ⊎ ((action ≡ Run) × (LongCode c path ⊎ LongStack c path))
 
 -- 71: memory was wanting, for `run` before the program began to run.
@@ -177,7 +241,6 @@ pub record Exhausted (c : Call) : Type 0 where
   pub action : Action
   pub path : List ℕ
   pub asked : asked_of c.words ≡ Some (action, path)
-  pub no_json : is_json path ≡ false
   pub alone : SaysAlone c (codes "out of memory\n")
 
 -- 74: a write to the output failed, which took the first of what the action produces.
@@ -185,7 +248,6 @@ pub record Unwritten (c : Call) : Type 0 where
   pub action : Action
   pub path : List ℕ
   pub asked : asked_of c.words ≡ Some (action, path)
-  pub no_json : is_json path ≡ false
   pub output : List ℕ
   pub produces : Produces action c.files_before path output
   pub took : TookSome c.out_before output c.out_after
@@ -205,28 +267,19 @@ Answers status c =
 
 -- ---- what is read of the files
 
--- The words ask for this of a file, in text, that the files tell, with these bytes, and no read of it failed.
+-- The words ask for this of a file that the files tell, with these bytes, and no read of it failed.
 pub record ReadsWell (c : Call) (action : Action) (bytes : List ℕ) : Type 0 where
   pub path : List ℕ
   pub asked : asked_of c.words ≡ Some (action, path)
-  pub no_json : is_json path ≡ false
   pub told : HoldsFile c.files_before.holds path bytes
   pub sound : ¬ Rose c.files_before.faults c.files_after.faults
 
--- the words ask for a path of a file in text, and the files are told and have none there
+-- the words ask for a path, and the files are told and have none there
 pub record AsksNone (c : Call) : Type 0 where
   pub action : Action
   pub path : List ℕ
   pub asked : asked_of c.words ≡ Some (action, path)
-  pub no_json : is_json path ≡ false
   pub lacks : LacksFile c.files_before.holds path
-
--- the words ask for a path of a file in JSON
-pub record AsksJson (c : Call) : Type 0 where
-  pub action : Action
-  pub path : List ℕ
-  pub asked : asked_of c.words ≡ Some (action, path)
-  pub json : is_json path ≡ true
 
 -- The output took all that the program prints up to its end.
 pub record Prints (c : Call) (p : Prog) : Type 0 where

@@ -3,7 +3,9 @@ use Rattle.std.specs.Prelude.{ℕ, Bool, false, not, ◌==◌, nat_eq, List, [],
 use Rattle.std.specs.List.{ends_with}
 use Rattle.std.specs.Option.{option_map}
 use Rattle.bril_cli.specs.declared.action.Action.{Action}
-use Rattle.bril_cli.specs.declared.action.Action.TheVariants.{Run, WriteText}
+use Rattle.bril_cli.specs.declared.action.Action.TheVariants.{Run, WriteText, WriteJson}
+use Rattle.bril_cli.specs.declared.source.Format.{Format}
+use Rattle.bril_cli.specs.declared.source.Format.TheVariants.{InText, InJson}
 
 -- one byte or more, of which the first is no `-`
 abbrev pub is_operand : List ℕ → Bool
@@ -13,7 +15,8 @@ is_operand (byte ∷ bytes) = not (byte == 45)
 -- the action of a command's name
 abbrev pub action_of : List ℕ → Option Action
 action_of name =
-    if bytes_eq name (codes "run") then Some Run else (if bytes_eq name (codes "text") then Some WriteText else None)
+    if bytes_eq name (codes "run") then Some Run
+    else (if bytes_eq name (codes "text") then Some WriteText else (if bytes_eq name (codes "json") then Some WriteJson else None))
 
 -- an action and the path of its file
 abbrev pub Asked : Type 0
@@ -37,3 +40,7 @@ asked_of (name ∷ command ∷ path ∷ more ∷ others) = None
 -- the path is that of a file in JSON
 abbrev pub is_json : List ℕ → Bool
 is_json path = ends_with nat_eq path (codes ".json")
+
+-- the format of the file at a path
+abbrev pub format_of : List ℕ → Format
+format_of path = if is_json path then InJson else InText

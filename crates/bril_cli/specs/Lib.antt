@@ -2,9 +2,7 @@ pub mod Answers
 pub mod Carries
 pub mod CommandLine
 pub mod Emitted
-pub mod Numbering
 pub mod Refusal
 pub mod Source
 pub mod Straight
-pub mod StraightTree
 pub mod Works

@@ -1,5 +1,5 @@
--- The file of a command, and the program that it spells.
-use Rattle.std.specs.Prelude.{ℕ, ◌≡◌, ◌*◌, ◌≤◌, true, false, List, [], length, Option, Some, None}
+-- The file of a command: the tree that its bytes read as, and the tree's program.
+use Rattle.std.specs.Prelude.{ℕ, ◌≡◌, ◌≢◌, ◌⊎◌, ◌*◌, ◌≤◌, true, false, List, [], ◌++◌, length, Option, Some, None, codes}
 use Rattle.std.proofs.Common.{lit≤}
 use Rattle.bril_tree.specs.declared.limits.End.TheVariants.{Ended}
 use Rattle.bril_tree.specs.declared.limits.Limits.{Limits}
@@ -8,12 +8,19 @@ use Rattle.bril_tree.specs.declared.tree.Tree.{Tree}
 use Rattle.bril_tree.specs.Numbered.{Numbered}
 use Rattle.bril_tree.specs.Run.{state_after}
 use Rattle.bril_outside.specs.Files.{FileMap, FilesSeen, MayHold}
-use Rattle.bril_text.specs.Canonical.{canonical_text}
-use Rattle.bril_text.specs.Reading.{Spells, HasFault}
-use Rattle.bril_text.specs.declared.fault.TextFault.{TextFault}
+use Rattle.bril_json.specs.Canonical.{canonical_json}
+use Rattle.bril_json.specs.Reading as json
+use Rattle.bril_names.specs.Faults as names
+use Rattle.bril_names.specs.declared.fault.NameFault.{NameFault}
+use Rattle.bril_text.specs.Reading as text
 use Rattle.bril_cli.specs.Carries.{frame_words}
+use Rattle.bril_cli.specs.CommandLine.{format_of}
 use Rattle.bril_cli.specs.Emitted.{bound_sum}
-use Rattle.bril_cli.specs.StraightTree.{is_straight_tree}
+use Rattle.bril_cli.specs.Straight.{is_straight}
+use Rattle.bril_cli.specs.declared.source.Format.{Format}
+use Rattle.bril_cli.specs.declared.source.Format.TheVariants.{InText, InJson}
+use Rattle.bril_cli.specs.declared.source.SourceFault.{SourceFault}
+use Rattle.bril_cli.specs.declared.source.SourceFault.TheVariants.{Text, Json}
 
 -- a file has at most so many bytes
 abbrev pub most_bytes : ℕ
@@ -30,40 +37,76 @@ run_limits = record {
   few_cells = lit≤ tt;
 }
 
+-- ---- bytes, trees and programs
+
 -- the files are told, and these bytes are at the path
 abbrev pub HoldsFile : Option FileMap → List ℕ → List ℕ → Type 0
 HoldsFile None path bytes = ⊥
 HoldsFile (Some map) path bytes = map path ≡ Some bytes
 
--- The bytes spell a straight program: they spell a straight tree, and the program is its numbering.
-pub record IsSource (bytes : List ℕ) (p : Prog) : Type 0 where
+-- in a format the bytes read as this tree
+abbrev pub ReadsAs : Format → List ℕ → Tree → Type 0
+ReadsAs InText bytes tree = text.Spells bytes tree
+ReadsAs InJson bytes tree = json.JsonOf bytes tree
+
+-- in a format the bytes read as no tree, for this fault
+abbrev pub HasFault : Format → List ℕ → SourceFault → Type 0
+HasFault InText bytes (Text fault) = text.HasFault bytes fault
+HasFault InText bytes (Json fault) = ⊥
+HasFault InJson bytes (Text fault) = ⊥
+HasFault InJson bytes (Json fault) = json.HasFault bytes fault
+
+-- The bytes read as this tree and no other, and have no fault.
+pub record IsOnlyTree (format : Format) (bytes : List ℕ) (tree : Tree) : Type 0 where
+  pub reads : ReadsAs format bytes tree
+  pub alone : (other : Tree) → ReadsAs format bytes other → tree ≡ other
+  pub faultless : (fault : SourceFault) → HasFault format bytes fault → ⊥
+
+-- The bytes have this fault and no other, and read as no tree.
+pub record IsOnlyFault (format : Format) (bytes : List ℕ) (fault : SourceFault) : Type 0 where
+  pub has : HasFault format bytes fault
+  pub alone : (other : SourceFault) → HasFault format bytes other → fault ≡ other
+  pub unread : (tree : Tree) → ReadsAs format bytes tree → ⊥
+
+-- The bytes read as a tree without imports, and the program is its numbering.
+pub record IsSource (format : Format) (bytes : List ℕ) (p : Prog) : Type 0 where
   pub tree : Tree
-  pub spelled : Spells bytes tree
-  pub straight : is_straight_tree tree ≡ true
+  pub reads : ReadsAs format bytes tree
   pub numbered : Numbered tree p
 
--- The bytes spell a tree that is not straight.
-pub record IsFormless (bytes : List ℕ) : Type 0 where
+-- The bytes read as this program and no other.
+pub record IsOnlySource (format : Format) (bytes : List ℕ) (p : Prog) : Type 0 where
+  pub source : IsSource format bytes p
+  pub only : (q : Prog) → IsSource format bytes q → q ≡ p
+
+-- The bytes read as a tree without imports whose names have this fault.
+pub record HasNameFault (format : Format) (bytes : List ℕ) (fault : NameFault) : Type 0 where
   pub tree : Tree
-  pub spelled : Spells bytes tree
-  pub unstraight : is_straight_tree tree ≡ false
+  pub reads : ReadsAs format bytes tree
+  pub alone : tree.imports ≡ []
+  pub has : names.HasFault tree fault
 
--- The bytes spell this tree and no other, and have no fault.
-pub record IsOnlyTree (bytes : List ℕ) (tree : Tree) : Type 0 where
-  pub spelled : Spells bytes tree
-  pub alone : (other : Tree) → Spells bytes other → tree ≡ other
-  pub faultless : (fault : TextFault) → HasFault bytes fault → ⊥
+-- The bytes read as a tree whose names have this fault and no other, and as no program.
+pub record HasOnlyNameFault (format : Format) (bytes : List ℕ) (fault : NameFault) : Type 0 where
+  pub has : HasNameFault format bytes fault
+  pub only : (other : NameFault) → HasNameFault format bytes other → fault ≡ other
+  pub unnumbered : (p : Prog) → IsSource format bytes p → ⊥
 
--- The bytes have this fault and no other, and spell no tree.
-pub record IsOnlyFault (bytes : List ℕ) (fault : TextFault) : Type 0 where
-  pub has : HasFault bytes fault
-  pub alone : (other : TextFault) → HasFault bytes other → fault ≡ other
-  pub unspelled : (tree : Tree) → Spells bytes tree → ⊥
+-- The bytes read as a tree with imports.
+pub record HasImports (format : Format) (bytes : List ℕ) : Type 0 where
+  pub tree : Tree
+  pub reads : ReadsAs format bytes tree
+  pub imports : tree.imports ≢ []
 
--- The bytes spell this program and no other.
-pub record IsOnlySource (bytes : List ℕ) (p : Prog) : Type 0 where
-  pub source : IsSource bytes p
-  pub only : (q : Prog) → IsSource bytes q → q ≡ p
+-- The bytes read as a program that is not straight.
+pub record IsCrooked (format : Format) (bytes : List ℕ) : Type 0 where
+  pub program : Prog
+  pub source : IsSource format bytes program
+  pub crooked : is_straight program ≡ false
+
+-- The bytes read as a tree that can't run yet.
+abbrev pub IsFormless : Format → List ℕ → Type 0
+IsFormless format bytes = HasImports format bytes ⊎ IsCrooked format bytes
 
 -- the program has no more words than an image has, and needs no more than a stack has
 pub record IsWithin (p : Prog) : Type 0 where
@@ -76,24 +119,31 @@ pub record EndsPrinting (p : Prog) (output : List ℕ) : Type 0 where
   pub ended : (state_after p run_limits [] steps).ended ≡ Some Ended
   pub prints : (state_after p run_limits [] steps).printed ≡ output
 
+-- ---- what is produced of a file
+
+-- the line of canonical JSON of a tree
+abbrev pub json_line : Tree → List ℕ
+json_line tree = canonical_json tree ++ codes "\n"
+
 -- The bytes at the path, which are those that the files hold where they tell it, are few enough.
 pub record IsFile (files : FilesSeen) (path bytes : List ℕ) : Type 0 where
   pub held : MayHold files.holds path bytes
   pub short : length bytes ≤ most_bytes
 
--- The file at the path spells a program that is within the bounds and prints this output.
+-- The file at the path reads as a straight program that is within the bounds and prints this output.
 pub record Runs (files : FilesSeen) (path output : List ℕ) : Type 0 where
   pub bytes : List ℕ
   pub file : IsFile files path bytes
   pub program : Prog
-  pub source : IsOnlySource bytes program
+  pub source : IsOnlySource (format_of path) bytes program
+  pub straight : is_straight program ≡ true
   pub within : IsWithin program
   pub prints : EndsPrinting program output
 
--- The file at the path spells a tree, and this is its canonical text.
-pub record WritesText (files : FilesSeen) (path output : List ℕ) : Type 0 where
+-- The file at the path reads as a tree, and this is what the tree is written as.
+pub record Writes (written : Tree → List ℕ) (files : FilesSeen) (path output : List ℕ) : Type 0 where
   pub bytes : List ℕ
   pub file : IsFile files path bytes
   pub tree : Tree
-  pub spelled : Spells bytes tree
-  pub text : output ≡ canonical_text tree
+  pub reads : ReadsAs (format_of path) bytes tree
+  pub text : output ≡ written tree

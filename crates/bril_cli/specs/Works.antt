@@ -1,5 +1,5 @@
 -- What each step of a command answers, by its status.
-use Rattle.std.specs.Prelude.{ℕ, true, false, ◌⊎◌, ◌≡◌, ◌*◌, ◌<◌, ◌≤◌, List, [], length, Result, Ok, Err, codes}
+use Rattle.std.specs.Prelude.{ℕ, true, false, ◌⊎◌, ◌≡◌, ◌≢◌, ◌*◌, ◌<◌, ◌≤◌, List, [], length, Result, Ok, Err, codes}
 use Rattle.bril_tree.specs.declared.program.Prog.{Prog}
 use Rattle.bril_outside.specs.Files.{FilesSeen, MayHold, MayFail}
 use Rattle.bril_outside.specs.Sink.{SinkSeen, Rose, TookAll, TookSome}
@@ -8,24 +8,32 @@ use Rattle.bril_cli.specs.declared.status.Status.{Status}
 use Rattle.bril_cli.specs.declared.status.Status.TheVariants as status
 use Rattle.bril_tree.specs.declared.tree.Tree.{Tree}
 use Rattle.bril_tree.specs.Numbered.{Numbered}
+use Rattle.bril_json.specs.declared.fault.JsonFault.{JsonFault}
+use Rattle.bril_json.specs.declared.fault.JsonFault.TheVariants as json
+use Rattle.bril_names.specs.Faults.{HasFault}
+use Rattle.bril_names.specs.declared.fault.NameFault.{NameFault}
+use Rattle.bril_names.specs.declared.fault.NameFault.TheVariants as name
 use Rattle.bril_text.specs.Canonical.{canonical_text}
 use Rattle.bril_text.specs.declared.fault.TextFault.{TextFault}
-use Rattle.bril_text.specs.declared.fault.TextFault.TheVariants.{Lex, Grammar, IntRange, Float, Deep, Memory}
+use Rattle.bril_text.specs.declared.fault.TextFault.TheVariants as text
 use Rattle.bril_cli.specs.declared.action.Action.{Action}
-use Rattle.bril_cli.specs.declared.action.Action.TheVariants.{Run, WriteText}
-use Rattle.bril_cli.specs.Answers.{Says, form_line, misread_line, unread_line, code_line, stack_line}
-use Rattle.bril_cli.specs.CommandLine.{is_json}
-use Rattle.bril_cli.specs.StraightTree.{is_straight_tree}
+use Rattle.bril_cli.specs.declared.action.Action.TheVariants.{Run, WriteText, WriteJson}
+use Rattle.bril_cli.specs.declared.source.Format.{Format}
+use Rattle.bril_cli.specs.declared.source.SourceFault.TheVariants as source
+use Rattle.bril_cli.specs.Answers.{Says, form_line, misread_line, misnamed_line, unread_line, code_line, stack_line}
 use Rattle.bril_cli.specs.Carries.{frame_words}
+use Rattle.bril_cli.specs.CommandLine.{format_of}
 use Rattle.bril_cli.specs.Emitted.{bound_sum}
 use Rattle.bril_cli.specs.Refusal.{capped, PassesCode, PassesStack}
-use Rattle.bril_cli.specs.Source.{most_bytes, IsFile, IsOnlyTree, IsOnlyFault, IsWithin, EndsPrinting}
+use Rattle.bril_cli.specs.Source.{most_bytes, json_line, IsFile, IsOnlyTree, IsOnlyFault, IsWithin, EndsPrinting}
+use Rattle.bril_cli.specs.Straight.{is_straight}
 
 -- the number of a status
 abbrev pub status_number : Status → ℕ
 status_number status.Done = 0
 status_number status.Unformed = 65
 status_number (status.Misread fault) = 65
+status_number (status.Misnamed fault) = 65
 status_number status.Unread = 66
 status_number status.FileTooBig = 68
 status_number (status.CodeTooBig words) = 68
@@ -38,6 +46,7 @@ abbrev pub status_line : Status → List ℕ → List ℕ
 status_line status.Done path = []
 status_line status.Unformed path = form_line path
 status_line (status.Misread fault) path = misread_line path fault
+status_line (status.Misnamed fault) path = misnamed_line fault
 status_line status.Unread path = unread_line path
 status_line status.FileTooBig path = codes "too large: bytes\n"
 status_line (status.CodeTooBig words) path = code_line words
@@ -55,6 +64,7 @@ abbrev pub SaysStatus : Status → List ℕ → SinkSeen → SinkSeen → Type 0
 SaysStatus status.Done path s t = t ≡ s
 SaysStatus status.Unformed path s t = Says s (status_line status.Unformed path) t
 SaysStatus (status.Misread fault) path s t = Says s (status_line (status.Misread fault) path) t
+SaysStatus (status.Misnamed fault) path s t = Says s (status_line (status.Misnamed fault) path) t
 SaysStatus status.Unread path s t = Says s (status_line status.Unread path) t
 SaysStatus status.FileTooBig path s t = Says s (status_line status.FileTooBig path) t
 SaysStatus (status.CodeTooBig words) path s t = Says s (status_line (status.CodeTooBig words) path) t
@@ -76,19 +86,56 @@ RefusesFile status.OutOfMemory f g path = Unit {0}
 RefusesFile _ f g path = ⊥
 
 -- the status of a fault of the text
-abbrev pub status_of : TextFault → Status
-status_of (Lex at) = status.Misread (Lex at)
-status_of (Grammar at) = status.Misread (Grammar at)
-status_of (IntRange at) = status.Misread (IntRange at)
-status_of (Float at) = status.Misread (Float at)
-status_of (Deep at) = status.Misread (Deep at)
-status_of Memory = status.OutOfMemory
+abbrev pub text_status : TextFault → Status
+text_status (text.Lex at) = status.Misread (source.Text (text.Lex at))
+text_status (text.Grammar at) = status.Misread (source.Text (text.Grammar at))
+text_status (text.IntRange at) = status.Misread (source.Text (text.IntRange at))
+text_status (text.Float at) = status.Misread (source.Text (text.Float at))
+text_status (text.Deep at) = status.Misread (source.Text (text.Deep at))
+text_status text.Memory = status.OutOfMemory
+
+-- the status of a fault of the JSON
+abbrev pub json_status : JsonFault → Status
+json_status json.Syntax = status.Misread (source.Json json.Syntax)
+json_status (json.Shape func item) = status.Misread (source.Json (json.Shape func item))
+json_status (json.IntRange func item) = status.Misread (source.Json (json.IntRange func item))
+json_status (json.Float func item) = status.Misread (source.Json (json.Float func item))
+json_status (json.Deep func item) = status.Misread (source.Json (json.Deep func item))
+json_status json.Memory = status.OutOfMemory
+
+-- the status of a fault of the names
+abbrev pub name_status : NameFault → Status
+name_status (name.NoFunction func item) = status.Misnamed (name.NoFunction func item)
+name_status (name.TwiceFunction func) = status.Misnamed (name.TwiceFunction func)
+name_status (name.NoLabel func item) = status.Misnamed (name.NoLabel func item)
+name_status (name.TwiceLabel func item) = status.Misnamed (name.TwiceLabel func item)
+name_status name.NoMain = status.Misnamed name.NoMain
+name_status (name.TwiceArg func) = status.Misnamed (name.TwiceArg func)
+name_status name.Memory = status.OutOfMemory
 
 -- why bytes were not read as a tree
-abbrev pub RefusesTree : Status → List ℕ → Type 0
-RefusesTree (status.Misread fault) bytes = IsOnlyFault bytes fault
-RefusesTree status.OutOfMemory bytes = Unit {0}
-RefusesTree _ bytes = ⊥
+abbrev pub RefusesTree : Status → Format → List ℕ → Type 0
+RefusesTree (status.Misread fault) format bytes = IsOnlyFault format bytes fault
+RefusesTree status.OutOfMemory format bytes = Unit {0}
+RefusesTree _ format bytes = ⊥
+
+-- The tree has this fault of a name and no other, and no numbering.
+pub record IsOnlyNameFault (tree : Tree) (fault : NameFault) : Type 0 where
+  pub has : HasFault tree fault
+  pub alone : (other : NameFault) → HasFault tree other → fault ≡ other
+  pub unnumbered : (p : Prog) → Numbered tree p → ⊥
+
+-- The program is the tree's numbering and the only one, and the tree has no fault of a name.
+pub record IsOnlyProgram (tree : Tree) (p : Prog) : Type 0 where
+  pub numbered : Numbered tree p
+  pub alone : (q : Prog) → Numbered tree q → p ≡ q
+  pub faultless : (fault : NameFault) → HasFault tree fault → ⊥
+
+-- why a tree was not numbered
+abbrev pub RefusesNames : Status → Tree → Type 0
+RefusesNames (status.Misnamed fault) tree = IsOnlyNameFault tree fault
+RefusesNames status.OutOfMemory tree = Unit {0}
+RefusesNames _ tree = ⊥
 
 -- why no image was made of a program
 abbrev pub RefusesImage : Status → Prog → Type 0
@@ -128,20 +175,20 @@ RunsProgram (status.StackTooBig words) p s t =
 RunsProgram status.OutOfMemory p s t = t ≡ s
 RunsProgram _ p s t = ⊥
 
--- The tree is straight, and the program is its numbering.
-pub record IsProgramOf (tree : Tree) (p : Prog) : Type 0 where
-  pub straight : is_straight_tree tree ≡ true
-  pub numbered : Numbered tree p
+-- what running a numbered program answers: one that isn't straight does not run
+abbrev pub RunsNumbered : Status → Prog → SinkSeen → SinkSeen → Type 0
+RunsNumbered how p s t =
+    ((is_straight p ≡ false) × (how ≡ status.Unformed) × (t ≡ s)) ⊎ ((is_straight p ≡ true) × RunsProgram how p s t)
+
+-- what running a tree without imports answers
+abbrev pub RunsNames : Status → Tree → SinkSeen → SinkSeen → Type 0
+RunsNames how tree s t =
+    (RefusesNames how tree × (t ≡ s)) ⊎ ((p : Prog) × IsOnlyProgram tree p × RunsNumbered how p s t)
 
 -- what running a tree answers
 abbrev pub RunsTree : Status → Tree → SinkSeen → SinkSeen → Type 0
-RunsTree status.Unformed tree s t = (is_straight_tree tree ≡ false) × (t ≡ s)
-RunsTree status.OutOfMemory tree s t = t ≡ s
-RunsTree status.Done tree s t = (p : Prog) × IsProgramOf tree p × RunsProgram status.Done p s t
-RunsTree status.Unwritten tree s t = (p : Prog) × IsProgramOf tree p × RunsProgram status.Unwritten p s t
-RunsTree (status.CodeTooBig words) tree s t = (p : Prog) × IsProgramOf tree p × RunsProgram (status.CodeTooBig words) p s t
-RunsTree (status.StackTooBig words) tree s t = (p : Prog) × IsProgramOf tree p × RunsProgram (status.StackTooBig words) p s t
-RunsTree _ tree s t = ⊥
+RunsTree how tree s t =
+    ((tree.imports ≢ []) × (how ≡ status.Unformed) × (t ≡ s)) ⊎ ((tree.imports ≡ []) × RunsNames how tree s t)
 
 -- what a write of a text answers
 abbrev pub PutsText : Status → List ℕ → SinkSeen → SinkSeen → Type 0
@@ -150,45 +197,32 @@ PutsText status.Unwritten text s t = TookSome s text t × Rose s.faults t.faults
 PutsText status.OutOfMemory text s t = t ≡ s
 PutsText _ text s t = ⊥
 
--- what writing a tree answers
-abbrev pub WritesTree : Status → Tree → SinkSeen → SinkSeen → Type 0
-WritesTree how tree s t = PutsText how (canonical_text tree) s t
-
 abbrev pub DoesTree : Action → Status → Tree → SinkSeen → SinkSeen → Type 0
 DoesTree Run how tree s t = RunsTree how tree s t
-DoesTree WriteText how tree s t = WritesTree how tree s t
-
--- a file in JSON isn't read
-pub record RefusesJson (how : Status) (f g : FilesSeen) (path : List ℕ) (s t : SinkSeen) : Type 0 where
-  pub json : is_json path ≡ true
-  pub is : how ≡ status.Unformed
-  pub unread : g ≡ f
-  pub silent : t ≡ s
+DoesTree WriteText how tree s t = PutsText how (canonical_text tree) s t
+DoesTree WriteJson how tree s t = PutsText how (json_line tree) s t
 
 -- the file was not read
 pub record FailsToRead (how : Status) (f g : FilesSeen) (path : List ℕ) (s t : SinkSeen) : Type 0 where
-  pub no_json : is_json path ≡ false
   pub refuses : RefusesFile how f g path
   pub silent : t ≡ s
 
 -- the file's bytes were not read as a tree
 pub record FindsNoTree (how : Status) (f : FilesSeen) (path : List ℕ) (s t : SinkSeen) : Type 0 where
-  pub no_json : is_json path ≡ false
   pub bytes : List ℕ
   pub file : IsFile f path bytes
-  pub refuses : RefusesTree how bytes
+  pub refuses : RefusesTree how (format_of path) bytes
   pub silent : t ≡ s
 
 -- the file's tree was dealt with
 pub record DealsWithTree (action : Action) (how : Status) (f : FilesSeen) (path : List ℕ) (s t : SinkSeen) : Type 0 where
-  pub no_json : is_json path ≡ false
   pub bytes : List ℕ
   pub file : IsFile f path bytes
   pub tree : Tree
-  pub only : IsOnlyTree bytes tree
+  pub only : IsOnlyTree (format_of path) bytes tree
   pub does : DoesTree action how tree s t
 
 -- what an action on a file answers
 abbrev pub DoesFile : Action → Status → FilesSeen → FilesSeen → List ℕ → SinkSeen → SinkSeen → Type 0
 DoesFile action how f g path s t =
-    RefusesJson how f g path s t ⊎ (FailsToRead how f g path s t ⊎ (FindsNoTree how f path s t ⊎ DealsWithTree action how f path s t))
+    FailsToRead how f g path s t ⊎ (FindsNoTree how f path s t ⊎ DealsWithTree action how f path s t)

@@ -7,4 +7,6 @@ pub enum Action {
     Run,
     /// Writes its canonical text.
     WriteText,
+    /// Writes its canonical JSON.
+    WriteJson,
 }

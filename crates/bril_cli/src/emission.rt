@@ -8,7 +8,7 @@ ghost use Rattle.rv64_machine.specs.Encoding.{encoded};
 ghost use Rattle.bril_cli.specs.Carries.{Carries, frame_words, variables_in};
 ghost use Rattle.bril_cli.specs.Emitted.{high_part, low_part, constant_words, reach_words, load_words, store_words, call_words, end_words, literal_words, sum_words, print_words, action_words, item_words, code_words, program_words, frame_offset, action_bound, word_bound, bound_of_function, bound_sum};
 ghost use Rattle.bril_cli.specs.Refusal.{EmitRefuses};
-ghost use Rattle.bril_cli.specs.Straight.{IsStraight};
+ghost use Rattle.bril_cli.specs.Straight.{IsStraightCode};
 ghost use Rattle.bril_cli.specs.declared.emission.EmitFault.TheVariants.{Memory};
 
 use bril_tree::limits::Limits;
@@ -346,7 +346,7 @@ fn stack_bound(program: &Prog, limits: Limits) -> u64
 /// 12 for a constant, 16 for a sum or a print), and `StackTooBig` exactly where the words fit and the stack
 /// passes 8,388,608 words; both carry the number, or the greatest of 64 bits where it is greater.
 pub fn emit(alloc: Global, prog: &Prog, limits: Limits) -> Result<Image, EmitFault>
-    requires { IsStraight prog.now }
+    requires { IsStraightCode prog.now }
     ensures carries { IfOk result (λ image. Carries image prog.now limits) }
     ensures stack { IfOk result (λ image. image.stack ≡ limits.frames * frame_words prog.now) }
     ensures length { IfOk result (λ image. length image.words ≤ 250000) }
@@ -366,7 +366,7 @@ pub fn emit(alloc: Global, prog: &Prog, limits: Limits) -> Result<Image, EmitFau
 
 // The image of a program with a stack of so many words.
 fn image_of(alloc: Global, prog: &Prog, stack: u32) -> Result<Image, AllocError>
-    requires straight { IsStraight prog.now }
+    requires straight { IsStraightCode prog.now }
     requires small { frame_words prog.now ≤ 8388608 }
     ensures words { IfOk result (λ image. image.words ≡ map encoded (program_words prog.now.funcs)) }
     ensures stack { IfOk result (λ image. image.stack ≡ stack) }

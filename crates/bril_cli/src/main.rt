@@ -3,13 +3,13 @@
 
 mod action;
 mod emission;
-mod numbering;
 mod report;
+mod source;
 mod status;
+mod straight;
 #[cfg(test)]
 mod tests;
 mod top;
-mod variables;
 mod work;
 
 use bril_outside::os_files::OsFiles;

@@ -2,14 +2,24 @@
 
 ghost use Rattle.std.specs.Prelude.{◌≡◌, ◌++◌, codes};
 ghost use Rattle.std.specs.Fmt.{decimal};
-ghost use Rattle.bril_cli.specs.Answers.{Says, misread_line, text_front, text_place};
+ghost use Rattle.bril_cli.specs.Answers.{Says, misread_line, misnamed_line, text_front, text_place, json_front, json_place, name_front, name_place, number_or_dash, place_end};
 ghost use Rattle.bril_cli.specs.Works.{status_number, status_line, PutsLine, SaysStatus};
 
+use crate::source::SourceFault;
 use crate::status::Status;
+use bril_json::JsonFault;
+use bril_names::NameFault;
 use bril_outside::sink::{Failed, Sink, put_three, put_two};
 use bril_text::TextFault;
 use bril_tree::text::Text;
 use itoa::Buffer;
+
+// A function and an item by their numbers, where a fault stands in one.
+#[derive(Clone, Copy, Drop)]
+struct Place {
+    func: Option<u32>,
+    item: Option<u32>,
+}
 
 /// The number of a status.
 pub fn status_number(status: Status) -> u8
@@ -17,7 +27,7 @@ pub fn status_number(status: Status) -> u8
 {
     match status {
         Status::Done => 0,
-        Status::Unformed | Status::Misread { .. } => 65,
+        Status::Unformed | Status::Misread { .. } | Status::Misnamed { .. } => 65,
         Status::Unread => 66,
         Status::FileTooBig | Status::CodeTooBig { .. } | Status::StackTooBig { .. } => 68,
         Status::OutOfMemory => 71,
@@ -49,6 +59,7 @@ fn put_status<E: Sink>(err: &mut E, path: &Text, status: Status) -> Result<(), F
         Status::Done => put_line(err, b""),
         Status::Unformed => put_two(err, path.as_bytes(), b": form\n"),
         Status::Misread { fault } => put_misread(err, path.as_bytes(), fault),
+        Status::Misnamed { fault } => put_misnamed(err, fault),
         Status::Unread => put_around(err, b"cannot read ", path.as_bytes()),
         Status::FileTooBig => put_line(err, b"too large: bytes\n"),
         Status::CodeTooBig { words } => put_number(err, b"too large: code ", words),
@@ -58,9 +69,26 @@ fn put_status<E: Sink>(err: &mut E, path: &Text, status: Status) -> Result<(), F
     }
 }
 
-// Puts the line of a fault of the text of the file at a path.
-fn put_misread<E: Sink>(err: &mut E, path: &[u8], fault: TextFault) -> Result<(), Failed>
+// Puts the line of a fault of the bytes of the file at a path.
+fn put_misread<E: Sink>(err: &mut E, path: &[u8], fault: SourceFault) -> Result<(), Failed>
     ensures { PutsLine result (E.seen err.old) (misread_line path.now fault) (E.seen err.new) }
+{
+    match fault {
+        SourceFault::Text(fault) => put_text_fault(err, path, fault),
+        SourceFault::Json(fault) => { put_placed(err, path, json_front(fault), json_place(fault)) }
+    }
+}
+
+// Puts the line of a fault of the names.
+fn put_misnamed<E: Sink>(err: &mut E, fault: NameFault) -> Result<(), Failed>
+    ensures { PutsLine result (E.seen err.old) (misnamed_line fault) (E.seen err.new) }
+{
+    put_placed(err, b"", name_front(fault), name_place(fault))
+}
+
+// Puts the line of a fault of the text of the file at a path.
+fn put_text_fault<E: Sink>(err: &mut E, path: &[u8], fault: TextFault) -> Result<(), Failed>
+    ensures { PutsLine result (E.seen err.old) (misread_line path.now (SourceFault.Text fault)) (E.seen err.new) }
 {
     let mut buffer = Buffer::new();
     put_four(
@@ -70,6 +98,112 @@ fn put_misread<E: Sink>(err: &mut E, path: &[u8], fault: TextFault) -> Result<()
         buffer.format(text_place(fault)).as_bytes(),
         b"\n",
     )
+}
+
+// Puts a line that ends with a place.
+fn put_placed<E: Sink>(err: &mut E, a: &[u8], b: &[u8], place: Place) -> Result<(), Failed>
+    ensures { PutsLine result (E.seen err.old) (a.now ++ b.now ++ place_end place) (E.seen err.new) }
+{
+    put_two(err, a, b)?;
+    match put_place(err, place) {
+        Ok(()) => Ok(()),
+        Err(Failed) => Err(Failed),
+    }
+}
+
+// Puts the end of a line that tells a place.
+fn put_place<E: Sink>(err: &mut E, place: Place) -> Result<(), Failed>
+    ensures { PutsLine result (E.seen err.old) (place_end place) (E.seen err.new) }
+{
+    let mut func = Buffer::new();
+    let mut item = Buffer::new();
+    put_four(
+        err,
+        number_or_dash(&mut func, place.func),
+        b" item ",
+        number_or_dash(&mut item, place.item),
+        b"\n",
+    )
+}
+
+// A number as a decimal, or `-` for none.
+fn number_or_dash(buffer: &mut Buffer, number: Option<u32>) -> &[u8]
+    ensures { result.now ≡ number_or_dash number }
+{
+    match number {
+        Some(number) => buffer.format(number).as_bytes(),
+        None => b"-",
+    }
+}
+
+// The kind of a fault of the JSON, by its number.
+fn json_front(fault: JsonFault) -> &'static [u8]
+    ensures { result.now ≡ json_front fault }
+{
+    match fault {
+        JsonFault::Syntax => b": json 1 function ",
+        JsonFault::Shape { .. } => b": json 2 function ",
+        JsonFault::IntRange { .. } => b": json 3 function ",
+        JsonFault::Float { .. } => b": json 4 function ",
+        JsonFault::Deep { .. } => b": json 5 function ",
+        JsonFault::Memory => b": json 0 function ",
+    }
+}
+
+// The place of a fault of the JSON.
+fn json_place(fault: JsonFault) -> Place
+    ensures { result ≡ json_place fault }
+{
+    match fault {
+        JsonFault::Shape { func, item }
+        | JsonFault::Float { func, item }
+        | JsonFault::Deep { func, item } => Place { func, item },
+        JsonFault::IntRange { func, item } => Place {
+            func: Some(func),
+            item: Some(item),
+        },
+        JsonFault::Syntax | JsonFault::Memory => Place {
+            func: None,
+            item: None,
+        },
+    }
+}
+
+// The kind of a fault of the names, by its number.
+fn name_front(fault: NameFault) -> &'static [u8]
+    ensures { result.now ≡ name_front fault }
+{
+    match fault {
+        NameFault::NoFunction { .. } => b"name 1 function ",
+        NameFault::TwiceFunction { .. } => b"name 2 function ",
+        NameFault::NoLabel { .. } => b"name 3 function ",
+        NameFault::TwiceLabel { .. } => b"name 4 function ",
+        NameFault::NoMain => b"name 5 function ",
+        NameFault::TwiceArg { .. } => b"name 6 function ",
+        NameFault::Memory => b"name 0 function ",
+    }
+}
+
+// The place of a fault of the names.
+fn name_place(fault: NameFault) -> Place
+    ensures { result ≡ name_place fault }
+{
+    match fault {
+        NameFault::NoFunction { func, item }
+        | NameFault::NoLabel { func, item }
+        | NameFault::TwiceLabel { func, item } => Place {
+            func: Some(func),
+            item: Some(item),
+        },
+        NameFault::TwiceFunction { func } | NameFault::TwiceArg { func } => Place {
+            func: Some(func),
+            item: None,
+        },
+        NameFault::NoMain | NameFault::Memory => Place {
+            func: None,
+            item: None,
+        },
+    }
 }
 
 // The kind of a fault of the text, by its number.

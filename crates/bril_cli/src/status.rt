@@ -1,16 +1,19 @@
 // How a command ends.
 
-use bril_text::TextFault;
+use crate::source::SourceFault;
+use bril_names::NameFault;
 
 /// How a command that was asked for ends.
 #[derive(Clone, Copy, PartialEq, Eq, Debug, Drop)]
 pub enum Status {
     /// All was done.
     Done,
-    /// The file is in JSON, or its program isn't straight.
+    /// The file's program can't run yet: it has imports, or isn't straight.
     Unformed,
-    /// The file spells no tree.
-    Misread { fault: TextFault },
+    /// The file's bytes read as no tree.
+    Misread { fault: SourceFault },
+    /// The names of the file's tree can't become numbers.
+    Misnamed { fault: NameFault },
     /// The file could not be read.
     Unread,
     /// The file has too many bytes.

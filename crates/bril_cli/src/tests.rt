@@ -32,8 +32,12 @@ fn plain(words: &'static [&'static str], status: u8, out: &'static str, err: &'s
     }
 }
 
-const FILES: [(&str, &[u8]); 20] = [
+const FILES: [(&str, &[u8]); 21] = [
     ("one.bril", b"@main { v: int = const 4; print v; }"),
+    (
+        "one.json",
+        b"{\"functions\":[{\"name\":\"main\",\"instrs\":[{\"op\":\"const\",\"dest\":\"v\",\"type\":\"int\",\"value\":4,\"pos\":{\"row\":1,\"col\":3}},{\"op\":\"print\",\"args\":[\"v\"]}]}]}",
+    ),
     ("empty.bril", b"@main { }"),
     ("f.bril", b"@main { print v; }"),
     ("bytes.bril", b"\xff"),
@@ -77,7 +81,7 @@ const FILES: [(&str, &[u8]); 20] = [
 ];
 
 // The command lines. The first read fails.
-fn rows() -> [Row; 45] {
+fn rows() -> [Row; 51] {
     [
         plain(
             &["bril", "run", "one.bril"],
@@ -145,8 +149,46 @@ fn rows() -> [Row; 45] {
         ),
         plain(&["bril", "run", "spaced.bril"], 0, "4\n", ""),
         plain(&["bril", "run", "two.bril"], 65, "", "two.bril: form\n"),
-        plain(&["bril", "run", "one.json"], 65, "", "one.json: form\n"),
-        plain(&["bril", "text", "one.json"], 65, "", "one.json: form\n"),
+        plain(&["bril", "run", "one.json"], 0, "4\n", ""),
+        plain(
+            &["bril", "text", "one.json"],
+            0,
+            "@main {\n  v: int = const 4;\n  print v;\n}\n",
+            "",
+        ),
+        plain(
+            &["bril", "json", "one.bril"],
+            0,
+            "{\"functions\":[{\"instrs\":[{\"dest\":\"v\",\"op\":\"const\",\"type\":\"int\",\"value\":4},{\"args\":[\"v\"],\"op\":\"print\"}],\"name\":\"main\"}]}\n",
+            "",
+        ),
+        plain(
+            &["bril", "json", "imports.bril"],
+            0,
+            "{\"functions\":[{\"instrs\":[],\"name\":\"main\"}],\"imports\":[{\"functions\":[{\"name\":\"f\"}],\"path\":\"a\"}]}\n",
+            "",
+        ),
+        plain(
+            &["bril", "json", "open.bril"],
+            65,
+            "",
+            "open.bril: text 2 at 7\n",
+        ),
+        plain(
+            &["bril", "json", "nothere.json"],
+            66,
+            "",
+            "cannot read nothere.json\n",
+        ),
+        plain(&["bril", "json"], 64, "", "usage\n"),
+        Row {
+            words: &["bril", "json", "one.bril"],
+            outs: &[1],
+            errs: &[],
+            status: 74,
+            out: "",
+            err: "cannot write\n",
+        },
         plain(
             &["bril", "text", "nothere.bril"],
             66,
@@ -204,7 +246,7 @@ fn rows() -> [Row; 45] {
             &["bril", "run", "nothing.bril"],
             65,
             "",
-            "nothing.bril: form\n",
+            "name 5 function - item -\n",
         ),
         plain(&["bril", "run", "late.bril"], 65, "", "late.bril: form\n"),
         plain(
@@ -332,3 +374,5 @@ fn worked_command_lines(rt: HostRuntime) -> Result<(), Fail> {
     }
     Ok(())
 }
+
+mod single_files;

@@ -1,17 +1,18 @@
 // The top call: a command line from its words to its status.
 
-ghost use Rattle.std.specs.Prelude.{◌≡◌, ◌≤◌, ◌<◌, ◌↔◌, ℕ, List, None, Some, length};
+ghost use Rattle.std.specs.Prelude.{◌≡◌, ◌≤◌, ◌<◌, ◌↔◌, ℕ, true, List, None, Some, length};
 ghost use Rattle.std.specs.Option.{option_map};
 ghost use Rattle.bril_tree.specs.declared.program.Prog.{Prog};
 ghost use Rattle.bril_tree.specs.declared.tree.Tree.{Tree};
+ghost use Rattle.bril_names.specs.declared.fault.NameFault.{NameFault};
 ghost use Rattle.bril_text.specs.Canonical.{canonical_text};
-ghost use Rattle.bril_text.specs.Reading.{Spells, HasFault};
-ghost use Rattle.bril_text.specs.declared.fault.TextFault.{TextFault};
 ghost use Rattle.bril_outside.specs.Sink.{Rose, TookAll};
-ghost use Rattle.bril_cli.specs.Answers.{call_of, Answers, Finished, Unformed, Unread, TooLarge, ReadsWell, AsksNone, AsksJson, Prints, UnlessMemory, Says, misread_line};
-ghost use Rattle.bril_cli.specs.CommandLine.{is_operand, action_of, asked_of};
-ghost use Rattle.bril_cli.specs.Source.{most_bytes, IsSource, IsFormless, IsWithin};
+ghost use Rattle.bril_cli.specs.Answers.{call_of, Answers, Finished, Unformed, Unread, TooLarge, ReadsWell, AsksNone, Prints, UnlessMemory, Says, form_line, misread_line, misnamed_line};
+ghost use Rattle.bril_cli.specs.CommandLine.{is_operand, action_of, asked_of, format_of};
+ghost use Rattle.bril_cli.specs.Source.{most_bytes, json_line, ReadsAs, HasFault, HasNameFault, IsSource, IsFormless, IsWithin};
+ghost use Rattle.bril_cli.specs.Straight.{is_straight};
 ghost use Rattle.bril_cli.specs.declared.action.Action.{Action};
+ghost use Rattle.bril_cli.specs.declared.source.SourceFault.{SourceFault};
 
 use crate::action::Action;
 use crate::report::{say, say_usage, status_number};
@@ -27,24 +28,36 @@ const MISUSED: u8 = 64;
 /// Does what the words ask for, and answers the exit status.
 ///
 /// The words are the program's name, a command, and the path of a file: one byte or more, of which the first
-/// is no `-`. The commands are `run`, which runs the file's program, and `text`, which writes the file in
-/// canonical text. The file is in the text form of the Bril documentation. To be run it has to be a straight
+/// is no `-`. The commands are `run`, which runs the file's program, and `text` and `json`, which write the file
+/// in canonical text, and in canonical JSON and LF. A file whose path ends in `.json` is in the JSON form of the
+/// Bril documentation, and any other in its text form. To be run it has to be without imports, and a straight
 /// program: one function `@main` of constants, sums and prints of ints, each variable assigned before it is
 /// read. It is made into words of RV64I, which a machine runs.
 ///
 /// | Status | Comes | Line on `err` |
 /// |---|---|---|
-/// | 0 | all was done: `out` took all that the program prints up to its end, or the canonical text | none |
+/// | 0 | all was done: `out` took all that the program prints up to its end, or the canonical text or JSON | none |
 /// | 64 | the words are any others | `usage` |
-/// | 65 | the file spells no tree; or it is to be run and isn't straight, or its path ends in `.json` | `PATH: text K at AT`; `PATH: form` |
+/// | 65 | the file is no program in its form | `PATH: text K at AT`, `PATH: json K function F item I` |
+/// | 65 | the file is to be run and has imports | `PATH: form` |
+/// | 65 | the file is to be run, and a name in it stands twice or for nothing | `name K function F item I` |
+/// | 65 | the file is to be run and isn't straight | `PATH: form` |
 /// | 66 | the file is not there, or reading it failed | `cannot read PATH` |
 /// | 68 | the file has more than 16,777,216 bytes, or the program's words may be more than 250,000, or its 8,192 frames need more than 8,388,608 words | `too large: bytes`, `too large: code WORDS`, `too large: stack WORDS` |
 /// | 71 | memory was wanting, for `run` before the program began to run | `out of memory` |
 /// | 74 | a write to `out` failed, which took the first of what goes there | `cannot write` |
 ///
-/// K is 1 where nothing begins at byte AT, 2 where no program goes on with the token there, 3 where a number
-/// is no int, 4 where a float stands, 5 at the 33rd `ptr` of a type. At 64 to 71 `out` gets nothing. Each line
-/// ends with LF; a fault of `err` changes nothing else.
+/// Where several causes stand together, the first in this order is answered: 64, 66, the file's size, and then 65
+/// in the order of the table, the program's code and its stack.
+///
+/// In text K is 1 where nothing begins at byte AT, 2 where no program goes on with the token there, 3 where a
+/// number is no int, 4 where a float stands, 5 at the 33rd `ptr` of a type. In JSON K is 1 where the bytes are no
+/// JSON value, 2 where something isn't as the form has it, 3 where a number is no int, 4 where a float stands, 5
+/// at the 33rd `ptr` of a type. Of a name K is 1 for a function that isn't there, 2 for a function that stands
+/// twice, 3 for a label that isn't there, 4 for a label that stands twice, 5 where no function is `main`, 6 for an
+/// argument that stands twice. F and I are the numbers from 0 of the function and its item, and `-` where the
+/// fault stands in none. At 64 to 71 `out` gets nothing. Each line ends with LF; a fault of `err` changes nothing
+/// else.
 pub fn bril_top<F: Files, O: Sink, E: Sink>(
     alloc: Global,
     words: &[Text],
@@ -73,22 +86,30 @@ pub fn bril_top<F: Files, O: Sink, E: Sink>(
     ensures misused { (result ≡ 64) ↔ (asked_of words.now ≡ None) }
     ensures runs { let call = call_of words.now (F.seen files.old) (F.seen files.new)
         (O.seen out.old) (O.seen out.new) (E.seen err.old) (E.seen err.new) in
-        (bytes : List ℕ) (program : Prog) → ReadsWell call Action.Run bytes → length bytes ≤ most_bytes → IsSource bytes program → IsWithin program →
-        ¬ Rose (O.seen out.old).faults (O.seen out.new).faults → UnlessMemory result ((result ≡ 0) × Prints call program) }
+        (bytes : List ℕ) (program : Prog) (reads : ReadsWell call Action.Run bytes) → length bytes ≤ most_bytes → IsSource (format_of reads.path) bytes program →
+        is_straight program ≡ true → IsWithin program → ¬ Rose (O.seen out.old).faults (O.seen out.new).faults → UnlessMemory result ((result ≡ 0) × Prints call program) }
     ensures writes { let call = call_of words.now (F.seen files.old) (F.seen files.new)
         (O.seen out.old) (O.seen out.new) (E.seen err.old) (E.seen err.new) in
-        (bytes : List ℕ) (tree : Tree) → ReadsWell call Action.WriteText bytes → length bytes ≤ most_bytes → Spells bytes tree →
+        (bytes : List ℕ) (tree : Tree) (reads : ReadsWell call Action.WriteText bytes) → length bytes ≤ most_bytes → ReadsAs (format_of reads.path) bytes tree →
         ¬ Rose (O.seen out.old).faults (O.seen out.new).faults →
         UnlessMemory result ((result ≡ 0) × TookAll (O.seen out.old) (canonical_text tree) (O.seen out.new)) }
+    ensures writes_json { let call = call_of words.now (F.seen files.old) (F.seen files.new)
+        (O.seen out.old) (O.seen out.new) (E.seen err.old) (E.seen err.new) in
+        (bytes : List ℕ) (tree : Tree) (reads : ReadsWell call Action.WriteJson bytes) → length bytes ≤ most_bytes → ReadsAs (format_of reads.path) bytes tree →
+        ¬ Rose (O.seen out.old).faults (O.seen out.new).faults →
+        UnlessMemory result ((result ≡ 0) × TookAll (O.seen out.old) (json_line tree) (O.seen out.new)) }
     ensures misread { let call = call_of words.now (F.seen files.old) (F.seen files.new)
         (O.seen out.old) (O.seen out.new) (E.seen err.old) (E.seen err.new) in
-        (action : Action) (bytes : List ℕ) (fault : TextFault) → (reads : ReadsWell call action bytes) → length bytes ≤ most_bytes → HasFault bytes fault →
+        (action : Action) (bytes : List ℕ) (fault : SourceFault) (reads : ReadsWell call action bytes) → length bytes ≤ most_bytes → HasFault (format_of reads.path) bytes fault →
         UnlessMemory result ((result ≡ 65) × Says (E.seen err.old) (misread_line reads.path fault) (E.seen err.new)) }
+    ensures misnamed { let call = call_of words.now (F.seen files.old) (F.seen files.new)
+        (O.seen out.old) (O.seen out.new) (E.seen err.old) (E.seen err.new) in
+        (bytes : List ℕ) (fault : NameFault) (reads : ReadsWell call Action.Run bytes) → length bytes ≤ most_bytes → HasNameFault (format_of reads.path) bytes fault →
+        UnlessMemory result ((result ≡ 65) × Says (E.seen err.old) (misnamed_line fault) (E.seen err.new)) }
     ensures formless { let call = call_of words.now (F.seen files.old) (F.seen files.new)
         (O.seen out.old) (O.seen out.new) (E.seen err.old) (E.seen err.new) in
-        (bytes : List ℕ) → ReadsWell call Action.Run bytes → length bytes ≤ most_bytes → IsFormless bytes → UnlessMemory result (result ≡ 65) }
-    ensures json { AsksJson (call_of words.now (F.seen files.old) (F.seen files.new)
-        (O.seen out.old) (O.seen out.new) (E.seen err.old) (E.seen err.new)) → result ≡ 65 }
+        (bytes : List ℕ) (reads : ReadsWell call Action.Run bytes) → length bytes ≤ most_bytes → IsFormless (format_of reads.path) bytes →
+        UnlessMemory result ((result ≡ 65) × Says (E.seen err.old) (form_line reads.path) (E.seen err.new)) }
     ensures lacking { AsksNone (call_of words.now (F.seen files.old) (F.seen files.new)
         (O.seen out.old) (O.seen out.new) (E.seen err.old) (E.seen err.new)) → UnlessMemory result (result ≡ 66) }
     ensures long_file { let call = call_of words.now (F.seen files.old) (F.seen files.new)
@@ -96,8 +117,8 @@ pub fn bril_top<F: Files, O: Sink, E: Sink>(
         (action : Action) (bytes : List ℕ) → ReadsWell call action bytes → most_bytes < length bytes → UnlessMemory result (result ≡ 68) }
     ensures long_program { let call = call_of words.now (F.seen files.old) (F.seen files.new)
         (O.seen out.old) (O.seen out.new) (E.seen err.old) (E.seen err.new) in
-        (bytes : List ℕ) (program : Prog) → ReadsWell call Action.Run bytes → length bytes ≤ most_bytes → IsSource bytes program → ¬ IsWithin program →
-        UnlessMemory result (result ≡ 68) }
+        (bytes : List ℕ) (program : Prog) (reads : ReadsWell call Action.Run bytes) → length bytes ≤ most_bytes → IsSource (format_of reads.path) bytes program →
+        is_straight program ≡ true → ¬ IsWithin program → UnlessMemory result (result ≡ 68) }
 {
     let Some((action, path)) = asked_of(words) else {
         say_usage(err);
@@ -127,6 +148,7 @@ fn action_of(name: &str) -> Option<Action>
     match name {
         "run" => Some(Action::Run),
         "text" => Some(Action::WriteText),
+        "json" => Some(Action::WriteJson),
         _ => None,
     }
 }

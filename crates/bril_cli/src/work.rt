@@ -1,20 +1,24 @@
-// What a command does: it reads a file, and writes its text, or numbers its program and runs it on the machine.
+// What a command does: it reads a file, and writes its tree, or numbers its program and runs it on the machine.
 
-ghost use Rattle.std.specs.Prelude.{◌≡◌, ◌≤◌, ◌*◌, length, IfOk, IfErr};
+ghost use Rattle.std.specs.Prelude.{◌≡◌, ◌≤◌, ◌*◌, [], length, IfOk, IfErr, MatchResult};
 ghost use Rattle.bril_cli.specs.Carries.{Carries, frame_words};
 ghost use Rattle.bril_cli.specs.Emitted.{bound_sum};
-ghost use Rattle.bril_cli.specs.CommandLine.{is_json};
-ghost use Rattle.bril_cli.specs.Source.{most_bytes, run_limits, IsFile, IsOnlyTree, IsWithin};
-ghost use Rattle.bril_cli.specs.Straight.{IsStraight};
-ghost use Rattle.bril_cli.specs.Works.{RefusesFile, RefusesTree, RefusesImage, RunsImage, RunsProgram, RunsTree, WritesTree, PutsText, DoesTree, DoesFile, status_of};
+ghost use Rattle.bril_cli.specs.Source.{json_line, run_limits, IsFile, IsWithin};
+ghost use Rattle.bril_cli.specs.Straight.{IsStraightCode};
+ghost use Rattle.bril_cli.specs.Works.{RefusesFile, RefusesNames, IsOnlyProgram, RefusesImage, RunsImage, RunsProgram, RunsNumbered, RunsNames, RunsTree, PutsText, DoesTree, DoesFile, name_status};
+ghost use Rattle.bril_cli.specs.declared.status.Status.TheVariants.{OutOfMemory};
+ghost use Rattle.bril_text.specs.Canonical.{canonical_text};
 
 use crate::action::Action;
 use crate::emission::{EmitFault, emit};
-use crate::numbering::number;
+use crate::source::read_tree;
 use crate::status::Status;
+use crate::straight::is_straight;
+use bril_json::write_json;
+use bril_names::{NameFault, number};
 use bril_outside::files::{FileFault, Files};
 use bril_outside::sink::{Failed, Sink};
-use bril_text::{TextFault, read_text, write_text};
+use bril_text::write_text;
 use bril_tree::bytes::Bytes;
 use bril_tree::limits::{End, Limits};
 use bril_tree::program::Prog;
@@ -23,7 +27,7 @@ use bril_tree::tree::Tree;
 use rv64_machine::answer::RunAnswer;
 use rv64_machine::image::Image;
 use rv64_machine::machine::Machine;
-use std::alloc::Global;
+use std::alloc::{AllocError, Global};
 
 // The most bytes that a file may have.
 const MOST_BYTES: u64 = 16777216;
@@ -33,9 +37,10 @@ const MOST_STEPS: u64 = 1000000000;
 
 /// Does what an action asks of the file at the path: what it produces goes to `out`.
 ///
-/// The file is text of at most 16,777,216 bytes that spells a tree. To run it the tree has to be that of a
-/// straight program, which has at most 250,000 words and needs at most 8,388,608 words of stack. In all other
-/// cases nothing is put on `out`. A file in JSON is refused unread.
+/// The file has at most 16,777,216 bytes, which read as a tree: in JSON where the path ends in `.json`, and in
+/// text anywhere else. To run it the tree has to be without imports, each of its names has to stand for one thing
+/// that is there, and its program has to be straight, which has at most 250,000 words and needs at most 8,388,608
+/// words of stack. In all other cases nothing is put on `out`.
 pub fn do_file<F: Files, O: Sink>(
     alloc: Global,
     action: Action,
@@ -47,24 +52,14 @@ pub fn do_file<F: Files, O: Sink>(
     ensures faults { (F.seen files.old).faults ≤ (F.seen files.new).faults }
     ensures does { DoesFile action result (F.seen files.old) (F.seen files.new) path.now (O.seen out.old) (O.seen out.new) }
 {
-    if is_json(path.as_bytes()) {
-        return Status::Unformed;
-    }
     let source = match read_file(alloc, path, files) {
         Ok(source) => source,
         Err(status) => return status,
     };
-    match read_tree(alloc, source.as_slice()) {
+    match read_tree(alloc, path.as_bytes(), source.as_slice()) {
         Ok(tree) => do_tree(alloc, action, &tree, out),
         Err(status) => status,
     }
-}
-
-// Whether the path is that of a file in JSON.
-fn is_json(path: &[u8]) -> bool
-    ensures { result ≡ is_json path.now }
-{
-    path.ends_with(b".json")
 }
 
 // The bytes of the file at the path.
@@ -83,49 +78,43 @@ fn read_file<F: Files>(alloc: Global, path: &Text, files: &mut F) -> Result<Byte
     }
 }
 
-// The tree that the bytes spell.
-fn read_tree(alloc: Global, source: &[u8]) -> Result<Tree, Status>
-    requires { length source.now ≤ most_bytes }
-    ensures ok { IfOk result (IsOnlyTree source.now) }
-    ensures err { IfErr result (λ status. RefusesTree status source.now) }
-{
-    match read_text(alloc, source) {
-        Ok(tree) => Ok(tree),
-        Err(fault) => Err(status_of(fault)),
-    }
-}
-
-// The status of a fault of the text.
-fn status_of(fault: TextFault) -> Status
-    ensures { result ≡ status_of fault }
-{
-    match fault {
-        TextFault::Memory => Status::OutOfMemory,
-        TextFault::Lex { .. }
-        | TextFault::Grammar { .. }
-        | TextFault::IntRange { .. }
-        | TextFault::Float { .. }
-        | TextFault::Deep { .. } => Status::Misread { fault },
-    }
-}
-
 // Does what an action asks of a tree.
 fn do_tree<O: Sink>(alloc: Global, action: Action, tree: &Tree, out: &mut O) -> Status
     ensures { DoesTree action result tree.now (O.seen out.old) (O.seen out.new) }
 {
     match action {
         Action::Run => run_tree(alloc, tree, out),
-        Action::WriteText => write_tree(alloc, tree, out),
+        Action::WriteText => put_made(text_of(alloc, tree), out),
+        Action::WriteJson => put_made(json_of(alloc, tree), out),
     }
 }
 
-// Puts the canonical text of a tree on the output.
-fn write_tree<O: Sink>(alloc: Global, tree: &Tree, out: &mut O) -> Status
-    ensures { WritesTree result tree.now (O.seen out.old) (O.seen out.new) }
+// The canonical text of a tree.
+fn text_of(alloc: Global, tree: &Tree) -> Result<Bytes, AllocError>
+    ensures { IfOk result (λ text. text ≡ canonical_text tree.now) }
 {
     let mut text = Bytes::new(alloc);
-    match write_text(tree, &mut text) {
-        Ok(()) => put_all(text.as_slice(), out),
+    write_text(tree, &mut text)?;
+    Ok(text)
+}
+
+// The canonical JSON of a tree, and LF.
+fn json_of(alloc: Global, tree: &Tree) -> Result<Bytes, AllocError>
+    ensures { IfOk result (λ text. text ≡ json_line tree.now) }
+{
+    let mut text = Bytes::new(alloc);
+    write_json(alloc, tree, &mut text)?;
+    text.add(b"\n")?;
+    Ok(text)
+}
+
+// Puts a text on the output, where there was memory for it.
+fn put_made<O: Sink>(made: Result<Bytes, AllocError>, out: &mut O) -> Status
+    ensures { MatchResult made (λ text. PutsText result text (O.seen out.old) (O.seen out.new))
+        (λ _. (result ≡ OutOfMemory) × (O.seen out.new ≡ O.seen out.old)) }
+{
+    match made {
+        Ok(text) => put_all(text.as_slice(), out),
         Err(_) => Status::OutOfMemory,
     }
 }
@@ -144,11 +133,58 @@ fn put_all<O: Sink>(text: &[u8], out: &mut O) -> Status
 fn run_tree<O: Sink>(alloc: Global, tree: &Tree, out: &mut O) -> Status
     ensures { RunsTree result tree.now (O.seen out.old) (O.seen out.new) }
 {
-    match number(alloc, tree) {
-        Ok(Some(program)) => run_program(alloc, &program, out),
-        Ok(None) => Status::Unformed,
-        Err(_) => Status::OutOfMemory,
+    if !tree.imports.as_slice().is_empty() {
+        return Status::Unformed;
     }
+    run_names(alloc, tree, out)
+}
+
+// Numbers a tree without imports and runs its program.
+fn run_names<O: Sink>(alloc: Global, tree: &Tree, out: &mut O) -> Status
+    requires { tree.now.imports ≡ [] }
+    ensures { RunsNames result tree.now (O.seen out.old) (O.seen out.new) }
+{
+    match number_tree(alloc, tree) {
+        Ok(program) => run_numbered(alloc, &program, out),
+        Err(status) => status,
+    }
+}
+
+// The numbering of a tree without imports.
+fn number_tree(alloc: Global, tree: &Tree) -> Result<Prog, Status>
+    requires { tree.now.imports ≡ [] }
+    ensures ok { IfOk result (IsOnlyProgram tree.now) }
+    ensures err { IfErr result (λ status. RefusesNames status tree.now) }
+{
+    match number(alloc, tree) {
+        Ok(program) => Ok(program),
+        Err(fault) => Err(name_status(fault)),
+    }
+}
+
+// The status of a fault of the names.
+fn name_status(fault: NameFault) -> Status
+    ensures { result ≡ name_status fault }
+{
+    match fault {
+        NameFault::Memory => Status::OutOfMemory,
+        NameFault::NoFunction { .. }
+        | NameFault::TwiceFunction { .. }
+        | NameFault::NoLabel { .. }
+        | NameFault::TwiceLabel { .. }
+        | NameFault::NoMain
+        | NameFault::TwiceArg { .. } => Status::Misnamed { fault },
+    }
+}
+
+// Runs a numbered program, where it is straight.
+fn run_numbered<O: Sink>(alloc: Global, program: &Prog, out: &mut O) -> Status
+    ensures { RunsNumbered result program.now (O.seen out.old) (O.seen out.new) }
+{
+    if !is_straight(program) {
+        return Status::Unformed;
+    }
+    run_program(alloc, program, out)
 }
 
 // The limits of a run.
@@ -163,7 +199,7 @@ fn run_limits() -> Limits
 
 // Makes the program's image and runs it.
 fn run_program<O: Sink>(alloc: Global, program: &Prog, out: &mut O) -> Status
-    requires { IsStraight program.now }
+    requires { IsStraightCode program.now }
     ensures { RunsProgram result program.now (O.seen out.old) (O.seen out.new) }
 {
     match compile(alloc, program) {
@@ -174,7 +210,7 @@ fn run_program<O: Sink>(alloc: Global, program: &Prog, out: &mut O) -> Status
 
 // The image of the program.
 fn compile(alloc: Global, program: &Prog) -> Result<Image, Status>
-    requires { IsStraight program.now }
+    requires { IsStraightCode program.now }
     ensures carries { IfOk result (λ image. Carries image program.now run_limits) }
     ensures stack { IfOk result (λ image. image.stack ≡ 8192 * frame_words program.now) }
     ensures words { IfOk result (λ image. length image.words ≤ 250000) }
@@ -197,7 +233,7 @@ fn run_image<O: Sink>(
     steps: u64,
     out: &mut O,
 ) -> Status
-    requires straight { IsStraight program.now }
+    requires straight { IsStraightCode program.now }
     requires carries { Carries image.now program.now run_limits }
     requires stack { image.now.stack ≡ 8192 * frame_words program.now }
     requires words { length image.now.words ≤ 250000 }

@@ -1,7 +1,8 @@
 -- What the command answers, from what its steps answered.
 use Rattle.std.proofs.Common.{rules, sym, subst}
 use Rattle.bril_cli.specs.Answers.{Call, call_of, Answers}
-use Rattle.bril_cli.proofs.Commands.{Ends, Answers-of, runs_where, refused_where, formless_where, writes_where, misread_where, long_where, json_where, lacking_where}
+use Rattle.bril_cli.proofs.Commands.{runs_where, refused_where, formless_where, misnamed_where, writes_where, writes_json_where, misread_where, long_where, lacking_where}
+use Rattle.bril_cli.proofs.Statuses.{Ends, Answers-of}
 use Rattle.bril_cli.proofs.top.bril_top.Given.{Over}
 use Rattle.bril_cli.proofs.top.bril_top.Goals as goal
 use Rattle.bril_cli.proofs.top.bril_top.Goals.{After-status_number}
@@ -43,13 +44,23 @@ returns-clause-size g c = λ e. subst (λ n. Answers n (seen g c)) e (told g c)
 
 pub returns-clause-runs : goal.returns-clause-runs
 unfolding seen
-returns-clause-runs g c = λ bytes p reads short source within sound.
-    rw c.status_number.ensures (runs_where (seen g c) c.in-Some.action c.in-Some.path.now c.do_file-status.result (ends g c) bytes p reads short source within sound)
+returns-clause-runs g c = λ bytes p reads short source straight within sound.
+    rw c.status_number.ensures (runs_where (seen g c) c.in-Some.action c.in-Some.path.now c.do_file-status.result (ends g c) bytes p reads short source straight within sound)
 
 pub returns-clause-writes : goal.returns-clause-writes
 unfolding seen
 returns-clause-writes g c = λ bytes tree reads short spelled sound.
     rw c.status_number.ensures (writes_where (seen g c) c.in-Some.action c.in-Some.path.now c.do_file-status.result (ends g c) bytes tree reads short spelled sound)
+
+pub returns-clause-writes_json : goal.returns-clause-writes_json
+unfolding seen
+returns-clause-writes_json g c = λ bytes tree reads short read sound.
+    rw c.status_number.ensures (writes_json_where (seen g c) c.in-Some.action c.in-Some.path.now c.do_file-status.result (ends g c) bytes tree reads short read sound)
+
+pub returns-clause-misnamed : goal.returns-clause-misnamed
+unfolding seen
+returns-clause-misnamed g c = λ bytes fault reads short has.
+    rw c.status_number.ensures (misnamed_where (seen g c) c.in-Some.action c.in-Some.path.now c.do_file-status.result (ends g c) bytes fault reads short has)
 
 pub returns-clause-misread : goal.returns-clause-misread
 unfolding seen
@@ -60,11 +71,6 @@ pub returns-clause-formless : goal.returns-clause-formless
 unfolding seen
 returns-clause-formless g c = λ bytes reads short formless.
     rw c.status_number.ensures (formless_where (seen g c) c.in-Some.action c.in-Some.path.now c.do_file-status.result (ends g c) bytes reads short formless)
-
-pub returns-clause-json : goal.returns-clause-json
-unfolding seen
-returns-clause-json g c = λ asks.
-    rw c.status_number.ensures (json_where (seen g c) c.in-Some.action c.in-Some.path.now c.do_file-status.result (ends g c) asks)
 
 pub returns-clause-lacking : goal.returns-clause-lacking
 unfolding seen
@@ -78,5 +84,5 @@ returns-clause-long_file g c = λ action bytes reads long.
 
 pub returns-clause-long_program : goal.returns-clause-long_program
 unfolding seen
-returns-clause-long_program g c = λ bytes p reads short source beyond.
-    rw c.status_number.ensures (refused_where (seen g c) c.in-Some.action c.in-Some.path.now c.do_file-status.result (ends g c) bytes p reads short source beyond)
+returns-clause-long_program g c = λ bytes p reads short source straight beyond.
+    rw c.status_number.ensures (refused_where (seen g c) c.in-Some.action c.in-Some.path.now c.do_file-status.result (ends g c) bytes p reads short source straight beyond)

@@ -1,0 +1,15 @@
+-- The tree and the fault are the only ones, or memory was wanting.
+use Rattle.std.proofs.Common.{sym, subst}
+use Rattle.bril_cli.specs.Works.{RefusesTree}
+use Rattle.bril_cli.specs.declared.source.Format.TheVariants.{InJson}
+use Rattle.bril_cli.specs.declared.status.Status.{Status}
+use Rattle.bril_cli.proofs.Outcomes.{IsOnlyTree-json, RefusesTree-json}
+use Rattle.bril_cli.proofs.source.tree_of_json.Goals as goal
+
+pub returns-in-Ok-clause-ok : goal.returns-in-Ok-clause-ok
+returns-in-Ok-clause-ok c = IsOnlyTree-json c.args.source.now c.in-Ok.tree c.in-Ok.ensures.found c.in-Ok.ensures.reads c.in-Ok.ensures.faults
+
+pub returns-in-Err-clause-err : goal.returns-in-Err-clause-err
+returns-in-Err-clause-err c =
+    subst (λ (how : Status). RefusesTree how InJson c.args.source.now) (sym c.json_status.ensures)
+    (RefusesTree-json c.args.source.now c.in-Err.fault c.in-Err.ensures.fault c.in-Err.ensures.faults c.in-Err.ensures.reads)
