@@ -1,0 +1,93 @@
+-- How the list of what was found grows.
+use Rattle.std.proofs.Common.{◌≡◌, ◌≢◌, ℕ, ◌+◌, ◌<◌, ◌≤◌, List, [], ◌∷◌, ◌++◌, length, map, get_or, sym, ap, ◌∙◌, subst, refl, inl, inr, ◌⊎◌, ⊎_elim, Some, arith, append_assoc, append-nil}
+use Rattle.std.specs.Prelude.{slice_index}
+use Rattle.std.specs.List.{Contains}
+use Rattle.std.proofs.lemmas.Bool.{cases_lt, cases_eq}
+use Rattle.std.proofs.lemmas.List.{get_or-map, get_or_default}
+use Rattle.std.proofs.lemmas.List.Elements.{All-append, All-weaker, All-nil, All-cons, All-contains, Contains-append_left, Contains-append_cases, Contains-push}
+use Rattle.graph_search.specs.declared.graph.Arc.{Arc}
+use Rattle.graph_search.specs.Marks.{VisitsAll}
+use Rattle.graph_search.specs.Rows.{EndsRow}
+
+pub VisitsAll-none : (P : ℕ → Type 0) (found : List ℕ) → ((n : ℕ) → P n → ⊥) → VisitsAll P found found
+VisitsAll-none P found never = record { rest = []; grew = sym (append-nil found); met = All-nil P; all = λ n h. absurd (never n h) }
+
+pub VisitsAll-push : (found : List ℕ) (node : ℕ) → VisitsAll (λ n. node ≡ n) found (found ++ node ∷ [])
+VisitsAll-push found node = record {
+  rest = node ∷ [];
+  grew = refl;
+  met = All-cons (λ n. node ≡ n) node [] refl (All-nil (λ n. node ≡ n));
+  all = λ n e. subst (Contains (found ++ node ∷ [])) e (Contains-push found node);
+}
+
+pub kept : (P : ℕ → Type 0) (old new : List ℕ) → VisitsAll P old new → (n : ℕ) → Contains old n → Contains new n
+kept P old new v n h = subst (λ xs. Contains xs n) (sym v.grew) (Contains-append_left old v.rest n h)
+
+pub came : (P : ℕ → Type 0) (old new : List ℕ) → VisitsAll P old new → (n : ℕ) → Contains new n → Contains old n ⊎ P n
+came P old new v n h = ⊎_elim inl (λ r. inr (All-contains P v.rest n v.met r)) (Contains-append_cases old v.rest n (subst (λ xs. Contains xs n) v.grew h))
+
+pub VisitsAll-then : (P Q R : ℕ → Type 0) (a b c : List ℕ) → ((n : ℕ) → P n → R n) → ((n : ℕ) → Q n → R n) → ((n : ℕ) → R n → P n ⊎ Q n) →
+    VisitsAll P a b → VisitsAll Q b c → VisitsAll R a c
+VisitsAll-then P Q R a b c p q r v w = record {
+  rest = v.rest ++ w.rest;
+  grew = w.grew ∙ ap (λ xs. xs ++ w.rest) v.grew ∙ append_assoc a v.rest w.rest;
+  met = All-append R v.rest w.rest (All-weaker P R p v.rest v.met) (All-weaker Q R q w.rest w.met);
+  all = λ n h. ⊎_elim (λ hp. kept Q b c w n (v.all n hp)) (λ hq. w.all n hq) (r n h);
+}
+
+-- an arc leads from one node to another, at a place that isn't before the end
+pub record Goes (arcs : List Arc) (barred from end to : ℕ) : Type 0 where
+  pub place : ℕ
+  pub late : end ≤ place
+  pub within : place < length arcs
+  pub arc : Arc
+  pub there : get_or arcs place arc ≡ arc
+  pub leaves : arc.from ≡ from
+  pub enters : arc.to ≡ to
+  pub passes : arc.label ≢ Some barred
+
+source_at : (arcs : List Arc) (place : ℕ) (arc : Arc) → place < length arcs → get_or arcs place arc ≡ arc → slice_index (map (λ a. a.from) arcs) place ≡ arc.from
+source_at arcs place arc low e = get_or-map (λ a. a.from) arcs place arc 0 low ∙ ap (λ a. a.from) e
+
+pub Goes-none : (arcs : List Arc) (barred node end : ℕ) → EndsRow (map (λ a. a.from) arcs) node (length arcs) end → (n : ℕ) → Goes arcs barred node end n → ⊥
+Goes-none arcs barred node end row n g = row.last g.place g.late g.within (source_at arcs g.place g.arc g.within g.there ∙ g.leaves)
+
+-- one more arc of the row
+pub Goes-more : (arcs : List Arc) (barred node end place earlier bound : ℕ) (arc : Arc) (a b c : List ℕ) →
+    place + 1 ≡ end → bound ≤ length arcs → get_or arcs place arc ≡ arc → EndsRow (map (λ a. a.from) arcs) node bound end →
+    EndsRow (map (λ a. a.from) arcs) node place earlier → VisitsAll (Goes arcs barred node end) a b →
+    VisitsAll (λ n. (arc.to ≡ n) × (arc.label ≢ Some barred)) b c → VisitsAll (Goes arcs barred node earlier) a c
+Goes-more arcs barred node end place earlier bound arc a b c here short there row rest v w =
+    let within : place < length arcs = let low = row.within in omega arith in
+    let leaves : arc.from ≡ node = sym (source_at arcs place arc within there) ∙ row.stands place here in
+    VisitsAll-then (Goes arcs barred node end) (λ n. (arc.to ≡ n) × (arc.label ≢ Some barred)) (Goes arcs barred node earlier) a b c
+    (λ n g. let low = rest.within in let late = g.late in record {
+      place = g.place;
+      late = omega arith;
+      within = g.within;
+      arc = g.arc;
+      there = g.there;
+      leaves = g.leaves;
+      enters = g.enters;
+      passes = g.passes;
+    })
+    (λ n h. record { place = place; late = rest.within; within = within; arc = arc; there = there; leaves = leaves; enters = h.0; passes = h.1 })
+    (λ n g. ⊎_elim
+    (λ below. absurd (rest.last g.place g.late below (source_at arcs g.place g.arc g.within g.there ∙ g.leaves)))
+    (λ above. ⊎_elim
+    (λ same.
+    let arcs_same : g.arc ≡ arc = sym g.there ∙ get_or_default arcs g.place g.arc arc g.within ∙ ap (λ k. get_or arcs k arc) same ∙ there in
+    inr (ap (λ x. x.to) (sym arcs_same) ∙ g.enters, λ e. g.passes (ap (λ x. x.label) arcs_same ∙ e)))
+    (λ differs. inl (record {
+      place = g.place;
+      late = omega arith;
+      within = g.within;
+      arc = g.arc;
+      there = g.there;
+      leaves = g.leaves;
+      enters = g.enters;
+      passes = g.passes;
+    }))
+    (cases_eq g.place place))
+    (cases_lt g.place place))
+    v w

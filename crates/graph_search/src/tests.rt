@@ -1,0 +1,92 @@
+// Searches of one small graph, with one table of marks.
+
+ghost use Rattle.std.specs.Prelude.{◌≡◌, ◌<◌, ◌↔◌, IsTrue};
+ghost use Rattle.std.specs.List.{All};
+ghost use Rattle.graph_search.specs.Path.{IsBetween};
+
+use crate::graph::{Arc, ArcGraph};
+use crate::marks::Marks;
+use std::process::Abort;
+use std::test::Fail;
+
+// A cycle of the nodes 0, 1 and 2, a way from it to 3 and 4, and an arc apart.
+const ARCS: [Arc; 6] = [
+    Arc {
+        from: 0,
+        to: 1,
+        label: None,
+    },
+    Arc {
+        from: 1,
+        to: 2,
+        label: Some(1),
+    },
+    Arc {
+        from: 1,
+        to: 3,
+        label: None,
+    },
+    Arc {
+        from: 2,
+        to: 0,
+        label: None,
+    },
+    Arc {
+        from: 3,
+        to: 4,
+        label: Some(2),
+    },
+    Arc {
+        from: 5,
+        to: 6,
+        label: None,
+    },
+];
+
+// Whether both ends of each arc are below the count.
+fn are_between(nodes: u32, arcs: &[Arc]) -> bool
+    ensures { IsTrue result ↔ All (IsBetween nodes) arcs.now }
+{
+    arcs.iter().all(|arc| arc.from < nodes && arc.to < nodes)
+}
+
+// Whether each node is below the count.
+fn are_nodes(count: u32, nodes: &[u32]) -> bool
+    ensures { IsTrue result ↔ All (λ node. node < count) nodes.now }
+{
+    nodes.iter().all(|node| *node < count)
+}
+
+// Asserts what a search of the graph finds, in order: each row is read from its last arc to the first.
+fn assert_finds(
+    rt: &impl Abort,
+    marks: &mut Marks,
+    graph: &ArcGraph,
+    seeds: &[u32],
+    barred: u32,
+    found: &[u32],
+) -> Result<(), Fail>
+    requires graph { graph.now.nodes ≡ 7 }
+    requires marks { marks.old.nodes ≡ 7 }
+    ensures { marks.new.nodes ≡ 7 }
+{
+    assert!(rt; are_nodes(7, seeds));
+    marks.search(graph, seeds, barred)?;
+    assert_eq!(rt; marks.found(), found);
+    Ok(())
+}
+
+#[test]
+fn searches_find_what_paths_reach(rt: HostRuntime) -> Result<(), Fail> {
+    let arcs = Vec::from_slice(rt.alloc(), ARCS.as_slice())?;
+    assert!(rt; are_between(7, arcs.as_slice()));
+    let graph = ArcGraph::of(rt.alloc(), 7, arcs)?;
+    let mut marks = Marks::new(rt.alloc(), 7)?;
+    assert_finds(&rt, &mut marks, &graph, &[0], 9, &[0, 1, 3, 2, 4])?;
+    assert_finds(&rt, &mut marks, &graph, &[0], 1, &[0, 1, 3, 4])?;
+    assert_finds(&rt, &mut marks, &graph, &[0], 2, &[0, 1, 3, 2])?;
+    assert_finds(&rt, &mut marks, &graph, &[5, 1], 2, &[5, 6, 1, 3, 2, 0])?;
+    assert!(rt; marks.is_marked(6) && !marks.is_marked(4));
+    assert_finds(&rt, &mut marks, &graph, &[4, 4], 2, &[4])?;
+    assert_finds(&rt, &mut marks, &graph, &[], 2, &[])
+}
