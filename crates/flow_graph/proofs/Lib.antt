@@ -1,0 +1,10 @@
+pub mod Members
+pub mod Order
+pub mod FirstWalks
+pub mod OpenSites
+pub mod Rows
+pub mod Searching
+pub mod Turns
+pub mod Failing
+pub mod PointEdges
+pub mod Listed

@@ -1,0 +1,19 @@
+//! The flow graph of a function: its edges, the points to which walks lead, and their open speculation sites.
+#![tactic(auto)]
+
+mod edge;
+mod edges;
+mod graph;
+mod labels;
+mod laws;
+mod open_sites;
+mod search;
+mod sites;
+#[cfg(test)]
+mod tests;
+mod visits;
+mod ways;
+
+pub use edge::Edge;
+pub use graph::{Graph, GraphFault};
+pub use laws::walks_agree;
