@@ -1,0 +1,148 @@
+-- The first of the reads of a function's items that meets a condition.
+use Rattle.std.proofs.Common.{◌≡◌, ℕ, suc, zero, ◌+◌, ◌-◌, ◌<◌, ◌≤◌, List, [], ◌∷◌, ◌++◌, Option, Some, None, map, length, get_or, sym, ap, ◌∙◌, subst, refl, ⊎_elim, arith}
+use Rattle.std.specs.Prelude.{slice_get}
+use Rattle.std.specs.List.{All, Contains}
+use Rattle.std.specs.Option.{option_map}
+use Rattle.std.proofs.lemmas.Bool.{cases_lt}
+use Rattle.std.proofs.lemmas.List.{length-map}
+use Rattle.std.proofs.lemmas.List.Elements.{All-cons, All-nil}
+use Rattle.std.proofs.lemmas.Option.{slice_get-map, slice_get-get_or, slice_get_past}
+use Rattle.bril_tree.specs.Operand.{Location, reads_of}
+use Rattle.bril_tree.specs.declared.numbered.Instr.{Instr}
+use Rattle.definite_assignment.specs.Reads.{read_at, item_reads, reads_from}
+use Rattle.definite_assignment.specs.declared.reads.Read.{Read}
+
+get_left : {A : Type 0} (xs ys : List A) (k : ℕ) → k < length xs → slice_get (xs ++ ys) k ≡ slice_get xs k
+get_left [] ys k low = absurd (omega arith)
+get_left (x ∷ xs) ys zero low = refl
+get_left (x ∷ xs) ys (suc k) low = get_left xs ys k (omega arith)
+
+get_right : {A : Type 0} (xs ys : List A) (k j : ℕ) → length xs + k ≡ j → slice_get (xs ++ ys) j ≡ slice_get ys k
+get_right [] ys k j e = let same : j ≡ k = omega arith in ap (slice_get ys) same
+get_right (x ∷ xs) ys k zero e = absurd (omega arith)
+get_right (x ∷ xs) ys k (suc j) e = get_right xs ys k j (omega arith)
+
+-- the read of one item, and that none before it meets the condition
+pub record SplitsReads (f : Location → Read) (P : Read → Type 0) (places : List Location) (read : Read) : Type 0 where
+  pub earlier : List Location
+  pub place : Location
+  pub later : List Location
+  pub splits : places ≡ earlier ++ place ∷ later
+  pub is : f place ≡ read
+  pub others : All (λ other. ¬ P (f other)) earlier
+
+split_reads : (f : Location → Read) (P : Read → Type 0) (places : List Location) (k : ℕ) (read : Read) → slice_get (map f places) k ≡ Some read →
+    ((j : ℕ) (r : Read) → j < k → slice_get (map f places) j ≡ Some r → ¬ P r) → SplitsReads f P places read
+split_reads f P [] k read e before = cc
+split_reads f P (x ∷ places) zero read e before = record {
+  earlier = [];
+  place = x;
+  later = places;
+  splits = refl;
+  is = cc;
+  others = All-nil (λ other. ¬ P (f other));
+}
+split_reads f P (x ∷ places) (suc k) read e before =
+    let rest = split_reads f P places k read e (λ j r low h. before (suc j) r (omega arith) h) in
+    record {
+      earlier = x ∷ rest.earlier;
+      place = rest.place;
+      later = rest.later;
+      splits = ap (λ xs. x ∷ xs) rest.splits;
+      is = rest.is;
+      others = All-cons (λ other. ¬ P (f other)) x rest.earlier (before 0 (f x) (omega arith) refl) rest.others;
+    }
+
+-- a read in the list of all reads, and that none before it meets the condition
+pub record IsReadAt (first : ℕ) (code : List Instr) (P : Read → Type 0) (read : Read) : Type 0 where
+  pub at : ℕ
+  pub instr : Instr
+  pub here : slice_get code at ≡ Some instr
+  pub number : read.item ≡ first + at
+  pub splits : SplitsReads (read_at (first + at)) P (reads_of instr) read
+  pub least : (before : ℕ) (other : Instr) → before < at → slice_get code before ≡ Some other → All (λ place. ¬ P (read_at (first + before) place)) (reads_of other)
+
+read_in_first : (first : ℕ) (instr : Instr) (code : List Instr) (P : Read → Type 0) (k : ℕ) (read : Read) → k < length (item_reads first instr) →
+    slice_get (reads_from first (instr ∷ code)) k ≡ Some read → ((j : ℕ) (r : Read) → j < k → slice_get (reads_from first (instr ∷ code)) j ≡ Some r → ¬ P r) →
+    IsReadAt first (instr ∷ code) P read
+read_in_first first instr code P k read low e before =
+    let here = get_left (item_reads first instr) (reads_from (suc first) code) k low in
+    let one : first ≡ first + 0 = omega arith in
+    let s : SplitsReads (read_at first) P (reads_of instr) read =
+    split_reads (read_at first) P (reads_of instr) k read (sym here ∙ e)
+    (λ j r less h. let low' : j < length (item_reads first instr) = omega arith in
+    before j r less (get_left (item_reads first instr) (reads_from (suc first) code) j low' ∙ h)) in
+    record {
+      at = 0;
+      instr = instr;
+      here = refl;
+      number = sym (ap (λ r. r.item) s.is) ∙ one;
+      splits = subst (λ n. SplitsReads (read_at n) P (reads_of instr) read) one s;
+      least = λ b other less h. absurd (omega arith);
+    }
+
+read_in_later : (first : ℕ) (instr : Instr) (code : List Instr) (P : Read → Type 0) (k : ℕ) (read : Read) → length (item_reads first instr) ≤ k →
+    ((j : ℕ) (r : Read) → j < k → slice_get (reads_from first (instr ∷ code)) j ≡ Some r → ¬ P r) → IsReadAt (suc first) code P read →
+    IsReadAt first (instr ∷ code) P read
+read_in_later first instr code P k read past before r =
+    let one : suc first + r.at ≡ first + suc r.at = omega arith in
+    record {
+      at = suc r.at;
+      instr = r.instr;
+      here = r.here;
+      number = r.number ∙ one;
+      splits = subst (λ n. SplitsReads (read_at n) P (reads_of r.instr) read) one r.splits;
+      least = later_least;
+    }
+  where
+    here_least : (other : Instr) → Some instr ≡ Some other → All (λ place. ¬ P (read_at (first + 0) place)) (reads_of other)
+    here_least other h =
+        let same : instr ≡ other = cc in
+        let one : first ≡ first + 0 = omega arith in
+        subst (λ n. All (λ place. ¬ P (read_at n place)) (reads_of other)) one
+        (subst (λ i. All (λ place. ¬ P (read_at first place)) (reads_of i)) same
+        (λ j d low.
+        let low' : j < length (item_reads first instr) = rw length-map low in
+        before j (read_at first (get_or (reads_of instr) j d)) (omega arith)
+        (get_left (item_reads first instr) (reads_from (suc first) code) j low' ∙ slice_get-map (read_at first) (reads_of instr) j ∙ ap (option_map (read_at first)) (slice_get-get_or (reads_of instr) j d low))))
+
+    later_least : (b : ℕ) (other : Instr) → b < suc r.at → slice_get (instr ∷ code) b ≡ Some other → All (λ place. ¬ P (read_at (first + b) place)) (reads_of other)
+    later_least zero other less h = here_least other h
+    later_least (suc b) other less h =
+        let one : suc first + b ≡ first + suc b = omega arith in
+        subst (λ n. All (λ place. ¬ P (read_at n place)) (reads_of other)) one (r.least b other (omega arith) h)
+
+pub read-is : (first : ℕ) (code : List Instr) (P : Read → Type 0) (k : ℕ) (read : Read) → slice_get (reads_from first code) k ≡ Some read →
+    ((j : ℕ) (r : Read) → j < k → slice_get (reads_from first code) j ≡ Some r → ¬ P r) → IsReadAt first code P read
+read-is first [] P k read e before = cc
+read-is first (instr ∷ code) P k read e before = ⊎_elim
+    (λ low. read_in_first first instr code P k read low e before)
+    (λ past.
+    let n : ℕ = length (item_reads first instr) in
+    let i : ℕ = k - n in
+    let there : slice_get (reads_from first (instr ∷ code)) k ≡ slice_get (reads_from (suc first) code) i =
+    get_right (item_reads first instr) (reads_from (suc first) code) i k (omega arith) in
+    read_in_later first instr code P k read past before
+    (read-is (suc first) code P i read (sym there ∙ e)
+    (λ j r less h. before (n + j) r (omega arith) (get_right (item_reads first instr) (reads_from (suc first) code) j (n + j) refl ∙ h))))
+    (cases_lt k (length (item_reads first instr)))
+
+-- each read of an item is in the list
+pub reads-there : (first : ℕ) (code : List Instr) (point : ℕ) (instr : Instr) (place : Location) → slice_get code point ≡ Some instr → Contains (reads_of instr) place →
+    (k : ℕ) × (slice_get (reads_from first code) k ≡ Some (read_at (first + point) place))
+reads-there first [] point instr place h c = cc
+reads-there first (item ∷ code) zero instr place h c =
+    let same : item ≡ instr = cc in
+    let one : first ≡ first + 0 = omega arith in
+    let c' : Contains (reads_of item) place = subst (λ i. Contains (reads_of i) place) (sym same) c in
+    let low : c'.0 < length (item_reads first item) = rw length-map c'.1 in (
+      c'.0,
+      get_left (item_reads first item) (reads_from (suc first) code) c'.0 low ∙ slice_get-map (read_at first) (reads_of item) c'.0
+          ∙ ap (option_map (read_at first)) (slice_get-get_or (reads_of item) c'.0 place c'.1 ∙ ap Some c'.2) ∙ ap (λ n. Some (read_at n place)) one,
+    )
+reads-there first (item ∷ code) (suc point) instr place h c =
+    let rest = reads-there (suc first) code point instr place h c in
+    let one : suc first + point ≡ first + suc point = omega arith in (
+      length (item_reads first item) + rest.0,
+      get_right (item_reads first item) (reads_from (suc first) code) rest.0 (length (item_reads first item) + rest.0) refl ∙ rest.1 ∙ ap (λ n. Some (read_at n place)) one,
+    )

@@ -1,0 +1,254 @@
+-- A place may be unassigned at a point exactly where it is no argument and the search from the first item, over edges
+-- from the points where they leave, past items that don't assign it, leads to the point.
+use Rattle.std.proofs.Common.{◌≡◌, ◌≢◌, ℕ, suc, zero, ◌+◌, ◌<◌, ◌≤◌, ◌↔◌, List, [], ◌∷◌, ◌++◌, Bool, true, false, Option, Some, None, map, length, sym, ap, ◌∙◌, subst, refl, inl, inr, ⊎_elim, arith}
+use Rattle.std.specs.Prelude.{slice_get}
+use Rattle.std.specs.List.{Contains}
+use Rattle.std.specs.Option.{option_map, option_to_list}
+use Rattle.std.proofs.lemmas.Bool.{cases_Bool, both_ways, false_from_ne_true}
+use Rattle.std.proofs.lemmas.List.Elements.{Contains-append_left, Contains-append_right, Contains-append_cases}
+use Rattle.std.proofs.lemmas.Option.{slice_get_cases}
+use Rattle.bril_walks.specs.Assigned.{Assigned, IsMaybeUnassigned, assigned_of, assigned_behind, assigned_changed, assigns_at, newest_saved}
+use Rattle.bril_walks.specs.Edge.{Way, ways_at}
+use Rattle.bril_tree.specs.Operand.{Location}
+use Rattle.bril_walks.specs.Sites.{AreFirstSites, AreSitesSound, SitesFail, NoSite, change_of, item_change, sites_of, Closes}
+use Rattle.bril_walks.specs.Walk.{IsWalk, end_of}
+use Rattle.bril_tree.specs.declared.numbered.Instr.{Instr}
+use Rattle.definite_assignment.specs.Leaving.{leaving_arc, leaving_arcs}
+use Rattle.definite_assignment.specs.Place.{number_of, is_argument, label_of, place_at}
+use Rattle.definite_assignment.specs.Reads.{IsOpen, read_at}
+use Rattle.definite_assignment.proofs.Edges.{IsEdgeAt, edge-there, edge-back}
+use Rattle.definite_assignment.proofs.Places.{Contains-map, Contains-map_back, label-one, argument-is, argument-there}
+use Rattle.definite_assignment.proofs.Walks.{IsSaved, saved-back, same-length, open-sites, Replays, replay}
+use Rattle.definite_assignment.proofs.Ways.{IsAbort, IsWayOf, way-is, way-inside, places-passed, opens-nothing}
+use Rattle.flow_graph.specs.Graph.{GraphView, IsGraphOf, edge_of, leave_of, edges_from}
+use Rattle.flow_graph.specs.Laws.{SoundWalksAgree}
+use Rattle.flow_graph.specs.declared.edge.Edge.{Edge}
+use Rattle.graph_search.specs.Path.{IsReached, Leads}
+use Rattle.graph_search.specs.declared.graph.Arc.{Arc}
+use Rattle.graph_search.proofs.Paths.{reached_seed, reached_step, reached_all}
+
+-- the graph of a function whose open sites are sound
+pub record IsSoundGraph (code : List Instr) (graph : GraphView) : Type 0 where
+  pub is : IsGraphOf code graph
+  pub sound : AreSitesSound code
+  pub agree : SoundWalksAgree
+
+-- the open sites of a walk are those that the graph has
+sites_known : (code : List Instr) (graph : GraphView) → IsSoundGraph code graph → (walk : List Way) → IsWalk code walk → (o : Option (List ℕ)) →
+    slice_get graph.sites (end_of walk) ≡ Some o → o ≡ Some (sites_of code walk)
+sites_known code graph g walk is None e = absurd (g.is.unreached (end_of walk) e (record { walk = walk; is = is; ends = refl }))
+sites_known code graph g walk is (Some sites) e = ap Some (sym (g.agree code g.sound walk is sites (g.is.reached (end_of walk) sites e)))
+
+pub sites-there : (code : List Instr) (graph : GraphView) → IsSoundGraph code graph → (walk : List Way) → IsWalk code walk → end_of walk < length code →
+    slice_get graph.sites (end_of walk) ≡ Some (Some (sites_of code walk))
+sites-there code graph g walk is low = ⊎_elim
+    (λ there. let o : Option (List ℕ) = there.0 in there.2 ∙ ap Some (sites_known code graph g walk is o there.2))
+    (λ past. absurd (omega (arith, g.is.points, past.0)))
+    (slice_get_cases graph.sites (end_of walk)).1
+
+-- where an abort is, a site is open
+some_site : {X : Type 0} (code : List Instr) (graph : GraphView) → IsSoundGraph code graph → (p : ℕ) → IsAbort (slice_get code p) → slice_get graph.sites p ≡ Some (Some []) → X
+some_site code graph g p a e = absurd (g.sound p (NoSite (record { first = g.is.reached p [] e; needs = a.needs })))
+
+arc_there : (code : List Instr) (graph : GraphView) → IsSoundGraph code graph → (point : ℕ) (sites : List ℕ) (way : Way) →
+    slice_get graph.sites point ≡ Some (Some sites) → Contains (ways_at code point) way → Contains (leaving_arcs code graph.edges) (leaving_arc code (edge_of sites way))
+arc_there code graph g point sites way e leads =
+    Contains-map (leaving_arc code) graph.edges (edge_of sites way)
+    (subst (λ es. Contains es (edge_of sites way)) (sym g.is.edges) (edge-there code graph.sites 0 point point sites way (omega arith) e leads))
+
+-- an arc from the point where a way leaves, past an item that doesn't assign the place
+leads_on : (code : List Instr) (graph : GraphView) → IsSoundGraph code graph → (x : Location) (point leave : ℕ) (sites : List ℕ) (way : Way) →
+    slice_get graph.sites point ≡ Some (Some sites) → Contains (ways_at code point) way → leave_of way.aborts way.from sites ≡ leave →
+    label_of (slice_get code leave) ≢ Some (number_of x) → Leads (leaving_arcs code graph.edges) (number_of x) leave way.to
+leads_on code graph g x point leave sites way e leads same passes = record {
+  arc = leaving_arc code (edge_of sites way);
+  there = arc_there code graph g point sites way e leads;
+  leaves = same;
+  enters = refl;
+  passes = λ h. passes (ap (λ l. label_of (slice_get code l)) (sym same) ∙ h);
+}
+
+open_on : (arcs : List Arc) (args : ℕ) (x : Location) (l q : ℕ) → IsOpen arcs args (read_at l x) → Leads arcs (number_of x) l q → IsOpen arcs args (read_at q x)
+open_on arcs args x l q o leads = record { local = o.local; reached = reached_step arcs (0 ∷ []) (number_of x) l q o.reached leads }
+
+-- what a walk doesn't assign is open at its end, and what was saved without it makes it open at the site
+record Stands (code : List Instr) (args : ℕ) (arcs : List Arc) (x : Location) (walk : List Way) : Type 0 where
+  pub here : (¬ Contains (assigned_of code args walk).places x) → IsOpen arcs args (read_at (end_of walk) x)
+  pub saved : (k site : ℕ) (set : List Location) → IsSaved (sites_of code walk) (assigned_of code args walk) k site set → (¬ Contains set x) → IsOpen arcs args (read_at site x)
+  pub same : length (sites_of code walk) ≡ length (assigned_of code args walk).saved
+
+-- what is assigned behind a way that is no abort
+places_on : (code : List Instr) (way : Way) (a : Assigned) → way.aborts ≡ false →
+    (assigned_behind code way a).places ≡ option_to_list (place_at (slice_get code way.from)) ++ a.places
+places_on code way a e =
+    let item = slice_get code way.from in
+    ap (λ b. (assigned_changed (item_change item b) (assigns_at item) b a).places) e ∙ places-passed item a
+
+-- what is assigned behind an abort
+places_back : (code : List Instr) (way : Way) (a : Assigned) → way.aborts ≡ true → IsAbort (slice_get code way.from) →
+    (assigned_behind code way a).places ≡ newest_saved a.places a.saved
+places_back code way a e abort =
+    let item = slice_get code way.from in
+    ap (λ b. (assigned_changed (item_change item b) (assigns_at item) b a).places) e ∙ ap (λ ch. (assigned_changed ch (assigns_at item) true a).places) abort.closes
+
+leave_on : (aborts : Bool) (from : ℕ) (sites : List ℕ) → aborts ≡ false → leave_of aborts from sites ≡ from
+leave_on true from sites e = cc
+leave_on false from sites e = refl
+
+listed_one : (o : Option Location) (x : Location) → o ≡ Some x → Contains (option_to_list o) x
+listed_one None x e = cc
+listed_one (Some y) x e = let same : y ≡ x = cc in (0, omega arith, same)
+
+listed_back : (o : Option Location) (x : Location) → Contains (option_to_list o) x → o ≡ Some x
+listed_back None x h = absurd (omega (arith, h.1))
+listed_back (Some y) x (zero, low, e) = ap Some e
+listed_back (Some y) x (suc k, low, e) = absurd (omega arith)
+
+stands_on : (code : List Instr) (args : ℕ) (graph : GraphView) → IsSoundGraph code graph → (x : Location) (way : Way) (walk : List Way) → IsWalk code walk →
+    Contains (ways_at code (end_of walk)) way → Stands code args (leaving_arcs code graph.edges) x walk → way.aborts ≡ false →
+    (¬ Contains (assigned_behind code way (assigned_of code args walk)).places x) → IsOpen (leaving_arcs code graph.edges) args (read_at way.to x)
+stands_on code args graph g x way walk is leads s e lacks =
+    let a = assigned_of code args walk in
+    let item = slice_get code way.from in
+    let arcs = leaving_arcs code graph.edges in
+    let from : way.from ≡ end_of walk = (way-is code (end_of walk) way leads).from in
+    let places : (assigned_behind code way a).places ≡ option_to_list (place_at item) ++ a.places = places_on code way a e in
+    let before : IsOpen arcs args (read_at (end_of walk) x) =
+    s.here (λ h. lacks (subst (λ ps. Contains ps x) (sym places) (Contains-append_right (option_to_list (place_at item)) a.places x h))) in
+    let passes : label_of item ≢ Some (number_of x) =
+    λ h. lacks (subst (λ ps. Contains ps x) (sym places) (Contains-append_left (option_to_list (place_at item)) a.places x (listed_one (place_at item) x (label-one (place_at item) x h)))) in
+    let there = sites-there code graph g walk is (way-inside code (end_of walk) way leads) in
+    open_on arcs args x way.from way.to (subst (λ p. IsOpen arcs args (read_at p x)) (sym from) before)
+    (leads_on code graph g x (end_of walk) way.from (sites_of code walk) way there leads (leave_on way.aborts way.from (sites_of code walk) e) passes)
+
+stands_back : (code : List Instr) (args : ℕ) (graph : GraphView) → IsSoundGraph code graph → (x : Location) (way : Way) (walk : List Way) → IsWalk code walk →
+    Contains (ways_at code (end_of walk)) way → Stands code args (leaving_arcs code graph.edges) x walk → way.aborts ≡ true →
+    (sites : List ℕ) → sites_of code walk ≡ sites → (saved : List (List Location)) → (assigned_of code args walk).saved ≡ saved →
+    (¬ Contains (newest_saved (assigned_of code args walk).places saved) x) → IsOpen (leaving_arcs code graph.edges) args (read_at way.to x)
+stands_back code args graph g x way walk is leads s e [] is_sites saved is_saved lacks =
+    let there = sites-there code graph g walk is (way-inside code (end_of walk) way leads) in
+    some_site code graph g (end_of walk) ((way-is code (end_of walk) way leads).aborts e) (there ∙ ap (λ ss. Some (Some ss)) is_sites)
+stands_back code args graph g x way walk is leads s e (l ∷ rest) is_sites [] is_saved lacks =
+    let same = s.same in
+    let one : length (sites_of code walk) ≡ suc (length rest) = ap length is_sites in
+    let two : length (assigned_of code args walk).saved ≡ 0 = ap length is_saved in
+    absurd (omega arith)
+stands_back code args graph g x way walk is leads s e (l ∷ rest) is_sites (set ∷ sets) is_saved lacks =
+    let arcs = leaving_arcs code graph.edges in
+    let newest : slice_get (sites_of code walk) 0 ≡ Some l = ap (λ ss. slice_get ss 0) is_sites in
+    let before : IsOpen arcs args (read_at l x) = s.saved 0 l set (record { site_there = newest; saved_there = ap (λ ss. slice_get ss 0) is_saved }) lacks in
+    let there : slice_get graph.sites (end_of walk) ≡ Some (Some (l ∷ rest)) =
+    sites-there code graph g walk is (way-inside code (end_of walk) way leads) ∙ ap (λ ss. Some (Some ss)) is_sites in
+    let opens = open-sites code walk 0 l newest in
+    let nothing : place_at (slice_get code l) ≡ None = opens-nothing (slice_get code l) opens.0 opens.1 in
+    let unlabelled : label_of (slice_get code l) ≡ None = ap (option_map number_of) nothing in
+    open_on arcs args x l way.to before
+    (leads_on code graph g x (end_of walk) l (l ∷ rest) way there leads (ap (λ b. leave_of b way.from (l ∷ rest)) e) (λ h. cc))
+
+stands : (code : List Instr) (args : ℕ) (graph : GraphView) → IsSoundGraph code graph → (x : Location) (walk : List Way) → IsWalk code walk →
+    Stands code args (leaving_arcs code graph.edges) x walk
+stands code args graph g x [] is = record {
+  here = λ lacks. record {
+    local = false_from_ne_true (is_argument args (number_of x)) (λ h. lacks (argument-there args x h));
+    reached = reached_seed (leaving_arcs code graph.edges) (0 ∷ []) (number_of x) 0 (0, omega arith, refl);
+  };
+  saved = λ k site set s. let h = s.site_there in cc;
+  same = refl;
+}
+stands code args graph g x (way ∷ walk) is =
+    let arcs = leaving_arcs code graph.edges in
+    let a = assigned_of code args walk in
+    let before = stands code args graph g x walk is.1 in
+    let one = way-is code (end_of walk) way is.0 in
+    record {
+      here = λ lacks. ⊎_elim
+          (λ e. stands_back code args graph g x way walk is.1 is.0 before e (sites_of code walk) refl a.saved refl
+          (subst (λ ps. ¬ Contains ps x) (places_back code way a e (subst (λ p. IsAbort (slice_get code p)) (sym one.from) (one.aborts e))) lacks))
+          (λ e. stands_on code args graph g x way walk is.1 is.0 before e lacks)
+          (cases_Bool way.aborts);
+      saved = saved-back (λ site set. (¬ Contains set x) → IsOpen arcs args (read_at site x)) (change_of code way) (assigns_at (slice_get code way.from)) way.aborts way.from (sites_of code walk) a
+          (subst (λ p. (¬ Contains a.places x) → IsOpen arcs args (read_at p x)) (sym one.from) before.here) before.saved;
+      same = same-length (change_of code way) (assigns_at (slice_get code way.from)) way.aborts way.from (sites_of code walk) a before.same;
+    }
+
+-- a walk to the point where a way leaves gives a walk to where it goes
+lacks_on : (code : List Instr) (args : ℕ) (graph : GraphView) → IsSoundGraph code graph → (x : Location) (point : ℕ) (way : Way) → Contains (ways_at code point) way → way.aborts ≡ false →
+    label_of (slice_get code way.from) ≢ Some (number_of x) → IsMaybeUnassigned code args x way.from → IsMaybeUnassigned code args x way.to
+lacks_on code args graph g x point way leads e passes m =
+    let from : way.from ≡ point = (way-is code point way leads).from in
+    let item = slice_get code way.from in
+    let a = assigned_of code args m.walk in
+    record {
+      walk = way ∷ m.walk;
+      is = (subst (λ p. Contains (ways_at code p) way) (sym (m.ends ∙ from)) leads, m.is);
+      ends = refl;
+      lacks = λ h. ⊎_elim
+          (λ now. passes (ap (option_map number_of) (listed_back (place_at item) x now)))
+          m.lacks
+          (Contains-append_cases (option_to_list (place_at item)) a.places x (subst (λ ps. Contains ps x) (places_on code way a e) h));
+    }
+
+newest_is : (places set : List Location) (saved : List (List Location)) → slice_get saved 0 ≡ Some set → newest_saved places saved ≡ set
+newest_is places set [] e = cc
+newest_is places set (s ∷ saved) e = cc
+
+lacks_back : (code : List Instr) (args : ℕ) (graph : GraphView) → IsSoundGraph code graph → (x : Location) (point : ℕ) (sites : List ℕ) (way : Way) →
+    slice_get graph.sites point ≡ Some (Some sites) → Contains (ways_at code point) way → way.aborts ≡ true →
+    IsMaybeUnassigned code args x (leave_of true way.from sites) → IsMaybeUnassigned code args x way.to
+lacks_back code args graph g x point [] way there leads e m = some_site code graph g point ((way-is code point way leads).aborts e) there
+lacks_back code args graph g x point (l ∷ rest) way there leads e m =
+    let one = way-is code point way leads in
+    let first = g.is.reached point (l ∷ rest) there in
+    let newest : slice_get (sites_of code first.walk) 0 ≡ Some (end_of m.walk) = ap (λ ss. slice_get ss 0) first.are ∙ ap Some (sym m.ends) in
+    let r = replay code args first.walk m.walk first.first.is m.is 0 newest in
+    let a = assigned_of code args r.walk in
+    let places : (assigned_behind code way a).places ≡ (assigned_of code args m.walk).places =
+    places_back code way a e (subst (λ p. IsAbort (slice_get code p)) (sym one.from) (one.aborts e)) ∙ newest_is a.places (assigned_of code args m.walk).places a.saved r.saved in
+    record {
+      walk = way ∷ r.walk;
+      is = (subst (λ p. Contains (ways_at code p) way) (sym (r.ends ∙ first.first.ends)) leads, r.is);
+      ends = refl;
+      lacks = λ h. m.lacks (subst (λ ps. Contains ps x) places h);
+    }
+
+lacks_way : (code : List Instr) (args : ℕ) (graph : GraphView) → IsSoundGraph code graph → (x : Location) (point : ℕ) (sites : List ℕ) (way : Way) →
+    slice_get graph.sites point ≡ Some (Some sites) → Contains (ways_at code point) way → label_of (slice_get code (leave_of way.aborts way.from sites)) ≢ Some (number_of x) →
+    IsMaybeUnassigned code args x (leave_of way.aborts way.from sites) → IsMaybeUnassigned code args x way.to
+lacks_way code args graph g x point sites way there leads passes m = ⊎_elim
+    (λ e. lacks_back code args graph g x point sites way there leads e (subst (λ b. IsMaybeUnassigned code args x (leave_of b way.from sites)) e m))
+    (λ e. let same = leave_on way.aborts way.from sites e in
+    lacks_on code args graph g x point way leads e (λ h. passes (ap (λ l. label_of (slice_get code l)) same ∙ h)) (subst (IsMaybeUnassigned code args x) same m))
+    (cases_Bool way.aborts)
+
+lacks_arc : (code : List Instr) (args : ℕ) (graph : GraphView) → IsSoundGraph code graph → (x : Location) (l q : ℕ) → IsMaybeUnassigned code args x l →
+    Leads (leaving_arcs code graph.edges) (number_of x) l q → IsMaybeUnassigned code args x q
+lacks_arc code args graph g x l q m leads =
+    let back = Contains-map_back (leaving_arc code) graph.edges leads.arc leads.there in
+    let edge : Edge = back.0 in
+    let at : IsEdgeAt code graph.sites 0 edge = edge-back code graph.sites 0 edge (subst (λ es. Contains es edge) g.is.edges back.1) in
+    let arc : leaving_arc code (edge_of at.sites at.way) ≡ leads.arc = ap (leaving_arc code) at.is ∙ back.2 in
+    let leaves : leave_of at.way.aborts at.way.from at.sites ≡ l = ap (λ a. a.from) arc ∙ leads.leaves in
+    let enters : at.way.to ≡ q = ap (λ a. a.to) arc ∙ leads.enters in
+    let point : 0 + at.place ≡ at.place = omega arith in
+    subst (IsMaybeUnassigned code args x) enters
+    (lacks_way code args graph g x at.place at.sites at.way at.there (subst (λ p. Contains (ways_at code p) at.way) point at.leads)
+    (λ h. leads.passes (ap (λ a. a.label) (sym arc) ∙ h)) (subst (IsMaybeUnassigned code args x) (sym leaves) m))
+
+-- the law
+pub unassigned-iff : (code : List Instr) (args : ℕ) (graph : GraphView) → IsSoundGraph code graph → (x : Location) (point : ℕ) →
+    IsOpen (leaving_arcs code graph.edges) args (read_at point x) ↔ IsMaybeUnassigned code args x point
+unassigned-iff code args graph g x point = (
+  λ o. reached_all (leaving_arcs code graph.edges) (0 ∷ []) (number_of x) (IsMaybeUnassigned code args x)
+      (λ n h. subst (IsMaybeUnassigned code args x) (in_one n h) (record {
+        walk = [];
+        is = tt;
+        ends = refl;
+        lacks = λ there. both_ways (is_argument args (number_of x)) o.local (argument-is args x there);
+      }))
+      (lacks_arc code args graph g x) point o.reached,
+  λ m. subst (λ p. IsOpen (leaving_arcs code graph.edges) args (read_at p x)) m.ends ((stands code args graph g x m.walk m.is).here m.lacks),
+)
+  where
+    in_one : (n : ℕ) → Contains (0 ∷ []) n → 0 ≡ n
+    in_one n (zero, low, e) = e
+    in_one n (suc k, low, e) = absurd (omega arith)

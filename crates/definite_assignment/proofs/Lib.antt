@@ -1,0 +1,10 @@
+pub mod Bounds
+pub mod Edges
+pub mod FirstRead
+pub mod FirstUnassigned
+pub mod Law
+pub mod Places
+pub mod ReadRows
+pub mod Turned
+pub mod Walks
+pub mod Ways

@@ -1,0 +1,4 @@
+pub mod Leaving
+pub mod Place
+pub mod Reads
+pub mod Unassigned

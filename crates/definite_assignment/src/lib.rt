@@ -1,0 +1,10 @@
+//! Definite assignment: whether each place that an item reads was assigned on each walk to it.
+#![tactic(auto)]
+
+mod analysis;
+mod arcs;
+mod flow;
+mod place;
+mod reads;
+
+pub use analysis::{Unassigned, first_unassigned};
