@@ -1,0 +1,12 @@
+pub mod Depth
+pub mod Ends
+pub mod FirstFaults
+pub mod Marks
+pub mod Misshapen
+pub mod Once
+pub mod Places
+pub mod Program
+pub mod Reached
+pub mod Stages
+pub mod Typing
+pub mod Words

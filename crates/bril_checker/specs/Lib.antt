@@ -1,0 +1,4 @@
+pub mod Checked
+pub mod Faults
+pub mod Laws
+pub mod Mistakes
