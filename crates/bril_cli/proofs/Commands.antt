@@ -1,7 +1,10 @@
 -- When each status comes.
-use Rattle.std.proofs.Common.{◌≡◌, ℕ, ◌<◌, ◌≤◌, ◌⊎◌, true, false, List, [], length, Option, Some, None, refl, sym, ap, ◌∙◌, subst, arith, inl, inr, ⊎_elim, true≢false}
+use Rattle.std.proofs.Common.{◌≡◌, ℕ, ◌<◌, ◌≤◌, ◌⊎◌, true, List, [], length, Option, Some, None, refl, sym, ap, ◌∙◌, subst, arith, inl, inr, ⊎_elim, true≢false}
 use Rattle.std.specs.Prelude.{◌≢◌}
+use Rattle.bril_walks.specs.Accepted.{IsAccepted}
 use Rattle.bril_tree.specs.declared.program.Prog.{Prog}
+use Rattle.bril_checker.specs.Faults as checker
+use Rattle.bril_checker.specs.declared.fault.CheckFault.{CheckFault}
 use Rattle.bril_tree.specs.declared.tree.Tree.{Tree}
 use Rattle.bril_tree.specs.Numbered.{Numbered}
 use Rattle.bril_outside.specs.Files.{FileMap, FilesSeen, MayHold, MayFail, LacksFile}
@@ -9,16 +12,16 @@ use Rattle.bril_outside.specs.Sink.{SinkSeen, Rose, TookAll}
 use Rattle.bril_names.specs.declared.fault.NameFault.{NameFault}
 use Rattle.bril_text.specs.Canonical.{canonical_text}
 use Rattle.bril_cli.specs.declared.action.Action.{Action}
-use Rattle.bril_cli.specs.declared.action.Action.TheVariants.{Run, WriteText, WriteJson}
+use Rattle.bril_cli.specs.declared.action.Action.TheVariants.{Run, Check, WriteText, WriteJson}
 use Rattle.bril_cli.specs.declared.source.Format.{Format}
 use Rattle.bril_cli.specs.declared.source.SourceFault.{SourceFault}
 use Rattle.bril_cli.specs.declared.status.Status.{Status}
 use Rattle.bril_cli.specs.declared.status.Status.TheVariants as status
-use Rattle.bril_cli.specs.Answers.{Call, Says, ReadsWell, AsksNone, Prints, UnlessMemory, form_line, misread_line, misnamed_line}
-use Rattle.bril_cli.specs.CommandLine.{Asked, asked_of, format_of}
-use Rattle.bril_cli.specs.Source.{most_bytes, json_line, HoldsFile, ReadsAs, HasFault, HasNameFault, HasImports, IsFormless, IsOnlyTree, IsOnlyFault, IsSource, IsWithin}
+use Rattle.bril_cli.specs.Answers.{Call, Says, ReadsWell, AsksNone, Prints, UnlessMemory, form_line, misread_line, misnamed_line, unaccepted_line}
+use Rattle.bril_cli.specs.CommandLine.{Asked, asked_of, format_of, NeedsProgram}
+use Rattle.bril_cli.specs.Source.{most_bytes, json_line, accepted_line, HoldsFile, ReadsAs, HasFault, HasNameFault, HasOnlyCheckFault, HasImports, IsCrooked, IsFormless, IsOnlyTree, IsOnlyFault, IsSource, IsWithin}
 use Rattle.bril_cli.specs.Straight.{is_straight}
-use Rattle.bril_cli.specs.Works.{status_number, SaysStatus, RefusesFile, RefusesTree, RefusesNames, IsOnlyNameFault, IsOnlyProgram, RunsProgram, RunsTree, PutsText, DoesTree, IsLongFile}
+use Rattle.bril_cli.specs.Works.{status_number, SaysStatus, RefusesFile, RefusesTree, RefusesProgram, IsOnlyNameFault, IsOnlyProgram, IsAcceptedProgram, IsFaultless, RunsProgram, DoesProgram, AsksProgram, PutsText, DoesTree, IsLongFile}
 use Rattle.bril_cli.proofs.Statuses.{Ends, Numbered-source, has_in}
 
 -- ---- what the words ask for is one
@@ -65,6 +68,7 @@ read_fails status.Done f g path refuses = absurd refuses
 read_fails status.Unformed f g path refuses = absurd refuses
 read_fails (status.Misread fault) f g path refuses = absurd refuses
 read_fails (status.Misnamed fault) f g path refuses = absurd refuses
+read_fails (status.Unaccepted p fault) f g path refuses = absurd refuses
 read_fails (status.CodeTooBig words) f g path refuses = absurd refuses
 read_fails (status.StackTooBig words) f g path refuses = absurd refuses
 read_fails status.Unwritten f g path refuses = absurd refuses
@@ -76,18 +80,23 @@ no_tree status.OutOfMemory format bytes refuses = inl refl
 no_tree status.Done format bytes refuses = absurd refuses
 no_tree status.Unformed format bytes refuses = absurd refuses
 no_tree (status.Misnamed fault) format bytes refuses = absurd refuses
+no_tree (status.Unaccepted p fault) format bytes refuses = absurd refuses
 no_tree status.Unread format bytes refuses = absurd refuses
 no_tree status.FileTooBig format bytes refuses = absurd refuses
 no_tree (status.CodeTooBig words) format bytes refuses = absurd refuses
 no_tree (status.StackTooBig words) format bytes refuses = absurd refuses
 no_tree status.Unwritten format bytes refuses = absurd refuses
 
--- a fault of a name is the only cause of no program but want of memory
-no_program : (how : Status) (tree : Tree) → RefusesNames how tree → (how ≡ status.OutOfMemory) ⊎ ((fault : NameFault) × (how ≡ status.Misnamed fault) × IsOnlyNameFault tree fault)
-no_program (status.Misnamed fault) tree refuses = inr (fault, refl, refuses)
+-- imports, a fault of a name and a fault of the checker are the only causes of no accepted program but want of memory
+no_program : (how : Status) (tree : Tree) → RefusesProgram how tree
+    → (how ≡ status.OutOfMemory) ⊎ (((tree.imports ≢ []) × (how ≡ status.Unformed))
+    ⊎ (((fault : NameFault) × (tree.imports ≡ []) × (how ≡ status.Misnamed fault) × IsOnlyNameFault tree fault)
+    ⊎ ((p : Prog) × (fault : CheckFault) × (how ≡ status.Unaccepted p fault) × IsOnlyProgram tree p × HasOnlyCheckFault p fault)))
+no_program status.Unformed tree refuses = inr (inl (refuses, refl))
+no_program (status.Misnamed fault) tree refuses = inr (inr (inl (fault, refuses.0, refl, refuses.1)))
+no_program (status.Unaccepted p fault) tree refuses = inr (inr (inr (p, fault, refl, refuses.0, refuses.1)))
 no_program status.OutOfMemory tree refuses = inl refl
 no_program status.Done tree refuses = absurd refuses
-no_program status.Unformed tree refuses = absurd refuses
 no_program (status.Misread fault) tree refuses = absurd refuses
 no_program status.Unread tree refuses = absurd refuses
 no_program status.FileTooBig tree refuses = absurd refuses
@@ -127,18 +136,23 @@ module _ (c : Call) (action : Action) (path : List ℕ) (how : Status) (ends : E
   said : (end : Status) → how ≡ end → SaysStatus end path c.err_before c.err_after
   said end e = subst (λ (h : Status). SaysStatus h path c.err_before c.err_after) e ends.says
 
--- From running a tree: it has imports, or memory was wanting, or it has a fault of a name, or its program isn't straight, or its program ran.
-module _ (how : Status) (tree : Tree) (s t : SinkSeen) (runs : RunsTree how tree s t) where
+-- an action that needs a program asks for it
+asks_program : (action : Action) (how : Status) (tree : Tree) (s t : SinkSeen) → NeedsProgram action → DoesTree action how tree s t → AsksProgram action how tree s t
+asks_program Run how tree s t needs does = does
+asks_program Check how tree s t needs does = does
+asks_program WriteText how tree s t needs does = absurd needs
+asks_program WriteJson how tree s t needs does = absurd needs
+
+-- From asking for a program: memory was wanting, or the tree has imports, or a fault of a name, or a program with a fault of the checker, or its accepted program was dealt with.
+module _ (action : Action) (how : Status) (tree : Tree) (s t : SinkSeen) (asks : AsksProgram action how tree s t) where
   by_names : (A : Type 0) → (how ≡ status.OutOfMemory → A) → (tree.imports ≢ [] → how ≡ status.Unformed → A)
       → (tree.imports ≡ [] → (fault : NameFault) → how ≡ status.Misnamed fault → IsOnlyNameFault tree fault → A)
-      → ((p : Prog) → IsOnlyProgram tree p → is_straight p ≡ false → how ≡ status.Unformed → A)
-      → ((p : Prog) → IsOnlyProgram tree p → is_straight p ≡ true → RunsProgram how p s t → A) → A
-  by_names A memory imports misnamed crooked goes =
-      ⊎_elim (λ form. imports form.0 form.1)
-      (λ named. ⊎_elim (λ refuses. ⊎_elim memory (λ m. misnamed named.0 m.0 m.1 m.2) (no_program how tree refuses.0))
-      (λ program. ⊎_elim (λ form. crooked program.0 program.1 form.0 form.1) (λ run. goes program.0 program.1 run.0 run.1) program.2)
-      named.1)
-      runs
+      → ((p : Prog) (fault : CheckFault) → how ≡ status.Unaccepted p fault → IsOnlyProgram tree p → HasOnlyCheckFault p fault → A)
+      → ((p : Prog) → IsAcceptedProgram tree p → DoesProgram action how p s t → A) → A
+  by_names A memory imports misnamed unaccepted goes =
+      ⊎_elim (λ refused. ⊎_elim memory (⊎_elim (λ form. imports form.0 form.1) (⊎_elim (λ m. misnamed m.1 m.0 m.2 m.3) (λ u. unaccepted u.0 u.1 u.2 u.3 u.4))) (no_program how tree refused.0))
+      (λ program. goes program.0 program.1 program.2)
+      asks
 
 -- a program that is within the bounds runs to its end
 runs_within : (c : Call) (p : Prog) (how : Status) → RunsProgram how p c.out_before c.out_after → IsWithin p → ¬ Rose c.out_before.faults c.out_after.faults
@@ -147,6 +161,7 @@ runs_within c p status.Done runs within sound = inr (refl, record { output = run
 runs_within c p status.Unformed runs within sound = absurd runs
 runs_within c p (status.Misread fault) runs within sound = absurd runs
 runs_within c p (status.Misnamed fault) runs within sound = absurd runs
+runs_within c p (status.Unaccepted q fault) runs within sound = absurd runs
 runs_within c p status.Unread runs within sound = absurd runs
 runs_within c p status.FileTooBig runs within sound = absurd runs
 runs_within c p (status.CodeTooBig words) runs within sound = let w = within.code in let long = runs.0.0 in absurd (omega arith)
@@ -160,6 +175,7 @@ refused_beyond p status.Done s t runs beyond = absurd (beyond runs.0)
 refused_beyond p status.Unformed s t runs beyond = absurd runs
 refused_beyond p (status.Misread fault) s t runs beyond = absurd runs
 refused_beyond p (status.Misnamed fault) s t runs beyond = absurd runs
+refused_beyond p (status.Unaccepted q fault) s t runs beyond = absurd runs
 refused_beyond p status.Unread s t runs beyond = absurd runs
 refused_beyond p status.FileTooBig s t runs beyond = absurd runs
 refused_beyond p (status.CodeTooBig words) s t runs beyond = inr refl
@@ -175,6 +191,7 @@ puts_text status.Unwritten text s t puts sound = absurd (sound puts.1)
 puts_text status.Unformed text s t puts sound = absurd puts
 puts_text (status.Misread fault) text s t puts sound = absurd puts
 puts_text (status.Misnamed fault) text s t puts sound = absurd puts
+puts_text (status.Unaccepted p fault) text s t puts sound = absurd puts
 puts_text status.Unread text s t puts sound = absurd puts
 puts_text status.FileTooBig text s t puts sound = absurd puts
 puts_text (status.CodeTooBig words) text s t puts sound = absurd puts
@@ -187,87 +204,113 @@ one_program tree p q numbered only = only.alone p numbered
 -- ---- the clauses
 
 module _ (c : Call) (action : Action) (path : List ℕ) (how : Status) (ends : Ends c action path how) where
-  -- the bytes' program is that of their tree, and nothing else comes where there is one
-  with_program : (A : Type 0) (bytes : List ℕ) (p : Prog) (reads : ReadsWell c Run bytes) → length bytes ≤ most_bytes → IsSource (format_of reads.path) bytes p
-      → (how ≡ status.OutOfMemory → A) → (is_straight p ≡ false → how ≡ status.Unformed → A) → (is_straight p ≡ true → RunsProgram how p c.out_before c.out_after → A) → A
-  with_program A bytes p reads short source memory crooked goes =
-      let here : IsSource (format_of path) bytes p = subst (λ q. IsSource (format_of q) bytes p) (same_path c action path how ends Run bytes reads) source in
-      by_cases c action path how ends Run bytes reads A memory
+  -- The bytes' program is that of their tree, and nothing else comes where there is one: memory was wanting, or the program has a fault of the checker, or it is accepted and was dealt with.
+  with_program : (asks : Action) → NeedsProgram asks → (A : Type 0) (bytes : List ℕ) (p : Prog) (reads : ReadsWell c asks bytes) → length bytes ≤ most_bytes → IsSource (format_of reads.path) bytes p
+      → (how ≡ status.OutOfMemory → A) → ((fault : CheckFault) → how ≡ status.Unaccepted p fault → HasOnlyCheckFault p fault → A) → (IsFaultless p → DoesProgram asks how p c.out_before c.out_after → A) → A
+  with_program asks needs A bytes p reads short source memory unaccepted goes =
+      let here : IsSource (format_of path) bytes p = subst (λ q. IsSource (format_of q) bytes p) (same_path c action path how ends asks bytes reads) source in
+      by_cases c action path how ends asks bytes reads A memory
       (λ e long. absurd (omega arith))
       (λ fault e only few. absurd (only.unread here.tree here.reads))
       (λ tree only does few.
       let numbered : Numbered tree p = Numbered-source (format_of path) bytes tree only p here in
-      by_names how tree c.out_before c.out_after does A memory
+      by_names asks how tree c.out_before c.out_after (asks_program asks how tree c.out_before c.out_after needs does) A memory
       (λ imports e. absurd (imports numbered.alone))
       (λ alone fault e has. absurd (has.unnumbered p numbered))
-      (λ q program bent e. crooked (subst (λ r. is_straight r ≡ false) (one_program tree p q numbered program) bent) e)
-      (λ q program line runs.
-      goes (subst (λ r. is_straight r ≡ true) (one_program tree p q numbered program) line)
-      (subst (λ r. RunsProgram how r c.out_before c.out_after) (one_program tree p q numbered program) runs)))
+      (λ q fault e program has.
+      let same : q ≡ p = one_program tree p q numbered program in
+      unaccepted fault (subst (λ r. how ≡ status.Unaccepted r fault) same e) (subst (λ r. HasOnlyCheckFault r fault) same has))
+      (λ q program done.
+      let same : q ≡ p = one_program tree p q numbered program.only in
+      goes (subst IsFaultless same program.sound) (subst (λ r. DoesProgram asks how r c.out_before c.out_after) same done)))
 
-  pub runs_where : (bytes : List ℕ) (p : Prog) (reads : ReadsWell c Run bytes) → length bytes ≤ most_bytes → IsSource (format_of reads.path) bytes p → is_straight p ≡ true → IsWithin p
+  pub runs_where : (bytes : List ℕ) (p : Prog) (reads : ReadsWell c Run bytes) → length bytes ≤ most_bytes → IsSource (format_of reads.path) bytes p → IsAccepted p → is_straight p ≡ true → IsWithin p
       → ¬ Rose c.out_before.faults c.out_after.faults → UnlessMemory (status_number how) ((status_number how ≡ 0) × Prints c p)
-  runs_where bytes p reads short source straight within sound =
-      with_program _ bytes p reads short source (exhausted how _)
-      (λ bent e. absurd (true≢false (sym straight ∙ bent)))
-      (λ goes runs. runs_within c p how runs within sound)
+  runs_where bytes p reads short source accepted straight within sound =
+      with_program Run tt _ bytes p reads short source (exhausted how _)
+      (λ fault e has. absurd (has.unaccepted accepted))
+      (λ faultless does. ⊎_elim (λ bent. absurd (true≢false (sym straight ∙ bent.0))) (λ goes. runs_within c p how goes.1 within sound) does)
 
-  pub refused_where : (bytes : List ℕ) (p : Prog) (reads : ReadsWell c Run bytes) → length bytes ≤ most_bytes → IsSource (format_of reads.path) bytes p → is_straight p ≡ true → ¬ IsWithin p
+  pub refused_where : (bytes : List ℕ) (p : Prog) (reads : ReadsWell c Run bytes) → length bytes ≤ most_bytes → IsSource (format_of reads.path) bytes p → IsAccepted p → is_straight p ≡ true → ¬ IsWithin p
       → UnlessMemory (status_number how) (status_number how ≡ 68)
-  refused_where bytes p reads short source straight beyond =
-      with_program _ bytes p reads short source (exhausted how _)
-      (λ bent e. absurd (true≢false (sym straight ∙ bent)))
-      (λ goes runs. refused_beyond p how c.out_before c.out_after runs beyond)
+  refused_where bytes p reads short source accepted straight beyond =
+      with_program Run tt _ bytes p reads short source (exhausted how _)
+      (λ fault e has. absurd (has.unaccepted accepted))
+      (λ faultless does. ⊎_elim (λ bent. absurd (true≢false (sym straight ∙ bent.0))) (λ goes. refused_beyond p how c.out_before c.out_after goes.1 beyond) does)
+
+  pub checks_where : (bytes : List ℕ) (p : Prog) (reads : ReadsWell c Check bytes) → length bytes ≤ most_bytes → IsSource (format_of reads.path) bytes p → IsAccepted p
+      → ¬ Rose c.out_before.faults c.out_after.faults → UnlessMemory (status_number how) ((status_number how ≡ 0) × TookAll c.out_before (accepted_line p) c.out_after)
+  checks_where bytes p reads short source accepted sound =
+      with_program Check tt _ bytes p reads short source (exhausted how _)
+      (λ fault e has. absurd (has.unaccepted accepted))
+      (λ faultless does. puts_text how (accepted_line p) c.out_before c.out_after does sound)
+
+  pub unchecked_where : (asks : Action) → NeedsProgram asks → (bytes : List ℕ) (p : Prog) (fault : CheckFault) (reads : ReadsWell c asks bytes) → length bytes ≤ most_bytes → IsSource (format_of reads.path) bytes p → checker.HasFault p fault
+      → UnlessMemory (status_number how) ((status_number how ≡ 65) × Says c.err_before (unaccepted_line p fault) c.err_after)
+  unchecked_where asks needs bytes p fault reads short source has =
+      with_program asks needs _ bytes p reads short source (exhausted how _)
+      (λ other e is. inr (
+        ap status_number e,
+        subst (λ (k : CheckFault). Says c.err_before (unaccepted_line p k) c.err_after) (is.only fault has)
+            (said c action path how ends asks bytes reads (status.Unaccepted p other) e),
+      ))
+      (λ sound does. absurd (sound.faultless fault has))
 
   -- the line of a form
-  form_said : (bytes : List ℕ) (reads : ReadsWell c Run bytes) → how ≡ status.Unformed → (status_number how ≡ 65) × Says c.err_before (form_line reads.path) c.err_after
-  form_said bytes reads e = (
+  form_said : (asks : Action) (bytes : List ℕ) (reads : ReadsWell c asks bytes) → how ≡ status.Unformed → (status_number how ≡ 65) × Says c.err_before (form_line reads.path) c.err_after
+  form_said asks bytes reads e = (
     ap status_number e,
-    let here : Says c.err_before (form_line path) c.err_after = said c action path how ends Run bytes reads status.Unformed e in
-        subst (λ p. Says c.err_before (form_line p) c.err_after) (sym (same_path c action path how ends Run bytes reads)) here,
+    let here : Says c.err_before (form_line path) c.err_after = said c action path how ends asks bytes reads status.Unformed e in
+        subst (λ p. Says c.err_before (form_line p) c.err_after) (sym (same_path c action path how ends asks bytes reads)) here,
   )
 
-  imports_where : (bytes : List ℕ) (reads : ReadsWell c Run bytes) → length bytes ≤ most_bytes → HasImports (format_of reads.path) bytes
+  imports_where : (asks : Action) → NeedsProgram asks → (bytes : List ℕ) (reads : ReadsWell c asks bytes) → length bytes ≤ most_bytes → HasImports (format_of reads.path) bytes
       → UnlessMemory (status_number how) ((status_number how ≡ 65) × Says c.err_before (form_line reads.path) c.err_after)
-  imports_where bytes reads short has =
-      let here : HasImports (format_of path) bytes = subst (λ q. HasImports (format_of q) bytes) (same_path c action path how ends Run bytes reads) has in
-      by_cases c action path how ends Run bytes reads _ (exhausted how _)
+  imports_where asks needs bytes reads short has =
+      let here : HasImports (format_of path) bytes = subst (λ q. HasImports (format_of q) bytes) (same_path c action path how ends asks bytes reads) has in
+      by_cases c action path how ends asks bytes reads _ (exhausted how _)
       (λ e long. absurd (omega arith))
       (λ fault e only few. absurd (only.unread here.tree here.reads))
       (λ tree only does few.
       let some : tree.imports ≢ [] = subst (λ (t : Tree). t.imports ≢ []) (sym (only.alone here.tree here.reads)) here.imports in
-      by_names how tree c.out_before c.out_after does _ (exhausted how _)
-      (λ imports e. inr (form_said bytes reads e))
+      by_names asks how tree c.out_before c.out_after (asks_program asks how tree c.out_before c.out_after needs does) _ (exhausted how _)
+      (λ imports e. inr (form_said asks bytes reads e))
       (λ alone fault e other. absurd (some alone))
-      (λ q program bent e. absurd (some program.numbered.alone))
-      (λ q program line runs. absurd (some program.numbered.alone)))
+      (λ q fault e program other. absurd (some program.numbered.alone))
+      (λ q program done. absurd (some program.only.numbered.alone)))
 
-  pub formless_where : (bytes : List ℕ) (reads : ReadsWell c Run bytes) → length bytes ≤ most_bytes → IsFormless (format_of reads.path) bytes
+  crooked_where : (asks : Action) → NeedsProgram asks → (bytes : List ℕ) (reads : ReadsWell c asks bytes) → length bytes ≤ most_bytes → asks ≡ Run → IsCrooked (format_of reads.path) bytes
       → UnlessMemory (status_number how) ((status_number how ≡ 65) × Says c.err_before (form_line reads.path) c.err_after)
-  formless_where bytes reads short =
-      ⊎_elim (imports_where bytes reads short)
-      (λ bent. with_program _ bytes bent.program reads short bent.source (exhausted how _)
-      (λ crooked e. inr (form_said bytes reads e))
-      (λ line runs. absurd (true≢false (sym line ∙ bent.crooked))))
+  crooked_where asks needs bytes reads short runs bent =
+      with_program asks needs _ bytes bent.program reads short bent.source (exhausted how _)
+      (λ fault e has. absurd (has.unaccepted bent.accepted))
+      (λ faultless does.
+      let here : DoesProgram Run how bent.program c.out_before c.out_after = subst (λ (a : Action). DoesProgram a how bent.program c.out_before c.out_after) runs does in
+      ⊎_elim (λ crooked. inr (form_said asks bytes reads crooked.1)) (λ line. absurd (true≢false (sym line.0 ∙ bent.crooked))) here)
 
-  pub misnamed_where : (bytes : List ℕ) (fault : NameFault) (reads : ReadsWell c Run bytes) → length bytes ≤ most_bytes → HasNameFault (format_of reads.path) bytes fault
+  pub formless_where : (asks : Action) → NeedsProgram asks → (bytes : List ℕ) (reads : ReadsWell c asks bytes) → length bytes ≤ most_bytes → IsFormless asks (format_of reads.path) bytes
+      → UnlessMemory (status_number how) ((status_number how ≡ 65) × Says c.err_before (form_line reads.path) c.err_after)
+  formless_where asks needs bytes reads short =
+      ⊎_elim (imports_where asks needs bytes reads short) (λ bent. crooked_where asks needs bytes reads short bent.0 bent.1)
+
+  pub misnamed_where : (asks : Action) → NeedsProgram asks → (bytes : List ℕ) (fault : NameFault) (reads : ReadsWell c asks bytes) → length bytes ≤ most_bytes → HasNameFault (format_of reads.path) bytes fault
       → UnlessMemory (status_number how) ((status_number how ≡ 65) × Says c.err_before (misnamed_line fault) c.err_after)
-  misnamed_where bytes fault reads short has =
-      let here : HasNameFault (format_of path) bytes fault = subst (λ q. HasNameFault (format_of q) bytes fault) (same_path c action path how ends Run bytes reads) has in
-      by_cases c action path how ends Run bytes reads _ (exhausted how _)
+  misnamed_where asks needs bytes fault reads short has =
+      let here : HasNameFault (format_of path) bytes fault = subst (λ q. HasNameFault (format_of q) bytes fault) (same_path c action path how ends asks bytes reads) has in
+      by_cases c action path how ends asks bytes reads _ (exhausted how _)
       (λ e long. absurd (omega arith))
       (λ other e only few. absurd (only.unread here.tree here.reads))
       (λ tree only does few.
       let none : tree.imports ≡ [] = subst (λ (t : Tree). t.imports ≡ []) (sym (only.alone here.tree here.reads)) here.alone in
-      by_names how tree c.out_before c.out_after does _ (exhausted how _)
+      by_names asks how tree c.out_before c.out_after (asks_program asks how tree c.out_before c.out_after needs does) _ (exhausted how _)
       (λ imports e. absurd (imports none))
       (λ alone other e is. inr (
         ap status_number e,
         subst (λ (k : NameFault). Says c.err_before (misnamed_line k) c.err_after) (is.alone fault (has_in (format_of path) bytes tree only fault here))
-            (said c action path how ends Run bytes reads (status.Misnamed other) e),
+            (said c action path how ends asks bytes reads (status.Misnamed other) e),
       ))
-      (λ q program bent e. absurd (program.faultless fault (has_in (format_of path) bytes tree only fault here)))
-      (λ q program line runs. absurd (program.faultless fault (has_in (format_of path) bytes tree only fault here))))
+      (λ q other e program is. absurd (program.faultless fault (has_in (format_of path) bytes tree only fault here)))
+      (λ q program done. absurd (program.only.faultless fault (has_in (format_of path) bytes tree only fault here))))
 
   -- what a tree is written as is put
   written_where : (asks : Action) (written : Tree → List ℕ) → ((tree : Tree) → DoesTree asks how tree c.out_before c.out_after → PutsText how (written tree) c.out_before c.out_after) → (bytes : List ℕ) (tree : Tree) (reads : ReadsWell c asks bytes) → length bytes ≤ most_bytes → ReadsAs (format_of reads.path) bytes tree

@@ -1,6 +1,7 @@
 pub mod Bounds
 pub mod Carrying
 pub mod Commands
+pub mod Counting
 pub mod Digits
 pub mod Ending
 pub mod ImageSystem

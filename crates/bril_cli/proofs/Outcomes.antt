@@ -1,7 +1,14 @@
 -- What the steps of an action on a file come to.
-use Rattle.std.proofs.Common.{◌≡◌, ◌⊎◌, ℕ, List, ⊎_elim}
+use Rattle.std.proofs.Common.{◌≡◌, ◌⊎◌, ℕ, List, [], Result, Ok, Err, IfOk, refl, sym, subst, ⊎_elim}
+use Rattle.std.specs.Prelude.{IfErr, MatchResult}
+use Rattle.bril_outside.specs.Sink.{SinkSeen}
 use Rattle.bril_tree.specs.declared.tree.Tree.{Tree}
+use Rattle.bril_walks.specs.Accepted.{IsAccepted}
 use Rattle.bril_tree.specs.declared.program.Prog.{Prog}
+use Rattle.bril_checker.specs.Checked.{CheckedView}
+use Rattle.bril_checker.specs.Faults as checker
+use Rattle.bril_checker.specs.declared.fault.CheckFault.{CheckFault}
+use Rattle.bril_checker.specs.declared.fault.CheckFault.TheVariants as check
 use Rattle.bril_tree.specs.Numbered.{Numbered}
 use Rattle.bril_json.specs.Reading as json_reading
 use Rattle.bril_json.specs.declared.fault.JsonFault.{JsonFault}
@@ -12,8 +19,10 @@ use Rattle.bril_names.specs.declared.fault.NameFault.TheVariants as name
 use Rattle.bril_text.specs.Reading as text_reading
 use Rattle.bril_text.specs.declared.fault.TextFault.{TextFault}
 use Rattle.bril_text.specs.declared.fault.TextFault.TheVariants as text
-use Rattle.bril_cli.specs.Source.{HasFault, IsOnlyTree, IsOnlyFault}
-use Rattle.bril_cli.specs.Works.{RefusesTree, RefusesNames, IsOnlyNameFault, text_status, json_status, name_status}
+use Rattle.bril_cli.specs.Source.{HasFault, HasOnlyCheckFault, IsOnlyTree, IsOnlyFault}
+use Rattle.bril_cli.specs.Works.{RefusesTree, RefusesNames, RefusesCheck, RefusesProgram, PutsText, IsOnlyNameFault, IsOnlyProgram, IsCounted, IsFaultless, IsAcceptedProgram, text_status, json_status, name_status, check_status}
+use Rattle.bril_cli.specs.declared.status.Status.{Status}
+use Rattle.bril_cli.specs.declared.status.Status.TheVariants as status
 use Rattle.bril_cli.specs.declared.source.Format.TheVariants.{InText, InJson}
 use Rattle.bril_cli.specs.declared.source.SourceFault.{SourceFault}
 use Rattle.bril_cli.specs.declared.source.SourceFault.TheVariants.{Text, Json}
@@ -86,3 +95,79 @@ module _ (tree : Tree) where
   RefusesNames-of name.NoMain is only numbers = only_name name.NoMain is only numbers (λ e. cc)
   RefusesNames-of (name.TwiceArg func) is only numbers = only_name (name.TwiceArg func) is only numbers (λ e. cc)
   RefusesNames-of name.Memory is only numbers = tt
+
+-- ---- What the checker answers: its fault is the only one or want of memory.
+
+module _ (p : Prog) where
+  module _ (fault : CheckFault) (is : checker.IsFaultOf p fault) (only : (other : CheckFault) → checker.HasFault p other → (fault ≡ other) ⊎ (fault ≡ check.Memory)) (accepts : IsAccepted p → fault ≡ check.Memory) where
+    only_check : (fault ≡ check.Memory → ⊥) → HasOnlyCheckFault p fault
+    only_check ample = record {
+      has = ⊎_elim (λ e. absurd (ample e)) (λ h. h) is;
+      only = λ other has. ⊎_elim (λ e. e) (λ e. absurd (ample e)) (only other has);
+      unaccepted = λ accepted. ample (accepts accepted);
+    }
+
+  pub RefusesCheck-of : (fault : CheckFault) → checker.IsFaultOf p fault → ((other : CheckFault) → checker.HasFault p other → (fault ≡ other) ⊎ (fault ≡ check.Memory)) → (IsAccepted p → fault ≡ check.Memory) → RefusesCheck (check_status p fault) p
+  RefusesCheck-of (check.Types func item) is only accepts = (refl, only_check (check.Types func item) is only accepts (λ e. cc))
+  RefusesCheck-of (check.Arity func item) is only accepts = (refl, only_check (check.Arity func item) is only accepts (λ e. cc))
+  RefusesCheck-of (check.MaybeUnassigned func item variable) is only accepts = (refl, only_check (check.MaybeUnassigned func item variable) is only accepts (λ e. cc))
+  RefusesCheck-of (check.Nest func item) is only accepts = (refl, only_check (check.Nest func item) is only accepts (λ e. cc))
+  RefusesCheck-of (check.SpecCall func item) is only accepts = (refl, only_check (check.SpecCall func item) is only accepts (λ e. cc))
+  RefusesCheck-of (check.NoReturn func item) is only accepts = (refl, only_check (check.NoReturn func item) is only accepts (λ e. cc))
+  RefusesCheck-of check.MainType is only accepts = (refl, only_check check.MainType is only accepts (λ e. cc))
+  RefusesCheck-of (check.PrintPtr func item) is only accepts = (refl, only_check (check.PrintPtr func item) is only accepts (λ e. cc))
+  RefusesCheck-of check.Memory is only accepts = tt
+
+-- ---- What asking a tree for its accepted program answers.
+
+-- a tree that isn't numbered has none
+pub RefusesProgram-names : (how : Status) (tree : Tree) → tree.imports ≡ [] → RefusesNames how tree → RefusesProgram how tree
+RefusesProgram-names (status.Misnamed fault) tree none refuses = (none, refuses)
+RefusesProgram-names status.OutOfMemory tree none refuses = tt
+RefusesProgram-names status.Done tree none refuses = absurd refuses
+RefusesProgram-names status.Unformed tree none refuses = absurd refuses
+RefusesProgram-names (status.Misread fault) tree none refuses = absurd refuses
+RefusesProgram-names (status.Unaccepted p fault) tree none refuses = absurd refuses
+RefusesProgram-names status.Unread tree none refuses = absurd refuses
+RefusesProgram-names status.FileTooBig tree none refuses = absurd refuses
+RefusesProgram-names (status.CodeTooBig words) tree none refuses = absurd refuses
+RefusesProgram-names (status.StackTooBig words) tree none refuses = absurd refuses
+RefusesProgram-names status.Unwritten tree none refuses = absurd refuses
+
+-- nor has one whose program isn't accepted
+pub RefusesProgram-check : (how : Status) (tree : Tree) (p : Prog) → IsOnlyProgram tree p → RefusesCheck how p → RefusesProgram how tree
+RefusesProgram-check (status.Unaccepted q fault) tree p only refuses =
+    (subst (λ (r : Prog). IsOnlyProgram tree r) (sym refuses.0) only, subst (λ (r : Prog). HasOnlyCheckFault r fault) (sym refuses.0) refuses.1)
+RefusesProgram-check status.OutOfMemory tree p only refuses = tt
+RefusesProgram-check status.Done tree p only refuses = absurd refuses
+RefusesProgram-check status.Unformed tree p only refuses = absurd refuses
+RefusesProgram-check (status.Misread fault) tree p only refuses = absurd refuses
+RefusesProgram-check (status.Misnamed fault) tree p only refuses = absurd refuses
+RefusesProgram-check status.Unread tree p only refuses = absurd refuses
+RefusesProgram-check status.FileTooBig tree p only refuses = absurd refuses
+RefusesProgram-check (status.CodeTooBig words) tree p only refuses = absurd refuses
+RefusesProgram-check (status.StackTooBig words) tree p only refuses = absurd refuses
+RefusesProgram-check status.Unwritten tree p only refuses = absurd refuses
+
+-- what checking the tree's only program answers
+module _ (tree : Tree) (p : Prog) (only : IsOnlyProgram tree p) where
+  pub accepted_if : (r : Result CheckedView Status) → IfOk r (λ checked. checked.prog ≡ p) → IfOk r (λ _. IsFaultless p) → IfOk r (λ checked. IsAcceptedProgram tree checked.prog)
+  accepted_if (Ok checked) prog sound = record {
+    only = subst (λ (q : Prog). IsOnlyProgram tree q) (sym prog) only;
+    sound = subst (λ (q : Prog). IsFaultless q) (sym prog) sound;
+  }
+  accepted_if (Err how) prog sound = tt
+
+  pub counted_if : (r : Result CheckedView Status) → IfOk r (λ checked. checked.prog ≡ p) → IfOk r (λ _. IsCounted p) → IfOk r (λ checked. IsCounted checked.prog)
+  counted_if (Ok checked) prog counted = subst (λ (q : Prog). IsCounted q) (sym prog) counted
+  counted_if (Err how) prog counted = tt
+
+  pub refused_if : (r : Result CheckedView Status) → IfErr r (λ how. RefusesCheck how p) → IfErr r (λ how. RefusesProgram how tree)
+  refused_if (Ok checked) refuses = tt
+  refused_if (Err how) refuses = RefusesProgram-check how tree p only refuses
+
+-- what putting a text that was to be made answers
+pub puts_made : {E : Type 0} (made : Result (List ℕ) E) (text : List ℕ) (how : Status) (s t : SinkSeen) → IfOk made (λ m. m ≡ text)
+    → MatchResult made (λ m. PutsText how m s t) (λ _. (how ≡ status.OutOfMemory) × (t ≡ s)) → PutsText how text s t
+puts_made (Ok m) text how s t is puts = subst (λ m. PutsText how m s t) is puts
+puts_made (Err e) text how s t is puts = subst (λ (h : Status). PutsText h text s t) (sym puts.0) puts.1

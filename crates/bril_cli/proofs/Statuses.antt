@@ -1,5 +1,5 @@
 -- What each status says of the call.
-use Rattle.std.proofs.Common.{◌≡◌, ℕ, true, List, Some, refl, sym, subst, inl, inr, ⊎_elim}
+use Rattle.std.proofs.Common.{◌≡◌, ℕ, true, false, List, Some, refl, sym, subst, inl, inr, ⊎_elim}
 use Rattle.std.specs.Prelude.{[]}
 use Rattle.bril_tree.specs.declared.program.Prog.{Prog}
 use Rattle.bril_tree.specs.declared.tree.Tree.{Tree}
@@ -8,15 +8,15 @@ use Rattle.bril_text.specs.Canonical.{canonical_text}
 use Rattle.bril_names.specs.Faults as names
 use Rattle.bril_names.specs.declared.fault.NameFault.{NameFault}
 use Rattle.bril_cli.specs.declared.action.Action.{Action}
-use Rattle.bril_cli.specs.declared.action.Action.TheVariants.{Run, WriteText, WriteJson}
+use Rattle.bril_cli.specs.declared.action.Action.TheVariants.{Run, Check, WriteText, WriteJson}
 use Rattle.bril_cli.specs.declared.source.Format.{Format}
 use Rattle.bril_cli.specs.declared.status.Status.{Status}
 use Rattle.bril_cli.specs.declared.status.Status.TheVariants as status
 use Rattle.bril_cli.specs.Answers.{Call, Says, Answers, Produces, code_line, stack_line}
-use Rattle.bril_cli.specs.CommandLine.{asked_of, format_of}
-use Rattle.bril_cli.specs.Source.{json_line, IsFile, IsFormless, HasNameFault, HasOnlyNameFault, IsOnlyTree, IsSource, IsOnlySource, IsWithin, EndsPrinting, Runs, Writes}
+use Rattle.bril_cli.specs.CommandLine.{asked_of, format_of, NeedsProgram}
+use Rattle.bril_cli.specs.Source.{json_line, accepted_line, IsFile, IsFormless, HasNameFault, HasOnlyNameFault, IsOnlyTree, IsSource, IsOnlySource, IsWithin, EndsPrinting, Runs}
 use Rattle.bril_cli.specs.Straight.{is_straight}
-use Rattle.bril_cli.specs.Works.{status_number, SaysStatus, RefusesNames, IsOnlyNameFault, IsOnlyProgram, RunsProgram, RunsTree, PutsText, DoesFile, FailsToRead, FindsNoTree, DealsWithTree}
+use Rattle.bril_cli.specs.Works.{status_number, SaysStatus, IsOnlyNameFault, IsOnlyProgram, IsAcceptedProgram, RefusesProgram, RunsProgram, AsksProgram, PutsText, DoesFile, FailsToRead, FindsNoTree, DealsWithTree}
 
 -- ---- the program and the name fault of bytes are those of their tree
 
@@ -73,6 +73,7 @@ module _ (c : Call) (action : Action) (path : List ℕ) (asked : asked_of c.word
   Answers-read status.Unformed says fails = absurd fails.refuses
   Answers-read (status.Misread fault) says fails = absurd fails.refuses
   Answers-read (status.Misnamed fault) says fails = absurd fails.refuses
+  Answers-read (status.Unaccepted p fault) says fails = absurd fails.refuses
   Answers-read (status.CodeTooBig words) says fails = absurd fails.refuses
   Answers-read (status.StackTooBig words) says fails = absurd fails.refuses
   Answers-read status.Unwritten says fails = absurd fails.refuses
@@ -82,13 +83,13 @@ module _ (c : Call) (action : Action) (path : List ℕ) (asked : asked_of c.word
     action = action;
     path = path;
     asked = asked;
-    because = inr (inr (record {
+    because = inr (inr (inr (record {
       bytes = finds.bytes;
       file = finds.file;
       fault = fault;
       only = finds.refuses;
       alone = record { silent = finds.silent; says = says };
-    }));
+    })));
   }
   Answers-none status.OutOfMemory says finds = record {
     action = action;
@@ -99,194 +100,242 @@ module _ (c : Call) (action : Action) (path : List ℕ) (asked : asked_of c.word
   Answers-none status.Done says finds = absurd finds.refuses
   Answers-none status.Unformed says finds = absurd finds.refuses
   Answers-none (status.Misnamed fault) says finds = absurd finds.refuses
+  Answers-none (status.Unaccepted p fault) says finds = absurd finds.refuses
   Answers-none status.Unread says finds = absurd finds.refuses
   Answers-none status.FileTooBig says finds = absurd finds.refuses
   Answers-none (status.CodeTooBig words) says finds = absurd finds.refuses
   Answers-none (status.StackTooBig words) says finds = absurd finds.refuses
   Answers-none status.Unwritten says finds = absurd finds.refuses
 
--- ---- a tree was to run
+-- ---- a text was to be put
 
-module _ (c : Call) (path : List ℕ) (asked : asked_of c.words ≡ Some (Run, path)) (bytes : List ℕ) (file : IsFile c.files_before path bytes) (tree : Tree) (only : IsOnlyTree (format_of path) bytes tree) where
-  Answers-form : (how : Status) → SaysStatus how path c.err_before c.err_after → how ≡ status.Unformed → IsFormless (format_of path) bytes → c.out_after ≡ c.out_before → Answers (status_number how) c
-  Answers-form how says is formless silent = subst (λ (h : Status). Answers (status_number h) c) (sym is) (record {
-    action = Run;
-    path = path;
-    asked = asked;
-    because = inl (record {
-      runs = refl;
-      bytes = bytes;
-      file = file;
-      formless = formless;
-      alone = record { silent = silent; says = subst (λ (h : Status). SaysStatus h path c.err_before c.err_after) is says };
-    });
-  })
-
-  Answers-names : (how : Status) → SaysStatus how path c.err_before c.err_after → tree.imports ≡ [] → RefusesNames how tree → c.out_after ≡ c.out_before → Answers (status_number how) c
-  Answers-names (status.Misnamed fault) says alone refuses silent = record {
-    action = Run;
-    path = path;
-    asked = asked;
-    because = inr (inl (record {
-      runs = refl;
-      bytes = bytes;
-      file = file;
-      fault = fault;
-      only = HasOnlyNameFault-of (format_of path) bytes tree only fault alone refuses;
-      alone = record { silent = silent; says = says };
-    }));
-  }
-  Answers-names status.OutOfMemory says alone refuses silent = record {
-    action = Run;
-    path = path;
-    asked = asked;
-    alone = record { silent = silent; says = says };
-  }
-  Answers-names status.Done says alone refuses silent = absurd refuses
-  Answers-names status.Unformed says alone refuses silent = absurd refuses
-  Answers-names (status.Misread fault) says alone refuses silent = absurd refuses
-  Answers-names status.Unread says alone refuses silent = absurd refuses
-  Answers-names status.FileTooBig says alone refuses silent = absurd refuses
-  Answers-names (status.CodeTooBig words) says alone refuses silent = absurd refuses
-  Answers-names (status.StackTooBig words) says alone refuses silent = absurd refuses
-  Answers-names status.Unwritten says alone refuses silent = absurd refuses
-
-  module _ (p : Prog) (program : IsOnlyProgram tree p) (straight : is_straight p ≡ true) where
-    source : IsOnlySource (format_of path) bytes p
-    source = IsOnlySource-of (format_of path) bytes tree only p program
-
-    runs_file : IsWithin p → (output : List ℕ) → EndsPrinting p output → Runs c.files_before path output
-    runs_file within output prints = record {
-      bytes = bytes;
-      file = file;
-      program = p;
-      source = source;
-      straight = straight;
-      within = within;
-      prints = prints;
-    }
-
-    Answers-program : (how : Status) → SaysStatus how path c.err_before c.err_after → RunsProgram how p c.out_before c.out_after → Answers (status_number how) c
-    Answers-program status.Done says runs = record {
-      action = Run;
-      path = path;
-      asked = asked;
-      output = runs.1.output;
-      produces = runs_file runs.0 runs.1.output runs.1.prints;
-      took = runs.1.took;
-      quiet = says;
-    }
-    Answers-program (status.CodeTooBig words) says runs = record {
-      action = Run;
-      path = path;
-      asked = asked;
-      passes = inr (
-        refl,
-        inl (record {
-          bytes = bytes;
-          file = file;
-          program = p;
-          source = source;
-          straight = straight;
-          long = runs.0.0;
-          alone = record { silent = runs.1; says = subst (λ n. Says c.err_before (code_line n) c.err_after) runs.0.1 says };
-        }),
-      );
-    }
-    Answers-program (status.StackTooBig words) says runs = record {
-      action = Run;
-      path = path;
-      asked = asked;
-      passes = inr (
-        refl,
-        inr (record {
-          bytes = bytes;
-          file = file;
-          program = p;
-          source = source;
-          straight = straight;
-          short_code = runs.0.0;
-          long = runs.0.1;
-          alone = record { silent = runs.1; says = subst (λ n. Says c.err_before (stack_line n) c.err_after) runs.0.2 says };
-        }),
-      );
-    }
-    Answers-program status.OutOfMemory says runs = record {
-      action = Run;
-      path = path;
-      asked = asked;
-      alone = record { silent = runs; says = says };
-    }
-    Answers-program status.Unwritten says runs = record {
-      action = Run;
-      path = path;
-      asked = asked;
-      output = runs.1.output;
-      produces = runs_file runs.0 runs.1.output runs.1.prints;
-      took = runs.1.took;
-      rose = runs.1.rose;
-      says = says;
-    }
-    Answers-program status.Unformed says runs = absurd runs
-    Answers-program (status.Misread fault) says runs = absurd runs
-    Answers-program (status.Misnamed fault) says runs = absurd runs
-    Answers-program status.Unread says runs = absurd runs
-    Answers-program status.FileTooBig says runs = absurd runs
-
-  Answers-run : (how : Status) → SaysStatus how path c.err_before c.err_after → RunsTree how tree c.out_before c.out_after → Answers (status_number how) c
-  Answers-run how says =
-      ⊎_elim (λ form. Answers-form how says form.1 (inl (record { tree = tree; reads = only.reads; imports = form.0 })) form.2)
-      (λ named. ⊎_elim (λ refuses. Answers-names how says named.0 refuses.0 refuses.1)
-      (λ runs. ⊎_elim
-      (λ form. Answers-form how says form.1 (inr (record { program = runs.0; source = (IsOnlySource-of (format_of path) bytes tree only runs.0 runs.1).source; crooked = form.0 })) form.2)
-      (λ goes. Answers-program runs.0 runs.1 goes.0 how says goes.1)
-      runs.2)
-      named.1)
-
--- ---- a tree was to be written
-
-module _ (c : Call) (action : Action) (path : List ℕ) (asked : asked_of c.words ≡ Some (action, path)) (written : Tree → List ℕ) (produces : (output : List ℕ) → Writes written c.files_before path output → Produces action c.files_before path output) (bytes : List ℕ) (file : IsFile c.files_before path bytes) (tree : Tree) (only : IsOnlyTree (format_of path) bytes tree) where
-  writes_file : Writes written c.files_before path (written tree)
-  writes_file = record { bytes = bytes; file = file; tree = tree; reads = only.reads; text = refl }
-
-  Answers-written : (how : Status) → SaysStatus how path c.err_before c.err_after → PutsText how (written tree) c.out_before c.out_after → Answers (status_number how) c
-  Answers-written status.Done says puts = record {
+module _ (c : Call) (action : Action) (path : List ℕ) (asked : asked_of c.words ≡ Some (action, path)) (text : List ℕ) (produces : Produces action c.files_before path text) where
+  Answers-put : (how : Status) → SaysStatus how path c.err_before c.err_after → PutsText how text c.out_before c.out_after → Answers (status_number how) c
+  Answers-put status.Done says puts = record {
     action = action;
     path = path;
     asked = asked;
-    output = written tree;
-    produces = produces (written tree) writes_file;
+    output = text;
+    produces = produces;
     took = puts;
     quiet = says;
   }
-  Answers-written status.OutOfMemory says puts = record {
+  Answers-put status.OutOfMemory says puts = record {
     action = action;
     path = path;
     asked = asked;
     alone = record { silent = puts; says = says };
   }
-  Answers-written status.Unwritten says puts = record {
+  Answers-put status.Unwritten says puts = record {
     action = action;
     path = path;
     asked = asked;
-    output = written tree;
-    produces = produces (written tree) writes_file;
+    output = text;
+    produces = produces;
     took = puts.0;
     rose = puts.1;
     says = says;
   }
-  Answers-written status.Unformed says puts = absurd puts
-  Answers-written (status.Misread fault) says puts = absurd puts
-  Answers-written (status.Misnamed fault) says puts = absurd puts
-  Answers-written status.Unread says puts = absurd puts
-  Answers-written status.FileTooBig says puts = absurd puts
-  Answers-written (status.CodeTooBig words) says puts = absurd puts
-  Answers-written (status.StackTooBig words) says puts = absurd puts
+  Answers-put status.Unformed says puts = absurd puts
+  Answers-put (status.Misread fault) says puts = absurd puts
+  Answers-put (status.Misnamed fault) says puts = absurd puts
+  Answers-put (status.Unaccepted p fault) says puts = absurd puts
+  Answers-put status.Unread says puts = absurd puts
+  Answers-put status.FileTooBig says puts = absurd puts
+  Answers-put (status.CodeTooBig words) says puts = absurd puts
+  Answers-put (status.StackTooBig words) says puts = absurd puts
+
+-- ---- the tree's program was asked for
+
+module _ (c : Call) (action : Action) (path : List ℕ) (asked : asked_of c.words ≡ Some (action, path)) (needs : NeedsProgram action) (bytes : List ℕ) (file : IsFile c.files_before path bytes) (tree : Tree) (only : IsOnlyTree (format_of path) bytes tree) where
+  Answers-formless : SaysStatus status.Unformed path c.err_before c.err_after → IsFormless action (format_of path) bytes → c.out_after ≡ c.out_before → Answers 65 c
+  Answers-formless says formless silent = record {
+    action = action;
+    path = path;
+    asked = asked;
+    because = inl (record {
+      needs = needs;
+      bytes = bytes;
+      file = file;
+      formless = formless;
+      alone = record { silent = silent; says = says };
+    });
+  }
+
+  Answers-refused : (how : Status) → SaysStatus how path c.err_before c.err_after → RefusesProgram how tree → c.out_after ≡ c.out_before → Answers (status_number how) c
+  Answers-refused status.Unformed says refuses silent = Answers-formless says (inl (record { tree = tree; reads = only.reads; imports = refuses })) silent
+  Answers-refused (status.Misnamed fault) says refuses silent = record {
+    action = action;
+    path = path;
+    asked = asked;
+    because = inr (inl (record {
+      needs = needs;
+      bytes = bytes;
+      file = file;
+      fault = fault;
+      only = HasOnlyNameFault-of (format_of path) bytes tree only fault refuses.0 refuses.1;
+      alone = record { silent = silent; says = says };
+    }));
+  }
+  Answers-refused (status.Unaccepted p fault) says refuses silent = record {
+    action = action;
+    path = path;
+    asked = asked;
+    because = inr (inr (inl (record {
+      needs = needs;
+      bytes = bytes;
+      file = file;
+      program = p;
+      source = IsOnlySource-of (format_of path) bytes tree only p refuses.0;
+      fault = fault;
+      only = refuses.1;
+      alone = record { silent = silent; says = says };
+    })));
+  }
+  Answers-refused status.OutOfMemory says refuses silent = record {
+    action = action;
+    path = path;
+    asked = asked;
+    alone = record { silent = silent; says = says };
+  }
+  Answers-refused status.Done says refuses silent = absurd refuses
+  Answers-refused (status.Misread fault) says refuses silent = absurd refuses
+  Answers-refused status.Unread says refuses silent = absurd refuses
+  Answers-refused status.FileTooBig says refuses silent = absurd refuses
+  Answers-refused (status.CodeTooBig words) says refuses silent = absurd refuses
+  Answers-refused (status.StackTooBig words) says refuses silent = absurd refuses
+  Answers-refused status.Unwritten says refuses silent = absurd refuses
+
+-- ---- a tree was to run
+
+module _ (c : Call) (path : List ℕ) (asked : asked_of c.words ≡ Some (Run, path)) (bytes : List ℕ) (file : IsFile c.files_before path bytes) (tree : Tree) (only : IsOnlyTree (format_of path) bytes tree) where
+  module _ (p : Prog) (program : IsAcceptedProgram tree p) where
+    source : IsOnlySource (format_of path) bytes p
+    source = IsOnlySource-of (format_of path) bytes tree only p program.only
+
+    Answers-crooked : (how : Status) → SaysStatus how path c.err_before c.err_after → is_straight p ≡ false → how ≡ status.Unformed → c.out_after ≡ c.out_before → Answers (status_number how) c
+    Answers-crooked how says bent is silent =
+        let here : SaysStatus status.Unformed path c.err_before c.err_after = subst (λ (h : Status). SaysStatus h path c.err_before c.err_after) is says in
+        subst (λ (h : Status). Answers (status_number h) c) (sym is)
+        (Answers-formless c Run path asked tt bytes file tree only here (inr (refl, record { program = p; source = source.source; accepted = program.sound.accepted; crooked = bent })) silent)
+
+    module _ (straight : is_straight p ≡ true) where
+      runs_file : IsWithin p → (output : List ℕ) → EndsPrinting p output → Runs c.files_before path output
+      runs_file within output prints = record {
+        bytes = bytes;
+        file = file;
+        program = p;
+        source = source;
+        accepted = program.sound.accepted;
+        straight = straight;
+        within = within;
+        prints = prints;
+      }
+
+      Answers-program : (how : Status) → SaysStatus how path c.err_before c.err_after → RunsProgram how p c.out_before c.out_after → Answers (status_number how) c
+      Answers-program status.Done says runs = record {
+        action = Run;
+        path = path;
+        asked = asked;
+        output = runs.1.output;
+        produces = runs_file runs.0 runs.1.output runs.1.prints;
+        took = runs.1.took;
+        quiet = says;
+      }
+      Answers-program (status.CodeTooBig words) says runs = record {
+        action = Run;
+        path = path;
+        asked = asked;
+        passes = inr (
+          refl,
+          inl (record {
+            bytes = bytes;
+            file = file;
+            program = p;
+            source = source;
+            accepted = program.sound.accepted;
+            straight = straight;
+            long = runs.0.0;
+            alone = record { silent = runs.1; says = subst (λ n. Says c.err_before (code_line n) c.err_after) runs.0.1 says };
+          }),
+        );
+      }
+      Answers-program (status.StackTooBig words) says runs = record {
+        action = Run;
+        path = path;
+        asked = asked;
+        passes = inr (
+          refl,
+          inr (record {
+            bytes = bytes;
+            file = file;
+            program = p;
+            source = source;
+            accepted = program.sound.accepted;
+            straight = straight;
+            short_code = runs.0.0;
+            long = runs.0.1;
+            alone = record { silent = runs.1; says = subst (λ n. Says c.err_before (stack_line n) c.err_after) runs.0.2 says };
+          }),
+        );
+      }
+      Answers-program status.OutOfMemory says runs = record {
+        action = Run;
+        path = path;
+        asked = asked;
+        alone = record { silent = runs; says = says };
+      }
+      Answers-program status.Unwritten says runs = record {
+        action = Run;
+        path = path;
+        asked = asked;
+        output = runs.1.output;
+        produces = runs_file runs.0 runs.1.output runs.1.prints;
+        took = runs.1.took;
+        rose = runs.1.rose;
+        says = says;
+      }
+      Answers-program status.Unformed says runs = absurd runs
+      Answers-program (status.Misread fault) says runs = absurd runs
+      Answers-program (status.Misnamed fault) says runs = absurd runs
+      Answers-program (status.Unaccepted q fault) says runs = absurd runs
+      Answers-program status.Unread says runs = absurd runs
+      Answers-program status.FileTooBig says runs = absurd runs
+
+  Answers-run : (how : Status) → SaysStatus how path c.err_before c.err_after → AsksProgram Run how tree c.out_before c.out_after → Answers (status_number how) c
+  Answers-run how says =
+      ⊎_elim (λ refused. Answers-refused c Run path asked tt bytes file tree only how says refused.0 refused.1)
+      (λ runs. ⊎_elim (λ form. Answers-crooked runs.0 runs.1 how says form.0 form.1 form.2)
+      (λ goes. Answers-program runs.0 runs.1 goes.0 how says goes.1)
+      runs.2)
+
+-- ---- a tree was to be checked
+
+module _ (c : Call) (path : List ℕ) (asked : asked_of c.words ≡ Some (Check, path)) (bytes : List ℕ) (file : IsFile c.files_before path bytes) (tree : Tree) (only : IsOnlyTree (format_of path) bytes tree) where
+  Answers-checked : (how : Status) → SaysStatus how path c.err_before c.err_after → (p : Prog) → IsAcceptedProgram tree p → PutsText how (accepted_line p) c.out_before c.out_after → Answers (status_number how) c
+  Answers-checked how says p program puts = Answers-put c Check path asked (accepted_line p) (record {
+    bytes = bytes;
+    file = file;
+    program = p;
+    source = IsOnlySource-of (format_of path) bytes tree only p program.only;
+    accepted = program.sound.accepted;
+    text = refl;
+  }) how says puts
+
+  Answers-check : (how : Status) → SaysStatus how path c.err_before c.err_after → AsksProgram Check how tree c.out_before c.out_after → Answers (status_number how) c
+  Answers-check how says =
+      ⊎_elim (λ refused. Answers-refused c Check path asked tt bytes file tree only how says refused.0 refused.1)
+      (λ puts. Answers-checked how says puts.0 puts.1 puts.2)
+
+-- ---- a tree was dealt with
 
 Answers-tree : (c : Call) (action : Action) (path : List ℕ) (how : Status) → asked_of c.words ≡ Some (action, path) → SaysStatus how path c.err_before c.err_after → DealsWithTree action how c.files_before path c.out_before c.out_after → Answers (status_number how) c
 Answers-tree c Run path how asked says deals = Answers-run c path asked deals.bytes deals.file deals.tree deals.only how says deals.does
-Answers-tree c WriteText path how asked says deals = Answers-written c WriteText path asked canonical_text (λ output w. w) deals.bytes deals.file deals.tree deals.only how says deals.does
-Answers-tree c WriteJson path how asked says deals = Answers-written c WriteJson path asked json_line (λ output w. w) deals.bytes deals.file deals.tree deals.only how says deals.does
+Answers-tree c Check path how asked says deals = Answers-check c path asked deals.bytes deals.file deals.tree deals.only how says deals.does
+Answers-tree c WriteText path how asked says deals =
+    Answers-put c WriteText path asked (canonical_text deals.tree) (record { bytes = deals.bytes; file = deals.file; tree = deals.tree; reads = deals.only.reads; text = refl }) how says deals.does
+Answers-tree c WriteJson path how asked says deals =
+    Answers-put c WriteJson path asked (json_line deals.tree) (record { bytes = deals.bytes; file = deals.file; tree = deals.tree; reads = deals.only.reads; text = refl }) how says deals.does
 
 -- what each status says
 pub Answers-of : (c : Call) (action : Action) (path : List ℕ) (how : Status) → Ends c action path how → Answers (status_number how) c

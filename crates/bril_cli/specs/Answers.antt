@@ -1,19 +1,24 @@
 -- What the command line answers: its status, and what it does to the files and its two outputs.
-use Rattle.std.specs.Prelude.{ℕ, true, ◌≡◌, ◌*◌, ◌<◌, ◌≤◌, ◌⊎◌, ◌==◌, List, ◌++◌, length, Option, Some, None, MatchBool, codes}
+use Rattle.std.specs.Prelude.{ℕ, true, ◌≡◌, ◌*◌, ◌<◌, ◌≤◌, ◌⊎◌, ◌==◌, List, ◌++◌, length, Option, Some, None, MatchBool, codes, slice_get, []}
 use Rattle.std.specs.Fmt.{decimal}
+use Rattle.bril_walks.specs.Accepted.{IsAccepted}
+use Rattle.bril_tree.specs.declared.numbered.VarInfo.{VarInfo}
+use Rattle.bril_tree.specs.declared.numbered_function.Func.{Func}
 use Rattle.bril_tree.specs.declared.program.Prog.{Prog}
+use Rattle.bril_checker.specs.declared.fault.CheckFault.{CheckFault}
+use Rattle.bril_checker.specs.declared.fault.CheckFault.TheVariants as check
 use Rattle.bril_outside.specs.Files.{FilesSeen, MayHold, MayFail, LacksFile}
 use Rattle.bril_outside.specs.Sink.{SinkSeen, Rose, TookAll, TookSome}
 use Rattle.bril_cli.specs.Carries.{frame_words}
-use Rattle.bril_cli.specs.CommandLine.{asked_of, format_of}
+use Rattle.bril_cli.specs.CommandLine.{asked_of, format_of, NeedsProgram}
 use Rattle.bril_cli.specs.declared.action.Action.{Action}
-use Rattle.bril_cli.specs.declared.action.Action.TheVariants.{Run, WriteText, WriteJson}
+use Rattle.bril_cli.specs.declared.action.Action.TheVariants.{Run, Check, WriteText, WriteJson}
 use Rattle.bril_cli.specs.declared.report.Place.{Place}
 use Rattle.bril_cli.specs.declared.source.SourceFault.{SourceFault}
 use Rattle.bril_cli.specs.declared.source.SourceFault.TheVariants.{Text, Json}
 use Rattle.bril_cli.specs.Emitted.{bound_sum}
 use Rattle.bril_cli.specs.Refusal.{capped, PassesCode, PassesStack}
-use Rattle.bril_cli.specs.Source.{most_bytes, json_line, HoldsFile, IsFile, IsFormless, HasOnlyNameFault, IsOnlyFault, IsOnlySource, EndsPrinting, Runs, Writes}
+use Rattle.bril_cli.specs.Source.{most_bytes, json_line, HoldsFile, IsFile, IsFormless, HasOnlyNameFault, HasOnlyCheckFault, IsOnlyFault, IsOnlySource, EndsPrinting, Runs, Checks, Writes}
 use Rattle.bril_cli.specs.Straight.{is_straight}
 use Rattle.bril_json.specs.declared.fault.JsonFault.{JsonFault}
 use Rattle.bril_json.specs.declared.fault.JsonFault.TheVariants as json
@@ -85,9 +90,13 @@ abbrev pub number_or_dash : Option ℕ → List ℕ
 number_or_dash None = codes "-"
 number_or_dash (Some n) = decimal n
 
+-- a place, and what follows it on its line
+abbrev pub place_then : Place → List ℕ → List ℕ
+place_then place rest = number_or_dash place.func ++ codes " item " ++ (number_or_dash place.item ++ rest)
+
 -- the end of a line that tells a place
 abbrev pub place_end : Place → List ℕ
-place_end place = number_or_dash place.func ++ codes " item " ++ (number_or_dash place.item ++ codes "\n")
+place_end place = place_then place (codes "\n")
 
 -- the kind of a fault of the JSON, by its number
 abbrev pub json_front : JsonFault → List ℕ
@@ -132,6 +141,41 @@ name_place name.Memory = place_of None None
 abbrev pub misnamed_line : NameFault → List ℕ
 misnamed_line fault = name_front fault ++ place_end (name_place fault)
 
+-- ---- the line of a program that isn't accepted
+
+abbrev pub name_of : Option VarInfo → List ℕ
+name_of None = []
+name_of (Some variable) = variable.name
+
+abbrev pub name_in : Option Func → ℕ → List ℕ
+name_in None variable = []
+name_in (Some f) variable = name_of (slice_get f.vars variable)
+
+-- the name of a variable of a function
+abbrev pub variable_name : Prog → ℕ → ℕ → List ℕ
+variable_name p func variable = name_in (slice_get p.funcs func) variable
+
+-- the end of a line that tells a function and an item
+abbrev pub item_end : ℕ → ℕ → List ℕ
+item_end func item = place_end (place_of (Some func) (Some item))
+
+-- the line of a variable of this name that may be unassigned
+abbrev pub unassigned_line : List ℕ → ℕ → ℕ → List ℕ
+unassigned_line name func item =
+    codes "check 3 function " ++ place_then (place_of (Some func) (Some item)) (codes " variable ") ++ (name ++ codes "\n")
+
+-- the kind of a fault of the checker, by its number, and its place
+abbrev pub unaccepted_line : Prog → CheckFault → List ℕ
+unaccepted_line p (check.Types func item) = codes "check 1 function " ++ item_end func item
+unaccepted_line p (check.Arity func item) = codes "check 2 function " ++ item_end func item
+unaccepted_line p (check.MaybeUnassigned func item variable) = unassigned_line (variable_name p func variable) func item
+unaccepted_line p (check.Nest func item) = codes "check 4 function " ++ item_end func item
+unaccepted_line p (check.SpecCall func item) = codes "check 5 function " ++ item_end func item
+unaccepted_line p (check.NoReturn func item) = codes "check 6 function " ++ item_end func item
+unaccepted_line p check.MainType = codes "check 7 function " ++ place_end (place_of (Some p.main) None)
+unaccepted_line p (check.PrintPtr func item) = codes "check 8 function " ++ item_end func item
+unaccepted_line p check.Memory = codes "check 0 function - item -\n"
+
 abbrev pub unread_line : List ℕ → List ℕ
 unread_line path = codes "cannot read " ++ path ++ codes "\n"
 
@@ -143,10 +187,11 @@ stack_line words = codes "too large: stack " ++ decimal words ++ codes "\n"
 
 -- ---- the statuses
 
--- What an action produces of the file at a path: `run` what its program prints, `text` its canonical text, and
--- `json` its canonical JSON.
+-- What an action produces of the file at a path: `run` what its program prints, `check` the line of its accepted
+-- program, `text` its canonical text, and `json` its canonical JSON.
 abbrev pub Produces : Action → FilesSeen → List ℕ → List ℕ → Type 0
 Produces Run files path output = Runs files path output
+Produces Check files path output = Checks files path output
 Produces WriteText files path output = Writes canonical_text files path output
 Produces WriteJson files path output = Writes json_line files path output
 
@@ -166,22 +211,32 @@ pub record Misused (c : Call) : Type 0 where
   pub unread : c.files_after ≡ c.files_before
   pub alone : SaysAlone c (codes "usage\n")
 
--- 65: the file's bytes read as no tree; or `run` is to run a tree with a fault of a name, or one that can't run
--- yet.
+-- 65: the file's bytes read as no tree; or the action needs a program, and the tree has imports, or a fault of a
+-- name, or a program that isn't accepted; or it is to run one that can't run yet.
 pub record FormlessFile (c : Call) (action : Action) (path : List ℕ) : Type 0 where
-  pub runs : action ≡ Run
+  pub needs : NeedsProgram action
   pub bytes : List ℕ
   pub file : IsFile c.files_before path bytes
-  pub formless : IsFormless (format_of path) bytes
+  pub formless : IsFormless action (format_of path) bytes
   pub alone : SaysAlone c (form_line path)
 
 pub record MisnamedFile (c : Call) (action : Action) (path : List ℕ) : Type 0 where
-  pub runs : action ≡ Run
+  pub needs : NeedsProgram action
   pub bytes : List ℕ
   pub file : IsFile c.files_before path bytes
   pub fault : NameFault
   pub only : HasOnlyNameFault (format_of path) bytes fault
   pub alone : SaysAlone c (misnamed_line fault)
+
+pub record UnacceptedFile (c : Call) (action : Action) (path : List ℕ) : Type 0 where
+  pub needs : NeedsProgram action
+  pub bytes : List ℕ
+  pub file : IsFile c.files_before path bytes
+  pub program : Prog
+  pub source : IsOnlySource (format_of path) bytes program
+  pub fault : CheckFault
+  pub only : HasOnlyCheckFault program fault
+  pub alone : SaysAlone c (unaccepted_line program fault)
 
 pub record MisreadFile (c : Call) (path : List ℕ) : Type 0 where
   pub bytes : List ℕ
@@ -194,7 +249,7 @@ pub record Unformed (c : Call) : Type 0 where
   pub action : Action
   pub path : List ℕ
   pub asked : asked_of c.words ≡ Some (action, path)
-  pub because : FormlessFile c action path ⊎ (MisnamedFile c action path ⊎ MisreadFile c path)
+  pub because : FormlessFile c action path ⊎ (MisnamedFile c action path ⊎ (UnacceptedFile c action path ⊎ MisreadFile c path))
 
 -- 66: reading failed, or the files are told and lack the path.
 pub record Unread (c : Call) : Type 0 where
@@ -216,6 +271,7 @@ pub record LongCode (c : Call) (path : List ℕ) : Type 0 where
   pub file : IsFile c.files_before path bytes
   pub program : Prog
   pub source : IsOnlySource (format_of path) bytes program
+  pub accepted : IsAccepted program
   pub straight : is_straight program ≡ true
   pub long : PassesCode program
   pub alone : SaysAlone c (code_line (capped (bound_sum program)))
@@ -225,6 +281,7 @@ pub record LongStack (c : Call) (path : List ℕ) : Type 0 where
   pub file : IsFile c.files_before path bytes
   pub program : Prog
   pub source : IsOnlySource (format_of path) bytes program
+  pub accepted : IsAccepted program
   pub straight : is_straight program ≡ true
   pub short_code : bound_sum program ≤ 250000
   pub long : PassesStack 8192 program

@@ -3,7 +3,7 @@ use Rattle.std.specs.Prelude.{ℕ, Bool, false, not, ◌==◌, nat_eq, List, [],
 use Rattle.std.specs.List.{ends_with}
 use Rattle.std.specs.Option.{option_map}
 use Rattle.bril_cli.specs.declared.action.Action.{Action}
-use Rattle.bril_cli.specs.declared.action.Action.TheVariants.{Run, WriteText, WriteJson}
+use Rattle.bril_cli.specs.declared.action.Action.TheVariants.{Run, Check, WriteText, WriteJson}
 use Rattle.bril_cli.specs.declared.source.Format.{Format}
 use Rattle.bril_cli.specs.declared.source.Format.TheVariants.{InText, InJson}
 
@@ -16,7 +16,15 @@ is_operand (byte ∷ bytes) = not (byte == 45)
 abbrev pub action_of : List ℕ → Option Action
 action_of name =
     if bytes_eq name (codes "run") then Some Run
-    else (if bytes_eq name (codes "text") then Some WriteText else (if bytes_eq name (codes "json") then Some WriteJson else None))
+    else (if bytes_eq name (codes "check") then Some Check
+    else (if bytes_eq name (codes "text") then Some WriteText else (if bytes_eq name (codes "json") then Some WriteJson else None)))
+
+-- the action is on the file's program, and not on its tree alone
+abbrev pub NeedsProgram : Action → Type 0
+NeedsProgram Run = Unit {0}
+NeedsProgram Check = Unit {0}
+NeedsProgram WriteText = ⊥
+NeedsProgram WriteJson = ⊥
 
 -- an action and the path of its file
 abbrev pub Asked : Type 0

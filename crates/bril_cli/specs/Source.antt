@@ -1,12 +1,17 @@
 -- The file of a command: the tree that its bytes read as, and the tree's program.
 use Rattle.std.specs.Prelude.{ℕ, ◌≡◌, ◌≢◌, ◌⊎◌, ◌*◌, ◌≤◌, true, false, List, [], ◌++◌, length, Option, Some, None, codes}
 use Rattle.std.proofs.Common.{lit≤}
+use Rattle.std.specs.Fmt.{decimal}
+use Rattle.bril_walks.specs.Accepted.{IsAccepted}
 use Rattle.bril_tree.specs.declared.limits.End.TheVariants.{Ended}
 use Rattle.bril_tree.specs.declared.limits.Limits.{Limits}
 use Rattle.bril_tree.specs.declared.program.Prog.{Prog}
 use Rattle.bril_tree.specs.declared.tree.Tree.{Tree}
 use Rattle.bril_tree.specs.Numbered.{Numbered}
 use Rattle.bril_tree.specs.Run.{state_after}
+use Rattle.bril_walks.specs.Size.{item_count}
+use Rattle.bril_checker.specs.Faults as checker
+use Rattle.bril_checker.specs.declared.fault.CheckFault.{CheckFault}
 use Rattle.bril_outside.specs.Files.{FileMap, FilesSeen, MayHold}
 use Rattle.bril_json.specs.Canonical.{canonical_json}
 use Rattle.bril_json.specs.Reading as json
@@ -17,6 +22,8 @@ use Rattle.bril_cli.specs.Carries.{frame_words}
 use Rattle.bril_cli.specs.CommandLine.{format_of}
 use Rattle.bril_cli.specs.Emitted.{bound_sum}
 use Rattle.bril_cli.specs.Straight.{is_straight}
+use Rattle.bril_cli.specs.declared.action.Action.{Action}
+use Rattle.bril_cli.specs.declared.action.Action.TheVariants.{Run}
 use Rattle.bril_cli.specs.declared.source.Format.{Format}
 use Rattle.bril_cli.specs.declared.source.Format.TheVariants.{InText, InJson}
 use Rattle.bril_cli.specs.declared.source.SourceFault.{SourceFault}
@@ -98,15 +105,22 @@ pub record HasImports (format : Format) (bytes : List ℕ) : Type 0 where
   pub reads : ReadsAs format bytes tree
   pub imports : tree.imports ≢ []
 
--- The bytes read as a program that is not straight.
+-- The program has this fault and no other, and isn't accepted.
+pub record HasOnlyCheckFault (p : Prog) (fault : CheckFault) : Type 0 where
+  pub has : checker.HasFault p fault
+  pub only : (other : CheckFault) → checker.HasFault p other → fault ≡ other
+  pub unaccepted : ¬ IsAccepted p
+
+-- The bytes read as an accepted program that is not straight.
 pub record IsCrooked (format : Format) (bytes : List ℕ) : Type 0 where
   pub program : Prog
   pub source : IsSource format bytes program
+  pub accepted : IsAccepted program
   pub crooked : is_straight program ≡ false
 
--- The bytes read as a tree that can't run yet.
-abbrev pub IsFormless : Format → List ℕ → Type 0
-IsFormless format bytes = HasImports format bytes ⊎ IsCrooked format bytes
+-- The bytes read as a tree whose program isn't built yet, or to run can't run yet.
+abbrev pub IsFormless : Action → Format → List ℕ → Type 0
+IsFormless action format bytes = HasImports format bytes ⊎ ((action ≡ Run) × IsCrooked format bytes)
 
 -- the program has no more words than an image has, and needs no more than a stack has
 pub record IsWithin (p : Prog) : Type 0 where
@@ -125,20 +139,34 @@ pub record EndsPrinting (p : Prog) (output : List ℕ) : Type 0 where
 abbrev pub json_line : Tree → List ℕ
 json_line tree = canonical_json tree ++ codes "\n"
 
+-- the line of an accepted program: how many functions and items it has
+abbrev pub accepted_line : Prog → List ℕ
+accepted_line p = codes "ok " ++ decimal (length p.funcs) ++ codes " " ++ decimal (item_count p) ++ codes "\n"
+
 -- The bytes at the path, which are those that the files hold where they tell it, are few enough.
 pub record IsFile (files : FilesSeen) (path bytes : List ℕ) : Type 0 where
   pub held : MayHold files.holds path bytes
   pub short : length bytes ≤ most_bytes
 
--- The file at the path reads as a straight program that is within the bounds and prints this output.
+-- The file at the path reads as an accepted program that is straight and within the bounds, and prints this output.
 pub record Runs (files : FilesSeen) (path output : List ℕ) : Type 0 where
   pub bytes : List ℕ
   pub file : IsFile files path bytes
   pub program : Prog
   pub source : IsOnlySource (format_of path) bytes program
+  pub accepted : IsAccepted program
   pub straight : is_straight program ≡ true
   pub within : IsWithin program
   pub prints : EndsPrinting program output
+
+-- The file at the path reads as an accepted program, and this is its line.
+pub record Checks (files : FilesSeen) (path output : List ℕ) : Type 0 where
+  pub bytes : List ℕ
+  pub file : IsFile files path bytes
+  pub program : Prog
+  pub source : IsOnlySource (format_of path) bytes program
+  pub accepted : IsAccepted program
+  pub text : output ≡ accepted_line program
 
 -- The file at the path reads as a tree, and this is what the tree is written as.
 pub record Writes (written : Tree → List ℕ) (files : FilesSeen) (path output : List ℕ) : Type 0 where

@@ -1,6 +1,10 @@
 -- What each step of a command answers, by its status.
-use Rattle.std.specs.Prelude.{ℕ, true, false, ◌⊎◌, ◌≡◌, ◌≢◌, ◌*◌, ◌<◌, ◌≤◌, List, [], length, Result, Ok, Err, codes}
+use Rattle.std.specs.Prelude.{ℕ, true, false, ◌⊎◌, ◌≡◌, ◌≢◌, ◌*◌, ◌^◌, ◌-◌, ◌<◌, ◌≤◌, List, [], All, length, Result, Ok, Err, codes}
+use Rattle.bril_walks.specs.Accepted.{IsAccepted}
 use Rattle.bril_tree.specs.declared.program.Prog.{Prog}
+use Rattle.bril_checker.specs.Faults as checker
+use Rattle.bril_checker.specs.declared.fault.CheckFault.{CheckFault}
+use Rattle.bril_checker.specs.declared.fault.CheckFault.TheVariants as check
 use Rattle.bril_outside.specs.Files.{FilesSeen, MayHold, MayFail}
 use Rattle.bril_outside.specs.Sink.{SinkSeen, Rose, TookAll, TookSome}
 use Rattle.bril_outside.specs.declared.sink.Failed.{Failed}
@@ -17,15 +21,15 @@ use Rattle.bril_text.specs.Canonical.{canonical_text}
 use Rattle.bril_text.specs.declared.fault.TextFault.{TextFault}
 use Rattle.bril_text.specs.declared.fault.TextFault.TheVariants as text
 use Rattle.bril_cli.specs.declared.action.Action.{Action}
-use Rattle.bril_cli.specs.declared.action.Action.TheVariants.{Run, WriteText, WriteJson}
+use Rattle.bril_cli.specs.declared.action.Action.TheVariants.{Run, Check, WriteText, WriteJson}
 use Rattle.bril_cli.specs.declared.source.Format.{Format}
 use Rattle.bril_cli.specs.declared.source.SourceFault.TheVariants as source
-use Rattle.bril_cli.specs.Answers.{Says, form_line, misread_line, misnamed_line, unread_line, code_line, stack_line}
+use Rattle.bril_cli.specs.Answers.{Says, form_line, misread_line, misnamed_line, unaccepted_line, unread_line, code_line, stack_line}
 use Rattle.bril_cli.specs.Carries.{frame_words}
 use Rattle.bril_cli.specs.CommandLine.{format_of}
 use Rattle.bril_cli.specs.Emitted.{bound_sum}
 use Rattle.bril_cli.specs.Refusal.{capped, PassesCode, PassesStack}
-use Rattle.bril_cli.specs.Source.{most_bytes, json_line, IsFile, IsOnlyTree, IsOnlyFault, IsWithin, EndsPrinting}
+use Rattle.bril_cli.specs.Source.{most_bytes, json_line, accepted_line, IsFile, IsOnlyTree, IsOnlyFault, HasOnlyCheckFault, IsWithin, EndsPrinting}
 use Rattle.bril_cli.specs.Straight.{is_straight}
 
 -- the number of a status
@@ -34,6 +38,7 @@ status_number status.Done = 0
 status_number status.Unformed = 65
 status_number (status.Misread fault) = 65
 status_number (status.Misnamed fault) = 65
+status_number (status.Unaccepted program fault) = 65
 status_number status.Unread = 66
 status_number status.FileTooBig = 68
 status_number (status.CodeTooBig words) = 68
@@ -47,6 +52,7 @@ status_line status.Done path = []
 status_line status.Unformed path = form_line path
 status_line (status.Misread fault) path = misread_line path fault
 status_line (status.Misnamed fault) path = misnamed_line fault
+status_line (status.Unaccepted program fault) path = unaccepted_line program fault
 status_line status.Unread path = unread_line path
 status_line status.FileTooBig path = codes "too large: bytes\n"
 status_line (status.CodeTooBig words) path = code_line words
@@ -65,6 +71,7 @@ SaysStatus status.Done path s t = t ≡ s
 SaysStatus status.Unformed path s t = Says s (status_line status.Unformed path) t
 SaysStatus (status.Misread fault) path s t = Says s (status_line (status.Misread fault) path) t
 SaysStatus (status.Misnamed fault) path s t = Says s (status_line (status.Misnamed fault) path) t
+SaysStatus (status.Unaccepted program fault) path s t = Says s (status_line (status.Unaccepted program fault) path) t
 SaysStatus status.Unread path s t = Says s (status_line status.Unread path) t
 SaysStatus status.FileTooBig path s t = Says s (status_line status.FileTooBig path) t
 SaysStatus (status.CodeTooBig words) path s t = Says s (status_line (status.CodeTooBig words) path) t
@@ -113,6 +120,18 @@ name_status name.NoMain = status.Misnamed name.NoMain
 name_status (name.TwiceArg func) = status.Misnamed (name.TwiceArg func)
 name_status name.Memory = status.OutOfMemory
 
+-- the status of a fault of the checker, with the program that has it
+abbrev pub check_status : Prog → CheckFault → Status
+check_status p (check.Types func item) = status.Unaccepted p (check.Types func item)
+check_status p (check.Arity func item) = status.Unaccepted p (check.Arity func item)
+check_status p (check.MaybeUnassigned func item variable) = status.Unaccepted p (check.MaybeUnassigned func item variable)
+check_status p (check.Nest func item) = status.Unaccepted p (check.Nest func item)
+check_status p (check.SpecCall func item) = status.Unaccepted p (check.SpecCall func item)
+check_status p (check.NoReturn func item) = status.Unaccepted p (check.NoReturn func item)
+check_status p check.MainType = status.Unaccepted p check.MainType
+check_status p (check.PrintPtr func item) = status.Unaccepted p (check.PrintPtr func item)
+check_status p check.Memory = status.OutOfMemory
+
 -- why bytes were not read as a tree
 abbrev pub RefusesTree : Status → Format → List ℕ → Type 0
 RefusesTree (status.Misread fault) format bytes = IsOnlyFault format bytes fault
@@ -136,6 +155,35 @@ abbrev pub RefusesNames : Status → Tree → Type 0
 RefusesNames (status.Misnamed fault) tree = IsOnlyNameFault tree fault
 RefusesNames status.OutOfMemory tree = Unit {0}
 RefusesNames _ tree = ⊥
+
+-- the functions and the items of each have numbers of 32 bits
+pub record IsCounted (p : Prog) : Type 0 where
+  pub functions : length p.funcs < 2 ^ 32
+  pub items : All (λ f. length f.code < 2 ^ 32 - 1) p.funcs
+
+-- The program is accepted, and has no fault.
+pub record IsFaultless (p : Prog) : Type 0 where
+  pub accepted : IsAccepted p
+  pub faultless : (fault : CheckFault) → checker.HasFault p fault → ⊥
+
+-- why a program was not accepted
+abbrev pub RefusesCheck : Status → Prog → Type 0
+RefusesCheck (status.Unaccepted program fault) p = (program ≡ p) × HasOnlyCheckFault p fault
+RefusesCheck status.OutOfMemory p = Unit {0}
+RefusesCheck _ p = ⊥
+
+-- why a tree has no accepted program
+abbrev pub RefusesProgram : Status → Tree → Type 0
+RefusesProgram status.Unformed tree = tree.imports ≢ []
+RefusesProgram (status.Misnamed fault) tree = (tree.imports ≡ []) × IsOnlyNameFault tree fault
+RefusesProgram (status.Unaccepted program fault) tree = IsOnlyProgram tree program × HasOnlyCheckFault program fault
+RefusesProgram status.OutOfMemory tree = Unit {0}
+RefusesProgram _ tree = ⊥
+
+-- The program is the tree's, and accepted.
+pub record IsAcceptedProgram (tree : Tree) (p : Prog) : Type 0 where
+  pub only : IsOnlyProgram tree p
+  pub sound : IsFaultless p
 
 -- why no image was made of a program
 abbrev pub RefusesImage : Status → Prog → Type 0
@@ -175,20 +223,10 @@ RunsProgram (status.StackTooBig words) p s t =
 RunsProgram status.OutOfMemory p s t = t ≡ s
 RunsProgram _ p s t = ⊥
 
--- what running a numbered program answers: one that isn't straight does not run
-abbrev pub RunsNumbered : Status → Prog → SinkSeen → SinkSeen → Type 0
-RunsNumbered how p s t =
+-- what running an accepted program answers: one that isn't straight does not run
+abbrev pub RunsAccepted : Status → Prog → SinkSeen → SinkSeen → Type 0
+RunsAccepted how p s t =
     ((is_straight p ≡ false) × (how ≡ status.Unformed) × (t ≡ s)) ⊎ ((is_straight p ≡ true) × RunsProgram how p s t)
-
--- what running a tree without imports answers
-abbrev pub RunsNames : Status → Tree → SinkSeen → SinkSeen → Type 0
-RunsNames how tree s t =
-    (RefusesNames how tree × (t ≡ s)) ⊎ ((p : Prog) × IsOnlyProgram tree p × RunsNumbered how p s t)
-
--- what running a tree answers
-abbrev pub RunsTree : Status → Tree → SinkSeen → SinkSeen → Type 0
-RunsTree how tree s t =
-    ((tree.imports ≢ []) × (how ≡ status.Unformed) × (t ≡ s)) ⊎ ((tree.imports ≡ []) × RunsNames how tree s t)
 
 -- what a write of a text answers
 abbrev pub PutsText : Status → List ℕ → SinkSeen → SinkSeen → Type 0
@@ -197,8 +235,21 @@ PutsText status.Unwritten text s t = TookSome s text t × Rose s.faults t.faults
 PutsText status.OutOfMemory text s t = t ≡ s
 PutsText _ text s t = ⊥
 
+-- what an action on an accepted program answers
+abbrev pub DoesProgram : Action → Status → Prog → SinkSeen → SinkSeen → Type 0
+DoesProgram Run how p s t = RunsAccepted how p s t
+DoesProgram Check how p s t = PutsText how (accepted_line p) s t
+DoesProgram WriteText how p s t = ⊥
+DoesProgram WriteJson how p s t = ⊥
+
+-- what an action on the program of a tree answers
+abbrev pub AsksProgram : Action → Status → Tree → SinkSeen → SinkSeen → Type 0
+AsksProgram action how tree s t =
+    (RefusesProgram how tree × (t ≡ s)) ⊎ ((p : Prog) × IsAcceptedProgram tree p × DoesProgram action how p s t)
+
 abbrev pub DoesTree : Action → Status → Tree → SinkSeen → SinkSeen → Type 0
-DoesTree Run how tree s t = RunsTree how tree s t
+DoesTree Run how tree s t = AsksProgram Run how tree s t
+DoesTree Check how tree s t = AsksProgram Check how tree s t
 DoesTree WriteText how tree s t = PutsText how (canonical_text tree) s t
 DoesTree WriteJson how tree s t = PutsText how (json_line tree) s t
 

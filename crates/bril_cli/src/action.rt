@@ -5,6 +5,8 @@
 pub enum Action {
     /// Runs its program.
     Run,
+    /// Writes how many functions and items its program has, where it is accepted.
+    Check,
     /// Writes its canonical text.
     WriteText,
     /// Writes its canonical JSON.

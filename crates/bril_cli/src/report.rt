@@ -1,16 +1,18 @@
 // What is told of how a command ended: its number, and its line on the error output.
 
-ghost use Rattle.std.specs.Prelude.{◌≡◌, ◌++◌, codes};
+ghost use Rattle.std.specs.Prelude.{◌≡◌, ◌++◌, codes, None, Some};
 ghost use Rattle.std.specs.Fmt.{decimal};
-ghost use Rattle.bril_cli.specs.Answers.{Says, misread_line, misnamed_line, text_front, text_place, json_front, json_place, name_front, name_place, number_or_dash, place_end};
+ghost use Rattle.bril_cli.specs.Answers.{Says, misread_line, misnamed_line, text_front, text_place, json_front, json_place, name_front, name_place, number_or_dash, place_then, place_end, place_of, variable_name, unassigned_line, unaccepted_line};
 ghost use Rattle.bril_cli.specs.Works.{status_number, status_line, PutsLine, SaysStatus};
 
 use crate::source::SourceFault;
 use crate::status::Status;
+use bril_checker::CheckFault;
 use bril_json::JsonFault;
 use bril_names::NameFault;
 use bril_outside::sink::{Failed, Sink, put_three, put_two};
 use bril_text::TextFault;
+use bril_tree::program::Prog;
 use bril_tree::text::Text;
 use itoa::Buffer;
 
@@ -22,12 +24,15 @@ struct Place {
 }
 
 /// The number of a status.
-pub fn status_number(status: Status) -> u8
-    ensures { result ≡ status_number status }
+pub fn status_number(status: &Status) -> u8
+    ensures { result ≡ status_number status.now }
 {
     match status {
         Status::Done => 0,
-        Status::Unformed | Status::Misread { .. } | Status::Misnamed { .. } => 65,
+        Status::Unformed
+        | Status::Misread { .. }
+        | Status::Misnamed { .. }
+        | Status::Unaccepted { .. } => 65,
         Status::Unread => 66,
         Status::FileTooBig | Status::CodeTooBig { .. } | Status::StackTooBig { .. } => 68,
         Status::OutOfMemory => 71,
@@ -37,8 +42,8 @@ pub fn status_number(status: Status) -> u8
 
 /// Puts the line of a status, for the file at a path, on the error output. Where all was done nothing is put.
 /// A fault of the error output changes nothing else.
-pub fn say<E: Sink>(err: &mut E, path: &Text, status: Status)
-    ensures { SaysStatus status path.now (E.seen err.old) (E.seen err.new) }
+pub fn say<E: Sink>(err: &mut E, path: &Text, status: &Status)
+    ensures { SaysStatus status.now path.now (E.seen err.old) (E.seen err.new) }
 {
     if !matches!(status, Status::Done) {
         let _ = put_status(err, path, status);
@@ -52,18 +57,20 @@ pub fn say_usage<E: Sink>(err: &mut E)
     let _ = err.put(b"usage\n");
 }
 
-fn put_status<E: Sink>(err: &mut E, path: &Text, status: Status) -> Result<(), Failed>
-    ensures { PutsLine result (E.seen err.old) (status_line status path.now) (E.seen err.new) }
+// Puts the line of a status.
+fn put_status<E: Sink>(err: &mut E, path: &Text, status: &Status) -> Result<(), Failed>
+    ensures { PutsLine result (E.seen err.old) (status_line status.now path.now) (E.seen err.new) }
 {
     match status {
         Status::Done => put_line(err, b""),
         Status::Unformed => put_two(err, path.as_bytes(), b": form\n"),
-        Status::Misread { fault } => put_misread(err, path.as_bytes(), fault),
-        Status::Misnamed { fault } => put_misnamed(err, fault),
+        Status::Misread { fault } => put_misread(err, path.as_bytes(), *fault),
+        Status::Misnamed { fault } => put_misnamed(err, *fault),
+        Status::Unaccepted { program, fault } => put_unaccepted(err, program, *fault),
         Status::Unread => put_around(err, b"cannot read ", path.as_bytes()),
         Status::FileTooBig => put_line(err, b"too large: bytes\n"),
-        Status::CodeTooBig { words } => put_number(err, b"too large: code ", words),
-        Status::StackTooBig { words } => put_number(err, b"too large: stack ", words),
+        Status::CodeTooBig { words } => put_number(err, b"too large: code ", *words),
+        Status::StackTooBig { words } => put_number(err, b"too large: stack ", *words),
         Status::OutOfMemory => put_line(err, b"out of memory\n"),
         Status::Unwritten => put_line(err, b"cannot write\n"),
     }
@@ -75,7 +82,9 @@ fn put_misread<E: Sink>(err: &mut E, path: &[u8], fault: SourceFault) -> Result<
 {
     match fault {
         SourceFault::Text(fault) => put_text_fault(err, path, fault),
-        SourceFault::Json(fault) => { put_placed(err, path, json_front(fault), json_place(fault)) }
+        SourceFault::Json(fault) => {
+            put_placed(err, path, json_front(fault), json_place(fault), b"\n")
+        }
     }
 }
 
@@ -83,7 +92,107 @@ fn put_misread<E: Sink>(err: &mut E, path: &[u8], fault: SourceFault) -> Result<
 fn put_misnamed<E: Sink>(err: &mut E, fault: NameFault) -> Result<(), Failed>
     ensures { PutsLine result (E.seen err.old) (misnamed_line fault) (E.seen err.new) }
 {
-    put_placed(err, b"", name_front(fault), name_place(fault))
+    put_placed(err, b"", name_front(fault), name_place(fault), b"\n")
+}
+
+// Puts the line of a fault of the checker, which the program has.
+fn put_unaccepted<E: Sink>(err: &mut E, program: &Prog, fault: CheckFault) -> Result<(), Failed>
+    ensures { PutsLine result (E.seen err.old) (unaccepted_line program.now fault) (E.seen err.new) }
+{
+    match fault {
+        CheckFault::Types { func, item } => put_item(err, b"check 1 function ", func, item, b"\n"),
+        CheckFault::Arity { func, item } => put_item(err, b"check 2 function ", func, item, b"\n"),
+        CheckFault::MaybeUnassigned { func, item, var } => {
+            put_unassigned(err, variable_name(program, func, var), func, item)
+        }
+        CheckFault::Nest { func, item } => put_item(err, b"check 4 function ", func, item, b"\n"),
+        CheckFault::SpecCall { func, item } => put_item(
+            err,
+            b"check 5 function ",
+            func,
+            item,
+            b"\n",
+        ),
+        CheckFault::NoReturn { func, item } => put_item(
+            err,
+            b"check 6 function ",
+            func,
+            item,
+            b"\n",
+        ),
+        CheckFault::MainType => put_main(err, program.main),
+        CheckFault::PrintPtr { func, item } => put_item(
+            err,
+            b"check 8 function ",
+            func,
+            item,
+            b"\n",
+        ),
+        CheckFault::Memory => put_line(err, b"check 0 function - item -\n"),
+    }
+}
+
+// Puts the line of a `main` that returns a value or takes a pointer.
+fn put_main<E: Sink>(err: &mut E, main: u32) -> Result<(), Failed>
+    ensures { PutsLine result (E.seen err.old) (codes "check 7 function " ++ place_end (place_of (Some main) None)) (E.seen err.new) }
+{
+    put_placed(err, b"", b"check 7 function ", function_place(main), b"\n")
+}
+
+// Puts a piece, a function and an item, and what follows them.
+fn put_item<E: Sink>(
+    err: &mut E,
+    front: &[u8],
+    func: u32,
+    item: u32,
+    rest: &[u8],
+) -> Result<(), Failed>
+    ensures { PutsLine result (E.seen err.old) (front.now ++ place_then (place_of (Some func) (Some item)) rest.now) (E.seen err.new) }
+{
+    put_placed(err, b"", front, item_place(func, item), rest)
+}
+
+// Puts the line of a variable of this name that may be unassigned.
+fn put_unassigned<E: Sink>(err: &mut E, name: &[u8], func: u32, item: u32) -> Result<(), Failed>
+    ensures { PutsLine result (E.seen err.old) (unassigned_line name.now func item) (E.seen err.new) }
+{
+    put_named(
+        err,
+        b"check 3 function ",
+        item_place(func, item),
+        b" variable ",
+        name,
+    )
+}
+
+// Puts a piece, a place and what follows it, a name, and LF.
+fn put_named<E: Sink>(
+    err: &mut E,
+    front: &[u8],
+    place: Place,
+    rest: &[u8],
+    name: &[u8],
+) -> Result<(), Failed>
+    ensures { PutsLine result (E.seen err.old) (front.now ++ place_then place rest.now ++ (name.now ++ codes "\n")) (E.seen err.new) }
+{
+    put_placed(err, b"", front, place, rest)?;
+    match put_two(err, name, b"\n") {
+        Ok(()) => Ok(()),
+        Err(Failed) => Err(Failed),
+    }
+}
+
+// The name of a variable of a function.
+fn variable_name(program: &Prog, func: u32, var: u32) -> &[u8]
+    ensures { result.now ≡ variable_name program.now func var }
+{
+    match program.funcs.as_slice().get(func as usize) {
+        None => b"",
+        Some(func) => match func.vars.as_slice().get(var as usize) {
+            None => b"",
+            Some(variable) => variable.name.as_bytes(),
+        },
+    }
 }
 
 // Puts the line of a fault of the text of the file at a path.
@@ -100,20 +209,26 @@ fn put_text_fault<E: Sink>(err: &mut E, path: &[u8], fault: TextFault) -> Result
     )
 }
 
-// Puts a line that ends with a place.
-fn put_placed<E: Sink>(err: &mut E, a: &[u8], b: &[u8], place: Place) -> Result<(), Failed>
-    ensures { PutsLine result (E.seen err.old) (a.now ++ b.now ++ place_end place) (E.seen err.new) }
+// Puts two pieces, a place and what follows it.
+fn put_placed<E: Sink>(
+    err: &mut E,
+    a: &[u8],
+    b: &[u8],
+    place: Place,
+    rest: &[u8],
+) -> Result<(), Failed>
+    ensures { PutsLine result (E.seen err.old) (a.now ++ b.now ++ place_then place rest.now) (E.seen err.new) }
 {
     put_two(err, a, b)?;
-    match put_place(err, place) {
+    match put_place(err, place, rest) {
         Ok(()) => Ok(()),
         Err(Failed) => Err(Failed),
     }
 }
 
-// Puts the end of a line that tells a place.
-fn put_place<E: Sink>(err: &mut E, place: Place) -> Result<(), Failed>
-    ensures { PutsLine result (E.seen err.old) (place_end place) (E.seen err.new) }
+// Puts a place and what follows it.
+fn put_place<E: Sink>(err: &mut E, place: Place, rest: &[u8]) -> Result<(), Failed>
+    ensures { PutsLine result (E.seen err.old) (place_then place rest.now) (E.seen err.new) }
 {
     let mut func = Buffer::new();
     let mut item = Buffer::new();
@@ -122,8 +237,38 @@ fn put_place<E: Sink>(err: &mut E, place: Place) -> Result<(), Failed>
         number_or_dash(&mut func, place.func),
         b" item ",
         number_or_dash(&mut item, place.item),
-        b"\n",
+        rest,
     )
+}
+
+// The place of an item.
+fn item_place(func: u32, item: u32) -> Place
+    ensures { result ≡ place_of (Some func) (Some item) }
+{
+    Place {
+        func: Some(func),
+        item: Some(item),
+    }
+}
+
+// The place of a function.
+fn function_place(func: u32) -> Place
+    ensures { result ≡ place_of (Some func) None }
+{
+    Place {
+        func: Some(func),
+        item: None,
+    }
+}
+
+// The place of what stands in no function.
+fn no_place() -> Place
+    ensures { result ≡ place_of None None }
+{
+    Place {
+        func: None,
+        item: None,
+    }
 }
 
 // A number as a decimal, or `-` for none.
@@ -158,14 +303,8 @@ fn json_place(fault: JsonFault) -> Place
         JsonFault::Shape { func, item }
         | JsonFault::Float { func, item }
         | JsonFault::Deep { func, item } => Place { func, item },
-        JsonFault::IntRange { func, item } => Place {
-            func: Some(func),
-            item: Some(item),
-        },
-        JsonFault::Syntax | JsonFault::Memory => Place {
-            func: None,
-            item: None,
-        },
+        JsonFault::IntRange { func, item } => item_place(func, item),
+        JsonFault::Syntax | JsonFault::Memory => no_place(),
     }
 }
 
@@ -191,18 +330,9 @@ fn name_place(fault: NameFault) -> Place
     match fault {
         NameFault::NoFunction { func, item }
         | NameFault::NoLabel { func, item }
-        | NameFault::TwiceLabel { func, item } => Place {
-            func: Some(func),
-            item: Some(item),
-        },
-        NameFault::TwiceFunction { func } | NameFault::TwiceArg { func } => Place {
-            func: Some(func),
-            item: None,
-        },
-        NameFault::NoMain | NameFault::Memory => Place {
-            func: None,
-            item: None,
-        },
+        | NameFault::TwiceLabel { func, item } => item_place(func, item),
+        NameFault::TwiceFunction { func } | NameFault::TwiceArg { func } => function_place(func),
+        NameFault::NoMain | NameFault::Memory => no_place(),
     }
 }
 

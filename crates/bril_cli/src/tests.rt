@@ -81,7 +81,7 @@ const FILES: [(&str, &[u8]); 21] = [
 ];
 
 // The command lines. The first read fails.
-fn rows() -> [Row; 51] {
+fn rows() -> [Row; 59] {
     [
         plain(
             &["bril", "run", "one.bril"],
@@ -104,7 +104,12 @@ fn rows() -> [Row; 51] {
             "-9223372036854775808\n-1\n0\n2047\n2048\n4096\n2147483647\n2147483648\n-2147483649\n",
             "",
         ),
-        plain(&["bril", "run", "f.bril"], 65, "", "f.bril: form\n"),
+        plain(
+            &["bril", "run", "f.bril"],
+            65,
+            "",
+            "check 1 function 0 item 0\n",
+        ),
         plain(
             &["bril", "run", "bytes.bril"],
             65,
@@ -248,7 +253,12 @@ fn rows() -> [Row; 51] {
             "",
             "name 5 function - item -\n",
         ),
-        plain(&["bril", "run", "late.bril"], 65, "", "late.bril: form\n"),
+        plain(
+            &["bril", "run", "late.bril"],
+            65,
+            "",
+            "check 3 function 0 item 0 variable v\n",
+        ),
         plain(
             &["bril", "run", "nothere.bril"],
             66,
@@ -258,7 +268,34 @@ fn rows() -> [Row; 51] {
         plain(&[], 64, "", "usage\n"),
         plain(&["bril"], 64, "", "usage\n"),
         plain(&["bril", "run"], 64, "", "usage\n"),
-        plain(&["bril", "check", "one.bril"], 64, "", "usage\n"),
+        plain(&["bril", "check", "one.bril"], 0, "ok 1 2\n", ""),
+        plain(&["bril", "check", "one.json"], 0, "ok 1 2\n", ""),
+        plain(&["bril", "check", "empty.bril"], 0, "ok 1 0\n", ""),
+        plain(&["bril", "check", "second.bril"], 0, "ok 2 0\n", ""),
+        plain(&["bril", "check"], 64, "", "usage\n"),
+        plain(&["bril", "interp", "one.bril"], 64, "", "usage\n"),
+        plain(
+            &["bril", "check", "nothere.bril"],
+            66,
+            "",
+            "cannot read nothere.bril\n",
+        ),
+        Row {
+            words: &["bril", "check", "one.bril"],
+            outs: &[1],
+            errs: &[],
+            status: 74,
+            out: "",
+            err: "cannot write\n",
+        },
+        Row {
+            words: &["bril", "check", "late.bril"],
+            outs: &[],
+            errs: &[1],
+            status: 65,
+            out: "",
+            err: "",
+        },
         plain(&["bril", "run", "--stats"], 64, "", "usage\n"),
         plain(&["bril", "run", ""], 64, "", "usage\n"),
         plain(
@@ -375,4 +412,5 @@ fn worked_command_lines(rt: HostRuntime) -> Result<(), Fail> {
     Ok(())
 }
 
+mod checked_files;
 mod single_files;

@@ -2,14 +2,17 @@
 
 ghost use Rattle.std.specs.Prelude.{◌≡◌, ◌≤◌, ◌<◌, ◌↔◌, ℕ, true, List, None, Some, length};
 ghost use Rattle.std.specs.Option.{option_map};
+ghost use Rattle.bril_checker.specs.Faults as checker;
+ghost use Rattle.bril_checker.specs.declared.fault.CheckFault.{CheckFault};
+ghost use Rattle.bril_walks.specs.Accepted.{IsAccepted};
 ghost use Rattle.bril_tree.specs.declared.program.Prog.{Prog};
 ghost use Rattle.bril_tree.specs.declared.tree.Tree.{Tree};
 ghost use Rattle.bril_names.specs.declared.fault.NameFault.{NameFault};
 ghost use Rattle.bril_text.specs.Canonical.{canonical_text};
 ghost use Rattle.bril_outside.specs.Sink.{Rose, TookAll};
-ghost use Rattle.bril_cli.specs.Answers.{call_of, Answers, Finished, Unformed, Unread, TooLarge, ReadsWell, AsksNone, Prints, UnlessMemory, Says, form_line, misread_line, misnamed_line};
-ghost use Rattle.bril_cli.specs.CommandLine.{is_operand, action_of, asked_of, format_of};
-ghost use Rattle.bril_cli.specs.Source.{most_bytes, json_line, ReadsAs, HasFault, HasNameFault, IsSource, IsFormless, IsWithin};
+ghost use Rattle.bril_cli.specs.Answers.{call_of, Answers, Finished, Unformed, Unread, TooLarge, ReadsWell, AsksNone, Prints, UnlessMemory, Says, form_line, misread_line, misnamed_line, unaccepted_line};
+ghost use Rattle.bril_cli.specs.CommandLine.{is_operand, action_of, asked_of, format_of, NeedsProgram};
+ghost use Rattle.bril_cli.specs.Source.{most_bytes, json_line, accepted_line, ReadsAs, HasFault, HasNameFault, IsSource, IsFormless, IsWithin};
 ghost use Rattle.bril_cli.specs.Straight.{is_straight};
 ghost use Rattle.bril_cli.specs.declared.action.Action.{Action};
 ghost use Rattle.bril_cli.specs.declared.source.SourceFault.{SourceFault};
@@ -28,20 +31,22 @@ const MISUSED: u8 = 64;
 /// Does what the words ask for, and answers the exit status.
 ///
 /// The words are the program's name, a command, and the path of a file: one byte or more, of which the first
-/// is no `-`. The commands are `run`, which runs the file's program, and `text` and `json`, which write the file
-/// in canonical text, and in canonical JSON and LF. A file whose path ends in `.json` is in the JSON form of the
-/// Bril documentation, and any other in its text form. To be run it has to be without imports, and a straight
-/// program: one function `@main` of constants, sums and prints of ints, each variable assigned before it is
-/// read. It is made into words of RV64I, which a machine runs.
+/// is no `-`. The commands are `run`, which runs the file's program, `check`, which writes how many functions and
+/// items its accepted program has, and `text` and `json`, which write the file in canonical text, and in canonical
+/// JSON and LF. A file whose path ends in `.json` is in the JSON form of the Bril documentation, and any other in
+/// its text form. To be checked or run it has to be without imports. To be run its program has to be straight: one
+/// function `@main` of constants, sums and prints of ints, each variable assigned before it is read. It is made
+/// into words of RV64I, which a machine runs.
 ///
 /// | Status | Comes | Line on `err` |
 /// |---|---|---|
-/// | 0 | all was done: `out` took all that the program prints up to its end, or the canonical text or JSON | none |
+/// | 0 | all was done: `out` took all that the program prints up to its end, or `ok FUNCTIONS ITEMS` and LF, or the canonical text or JSON | none |
 /// | 64 | the words are any others | `usage` |
 /// | 65 | the file is no program in its form | `PATH: text K at AT`, `PATH: json K function F item I` |
-/// | 65 | the file is to be run and has imports | `PATH: form` |
-/// | 65 | the file is to be run, and a name in it stands twice or for nothing | `name K function F item I` |
-/// | 65 | the file is to be run and isn't straight | `PATH: form` |
+/// | 65 | the file is to be checked or run and has imports | `PATH: form` |
+/// | 65 | the file is to be checked or run, and a name in it stands twice or for nothing | `name K function F item I` |
+/// | 65 | the file is to be checked or run, and its program isn't accepted | `check K function F item I`, for K = 3 with ` variable NAME` behind it |
+/// | 65 | the file is to be run, and its accepted program isn't straight | `PATH: form` |
 /// | 66 | the file is not there, or reading it failed | `cannot read PATH` |
 /// | 68 | the file has more than 16,777,216 bytes, or the program's words may be more than 250,000, or its 8,192 frames need more than 8,388,608 words | `too large: bytes`, `too large: code WORDS`, `too large: stack WORDS` |
 /// | 71 | memory was wanting, for `run` before the program began to run | `out of memory` |
@@ -55,9 +60,13 @@ const MISUSED: u8 = 64;
 /// JSON value, 2 where something isn't as the form has it, 3 where a number is no int, 4 where a float stands, 5
 /// at the 33rd `ptr` of a type. Of a name K is 1 for a function that isn't there, 2 for a function that stands
 /// twice, 3 for a label that isn't there, 4 for a label that stands twice, 5 where no function is `main`, 6 for an
-/// argument that stands twice. F and I are the numbers from 0 of the function and its item, and `-` where the
-/// fault stands in none. At 64 to 71 `out` gets nothing. Each line ends with LF; a fault of `err` changes nothing
-/// else.
+/// argument that stands twice. Of a program K is 1 for a wrong type, 2 for a wrong number of operands or a wrong
+/// presence of the destination, 3 for a variable that some walk to the item doesn't assign, 4 where the open
+/// speculations don't nest, 5 for a call, a return or an end while a speculation is open, 6 for a function that
+/// returns no value where it should, 7 where `main` returns a value or takes a pointer, 8 for a print of a pointer;
+/// it is the program's first fault, in the order of `bril_checker::check`. F and I are the numbers from 0 of the
+/// function and its item, and `-` where the fault stands in none. At 64 to 71 `out` gets nothing. Each line ends
+/// with LF; a fault of `err` changes nothing else.
 pub fn bril_top<F: Files, O: Sink, E: Sink>(
     alloc: Global,
     words: &[Text],
@@ -87,7 +96,12 @@ pub fn bril_top<F: Files, O: Sink, E: Sink>(
     ensures runs { let call = call_of words.now (F.seen files.old) (F.seen files.new)
         (O.seen out.old) (O.seen out.new) (E.seen err.old) (E.seen err.new) in
         (bytes : List ℕ) (program : Prog) (reads : ReadsWell call Action.Run bytes) → length bytes ≤ most_bytes → IsSource (format_of reads.path) bytes program →
-        is_straight program ≡ true → IsWithin program → ¬ Rose (O.seen out.old).faults (O.seen out.new).faults → UnlessMemory result ((result ≡ 0) × Prints call program) }
+        IsAccepted program → is_straight program ≡ true → IsWithin program → ¬ Rose (O.seen out.old).faults (O.seen out.new).faults → UnlessMemory result ((result ≡ 0) × Prints call program) }
+    ensures checks { let call = call_of words.now (F.seen files.old) (F.seen files.new)
+        (O.seen out.old) (O.seen out.new) (E.seen err.old) (E.seen err.new) in
+        (bytes : List ℕ) (program : Prog) (reads : ReadsWell call Action.Check bytes) → length bytes ≤ most_bytes → IsSource (format_of reads.path) bytes program →
+        IsAccepted program → ¬ Rose (O.seen out.old).faults (O.seen out.new).faults →
+        UnlessMemory result ((result ≡ 0) × TookAll (O.seen out.old) (accepted_line program) (O.seen out.new)) }
     ensures writes { let call = call_of words.now (F.seen files.old) (F.seen files.new)
         (O.seen out.old) (O.seen out.new) (E.seen err.old) (E.seen err.new) in
         (bytes : List ℕ) (tree : Tree) (reads : ReadsWell call Action.WriteText bytes) → length bytes ≤ most_bytes → ReadsAs (format_of reads.path) bytes tree →
@@ -104,11 +118,16 @@ pub fn bril_top<F: Files, O: Sink, E: Sink>(
         UnlessMemory result ((result ≡ 65) × Says (E.seen err.old) (misread_line reads.path fault) (E.seen err.new)) }
     ensures misnamed { let call = call_of words.now (F.seen files.old) (F.seen files.new)
         (O.seen out.old) (O.seen out.new) (E.seen err.old) (E.seen err.new) in
-        (bytes : List ℕ) (fault : NameFault) (reads : ReadsWell call Action.Run bytes) → length bytes ≤ most_bytes → HasNameFault (format_of reads.path) bytes fault →
+        (action : Action) → NeedsProgram action → (bytes : List ℕ) (fault : NameFault) (reads : ReadsWell call action bytes) → length bytes ≤ most_bytes → HasNameFault (format_of reads.path) bytes fault →
         UnlessMemory result ((result ≡ 65) × Says (E.seen err.old) (misnamed_line fault) (E.seen err.new)) }
+    ensures unchecked { let call = call_of words.now (F.seen files.old) (F.seen files.new)
+        (O.seen out.old) (O.seen out.new) (E.seen err.old) (E.seen err.new) in
+        (action : Action) → NeedsProgram action → (bytes : List ℕ) (program : Prog) (fault : CheckFault) (reads : ReadsWell call action bytes) → length bytes ≤ most_bytes → IsSource (format_of reads.path) bytes program →
+        checker.HasFault program fault →
+        UnlessMemory result ((result ≡ 65) × Says (E.seen err.old) (unaccepted_line program fault) (E.seen err.new)) }
     ensures formless { let call = call_of words.now (F.seen files.old) (F.seen files.new)
         (O.seen out.old) (O.seen out.new) (E.seen err.old) (E.seen err.new) in
-        (bytes : List ℕ) (reads : ReadsWell call Action.Run bytes) → length bytes ≤ most_bytes → IsFormless (format_of reads.path) bytes →
+        (action : Action) → NeedsProgram action → (bytes : List ℕ) (reads : ReadsWell call action bytes) → length bytes ≤ most_bytes → IsFormless action (format_of reads.path) bytes →
         UnlessMemory result ((result ≡ 65) × Says (E.seen err.old) (form_line reads.path) (E.seen err.new)) }
     ensures lacking { AsksNone (call_of words.now (F.seen files.old) (F.seen files.new)
         (O.seen out.old) (O.seen out.new) (E.seen err.old) (E.seen err.new)) → UnlessMemory result (result ≡ 66) }
@@ -118,15 +137,15 @@ pub fn bril_top<F: Files, O: Sink, E: Sink>(
     ensures long_program { let call = call_of words.now (F.seen files.old) (F.seen files.new)
         (O.seen out.old) (O.seen out.new) (E.seen err.old) (E.seen err.new) in
         (bytes : List ℕ) (program : Prog) (reads : ReadsWell call Action.Run bytes) → length bytes ≤ most_bytes → IsSource (format_of reads.path) bytes program →
-        is_straight program ≡ true → ¬ IsWithin program → UnlessMemory result (result ≡ 68) }
+        IsAccepted program → is_straight program ≡ true → ¬ IsWithin program → UnlessMemory result (result ≡ 68) }
 {
     let Some((action, path)) = asked_of(words) else {
         say_usage(err);
         return MISUSED;
     };
     let status = do_file(alloc, action, path, files, out);
-    say(err, path, status);
-    status_number(status)
+    say(err, path, &status);
+    status_number(&status)
 }
 
 // What the words ask for: an action, and the path of its file.
@@ -147,6 +166,7 @@ fn action_of(name: &str) -> Option<Action>
 {
     match name {
         "run" => Some(Action::Run),
+        "check" => Some(Action::Check),
         "text" => Some(Action::WriteText),
         "json" => Some(Action::WriteJson),
         _ => None,

@@ -1,11 +1,14 @@
-// What a command does: it reads a file, and writes its tree, or numbers its program and runs it on the machine.
+// What a command does: it reads a file, and writes its tree; or it numbers and checks its program, and runs it on
+// the machine.
 
-ghost use Rattle.std.specs.Prelude.{◌≡◌, ◌≤◌, ◌*◌, [], length, IfOk, IfErr, MatchResult};
+ghost use Rattle.std.specs.Prelude.{◌≡◌, ◌≤◌, ◌<◌, ◌*◌, ◌^◌, ◌-◌, [], All, IsTrue, length, IfOk, IfErr, MatchResult};
+ghost use Rattle.bril_walks.specs.Size.{item_count};
 ghost use Rattle.bril_cli.specs.Carries.{Carries, frame_words};
 ghost use Rattle.bril_cli.specs.Emitted.{bound_sum};
-ghost use Rattle.bril_cli.specs.Source.{json_line, run_limits, IsFile, IsWithin};
+ghost use Rattle.bril_cli.specs.Source.{json_line, accepted_line, run_limits, IsFile, IsWithin};
 ghost use Rattle.bril_cli.specs.Straight.{IsStraightCode};
-ghost use Rattle.bril_cli.specs.Works.{RefusesFile, RefusesNames, IsOnlyProgram, RefusesImage, RunsImage, RunsProgram, RunsNumbered, RunsNames, RunsTree, PutsText, DoesTree, DoesFile, name_status};
+ghost use Rattle.bril_cli.specs.Works.{RefusesFile, RefusesNames, IsOnlyProgram, IsCounted, IsFaultless, IsAcceptedProgram, RefusesCheck, RefusesProgram, RefusesImage, RunsImage, RunsProgram, RunsAccepted, AsksProgram, PutsText, DoesTree, DoesFile, name_status, check_status};
+ghost use Rattle.bril_cli.specs.declared.action.Action.TheVariants.{Check, Run};
 ghost use Rattle.bril_cli.specs.declared.status.Status.TheVariants.{OutOfMemory};
 ghost use Rattle.bril_text.specs.Canonical.{canonical_text};
 
@@ -14,6 +17,7 @@ use crate::emission::{EmitFault, emit};
 use crate::source::read_tree;
 use crate::status::Status;
 use crate::straight::is_straight;
+use bril_checker::{CheckFault, Checked, check};
 use bril_json::write_json;
 use bril_names::{NameFault, number};
 use bril_outside::files::{FileFault, Files};
@@ -21,9 +25,12 @@ use bril_outside::sink::{Failed, Sink};
 use bril_text::write_text;
 use bril_tree::bytes::Bytes;
 use bril_tree::limits::{End, Limits};
+use bril_tree::numbered_function::Func;
 use bril_tree::program::Prog;
 use bril_tree::text::Text;
 use bril_tree::tree::Tree;
+use bril_walks::item_count;
+use itoa::Buffer;
 use rv64_machine::answer::RunAnswer;
 use rv64_machine::image::Image;
 use rv64_machine::machine::Machine;
@@ -38,9 +45,9 @@ const MOST_STEPS: u64 = 1000000000;
 /// Does what an action asks of the file at the path: what it produces goes to `out`.
 ///
 /// The file has at most 16,777,216 bytes, which read as a tree: in JSON where the path ends in `.json`, and in
-/// text anywhere else. To run it the tree has to be without imports, each of its names has to stand for one thing
-/// that is there, and its program has to be straight, which has at most 250,000 words and needs at most 8,388,608
-/// words of stack. In all other cases nothing is put on `out`.
+/// text anywhere else. To check it the tree has to be without imports, each of its names has to stand for one thing
+/// that is there, and its program has to be accepted. To run it the program has to be straight besides, has at most
+/// 250,000 words and needs at most 8,388,608 words of stack. In all other cases nothing is put on `out`.
 pub fn do_file<F: Files, O: Sink>(
     alloc: Global,
     action: Action,
@@ -84,6 +91,7 @@ fn do_tree<O: Sink>(alloc: Global, action: Action, tree: &Tree, out: &mut O) -> 
 {
     match action {
         Action::Run => run_tree(alloc, tree, out),
+        Action::Check => check_tree(alloc, tree, out),
         Action::WriteText => put_made(text_of(alloc, tree), out),
         Action::WriteJson => put_made(json_of(alloc, tree), out),
     }
@@ -131,22 +139,63 @@ fn put_all<O: Sink>(text: &[u8], out: &mut O) -> Status
 
 // Runs the program of a tree.
 fn run_tree<O: Sink>(alloc: Global, tree: &Tree, out: &mut O) -> Status
-    ensures { RunsTree result tree.now (O.seen out.old) (O.seen out.new) }
+    ensures { AsksProgram Run result tree.now (O.seen out.old) (O.seen out.new) }
 {
-    if !tree.imports.as_slice().is_empty() {
-        return Status::Unformed;
+    match accepted_program(alloc, tree) {
+        Ok(checked) => run_accepted(alloc, checked.prog(), out),
+        Err(status) => status,
     }
-    run_names(alloc, tree, out)
 }
 
-// Numbers a tree without imports and runs its program.
-fn run_names<O: Sink>(alloc: Global, tree: &Tree, out: &mut O) -> Status
+// Puts how many functions and items the program of a tree has.
+fn check_tree<O: Sink>(alloc: Global, tree: &Tree, out: &mut O) -> Status
+    ensures { AsksProgram Check result tree.now (O.seen out.old) (O.seen out.new) }
+{
+    match accepted_program(alloc, tree) {
+        Ok(checked) => put_made(accepted_line(alloc, checked.prog()), out),
+        Err(status) => status,
+    }
+}
+
+// The line of an accepted program: how many functions and items it has.
+fn accepted_line(alloc: Global, program: &Prog) -> Result<Bytes, AllocError>
+    requires { IsCounted program.now }
+    ensures { IfOk result (λ line. line ≡ accepted_line program.now) }
+{
+    let functions = program.funcs.as_slice().len() as u64;
+    let items = item_count(program);
+    let mut line = Bytes::new(alloc);
+    let mut buffer = Buffer::new();
+    line.add(b"ok ")?;
+    line.add(buffer.format(functions).as_bytes())?;
+    line.add(b" ")?;
+    line.add(buffer.format(items).as_bytes())?;
+    line.add(b"\n")?;
+    Ok(line)
+}
+
+// The program of a tree, which has no imports, names without a fault, and a program that is accepted.
+fn accepted_program(alloc: Global, tree: &Tree) -> Result<Checked, Status>
+    ensures ok { IfOk result (λ checked. IsAcceptedProgram tree.now checked.prog) }
+    ensures counted { IfOk result (λ checked. IsCounted checked.prog) }
+    ensures err { IfErr result (λ status. RefusesProgram status tree.now) }
+{
+    if !tree.imports.as_slice().is_empty() {
+        return Err(Status::Unformed);
+    }
+    named_program(alloc, tree)
+}
+
+// The program of a tree without imports, which has names without a fault, and a program that is accepted.
+fn named_program(alloc: Global, tree: &Tree) -> Result<Checked, Status>
     requires { tree.now.imports ≡ [] }
-    ensures { RunsNames result tree.now (O.seen out.old) (O.seen out.new) }
+    ensures ok { IfOk result (λ checked. IsAcceptedProgram tree.now checked.prog) }
+    ensures counted { IfOk result (λ checked. IsCounted checked.prog) }
+    ensures err { IfErr result (λ status. RefusesProgram status tree.now) }
 {
     match number_tree(alloc, tree) {
-        Ok(program) => run_numbered(alloc, &program, out),
-        Err(status) => status,
+        Ok(program) => check_program(alloc, program),
+        Err(status) => Err(status),
     }
 }
 
@@ -177,9 +226,69 @@ fn name_status(fault: NameFault) -> Status
     }
 }
 
-// Runs a numbered program, where it is straight.
-fn run_numbered<O: Sink>(alloc: Global, program: &Prog, out: &mut O) -> Status
-    ensures { RunsNumbered result program.now (O.seen out.old) (O.seen out.new) }
+// The program, where it is accepted.
+fn check_program(alloc: Global, program: Prog) -> Result<Checked, Status>
+    ensures prog { IfOk result (λ checked. checked.prog ≡ program) }
+    ensures sound { IfOk result (λ _. IsFaultless program) }
+    ensures counted { IfOk result (λ _. IsCounted program) }
+    ensures err { IfErr result (λ status. RefusesCheck status program) }
+{
+    // No file of the allowed size has as many functions or items.
+    if !is_counted(&program) {
+        return Err(Status::OutOfMemory);
+    }
+    match check(alloc, program) {
+        Ok(checked) => Ok(checked),
+        Err((program, fault)) => Err(check_status(program, fault)),
+    }
+}
+
+// Whether the functions, and the items of each, have numbers of 32 bits.
+fn is_counted(program: &Prog) -> bool
+    ensures { IsTrue result → IsCounted program.now }
+{
+    program.funcs.as_slice().len() < 4294967296 && are_counted(program.funcs.as_slice())
+}
+
+// Whether the items of each function have numbers of 32 bits.
+fn are_counted(functions: &[Func]) -> bool
+    ensures { IsTrue result → All (λ f. length f.code < 2 ^ 32 - 1) functions.now }
+{
+    for function in functions {
+        if !has_few_items(function) {
+            return false;
+        }
+    }
+    true
+}
+
+// Whether the items of the function have numbers of 32 bits.
+fn has_few_items(function: &Func) -> bool
+    ensures { IsTrue result → length function.now.code < 2 ^ 32 - 1 }
+{
+    function.code.as_slice().len() < 4294967295
+}
+
+// The status of a fault of the checker, with the program that has it.
+fn check_status(program: Prog, fault: CheckFault) -> Status
+    ensures { result ≡ check_status program fault }
+{
+    match fault {
+        CheckFault::Memory => Status::OutOfMemory,
+        CheckFault::Types { .. }
+        | CheckFault::Arity { .. }
+        | CheckFault::MaybeUnassigned { .. }
+        | CheckFault::Nest { .. }
+        | CheckFault::SpecCall { .. }
+        | CheckFault::NoReturn { .. }
+        | CheckFault::MainType
+        | CheckFault::PrintPtr { .. } => Status::Unaccepted { program, fault },
+    }
+}
+
+// Runs an accepted program, where it is straight.
+fn run_accepted<O: Sink>(alloc: Global, program: &Prog, out: &mut O) -> Status
+    ensures { RunsAccepted result program.now (O.seen out.old) (O.seen out.new) }
 {
     if !is_straight(program) {
         return Status::Unformed;

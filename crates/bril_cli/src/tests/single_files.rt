@@ -11,10 +11,10 @@ use std::test::Fail;
 
 // What a command answers: its status, and its two outputs.
 #[derive(Drop)]
-struct Answer {
-    status: u8,
-    out: MemSink,
-    err: MemSink,
+pub(super) struct Answer {
+    pub(super) status: u8,
+    pub(super) out: MemSink,
+    pub(super) err: MemSink,
 }
 
 // What a command answers of a file that is there alone, where its output has so much room.
@@ -34,7 +34,13 @@ fn ask_within(
     Ok(Answer { status, out, err })
 }
 
-fn ask(alloc: Global, command: &str, path: &str, source: &[u8]) -> Result<Answer, AllocError> {
+// What a command answers of a file that is there alone.
+pub(super) fn ask(
+    alloc: Global,
+    command: &str,
+    path: &str,
+    source: &[u8],
+) -> Result<Answer, AllocError> {
     ask_within(alloc, 4096, command, path, source)
 }
 
@@ -114,24 +120,29 @@ const REFUSED: [(&str, &str, &[u8], &str); 41] = [
         b"@main { x: int = const 1; } @main { $",
         "f.bril: text 1 at 36\n",
     ),
-    ("run", "f.bril", b"@main: int { }", "f.bril: form\n"),
+    (
+        "run",
+        "f.bril",
+        b"@main: int { }",
+        "check 7 function 0 item -\n",
+    ),
     (
         "run",
         "f.bril",
         b"@main { x: int = const true; }",
-        "f.bril: form\n",
+        "check 1 function 0 item 0\n",
     ),
     (
         "run",
         "f.bril",
         b"@main { x: int = const 1; x: int = add x y; y: int = const 1; }",
-        "f.bril: form\n",
+        "check 3 function 0 item 1 variable y\n",
     ),
     (
         "run",
         "f.bril",
         b"@main { x: int = const 1; y: bool = add x x; }",
-        "f.bril: form\n",
+        "check 1 function 0 item 1\n",
     ),
     (
         "run",

@@ -1,25 +1,25 @@
 -- What the command answers, from what its steps answered.
 use Rattle.std.proofs.Common.{rules, sym, subst}
 use Rattle.bril_cli.specs.Answers.{Call, call_of, Answers}
-use Rattle.bril_cli.proofs.Commands.{runs_where, refused_where, formless_where, misnamed_where, writes_where, writes_json_where, misread_where, long_where, lacking_where}
+use Rattle.bril_cli.proofs.Commands.{runs_where, refused_where, checks_where, unchecked_where, formless_where, misnamed_where, writes_where, writes_json_where, misread_where, long_where, lacking_where}
 use Rattle.bril_cli.proofs.Statuses.{Ends, Answers-of}
 use Rattle.bril_cli.proofs.top.bril_top.Given.{Over}
 use Rattle.bril_cli.proofs.top.bril_top.Goals as goal
-use Rattle.bril_cli.proofs.top.bril_top.Goals.{After-status_number}
+use Rattle.bril_cli.proofs.top.bril_top.Goals.{Joined-status}
 
 -- what is seen of the call
-seen : (g : Over) → After-status_number g → Call
+seen : (g : Over) → Joined-status g → Call
 seen g c =
     call_of c.args.words.now (g.F.Files.seen c.args.files.now) (g.F.Files.seen c.do_file-status.new.files)
     (g.O.Sink.seen c.args.out.now) (g.O.Sink.seen c.do_file-status.new.out)
     (g.E.Sink.seen c.args.err.now) (g.E.Sink.seen c.say.new.err)
 
-ends : (g : Over) (c : After-status_number g) → Ends (seen g c) c.in-Some.action c.in-Some.path.now c.do_file-status.result
+ends : (g : Over) (c : Joined-status g) → Ends (seen g c) c.in-Some.action c.in-Some.path.now c.do_file-status.result
 unfolding seen
 ends g c = record { asked = search rules; does = c.do_file-status.ensures.does; says = c.say.ensures }
 
 -- what the status says
-told : (g : Over) (c : After-status_number g) → Answers c.status_number.result (seen g c)
+told : (g : Over) (c : Joined-status g) → Answers c.status_number.result (seen g c)
 told g c = subst (λ n. Answers n (seen g c)) (sym c.status_number.ensures) (Answers-of (seen g c) c.in-Some.action c.in-Some.path.now c.do_file-status.result (ends g c))
 
 pub returns-clause-answers : goal.returns-clause-answers
@@ -44,8 +44,18 @@ returns-clause-size g c = λ e. subst (λ n. Answers n (seen g c)) e (told g c)
 
 pub returns-clause-runs : goal.returns-clause-runs
 unfolding seen
-returns-clause-runs g c = λ bytes p reads short source straight within sound.
-    rw c.status_number.ensures (runs_where (seen g c) c.in-Some.action c.in-Some.path.now c.do_file-status.result (ends g c) bytes p reads short source straight within sound)
+returns-clause-runs g c = λ bytes p reads short source accepted straight within sound.
+    rw c.status_number.ensures (runs_where (seen g c) c.in-Some.action c.in-Some.path.now c.do_file-status.result (ends g c) bytes p reads short source accepted straight within sound)
+
+pub returns-clause-checks : goal.returns-clause-checks
+unfolding seen
+returns-clause-checks g c = λ bytes p reads short source accepted sound.
+    rw c.status_number.ensures (checks_where (seen g c) c.in-Some.action c.in-Some.path.now c.do_file-status.result (ends g c) bytes p reads short source accepted sound)
+
+pub returns-clause-unchecked : goal.returns-clause-unchecked
+unfolding seen
+returns-clause-unchecked g c = λ action needs bytes p fault reads short source has.
+    rw c.status_number.ensures (unchecked_where (seen g c) c.in-Some.action c.in-Some.path.now c.do_file-status.result (ends g c) action needs bytes p fault reads short source has)
 
 pub returns-clause-writes : goal.returns-clause-writes
 unfolding seen
@@ -59,8 +69,8 @@ returns-clause-writes_json g c = λ bytes tree reads short read sound.
 
 pub returns-clause-misnamed : goal.returns-clause-misnamed
 unfolding seen
-returns-clause-misnamed g c = λ bytes fault reads short has.
-    rw c.status_number.ensures (misnamed_where (seen g c) c.in-Some.action c.in-Some.path.now c.do_file-status.result (ends g c) bytes fault reads short has)
+returns-clause-misnamed g c = λ action needs bytes fault reads short has.
+    rw c.status_number.ensures (misnamed_where (seen g c) c.in-Some.action c.in-Some.path.now c.do_file-status.result (ends g c) action needs bytes fault reads short has)
 
 pub returns-clause-misread : goal.returns-clause-misread
 unfolding seen
@@ -69,8 +79,8 @@ returns-clause-misread g c = λ action bytes fault reads short has.
 
 pub returns-clause-formless : goal.returns-clause-formless
 unfolding seen
-returns-clause-formless g c = λ bytes reads short formless.
-    rw c.status_number.ensures (formless_where (seen g c) c.in-Some.action c.in-Some.path.now c.do_file-status.result (ends g c) bytes reads short formless)
+returns-clause-formless g c = λ action needs bytes reads short formless.
+    rw c.status_number.ensures (formless_where (seen g c) c.in-Some.action c.in-Some.path.now c.do_file-status.result (ends g c) action needs bytes reads short formless)
 
 pub returns-clause-lacking : goal.returns-clause-lacking
 unfolding seen
@@ -84,5 +94,5 @@ returns-clause-long_file g c = λ action bytes reads long.
 
 pub returns-clause-long_program : goal.returns-clause-long_program
 unfolding seen
-returns-clause-long_program g c = λ bytes p reads short source straight beyond.
-    rw c.status_number.ensures (refused_where (seen g c) c.in-Some.action c.in-Some.path.now c.do_file-status.result (ends g c) bytes p reads short source straight beyond)
+returns-clause-long_program g c = λ bytes p reads short source accepted straight beyond.
+    rw c.status_number.ensures (refused_where (seen g c) c.in-Some.action c.in-Some.path.now c.do_file-status.result (ends g c) bytes p reads short source accepted straight beyond)

@@ -1,0 +1,6 @@
+-- There are few enough items to be counted.
+use Rattle.bril_cli.proofs.Counting.{few_items}
+use Rattle.bril_cli.proofs.work.accepted_line.Goals as goal
+
+pub item_count-items-requires : goal.item_count-items-requires
+item_count-items-requires c = few_items c.args.program.now c.requires
