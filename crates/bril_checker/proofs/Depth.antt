@@ -3,10 +3,10 @@ use Rattle.std.proofs.Common.{◌≡◌, ℕ, ◌+◌, ◌<◌, ◌≤◌, max, 
 use Rattle.std.specs.Prelude.{◌⊎◌, slice_get}
 use Rattle.std.proofs.lemmas.Bool.{cases_lt}
 use Rattle.bril_tree.specs.declared.numbered.Instr.{Instr}
-use Rattle.bril_walks.specs.Edge.{Way}
-use Rattle.bril_walks.specs.FrameWords.{IsDepth}
-use Rattle.bril_walks.specs.Sites.{AreSitesSound, TooMany, sites_of}
-use Rattle.bril_walks.specs.Walk.{IsWalk, end_of}
+use Rattle.bril_tree.specs.Edge.{Way}
+use Rattle.bril_tree.specs.FrameWords.{IsDepth}
+use Rattle.bril_tree.specs.Sites.{AreSitesSound, TooMany, sites_of}
+use Rattle.bril_tree.specs.Walk.{IsWalk, end_of}
 use Rattle.flow_graph.specs.Graph.{GraphView, IsGraphOf}
 use Rattle.flow_graph.specs.Laws.{SoundWalksAgree}
 use Rattle.bril_checker.proofs.Ends.{ends_within}

@@ -8,9 +8,9 @@ use Rattle.bril_tree.specs.declared.numbered.Instr.{Instr}
 use Rattle.bril_tree.specs.declared.numbered.Instr.TheVariants.{Label, Const, Act}
 use Rattle.bril_tree.specs.declared.operation.Op.{Op}
 use Rattle.bril_tree.specs.declared.operation.Op.TheVariants as op
-use Rattle.bril_walks.specs.Edge.{Way, action_ways, item_ways, ways_from, ways_at, onward, jump, abort}
+use Rattle.bril_tree.specs.Edge.{Way, action_ways, item_ways, ways_from, ways_at, onward, jump, abort}
 use Rattle.bril_tree.specs.Step.{point_of, is_label}
-use Rattle.bril_walks.specs.Walk.{IsWalk, end_of}
+use Rattle.bril_tree.specs.Walk.{IsWalk, end_of}
 
 point_chosen : (b : Bool) (m n : ℕ) → m ≤ n → cond b 0 (suc m) ≤ suc n
 point_chosen true m n le = omega arith

@@ -8,8 +8,8 @@ use Rattle.std.proofs.lemmas.List.Elements.{All-take}
 use Rattle.bril_tree.specs.declared.numbered.Instr.{Instr}
 use Rattle.bril_tree.specs.declared.numbered_function.Func.{Func}
 use Rattle.bril_tree.specs.declared.program.Prog.{Prog}
-use Rattle.bril_walks.specs.Shape.{is_shaped, shape_fault_of}
-use Rattle.bril_walks.specs.Typing.{is_call_shaped}
+use Rattle.bril_tree.specs.Shape.{is_shaped, shape_fault_of}
+use Rattle.bril_tree.specs.Typing.{is_call_shaped}
 use Rattle.bril_checker.specs.Faults.{AreShaped, IsFirstMisshapen}
 use Rattle.bril_checker.proofs.Places.{all_pass, first_fails, item_of_front, All-front}
 

@@ -8,10 +8,10 @@ use Rattle.std.proofs.lemmas.Bool.{cases_lt}
 use Rattle.bril_tree.specs.declared.numbered.Instr.{Instr}
 use Rattle.bril_tree.specs.declared.numbered_function.Func.{Func}
 use Rattle.bril_tree.specs.declared.program.Prog.{Prog}
-use Rattle.bril_walks.specs.Assigned.{IsMaybeUnassigned}
+use Rattle.bril_tree.specs.Assigned.{IsMaybeUnassigned}
 use Rattle.bril_tree.specs.Operand.{Location, reads_of}
-use Rattle.bril_walks.specs.Sites.{SitesFail}
-use Rattle.bril_walks.specs.Typing.{type_fault, TypeFault}
+use Rattle.bril_tree.specs.Sites.{SitesFail}
+use Rattle.bril_tree.specs.Typing.{type_fault, TypeFault}
 use Rattle.definite_assignment.specs.Unassigned.{IsFirstUnassigned, ReadsUnassigned, variable_of}
 use Rattle.flow_graph.specs.Graph.{IsLeastFailing}
 use Rattle.bril_checker.specs.Faults.{HasShape, IsTyped, IsFirstMisshapen, IsFirstMistyped, IsFirstOpen, LeavesOpen, HasFaultWithin}

@@ -5,15 +5,15 @@ use Rattle.std.proofs.Math.ListN.{get_or-map}
 use Rattle.std.proofs.lemmas.Bool.{false≢true}
 use Rattle.std.proofs.lemmas.List.{length-map}
 use Rattle.std.proofs.lemmas.List.Elements.{All-take, All-map}
-use Rattle.bril_walks.specs.Accepted.{IsAcceptedFunction, IsMainPlain, IsPlainType}
+use Rattle.bril_tree.specs.Accepted.{IsAcceptedFunction, IsMainPlain, IsPlainType}
 use Rattle.bril_tree.specs.Run.{main_types, types_of}
-use Rattle.bril_walks.specs.Shape.{is_shaped, shape_fault_of}
-use Rattle.bril_walks.specs.Typing.{return_type}
+use Rattle.bril_tree.specs.Shape.{is_shaped, shape_fault_of}
+use Rattle.bril_tree.specs.Typing.{return_type}
 use Rattle.bril_tree.specs.declared.numbered.VarInfo.{VarInfo}
 use Rattle.bril_tree.specs.declared.numbered_function.Func.{Func}
 use Rattle.bril_tree.specs.declared.program.Prog.{Prog}
 use Rattle.bril_tree.specs.declared.types.Ty.{Ty}
-use Rattle.bril_walks.proofs.First.{none_failing}
+use Rattle.bril_tree.proofs.First.{none_failing}
 use Rattle.bril_checker.proofs.Places.{item_at}
 use Rattle.bril_checker.specs.Faults.{AreShaped, FirstFaultWithin, HasFaultWithin}
 use Rattle.bril_checker.specs.declared.fault.CheckFault.{CheckFault}

@@ -6,10 +6,10 @@ use Rattle.std.proofs.lemmas.Bool.{false≢true, ltb-true, lt-ltb}
 use Rattle.std.proofs.lemmas.Option.{slice_get-get_or, same_Some}
 use Rattle.bril_tree.specs.declared.numbered.Instr.{Instr}
 use Rattle.bril_tree.specs.declared.numbered_function.Func.{Func}
-use Rattle.bril_walks.specs.Accepted.{leaves_frame}
-use Rattle.bril_walks.specs.Edge.{Way}
-use Rattle.bril_walks.specs.Sites.{AreFirstSites, AreSitesSound, sites_of}
-use Rattle.bril_walks.specs.Walk.{IsWalk, IsReached, end_of}
+use Rattle.bril_tree.specs.Accepted.{leaves_frame}
+use Rattle.bril_tree.specs.Edge.{Way}
+use Rattle.bril_tree.specs.Sites.{AreFirstSites, AreSitesSound, sites_of}
+use Rattle.bril_tree.specs.Walk.{IsWalk, IsReached, end_of}
 use Rattle.flow_graph.specs.Graph.{GraphView, IsGraphOf}
 use Rattle.flow_graph.specs.Laws.{SoundWalksAgree}
 use Rattle.bril_checker.specs.Faults.{LeavesOpen}

@@ -5,13 +5,13 @@ use Rattle.std.specs.List.{Contains}
 use Rattle.std.proofs.lemmas.Bool.{cases_lt}
 use Rattle.std.proofs.lemmas.List.Elements.{Contains-append_right}
 use Rattle.std.proofs.lemmas.Option.{slice_get_within, get_or_from_slice_get}
-use Rattle.bril_walks.specs.Accepted.{IsAcceptedFunction, leaves_frame}
+use Rattle.bril_tree.specs.Accepted.{IsAcceptedFunction, leaves_frame}
 use Rattle.bril_tree.specs.declared.numbered_function.Func.{Func}
 use Rattle.bril_tree.specs.declared.program.Prog.{Prog}
 use Rattle.bril_tree.specs.Operand.{reads_of}
-use Rattle.bril_walks.specs.Sites.{sites_of}
-use Rattle.bril_walks.specs.Walk.{IsReached, end_of}
-use Rattle.bril_walks.specs.Typing.{type_fault}
+use Rattle.bril_tree.specs.Sites.{sites_of}
+use Rattle.bril_tree.specs.Walk.{IsReached, end_of}
+use Rattle.bril_tree.specs.Typing.{type_fault}
 use Rattle.definite_assignment.specs.Unassigned.{IsFirstUnassigned, ReadsUnassigned}
 use Rattle.bril_checker.specs.Faults.{AreShaped, AreTyped, AreNested, AreClosed, Returns, HasShape, IsTyped, HasFaultWithin, LeavesOpen}
 use Rattle.bril_checker.specs.declared.fault.CheckFault.{CheckFault}

@@ -2,7 +2,7 @@
 use Rattle.std.proofs.Common.{◌≡◌, ◌≢◌, ℕ, suc, Bool, eqb, true, false, ◌&&◌, List, [], ◌∷◌, length, map, Option, Some, None, refl, ap, sym}
 use Rattle.bril_tree.specs.declared.numbered.VarInfo.{VarInfo}
 use Rattle.bril_tree.specs.declared.types.Ty.{Ty}
-use Rattle.bril_walks.specs.Typing.{are_typed, both_typed, same_type}
+use Rattle.bril_tree.specs.Typing.{are_typed, both_typed, same_type}
 
 and_false : (b : Bool) → (b && false) ≡ false
 and_false true = refl

@@ -2,7 +2,7 @@
 use Rattle.std.proofs.Common.{◌≡◌, ℕ, suc, ◌+◌, ◌<◌, List, [], ◌∷◌, ◌++◌, length, take, get_or, refl, sym, ap, ◌∙◌, arith}
 use Rattle.std.specs.List.{AllZip}
 use Rattle.std.proofs.lemmas.List.{take_more}
-use Rattle.bril_walks.specs.FrameWords.{AreFrameWords}
+use Rattle.bril_tree.specs.FrameWords.{AreFrameWords}
 use Rattle.bril_tree.specs.declared.numbered_function.Func.{Func}
 
 pub length_words : (fs : List Func) (ws : List ℕ) → AllZip AreFrameWords fs ws → length fs ≡ length ws

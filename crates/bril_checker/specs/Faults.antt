@@ -1,11 +1,11 @@
 -- Why a program is not accepted: its first fault.
 use Rattle.std.specs.Prelude.{◌≡◌, ℕ, ◌<◌, ◌⊎◌, Bool, not, ◌&&◌, List, [], All, take, length, Option, Some, None, IsTrue, IsSome, is_some, slice_get}
-use Rattle.bril_walks.specs.Accepted.{IsAcceptedFunction, IsMainPlain, leaves_frame}
-use Rattle.bril_walks.specs.Edge.{Way}
-use Rattle.bril_walks.specs.Shape.{is_shaped}
-use Rattle.bril_walks.specs.Sites.{AreSitesSound, sites_of}
-use Rattle.bril_walks.specs.Typing.{is_call_shaped, type_fault, TypeFault, WrongType, PrintsPointer}
-use Rattle.bril_walks.specs.Walk.{IsWalk, IsReached, end_of}
+use Rattle.bril_tree.specs.Accepted.{IsAcceptedFunction, IsMainPlain, leaves_frame}
+use Rattle.bril_tree.specs.Edge.{Way}
+use Rattle.bril_tree.specs.Shape.{is_shaped}
+use Rattle.bril_tree.specs.Sites.{AreSitesSound, sites_of}
+use Rattle.bril_tree.specs.Typing.{is_call_shaped, type_fault, TypeFault, WrongType, PrintsPointer}
+use Rattle.bril_tree.specs.Walk.{IsWalk, IsReached, end_of}
 use Rattle.bril_tree.specs.declared.numbered.Instr.{Instr}
 use Rattle.bril_tree.specs.declared.numbered_function.Func.{Func}
 use Rattle.bril_tree.specs.declared.program.Prog.{Prog}

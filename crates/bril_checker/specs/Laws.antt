@@ -1,6 +1,6 @@
 -- Laws of faults.
 use Rattle.std.specs.Prelude.{◌≡◌}
-use Rattle.bril_walks.specs.Accepted.{IsAccepted}
+use Rattle.bril_tree.specs.Accepted.{IsAccepted}
 use Rattle.bril_tree.specs.declared.program.Prog.{Prog}
 use Rattle.bril_checker.specs.Faults.{HasFault}
 use Rattle.bril_checker.specs.declared.fault.CheckFault.{CheckFault}

@@ -1,5 +1,5 @@
 -- How the code says what is wrong with an item's types.
-use Rattle.bril_walks.specs.Typing.{TypeFault, WrongType, PrintsPointer}
+use Rattle.bril_tree.specs.Typing.{TypeFault, WrongType, PrintsPointer}
 use Rattle.bril_checker.specs.declared.mistakes.Mistake.{Mistake}
 use Rattle.bril_checker.specs.declared.mistakes.Mistake.TheVariants as mistake
 

@@ -1,7 +1,7 @@
 // A program that was accepted.
 
 ghost use Rattle.std.specs.Prelude.{◌≡◌, ◌<◌, Some, length, slice_get};
-ghost use Rattle.bril_walks.specs.Accepted.{IsAccepted};
+ghost use Rattle.bril_tree.specs.Accepted.{IsAccepted};
 
 use bril_tree::program::Prog;
 use bril_tree::sequence::Seq;
@@ -16,7 +16,7 @@ pub struct Checked {
 
 impl Model for Checked {
     ghost use Rattle.std.specs.Prelude.{◌≡◌, ◌<◌};
-    ghost use Rattle.bril_walks.specs.Accepted.{IsAccepted};
+    ghost use Rattle.bril_tree.specs.Accepted.{IsAccepted};
     ghost use Rattle.bril_checker.specs.Checked.{CheckedView, IsChecked};
 
     ghost Value = { CheckedView };
@@ -28,21 +28,24 @@ impl Model for Checked {
 
 impl Checked {
     ghost use Rattle.std.specs.List.{AllZip};
-    ghost use Rattle.bril_walks.specs.FrameWords.{AreFrameWords};
+    ghost use Rattle.bril_tree.specs.FrameWords.{AreFrameWords};
+    ghost use Rattle.bril_tree.specs.Size.{IsCounted};
 
     // An accepted program, with the words of its functions' frames.
     pub(crate) fn new(prog: Prog, words: Seq<u64>) -> Checked
         requires accepted { IsAccepted prog }
         requires words { AllZip AreFrameWords prog.funcs words }
+        requires counted { IsCounted prog }
         ensures { result.prog ≡ prog }
     {
         Checked { prog, words }
     }
 
-    /// The program, which is accepted. Takes no memory.
+    /// The program, which is accepted; its functions, and the points of each, have numbers of 32 bits. Takes no memory.
     pub fn prog(&self) -> &Prog
         ensures value { result.now ≡ self.now.prog }
         ensures accepted { IsAccepted result.now }
+        ensures counted { IsCounted result.now }
     {
         &self.prog
     }
@@ -51,6 +54,7 @@ impl Checked {
     pub fn into_prog(self) -> Prog
         ensures value { result ≡ self.prog }
         ensures accepted { IsAccepted result }
+        ensures counted { IsCounted result }
     {
         self.prog
     }

@@ -2,10 +2,10 @@
 
 ghost use Rattle.std.specs.Prelude.{◌≡◌, ◌⊎◌, ◌<◌, ◌^◌, ◌-◌, ◌↔◌, IsTrue, ℕ, Some, None, List, All, length, map, slice_get, is_some, IfOk, IfErr, MatchResult, ⊤};
 ghost use Rattle.std.specs.List.{AllZip};
-ghost use Rattle.bril_walks.specs.Accepted.{IsAccepted, IsAcceptedFunction, IsMainPlain, IsPlainType};
-ghost use Rattle.bril_walks.specs.FrameWords.{AreFrameWords};
-ghost use Rattle.bril_walks.specs.Shape.{shape_fault_of};
-ghost use Rattle.bril_walks.specs.Sites.{AreSitesSound};
+ghost use Rattle.bril_tree.specs.Accepted.{IsAccepted, IsAcceptedFunction, IsMainPlain, IsPlainType};
+ghost use Rattle.bril_tree.specs.FrameWords.{AreFrameWords};
+ghost use Rattle.bril_tree.specs.Shape.{shape_fault_of};
+ghost use Rattle.bril_tree.specs.Sites.{AreSitesSound};
 ghost use Rattle.flow_graph.specs.Graph.{IsGraphOf, IsLeastFailing};
 ghost use Rattle.bril_checker.specs.Faults.{AreTyped, HasFault, HasFaultWithin, FirstFaultWithin, IsFaultOf};
 ghost use Rattle.bril_checker.specs.declared.fault.CheckFault.{CheckFault};

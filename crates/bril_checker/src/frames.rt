@@ -2,8 +2,8 @@
 
 ghost use Rattle.std.specs.Prelude.{◌≡◌, ◌^◌, ◌-◌, ◌<◌, ◌≤◌, ◌+◌, ◌*◌, ◌||◌, ℕ, List, length, slice_index_or, Bool, false, count_by, EachIndex, IfOk};
 ghost use Rattle.std.specs.List.{list_any, range_with_len};
-ghost use Rattle.bril_walks.specs.FrameWords.{AreFrameWords, IsDepth, is_number, names_shadow};
-ghost use Rattle.bril_walks.specs.Sites.{AreSitesSound};
+ghost use Rattle.bril_tree.specs.FrameWords.{AreFrameWords, IsDepth, is_number, names_shadow};
+ghost use Rattle.bril_tree.specs.Sites.{AreSitesSound};
 ghost use Rattle.flow_graph.specs.Graph.{IsGraphOf};
 
 use crate::walks::open_sites;

@@ -3,7 +3,7 @@
 ghost use Rattle.std.specs.Prelude.{◌≡◌, ◌^◌, ◌<◌, [], ◌∷◌, length, map, is_some, not, All, MatchOption};
 ghost use Rattle.std.specs.List.{position};
 ghost use Rattle.std.specs.Option.{option_map};
-ghost use Rattle.bril_walks.specs.Typing.{variable_type, is_call_shaped as call_is_shaped, print_fault, wrong_unless, type_fault};
+ghost use Rattle.bril_tree.specs.Typing.{variable_type, is_call_shaped as call_is_shaped, print_fault, wrong_unless, type_fault};
 ghost use Rattle.bril_checker.specs.Faults.{AreShaped, IsFirstMisshapen, IsFirstMistyped, IsTyped};
 ghost use Rattle.bril_checker.specs.Mistakes.{meaning};
 
@@ -16,7 +16,6 @@ use bril_tree::numbered_function::Func;
 use bril_tree::operation::Op;
 use bril_tree::program::Prog;
 use bril_tree::types::Ty;
-use bril_walks::shape_fault;
 
 // What is wrong with an item's types: an operand isn't of its type, or a pointer is printed.
 #[derive(Clone, Copy, Drop)]
@@ -52,7 +51,7 @@ pub fn first_misshapen(prog: &Prog, func: &Func) -> Option<u32>
     requires { length func.now.code < 2 ^ 32 }
     ensures { MatchOption result (AreShaped prog.now func.now) (IsFirstMisshapen prog.now func.now) }
 {
-    match shape_fault(func) {
+    match func.shape_fault() {
         None => first_misfit_call(prog, func, func.code.as_slice()),
         Some(item) => {
             match first_misfit_call(prog, func, &func.code.as_slice()[..item as usize]) {

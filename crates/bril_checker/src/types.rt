@@ -1,7 +1,7 @@
 // Tests on types, and on operands that have a type or none.
 
 ghost use Rattle.std.specs.Prelude.{◌≡◌};
-ghost use Rattle.bril_walks.specs.Typing.{same_base, same_type, is_plain, is_pointer, points_to, if_typed, both_typed, same_result, is_set_typed};
+ghost use Rattle.bril_tree.specs.Typing.{same_base, same_type, is_plain, is_pointer, points_to, if_typed, both_typed, same_result, is_set_typed};
 
 use bril_tree::types::{Base, Ty};
 

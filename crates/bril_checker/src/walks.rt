@@ -2,9 +2,9 @@
 // returns no value.
 
 ghost use Rattle.std.specs.Prelude.{◌≡◌, ◌^◌, ◌-◌, ◌<◌, ℕ, List, ◌↔◌, IsTrue, IsSome, Some, None, length, slice_get, MatchOption};
-ghost use Rattle.bril_walks.specs.Accepted.{leaves_frame};
-ghost use Rattle.bril_walks.specs.Sites.{AreSitesSound};
-ghost use Rattle.bril_walks.specs.Walk.{IsReached};
+ghost use Rattle.bril_tree.specs.Accepted.{leaves_frame};
+ghost use Rattle.bril_tree.specs.Sites.{AreSitesSound};
+ghost use Rattle.bril_tree.specs.Walk.{IsReached};
 ghost use Rattle.flow_graph.specs.Graph.{IsGraphOf};
 ghost use Rattle.bril_checker.specs.Faults.{IsFirstOpen, LeavesOpen};
 

@@ -24,7 +24,8 @@ use Rattle.bril_tree.specs.declared.value.Value.TheVariants.{Int}
 use Rattle.bril_tree.specs.FunctionForm.{variables_of}
 use Rattle.bril_tree.specs.State as bril
 use Rattle.bril_tree.specs.Outcome.{int_of}
-use Rattle.bril_tree.specs.Step.{step, running_step, frames_step, item_step, item_at, items_of, gives, prints, ends, is_live_any}
+use Rattle.bril_tree.specs.Step.{step, running_step, frames_step, item_step, item_at, items_of, gives, prints, ends}
+use Rattle.bril_tree.specs.Memory.{is_live_any}
 use Rattle.bril_tree.specs.Value.{shown}
 use Rattle.rv64_machine.specs.declared.image.Image.{Image}
 use Rattle.rv64_machine.specs.Machine as machine

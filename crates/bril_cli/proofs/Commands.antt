@@ -1,7 +1,7 @@
 -- When each status comes.
 use Rattle.std.proofs.Common.{◌≡◌, ℕ, ◌<◌, ◌≤◌, ◌⊎◌, true, List, [], length, Option, Some, None, refl, sym, ap, ◌∙◌, subst, arith, inl, inr, ⊎_elim, true≢false}
 use Rattle.std.specs.Prelude.{◌≢◌}
-use Rattle.bril_walks.specs.Accepted.{IsAccepted}
+use Rattle.bril_tree.specs.Accepted.{IsAccepted}
 use Rattle.bril_tree.specs.declared.program.Prog.{Prog}
 use Rattle.bril_checker.specs.Faults as checker
 use Rattle.bril_checker.specs.declared.fault.CheckFault.{CheckFault}

@@ -4,8 +4,7 @@ use Rattle.std.specs.Prelude.{◌^◌}
 use Rattle.std.proofs.Math.Nat.{mul-le-mul_right}
 use Rattle.std.proofs.lemmas.List.Sums.{sum_by-le}
 use Rattle.bril_tree.specs.declared.program.Prog.{Prog}
-use Rattle.bril_walks.specs.Size.{item_count}
-use Rattle.bril_cli.specs.Works.{IsCounted}
+use Rattle.bril_tree.specs.Size.{item_count, IsCounted}
 
 pub few_items : (p : Prog) → IsCounted p → item_count p < 2 ^ 64
 few_items p counted =

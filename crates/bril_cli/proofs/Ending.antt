@@ -19,7 +19,8 @@ use Rattle.bril_tree.specs.declared.types.Ty.{Ty}
 use Rattle.bril_tree.specs.declared.value.Lit.TheVariants as literal
 use Rattle.bril_tree.specs.Run.{FitMain, first_state, state_after, types_of, Suits}
 use Rattle.bril_tree.specs.State as bril
-use Rattle.bril_tree.specs.Step.{step, running_step, frames_step, item_step, item_at, items_of, ends, is_live_any}
+use Rattle.bril_tree.specs.Step.{step, running_step, frames_step, item_step, item_at, items_of, ends}
+use Rattle.bril_tree.specs.Memory.{is_live_any}
 use Rattle.rv64_machine.specs.declared.image.Image.{Image}
 use Rattle.rv64_machine.specs.Machine as machine
 use Rattle.rv64_machine.specs.Region.{Sizes}

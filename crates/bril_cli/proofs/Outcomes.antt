@@ -3,7 +3,7 @@ use Rattle.std.proofs.Common.{◌≡◌, ◌⊎◌, ℕ, List, [], Result, Ok, E
 use Rattle.std.specs.Prelude.{IfErr, MatchResult}
 use Rattle.bril_outside.specs.Sink.{SinkSeen}
 use Rattle.bril_tree.specs.declared.tree.Tree.{Tree}
-use Rattle.bril_walks.specs.Accepted.{IsAccepted}
+use Rattle.bril_tree.specs.Accepted.{IsAccepted}
 use Rattle.bril_tree.specs.declared.program.Prog.{Prog}
 use Rattle.bril_checker.specs.Checked.{CheckedView}
 use Rattle.bril_checker.specs.Faults as checker
@@ -20,7 +20,8 @@ use Rattle.bril_text.specs.Reading as text_reading
 use Rattle.bril_text.specs.declared.fault.TextFault.{TextFault}
 use Rattle.bril_text.specs.declared.fault.TextFault.TheVariants as text
 use Rattle.bril_cli.specs.Source.{HasFault, HasOnlyCheckFault, IsOnlyTree, IsOnlyFault}
-use Rattle.bril_cli.specs.Works.{RefusesTree, RefusesNames, RefusesCheck, RefusesProgram, PutsText, IsOnlyNameFault, IsOnlyProgram, IsCounted, IsFaultless, IsAcceptedProgram, text_status, json_status, name_status, check_status}
+use Rattle.bril_tree.specs.Size.{IsCounted}
+use Rattle.bril_cli.specs.Works.{RefusesTree, RefusesNames, RefusesCheck, RefusesProgram, PutsText, IsOnlyNameFault, IsOnlyProgram, IsFaultless, IsAcceptedProgram, text_status, json_status, name_status, check_status}
 use Rattle.bril_cli.specs.declared.status.Status.{Status}
 use Rattle.bril_cli.specs.declared.status.Status.TheVariants as status
 use Rattle.bril_cli.specs.declared.source.Format.TheVariants.{InText, InJson}

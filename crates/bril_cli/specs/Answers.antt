@@ -1,7 +1,7 @@
 -- What the command line answers: its status, and what it does to the files and its two outputs.
 use Rattle.std.specs.Prelude.{ℕ, true, ◌≡◌, ◌*◌, ◌<◌, ◌≤◌, ◌⊎◌, ◌==◌, List, ◌++◌, length, Option, Some, None, MatchBool, codes, slice_get, []}
 use Rattle.std.specs.Fmt.{decimal}
-use Rattle.bril_walks.specs.Accepted.{IsAccepted}
+use Rattle.bril_tree.specs.Accepted.{IsAccepted}
 use Rattle.bril_tree.specs.declared.numbered.VarInfo.{VarInfo}
 use Rattle.bril_tree.specs.declared.numbered_function.Func.{Func}
 use Rattle.bril_tree.specs.declared.program.Prog.{Prog}

@@ -1,6 +1,6 @@
 -- What each step of a command answers, by its status.
 use Rattle.std.specs.Prelude.{ℕ, true, false, ◌⊎◌, ◌≡◌, ◌≢◌, ◌*◌, ◌^◌, ◌-◌, ◌<◌, ◌≤◌, List, [], All, length, Result, Ok, Err, codes}
-use Rattle.bril_walks.specs.Accepted.{IsAccepted}
+use Rattle.bril_tree.specs.Accepted.{IsAccepted}
 use Rattle.bril_tree.specs.declared.program.Prog.{Prog}
 use Rattle.bril_checker.specs.Faults as checker
 use Rattle.bril_checker.specs.declared.fault.CheckFault.{CheckFault}
@@ -12,6 +12,7 @@ use Rattle.bril_cli.specs.declared.status.Status.{Status}
 use Rattle.bril_cli.specs.declared.status.Status.TheVariants as status
 use Rattle.bril_tree.specs.declared.tree.Tree.{Tree}
 use Rattle.bril_tree.specs.Numbered.{Numbered}
+use Rattle.bril_tree.specs.Size.{IsCounted}
 use Rattle.bril_json.specs.declared.fault.JsonFault.{JsonFault}
 use Rattle.bril_json.specs.declared.fault.JsonFault.TheVariants as json
 use Rattle.bril_names.specs.Faults.{HasFault}
@@ -155,11 +156,6 @@ abbrev pub RefusesNames : Status → Tree → Type 0
 RefusesNames (status.Misnamed fault) tree = IsOnlyNameFault tree fault
 RefusesNames status.OutOfMemory tree = Unit {0}
 RefusesNames _ tree = ⊥
-
--- the functions and the items of each have numbers of 32 bits
-pub record IsCounted (p : Prog) : Type 0 where
-  pub functions : length p.funcs < 2 ^ 32
-  pub items : All (λ f. length f.code < 2 ^ 32 - 1) p.funcs
 
 -- The program is accepted, and has no fault.
 pub record IsFaultless (p : Prog) : Type 0 where

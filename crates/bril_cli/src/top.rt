@@ -4,7 +4,7 @@ ghost use Rattle.std.specs.Prelude.{◌≡◌, ◌≤◌, ◌<◌, ◌↔◌, �
 ghost use Rattle.std.specs.Option.{option_map};
 ghost use Rattle.bril_checker.specs.Faults as checker;
 ghost use Rattle.bril_checker.specs.declared.fault.CheckFault.{CheckFault};
-ghost use Rattle.bril_walks.specs.Accepted.{IsAccepted};
+ghost use Rattle.bril_tree.specs.Accepted.{IsAccepted};
 ghost use Rattle.bril_tree.specs.declared.program.Prog.{Prog};
 ghost use Rattle.bril_tree.specs.declared.tree.Tree.{Tree};
 ghost use Rattle.bril_names.specs.declared.fault.NameFault.{NameFault};

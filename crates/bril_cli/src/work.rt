@@ -2,12 +2,12 @@
 // the machine.
 
 ghost use Rattle.std.specs.Prelude.{◌≡◌, ◌≤◌, ◌<◌, ◌*◌, ◌^◌, ◌-◌, [], All, IsTrue, length, IfOk, IfErr, MatchResult};
-ghost use Rattle.bril_walks.specs.Size.{item_count};
+ghost use Rattle.bril_tree.specs.Size.{item_count, IsCounted};
 ghost use Rattle.bril_cli.specs.Carries.{Carries, frame_words};
 ghost use Rattle.bril_cli.specs.Emitted.{bound_sum};
 ghost use Rattle.bril_cli.specs.Source.{json_line, accepted_line, run_limits, IsFile, IsWithin};
 ghost use Rattle.bril_cli.specs.Straight.{IsStraightCode};
-ghost use Rattle.bril_cli.specs.Works.{RefusesFile, RefusesNames, IsOnlyProgram, IsCounted, IsFaultless, IsAcceptedProgram, RefusesCheck, RefusesProgram, RefusesImage, RunsImage, RunsProgram, RunsAccepted, AsksProgram, PutsText, DoesTree, DoesFile, name_status, check_status};
+ghost use Rattle.bril_cli.specs.Works.{RefusesFile, RefusesNames, IsOnlyProgram, IsFaultless, IsAcceptedProgram, RefusesCheck, RefusesProgram, RefusesImage, RunsImage, RunsProgram, RunsAccepted, AsksProgram, PutsText, DoesTree, DoesFile, name_status, check_status};
 ghost use Rattle.bril_cli.specs.declared.action.Action.TheVariants.{Check, Run};
 ghost use Rattle.bril_cli.specs.declared.status.Status.TheVariants.{OutOfMemory};
 ghost use Rattle.bril_text.specs.Canonical.{canonical_text};
@@ -29,7 +29,6 @@ use bril_tree::numbered_function::Func;
 use bril_tree::program::Prog;
 use bril_tree::text::Text;
 use bril_tree::tree::Tree;
-use bril_walks::item_count;
 use itoa::Buffer;
 use rv64_machine::answer::RunAnswer;
 use rv64_machine::image::Image;
@@ -163,7 +162,7 @@ fn accepted_line(alloc: Global, program: &Prog) -> Result<Bytes, AllocError>
     ensures { IfOk result (λ line. line ≡ accepted_line program.now) }
 {
     let functions = program.funcs.as_slice().len() as u64;
-    let items = item_count(program);
+    let items = program.size();
     let mut line = Bytes::new(alloc);
     let mut buffer = Buffer::new();
     line.add(b"ok ")?;

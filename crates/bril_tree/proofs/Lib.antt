@@ -1,2 +1,4 @@
+pub mod Bare
+pub mod First
 pub mod Grows
 pub mod Refinement

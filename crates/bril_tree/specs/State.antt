@@ -1,5 +1,5 @@
 -- The state of a running program.
-use Rattle.std.specs.Prelude.{ℕ, Bool, ◌==◌, List, Option, Some, None, if◌then◌else◌, pos, unwrap_or}
+use Rattle.std.specs.Prelude.{ℕ, ◌+◌, ◌-◌, ◌^◌, min, Bool, ◌==◌, List, Option, Some, None, if◌then◌else◌, pos, unwrap_or}
 use Rattle.bril_tree.specs.declared.limits.End.{End}
 use Rattle.bril_tree.specs.declared.value.Value.{Value}
 use Rattle.bril_tree.specs.declared.value.Value.TheVariants.{Int}
@@ -18,6 +18,10 @@ with_value values x v y = if y == x then Some v else values y
 -- what is read of a map: what it lacks reads as the int 0, which no accepted program sees
 abbrev pub read : Values → ℕ → Value
 read values x = unwrap_or (values x) (Int (pos 0))
+
+-- one more, in a count of 64 bits, which stays at its end
+abbrev pub counted : ℕ → ℕ
+counted n = min (n + 1) (2 ^ 64 - 1)
 
 -- the variables and the shadows of a frame: a `speculate` saves both, and a failed `guard` puts both back
 pub record Places : Type 0 where
@@ -39,7 +43,8 @@ pub record Block : Type 0 where
   pub cells : Values
 
 -- The frames, the newest first, the blocks, of which the first has the number 1, the bytes that were
--- printed, how the run ended, None while it runs, and how often each guard failed, by function and item.
+-- printed, how the run ended, None while it runs, and how often each guard failed, by function and item, each a
+-- count that stays at its end.
 pub record State : Type 0 where
   pub frames : List Frame
   pub blocks : List Block

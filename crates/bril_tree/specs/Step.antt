@@ -1,7 +1,6 @@
 -- One step of a program: the Bril documentation's core language with its memory extension, and this
 -- project's `get`, `set`, `undef` and nested speculation.
-use Rattle.std.specs.Prelude.{ℕ, zero, suc, ◌+◌, Bool, true, false, not, ◌&&◌, ◌==◌, nat_lt, List, [], ◌∷◌, ◌++◌, length, map, Option, Some, None, slice_get, slice_index, if◌then◌else◌, ℤ, pos, negsuc}
-use Rattle.std.specs.List.{list_any, sum_by}
+use Rattle.std.specs.Prelude.{ℕ, suc, Bool, true, false, ◌&&◌, ◌==◌, nat_lt, List, [], ◌∷◌, ◌++◌, length, map, Option, Some, None, slice_get, slice_index, if◌then◌else◌, ℤ, pos}
 use Rattle.bril_tree.specs.declared.limits.End.{End}
 use Rattle.bril_tree.specs.declared.limits.End.TheVariants.{Ended, Faulted}
 use Rattle.bril_tree.specs.declared.limits.Fault.{Fault}
@@ -15,7 +14,8 @@ use Rattle.bril_tree.specs.declared.operation.Op.TheVariants as op
 use Rattle.bril_tree.specs.declared.program.Prog.{Prog}
 use Rattle.bril_tree.specs.declared.value.Value.{Value}
 use Rattle.bril_tree.specs.declared.value.Value.TheVariants.{Ptr}
-use Rattle.bril_tree.specs.State.{Values, no_values, with_value, read, Places, Frame, Block, State}
+use Rattle.bril_tree.specs.State.{Values, no_values, with_value, read, counted, Places, Frame, State}
+use Rattle.bril_tree.specs.Memory.{is_live_any, live_block, cell_at, held, changed_block, allocation_fault, cells_of, new_block, is_freeable}
 use Rattle.bril_tree.specs.Operand.{dest_of}
 use Rattle.bril_tree.specs.Outcome.{Outcome, Gives, Fails, Acts, outcome_of, argument, int_of, bool_of, block_of, offset_of}
 use Rattle.bril_tree.specs.Value.{shown}
@@ -70,72 +70,6 @@ with_frames frames s = record s { frames = frames }
 -- a fault changes how the run ended alone
 abbrev pub faulted : Fault → State → State
 faulted kind s = record s { ended = Some (Faulted kind) }
-
--- ---- memory
-
--- some block is live
-abbrev pub is_live_any : List Block → Bool
-is_live_any blocks = list_any (λ b. b.is_live) blocks
-
--- the live block of a number, which counts from 1
-abbrev pub if_live : Option Block → Option Block
-if_live None = None
-if_live (Some b) = if b.is_live then Some b else None
-
-abbrev pub live_block : List Block → ℕ → Option Block
-live_block blocks zero = None
-live_block blocks (suc k) = if_live (slice_get blocks k)
-
--- the cell of a live block at an offset inside it
-abbrev pub cell_inside : Option Block → ℤ → Option ℕ
-cell_inside None offset = None
-cell_inside (Some b) (pos n) = if nat_lt n b.size then Some n else None
-cell_inside (Some b) (negsuc n) = None
-
-abbrev pub cell_at : List Block → Value → Option ℕ
-cell_at blocks pointer = cell_inside (live_block blocks (block_of pointer)) (offset_of pointer)
-
--- what a cell of a block holds, where it was stored
-abbrev pub cell_of : Option Block → ℕ → Option Value
-cell_of None n = None
-cell_of (Some b) n = b.cells n
-
-abbrev pub held : List Block → Value → ℕ → Option Value
-held blocks pointer n = cell_of (live_block blocks (block_of pointer)) n
-
-abbrev pub changed : List Block → ℕ → (Block → Block) → List Block
-changed [] k change = []
-changed (b ∷ blocks) zero change = change b ∷ blocks
-changed (b ∷ blocks) (suc k) change = b ∷ changed blocks k change
-
--- the blocks with the block of a number changed
-abbrev pub changed_block : List Block → ℕ → (Block → Block) → List Block
-changed_block blocks zero change = blocks
-changed_block blocks (suc k) change = changed blocks k change
-
--- all cells given out so far
-abbrev pub cells_given : List Block → ℕ
-cells_given blocks = sum_by (λ b. b.size) blocks
-
--- the most blocks that are ever allocated
-abbrev pub most_blocks : ℕ
-most_blocks = 262144
-
--- why a block of so many cells can't be had, in this order
-abbrev pub allocation_fault : Limits → List Block → ℤ → Option Fault
-allocation_fault limits blocks (negsuc n) = Some fault.BadAlloc
-allocation_fault limits blocks (pos zero) = Some fault.BadAlloc
-allocation_fault limits blocks (pos (suc n)) =
-    if not (nat_lt (length blocks) most_blocks) then Some fault.Allocs
-    else (if nat_lt limits.cells (cells_given blocks + suc n) then Some fault.Cells else None)
-
--- the count as a number of cells
-abbrev pub cells_of : ℤ → ℕ
-cells_of (pos n) = n
-cells_of (negsuc n) = 0
-
-abbrev pub new_block : ℕ → Block
-new_block size = record { size = size; is_live = true; cells = no_values }
 
 -- ---- one step
 
@@ -205,12 +139,6 @@ module _ (p : Prog) (limits : Limits) where
   allocates None count dest f older s =
       gives dest (Ptr (suc (length s.blocks)) (pos 0)) f older (record s { blocks = s.blocks ++ new_block (cells_of count) ∷ [] })
 
-  -- offset 0 of a live block
-  abbrev pub is_freeable : Option Block → ℤ → Bool
-  is_freeable None offset = false
-  is_freeable (Some b) (pos n) = n == 0
-  is_freeable (Some b) (negsuc n) = false
-
   abbrev pub frees : Value → Frame → List Frame → State → State
   frees pointer f older s =
       if is_freeable (live_block s.blocks (block_of pointer)) (offset_of pointer) then
@@ -250,7 +178,7 @@ module _ (p : Prog) (limits : Limits) where
   -- one failure more of the guard at which the frame stands
   abbrev pub with_failure : Frame → State → State
   with_failure f s =
-      record s { failures = λ g i. if (g == f.function) && (i == f.point) then suc (s.failures g i) else s.failures g i }
+      record s { failures = λ g i. if (g == f.function) && (i == f.point) then counted (s.failures g i) else s.failures g i }
 
   -- Nothing where the condition holds. Else the places become those of the newest save, which is dropped, and
   -- the frame goes to the label; blocks and printed bytes stay.
@@ -269,7 +197,7 @@ module _ (p : Prog) (limits : Limits) where
   acts op.Print dest args funcs labels f older s = prints (map (read f.places.vars) args) f older s
   acts op.Alloc dest args funcs labels f older s =
       let count = int_of (argument f.places args 0) in
-      allocates (allocation_fault limits s.blocks count) count dest f older s
+      allocates (allocation_fault limits.cells s.blocks count) count dest f older s
   acts op.Free dest args funcs labels f older s = frees (argument f.places args 0) f older s
   acts op.Store dest args funcs labels f older s =
       let pointer = argument f.places args 0 in

@@ -12,6 +12,8 @@ pub mod numbered_function;
 pub mod operation;
 pub mod program;
 pub mod sequence;
+mod shape;
+mod size;
 #[cfg(test)]
 mod tests;
 pub mod text;

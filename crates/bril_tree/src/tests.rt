@@ -1,11 +1,17 @@
-// One happy path for each call that may want memory.
+// One happy path for each call that may want memory, and for the counts of items.
+
+ghost use Rattle.std.specs.Prelude.{◌≡◌, [], None};
 
 use crate::bytes::Bytes;
 use crate::name::{IdentFault, Name};
+use crate::numbered::Instr;
+use crate::numbered_function::Func;
 use crate::operation::Op;
+use crate::program::Prog;
 use crate::sequence::Seq;
 use crate::text::Text;
 use crate::types::Base;
+use std::alloc::Global;
 use std::test::Fail;
 
 #[test]
@@ -48,5 +54,39 @@ fn operations_have_their_names(rt: HostRuntime) -> Result<(), Fail> {
     for other in ["const", "fadd", "Add", ""] {
         assert_eq!(rt; Op::named(other), None);
     }
+    Ok(())
+}
+
+fn action(alloc: Global, op: Op) -> Instr
+    ensures { result ≡ Instr.Act None None op [] [] [] }
+{
+    Instr::Act {
+        dest: None,
+        ty: None,
+        op,
+        args: Seq::new(alloc),
+        funcs: Seq::new(alloc),
+        labels: Seq::new(alloc),
+    }
+}
+
+#[test]
+fn items_are_counted_and_shaped(rt: HostRuntime) -> Result<(), Fail> {
+    let mut code = Seq::new(rt.alloc());
+    code.push(action(rt.alloc(), Op::Nop))?;
+    code.push(action(rt.alloc(), Op::Free))?;
+    let mut funcs = Seq::new(rt.alloc());
+    let main = Func {
+        name: Name::ident(rt.alloc(), b"main")?,
+        args: 0,
+        vars: Seq::new(rt.alloc()),
+        labels: Seq::new(rt.alloc()),
+        ret: None,
+        code,
+    };
+    assert_eq!(rt; main.shape_fault(), Some(1));
+    funcs.push(main)?;
+    let prog = Prog { funcs, main: 0 };
+    assert_eq!(rt; prog.size(), 2);
     Ok(())
 }

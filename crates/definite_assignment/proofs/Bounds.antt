@@ -1,18 +1,16 @@
 -- Arcs go between points, and reads are by items.
-use Rattle.std.proofs.Common.{◌≡◌, ℕ, suc, ◌+◌, ◌<◌, ◌≤◌, List, [], ◌∷◌, ◌++◌, Bool, true, false, Option, Some, None, map, length, get_or, sym, ap, ◌∙◌, subst, refl, arith}
+use Rattle.std.proofs.Common.{◌≡◌, ℕ, suc, ◌+◌, ◌<◌, ◌≤◌, List, [], ◌∷◌, Bool, true, false, Some, map, length, get_or, sym, ap, ◌∙◌, subst, refl, arith}
 use Rattle.std.specs.Prelude.{slice_get}
 use Rattle.std.specs.List.{All, Contains}
 use Rattle.std.proofs.lemmas.List.Elements.{All-map, All-append, All-weaker, All-nil, Contains-get_or}
-use Rattle.bril_walks.specs.Edge.{Way, ways_at}
-use Rattle.bril_tree.specs.Operand.{Location, reads_of}
-use Rattle.bril_walks.specs.Sites.{AreFirstSites, sites_of}
+use Rattle.bril_tree.specs.Operand.{reads_of}
 use Rattle.bril_tree.specs.declared.numbered.Instr.{Instr}
 use Rattle.definite_assignment.specs.Leaving.{leaving_arc, leaving_arcs, turned}
 use Rattle.definite_assignment.specs.Reads.{read_at, reads_from, item_reads}
 use Rattle.definite_assignment.proofs.Edges.{IsEdgeAt, edge-back}
 use Rattle.definite_assignment.proofs.Walks.{sites-inside}
-use Rattle.definite_assignment.proofs.Ways.{IsWayOf, way-is, way-inside}
-use Rattle.flow_graph.specs.Graph.{GraphView, IsGraphOf, edge_of, leave_of}
+use Rattle.definite_assignment.proofs.Ways.{way-is, way-inside}
+use Rattle.flow_graph.specs.Graph.{GraphView, IsGraphOf, leave_of}
 use Rattle.flow_graph.specs.declared.edge.Edge.{Edge}
 use Rattle.graph_search.specs.Path.{IsBetween}
 use Rattle.graph_search.specs.declared.graph.Arc.{Arc}

@@ -1,10 +1,9 @@
 -- The edges of a flow graph are the ways on from the points that walks lead to.
-use Rattle.std.proofs.Common.{◌≡◌, ℕ, suc, zero, ◌+◌, ◌<◌, ◌≤◌, List, [], ◌∷◌, ◌++◌, Option, Some, None, map, length, sym, ap, ◌∙◌, subst, refl, ⊎_elim, arith}
+use Rattle.std.proofs.Common.{◌≡◌, ℕ, suc, zero, ◌+◌, List, [], ◌∷◌, Option, Some, None, map, sym, subst, refl, ⊎_elim, arith}
 use Rattle.std.specs.Prelude.{slice_get}
 use Rattle.std.specs.List.{Contains}
 use Rattle.std.proofs.lemmas.List.Elements.{Contains-append_left, Contains-append_right, Contains-append_cases}
-use Rattle.bril_walks.specs.Edge.{Way, ways_at}
-use Rattle.bril_walks.specs.Sites.{AreFirstSites}
+use Rattle.bril_tree.specs.Edge.{Way, ways_at}
 use Rattle.bril_tree.specs.declared.numbered.Instr.{Instr}
 use Rattle.definite_assignment.proofs.Places.{Contains-map, Contains-map_back}
 use Rattle.flow_graph.specs.Graph.{edge_of, edges_at, edges_from}

@@ -1,12 +1,10 @@
 -- The first open read is the first read that may be unassigned.
-use Rattle.std.proofs.Common.{◌≡◌, ℕ, ◌+◌, ◌*◌, ◌/◌, ◌<◌, ◌≤◌, List, Some, length, sym, ap, ◌∙◌, subst, arith}
+use Rattle.std.proofs.Common.{◌≡◌, ℕ, ◌+◌, ◌/◌, ◌<◌, Some, length, sym, ap, ◌∙◌, subst, arith}
 use Rattle.std.specs.Prelude.{slice_get}
-use Rattle.std.specs.List.{All, Contains}
 use Rattle.std.proofs.lemmas.List.Elements.{All-weaker, All-contains}
 use Rattle.std.proofs.lemmas.Option.{slice_get_within}
-use Rattle.bril_walks.specs.Assigned.{IsMaybeUnassigned}
+use Rattle.bril_tree.specs.Assigned.{IsMaybeUnassigned}
 use Rattle.bril_tree.specs.Operand.{Location, Variable, Shadow, reads_of}
-use Rattle.bril_tree.specs.declared.numbered.Instr.{Instr}
 use Rattle.bril_tree.specs.declared.numbered_function.Func.{Func}
 use Rattle.definite_assignment.specs.Leaving.{leaving_arcs}
 use Rattle.definite_assignment.specs.Place.{number_of}

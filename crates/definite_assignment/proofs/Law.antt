@@ -1,29 +1,29 @@
 -- A place may be unassigned at a point exactly where it is no argument and the search from the first item, over edges
 -- from the points where they leave, past items that don't assign it, leads to the point.
-use Rattle.std.proofs.Common.{◌≡◌, ◌≢◌, ℕ, suc, zero, ◌+◌, ◌<◌, ◌≤◌, ◌↔◌, List, [], ◌∷◌, ◌++◌, Bool, true, false, Option, Some, None, map, length, sym, ap, ◌∙◌, subst, refl, inl, inr, ⊎_elim, arith}
+use Rattle.std.proofs.Common.{◌≡◌, ◌≢◌, ℕ, suc, zero, ◌+◌, ◌<◌, ◌↔◌, List, [], ◌∷◌, ◌++◌, Bool, true, false, Option, Some, None, length, sym, ap, ◌∙◌, subst, refl, ⊎_elim, arith}
 use Rattle.std.specs.Prelude.{slice_get}
 use Rattle.std.specs.List.{Contains}
 use Rattle.std.specs.Option.{option_map, option_to_list}
 use Rattle.std.proofs.lemmas.Bool.{cases_Bool, both_ways, false_from_ne_true}
 use Rattle.std.proofs.lemmas.List.Elements.{Contains-append_left, Contains-append_right, Contains-append_cases}
 use Rattle.std.proofs.lemmas.Option.{slice_get_cases}
-use Rattle.bril_walks.specs.Assigned.{Assigned, IsMaybeUnassigned, assigned_of, assigned_behind, assigned_changed, assigns_at, newest_saved}
-use Rattle.bril_walks.specs.Edge.{Way, ways_at}
+use Rattle.bril_tree.specs.Assigned.{Assigned, IsMaybeUnassigned, assigned_of, assigned_behind, assigned_changed, assigns_at, newest_saved}
+use Rattle.bril_tree.specs.Edge.{Way, ways_at}
 use Rattle.bril_tree.specs.Operand.{Location}
-use Rattle.bril_walks.specs.Sites.{AreFirstSites, AreSitesSound, SitesFail, NoSite, change_of, item_change, sites_of, Closes}
-use Rattle.bril_walks.specs.Walk.{IsWalk, end_of}
+use Rattle.bril_tree.specs.Sites.{AreSitesSound, NoSite, change_of, item_change, sites_of}
+use Rattle.bril_tree.specs.Walk.{IsWalk, end_of}
 use Rattle.bril_tree.specs.declared.numbered.Instr.{Instr}
 use Rattle.definite_assignment.specs.Leaving.{leaving_arc, leaving_arcs}
 use Rattle.definite_assignment.specs.Place.{number_of, is_argument, label_of, place_at}
 use Rattle.definite_assignment.specs.Reads.{IsOpen, read_at}
 use Rattle.definite_assignment.proofs.Edges.{IsEdgeAt, edge-there, edge-back}
 use Rattle.definite_assignment.proofs.Places.{Contains-map, Contains-map_back, label-one, argument-is, argument-there}
-use Rattle.definite_assignment.proofs.Walks.{IsSaved, saved-back, same-length, open-sites, Replays, replay}
-use Rattle.definite_assignment.proofs.Ways.{IsAbort, IsWayOf, way-is, way-inside, places-passed, opens-nothing}
-use Rattle.flow_graph.specs.Graph.{GraphView, IsGraphOf, edge_of, leave_of, edges_from}
+use Rattle.definite_assignment.proofs.Walks.{IsSaved, saved-back, same-length, open-sites, replay}
+use Rattle.definite_assignment.proofs.Ways.{IsAbort, way-is, way-inside, places-passed, opens-nothing}
+use Rattle.flow_graph.specs.Graph.{GraphView, IsGraphOf, edge_of, leave_of}
 use Rattle.flow_graph.specs.Laws.{SoundWalksAgree}
 use Rattle.flow_graph.specs.declared.edge.Edge.{Edge}
-use Rattle.graph_search.specs.Path.{IsReached, Leads}
+use Rattle.graph_search.specs.Path.{Leads}
 use Rattle.graph_search.specs.declared.graph.Arc.{Arc}
 use Rattle.graph_search.proofs.Paths.{reached_seed, reached_step, reached_all}
 

@@ -1,10 +1,9 @@
 -- Numbers of places.
-use Rattle.std.proofs.Common.{◌≡◌, ◌≢◌, ℕ, ◌+◌, ◌*◌, ◌/◌, ◌%◌, ◌<◌, List, [], ◌∷◌, ◌++◌, Bool, true, false, eqb, ltb, ◌&&◌, Option, Some, None, map, length, get_or, sym, ap, ◌∙◌, subst, refl, inl, inr, ⊎_elim, arith, suc, zero}
+use Rattle.std.proofs.Common.{◌≡◌, ℕ, ◌*◌, ◌<◌, List, [], ◌∷◌, true, Option, Some, None, map, get_or, sym, ap, ◌∙◌, subst, refl, arith, suc, zero}
 use Rattle.std.specs.List.{Contains, range_with_len}
-use Rattle.std.specs.Option.{option_map, option_to_list}
+use Rattle.std.specs.Option.{option_map}
 use Rattle.std.proofs.lemmas.List.{get_or-map, length-map}
 use Rattle.std.proofs.lemmas.List.FromFn.{length-map-range_with_len, get_or-map-range_with_len}
-use Rattle.std.proofs.lemmas.List.Elements.{Contains-get_or}
 use Rattle.std.proofs.lemmas.Bool.Decides.{nat_tests}
 use Rattle.bril_tree.specs.Operand.{Location, Variable, Shadow}
 use Rattle.definite_assignment.specs.Place.{number_of, is_argument}

@@ -1,5 +1,5 @@
 -- Paths the other way.
-use Rattle.std.proofs.Common.{◌≡◌, ℕ, suc, zero, List, [], ◌∷◌, map, sym, subst, arith}
+use Rattle.std.proofs.Common.{ℕ, suc, zero, List, [], ◌∷◌, map, sym, subst, arith}
 use Rattle.std.specs.List.{Contains}
 use Rattle.definite_assignment.specs.Leaving.{turned}
 use Rattle.definite_assignment.proofs.Places.{Contains-map}

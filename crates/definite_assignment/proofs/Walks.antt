@@ -1,14 +1,14 @@
 -- Walks, with the open sites and the assigned places that they carry.
-use Rattle.std.proofs.Common.{◌≡◌, ℕ, suc, zero, ◌+◌, ◌<◌, List, [], ◌∷◌, ◌++◌, Bool, true, false, Option, Some, None, length, sym, ap, ◌∙◌, subst, refl, arith}
+use Rattle.std.proofs.Common.{◌≡◌, ℕ, suc, zero, ◌<◌, List, [], ◌∷◌, Bool, Some, length, sym, ap, ◌∙◌, subst, refl, arith}
 use Rattle.std.specs.Prelude.{slice_get}
 use Rattle.std.specs.List.{Contains}
-use Rattle.bril_walks.specs.Assigned.{Assigned, assigned_of, assigned_behind, assigned_changed, assigns_at, newest_saved}
-use Rattle.bril_walks.specs.Edge.{Way, ways_at}
+use Rattle.bril_tree.specs.Assigned.{Assigned, assigned_of, assigned_behind, assigned_changed, assigns_at}
+use Rattle.bril_tree.specs.Edge.{Way, ways_at}
 use Rattle.bril_tree.specs.Operand.{Location}
-use Rattle.bril_walks.specs.Sites.{Change, Opens, Closes, Keeps, change_of, item_change, sites_of, sites_behind, sites_changed, without_newest}
-use Rattle.bril_walks.specs.Walk.{IsWalk, end_of}
+use Rattle.bril_tree.specs.Sites.{Change, Opens, Closes, Keeps, change_of, item_change, sites_of, sites_changed, without_newest}
+use Rattle.bril_tree.specs.Walk.{IsWalk, end_of}
 use Rattle.bril_tree.specs.declared.numbered.Instr.{Instr}
-use Rattle.definite_assignment.proofs.Ways.{IsWayOf, way-is, way-inside}
+use Rattle.definite_assignment.proofs.Ways.{way-is, way-inside}
 
 newest_dropped : {A : Type 0} (xs : List A) (k : ℕ) → slice_get (without_newest xs) k ≡ slice_get xs (suc k)
 newest_dropped [] k = refl

@@ -1,12 +1,12 @@
 -- The ways on from a point.
-use Rattle.std.proofs.Common.{◌≡◌, ◌≢◌, ℕ, ◌+◌, ◌<◌, ◌≤◌, List, [], ◌∷◌, ◌++◌, Bool, true, false, cond, Option, Some, None, map, length, get_or, sym, ap, ◌∙◌, subst, refl, inl, inr, ◌⊎◌, ⊎_elim, arith, suc, zero, append-nil}
+use Rattle.std.proofs.Common.{◌≡◌, ℕ, ◌<◌, ◌≤◌, List, [], ◌∷◌, ◌++◌, Bool, true, false, cond, Option, Some, None, map, length, sym, ap, subst, refl, inl, inr, ◌⊎◌, ⊎_elim, arith, suc, zero}
 use Rattle.std.specs.Prelude.{slice_get}
 use Rattle.std.specs.List.{Contains}
-use Rattle.std.specs.Option.{option_map, option_to_list}
-use Rattle.std.proofs.lemmas.Option.{slice_get_within, slice_get_past, slice_get_cases}
-use Rattle.bril_walks.specs.Assigned.{Assigned, assigned_changed, assigns_at, operation_assigns}
-use Rattle.bril_walks.specs.Edge.{Way, ways_at, ways_from, item_ways, action_ways, onward, jump, abort}
-use Rattle.bril_walks.specs.Sites.{Change, Opens, Closes, Keeps, item_change, operation_change, needs_site}
+use Rattle.std.specs.Option.{option_to_list}
+use Rattle.std.proofs.lemmas.Option.{slice_get_cases}
+use Rattle.bril_tree.specs.Assigned.{Assigned, assigned_changed, assigns_at, operation_assigns}
+use Rattle.bril_tree.specs.Edge.{Way, ways_at, ways_from, action_ways, onward, jump, abort}
+use Rattle.bril_tree.specs.Sites.{Opens, Closes, item_change, operation_change, needs_site}
 use Rattle.bril_tree.specs.Step.{point_of, is_label}
 use Rattle.bril_tree.specs.declared.numbered.Instr.{Instr}
 use Rattle.bril_tree.specs.declared.numbered.Instr.TheVariants.{Label, Const, Act}

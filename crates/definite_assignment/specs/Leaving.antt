@@ -1,6 +1,6 @@
 -- The arcs along which a place stays unassigned: an edge goes from the point where it leaves, labelled with the place
 -- that the item there assigns.
-use Rattle.std.specs.Prelude.{ℕ, List, map, slice_get}
+use Rattle.std.specs.Prelude.{List, map, slice_get}
 use Rattle.bril_tree.specs.declared.numbered.Instr.{Instr}
 use Rattle.definite_assignment.specs.Place.{label_of}
 use Rattle.flow_graph.specs.declared.edge.Edge.{Edge}

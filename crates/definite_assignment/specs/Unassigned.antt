@@ -1,7 +1,7 @@
 -- Places that an item reads and some walk to it doesn't assign.
-use Rattle.std.specs.Prelude.{◌≡◌, ℕ, ◌<◌, ◌++◌, List, ◌∷◌, All, Option, Some, slice_get}
+use Rattle.std.specs.Prelude.{◌≡◌, ℕ, ◌<◌, ◌++◌, List, ◌∷◌, All, Some, slice_get}
 use Rattle.std.specs.List.{Contains}
-use Rattle.bril_walks.specs.Assigned.{IsMaybeUnassigned}
+use Rattle.bril_tree.specs.Assigned.{IsMaybeUnassigned}
 use Rattle.bril_tree.specs.Operand.{Location, Variable, Shadow, reads_of}
 use Rattle.bril_tree.specs.declared.numbered.Instr.{Instr}
 use Rattle.bril_tree.specs.declared.numbered_function.Func.{Func}

@@ -1,8 +1,8 @@
 // The first item that reads a place which some walk to it doesn't assign.
 
 ghost use Rattle.std.specs.Prelude.{◌≡◌, ◌^◌, ◌-◌, ◌<◌, ℕ, None, length, is_some, IfOk, MatchOption};
-ghost use Rattle.bril_walks.specs.Shape.{shape_fault_of};
-ghost use Rattle.bril_walks.specs.Sites.{AreSitesSound};
+ghost use Rattle.bril_tree.specs.Shape.{shape_fault_of};
+ghost use Rattle.bril_tree.specs.Sites.{AreSitesSound};
 ghost use Rattle.flow_graph.specs.Graph.{IsGraphOf};
 ghost use Rattle.definite_assignment.specs.Unassigned.{ReadsUnassigned, IsFirstUnassigned};
 

@@ -5,10 +5,10 @@ use Rattle.std.specs.List.{Contains}
 use Rattle.std.proofs.lemmas.Bool.{cases_lt, cases_order}
 use Rattle.std.proofs.lemmas.Option.{slice_get_within, slice_get-get_or}
 use Rattle.bril_tree.specs.declared.numbered.Instr.{Instr}
-use Rattle.bril_walks.specs.Edge as edge
-use Rattle.bril_walks.specs.Edge.{ways_at}
-use Rattle.bril_walks.specs.Walk.{IsWalk}
-use Rattle.bril_walks.specs.Sites.{AreFirstSites, AreSitesSound, SitesFail, TooMany, NoSite, Others, sites_of, sites_behind}
+use Rattle.bril_tree.specs.Edge as edge
+use Rattle.bril_tree.specs.Edge.{ways_at}
+use Rattle.bril_tree.specs.Walk.{IsWalk}
+use Rattle.bril_tree.specs.Sites.{AreFirstSites, AreSitesSound, SitesFail, TooMany, NoSite, Others, sites_of, sites_behind}
 use Rattle.flow_graph.specs.Graph.{IsLeastFailing}
 use Rattle.flow_graph.specs.Faults.{IsLeastOf, lesser, Lacks, Brings, FailsAhead, FailsFrom, FailsAt, FailsBefore}
 use Rattle.flow_graph.specs.Visits.{Keep, IsVisited, AreVisits, visit_or_none, visit_at, visit_behind}

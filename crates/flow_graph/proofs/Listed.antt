@@ -6,8 +6,8 @@ use Rattle.std.proofs.lemmas.Bool.{cases_lt}
 use Rattle.std.proofs.lemmas.List.{length-map}
 use Rattle.std.proofs.lemmas.Option.{slice_get-map}
 use Rattle.bril_tree.specs.declared.numbered.Instr.{Instr}
-use Rattle.bril_walks.specs.Walk.{IsReached}
-use Rattle.bril_walks.specs.Sites.{AreFirstSites, AreSitesSound, TooMany, sites_of}
+use Rattle.bril_tree.specs.Walk.{IsReached}
+use Rattle.bril_tree.specs.Sites.{AreFirstSites, AreSitesSound, TooMany, sites_of}
 use Rattle.flow_graph.specs.declared.visits.Visit.{Visit}
 use Rattle.flow_graph.specs.Graph.{GraphView, IsGraphOf, edges_from}
 use Rattle.flow_graph.specs.Visits.{Keep, AreVisits, visit_or_none, below, sites_kept, sites_shown}

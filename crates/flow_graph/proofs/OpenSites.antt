@@ -4,9 +4,9 @@ use Rattle.std.specs.Prelude.{◌⊎◌}
 use Rattle.std.specs.List.{Contains}
 use Rattle.std.proofs.lemmas.Bool.{cases_eq}
 use Rattle.bril_tree.specs.declared.numbered.Instr.{Instr}
-use Rattle.bril_walks.specs.Edge.{Way, ways_at}
-use Rattle.bril_walks.specs.Walk.{end_of}
-use Rattle.bril_walks.specs.Sites.{AreFirstSites, Others, sites_of, sites_behind}
+use Rattle.bril_tree.specs.Edge.{Way, ways_at}
+use Rattle.bril_tree.specs.Walk.{end_of}
+use Rattle.bril_tree.specs.Sites.{AreFirstSites, Others, sites_of, sites_behind}
 use Rattle.flow_graph.specs.Laws.{SoundWalksAgree}
 use Rattle.flow_graph.proofs.Members.{in_contains}
 use Rattle.flow_graph.proofs.Order.{NotAfter, way_from}

@@ -8,8 +8,8 @@ use Rattle.bril_tree.specs.declared.numbered.Instr.{Instr}
 use Rattle.bril_tree.specs.declared.numbered.Instr.TheVariants.{Label, Const, Act}
 use Rattle.bril_tree.specs.declared.operation.Op.{Op}
 use Rattle.bril_tree.specs.declared.operation.Op.TheVariants as op
-use Rattle.bril_walks.specs.Edge.{Way, onward, jump, abort, ways_from, ways_at, action_ways, item_ways}
-use Rattle.bril_walks.specs.Walk.{IsWalk, end_of, Sooner, Earlier}
+use Rattle.bril_tree.specs.Edge.{Way, onward, jump, abort, ways_from, ways_at, action_ways, item_ways}
+use Rattle.bril_tree.specs.Walk.{IsWalk, end_of, Sooner, Earlier}
 use Rattle.flow_graph.proofs.Members.{In, in_contains, in_map_source}
 
 -- the second walk isn't earlier than the first

@@ -7,7 +7,7 @@ use Rattle.std.proofs.lemmas.List.{drop_more, take_more, length-replicate, get_o
 use Rattle.std.proofs.lemmas.List.Elements.{filter-append, All-nil, All-cons}
 use Rattle.std.proofs.lemmas.Option.{slice_get-get_or, get_or_from_slice_get}
 use Rattle.bril_tree.specs.declared.numbered.Instr.{Instr}
-use Rattle.bril_walks.specs.Edge.{ways_at}
+use Rattle.bril_tree.specs.Edge.{ways_at}
 use Rattle.flow_graph.specs.declared.edge.Edge.{Edge}
 use Rattle.flow_graph.specs.declared.ways.Ways.{Ways}
 use Rattle.flow_graph.specs.Graph.{ArePreds, edge_of, edges_at, edges_from, edges_to}

@@ -10,9 +10,9 @@ use Rattle.bril_tree.specs.declared.numbered.Instr.{Instr}
 use Rattle.bril_tree.specs.declared.numbered.Instr.TheVariants.{Label, Const, Act}
 use Rattle.bril_tree.specs.declared.operation.Op.{Op}
 use Rattle.bril_tree.specs.declared.operation.Op.TheVariants as op
-use Rattle.bril_walks.specs.Edge.{ways_at, ways_from, item_ways}
+use Rattle.bril_tree.specs.Edge.{ways_at, ways_from, item_ways}
 use Rattle.bril_tree.specs.FunctionForm.{label_at, targets_of}
-use Rattle.bril_walks.specs.Shape.{is_action_shaped, is_shaped, shape_fault_of}
+use Rattle.bril_tree.specs.Shape.{is_action_shaped, is_shaped, shape_fault_of}
 use Rattle.bril_tree.specs.Step.{point_of}
 use Rattle.flow_graph.specs.declared.ways.Ways.{Ways}
 use Rattle.flow_graph.specs.Labels.{labels_from, IsLabelTable}

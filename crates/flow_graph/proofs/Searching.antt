@@ -5,10 +5,10 @@ use Rattle.std.proofs.lemmas.Bool.{cases_eq, cases_Bool, cases_order, ltb-true, 
 use Rattle.std.proofs.lemmas.List.{length-replicate}
 use Rattle.std.proofs.lemmas.Option.{slice_get_within}
 use Rattle.bril_tree.specs.declared.numbered.Instr.{Instr}
-use Rattle.bril_walks.specs.Edge as edge
-use Rattle.bril_walks.specs.Edge.{ways_at}
-use Rattle.bril_walks.specs.Walk.{IsWalk, IsReached, end_of}
-use Rattle.bril_walks.specs.Sites.{Change, Opens, Closes, Keeps, change_of, sites_of, sites_behind, sites_changed, most_sites}
+use Rattle.bril_tree.specs.Edge as edge
+use Rattle.bril_tree.specs.Edge.{ways_at}
+use Rattle.bril_tree.specs.Walk.{IsWalk, IsReached, end_of}
+use Rattle.bril_tree.specs.Sites.{Change, Opens, Closes, Keeps, change_of, sites_of, sites_behind, sites_changed, most_sites}
 use Rattle.flow_graph.specs.declared.visits.Visit.{Visit}
 use Rattle.flow_graph.specs.declared.ways.Way.{Way}
 use Rattle.flow_graph.specs.declared.ways.Ways.{Ways}

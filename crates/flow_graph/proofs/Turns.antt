@@ -3,9 +3,9 @@ use Rattle.std.proofs.Common.{◌≡◌, ℕ, zero, suc, ◌+◌, ◌*◌, ◌<�
 use Rattle.std.specs.Prelude.{slice_get}
 use Rattle.std.proofs.lemmas.List.{map-append}
 use Rattle.bril_tree.specs.declared.numbered.Instr.{Instr}
-use Rattle.bril_walks.specs.Edge as edge
-use Rattle.bril_walks.specs.Edge.{ways_at}
-use Rattle.bril_walks.specs.Walk.{end_of}
+use Rattle.bril_tree.specs.Edge as edge
+use Rattle.bril_tree.specs.Edge.{ways_at}
+use Rattle.bril_tree.specs.Walk.{end_of}
 use Rattle.flow_graph.specs.declared.visits.Visit.{Visit}
 use Rattle.flow_graph.specs.declared.ways.Way.{Way}
 use Rattle.flow_graph.specs.declared.ways.Ways.{Ways}

@@ -1,8 +1,8 @@
 -- Where the open sites fail, as it shows at each point.
 use Rattle.std.specs.Prelude.{◌≡◌, ◌≢◌, ◌⊎◌, ℕ, ◌<◌, ◌≤◌, min, List, Option, Some, None, MatchOption, IsTrue, slice_get}
 use Rattle.bril_tree.specs.declared.numbered.Instr.{Instr}
-use Rattle.bril_walks.specs.Edge.{Way}
-use Rattle.bril_walks.specs.Sites.{most_sites, needs_site}
+use Rattle.bril_tree.specs.Edge.{Way}
+use Rattle.bril_tree.specs.Sites.{most_sites, needs_site}
 use Rattle.flow_graph.specs.declared.visits.Visit.{Visit}
 use Rattle.flow_graph.specs.declared.ways.Ways.{Ways}
 use Rattle.flow_graph.specs.declared.ways.Ways.TheVariants.{Nowhere, Single, Either}

@@ -2,9 +2,9 @@
 use Rattle.std.specs.Prelude.{◌≡◌, ℕ, suc, ◌+◌, ◌<◌, Bool, true, false, List, [], ◌∷◌, ◌++◌, ◌==◌, filter, length, map, Option, Some, None, slice_get}
 use Rattle.std.proofs.Props.{props}
 use Rattle.bril_tree.specs.declared.numbered.Instr.{Instr}
-use Rattle.bril_walks.specs.Edge.{Way, ways_at}
-use Rattle.bril_walks.specs.Sites.{AreFirstSites, SitesFail}
-use Rattle.bril_walks.specs.Walk.{IsReached}
+use Rattle.bril_tree.specs.Edge.{Way, ways_at}
+use Rattle.bril_tree.specs.Sites.{AreFirstSites, SitesFail}
+use Rattle.bril_tree.specs.Walk.{IsReached}
 use Rattle.flow_graph.specs.declared.edge.Edge.{Edge}
 
 -- an abort leaves from the newest open site, every other way from its own item

@@ -1,9 +1,9 @@
 -- Laws of walks and of their open sites.
 use Rattle.std.specs.Prelude.{◌≡◌, ℕ, List}
 use Rattle.bril_tree.specs.declared.numbered.Instr.{Instr}
-use Rattle.bril_walks.specs.Edge.{Way}
-use Rattle.bril_walks.specs.Sites.{AreFirstSites, AreSitesSound, sites_of}
-use Rattle.bril_walks.specs.Walk.{IsWalk, IsReached, IsFirstWalk, end_of}
+use Rattle.bril_tree.specs.Edge.{Way}
+use Rattle.bril_tree.specs.Sites.{AreFirstSites, AreSitesSound, sites_of}
+use Rattle.bril_tree.specs.Walk.{IsWalk, IsReached, IsFirstWalk, end_of}
 
 -- each point that some walk leads to has one first walk
 abbrev pub ReachedHaveFirstWalk : Type 0

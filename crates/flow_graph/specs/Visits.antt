@@ -2,9 +2,9 @@
 use Rattle.std.specs.Prelude.{◌≡◌, ℕ, zero, suc, ◌+◌, min, List, [], ◌∷◌, ◌++◌, length, Option, Some, None, slice_get}
 use Rattle.std.specs.Option.{option_to_list}
 use Rattle.bril_tree.specs.declared.numbered.Instr.{Instr}
-use Rattle.bril_walks.specs.Edge.{Way}
-use Rattle.bril_walks.specs.Walk.{IsFirstWalk, IsReached}
-use Rattle.bril_walks.specs.Sites.{Change, Opens, Closes, Keeps, change_of, sites_of, most_sites}
+use Rattle.bril_tree.specs.Edge.{Way}
+use Rattle.bril_tree.specs.Walk.{IsFirstWalk, IsReached}
+use Rattle.bril_tree.specs.Sites.{Change, Opens, Closes, Keeps, change_of, sites_of, most_sites}
 use Rattle.flow_graph.specs.declared.visits.Visit.{Visit}
 
 -- no open site

@@ -4,8 +4,8 @@ use Rattle.bril_tree.specs.declared.numbered.Instr.{Instr}
 use Rattle.bril_tree.specs.declared.numbered.Instr.TheVariants.{Label, Const, Act}
 use Rattle.bril_tree.specs.declared.operation.Op.{Op}
 use Rattle.bril_tree.specs.declared.operation.Op.TheVariants as op
-use Rattle.bril_walks.specs.Edge as edge
-use Rattle.bril_walks.specs.Edge.{ways_at, item_ways}
+use Rattle.bril_tree.specs.Edge as edge
+use Rattle.bril_tree.specs.Edge.{ways_at, item_ways}
 use Rattle.flow_graph.specs.declared.edge.Edge.{Edge}
 use Rattle.flow_graph.specs.declared.ways.Way.{Way}
 use Rattle.flow_graph.specs.Graph.{edge_of}

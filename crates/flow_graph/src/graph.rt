@@ -1,8 +1,8 @@
 // The flow graph of a function.
 
 ghost use Rattle.std.specs.Prelude.{◌≡◌, ◌⊎◌, ◌≤◌, ◌<◌, ◌+◌, ◌^◌, ◌-◌, ◌==◌, ℕ, None, Some, length, filter, is_some, option_map, slice_index, slice_get, IfOk, IfErr, MatchResult};
-ghost use Rattle.bril_walks.specs.Shape.{shape_fault_of};
-ghost use Rattle.bril_walks.specs.Sites.{AreSitesSound};
+ghost use Rattle.bril_tree.specs.Shape.{shape_fault_of};
+ghost use Rattle.bril_tree.specs.Sites.{AreSitesSound};
 ghost use Rattle.flow_graph.specs.Graph.{ArePreds, ArePreds-prop, IsGraphOf, IsLeastFailing};
 ghost use Rattle.flow_graph.specs.Ways.{AreRows};
 ghost use Rattle.flow_graph.specs.declared.graph.GraphFault.TheVariants.{Nest, Memory};

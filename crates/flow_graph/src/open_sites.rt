@@ -2,7 +2,7 @@
 
 ghost use Rattle.std.specs.Prelude.{◌≡◌, ◌++◌, map, IfOk};
 ghost use Rattle.std.specs.Option.{option_to_list};
-ghost use Rattle.bril_walks.specs.Sites.{most_sites};
+ghost use Rattle.bril_tree.specs.Sites.{most_sites};
 ghost use Rattle.flow_graph.specs.Visits.{below, sites_kept, sites_shown};
 
 use crate::visits::{MOST_SITES, Visit, visit_at};

@@ -1,7 +1,7 @@
 // Where the open sites fail.
 
 ghost use Rattle.std.specs.Prelude.{◌≡◌, ◌↔◌, ◌<◌, ◌^◌, ◌-◌, IsTrue, MatchOption, length, slice_get, Some};
-ghost use Rattle.bril_walks.specs.Sites.{AreSitesSound, needs_site};
+ghost use Rattle.bril_tree.specs.Sites.{AreSitesSound, needs_site};
 ghost use Rattle.flow_graph.specs.Graph.{IsLeastFailing};
 ghost use Rattle.flow_graph.specs.Faults.{IsLeastOf, lesser, Lacks, Brings, FailsAhead, FailsFrom};
 ghost use Rattle.flow_graph.specs.Visits.{AreVisits};

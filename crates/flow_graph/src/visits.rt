@@ -1,7 +1,7 @@
 // What is kept of the first walk to a point: its open sites.
 
 ghost use Rattle.std.specs.Prelude.{◌≡◌, ◌<◌, Some};
-ghost use Rattle.bril_walks.specs.Sites.{item_change};
+ghost use Rattle.bril_tree.specs.Sites.{item_change};
 ghost use Rattle.flow_graph.specs.Visits.{visit_at, visit_behind, visit_changed, closed, opened};
 ghost use Rattle.flow_graph.specs.Ways.{way_of};
 

@@ -1,6 +1,6 @@
 -- What the machine does: the meaning of each word, by the RISC-V Unprivileged ISA manual, and of the
 -- environment calls.
-use Rattle.std.specs.Prelude.{ℕ, zero, suc, ◌+◌, ◌*◌, ◌/◌, ◌%◌, ◌-◌, ◌^◌, min, ◌==◌, nat_lt, if◌then◌else◌, ℤ, List, [], ◌∷◌, ◌++◌, Option, Some, None, bit_or, slice_get, slice_index, map}
+use Rattle.std.specs.Prelude.{ℕ, zero, suc, ◌+◌, ◌*◌, ◌/◌, ◌%◌, ◌-◌, ◌^◌, ◌==◌, nat_lt, if◌then◌else◌, ℤ, List, [], ◌∷◌, ◌++◌, Option, Some, None, bit_or, slice_get, slice_index, map}
 use Rattle.std.specs.Option.{option_map}
 use Rattle.std.specs.Int.{w64, cast_unsigned, cast_signed}
 use Rattle.std.specs.Fmt.{signed_decimal}
@@ -9,6 +9,7 @@ use Rattle.bril_tree.specs.declared.limits.End.TheVariants.{Ended, Faulted}
 use Rattle.bril_tree.specs.declared.limits.Fault.{Fault}
 use Rattle.bril_tree.specs.declared.limits.Fault.TheVariants as fault
 use Rattle.bril_tree.specs.declared.value.Value.{Value}
+use Rattle.bril_tree.specs.State.{counted}
 use Rattle.bril_tree.specs.Value.{word_of}
 use Rattle.rv64_machine.specs.declared.image.Image.{Image}
 use Rattle.rv64_machine.specs.declared.trap.Trap.{Trap}
@@ -47,10 +48,6 @@ words_of xs k = slice_index xs k
 abbrev pub with_register : State → ℕ → ℕ → State
 with_register s zero v = s
 with_register s (suc r) v = record s { registers = assigned s.registers (suc r) v }
-
--- a count that stays at the end of its 64 bits
-abbrev pub counted : ℕ → ℕ
-counted n = min (n + 1) (2 ^ 64 - 1)
 
 -- the word was executed, and the next one follows
 abbrev pub next : State → State

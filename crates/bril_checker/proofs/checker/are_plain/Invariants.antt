@@ -1,5 +1,5 @@
 use Rattle.std.proofs.Common.{take, map, All}
-use Rattle.bril_walks.specs.Accepted.{IsPlainType}
+use Rattle.bril_tree.specs.Accepted.{IsPlainType}
 use Rattle.bril_checker.proofs.checker.are_plain.Given as goal
 
 -- the variables so far are plain

@@ -1,6 +1,6 @@
 use Rattle.std.proofs.Common.{Err, sym}
 use Rattle.std.proofs.lemmas.Result.{err_from_is_err_and}
-use Rattle.bril_walks.specs.Accepted.{IsAcceptedFunction}
+use Rattle.bril_tree.specs.Accepted.{IsAcceptedFunction}
 use Rattle.bril_checker.proofs.Places.{All-next}
 use Rattle.bril_checker.proofs.Program.{fault_here}
 use Rattle.bril_checker.proofs.Words.{more_words}

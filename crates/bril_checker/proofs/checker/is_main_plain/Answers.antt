@@ -1,7 +1,7 @@
 use Rattle.std.proofs.Common.{◌≡◌, Some, sym, ◌∙◌, ap, subst}
 use Rattle.std.specs.Prelude.{slice_get, is_some}
 use Rattle.std.proofs.lemmas.Bool.{false≢true}
-use Rattle.bril_walks.specs.Accepted.{IsAcceptedFunction}
+use Rattle.bril_tree.specs.Accepted.{IsAcceptedFunction}
 use Rattle.bril_checker.proofs.Places.{item_at}
 use Rattle.bril_checker.proofs.Program.{ArePlain, main_plain, plain_main}
 use Rattle.bril_checker.proofs.checker.is_main_plain.Goals as goal

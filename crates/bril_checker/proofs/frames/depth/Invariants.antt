@@ -1,8 +1,8 @@
 use Rattle.std.proofs.Common.{◌≡◌, ℕ, ◌<◌, ◌≤◌, List, length, Some}
 use Rattle.std.specs.Prelude.{slice_get}
-use Rattle.bril_walks.specs.Edge.{Way}
-use Rattle.bril_walks.specs.Sites.{sites_of}
-use Rattle.bril_walks.specs.Walk.{IsWalk}
+use Rattle.bril_tree.specs.Edge.{Way}
+use Rattle.bril_tree.specs.Sites.{sites_of}
+use Rattle.bril_tree.specs.Walk.{IsWalk}
 use Rattle.bril_checker.proofs.frames.depth.Given as goal
 
 -- some walk has so many open sites, and the points so far have no more

@@ -1,6 +1,6 @@
 use Rattle.std.proofs.Common.{◌≡◌, ℕ, ◌<◌, ◌||◌, false, length, get_or, take}
 use Rattle.std.specs.List.{list_any}
-use Rattle.bril_walks.specs.FrameWords.{names_shadow}
+use Rattle.bril_tree.specs.FrameWords.{names_shadow}
 use Rattle.bril_checker.proofs.frames.mark_all.Given as goal
 
 -- what was marked, and what the items so far name

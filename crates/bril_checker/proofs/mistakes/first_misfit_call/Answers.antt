@@ -1,6 +1,6 @@
 use Rattle.std.proofs.Common.{sym, ◌∙◌}
-use Rattle.bril_walks.specs.Typing.{is_call_shaped}
-use Rattle.bril_walks.proofs.First.{first_failing, none_failing, one_more}
+use Rattle.bril_tree.specs.Typing.{is_call_shaped}
+use Rattle.bril_tree.proofs.First.{first_failing, none_failing, one_more}
 use Rattle.bril_checker.proofs.mistakes.first_misfit_call.Goals as goal
 
 pub returns-then-not-is_call_shaped : goal.returns-then-not-is_call_shaped

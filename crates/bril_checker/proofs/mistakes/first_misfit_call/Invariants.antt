@@ -1,5 +1,5 @@
 use Rattle.std.proofs.Common.{◌≡◌, true, take, All}
-use Rattle.bril_walks.specs.Typing.{is_call_shaped}
+use Rattle.bril_tree.specs.Typing.{is_call_shaped}
 use Rattle.bril_checker.proofs.mistakes.first_misfit_call.Given as goal
 
 -- each call so far fits

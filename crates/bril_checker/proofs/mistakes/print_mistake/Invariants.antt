@@ -1,5 +1,5 @@
 use Rattle.std.proofs.Common.{◌≡◌, map, drop}
-use Rattle.bril_walks.specs.Typing.{variable_type, print_fault}
+use Rattle.bril_tree.specs.Typing.{variable_type, print_fault}
 use Rattle.bril_checker.proofs.mistakes.print_mistake.Given as goal
 
 -- what is wrong is wrong with the arguments that are left

@@ -1,4 +1,4 @@
-use Rattle.bril_walks.specs.Typing.{variable_type}
+use Rattle.bril_tree.specs.Typing.{variable_type}
 use Rattle.bril_checker.proofs.Typing.{other_length}
 use Rattle.bril_checker.proofs.operands.are_typed.Goals as goal
 

@@ -1,5 +1,5 @@
 use Rattle.std.proofs.Common.{◌≡◌, map, drop}
-use Rattle.bril_walks.specs.Typing.{are_typed, variable_type}
+use Rattle.bril_tree.specs.Typing.{are_typed, variable_type}
 use Rattle.bril_checker.proofs.operands.are_typed.Given as goal
 
 -- all is typed where the arguments that are left are

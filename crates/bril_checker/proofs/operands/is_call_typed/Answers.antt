@@ -1,5 +1,5 @@
 use Rattle.std.proofs.Common.{sym, ◌∙◌, refl}
-use Rattle.bril_walks.specs.Typing.{variable_type}
+use Rattle.bril_tree.specs.Typing.{variable_type}
 use Rattle.bril_checker.proofs.Typing.{some_given}
 use Rattle.bril_checker.proofs.operands.is_call_typed.Goals as goal
 

@@ -1,5 +1,5 @@
 use Rattle.std.proofs.Common.{refl}
-use Rattle.bril_walks.proofs.Bare.{empty_form, program_of_one}
+use Rattle.bril_tree.proofs.Bare.{empty_form, program_of_one}
 use Rattle.bril_checker.proofs.tests.empty_main_is_accepted.Goals as goal
 
 pub invariant_of-main : goal.invariant_of-main

@@ -1,6 +1,6 @@
 use Rattle.std.proofs.Common.{sym, ◌∙◌, ap, ◌≡◌, true}
 use Rattle.std.specs.Prelude.{slice_get}
-use Rattle.bril_walks.specs.Accepted.{leaves_frame}
+use Rattle.bril_tree.specs.Accepted.{leaves_frame}
 use Rattle.bril_checker.proofs.Reached.{leaves_if, open_if}
 use Rattle.bril_checker.proofs.walks.leaves_open.Goals as goal
 

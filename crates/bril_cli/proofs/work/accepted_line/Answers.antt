@@ -2,5 +2,5 @@
 use Rattle.bril_cli.proofs.Counting.{few_items}
 use Rattle.bril_cli.proofs.work.accepted_line.Goals as goal
 
-pub item_count-items-requires : goal.item_count-items-requires
-item_count-items-requires c = few_items c.args.program.now c.requires
+pub size-items-requires : goal.size-items-requires
+size-items-requires c = few_items c.args.program.now c.requires

@@ -1,4 +1,4 @@
-use Rattle.std.proofs.Common.{sym, subst, refl, arith, rules}
+use Rattle.std.proofs.Common.{sym, subst, refl, arith}
 use Rattle.std.proofs.lemmas.List.{take_all}
 use Rattle.std.proofs.lemmas.List.Elements.{All-more, All-same}
 use Rattle.flow_graph.specs.Ways.{HasLabels}

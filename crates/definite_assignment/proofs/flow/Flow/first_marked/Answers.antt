@@ -1,8 +1,6 @@
-use Rattle.std.proofs.Common.{◌≡◌, ℕ, ◌+◌, ◌-◌, ◌<◌, ◌≤◌, ◌⊎◌, Some, length, map, min, get_or, sym, ap, ◌∙◌, refl, inl, inr, ⊎_elim, subst, arith}
-use Rattle.std.specs.Prelude.{slice_get}
+use Rattle.std.proofs.Common.{◌≡◌, ◌+◌, ◌-◌, ◌<◌, ◌≤◌, length, map, sym, ◌∙◌, refl, inl, ⊎_elim, arith}
 use Rattle.std.specs.List.{Contains}
 use Rattle.graph_search.specs.Rows.{EndsRow}
-use Rattle.definite_assignment.specs.declared.reads.Read.{Read}
 use Rattle.definite_assignment.proofs.ReadRows.{row-is, row-next, row-start, row-more, lower-met, lower-below, key_at}
 use Rattle.definite_assignment.proofs.flow.Flow.first_marked.Goals as goal
 

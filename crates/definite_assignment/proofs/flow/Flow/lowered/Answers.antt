@@ -1,6 +1,5 @@
-use Rattle.std.proofs.Common.{◌≡◌, ℕ, true, false, [], ◌∷◌, sym, ap, ◌∙◌, subst}
+use Rattle.std.proofs.Common.{◌≡◌, false, [], ◌∷◌, sym, ap, ◌∙◌, subst}
 use Rattle.std.specs.List.{Contains}
-use Rattle.std.proofs.lemmas.Bool.{not-true}
 use Rattle.definite_assignment.specs.Place.{is_argument}
 use Rattle.definite_assignment.specs.Reads.{IsOpen}
 use Rattle.definite_assignment.proofs.ReadRows.{Lowers-none, Lowers-same}

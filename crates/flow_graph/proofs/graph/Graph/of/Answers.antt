@@ -1,6 +1,6 @@
 use Rattle.std.proofs.Common.{subst}
 use Rattle.std.specs.Prelude.{IfOk}
-use Rattle.bril_walks.specs.Sites.{AreSitesSound}
+use Rattle.bril_tree.specs.Sites.{AreSitesSound}
 use Rattle.flow_graph.proofs.graph.Graph.of.Goals as goal
 
 pub returns-clause-sound : goal.returns-clause-sound

@@ -1,7 +1,7 @@
 use Rattle.std.proofs.Common.{refl}
 use Rattle.bril_tree.specs.declared.operation.Op.TheVariants as op
-use Rattle.bril_walks.proofs.Bare.{two_form, program_of_one}
-use Rattle.bril_walks.proofs.tests.items_are_counted_and_shaped.Goals as goal
+use Rattle.bril_tree.proofs.Bare.{two_form, program_of_one}
+use Rattle.bril_tree.proofs.tests.items_are_counted_and_shaped.Goals as goal
 
 pub invariant_of-main : goal.invariant_of-main
 invariant_of-main g c = record {

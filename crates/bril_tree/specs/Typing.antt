@@ -13,7 +13,7 @@ use Rattle.bril_tree.specs.declared.types.Ty.{Ty}
 use Rattle.bril_tree.specs.declared.value.Lit.{Lit}
 use Rattle.bril_tree.specs.declared.value.Lit.TheVariants as literal
 use Rattle.bril_tree.specs.Run.{types_of}
-use Rattle.bril_walks.specs.Shape.{same}
+use Rattle.bril_tree.specs.Shape.{same}
 
 -- ---- types
 

@@ -6,9 +6,9 @@ use Rattle.bril_tree.specs.declared.numbered.Instr.TheVariants.{Label, Const, Ac
 use Rattle.bril_tree.specs.declared.numbered_function.Func.{Func}
 use Rattle.bril_tree.specs.declared.operation.Op.{Op}
 use Rattle.bril_tree.specs.declared.operation.Op.TheVariants as op
-use Rattle.bril_walks.specs.Edge.{Way}
-use Rattle.bril_walks.specs.Sites.{sites_of}
-use Rattle.bril_walks.specs.Walk.{IsWalk}
+use Rattle.bril_tree.specs.Edge.{Way}
+use Rattle.bril_tree.specs.Sites.{sites_of}
+use Rattle.bril_tree.specs.Walk.{IsWalk}
 
 abbrev pub is_number : ℕ → Option ℕ → Bool
 is_number x None = false

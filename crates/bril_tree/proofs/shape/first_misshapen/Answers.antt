@@ -1,7 +1,7 @@
 use Rattle.std.proofs.Common.{sym, ◌∙◌}
-use Rattle.bril_walks.specs.Shape.{is_shaped}
-use Rattle.bril_walks.proofs.First.{first_failing, none_failing, one_more}
-use Rattle.bril_walks.proofs.shape.first_misshapen.Goals as goal
+use Rattle.bril_tree.specs.Shape.{is_shaped}
+use Rattle.bril_tree.proofs.First.{first_failing, none_failing, one_more}
+use Rattle.bril_tree.proofs.shape.first_misshapen.Goals as goal
 
 pub returns-then-not-fits_shape : goal.returns-then-not-fits_shape
 returns-then-not-fits_shape c =

@@ -5,11 +5,11 @@ use Rattle.bril_tree.specs.declared.numbered.Instr.{Instr}
 use Rattle.bril_tree.specs.declared.numbered.Instr.TheVariants.{Label, Const, Act}
 use Rattle.bril_tree.specs.declared.operation.Op.{Op}
 use Rattle.bril_tree.specs.declared.operation.Op.TheVariants as op
-use Rattle.bril_walks.specs.Edge.{Way}
+use Rattle.bril_tree.specs.Edge.{Way}
 use Rattle.bril_tree.specs.FunctionForm.{listed}
 use Rattle.bril_tree.specs.Operand.{Location, Variable, Shadow}
-use Rattle.bril_walks.specs.Sites.{Change, Opens, Closes, Keeps, change_of, without_newest}
-use Rattle.bril_walks.specs.Walk.{IsWalk, end_of}
+use Rattle.bril_tree.specs.Sites.{Change, Opens, Closes, Keeps, change_of, without_newest}
+use Rattle.bril_tree.specs.Walk.{IsWalk, end_of}
 
 -- what was assigned, and what had been at each open `speculate`, the newest first
 pub record Assigned : Type 0 where

@@ -2,7 +2,7 @@
 use Rattle.std.specs.Prelude.{◌≡◌, ℕ, ◌<◌, ◌⊎◌, true, false, List, [], ◌∷◌}
 use Rattle.std.specs.List.{Contains}
 use Rattle.bril_tree.specs.declared.numbered.Instr.{Instr}
-use Rattle.bril_walks.specs.Edge.{Way, ways_at}
+use Rattle.bril_tree.specs.Edge.{Way, ways_at}
 
 -- the point to which a list of ways, the newest first, leads from the first item
 abbrev pub end_of : List Way → ℕ

@@ -5,8 +5,8 @@ use Rattle.bril_tree.specs.declared.numbered.Instr.{Instr}
 use Rattle.bril_tree.specs.declared.numbered.Instr.TheVariants.{Label, Const, Act}
 use Rattle.bril_tree.specs.declared.operation.Op.{Op}
 use Rattle.bril_tree.specs.declared.operation.Op.TheVariants as op
-use Rattle.bril_walks.specs.Edge.{Way, ways_at}
-use Rattle.bril_walks.specs.Walk.{IsFirstWalk}
+use Rattle.bril_tree.specs.Edge.{Way, ways_at}
+use Rattle.bril_tree.specs.Walk.{IsFirstWalk}
 
 -- the most sites that may be open
 abbrev pub most_sites : ℕ

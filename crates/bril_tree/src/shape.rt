@@ -1,22 +1,23 @@
 // The shape of an item: whether it has a destination, and how many arguments, functions and labels.
 
 ghost use Rattle.std.specs.Prelude.{◌≡◌, ◌^◌, ◌<◌, length, is_some};
-ghost use Rattle.bril_walks.specs.Shape.{shape_of as operation_shape, is_action_shaped, is_shaped, shape_fault_of};
+ghost use Rattle.bril_tree.specs.Shape.{shape_of as operation_shape, is_action_shaped, is_shaped, shape_fault_of};
 
-use bril_tree::numbered::Instr;
-use bril_tree::numbered_function::Func;
-use bril_tree::operation::Op;
+use crate::numbered::Instr;
+use crate::numbered_function::Func;
+use crate::operation::Op;
 
-/// The first item of the function that doesn't have the shape of its operation: a destination or none, and so many
-/// arguments, functions and labels. None exactly where there is no such item. Of a `call` it asks for one function and
-/// no label. Takes no memory.
-pub fn shape_fault(func: &Func) -> Option<u32>
-    requires { length func.now.code < 2 ^ 32 }
-    ensures { result ≡ shape_fault_of (is_some func.now.ret) func.now.code }
-{
-    first_misshapen(func.ret.is_some(), func.code.as_slice())
+impl Func {
+    /// The first item of the function that doesn't have the shape of its operation: a destination or none, and so many
+    /// arguments, functions and labels. None exactly where there is no such item. Of a `call` it asks for one function
+    /// and no label. Takes no memory.
+    pub fn shape_fault(&self) -> Option<u32>
+        requires { length self.now.code < 2 ^ 32 }
+        ensures { result ≡ shape_fault_of (is_some self.now.ret) self.now.code }
+    {
+        first_misshapen(self.ret.is_some(), self.code.as_slice())
+    }
 }
-
 // What an operation has: a destination or none, so many arguments, no function, and so many labels.
 #[derive(Clone, Copy, Drop)]
 struct Shape {

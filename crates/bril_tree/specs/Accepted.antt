@@ -8,14 +8,14 @@ use Rattle.bril_tree.specs.declared.operation.Op.TheVariants as op
 use Rattle.bril_tree.specs.declared.program.Prog.{Prog}
 use Rattle.bril_tree.specs.declared.types.Ty.{Ty}
 use Rattle.std.specs.Prelude.{is_some}
-use Rattle.bril_walks.specs.Assigned.{IsMaybeUnassigned}
-use Rattle.bril_walks.specs.Edge.{Way}
+use Rattle.bril_tree.specs.Assigned.{IsMaybeUnassigned}
+use Rattle.bril_tree.specs.Edge.{Way}
 use Rattle.bril_tree.specs.Operand.{Location, reads_of}
 use Rattle.bril_tree.specs.Run.{main_types}
-use Rattle.bril_walks.specs.Shape.{is_shaped}
-use Rattle.bril_walks.specs.Sites.{AreSitesSound, sites_of}
-use Rattle.bril_walks.specs.Typing.{return_type, is_call_shaped, type_fault}
-use Rattle.bril_walks.specs.Walk.{IsWalk, IsReached, end_of}
+use Rattle.bril_tree.specs.Shape.{is_shaped}
+use Rattle.bril_tree.specs.Sites.{AreSitesSound, sites_of}
+use Rattle.bril_tree.specs.Typing.{return_type, is_call_shaped, type_fault}
+use Rattle.bril_tree.specs.Walk.{IsWalk, IsReached, end_of}
 
 -- the item ends the speculations of its frame, or begins a new frame: a `call`, a `ret`, or the function's end
 abbrev pub leaves_frame : Option Instr → Bool

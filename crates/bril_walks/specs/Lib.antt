@@ -1,9 +1,0 @@
-pub mod Accepted
-pub mod Assigned
-pub mod Edge
-pub mod FrameWords
-pub mod Shape
-pub mod Sites
-pub mod Size
-pub mod Typing
-pub mod Walk
