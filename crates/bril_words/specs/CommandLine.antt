@@ -1,0 +1,113 @@
+-- The words of a command line.
+use Rattle.std.specs.Prelude.{ℕ, Bool, false, not, ◌&&◌, ◌==◌, nat_le, List, [], ◌∷◌, Option, Some, None, option_and_then, Result, Ok, Err, if◌then◌else◌, codes, bytes_eq, ℤ, pos, negsuc}
+use Rattle.bril_nums.specs.Decimal.{int_of}
+use Rattle.bril_words.specs.declared.misuse.Misuse.{Misuse}
+use Rattle.bril_words.specs.declared.misuse.Misuse.TheVariants.{Words, Value}
+use Rattle.bril_words.specs.declared.misuse.Setting.{Setting}
+use Rattle.bril_words.specs.declared.misuse.Setting.TheVariants.{Frames, Cells, Steps}
+use Rattle.bril_words.specs.declared.request.Action.{Action}
+use Rattle.bril_words.specs.declared.request.Action.TheVariants.{Run, Interpret, Check, WriteText, WriteJson}
+use Rattle.bril_words.specs.Request.{Asked}
+
+-- one byte or more, of which the first is no `-`
+abbrev pub is_operand : List ℕ → Bool
+is_operand [] = false
+is_operand (byte ∷ bytes) = not (byte == 45)
+
+-- ---- options
+
+-- the option of a word
+abbrev pub setting_of : List ℕ → Option Setting
+setting_of word =
+    if bytes_eq word (codes "--frames") then Some Frames
+    else (if bytes_eq word (codes "--cells") then Some Cells else (if bytes_eq word (codes "--steps") then Some Steps else None))
+
+-- the values of options as they stand, None where an option doesn't
+pub record Written : Type 0 where
+  pub frames : Option (List ℕ)
+  pub cells : Option (List ℕ)
+  pub steps : Option (List ℕ)
+
+abbrev pub nothing_written : Written
+nothing_written = record { frames = None; cells = None; steps = None }
+
+-- an option stands once at most
+abbrev pub if_new : Option (List ℕ) → Written → Option Written
+if_new None written = Some written
+if_new (Some earlier) written = None
+
+abbrev pub with_written : Written → List ℕ → Setting → Option Written
+with_written w value Frames = if_new w.frames (record w { frames = Some value })
+with_written w value Cells = if_new w.cells (record w { cells = Some value })
+with_written w value Steps = if_new w.steps (record w { steps = Some value })
+
+-- options with their values as they stand, and the arguments
+pub record Tail : Type 0 where
+  pub written : Written
+  pub args : List (List ℕ)
+
+abbrev pub tail_of : Written → List (List ℕ) → Tail
+tail_of written args = record { written = written; args = args }
+
+-- the word that ends the options
+abbrev pub ends_options : List ℕ → Bool
+ends_options word = bytes_eq word (codes "--")
+
+-- What stands behind the path: options, each with its value as the next word, and then perhaps `--` and the arguments.
+abbrev pub tail_from : Written → List (List ℕ) → Option Tail
+tail_from w [] = Some (tail_of w [])
+tail_from w (word ∷ []) = if ends_options word then Some (tail_of w []) else None
+tail_from w (word ∷ value ∷ rest) =
+    if ends_options word then Some (tail_of w (value ∷ rest))
+    else option_and_then (λ u. tail_from u rest) (option_and_then (with_written w value) (setting_of word))
+
+-- ---- numbers
+
+-- a number from 1 to the most
+abbrev pub in_range : ℕ → Option ℤ → Option ℕ
+in_range most None = None
+in_range most (Some (pos n)) = if nat_le 1 n && nat_le n most then Some n else None
+in_range most (Some (negsuc n)) = None
+
+-- the value of an option, or what it is where it doesn't stand
+abbrev pub value_of : ℕ → ℕ → Option (List ℕ) → Option ℕ
+value_of most default None = Some default
+value_of most default (Some text) = in_range most (int_of text)
+
+-- ---- commands
+
+abbrev pub asked : Action → List ℕ → List (List ℕ) → Result Asked Misuse
+asked action path args = Ok (record { action = action; path = path; args = args })
+
+-- the first value that is none is the misuse
+abbrev pub interpret_with : List ℕ → List (List ℕ) → Option ℕ → Option ℕ → Option ℕ → Result Asked Misuse
+interpret_with path args None cells steps = Err (Value Frames)
+interpret_with path args (Some frames) None steps = Err (Value Cells)
+interpret_with path args (Some frames) (Some cells) None = Err (Value Steps)
+interpret_with path args (Some frames) (Some cells) (Some steps) = asked (Interpret frames cells steps) path args
+
+abbrev pub interp_asked : List ℕ → Option Tail → Result Asked Misuse
+interp_asked path None = Err Words
+interp_asked path (Some tail) =
+    interpret_with path tail.args (value_of 65536 8192 tail.written.frames) (value_of 4194304 1048576 tail.written.cells)
+    (value_of 1000000000000 1000000000 tail.written.steps)
+
+-- a command without options, behind whose path nothing stands
+abbrev pub plain_asked : Action → List ℕ → List (List ℕ) → Result Asked Misuse
+plain_asked action path [] = asked action path []
+plain_asked action path (word ∷ words) = Err Words
+
+abbrev pub command_asked : List ℕ → List ℕ → List (List ℕ) → Result Asked Misuse
+command_asked name path rest =
+    if bytes_eq name (codes "run") then plain_asked Run path rest
+    else (if bytes_eq name (codes "interp") then interp_asked path (tail_from nothing_written rest)
+    else (if bytes_eq name (codes "check") then plain_asked Check path rest
+    else (if bytes_eq name (codes "text") then plain_asked WriteText path rest
+    else (if bytes_eq name (codes "json") then plain_asked WriteJson path rest else Err Words))))
+
+-- What the words ask for: NAME COMMAND PATH and what stands behind it, where NAME is the program's name.
+abbrev pub words_read : List (List ℕ) → Result Asked Misuse
+words_read [] = Err Words
+words_read (name ∷ []) = Err Words
+words_read (name ∷ command ∷ []) = Err Words
+words_read (name ∷ command ∷ path ∷ rest) = if is_operand path then command_asked command path rest else Err Words

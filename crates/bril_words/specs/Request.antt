@@ -1,0 +1,26 @@
+-- What words ask for.
+use Rattle.std.specs.Prelude.{ℕ, ◌≤◌, List}
+use Rattle.bril_words.specs.declared.request.Action.{Action}
+use Rattle.bril_words.specs.declared.request.Action.TheVariants.{Run, Interpret, Check, WriteText, WriteJson}
+
+-- an action, the path of its file, and the arguments of the file's program
+pub record Asked : Type 0 where
+  pub action : Action
+  pub path : List ℕ
+  pub args : List (List ℕ)
+
+-- the numbers of an action are in their ranges
+pub record AreLimits (frames cells steps : ℕ) : Type 0 where
+  pub some_frames : 1 ≤ frames
+  pub few_frames : frames ≤ 65536
+  pub some_cells : 1 ≤ cells
+  pub few_cells : cells ≤ 4194304
+  pub some_steps : 1 ≤ steps
+  pub few_steps : steps ≤ 1000000000000
+
+abbrev pub IsActionInRange : Action → Type 0
+IsActionInRange Run = Unit {0}
+IsActionInRange (Interpret frames cells steps) = AreLimits frames cells steps
+IsActionInRange Check = Unit {0}
+IsActionInRange WriteText = Unit {0}
+IsActionInRange WriteJson = Unit {0}

@@ -1,0 +1,17 @@
+-- Requests and the values of options, as contracts see them.
+use denote.Ref.{Bor}
+use Rattle.std.specs.Prelude.{ℕ, List, Option}
+use Rattle.std.specs.Option.{option_map}
+use Rattle.bril_words.specs.declared.options.Values.{Values}
+use Rattle.bril_words.specs.declared.request.Request.{Request}
+use Rattle.bril_words.specs.CommandLine.{Written}
+use Rattle.bril_words.specs.Request.{Asked}
+
+abbrev pub request_seen : Request → Asked
+request_seen r = record { action = r.action; path = r.path.now; args = r.args.now }
+
+abbrev pub text_seen : Option (Bor (List ℕ)) → Option (List ℕ)
+text_seen = option_map (λ t. t.now)
+
+abbrev pub values_seen : Values → Written
+values_seen v = record { frames = text_seen v.frames; cells = text_seen v.cells; steps = text_seen v.steps }

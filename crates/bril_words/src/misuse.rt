@@ -1,0 +1,21 @@
+// Why words ask for nothing.
+
+/// An option of `interp`.
+#[derive(Clone, Copy, PartialEq, Eq, Debug, Drop)]
+pub enum Setting {
+    /// `--frames`: the most frames at once, 1 to 65,536.
+    Frames,
+    /// `--cells`: the most cells that are given out, 1 to 4,194,304.
+    Cells,
+    /// `--steps`: the most steps that are made, 1 to 1,000,000,000,000.
+    Steps,
+}
+
+/// Why words ask for nothing.
+#[derive(Clone, Copy, PartialEq, Eq, Debug, Drop)]
+pub enum Misuse {
+    /// They are those of no command.
+    Words,
+    /// The option's value is no number, or out of its range.
+    Value { setting: Setting },
+}

@@ -1,0 +1,26 @@
+// What words ask for.
+
+use bril_tree::text::Text;
+
+/// What a command does with its file.
+#[derive(Clone, Copy, PartialEq, Eq, Debug, Drop)]
+pub enum Action {
+    /// Runs its program.
+    Run,
+    /// Interprets its program, with so many frames and cells at most and so many steps.
+    Interpret { frames: u32, cells: u32, steps: u64 },
+    /// Writes how many functions and items its program has, where it is accepted.
+    Check,
+    /// Writes its canonical text.
+    WriteText,
+    /// Writes its canonical JSON.
+    WriteJson,
+}
+
+/// An action, the path of its file, and the arguments of the file's program.
+#[derive(Clone, Copy, Drop)]
+pub struct Request<'a> {
+    pub action: Action,
+    pub path: &'a Text,
+    pub args: &'a [Text],
+}

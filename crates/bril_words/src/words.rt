@@ -1,0 +1,111 @@
+// The words of the command line.
+
+ghost use Rattle.std.specs.Prelude.{◌≡◌, IfOk};
+ghost use Rattle.std.specs.Result.{result_map_both};
+ghost use Rattle.bril_words.specs.CommandLine.{words_read, is_operand, tail_from, nothing_written, command_asked, interp_asked, plain_asked};
+ghost use Rattle.bril_words.specs.Request.{IsActionInRange};
+ghost use Rattle.bril_words.specs.Seen.{request_seen};
+
+use crate::misuse::{Misuse, Setting};
+use crate::options::{tail_of, value_of};
+use crate::request::{Action, Request};
+use bril_tree::text::Text;
+
+// The most of each option, and what it is where it doesn't stand.
+const MOST_FRAMES: u64 = 65_536;
+
+const MOST_CELLS: u64 = 4_194_304;
+
+const MOST_STEPS: u64 = 1_000_000_000_000;
+
+const FRAMES: u64 = 8_192;
+
+const CELLS: u64 = 1_048_576;
+
+const STEPS: u64 = 1_000_000_000;
+
+/// What the words ask for. Takes no memory.
+///
+/// The words are the program's name, a command, and the path of a file: one byte or more, of which the first is no
+/// `-`. The commands are `run`, `check`, `text` and `json`, with nothing behind the path, and `interp`, with options
+/// behind the path, each at most once and as two words, `--frames N`, `--cells N` and `--steps N`, and then perhaps
+/// `--` and the arguments of the program. Where an option doesn't stand it is 8,192 frames, 1,048,576 cells and
+/// 1,000,000,000 steps.
+///
+/// `Words`: the words are any others. `Value`: they are these, and this is the first of frames, cells and steps whose
+/// value is no number as `bril_nums::read_int` reads it, or is out of its range.
+pub fn read_words<'a>(words: &'a [Text]) -> Result<Request<'a>, Misuse>
+    ensures read { result_map_both request_seen (λ e. e) result ≡ words_read words.now }
+    ensures range { IfOk result (λ request. IsActionInRange request.action) }
+{
+    match words {
+        [_, command, path, rest @ ..] if is_operand(path.as_bytes()) => {
+            read_command(command.as_str(), path, rest)
+        }
+        _ => Err(Misuse::Words),
+    }
+}
+
+// What a command's name, its path and the words behind it ask for.
+fn read_command<'a>(name: &str, path: &'a Text, rest: &'a [Text]) -> Result<Request<'a>, Misuse>
+    ensures read { result_map_both request_seen (λ e. e) result ≡ command_asked name.now path.now rest.now }
+    ensures range { IfOk result (λ request. IsActionInRange request.action) }
+{
+    match name {
+        "run" => read_plain(Action::Run, path, rest),
+        "interp" => read_interp(path, rest),
+        "check" => read_plain(Action::Check, path, rest),
+        "text" => read_plain(Action::WriteText, path, rest),
+        "json" => read_plain(Action::WriteJson, path, rest),
+        _ => Err(Misuse::Words),
+    }
+}
+
+// A command without options.
+fn read_plain<'a>(action: Action, path: &'a Text, rest: &'a [Text]) -> Result<Request<'a>, Misuse>
+    requires { IsActionInRange action }
+    ensures read { result_map_both request_seen (λ e. e) result ≡ plain_asked action path.now rest.now }
+    ensures range { IfOk result (λ request. IsActionInRange request.action) }
+{
+    match rest {
+        [] => Ok(Request {
+            action,
+            path,
+            args: rest,
+        }),
+        _ => Err(Misuse::Words),
+    }
+}
+
+// The command `interp`.
+fn read_interp<'a>(path: &'a Text, rest: &'a [Text]) -> Result<Request<'a>, Misuse>
+    ensures read { result_map_both request_seen (λ e. e) result ≡ interp_asked path.now (tail_from nothing_written rest.now) }
+    ensures range { IfOk result (λ request. IsActionInRange request.action) }
+{
+    let (values, args) = tail_of(rest).ok_or(Misuse::Words)?;
+    let frames = value_of(MOST_FRAMES, FRAMES, values.frames).ok_or(Misuse::Value {
+        setting: Setting::Frames,
+    })?;
+    let cells = value_of(MOST_CELLS, CELLS, values.cells).ok_or(Misuse::Value {
+        setting: Setting::Cells,
+    })?;
+    let steps = value_of(MOST_STEPS, STEPS, values.steps).ok_or(Misuse::Value {
+        setting: Setting::Steps,
+    })?;
+    let action = Action::Interpret {
+        frames: frames as u32,
+        cells: cells as u32,
+        steps,
+    };
+    Ok(Request { action, path, args })
+}
+
+// Whether a word is an operand.
+fn is_operand(word: &[u8]) -> bool
+    ensures { result ≡ is_operand word.now }
+{
+    match word {
+        [] => false,
+        [first, ..] => *first != b'-',
+    }
+}
