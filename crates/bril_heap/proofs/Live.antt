@@ -1,0 +1,22 @@
+-- How many blocks are live, and whether one is.
+use Rattle.std.proofs.Common.{◌≡◌, ℕ, ◌+◌, Bool, true, false, not, cond, ◌||◌, ◌==◌, List, [], ◌∷◌, map, zero-add, refl, arith}
+use Rattle.std.specs.List.{count_by}
+use Rattle.std.proofs.lemmas.Grind.{common_steps}
+use Rattle.std.proofs.lemmas.List.Folds.{fold-map}
+use Rattle.std.proofs.lemmas.List.Sums.{sum_by-cons}
+use Rattle.bril_tree.specs.Memory.{is_live_any}
+use Rattle.bril_tree.specs.State.{Block}
+use Rattle.bril_heap.specs.Heap.{BlockView, block_seen}
+
+is_live_any-more : (first rest : Bool) (n m : ℕ) → rest ≡ not (n == 0) → m ≡ cond first 1 0 + n → (first || rest) ≡ not (m == 0)
+is_live_any-more true rest n m is more = grind (arith, common_steps)
+is_live_any-more false rest n m is more = rw (more, zero-add) is
+
+-- a block is live exactly where their count isn't 0
+pub is_live_any-count : (blocks : List Block) → is_live_any blocks ≡ not (count_by (λ b. b.is_live) blocks == 0)
+is_live_any-count [] = refl
+is_live_any-count (b ∷ blocks) =
+    is_live_any-more b.is_live (is_live_any blocks) (count_by (λ b. b.is_live) blocks) (count_by (λ b. b.is_live) (b ∷ blocks)) (is_live_any-count blocks) (sum_by-cons (λ (b : Block). cond b.is_live 1 0) b blocks)
+
+pub count-seen : (bs : List BlockView) → count_by (λ b. b.is_live) (map block_seen bs) ≡ count_by (λ b. b.is_live) bs
+count-seen bs = fold-map (λ (a : ℕ) (b : Block). a + cond b.is_live 1 0) block_seen 0 bs

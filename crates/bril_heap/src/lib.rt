@@ -1,0 +1,11 @@
+//! The blocks of memory of a running program.
+#![tactic(auto)]
+
+mod block;
+mod cells;
+mod fault;
+#[cfg(test)]
+mod tests;
+
+pub use cells::Cells;
+pub use fault::HeapFault;
