@@ -1,0 +1,11 @@
+//! What operations compute from values, and what `print` shows of a value.
+#![tactic(auto)]
+
+mod outcome;
+mod parts;
+mod shown;
+#[cfg(test)]
+mod tests;
+
+pub use outcome::{Outcome, compute};
+pub use shown::Shown;
