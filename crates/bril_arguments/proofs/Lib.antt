@@ -1,0 +1,4 @@
+pub mod Faults
+pub mod Letters
+pub mod Outcomes
+pub mod Spelled

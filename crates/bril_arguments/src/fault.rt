@@ -1,0 +1,29 @@
+// Why words are no arguments of `main`.
+
+ghost use Rattle.std.specs.Prelude.{◌≡◌};
+ghost use Rattle.bril_arguments.specs.declared.fault.ArgFault.TheVariants.{Memory};
+
+use std::alloc::AllocError;
+use thiserror::Error;
+
+/// Why words are no arguments of `main`.
+#[derive(Clone, Copy, PartialEq, Eq, Debug, Drop, Error)]
+pub enum ArgFault {
+    /// There are `given` words, and `main` takes `wanted` arguments, which is another number.
+    #[error("{given} arguments are given, and main takes {wanted}")]
+    Count { given: u32, wanted: u32 },
+    /// There are as many words as arguments. The word at this place, counted from 1, is the first that spells no value of
+    /// its argument's type.
+    #[error("argument {place} spells no value of its type")]
+    Spelling { place: u32 },
+    #[error("out of memory")]
+    Memory,
+}
+
+impl From<AllocError> for ArgFault {
+    ghost from_gives = { λ _ e. e ≡ Memory };
+
+    fn from(_fault: AllocError) -> ArgFault {
+        ArgFault::Memory
+    }
+}

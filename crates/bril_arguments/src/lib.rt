@@ -1,0 +1,11 @@
+//! The arguments of a program's `main`, read from words.
+#![tactic(auto)]
+
+mod arguments;
+mod fault;
+mod spelling;
+#[cfg(test)]
+mod tests;
+
+pub use arguments::read_args;
+pub use fault::ArgFault;
