@@ -5,6 +5,7 @@ pub mod Counting
 pub mod Digits
 pub mod Ending
 pub mod ImageSystem
+pub mod Interpreting
 pub mod MachineSteps
 pub mod Outcomes
 pub mod Relation

@@ -20,13 +20,12 @@ use Rattle.bril_text.specs.Reading as text_reading
 use Rattle.bril_text.specs.declared.fault.TextFault.{TextFault}
 use Rattle.bril_text.specs.declared.fault.TextFault.TheVariants as text
 use Rattle.bril_cli.specs.Source.{HasFault, HasOnlyCheckFault, IsOnlyTree, IsOnlyFault}
-use Rattle.bril_tree.specs.Size.{IsCounted}
 use Rattle.bril_cli.specs.Works.{RefusesTree, RefusesNames, RefusesCheck, RefusesProgram, PutsText, IsOnlyNameFault, IsOnlyProgram, IsFaultless, IsAcceptedProgram, text_status, json_status, name_status, check_status}
-use Rattle.bril_cli.specs.declared.status.Status.{Status}
-use Rattle.bril_cli.specs.declared.status.Status.TheVariants as status
+use Rattle.bril_report.specs.declared.status.Status.{Status}
+use Rattle.bril_report.specs.declared.status.Status.TheVariants as status
 use Rattle.bril_cli.specs.declared.source.Format.TheVariants.{InText, InJson}
-use Rattle.bril_cli.specs.declared.source.SourceFault.{SourceFault}
-use Rattle.bril_cli.specs.declared.source.SourceFault.TheVariants.{Text, Json}
+use Rattle.bril_report.specs.declared.status.SourceFault.{SourceFault}
+use Rattle.bril_report.specs.declared.status.SourceFault.TheVariants.{Text, Json}
 
 -- ---- What a reader answers: what it reads is the only tree, and its fault the only one or want of memory.
 
@@ -125,30 +124,14 @@ module _ (p : Prog) where
 pub RefusesProgram-names : (how : Status) (tree : Tree) → tree.imports ≡ [] → RefusesNames how tree → RefusesProgram how tree
 RefusesProgram-names (status.Misnamed fault) tree none refuses = (none, refuses)
 RefusesProgram-names status.OutOfMemory tree none refuses = tt
-RefusesProgram-names status.Done tree none refuses = absurd refuses
-RefusesProgram-names status.Unformed tree none refuses = absurd refuses
-RefusesProgram-names (status.Misread fault) tree none refuses = absurd refuses
-RefusesProgram-names (status.Unaccepted p fault) tree none refuses = absurd refuses
-RefusesProgram-names status.Unread tree none refuses = absurd refuses
-RefusesProgram-names status.FileTooBig tree none refuses = absurd refuses
-RefusesProgram-names (status.CodeTooBig words) tree none refuses = absurd refuses
-RefusesProgram-names (status.StackTooBig words) tree none refuses = absurd refuses
-RefusesProgram-names status.Unwritten tree none refuses = absurd refuses
+RefusesProgram-names _ tree none refuses = absurd refuses
 
 -- nor has one whose program isn't accepted
 pub RefusesProgram-check : (how : Status) (tree : Tree) (p : Prog) → IsOnlyProgram tree p → RefusesCheck how p → RefusesProgram how tree
 RefusesProgram-check (status.Unaccepted q fault) tree p only refuses =
     (subst (λ (r : Prog). IsOnlyProgram tree r) (sym refuses.0) only, subst (λ (r : Prog). HasOnlyCheckFault r fault) (sym refuses.0) refuses.1)
 RefusesProgram-check status.OutOfMemory tree p only refuses = tt
-RefusesProgram-check status.Done tree p only refuses = absurd refuses
-RefusesProgram-check status.Unformed tree p only refuses = absurd refuses
-RefusesProgram-check (status.Misread fault) tree p only refuses = absurd refuses
-RefusesProgram-check (status.Misnamed fault) tree p only refuses = absurd refuses
-RefusesProgram-check status.Unread tree p only refuses = absurd refuses
-RefusesProgram-check status.FileTooBig tree p only refuses = absurd refuses
-RefusesProgram-check (status.CodeTooBig words) tree p only refuses = absurd refuses
-RefusesProgram-check (status.StackTooBig words) tree p only refuses = absurd refuses
-RefusesProgram-check status.Unwritten tree p only refuses = absurd refuses
+RefusesProgram-check _ tree p only refuses = absurd refuses
 
 -- what checking the tree's only program answers
 module _ (tree : Tree) (p : Prog) (only : IsOnlyProgram tree p) where
@@ -158,10 +141,6 @@ module _ (tree : Tree) (p : Prog) (only : IsOnlyProgram tree p) where
     sound = subst (λ (q : Prog). IsFaultless q) (sym prog) sound;
   }
   accepted_if (Err how) prog sound = tt
-
-  pub counted_if : (r : Result CheckedView Status) → IfOk r (λ checked. checked.prog ≡ p) → IfOk r (λ _. IsCounted p) → IfOk r (λ checked. IsCounted checked.prog)
-  counted_if (Ok checked) prog counted = subst (λ (q : Prog). IsCounted q) (sym prog) counted
-  counted_if (Err how) prog counted = tt
 
   pub refused_if : (r : Result CheckedView Status) → IfErr r (λ how. RefusesCheck how p) → IfErr r (λ how. RefusesProgram how tree)
   refused_if (Ok checked) refuses = tt

@@ -30,7 +30,7 @@ pub EndsPrinting-straight : (p : Prog) → IsStraightCode p → EndsPrinting p (
 EndsPrinting-straight p straight = record { steps = items_in p + 1; ended = straight_ends p run_limits straight; prints = refl }
 
 -- the first of some bytes are the first of those with more behind
-TookSome-prefix : {s t : SinkSeen} (a b : List ℕ) → IsPrefix a b → TookSome s a t → TookSome s b t
+pub TookSome-prefix : {s t : SinkSeen} (a b : List ℕ) → IsPrefix a b → TookSome s a t → TookSome s b t
 TookSome-prefix {s} {t} a b more some = subst (λ bytes. TookSome s bytes t) (sym more.1) (TookSome-longer more.0 some)
 
 -- the machine was made for the image and has executed nothing

@@ -1,22 +1,31 @@
 -- What each status says of the call.
-use Rattle.std.proofs.Common.{◌≡◌, ℕ, true, false, List, Some, refl, sym, subst, inl, inr, ⊎_elim}
+use Rattle.std.proofs.Common.{◌≡◌, ℕ, true, false, List, Option, Some, refl, sym, subst, inl, inr, ⊎_elim, None}
 use Rattle.std.specs.Prelude.{[]}
+use Rattle.bril_arguments.specs.declared.fault.ArgFault.{ArgFault}
+use Rattle.bril_arguments.specs.declared.fault.ArgFault.TheVariants as argument
+use Rattle.bril_tree.specs.declared.limits.End.{End}
+use Rattle.bril_tree.specs.declared.limits.End.TheVariants as end
+use Rattle.bril_tree.specs.declared.limits.Limits.{Limits}
 use Rattle.bril_tree.specs.declared.program.Prog.{Prog}
 use Rattle.bril_tree.specs.declared.tree.Tree.{Tree}
+use Rattle.bril_tree.specs.declared.value.Value.{Value}
 use Rattle.bril_tree.specs.Numbered.{Numbered}
+use Rattle.bril_tree.specs.Run.{main_types, state_after}
 use Rattle.bril_text.specs.Canonical.{canonical_text}
 use Rattle.bril_names.specs.Faults as names
 use Rattle.bril_names.specs.declared.fault.NameFault.{NameFault}
-use Rattle.bril_cli.specs.declared.action.Action.{Action}
-use Rattle.bril_cli.specs.declared.action.Action.TheVariants.{Run, Check, WriteText, WriteJson}
+use Rattle.bril_report.specs.Lines.{code_line, stack_line, spent_line}
+use Rattle.bril_report.specs.Report.{Says, status_number, SaysStatus}
+use Rattle.bril_report.specs.declared.status.Status.{Status}
+use Rattle.bril_report.specs.declared.status.Status.TheVariants as status
+use Rattle.bril_words.specs.declared.request.Action.{Action}
+use Rattle.bril_words.specs.declared.request.Action.TheVariants.{Run, Interpret, Check, WriteText, WriteJson}
 use Rattle.bril_cli.specs.declared.source.Format.{Format}
-use Rattle.bril_cli.specs.declared.status.Status.{Status}
-use Rattle.bril_cli.specs.declared.status.Status.TheVariants as status
-use Rattle.bril_cli.specs.Answers.{Call, Says, Answers, Produces, code_line, stack_line}
-use Rattle.bril_cli.specs.CommandLine.{asked_of, format_of, NeedsProgram}
-use Rattle.bril_cli.specs.Source.{json_line, accepted_line, IsFile, IsFormless, HasNameFault, HasOnlyNameFault, IsOnlyTree, IsSource, IsOnlySource, IsWithin, EndsPrinting, Runs}
+use Rattle.bril_cli.specs.Answers.{Call, Answers, Produces, Puts, Leaves, argument_line}
+use Rattle.bril_cli.specs.CommandLine.{AsksFor, format_of, NeedsProgram}
+use Rattle.bril_cli.specs.Source.{json_line, accepted_line, IsFile, IsFormless, HasNameFault, HasOnlyNameFault, HasOnlyArgFault, IsOnlyTree, IsSource, IsOnlySource, IsWithin, EndsPrinting, Runs, Interprets}
 use Rattle.bril_cli.specs.Straight.{is_straight}
-use Rattle.bril_cli.specs.Works.{status_number, SaysStatus, IsOnlyNameFault, IsOnlyProgram, IsAcceptedProgram, RefusesProgram, RunsProgram, AsksProgram, PutsText, DoesFile, FailsToRead, FindsNoTree, DealsWithTree}
+use Rattle.bril_cli.specs.Works.{IsOnlyNameFault, IsOnlyProgram, IsAcceptedProgram, RefusesProgram, RunsProgram, AreOnlyValues, RefusesArgs, StepsTo, InterpretsProgram, AsksProgram, PutsText, DoesFile, FailsToRead, FindsNoTree, DealsWithTree}
 
 -- ---- the program and the name fault of bytes are those of their tree
 
@@ -41,18 +50,35 @@ module _ (format : Format) (bytes : List ℕ) (tree : Tree) (only : IsOnlyTree f
   }
 
 -- The words of a call ask for the action and the path, the status is what doing it answered, and it was said.
-pub record Ends (c : Call) (action : Action) (path : List ℕ) (how : Status) : Type 0 where
-  pub asked : asked_of c.words ≡ Some (action, path)
-  pub does : DoesFile action how c.files_before c.files_after path c.out_before c.out_after
+pub record Ends (c : Call) (action : Action) (path : List ℕ) (args : List (List ℕ)) (how : Status) : Type 0 where
+  pub asked : AsksFor c.words action path args
+  pub does : DoesFile action how c.files_before c.files_after path args c.out_before c.out_after
   pub says : SaysStatus how path c.err_before c.err_after
+
+-- ---- memory was wanting, and nothing was put
+
+untouched : (action : Action) (c : Call) (path : List ℕ) (args : List (List ℕ)) → c.out_after ≡ c.out_before → Leaves action c path args
+untouched (Interpret frames cells steps) c path args silent = inl silent
+untouched _ c path args silent = silent
+
+Answers-exhausted : (c : Call) (action : Action) (path : List ℕ) (args : List (List ℕ)) → AsksFor c.words action path args → SaysStatus status.OutOfMemory path c.err_before c.err_after → c.out_after ≡ c.out_before → Answers 71 c
+Answers-exhausted c action path args asked says silent = record {
+  action = action;
+  path = path;
+  args = args;
+  asked = asked;
+  leaves = untouched action c path args silent;
+  says = says;
+}
 
 -- ---- no tree was read
 
-module _ (c : Call) (action : Action) (path : List ℕ) (asked : asked_of c.words ≡ Some (action, path)) where
+module _ (c : Call) (action : Action) (path : List ℕ) (args : List (List ℕ)) (asked : AsksFor c.words action path args) where
   Answers-read : (how : Status) → SaysStatus how path c.err_before c.err_after → FailsToRead how c.files_before c.files_after path c.out_before c.out_after → Answers (status_number how) c
   Answers-read status.Unread says fails = record {
     action = action;
     path = path;
+    args = args;
     asked = asked;
     fails = fails.refuses;
     alone = record { silent = fails.silent; says = says };
@@ -60,28 +86,18 @@ module _ (c : Call) (action : Action) (path : List ℕ) (asked : asked_of c.word
   Answers-read status.FileTooBig says fails = record {
     action = action;
     path = path;
+    args = args;
     asked = asked;
     passes = inl (record { bytes = fails.refuses.bytes; held = fails.refuses.held; long = fails.refuses.long; alone = record { silent = fails.silent; says = says } });
   }
-  Answers-read status.OutOfMemory says fails = record {
-    action = action;
-    path = path;
-    asked = asked;
-    alone = record { silent = fails.silent; says = says };
-  }
-  Answers-read status.Done says fails = absurd fails.refuses
-  Answers-read status.Unformed says fails = absurd fails.refuses
-  Answers-read (status.Misread fault) says fails = absurd fails.refuses
-  Answers-read (status.Misnamed fault) says fails = absurd fails.refuses
-  Answers-read (status.Unaccepted p fault) says fails = absurd fails.refuses
-  Answers-read (status.CodeTooBig words) says fails = absurd fails.refuses
-  Answers-read (status.StackTooBig words) says fails = absurd fails.refuses
-  Answers-read status.Unwritten says fails = absurd fails.refuses
+  Answers-read status.OutOfMemory says fails = Answers-exhausted c action path args asked says fails.silent
+  Answers-read _ says fails = absurd fails.refuses
 
   Answers-none : (how : Status) → SaysStatus how path c.err_before c.err_after → FindsNoTree how c.files_before path c.out_before c.out_after → Answers (status_number how) c
   Answers-none (status.Misread fault) says finds = record {
     action = action;
     path = path;
+    args = args;
     asked = asked;
     because = inr (inr (inr (record {
       bytes = finds.bytes;
@@ -91,67 +107,50 @@ module _ (c : Call) (action : Action) (path : List ℕ) (asked : asked_of c.word
       alone = record { silent = finds.silent; says = says };
     })));
   }
-  Answers-none status.OutOfMemory says finds = record {
-    action = action;
-    path = path;
-    asked = asked;
-    alone = record { silent = finds.silent; says = says };
-  }
-  Answers-none status.Done says finds = absurd finds.refuses
-  Answers-none status.Unformed says finds = absurd finds.refuses
-  Answers-none (status.Misnamed fault) says finds = absurd finds.refuses
-  Answers-none (status.Unaccepted p fault) says finds = absurd finds.refuses
-  Answers-none status.Unread says finds = absurd finds.refuses
-  Answers-none status.FileTooBig says finds = absurd finds.refuses
-  Answers-none (status.CodeTooBig words) says finds = absurd finds.refuses
-  Answers-none (status.StackTooBig words) says finds = absurd finds.refuses
-  Answers-none status.Unwritten says finds = absurd finds.refuses
+  Answers-none status.OutOfMemory says finds = Answers-exhausted c action path args asked says finds.silent
+  Answers-none _ says finds = absurd finds.refuses
 
 -- ---- a text was to be put
 
-module _ (c : Call) (action : Action) (path : List ℕ) (asked : asked_of c.words ≡ Some (action, path)) (text : List ℕ) (produces : Produces action c.files_before path text) where
+-- what is produced is put
+puts_produced : (action : Action) (c : Call) (path : List ℕ) (args : List (List ℕ)) (output : List ℕ) → Produces action c.files_before path args output → Puts action c.files_before path args output
+puts_produced (Interpret frames cells steps) c path args output produces = (Some end.Ended, produces)
+puts_produced _ c path args output produces = produces
+
+module _ (c : Call) (action : Action) (path : List ℕ) (args : List (List ℕ)) (asked : AsksFor c.words action path args) (text : List ℕ) (produces : Produces action c.files_before path args text) where
   Answers-put : (how : Status) → SaysStatus how path c.err_before c.err_after → PutsText how text c.out_before c.out_after → Answers (status_number how) c
   Answers-put status.Done says puts = record {
     action = action;
     path = path;
+    args = args;
     asked = asked;
     output = text;
     produces = produces;
     took = puts;
     quiet = says;
   }
-  Answers-put status.OutOfMemory says puts = record {
-    action = action;
-    path = path;
-    asked = asked;
-    alone = record { silent = puts; says = says };
-  }
+  Answers-put status.OutOfMemory says puts = Answers-exhausted c action path args asked says puts
   Answers-put status.Unwritten says puts = record {
     action = action;
     path = path;
+    args = args;
     asked = asked;
     output = text;
-    produces = produces;
+    puts = puts_produced action c path args text produces;
     took = puts.0;
     rose = puts.1;
     says = says;
   }
-  Answers-put status.Unformed says puts = absurd puts
-  Answers-put (status.Misread fault) says puts = absurd puts
-  Answers-put (status.Misnamed fault) says puts = absurd puts
-  Answers-put (status.Unaccepted p fault) says puts = absurd puts
-  Answers-put status.Unread says puts = absurd puts
-  Answers-put status.FileTooBig says puts = absurd puts
-  Answers-put (status.CodeTooBig words) says puts = absurd puts
-  Answers-put (status.StackTooBig words) says puts = absurd puts
+  Answers-put _ says puts = absurd puts
 
 -- ---- the tree's program was asked for
 
-module _ (c : Call) (action : Action) (path : List ℕ) (asked : asked_of c.words ≡ Some (action, path)) (needs : NeedsProgram action) (bytes : List ℕ) (file : IsFile c.files_before path bytes) (tree : Tree) (only : IsOnlyTree (format_of path) bytes tree) where
+module _ (c : Call) (action : Action) (path : List ℕ) (args : List (List ℕ)) (asked : AsksFor c.words action path args) (needs : NeedsProgram action) (bytes : List ℕ) (file : IsFile c.files_before path bytes) (tree : Tree) (only : IsOnlyTree (format_of path) bytes tree) where
   Answers-formless : SaysStatus status.Unformed path c.err_before c.err_after → IsFormless action (format_of path) bytes → c.out_after ≡ c.out_before → Answers 65 c
   Answers-formless says formless silent = record {
     action = action;
     path = path;
+    args = args;
     asked = asked;
     because = inl (record {
       needs = needs;
@@ -167,6 +166,7 @@ module _ (c : Call) (action : Action) (path : List ℕ) (asked : asked_of c.word
   Answers-refused (status.Misnamed fault) says refuses silent = record {
     action = action;
     path = path;
+    args = args;
     asked = asked;
     because = inr (inl (record {
       needs = needs;
@@ -180,6 +180,7 @@ module _ (c : Call) (action : Action) (path : List ℕ) (asked : asked_of c.word
   Answers-refused (status.Unaccepted p fault) says refuses silent = record {
     action = action;
     path = path;
+    args = args;
     asked = asked;
     because = inr (inr (inl (record {
       needs = needs;
@@ -192,23 +193,12 @@ module _ (c : Call) (action : Action) (path : List ℕ) (asked : asked_of c.word
       alone = record { silent = silent; says = says };
     })));
   }
-  Answers-refused status.OutOfMemory says refuses silent = record {
-    action = action;
-    path = path;
-    asked = asked;
-    alone = record { silent = silent; says = says };
-  }
-  Answers-refused status.Done says refuses silent = absurd refuses
-  Answers-refused (status.Misread fault) says refuses silent = absurd refuses
-  Answers-refused status.Unread says refuses silent = absurd refuses
-  Answers-refused status.FileTooBig says refuses silent = absurd refuses
-  Answers-refused (status.CodeTooBig words) says refuses silent = absurd refuses
-  Answers-refused (status.StackTooBig words) says refuses silent = absurd refuses
-  Answers-refused status.Unwritten says refuses silent = absurd refuses
+  Answers-refused status.OutOfMemory says refuses silent = Answers-exhausted c action path args asked says silent
+  Answers-refused _ says refuses silent = absurd refuses
 
 -- ---- a tree was to run
 
-module _ (c : Call) (path : List ℕ) (asked : asked_of c.words ≡ Some (Run, path)) (bytes : List ℕ) (file : IsFile c.files_before path bytes) (tree : Tree) (only : IsOnlyTree (format_of path) bytes tree) where
+module _ (c : Call) (path : List ℕ) (args : List (List ℕ)) (asked : AsksFor c.words Run path args) (bytes : List ℕ) (file : IsFile c.files_before path bytes) (tree : Tree) (only : IsOnlyTree (format_of path) bytes tree) where
   module _ (p : Prog) (program : IsAcceptedProgram tree p) where
     source : IsOnlySource (format_of path) bytes p
     source = IsOnlySource-of (format_of path) bytes tree only p program.only
@@ -217,7 +207,7 @@ module _ (c : Call) (path : List ℕ) (asked : asked_of c.words ≡ Some (Run, p
     Answers-crooked how says bent is silent =
         let here : SaysStatus status.Unformed path c.err_before c.err_after = subst (λ (h : Status). SaysStatus h path c.err_before c.err_after) is says in
         subst (λ (h : Status). Answers (status_number h) c) (sym is)
-        (Answers-formless c Run path asked tt bytes file tree only here (inr (refl, record { program = p; source = source.source; accepted = program.sound.accepted; crooked = bent })) silent)
+        (Answers-formless c Run path args asked tt bytes file tree only here (inr (refl, record { program = p; source = source.source; accepted = program.sound.accepted; crooked = bent })) silent)
 
     module _ (straight : is_straight p ≡ true) where
       runs_file : IsWithin p → (output : List ℕ) → EndsPrinting p output → Runs c.files_before path output
@@ -236,6 +226,7 @@ module _ (c : Call) (path : List ℕ) (asked : asked_of c.words ≡ Some (Run, p
       Answers-program status.Done says runs = record {
         action = Run;
         path = path;
+        args = args;
         asked = asked;
         output = runs.1.output;
         produces = runs_file runs.0 runs.1.output runs.1.prints;
@@ -245,6 +236,7 @@ module _ (c : Call) (path : List ℕ) (asked : asked_of c.words ≡ Some (Run, p
       Answers-program (status.CodeTooBig words) says runs = record {
         action = Run;
         path = path;
+        args = args;
         asked = asked;
         passes = inr (
           refl,
@@ -263,6 +255,7 @@ module _ (c : Call) (path : List ℕ) (asked : asked_of c.words ≡ Some (Run, p
       Answers-program (status.StackTooBig words) says runs = record {
         action = Run;
         path = path;
+        args = args;
         asked = asked;
         passes = inr (
           refl,
@@ -279,41 +272,32 @@ module _ (c : Call) (path : List ℕ) (asked : asked_of c.words ≡ Some (Run, p
           }),
         );
       }
-      Answers-program status.OutOfMemory says runs = record {
-        action = Run;
-        path = path;
-        asked = asked;
-        alone = record { silent = runs; says = says };
-      }
+      Answers-program status.OutOfMemory says runs = Answers-exhausted c Run path args asked says runs
       Answers-program status.Unwritten says runs = record {
         action = Run;
         path = path;
+        args = args;
         asked = asked;
         output = runs.1.output;
-        produces = runs_file runs.0 runs.1.output runs.1.prints;
+        puts = runs_file runs.0 runs.1.output runs.1.prints;
         took = runs.1.took;
         rose = runs.1.rose;
         says = says;
       }
-      Answers-program status.Unformed says runs = absurd runs
-      Answers-program (status.Misread fault) says runs = absurd runs
-      Answers-program (status.Misnamed fault) says runs = absurd runs
-      Answers-program (status.Unaccepted q fault) says runs = absurd runs
-      Answers-program status.Unread says runs = absurd runs
-      Answers-program status.FileTooBig says runs = absurd runs
+      Answers-program _ says runs = absurd runs
 
-  Answers-run : (how : Status) → SaysStatus how path c.err_before c.err_after → AsksProgram Run how tree c.out_before c.out_after → Answers (status_number how) c
+  Answers-run : (how : Status) → SaysStatus how path c.err_before c.err_after → AsksProgram Run how tree args c.out_before c.out_after → Answers (status_number how) c
   Answers-run how says =
-      ⊎_elim (λ refused. Answers-refused c Run path asked tt bytes file tree only how says refused.0 refused.1)
+      ⊎_elim (λ refused. Answers-refused c Run path args asked tt bytes file tree only how says refused.0 refused.1)
       (λ runs. ⊎_elim (λ form. Answers-crooked runs.0 runs.1 how says form.0 form.1 form.2)
       (λ goes. Answers-program runs.0 runs.1 goes.0 how says goes.1)
       runs.2)
 
 -- ---- a tree was to be checked
 
-module _ (c : Call) (path : List ℕ) (asked : asked_of c.words ≡ Some (Check, path)) (bytes : List ℕ) (file : IsFile c.files_before path bytes) (tree : Tree) (only : IsOnlyTree (format_of path) bytes tree) where
+module _ (c : Call) (path : List ℕ) (args : List (List ℕ)) (asked : AsksFor c.words Check path args) (bytes : List ℕ) (file : IsFile c.files_before path bytes) (tree : Tree) (only : IsOnlyTree (format_of path) bytes tree) where
   Answers-checked : (how : Status) → SaysStatus how path c.err_before c.err_after → (p : Prog) → IsAcceptedProgram tree p → PutsText how (accepted_line p) c.out_before c.out_after → Answers (status_number how) c
-  Answers-checked how says p program puts = Answers-put c Check path asked (accepted_line p) (record {
+  Answers-checked how says p program puts = Answers-put c Check path args asked (accepted_line p) (record {
     bytes = bytes;
     file = file;
     program = p;
@@ -322,24 +306,147 @@ module _ (c : Call) (path : List ℕ) (asked : asked_of c.words ≡ Some (Check,
     text = refl;
   }) how says puts
 
-  Answers-check : (how : Status) → SaysStatus how path c.err_before c.err_after → AsksProgram Check how tree c.out_before c.out_after → Answers (status_number how) c
+  Answers-check : (how : Status) → SaysStatus how path c.err_before c.err_after → AsksProgram Check how tree args c.out_before c.out_after → Answers (status_number how) c
   Answers-check how says =
-      ⊎_elim (λ refused. Answers-refused c Check path asked tt bytes file tree only how says refused.0 refused.1)
+      ⊎_elim (λ refused. Answers-refused c Check path args asked tt bytes file tree only how says refused.0 refused.1)
       (λ puts. Answers-checked how says puts.0 puts.1 puts.2)
+
+-- ---- a tree was to be interpreted
+
+module _ (c : Call) (frames cells steps : ℕ) (path : List ℕ) (args : List (List ℕ)) (asked : AsksFor c.words (Interpret frames cells steps) path args) (bytes : List ℕ) (file : IsFile c.files_before path bytes) (tree : Tree) (only : IsOnlyTree (format_of path) bytes tree) where
+  module _ (p : Prog) (program : IsAcceptedProgram tree p) where
+    source_of : IsOnlySource (format_of path) bytes p
+    source_of = IsOnlySource-of (format_of path) bytes tree only p program.only
+
+    misargued : (fault : ArgFault) → HasOnlyArgFault (main_types p) args fault → Says c.err_before (argument_line fault) c.err_after → c.out_after ≡ c.out_before → Answers 69 c
+    misargued fault has says silent = record {
+      frames = frames;
+      cells = cells;
+      steps = steps;
+      path = path;
+      args = args;
+      asked = asked;
+      bytes = bytes;
+      file = file;
+      program = p;
+      source = source_of;
+      accepted = program.sound.accepted;
+      fault = fault;
+      only = has;
+      alone = record { silent = silent; says = says };
+    }
+
+    Answers-misargued : (how : Status) → SaysStatus how path c.err_before c.err_after → RefusesArgs how p args → c.out_after ≡ c.out_before → Answers (status_number how) c
+    Answers-misargued (status.Miscounted given wanted) says refuses silent = misargued (argument.Count given wanted) refuses says silent
+    Answers-misargued (status.Misspelt place) says refuses silent = misargued (argument.Spelling place) refuses says silent
+    Answers-misargued status.OutOfMemory says refuses silent = Answers-exhausted c (Interpret frames cells steps) path args asked says silent
+    Answers-misargued _ says refuses silent = absurd refuses
+
+    module _ (limits : Limits) (frames_are : limits.frames ≡ frames) (cells_are : limits.cells ≡ cells) (values : List Value) (are : AreOnlyValues p args values) where
+      printed : List ℕ
+      printed = (state_after p limits values steps).printed
+
+      interprets : (ended : Option End) → (state_after p limits values steps).ended ≡ ended → Interprets c.files_before path args frames cells steps ended printed
+      unfolding printed
+      interprets ended ends = record {
+        bytes = bytes;
+        file = file;
+        program = p;
+        source = source_of;
+        accepted = program.sound.accepted;
+        shows = record {
+          values = values;
+          spelled = are.spelled;
+          limits = limits;
+          frames_are = frames_are;
+          cells_are = cells_are;
+          ends = ends;
+          prints = refl;
+        };
+      }
+
+      Answers-steps : (how : Status) → SaysStatus how path c.err_before c.err_after → StepsTo how steps (state_after p limits values steps) c.out_before c.out_after → Answers (status_number how) c
+      unfolding printed
+      Answers-steps status.Done says goes = record {
+        action = Interpret frames cells steps;
+        path = path;
+        args = args;
+        asked = asked;
+        output = printed;
+        produces = interprets (Some end.Ended) goes.0;
+        took = goes.1;
+        quiet = says;
+      }
+      Answers-steps (status.Faulted fault) says goes = record {
+        frames = frames;
+        cells = cells;
+        steps = steps;
+        path = path;
+        args = args;
+        asked = asked;
+        fault = fault;
+        output = printed;
+        interprets = interprets (Some (end.Faulted fault)) goes.0;
+        took = goes.1;
+        says = says;
+      }
+      Answers-steps (status.Spent made) says goes = record {
+        frames = frames;
+        cells = cells;
+        steps = steps;
+        path = path;
+        args = args;
+        asked = asked;
+        output = printed;
+        interprets = interprets None goes.1;
+        took = goes.2;
+        says = subst (λ n. Says c.err_before (spent_line n) c.err_after) goes.0 says;
+      }
+      Answers-steps status.OutOfMemory says goes = record {
+        action = Interpret frames cells steps;
+        path = path;
+        args = args;
+        asked = asked;
+        leaves = inr (_, printed, interprets _ refl, goes);
+        says = says;
+      }
+      Answers-steps status.Unwritten says goes = record {
+        action = Interpret frames cells steps;
+        path = path;
+        args = args;
+        asked = asked;
+        output = printed;
+        puts = (_, interprets _ refl);
+        took = goes.0;
+        rose = goes.1;
+        says = says;
+      }
+      Answers-steps _ says goes = absurd goes
+
+    Answers-interpreted : (how : Status) (limits : Limits) → limits.frames ≡ frames → limits.cells ≡ cells → SaysStatus how path c.err_before c.err_after → InterpretsProgram how p args limits steps c.out_before c.out_after → Answers (status_number how) c
+    Answers-interpreted how limits frames_are cells_are says =
+        ⊎_elim (λ refused. Answers-misargued how says refused.0 refused.1)
+        (λ goes. Answers-steps limits frames_are cells_are goes.0 goes.1 how says goes.2)
+
+  Answers-interpret : (how : Status) → SaysStatus how path c.err_before c.err_after → AsksProgram (Interpret frames cells steps) how tree args c.out_before c.out_after → Answers (status_number how) c
+  Answers-interpret how says =
+      ⊎_elim (λ refused. Answers-refused c (Interpret frames cells steps) path args asked tt bytes file tree only how says refused.0 refused.1)
+      (λ goes. Answers-interpreted goes.0 goes.1 how goes.2.0 goes.2.1 goes.2.2 says goes.2.3)
 
 -- ---- a tree was dealt with
 
-Answers-tree : (c : Call) (action : Action) (path : List ℕ) (how : Status) → asked_of c.words ≡ Some (action, path) → SaysStatus how path c.err_before c.err_after → DealsWithTree action how c.files_before path c.out_before c.out_after → Answers (status_number how) c
-Answers-tree c Run path how asked says deals = Answers-run c path asked deals.bytes deals.file deals.tree deals.only how says deals.does
-Answers-tree c Check path how asked says deals = Answers-check c path asked deals.bytes deals.file deals.tree deals.only how says deals.does
-Answers-tree c WriteText path how asked says deals =
-    Answers-put c WriteText path asked (canonical_text deals.tree) (record { bytes = deals.bytes; file = deals.file; tree = deals.tree; reads = deals.only.reads; text = refl }) how says deals.does
-Answers-tree c WriteJson path how asked says deals =
-    Answers-put c WriteJson path asked (json_line deals.tree) (record { bytes = deals.bytes; file = deals.file; tree = deals.tree; reads = deals.only.reads; text = refl }) how says deals.does
+Answers-tree : (c : Call) (action : Action) (path : List ℕ) (args : List (List ℕ)) (how : Status) → AsksFor c.words action path args → SaysStatus how path c.err_before c.err_after → DealsWithTree action how c.files_before path args c.out_before c.out_after → Answers (status_number how) c
+Answers-tree c Run path args how asked says deals = Answers-run c path args asked deals.bytes deals.file deals.tree deals.only how says deals.does
+Answers-tree c (Interpret frames cells steps) path args how asked says deals = Answers-interpret c frames cells steps path args asked deals.bytes deals.file deals.tree deals.only how says deals.does
+Answers-tree c Check path args how asked says deals = Answers-check c path args asked deals.bytes deals.file deals.tree deals.only how says deals.does
+Answers-tree c WriteText path args how asked says deals =
+    Answers-put c WriteText path args asked (canonical_text deals.tree) (record { bytes = deals.bytes; file = deals.file; tree = deals.tree; reads = deals.only.reads; text = refl }) how says deals.does
+Answers-tree c WriteJson path args how asked says deals =
+    Answers-put c WriteJson path args asked (json_line deals.tree) (record { bytes = deals.bytes; file = deals.file; tree = deals.tree; reads = deals.only.reads; text = refl }) how says deals.does
 
 -- what each status says
-pub Answers-of : (c : Call) (action : Action) (path : List ℕ) (how : Status) → Ends c action path how → Answers (status_number how) c
-Answers-of c action path how ends =
-    ⊎_elim (Answers-read c action path ends.asked how ends.says)
-    (⊎_elim (Answers-none c action path ends.asked how ends.says) (Answers-tree c action path how ends.asked ends.says))
+pub Answers-of : (c : Call) (action : Action) (path : List ℕ) (args : List (List ℕ)) (how : Status) → Ends c action path args how → Answers (status_number how) c
+Answers-of c action path args how ends =
+    ⊎_elim (Answers-read c action path args ends.asked how ends.says)
+    (⊎_elim (Answers-none c action path args ends.asked how ends.says) (Answers-tree c action path args how ends.asked ends.says))
     ends.does

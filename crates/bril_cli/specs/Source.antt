@@ -3,12 +3,15 @@ use Rattle.std.specs.Prelude.{ℕ, ◌≡◌, ◌≢◌, ◌⊎◌, ◌*◌, ◌
 use Rattle.std.proofs.Common.{lit≤}
 use Rattle.std.specs.Fmt.{decimal}
 use Rattle.bril_tree.specs.Accepted.{IsAccepted}
+use Rattle.bril_tree.specs.declared.limits.End.{End}
 use Rattle.bril_tree.specs.declared.limits.End.TheVariants.{Ended}
 use Rattle.bril_tree.specs.declared.limits.Limits.{Limits}
 use Rattle.bril_tree.specs.declared.program.Prog.{Prog}
 use Rattle.bril_tree.specs.declared.tree.Tree.{Tree}
+use Rattle.bril_tree.specs.declared.types.Ty.{Ty}
+use Rattle.bril_tree.specs.declared.value.Value.{Value}
 use Rattle.bril_tree.specs.Numbered.{Numbered}
-use Rattle.bril_tree.specs.Run.{state_after}
+use Rattle.bril_tree.specs.Run.{main_types, state_after}
 use Rattle.bril_tree.specs.Size.{item_count}
 use Rattle.bril_checker.specs.Faults as checker
 use Rattle.bril_checker.specs.declared.fault.CheckFault.{CheckFault}
@@ -17,17 +20,21 @@ use Rattle.bril_json.specs.Canonical.{canonical_json}
 use Rattle.bril_json.specs.Reading as json
 use Rattle.bril_names.specs.Faults as names
 use Rattle.bril_names.specs.declared.fault.NameFault.{NameFault}
+use Rattle.bril_arguments.specs.Faults.{IsFaultOf}
+use Rattle.bril_arguments.specs.Spelled.{AreSpelled}
+use Rattle.bril_arguments.specs.declared.fault.ArgFault.{ArgFault}
+use Rattle.bril_arguments.specs.declared.fault.ArgFault.TheVariants.{Memory}
+use Rattle.bril_report.specs.declared.status.SourceFault.{SourceFault}
+use Rattle.bril_report.specs.declared.status.SourceFault.TheVariants.{Text, Json}
 use Rattle.bril_text.specs.Reading as text
+use Rattle.bril_words.specs.declared.request.Action.{Action}
+use Rattle.bril_words.specs.declared.request.Action.TheVariants.{Run}
 use Rattle.bril_cli.specs.Carries.{frame_words}
 use Rattle.bril_cli.specs.CommandLine.{format_of}
 use Rattle.bril_cli.specs.Emitted.{bound_sum}
 use Rattle.bril_cli.specs.Straight.{is_straight}
-use Rattle.bril_cli.specs.declared.action.Action.{Action}
-use Rattle.bril_cli.specs.declared.action.Action.TheVariants.{Run}
 use Rattle.bril_cli.specs.declared.source.Format.{Format}
 use Rattle.bril_cli.specs.declared.source.Format.TheVariants.{InText, InJson}
-use Rattle.bril_cli.specs.declared.source.SourceFault.{SourceFault}
-use Rattle.bril_cli.specs.declared.source.SourceFault.TheVariants.{Text, Json}
 
 -- a file has at most so many bytes
 abbrev pub most_bytes : ℕ
@@ -111,6 +118,16 @@ pub record HasOnlyCheckFault (p : Prog) (fault : CheckFault) : Type 0 where
   pub only : (other : CheckFault) → checker.HasFault p other → fault ≡ other
   pub unaccepted : ¬ IsAccepted p
 
+-- The words have this fault as arguments of these types, which is no want of memory.
+abbrev pub HasArgFault : List (Option Ty) → List (List ℕ) → ArgFault → Type 0
+HasArgFault types words fault = (fault ≢ Memory) × IsFaultOf types words fault
+
+-- The words have this fault as arguments of these types and no other, and spell no values.
+pub record HasOnlyArgFault (types : List (Option Ty)) (words : List (List ℕ)) (fault : ArgFault) : Type 0 where
+  pub has : HasArgFault types words fault
+  pub only : (other : ArgFault) → HasArgFault types words other → fault ≡ other
+  pub unspelled : (values : List Value) → AreSpelled types words values → ⊥
+
 -- The bytes read as an accepted program that is not straight.
 pub record IsCrooked (format : Format) (bytes : List ℕ) : Type 0 where
   pub program : Prog
@@ -132,6 +149,17 @@ pub record EndsPrinting (p : Prog) (output : List ℕ) : Type 0 where
   pub steps : ℕ
   pub ended : (state_after p run_limits [] steps).ended ≡ Some Ended
   pub prints : (state_after p run_limits [] steps).printed ≡ output
+
+-- By its written meaning, and with the values that these words spell, the program under limits of so many frames and
+-- cells has ended so within the steps, or runs on for None, and has printed these bytes.
+pub record Shows (p : Prog) (words : List (List ℕ)) (frames cells steps : ℕ) (ended : Option End) (output : List ℕ) : Type 0 where
+  pub values : List Value
+  pub spelled : AreSpelled (main_types p) words values
+  pub limits : Limits
+  pub frames_are : limits.frames ≡ frames
+  pub cells_are : limits.cells ≡ cells
+  pub ends : (state_after p limits values steps).ended ≡ ended
+  pub prints : (state_after p limits values steps).printed ≡ output
 
 -- ---- what is produced of a file
 
@@ -158,6 +186,16 @@ pub record Runs (files : FilesSeen) (path output : List ℕ) : Type 0 where
   pub straight : is_straight program ≡ true
   pub within : IsWithin program
   pub prints : EndsPrinting program output
+
+-- The file at the path reads as an accepted program, which with these arguments and under these limits has ended so
+-- within the steps, or runs on for None, and has printed this output.
+pub record Interprets (files : FilesSeen) (path : List ℕ) (args : List (List ℕ)) (frames cells steps : ℕ) (ended : Option End) (output : List ℕ) : Type 0 where
+  pub bytes : List ℕ
+  pub file : IsFile files path bytes
+  pub program : Prog
+  pub source : IsOnlySource (format_of path) bytes program
+  pub accepted : IsAccepted program
+  pub shows : Shows program args frames cells steps ended output
 
 -- The file at the path reads as an accepted program, and this is its line.
 pub record Checks (files : FilesSeen) (path output : List ℕ) : Type 0 where

@@ -1,18 +1,25 @@
 -- What each step of a command answers, by its status.
-use Rattle.std.specs.Prelude.{ℕ, true, false, ◌⊎◌, ◌≡◌, ◌≢◌, ◌*◌, ◌^◌, ◌-◌, ◌<◌, ◌≤◌, List, [], All, length, Result, Ok, Err, codes}
+use Rattle.std.specs.Prelude.{ℕ, true, false, ◌⊎◌, ◌≡◌, ◌≢◌, ◌*◌, ◌<◌, ◌≤◌, List, [], length, Some, None}
+use Rattle.bril_arguments.specs.Spelled.{AreSpelled}
+use Rattle.bril_arguments.specs.declared.fault.ArgFault.{ArgFault}
+use Rattle.bril_arguments.specs.declared.fault.ArgFault.TheVariants as argument
 use Rattle.bril_tree.specs.Accepted.{IsAccepted}
+use Rattle.bril_tree.specs.declared.limits.End.TheVariants.{Ended, Faulted}
+use Rattle.bril_tree.specs.declared.limits.Limits.{Limits}
 use Rattle.bril_tree.specs.declared.program.Prog.{Prog}
+use Rattle.bril_tree.specs.declared.value.Value.{Value}
+use Rattle.bril_tree.specs.Run.{main_types, state_after}
+use Rattle.bril_tree.specs.State.{State}
 use Rattle.bril_checker.specs.Faults as checker
 use Rattle.bril_checker.specs.declared.fault.CheckFault.{CheckFault}
 use Rattle.bril_checker.specs.declared.fault.CheckFault.TheVariants as check
 use Rattle.bril_outside.specs.Files.{FilesSeen, MayHold, MayFail}
 use Rattle.bril_outside.specs.Sink.{SinkSeen, Rose, TookAll, TookSome}
-use Rattle.bril_outside.specs.declared.sink.Failed.{Failed}
-use Rattle.bril_cli.specs.declared.status.Status.{Status}
-use Rattle.bril_cli.specs.declared.status.Status.TheVariants as status
+use Rattle.bril_report.specs.declared.status.Status.{Status}
+use Rattle.bril_report.specs.declared.status.Status.TheVariants as status
+use Rattle.bril_report.specs.declared.status.SourceFault.TheVariants as source
 use Rattle.bril_tree.specs.declared.tree.Tree.{Tree}
 use Rattle.bril_tree.specs.Numbered.{Numbered}
-use Rattle.bril_tree.specs.Size.{IsCounted}
 use Rattle.bril_json.specs.declared.fault.JsonFault.{JsonFault}
 use Rattle.bril_json.specs.declared.fault.JsonFault.TheVariants as json
 use Rattle.bril_names.specs.Faults.{HasFault}
@@ -21,64 +28,15 @@ use Rattle.bril_names.specs.declared.fault.NameFault.TheVariants as name
 use Rattle.bril_text.specs.Canonical.{canonical_text}
 use Rattle.bril_text.specs.declared.fault.TextFault.{TextFault}
 use Rattle.bril_text.specs.declared.fault.TextFault.TheVariants as text
-use Rattle.bril_cli.specs.declared.action.Action.{Action}
-use Rattle.bril_cli.specs.declared.action.Action.TheVariants.{Run, Check, WriteText, WriteJson}
+use Rattle.bril_words.specs.declared.request.Action.{Action}
+use Rattle.bril_words.specs.declared.request.Action.TheVariants.{Run, Interpret, Check, WriteText, WriteJson}
 use Rattle.bril_cli.specs.declared.source.Format.{Format}
-use Rattle.bril_cli.specs.declared.source.SourceFault.TheVariants as source
-use Rattle.bril_cli.specs.Answers.{Says, form_line, misread_line, misnamed_line, unaccepted_line, unread_line, code_line, stack_line}
 use Rattle.bril_cli.specs.Carries.{frame_words}
 use Rattle.bril_cli.specs.CommandLine.{format_of}
 use Rattle.bril_cli.specs.Emitted.{bound_sum}
 use Rattle.bril_cli.specs.Refusal.{capped, PassesCode, PassesStack}
-use Rattle.bril_cli.specs.Source.{most_bytes, json_line, accepted_line, IsFile, IsOnlyTree, IsOnlyFault, HasOnlyCheckFault, IsWithin, EndsPrinting}
+use Rattle.bril_cli.specs.Source.{most_bytes, json_line, accepted_line, IsFile, IsOnlyTree, IsOnlyFault, HasOnlyCheckFault, HasArgFault, HasOnlyArgFault, IsWithin, EndsPrinting}
 use Rattle.bril_cli.specs.Straight.{is_straight}
-
--- the number of a status
-abbrev pub status_number : Status → ℕ
-status_number status.Done = 0
-status_number status.Unformed = 65
-status_number (status.Misread fault) = 65
-status_number (status.Misnamed fault) = 65
-status_number (status.Unaccepted program fault) = 65
-status_number status.Unread = 66
-status_number status.FileTooBig = 68
-status_number (status.CodeTooBig words) = 68
-status_number (status.StackTooBig words) = 68
-status_number status.OutOfMemory = 71
-status_number status.Unwritten = 74
-
--- the line of a status, for the file at a path; none where all was done
-abbrev pub status_line : Status → List ℕ → List ℕ
-status_line status.Done path = []
-status_line status.Unformed path = form_line path
-status_line (status.Misread fault) path = misread_line path fault
-status_line (status.Misnamed fault) path = misnamed_line fault
-status_line (status.Unaccepted program fault) path = unaccepted_line program fault
-status_line status.Unread path = unread_line path
-status_line status.FileTooBig path = codes "too large: bytes\n"
-status_line (status.CodeTooBig words) path = code_line words
-status_line (status.StackTooBig words) path = stack_line words
-status_line status.OutOfMemory path = codes "out of memory\n"
-status_line status.Unwritten path = codes "cannot write\n"
-
--- the write of a line: all of it, or the first of it and a fault
-abbrev pub PutsLine : Result Unit Failed → SinkSeen → List ℕ → SinkSeen → Type 0
-PutsLine (Ok done) s line t = TookAll s line t
-PutsLine (Err failed) s line t = TookSome s line t × Rose s.faults t.faults
-
--- what is said of a status
-abbrev pub SaysStatus : Status → List ℕ → SinkSeen → SinkSeen → Type 0
-SaysStatus status.Done path s t = t ≡ s
-SaysStatus status.Unformed path s t = Says s (status_line status.Unformed path) t
-SaysStatus (status.Misread fault) path s t = Says s (status_line (status.Misread fault) path) t
-SaysStatus (status.Misnamed fault) path s t = Says s (status_line (status.Misnamed fault) path) t
-SaysStatus (status.Unaccepted program fault) path s t = Says s (status_line (status.Unaccepted program fault) path) t
-SaysStatus status.Unread path s t = Says s (status_line status.Unread path) t
-SaysStatus status.FileTooBig path s t = Says s (status_line status.FileTooBig path) t
-SaysStatus (status.CodeTooBig words) path s t = Says s (status_line (status.CodeTooBig words) path) t
-SaysStatus (status.StackTooBig words) path s t = Says s (status_line (status.StackTooBig words) path) t
-SaysStatus status.OutOfMemory path s t = Says s (status_line status.OutOfMemory path) t
-SaysStatus status.Unwritten path s t = Says s (status_line status.Unwritten path) t
 
 -- the bytes at the path are too many
 pub record IsLongFile (files : FilesSeen) (path : List ℕ) : Type 0 where
@@ -132,6 +90,12 @@ check_status p (check.NoReturn func item) = status.Unaccepted p (check.NoReturn 
 check_status p check.MainType = status.Unaccepted p check.MainType
 check_status p (check.PrintPtr func item) = status.Unaccepted p (check.PrintPtr func item)
 check_status p check.Memory = status.OutOfMemory
+
+-- the status of a fault of the arguments
+abbrev pub argument_status : ArgFault → Status
+argument_status (argument.Count given wanted) = status.Miscounted given wanted
+argument_status (argument.Spelling place) = status.Misspelt place
+argument_status argument.Memory = status.OutOfMemory
 
 -- why bytes were not read as a tree
 abbrev pub RefusesTree : Status → Format → List ℕ → Type 0
@@ -224,6 +188,38 @@ abbrev pub RunsAccepted : Status → Prog → SinkSeen → SinkSeen → Type 0
 RunsAccepted how p s t =
     ((is_straight p ≡ false) × (how ≡ status.Unformed) × (t ≡ s)) ⊎ ((is_straight p ≡ true) × RunsProgram how p s t)
 
+-- The words spell these values as the arguments of `main`, and no others, and have no fault.
+pub record AreOnlyValues (p : Prog) (args : List (List ℕ)) (values : List Value) : Type 0 where
+  pub spelled : AreSpelled (main_types p) args values
+  pub only : (other : List Value) → AreSpelled (main_types p) args other → values ≡ other
+  pub faultless : (fault : ArgFault) → HasArgFault (main_types p) args fault → ⊥
+
+-- why words are no arguments of `main`
+abbrev pub RefusesArgs : Status → Prog → List (List ℕ) → Type 0
+RefusesArgs (status.Miscounted given wanted) p args = HasOnlyArgFault (main_types p) args (argument.Count given wanted)
+RefusesArgs (status.Misspelt place) p args = HasOnlyArgFault (main_types p) args (argument.Spelling place)
+RefusesArgs status.OutOfMemory p args = Unit {0}
+RefusesArgs _ p args = ⊥
+
+-- what interpreting for so many steps, which lead to the state u, answers
+abbrev pub StepsTo : Status → ℕ → State → SinkSeen → SinkSeen → Type 0
+StepsTo status.Done steps u s t = (u.ended ≡ Some Ended) × TookAll s u.printed t
+StepsTo (status.Faulted fault) steps u s t = (u.ended ≡ Some (Faulted fault)) × TookAll s u.printed t
+StepsTo (status.Spent made) steps u s t = (made ≡ steps) × (u.ended ≡ None) × TookAll s u.printed t
+StepsTo status.OutOfMemory steps u s t = TookSome s u.printed t
+StepsTo status.Unwritten steps u s t = TookSome s u.printed t × Rose s.faults t.faults
+StepsTo _ steps u s t = ⊥
+
+-- what interpreting a program with the values that words spell answers
+abbrev pub InterpretsProgram : Status → Prog → List (List ℕ) → Limits → ℕ → SinkSeen → SinkSeen → Type 0
+InterpretsProgram how p args limits steps s t =
+    (RefusesArgs how p args × (t ≡ s)) ⊎ ((values : List Value) × AreOnlyValues p args values × StepsTo how steps (state_after p limits values steps) s t)
+
+-- what interpreting a program under limits of so many frames and cells answers
+abbrev pub InterpretsWithin : Status → Prog → List (List ℕ) → ℕ → ℕ → ℕ → SinkSeen → SinkSeen → Type 0
+InterpretsWithin how p args frames cells steps s t =
+    (limits : Limits) × (limits.frames ≡ frames) × (limits.cells ≡ cells) × InterpretsProgram how p args limits steps s t
+
 -- what a write of a text answers
 abbrev pub PutsText : Status → List ℕ → SinkSeen → SinkSeen → Type 0
 PutsText status.Done text s t = TookAll s text t
@@ -231,23 +227,25 @@ PutsText status.Unwritten text s t = TookSome s text t × Rose s.faults t.faults
 PutsText status.OutOfMemory text s t = t ≡ s
 PutsText _ text s t = ⊥
 
--- what an action on an accepted program answers
-abbrev pub DoesProgram : Action → Status → Prog → SinkSeen → SinkSeen → Type 0
-DoesProgram Run how p s t = RunsAccepted how p s t
-DoesProgram Check how p s t = PutsText how (accepted_line p) s t
-DoesProgram WriteText how p s t = ⊥
-DoesProgram WriteJson how p s t = ⊥
+-- what an action on an accepted program, with these arguments, answers
+abbrev pub DoesProgram : Action → Status → Prog → List (List ℕ) → SinkSeen → SinkSeen → Type 0
+DoesProgram Run how p args s t = RunsAccepted how p s t
+DoesProgram (Interpret frames cells steps) how p args s t = InterpretsWithin how p args frames cells steps s t
+DoesProgram Check how p args s t = PutsText how (accepted_line p) s t
+DoesProgram WriteText how p args s t = ⊥
+DoesProgram WriteJson how p args s t = ⊥
 
 -- what an action on the program of a tree answers
-abbrev pub AsksProgram : Action → Status → Tree → SinkSeen → SinkSeen → Type 0
-AsksProgram action how tree s t =
-    (RefusesProgram how tree × (t ≡ s)) ⊎ ((p : Prog) × IsAcceptedProgram tree p × DoesProgram action how p s t)
+abbrev pub AsksProgram : Action → Status → Tree → List (List ℕ) → SinkSeen → SinkSeen → Type 0
+AsksProgram action how tree args s t =
+    (RefusesProgram how tree × (t ≡ s)) ⊎ ((p : Prog) × IsAcceptedProgram tree p × DoesProgram action how p args s t)
 
-abbrev pub DoesTree : Action → Status → Tree → SinkSeen → SinkSeen → Type 0
-DoesTree Run how tree s t = AsksProgram Run how tree s t
-DoesTree Check how tree s t = AsksProgram Check how tree s t
-DoesTree WriteText how tree s t = PutsText how (canonical_text tree) s t
-DoesTree WriteJson how tree s t = PutsText how (json_line tree) s t
+abbrev pub DoesTree : Action → Status → Tree → List (List ℕ) → SinkSeen → SinkSeen → Type 0
+DoesTree Run how tree args s t = AsksProgram Run how tree args s t
+DoesTree (Interpret frames cells steps) how tree args s t = AsksProgram (Interpret frames cells steps) how tree args s t
+DoesTree Check how tree args s t = AsksProgram Check how tree args s t
+DoesTree WriteText how tree args s t = PutsText how (canonical_text tree) s t
+DoesTree WriteJson how tree args s t = PutsText how (json_line tree) s t
 
 -- the file was not read
 pub record FailsToRead (how : Status) (f g : FilesSeen) (path : List ℕ) (s t : SinkSeen) : Type 0 where
@@ -262,14 +260,14 @@ pub record FindsNoTree (how : Status) (f : FilesSeen) (path : List ℕ) (s t : S
   pub silent : t ≡ s
 
 -- the file's tree was dealt with
-pub record DealsWithTree (action : Action) (how : Status) (f : FilesSeen) (path : List ℕ) (s t : SinkSeen) : Type 0 where
+pub record DealsWithTree (action : Action) (how : Status) (f : FilesSeen) (path : List ℕ) (args : List (List ℕ)) (s t : SinkSeen) : Type 0 where
   pub bytes : List ℕ
   pub file : IsFile f path bytes
   pub tree : Tree
   pub only : IsOnlyTree (format_of path) bytes tree
-  pub does : DoesTree action how tree s t
+  pub does : DoesTree action how tree args s t
 
 -- what an action on a file answers
-abbrev pub DoesFile : Action → Status → FilesSeen → FilesSeen → List ℕ → SinkSeen → SinkSeen → Type 0
-DoesFile action how f g path s t =
-    FailsToRead how f g path s t ⊎ (FindsNoTree how f path s t ⊎ DealsWithTree action how f path s t)
+abbrev pub DoesFile : Action → Status → FilesSeen → FilesSeen → List ℕ → List (List ℕ) → SinkSeen → SinkSeen → Type 0
+DoesFile action how f g path args s t =
+    FailsToRead how f g path s t ⊎ (FindsNoTree how f path s t ⊎ DealsWithTree action how f path args s t)

@@ -1,11 +1,9 @@
 // The command line of Roolvist.
 #![tactic(auto)]
 
-mod action;
 mod emission;
-mod report;
+mod interpretation;
 mod source;
-mod status;
 mod straight;
 #[cfg(test)]
 mod tests;

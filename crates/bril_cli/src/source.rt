@@ -6,8 +6,8 @@ ghost use Rattle.bril_cli.specs.Source.{most_bytes, IsOnlyTree};
 ghost use Rattle.bril_cli.specs.Works.{RefusesTree, text_status, json_status};
 ghost use Rattle.bril_cli.specs.declared.source.Format.TheVariants.{InText, InJson};
 
-use crate::status::Status;
 use bril_json::{JsonFault, read_json};
+use bril_report::{SourceFault, Status};
 use bril_text::{TextFault, read_text};
 use bril_tree::tree::Tree;
 use std::alloc::Global;
@@ -17,13 +17,6 @@ use std::alloc::Global;
 pub enum Format {
     InText,
     InJson,
-}
-
-/// Why a file's bytes read as no tree.
-#[derive(Clone, Copy, PartialEq, Eq, Debug, Drop)]
-pub enum SourceFault {
-    Text(TextFault),
-    Json(JsonFault),
 }
 
 /// The tree that the bytes of the file at a path read as: in JSON where the path ends in `.json`, and in text

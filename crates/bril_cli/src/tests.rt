@@ -81,7 +81,7 @@ const FILES: [(&str, &[u8]); 21] = [
 ];
 
 // The command lines. The first read fails.
-fn rows() -> [Row; 59] {
+fn rows() -> [Row; 60] {
     [
         plain(
             &["bril", "run", "one.bril"],
@@ -273,7 +273,8 @@ fn rows() -> [Row; 59] {
         plain(&["bril", "check", "empty.bril"], 0, "ok 1 0\n", ""),
         plain(&["bril", "check", "second.bril"], 0, "ok 2 0\n", ""),
         plain(&["bril", "check"], 64, "", "usage\n"),
-        plain(&["bril", "interp", "one.bril"], 64, "", "usage\n"),
+        plain(&["bril", "interp", "one.bril"], 0, "4\n", ""),
+        plain(&["bril", "interp"], 64, "", "usage\n"),
         plain(
             &["bril", "check", "nothere.bril"],
             66,
@@ -413,4 +414,5 @@ fn worked_command_lines(rt: HostRuntime) -> Result<(), Fail> {
 }
 
 mod checked_files;
+mod interpreted_files;
 mod single_files;

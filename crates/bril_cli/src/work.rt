@@ -1,27 +1,28 @@
-// What a command does: it reads a file, and writes its tree; or it numbers and checks its program, and runs it on
-// the machine.
+// What a command does: it reads a file, and writes its tree; or it numbers and checks its program, and interprets it
+// or runs it on the machine.
 
 ghost use Rattle.std.specs.Prelude.{◌≡◌, ◌≤◌, ◌<◌, ◌*◌, ◌^◌, ◌-◌, [], All, IsTrue, length, IfOk, IfErr, MatchResult};
-ghost use Rattle.bril_tree.specs.Size.{item_count, IsCounted};
+ghost use Rattle.bril_tree.specs.Size.{IsCounted};
 ghost use Rattle.bril_cli.specs.Carries.{Carries, frame_words};
 ghost use Rattle.bril_cli.specs.Emitted.{bound_sum};
 ghost use Rattle.bril_cli.specs.Source.{json_line, accepted_line, run_limits, IsFile, IsWithin};
 ghost use Rattle.bril_cli.specs.Straight.{IsStraightCode};
 ghost use Rattle.bril_cli.specs.Works.{RefusesFile, RefusesNames, IsOnlyProgram, IsFaultless, IsAcceptedProgram, RefusesCheck, RefusesProgram, RefusesImage, RunsImage, RunsProgram, RunsAccepted, AsksProgram, PutsText, DoesTree, DoesFile, name_status, check_status};
-ghost use Rattle.bril_cli.specs.declared.action.Action.TheVariants.{Check, Run};
-ghost use Rattle.bril_cli.specs.declared.status.Status.TheVariants.{OutOfMemory};
+ghost use Rattle.bril_report.specs.declared.status.Status.TheVariants.{OutOfMemory};
 ghost use Rattle.bril_text.specs.Canonical.{canonical_text};
+ghost use Rattle.bril_words.specs.Request.{IsActionInRange};
+ghost use Rattle.bril_words.specs.declared.request.Action.TheVariants.{Check, Interpret, Run};
 
-use crate::action::Action;
 use crate::emission::{EmitFault, emit};
+use crate::interpretation::interpret;
 use crate::source::read_tree;
-use crate::status::Status;
 use crate::straight::is_straight;
 use bril_checker::{CheckFault, Checked, check};
 use bril_json::write_json;
 use bril_names::{NameFault, number};
 use bril_outside::files::{FileFault, Files};
 use bril_outside::sink::{Failed, Sink};
+use bril_report::Status;
 use bril_text::write_text;
 use bril_tree::bytes::Bytes;
 use bril_tree::limits::{End, Limits};
@@ -29,6 +30,7 @@ use bril_tree::numbered_function::Func;
 use bril_tree::program::Prog;
 use bril_tree::text::Text;
 use bril_tree::tree::Tree;
+use bril_words::{Action, Request};
 use itoa::Buffer;
 use rv64_machine::answer::RunAnswer;
 use rv64_machine::image::Image;
@@ -41,29 +43,30 @@ const MOST_BYTES: u64 = 16777216;
 // The most words that the machine executes in a run. No straight program comes near.
 const MOST_STEPS: u64 = 1000000000;
 
-/// Does what an action asks of the file at the path: what it produces goes to `out`.
+/// Does what a request asks of its file: what the action produces goes to `out`.
 ///
 /// The file has at most 16,777,216 bytes, which read as a tree: in JSON where the path ends in `.json`, and in
-/// text anywhere else. To check it the tree has to be without imports, each of its names has to stand for one thing
-/// that is there, and its program has to be accepted. To run it the program has to be straight besides, has at most
-/// 250,000 words and needs at most 8,388,608 words of stack. In all other cases nothing is put on `out`.
+/// text anywhere else. To check or interpret it the tree has to be without imports, each of its names has to stand for
+/// one thing that is there, and its program has to be accepted. To interpret it the arguments have to spell values for
+/// its `main`. To run it the program has to be straight besides, has at most 250,000 words and needs at most 8,388,608
+/// words of stack. In all other cases nothing is put on `out`.
 pub fn do_file<F: Files, O: Sink>(
     alloc: Global,
-    action: Action,
-    path: &Text,
+    request: Request,
     files: &mut F,
     out: &mut O,
 ) -> Status
+    requires { IsActionInRange request.action }
     ensures holds { (F.seen files.new).holds ≡ (F.seen files.old).holds }
     ensures faults { (F.seen files.old).faults ≤ (F.seen files.new).faults }
-    ensures does { DoesFile action result (F.seen files.old) (F.seen files.new) path.now (O.seen out.old) (O.seen out.new) }
+    ensures does { DoesFile request.entry.action result (F.seen files.old) (F.seen files.new) request.entry.path.now request.entry.args.now (O.seen out.old) (O.seen out.new) }
 {
-    let source = match read_file(alloc, path, files) {
+    let source = match read_file(alloc, request.path, files) {
         Ok(source) => source,
         Err(status) => return status,
     };
-    match read_tree(alloc, path.as_bytes(), source.as_slice()) {
-        Ok(tree) => do_tree(alloc, action, &tree, out),
+    match read_tree(alloc, request.path.as_bytes(), source.as_slice()) {
+        Ok(tree) => do_tree(alloc, request, &tree, out),
         Err(status) => status,
     }
 }
@@ -84,12 +87,21 @@ fn read_file<F: Files>(alloc: Global, path: &Text, files: &mut F) -> Result<Byte
     }
 }
 
-// Does what an action asks of a tree.
-fn do_tree<O: Sink>(alloc: Global, action: Action, tree: &Tree, out: &mut O) -> Status
-    ensures { DoesTree action result tree.now (O.seen out.old) (O.seen out.new) }
+// Does what a request asks of its file's tree.
+fn do_tree<O: Sink>(alloc: Global, request: Request, tree: &Tree, out: &mut O) -> Status
+    requires { IsActionInRange request.action }
+    ensures { DoesTree request.entry.action result tree.now request.entry.args.now (O.seen out.old) (O.seen out.new) }
 {
-    match action {
+    match request.action {
         Action::Run => run_tree(alloc, tree, out),
+        Action::Interpret {
+            frames,
+            cells,
+            steps,
+        } => {
+            let limits = Limits { frames, cells };
+            interpret_tree(alloc, tree, request.args, limits, steps, out)
+        }
         Action::Check => check_tree(alloc, tree, out),
         Action::WriteText => put_made(text_of(alloc, tree), out),
         Action::WriteJson => put_made(json_of(alloc, tree), out),
@@ -138,7 +150,7 @@ fn put_all<O: Sink>(text: &[u8], out: &mut O) -> Status
 
 // Runs the program of a tree.
 fn run_tree<O: Sink>(alloc: Global, tree: &Tree, out: &mut O) -> Status
-    ensures { AsksProgram Run result tree.now (O.seen out.old) (O.seen out.new) }
+    ensures { AsksProgram Run result tree.now [] (O.seen out.old) (O.seen out.new) }
 {
     match accepted_program(alloc, tree) {
         Ok(checked) => run_accepted(alloc, checked.prog(), out),
@@ -146,9 +158,26 @@ fn run_tree<O: Sink>(alloc: Global, tree: &Tree, out: &mut O) -> Status
     }
 }
 
+// Interprets the program of a tree with these arguments.
+fn interpret_tree<O: Sink>(
+    alloc: Global,
+    tree: &Tree,
+    args: &[Text],
+    limits: Limits,
+    steps: u64,
+    out: &mut O,
+) -> Status
+    ensures { AsksProgram (Interpret limits.frames limits.cells steps) result tree.now args.now (O.seen out.old) (O.seen out.new) }
+{
+    match accepted_program(alloc, tree) {
+        Ok(checked) => interpret(alloc, &checked, args, limits, steps, out),
+        Err(status) => status,
+    }
+}
+
 // Puts how many functions and items the program of a tree has.
 fn check_tree<O: Sink>(alloc: Global, tree: &Tree, out: &mut O) -> Status
-    ensures { AsksProgram Check result tree.now (O.seen out.old) (O.seen out.new) }
+    ensures { AsksProgram Check result tree.now [] (O.seen out.old) (O.seen out.new) }
 {
     match accepted_program(alloc, tree) {
         Ok(checked) => put_made(accepted_line(alloc, checked.prog()), out),
@@ -176,7 +205,6 @@ fn accepted_line(alloc: Global, program: &Prog) -> Result<Bytes, AllocError>
 // The program of a tree, which has no imports, names without a fault, and a program that is accepted.
 fn accepted_program(alloc: Global, tree: &Tree) -> Result<Checked, Status>
     ensures ok { IfOk result (λ checked. IsAcceptedProgram tree.now checked.prog) }
-    ensures counted { IfOk result (λ checked. IsCounted checked.prog) }
     ensures err { IfErr result (λ status. RefusesProgram status tree.now) }
 {
     if !tree.imports.as_slice().is_empty() {
@@ -189,7 +217,6 @@ fn accepted_program(alloc: Global, tree: &Tree) -> Result<Checked, Status>
 fn named_program(alloc: Global, tree: &Tree) -> Result<Checked, Status>
     requires { tree.now.imports ≡ [] }
     ensures ok { IfOk result (λ checked. IsAcceptedProgram tree.now checked.prog) }
-    ensures counted { IfOk result (λ checked. IsCounted checked.prog) }
     ensures err { IfErr result (λ status. RefusesProgram status tree.now) }
 {
     match number_tree(alloc, tree) {
@@ -229,7 +256,6 @@ fn name_status(fault: NameFault) -> Status
 fn check_program(alloc: Global, program: Prog) -> Result<Checked, Status>
     ensures prog { IfOk result (λ checked. checked.prog ≡ program) }
     ensures sound { IfOk result (λ _. IsFaultless program) }
-    ensures counted { IfOk result (λ _. IsCounted program) }
     ensures err { IfErr result (λ status. RefusesCheck status program) }
 {
     // No file of the allowed size has as many functions or items.

@@ -271,7 +271,7 @@ const REFUSED: [(&[u8], &str); 29] = [
     (b"@main { $ }", "f.bril: text 1 at 8\n"),
 ];
 
-// `run` answers the same of the second table.
+// `interp` and `run` answer the same of the second table.
 #[test]
 fn checked_files(rt: HostRuntime) -> Result<(), Fail> {
     let alloc = rt.alloc();
@@ -282,7 +282,7 @@ fn checked_files(rt: HostRuntime) -> Result<(), Fail> {
         assert!(rt; told.err.bytes().is_empty());
     }
     for (source, line) in REFUSED.iter() {
-        for command in ["check", "run"].iter() {
+        for command in ["check", "interp", "run"].iter() {
             let told = ask(alloc, command, "f.bril", source)?;
             assert_eq!(rt; told.status, 65);
             assert!(rt; told.out.bytes().is_empty());

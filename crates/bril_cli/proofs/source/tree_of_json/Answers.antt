@@ -2,7 +2,7 @@
 use Rattle.std.proofs.Common.{sym, subst}
 use Rattle.bril_cli.specs.Works.{RefusesTree}
 use Rattle.bril_cli.specs.declared.source.Format.TheVariants.{InJson}
-use Rattle.bril_cli.specs.declared.status.Status.{Status}
+use Rattle.bril_report.specs.declared.status.Status.{Status}
 use Rattle.bril_cli.proofs.Outcomes.{IsOnlyTree-json, RefusesTree-json}
 use Rattle.bril_cli.proofs.source.tree_of_json.Goals as goal
 

@@ -2,7 +2,7 @@
 use Rattle.std.proofs.Common.{sym, subst}
 use Rattle.bril_cli.specs.Works.{RefusesTree}
 use Rattle.bril_cli.specs.declared.source.Format.TheVariants.{InText}
-use Rattle.bril_cli.specs.declared.status.Status.{Status}
+use Rattle.bril_report.specs.declared.status.Status.{Status}
 use Rattle.bril_cli.proofs.Outcomes.{IsOnlyTree-text, RefusesTree-text}
 use Rattle.bril_cli.proofs.source.tree_of_text.Goals as goal
 

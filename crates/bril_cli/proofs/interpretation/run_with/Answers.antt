@@ -1,0 +1,45 @@
+-- A run of the interpreter makes the steps of the program, or a write fails, or memory is wanting.
+use Rattle.std.proofs.Common.{refl, ap}
+use Rattle.bril_checker.specs.Checked.{CheckedView}
+use Rattle.bril_outside.proofs.SinkWrites.{TookSome-none}
+use Rattle.bril_cli.proofs.Interpreting.{IsFresh, ended, goes_on, exhausted, failed}
+use Rattle.bril_cli.proofs.interpretation.run_with.Given.{Over}
+use Rattle.bril_cli.proofs.interpretation.run_with.Goals as goal
+use Rattle.bril_cli.proofs.interpretation.run_with.Goals.{After-run}
+
+fresh : (g : Over) (c : After-run g) → IsFresh c.in-Ok.interp c.args.program.now.prog c.args.limits c.args.values.now
+fresh g c = record {
+  state = c.in-Ok.ensures.state;
+  of_program = ap (λ (k : CheckedView). k.prog) c.in-Ok.ensures.checked;
+  under = c.in-Ok.ensures.limits;
+  sound = c.in-Ok.ensures.sound;
+}
+
+pub returns-in-Go : goal.returns-in-Go
+returns-in-Go g c =
+    let d = (goal.at.returns-in-Go g c).After-run in
+    let made = goes_on c.in-Ok.interp c.args.program.now.prog c.args.limits c.args.values.now (fresh g d) c.args.steps _ _ _ c.in-Go.ensures in
+    (refl, made.0, made.1)
+
+pub returns-in-End-Ended : goal.returns-in-End-Ended
+returns-in-End-Ended g c =
+    let d = (goal.at.returns-in-End-Ended g c).After-run in
+    ended c.in-Ok.interp c.args.program.now.prog c.args.limits c.args.values.now (fresh g d) c.args.steps _ _ _ _ (rw c.in-End-Ended.field-0-is at c.in-End-Ended.ensures)
+
+pub returns-in-End-Faulted : goal.returns-in-End-Faulted
+returns-in-End-Faulted g c =
+    let d = (goal.at.returns-in-End-Faulted g c).After-run in
+    ended c.in-Ok.interp c.args.program.now.prog c.args.limits c.args.values.now (fresh g d) c.args.steps _ _ _ _ (rw c.in-End-Faulted.field-0-is at c.in-End-Faulted.ensures)
+
+pub returns-in-WriteFault : goal.returns-in-WriteFault
+returns-in-WriteFault g c =
+    let d = (goal.at.returns-in-WriteFault g c).After-run in
+    failed c.in-Ok.interp c.args.program.now.prog c.args.limits c.args.values.now (fresh g d) c.args.steps _ _ _ c.in-WriteFault.ensures
+
+pub returns-in_default : goal.returns-in_default
+returns-in_default g c = TookSome-none _ _
+
+pub returns : goal.returns
+returns g c =
+    let d = (goal.at.returns g c).After-run in
+    exhausted c.in-Ok.interp c.args.program.now.prog c.args.limits c.args.values.now (fresh g d) c.args.steps _ _ _ c.in-Memory.ensures

@@ -1,0 +1,112 @@
+-- Places as they are kept, and the places of the written meaning.
+use Rattle.std.proofs.Common.{◌≡◌, ℕ, zero, suc, ◌+◌, ◌-◌, ◌<◌, ◌≤◌, true, false, eqb, List, [], ◌∷◌, ◌++◌, length, map, replicate, Option, Some, None, refl, sym, ap, ◌∙◌, arith}
+use Rattle.std.specs.List.{AllByRecursion}
+use Rattle.std.proofs.lemmas.Bool.{eq-eqb, ne_eqb, cond-true, cond-false}
+use Rattle.std.proofs.lemmas.List.{length-set, length-map, length-append, length-replicate}
+use Rattle.bril_tree.specs.declared.limits.Limits.{Limits}
+use Rattle.bril_tree.specs.declared.program.Prog.{Prog}
+use Rattle.bril_tree.specs.declared.value.Value.{Value}
+use Rattle.bril_tree.specs.State.{Values, no_values, with_value}
+use Rattle.bril_tree.specs.Step.{assigned, shadowed, arguments_from, new_frame, dropped, saved, code_of}
+use Rattle.bril_heap.specs.Heap.{entries_of}
+use Rattle.bril_heap.proofs.Entries.{entries-set}
+use Rattle.bril_interpreter.specs.Frames.{PlacesView, places_of, frame_of, with_dest, with_shadow, without_newest, newest_or, HasPlace, ArePlaces, IsFrame, variable_count}
+
+-- ---- a value for a destination or a shadow
+
+pub with_dest-places : (dest : Option ℕ) (v : Value) (places : PlacesView) → HasPlace dest (length places.vars) → places_of (with_dest dest v places) ≡ assigned dest v (places_of places)
+with_dest-places None v places h = refl
+with_dest-places (Some x) v places h = ap (λ (values : Values). record (places_of places) { vars = values }) (entries-set places.vars x v h)
+
+pub with_shadow-places : (x : ℕ) (v : Value) (places : PlacesView) → x < length places.shadows → places_of (with_shadow x v places) ≡ shadowed x v (places_of places)
+with_shadow-places x v places h = ap (λ (values : Values). record (places_of places) { shadows = values }) (entries-set places.shadows x v h)
+
+pub HasPlace-more : (dest : Option ℕ) (n m : ℕ) → n ≤ m → HasPlace dest n → HasPlace dest m
+HasPlace-more None n m l h = tt
+HasPlace-more (Some x) n m l h = omega arith
+
+pub with_dest-kept : (n : ℕ) (dest : Option ℕ) (v : Value) (places : PlacesView) → ArePlaces n places → ArePlaces n (with_dest dest v places)
+with_dest-kept n None v places h = h
+with_dest-kept n (Some x) v places h = record { vars = omega (arith, h.vars, length-set places.vars x (Some v)); shadows = h.shadows }
+
+pub with_shadow-kept : (n x : ℕ) (v : Value) (places : PlacesView) → ArePlaces n places → ArePlaces n (with_shadow x v places)
+with_shadow-kept n x v places h = record { vars = h.vars; shadows = omega (arith, h.shadows, length-set places.shadows x (Some v)) }
+
+-- ---- a new frame
+
+none_held : (n : ℕ) (y : ℕ) → entries_of (replicate n None) y ≡ None
+none_held zero y = refl
+none_held (suc n) zero = refl
+none_held (suc n) (suc y) = none_held n y
+
+pub no_entries : (n : ℕ) → entries_of (replicate n None) ≡ no_values
+no_entries n = λ i y. none_held n y i
+
+-- an argument doesn't change what stands before it
+before : (p : Prog) (limits : Limits) (vs : List Value) (x y : ℕ) (values : Values) → y < x → arguments_from p limits x vs values y ≡ values y
+before p limits [] x y values h = refl
+before p limits (v ∷ vs) x y values h =
+    let other : eqb y x ≡ false = ne_eqb y x (λ e. omega arith) in
+    before p limits vs (suc x) y (with_value values x v) (omega arith) ∙ cond-false (eqb y x) (Some v) (values y) other
+
+-- what the arguments and empty entries behind them hold
+argument_held : (p : Prog) (limits : Limits) (vs : List Value) (n x y : ℕ) (values : Values) → ((z : ℕ) → x ≤ z → values z ≡ None) → arguments_from p limits x vs values (x + y) ≡ entries_of (map Some vs ++ replicate n None) y
+argument_held p limits [] n x y values none = none (x + y) (omega arith) ∙ sym (none_held n y)
+argument_held p limits (v ∷ vs) n x zero values none =
+    let here : eqb (x + 0) x ≡ true = eq-eqb (x + 0) x (omega arith) in
+    before p limits vs (suc x) (x + 0) (with_value values x v) (omega arith) ∙ cond-true (eqb (x + 0) x) (Some v) (values (x + 0)) here
+argument_held p limits (v ∷ vs) n x (suc y) values none =
+    let moved : x + suc y ≡ suc x + y = omega arith in
+    ap (arguments_from p limits (suc x) vs (with_value values x v)) moved
+    ∙ argument_held p limits vs n (suc x) y (with_value values x v) (λ z h. cond-false (eqb z x) (Some v) (values z) (ne_eqb z x (λ e. omega arith)) ∙ none z (omega arith))
+
+pub arguments_held : (p : Prog) (limits : Limits) (vs : List Value) (n : ℕ) → entries_of (map Some vs ++ replicate n None) ≡ arguments_from p limits 0 vs no_values
+arguments_held p limits vs n =
+    let at : (y : ℕ) → entries_of (map Some vs ++ replicate n None) y ≡ arguments_from p limits 0 vs no_values y =
+    λ y. sym (argument_held p limits vs n 0 y no_values (λ z h. refl)) ∙ ap (arguments_from p limits 0 vs no_values) (omega arith) in
+    λ i y. at y i
+
+-- the frame of a call, or the first of all
+pub new_frame-held : (p : Prog) (limits : Limits) (function : ℕ) (vs : List Value) (n : ℕ) (places : PlacesView) → places.vars ≡ map Some vs ++ replicate (n - length vs) None → places.shadows ≡ replicate (n + 1) None
+    → frame_of (record { function = function; point = 0; places = places; saves = [] }) ≡ new_frame p limits function vs
+new_frame-held p limits function vs n places vars shadows =
+    let held : entries_of places.vars ≡ arguments_from p limits 0 vs no_values = ap entries_of vars ∙ arguments_held p limits vs (n - length vs) in
+    let none : entries_of places.shadows ≡ no_values = ap entries_of shadows ∙ no_entries (n + 1) in
+    λ i. record { function = function; point = 0; places = record { vars = held i; shadows = none i }; saves = [] }
+
+pub new_frame-kept : (p : Prog) (function : ℕ) (vs : List Value) (places : PlacesView) → places.vars ≡ map Some vs ++ replicate (variable_count p function - length vs) None → places.shadows ≡ replicate (variable_count p function + 1) None
+    → length (code_of p function) < 4294967295 → IsFrame p (record { function = function; point = 0; places = places; saves = [] })
+new_frame-kept p function vs places vars shadows few =
+    let n : ℕ = variable_count p function in
+    let none : Option Value = None in
+    let count : length places.vars ≡ length vs + (n - length vs) = ap length vars ∙ length-append (map Some vs) (replicate (n - length vs) none) ∙ (let a = length-map vs (λ (v : Value). Some v) in let b = length-replicate (n - length vs) none in omega arith) in
+    let more : length places.shadows ≡ n + 1 = ap length shadows ∙ length-replicate (n + 1) none in
+    record {
+      places = record { vars = omega arith; shadows = omega arith };
+      saves = tt;
+      few_saves = omega arith;
+      few_items = few;
+      point = omega arith;
+    }
+
+-- ---- saves
+
+pub dropped-held : (p : Prog) (limits : Limits) (saves : List PlacesView) → map places_of (without_newest saves) ≡ dropped p limits (map places_of saves)
+dropped-held p limits [] = refl
+dropped-held p limits (newest ∷ saves) = refl
+
+pub saved-held : (p : Prog) (limits : Limits) (saves : List PlacesView) (places : PlacesView) → places_of (newest_or saves places) ≡ saved p limits (map places_of saves) (places_of places)
+saved-held p limits [] places = refl
+saved-held p limits (newest ∷ saves) places = refl
+
+pub dropped-kept : (n : ℕ) (saves : List PlacesView) → AllByRecursion (ArePlaces n) saves → AllByRecursion (ArePlaces n) (without_newest saves)
+dropped-kept n [] h = tt
+dropped-kept n (newest ∷ saves) h = h.1
+
+pub dropped-few : (saves : List PlacesView) → length (without_newest saves) ≤ length saves
+dropped-few [] = omega arith
+dropped-few (newest ∷ saves) = omega arith
+
+pub saved-kept : (n : ℕ) (saves : List PlacesView) (places : PlacesView) → AllByRecursion (ArePlaces n) saves → ArePlaces n places → ArePlaces n (newest_or saves places)
+saved-kept n [] places h one = one
+saved-kept n (newest ∷ saves) places h one = h.0

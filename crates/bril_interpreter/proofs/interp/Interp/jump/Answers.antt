@@ -1,0 +1,19 @@
+use Rattle.bril_interpreter.proofs.Known.{point_inside}
+use Rattle.bril_interpreter.proofs.interp.Interp.jump.Goals as goal
+
+pub invariant_of-self : goal.invariant_of-self
+invariant_of-self c =
+    let kept = c.self.invariant in
+    rw c.go_to.ensures
+    (record {
+      frame = record {
+        places = kept.frame.places;
+        saves = kept.frame.saves;
+        few_saves = kept.frame.few_saves;
+        few_items = kept.frame.few_items;
+        point = rw (c.label_point-point.ensures, ← c.self.view_is) (point_inside _ _);
+      };
+      callers = kept.callers;
+      functions = kept.functions;
+      memory = kept.memory;
+    })

@@ -1,0 +1,6 @@
+pub mod Call
+pub mod Frames
+pub mod Interpreter
+pub mod Line
+pub mod Steps
+pub mod Tables

@@ -1,0 +1,22 @@
+//! The interpreter: a program runs by its written meaning, step by step.
+#![tactic(auto)]
+
+mod actions;
+mod answer;
+mod calls;
+mod frame;
+mod interp;
+mod lookup;
+mod memory;
+mod operand;
+mod places;
+mod printing;
+mod speculation;
+mod step;
+mod stop;
+mod table;
+#[cfg(test)]
+mod tests;
+
+pub use answer::{Here, StepAnswer};
+pub use interp::Interp;

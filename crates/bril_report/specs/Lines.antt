@@ -1,0 +1,180 @@
+-- The lines on the error output.
+use Rattle.std.specs.Prelude.{ℕ, List, [], ◌++◌, Option, Some, None, codes, slice_get}
+use Rattle.std.specs.Fmt.{decimal}
+use Rattle.bril_tree.specs.declared.limits.Fault.{Fault}
+use Rattle.bril_tree.specs.declared.limits.Fault.TheVariants as fault
+use Rattle.bril_tree.specs.declared.numbered.VarInfo.{VarInfo}
+use Rattle.bril_tree.specs.declared.numbered_function.Func.{Func}
+use Rattle.bril_tree.specs.declared.program.Prog.{Prog}
+use Rattle.bril_checker.specs.declared.fault.CheckFault.{CheckFault}
+use Rattle.bril_checker.specs.declared.fault.CheckFault.TheVariants as check
+use Rattle.bril_json.specs.declared.fault.JsonFault.{JsonFault}
+use Rattle.bril_json.specs.declared.fault.JsonFault.TheVariants as json
+use Rattle.bril_names.specs.declared.fault.NameFault.{NameFault}
+use Rattle.bril_names.specs.declared.fault.NameFault.TheVariants as name
+use Rattle.bril_text.specs.declared.fault.TextFault.{TextFault}
+use Rattle.bril_text.specs.declared.fault.TextFault.TheVariants as text
+use Rattle.bril_words.specs.declared.misuse.Misuse.{Misuse}
+use Rattle.bril_words.specs.declared.misuse.Misuse.TheVariants.{Words, Value}
+use Rattle.bril_words.specs.declared.misuse.Setting.TheVariants.{Frames, Cells, Steps}
+use Rattle.bril_report.specs.declared.report.Place.{Place}
+use Rattle.bril_report.specs.declared.status.SourceFault.{SourceFault}
+use Rattle.bril_report.specs.declared.status.SourceFault.TheVariants.{Text, Json}
+
+abbrev pub form_line : List ℕ → List ℕ
+form_line path = path ++ codes ": form\n"
+
+-- the kind of a fault of the text, by its number
+abbrev pub text_front : TextFault → List ℕ
+text_front (text.Lex at) = codes ": text 1 at "
+text_front (text.Grammar at) = codes ": text 2 at "
+text_front (text.IntRange at) = codes ": text 3 at "
+text_front (text.Float at) = codes ": text 4 at "
+text_front (text.Deep at) = codes ": text 5 at "
+text_front text.Memory = codes ": text 0 at "
+
+-- the byte at which it stands
+abbrev pub text_place : TextFault → ℕ
+text_place (text.Lex at) = at
+text_place (text.Grammar at) = at
+text_place (text.IntRange at) = at
+text_place (text.Float at) = at
+text_place (text.Deep at) = at
+text_place text.Memory = 0
+
+-- a function and an item by their numbers, where a fault stands in one
+abbrev pub place_of : Option ℕ → Option ℕ → Place
+place_of func item = record { func = func; item = item }
+
+-- a number, or `-` for none
+abbrev pub number_or_dash : Option ℕ → List ℕ
+number_or_dash None = codes "-"
+number_or_dash (Some n) = decimal n
+
+-- a place, and what follows it on its line
+abbrev pub place_then : Place → List ℕ → List ℕ
+place_then place rest = number_or_dash place.func ++ codes " item " ++ (number_or_dash place.item ++ rest)
+
+-- the end of a line that tells a place
+abbrev pub place_end : Place → List ℕ
+place_end place = place_then place (codes "\n")
+
+-- the kind of a fault of the JSON, by its number
+abbrev pub json_front : JsonFault → List ℕ
+json_front json.Syntax = codes ": json 1 function "
+json_front (json.Shape func item) = codes ": json 2 function "
+json_front (json.IntRange func item) = codes ": json 3 function "
+json_front (json.Float func item) = codes ": json 4 function "
+json_front (json.Deep func item) = codes ": json 5 function "
+json_front json.Memory = codes ": json 0 function "
+
+abbrev pub json_place : JsonFault → Place
+json_place json.Syntax = place_of None None
+json_place (json.Shape func item) = place_of func item
+json_place (json.IntRange func item) = place_of (Some func) (Some item)
+json_place (json.Float func item) = place_of func item
+json_place (json.Deep func item) = place_of func item
+json_place json.Memory = place_of None None
+
+abbrev pub misread_line : List ℕ → SourceFault → List ℕ
+misread_line path (Text fault) = path ++ text_front fault ++ (decimal (text_place fault) ++ codes "\n")
+misread_line path (Json fault) = path ++ json_front fault ++ place_end (json_place fault)
+
+-- the kind of a fault of the names, by its number
+abbrev pub name_front : NameFault → List ℕ
+name_front (name.NoFunction func item) = codes "name 1 function "
+name_front (name.TwiceFunction func) = codes "name 2 function "
+name_front (name.NoLabel func item) = codes "name 3 function "
+name_front (name.TwiceLabel func item) = codes "name 4 function "
+name_front name.NoMain = codes "name 5 function "
+name_front (name.TwiceArg func) = codes "name 6 function "
+name_front name.Memory = codes "name 0 function "
+
+abbrev pub name_place : NameFault → Place
+name_place (name.NoFunction func item) = place_of (Some func) (Some item)
+name_place (name.TwiceFunction func) = place_of (Some func) None
+name_place (name.NoLabel func item) = place_of (Some func) (Some item)
+name_place (name.TwiceLabel func item) = place_of (Some func) (Some item)
+name_place name.NoMain = place_of None None
+name_place (name.TwiceArg func) = place_of (Some func) None
+name_place name.Memory = place_of None None
+
+abbrev pub misnamed_line : NameFault → List ℕ
+misnamed_line fault = name_front fault ++ place_end (name_place fault)
+
+-- ---- the line of a program that isn't accepted
+
+abbrev pub name_of : Option VarInfo → List ℕ
+name_of None = []
+name_of (Some variable) = variable.name
+
+abbrev pub name_in : Option Func → ℕ → List ℕ
+name_in None variable = []
+name_in (Some f) variable = name_of (slice_get f.vars variable)
+
+-- the name of a variable of a function
+abbrev pub variable_name : Prog → ℕ → ℕ → List ℕ
+variable_name p func variable = name_in (slice_get p.funcs func) variable
+
+-- the end of a line that tells a function and an item
+abbrev pub item_end : ℕ → ℕ → List ℕ
+item_end func item = place_end (place_of (Some func) (Some item))
+
+-- the line of a variable of this name that may be unassigned
+abbrev pub unassigned_line : List ℕ → ℕ → ℕ → List ℕ
+unassigned_line name func item =
+    codes "check 3 function " ++ place_then (place_of (Some func) (Some item)) (codes " variable ") ++ (name ++ codes "\n")
+
+-- the kind of a fault of the checker, by its number, and its place
+abbrev pub unaccepted_line : Prog → CheckFault → List ℕ
+unaccepted_line p (check.Types func item) = codes "check 1 function " ++ item_end func item
+unaccepted_line p (check.Arity func item) = codes "check 2 function " ++ item_end func item
+unaccepted_line p (check.MaybeUnassigned func item variable) = unassigned_line (variable_name p func variable) func item
+unaccepted_line p (check.Nest func item) = codes "check 4 function " ++ item_end func item
+unaccepted_line p (check.SpecCall func item) = codes "check 5 function " ++ item_end func item
+unaccepted_line p (check.NoReturn func item) = codes "check 6 function " ++ item_end func item
+unaccepted_line p check.MainType = codes "check 7 function " ++ place_end (place_of (Some p.main) None)
+unaccepted_line p (check.PrintPtr func item) = codes "check 8 function " ++ item_end func item
+unaccepted_line p check.Memory = codes "check 0 function - item -\n"
+
+abbrev pub unread_line : List ℕ → List ℕ
+unread_line path = codes "cannot read " ++ path ++ codes "\n"
+
+abbrev pub code_line : ℕ → List ℕ
+code_line words = codes "too large: code " ++ decimal words ++ codes "\n"
+
+abbrev pub stack_line : ℕ → List ℕ
+stack_line words = codes "too large: stack " ++ decimal words ++ codes "\n"
+
+-- a fault of a run, by its number and its name
+abbrev pub fault_line : Fault → List ℕ
+fault_line fault.DivZero = codes "fault 1 DivZero\n"
+fault_line fault.BadChar = codes "fault 2 BadChar\n"
+fault_line fault.BadAlloc = codes "fault 3 BadAlloc\n"
+fault_line fault.BadFree = codes "fault 4 BadFree\n"
+fault_line fault.Access = codes "fault 5 Access\n"
+fault_line fault.Uninit = codes "fault 6 Uninit\n"
+fault_line fault.Leak = codes "fault 7 Leak\n"
+fault_line fault.Frames = codes "fault 8 Frames\n"
+fault_line fault.Cells = codes "fault 9 Cells\n"
+fault_line fault.PtrRange = codes "fault 10 PtrRange\n"
+fault_line fault.Allocs = codes "fault 11 Allocs\n"
+
+-- the steps that were made while the run goes on
+abbrev pub spent_line : ℕ → List ℕ
+spent_line steps = codes "spent " ++ decimal steps ++ codes "\n"
+
+-- so many arguments, and how many `main` takes
+abbrev pub count_line : ℕ → ℕ → List ℕ
+count_line given wanted = (codes "arguments: " ++ decimal given) ++ (codes " given, " ++ decimal wanted ++ codes " wanted\n")
+
+-- the place, from 1, of an argument that spells no value of its type
+abbrev pub spelling_line : ℕ → List ℕ
+spelling_line place = codes "argument " ++ decimal place ++ codes "\n"
+
+-- words that ask for nothing
+abbrev pub misuse_line : Misuse → List ℕ
+misuse_line Words = codes "usage\n"
+misuse_line (Value Frames) = codes "usage: --frames\n"
+misuse_line (Value Cells) = codes "usage: --cells\n"
+misuse_line (Value Steps) = codes "usage: --steps\n"

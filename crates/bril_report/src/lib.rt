@@ -1,0 +1,10 @@
+//! What is told of how a command ended: its status, the status's number, and its line on the error output.
+#![tactic(auto)]
+
+mod report;
+mod status;
+#[cfg(test)]
+mod tests;
+
+pub use report::{say, say_misuse, status_number};
+pub use status::{SourceFault, Status};

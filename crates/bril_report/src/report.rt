@@ -1,0 +1,488 @@
+// What is told of how a command ended: its number, and its line on the error output.
+
+ghost use Rattle.std.specs.Prelude.{◌≡◌, ◌++◌, codes, None, Some};
+ghost use Rattle.std.specs.Fmt.{decimal};
+ghost use Rattle.bril_report.specs.Lines.{misread_line, misnamed_line, text_front, text_place, json_front, json_place, name_front, name_place, number_or_dash, place_then, place_end, place_of, variable_name, unassigned_line, unaccepted_line, fault_line, count_line, misuse_line};
+ghost use Rattle.bril_report.specs.Report.{Says, status_number, status_line, PutsLine, SaysStatus};
+
+use crate::status::{SourceFault, Status};
+use bril_checker::CheckFault;
+use bril_json::JsonFault;
+use bril_names::NameFault;
+use bril_outside::sink::{Failed, Sink, put_three, put_two};
+use bril_text::TextFault;
+use bril_tree::limits::Fault;
+use bril_tree::program::Prog;
+use bril_tree::text::Text;
+use bril_words::{Misuse, Setting};
+use itoa::Buffer;
+
+// A function and an item by their numbers, where a fault stands in one.
+#[derive(Clone, Copy, Drop)]
+struct Place {
+    func: Option<u32>,
+    item: Option<u32>,
+}
+
+/// The number of a status.
+pub fn status_number(status: &Status) -> u8
+    ensures { result ≡ status_number status.now }
+{
+    match status {
+        Status::Done => 0,
+        Status::Faulted { .. } => 2,
+        Status::Spent { .. } => 3,
+        Status::Unformed
+        | Status::Misread { .. }
+        | Status::Misnamed { .. }
+        | Status::Unaccepted { .. } => 65,
+        Status::Unread => 66,
+        Status::FileTooBig | Status::CodeTooBig { .. } | Status::StackTooBig { .. } => 68,
+        Status::Miscounted { .. } | Status::Misspelt { .. } => 69,
+        Status::OutOfMemory => 71,
+        Status::Unwritten => 74,
+    }
+}
+
+/// Puts the line of a status, for the file at a path, on the error output. Where all was done nothing is put.
+/// A fault of the error output changes nothing else.
+pub fn say<E: Sink>(err: &mut E, path: &Text, status: &Status)
+    ensures { SaysStatus status.now path.now (E.seen err.old) (E.seen err.new) }
+{
+    if !matches!(status, Status::Done) {
+        let _ = put_status(err, path, status);
+    }
+}
+
+/// Puts the line of words that ask for nothing on the error output.
+pub fn say_misuse<E: Sink>(err: &mut E, misuse: Misuse)
+    ensures { Says (E.seen err.old) (misuse_line misuse) (E.seen err.new) }
+{
+    let _ = put_line(err, misuse_line(misuse));
+}
+
+// The line of words that ask for nothing.
+fn misuse_line(misuse: Misuse) -> &'static [u8]
+    ensures { result.now ≡ misuse_line misuse }
+{
+    match misuse {
+        Misuse::Words => b"usage\n",
+        Misuse::Value {
+            setting: Setting::Frames,
+        } => b"usage: --frames\n",
+        Misuse::Value {
+            setting: Setting::Cells,
+        } => b"usage: --cells\n",
+        Misuse::Value {
+            setting: Setting::Steps,
+        } => b"usage: --steps\n",
+    }
+}
+
+// Puts the line of a status.
+fn put_status<E: Sink>(err: &mut E, path: &Text, status: &Status) -> Result<(), Failed>
+    ensures { PutsLine result (E.seen err.old) (status_line status.now path.now) (E.seen err.new) }
+{
+    match status {
+        Status::Done => put_line(err, b""),
+        Status::Faulted { fault } => put_line(err, fault_line(*fault)),
+        Status::Spent { steps } => put_number(err, b"spent ", *steps),
+        Status::Unformed => put_two(err, path.as_bytes(), b": form\n"),
+        Status::Misread { fault } => put_misread(err, path.as_bytes(), *fault),
+        Status::Misnamed { fault } => put_misnamed(err, *fault),
+        Status::Unaccepted { program, fault } => put_unaccepted(err, program, *fault),
+        Status::Unread => put_around(err, b"cannot read ", path.as_bytes()),
+        Status::FileTooBig => put_line(err, b"too large: bytes\n"),
+        Status::CodeTooBig { words } => put_number(err, b"too large: code ", *words),
+        Status::StackTooBig { words } => put_number(err, b"too large: stack ", *words),
+        Status::Miscounted { given, wanted } => put_counts(err, *given, *wanted),
+        Status::Misspelt { place } => put_number(err, b"argument ", u64::from(*place)),
+        Status::OutOfMemory => put_line(err, b"out of memory\n"),
+        Status::Unwritten => put_line(err, b"cannot write\n"),
+    }
+}
+
+// The line of a fault of a run.
+fn fault_line(fault: Fault) -> &'static [u8]
+    ensures { result.now ≡ fault_line fault }
+{
+    match fault {
+        Fault::DivZero => b"fault 1 DivZero\n",
+        Fault::BadChar => b"fault 2 BadChar\n",
+        Fault::BadAlloc => b"fault 3 BadAlloc\n",
+        Fault::BadFree => b"fault 4 BadFree\n",
+        Fault::Access => b"fault 5 Access\n",
+        Fault::Uninit => b"fault 6 Uninit\n",
+        Fault::Leak => b"fault 7 Leak\n",
+        Fault::Frames => b"fault 8 Frames\n",
+        Fault::Cells => b"fault 9 Cells\n",
+        Fault::PtrRange => b"fault 10 PtrRange\n",
+        Fault::Allocs => b"fault 11 Allocs\n",
+    }
+}
+
+// Puts the line of a wrong number of arguments.
+fn put_counts<E: Sink>(err: &mut E, given: u32, wanted: u32) -> Result<(), Failed>
+    ensures { PutsLine result (E.seen err.old) (count_line given wanted) (E.seen err.new) }
+{
+    let mut first = Buffer::new();
+    let mut second = Buffer::new();
+    put_counted(
+        err,
+        first.format(given).as_bytes(),
+        second.format(wanted).as_bytes(),
+    )
+}
+
+// Puts the line of how many arguments were given and are wanted, both as decimals.
+fn put_counted<E: Sink>(err: &mut E, given: &[u8], wanted: &[u8]) -> Result<(), Failed>
+    ensures { PutsLine result (E.seen err.old) ((codes "arguments: " ++ given.now) ++ (codes " given, " ++ wanted.now ++ codes " wanted\n")) (E.seen err.new) }
+{
+    put_five(
+        err,
+        b"arguments: ",
+        given,
+        b" given, ",
+        wanted,
+        b" wanted\n",
+    )
+}
+
+// Puts the line of a fault of the bytes of the file at a path.
+fn put_misread<E: Sink>(err: &mut E, path: &[u8], fault: SourceFault) -> Result<(), Failed>
+    ensures { PutsLine result (E.seen err.old) (misread_line path.now fault) (E.seen err.new) }
+{
+    match fault {
+        SourceFault::Text(fault) => put_text_fault(err, path, fault),
+        SourceFault::Json(fault) => {
+            put_placed(err, path, json_front(fault), json_place(fault), b"\n")
+        }
+    }
+}
+
+// Puts the line of a fault of the names.
+fn put_misnamed<E: Sink>(err: &mut E, fault: NameFault) -> Result<(), Failed>
+    ensures { PutsLine result (E.seen err.old) (misnamed_line fault) (E.seen err.new) }
+{
+    put_placed(err, b"", name_front(fault), name_place(fault), b"\n")
+}
+
+// Puts the line of a fault of the checker, which the program has.
+fn put_unaccepted<E: Sink>(err: &mut E, program: &Prog, fault: CheckFault) -> Result<(), Failed>
+    ensures { PutsLine result (E.seen err.old) (unaccepted_line program.now fault) (E.seen err.new) }
+{
+    match fault {
+        CheckFault::Types { func, item } => put_item(err, b"check 1 function ", func, item, b"\n"),
+        CheckFault::Arity { func, item } => put_item(err, b"check 2 function ", func, item, b"\n"),
+        CheckFault::MaybeUnassigned { func, item, var } => {
+            put_unassigned(err, variable_name(program, func, var), func, item)
+        }
+        CheckFault::Nest { func, item } => put_item(err, b"check 4 function ", func, item, b"\n"),
+        CheckFault::SpecCall { func, item } => put_item(
+            err,
+            b"check 5 function ",
+            func,
+            item,
+            b"\n",
+        ),
+        CheckFault::NoReturn { func, item } => put_item(
+            err,
+            b"check 6 function ",
+            func,
+            item,
+            b"\n",
+        ),
+        CheckFault::MainType => put_main(err, program.main),
+        CheckFault::PrintPtr { func, item } => put_item(
+            err,
+            b"check 8 function ",
+            func,
+            item,
+            b"\n",
+        ),
+        CheckFault::Memory => put_line(err, b"check 0 function - item -\n"),
+    }
+}
+
+// Puts the line of a `main` that returns a value or takes a pointer.
+fn put_main<E: Sink>(err: &mut E, main: u32) -> Result<(), Failed>
+    ensures { PutsLine result (E.seen err.old) (codes "check 7 function " ++ place_end (place_of (Some main) None)) (E.seen err.new) }
+{
+    put_placed(err, b"", b"check 7 function ", function_place(main), b"\n")
+}
+
+// Puts a piece, a function and an item, and what follows them.
+fn put_item<E: Sink>(
+    err: &mut E,
+    front: &[u8],
+    func: u32,
+    item: u32,
+    rest: &[u8],
+) -> Result<(), Failed>
+    ensures { PutsLine result (E.seen err.old) (front.now ++ place_then (place_of (Some func) (Some item)) rest.now) (E.seen err.new) }
+{
+    put_placed(err, b"", front, item_place(func, item), rest)
+}
+
+// Puts the line of a variable of this name that may be unassigned.
+fn put_unassigned<E: Sink>(err: &mut E, name: &[u8], func: u32, item: u32) -> Result<(), Failed>
+    ensures { PutsLine result (E.seen err.old) (unassigned_line name.now func item) (E.seen err.new) }
+{
+    put_named(
+        err,
+        b"check 3 function ",
+        item_place(func, item),
+        b" variable ",
+        name,
+    )
+}
+
+// Puts a piece, a place and what follows it, a name, and LF.
+fn put_named<E: Sink>(
+    err: &mut E,
+    front: &[u8],
+    place: Place,
+    rest: &[u8],
+    name: &[u8],
+) -> Result<(), Failed>
+    ensures { PutsLine result (E.seen err.old) (front.now ++ place_then place rest.now ++ (name.now ++ codes "\n")) (E.seen err.new) }
+{
+    put_placed(err, b"", front, place, rest)?;
+    match put_two(err, name, b"\n") {
+        Ok(()) => Ok(()),
+        Err(Failed) => Err(Failed),
+    }
+}
+
+// The name of a variable of a function.
+fn variable_name(program: &Prog, func: u32, var: u32) -> &[u8]
+    ensures { result.now ≡ variable_name program.now func var }
+{
+    match program.funcs.as_slice().get(func as usize) {
+        None => b"",
+        Some(func) => match func.vars.as_slice().get(var as usize) {
+            None => b"",
+            Some(variable) => variable.name.as_bytes(),
+        },
+    }
+}
+
+// Puts the line of a fault of the text of the file at a path.
+fn put_text_fault<E: Sink>(err: &mut E, path: &[u8], fault: TextFault) -> Result<(), Failed>
+    ensures { PutsLine result (E.seen err.old) (misread_line path.now (SourceFault.Text fault)) (E.seen err.new) }
+{
+    let mut buffer = Buffer::new();
+    put_four(
+        err,
+        path,
+        text_front(fault),
+        buffer.format(text_place(fault)).as_bytes(),
+        b"\n",
+    )
+}
+
+// Puts two pieces, a place and what follows it.
+fn put_placed<E: Sink>(
+    err: &mut E,
+    a: &[u8],
+    b: &[u8],
+    place: Place,
+    rest: &[u8],
+) -> Result<(), Failed>
+    ensures { PutsLine result (E.seen err.old) (a.now ++ b.now ++ place_then place rest.now) (E.seen err.new) }
+{
+    put_two(err, a, b)?;
+    match put_place(err, place, rest) {
+        Ok(()) => Ok(()),
+        Err(Failed) => Err(Failed),
+    }
+}
+
+// Puts a place and what follows it.
+fn put_place<E: Sink>(err: &mut E, place: Place, rest: &[u8]) -> Result<(), Failed>
+    ensures { PutsLine result (E.seen err.old) (place_then place rest.now) (E.seen err.new) }
+{
+    let mut func = Buffer::new();
+    let mut item = Buffer::new();
+    put_four(
+        err,
+        number_or_dash(&mut func, place.func),
+        b" item ",
+        number_or_dash(&mut item, place.item),
+        rest,
+    )
+}
+
+// The place of an item.
+fn item_place(func: u32, item: u32) -> Place
+    ensures { result ≡ place_of (Some func) (Some item) }
+{
+    Place {
+        func: Some(func),
+        item: Some(item),
+    }
+}
+
+// The place of a function.
+fn function_place(func: u32) -> Place
+    ensures { result ≡ place_of (Some func) None }
+{
+    Place {
+        func: Some(func),
+        item: None,
+    }
+}
+
+// The place of what stands in no function.
+fn no_place() -> Place
+    ensures { result ≡ place_of None None }
+{
+    Place {
+        func: None,
+        item: None,
+    }
+}
+
+// A number as a decimal, or `-` for none.
+fn number_or_dash(buffer: &mut Buffer, number: Option<u32>) -> &[u8]
+    ensures { result.now ≡ number_or_dash number }
+{
+    match number {
+        Some(number) => buffer.format(number).as_bytes(),
+        None => b"-",
+    }
+}
+
+// The kind of a fault of the JSON, by its number.
+fn json_front(fault: JsonFault) -> &'static [u8]
+    ensures { result.now ≡ json_front fault }
+{
+    match fault {
+        JsonFault::Syntax => b": json 1 function ",
+        JsonFault::Shape { .. } => b": json 2 function ",
+        JsonFault::IntRange { .. } => b": json 3 function ",
+        JsonFault::Float { .. } => b": json 4 function ",
+        JsonFault::Deep { .. } => b": json 5 function ",
+        JsonFault::Memory => b": json 0 function ",
+    }
+}
+
+// The place of a fault of the JSON.
+fn json_place(fault: JsonFault) -> Place
+    ensures { result ≡ json_place fault }
+{
+    match fault {
+        JsonFault::Shape { func, item }
+        | JsonFault::Float { func, item }
+        | JsonFault::Deep { func, item } => Place { func, item },
+        JsonFault::IntRange { func, item } => item_place(func, item),
+        JsonFault::Syntax | JsonFault::Memory => no_place(),
+    }
+}
+
+// The kind of a fault of the names, by its number.
+fn name_front(fault: NameFault) -> &'static [u8]
+    ensures { result.now ≡ name_front fault }
+{
+    match fault {
+        NameFault::NoFunction { .. } => b"name 1 function ",
+        NameFault::TwiceFunction { .. } => b"name 2 function ",
+        NameFault::NoLabel { .. } => b"name 3 function ",
+        NameFault::TwiceLabel { .. } => b"name 4 function ",
+        NameFault::NoMain => b"name 5 function ",
+        NameFault::TwiceArg { .. } => b"name 6 function ",
+        NameFault::Memory => b"name 0 function ",
+    }
+}
+
+// The place of a fault of the names.
+fn name_place(fault: NameFault) -> Place
+    ensures { result ≡ name_place fault }
+{
+    match fault {
+        NameFault::NoFunction { func, item }
+        | NameFault::NoLabel { func, item }
+        | NameFault::TwiceLabel { func, item } => item_place(func, item),
+        NameFault::TwiceFunction { func } | NameFault::TwiceArg { func } => function_place(func),
+        NameFault::NoMain | NameFault::Memory => no_place(),
+    }
+}
+
+// The kind of a fault of the text, by its number.
+fn text_front(fault: TextFault) -> &'static [u8]
+    ensures { result.now ≡ text_front fault }
+{
+    match fault {
+        TextFault::Lex { .. } => b": text 1 at ",
+        TextFault::Grammar { .. } => b": text 2 at ",
+        TextFault::IntRange { .. } => b": text 3 at ",
+        TextFault::Float { .. } => b": text 4 at ",
+        TextFault::Deep { .. } => b": text 5 at ",
+        TextFault::Memory => b": text 0 at ",
+    }
+}
+
+// The byte at which it stands.
+fn text_place(fault: TextFault) -> u32
+    ensures { result ≡ text_place fault }
+{
+    match fault {
+        TextFault::Lex { at }
+        | TextFault::Grammar { at }
+        | TextFault::IntRange { at }
+        | TextFault::Float { at }
+        | TextFault::Deep { at } => at,
+        TextFault::Memory => 0,
+    }
+}
+
+// Puts four pieces.
+fn put_four<E: Sink>(err: &mut E, a: &[u8], b: &[u8], c: &[u8], d: &[u8]) -> Result<(), Failed>
+    ensures { PutsLine result (E.seen err.old) (a.now ++ b.now ++ (c.now ++ d.now)) (E.seen err.new) }
+{
+    put_two(err, a, b)?;
+    match put_two(err, c, d) {
+        Ok(()) => Ok(()),
+        Err(Failed) => Err(Failed),
+    }
+}
+
+// Puts five pieces.
+fn put_five<E: Sink>(
+    err: &mut E,
+    a: &[u8],
+    b: &[u8],
+    c: &[u8],
+    d: &[u8],
+    e: &[u8],
+) -> Result<(), Failed>
+    ensures { PutsLine result (E.seen err.old) ((a.now ++ b.now) ++ (c.now ++ d.now ++ e.now)) (E.seen err.new) }
+{
+    put_two(err, a, b)?;
+    match put_three(err, c, d, e) {
+        Ok(()) => Ok(()),
+        Err(Failed) => Err(Failed),
+    }
+}
+
+// Puts a line that is one piece.
+fn put_line<E: Sink>(err: &mut E, line: &[u8]) -> Result<(), Failed>
+    ensures { PutsLine result (E.seen err.old) line.now (E.seen err.new) }
+{
+    err.put(line)
+}
+
+// Puts two pieces and LF.
+fn put_around<E: Sink>(err: &mut E, front: &[u8], back: &[u8]) -> Result<(), Failed>
+    ensures { PutsLine result (E.seen err.old) (front.now ++ back.now ++ codes "\n") (E.seen err.new) }
+{
+    put_three(err, front, back, b"\n")
+}
+
+// Puts a line that ends with a number.
+fn put_number<E: Sink>(err: &mut E, front: &[u8], number: u64) -> Result<(), Failed>
+    ensures { PutsLine result (E.seen err.old) (front.now ++ decimal number ++ codes "\n") (E.seen err.new) }
+{
+    let mut buffer = Buffer::new();
+    put_around(err, front, buffer.format(number).as_bytes())
+}

@@ -1,0 +1,50 @@
+// How a command ends.
+
+use bril_checker::CheckFault;
+use bril_json::JsonFault;
+use bril_names::NameFault;
+use bril_text::TextFault;
+use bril_tree::limits::Fault;
+use bril_tree::program::Prog;
+
+/// Why a file's bytes read as no tree.
+#[derive(Clone, Copy, PartialEq, Eq, Debug, Drop)]
+pub enum SourceFault {
+    Text(TextFault),
+    Json(JsonFault),
+}
+
+/// How a command that was asked for ends.
+#[derive(Drop)]
+pub enum Status {
+    /// All was done.
+    Done,
+    /// The program stopped with this fault.
+    Faulted { fault: Fault },
+    /// The program still runs after so many steps.
+    Spent { steps: u64 },
+    /// The file has imports, or its accepted program can't run yet, since it isn't straight.
+    Unformed,
+    /// The file's bytes read as no tree.
+    Misread { fault: SourceFault },
+    /// The names of the file's tree can't become numbers.
+    Misnamed { fault: NameFault },
+    /// The program isn't accepted.
+    Unaccepted { program: Prog, fault: CheckFault },
+    /// The file could not be read.
+    Unread,
+    /// The file has too many bytes.
+    FileTooBig,
+    /// The program has too many words of code, by this bound of them.
+    CodeTooBig { words: u64 },
+    /// The program needs too many words of stack, this many.
+    StackTooBig { words: u64 },
+    /// So many arguments were given, and `main` takes so many.
+    Miscounted { given: u32, wanted: u32 },
+    /// The argument at this place, from 1, spells no value of its type.
+    Misspelt { place: u32 },
+    /// Memory was wanting.
+    OutOfMemory,
+    /// A write to the output failed.
+    Unwritten,
+}
