@@ -1,6 +1,15 @@
 -- What adapters over readers and writers of the system do to bytes that are known of these.
-use Rattle.std.specs.Prelude.{ℕ, ◌≡◌, ◌≤◌, List, ◌++◌, length, Option}
+use Rattle.std.specs.Prelude.{ℕ, ◌≡◌, ◌≤◌, Bool, List, ◌++◌, length, Option, None, Result, Ok, Err}
 use Rattle.std.specs.Io.KnownBytes.{Appends, Consumes, IsAtEnd}
+use Rattle.bril_outside.specs.Sink.{next_count}
+use Rattle.bril_outside.specs.Files.{FilesSeen}
+use Rattle.bril_outside.specs.declared.files.FileFault.{FileFault}
+use Rattle.bril_outside.specs.declared.files.FileFault.TheVariants.{Failed, Memory}
+
+-- a sink over a writer: the writer, and how many writes to the sink failed
+pub record SinkOver (W : Type 0) : Type 0 where
+  pub out : W
+  pub faults : ℕ
 
 -- known bytes grew by the first of these
 pub record AppendsFirst (old new : Option (List ℕ)) (bytes : List ℕ) : Type 0 where
@@ -13,3 +22,13 @@ pub record AppendsFirst (old new : Option (List ℕ)) (bytes : List ℕ) : Type 
 pub record ReadsUpTo (old new : Option (List ℕ)) (most : ℕ) (bytes : List ℕ) : Type 0 where
   pub took : Consumes old new bytes
   pub ends : length bytes ≤ most → IsAtEnd new
+
+-- what is told of files whose content is not: their faults
+abbrev pub untold_files : ℕ → FilesSeen
+untold_files faults = record { holds = None; faults = faults }
+
+-- the count of faults of files after an answer: one more exactly where a read failed
+abbrev pub faults_after : Result Bool FileFault → ℕ → ℕ
+faults_after (Ok whole) faults = faults
+faults_after (Err Failed) faults = next_count faults
+faults_after (Err Memory) faults = faults

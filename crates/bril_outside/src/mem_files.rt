@@ -81,7 +81,8 @@ impl Files for MemFiles {
     ghost seen = { files_seen };
 
     /// Reads the file at the path, of at most `most` bytes. Fails exactly where the number of the read is on
-    /// the list, or no file is at the path; only the first counts as a fault.
+    /// the list, or no file is at the path; only the first counts as a fault. Memory is wanted for a file that
+    /// is appended alone.
     fn read(
         &mut self,
         _alloc: Global,

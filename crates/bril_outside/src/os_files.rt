@@ -1,7 +1,8 @@
 // The files of the system.
 
 ghost use Rattle.std.specs.Prelude.{◌≡◌, ◌≤◌, ◌^◌, ◌-◌, ◌+◌, min, None, IfOk, IfErr, OnErr, MatchBool, length};
-ghost use Rattle.bril_outside.specs.Adapter.{ReadsUpTo};
+ghost use Rattle.bril_outside.specs.Adapter.{ReadsUpTo, untold_files, faults_after};
+ghost use Rattle.bril_outside.specs.Files.{AppendedFile, FoundLonger, MayFail};
 
 use crate::files::{FileFault, Files, append_short};
 use bril_tree::bytes::Bytes;
@@ -9,8 +10,9 @@ use bril_tree::text::Text;
 use std::alloc::Global;
 use std::fs;
 use std::io::{ErrorKind, Read};
+use std::marker::Model;
 
-/// The files of a runtime. They tell no content, and count their faults up to `u64::MAX`.
+/// The files of a runtime. They tell no content, and count their faults up to `u64::MAX`. Contracts see that count.
 pub struct OsFiles<'a, R> {
     rt: &'a R,
     faults: u64,
@@ -22,27 +24,47 @@ impl<'a, R> Drop for OsFiles<'a, R> {
     }
 }
 
+impl<'a, R> Model for OsFiles<'a, R> {
+    ghost use Rattle.std.specs.Prelude.{ℕ};
+
+    ghost Value = { ℕ };
+
+    ghost view = { λ s. s.faults };
+}
+
 impl<'a, R: std::rt::Files> OsFiles<'a, R> {
     /// The files of the runtime. Takes no memory.
     pub fn new(rt: &'a R) -> OsFiles<'a, R>
-        ensures { result.faults ≡ 0 }
+        ensures { result ≡ 0 }
     {
         OsFiles { rt, faults: 0 }
     }
 }
 
 impl<'a, R: std::rt::Files> Files for OsFiles<'a, R> {
-    ghost seen = { λ s. record { holds = None; faults = s.faults } };
+    ghost use Rattle.bril_outside.specs.Adapter.{untold_files};
+
+    ghost seen = { untold_files };
 
     /// Reads the file at the path, of at most `most` bytes. Fails where the file cannot be opened, or a read
-    /// fails other than by an interruption. It takes memory for the bytes a second time while it reads.
+    /// fails other than by an interruption; exactly then a fault is counted. It takes memory for the bytes a second
+    /// time while it reads.
     fn read(
         &mut self,
         alloc: Global,
         path: &Text,
         most: u64,
         into: &mut Bytes,
-    ) -> Result<bool, FileFault> {
+    ) -> Result<bool, FileFault>
+        ensures ok { IfOk result (λ whole. MatchBool whole
+            (AppendedFile None path.now most into.old into.new)
+            (FoundLonger None path.now most into.old into.new)) }
+        ensures err { OnErr result (into.new ≡ into.old) }
+        ensures faults { self.old ≤ self.new }
+        ensures counted { self.new ≡ faults_after result self.old }
+        ensures failed { IfErr result (λ e. e ≡ FileFault.Failed →
+            MayFail (untold_files self.old) (untold_files self.new) path.now) }
+    {
         match read_file(self.rt, alloc, path, most) {
             Ok(bytes) => append_short(&bytes, most, into),
             Err(FileFault::Failed) => {

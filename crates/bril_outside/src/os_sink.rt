@@ -7,13 +7,22 @@ ghost use Rattle.bril_outside.specs.Adapter.{AppendsFirst};
 
 use crate::sink::{Failed, Sink};
 use std::io::{ErrorKind, Write};
+use std::marker::Model;
 
 /// A sink that passes all that is written to it on to a writer, and flushes it after each piece. It tells
-/// no content, and counts its faults up to `u64::MAX`.
+/// no content, and counts its faults up to `u64::MAX`. Contracts see the writer and that count.
 #[derive(Drop)]
 pub struct OsSink<W> {
     out: W,
     faults: u64,
+}
+
+impl<W> Model for OsSink<W> {
+    ghost use Rattle.bril_outside.specs.Adapter.{SinkOver};
+
+    ghost Value = { SinkOver W };
+
+    ghost view = { λ s. record { out = s.out; faults = s.faults } };
 }
 
 impl<W: Write> OsSink<W> {

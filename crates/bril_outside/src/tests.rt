@@ -33,9 +33,9 @@ fn reads_system_files(rt: HostRuntime) -> Result<(), Fail> {
     let mut files = OsFiles::new(&rt);
     let mut into = Bytes::new(alloc);
     into.add(b"<")?;
-    assert_eq!(rt; files.read(alloc, &path, 9999, &mut into), Ok(false));
+    assert!(rt; !files.read(alloc, &path, 9999, &mut into)?);
     assert_eq!(rt; into.as_slice().len(), 1);
-    assert_eq!(rt; files.read(alloc, &path, 10000, &mut into), Ok(true));
+    assert!(rt; files.read(alloc, &path, 10000, &mut into)?);
     assert_eq!(rt; into.as_slice().len(), 10001);
     assert!(rt; into.as_slice().starts_with(b"<aaaa"));
     let folder = Text::of(alloc, ".")?;
@@ -134,13 +134,13 @@ fn files_in_memory(rt: HostRuntime) -> Result<(), Fail> {
     files.add(&other, b"other")?;
     files.add(&main, b"new")?;
     let mut into = Bytes::new(alloc);
-    assert_eq!(rt; files.read(alloc, &main, 3, &mut into), Ok(true));
+    assert!(rt; files.read(alloc, &main, 3, &mut into)?);
     assert_eq!(rt;
         files.read(alloc, &main, 3, &mut into),
         Err(FileFault::Failed)
     );
-    assert_eq!(rt; files.read(alloc, &main, 2, &mut into), Ok(false));
-    assert_eq!(rt; files.read(alloc, &other, 9, &mut into), Ok(true));
+    assert!(rt; !files.read(alloc, &main, 2, &mut into)?);
+    assert!(rt; files.read(alloc, &other, 9, &mut into)?);
     assert_eq!(rt; into.as_slice(), b"newother".as_slice());
     let missing = Text::of(alloc, "missing.bril")?;
     assert_eq!(rt;
