@@ -2,7 +2,8 @@
 
 ghost use Rattle.std.specs.Prelude.{◌≤◌};
 
-/// The bounds of a run: at most `frames` frames at once, and at most `cells` cells given out.
+/// The bounds of a run: at most `frames` frames at once, 1 to 65,536, and at most `cells` cells given out, 1 to
+/// 4,194,304.
 #[derive(Clone, Copy, PartialEq, Eq, Debug, Drop)]
 pub struct Limits {
     pub frames: u32,

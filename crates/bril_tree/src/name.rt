@@ -93,14 +93,14 @@ fn all_continue(bytes: &[u8]) -> bool
     bytes.iter().all(|byte| continues_name(*byte))
 }
 
-/// Whether the byte may begin an identifier.
+/// Whether the byte may begin an identifier. Takes no memory.
 pub fn begins_name(byte: u8) -> bool
     ensures { result ≡ begins_identifier byte }
 {
     byte.is_ascii_alphabetic() || byte == b'_' || byte == b'%'
 }
 
-/// Whether the byte may stand in an identifier behind its first.
+/// Whether the byte may stand in an identifier behind its first. Takes no memory.
 pub fn continues_name(byte: u8) -> bool
     ensures { result ≡ continues_identifier byte }
 {

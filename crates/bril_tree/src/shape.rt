@@ -10,7 +10,8 @@ use crate::operation::Op;
 impl Func {
     /// The first item of the function that doesn't have the shape of its operation: a destination or none, and so many
     /// arguments, functions and labels. None exactly where there is no such item. Of a `call` it asks for one function
-    /// and no label. Takes no memory.
+    /// and no label, and of a `print` for no destination, function or label. The function has fewer than 2^32 items.
+    /// Takes no memory.
     pub fn shape_fault(&self) -> Option<u32>
         requires { length self.now.code < 2 ^ 32 }
         ensures { result ≡ shape_fault_of (is_some self.now.ret) self.now.code }

@@ -6,7 +6,7 @@ ghost use Rattle.bril_tree.specs.Size.{item_count};
 use crate::program::Prog;
 
 impl Prog {
-    /// The number of items of all functions. Takes no memory.
+    /// The number of items of all functions, which is below 2^64. Takes no memory.
     pub fn size(&self) -> u64
         requires { item_count self.now < 2 ^ 64 }
         ensures { result ≡ item_count self.now }

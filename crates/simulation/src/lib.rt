@@ -4,7 +4,8 @@
 //! A system has a step, says of a state how it ended or that it runs, and what it has printed. What
 //! is defined here, in `specs/`, speaks of any two such systems: of two programs, or of a program
 //! and the machine that runs it. Each function is a law; its contract says it, and a call of it does
-//! nothing.
+//! nothing. The laws of simulation, and that of a greater number, ask of the systems that a state which
+//! ended rests, and that a step takes back nothing of what was printed (`IsSystem`).
 //!
 //! The laws are those of forward simulation (N. Lynch and F. Vaandrager, "Forward and Backward
 //! Simulations", 1995), with bounds on the numbers of steps. `LockStep` and `Drifting` are the "plus"
@@ -37,7 +38,8 @@ pub fn follows_slower<E, S, T>()
 {}
 
 /// Where related states agree, and from related states that run some steps of both systems lead to
-/// related states again, the second system follows the first from related states on.
+/// related states again, the second system follows the first from related states on. Of those steps of
+/// the first system only the last may print or end, and the second makes at most the factor for each.
 pub fn simulation_follows<E, S, T, R: Relates<S, T>>()
     ensures { SimulationFollows E R.related }
 {}
@@ -53,7 +55,8 @@ pub fn drifting_follows<E, S, T, R: Relates<S, T>>()
 {}
 
 /// Where each step of the first system is one step or more of the second, the second has a state
-/// related to each state of the first, after a number of steps that is bounded and never falls.
+/// related to each state of the first, after a number of steps that is bounded and never falls. It may
+/// begin a few steps before the first related state.
 pub fn lock_step_tracks<E, S, T, R: Relates<S, T>>()
     ensures { LockStepTracks E R.related }
 {}
