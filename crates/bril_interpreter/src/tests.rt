@@ -133,7 +133,7 @@ fn a_failed_guard_is_counted(rt: HostRuntime) -> Result<(), Fail> {
     assert_eq!(rt; run.prog().prog().funcs.as_slice().len(), 1);
 
     // The guard is the third item.
-    assert!(rt; run.run(2, &mut out) == StepAnswer::Go);
+    assert_eq!(rt; run.run(2, &mut out), StepAnswer::Go);
     assert!(rt;
         run.here()
             == Some(Here {
@@ -144,7 +144,7 @@ fn a_failed_guard_is_counted(rt: HostRuntime) -> Result<(), Fail> {
     );
     assert!(rt; run.value(0) == Some(Value::Bool(false)));
     assert_eq!(rt; run.fails(0, 2), 0);
-    assert!(rt; run.step(&mut out) == StepAnswer::Go);
+    assert_eq!(rt; run.step(&mut out), StepAnswer::Go);
     assert!(rt;
         run.here()
             == Some(Here {
@@ -156,7 +156,7 @@ fn a_failed_guard_is_counted(rt: HostRuntime) -> Result<(), Fail> {
     assert_eq!(rt; run.fails(0, 2), 1);
 
     // To the end.
-    assert!(rt; run.run(100, &mut out) == StepAnswer::End(End::Ended));
+    assert_eq!(rt; run.run(100, &mut out), StepAnswer::End(End::Ended));
     assert!(rt; run.here().is_none());
     assert!(rt; out.bytes() == b"false\n".as_slice());
     Ok(())
