@@ -6,5 +6,7 @@ mod arcs;
 mod flow;
 mod place;
 mod reads;
+#[cfg(test)]
+mod tests;
 
 pub use analysis::{Unassigned, first_unassigned};
