@@ -20,8 +20,8 @@ pub struct Unassigned {
 
 /// The first item that reads a place which some walk to it doesn't assign, with the variable of its first such place;
 /// None exactly where there is no such item. `graph` is the flow graph of the function. An error means want of memory,
-/// which a function that reads or assigns a variable of a number from 2^31 on, or has 2^32 - 1 reads or edges or more, is
-/// taken to have.
+/// which a function that reads or assigns a variable of a number from 2^31 on, or has 2^32 - 1 reads or edges or more,
+/// is taken to have.
 pub fn first_unassigned(
     alloc: Global,
     func: &Func,
