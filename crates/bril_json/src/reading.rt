@@ -15,14 +15,14 @@ use std::alloc::Global;
 /// The tree that a source of Bril's JSON form is.
 ///
 /// `source` has fewer than 2^32 bytes, which are one JSON value. Of a key that stands twice in an object the last is
-/// kept; keys that aren't named here are dropped, and so are `args`, `funcs` and `labels` of a constant and `value` of
-/// another instruction.
+/// kept; keys that aren't named here are dropped unread, and so is a key that is named here, but not for its object,
+/// as `args` of a constant, `value` of another instruction, or `dest` of a label.
 ///
-/// - The program has `functions`, and `imports` where there are some.
+/// - The program has the list `functions`, and the list `imports` where there are some.
 /// - An import has a `path` of 1 to 4,096 bytes, none of them `"`, `\` or below 0x20, and the list `functions` of at
 ///   least one object with a `name`, and an `alias` where it has one.
-/// - A function has a `name`, its `args` where there are some, objects with `name` and `type`, the `type` that it
-///   returns where it returns one, and its items `instrs`.
+/// - A function has a `name`, the list `args` where there are some, objects with `name` and `type`, the `type` that it
+///   returns where it returns one, and the list `instrs` of its items.
 /// - A label has `label`, and no `op`. A constant has `op`, which is `const`, `dest`, `type` and `value`: a whole number
 ///   of 64 bits, a boolean, or a text of one scalar value. Another instruction has `op`, `dest` and `type` or neither,
 ///   and the lists of names `args`, `funcs` and `labels`, each where there are some.
@@ -35,11 +35,11 @@ use std::alloc::Global;
 /// - Otherwise the fault is the first in this order: the program's own keys, in the order above; its imports in order;
 ///   its functions in order, of each its name, its arguments, its type, then its items; of an item `op`, `dest`, `type`,
 ///   `value`, `args`, `funcs`, `labels`. It has the numbers from 0 of the function and the item in which it stands.
-///   `Float` comes at the type `"float"`, at an operation on floats, and at a number that is neither an `i64` nor a
-///   `u64`, as `-0` and `1e3`; `IntRange` at a `u64` above the greatest `i64`; `Deep` at the 33rd `ptr` of a type,
-///   counted from the outside, whatever stands inside it; `Shape` at everything else that isn't as above. One of `dest`
-///   and `type` without the other is told where the missing one should stand, and a label with an `op` before anything
-///   of the operation.
+///   `Float` comes at the type `"float"`, at an operation on floats, and at a `value` that is a number and neither an
+///   `i64` nor a `u64`, as `-0` and `1e3`; `IntRange` at a `value` that is a `u64` above the greatest `i64`; `Deep` at
+///   the 33rd `ptr` of a type, counted from the outside, whatever stands inside it; `Shape` at everything else that
+///   isn't as above. One of `dest` and `type` without the other is told where the missing one should stand, and a label
+///   with an `op` before anything of the operation.
 /// - `Memory` may come at any time, where memory is wanting.
 ///
 /// The JSON form is that of the Bril documentation (Cornell's CS 6120), "JSON representation", with its memory,
