@@ -5,13 +5,14 @@ use std::alloc::AllocError;
 /// Why a token is the first that doesn't fit. Where several hold at one token, the first of them counts.
 #[derive(Clone, Copy, PartialEq, Eq, Debug, Drop)]
 pub enum FaultKind {
-    /// A floating point literal, type or operation where a literal, a type or an operation may stand.
+    /// A floating point literal or type where a literal or a type may stand, or a floating point operation
+    /// where an operation may stand and `:` doesn't follow.
     Float,
     /// A number where a literal may stand, outside -2^63 to 2^63 - 1.
     IntRange,
     /// The 33rd `ptr` of one type.
     Deep,
-    /// No program goes on with this token.
+    /// No program goes on with this token, or none ends here where no token is left.
     Grammar,
 }
 

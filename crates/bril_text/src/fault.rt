@@ -14,18 +14,20 @@ pub enum TextFault {
     /// No token, blank or comment begins here. This comes before any other fault.
     #[error("byte {at}: nothing begins here")]
     Lex { at: u32 },
-    /// No program goes on with this token.
+    /// No program goes on with this token, or none ends here where no token is left.
     #[error("byte {at}: no program goes on so")]
     Grammar { at: u32 },
     /// A number where a literal may stand, outside -2^63 to 2^63 - 1.
     #[error("byte {at}: the number is no int of 64 bits")]
     IntRange { at: u32 },
-    /// A literal, type or operation of Bril's floating point extension, where one may stand.
+    /// A literal, type or operation of Bril's floating point extension, where one may stand, at an operation
+    /// only where `:` doesn't follow.
     #[error("byte {at}: floats are not supported")]
     Float { at: u32 },
     /// The 33rd `ptr` of one type.
     #[error("byte {at}: more than 32 ptr in a type")]
     Deep { at: u32 },
+    /// Memory was wanting.
     #[error("out of memory")]
     Memory,
 }

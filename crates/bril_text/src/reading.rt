@@ -23,10 +23,11 @@ use std::alloc::Global;
 /// The tree that a source of Bril's text form spells.
 ///
 /// `source` has fewer than 2^32 bytes. Its tokens are those of `bril_lex::cut::tokens`: each is the longest that
-/// fits, with blanks and comments between them. An import is `from "path" import @f, @g as @h;`. A function is
-/// `@name`, `(x: int, y: ptr<bool>)` where it has arguments, `: T` where it returns one, and its items between
-/// braces. An item is `.label:`, `x: T = const LITERAL;`, or an operation with its operands and `;`, behind
-/// `x: T = ` where it has a destination. Variables, functions and labels may be mixed among the operands; each
+/// fits, with blanks and comments between them. Imports come first, each `from "path" import @f, @g as @h;`. A
+/// function is `@name`, `(x: int, y: ptr<bool>)` where it has arguments (`()` or nothing where it has none), `: T`
+/// where it returns a value, and its items between braces. An item is `.label:`, `x: T = const LITERAL;` with a
+/// number, `true`, `false` or a char, or an operation with its operands and `;`, behind `x: T = ` where it has a
+/// destination. A type has at most 32 `ptr`. Variables, functions and labels may be mixed among the operands; each
 /// kind makes its own list, in order. No identifier is reserved: one that `:` follows is a destination's name.
 ///
 /// - `Lex` comes first: exactly where nothing begins at byte `at`, and all before it are tokens, blanks and
