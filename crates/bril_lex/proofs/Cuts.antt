@@ -1,6 +1,7 @@
 -- Cutting a source: in one way, and piece by piece.
-use Rattle.std.proofs.Common.{◌≡◌, ℕ, ◌+◌, ◌<◌, ◌≤◌, List, [], ◌∷◌, ◌++◌, length, take, drop, Option, Some, None, refl, sym, ap, ◌∙◌, subst, arith, add-zero, length-append, append_assoc, append-nil, length-drop}
-use Rattle.std.specs.Prelude.{IfSome}
+use Rattle.std.proofs.Common.{◌≡◌, ℕ, zero, suc, ◌+◌, ◌<◌, ◌≤◌, List, [], ◌∷◌, ◌++◌, length, take, drop, Option, Some, None, refl, sym, ap, ◌∙◌, subst, inl, inr, arith, add-zero, length-append, append_assoc, append-nil, length-drop}
+use Rattle.std.specs.Prelude.{◌⊎◌, IfSome}
+use Rattle.std.proofs.lemmas.Bool.{cases_lt}
 use Rattle.std.proofs.lemmas.List.{take_at, drop_at, drop-drop, drop_all}
 use Rattle.bril_lex.specs.Piece.{IsFront}
 use Rattle.bril_lex.specs.Cut.{Piece, bytes_of, AreLongest, token_at, tokens_from, AreTokens, StopsAt}
@@ -54,16 +55,6 @@ tokens_end source ts a = (a.cut ∙ sym (append-nil (bytes_of a.pieces)), a.long
 
 stop_ends : (source : List ℕ) (at : ℕ) (a : StopsAt source at) → EndsAt source a.pieces a.rest
 stop_ends source at a = (a.cut, a.longest, front_of-nothing a.rest a.nothing)
-
-pub cuts_in_one_way : CutsInOneWay
-cuts_in_one_way = record {
-  tokens = λ source a b x y.
-      x.are ∙ ap (tokens_from 0) (same_ends source x.pieces y.pieces [] [] (tokens_end source a x) (tokens_end source b y)).0 ∙ sym y.are;
-  stops = λ source a b x y.
-      x.place ∙ ap (λ ps. length (bytes_of ps)) (same_ends source x.pieces y.pieces x.rest y.rest (stop_ends source a x) (stop_ends source b y)).0 ∙ sym y.place;
-  never_both = λ source ts at x y.
-      y.more (sym (same_ends source x.pieces y.pieces [] y.rest (tokens_end source ts x) (stop_ends source at y)).1);
-}
 
 -- ---- cuts joined
 pub bytes_of-append : (ps qs : List Piece) (rest : List ℕ) → bytes_of (ps ++ qs) ++ rest ≡ bytes_of ps ++ (bytes_of qs ++ rest)
@@ -159,3 +150,34 @@ front_within bytes = by (front_of bytes) (front_fits bytes)
     by (Some f) fits =
         let size = fits.size in
         (omega (arith, size, piece_size f.class fits.text fits.fits), omega (arith, size, ap length fits.cut, length-append fits.text fits.rest))
+
+-- ---- a source is cut, or stops
+abbrev CutsOrStops : List ℕ → Type 0
+CutsOrStops source = ((ts : List Token) × AreTokens source ts) ⊎ ((at : ℕ) × StopsAt source at)
+
+-- one piece, or the end
+cut_one : (source : List ℕ) (at : ℕ) (ts : List Token) → IsCutTo source at ts → (o : Option Front) → front_of (drop at source) ≡ o → at < length source
+    → ((next : ℕ) (more : List Token) → at < next → IsCutTo source next more → CutsOrStops source) → CutsOrStops source
+cut_one source at ts c None e below goes_on = inr (at, cut_stops source at ts c below (sym e))
+cut_one source at ts c (Some f) e below goes_on =
+    let some = subst (λ o. IfSome o (λ (g : Front). (0 < g.length) × (g.length ≤ length (drop at source)))) e (front_within (drop at source)) in
+    goes_on (at + f.length) (ts ++ token_at f.class at (at + f.length)) (omega (arith, some.0)) (cut_more source at ts f c (sym e))
+
+cut_on : (n : ℕ) (source : List ℕ) (at : ℕ) (ts : List Token) → length source ≤ at + n → IsCutTo source at ts → CutsOrStops source
+cut_on zero source at ts enough c = inl (ts, cut_whole source at ts c (omega (arith, enough)))
+cut_on (suc n) source at ts enough c = by (cases_lt at (length source)) (λ next more above d. cut_on n source next more (omega (arith, above, enough)) d)
+  where
+    by : (at < length source) ⊎ (length source ≤ at) → ((next : ℕ) (more : List Token) → at < next → IsCutTo source next more → CutsOrStops source) → CutsOrStops source
+    by (inl below) goes_on = cut_one source at ts c (front_of (drop at source)) refl below goes_on
+    by (inr past) goes_on = inl (ts, cut_whole source at ts c past)
+
+pub cuts_in_one_way : CutsInOneWay
+cuts_in_one_way = record {
+  either = λ source. cut_on (length source) source 0 [] (omega arith) (cut_start source);
+  tokens = λ source a b x y.
+      x.are ∙ ap (tokens_from 0) (same_ends source x.pieces y.pieces [] [] (tokens_end source a x) (tokens_end source b y)).0 ∙ sym y.are;
+  stops = λ source a b x y.
+      x.place ∙ ap (λ ps. length (bytes_of ps)) (same_ends source x.pieces y.pieces x.rest y.rest (stop_ends source a x) (stop_ends source b y)).0 ∙ sym y.place;
+  never_both = λ source ts at x y.
+      y.more (sym (same_ends source x.pieces y.pieces [] y.rest (tokens_end source ts x) (stop_ends source at y)).1);
+}

@@ -22,6 +22,7 @@ pub enum LexFault {
     /// blanks and comments.
     #[error("nothing begins at byte {at}")]
     At { at: u32 },
+    /// Memory was wanting.
     #[error("out of memory")]
     Memory,
 }
@@ -39,7 +40,7 @@ impl From<AllocError> for LexFault {
 ///
 /// At each byte the longest token, blank (space, tab, CR, LF) or comment is taken. A comment runs from
 /// `#` to the end of its line (before LF), or to the first byte that belongs to no scalar value of
-/// UTF-8. `Kind` has the tokens. Takes one pass over the bytes.
+/// UTF-8. `Kind` has the tokens. Takes time in proportion to the source.
 ///
 /// `At` comes exactly where nothing begins at that byte and all before it is cut; `Memory` where memory
 /// is wanting. The text form is that of the Bril documentation of Cornell's CS 6120, with chars, paths

@@ -1,6 +1,6 @@
 // Worked values: the tokens and spans of short sources, by hand, and the byte at which others stop.
 use crate::cut::{LexFault, tokens};
-use crate::laws::{cuts_in_one_way, printed_is_cut_into_itself};
+use crate::laws::{cut_sources_are_utf8, cuts_in_one_way, printed_is_cut_into_itself};
 use crate::token::{Kind, Token};
 use std::alloc::Global;
 use std::process::Abort;
@@ -235,5 +235,6 @@ fn a_program_is_cut(rt: HostRuntime) -> Result<(), Fail> {
 #[test]
 fn laws_are_called() {
     cuts_in_one_way();
+    cut_sources_are_utf8();
     printed_is_cut_into_itself();
 }

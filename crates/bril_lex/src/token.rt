@@ -15,9 +15,10 @@ pub enum Kind {
     Number,
     /// A number whose next byte is `.`, `e` or `E`, with all following ASCII letters, digits, `.`, `+` and `-`.
     Float,
-    /// A char literal between single quotes.
+    /// A char literal: `'`, then `\` and one of `0abtnvfr`, or one scalar value other than LF in UTF-8, then `'`.
+    /// So `'''` is the quote, and `'\'` the backslash.
     Char,
-    /// A path between double quotes.
+    /// An import's path: `"`, then 1 to 4,096 bytes of UTF-8 without `"`, `\` and bytes below 0x20, then `"`.
     Path,
     /// One of `{ } ( ) : , ; = < >`.
     Mark,
