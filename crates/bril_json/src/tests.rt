@@ -144,11 +144,11 @@ fn show_number(alloc: Global, shown: &mut Bytes, number: Option<u32>) -> Result<
     }
 }
 
-// Appends the name of a fault, and its numbers.
+// Appends the name of a fault, and its numbers. Want of memory is handed on.
 fn show_fault(alloc: Global, shown: &mut Bytes, fault: JsonFault) -> Result<(), AllocError> {
     let (kind, func, item): (&[u8], Option<u32>, Option<u32>) = match fault {
         JsonFault::Syntax => return shown.add(b"Syntax"),
-        JsonFault::Memory => return shown.add(b"Memory"),
+        JsonFault::Memory => return Err(AllocError),
         JsonFault::Shape { func, item } => (b"Shape", func, item),
         JsonFault::IntRange { func, item } => (b"IntRange", Some(func), Some(item)),
         JsonFault::Float { func, item } => (b"Float", func, item),
