@@ -1,4 +1,5 @@
 pub mod Bare
 pub mod First
 pub mod Grows
+pub mod Named
 pub mod Refinement

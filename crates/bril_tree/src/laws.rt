@@ -1,6 +1,12 @@
-// Laws of the written meaning. Each function states one, and does nothing when it is called.
+// Laws of the names of operations and of the written meaning. Each function states one, and does nothing when it is
+// called.
 
-ghost use Rattle.bril_tree.specs.Laws.{RunsAreSystems, RefinesItself, RefinesOn};
+ghost use Rattle.bril_tree.specs.Laws.{OperationsAreNamed, RunsAreSystems, RefinesItself, RefinesOn};
+
+/// Each operation is found by its own name, and by no other.
+pub fn operations_are_named()
+    ensures { OperationsAreNamed }
+{}
 
 /// A run that ended stays as it is, and what a run has printed only grows.
 pub fn runs_are_systems()
