@@ -7,3 +7,4 @@ pub mod Places
 pub mod Sound
 pub mod Steps
 pub mod Viable
+pub mod Words

@@ -1,11 +1,30 @@
--- Laws of the grammar and its machine.
-use Rattle.std.specs.Prelude.{◌≡◌, List, Ok, Err}
+-- Laws of the words of tokens, and of the grammar and its machine.
+use Rattle.std.specs.Prelude.{◌≡◌, ℕ, ℤ, FitsSigned, List, [], ◌∷◌, Some, None, Ok, Err}
+use Rattle.std.specs.Int.{w64}
+use Rattle.bril_nums.specs.Decimal.{IsInt}
 use Rattle.bril_tree.specs.declared.tree.Tree.{Tree}
 use Rattle.bril_lex.specs.Lexeme.{Lexeme}
+use Rattle.bril_lex.specs.Spelling.{SpellsChar, SpellsPath}
+use Rattle.bril_lex.specs.declared.token.Kind.TheVariants as kind
 use Rattle.bril_grammar.specs.declared.fault.Fault.{Fault}
+use Rattle.bril_grammar.specs.declared.mark.Mark.{Mark}
 use Rattle.bril_grammar.specs.Fault.{FirstFault}
 use Rattle.bril_grammar.specs.Machine.{read}
+use Rattle.bril_grammar.specs.Word.{Word, word_as, mark_byte}
 use Rattle.bril_grammar.specs.Written.{IsProgram}
+
+-- The word of a token is what its text spells: its name, its number where that is an int of 64 bits, its char, its
+-- path, or its mark.
+pub record WordsAreSpelled : Type 0 where
+  pub identifiers : (text : List ℕ) → word_as kind.Identifier text ≡ Word.Name text
+  pub functions : (name : List ℕ) → word_as kind.Function (64 ∷ name) ≡ Word.Function name
+  pub labels : (name : List ℕ) → word_as kind.Label (46 ∷ name) ≡ Word.Label name
+  pub numbers : (text : List ℕ) (z : ℤ) → FitsSigned w64 z → IsInt text z → word_as kind.Number text ≡ Word.Number (Some z)
+  pub others : (text : List ℕ) → ((z : ℤ) → FitsSigned w64 z → IsInt text z → ⊥) → word_as kind.Number text ≡ Word.Number None
+  pub floats : (text : List ℕ) → word_as kind.Float text ≡ Word.Float
+  pub chars : (text : List ℕ) (c : ℕ) → SpellsChar c text → word_as kind.Char text ≡ Word.Char c
+  pub paths : (text path : List ℕ) (spelled : SpellsPath path text) → word_as kind.Path text ≡ Word.Path (record { bytes = path; is_path = spelled.is_path })
+  pub marks : (mark : Mark) → word_as kind.Mark (mark_byte mark ∷ []) ≡ Word.Punctuation mark
 
 -- a spelling of a tree is read as that tree
 abbrev pub ProgramsAreRead : Type 0

@@ -1,6 +1,12 @@
-// Laws of the grammar. Each function states some, and does nothing when it is called.
+// Laws of the words of tokens and of the grammar. Each function states some, and does nothing when it is called.
 
-ghost use Rattle.bril_grammar.specs.Laws.{ProgramsAreRead, ReadingsAreSpellings, SpellOneTree, ReadFaultIsFirst, FirstFaultIsRead, ProgramsHaveNoFault, OthersHaveOneFault};
+ghost use Rattle.bril_grammar.specs.Laws.{WordsAreSpelled, ProgramsAreRead, ReadingsAreSpellings, SpellOneTree, ReadFaultIsFirst, FirstFaultIsRead, ProgramsHaveNoFault, OthersHaveOneFault};
+
+/// The word that the grammar sees of a token is what the token spells: the name of an identifier, a function or a
+/// label, the value of a number that is an int of 64 bits, the scalar value of a char, the path, or the mark.
+pub fn words_are_spelled()
+    ensures { WordsAreSpelled }
+{}
 
 /// The machine that reads tokens one by one gives exactly the trees of the grammar.
 pub fn grammar_is_read()
