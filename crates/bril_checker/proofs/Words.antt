@@ -1,6 +1,7 @@
 -- The words of the frames, one number for each function.
-use Rattle.std.proofs.Common.{◌≡◌, ℕ, suc, ◌+◌, ◌<◌, List, [], ◌∷◌, ◌++◌, length, take, get_or, refl, sym, ap, ◌∙◌, arith}
+use Rattle.std.proofs.Common.{◌≡◌, ℕ, zero, suc, ◌+◌, ◌<◌, List, [], ◌∷◌, ◌++◌, length, take, slice_get, get_or, refl, sym, ap, ◌∙◌, arith}
 use Rattle.std.specs.List.{AllZip}
+use Rattle.std.specs.Option.{IfSome}
 use Rattle.std.proofs.lemmas.List.{take_more}
 use Rattle.bril_tree.specs.FrameWords.{AreFrameWords}
 use Rattle.bril_tree.specs.declared.numbered_function.Func.{Func}
@@ -10,6 +11,14 @@ length_words [] [] all = refl
 length_words [] (w ∷ ws) all = absurd all
 length_words (f ∷ fs) [] all = absurd all
 length_words (f ∷ fs) (w ∷ ws) all = ap (λ n. suc n) (length_words fs ws all.1)
+
+-- each function's number is that of its frame's words
+pub words_at : (fs : List Func) (ws : List ℕ) (i : ℕ) → AllZip AreFrameWords fs ws → IfSome (slice_get fs i) (λ f. AreFrameWords f (get_or ws i 0))
+words_at [] [] i all = tt
+words_at [] (w ∷ ws) i all = absurd all
+words_at (f ∷ fs) [] i all = absurd all
+words_at (f ∷ fs) (w ∷ ws) zero all = all.0
+words_at (f ∷ fs) (w ∷ ws) (suc i) all = words_at fs ws i all.1
 
 push_words : (fs : List Func) (ws : List ℕ) (f : Func) (w : ℕ) → AllZip AreFrameWords fs ws → AreFrameWords f w → AllZip AreFrameWords (fs ++ f ∷ []) (ws ++ w ∷ [])
 push_words [] [] f w all has = (has, tt)

@@ -1,6 +1,6 @@
 // A program that was accepted.
 
-ghost use Rattle.std.specs.Prelude.{◌≡◌, ◌<◌, Some, length, slice_get};
+ghost use Rattle.std.specs.Prelude.{◌≡◌, ◌<◌, IfSome, length, slice_get};
 ghost use Rattle.bril_tree.specs.Accepted.{IsAccepted};
 
 use bril_tree::program::Prog;
@@ -21,9 +21,9 @@ impl Model for Checked {
 
     ghost Value = { CheckedView };
 
-    ghost view = { λ c. record { prog = c.prog; words = c.words } };
+    ghost view = { λ c. record { prog = c.prog } };
 
-    ghost invariant = { λ c. IsChecked (record { prog = c.prog; words = c.words }) };
+    ghost invariant = { λ c. IsChecked c.prog c.words };
 }
 
 impl Checked {
@@ -63,7 +63,7 @@ impl Checked {
     /// shadow that some `get` or `set` names, as it is and as it was at each open `speculate`. Takes no memory.
     pub fn frame_words(&self, func: u32) -> u64
         requires { func < length self.now.prog.funcs }
-        ensures { Some result ≡ slice_get self.now.words func }
+        ensures { IfSome (slice_get self.now.prog.funcs func) (λ f. AreFrameWords f result) }
     {
         self.words.as_slice()[func as usize]
     }
