@@ -1,8 +1,7 @@
 -- An accepted program has no fault, and no program has two.
-use Rattle.std.proofs.Common.{◌≡◌, ℕ, ◌<◌, Option, Some, List, All, refl, sym, ap, ◌∙◌, subst, inl, inr, arith}
+use Rattle.std.proofs.Common.{◌≡◌, Some, refl, sym, ◌∙◌, subst, inl, inr}
 use Rattle.std.specs.Prelude.{◌⊎◌, slice_get}
 use Rattle.bril_tree.specs.Accepted.{IsAccepted, IsAcceptedFunction, IsMainPlain}
-use Rattle.bril_tree.specs.declared.numbered_function.Func.{Func}
 use Rattle.bril_tree.specs.declared.program.Prog.{Prog}
 use Rattle.bril_checker.specs.Faults.{FirstFaultWithin, HasFault, HasFaultWithin}
 use Rattle.bril_checker.specs.Laws.{AcceptedHaveNoFault, FaultsAreOne}

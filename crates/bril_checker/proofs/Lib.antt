@@ -1,5 +1,6 @@
 pub mod Depth
 pub mod Ends
+pub mod Faultless
 pub mod FirstFaults
 pub mod Marks
 pub mod Misshapen

@@ -1,12 +1,12 @@
 -- From functions to the program.
-use Rattle.std.proofs.Common.{◌≡◌, ℕ, ◌<◌, ◌≤◌, Bool, true, false, List, length, map, get_or, take, Option, Some, None, All, refl, sym, ap, ◌∙◌, subst, inl, inr, arith}
-use Rattle.std.specs.Prelude.{◌⊎◌, slice_get, IsTrue, is_some}
+use Rattle.std.proofs.Common.{◌≡◌, ℕ, zero, suc, ◌<◌, true, false, List, length, map, get_or, take, Option, Some, None, All, refl, sym, ap, ◌∙◌, subst, inl, inr, arith}
+use Rattle.std.specs.Prelude.{◌⊎◌, slice_get, is_some}
+use Rattle.std.specs.Option.{IsSomeAnd}
 use Rattle.std.proofs.Math.ListN.{get_or-map}
-use Rattle.std.proofs.lemmas.Bool.{false≢true}
 use Rattle.std.proofs.lemmas.List.{length-map}
 use Rattle.std.proofs.lemmas.List.Elements.{All-take, All-map}
+use Rattle.std.proofs.lemmas.Option.{slice_get-get_or, slice_get_within}
 use Rattle.bril_tree.specs.Accepted.{IsAcceptedFunction, IsMainPlain, IsPlainType}
-use Rattle.bril_tree.specs.Run.{main_types, types_of}
 use Rattle.bril_tree.specs.Shape.{is_shaped, shape_fault_of}
 use Rattle.bril_tree.specs.Typing.{return_type}
 use Rattle.bril_tree.specs.declared.numbered.VarInfo.{VarInfo}
@@ -14,8 +14,9 @@ use Rattle.bril_tree.specs.declared.numbered_function.Func.{Func}
 use Rattle.bril_tree.specs.declared.program.Prog.{Prog}
 use Rattle.bril_tree.specs.declared.types.Ty.{Ty}
 use Rattle.bril_tree.proofs.First.{none_failing}
-use Rattle.bril_checker.proofs.Places.{item_at}
-use Rattle.bril_checker.specs.Faults.{AreShaped, FirstFaultWithin, HasFaultWithin}
+use Rattle.bril_checker.proofs.Places.{holds_before, item_at}
+use Rattle.bril_checker.proofs.Stages.{accepted_passes}
+use Rattle.bril_checker.specs.Faults.{AreShaped, AreTyped, FirstFaultWithin, HasFaultWithin, TakesMemory}
 use Rattle.bril_checker.specs.declared.fault.CheckFault.{CheckFault}
 use Rattle.bril_checker.specs.declared.fault.CheckFault.TheVariants.{Memory}
 
@@ -32,6 +33,19 @@ module _ (p : Prog) where
   fault_here main fs same number f inside here before why (inl e) = inl e
   fault_here main fs same number f inside here before why (inr has) =
       inr (record { main = main; number = number; function = f; here = item_at (IsAcceptedFunction p) p.funcs fs same number f inside here; before = before; has = has })
+
+  -- memory was taken, where this function's items are right by themselves and the functions before it are accepted
+  pub takes_memory : IsMainPlain p → (fs : List Func) → fs ≡ p.funcs → (number : ℕ) (f : Func) → number < length fs → f ≡ get_or fs number f → All (IsAcceptedFunction p) (take number p.funcs) →
+      AreTyped p f → TakesMemory p
+  takes_memory main fs same number f inside here before typed =
+      record { main = main; items = first number before (item_at (IsAcceptedFunction p) p.funcs fs same number f inside here) }
+    where
+      first : (number : ℕ) → All (IsAcceptedFunction p) (take number p.funcs) → slice_get p.funcs number ≡ Some f → IsSomeAnd (slice_get p.funcs 0) (AreTyped p)
+      first zero before here = rw here typed
+      first (suc n) before here =
+          let many = slice_get_within p.funcs (suc n) f here in
+          let start = slice_get-get_or p.funcs 0 f (omega arith) in
+          rw start (accepted_passes p (get_or p.funcs 0 f) (holds_before (IsAcceptedFunction p) p.funcs (suc n) 0 (get_or p.funcs 0 f) before (omega arith) start)).0.0.0
 
 -- ---- `main`
 

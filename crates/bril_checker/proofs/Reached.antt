@@ -1,5 +1,5 @@
 -- What a flow graph tells of the walks of its function.
-use Rattle.std.proofs.Common.{◌≡◌, ℕ, ◌+◌, ◌<◌, ◌≤◌, Bool, true, false, List, [], ◌∷◌, length, Option, Some, None, refl, sym, ap, ◌∙◌, subst, arith}
+use Rattle.std.proofs.Common.{◌≡◌, ℕ, ◌<◌, Bool, true, List, [], ◌∷◌, length, Option, Some, None, refl, sym, ap, ◌∙◌, subst, arith}
 use Rattle.std.specs.Prelude.{slice_get, IsTrue, is_some, nat_lt}
 use Rattle.std.specs.Option.{option_map}
 use Rattle.std.proofs.lemmas.Bool.{false≢true, ltb-true, lt-ltb}
@@ -8,7 +8,7 @@ use Rattle.bril_tree.specs.declared.numbered.Instr.{Instr}
 use Rattle.bril_tree.specs.declared.numbered_function.Func.{Func}
 use Rattle.bril_tree.specs.Accepted.{leaves_frame}
 use Rattle.bril_tree.specs.Edge.{Way}
-use Rattle.bril_tree.specs.Sites.{AreFirstSites, AreSitesSound, sites_of}
+use Rattle.bril_tree.specs.Sites.{AreSitesSound, sites_of}
 use Rattle.bril_tree.specs.Walk.{IsWalk, IsReached, end_of}
 use Rattle.flow_graph.specs.Graph.{GraphView, IsGraphOf}
 use Rattle.flow_graph.specs.Laws.{SoundWalksAgree}

@@ -1,5 +1,5 @@
 -- The faults of a function in their order: what stands before each, and what each rules out.
-use Rattle.std.proofs.Common.{◌≡◌, ℕ, zero, suc, ◌<◌, ◌≤◌, true, List, [], ◌∷◌, ◌++◌, Option, Some, None, All, refl, sym, subst, inl, inr, arith}
+use Rattle.std.proofs.Common.{◌≡◌, ℕ, zero, suc, ◌<◌, ◌≤◌, true, List, [], ◌∷◌, ◌++◌, Some, All, refl, sym, subst, inl, inr, arith}
 use Rattle.std.specs.Prelude.{◌⊎◌, slice_get}
 use Rattle.std.specs.List.{Contains}
 use Rattle.std.proofs.lemmas.Bool.{cases_lt}
@@ -8,10 +8,8 @@ use Rattle.std.proofs.lemmas.Option.{slice_get_within, get_or_from_slice_get}
 use Rattle.bril_tree.specs.Accepted.{IsAcceptedFunction, leaves_frame}
 use Rattle.bril_tree.specs.declared.numbered_function.Func.{Func}
 use Rattle.bril_tree.specs.declared.program.Prog.{Prog}
-use Rattle.bril_tree.specs.Operand.{reads_of}
 use Rattle.bril_tree.specs.Sites.{sites_of}
 use Rattle.bril_tree.specs.Walk.{IsReached, end_of}
-use Rattle.bril_tree.specs.Typing.{type_fault}
 use Rattle.definite_assignment.specs.Unassigned.{IsFirstUnassigned, ReadsUnassigned}
 use Rattle.bril_checker.specs.Faults.{AreShaped, AreTyped, AreNested, AreClosed, Returns, HasShape, IsTyped, HasFaultWithin, LeavesOpen}
 use Rattle.bril_checker.specs.declared.fault.CheckFault.{CheckFault}

@@ -1,5 +1,6 @@
 -- Why a program is not accepted: its first fault.
-use Rattle.std.specs.Prelude.{◌≡◌, ℕ, ◌<◌, ◌⊎◌, Bool, not, ◌&&◌, List, [], All, take, length, Option, Some, None, IsTrue, IsSome, is_some, slice_get}
+use Rattle.std.specs.Prelude.{◌≡◌, ℕ, ◌<◌, ◌⊎◌, List, [], All, take, length, Some, None, IsTrue, IsSome, is_some, slice_get}
+use Rattle.std.specs.Option.{IsSomeAnd}
 use Rattle.bril_tree.specs.Accepted.{IsAcceptedFunction, IsMainPlain, leaves_frame}
 use Rattle.bril_tree.specs.Edge.{Way}
 use Rattle.bril_tree.specs.Shape.{is_shaped}
@@ -9,7 +10,7 @@ use Rattle.bril_tree.specs.Walk.{IsWalk, IsReached, end_of}
 use Rattle.bril_tree.specs.declared.numbered.Instr.{Instr}
 use Rattle.bril_tree.specs.declared.numbered_function.Func.{Func}
 use Rattle.bril_tree.specs.declared.program.Prog.{Prog}
-use Rattle.definite_assignment.specs.Unassigned.{IsFirstUnassigned, ReadsUnassigned}
+use Rattle.definite_assignment.specs.Unassigned.{IsFirstUnassigned}
 use Rattle.flow_graph.specs.Graph.{IsLeastFailing}
 use Rattle.bril_checker.specs.declared.fault.CheckFault.{CheckFault}
 use Rattle.bril_checker.specs.declared.fault.CheckFault.TheVariants.{Types, Arity, MaybeUnassigned, Nest, SpecCall, NoReturn, MainType, PrintPtr, Memory}
@@ -99,6 +100,11 @@ HasFault p (Nest func item) = FirstFaultWithin p (Nest func item)
 HasFault p (SpecCall func item) = FirstFaultWithin p (SpecCall func item)
 HasFault p (NoReturn func item) = FirstFaultWithin p (NoReturn func item)
 HasFault p (PrintPtr func item) = FirstFaultWithin p (PrintPtr func item)
+
+-- Memory is taken: `main` is right, and so are the items of the first function by themselves.
+pub record TakesMemory (p : Prog) : Type 0 where
+  pub main : IsMainPlain p
+  pub items : IsSomeAnd (slice_get p.funcs 0) (AreTyped p)
 
 -- what a fault says of the program; want of memory says nothing
 abbrev pub IsFaultOf : Prog → CheckFault → Type 0

@@ -10,3 +10,6 @@ AcceptedHaveNoFault = (p : Prog) (fault : CheckFault) → IsAccepted p → ¬ Ha
 
 abbrev pub FaultsAreOne : Type 0
 FaultsAreOne = (p : Prog) (fault other : CheckFault) → HasFault p fault → HasFault p other → fault ≡ other
+
+abbrev pub FaultlessAreAccepted : Type 0
+FaultlessAreAccepted = (p : Prog) → ((fault : CheckFault) → ¬ HasFault p fault) → IsAccepted p

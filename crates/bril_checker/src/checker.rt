@@ -7,7 +7,7 @@ ghost use Rattle.bril_tree.specs.FrameWords.{AreFrameWords};
 ghost use Rattle.bril_tree.specs.Shape.{shape_fault_of};
 ghost use Rattle.bril_tree.specs.Sites.{AreSitesSound};
 ghost use Rattle.flow_graph.specs.Graph.{IsGraphOf, IsLeastFailing};
-ghost use Rattle.bril_checker.specs.Faults.{AreTyped, HasFault, HasFaultWithin, FirstFaultWithin, IsFaultOf};
+ghost use Rattle.bril_checker.specs.Faults.{AreTyped, HasFault, HasFaultWithin, FirstFaultWithin, IsFaultOf, TakesMemory};
 ghost use Rattle.bril_checker.specs.declared.fault.CheckFault.{CheckFault};
 ghost use Rattle.bril_checker.specs.declared.fault.CheckFault.TheVariants.{Memory, Nest};
 
@@ -79,6 +79,7 @@ fn check_function(alloc: Global, prog: &Prog, number: u32, func: &Func) -> Resul
     ensures accepted { IfOk result (λ _. IsAcceptedFunction prog.now func.now) }
     ensures words { IfOk result (AreFrameWords func.now) }
     ensures fault { IfErr result (λ why. (why ≡ Memory) ⊎ HasFaultWithin prog.now number func.now why) }
+    ensures memory { IfErr result (λ why. why ≡ Memory → AreTyped prog.now func.now) }
 {
     check_items(prog, number, func)?;
     let graph = graph_of(alloc, number, func)?;
@@ -143,6 +144,7 @@ fn check_functions(alloc: Global, prog: &Prog) -> Result<Seq<u64>, CheckFault>
     ensures accepted { IfOk result (λ _. All (IsAcceptedFunction prog.now) prog.now.funcs) }
     ensures words { IfOk result (λ words. AllZip AreFrameWords prog.now.funcs words) }
     ensures fault { IfErr result (λ why. (why ≡ Memory) ⊎ FirstFaultWithin prog.now why) }
+    ensures memory { IfErr result (λ why. why ≡ Memory → TakesMemory prog.now) }
 {
     let mut words = Seq::new(alloc);
     for (number, func) in prog.funcs.as_slice().iter().enumerate() {
@@ -158,6 +160,7 @@ fn check_all(alloc: Global, prog: &Prog) -> Result<Seq<u64>, CheckFault>
     ensures accepted { IfOk result (λ _. IsAccepted prog.now) }
     ensures words { IfOk result (λ words. AllZip AreFrameWords prog.now.funcs words) }
     ensures fault { IfErr result (IsFaultOf prog.now) }
+    ensures memory { IfErr result (λ why. why ≡ Memory → TakesMemory prog.now) }
 {
     if !is_main_plain(prog) {
         return Err(CheckFault::MainType);
@@ -167,8 +170,9 @@ fn check_all(alloc: Global, prog: &Prog) -> Result<Seq<u64>, CheckFault>
 
 /// The program, where it is accepted; else it is handed back with its first fault: `MainType` before all others, and
 /// then the first of the first function that has one. In a function the kinds come in the order `Arity`, `Types` and
-/// `PrintPtr`, `Nest`, `SpecCall`, `NoReturn` and `MaybeUnassigned`, each at its least item. `Memory` may come at any
-/// time, where memory is wanting.
+/// `PrintPtr`, `Nest`, `SpecCall`, `NoReturn` and `MaybeUnassigned`, each at its least item. `Memory` may come where
+/// memory is wanting, but not in place of `MainType`, nor in place of `Arity`, `Types` or `PrintPtr` in the first
+/// function: these take none.
 pub fn check(alloc: Global, prog: Prog) -> Result<Checked, (Prog, CheckFault)>
     requires functions { length prog.funcs < 2 ^ 32 }
     requires items { All (λ f. length f.code < 2 ^ 32 - 1) prog.funcs }
@@ -183,6 +187,9 @@ pub fn check(alloc: Global, prog: Prog) -> Result<Checked, (Prog, CheckFault)>
     ensures fault { IfErr result (λ refused. IsFaultOf prog refused.1) }
     ensures faults { (why : CheckFault) → HasFault prog why
         → MatchResult result (λ _. ⊥) (λ refused. (refused.1 ≡ why) ⊎ (refused.1 ≡ Memory)) }
+
+    // `main` and the items of the first function are right by themselves where memory is wanting.
+    ensures memory { IfErr result (λ refused. refused.1 ≡ Memory → TakesMemory prog) }
 {
     accepted_or_fault();
     match check_all(alloc, &prog) {

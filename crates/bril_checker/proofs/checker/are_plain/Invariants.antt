@@ -1,4 +1,4 @@
-use Rattle.std.proofs.Common.{take, map, All}
+use Rattle.std.proofs.Common.{take, All}
 use Rattle.bril_tree.specs.Accepted.{IsPlainType}
 use Rattle.bril_checker.proofs.checker.are_plain.Given as goal
 

@@ -1,7 +1,7 @@
-use Rattle.std.proofs.Common.{◌≡◌, sym, ◌∙◌, refl, inl, inr, MatchOption}
+use Rattle.std.proofs.Common.{sym, ◌∙◌, refl, inr}
 use Rattle.std.proofs.lemmas.Bool.{false≢true}
 use Rattle.std.proofs.lemmas.Option.{MatchOption-at_some, MatchOption-at_none}
-use Rattle.definite_assignment.specs.Unassigned.{IsFirstUnassigned, ReadsUnassigned}
+use Rattle.definite_assignment.specs.Unassigned.{IsFirstUnassigned}
 use Rattle.bril_checker.proofs.Program.{no_shape_fault}
 use Rattle.bril_checker.proofs.Stages.{passing_accepted}
 use Rattle.bril_checker.proofs.checker.check_function.Goals as goal

@@ -1,4 +1,4 @@
-use Rattle.std.proofs.Common.{◌≡◌, ℕ, ◌<◌, ◌||◌, false, length, get_or, ap, ◌∙◌}
+use Rattle.std.proofs.Common.{ℕ, ◌||◌, length, ap, ◌∙◌}
 use Rattle.std.specs.List.{list_any}
 use Rattle.bril_tree.specs.FrameWords.{names_shadow}
 use Rattle.bril_checker.proofs.Marks.{marks_counted}

@@ -1,4 +1,4 @@
-use Rattle.std.proofs.Common.{◌<◌, ◌≡◌, length, ap, arith}
+use Rattle.std.proofs.Common.{◌≡◌, length, ap, arith}
 use Rattle.bril_checker.proofs.Depth.{depth_step, is_depth, depth_few}
 use Rattle.bril_checker.proofs.frames.depth.Goals as goal
 

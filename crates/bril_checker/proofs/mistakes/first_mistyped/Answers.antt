@@ -1,4 +1,4 @@
-use Rattle.std.proofs.Common.{sym, ◌∙◌}
+use Rattle.std.proofs.Common.{sym}
 use Rattle.bril_checker.specs.Faults.{IsTyped}
 use Rattle.bril_checker.proofs.Places.{All-next, All-whole}
 use Rattle.bril_checker.proofs.mistakes.first_mistyped.Goals as goal

@@ -1,6 +1,5 @@
-use Rattle.std.proofs.Common.{◌<◌, ◌≤◌, length, ap, arith, below_more, true, false, ◌≡◌, sym, ◌∙◌}
-use Rattle.std.proofs.lemmas.Bool.{false≢true, cases_lt}
-use Rattle.bril_checker.specs.Faults.{LeavesOpen}
+use Rattle.std.proofs.Common.{length, ap, arith, below_more, sym, ◌∙◌}
+use Rattle.std.proofs.lemmas.Bool.{false≢true}
 use Rattle.bril_checker.proofs.Ends.{ends_within}
 use Rattle.bril_checker.proofs.walks.first_open.Goals as goal
 

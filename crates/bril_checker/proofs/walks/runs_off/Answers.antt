@@ -1,6 +1,5 @@
-use Rattle.std.proofs.Common.{◌≡◌, ◌<◌, true, length, sym, ◌∙◌, ap, arith, subst}
+use Rattle.std.proofs.Common.{◌≡◌, length, sym, ◌∙◌, ap, arith}
 use Rattle.std.specs.Prelude.{IsSome}
-use Rattle.bril_tree.specs.Walk.{IsReached}
 use Rattle.bril_checker.proofs.Reached.{reach_is}
 use Rattle.bril_checker.proofs.walks.runs_off.Goals as goal
 
