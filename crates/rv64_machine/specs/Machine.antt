@@ -88,7 +88,7 @@ stored s value at (Some (InStack k)) = next (record s { stack = assigned s.stack
 stored s value at (Some (InTable k)) = trapped (trap.Address s.pc at) s
 stored s value at (Some (InCells k)) = next (record s { cells = assigned s.cells k value })
 
--- the fault of a number from 1 to 11
+-- the faults in their order, counted from 0
 abbrev pub fault_of : ℕ → Option Fault
 fault_of n =
     slice_get (fault.DivZero ∷ fault.BadChar ∷ fault.BadAlloc ∷ fault.BadFree ∷ fault.Access ∷ fault.Uninit ∷ fault.Leak ∷ fault.Frames ∷ fault.Cells ∷ fault.PtrRange ∷ fault.Allocs ∷ []) n

@@ -1,6 +1,6 @@
 // What the environment calls do outside the machine.
 
-ghost use Rattle.std.specs.Prelude.{◌≡◌, OnOk, OnErr};
+ghost use Rattle.std.specs.Prelude.{◌≡◌, ◌≢◌, [], OnOk, OnErr};
 ghost use Rattle.std.specs.Int.{w64, cast_signed};
 ghost use Rattle.std.specs.Fmt.{signed_decimal};
 ghost use Rattle.bril_outside.specs.Sink.{Rose, TookAll, TookSome};
@@ -10,8 +10,9 @@ use bril_nums::put_int;
 use bril_outside::sink::{Failed, Sink};
 use bril_tree::limits::{End, Fault};
 
-// Prints the number as a signed decimal, by one `put`.
+// Prints the number as a signed decimal, one byte or more, by one `put`.
 pub fn print_number<S: Sink>(number: u64, out: &mut S) -> Result<(), Failed>
+    ensures some { signed_decimal (cast_signed w64 number) ≢ [] }
     ensures ok { OnOk result (TookAll (S.seen out.old) (signed_decimal (cast_signed w64 number)) (S.seen out.new)) }
     ensures err { OnErr result (TookSome (S.seen out.old) (signed_decimal (cast_signed w64 number)) (S.seen out.new)
         × Rose (S.seen out.old).faults (S.seen out.new).faults) }

@@ -11,6 +11,6 @@ pub enum Trap {
     Address { pc: u64, at: u64 },
     /// The environment has no call of this number, or the number is 8 and the argument names no end.
     Call { pc: u64, number: u64 },
-    /// The argument of the call that prints a char is no scalar value.
+    /// The argument of the call that prints a char is no scalar value. No call prints a char yet, so it doesn't come.
     NoScalar { pc: u64, value: u64 },
 }
