@@ -1,6 +1,6 @@
 // Calls and returns.
 
-ghost use Rattle.std.specs.Prelude.{◌≡◌, map, IfOk, OnOk, OnErr};
+ghost use Rattle.std.specs.Prelude.{◌≡◌, suc, true, nat_lt, length, map, IfOk, OnOk, OnErr};
 ghost use Rattle.bril_tree.specs.Operand.{dest_of};
 ghost use Rattle.bril_tree.specs.State.{read};
 ghost use Rattle.bril_heap.specs.Heap.{entries_of};
@@ -44,10 +44,11 @@ impl<'a> Interp<'a> {
     ghost use Rattle.bril_interpreter.specs.Interpreter.{state_of};
     ghost use Rattle.bril_interpreter.specs.Steps.{newest_of, older_of, IsAtItem, HasDest, Did};
 
-    // A frame more, where the limit allows it. Nothing changes where memory is wanting.
+    // A frame more, where the limit allows it. Memory is wanting only where it does, and then nothing changes.
     pub(crate) fn call(&mut self, callee: u32, args: &[u32]) -> Result<(), AllocError>
         requires { IsAtItem self.old }
         ensures ok { OnOk result (Did self.old (calls self.old.checked.prog self.old.limits callee (map (read (newest_of self.old).places.vars) args.now) (newest_of self.old) (older_of self.old) (state_of self.old)) self.new) }
+        ensures room { OnErr result (nat_lt (suc (length (older_of self.old))) self.old.limits.frames ≡ true) }
         ensures err { OnErr result (self.new ≡ self.old) }
     {
         if self.limits.frames as usize <= self.older.len() + 1 {

@@ -1,6 +1,6 @@
 // What is done to the blocks of memory.
 
-ghost use Rattle.std.specs.Prelude.{◌≡◌, OnOk, OnErr};
+ghost use Rattle.std.specs.Prelude.{◌≡◌, None, OnOk, OnErr};
 
 use crate::interp::Interp;
 use crate::operand::{block_in, offset_in};
@@ -15,11 +15,13 @@ impl<'a> Interp<'a> {
     ghost use Rattle.bril_interpreter.specs.Interpreter.{state_of};
     ghost use Rattle.bril_interpreter.specs.Steps.{newest_of, older_of, IsAtItem, HasDest, Did};
 
-    // A block of so many cells for the destination, or a fault. Nothing changes where memory is wanting.
+    // A block of so many cells for the destination, or a fault. Memory is wanting only where there is no fault, and
+    // then nothing changes.
     pub(crate) fn allocate(&mut self, count: i64, dest: Option<u32>) -> Result<(), AllocError>
         requires item { IsAtItem self.old }
         requires dest { HasDest self.old dest }
         ensures ok { OnOk result (Did self.old (allocates self.old.checked.prog self.old.limits (allocation_fault self.old.limits.cells (state_of self.old).blocks count) count dest (newest_of self.old) (older_of self.old) (state_of self.old)) self.new) }
+        ensures allowed { OnErr result (allocation_fault self.old.limits.cells (state_of self.old).blocks count ≡ None) }
         ensures err { OnErr result (self.new ≡ self.old) }
     {
         match self.cells.take(count) {
