@@ -11,7 +11,6 @@ use Rattle.bril_tree.specs.declared.limits.Limits.{Limits}
 use Rattle.bril_tree.specs.declared.program.Prog.{Prog}
 use Rattle.bril_tree.specs.declared.value.Value.{Value}
 use Rattle.bril_tree.specs.Run.{main_types, state_after}
-use Rattle.bril_tree.specs.State.{State}
 use Rattle.bril_checker.specs.Faults as checker
 use Rattle.bril_checker.specs.declared.fault.CheckFault.{CheckFault}
 use Rattle.bril_tree.specs.declared.tree.Tree.{Tree}
@@ -189,19 +188,19 @@ argument_said (argument.Count given wanted) path s t ample says = (refl, says)
 argument_said (argument.Spelling place) path s t ample says = (refl, says)
 argument_said argument.Memory path s t ample says = absurd (ample refl)
 
--- a run that came to the state u within its steps is told
-tells_run : (c : Call) (path : List ℕ) (steps : ℕ) (u : State) → ¬ Rose c.out_before.faults c.out_after.faults → (how : Status) → SaysStatus how path c.err_before c.err_after → StepsTo how steps u c.out_before c.out_after
-    → UnlessMemory (status_number how) (TellsRun u.ended steps (status_number how) c × TookAll c.out_before u.printed c.out_after)
-tells_run c path steps u sound status.Done says goes =
+-- a run is told by the state that its steps lead to
+tells_run : (c : Call) (path : List ℕ) (p : Prog) (limits : Limits) (values : List Value) (steps : ℕ) → ¬ Rose c.out_before.faults c.out_after.faults → (how : Status) → SaysStatus how path c.err_before c.err_after → StepsTo how p limits values steps c.out_before c.out_after
+    → UnlessMemory (status_number how) (TellsRun (state_after p limits values steps).ended steps (status_number how) c × TookAll c.out_before (state_after p limits values steps).printed c.out_after)
+tells_run c path p limits values steps sound status.Done says goes =
     inr (subst (λ (e : Option End). TellsRun e steps 0 c) (sym goes.0) (refl, says), goes.1)
-tells_run c path steps u sound (status.Faulted fault) says goes =
+tells_run c path p limits values steps sound (status.Faulted fault) says goes =
     inr (subst (λ (e : Option End). TellsRun e steps 2 c) (sym goes.0) (refl, says), goes.1)
-tells_run c path steps u sound (status.Spent made) says goes =
+tells_run c path p limits values steps sound (status.Spent made) says goes =
     let here : Says c.err_before (spent_line steps) c.err_after = subst (λ n. Says c.err_before (spent_line n) c.err_after) goes.0 says in
-    inr (subst (λ (e : Option End). TellsRun e steps 3 c) (sym goes.1) (refl, here), goes.2)
-tells_run c path steps u sound status.OutOfMemory says goes = inl refl
-tells_run c path steps u sound status.Unwritten says goes = absurd (sound goes.1)
-tells_run c path steps u sound _ says goes = absurd goes
+    inr (subst (λ (e : Option End). TellsRun e steps 3 c) (sym goes.1.0) (refl, here), goes.1.1)
+tells_run c path p limits values steps sound status.OutOfMemory says goes = inl refl
+tells_run c path p limits values steps sound status.Unwritten says goes = absurd (sound goes.1)
+tells_run c path p limits values steps sound _ says goes = absurd goes
 
 -- a text is put
 puts_text : (how : Status) (text : List ℕ) (s t : SinkSeen) → PutsText how text s t → ¬ Rose s.faults t.faults → UnlessMemory (status_number how) ((status_number how ≡ 0) × TookAll s text t)
@@ -262,8 +261,9 @@ module _ (c : Call) (action : Action) (path : List ℕ) (args : List (List ℕ))
       let same : does.0 ≡ limits = Limits-same does.0 limits (does.1 ∙ sym frames_are) (does.2 ∙ sym cells_are) in
       ⊎_elim (λ refused. ⊎_elim (exhausted how _) (λ has. absurd (has.2.unspelled values here)) (args_fail how p args refused.0))
       (λ goes.
-      let at : state_after p does.0 goes.0 steps ≡ state_after p limits values steps = λ i. state_after p (same i) (goes.1.only values here i) steps in
-      tells_run c path steps (state_after p limits values steps) sound how ends.says (subst (λ (u : State). StepsTo how steps u c.out_before c.out_after) at goes.2))
+      tells_run c path p limits values steps sound how ends.says
+      (subst (λ (l : Limits). StepsTo how p l values steps c.out_before c.out_after) same
+      (subst (λ (vs : List Value). StepsTo how p does.0 vs steps c.out_before c.out_after) (goes.1.only values here) goes.2)))
       does.3)
 
   pub misargued_where : (frames cells steps : ℕ) (bytes : List ℕ) (p : Prog) (fault : ArgFault) (reads : ReadsWell c (Interpret frames cells steps) bytes) → length bytes ≤ most_bytes → IsSource (format_of reads.path) bytes p → IsAccepted p

@@ -1,10 +1,9 @@
 -- What a run of an interpreter leaves.
-use Rattle.std.proofs.Common.{◌≡◌, ℕ, suc, ◌≤◌, false, List, Some, None, ◌++◌, sym, ap, ◌∙◌, subst, arith, ⊎_elim, append_assoc, true≢false}
+use Rattle.std.proofs.Common.{◌≡◌, ℕ, suc, ◌≤◌, false, List, Some, None, ◌++◌, refl, sym, ap, ◌∙◌, subst, arith, inr, ⊎_elim, append_assoc, true≢false}
 use Rattle.std.proofs.Math.Bridge.{le_prop}
 use Rattle.bril_interpreter.specs.declared.answer.StepAnswer.TheVariants as run
-use Rattle.bril_interpreter.specs.Call.{Ran, RunFailed, reached_after}
+use Rattle.bril_interpreter.specs.Call.{Ran, RunFailed, NewestTakesMemory, reached_after}
 use Rattle.bril_interpreter.specs.Interpreter.{InterpView, state_of}
-use Rattle.bril_outside.proofs.SinkWrites.{TookSome-all}
 use Rattle.bril_outside.specs.Sink.{SinkSeen, Rose, TookAll, TookSome}
 use Rattle.bril_tree.proofs.Grows.{program_is_system}
 use Rattle.bril_tree.specs.declared.limits.End.{End}
@@ -17,6 +16,7 @@ use Rattle.bril_tree.specs.Step.{step}
 use Rattle.simulation.specs.System.{after, IsPrefix}
 use Rattle.simulation.proofs.After.{after-grows_le}
 use Rattle.bril_cli.proofs.Runs.{TookSome-prefix}
+use Rattle.bril_cli.specs.Works.{StopsShort}
 
 -- the interpreter was made for the program, the limits and the values, and has made no step
 pub record IsFresh (i : InterpView) (p : Prog) (limits : Limits) (values : List Value) : Type 0 where
@@ -42,11 +42,19 @@ module _ (i : InterpView) (p : Prog) (limits : Limits) (values : List Value) (fr
     pub goes_on : Ran run.Go steps i i' s t → ((state_after p limits values steps).ended ≡ None) × TookAll s (state_after p limits values steps).printed t
     goes_on ran = (ap (λ (u : State). u.ended) (sym (reached steps)) ∙ ran.0, subst (λ (u : State). TookAll s u.printed t) (reached steps) ran.1.took)
 
-    pub exhausted : Ran run.Memory steps i i' s t → TookSome s (state_after p limits values steps).printed t
-    exhausted ran =
-        TookSome-prefix (reached_after i ran.made).printed (state_after p limits values steps).printed
-        (shown_before ran.made (let h = ran.within in omega arith))
-        (TookSome-all ran.reached.took)
+    pub exhausted : Ran run.Memory steps i i' s t → StopsShort p limits values steps s t
+    exhausted ran = inr (
+      (state_after p limits values ran.made).printed,
+      record {
+        made = ran.made;
+        within = ran.within;
+        running = ap (λ (u : State). u.ended) (sym (reached ran.made)) ∙ ran.running;
+        wants = subst (λ (q : Prog). NewestTakesMemory q (state_after p limits values ran.made).frames) fresh.of_program
+            (subst (λ (u : State). NewestTakesMemory i.checked.prog u.frames) (reached ran.made) ran.wants);
+        prints = refl;
+      },
+      subst (λ (u : State). TookAll s u.printed t) (reached ran.made) ran.reached.took,
+    )
 
     by_print : RunFailed steps i i' s t → TookSome s (state_after p limits values steps).printed t × Rose s.faults t.faults
     by_print failed =

@@ -23,7 +23,7 @@ use Rattle.bril_words.specs.declared.request.Action.TheVariants.{Run, Interpret,
 use Rattle.bril_cli.specs.declared.source.Format.{Format}
 use Rattle.bril_cli.specs.Answers.{Call, Answers, Produces, Puts, Leaves, argument_line}
 use Rattle.bril_cli.specs.CommandLine.{AsksFor, format_of, NeedsProgram}
-use Rattle.bril_cli.specs.Source.{json_line, accepted_line, IsFile, IsFormless, HasNameFault, HasOnlyNameFault, HasOnlyArgFault, IsOnlyTree, IsSource, IsOnlySource, IsWithin, EndsPrinting, Runs, Interprets}
+use Rattle.bril_cli.specs.Source.{json_line, accepted_line, IsFile, IsFormless, HasNameFault, HasOnlyNameFault, HasOnlyArgFault, IsOnlyTree, IsSource, IsOnlySource, IsWithin, EndsPrinting, WantsMemory, Runs, Interprets, Exhausts}
 use Rattle.bril_cli.specs.Straight.{is_straight}
 use Rattle.bril_cli.specs.Works.{IsOnlyNameFault, IsOnlyProgram, IsAcceptedProgram, RefusesProgram, RunsProgram, AreOnlyValues, RefusesArgs, StepsTo, InterpretsProgram, AsksProgram, PutsText, DoesFile, FailsToRead, FindsNoTree, DealsWithTree}
 
@@ -365,7 +365,22 @@ module _ (c : Call) (frames cells steps : ℕ) (path : List ℕ) (args : List (L
         };
       }
 
-      Answers-steps : (how : Status) → SaysStatus how path c.err_before c.err_after → StepsTo how steps (state_after p limits values steps) c.out_before c.out_after → Answers (status_number how) c
+      exhausts : (output : List ℕ) → WantsMemory p limits values steps output → Exhausts c.files_before path args frames cells steps output
+      exhausts output wants = record {
+        bytes = bytes;
+        file = file;
+        program = p;
+        source = source_of;
+        accepted = program.sound.accepted;
+        values = values;
+        spelled = are.spelled;
+        limits = limits;
+        frames_are = frames_are;
+        cells_are = cells_are;
+        wants = wants;
+      }
+
+      Answers-steps : (how : Status) → SaysStatus how path c.err_before c.err_after → StepsTo how p limits values steps c.out_before c.out_after → Answers (status_number how) c
       unfolding printed
       Answers-steps status.Done says goes = record {
         action = Interpret frames cells steps;
@@ -398,8 +413,8 @@ module _ (c : Call) (frames cells steps : ℕ) (path : List ℕ) (args : List (L
         args = args;
         asked = asked;
         output = printed;
-        interprets = interprets None goes.1;
-        took = goes.2;
+        interprets = interprets None goes.1.0;
+        took = goes.1.1;
         says = subst (λ n. Says c.err_before (spent_line n) c.err_after) goes.0 says;
       }
       Answers-steps status.OutOfMemory says goes = record {
@@ -407,7 +422,7 @@ module _ (c : Call) (frames cells steps : ℕ) (path : List ℕ) (args : List (L
         path = path;
         args = args;
         asked = asked;
-        leaves = inr (_, printed, interprets _ refl, goes);
+        leaves = ⊎_elim inl (λ short. inr (short.0, exhausts short.0 short.1, short.2)) goes;
         says = says;
       }
       Answers-steps status.Unwritten says goes = record {

@@ -15,7 +15,7 @@ use Rattle.bril_cli.specs.Carries.{frame_words}
 use Rattle.bril_cli.specs.CommandLine.{AsksFor, format_of, NeedsProgram}
 use Rattle.bril_cli.specs.Emitted.{bound_sum}
 use Rattle.bril_cli.specs.Refusal.{capped, PassesCode, PassesStack}
-use Rattle.bril_cli.specs.Source.{most_bytes, json_line, HoldsFile, IsFile, IsFormless, HasOnlyNameFault, HasOnlyCheckFault, HasOnlyArgFault, IsOnlyFault, IsOnlySource, EndsPrinting, Runs, Interprets, Checks, Writes}
+use Rattle.bril_cli.specs.Source.{most_bytes, json_line, HoldsFile, IsFile, IsFormless, HasOnlyNameFault, HasOnlyCheckFault, HasOnlyArgFault, IsOnlyFault, IsOnlySource, EndsPrinting, Runs, Interprets, Exhausts, Checks, Writes}
 use Rattle.bril_cli.specs.Straight.{is_straight}
 use Rattle.bril_names.specs.declared.fault.NameFault.{NameFault}
 use Rattle.bril_report.specs.Lines.{form_line, misread_line, misnamed_line, unaccepted_line, unread_line, code_line, stack_line, fault_line, spent_line, count_line, spelling_line, misuse_line}
@@ -72,11 +72,11 @@ Puts Check files path args output = Produces Check files path args output
 Puts WriteText files path args output = Produces WriteText files path args output
 Puts WriteJson files path args output = Produces WriteJson files path args output
 
--- What an action leaves on the output where memory was wanting: nothing, or for `interp` the first of what the program
--- prints within the steps.
+-- What an action leaves on the output where memory was wanting: nothing, or for `interp` what the program prints up to an
+-- item that takes memory.
 abbrev pub Leaves : Action → Call → List ℕ → List (List ℕ) → Type 0
-Leaves (Interpret frames cells steps) c path args = (c.out_after ≡ c.out_before) ⊎ ((ended : Option End) × (output : List ℕ)
-    × Interprets c.files_before path args frames cells steps ended output × TookSome c.out_before output c.out_after)
+Leaves (Interpret frames cells steps) c path args = (c.out_after ≡ c.out_before) ⊎ ((output : List ℕ)
+    × Exhausts c.files_before path args frames cells steps output × TookAll c.out_before output c.out_after)
 Leaves _ c path args = c.out_after ≡ c.out_before
 
 -- 0: all was done, and the output took all that the action produces of the file.

@@ -19,9 +19,9 @@ PassesCode p = 250000 < bound_sum p
 abbrev pub PassesStack : ℕ → Prog → Type 0
 PassesStack frames p = 8388608 < frames * frame_words p
 
--- The cause of a refusal: the code is asked before the stack, and memory may be wanting at any time.
+-- The cause of a refusal: the code is asked before the stack, and memory is wanting only behind both.
 abbrev pub EmitRefuses : Limits → Prog → EmitFault → Type 0
 EmitRefuses limits p (CodeTooBig words) = PassesCode p × (words ≡ capped (bound_sum p))
 EmitRefuses limits p (StackTooBig words) =
     (bound_sum p ≤ 250000) × PassesStack limits.frames p × (words ≡ capped (limits.frames * frame_words p))
-EmitRefuses limits p Memory = Unit {0}
+EmitRefuses limits p Memory = (bound_sum p ≤ 250000) × (limits.frames * frame_words p ≤ 8388608)

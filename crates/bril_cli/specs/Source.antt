@@ -1,5 +1,5 @@
 -- The file of a command: the tree that its bytes read as, and the tree's program.
-use Rattle.std.specs.Prelude.{ℕ, ◌≡◌, ◌≢◌, ◌⊎◌, ◌*◌, ◌≤◌, true, false, List, [], ◌++◌, length, Option, Some, None, codes}
+use Rattle.std.specs.Prelude.{ℕ, ◌≡◌, ◌≢◌, ◌⊎◌, ◌*◌, ◌<◌, ◌≤◌, true, false, List, [], ◌++◌, length, Option, Some, None, codes}
 use Rattle.std.proofs.Common.{lit≤}
 use Rattle.std.specs.Fmt.{decimal}
 use Rattle.bril_tree.specs.Accepted.{IsAccepted}
@@ -15,6 +15,7 @@ use Rattle.bril_tree.specs.Run.{main_types, state_after}
 use Rattle.bril_tree.specs.Size.{item_count}
 use Rattle.bril_checker.specs.Faults as checker
 use Rattle.bril_checker.specs.declared.fault.CheckFault.{CheckFault}
+use Rattle.bril_interpreter.specs.Call.{NewestTakesMemory}
 use Rattle.bril_outside.specs.Files.{FileMap, FilesSeen, MayHold}
 use Rattle.bril_json.specs.Canonical.{canonical_json}
 use Rattle.bril_json.specs.Reading as json
@@ -161,6 +162,15 @@ pub record Shows (p : Prog) (words : List (List ℕ)) (frames cells steps : ℕ)
   pub ends : (state_after p limits values steps).ended ≡ ended
   pub prints : (state_after p limits values steps).printed ≡ output
 
+-- By its written meaning the program with these values stands after fewer than the steps at an item that takes memory, and
+-- has printed these bytes.
+pub record WantsMemory (p : Prog) (limits : Limits) (values : List Value) (steps : ℕ) (output : List ℕ) : Type 0 where
+  pub made : ℕ
+  pub within : made < steps
+  pub running : (state_after p limits values made).ended ≡ None
+  pub wants : NewestTakesMemory p (state_after p limits values made).frames
+  pub prints : (state_after p limits values made).printed ≡ output
+
 -- ---- what is produced of a file
 
 -- the line of canonical JSON of a tree
@@ -196,6 +206,21 @@ pub record Interprets (files : FilesSeen) (path : List ℕ) (args : List (List �
   pub source : IsOnlySource (format_of path) bytes program
   pub accepted : IsAccepted program
   pub shows : Shows program args frames cells steps ended output
+
+-- The file at the path reads as an accepted program, which with these arguments and under these limits stands after fewer
+-- than the steps at an item that takes memory, and has printed this output.
+pub record Exhausts (files : FilesSeen) (path : List ℕ) (args : List (List ℕ)) (frames cells steps : ℕ) (output : List ℕ) : Type 0 where
+  pub bytes : List ℕ
+  pub file : IsFile files path bytes
+  pub program : Prog
+  pub source : IsOnlySource (format_of path) bytes program
+  pub accepted : IsAccepted program
+  pub values : List Value
+  pub spelled : AreSpelled (main_types program) args values
+  pub limits : Limits
+  pub frames_are : limits.frames ≡ frames
+  pub cells_are : limits.cells ≡ cells
+  pub wants : WantsMemory program limits values steps output
 
 -- The file at the path reads as an accepted program, and this is its line.
 pub record Checks (files : FilesSeen) (path output : List ℕ) : Type 0 where

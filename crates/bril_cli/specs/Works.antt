@@ -1,9 +1,10 @@
 -- What each step of a command answers, by its status.
-use Rattle.std.specs.Prelude.{ℕ, true, false, ◌⊎◌, ◌≡◌, ◌≢◌, ◌*◌, ◌<◌, ◌≤◌, List, [], length, Some, None}
+use Rattle.std.specs.Prelude.{ℕ, true, false, ◌⊎◌, ◌≡◌, ◌≢◌, ◌*◌, ◌<◌, ◌≤◌, List, [], length, Option, Some, None}
 use Rattle.bril_arguments.specs.Spelled.{AreSpelled}
 use Rattle.bril_arguments.specs.declared.fault.ArgFault.{ArgFault}
 use Rattle.bril_arguments.specs.declared.fault.ArgFault.TheVariants as argument
 use Rattle.bril_tree.specs.Accepted.{IsAccepted}
+use Rattle.bril_tree.specs.declared.limits.End.{End}
 use Rattle.bril_tree.specs.declared.limits.End.TheVariants.{Ended, Faulted}
 use Rattle.bril_tree.specs.declared.limits.Limits.{Limits}
 use Rattle.bril_tree.specs.declared.program.Prog.{Prog}
@@ -35,7 +36,7 @@ use Rattle.bril_cli.specs.Carries.{frame_words}
 use Rattle.bril_cli.specs.CommandLine.{format_of}
 use Rattle.bril_cli.specs.Emitted.{bound_sum}
 use Rattle.bril_cli.specs.Refusal.{capped, PassesCode, PassesStack}
-use Rattle.bril_cli.specs.Source.{most_bytes, json_line, accepted_line, IsFile, IsOnlyTree, IsOnlyFault, HasOnlyCheckFault, HasArgFault, HasOnlyArgFault, IsWithin, EndsPrinting}
+use Rattle.bril_cli.specs.Source.{most_bytes, json_line, accepted_line, IsFile, IsOnlyTree, IsOnlyFault, HasOnlyCheckFault, HasArgFault, HasOnlyArgFault, IsWithin, EndsPrinting, WantsMemory}
 use Rattle.bril_cli.specs.Straight.{is_straight}
 
 -- the bytes at the path are too many
@@ -201,19 +202,27 @@ RefusesArgs (status.Misspelt place) p args = HasOnlyArgFault (main_types p) args
 RefusesArgs status.OutOfMemory p args = Unit {0}
 RefusesArgs _ p args = ⊥
 
--- what interpreting for so many steps, which lead to the state u, answers
-abbrev pub StepsTo : Status → ℕ → State → SinkSeen → SinkSeen → Type 0
-StepsTo status.Done steps u s t = (u.ended ≡ Some Ended) × TookAll s u.printed t
-StepsTo (status.Faulted fault) steps u s t = (u.ended ≡ Some (Faulted fault)) × TookAll s u.printed t
-StepsTo (status.Spent made) steps u s t = (made ≡ steps) × (u.ended ≡ None) × TookAll s u.printed t
-StepsTo status.OutOfMemory steps u s t = TookSome s u.printed t
-StepsTo status.Unwritten steps u s t = TookSome s u.printed t × Rose s.faults t.faults
-StepsTo _ steps u s t = ⊥
+-- the state has ended so, or runs on for None, and the sink took all that was printed
+abbrev pub StandsAt : Option End → State → SinkSeen → SinkSeen → Type 0
+StandsAt ended u s t = (u.ended ≡ ended) × TookAll s u.printed t
+
+-- what is left where memory was wanting: nothing, or what was printed up to an item that takes memory
+abbrev pub StopsShort : Prog → Limits → List Value → ℕ → SinkSeen → SinkSeen → Type 0
+StopsShort p limits values steps s t = (t ≡ s) ⊎ ((output : List ℕ) × WantsMemory p limits values steps output × TookAll s output t)
+
+-- what interpreting for so many steps with these values answers
+abbrev pub StepsTo : Status → Prog → Limits → List Value → ℕ → SinkSeen → SinkSeen → Type 0
+StepsTo status.Done p limits values steps s t = StandsAt (Some Ended) (state_after p limits values steps) s t
+StepsTo (status.Faulted fault) p limits values steps s t = StandsAt (Some (Faulted fault)) (state_after p limits values steps) s t
+StepsTo (status.Spent made) p limits values steps s t = (made ≡ steps) × StandsAt None (state_after p limits values steps) s t
+StepsTo status.OutOfMemory p limits values steps s t = StopsShort p limits values steps s t
+StepsTo status.Unwritten p limits values steps s t = TookSome s (state_after p limits values steps).printed t × Rose s.faults t.faults
+StepsTo _ p limits values steps s t = ⊥
 
 -- what interpreting a program with the values that words spell answers
 abbrev pub InterpretsProgram : Status → Prog → List (List ℕ) → Limits → ℕ → SinkSeen → SinkSeen → Type 0
 InterpretsProgram how p args limits steps s t =
-    (RefusesArgs how p args × (t ≡ s)) ⊎ ((values : List Value) × AreOnlyValues p args values × StepsTo how steps (state_after p limits values steps) s t)
+    (RefusesArgs how p args × (t ≡ s)) ⊎ ((values : List Value) × AreOnlyValues p args values × StepsTo how p limits values steps s t)
 
 -- what interpreting a program under limits of so many frames and cells answers
 abbrev pub InterpretsWithin : Status → Prog → List (List ℕ) → ℕ → ℕ → ℕ → SinkSeen → SinkSeen → Type 0

@@ -344,11 +344,13 @@ fn stack_bound(program: &Prog, limits: Limits) -> u64
 /// the frames' words, 2 and one for each variable, `limits.frames` times, and it has no guards. `CodeTooBig`
 /// comes exactly where the sum of the word bounds passes 250,000 (32, 40 for the function, and for each item
 /// 12 for a constant, 16 for a sum or a print), and `StackTooBig` exactly where the words fit and the stack
-/// passes 8,388,608 words; both carry the number, or the greatest of 64 bits where it is greater.
+/// passes 8,388,608 words; both carry the number, or the greatest of 64 bits where it is greater. `Memory` comes
+/// only where both fit.
 pub fn emit(alloc: Global, prog: &Prog, limits: Limits) -> Result<Image, EmitFault>
     requires { IsStraightCode prog.now }
     ensures carries { IfOk result (λ image. Carries image prog.now limits) }
     ensures stack { IfOk result (λ image. image.stack ≡ limits.frames * frame_words prog.now) }
+    ensures guards { IfOk result (λ image. image.guards ≡ []) }
     ensures length { IfOk result (λ image. length image.words ≤ 250000) }
     ensures fits { IfOk result (λ _. (bound_sum prog.now ≤ 250000) × (limits.frames * frame_words prog.now ≤ 8388608)) }
     ensures refuses { IfErr result (EmitRefuses limits prog.now) }
@@ -370,6 +372,7 @@ fn image_of(alloc: Global, prog: &Prog, stack: u32) -> Result<Image, AllocError>
     requires small { frame_words prog.now ≤ 8388608 }
     ensures words { IfOk result (λ image. image.words ≡ map encoded (program_words prog.now.funcs)) }
     ensures stack { IfOk result (λ image. image.stack ≡ stack) }
+    ensures guards { IfOk result (λ image. image.guards ≡ []) }
 {
     let mut code = Seq::new(alloc);
     match prog.funcs.as_slice().first() {

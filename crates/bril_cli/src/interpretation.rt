@@ -2,7 +2,7 @@
 
 ghost use Rattle.std.specs.Prelude.{◌≡◌, IfOk, IfErr};
 ghost use Rattle.bril_cli.specs.Works.{AreOnlyValues, RefusesArgs, StepsTo, InterpretsProgram, argument_status};
-ghost use Rattle.bril_tree.specs.Run.{FitMain, state_after};
+ghost use Rattle.bril_tree.specs.Run.{FitMain};
 
 use bril_arguments::{ArgFault, read_args};
 use bril_checker::Checked;
@@ -16,7 +16,8 @@ use bril_tree::value::Value;
 use std::alloc::Global;
 
 /// Interprets the program under the limits for so many steps, with the values that the words spell as the arguments of
-/// its `main`: what it prints goes to `out`. Where they spell none nothing is put there.
+/// its `main`: what it prints goes to `out`. Where they spell none nothing is put there. Where memory is wanting nothing
+/// is put there either, or what the program prints up to an item that takes memory.
 pub fn interpret<O: Sink>(
     alloc: Global,
     program: &Checked,
@@ -70,7 +71,7 @@ fn run_with<O: Sink>(
     out: &mut O,
 ) -> Status
     requires { FitMain program.now.prog values.now }
-    ensures { StepsTo result steps (state_after program.now.prog limits values.now steps) (O.seen out.old) (O.seen out.new) }
+    ensures { StepsTo result program.now.prog limits values.now steps (O.seen out.old) (O.seen out.new) }
 {
     let Ok(mut interp) = Interp::new(alloc, program, limits, values) else {
         return Status::OutOfMemory;

@@ -1,7 +1,6 @@
 -- A run of the interpreter makes the steps of the program, or a write fails, or memory is wanting.
-use Rattle.std.proofs.Common.{refl, ap}
+use Rattle.std.proofs.Common.{refl, ap, inl}
 use Rattle.bril_checker.specs.Checked.{CheckedView}
-use Rattle.bril_outside.proofs.SinkWrites.{TookSome-none}
 use Rattle.bril_cli.proofs.Interpreting.{IsFresh, ended, goes_on, exhausted, failed}
 use Rattle.bril_cli.proofs.interpretation.run_with.Given.{Over}
 use Rattle.bril_cli.proofs.interpretation.run_with.Goals as goal
@@ -18,8 +17,7 @@ fresh g c = record {
 pub returns-in-Go : goal.returns-in-Go
 returns-in-Go g c =
     let d = (goal.at.returns-in-Go g c).After-run in
-    let made = goes_on c.in-Ok.interp c.args.program.now.prog c.args.limits c.args.values.now (fresh g d) c.args.steps _ _ _ c.in-Go.ensures in
-    (refl, made.0, made.1)
+    (refl, goes_on c.in-Ok.interp c.args.program.now.prog c.args.limits c.args.values.now (fresh g d) c.args.steps _ _ _ c.in-Go.ensures)
 
 pub returns-in-End-Ended : goal.returns-in-End-Ended
 returns-in-End-Ended g c =
@@ -37,7 +35,7 @@ returns-in-WriteFault g c =
     failed c.in-Ok.interp c.args.program.now.prog c.args.limits c.args.values.now (fresh g d) c.args.steps _ _ _ c.in-WriteFault.ensures
 
 pub returns-in_default : goal.returns-in_default
-returns-in_default g c = TookSome-none _ _
+returns-in_default g c = inl refl
 
 pub returns : goal.returns
 returns g c =
