@@ -14,7 +14,7 @@ use Rattle.bril_tree.specs.FunctionForm.{variables_of}
 use Rattle.bril_cli.specs.Carries.{frame_words, variables_in}
 use Rattle.bril_cli.specs.Emitted.{item_words, code_words, program_words, word_bound, bound_of_function, bound_sum}
 use Rattle.bril_cli.specs.Straight.{IsStraightCode}
-use Rattle.bril_cli.proofs.Relation.{known_below}
+use Rattle.bril_tree.proofs.Appearance.{known_below}
 
 AllByRecursion-front : (P : ℕ → Type 0) (xs ys : List ℕ) → AllByRecursion P (xs ++ ys) → AllByRecursion P xs
 AllByRecursion-front P [] ys h = tt

@@ -19,7 +19,8 @@ use Rattle.bril_cli.specs.Straight.{IsStraightCode}
 use Rattle.bril_cli.proofs.Carrying.{Related, run, Runs, lock_step}
 use Rattle.bril_cli.proofs.ImageSystem.{image_is_system, mapped_is_system}
 use Rattle.bril_cli.proofs.MachineSteps.{HasAt, Decodes}
-use Rattle.bril_cli.proofs.Relation.{known_below, HoldsWords}
+use Rattle.bril_cli.proofs.Relation.{HoldsWords}
+use Rattle.bril_tree.proofs.Appearance.{known_below}
 
 -- encoded words stand in their list
 words_at : (before : List ℕ) (ws : List Word) → HasAt (before ++ map encoded ws) (length before) ws

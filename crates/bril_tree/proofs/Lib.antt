@@ -1,3 +1,4 @@
+pub mod Appearance
 pub mod Bare
 pub mod First
 pub mod Grows
