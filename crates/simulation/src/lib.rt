@@ -31,8 +31,8 @@ pub fn follows_on<E, S, T, U>()
     ensures { FollowsOn E S T U }
 {}
 
-/// A system that follows another within a number of steps for each of its steps does so within any
-/// greater number.
+/// A system that follows another, with at most a number of steps for each step of that other, does so
+/// with any greater number.
 pub fn follows_slower<E, S, T>()
     ensures { FollowsSlower E S T }
 {}
@@ -44,19 +44,20 @@ pub fn simulation_follows<E, S, T, R: Relates<S, T>>()
     ensures { SimulationFollows E R.related }
 {}
 
-/// The same where each step of the first system is one step or more of the second.
+/// The same where each step of the first system is at least one step of the second, and at most the factor.
 pub fn lock_step_follows<E, S, T, R: Relates<S, T>>()
     ensures { LockStepFollows E R.related }
 {}
 
-/// The same where the first system may also make steps alone, while a distance falls.
+/// The same where the first system may also make steps alone to related states, while a distance falls.
 pub fn drifting_follows<E, S, T, R: Relates<S, T>>()
     ensures { DriftingFollows E R.related }
 {}
 
-/// Where each step of the first system is one step or more of the second, the second has a state
-/// related to each state of the first, after a number of steps that is bounded and never falls. It may
-/// begin a few steps before the first related state.
+/// Where each step of the first system is at least one step of the second and at most `c`, and the second
+/// comes to a related state within `c` steps, it has a state related to each state of the first: after at
+/// most `c` steps for each step of the first and `c` more, a number that never falls. The two states agree;
+/// where the second ends the first ends alike, and it prints nothing that the first doesn't.
 pub fn lock_step_tracks<E, S, T, R: Relates<S, T>>()
     ensures { LockStepTracks E R.related }
 {}
