@@ -47,8 +47,8 @@ impl<'a, R: std::rt::Files> Files for OsFiles<'a, R> {
     ghost seen = { untold_files };
 
     /// Reads the file at the path, of at most `most` bytes. Fails where the file cannot be opened, or a read
-    /// fails other than by an interruption; exactly then a fault is counted. It takes memory for the bytes a second
-    /// time while it reads.
+    /// fails other than by an interruption; exactly where it fails a fault is counted. No clause says what a file of
+    /// the system holds, or when a read of it fails. It takes memory for the bytes a second time while it reads.
     fn read(
         &mut self,
         alloc: Global,

@@ -38,8 +38,10 @@ impl<W: Write> OsSink<W> {
 impl<W: Write> Sink for OsSink<W> {
     ghost seen = { λ s. record { written = None; amount = None; faults = s.faults } };
 
-    /// Writes the piece. Takes no memory of its own. Fails where the writer fails, other than by an
-    /// interruption, takes nothing of bytes that are left, or cannot be flushed.
+    /// Writes the piece and flushes the writer. Takes no memory of its own. Fails where the writer fails, other
+    /// than by an interruption, takes nothing of bytes that are left, or cannot be flushed. No clause says when a
+    /// writer fails or what a flush does: where the bytes that it holds are known, they grow by the piece, or by
+    /// the first of it after an error.
     fn put(&mut self, piece: &[u8]) -> Result<(), Failed>
         ensures ok { OnOk result (Appends (W.contents self.old.out) (W.contents self.new.out) piece.now) }
         ensures err { OnErr result
