@@ -69,7 +69,7 @@ fn writes_system_files(rt: HostRuntime) -> Result<(), Fail> {
     Ok(())
 }
 
-/// A stream that is interrupted, moves two bytes at a time, and fails after four.
+/// A stream that is interrupted, moves two bytes at a time, and fails after four, when it can't be flushed either.
 #[derive(Drop)]
 struct Weak {
     turns: u8,
@@ -98,6 +98,9 @@ impl Write for Weak {
     }
 
     fn flush(&mut self) -> io::Result<()> {
+        if self.turns > 3 {
+            return Err(io::Error::from(ErrorKind::Other));
+        }
         Ok(())
     }
 }
@@ -117,6 +120,7 @@ fn streams_that_fail(rt: HostRuntime) -> Result<(), Fail> {
     assert_eq!(rt; sink.put(b"four"), Ok(()));
     assert_eq!(rt; sink.put(b""), Ok(()));
     assert_eq!(rt; sink.put(b"more"), Err(Failed));
+    assert_eq!(rt; sink.put(b""), Err(Failed));
     // A writer with room for three bytes takes nothing from then on.
     let mut room = [0u8; 3];
     assert_eq!(rt; OsSink::new(room.as_mut_slice()).put(b"four"), Err(Failed));
