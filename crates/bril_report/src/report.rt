@@ -44,8 +44,8 @@ pub fn status_number(status: &Status) -> u8
     }
 }
 
-/// Puts the line of a status, for the file at a path, on the error output. Where all was done nothing is put.
-/// A fault of the error output changes nothing else.
+/// Puts the line of a status, for the file at a path, on the error output: all of it, or the first of it where the
+/// output counts a fault. Where all was done nothing is put.
 pub fn say<E: Sink>(err: &mut E, path: &Text, status: &Status)
     ensures { SaysStatus status.now path.now (E.seen err.old) (E.seen err.new) }
 {
@@ -54,7 +54,8 @@ pub fn say<E: Sink>(err: &mut E, path: &Text, status: &Status)
     }
 }
 
-/// Puts the line of words that ask for nothing on the error output.
+/// Puts the line of words that ask for nothing on the error output: all of it, or the first of it where the output
+/// counts a fault.
 pub fn say_misuse<E: Sink>(err: &mut E, misuse: Misuse)
     ensures { Says (E.seen err.old) (misuse_line misuse) (E.seen err.new) }
 {
