@@ -1,5 +1,5 @@
 -- Values or a fault: what an answer is, once it is one of them.
-use Rattle.std.proofs.Common.{◌≡◌, ◌≢◌, ◌⊎◌, ℕ, ◌+◌, ◌<◌, List, [], ◌∷◌, ◌++◌, length, map, take, get_or, Option, Result, Ok, Err, refl, sym, subst}
+use Rattle.std.proofs.Common.{◌≡◌, ◌≢◌, ◌⊎◌, ℕ, suc, ◌+◌, ◌<◌, List, [], ◌∷◌, ◌++◌, length, map, take, get_or, Option, Result, Ok, Err, refl, sym, subst, arith, add-one}
 use Rattle.std.specs.Prelude.{IfOk, IfErr, MatchResult}
 use Rattle.std.specs.List.{AllZip}
 use Rattle.std.proofs.lemmas.List.{length-map, get_or-map, take_more}
@@ -9,7 +9,7 @@ use Rattle.bril_tree.specs.declared.numbered.VarInfo.{VarInfo}
 use Rattle.bril_tree.specs.declared.types.Ty.{Ty}
 use Rattle.bril_tree.specs.declared.value.Value.{Value}
 use Rattle.bril_arguments.specs.Spelled.{IsSpelled, AreSpelled}
-use Rattle.bril_arguments.specs.Faults.{IsFirstMisspelled, IsFaultOf}
+use Rattle.bril_arguments.specs.Faults.{SpellsFirst, IsFirstMisspelled, IsFaultOf}
 use Rattle.bril_arguments.specs.declared.fault.ArgFault.{ArgFault}
 use Rattle.bril_arguments.specs.declared.fault.ArgFault.TheVariants.{Memory}
 use Rattle.bril_arguments.proofs.Faults.{one_fault, only_memory}
@@ -34,6 +34,14 @@ module _ (types : List (Option Ty)) (words : List (List ℕ)) where
 
 -- ---- word by word
 
+-- where some words are read, the first is
+spells_first : (types : List (Option Ty)) (words : List (List ℕ)) (i : ℕ) (values : List Value) → AreSpelled (take (suc i) types) (take (suc i) words) values
+    → 0 < length types → length words ≡ length types → SpellsFirst types words
+spells_first [] words i values all some same = absurd (omega arith)
+spells_first (ty ∷ types) [] i values all some same = absurd (omega arith)
+spells_first (ty ∷ types) (word ∷ words) i [] all some same = absurd all
+spells_first (ty ∷ types) (word ∷ words) i (value ∷ values) all some same = (value, all.0)
+
 abbrev pub types_of : List VarInfo → List (Option Ty)
 types_of vars = map (λ (v : VarInfo). v.ty) vars
 
@@ -51,6 +59,14 @@ module _ (vars : List VarInfo) (words : List (List ℕ)) (i : ℕ) (v : VarInfo)
   one_more before after value all one pushed =
       rw (take_more (types_of vars) i v.ty in_types, take_more words i word in_words, type_is v.ty, sym word_is, pushed)
       (AreSpelled-push (take i (types_of vars)) (take i words) before (get_or vars i v).ty word value all one)
+
+  -- the word is read, so there is a value to hold
+  pub holds_value : (before : List Value) (value : Value) → AreSpelled (take i (types_of vars)) (take i words) before → IsSpelled (get_or vars i v).ty word value
+      → length words ≡ length (types_of vars) → IsFaultOf (types_of vars) words Memory
+  holds_value before value all one same = (
+    same,
+    spells_first (types_of vars) words i (before ++ value ∷ []) (subst (λ n. AreSpelled (take n (types_of vars)) (take n words) (before ++ value ∷ [])) (add-one i) (one_more before (before ++ value ∷ []) value all one refl)) (omega (arith, in_types)) same,
+  )
 
   -- the word is the first that spells nothing
   pub misspelled : (before : List Value) → AreSpelled (take i (types_of vars)) (take i words) before → ((value : Value) → ¬ IsSpelled (get_or vars i v).ty word value)

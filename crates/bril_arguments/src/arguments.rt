@@ -24,7 +24,7 @@ use std::alloc::Global;
 ///
 /// `Count` comes exactly where the number of words is not that of `main`'s arguments; else `Spelling` exactly where a word
 /// spells no value of its argument's type, with the place of the first such word, from 1. `Memory` may come in place of
-/// any answer, where memory is wanting. Takes time in proportion to the words.
+/// the values, and of `Spelling` at a later place than 1, where memory is wanting.
 pub fn read_args(alloc: Global, prog: &Checked, words: &[Text]) -> Result<Seq<Value>, ArgFault>
     requires { length words.now < 2 ^ 32 }
     // The values are those that the words spell, and they fit `main`.
