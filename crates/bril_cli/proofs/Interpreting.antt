@@ -51,6 +51,7 @@ module _ (i : InterpView) (p : Prog) (limits : Limits) (values : List Value) (fr
         running = ap (λ (u : State). u.ended) (sym (reached ran.made)) ∙ ran.running;
         wants = subst (λ (q : Prog). NewestTakesMemory q (state_after p limits values ran.made).frames) fresh.of_program
             (subst (λ (u : State). NewestTakesMemory i.checked.prog u.frames) (reached ran.made) ran.wants);
+        goes_on = ap (λ (u : State). u.ended) (sym (reached (suc ran.made))) ∙ ran.goes_on;
         prints = refl;
       },
       subst (λ (u : State). TookAll s u.printed t) (reached ran.made) ran.reached.took,

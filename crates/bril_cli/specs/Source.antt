@@ -1,5 +1,5 @@
 -- The file of a command: the tree that its bytes read as, and the tree's program.
-use Rattle.std.specs.Prelude.{ℕ, ◌≡◌, ◌≢◌, ◌⊎◌, ◌*◌, ◌<◌, ◌≤◌, true, false, List, [], ◌++◌, length, Option, Some, None, codes}
+use Rattle.std.specs.Prelude.{ℕ, suc, ◌≡◌, ◌≢◌, ◌⊎◌, ◌*◌, ◌<◌, ◌≤◌, true, false, List, [], ◌++◌, length, Option, Some, None, codes}
 use Rattle.std.proofs.Common.{lit≤}
 use Rattle.std.specs.Fmt.{decimal}
 use Rattle.bril_tree.specs.Accepted.{IsAccepted}
@@ -162,13 +162,14 @@ pub record Shows (p : Prog) (words : List (List ℕ)) (frames cells steps : ℕ)
   pub ends : (state_after p limits values steps).ended ≡ ended
   pub prints : (state_after p limits values steps).printed ≡ output
 
--- By its written meaning the program with these values stands after fewer than the steps at an item that takes memory, and
--- has printed these bytes.
+-- By its written meaning the program with these values stands after fewer than the steps at an item that takes memory and
+-- doesn't end the run, and has printed these bytes.
 pub record WantsMemory (p : Prog) (limits : Limits) (values : List Value) (steps : ℕ) (output : List ℕ) : Type 0 where
   pub made : ℕ
   pub within : made < steps
   pub running : (state_after p limits values made).ended ≡ None
   pub wants : NewestTakesMemory p (state_after p limits values made).frames
+  pub goes_on : (state_after p limits values (suc made)).ended ≡ None
   pub prints : (state_after p limits values made).printed ≡ output
 
 -- ---- what is produced of a file
@@ -208,7 +209,7 @@ pub record Interprets (files : FilesSeen) (path : List ℕ) (args : List (List �
   pub shows : Shows program args frames cells steps ended output
 
 -- The file at the path reads as an accepted program, which with these arguments and under these limits stands after fewer
--- than the steps at an item that takes memory, and has printed this output.
+-- than the steps at an item that takes memory and doesn't end the run, and has printed this output.
 pub record Exhausts (files : FilesSeen) (path : List ℕ) (args : List (List ℕ)) (frames cells steps : ℕ) (output : List ℕ) : Type 0 where
   pub bytes : List ℕ
   pub file : IsFile files path bytes
