@@ -1,5 +1,5 @@
 -- What one `print` prints, piece by piece.
-use Rattle.std.proofs.Common.{◌≡◌, ℕ, ◌+◌, ◌<◌, ◌≤◌, length, map, drop, get_or, List, [], ◌∷◌, ◌++◌, refl, sym, ap, ◌∙◌, subst, append_assoc, append-nil}
+use Rattle.std.proofs.Common.{◌≡◌, ◌≢◌, ℕ, ◌+◌, ◌<◌, ◌≤◌, length, map, drop, get_or, List, [], ◌∷◌, ◌++◌, refl, sym, ap, ◌∙◌, subst, append_assoc, append-nil}
 use Rattle.std.proofs.lemmas.List.{map-append, drop_more, drop_all}
 use Rattle.bril_outside.specs.Sink.{SinkSeen, TookAll, TookSome}
 use Rattle.bril_outside.proofs.SinkWrites.{TookAll-none, TookAll-append, TookSome-after, TookSome-longer}
@@ -14,6 +14,16 @@ pub line_is : (p : Prog) (limits : Limits) (vs : List Value) → line vs ≡ lin
 line_is p limits [] = refl
 line_is p limits (v ∷ []) = refl
 line_is p limits (v ∷ w ∷ vs) = ap (λ bytes. shown v ++ 32 ∷ bytes) (line_is p limits (w ∷ vs))
+
+some_behind : (xs ys : List ℕ) (x : ℕ) → (xs ++ x ∷ ys) ≢ []
+some_behind [] ys x e = let f : x ∷ ys ≡ [] = e in cc
+some_behind (z ∷ xs) ys x e = let f : z ∷ (xs ++ x ∷ ys) ≡ [] = e in cc
+
+-- a print prints something
+pub line_of-some : (p : Prog) (limits : Limits) (vs : List Value) → line_of p limits vs ≢ []
+line_of-some p limits [] = some_behind [] [] 10
+line_of-some p limits (v ∷ []) = some_behind (shown v) [] 10
+line_of-some p limits (v ∷ w ∷ vs) = some_behind (shown v) (line_of p limits (w ∷ vs)) 32
 
 -- the piece of a value, and the byte behind it
 pub piece_is : (bytes : List ℕ) (v w : Value) (end : ℕ) → bytes ≡ shown v ++ end ∷ [] → v ≡ w → bytes ≡ shown w ++ end ∷ []

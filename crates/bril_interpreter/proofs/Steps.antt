@@ -1,6 +1,6 @@
 -- What the parts of a step leave.
 use Rattle.std.proofs.Common.{◌≡◌, ℕ, suc, List, ◌∷◌, length, Option, Some, None, Err, refl, ap, ◌∙◌, subst}
-use Rattle.bril_outside.specs.Sink.{SinkSeen}
+use Rattle.bril_outside.specs.Sink.{SinkSeen, Rose, TookAll, TookSome}
 use Rattle.bril_outside.proofs.SinkWrites.{TookAll-none}
 use Rattle.bril_tree.specs.declared.limits.Fault.{Fault}
 use Rattle.bril_tree.specs.declared.limits.Fault.TheVariants as fault
@@ -9,21 +9,43 @@ use Rattle.bril_tree.specs.declared.program.Prog.{Prog}
 use Rattle.bril_tree.specs.declared.value.Value.{Value}
 use Rattle.bril_tree.specs.Memory.{held}
 use Rattle.bril_tree.specs.State.{Frame, Block, State}
-use Rattle.bril_tree.specs.Step.{with_frames, faulted, gives, advanced, with_places, with_failure, stores, loads, loads_held}
+use Rattle.bril_tree.specs.Step.{with_frames, faulted, gives, passes, prints, advanced, with_places, with_failure, stores, loads, loads_held}
 use Rattle.bril_heap.specs.Heap.{load_answer, stored_or_fault, Stores}
 use Rattle.bril_interpreter.specs.Frames.{FrameView, frame_of, with_dest, HasPlace}
 use Rattle.bril_interpreter.specs.Interpreter.{InterpView, count_at, state_of}
-use Rattle.bril_interpreter.specs.Steps.{Did, Executed, newest_of, older_of}
+use Rattle.bril_interpreter.specs.Line.{line}
+use Rattle.bril_interpreter.specs.Steps.{Did, Executed, Unwritten, newest_of, older_of}
 use Rattle.bril_interpreter.proofs.Held.{with_dest-places}
+use Rattle.bril_interpreter.proofs.Lines.{line_is, line_of-some}
 
 -- what prints nothing is done with a sink that stays
 pub Executed-quiet : (t : State) (old new : InterpView) (s : SinkSeen) → Did old t new → Executed t old new s s
 Executed-quiet t old new s did =
     let own : Executed (state_of new) old new s s = record {
       took = TookAll-none s;
+      silent = λ _. refl;
       did = record { became = record { state = refl; checked = did.became.checked; limits = did.became.limits }; failed = did.failed };
     } in
     subst (λ t. Executed t old new s s) did.became.state own
+
+-- a print that was put
+pub Executed-print : (p : Prog) (limits : Limits) (vs : List Value) (old new : InterpView) (before after : SinkSeen) → TookAll before (line vs) after
+    → Did old (passes p limits (newest_of old) (older_of old) (state_of old)) new → Executed (prints p limits vs (newest_of old) (older_of old) (state_of old)) old new before after
+Executed-print p limits vs old new before after took did = record {
+  took = subst (λ bytes. TookAll before bytes after) (line_is p limits vs) took;
+  silent = λ e. absurd (line_of-some p limits vs e);
+  did = did;
+}
+
+-- a print of which the first was put
+pub Unwritten-print : (p : Prog) (limits : Limits) (vs : List Value) (old : InterpView) (before after : SinkSeen) → TookSome before (line vs) after → Rose before.faults after.faults
+    → Unwritten (prints p limits vs (newest_of old) (older_of old) (state_of old)) old old before after
+Unwritten-print p limits vs old before after took rose = record {
+  same = refl;
+  prints = line_of-some p limits vs;
+  took = subst (λ bytes. TookSome before bytes after) (line_is p limits vs) took;
+  rose = rose;
+}
 
 -- what is done from a state on the way
 pub Did-from : (old mid new : InterpView) (s t : State) → Did mid t new → t ≡ s → mid.checked ≡ old.checked → mid.limits ≡ old.limits → mid.has_failed ≡ old.has_failed → Did old s new

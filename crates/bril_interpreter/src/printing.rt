@@ -11,7 +11,7 @@ use crate::places::Places;
 use bril_outside::sink::{Failed, Sink};
 use bril_values::Shown;
 
-// Puts the values of variables, with one space between two, and LF.
+// Puts the values of variables, with one space between two, and LF: a piece for each value and the byte behind it.
 fn put_line<S: Sink>(places: &Places, args: &[u32], out: &mut S) -> Result<(), Failed>
     ensures ok { OnOk result (TookAll (S.seen out.old) (line (map (read (entries_of places.now.vars)) args.now)) (S.seen out.new)) }
     ensures err { OnErr result (TookSome (S.seen out.old) (line (map (read (entries_of places.now.vars)) args.now)) (S.seen out.new)
