@@ -46,7 +46,8 @@ const MISUSED: u8 = 64;
 /// 1,000,000,000,000; 1,000,000,000), and then `--` and the arguments of `@main`. A file whose path ends in `.json` is in
 /// the JSON form of the Bril documentation, and any other in its text form. To be checked, interpreted or run it has to be
 /// without imports. To be run its program has to be straight: one function `@main` of constants, sums and prints of ints,
-/// each variable assigned before it is read. It is made into words of RV64I, which a machine runs.
+/// each variable assigned before it is read. It is made into words of RV64I, which a machine runs; what that prints and
+/// how it ends is what the clauses tell.
 ///
 /// | Status | Comes | Line on `err` |
 /// |---|---|---|
@@ -62,7 +63,7 @@ const MISUSED: u8 = 64;
 /// | 66 | the file is not there, or reading it failed | `cannot read PATH` |
 /// | 68 | the file has more than 16,777,216 bytes, or the program's words may be more than 250,000, or its 8,192 frames need more than 8,388,608 words | `too large: bytes`, `too large: code WORDS`, `too large: stack WORDS` |
 /// | 69 | the program is to be interpreted, and the arguments are not as many as `@main` takes, or one spells no value of its type, the first of them at this place from 1 | `arguments: GIVEN given, WANTED wanted`, `argument PLACE` |
-/// | 71 | memory was wanting, for `run` before the program began to run; for `interp` `out` may have taken what the program prints up to an item that takes memory | `out of memory` |
+/// | 71 | memory was wanting before anything was put on `out` or, for `interp`, at an item that takes memory, up to which `out` took what the program prints | `out of memory` |
 /// | 74 | a write to `out` failed, which took the first of what goes there | `cannot write` |
 ///
 /// Where several causes stand together, the first in this order is answered: 64, 66, the file's size, 65 in the order of
