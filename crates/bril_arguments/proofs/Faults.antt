@@ -1,5 +1,5 @@
 -- Words have one fault at most, and none where they spell values.
-use Rattle.std.proofs.Common.{◌≡◌, ◌≢◌, ◌⊎◌, inl, inr, ℕ, zero, suc, ◌<◌, List, [], ◌∷◌, take, Option, Some, refl, sym, ap, ◌∙◌, arith}
+use Rattle.std.proofs.Common.{◌≡◌, ◌≢◌, inl, inr, ℕ, zero, suc, ◌<◌, List, [], ◌∷◌, take, Option, Some, refl, sym, ap, ◌∙◌, arith}
 use Rattle.std.specs.Prelude.{slice_get}
 use Rattle.std.proofs.lemmas.Bool.{cases_lt}
 use Rattle.bril_tree.specs.declared.types.Ty.{Ty}
@@ -35,15 +35,6 @@ module _ (types : List (Option Ty)) (words : List (List ℕ)) where
         ]
       ]
 
-  -- the fault that words have is the only one, but for want of memory
-  pub one_fault : (f g : ArgFault) → f ≢ Memory → IsFaultOf types words f → IsFaultOf types words g → (g ≡ f) ⊎ (g ≡ Memory)
-  one_fault f Memory some h k = inr refl
-  one_fault Memory g some h k = absurd (some refl)
-  one_fault (Count a b) (Count c d) some h k = inl (λ i. Count ((k.0 ∙ sym h.0) i) ((k.1 ∙ sym h.1) i))
-  one_fault (Count a b) (Spelling q) some h k = absurd (h.2 (h.0 ∙ k.0 ∙ sym h.1))
-  one_fault (Spelling p) (Count c d) some h k = absurd (k.2 (k.0 ∙ h.0 ∙ sym k.1))
-  one_fault (Spelling p) (Spelling q) some h k = inl (ap Spelling (one_place q p k.1 h.1))
-
   -- words that spell values have no fault
   pub only_memory : (values : List Value) (f : ArgFault) → AreSpelled types words values → IsFaultOf types words f → f ≡ Memory
   only_memory values (Count a b) all h = absurd (h.2 (h.0 ∙ AreSpelled-length types words values all ∙ sym h.1))
@@ -52,3 +43,12 @@ module _ (types : List (Option Ty)) (words : List (List ℕ)) where
       let spelled = AreSpelled-get types words values m.index m.ty m.word all m.ty_here m.word_here in
       absurd (m.none spelled.0 spelled.1)
   only_memory values Memory all h = refl
+
+  -- the fault that words have is the only one
+  pub one_fault : (f g : ArgFault) → f ≢ Memory → IsFaultOf types words f → IsFaultOf types words g → g ≡ f
+  one_fault f Memory some h k = absurd (some (only_memory k.0 f k.1 h))
+  one_fault Memory g some h k = absurd (some refl)
+  one_fault (Count a b) (Count c d) some h k = λ i. Count ((k.0 ∙ sym h.0) i) ((k.1 ∙ sym h.1) i)
+  one_fault (Count a b) (Spelling q) some h k = absurd (h.2 (h.0 ∙ k.0 ∙ sym h.1))
+  one_fault (Spelling p) (Count c d) some h k = absurd (k.2 (k.0 ∙ h.0 ∙ sym k.1))
+  one_fault (Spelling p) (Spelling q) some h k = ap Spelling (one_place q p k.1 h.1)

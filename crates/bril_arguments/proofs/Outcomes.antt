@@ -1,15 +1,16 @@
 -- Values or a fault: what an answer is, once it is one of them.
-use Rattle.std.proofs.Common.{◌≡◌, ◌≢◌, ◌⊎◌, ℕ, suc, ◌+◌, ◌<◌, List, [], ◌∷◌, ◌++◌, length, map, take, get_or, Option, Result, Ok, Err, refl, sym, subst, arith, add-one}
+use Rattle.std.proofs.Common.{◌≡◌, ◌≢◌, ℕ, ◌+◌, ◌<◌, Bool, true, false, true≢false, List, [], ◌∷◌, ◌++◌, length, map, take, get_or, Option, Result, Ok, Err, refl, sym, ap, ◌∙◌, subst, arith}
 use Rattle.std.specs.Prelude.{IfOk, IfErr, MatchResult}
+use Rattle.std.specs.Result.{is_err, OnOk}
 use Rattle.std.specs.List.{AllZip}
-use Rattle.std.proofs.lemmas.List.{length-map, get_or-map, take_more}
+use Rattle.std.proofs.lemmas.List.{length-map, get_or-map, take_all, take_more}
 use Rattle.std.proofs.lemmas.Option.{slice_get_read}
 use Rattle.bril_tree.specs.Run.{Suits}
 use Rattle.bril_tree.specs.declared.numbered.VarInfo.{VarInfo}
 use Rattle.bril_tree.specs.declared.types.Ty.{Ty}
 use Rattle.bril_tree.specs.declared.value.Value.{Value}
 use Rattle.bril_arguments.specs.Spelled.{IsSpelled, AreSpelled}
-use Rattle.bril_arguments.specs.Faults.{SpellsFirst, IsFirstMisspelled, IsFaultOf}
+use Rattle.bril_arguments.specs.Faults.{IsFirstMisspelled, IsFaultOf}
 use Rattle.bril_arguments.specs.declared.fault.ArgFault.{ArgFault}
 use Rattle.bril_arguments.specs.declared.fault.ArgFault.TheVariants.{Memory}
 use Rattle.bril_arguments.proofs.Faults.{one_fault, only_memory}
@@ -28,22 +29,43 @@ module _ (types : List (Option Ty)) (words : List (List ℕ)) where
   reads (Err e) all fault values spelled = only_memory types words values e spelled fault
 
   pub faults : (r : Result (List Value) ArgFault) → IfOk r (λ vs. AreSpelled types words vs) → IfErr r (λ e. IsFaultOf types words e)
-      → (f : ArgFault) → f ≢ Memory → IsFaultOf types words f → MatchResult r (λ _. ⊥) (λ e. (e ≡ f) ⊎ (e ≡ Memory))
+      → (f : ArgFault) → f ≢ Memory → IsFaultOf types words f → MatchResult r (λ _. ⊥) (λ e. e ≡ f)
   faults (Ok vs) all fault f some is = some (only_memory types words vs f all is)
   faults (Err e) all fault f some is = one_fault types words f e some is fault
 
 -- ---- word by word
 
--- where some words are read, the first is
-spells_first : (types : List (Option Ty)) (words : List (List ℕ)) (i : ℕ) (values : List Value) → AreSpelled (take (suc i) types) (take (suc i) words) values
-    → 0 < length types → length words ≡ length types → SpellsFirst types words
-spells_first [] words i values all some same = absurd (omega arith)
-spells_first (ty ∷ types) [] i values all some same = absurd (omega arith)
-spells_first (ty ∷ types) (word ∷ words) i [] all some same = absurd all
-spells_first (ty ∷ types) (word ∷ words) i (value ∷ values) all some same = (value, all.0)
+-- what holds at success holds where there is no error
+pub on_ok : {X E P : Type 0} (r : Result X E) → is_err r ≡ false → OnOk r P → P
+on_ok (Ok x) e holds = holds
+on_ok (Err e') e holds = absurd (true≢false e)
+
+some_pushed : (values : List Value) (value : Value) → values ++ value ∷ [] ≢ []
+some_pushed [] value e = cc
+some_pushed (v ∷ vs) value e = cc
 
 abbrev pub types_of : List VarInfo → List (Option Ty)
 types_of vars = map (λ (v : VarInfo). v.ty) vars
+
+-- so many words are read, and their values are held, or memory was wanting for one
+pub record AreRead (types : List (Option Ty)) (words : List (List ℕ)) (count : ℕ) (wanting : Bool) (values : List Value) : Type 0 where
+  pub read : List Value
+  pub spelled : AreSpelled (take count types) (take count words) read
+  pub held : wanting ≡ false → values ≡ read
+  pub lost : wanting ≡ true → read ≢ []
+
+-- all words are read
+module _ (types : List (Option Ty)) (words : List (List ℕ)) (same : length words ≡ length types) where
+  whole : (values : List Value) → AreSpelled (take (length words) types) (take (length words) words) values → AreSpelled types words values
+  whole values all =
+      subst (λ ts. AreSpelled ts words values) (take_all (length words) types (omega arith))
+      (subst (λ ws. AreSpelled (take (length words) types) ws values) (take_all (length words) words (omega arith)) all)
+
+  pub values_held : (values : List Value) → AreRead types words (length words) false values → AreSpelled types words values
+  values_held values are = subst (λ vs. AreSpelled types words vs) (sym (are.held refl)) (whole are.read are.spelled)
+
+  pub values_lost : (values : List Value) → AreRead types words (length words) true values → IsFaultOf types words Memory
+  values_lost values are = (are.read, whole are.read are.spelled, are.lost refl)
 
 module _ (vars : List VarInfo) (words : List (List ℕ)) (i : ℕ) (v : VarInfo) (word : List ℕ)
     (in_vars : i < length vars) (in_words : i < length words) (word_is : word ≡ get_or words i word) where
@@ -60,13 +82,24 @@ module _ (vars : List VarInfo) (words : List (List ℕ)) (i : ℕ) (v : VarInfo)
       rw (take_more (types_of vars) i v.ty in_types, take_more words i word in_words, type_is v.ty, sym word_is, pushed)
       (AreSpelled-push (take i (types_of vars)) (take i words) before (get_or vars i v).ty word value all one)
 
-  -- the word is read, so there is a value to hold
-  pub holds_value : (before : List Value) (value : Value) → AreSpelled (take i (types_of vars)) (take i words) before → IsSpelled (get_or vars i v).ty word value
-      → length words ≡ length (types_of vars) → IsFaultOf (types_of vars) words Memory
-  holds_value before value all one same = (
-    same,
-    spells_first (types_of vars) words i (before ++ value ∷ []) (subst (λ n. AreSpelled (take n (types_of vars)) (take n words) (before ++ value ∷ [])) (add-one i) (one_more before (before ++ value ∷ []) value all one refl)) (omega (arith, in_types)) same,
-  )
+  -- and its value is held, or lost
+  pub AreRead-held : (wanting : Bool) (before after : List Value) (value : Value) → AreRead (types_of vars) words i wanting before → IsSpelled (get_or vars i v).ty word value
+      → after ≡ before ++ value ∷ [] → AreRead (types_of vars) words (i + 1) wanting after
+  AreRead-held wanting before after value are one pushed = record {
+    read = are.read ++ value ∷ [];
+    spelled = one_more are.read (are.read ++ value ∷ []) value are.spelled one refl;
+    held = λ e. pushed ∙ ap (λ vs. vs ++ value ∷ []) (are.held e);
+    lost = λ _. some_pushed are.read value;
+  }
+
+  pub AreRead-lost : (wanting : Bool) (before after : List Value) (value : Value) → AreRead (types_of vars) words i wanting before → IsSpelled (get_or vars i v).ty word value
+      → AreRead (types_of vars) words (i + 1) true after
+  AreRead-lost wanting before after value are one = record {
+    read = are.read ++ value ∷ [];
+    spelled = one_more are.read (are.read ++ value ∷ []) value are.spelled one refl;
+    held = λ e. absurd (true≢false e);
+    lost = λ _. some_pushed are.read value;
+  }
 
   -- the word is the first that spells nothing
   pub misspelled : (before : List Value) → AreSpelled (take i (types_of vars)) (take i words) before → ((value : Value) → ¬ IsSpelled (get_or vars i v).ty word value)

@@ -1,5 +1,5 @@
 -- Why words are no arguments of these types.
-use Rattle.std.specs.Prelude.{◌≡◌, ◌≢◌, ℕ, ◌+◌, List, [], ◌∷◌, length, take, Option, Some, slice_get}
+use Rattle.std.specs.Prelude.{◌≡◌, ◌≢◌, ℕ, ◌+◌, List, [], length, take, Option, Some, slice_get}
 use Rattle.bril_tree.specs.declared.types.Ty.{Ty}
 use Rattle.bril_tree.specs.declared.value.Value.{Value}
 use Rattle.bril_arguments.specs.Spelled.{IsSpelled, AreSpelled}
@@ -18,13 +18,8 @@ pub record IsFirstMisspelled (types : List (Option Ty)) (words : List (List ℕ)
   pub before : AreSpelled (take index types) (take index words) values
   pub none : (value : Value) → ¬ IsSpelled ty word value
 
--- The first word spells a value of its type, which memory is taken for.
-abbrev pub SpellsFirst : List (Option Ty) → List (List ℕ) → Type 0
-SpellsFirst (ty ∷ types) (word ∷ words) = (value : Value) × IsSpelled ty word value
-SpellsFirst types words = ⊥
-
--- What a fault says of the words, by these types. Memory is wanting only where there is a value to hold.
+-- what a fault says of the words, by these types: memory is wanting only where they spell values, and one at least
 abbrev pub IsFaultOf : List (Option Ty) → List (List ℕ) → ArgFault → Type 0
 IsFaultOf types words (Count given wanted) = (given ≡ length words) × (wanted ≡ length types) × (given ≢ wanted)
 IsFaultOf types words (Spelling place) = (length words ≡ length types) × IsFirstMisspelled types words place
-IsFaultOf types words Memory = (length words ≡ length types) × SpellsFirst types words
+IsFaultOf types words Memory = (values : List Value) × AreSpelled types words values × (values ≢ [])

@@ -1,6 +1,6 @@
 // The arguments of a program's `main`, read from words.
 
-ghost use Rattle.std.specs.Prelude.{◌≡◌, ◌≢◌, ◌^◌, ◌<◌, ◌⊎◌, List, length, map, IfOk, IfErr, MatchResult};
+ghost use Rattle.std.specs.Prelude.{◌≡◌, ◌≢◌, ◌^◌, ◌<◌, List, length, map, IfOk, IfErr, MatchResult};
 ghost use Rattle.bril_tree.specs.Run.{FitMain, main_types};
 ghost use Rattle.bril_tree.specs.declared.value.Value.{Value};
 ghost use Rattle.bril_arguments.specs.Faults.{IsFaultOf};
@@ -24,7 +24,7 @@ use std::alloc::Global;
 ///
 /// `Count` comes exactly where the number of words is not that of `main`'s arguments; else `Spelling` exactly where a word
 /// spells no value of its argument's type, with the place of the first such word, from 1. `Memory` may come in place of
-/// the values, and of `Spelling` at a later place than 1, where memory is wanting.
+/// the values, where there are any and memory is wanting for them.
 pub fn read_args(alloc: Global, prog: &Checked, words: &[Text]) -> Result<Seq<Value>, ArgFault>
     requires { length words.now < 2 ^ 32 }
     // The values are those that the words spell, and they fit `main`.
@@ -36,7 +36,7 @@ pub fn read_args(alloc: Global, prog: &Checked, words: &[Text]) -> Result<Seq<Va
     // A fault is the words', and the words' fault is answered.
     ensures fault { IfErr result (λ e. IsFaultOf (main_types prog.now.prog) words.now e) }
     ensures faults { (fault : ArgFault) → fault ≢ Memory → IsFaultOf (main_types prog.now.prog) words.now fault
-        → MatchResult result (λ _. ⊥) (λ e. (e ≡ fault) ⊎ (e ≡ Memory)) }
+        → MatchResult result (λ _. ⊥) (λ e. e ≡ fault) }
 {
     read_words(alloc, taken_by_main(prog.prog()), words)
 }
@@ -64,13 +64,20 @@ fn read_words(alloc: Global, taken: &[VarInfo], words: &[Text]) -> Result<Seq<Va
         });
     }
     let mut values = Seq::new(alloc);
+    // Want of memory is told behind all words, so that it hides no fault of theirs.
+    let mut wanting = false;
     for (index, word) in words.iter().enumerate() {
         let Some(value) = read_value(taken[index].ty, word) else {
             return Err(ArgFault::Spelling {
                 place: index as u32 + 1,
             });
         };
-        values.push(value)?;
+        if values.push(value).is_err() {
+            wanting = true;
+        }
+    }
+    if wanting {
+        return Err(ArgFault::Memory);
     }
     Ok(values)
 }

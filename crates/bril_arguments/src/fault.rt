@@ -1,9 +1,5 @@
 // Why words are no arguments of `main`.
 
-ghost use Rattle.std.specs.Prelude.{◌≡◌};
-ghost use Rattle.bril_arguments.specs.declared.fault.ArgFault.TheVariants.{Memory};
-
-use std::alloc::AllocError;
 use thiserror::Error;
 
 /// Why words are no arguments of `main`.
@@ -18,12 +14,4 @@ pub enum ArgFault {
     Spelling { place: u32 },
     #[error("out of memory")]
     Memory,
-}
-
-impl From<AllocError> for ArgFault {
-    ghost from_gives = { λ _ e. e ≡ Memory };
-
-    fn from(_fault: AllocError) -> ArgFault {
-        ArgFault::Memory
-    }
 }

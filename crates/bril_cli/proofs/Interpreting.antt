@@ -2,7 +2,7 @@
 use Rattle.std.proofs.Common.{◌≡◌, ℕ, suc, ◌≤◌, false, List, Some, None, ◌++◌, refl, sym, ap, ◌∙◌, subst, arith, inr, ⊎_elim, append_assoc, true≢false}
 use Rattle.std.proofs.Math.Bridge.{le_prop}
 use Rattle.bril_interpreter.specs.declared.answer.StepAnswer.TheVariants as run
-use Rattle.bril_interpreter.specs.Call.{Ran, RunFailed, NewestTakesMemory, reached_after}
+use Rattle.bril_interpreter.specs.Call.{Ran, RunFailed, WantsMemory, reached_after}
 use Rattle.bril_interpreter.specs.Interpreter.{InterpView, state_of}
 use Rattle.bril_outside.specs.Sink.{SinkSeen, Rose, TookAll, TookSome}
 use Rattle.bril_tree.proofs.Grows.{program_is_system}
@@ -48,10 +48,9 @@ module _ (i : InterpView) (p : Prog) (limits : Limits) (values : List Value) (fr
       record {
         made = ran.made;
         within = ran.within;
-        running = ap (λ (u : State). u.ended) (sym (reached ran.made)) ∙ ran.running;
-        wants = subst (λ (q : Prog). NewestTakesMemory q (state_after p limits values ran.made).frames) fresh.of_program
-            (subst (λ (u : State). NewestTakesMemory i.checked.prog u.frames) (reached ran.made) ran.wants);
-        goes_on = ap (λ (u : State). u.ended) (sym (reached (suc ran.made))) ∙ ran.goes_on;
+        wants = subst (λ (q : Prog). WantsMemory q limits (state_after p limits values ran.made)) fresh.of_program
+            (subst (λ (l : Limits). WantsMemory i.checked.prog l (state_after p limits values ran.made)) fresh.under
+            (subst (λ (u : State). WantsMemory i.checked.prog i.limits u) (reached ran.made) ran.wants));
         prints = refl;
       },
       subst (λ (u : State). TookAll s u.printed t) (reached ran.made) ran.reached.took,

@@ -23,7 +23,7 @@ use Rattle.bril_words.specs.declared.request.Action.TheVariants.{Run, Interpret,
 use Rattle.bril_cli.specs.declared.source.Format.{Format}
 use Rattle.bril_cli.specs.Answers.{Call, Answers, Produces, Puts, Leaves, argument_line}
 use Rattle.bril_cli.specs.CommandLine.{AsksFor, format_of, NeedsProgram}
-use Rattle.bril_cli.specs.Source.{json_line, accepted_line, IsFile, IsFormless, HasNameFault, HasOnlyNameFault, HasOnlyArgFault, IsOnlyTree, IsSource, IsOnlySource, IsWithin, EndsPrinting, WantsMemory, Runs, Interprets, Exhausts}
+use Rattle.bril_cli.specs.Source.{json_line, accepted_line, IsFile, IsFormless, HasNameFault, HasOnlyNameFault, HasOnlyArgFault, IsOnlyTree, IsSource, IsOnlySource, IsWithin, EndsPrinting, StopsForMemory, Runs, Interprets, Exhausts}
 use Rattle.bril_cli.specs.Straight.{is_straight}
 use Rattle.bril_cli.specs.Works.{IsOnlyNameFault, IsOnlyProgram, IsAcceptedProgram, RefusesProgram, RunsProgram, AreOnlyValues, RefusesArgs, StepsTo, InterpretsProgram, AsksProgram, PutsText, DoesFile, FailsToRead, FindsNoTree, DealsWithTree}
 
@@ -365,8 +365,8 @@ module _ (c : Call) (frames cells steps : ℕ) (path : List ℕ) (args : List (L
         };
       }
 
-      exhausts : (output : List ℕ) → WantsMemory p limits values steps output → Exhausts c.files_before path args frames cells steps output
-      exhausts output wants = record {
+      exhausts : (output : List ℕ) → StopsForMemory p limits values steps output → Exhausts c.files_before path args frames cells steps output
+      exhausts output stops = record {
         bytes = bytes;
         file = file;
         program = p;
@@ -377,7 +377,7 @@ module _ (c : Call) (frames cells steps : ℕ) (path : List ℕ) (args : List (L
         limits = limits;
         frames_are = frames_are;
         cells_are = cells_are;
-        wants = wants;
+        stops = stops;
       }
 
       Answers-steps : (how : Status) → SaysStatus how path c.err_before c.err_after → StepsTo how p limits values steps c.out_before c.out_after → Answers (status_number how) c

@@ -15,7 +15,7 @@ use Rattle.bril_tree.specs.Run.{main_types, state_after}
 use Rattle.bril_tree.specs.Size.{item_count}
 use Rattle.bril_checker.specs.Faults as checker
 use Rattle.bril_checker.specs.declared.fault.CheckFault.{CheckFault}
-use Rattle.bril_interpreter.specs.Call.{NewestTakesMemory}
+use Rattle.bril_interpreter.specs.Call.{WantsMemory}
 use Rattle.bril_outside.specs.Files.{FileMap, FilesSeen, MayHold}
 use Rattle.bril_json.specs.Canonical.{canonical_json}
 use Rattle.bril_json.specs.Reading as json
@@ -164,12 +164,10 @@ pub record Shows (p : Prog) (words : List (List ℕ)) (frames cells steps : ℕ)
 
 -- By its written meaning the program with these values stands after fewer than the steps at an item that takes memory and
 -- doesn't end the run, and has printed these bytes.
-pub record WantsMemory (p : Prog) (limits : Limits) (values : List Value) (steps : ℕ) (output : List ℕ) : Type 0 where
+pub record StopsForMemory (p : Prog) (limits : Limits) (values : List Value) (steps : ℕ) (output : List ℕ) : Type 0 where
   pub made : ℕ
   pub within : made < steps
-  pub running : (state_after p limits values made).ended ≡ None
-  pub wants : NewestTakesMemory p (state_after p limits values made).frames
-  pub goes_on : (state_after p limits values (suc made)).ended ≡ None
+  pub wants : WantsMemory p limits (state_after p limits values made)
   pub prints : (state_after p limits values made).printed ≡ output
 
 -- ---- what is produced of a file
@@ -221,7 +219,7 @@ pub record Exhausts (files : FilesSeen) (path : List ℕ) (args : List (List ℕ
   pub limits : Limits
   pub frames_are : limits.frames ≡ frames
   pub cells_are : limits.cells ≡ cells
-  pub wants : WantsMemory program limits values steps output
+  pub stops : StopsForMemory program limits values steps output
 
 -- The file at the path reads as an accepted program, and this is its line.
 pub record Checks (files : FilesSeen) (path output : List ℕ) : Type 0 where

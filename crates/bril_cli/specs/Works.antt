@@ -36,7 +36,7 @@ use Rattle.bril_cli.specs.Carries.{frame_words}
 use Rattle.bril_cli.specs.CommandLine.{format_of}
 use Rattle.bril_cli.specs.Emitted.{bound_sum}
 use Rattle.bril_cli.specs.Refusal.{capped, PassesCode, PassesStack}
-use Rattle.bril_cli.specs.Source.{most_bytes, json_line, accepted_line, IsFile, IsOnlyTree, IsOnlyFault, HasOnlyCheckFault, HasArgFault, HasOnlyArgFault, IsWithin, EndsPrinting, WantsMemory}
+use Rattle.bril_cli.specs.Source.{most_bytes, json_line, accepted_line, IsFile, IsOnlyTree, IsOnlyFault, HasOnlyCheckFault, HasArgFault, HasOnlyArgFault, IsWithin, EndsPrinting, StopsForMemory}
 use Rattle.bril_cli.specs.Straight.{is_straight}
 
 -- the bytes at the path are too many
@@ -208,7 +208,7 @@ StandsAt ended u s t = (u.ended ≡ ended) × TookAll s u.printed t
 
 -- what is left where memory was wanting: nothing, or what was printed up to an item that takes memory
 abbrev pub StopsShort : Prog → Limits → List Value → ℕ → SinkSeen → SinkSeen → Type 0
-StopsShort p limits values steps s t = (t ≡ s) ⊎ ((output : List ℕ) × WantsMemory p limits values steps output × TookAll s output t)
+StopsShort p limits values steps s t = (t ≡ s) ⊎ ((output : List ℕ) × StopsForMemory p limits values steps output × TookAll s output t)
 
 -- what interpreting for so many steps with these values answers
 abbrev pub StepsTo : Status → Prog → Limits → List Value → ℕ → SinkSeen → SinkSeen → Type 0

@@ -1,5 +1,5 @@
 -- Several writes to a sink, one after another.
-use Rattle.std.proofs.Common.{◌≡◌, ℕ, ◌+◌, ◌^◌, ◌<◌, ◌≤◌, List, [], ◌++◌, length, Option, Some, None, refl, ap, sym, ◌∙◌, append_assoc, append-nil, length-append, arith}
+use Rattle.std.proofs.Common.{◌≡◌, ℕ, ◌+◌, ◌^◌, ◌<◌, ◌≤◌, List, [], ◌∷◌, ◌++◌, length, Option, Some, None, refl, ap, sym, ◌∙◌, append_assoc, append-nil, length-append, arith}
 use Rattle.std.proofs.lemmas.Grind.{common_steps}
 use Rattle.std.specs.Option.{option_map}
 use Rattle.bril_outside.specs.Sink.{SinkSeen, Rose, amount_after, TookAll, TookSome}
@@ -27,6 +27,11 @@ written-none (Some v) = ap Some (append-nil v)
 pub written-twice : (w : Option (List ℕ)) (a b : List ℕ) → option_map (λ v. v ++ b) (option_map (λ v. v ++ a) w) ≡ option_map (λ v. v ++ (a ++ b)) w
 written-twice None a b = refl
 written-twice (Some v) a b = ap Some (append_assoc v a b)
+
+-- two lists that are nothing together are nothing each
+pub both_nothing : (xs ys : List ℕ) → xs ++ ys ≡ [] → (xs ≡ []) × (ys ≡ [])
+both_nothing [] ys e = (refl, e)
+both_nothing (x ∷ xs) ys e = cc
 
 -- a fault is seen over a step before it
 pub Rose-after : (a b c : ℕ) → a ≤ b → Rose b c → Rose a c

@@ -5,7 +5,7 @@ ghost use Rattle.std.specs.Prelude.{◌≡◌, [], ◌++◌, ℕ, OnOk, OnErr};
 use std::alloc::{AllocError, Global};
 use std::marker::Model;
 
-/// Bytes, in order. They keep their allocator.
+/// Bytes, in order.
 #[derive(Drop)]
 pub struct Bytes {
     held: Vec<u8>,
@@ -20,7 +20,7 @@ impl Model for Bytes {
 }
 
 impl Bytes {
-    /// No bytes; those that come will lie in memory of `alloc`. Takes no memory.
+    /// No bytes, for those in memory of `alloc`. Takes no memory.
     pub fn new(alloc: Global) -> Bytes
         ensures { result ≡ [] }
     {
@@ -29,7 +29,7 @@ impl Bytes {
         }
     }
 
-    /// No bytes, with the allocator of these. Takes no memory.
+    /// No bytes. Takes no memory.
     pub fn fresh(&self) -> Bytes
         ensures { result ≡ [] }
     {

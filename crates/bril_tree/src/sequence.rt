@@ -5,7 +5,7 @@ ghost use Rattle.std.specs.Prelude.{◌≡◌, [], ◌∷◌, ◌++◌, List, On
 use std::alloc::{AllocError, Global};
 use std::marker::Model;
 
-/// A list of items, in order. It keeps its allocator.
+/// A list of items, in order.
 #[derive(Drop)]
 pub struct Seq<T> {
     held: Vec<T>,
@@ -20,7 +20,7 @@ impl<T> Model for Seq<T> {
 }
 
 impl<T> Seq<T> {
-    /// The empty list, whose items will lie in memory of `alloc`. Takes no memory.
+    /// The empty list, for items in memory of `alloc`. Takes no memory.
     pub fn new(alloc: Global) -> Seq<T>
         ensures { result ≡ [] }
     {
