@@ -1,5 +1,5 @@
 -- What the steps of an action on a file come to.
-use Rattle.std.proofs.Common.{◌≡◌, ◌⊎◌, ℕ, List, [], Result, Ok, Err, IfOk, refl, sym, subst, ⊎_elim}
+use Rattle.std.proofs.Common.{◌≡◌, ◌⊎◌, ℕ, List, [], Result, Ok, Err, IfOk, refl, sym, subst, ⊎_elim, inr}
 use Rattle.std.specs.Prelude.{IfErr, MatchResult}
 use Rattle.bril_outside.specs.Sink.{SinkSeen}
 use Rattle.bril_tree.specs.declared.tree.Tree.{Tree}
@@ -107,16 +107,16 @@ module _ (p : Prog) where
       unaccepted = λ accepted. ample (accepts accepted);
     }
 
-  pub RefusesCheck-of : (fault : CheckFault) → checker.IsFaultOf p fault → ((other : CheckFault) → checker.HasFault p other → (fault ≡ other) ⊎ (fault ≡ check.Memory)) → (IsAccepted p → fault ≡ check.Memory) → RefusesCheck (check_status p fault) p
-  RefusesCheck-of (check.Types func item) is only accepts = (refl, only_check (check.Types func item) is only accepts (λ e. cc))
-  RefusesCheck-of (check.Arity func item) is only accepts = (refl, only_check (check.Arity func item) is only accepts (λ e. cc))
-  RefusesCheck-of (check.MaybeUnassigned func item variable) is only accepts = (refl, only_check (check.MaybeUnassigned func item variable) is only accepts (λ e. cc))
-  RefusesCheck-of (check.Nest func item) is only accepts = (refl, only_check (check.Nest func item) is only accepts (λ e. cc))
-  RefusesCheck-of (check.SpecCall func item) is only accepts = (refl, only_check (check.SpecCall func item) is only accepts (λ e. cc))
-  RefusesCheck-of (check.NoReturn func item) is only accepts = (refl, only_check (check.NoReturn func item) is only accepts (λ e. cc))
-  RefusesCheck-of check.MainType is only accepts = (refl, only_check check.MainType is only accepts (λ e. cc))
-  RefusesCheck-of (check.PrintPtr func item) is only accepts = (refl, only_check (check.PrintPtr func item) is only accepts (λ e. cc))
-  RefusesCheck-of check.Memory is only accepts = tt
+  pub RefusesCheck-of : (fault : CheckFault) → checker.IsFaultOf p fault → ((other : CheckFault) → checker.HasFault p other → (fault ≡ other) ⊎ (fault ≡ check.Memory)) → (IsAccepted p → fault ≡ check.Memory) → (fault ≡ check.Memory → checker.TakesMemory p) → RefusesCheck (check_status p fault) p
+  RefusesCheck-of (check.Types func item) is only accepts takes = (refl, only_check (check.Types func item) is only accepts (λ e. cc))
+  RefusesCheck-of (check.Arity func item) is only accepts takes = (refl, only_check (check.Arity func item) is only accepts (λ e. cc))
+  RefusesCheck-of (check.MaybeUnassigned func item variable) is only accepts takes = (refl, only_check (check.MaybeUnassigned func item variable) is only accepts (λ e. cc))
+  RefusesCheck-of (check.Nest func item) is only accepts takes = (refl, only_check (check.Nest func item) is only accepts (λ e. cc))
+  RefusesCheck-of (check.SpecCall func item) is only accepts takes = (refl, only_check (check.SpecCall func item) is only accepts (λ e. cc))
+  RefusesCheck-of (check.NoReturn func item) is only accepts takes = (refl, only_check (check.NoReturn func item) is only accepts (λ e. cc))
+  RefusesCheck-of check.MainType is only accepts takes = (refl, only_check check.MainType is only accepts (λ e. cc))
+  RefusesCheck-of (check.PrintPtr func item) is only accepts takes = (refl, only_check (check.PrintPtr func item) is only accepts (λ e. cc))
+  RefusesCheck-of check.Memory is only accepts takes = inr (takes refl)
 
 -- ---- What asking a tree for its accepted program answers.
 

@@ -1,9 +1,11 @@
 -- What each step of a command answers, by its status.
-use Rattle.std.specs.Prelude.{ℕ, true, false, ◌⊎◌, ◌≡◌, ◌≢◌, ◌*◌, ◌<◌, ◌≤◌, List, [], length, Option, Some, None}
+use Rattle.std.specs.Prelude.{ℕ, true, false, ◌⊎◌, ◌≡◌, ◌≢◌, ◌*◌, ◌^◌, ◌<◌, ◌≤◌, List, [], length, Option, Some, None}
+use Rattle.bril_arguments.specs.Faults.{IsFaultOf}
 use Rattle.bril_arguments.specs.Spelled.{AreSpelled}
 use Rattle.bril_arguments.specs.declared.fault.ArgFault.{ArgFault}
 use Rattle.bril_arguments.specs.declared.fault.ArgFault.TheVariants as argument
 use Rattle.bril_tree.specs.Accepted.{IsAccepted}
+use Rattle.bril_tree.specs.Size.{IsCounted}
 use Rattle.bril_tree.specs.declared.limits.End.{End}
 use Rattle.bril_tree.specs.declared.limits.End.TheVariants.{Ended, Faulted}
 use Rattle.bril_tree.specs.declared.limits.Limits.{Limits}
@@ -127,10 +129,10 @@ pub record IsFaultless (p : Prog) : Type 0 where
   pub accepted : IsAccepted p
   pub faultless : (fault : CheckFault) → checker.HasFault p fault → ⊥
 
--- why a program was not accepted
+-- why a program was not accepted: memory is wanting only for the checker, or where no numbers of 32 bits count its parts
 abbrev pub RefusesCheck : Status → Prog → Type 0
 RefusesCheck (status.Unaccepted program fault) p = (program ≡ p) × HasOnlyCheckFault p fault
-RefusesCheck status.OutOfMemory p = Unit {0}
+RefusesCheck status.OutOfMemory p = (¬ IsCounted p) ⊎ checker.TakesMemory p
 RefusesCheck _ p = ⊥
 
 -- why a tree has no accepted program
@@ -195,11 +197,12 @@ pub record AreOnlyValues (p : Prog) (args : List (List ℕ)) (values : List Valu
   pub only : (other : List Value) → AreSpelled (main_types p) args other → values ≡ other
   pub faultless : (fault : ArgFault) → HasArgFault (main_types p) args fault → ⊥
 
--- why words are no arguments of `main`
+-- why words are no arguments of `main`: memory is wanting only for values that they spell, or where no number of 32
+-- bits counts them
 abbrev pub RefusesArgs : Status → Prog → List (List ℕ) → Type 0
 RefusesArgs (status.Miscounted given wanted) p args = HasOnlyArgFault (main_types p) args (argument.Count given wanted)
 RefusesArgs (status.Misspelt place) p args = HasOnlyArgFault (main_types p) args (argument.Spelling place)
-RefusesArgs status.OutOfMemory p args = Unit {0}
+RefusesArgs status.OutOfMemory p args = (2 ^ 32 ≤ length args) ⊎ IsFaultOf (main_types p) args argument.Memory
 RefusesArgs _ p args = ⊥
 
 -- the state has ended so, or runs on for None, and the sink took all that was printed

@@ -1,7 +1,7 @@
 // What a command does: it reads a file, and writes its tree; or it numbers and checks its program, and interprets it
 // or runs it on the machine.
 
-ghost use Rattle.std.specs.Prelude.{◌≡◌, ◌≤◌, ◌<◌, ◌*◌, ◌^◌, ◌-◌, [], All, IsTrue, length, IfOk, IfErr, MatchResult};
+ghost use Rattle.std.specs.Prelude.{◌≡◌, ◌↔◌, ◌≤◌, ◌<◌, ◌*◌, ◌^◌, ◌-◌, [], All, IsTrue, length, IfOk, IfErr, MatchResult};
 ghost use Rattle.bril_tree.specs.Size.{IsCounted};
 ghost use Rattle.bril_cli.specs.Carries.{Carries, frame_words};
 ghost use Rattle.bril_cli.specs.Emitted.{bound_sum};
@@ -270,14 +270,14 @@ fn check_program(alloc: Global, program: Prog) -> Result<Checked, Status>
 
 // Whether the functions, and the items of each, have numbers of 32 bits.
 fn is_counted(program: &Prog) -> bool
-    ensures { IsTrue result → IsCounted program.now }
+    ensures { IsTrue result ↔ IsCounted program.now }
 {
     program.funcs.as_slice().len() < 4294967296 && are_counted(program.funcs.as_slice())
 }
 
 // Whether the items of each function have numbers of 32 bits.
 fn are_counted(functions: &[Func]) -> bool
-    ensures { IsTrue result → All (λ f. length f.code < 2 ^ 32 - 1) functions.now }
+    ensures { IsTrue result ↔ All (λ f. length f.code < 2 ^ 32 - 1) functions.now }
 {
     for function in functions {
         if !has_few_items(function) {
@@ -289,7 +289,7 @@ fn are_counted(functions: &[Func]) -> bool
 
 // Whether the items of the function have numbers of 32 bits.
 fn has_few_items(function: &Func) -> bool
-    ensures { IsTrue result → length function.now.code < 2 ^ 32 - 1 }
+    ensures { IsTrue result ↔ (length function.now.code < 2 ^ 32 - 1) }
 {
     function.code.as_slice().len() < 4294967295
 }

@@ -9,4 +9,4 @@ use Rattle.bril_cli.proofs.work.check_program.Goals as goal
 pub returns-in-Err-clause-err : goal.returns-in-Err-clause-err
 returns-in-Err-clause-err c =
     subst (λ (how : Status). RefusesCheck how c.args.program) (sym c.check_status.ensures)
-    (subst (λ (p : Prog). RefusesCheck (check_status p c.in-Err.fault) c.args.program) (sym c.in-Err.ensures.back) (RefusesCheck-of c.args.program c.in-Err.fault c.in-Err.ensures.fault c.in-Err.ensures.faults c.in-Err.ensures.accepts))
+    (subst (λ (p : Prog). RefusesCheck (check_status p c.in-Err.fault) c.args.program) (sym c.in-Err.ensures.back) (RefusesCheck-of c.args.program c.in-Err.fault c.in-Err.ensures.fault c.in-Err.ensures.faults c.in-Err.ensures.accepts c.in-Err.ensures.memory))
