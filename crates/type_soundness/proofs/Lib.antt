@@ -1,0 +1,14 @@
+pub mod Typed
+pub mod Outcomes
+pub mod Places
+pub mod Frames
+pub mod Standing
+pub mod Blocks
+pub mod Arguments
+pub mod Callees
+pub mod Invariant
+pub mod Operands
+pub mod Steps
+pub mod Calls
+pub mod Actions
+pub mod Soundness
