@@ -31,7 +31,7 @@ use Rattle.type_soundness.proofs.Callees.{in_index}
 use Rattle.type_soundness.proofs.Calls.{fault-runs, cond-runs, returns-runs, calls-runs}
 use Rattle.type_soundness.proofs.Frames.{Sits-more, before}
 use Rattle.type_soundness.proofs.Invariant.{Stack-more, Stands, Runs}
-use Rattle.type_soundness.proofs.Operands.{HoldsReads, IsStraight, argument-typed, dest-typed, read-typed}
+use Rattle.type_soundness.proofs.Operands.{HoldsReads, GoesOn, argument-typed, dest-typed, read-typed}
 use Rattle.type_soundness.proofs.Outcomes.{shape-parts}
 use Rattle.type_soundness.proofs.Places.{IsTypedAct, act-typed, no_dest, counted}
 use Rattle.type_soundness.proofs.Standing.{accepted_function, shaped_at, typed_at, holds-read}
@@ -59,11 +59,12 @@ set-typed heap s None v e h = absurd (cc)
 set-typed heap None (Some t) v e h = tt
 set-typed heap (Some s) (Some t) v e h = HasType-back heap s t v e h
 
-returned : (heap : List Cell) (t u : Ty) (o : Option Ty) (v : Value) → if_typed (same_type t) o ≡ true → HasType heap o v → HasType heap (Some t) v
-returned heap t u None v e h = absurd (cc)
-returned heap t u (Some s) v e h = HasType-back heap t s v e h
+returned : (heap : List Cell) (t : Ty) (o : Option Ty) (v : Value) → if_typed (same_type t) o ≡ true → HasType heap o v → HasType heap (Some t) v
+returned heap t None v e h = absurd (cc)
+returned heap t (Some s) v e h = HasType-back heap t s v e h
 
-loaded : (heap : List Cell) (blocks : List Block) (u ty : Option Ty) (pointer v : Value) (n : ℕ) → Remembers heap blocks → both_typed points_to u ty ≡ true → HasType heap u pointer → held blocks pointer n ≡ Some v → HasType heap ty v
+-- what a pointer's block holds
+pub loaded : (heap : List Cell) (blocks : List Block) (u ty : Option Ty) (pointer v : Value) (n : ℕ) → Remembers heap blocks → both_typed points_to u ty ≡ true → HasType heap u pointer → held blocks pointer n ≡ Some v → HasType heap ty v
 loaded heap blocks None ty pointer v n m e h at = absurd (cc)
 loaded heap blocks (Some s) None pointer v n m e h at = absurd (cc)
 loaded heap blocks (Some s) (Some t) pointer v n m e h at = held-typed heap blocks s t pointer v n m e h at
@@ -99,16 +100,16 @@ char_from-gives (negsuc n) e = cc
 module _ (p : Prog) (limits : Limits) where
   -- ---- states from frames
 
-  passes-runs : (s : State) (frame : Frame) (older : List Frame) (st : Stands p s.blocks frame older) (item : Instr) → slice_get st.function.code frame.point ≡ Some item → IsStraight item → dest_of item ≡ None → Runs p (passes p limits frame older s)
-  passes-runs s frame older st item at straight none = record { frame = advanced frame; older = older; frames = refl; stands = passes-stands p s.blocks frame older st item at straight none }
+  passes-runs : (s : State) (frame : Frame) (older : List Frame) (st : Stands p s.blocks frame older) (item : Instr) → slice_get st.function.code frame.point ≡ Some item → GoesOn item → dest_of item ≡ None → Runs p (passes p limits frame older s)
+  passes-runs s frame older st item at on none = record { frame = advanced frame; older = older; frames = refl; stands = passes-stands p s.blocks frame older st item at on none }
 
-  pub gives-runs : (s : State) (frame : Frame) (older : List Frame) (st : Stands p s.blocks frame older) (item : Instr) (v : Value) → slice_get st.function.code frame.point ≡ Some item → IsStraight item
+  pub gives-runs : (s : State) (frame : Frame) (older : List Frame) (st : Stands p s.blocks frame older) (item : Instr) (v : Value) → slice_get st.function.code frame.point ≡ Some item → GoesOn item
       → ((x : ℕ) → dest_of item ≡ Some x → HasType st.heap (variable_type st.function.vars x) v) → Runs p (gives p limits (dest_of item) v frame older s)
-  gives-runs s frame older st item v at straight typed = record {
+  gives-runs s frame older st item v at on typed = record {
     frame = advanced (with_places (assigned (dest_of item) v frame.places) frame);
     older = older;
     frames = refl;
-    stands = gives-stands p s.blocks frame older st item v at straight typed;
+    stands = gives-stands p s.blocks frame older st item v at on typed;
   }
 
   -- blocks that hold values of the same types
@@ -124,7 +125,7 @@ module _ (p : Prog) (limits : Limits) where
         memory = Remembers-push st.heap blocks c size st.memory;
         function = st.function;
         sits = Sits-more p st.heap (st.heap ++ c ∷ []) st.function frame more st.sits;
-        stack = Stack-more p st.heap (st.heap ++ c ∷ []) st.function older more st.stack;
+        stack = Stack-more p st.heap (st.heap ++ c ∷ []) frame.function older more st.stack;
       }
 
   module _ (accepted : IsAccepted p) (s : State) (frame : Frame) (older : List Frame) (framed : s.frames ≡ frame ∷ older) (st : Stands p s.blocks frame older) where
@@ -163,8 +164,8 @@ module _ (p : Prog) (limits : Limits) where
 
     -- ---- one row for each operation
 
-    passes-row : (o : Op) (dest : Option ℕ) (ty : Option Ty) (args funcs labels : List ℕ) → IsAt (Act dest ty o args funcs labels) → IsStraight (Act dest ty o args funcs labels) → dest ≡ None → Runs p (passes p limits frame older s)
-    passes-row o dest ty args funcs labels at straight none = passes-runs s frame older st (Act dest ty o args funcs labels) at straight none
+    passes-row : (o : Op) (dest : Option ℕ) (ty : Option Ty) (args funcs labels : List ℕ) → IsAt (Act dest ty o args funcs labels) → GoesOn (Act dest ty o args funcs labels) → dest ≡ None → Runs p (passes p limits frame older s)
+    passes-row o dest ty args funcs labels at on none = passes-runs s frame older st (Act dest ty o args funcs labels) at on none
 
     none_in : (o : Op) (dest : Option ℕ) (args funcs labels : List ℕ) → (shape_of (is_some st.function.ret) o).dest ≡ false → fits_shape (shape_of (is_some st.function.ret) o) (is_some dest) (length args) (length funcs) (length labels) ≡ true → dest ≡ None
     none_in o dest args funcs labels none shaped = dest_none (shape_of (is_some st.function.ret) o) dest (length args) (length funcs) (length labels) none shaped
@@ -203,7 +204,7 @@ module _ (p : Prog) (limits : Limits) where
 
     returned-value : (ret : Option Ty) (args : List ℕ) → is_return_typed ret st.function.vars args ≡ true → (IsSome ret → HasType st.heap (argument_type st.function.vars args 0) (argument frame.places args 0)) → HasType st.heap ret (argument frame.places args 0)
     returned-value None args e h = tt
-    returned-value (Some t) args e h = returned st.heap t t _ (argument frame.places args 0) e (h refl)
+    returned-value (Some t) args e h = returned st.heap t _ (argument frame.places args 0) e (h refl)
 
     value-counted : (ret : Option Ty) (n : ℕ) → IsSome ret → n ≡ cond (is_some ret) 1 0 → 0 < n
     value-counted None n there e = absurd (cc)

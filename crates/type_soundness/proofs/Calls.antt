@@ -30,14 +30,14 @@ use Rattle.type_soundness.proofs.Typed.{Cell, HasType, HasType-both, HasType-bac
 
 -- ---- the values of the arguments
 
-called-values : (heap : List Cell) (f : Func) (places : Places) (args : List ℕ) (ts : List (Option Ty)) → are_typed (map (variable_type f.vars) args) ts ≡ true → ((x : ℕ) → In x args → Holds heap f places (Variable x))
-    → (p : Prog) → HaveTypes heap (map (read places.vars) args) ts
-called-values heap f places [] [] e h p = tt
-called-values heap f places [] (t ∷ ts) e h p = absurd (cc)
-called-values heap f places (x ∷ args) [] e h p = absurd (cc)
-called-values heap f places (x ∷ args) (t ∷ ts) e h p =
+called-values : (p : Prog) (heap : List Cell) (f : Func) (places : Places) (args : List ℕ) (ts : List (Option Ty)) → are_typed (map (variable_type f.vars) args) ts ≡ true → ((x : ℕ) → In x args → Holds heap f places (Variable x))
+    → HaveTypes heap (map (read places.vars) args) ts
+called-values p heap f places [] [] e h = tt
+called-values p heap f places [] (t ∷ ts) e h = absurd (cc)
+called-values p heap f places (x ∷ args) [] e h = absurd (cc)
+called-values p heap f places (x ∷ args) (t ∷ ts) e h =
     let both = and_parts _ _ e in
-    (HasType-both heap (variable_type f.vars x) t (read places.vars x) both.0 (read-typed p heap f places x (h x (inl refl))), called-values heap f places args ts both.1 (λ y i. h y (inr i)) p)
+    (HasType-both heap (variable_type f.vars x) t (read places.vars x) both.0 (read-typed p heap f places x (h x (inl refl))), called-values p heap f places args ts both.1 (λ y i. h y (inr i)))
 
 -- ---- the returned value
 
@@ -59,9 +59,9 @@ module _ (p : Prog) (limits : Limits) (accepted : IsAccepted p) where
   call-typed heap f above frame sits dest ty args funcs labels at callee =
       subst (λ (o : Option Func). is_call_typed o f.vars args ty ≡ true) callee (act-here heap f frame sits dest ty args funcs labels at).operands_typed
 
-  returned-typed : (heap : List Cell) (above : Func) (caller : Frame) (w : Waits p heap above caller) (v : Value) → HasType heap above.ret v → (x : ℕ) → w.dest ≡ Some x → HasType heap (variable_type w.function.vars x) v
-  returned-typed heap above caller w v h x d =
-      let call = call-typed heap w.function above caller w.sits w.dest w.ty w.args w.funcs w.labels w.at w.callee in
+  returned-typed : (heap : List Cell) (number : ℕ) (above : Func) (caller : Frame) (w : Waits p heap number caller) (v : Value) → slice_get p.funcs number ≡ Some above → HasType heap above.ret v → (x : ℕ) → w.dest ≡ Some x → HasType heap (variable_type w.function.vars x) v
+  returned-typed heap number above caller w v there h x d =
+      let call = call-typed heap w.function above caller w.sits w.dest w.ty w.args w.funcs w.labels w.at (ap (slice_get p.funcs) w.callee ∙ there) in
       dest-typed p heap w.function caller.places w.dest w.ty v x (act-here heap w.function caller w.sits w.dest w.ty w.args w.funcs w.labels w.at).dest_typed
       (result-typed heap w.ty above.ret v (and_parts _ _ call).1 h) d
 
@@ -90,7 +90,7 @@ module _ (p : Prog) (limits : Limits) (accepted : IsAccepted p) where
         frame = _;
         older = older;
         frames = refl;
-        stands = gives-stands p s.blocks caller older below item v w.at (record { way = λ code point. inl refl; keeps = refl; assigns = refl }) (returned-typed st.heap st.function caller w v h);
+        stands = gives-stands p s.blocks caller older below item v w.at (record { way = λ code point. inl refl; keeps = refl; assigns = refl }) (returned-typed st.heap frame.function st.function caller w v st.sits.there h);
       } in
       subst (λ (o : Option Instr). Runs p (gives p limits (awaited p limits o) v caller older s)) (sym there) goes_on
 
@@ -109,8 +109,8 @@ module _ (p : Prog) (limits : Limits) (accepted : IsAccepted p) where
         heap = st.heap;
         memory = st.memory;
         function = callee.0;
-        sits = new-sits p limits st.heap (slice_index funcs 0) callee.0 (map (read frame.places.vars) args) callee.1 (called-values st.heap f frame.places args _ (and_parts _ _ call).0 held p);
-        stack = (record { function = f; sits = st.sits; dest = dest; ty = ty; args = args; funcs = funcs; labels = labels; at = at; callee = callee.1 }, st.stack);
+        sits = new-sits p limits st.heap (slice_index funcs 0) callee.0 (map (read frame.places.vars) args) callee.1 (called-values p st.heap f frame.places args _ (and_parts _ _ call).0 held);
+        stack = (record { function = f; sits = st.sits; dest = dest; ty = ty; args = args; funcs = funcs; labels = labels; at = at; callee = refl }, st.stack);
       }
 
   pub calls-runs : (s : State) (frame : Frame) (older : List Frame) → s.frames ≡ frame ∷ older → (st : Stands p s.blocks frame older) (dest : Option ℕ) (ty : Option Ty) (args funcs labels : List ℕ) → slice_get st.function.code frame.point ≡ Some (Act dest ty op.Call args funcs labels)

@@ -12,7 +12,7 @@ use Rattle.type_soundness.proofs.Frames.{Sits, Sits-more}
 use Rattle.type_soundness.proofs.Typed.{Cell, Extends}
 
 -- A frame that waits stands at a call of the function of the frame above it.
-pub record Waits (p : Prog) (heap : List Cell) (above : Func) (frame : Frame) : Type 0 where
+pub record Waits (p : Prog) (heap : List Cell) (above : ℕ) (frame : Frame) : Type 0 where
   pub function : Func
   pub sits : Sits p heap function frame
   pub dest : Option ℕ
@@ -21,12 +21,12 @@ pub record Waits (p : Prog) (heap : List Cell) (above : Func) (frame : Frame) : 
   pub funcs : List ℕ
   pub labels : List ℕ
   pub at : slice_get function.code frame.point ≡ Some (Act dest ty op.Call args funcs labels)
-  pub callee : slice_get p.funcs (slice_index funcs 0) ≡ Some above
+  pub callee : slice_index funcs 0 ≡ above
 
 -- so does each of the older frames
-abbrev pub Stack : Prog → List Cell → Func → List Frame → Type 0
+abbrev pub Stack : Prog → List Cell → ℕ → List Frame → Type 0
 Stack p heap above [] = Unit {0}
-Stack p heap above (frame ∷ older) = (w : Waits p heap above frame) × Stack p heap w.function older
+Stack p heap above (frame ∷ older) = Waits p heap above frame × Stack p heap frame.function older
 
 -- Blocks and frames hold values of their types.
 pub record Stands (p : Prog) (blocks : List Block) (frame : Frame) (older : List Frame) : Type 0 where
@@ -34,7 +34,7 @@ pub record Stands (p : Prog) (blocks : List Block) (frame : Frame) (older : List
   pub memory : Remembers heap blocks
   pub function : Func
   pub sits : Sits p heap function frame
-  pub stack : Stack p heap function older
+  pub stack : Stack p heap frame.function older
 
 -- the state has a newest frame, and stands so
 pub record Runs (p : Prog) (s : State) : Type 0 where
@@ -43,7 +43,7 @@ pub record Runs (p : Prog) (s : State) : Type 0 where
   pub frames : s.frames ≡ frame ∷ older
   pub stands : Stands p s.blocks frame older
 
-Waits-more : (p : Prog) (heap more : List Cell) (above : Func) (frame : Frame) → Extends heap more → Waits p heap above frame → Waits p more above frame
+Waits-more : (p : Prog) (heap more : List Cell) (above : ℕ) (frame : Frame) → Extends heap more → Waits p heap above frame → Waits p more above frame
 Waits-more p heap more above frame x w = record {
   function = w.function;
   sits = Sits-more p heap more w.function frame x w.sits;
@@ -56,7 +56,6 @@ Waits-more p heap more above frame x w = record {
   callee = w.callee;
 }
 
-pub Stack-more : (p : Prog) (heap more : List Cell) (above : Func) (older : List Frame) → Extends heap more → Stack p heap above older → Stack p more above older
-unfolding Waits-more
+pub Stack-more : (p : Prog) (heap more : List Cell) (above : ℕ) (older : List Frame) → Extends heap more → Stack p heap above older → Stack p more above older
 Stack-more p heap more above [] x h = tt
-Stack-more p heap more above (frame ∷ older) x h = (Waits-more p heap more above frame x h.0, Stack-more p heap more h.0.function older x h.1)
+Stack-more p heap more above (frame ∷ older) x h = (Waits-more p heap more above frame x h.0, Stack-more p heap more frame.function older x h.1)

@@ -34,29 +34,26 @@ use Rattle.type_soundness.proofs.Typed.{Cell, HasType, HasType-both, HasType-pla
 
 -- ---- items from which control goes on, and which assign their destination
 
-pub record IsStraight (item : Instr) : Type 0 where
+pub record GoesOn (item : Instr) : Type 0 where
   pub way : (code : List Instr) (point : ℕ) → In (onward point) (item_ways code point item)
   pub keeps : item_change (Some item) false ≡ Keeps
   pub assigns : assigns_of item ≡ map Variable (listed (dest_of item))
 
-abbrev pub straight : (item : Instr) → ((code : List Instr) (point : ℕ) → In (onward point) (item_ways code point item)) → item_change (Some item) false ≡ Keeps → assigns_of item ≡ map Variable (listed (dest_of item)) → IsStraight item
-straight item way keeps assigns = record { way = way; keeps = keeps; assigns = assigns }
-
-act-straight : (o : Op) (dest : Option ℕ) (ty : Option Ty) (args funcs labels : List ℕ) (places : Places) (v : Value) → action_outcome o dest ty args places ≡ Gives v → IsStraight (Act dest ty o args funcs labels)
-act-straight op.Jmp dest ty args funcs labels places v e = absurd (cc)
-act-straight op.Br dest ty args funcs labels places v e = absurd (cc)
-act-straight op.Ret dest ty args funcs labels places v e = absurd (cc)
-act-straight op.Guard dest ty args funcs labels places v e = absurd (cc)
-act-straight op.Set dest ty args funcs labels places v e = absurd (cc)
-act-straight op.Speculate dest ty args funcs labels places v e = absurd (cc)
-act-straight op.Commit dest ty args funcs labels places v e = absurd (cc)
-act-straight _ dest ty args funcs labels places v e = record { way = λ code point. inl refl; keeps = refl; assigns = refl }
+act-goes_on : (o : Op) (dest : Option ℕ) (ty : Option Ty) (args funcs labels : List ℕ) (places : Places) (v : Value) → action_outcome o dest ty args places ≡ Gives v → GoesOn (Act dest ty o args funcs labels)
+act-goes_on op.Jmp dest ty args funcs labels places v e = absurd (cc)
+act-goes_on op.Br dest ty args funcs labels places v e = absurd (cc)
+act-goes_on op.Ret dest ty args funcs labels places v e = absurd (cc)
+act-goes_on op.Guard dest ty args funcs labels places v e = absurd (cc)
+act-goes_on op.Set dest ty args funcs labels places v e = absurd (cc)
+act-goes_on op.Speculate dest ty args funcs labels places v e = absurd (cc)
+act-goes_on op.Commit dest ty args funcs labels places v e = absurd (cc)
+act-goes_on _ dest ty args funcs labels places v e = record { way = λ code point. inl refl; keeps = refl; assigns = refl }
 
 -- an item that gives a value
-pub gives-straight : (item : Instr) (places : Places) (v : Value) → outcome_of item places ≡ Gives v → IsStraight item
-gives-straight (Label l) places v e = absurd (cc)
-gives-straight (Const dest ty value) places v e = record { way = λ code point. inl refl; keeps = refl; assigns = refl }
-gives-straight (Act dest ty o args funcs labels) places v e = act-straight o dest ty args funcs labels places v e
+pub giver-goes_on : (item : Instr) (places : Places) (v : Value) → outcome_of item places ≡ Gives v → GoesOn item
+giver-goes_on (Label l) places v e = absurd (cc)
+giver-goes_on (Const dest ty value) places v e = record { way = λ code point. inl refl; keeps = refl; assigns = refl }
+giver-goes_on (Act dest ty o args funcs labels) places v e = act-goes_on o dest ty args funcs labels places v e
 
 -- ---- what is read
 

@@ -3,7 +3,7 @@ use Rattle.std.proofs.Common.{◌≡◌, ℕ, zero, suc, Bool, true, false, cond
 use Rattle.std.specs.Prelude.{nat_lt, ◌+ℤ◌}
 use Rattle.std.specs.Char.{IsScalar}
 use Rattle.std.specs.Int.{w32, w64}
-use Rattle.std.proofs.lemmas.Bool.{and_parts, eqb-true, not-true}
+use Rattle.std.proofs.lemmas.Bool.{and_parts, eqb-true}
 use Rattle.std.proofs.lemmas.Bool.Decides.{nat_tests}
 use Rattle.std.proofs.lemmas.Int.{SFits-int_wrap}
 use Rattle.bril_tree.specs.declared.limits.Fault.TheVariants.{BadChar, PtrRange}
@@ -23,12 +23,6 @@ use Rattle.bril_tree.specs.Value.{IsInRange, zero_of, zero_at}
 use Rattle.type_soundness.proofs.Typed.{Cell, HasType, IsTyped, HasType-plain, HasType-suits, HasType-both}
 
 -- ---- shapes
-
-pub same-true : (b : Bool) → same true b ≡ true → b ≡ true
-same-true b e = e
-
-pub same-false : (b : Bool) → same false b ≡ true → b ≡ false
-same-false b e = not-true b e
 
 -- the numbers of an operation's operands are those of its shape
 pub record HasShape (shape : Shape) (dest : Bool) (args funcs labels : ℕ) : Type 0 where

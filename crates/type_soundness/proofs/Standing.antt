@@ -16,7 +16,7 @@ use Rattle.bril_tree.specs.Run.{Suits}
 use Rattle.bril_tree.specs.Shape.{is_shaped}
 use Rattle.bril_tree.specs.Sites.{AreFirstSites, AreSitesSound, TooMany, NoSite, Change, Opens, Closes, Keeps, change_of, most_sites, needs_site, sites_of, sites_changed, without_newest}
 use Rattle.bril_tree.specs.State.{Places, Frame}
-use Rattle.bril_tree.specs.Typing.{is_call_shaped, type_fault}
+use Rattle.bril_tree.specs.Typing.{type_fault}
 use Rattle.bril_tree.specs.Walk.{IsWalk, IsReached, end_of}
 use Rattle.flow_graph.proofs.FirstWalks.{reached_have_first}
 use Rattle.flow_graph.proofs.Members.{In, in_contains}
@@ -39,9 +39,6 @@ accepted_function p k f h e = All-at (IsAcceptedFunction p) p.funcs k f h.functi
 module _ (p : Prog) (f : Func) (accepted : IsAcceptedFunction p f) (k : ℕ) (item : Instr) (at : slice_get f.code k ≡ Some item) where
   pub shaped_at : is_shaped (is_some f.ret) item ≡ true
   shaped_at = All-at (λ (i : Instr). IsTrue (is_shaped (is_some f.ret) i)) f.code k item accepted.shaped at
-
-  pub call_shaped_at : is_call_shaped p f item ≡ true
-  call_shaped_at = All-at (λ (i : Instr). IsTrue (is_call_shaped p f i)) f.code k item accepted.calls at
 
   pub typed_at : type_fault p f item ≡ None
   typed_at = All-at (λ (i : Instr). type_fault p f i ≡ None) f.code k item accepted.typed at

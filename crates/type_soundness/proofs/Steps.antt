@@ -19,32 +19,32 @@ use Rattle.bril_tree.specs.Step.{point_of, at_point, advanced, with_places, assi
 use Rattle.bril_tree.specs.Typing.{variable_type}
 use Rattle.flow_graph.proofs.Members.{In, in_map}
 use Rattle.type_soundness.proofs.Frames.{Covers, AllCover, Covers-assigned, Covers-shadowed, Sits, before, goes, goes-onward}
-use Rattle.type_soundness.proofs.Invariant.{Stands}
-use Rattle.type_soundness.proofs.Operands.{IsStraight}
+use Rattle.type_soundness.proofs.Invariant.{Stack, Stands}
+use Rattle.type_soundness.proofs.Operands.{GoesOn}
 use Rattle.type_soundness.proofs.Typed.{Cell, HasType}
 
 -- ---- the newest frame goes on
 
 module _ (p : Prog) (blocks : List Block) (frame : Frame) (older : List Frame) (st : Stands p blocks frame older) where
   -- the newest frame changes, and nothing else
-  pub moved : (g : Frame) → Sits p st.heap st.function g → Stands p blocks g older
-  moved g sits = record { heap = st.heap; memory = st.memory; function = st.function; sits = sits; stack = st.stack }
+  moved : (g : Frame) → g.function ≡ frame.function → Sits p st.heap st.function g → Stands p blocks g older
+  moved g same sits = record { heap = st.heap; memory = st.memory; function = st.function; sits = sits; stack = subst (λ k. Stack p st.heap k older) (sym same) st.stack }
 
   -- a value for the destination, and the next point
-  pub gives-stands : (item : Instr) (v : Value) → slice_get st.function.code frame.point ≡ Some item → IsStraight item → ((x : ℕ) → dest_of item ≡ Some x → HasType st.heap (variable_type st.function.vars x) v)
+  pub gives-stands : (item : Instr) (v : Value) → slice_get st.function.code frame.point ≡ Some item → GoesOn item → ((x : ℕ) → dest_of item ≡ Some x → HasType st.heap (variable_type st.function.vars x) v)
       → Stands p blocks (advanced (with_places (assigned (dest_of item) v frame.places) frame)) older
-  gives-stands item v at straight typed =
+  gives-stands item v at on typed =
       let now = before p st.heap st.function frame st.sits in
       let covers = Covers-assigned st.heap st.function (dest_of item) v frame.places now.places typed st.sits.places in
-      moved _ (goes-onward p st.heap st.function frame st.sits item (assigned (dest_of item) v frame.places) at (straight.way st.function.code frame.point) straight.keeps
-      (subst (λ list. Covers st.heap st.function (assigned (dest_of item) v frame.places) (list ++ now.places)) (sym straight.assigns) covers))
+      moved _ refl (goes-onward p st.heap st.function frame st.sits item (assigned (dest_of item) v frame.places) at (on.way st.function.code frame.point) on.keeps
+      (subst (λ list. Covers st.heap st.function (assigned (dest_of item) v frame.places) (list ++ now.places)) (sym on.assigns) covers))
 
   -- the next point alone
-  pub passes-stands : (item : Instr) → slice_get st.function.code frame.point ≡ Some item → IsStraight item → dest_of item ≡ None → Stands p blocks (advanced frame) older
-  passes-stands item at straight none =
+  pub passes-stands : (item : Instr) → slice_get st.function.code frame.point ≡ Some item → GoesOn item → dest_of item ≡ None → Stands p blocks (advanced frame) older
+  passes-stands item at on none =
       let now = before p st.heap st.function frame st.sits in
-      let assigns_none : assigns_of item ≡ [] = straight.assigns ∙ ap (λ o. map Variable (listed o)) none in
-      moved _ (goes-onward p st.heap st.function frame st.sits item frame.places at (straight.way st.function.code frame.point) straight.keeps
+      let assigns_none : assigns_of item ≡ [] = on.assigns ∙ ap (λ o. map Variable (listed o)) none in
+      moved _ refl (goes-onward p st.heap st.function frame st.sits item frame.places at (on.way st.function.code frame.point) on.keeps
       (subst (λ list. Covers st.heap st.function frame.places (list ++ now.places)) (sym assigns_none) st.sits.places))
 
   -- to a label
@@ -55,21 +55,21 @@ module _ (p : Prog) (blocks : List Block) (frame : Frame) (older : List Frame) (
       let way = jump st.function.code frame.point l in
       let stays : assigned_changed (item_change (Some item) false) (assigns_of item) false now ≡ now =
       ap (λ c. assigned_changed c (assigns_of item) false now) keeps ∙ ap (λ list. assigned_changed Keeps list false now) none in
-      moved _ (goes p st.heap st.function frame st.sits item way frame.places frame.saves at refl among
+      moved _ refl (goes p st.heap st.function frame st.sits item way frame.places frame.saves at refl among
       (subst (λ (a : Assigned). Covers st.heap st.function frame.places a.places) (sym stays) st.sits.places)
       (subst (λ (a : Assigned). AllCover st.heap st.function frame.saves a.saved) (sym stays) st.sits.saves))
 
   -- a save more
   pub speculates-stands : (dest : Option ℕ) (ty : Option Ty) (args funcs labels : List ℕ) → slice_get st.function.code frame.point ≡ Some (Act dest ty op.Speculate args funcs labels) → Stands p blocks (advanced (record frame { saves = frame.places ∷ frame.saves })) older
   speculates-stands dest ty args funcs labels at =
-      moved _ (goes p st.heap st.function frame st.sits (Act dest ty op.Speculate args funcs labels) (onward frame.point) frame.places (frame.places ∷ frame.saves) at refl (inl refl) st.sits.places
+      moved _ refl (goes p st.heap st.function frame st.sits (Act dest ty op.Speculate args funcs labels) (onward frame.point) frame.places (frame.places ∷ frame.saves) at refl (inl refl) st.sits.places
       (st.sits.places, st.sits.saves))
 
   -- the newest save is dropped
   pub commits-stands : (dest : Option ℕ) (ty : Option Ty) (args funcs labels : List ℕ) (saves : List Places) → slice_get st.function.code frame.point ≡ Some (Act dest ty op.Commit args funcs labels)
       → AllCover st.heap st.function saves (without_newest (before p st.heap st.function frame st.sits).saved) → Stands p blocks (advanced (record frame { saves = saves })) older
   commits-stands dest ty args funcs labels saves at covers =
-      moved _ (goes p st.heap st.function frame st.sits (Act dest ty op.Commit args funcs labels) (onward frame.point) frame.places saves at refl (inl refl) st.sits.places covers)
+      moved _ refl (goes p st.heap st.function frame st.sits (Act dest ty op.Commit args funcs labels) (onward frame.point) frame.places saves at refl (inl refl) st.sits.places covers)
 
   -- the newest save is put back
   pub aborts-stands : (dest : Option ℕ) (ty : Option Ty) (args funcs labels : List ℕ) (l : ℕ) (places : Places) (saves : List Places) → slice_get st.function.code frame.point ≡ Some (Act dest ty op.Guard args funcs labels)
@@ -77,13 +77,13 @@ module _ (p : Prog) (blocks : List Block) (frame : Frame) (older : List Frame) (
       → AllCover st.heap st.function saves (without_newest (before p st.heap st.function frame st.sits).saved)
       → Stands p blocks (at_point (point_of l st.function.code) (record frame { places = places; saves = saves })) older
   aborts-stands dest ty args funcs labels l places saves at among covers all =
-      moved _ (goes p st.heap st.function frame st.sits (Act dest ty op.Guard args funcs labels) (abort st.function.code frame.point l) places saves at refl (inr (in_map (abort st.function.code frame.point) l labels among)) covers all)
+      moved _ refl (goes p st.heap st.function frame st.sits (Act dest ty op.Guard args funcs labels) (abort st.function.code frame.point l) places saves at refl (inr (in_map (abort st.function.code frame.point) l labels among)) covers all)
 
   -- a shadow is assigned
   pub sets-stands : (dest : Option ℕ) (ty : Option Ty) (args funcs labels : List ℕ) (v : Value) → slice_get st.function.code frame.point ≡ Some (Act dest ty op.Set args funcs labels)
       → HasType st.heap (variable_type st.function.vars (slice_index args 0)) v → Stands p blocks (advanced (with_places (shadowed (slice_index args 0) v frame.places) frame)) older
   sets-stands dest ty args funcs labels v at typed =
-      moved _ (goes-onward p st.heap st.function frame st.sits (Act dest ty op.Set args funcs labels) (shadowed (slice_index args 0) v frame.places) at (inl refl) refl
+      moved _ refl (goes-onward p st.heap st.function frame st.sits (Act dest ty op.Set args funcs labels) (shadowed (slice_index args 0) v frame.places) at (inl refl) refl
       (Covers-shadowed st.heap st.function (slice_index args 0) v frame.places (before p st.heap st.function frame st.sits).places typed st.sits.places))
 
 -- ---- saves
