@@ -12,6 +12,3 @@ mod literals;
 
 pub use laws::{accepted_runs_load_well, accepted_runs_stand_well};
 pub use literals::literals_are_in_range;
-
-#[cfg(test)]
-mod tests;
