@@ -1,7 +1,5 @@
 -- Steps of the machine where the parser looks at more than one state at once.
-use Rattle.std.proofs.Common.{◌≡◌, ℕ, suc, ◌+◌, ◌-◌, ◌<◌, Bool, true, false, cond, List, [], ◌∷◌, length, drop, None, Result, refl, sym, ap, ◌∙◌, subst, arith, nat_lt, nat_le, lt-ltb, ltb-true}
-use Rattle.std.specs.List.{list_all}
-use Rattle.bril_tree.specs.Path.{is_path_byte}
+use Rattle.std.proofs.Common.{◌≡◌, ℕ, suc, ◌+◌, ◌-◌, ◌<◌, true, false, cond, List, [], ◌∷◌, length, drop, None, Result, refl, sym, ap, ◌∙◌, subst, arith, lt-ltb}
 use Rattle.bril_tree.specs.declared.import.Import.{Import}
 use Rattle.bril_tree.specs.declared.import.Taken.{Taken}
 use Rattle.bril_tree.specs.declared.operation.Op.{Op}
@@ -11,16 +9,16 @@ use Rattle.bril_grammar.specs.declared.fault.Fault.{Fault}
 use Rattle.bril_grammar.specs.declared.keyword.Keyword.{Keyword}
 use Rattle.bril_grammar.specs.declared.keyword.Keyword.TheVariants as word
 use Rattle.bril_lex.specs.Lexeme.{Lexeme}
-use Rattle.std.proofs.lemmas.Bool.{leb-true, le-leb}
 use Rattle.bril_grammar.specs.declared.mark.Mark.{Mark}
 use Rattle.bril_grammar.specs.declared.mark.Mark.TheVariants.{Colon, Comma, CloseParen, Semicolon, Less, Greater}
 use Rattle.bril_grammar.specs.declared.fault.FaultKind.TheVariants.{Deep, Grammar}
 use Rattle.bril_grammar.specs.Keyword.{keyword_of}
 use Rattle.bril_grammar.specs.Machine.{Goes, Fails, run, closing, typed, type_word, as_word, first_import_word, taken_ways, marks_alone, way, mark_move, decided, go_on, begins_with_colon, head_ways, first_word, dest_type, act, acted}
 use Rattle.bril_grammar.specs.State.{AtAlias, AtImport, AtItem, AfterOperation, AtOperand, State, Begun, Place, Importing, AtType, AtPath, AtImportWord, AtArg, AfterArg, AfterArgs, AtFirstArg, AfterAlias, AfterTaken, Expect}
-use Rattle.bril_grammar.specs.Word.{Word, Name, Function, Label, Number, Char, Path, Punctuation, Other, ImportPath, path_word, tested_path, word_of, words_of}
-use Rattle.bril_grammar.proofs.Equal.{ImportPath-equal, type_of-ty}
+use Rattle.bril_grammar.specs.Word.{Word, Name, Function, Label, Number, Char, Path, Punctuation, Other, ImportPath, path_word, word_of, words_of}
+use Rattle.bril_grammar.proofs.Equal.{type_of-ty}
 use Rattle.bril_grammar.proofs.Steps.{goes, mark_same}
+use Rattle.bril_grammar.proofs.Words.{path_word-path}
 use Rattle.bril_text.specs.declared.parse.ParseFault.{ParseFault}
 use Rattle.bril_text.specs.Parse.{Fails as FailsAt, go, begins_with, is_word_of, keyword_as, keyword_at}
 
@@ -182,15 +180,5 @@ item_operation b operation text ws kw e =
     goes (AtItem b) (Name text) ws (AfterOperation b operation text) (ap (first_word b text) kw) ∙ operation_later b operation text ws e
 
 -- a path
-tested : (path : ImportPath) (some short spelled : Bool) (a : nat_lt 0 (length path.bytes) ≡ some) (b : nat_le (length path.bytes) 4096 ≡ short) (c : list_all is_path_byte path.bytes ≡ spelled) →
-    tested_path path.bytes some short spelled a b c ≡ Path path
-tested path true true true a b c = ap Path (ImportPath-equal (record { bytes = path.bytes; is_path = record { some = ltb-true 0 (length path.bytes) a; short = leb-true (length path.bytes) 4096 b; spelled = c } }) path refl)
-tested path true true false a b c = let d = path.is_path.spelled in cc
-tested path true false spelled a b c = let d = le-leb (length path.bytes) 4096 path.is_path.short in cc
-tested path false short spelled a b c = let d = lt-ltb 0 (length path.bytes) path.is_path.some in cc
-
-pub path_word-is : (path : ImportPath) → path_word path.bytes ≡ Path path
-path_word-is path = tested path (nat_lt 0 (length path.bytes)) (nat_le (length path.bytes) 4096) (list_all is_path_byte path.bytes) refl refl refl
-
 pub path_run : (imports : List Import) (path : ImportPath) (bytes : List ℕ) (ws : List Word) → path.bytes ≡ bytes → run (AtPath imports) (path_word bytes ∷ ws) ≡ run (AtImportWord imports path) ws
-path_run imports path bytes ws e = ap (λ w. run (AtPath imports) (w ∷ ws)) (sym (ap path_word e) ∙ path_word-is path)
+path_run imports path bytes ws e = ap (λ w. run (AtPath imports) (w ∷ ws)) (sym (ap path_word e) ∙ path_word-path path.bytes path.is_path)

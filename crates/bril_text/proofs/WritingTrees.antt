@@ -24,7 +24,7 @@ use Rattle.bril_text.specs.Canonical.{alias_text, taken_text, import_text, typed
 use Rattle.bril_tree.specs.TreeForm.{IsName, IsTaken, IsImport, IsDest, IsItem, IsFunction, IsTree}
 use Rattle.bril_text.specs.CanonicalReading.{CanonicalTextSpells, CanonicalTextSpellsAlone, CanonicalTextTellsTrees}
 use Rattle.bril_text.specs.Reading.{Spells}
-use Rattle.bril_text.proofs.WritingChars.{inside-quoted, path_word-path}
+use Rattle.bril_grammar.proofs.Words.{inside-quoted, path_word-path}
 use Rattle.bril_text.proofs.WritingPieces.{Prints, nothing, token, blank, mark, both, same_text, path_ends}
 use Rattle.bril_text.proofs.WritingTypes.{Ends, type_prints, typed_prints, list_prints, all_print}
 use Rattle.bril_text.proofs.WritingInstructions.{item_prints}

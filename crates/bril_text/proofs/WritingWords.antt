@@ -18,9 +18,10 @@ use Rattle.bril_lex.specs.declared.token.Kind.TheVariants as kind
 use Rattle.bril_tree.specs.Spelling.{operation_text}
 use Rattle.bril_grammar.specs.Word.{Word, char_value, word_as}
 use Rattle.bril_grammar.specs.Written.{Operand, VariableOperand, FunctionOperand, LabelOperand, operand_word, literal_word}
+use Rattle.bril_grammar.proofs.Words.{inside-quoted}
 use Rattle.bril_text.specs.Canonical.{inner_char_text, literal_text, names_text}
 use Rattle.bril_tree.specs.TreeForm.{IsName, AreNames, IsLiteral}
-use Rattle.bril_text.proofs.WritingChars.{inside-quoted, inner_char_is}
+use Rattle.bril_text.proofs.WritingChars.{inner_char_is}
 use Rattle.bril_text.proofs.WritingPieces.{Prints, token, blank, same_text, char_ends}
 use Rattle.bril_text.proofs.WritingTypes.{Ends}
 
