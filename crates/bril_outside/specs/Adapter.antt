@@ -1,5 +1,5 @@
 -- What adapters over readers and writers of the system do to bytes that are known of these.
-use Rattle.std.specs.Prelude.{ℕ, ◌≡◌, ◌≤◌, Bool, List, ◌++◌, length, Option, None, Result, Ok, Err}
+use Rattle.std.specs.Prelude.{ℕ, ◌≡◌, ◌<◌, ◌≤◌, ◌+◌, Bool, List, ◌++◌, length, Option, None, Result, Ok, Err}
 use Rattle.std.specs.Io.KnownBytes.{Appends, Consumes, IsAtEnd}
 use Rattle.bril_outside.specs.Sink.{next_count}
 use Rattle.bril_outside.specs.Files.{FilesSeen}
@@ -18,10 +18,31 @@ pub record AppendsFirst (old new : Option (List ℕ)) (bytes : List ℕ) : Type 
   pub whole : bytes ≡ part ++ rest
   pub grew : Appends old new part
 
--- known bytes lost these, up to their end unless these are more than so many
+-- the most bytes that one read takes
+abbrev pub most_at_once : ℕ
+most_at_once = 4096
+
+-- known bytes lost these, up to their end unless these are more than so many, and then by one read alone
 pub record ReadsUpTo (old new : Option (List ℕ)) (most : ℕ) (bytes : List ℕ) : Type 0 where
   pub took : Consumes old new bytes
   pub ends : length bytes ≤ most → IsAtEnd new
+  pub stops : length bytes ≤ most + most_at_once
+
+-- the reader's bytes, which are at most so many, were appended
+pub record AppendedRest (old new : Option (List ℕ)) (most : ℕ) (before after : List ℕ) : Type 0 where
+  pub bytes : List ℕ
+  pub took : Consumes old new bytes
+  pub ends : IsAtEnd new
+  pub short : length bytes ≤ most
+  pub grew : after ≡ before ++ bytes
+
+-- the reader has more bytes than so many, of which the first were read and none was appended
+pub record FoundMore (old new : Option (List ℕ)) (most : ℕ) (before after : List ℕ) : Type 0 where
+  pub bytes : List ℕ
+  pub took : Consumes old new bytes
+  pub long : most < length bytes
+  pub stops : length bytes ≤ most + most_at_once
+  pub stays : after ≡ before
 
 -- what is told of files whose content is not: their faults
 abbrev pub untold_files : ℕ → FilesSeen

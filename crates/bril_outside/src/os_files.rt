@@ -1,7 +1,7 @@
 // The files of the system.
 
 ghost use Rattle.std.specs.Prelude.{◌≡◌, ◌≤◌, ◌^◌, ◌-◌, ◌+◌, min, None, IfOk, IfErr, OnErr, MatchBool, length};
-ghost use Rattle.bril_outside.specs.Adapter.{ReadsUpTo, untold_files, faults_after};
+ghost use Rattle.bril_outside.specs.Adapter.{ReadsUpTo, AppendedRest, FoundMore, untold_files, faults_after};
 ghost use Rattle.bril_outside.specs.Files.{AppendedFile, FoundLonger, MayFail};
 
 use crate::files::{FileFault, Files, append_short};
@@ -65,36 +65,36 @@ impl<'a, R: std::rt::Files> Files for OsFiles<'a, R> {
         ensures failed { IfErr result (λ e. e ≡ FileFault.Failed →
             MayFail (untold_files self.old) (untold_files self.new) path.now) }
     {
-        match read_file(self.rt, alloc, path, most) {
-            Ok(bytes) => append_short(&bytes, most, into),
-            Err(FileFault::Failed) => {
-                self.faults = self.faults.saturating_add(1);
-                Err(FileFault::Failed)
-            }
-            Err(FileFault::Memory) => Err(FileFault::Memory),
+        let answer = match fs::open(self.rt, path.as_str()) {
+            Ok(mut file) => append_rest(&mut file, alloc, most, into),
+            Err(_) => Err(FileFault::Failed),
+        };
+        if matches!(answer, Err(FileFault::Failed)) {
+            self.faults = self.faults.saturating_add(1);
         }
+        answer
     }
 }
 
-/// The bytes of the file at the path, or its first, more than `most`.
-fn read_file<R: std::rt::Files>(
-    rt: &R,
-    alloc: Global,
-    path: &Text,
-    most: u64,
-) -> Result<Bytes, FileFault> {
-    match fs::open(rt, path.as_str()) {
-        Ok(mut file) => read_up_to(&mut file, alloc, most),
-        Err(_) => Err(FileFault::Failed),
-    }
-}
-
-/// The bytes that the reader has left, or the first of them, more than `most`.
-pub(crate) fn read_up_to<R: Read>(
+/// Appends the bytes that the reader has left where they are at most `most`, and says whether it did. Of more
+/// than `most` bytes it reads the first alone.
+pub(crate) fn append_rest<R: Read>(
     from: &mut R,
     alloc: Global,
     most: u64,
-) -> Result<Bytes, FileFault>
+    into: &mut Bytes,
+) -> Result<bool, FileFault>
+    ensures ok { IfOk result (λ whole. MatchBool whole
+        (AppendedRest (R.remaining from.old) (R.remaining from.new) most into.old into.new)
+        (FoundMore (R.remaining from.old) (R.remaining from.new) most into.old into.new)) }
+    ensures err { OnErr result (into.new ≡ into.old) }
+{
+    let bytes = read_up_to(from, alloc, most)?;
+    append_short(&bytes, most, into)
+}
+
+/// The bytes that the reader has left, or the first of them, more than `most`.
+fn read_up_to<R: Read>(from: &mut R, alloc: Global, most: u64) -> Result<Bytes, FileFault>
     ensures { IfOk result (λ bytes. ReadsUpTo (R.remaining from.old) (R.remaining from.new) most bytes) }
 {
     let mut bytes = Bytes::new(alloc);

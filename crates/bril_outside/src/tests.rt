@@ -4,7 +4,7 @@ use crate::count_sink::CountSink;
 use crate::files::{FileFault, Files};
 use crate::mem_files::MemFiles;
 use crate::mem_sink::MemSink;
-use crate::os_files::{OsFiles, read_up_to};
+use crate::os_files::{OsFiles, append_rest};
 use crate::os_sink::OsSink;
 use crate::sink::{Failed, Sink, put_three, put_two};
 use bril_tree::bytes::Bytes;
@@ -108,14 +108,13 @@ impl Write for Weak {
 #[test]
 fn streams_that_fail(rt: HostRuntime) -> Result<(), Fail> {
     let alloc = rt.alloc();
+    let mut into = Bytes::new(alloc);
+    assert!(rt; !append_rest(&mut Weak { turns: 0 }, alloc, 3, &mut into)?);
     assert_eq!(rt;
-        read_up_to(&mut Weak { turns: 0 }, alloc, 3)?
-            .as_slice()
-            .len(),
-        4
+        append_rest(&mut Weak { turns: 0 }, alloc, 4, &mut into),
+        Err(FileFault::Failed)
     );
-    let failed = read_up_to(&mut Weak { turns: 0 }, alloc, 4).map(|_| ());
-    assert_eq!(rt; failed, Err(FileFault::Failed));
+    assert!(rt; into.as_slice().is_empty());
     let mut sink = OsSink::new(Weak { turns: 0 });
     assert_eq!(rt; sink.put(b"four"), Ok(()));
     assert_eq!(rt; sink.put(b""), Ok(()));
