@@ -1,6 +1,6 @@
 // Reading a whole source.
 
-ghost use Rattle.std.specs.Prelude.{◌≡◌, ◌⊎◌, ◌^◌, ◌<◌, length, IfOk, IfErr, MatchResult};
+ghost use Rattle.std.specs.Prelude.{◌≡◌, ◌⊎◌, ◌^◌, ◌<◌, length, IfOk, IfErr, MatchResult, IsUtf8};
 ghost use Rattle.bril_tree.specs.declared.tree.Tree.{Tree};
 ghost use Rattle.bril_json.specs.Reading.{JsonOf, HasFault, IsFaultOf};
 ghost use Rattle.bril_json.specs.declared.fault.JsonFault.{JsonFault};
@@ -11,6 +11,7 @@ use crate::program::tree_of;
 use bril_tree::tree::Tree;
 use serde_json::Value;
 use std::alloc::Global;
+use std::str;
 
 /// The tree that a source of Bril's JSON form is.
 ///
@@ -40,7 +41,7 @@ use std::alloc::Global;
 ///   the 33rd `ptr` of a type, counted from the outside, whatever stands inside it; `Shape` at everything else that
 ///   isn't as above. One of `dest` and `type` without the other is told where the missing one should stand, and a label
 ///   with an `op` before anything of the operation.
-/// - `Memory` may come at any time, where memory is wanting.
+/// - `Memory` may come of any source that is UTF-8, where memory is wanting.
 ///
 /// The JSON form is that of the Bril documentation (Cornell's CS 6120), "JSON representation", with its memory,
 /// character, SSA, speculative execution and import extensions; JSON is that of RFC 8259. Takes time in proportion to
@@ -56,8 +57,14 @@ pub fn read_json(alloc: Global, source: &[u8]) -> Result<Tree, JsonFault>
     ensures fault { IfErr result (λ fault. IsFaultOf source.now fault) }
     ensures faults { (why : JsonFault) → HasFault source.now why
         → MatchResult result (λ _. ⊥) (λ fault. (fault ≡ why) ⊎ (fault ≡ Memory)) }
+
+    // Want of memory is answered only of UTF-8.
+    ensures memory { IfErr result (λ fault. fault ≡ Memory → IsUtf8 source.now) }
 {
-    match Value::from_slice(alloc, source) {
+    let Ok(text) = str::from_utf8(source) else {
+        return Err(JsonFault::Syntax);
+    };
+    match Value::from_str(alloc, text) {
         Ok(value) => tree_of(alloc, &value),
         Err(error) => {
             if error.is_memory() {
