@@ -1,5 +1,5 @@
 -- The file of a command: the tree that its bytes read as, and the tree's program.
-use Rattle.std.specs.Prelude.{ℕ, suc, ◌≡◌, ◌≢◌, ◌⊎◌, ◌*◌, ◌<◌, ◌≤◌, true, false, List, [], ◌++◌, length, Option, Some, None, codes}
+use Rattle.std.specs.Prelude.{ℕ, ◌≡◌, ◌≢◌, ◌⊎◌, ◌*◌, ◌<◌, ◌≤◌, true, false, List, [], ◌++◌, length, Option, Some, None, codes}
 use Rattle.std.proofs.Common.{lit≤}
 use Rattle.std.specs.Fmt.{decimal}
 use Rattle.bril_tree.specs.Accepted.{IsAccepted}
