@@ -6,8 +6,9 @@ use Rattle.std.proofs.lemmas.List.Elements.{Contains-append_left, Contains-appen
 use Rattle.bril_tree.specs.Edge.{Way, ways_at}
 use Rattle.bril_tree.specs.declared.numbered.Instr.{Instr}
 use Rattle.definite_assignment.proofs.Places.{Contains-map, Contains-map_back}
-use Rattle.flow_graph.specs.Graph.{edge_of, edges_at, edges_from}
-use Rattle.flow_graph.specs.declared.edge.Edge.{Edge}
+use Rattle.bril_tree.specs.Leaving.{edge_of}
+use Rattle.flow_graph.specs.Graph.{edges_at, edges_from}
+use Rattle.bril_tree.specs.declared.edge.Edge.{Edge}
 
 -- the edge is a way on from a point with these sites
 pub record IsEdgeAt (code : List Instr) (all : List (Option (List ℕ))) (first : ℕ) (edge : Edge) : Type 0 where

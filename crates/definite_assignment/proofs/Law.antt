@@ -18,11 +18,12 @@ use Rattle.definite_assignment.specs.Place.{number_of, is_argument, label_of, pl
 use Rattle.definite_assignment.specs.Reads.{IsOpen, read_at}
 use Rattle.definite_assignment.proofs.Edges.{IsEdgeAt, edge-there, edge-back}
 use Rattle.definite_assignment.proofs.Places.{Contains-map, Contains-map_back, label-one, argument-is, argument-there}
-use Rattle.definite_assignment.proofs.Walks.{IsSaved, saved-back, same-length, open-sites, replay}
+use Rattle.bril_tree.proofs.Replays.{IsSaved, saved-back, same-length, open-sites, replay}
 use Rattle.definite_assignment.proofs.Ways.{IsAbort, way-is, way-inside, places-passed, opens-nothing}
-use Rattle.flow_graph.specs.Graph.{GraphView, IsGraphOf, edge_of, leave_of}
+use Rattle.bril_tree.specs.Leaving.{edge_of, leave_of}
+use Rattle.flow_graph.specs.Graph.{GraphView, IsGraphOf}
 use Rattle.flow_graph.specs.Laws.{SoundWalksAgree}
-use Rattle.flow_graph.specs.declared.edge.Edge.{Edge}
+use Rattle.bril_tree.specs.declared.edge.Edge.{Edge}
 use Rattle.graph_search.specs.Path.{Leads}
 use Rattle.graph_search.specs.declared.graph.Arc.{Arc}
 use Rattle.graph_search.proofs.Paths.{reached_seed, reached_step, reached_all}

@@ -6,5 +6,4 @@ pub mod Law
 pub mod Places
 pub mod ReadRows
 pub mod Turned
-pub mod Walks
 pub mod Ways

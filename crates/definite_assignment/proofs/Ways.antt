@@ -12,16 +12,10 @@ use Rattle.bril_tree.specs.declared.numbered.Instr.{Instr}
 use Rattle.bril_tree.specs.declared.numbered.Instr.TheVariants.{Label, Const, Act}
 use Rattle.bril_tree.specs.declared.operation.Op.{Op}
 use Rattle.bril_tree.specs.declared.operation.Op.TheVariants as op
+use Rattle.bril_tree.proofs.Members.{in_contains}
+use Rattle.bril_tree.proofs.Shapes.{closing_needs}
+use Rattle.bril_tree.proofs.Ways.{way_from, way_inside, way_at_item, aborts-close}
 use Rattle.definite_assignment.specs.Place.{place_at, place_passed}
-use Rattle.definite_assignment.proofs.Places.{Contains-map_back}
-
-pub point_of-le : (l : ℕ) (code : List Instr) → point_of l code ≤ length code
-point_of-le l [] = omega arith
-point_of-le l (item ∷ items) = step (is_label l item) (point_of l items) (length items) (point_of-le l items)
-  where
-    step : (b : Bool) (m n : ℕ) → m ≤ n → cond b 0 (suc m) ≤ suc n
-    step true m n h = omega arith
-    step false m n h = omega arith
 
 -- an abort is of an item that closes a site and needs one
 pub record IsAbort (item : Option Instr) : Type 0 where
@@ -34,71 +28,18 @@ pub record IsWayOf (code : List Instr) (p : ℕ) (item : Option Instr) (way : Wa
   pub to : (p < length code) → way.to ≤ length code
   pub aborts : way.aborts ≡ true → IsAbort item
 
-in_one : {A : Type 0} (x y : A) → Contains (x ∷ []) y → x ≡ y
-in_one x y (zero, low, e) = e
-in_one x y (suc k, low, e) = absurd (omega arith)
-
-in_more : {A : Type 0} (x y : A) (xs : List A) → Contains (x ∷ xs) y → (x ≡ y) ⊎ Contains xs y
-in_more x y xs (zero, low, e) = inl e
-in_more x y xs (suc k, low, e) = inr (k, omega arith, e)
-
-is_onward : (code : List Instr) (p : ℕ) (item : Option Instr) (way : Way) → onward p ≡ way → IsWayOf code p item way
-is_onward code p item way e = record {
-  from = sym (ap (λ w. w.from) e);
-  to = λ low. let t = ap (λ w. w.to) e in omega arith;
-  aborts = λ yes. let f = ap (λ w. w.aborts) e in cc;
-}
-
-is_jump : (code : List Instr) (p : ℕ) (item : Option Instr) (way : Way) (labels : List ℕ) → Contains (map (jump code p) labels) way → IsWayOf code p item way
-is_jump code p item way labels h =
-    let back = Contains-map_back (jump code p) labels way h in
-    let l : ℕ = back.0 in
-    let e : jump code p l ≡ way = back.2 in
-    record {
-      from = sym (ap (λ w. w.from) e);
-      to = λ low. let t = ap (λ w. w.to) e in let below = point_of-le l code in omega arith;
-      aborts = λ yes. let f = ap (λ w. w.aborts) e in cc;
-    }
-
-is_abort : (code : List Instr) (p : ℕ) (item : Option Instr) (way : Way) (labels : List ℕ) → IsAbort item → Contains (map (abort code p) labels) way → IsWayOf code p item way
-is_abort code p item way labels a h =
-    let back = Contains-map_back (abort code p) labels way h in
-    let l : ℕ = back.0 in
-    let e : abort code p l ≡ way = back.2 in
-    record {
-      from = sym (ap (λ w. w.from) e);
-      to = λ low. let t = ap (λ w. w.to) e in let below = point_of-le l code in omega arith;
-      aborts = λ yes. a;
-    }
-
-none_in : {A : Type 0} {B : Type 0} (x : A) → Contains [] x → B
-none_in x h = absurd (omega (arith, h.1))
-
-way_of_action : (code : List Instr) (p : ℕ) (item : Option Instr) (operation : Op) (labels : List ℕ) (way : Way) → (operation ≡ op.Guard → IsAbort item) →
-    Contains (action_ways code p operation labels) way → IsWayOf code p item way
-way_of_action code p item op.Jmp labels way a h = is_jump code p item way labels h
-way_of_action code p item op.Br labels way a h = is_jump code p item way labels h
-way_of_action code p item op.Ret labels way a h = none_in way h
-way_of_action code p item op.Guard labels way a h = ⊎_elim (is_onward code p item way) (is_abort code p item way labels (a refl)) (in_more (onward p) way (map (abort code p) labels) h)
-way_of_action code p item _ labels way a h = is_onward code p item way (in_one (onward p) way h)
-
-way_of : (code : List Instr) (p : ℕ) (item : Option Instr) (way : Way) → Contains (ways_from code p item) way → IsWayOf code p item way
-way_of code p None way h = none_in way h
-way_of code p (Some (Label l)) way h = is_onward code p (Some (Label l)) way (in_one (onward p) way h)
-way_of code p (Some (Const dest ty value)) way h = is_onward code p (Some (Const dest ty value)) way (in_one (onward p) way h)
-way_of code p (Some (Act dest ty operation args funcs labels)) way h =
-    way_of_action code p (Some (Act dest ty operation args funcs labels)) operation labels way
-    (λ e. subst (λ o. IsAbort (Some (Act dest ty o args funcs labels))) (sym e) (record { closes = refl; needs = refl })) h
-
 pub way-is : (code : List Instr) (p : ℕ) (way : Way) → Contains (ways_at code p) way → IsWayOf code p (slice_get code p) way
-way-is code p way h = way_of code p (slice_get code p) way h
+way-is code p way h =
+    let among = in_contains way (ways_at code p) h in
+    record {
+      from = way_from code p way among;
+      to = λ low. way_inside code p way among;
+      aborts = λ yes. let closes = aborts-close code p (slice_get code p) way among yes in record { closes = closes; needs = closing_needs (slice_get code p) true closes };
+    }
 
 -- only items have ways
 pub way-inside : (code : List Instr) (p : ℕ) (way : Way) → Contains (ways_at code p) way → p < length code
-way-inside code p way h = ⊎_elim
-    (λ there. there.1)
-    (λ past. none_in way (subst (λ item. Contains (ways_from code p item) way) past.1 h))
-    (slice_get_cases code p).1
+way-inside code p way h = way_at_item code p way (in_contains way (ways_at code p) h)
 
 -- what is assigned behind a way that isn't an abort
 places_op : (operation : Op) (dest : Option ℕ) (args : List ℕ) (a : Assigned) →

@@ -16,9 +16,10 @@ use Rattle.flow_graph.specs.Ways.{way_of, ways_of, AreRows}
 use Rattle.flow_graph.specs.declared.visits.Visit.{Visit}
 use Rattle.flow_graph.specs.declared.ways.Ways.{Ways}
 use Rattle.flow_graph.specs.declared.ways.Ways.TheVariants.{Nowhere, Single, Either}
-use Rattle.flow_graph.proofs.Members.{In, in_contains, contains_in}
+use Rattle.bril_tree.specs.Membership.{In}
+use Rattle.bril_tree.proofs.Members.{in_contains, contains_in}
 use Rattle.flow_graph.proofs.OpenSites.{one_list}
-use Rattle.flow_graph.proofs.Order.{way_from}
+use Rattle.bril_tree.proofs.Ways.{way_from}
 use Rattle.flow_graph.proofs.Searching.{get_inside, keep_count, keep_behind}
 
 -- ---- the least of two

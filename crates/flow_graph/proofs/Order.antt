@@ -3,14 +3,15 @@ use Rattle.std.proofs.Common.{◌≡◌, ℕ, suc, ◌<◌, ◌≤◌, Bool, tru
 use Rattle.std.specs.Prelude.{◌⊎◌, slice_get}
 use Rattle.std.proofs.lemmas.Bool.{cond_both, cases_order, cases_Bool}
 use Rattle.std.proofs.lemmas.Option.{slice_get_within}
-use Rattle.bril_tree.specs.Step.{point_of, is_label}
 use Rattle.bril_tree.specs.declared.numbered.Instr.{Instr}
 use Rattle.bril_tree.specs.declared.numbered.Instr.TheVariants.{Label, Const, Act}
 use Rattle.bril_tree.specs.declared.operation.Op.{Op}
 use Rattle.bril_tree.specs.declared.operation.Op.TheVariants as op
 use Rattle.bril_tree.specs.Edge.{Way, onward, jump, abort, ways_from, ways_at, action_ways, item_ways}
 use Rattle.bril_tree.specs.Walk.{IsWalk, end_of, Sooner, Earlier}
-use Rattle.flow_graph.proofs.Members.{In, in_contains, in_map_source}
+use Rattle.bril_tree.specs.Membership.{In}
+use Rattle.bril_tree.proofs.Ways.{same_way, way_from}
+use Rattle.bril_tree.proofs.Members.{in_contains, in_map_source}
 
 -- the second walk isn't earlier than the first
 abbrev pub NotAfter : List Way → List Way → Type 0
@@ -61,38 +62,6 @@ pub not_after_more : (e : Way) (v w : List Way) → NotAfter v w → NotAfter (e
 not_after_more e v w (inl p) = inl (ap (λ x. e ∷ x) p)
 not_after_more e v w (inr p) = inr (inl p)
 
--- ---- a way leaves from its point
-
-from_jumps : (code : List Instr) (p : ℕ) (e : Way) (labels : List ℕ) → In e (map (jump code p) labels) → e.from ≡ p
-from_jumps code p e labels h = let s = in_map_source (jump code p) e labels h in ap (λ (w : Way). w.from) s.2
-
-from_aborts : (code : List Instr) (p : ℕ) (e : Way) (labels : List ℕ) → In e (map (abort code p) labels) → e.from ≡ p
-from_aborts code p e labels h = let s = in_map_source (abort code p) e labels h in ap (λ (w : Way). w.from) s.2
-
-from_onward : (p : ℕ) (e : Way) → In e (onward p ∷ []) → e.from ≡ p
-from_onward p e (inl h) = ap (λ (w : Way). w.from) h
-from_onward p e (inr h) = absurd h
-
-from_action : (code : List Instr) (p : ℕ) (operation : Op) (labels : List ℕ) (e : Way) → In e (action_ways code p operation labels) → e.from ≡ p
-from_action code p op.Jmp labels e h = from_jumps code p e labels h
-from_action code p op.Br labels e h = from_jumps code p e labels h
-from_action code p op.Ret labels e h = absurd h
-from_action code p op.Guard labels e (inl h) = ap (λ (w : Way). w.from) h
-from_action code p op.Guard labels e (inr h) = from_aborts code p e labels h
-from_action code p _ labels e h = from_onward p e h
-
-from_item : (code : List Instr) (p : ℕ) (item : Instr) (e : Way) → In e (item_ways code p item) → e.from ≡ p
-from_item code p (Label l) e h = from_onward p e h
-from_item code p (Const dest ty value) e h = from_onward p e h
-from_item code p (Act dest ty operation args funcs labels) e h = from_action code p operation labels e h
-
-from_option : (code : List Instr) (p : ℕ) (item : Option Instr) (e : Way) → In e (ways_from code p item) → e.from ≡ p
-from_option code p None e h = absurd h
-from_option code p (Some item) e h = from_item code p item e h
-
-pub way_from : (code : List Instr) (p : ℕ) (e : Way) → In e (ways_at code p) → e.from ≡ p
-way_from code p e h = from_option code p _ e h
-
 -- ---- the first of the ways on from a point is no abort
 
 no_abort_of_jumps : (code : List Instr) (p : ℕ) (labels : List ℕ) (e : Way) (rest : List Way) → map (jump code p) labels ≡ e ∷ rest → e.aborts ≡ false
@@ -121,54 +90,10 @@ option_goes_on code p (Some (Act dest ty operation args funcs labels)) e rest h 
 pub first_goes_on : (code : List Instr) (p : ℕ) (e : Way) (rest : List Way) → ways_at code p ≡ e ∷ rest → e.aborts ≡ false
 first_goes_on code p e rest h = option_goes_on code p _ e rest h
 
--- ---- a way leads to a point of the function
-
-label_inside : (l : ℕ) (code : List Instr) → point_of l code ≤ length code
-label_inside l [] = omega arith
-label_inside l (item ∷ items) = cond_both (is_label l item) 0 (suc (point_of l items)) (λ n. n ≤ suc (length items)) (λ e. omega arith) (λ e. omega (arith, label_inside l items))
-
-jumps_inside : (code : List Instr) (p : ℕ) (e : Way) (labels : List ℕ) → In e (map (jump code p) labels) → e.to ≤ length code
-jumps_inside code p e labels h =
-    let s = in_map_source (jump code p) e labels h in
-    omega (arith, ap (λ (w : Way). w.to) s.2, label_inside s.0 code)
-
-aborts_inside : (code : List Instr) (p : ℕ) (e : Way) (labels : List ℕ) → In e (map (abort code p) labels) → e.to ≤ length code
-aborts_inside code p e labels h =
-    let s = in_map_source (abort code p) e labels h in
-    omega (arith, ap (λ (w : Way). w.to) s.2, label_inside s.0 code)
-
-onward_inside : (code : List Instr) (p : ℕ) (e : Way) → p < length code → In e (onward p ∷ []) → e.to ≤ length code
-onward_inside code p e l (inl h) = omega (arith, ap (λ (w : Way). w.to) h)
-onward_inside code p e l (inr h) = absurd h
-
-action_inside : (code : List Instr) (p : ℕ) (operation : Op) (labels : List ℕ) (e : Way) → p < length code → In e (action_ways code p operation labels) → e.to ≤ length code
-action_inside code p op.Jmp labels e l h = jumps_inside code p e labels h
-action_inside code p op.Br labels e l h = jumps_inside code p e labels h
-action_inside code p op.Ret labels e l h = absurd h
-action_inside code p op.Guard labels e l (inl h) = omega (arith, ap (λ (w : Way). w.to) h)
-action_inside code p op.Guard labels e l (inr h) = aborts_inside code p e labels h
-action_inside code p _ labels e l h = onward_inside code p e l h
-
-option_inside : (code : List Instr) (p : ℕ) (item : Option Instr) (e : Way) → slice_get code p ≡ item → In e (ways_from code p item) → e.to ≤ length code
-option_inside code p None e at h = absurd h
-option_inside code p (Some (Label l)) e at h = onward_inside code p e (slice_get_within code p _ at) h
-option_inside code p (Some (Const dest ty value)) e at h = onward_inside code p e (slice_get_within code p _ at) h
-option_inside code p (Some (Act dest ty operation args funcs labels)) e at h = action_inside code p operation labels e (slice_get_within code p _ at) h
-
-pub way_inside : (code : List Instr) (p : ℕ) (e : Way) → In e (ways_at code p) → e.to ≤ length code
-way_inside code p e h = option_inside code p (slice_get code p) e refl h
-
 -- ---- two walks of one length are equal, or one is earlier
 
 abbrev Ordered : List Way → List Way → Type 0
 Ordered v w = (v ≡ w) ⊎ (Earlier v w ⊎ Earlier w v)
-
-abbrev way_of_parts : ℕ → ℕ → Bool → Way
-way_of_parts from to aborts = record { from = from; to = to; aborts = aborts }
-
-pub same_way : (e f : Way) → e.from ≡ f.from → e.to ≡ f.to → e.aborts ≡ f.aborts → e ≡ f
-same_way e f p q r =
-    let parts : way_of_parts e.from e.to e.aborts ≡ way_of_parts f.from f.to f.aborts = cc in parts
 
 by_aborts : (e f : Way) → e.from ≡ f.from → e.to ≡ f.to → (e.aborts ≡ true) ⊎ (e.aborts ≡ false) → (f.aborts ≡ true) ⊎ (f.aborts ≡ false) → (e ≡ f) ⊎ (Sooner e f ⊎ Sooner f e)
 by_aborts e f h t (inl a) (inl b) = inl (same_way e f h t (a ∙ sym b))

@@ -11,7 +11,7 @@ use Rattle.flow_graph.specs.declared.ways.Way.{Way}
 use Rattle.flow_graph.specs.declared.ways.Ways.{Ways}
 use Rattle.flow_graph.specs.Visits.{AreVisits, none_open, visit_behind}
 use Rattle.flow_graph.specs.Ways.{way_of, ways_of, visiting, AreRows}
-use Rattle.flow_graph.proofs.Order.{way_inside}
+use Rattle.bril_tree.proofs.Ways.{way_inside}
 use Rattle.flow_graph.proofs.Searching.{Pending, Searching, Entering, candidate, pend, at_start, get_inside, pass, enter, start, searched, few_waiting}
 
 -- the ways wait in a search

@@ -2,11 +2,12 @@
 
 ghost use Rattle.std.specs.Prelude.{◌≡◌, ◌<◌, ◌++◌, ◌∷◌, [], List, All, length, map, replicate, slice_index_or, slice_set, IfOk, OnOk};
 ghost use Rattle.bril_tree.specs.declared.numbered.Instr.{Instr};
-ghost use Rattle.flow_graph.specs.Graph.{ArePreds, edge_of, edges_from};
+ghost use Rattle.bril_tree.specs.Leaving.{edge_of};
+ghost use Rattle.flow_graph.specs.Graph.{ArePreds, edges_from};
 ghost use Rattle.flow_graph.specs.Ways.{AreRows, edges_on, way_of, ways_of};
 
-use crate::edge::Edge;
 use crate::ways::{Way, Ways};
+use bril_tree::edge::Edge;
 use bril_tree::sequence::Seq;
 use std::alloc::{AllocError, Global};
 

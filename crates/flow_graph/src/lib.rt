@@ -1,10 +1,8 @@
 //! The flow graph of a function: its edges, the points to which walks lead, and their open speculation sites.
 #![tactic(auto)]
 
-mod edge;
 mod edges;
 mod graph;
-mod labels;
 mod laws;
 mod open_sites;
 mod search;
@@ -14,6 +12,6 @@ mod tests;
 mod visits;
 mod ways;
 
-pub use edge::Edge;
+pub use bril_tree::edge::Edge;
 pub use graph::{Graph, GraphFault};
 pub use laws::walks_agree;

@@ -3,7 +3,7 @@
 ghost use Rattle.std.specs.Prelude.{◌≡◌, ◌<◌, ◌+◌, ◌^◌, ◌-◌, List, All, length, map, IfOk};
 ghost use Rattle.bril_tree.specs.declared.numbered.Instr.{Instr};
 ghost use Rattle.bril_tree.specs.Edge.{jump, abort, onward, action_ways, item_ways};
-ghost use Rattle.flow_graph.specs.Labels.{IsLabelTable};
+ghost use Rattle.bril_tree.specs.Labels.{IsLabelTable};
 ghost use Rattle.flow_graph.specs.Ways.{way_of, ways_of, visiting, label_count, HasLabels, AreRows};
 
 use bril_tree::numbered::Instr;

@@ -16,8 +16,9 @@ use Rattle.bril_tree.specs.State.{Places, Frame}
 use Rattle.bril_tree.specs.Step.{assigned, shadowed}
 use Rattle.bril_tree.specs.Typing.{variable_type}
 use Rattle.bril_tree.specs.Walk.{IsWalk, end_of}
-use Rattle.flow_graph.proofs.Members.{In, contains_in}
-use Rattle.type_soundness.specs.Standing.{place_type, place_value}
+use Rattle.bril_tree.specs.Membership.{In}
+use Rattle.bril_tree.proofs.Members.{contains_in}
+use Rattle.bril_tree.specs.Places.{place_type, place_value}
 use Rattle.type_soundness.proofs.Typed.{Cell, HasType, HasType-more, Extends}
 
 -- a place holds a value of its type

@@ -22,21 +22,6 @@ use Rattle.bril_tree.specs.Typing.{is_action_typed, argument_type, if_typed, is_
 use Rattle.bril_tree.specs.Value.{IsInRange, zero_of, zero_at}
 use Rattle.type_soundness.proofs.Typed.{Cell, HasType, IsTyped, HasType-plain, HasType-suits, HasType-both}
 
--- ---- shapes
-
--- the numbers of an operation's operands are those of its shape
-pub record HasShape (shape : Shape) (dest : Bool) (args funcs labels : ℕ) : Type 0 where
-  pub dest_is : same shape.dest dest ≡ true
-  pub args_are : args ≡ shape.args
-  pub labels_are : labels ≡ shape.labels
-
-pub shape-parts : (shape : Shape) (dest : Bool) (args funcs labels : ℕ) → fits_shape shape dest args funcs labels ≡ true → HasShape shape dest args funcs labels
-shape-parts shape dest args funcs labels e =
-    let a = and_parts _ _ e in
-    let b = and_parts _ _ a.0 in
-    let c = and_parts _ _ b.0 in
-    record { dest_is = c.0; args_are = eqb-true args shape.args c.1; labels_are = eqb-true labels shape.labels a.1 }
-
 -- ---- ranges
 
 char-scalar : (n : ℕ) → is_scalar n ≡ true → IsScalar n

@@ -11,6 +11,8 @@ use Rattle.bril_tree.specs.declared.value.Value.{Value}
 use Rattle.bril_tree.specs.Accepted.{IsAccepted, IsAcceptedFunction, leaves_frame}
 use Rattle.bril_tree.specs.Assigned.{Assigned, assigned_of, assigned_changed, assigns_at}
 use Rattle.bril_tree.specs.Edge.{Way, ways_at}
+use Rattle.bril_tree.specs.declared.types.Ty.{Ty}
+use Rattle.bril_tree.specs.Live.{IsLive}
 use Rattle.bril_tree.specs.Operand.{Location, Variable, Shadow, reads_of}
 use Rattle.bril_tree.specs.Run.{Suits}
 use Rattle.bril_tree.specs.Shape.{is_shaped}
@@ -19,79 +21,20 @@ use Rattle.bril_tree.specs.State.{Places, Frame}
 use Rattle.bril_tree.specs.Typing.{type_fault}
 use Rattle.bril_tree.specs.Walk.{IsWalk, IsReached, end_of}
 use Rattle.flow_graph.proofs.FirstWalks.{reached_have_first}
-use Rattle.flow_graph.proofs.Members.{In, in_contains}
+use Rattle.bril_tree.specs.Membership.{In}
+use Rattle.bril_tree.proofs.Members.{in_contains}
 use Rattle.flow_graph.proofs.OpenSites.{sound_walks_agree}
-use Rattle.flow_graph.proofs.Order.{way_inside}
-use Rattle.type_soundness.specs.Standing.{StandsWell, place_type, place_value}
+use Rattle.bril_tree.proofs.Ways.{walk_within}
+use Rattle.bril_tree.specs.Places.{place_type, place_value}
+use Rattle.bril_tree.proofs.Acceptance.{shaped_at, typed_at, function_walks}
+use Rattle.bril_tree.proofs.Assignments.{in_or_not, saved-length}
+use Rattle.bril_tree.proofs.Liveness.{live_assigned}
+use Rattle.type_soundness.specs.Standing.{StandsWell}
 use Rattle.type_soundness.proofs.Typed.{Cell, HasType, HasType-suits}
 use Rattle.type_soundness.proofs.Places.{reads-there}
 use Rattle.type_soundness.proofs.Frames.{Holds, AllCover, Sits}
 
--- ---- elements of lists
-
-pub All-at : {X : Type 0} (P : X → Type 0) (xs : List X) (k : ℕ) (x : X) → All P xs → slice_get xs k ≡ Some x → P x
-All-at P xs k x h e = subst P (get_or_from_slice_get xs k x x e) (h k x (slice_get_within xs k x e))
-
-pub accepted_function : (p : Prog) (k : ℕ) (f : Func) → IsAccepted p → slice_get p.funcs k ≡ Some f → IsAcceptedFunction p f
-accepted_function p k f h e = All-at (IsAcceptedFunction p) p.funcs k f h.functions e
-
--- what acceptance says of an item
-module _ (p : Prog) (f : Func) (accepted : IsAcceptedFunction p f) (k : ℕ) (item : Instr) (at : slice_get f.code k ≡ Some item) where
-  pub shaped_at : is_shaped (is_some f.ret) item ≡ true
-  shaped_at = All-at (λ (i : Instr). IsTrue (is_shaped (is_some f.ret) i)) f.code k item accepted.shaped at
-
-  pub typed_at : type_fault p f item ≡ None
-  typed_at = All-at (λ (i : Instr). type_fault p f i ≡ None) f.code k item accepted.typed at
-
-same-variable : (x y : ℕ) → (x ≡ y) ⊎ (x ≡ y → ⊥) → (Variable x ≡ Variable y) ⊎ (Variable x ≡ Variable y → ⊥)
-same-variable x y (inl e) = inl (ap Variable e)
-same-variable x y (inr d) = inr (λ e. d (cc))
-
-same-shadow : (x y : ℕ) → (x ≡ y) ⊎ (x ≡ y → ⊥) → (Shadow x ≡ Shadow y) ⊎ (Shadow x ≡ Shadow y → ⊥)
-same-shadow x y (inl e) = inl (ap Shadow e)
-same-shadow x y (inr d) = inr (λ e. d (cc))
-
-same-place : (a b : Location) → (a ≡ b) ⊎ (a ≡ b → ⊥)
-same-place (Variable x) (Variable y) = same-variable x y (cases_eq x y)
-same-place (Variable x) (Shadow y) = inr (λ e. cc)
-same-place (Shadow x) (Variable y) = inr (λ e. cc)
-same-place (Shadow x) (Shadow y) = same-shadow x y (cases_eq x y)
-
-in_or_more : (a b : Location) (list : List Location) → (a ≡ b) ⊎ (a ≡ b → ⊥) → In a list ⊎ (In a list → ⊥) → In a (b ∷ list) ⊎ (In a (b ∷ list) → ⊥)
-in_or_more a b list (inl e) i = inl (inl e)
-in_or_more a b list (inr d) (inl i) = inl (inr i)
-in_or_more a b list (inr d) (inr n) = inr neither
-  where
-    neither : In a (b ∷ list) → ⊥
-    neither (inl e) = d e
-    neither (inr i) = n i
-
-in_or_not : (a : Location) (list : List Location) → In a list ⊎ (In a list → ⊥)
-in_or_not a [] = inr (λ h. h)
-in_or_not a (b ∷ list) = in_or_more a b list (same-place a b) (in_or_not a list)
-
 -- ---- walks
-
-pub walk_within : (code : List Instr) (walk : List Way) → IsWalk code walk → end_of walk ≤ length code
-walk_within code [] is = omega arith
-walk_within code (way ∷ walk) is = way_inside code (end_of walk) way (in_contains way (ways_at code (end_of walk)) is.0)
-
--- as many sets are saved as sites are open
-shorter : {A B : Type 0} (xs : List A) (ys : List B) → length xs ≡ length ys → length (without_newest xs) ≡ length (without_newest ys)
-shorter [] [] e = refl
-shorter [] (y ∷ ys) e = absurd (omega arith)
-shorter (x ∷ xs) [] e = absurd (omega arith)
-shorter (x ∷ xs) (y ∷ ys) e = omega arith
-
-saved-behind : (c : Change) (places : List Location) (aborts : Bool) (site : ℕ) (sites : List ℕ) (a : Assigned) → length a.saved ≡ length sites → length (assigned_changed c places aborts a).saved ≡ length (sites_changed c site sites)
-saved-behind Opens places aborts site sites a e = omega arith
-saved-behind Closes places aborts site sites a e = shorter a.saved sites e
-saved-behind Keeps places aborts site sites a e = e
-
-saved-length : (code : List Instr) (args : ℕ) (walk : List Way) → length (assigned_of code args walk).saved ≡ length (sites_of code walk)
-saved-length code args [] = refl
-saved-length code args (way ∷ walk) =
-    saved-behind (change_of code way) (assigns_at (slice_get code way.from)) way.aborts way.from (sites_of code walk) (assigned_of code args walk) (saved-length code args walk)
 
 cover-length : (heap : List Cell) (f : Func) (saves : List Places) (saved : List (List Location)) → AllCover heap f saves saved → length saves ≡ length saved
 cover-length heap f [] [] h = refl
@@ -170,13 +113,23 @@ module _ (p : Prog) (heap : List Cell) (f : Func) (frame : Frame) (accepted : Is
       let t = reads-there p f item place (shaped_at p f accepted frame.point item at) (typed_at p f accepted frame.point item at) c in
       (h.value, h.is, subst (λ o. Suits h.value o) (sym t.1) (HasType-suits heap t.0 h.value (subst (λ o. HasType heap o h.value) t.1 h.typed)))
 
+  -- a place that is live was assigned, so it holds a value that suits its type, where it has one
+  suits-live : (place : Location) (ty : Ty) → IsLive f.code place frame.point → place_type f place ≡ Some ty → (v : Value) × (place_value frame.places place ≡ Some v) × Suits v (place_type f place)
+  suits-live place ty live typed =
+      let h = s.places place (live_assigned f.code f.args (is_some f.ret) (function_walks p f accepted) place frame.point live s.walk s.is s.ends) in
+      (h.value, h.is, subst (λ o. Suits h.value o) (sym typed) (HasType-suits heap ty h.value (subst (λ o. HasType heap o h.value) typed h.typed)))
+
   pub stands-well : StandsWell p frame
   stands-well = record {
     function = f;
     there = s.there;
     within = within;
-    reached = reached;
+    walk = s.walk;
+    is = s.is;
+    ends = s.ends;
     reads = suits-read;
+    live = suits-live;
+    saves = as_many;
     saved = has-save;
     few = few (cases_lt most_sites (length frame.saves));
     alone = alone;

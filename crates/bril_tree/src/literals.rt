@@ -1,12 +1,12 @@
 // The literals of a program in memory.
 
 ghost use Rattle.std.specs.Prelude.{All};
-ghost use Rattle.type_soundness.specs.Standing.{AreLiteralsInRange, IsLiteralInRange};
+ghost use Rattle.bril_tree.specs.Literals.{AreLiteralsInRange, IsLiteralInRange};
 
-use bril_tree::numbered::Instr;
-use bril_tree::numbered_function::Func;
-use bril_tree::program::Prog;
-use bril_tree::value::Lit;
+use crate::numbered::Instr;
+use crate::numbered_function::Func;
+use crate::program::Prog;
+use crate::value::Lit;
 
 // The literal of an item.
 fn literal_is_in_range(item: &Instr)
@@ -31,7 +31,7 @@ fn items_are_in_range(items: &[Instr])
     }
 }
 
-/// Each literal of a program in memory is an int of 64 bits, a bool or a scalar value, as the laws of this crate ask.
+/// Each literal of a program in memory is an int of 64 bits, a bool or a scalar value, as laws over all programs ask.
 /// The call reads the items, and does nothing else.
 pub fn literals_are_in_range(prog: &Prog)
     ensures { AreLiteralsInRange prog.now }

@@ -8,7 +8,9 @@ use Rattle.bril_tree.specs.Operand.{Location}
 use Rattle.bril_tree.specs.Sites.{Change, Opens, Closes, Keeps, change_of, item_change, sites_of, sites_changed, without_newest}
 use Rattle.bril_tree.specs.Walk.{IsWalk, end_of}
 use Rattle.bril_tree.specs.declared.numbered.Instr.{Instr}
-use Rattle.definite_assignment.proofs.Ways.{way-is, way-inside}
+use Rattle.bril_tree.proofs.Assignments.{without_newest-length}
+use Rattle.bril_tree.proofs.Members.{in_contains}
+use Rattle.bril_tree.proofs.Ways.{way_from, way_at_item}
 
 newest_dropped : {A : Type 0} (xs : List A) (k : ℕ) → slice_get (without_newest xs) k ≡ slice_get xs (suc k)
 newest_dropped [] k = refl
@@ -32,16 +34,10 @@ saved-back R Closes places aborts at sites a here before k site set s =
     before (suc k) site set (record { site_there = sym (newest_dropped sites k) ∙ s.site_there; saved_there = sym (newest_dropped a.saved k) ∙ s.saved_there })
 saved-back R Keeps places aborts at sites a here before k site set s = before k site set (record { site_there = s.site_there; saved_there = s.saved_there })
 
-same_dropped : {A B : Type 0} (xs : List A) (ys : List B) → length xs ≡ length ys → length (without_newest xs) ≡ length (without_newest ys)
-same_dropped [] [] e = refl
-same_dropped [] (y ∷ ys) e = absurd (omega arith)
-same_dropped (x ∷ xs) [] e = absurd (omega arith)
-same_dropped (x ∷ xs) (y ∷ ys) e = omega arith
-
 pub same-length : (change : Change) (places : List Location) (aborts : Bool) (at : ℕ) (sites : List ℕ) (a : Assigned) → length sites ≡ length a.saved →
     length (sites_changed change at sites) ≡ length (assigned_changed change places aborts a).saved
 same-length Opens places aborts at sites a e = ap suc e
-same-length Closes places aborts at sites a e = same_dropped sites a.saved e
+same-length Closes places aborts at sites a e = without_newest-length sites a.saved e
 same-length Keeps places aborts at sites a e = e
 
 -- an open site is an item that opens it
@@ -84,7 +80,7 @@ replay_way : (code : List Instr) (args : ℕ) (way : Way) (walk other : List Way
     Replays code args way.to k (assigned_of code args other).places
 replay_way code args way walk other Opens e leads is before zero h =
     let same : way.from ≡ end_of other = cc in
-    let from : way.from ≡ end_of walk = (way-is code (end_of walk) way leads).from in
+    let from : way.from ≡ end_of walk = way_from code (end_of walk) way (in_contains way (ways_at code (end_of walk)) leads) in
     record {
       walk = way ∷ other;
       is = (subst (λ p. Contains (ways_at code p) way) (sym from ∙ same) leads, is);
@@ -115,7 +111,7 @@ replay code args (way ∷ walk) other is is' k h =
 pub sites-inside : (code : List Instr) (walk : List Way) → IsWalk code walk → (k site : ℕ) → slice_get (sites_of code walk) k ≡ Some site → site < length code
 sites-inside code [] is k site h = cc
 sites-inside code (way ∷ walk) is k site h =
-    let low : way.from < length code = subst (λ p. p < length code) (sym (way-is code (end_of walk) way is.0).from) (way-inside code (end_of walk) way is.0) in
+    let low : way.from < length code = subst (λ p. p < length code) (sym (way_from code (end_of walk) way (in_contains way (ways_at code (end_of walk)) is.0))) (way_at_item code (end_of walk) way (in_contains way (ways_at code (end_of walk)) is.0)) in
     inside_changed (change_of code way) way.from (sites_of code walk) (length code) low (sites-inside code walk is.1) k site h
   where
     inside_changed : (change : Change) (at : ℕ) (sites : List ℕ) (n : ℕ) → at < n → ((k site : ℕ) → slice_get sites k ≡ Some site → site < n) →
