@@ -8,7 +8,7 @@ use Rattle.bril_tree.specs.declared.numbered_function.Func.{Func}
 use Rattle.bril_tree.specs.declared.program.Prog.{Prog}
 use Rattle.bril_tree.specs.Accepted.{IsAccepted, IsAcceptedFunction, AreWalksAccepted}
 use Rattle.bril_tree.specs.Assigned.{assigned_of}
-use Rattle.bril_tree.specs.Edge.{ways_from}
+use Rattle.bril_tree.specs.Edge.{branches_from}
 use Rattle.bril_tree.specs.FunctionForm.{targets_of}
 use Rattle.bril_tree.specs.Membership.{In}
 use Rattle.bril_tree.specs.Operand.{Location, Variable, reads_of}
@@ -23,7 +23,7 @@ use Rattle.bril_tree.proofs.LabelPoints.{range_high}
 use Rattle.bril_tree.proofs.Members.{in_contains, contains_in, in_map_source}
 use Rattle.bril_tree.proofs.Shapes.{item_leads}
 use Rattle.bril_tree.proofs.Typings.{IsDestination}
-use Rattle.bril_tree.proofs.Ways.{reached_on}
+use Rattle.bril_tree.proofs.Branches.{reached_on}
 
 pub accepted_function : (p : Prog) (k : ℕ) (f : Func) → IsAccepted p → slice_get p.funcs k ≡ Some f → IsAcceptedFunction p f
 accepted_function p k f h e = All-at (IsAcceptedFunction p) p.funcs k f h.functions e
@@ -58,17 +58,17 @@ target_reached p accepted f point item l at reached m = by (slice_get p.funcs f)
     by None e = absurd (let h : None ≡ Some item = ap (λ o. slice_get (items_of o) point) (sym e) ∙ at in cc)
     by (Some func) e =
         let here : slice_get func.code point ≡ Some item = ap (λ o. slice_get (items_of o) point) (sym e) ∙ at in
-        let way = item_leads (code_of p f) point (is_some func.ret) item l (shaped_at p func (accepted_function p f func accepted e) point item here) m in
-        subst (IsReached (code_of p f)) way.to (reached_on (code_of p f) point way.way reached (subst (λ o. In way.way (ways_from (code_of p f) point o)) (sym at) way.among))
+        let branch = item_leads (code_of p f) point (is_some func.ret) item l (shaped_at p func (accepted_function p f func accepted e) point item here) m in
+        subst (IsReached (code_of p f)) branch.to (reached_on (code_of p f) point branch.branch reached (subst (λ o. In branch.branch (branches_from (code_of p f) point o)) (sym at) branch.among))
 
 -- a variable that a reached item reads is an argument or a destination
 pub read_left : (code : List Instr) (args : ℕ) (returns : Bool) → AreWalksAccepted code args returns → (point : ℕ) (item : Instr) → IsReached code point → slice_get code point ≡ Some item → (x : ℕ) → In (Variable x) (reads_of item) → (x < args) ⊎ IsDestination code x
-read_left code args returns walks point item reached at x among = ⊎_elim from_assigned (λ n. absurd (lacks n)) (in_or_not (Variable x) (assigned_of code args reached.walk).places)
+read_left code args returns walks point item reached at x among = ⊎_elim from_assigned (λ n. absurd (lacks n)) (in_or_not (Variable x) (assigned_of code args reached.walk).locations)
   where
-    lacks : (In (Variable x) (assigned_of code args reached.walk).places → ⊥) → ⊥
+    lacks : (In (Variable x) (assigned_of code args reached.walk).locations → ⊥) → ⊥
     lacks n =
         walks.assigned point item (Variable x) at (contains_in (Variable x) (reads_of item) among)
-        (record { walk = reached.walk; is = reached.is; ends = reached.ends; lacks = λ c. n (in_contains (Variable x) (assigned_of code args reached.walk).places c) })
+        (record { walk = reached.walk; is = reached.is; ends = reached.ends; lacks = λ c. n (in_contains (Variable x) (assigned_of code args reached.walk).locations c) })
 
     argument : In (Variable x) (map Variable (range_with_len 0 args)) → x < args
     argument i =
@@ -77,7 +77,7 @@ read_left code args returns walks point item reached at x among = ⊎_elim from_
         let high = range_high 0 args source.0 source.1 in
         omega arith
 
-    from_assigned : In (Variable x) (assigned_of code args reached.walk).places → (x < args) ⊎ IsDestination code x
+    from_assigned : In (Variable x) (assigned_of code args reached.walk).locations → (x < args) ⊎ IsDestination code x
     from_assigned i =
         ⊎_elim (λ s. inl (argument s)) (λ d. inr (record { point = d.1; item = d.0; at = d.2; dest = assigns-dest d.0 x d.3 }))
         (assigned_from code args reached.walk (Variable x) i)

@@ -6,26 +6,26 @@ use Rattle.std.proofs.lemmas.Bool.{cases_eq}
 use Rattle.bril_tree.specs.declared.numbered.Instr.{Instr}
 use Rattle.bril_tree.specs.declared.numbered.Instr.TheVariants.{Label, Const, Act}
 use Rattle.bril_tree.specs.declared.operation.Op.TheVariants as op
-use Rattle.bril_tree.specs.Assigned.{Assigned, assigned_of, assigned_behind, assigned_changed, newest_saved, places_closed, assigns_at, assigns_of}
-use Rattle.bril_tree.specs.Edge.{Way, onward, item_ways, ways_from, ways_at}
+use Rattle.bril_tree.specs.Assigned.{Assigned, assigned_of, assigned_behind, assigned_changed, newest_saved, locations_closed, assigns_at, assigns_of}
+use Rattle.bril_tree.specs.Edge.{Branch, onward, item_branches, branches_from, branches_at}
 use Rattle.bril_tree.specs.Membership.{In}
 use Rattle.bril_tree.specs.Operand.{Location, Variable, Shadow, dest_of}
 use Rattle.bril_tree.specs.Sites.{Change, Opens, Closes, Keeps, change_of, item_change, sites_of, sites_changed, without_newest}
 use Rattle.bril_tree.specs.Walk.{IsWalk, end_of}
 use Rattle.bril_tree.proofs.Members.{in_contains, contains_in, in_append_cases}
-use Rattle.bril_tree.proofs.Ways.{way_from}
+use Rattle.bril_tree.proofs.Branches.{branch_from}
 
--- ---- places are among those of a list or not
+-- ---- locations are among those of a list or not
 
-same_place : (a b : Location) → (a ≡ b) ⊎ (a ≡ b → ⊥)
-same_place (Variable x) (Variable y) = ⊎_elim (λ e. inl (ap Variable e)) (λ n. inr (λ e. n (cc))) (cases_eq x y)
-same_place (Variable x) (Shadow y) = inr (λ e. cc)
-same_place (Shadow x) (Variable y) = inr (λ e. cc)
-same_place (Shadow x) (Shadow y) = ⊎_elim (λ e. inl (ap Shadow e)) (λ n. inr (λ e. n (cc))) (cases_eq x y)
+same_location : (a b : Location) → (a ≡ b) ⊎ (a ≡ b → ⊥)
+same_location (Variable x) (Variable y) = ⊎_elim (λ e. inl (ap Variable e)) (λ n. inr (λ e. n (cc))) (cases_eq x y)
+same_location (Variable x) (Shadow y) = inr (λ e. cc)
+same_location (Shadow x) (Variable y) = inr (λ e. cc)
+same_location (Shadow x) (Shadow y) = ⊎_elim (λ e. inl (ap Shadow e)) (λ n. inr (λ e. n (cc))) (cases_eq x y)
 
 pub in_or_not : (a : Location) (list : List Location) → In a list ⊎ (In a list → ⊥)
 in_or_not a [] = inr (λ h. h)
-in_or_not a (b ∷ list) = ⊎_elim (λ e. inl (inl e)) (λ n. ⊎_elim (λ i. inl (inr i)) (λ m. inr (λ h. ⊎_elim n m h)) (in_or_not a list)) (same_place a b)
+in_or_not a (b ∷ list) = ⊎_elim (λ e. inl (inl e)) (λ n. ⊎_elim (λ i. inl (inr i)) (λ m. inr (λ h. ⊎_elim n m h)) (in_or_not a list)) (same_location a b)
 
 -- ---- open sites
 
@@ -35,16 +35,16 @@ without_newest-length [] (y ∷ ys) e = absurd (omega arith)
 without_newest-length (x ∷ xs) [] e = absurd (omega arith)
 without_newest-length (x ∷ xs) (y ∷ ys) e = omega arith
 
-saved-changed : (c : Change) (places : List Location) (aborts : Bool) (site : ℕ) (sites : List ℕ) (a : Assigned) → length a.saved ≡ length sites → length (assigned_changed c places aborts a).saved ≡ length (sites_changed c site sites)
-saved-changed Opens places aborts site sites a e = omega arith
-saved-changed Closes places aborts site sites a e = without_newest-length a.saved sites e
-saved-changed Keeps places aborts site sites a e = e
+saved-changed : (c : Change) (locations : List Location) (aborts : Bool) (site : ℕ) (sites : List ℕ) (a : Assigned) → length a.saved ≡ length sites → length (assigned_changed c locations aborts a).saved ≡ length (sites_changed c site sites)
+saved-changed Opens locations aborts site sites a e = omega arith
+saved-changed Closes locations aborts site sites a e = without_newest-length a.saved sites e
+saved-changed Keeps locations aborts site sites a e = e
 
 -- as many sets are saved as sites are open
-pub saved-length : (code : List Instr) (args : ℕ) (walk : List Way) → length (assigned_of code args walk).saved ≡ length (sites_of code walk)
+pub saved-length : (code : List Instr) (args : ℕ) (walk : List Branch) → length (assigned_of code args walk).saved ≡ length (sites_of code walk)
 saved-length code args [] = refl
-saved-length code args (way ∷ walk) =
-    saved-changed (change_of code way) (assigns_at (slice_get code way.from)) way.aborts way.from (sites_of code walk) (assigned_of code args walk) (saved-length code args walk)
+saved-length code args (branch ∷ walk) =
+    saved-changed (change_of code branch) (assigns_at (slice_get code branch.from)) branch.aborts branch.from (sites_of code walk) (assigned_of code args walk) (saved-length code args walk)
 
 -- the item is a `speculate`
 abbrev pub Speculates : Option Instr → Type 0
@@ -70,66 +70,66 @@ speculates-by code Closes from s sites o rest i = rest (in_rest s sites i)
 speculates-by code Keeps from s sites o rest i = rest i
 
 -- an open site is a `speculate`
-pub site_speculates : (code : List Instr) (walk : List Way) (s : ℕ) → In s (sites_of code walk) → Speculates (slice_get code s)
+pub site_speculates : (code : List Instr) (walk : List Branch) (s : ℕ) → In s (sites_of code walk) → Speculates (slice_get code s)
 site_speculates code [] s i = absurd i
-site_speculates code (way ∷ walk) s i = speculates-by code (change_of code way) way.from s (sites_of code walk) (λ e. opens (slice_get code way.from) way.aborts e) (λ j. site_speculates code walk s j) i
+site_speculates code (branch ∷ walk) s i = speculates-by code (change_of code branch) branch.from s (sites_of code walk) (λ e. opens (slice_get code branch.from) branch.aborts e) (λ j. site_speculates code walk s j) i
 
 -- ---- what is saved was assigned on a walk to its site
 
 module _ (code : List Instr) (args : ℕ) where
-  -- a shorter walk to the site assigned these places
-  pub record SavedAt (walk : List Way) (site : ℕ) (places : List Location) : Type 0 where
-    pub before : List Way
+  -- a shorter walk to the site assigned these locations
+  pub record SavedAt (walk : List Branch) (site : ℕ) (locations : List Location) : Type 0 where
+    pub before : List Branch
     pub shorter : length before < length walk
     pub is : IsWalk code before
     pub ends : end_of before ≡ site
-    pub assigned : places ≡ (assigned_of code args before).places
+    pub assigned : locations ≡ (assigned_of code args before).locations
 
-  abbrev pub AreSaved : List Way → List ℕ → List (List Location) → Type 0
+  abbrev pub AreSaved : List Branch → List ℕ → List (List Location) → Type 0
   AreSaved walk [] [] = Unit {0}
-  AreSaved walk (site ∷ sites) (places ∷ saved) = SavedAt walk site places × AreSaved walk sites saved
+  AreSaved walk (site ∷ sites) (locations ∷ saved) = SavedAt walk site locations × AreSaved walk sites saved
   AreSaved walk _ _ = ⊥
 
-  saved-later : (way : Way) (walk : List Way) (sites : List ℕ) (saved : List (List Location)) → AreSaved walk sites saved → AreSaved (way ∷ walk) sites saved
-  saved-later way walk [] [] h = tt
-  saved-later way walk (s ∷ sites) (p ∷ saved) h = (record { before = h.0.before; shorter = (let l = h.0.shorter in omega arith); is = h.0.is; ends = h.0.ends; assigned = h.0.assigned }, saved-later way walk sites saved h.1)
-  saved-later way walk [] (p ∷ saved) h = absurd h
-  saved-later way walk (s ∷ sites) [] h = absurd h
+  saved-later : (branch : Branch) (walk : List Branch) (sites : List ℕ) (saved : List (List Location)) → AreSaved walk sites saved → AreSaved (branch ∷ walk) sites saved
+  saved-later branch walk [] [] h = tt
+  saved-later branch walk (s ∷ sites) (p ∷ saved) h = (record { before = h.0.before; shorter = (let l = h.0.shorter in omega arith); is = h.0.is; ends = h.0.ends; assigned = h.0.assigned }, saved-later branch walk sites saved h.1)
+  saved-later branch walk [] (p ∷ saved) h = absurd h
+  saved-later branch walk (s ∷ sites) [] h = absurd h
 
-  saved-rest : (walk : List Way) (sites : List ℕ) (saved : List (List Location)) → AreSaved walk sites saved → AreSaved walk (without_newest sites) (without_newest saved)
+  saved-rest : (walk : List Branch) (sites : List ℕ) (saved : List (List Location)) → AreSaved walk sites saved → AreSaved walk (without_newest sites) (without_newest saved)
   saved-rest walk [] [] h = tt
   saved-rest walk (s ∷ sites) (p ∷ saved) h = h.1
   saved-rest walk [] (p ∷ saved) h = absurd h
   saved-rest walk (s ∷ sites) [] h = absurd h
 
-  pub saved_by_walks : (walk : List Way) → IsWalk code walk → AreSaved walk (sites_of code walk) (assigned_of code args walk).saved
+  pub saved_by_walks : (walk : List Branch) → IsWalk code walk → AreSaved walk (sites_of code walk) (assigned_of code args walk).saved
   saved_by_walks [] is = tt
-  saved_by_walks (way ∷ walk) is = by (change_of code way) (saved_by_walks walk is.1)
+  saved_by_walks (branch ∷ walk) is = by (change_of code branch) (saved_by_walks walk is.1)
     where
       by : (c : Change) → AreSaved walk (sites_of code walk) (assigned_of code args walk).saved
-          → AreSaved (way ∷ walk) (sites_changed c way.from (sites_of code walk)) (assigned_changed c (assigns_at (slice_get code way.from)) way.aborts (assigned_of code args walk)).saved
+          → AreSaved (branch ∷ walk) (sites_changed c branch.from (sites_of code walk)) (assigned_changed c (assigns_at (slice_get code branch.from)) branch.aborts (assigned_of code args walk)).saved
       by Opens h = (
-        record { before = walk; shorter = omega arith; is = is.1; ends = sym (way_from code (end_of walk) way (in_contains way (ways_at code (end_of walk)) is.0)); assigned = refl },
-        saved-later way walk (sites_of code walk) (assigned_of code args walk).saved h,
+        record { before = walk; shorter = omega arith; is = is.1; ends = sym (branch_from code (end_of walk) branch (in_contains branch (branches_at code (end_of walk)) is.0)); assigned = refl },
+        saved-later branch walk (sites_of code walk) (assigned_of code args walk).saved h,
       )
-      by Closes h = saved-later way walk (without_newest (sites_of code walk)) (without_newest (assigned_of code args walk).saved) (saved-rest walk (sites_of code walk) (assigned_of code args walk).saved h)
-      by Keeps h = saved-later way walk (sites_of code walk) (assigned_of code args walk).saved h
+      by Closes h = saved-later branch walk (without_newest (sites_of code walk)) (without_newest (assigned_of code args walk).saved) (saved-rest walk (sites_of code walk) (assigned_of code args walk).saved h)
+      by Keeps h = saved-later branch walk (sites_of code walk) (assigned_of code args walk).saved h
 
 -- ---- one point further
 
 -- the walk that goes on to the next point past an item that neither opens nor closes a site
-pub record WentOn (code : List Instr) (args : ℕ) (walk : List Way) (item : Instr) : Type 0 where
+pub record WentOn (code : List Instr) (args : ℕ) (walk : List Branch) (item : Instr) : Type 0 where
   pub is : IsWalk code (onward (end_of walk) ∷ walk)
   pub sites : sites_of code (onward (end_of walk) ∷ walk) ≡ sites_of code walk
-  pub assigned : assigned_of code args (onward (end_of walk) ∷ walk) ≡ record { places = assigns_of item ++ (assigned_of code args walk).places; saved = (assigned_of code args walk).saved }
+  pub assigned : assigned_of code args (onward (end_of walk) ∷ walk) ≡ record { locations = assigns_of item ++ (assigned_of code args walk).locations; saved = (assigned_of code args walk).saved }
 
-pub went_on : (code : List Instr) (args : ℕ) (walk : List Way) (item : Instr) → IsWalk code walk → slice_get code (end_of walk) ≡ Some item → In (onward (end_of walk)) (item_ways code (end_of walk) item) → item_change (Some item) false ≡ Keeps → WentOn code args walk item
+pub went_on : (code : List Instr) (args : ℕ) (walk : List Branch) (item : Instr) → IsWalk code walk → slice_get code (end_of walk) ≡ Some item → In (onward (end_of walk)) (item_branches code (end_of walk) item) → item_change (Some item) false ≡ Keeps → WentOn code args walk item
 went_on code args walk item is at among keeps =
     let i = end_of walk in
-    let here : In (onward i) (ways_at code i) = subst (λ o. In (onward i) (ways_from code i o)) (sym at) among in
+    let here : In (onward i) (branches_at code i) = subst (λ o. In (onward i) (branches_from code i o)) (sym at) among in
     let change : change_of code (onward i) ≡ Keeps = ap (λ o. item_change o false) at ∙ keeps in
     record {
-      is = (contains_in (onward i) (ways_at code i) here, is);
+      is = (contains_in (onward i) (branches_at code i) here, is);
       sites = ap (λ c. sites_changed c i (sites_of code walk)) change;
       assigned = ap (λ o. assigned_changed (item_change o false) (assigns_at o) false (assigned_of code args walk)) at ∙ ap (λ c. assigned_changed c (assigns_of item) false (assigned_of code args walk)) keeps;
     }
@@ -137,10 +137,10 @@ went_on code args walk item is at among keeps =
 -- ---- what was assigned is an argument or an item's
 
 abbrev pub HasSource : List Instr → List Location → Location → Type 0
-HasSource code start place = In place start ⊎ ((item : Instr) × (k : ℕ) × (slice_get code k ≡ Some item) × In place (assigns_of item))
+HasSource code start location = In location start ⊎ ((item : Instr) × (k : ℕ) × (slice_get code k ≡ Some item) × In location (assigns_of item))
 
 abbrev AllHaveSource : List Instr → List Location → List Location → Type 0
-AllHaveSource code start list = (place : Location) → In place list → HasSource code start place
+AllHaveSource code start list = (location : Location) → In location list → HasSource code start location
 
 abbrev SetsHaveSource : List Instr → List Location → List (List Location) → Type 0
 SetsHaveSource code start [] = Unit {0}
@@ -148,8 +148,8 @@ SetsHaveSource code start (set ∷ sets) = AllHaveSource code start set × SetsH
 
 module _ (code : List Instr) (start : List Location) where
   source-here : (k : ℕ) (item : Option Instr) → slice_get code k ≡ item → AllHaveSource code start (assigns_at item)
-  source-here k None e place i = absurd i
-  source-here k (Some item) e place i = inr (item, k, e, i)
+  source-here k None e location i = absurd i
+  source-here k (Some item) e location i = inr (item, k, e, i)
 
   source-newest : (now : List Location) (saved : List (List Location)) → AllHaveSource code start now → SetsHaveSource code start saved → AllHaveSource code start (newest_saved now saved)
   source-newest now [] h s = h
@@ -160,24 +160,24 @@ module _ (code : List Instr) (start : List Location) where
   source-rest (n ∷ saved) s = s.1
 
   source-both : (xs ys : List Location) → AllHaveSource code start xs → AllHaveSource code start ys → AllHaveSource code start (xs ++ ys)
-  source-both xs ys h k place i = ⊎_elim (h place) (k place) (in_append_cases place xs ys i)
+  source-both xs ys h k location i = ⊎_elim (h location) (k location) (in_append_cases location xs ys i)
 
-  source-changed : (c : Change) (places : List Location) (aborts : Bool) (a : Assigned) → AllHaveSource code start places → AllHaveSource code start a.places → SetsHaveSource code start a.saved
-      → AllHaveSource code start (assigned_changed c places aborts a).places × SetsHaveSource code start (assigned_changed c places aborts a).saved
-  source-changed Opens places b a h k s = (k, (k, s))
-  source-changed Closes places true a h k s = (source-newest a.places a.saved k s, source-rest a.saved s)
-  source-changed Closes places false a h k s = (k, source-rest a.saved s)
-  source-changed Keeps places b a h k s = (source-both places a.places h k, s)
+  source-changed : (c : Change) (locations : List Location) (aborts : Bool) (a : Assigned) → AllHaveSource code start locations → AllHaveSource code start a.locations → SetsHaveSource code start a.saved
+      → AllHaveSource code start (assigned_changed c locations aborts a).locations × SetsHaveSource code start (assigned_changed c locations aborts a).saved
+  source-changed Opens locations b a h k s = (k, (k, s))
+  source-changed Closes locations true a h k s = (source-newest a.locations a.saved k s, source-rest a.saved s)
+  source-changed Closes locations false a h k s = (k, source-rest a.saved s)
+  source-changed Keeps locations b a h k s = (source-both locations a.locations h k, s)
 
-sources : (code : List Instr) (args : ℕ) (walk : List Way) → AllHaveSource code (assigned_of code args []).places (assigned_of code args walk).places × SetsHaveSource code (assigned_of code args []).places (assigned_of code args walk).saved
-sources code args [] = ((λ place i. inl i), tt)
-sources code args (way ∷ walk) =
+sources : (code : List Instr) (args : ℕ) (walk : List Branch) → AllHaveSource code (assigned_of code args []).locations (assigned_of code args walk).locations × SetsHaveSource code (assigned_of code args []).locations (assigned_of code args walk).saved
+sources code args [] = ((λ location i. inl i), tt)
+sources code args (branch ∷ walk) =
     let r = sources code args walk in
-    source-changed code (assigned_of code args []).places (change_of code way) (assigns_at (slice_get code way.from)) way.aborts (assigned_of code args walk)
-    (source-here code (assigned_of code args []).places way.from (slice_get code way.from) refl) r.0 r.1
+    source-changed code (assigned_of code args []).locations (change_of code branch) (assigns_at (slice_get code branch.from)) branch.aborts (assigned_of code args walk)
+    (source-here code (assigned_of code args []).locations branch.from (slice_get code branch.from) refl) r.0 r.1
 
-pub assigned_from : (code : List Instr) (args : ℕ) (walk : List Way) (place : Location) → In place (assigned_of code args walk).places → HasSource code (map Variable (range_with_len 0 args)) place
-assigned_from code args walk place i = (sources code args walk).0 place i
+pub assigned_from : (code : List Instr) (args : ℕ) (walk : List Branch) (location : Location) → In location (assigned_of code args walk).locations → HasSource code (map Variable (range_with_len 0 args)) location
+assigned_from code args walk location i = (sources code args walk).0 location i
 
 -- an item that assigns a variable has it as its destination
 pub assigns-dest : (item : Instr) (x : ℕ) → In (Variable x) (assigns_of item) → dest_of item ≡ Some x

@@ -1,4 +1,4 @@
--- What stands at a place of a list is in it.
+-- What stands at a location of a list is in it.
 use Rattle.std.proofs.Common.{◌≡◌, ℕ, zero, suc, ◌<◌, Bool, true, List, [], ◌∷◌, length, All, get_or, Some, None, refl, sym, ap, ◌∙◌, subst, inl, inr, arith}
 use Rattle.std.specs.Prelude.{slice_get, slice_index}
 use Rattle.std.specs.List.{list_all, AllZip}
@@ -21,7 +21,7 @@ in_index [] k less = absurd (omega arith)
 in_index (x ∷ xs) zero less = inl refl
 in_index (x ∷ xs) (suc k) less = inr (in_index xs k (omega arith))
 
--- there is an item at each place
+-- there is an item at each location
 pub get_inside : {A : Type 0} (xs : List A) (k : ℕ) → k < length xs → (x : A) × (slice_get xs k ≡ Some x)
 get_inside [] k less = absurd (omega arith)
 get_inside (x ∷ xs) zero less = (x, refl)

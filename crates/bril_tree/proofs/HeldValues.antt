@@ -1,12 +1,12 @@
--- What places and variables hold after they were assigned.
+-- What locations and variables hold after they were assigned.
 use Rattle.std.proofs.Common.{◌≡◌, ℕ, zero, suc, ◌+◌, ◌<◌, ◌≤◌, Bool, true, false, List, [], ◌∷◌, length, Option, Some, None, pos, refl, sym, ap, ◌∙◌, cond, arith}
 use Rattle.std.specs.Prelude.{slice_get, ◌==◌, unwrap_or}
 use Rattle.std.proofs.lemmas.Bool.{eq-eqb, ne_eqb}
 use Rattle.bril_tree.specs.declared.value.Value.{Value}
 use Rattle.bril_tree.specs.declared.value.Value.TheVariants.{Int}
 use Rattle.bril_tree.specs.Operand.{Location, Variable, Shadow}
-use Rattle.bril_tree.specs.Places.{place_value, value_at}
-use Rattle.bril_tree.specs.State.{Places, Values, with_value}
+use Rattle.bril_tree.specs.Locals.{location_value, value_at}
+use Rattle.bril_tree.specs.State.{Locals, Values, with_value}
 use Rattle.bril_tree.specs.Step.{assigned, shadowed, arguments_from}
 
 -- ---- maps of values
@@ -17,36 +17,36 @@ with_value-same values x y v e = ap (λ b. cond b (Some v) (values y)) (eq-eqb y
 pub with_value-other : (values : Values) (x y : ℕ) (v : Value) → (y ≡ x → ⊥) → with_value values x v y ≡ values y
 with_value-other values x y v n = ap (λ b. cond b (Some v) (values y)) (ne_eqb y x n)
 
--- ---- places
+-- ---- locations
 
--- what is read of a place is what it holds, or the int 0
-pub value_at-held : (places : Places) (a : Location) → value_at places a ≡ unwrap_or (place_value places a) (Int (pos 0))
-value_at-held places (Variable x) = refl
-value_at-held places (Shadow x) = refl
+-- what is read of a location is what it holds, or the int 0
+pub value_at-held : (locations : Locals) (a : Location) → value_at locations a ≡ unwrap_or (location_value locations a) (Int (pos 0))
+value_at-held locations (Variable x) = refl
+value_at-held locations (Shadow x) = refl
 
-pub assigned-same : (x : ℕ) (v : Value) (places : Places) (a : Location) → a ≡ Variable x → place_value (assigned (Some x) v places) a ≡ Some v
-assigned-same x v places (Variable y) e = with_value-same places.vars x y v (cc)
-assigned-same x v places (Shadow y) e = absurd (cc)
+pub assigned-same : (x : ℕ) (v : Value) (locations : Locals) (a : Location) → a ≡ Variable x → location_value (assigned (Some x) v locations) a ≡ Some v
+assigned-same x v locations (Variable y) e = with_value-same locations.vars x y v (cc)
+assigned-same x v locations (Shadow y) e = absurd (cc)
 
-pub assigned-other : (x : ℕ) (v : Value) (places : Places) (a : Location) → (a ≡ Variable x → ⊥) → place_value (assigned (Some x) v places) a ≡ place_value places a
-assigned-other x v places (Variable y) n = with_value-other places.vars x y v (λ e. n (ap Variable e))
-assigned-other x v places (Shadow y) n = refl
+pub assigned-other : (x : ℕ) (v : Value) (locations : Locals) (a : Location) → (a ≡ Variable x → ⊥) → location_value (assigned (Some x) v locations) a ≡ location_value locations a
+assigned-other x v locations (Variable y) n = with_value-other locations.vars x y v (λ e. n (ap Variable e))
+assigned-other x v locations (Shadow y) n = refl
 
-pub shadowed-same : (x : ℕ) (v : Value) (places : Places) (a : Location) → a ≡ Shadow x → place_value (shadowed x v places) a ≡ Some v
-shadowed-same x v places (Shadow y) e = with_value-same places.shadows x y v (cc)
-shadowed-same x v places (Variable y) e = absurd (cc)
+pub shadowed-same : (x : ℕ) (v : Value) (locations : Locals) (a : Location) → a ≡ Shadow x → location_value (shadowed x v locations) a ≡ Some v
+shadowed-same x v locations (Shadow y) e = with_value-same locations.shadows x y v (cc)
+shadowed-same x v locations (Variable y) e = absurd (cc)
 
-pub shadowed-other : (x : ℕ) (v : Value) (places : Places) (a : Location) → (a ≡ Shadow x → ⊥) → place_value (shadowed x v places) a ≡ place_value places a
-shadowed-other x v places (Shadow y) n = with_value-other places.shadows x y v (λ e. n (ap Shadow e))
-shadowed-other x v places (Variable y) n = refl
+pub shadowed-other : (x : ℕ) (v : Value) (locations : Locals) (a : Location) → (a ≡ Shadow x → ⊥) → location_value (shadowed x v locations) a ≡ location_value locations a
+shadowed-other x v locations (Shadow y) n = with_value-other locations.shadows x y v (λ e. n (ap Shadow e))
+shadowed-other x v locations (Variable y) n = refl
 
 -- the same of what is read
-module _ (p q : Places) (a b : Location) where
-  pub read-alike : place_value p a ≡ place_value q b → value_at p a ≡ value_at q b
+module _ (p q : Locals) (a b : Location) where
+  pub read-alike : location_value p a ≡ location_value q b → value_at p a ≡ value_at q b
   read-alike e = value_at-held p a ∙ ap (λ (o : Option Value). unwrap_or o (Int (pos 0))) e ∙ sym (value_at-held q b)
 
-pub read-held : (places : Places) (a : Location) (v : Value) → place_value places a ≡ Some v → value_at places a ≡ v
-read-held places a v e = value_at-held places a ∙ ap (λ (o : Option Value). unwrap_or o (Int (pos 0))) e
+pub read-held : (locations : Locals) (a : Location) (v : Value) → location_value locations a ≡ Some v → value_at locations a ≡ v
+read-held locations a v e = value_at-held locations a ∙ ap (λ (o : Option Value). unwrap_or o (Int (pos 0))) e
 
 -- ---- the arguments of a call
 

@@ -19,4 +19,4 @@ pub mod Shapes
 pub mod Sizes
 pub mod Trees
 pub mod Typings
-pub mod Ways
+pub mod Branches

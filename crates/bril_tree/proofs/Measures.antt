@@ -13,18 +13,18 @@ use Rattle.bril_tree.specs.Membership.{In}
 use Rattle.bril_tree.specs.Sites.{sites_of}
 use Rattle.bril_tree.proofs.Members.{in_contains, contains_in}
 
-both_ways : (m n : ℕ) → m ≤ n → n ≤ m → m ≡ n
-both_ways m n h k = omega arith
+both_branches : (m n : ℕ) → m ≤ n → n ≤ m → m ≡ n
+both_branches m n h k = omega arith
 
 pub IsDepth-one : (code : List Instr) (m n : ℕ) → IsDepth code m → IsDepth code n → m ≡ n
 IsDepth-one code m n a b =
-    both_ways m n (subst (λ k. k ≤ n) a.reaches (b.most a.deepest a.is)) (subst (λ k. k ≤ m) b.reaches (a.most b.deepest b.is))
+    both_branches m n (subst (λ k. k ≤ n) a.reaches (b.most a.deepest a.is)) (subst (λ k. k ≤ m) b.reaches (a.most b.deepest b.is))
 
 pub AreFrameWords-one : (f : Func) (m n : ℕ) → AreFrameWords f m → AreFrameWords f n → m ≡ n
 AreFrameWords-one f m n a b = a.are ∙ ap (λ d. 2 + location_count f * (1 + d)) (IsDepth-one f.code a.depth b.depth a.is b.is) ∙ sym b.are
 
 pub IsLargestFrame-one : (p : Prog) (m n : ℕ) → IsLargestFrame p m → IsLargestFrame p n → m ≡ n
-IsLargestFrame-one p m n a b = both_ways m n (b.most a.func m a.is a.has) (a.most b.func n b.is b.has)
+IsLargestFrame-one p m n a b = both_branches m n (b.most a.func m a.is a.has) (a.most b.func n b.is b.has)
 
 pub IsCost-one : (p : Prog) (m n : ℕ) → IsCost p m → IsCost p n → m ≡ n
 IsCost-one p m n a b = a.is ∙ ap (λ w. 128 + 8 * (w + longest_arguments p)) (IsLargestFrame-one p a.frame b.frame a.largest b.largest) ∙ sym b.is
@@ -79,4 +79,4 @@ AreSoMany-one P m n a b =
     omega arith
 
 pub IsEntryWidth-one : (code : List Instr) (m n : ℕ) → IsEntryWidth code m → IsEntryWidth code n → m ≡ n
-IsEntryWidth-one code m n a b = both_ways m n (b.most a.widest m a.has) (a.most b.widest n b.has)
+IsEntryWidth-one code m n a b = both_branches m n (b.most a.widest m a.has) (a.most b.widest n b.has)

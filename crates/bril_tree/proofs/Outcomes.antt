@@ -9,38 +9,38 @@ use Rattle.bril_tree.specs.declared.operation.Op.TheVariants as op
 use Rattle.bril_tree.specs.declared.types.Ty.{Ty}
 use Rattle.bril_tree.specs.declared.value.Value.{Value}
 use Rattle.bril_tree.specs.Assigned.{assigns_of}
-use Rattle.bril_tree.specs.Edge.{item_ways, onward}
+use Rattle.bril_tree.specs.Edge.{item_branches, onward}
 use Rattle.bril_tree.specs.FunctionForm.{listed}
 use Rattle.bril_tree.specs.Operand.{Location, Variable, dest_of, locations_read, reading_of, shadow_of}
-use Rattle.bril_tree.specs.Outcome.{Gives, outcome_of, action_outcome, computed, argument, shadow_given}
-use Rattle.bril_tree.specs.Places.{value_at}
+use Rattle.bril_tree.specs.Outcome.{Yields, outcome_of, action_outcome, computed, argument, shadow_given}
+use Rattle.bril_tree.specs.Locals.{value_at}
 use Rattle.bril_tree.specs.Shape.{is_action_shaped, shape_of}
 use Rattle.bril_tree.specs.Sites.{Keeps, item_change}
-use Rattle.bril_tree.specs.State.{Places, read}
+use Rattle.bril_tree.specs.State.{Locals, read}
 use Rattle.bril_tree.proofs.Shapes.{shape-parts}
 
 -- ---- items that give a value
 
--- The item has one way on, to the next point, it neither opens nor closes a site, and it assigns its destination.
+-- The item has one branch on, to the next point, it neither opens nor closes a site, and it assigns its destination.
 pub record GoesOn (item : Instr) : Type 0 where
-  pub ways : (code : List Instr) (point : ℕ) → item_ways code point item ≡ onward point ∷ []
+  pub branches : (code : List Instr) (point : ℕ) → item_branches code point item ≡ onward point ∷ []
   pub keeps : (aborts : Bool) → item_change (Some item) aborts ≡ Keeps
   pub assigns : assigns_of item ≡ map Variable (listed (dest_of item))
 
-act-goes_on : (o : Op) (dest : Option ℕ) (ty : Option Ty) (args funcs labels : List ℕ) (places : Places) (v : Value) → action_outcome o dest ty args places ≡ Gives v → GoesOn (Act dest ty o args funcs labels)
-act-goes_on op.Jmp dest ty args funcs labels places v e = absurd (cc)
-act-goes_on op.Br dest ty args funcs labels places v e = absurd (cc)
-act-goes_on op.Ret dest ty args funcs labels places v e = absurd (cc)
-act-goes_on op.Guard dest ty args funcs labels places v e = absurd (cc)
-act-goes_on op.Set dest ty args funcs labels places v e = absurd (cc)
-act-goes_on op.Speculate dest ty args funcs labels places v e = absurd (cc)
-act-goes_on op.Commit dest ty args funcs labels places v e = absurd (cc)
-act-goes_on _ dest ty args funcs labels places v e = record { ways = λ code point. refl; keeps = λ b. refl; assigns = refl }
+act-goes_on : (o : Op) (dest : Option ℕ) (ty : Option Ty) (args funcs labels : List ℕ) (locations : Locals) (v : Value) → action_outcome o dest ty args locations ≡ Yields v → GoesOn (Act dest ty o args funcs labels)
+act-goes_on op.Jmp dest ty args funcs labels locations v e = absurd (cc)
+act-goes_on op.Br dest ty args funcs labels locations v e = absurd (cc)
+act-goes_on op.Ret dest ty args funcs labels locations v e = absurd (cc)
+act-goes_on op.Guard dest ty args funcs labels locations v e = absurd (cc)
+act-goes_on op.Set dest ty args funcs labels locations v e = absurd (cc)
+act-goes_on op.Speculate dest ty args funcs labels locations v e = absurd (cc)
+act-goes_on op.Commit dest ty args funcs labels locations v e = absurd (cc)
+act-goes_on _ dest ty args funcs labels locations v e = record { branches = λ code point. refl; keeps = λ b. refl; assigns = refl }
 
-pub giver-goes_on : (item : Instr) (places : Places) (v : Value) → outcome_of item places ≡ Gives v → GoesOn item
-giver-goes_on (Label l) places v e = absurd (cc)
-giver-goes_on (Const dest ty value) places v e = record { ways = λ code point. refl; keeps = λ b. refl; assigns = refl }
-giver-goes_on (Act dest ty o args funcs labels) places v e = act-goes_on o dest ty args funcs labels places v e
+pub giver-goes_on : (item : Instr) (locations : Locals) (v : Value) → outcome_of item locations ≡ Yields v → GoesOn item
+giver-goes_on (Label l) locations v e = absurd (cc)
+giver-goes_on (Const dest ty value) locations v e = record { branches = λ code point. refl; keeps = λ b. refl; assigns = refl }
+giver-goes_on (Act dest ty o args funcs labels) locations v e = act-goes_on o dest ty args funcs labels locations v e
 
 -- ---- outcomes
 
@@ -81,8 +81,8 @@ module _ (returns : Bool) (ty : Option Ty) (dest : Bool) (n funcs labels : ℕ) 
   computed-same op.PtrAdd s = both op.PtrAdd ty n a b x y h (shape-parts (shape_of returns op.PtrAdd) dest n funcs labels s).args_are
   computed-same _ s = refl
 
--- two frames hold the same at places that are read
-module _ (p q : Places) where
+-- two frames hold the same at locations that are read
+module _ (p q : Locals) where
   abbrev pub ReadAlike : Location → Location → Type 0
   ReadAlike a b = value_at p a ≡ value_at q b
 
@@ -104,7 +104,7 @@ module _ (p q : Places) where
   given-same None None s h = refl
   given-same None (Some y) s h = absurd (cc)
   given-same (Some x) None s h = absurd (cc)
-  given-same (Some x) (Some y) s h = ap Gives h.0
+  given-same (Some x) (Some y) s h = ap Yields h.0
 
   -- One operation with operands that read the same gives the same. How many operands there are is its shape's.
   pub action-same : (returns : Bool) (o : Op) (d e : Option ℕ) (ty : Option Ty) (args brgs : List ℕ) (funcs labels : ℕ) → is_action_shaped returns o (is_some d) (length args) funcs labels ≡ true → is_some d ≡ is_some e

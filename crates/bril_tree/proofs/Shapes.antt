@@ -1,4 +1,4 @@
--- What an item of its shape has: a destination or none, so many arguments and labels, and what that says of its ways.
+-- What an item of its shape has: a destination or none, so many arguments and labels, and what that says of its branches.
 use Rattle.std.proofs.Common.{◌≡◌, ℕ, Bool, true, false, List, [], ◌∷◌, length, map, Option, Some, None, refl, sym, ap, ◌∙◌, inl, inr, ⊎_elim, arith}
 use Rattle.std.specs.Prelude.{is_some, IsTrue}
 use Rattle.std.proofs.lemmas.Bool.{and_parts, eqb-true, not-true}
@@ -7,7 +7,7 @@ use Rattle.bril_tree.specs.declared.numbered.Instr.TheVariants.{Label, Const, Ac
 use Rattle.bril_tree.specs.declared.operation.Op.{Op}
 use Rattle.bril_tree.specs.declared.operation.Op.TheVariants as op
 use Rattle.bril_tree.specs.Assigned.{assigns_of}
-use Rattle.bril_tree.specs.Edge.{Way, item_ways, action_ways, jump, abort}
+use Rattle.bril_tree.specs.Edge.{Branch, item_branches, action_branches, jump, abort}
 use Rattle.bril_tree.specs.FunctionForm.{listed, targets_of}
 use Rattle.bril_tree.specs.Membership.{In}
 use Rattle.bril_tree.specs.Operand.{Variable}
@@ -67,26 +67,26 @@ closing_needs (Some (Act dest ty op.Commit args funcs labels)) b e = refl
 closing_needs (Some (Act dest ty op.Guard args funcs labels)) b e = refl
 closing_needs (Some (Act dest ty _ args funcs labels)) b e = absurd cc
 
--- ---- a way leads to each label that an item goes to
+-- ---- a branch leads to each label that an item goes to
 
 none_listed : {A : Type 0} (labels : List ℕ) (l : ℕ) → length labels ≡ 0 → In l labels → A
 none_listed [] l e i = absurd i
 none_listed (m ∷ labels) l e i = absurd (omega arith)
 
-pub record LeadsTo (code : List Instr) (label : ℕ) (ways : List Way) : Type 0 where
-  pub way : Way
-  pub among : In way ways
-  pub to : way.to ≡ point_of label code
+pub record LeadsTo (code : List Instr) (label : ℕ) (branches : List Branch) : Type 0 where
+  pub branch : Branch
+  pub among : In branch branches
+  pub to : branch.to ≡ point_of label code
 
-act-leads : (code : List Instr) (i : ℕ) (returns dest : Bool) (o : Op) (args funcs : ℕ) (labels : List ℕ) (l : ℕ) → is_action_shaped returns o dest args funcs (length labels) ≡ true → In l labels → LeadsTo code l (action_ways code i o labels)
-act-leads code i returns dest op.Jmp args funcs labels l s m = record { way = jump code i l; among = in_map (jump code i) l labels m; to = refl }
-act-leads code i returns dest op.Br args funcs labels l s m = record { way = jump code i l; among = in_map (jump code i) l labels m; to = refl }
-act-leads code i returns dest op.Guard args funcs labels l s m = record { way = abort code i l; among = inr (in_map (abort code i) l labels m); to = refl }
+act-leads : (code : List Instr) (i : ℕ) (returns dest : Bool) (o : Op) (args funcs : ℕ) (labels : List ℕ) (l : ℕ) → is_action_shaped returns o dest args funcs (length labels) ≡ true → In l labels → LeadsTo code l (action_branches code i o labels)
+act-leads code i returns dest op.Jmp args funcs labels l s m = record { branch = jump code i l; among = in_map (jump code i) l labels m; to = refl }
+act-leads code i returns dest op.Br args funcs labels l s m = record { branch = jump code i l; among = in_map (jump code i) l labels m; to = refl }
+act-leads code i returns dest op.Guard args funcs labels l s m = record { branch = abort code i l; among = inr (in_map (abort code i) l labels m); to = refl }
 act-leads code i returns dest op.Call args funcs labels l s m = none_listed labels l (eqb-true (length labels) 0 (and_parts _ _ s).1) m
 act-leads code i returns dest op.Print args funcs labels l s m = none_listed labels l (eqb-true (length labels) 0 (and_parts _ _ s).1) m
 act-leads code i returns dest o args funcs labels l s m = none_listed labels l (shape-parts (shape_of returns o) dest args funcs (length labels) s).labels_are m
 
-pub item_leads : (code : List Instr) (i : ℕ) (returns : Bool) (item : Instr) (l : ℕ) → is_shaped returns item ≡ true → In l (targets_of item) → LeadsTo code l (item_ways code i item)
+pub item_leads : (code : List Instr) (i : ℕ) (returns : Bool) (item : Instr) (l : ℕ) → is_shaped returns item ≡ true → In l (targets_of item) → LeadsTo code l (item_branches code i item)
 item_leads code i returns (Label k) l s m = absurd m
 item_leads code i returns (Const dest ty value) l s m = absurd m
 item_leads code i returns (Act dest ty o args funcs labels) l s m = act-leads code i returns (is_some dest) o (length args) (length funcs) labels l s m

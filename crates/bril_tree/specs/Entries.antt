@@ -1,4 +1,4 @@
--- How many different places edges leave from to each label: what a form with copies on the edges has to pay.
+-- How many different locations edges leave from to each label: what a form with copies on the edges has to pay.
 use Rattle.std.specs.Prelude.{◌≡◌, ◌≢◌, ℕ, ◌≤◌, List, length, All, Option, Some, None, slice_get}
 use Rattle.std.specs.List.{Contains, AllPairs, sum_by}
 use Rattle.bril_tree.specs.declared.edge.Edge.{Edge}

@@ -1,4 +1,4 @@
--- Laws of the names of operations, of the written meaning, of the trees of programs, of live places and of numbers.
+-- Laws of the names of operations, of the semantics, of the trees of programs, of live locations and of numbers.
 use Rattle.std.specs.Prelude.{◌≡◌, ◌↔◌, ℕ, ◌*◌, ◌<◌, ◌^◌, List, All, Some, length}
 use Rattle.std.specs.List.{Contains}
 use Rattle.simulation.specs.System.{IsSystem}
@@ -11,7 +11,7 @@ use Rattle.bril_tree.specs.declared.tree.Tree.{Tree}
 use Rattle.bril_tree.specs.Accepted.{IsAcceptedFunction}
 use Rattle.bril_tree.specs.Assigned.{assigned_of}
 use Rattle.bril_tree.specs.Cost.{IsCost}
-use Rattle.bril_tree.specs.Edge.{Way}
+use Rattle.bril_tree.specs.Edge.{Branch}
 use Rattle.bril_tree.specs.Entries.{IsEntryCount, IsEntryWidth}
 use Rattle.bril_tree.specs.FrameWords.{AreFrameWords}
 use Rattle.bril_tree.specs.Live.{IsLive}
@@ -60,8 +60,8 @@ CountedHaveSize = (p : Prog) → IsCounted p → item_count p < 2 ^ 64
 
 -- each walk to a point of an accepted function has assigned what is live there
 abbrev pub LiveAreAssigned : Type 0
-LiveAreAssigned = (p : Prog) (f : Func) → IsAcceptedFunction p f → (place : Location) (point : ℕ) → IsLive f.code place point →
-    (walk : List Way) → IsWalk f.code walk → end_of walk ≡ point → Contains (assigned_of f.code f.args walk).places place
+LiveAreAssigned = (p : Prog) (f : Func) → IsAcceptedFunction p f → (location : Location) (point : ℕ) → IsLive f.code location point →
+    (walk : List Branch) → IsWalk f.code walk → end_of walk ≡ point → Contains (assigned_of f.code f.args walk).locations location
 
 -- there is one of each of these numbers at most
 abbrev pub FrameWordsAreOne : Type 0

@@ -17,7 +17,7 @@ pub mod Numbered
 pub mod Operand
 pub mod Outcome
 pub mod Path
-pub mod Places
+pub mod Locals
 pub mod ProgramForm
 pub mod Run
 pub mod Shape

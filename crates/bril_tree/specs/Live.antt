@@ -1,16 +1,16 @@
--- Live places: live variables in the textbook sense (Aho, Lam, Sethi and Ullman, "Compilers", 9.2.5), by paths, with
+-- Live locations: live variables in the textbook sense (Aho, Lam, Sethi and Ullman, "Compilers", 9.2.5), by paths, with
 -- aborts that leave from their `speculate`.
 use Rattle.std.specs.Prelude.{◌≡◌, ℕ, List, Some, slice_get}
 use Rattle.std.specs.List.{Contains}
 use Rattle.bril_tree.specs.declared.numbered.Instr.{Instr}
 use Rattle.bril_tree.specs.Assigned.{assigns_at}
-use Rattle.bril_tree.specs.Edge.{Way}
+use Rattle.bril_tree.specs.Edge.{Branch}
 use Rattle.bril_tree.specs.Leaving.{Leaves}
 use Rattle.bril_tree.specs.Operand.{Location, reads_of}
 
--- From the point one can go, by ways from where they leave, to an item that reads the place, with no item on the way
--- that assigns it. At a point that no walk leads to it goes by the ways on from there, of which none is an abort
+-- From the point one can go, by branches from where they leave, to an item that reads the location, with no item on the branch
+-- that assigns it. At a point that no walk leads to it goes by the branches from there, of which none is an abort
 -- but of guards that walks lead to.
-pub data IsLive (code : List Instr) (place : Location) : ℕ → Type 0 where
-  Here : (point : ℕ) (item : Instr) → slice_get code point ≡ Some item → Contains (reads_of item) place → IsLive code place point
-  Later : (point : ℕ) (way : Way) → Leaves code point way → ¬ Contains (assigns_at (slice_get code point)) place → IsLive code place way.to → IsLive code place point
+pub data IsLive (code : List Instr) (location : Location) : ℕ → Type 0 where
+  Here : (point : ℕ) (item : Instr) → slice_get code point ≡ Some item → Contains (reads_of item) location → IsLive code location point
+  Later : (point : ℕ) (branch : Branch) → Leaves code point branch → ¬ Contains (assigns_at (slice_get code point)) location → IsLive code location branch.to → IsLive code location point

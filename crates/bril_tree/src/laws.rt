@@ -1,4 +1,4 @@
-// Laws of the names of operations, of the written meaning, of the trees of programs, of live places and of numbers. Each
+// Laws of the names of operations, of the semantics, of the trees of programs, of live locations and of numbers. Each
 // function states some, and does nothing when it is called.
 
 ghost use Rattle.bril_tree.specs.Laws.{OperationsAreNamed, RunsAreSystems, RefinesItself, RefinesOn, ProgramsHaveTrees, TreesAreOne, NumberingKeepsCounts, NumberingKeepsBounds, CountedHaveSize, LiveAreAssigned, FrameWordsAreOne, EntryCountsAreOne, EntryWidthsAreOne, CostsAreOne};
@@ -39,7 +39,7 @@ pub fn counted_programs_have_a_size()
 {}
 
 /// Each walk to a point of an accepted function has assigned what is live there, an argument at the start.
-pub fn live_places_are_assigned()
+pub fn live_locations_are_assigned()
     ensures { LiveAreAssigned }
 {}
 

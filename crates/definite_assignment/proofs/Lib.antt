@@ -3,7 +3,7 @@ pub mod Edges
 pub mod FirstRead
 pub mod FirstUnassigned
 pub mod Law
-pub mod Places
+pub mod Locations
 pub mod ReadRows
 pub mod Turned
-pub mod Ways
+pub mod Branches

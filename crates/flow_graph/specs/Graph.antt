@@ -2,7 +2,7 @@
 use Rattle.std.specs.Prelude.{◌≡◌, ℕ, suc, ◌+◌, ◌<◌, Bool, true, false, List, [], ◌∷◌, ◌++◌, ◌==◌, filter, length, map, Option, Some, None, slice_get}
 use Rattle.std.proofs.Props.{props}
 use Rattle.bril_tree.specs.declared.numbered.Instr.{Instr}
-use Rattle.bril_tree.specs.Edge.{ways_at}
+use Rattle.bril_tree.specs.Edge.{branches_at}
 use Rattle.bril_tree.specs.Leaving.{edge_of}
 use Rattle.bril_tree.specs.Sites.{AreFirstSites, SitesFail}
 use Rattle.bril_tree.specs.Walk.{IsReached}
@@ -11,7 +11,7 @@ use Rattle.bril_tree.specs.declared.edge.Edge.{Edge}
 -- the edges of a point, where walks lead to it with these open sites
 abbrev pub edges_at : List Instr → ℕ → Option (List ℕ) → List Edge
 edges_at code point None = []
-edges_at code point (Some sites) = map (edge_of sites) (ways_at code point)
+edges_at code point (Some sites) = map (edge_of sites) (branches_at code point)
 
 -- the edges of points from one on, in order
 abbrev pub edges_from : List Instr → ℕ → List (Option (List ℕ)) → List Edge

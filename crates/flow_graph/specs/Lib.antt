@@ -2,4 +2,4 @@ pub mod Faults
 pub mod Graph
 pub mod Laws
 pub mod Visits
-pub mod Ways
+pub mod Branches

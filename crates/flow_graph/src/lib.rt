@@ -10,7 +10,7 @@ mod sites;
 #[cfg(test)]
 mod tests;
 mod visits;
-mod ways;
+mod branches;
 
 pub use bril_tree::edge::Edge;
 pub use graph::{Graph, GraphFault};

@@ -10,33 +10,33 @@ use Rattle.bril_tree.specs.declared.program.Prog.{Prog}
 use Rattle.bril_tree.specs.declared.value.Value.{Value}
 use Rattle.bril_tree.specs.Accepted.{IsAccepted, IsAcceptedFunction, leaves_frame}
 use Rattle.bril_tree.specs.Assigned.{Assigned, assigned_of, assigned_changed, assigns_at}
-use Rattle.bril_tree.specs.Edge.{Way, ways_at}
+use Rattle.bril_tree.specs.Edge.{Branch, branches_at}
 use Rattle.bril_tree.specs.declared.types.Ty.{Ty}
 use Rattle.bril_tree.specs.Live.{IsLive}
 use Rattle.bril_tree.specs.Operand.{Location, Variable, Shadow, reads_of}
 use Rattle.bril_tree.specs.Run.{Suits}
 use Rattle.bril_tree.specs.Shape.{is_shaped}
 use Rattle.bril_tree.specs.Sites.{AreFirstSites, AreSitesSound, TooMany, NoSite, Change, Opens, Closes, Keeps, change_of, most_sites, needs_site, sites_of, sites_changed, without_newest}
-use Rattle.bril_tree.specs.State.{Places, Frame}
+use Rattle.bril_tree.specs.State.{Locals, Frame}
 use Rattle.bril_tree.specs.Typing.{type_fault}
 use Rattle.bril_tree.specs.Walk.{IsWalk, IsReached, end_of}
 use Rattle.flow_graph.proofs.FirstWalks.{reached_have_first}
 use Rattle.bril_tree.specs.Membership.{In}
 use Rattle.bril_tree.proofs.Members.{in_contains}
 use Rattle.flow_graph.proofs.OpenSites.{sound_walks_agree}
-use Rattle.bril_tree.proofs.Ways.{walk_within}
-use Rattle.bril_tree.specs.Places.{place_type, place_value}
+use Rattle.bril_tree.proofs.Branches.{walk_within}
+use Rattle.bril_tree.specs.Locals.{location_type, location_value}
 use Rattle.bril_tree.proofs.Acceptance.{shaped_at, typed_at, function_walks}
 use Rattle.bril_tree.proofs.Assignments.{in_or_not, saved-length}
 use Rattle.bril_tree.proofs.Liveness.{live_assigned}
-use Rattle.type_soundness.specs.Standing.{StandsWell}
+use Rattle.type_soundness.specs.WellTyped.{IsWellTyped}
 use Rattle.type_soundness.proofs.Typed.{Cell, HasType, HasType-suits}
-use Rattle.type_soundness.proofs.Places.{reads-there}
+use Rattle.type_soundness.proofs.Locals.{reads-there}
 use Rattle.type_soundness.proofs.Frames.{Holds, AllCover, Sits}
 
 -- ---- walks
 
-cover-length : (heap : List Cell) (f : Func) (saves : List Places) (saved : List (List Location)) → AllCover heap f saves saved → length saves ≡ length saved
+cover-length : (heap : List Cell) (f : Func) (saves : List Locals) (saved : List (List Location)) → AllCover heap f saves saved → length saves ≡ length saved
 cover-length heap f [] [] h = refl
 cover-length heap f [] (s ∷ saved) h = absurd h
 cover-length heap f (p ∷ saves) [] h = absurd h
@@ -47,7 +47,7 @@ nil_of [] e = refl
 nil_of (x ∷ xs) e = absurd (omega arith)
 
 -- the sites of a walk are those of the first walk to its end
-first-sites : (code : List Instr) (walk : List Way) → AreSitesSound code → IsWalk code walk → AreFirstSites code (end_of walk) (sites_of code walk)
+first-sites : (code : List Instr) (walk : List Branch) → AreSitesSound code → IsWalk code walk → AreFirstSites code (end_of walk) (sites_of code walk)
 first-sites code walk sound is =
     let w = reached_have_first code (end_of walk) (record { walk = walk; is = is; ends = refl }) in
     record {
@@ -93,34 +93,34 @@ module _ (p : Prog) (heap : List Cell) (f : Func) (frame : Frame) (accepted : Is
   pub before_end : IsSome f.ret → frame.point < length f.code
   before_end value = inside value (cases_lt frame.point (length f.code))
 
-  -- a place that the item reads was assigned
-  by_membership : (item : Instr) (place : Location) → slice_get f.code frame.point ≡ Some item → Contains (reads_of item) place
-      → In place (assigned_of f.code f.args s.walk).places ⊎ (In place (assigned_of f.code f.args s.walk).places → ⊥) → Holds heap f frame.places place
-  by_membership item place at c (inl i) = s.places place i
-  by_membership item place at c (inr none) = absurd (accepted.assigned frame.point item place at c (record {
+  -- a location that the item reads was assigned
+  by_membership : (item : Instr) (location : Location) → slice_get f.code frame.point ≡ Some item → Contains (reads_of item) location
+      → In location (assigned_of f.code f.args s.walk).locations ⊎ (In location (assigned_of f.code f.args s.walk).locations → ⊥) → Holds heap f frame.locations location
+  by_membership item location at c (inl i) = s.locations location i
+  by_membership item location at c (inr none) = absurd (accepted.assigned frame.point item location at c (record {
     walk = s.walk;
     is = s.is;
     ends = s.ends;
-    lacks = λ there. none (in_contains place (assigned_of f.code f.args s.walk).places there);
+    lacks = λ there. none (in_contains location (assigned_of f.code f.args s.walk).locations there);
   }))
 
-  pub holds-read : (item : Instr) (place : Location) → slice_get f.code frame.point ≡ Some item → Contains (reads_of item) place → Holds heap f frame.places place
-  holds-read item place at c = by_membership item place at c (in_or_not place (assigned_of f.code f.args s.walk).places)
+  pub holds-read : (item : Instr) (location : Location) → slice_get f.code frame.point ≡ Some item → Contains (reads_of item) location → Holds heap f frame.locations location
+  holds-read item location at c = by_membership item location at c (in_or_not location (assigned_of f.code f.args s.walk).locations)
 
-  suits-read : (item : Instr) (place : Location) → slice_get f.code frame.point ≡ Some item → Contains (reads_of item) place → (v : Value) × (place_value frame.places place ≡ Some v) × Suits v (place_type f place)
-  suits-read item place at c =
-      let h = holds-read item place at c in
-      let t = reads-there p f item place (shaped_at p f accepted frame.point item at) (typed_at p f accepted frame.point item at) c in
+  suits-read : (item : Instr) (location : Location) → slice_get f.code frame.point ≡ Some item → Contains (reads_of item) location → (v : Value) × (location_value frame.locations location ≡ Some v) × Suits v (location_type f location)
+  suits-read item location at c =
+      let h = holds-read item location at c in
+      let t = reads-there p f item location (shaped_at p f accepted frame.point item at) (typed_at p f accepted frame.point item at) c in
       (h.value, h.is, subst (λ o. Suits h.value o) (sym t.1) (HasType-suits heap t.0 h.value (subst (λ o. HasType heap o h.value) t.1 h.typed)))
 
-  -- a place that is live was assigned, so it holds a value that suits its type, where it has one
-  suits-live : (place : Location) (ty : Ty) → IsLive f.code place frame.point → place_type f place ≡ Some ty → (v : Value) × (place_value frame.places place ≡ Some v) × Suits v (place_type f place)
-  suits-live place ty live typed =
-      let h = s.places place (live_assigned f.code f.args (is_some f.ret) (function_walks p f accepted) place frame.point live s.walk s.is s.ends) in
+  -- a location that is live was assigned, so it holds a value that suits its type, where it has one
+  suits-live : (location : Location) (ty : Ty) → IsLive f.code location frame.point → location_type f location ≡ Some ty → (v : Value) × (location_value frame.locations location ≡ Some v) × Suits v (location_type f location)
+  suits-live location ty live typed =
+      let h = s.locations location (live_assigned f.code f.args (is_some f.ret) (function_walks p f accepted) location frame.point live s.walk s.is s.ends) in
       (h.value, h.is, subst (λ o. Suits h.value o) (sym typed) (HasType-suits heap ty h.value (subst (λ o. HasType heap o h.value) typed h.typed)))
 
-  pub stands-well : StandsWell p frame
-  stands-well = record {
+  pub well-typed : IsWellTyped p frame
+  well-typed = record {
     function = f;
     there = s.there;
     within = within;
