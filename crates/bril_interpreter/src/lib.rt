@@ -1,4 +1,4 @@
-//! The interpreter: a program runs by its written meaning, step by step.
+//! The interpreter: a program runs by its semantics, step by step.
 #![tactic(auto)]
 
 mod actions;
@@ -6,10 +6,10 @@ mod answer;
 mod calls;
 mod frame;
 mod interp;
+mod locals;
 mod lookup;
 mod memory;
 mod operand;
-mod places;
 mod printing;
 mod speculation;
 mod step;

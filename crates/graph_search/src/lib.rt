@@ -7,12 +7,12 @@
 //! from the items that read the variable.
 #![tactic(auto)]
 
+mod adjacency;
 mod graph;
-mod marks;
-mod rows;
+mod reached;
 #[cfg(test)]
 mod tests;
 
+pub use adjacency::Adjacency;
 pub use graph::{Arc, ArcGraph};
-pub use marks::Marks;
-pub use rows::Rows;
+pub use reached::Reached;
