@@ -1,5 +1,5 @@
 -- What acceptance says of the functions and items of a program.
-use Rattle.std.proofs.Common.{◌≡◌, ◌⊎◌, ℕ, ◌<◌, Bool, true, List, [], ◌∷◌, length, map, Option, Some, None, refl, sym, ap, subst, ◌∙◌, inl, inr, ⊎_elim, arith, All}
+use Rattle.std.proofs.Common.{◌≡◌, ◌⊎◌, ℕ, ◌<◌, Bool, true, List, length, map, Option, Some, None, refl, sym, ap, subst, ◌∙◌, inl, inr, ⊎_elim, arith}
 use Rattle.std.specs.Prelude.{slice_get, is_some, IsTrue}
 use Rattle.std.specs.List.{range_with_len}
 use Rattle.std.proofs.lemmas.List.Elements.{All-take}
@@ -11,7 +11,7 @@ use Rattle.bril_tree.specs.Assigned.{assigned_of}
 use Rattle.bril_tree.specs.Edge.{branches_from}
 use Rattle.bril_tree.specs.FunctionForm.{targets_of}
 use Rattle.bril_tree.specs.Membership.{In}
-use Rattle.bril_tree.specs.Operand.{Location, Variable, reads_of}
+use Rattle.bril_tree.specs.Operand.{Variable, reads_of}
 use Rattle.bril_tree.specs.Shape.{is_shaped, shape_fault_of}
 use Rattle.bril_tree.specs.Step.{items_of, code_of, item_at, point_of}
 use Rattle.bril_tree.specs.Typing.{is_call_shaped, type_fault}

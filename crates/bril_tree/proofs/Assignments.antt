@@ -1,12 +1,12 @@
 -- What walks open and assign.
-use Rattle.std.proofs.Common.{◌≡◌, ◌⊎◌, ℕ, suc, ◌<◌, Bool, true, false, List, [], ◌∷◌, ◌++◌, length, map, Option, Some, None, refl, sym, ap, subst, ◌∙◌, inl, inr, ⊎_elim, arith}
-use Rattle.std.specs.Prelude.{slice_get, IsTrue}
+use Rattle.std.proofs.Common.{◌≡◌, ◌⊎◌, ℕ, ◌<◌, Bool, true, false, List, [], ◌∷◌, ◌++◌, length, map, Option, Some, None, refl, sym, ap, subst, ◌∙◌, inl, inr, ⊎_elim, arith}
+use Rattle.std.specs.Prelude.{slice_get}
 use Rattle.std.specs.List.{range_with_len}
 use Rattle.std.proofs.lemmas.Bool.{cases_eq}
 use Rattle.bril_tree.specs.declared.numbered.Instr.{Instr}
 use Rattle.bril_tree.specs.declared.numbered.Instr.TheVariants.{Label, Const, Act}
 use Rattle.bril_tree.specs.declared.operation.Op.TheVariants as op
-use Rattle.bril_tree.specs.Assigned.{Assigned, assigned_of, assigned_behind, assigned_changed, newest_saved, locations_closed, assigns_at, assigns_of}
+use Rattle.bril_tree.specs.Assigned.{Assigned, assigned_of, assigned_changed, newest_saved, assigns_at, assigns_of}
 use Rattle.bril_tree.specs.Edge.{Branch, onward, item_branches, branches_from, branches_at}
 use Rattle.bril_tree.specs.Membership.{In}
 use Rattle.bril_tree.specs.Operand.{Location, Variable, Shadow, dest_of}

@@ -1,13 +1,12 @@
 -- Live locations: they flow back along branches and to the `speculate` of an abort, and each walk to a point has assigned what
 -- is live there.
-use Rattle.std.proofs.Common.{◌≡◌, ℕ, Bool, true, false, List, [], ◌∷◌, Option, Some, None, refl, sym, ap, subst, ◌∙◌, inl, inr, ⊎_elim}
+use Rattle.std.proofs.Common.{◌≡◌, ℕ, Bool, true, false, List, [], ◌∷◌, Some, None, refl, sym, ap, subst, ◌∙◌, inl, inr, ⊎_elim}
 use Rattle.std.specs.Prelude.{slice_get}
 use Rattle.std.specs.List.{Contains}
 use Rattle.bril_tree.specs.declared.numbered.Instr.{Instr}
 use Rattle.bril_tree.specs.Accepted.{AreWalksAccepted}
 use Rattle.bril_tree.specs.Assigned.{Assigned, assigned_of, assigned_behind, assigned_changed, newest_saved, assigns_at}
 use Rattle.bril_tree.specs.Edge.{Branch, branches_at}
-use Rattle.bril_tree.specs.Leaving.{AbortsFrom, Leaves}
 use Rattle.bril_tree.specs.Live.{IsLive, Here, Later}
 use Rattle.bril_tree.specs.Membership.{In}
 use Rattle.bril_tree.specs.Operand.{Location, reads_of}

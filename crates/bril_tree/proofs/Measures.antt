@@ -1,16 +1,15 @@
 -- A function has one depth, one size of its frame and one count of entries, and a program one cost.
-use Rattle.std.proofs.Common.{◌≡◌, ℕ, zero, suc, ◌+◌, ◌*◌, ◌<◌, ◌≤◌, List, [], ◌∷◌, length, All, get_or, Option, Some, refl, sym, ap, ◌∙◌, subst, inl, inr, arith}
+use Rattle.std.proofs.Common.{◌≡◌, ℕ, suc, ◌+◌, ◌*◌, ◌≤◌, List, [], ◌∷◌, length, All, refl, sym, ap, ◌∙◌, subst, inl, inr, arith}
 use Rattle.std.specs.Prelude.{◌≢◌}
-use Rattle.std.specs.List.{Contains, AllPairs}
+use Rattle.std.specs.List.{AllPairs}
 use Rattle.std.proofs.lemmas.List.Elements.{All-head, All-tail}
 use Rattle.bril_tree.specs.declared.numbered.Instr.{Instr}
 use Rattle.bril_tree.specs.declared.numbered_function.Func.{Func}
 use Rattle.bril_tree.specs.declared.program.Prog.{Prog}
 use Rattle.bril_tree.specs.Cost.{IsLargestFrame, IsCost, longest_arguments}
-use Rattle.bril_tree.specs.Entries.{AreSoMany, Enters, IsEntryCount, IsEntryWidth}
+use Rattle.bril_tree.specs.Entries.{AreSoMany, IsEntryWidth}
 use Rattle.bril_tree.specs.FrameWords.{IsDepth, AreFrameWords, location_count}
 use Rattle.bril_tree.specs.Membership.{In}
-use Rattle.bril_tree.specs.Sites.{sites_of}
 use Rattle.bril_tree.proofs.Members.{in_contains, contains_in}
 
 both_branches : (m n : ℕ) → m ≤ n → n ≤ m → m ≡ n

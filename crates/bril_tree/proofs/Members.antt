@@ -1,5 +1,6 @@
 -- What is in lists that were appended or mapped, and membership by an index.
-use Rattle.std.proofs.Common.{◌≡◌, ℕ, zero, suc, ◌<◌, List, [], ◌∷◌, ◌++◌, length, map, get_or, refl, sym, ap, subst, inl, inr, arith}
+use Rattle.std.proofs.lemmas.List.{get_or-map, length-map}
+use Rattle.std.proofs.Common.{◌≡◌, ℕ, zero, suc, ◌<◌, List, [], ◌∷◌, ◌++◌, length, map, get_or, refl, sym, ap, ◌∙◌, subst, inl, inr, arith}
 use Rattle.std.specs.Prelude.{◌⊎◌}
 use Rattle.std.specs.List.{Contains, flat_map}
 use Rattle.bril_tree.specs.Membership.{In}
@@ -63,3 +64,16 @@ pub in_flat_map_source : {A B : Type 0} (f : A → List B) (y : B) (xs : List A)
 in_flat_map_source f y [] h = absurd h
 in_flat_map_source f y (z ∷ xs) h =
     source_more f y z xs (either_source f y z xs (in_append_cases y (f z) (flat_map f xs) h) (λ i. in_flat_map_source f y xs i))
+
+-- ---- by an index
+
+pub Contains-map : {A B : Type 0} (f : A → B) (xs : List A) (x : A) → Contains xs x → Contains (map f xs) (f x)
+Contains-map f xs x h =
+    (h.0, rw length-map h.1, get_or-map f xs h.0 x (f x) h.1 ∙ ap f h.2)
+
+pub Contains-map_back : {A B : Type 0} (f : A → B) (xs : List A) (y : B) → Contains (map f xs) y → (x : A) × Contains xs x × (f x ≡ y)
+Contains-map_back f [] y h = absurd (omega (arith, h.1))
+Contains-map_back f (x ∷ xs) y (zero, low, e) = (x, (0, omega arith, refl), e)
+Contains-map_back f (x ∷ xs) y (suc k, low, e) =
+    let rest = Contains-map_back f xs y (k, omega arith, e) in
+    (rest.0, (suc rest.1.0, omega (arith, rest.1.1), rest.1.2), rest.2)

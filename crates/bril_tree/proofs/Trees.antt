@@ -12,7 +12,7 @@ use Rattle.bril_tree.specs.declared.program.Prog.{Prog}
 use Rattle.bril_tree.specs.declared.tree.Tree.{Tree}
 use Rattle.bril_tree.specs.declared.types.Ty.{Ty}
 use Rattle.bril_tree.specs.FunctionForm.{dest_is_typed}
-use Rattle.bril_tree.specs.Numbered.{Numbered, named, dest_tree, item_tree, function_tree, variable_names, names_of_functions, names_in, tree_of, point_tree, tree_at, items_in, nop_item, nop}
+use Rattle.bril_tree.specs.Numbered.{Numbered, named, dest_tree, item_tree, function_tree, variable_names, names_of_functions, tree_of, point_tree, tree_at, items_in, nop_item, nop}
 use Rattle.bril_tree.specs.Step.{items_of, item_at}
 use Rattle.bril_tree.proofs.Formed.{typed_destination}
 

@@ -1,6 +1,6 @@
 -- How many words of the machine are executed for one step of a program.
-use Rattle.std.specs.Prelude.{◌≡◌, ℕ, ◌+◌, ◌*◌, ◌≤◌, List, [], ◌∷◌, length, map, max, slice_get, Some}
-use Rattle.std.specs.List.{Contains, flat_map}
+use Rattle.std.specs.Prelude.{◌≡◌, ℕ, ◌+◌, ◌*◌, ◌≤◌, List, [], ◌∷◌, length, map, max}
+use Rattle.std.specs.List.{Contains}
 use Rattle.bril_tree.specs.declared.numbered.Instr.{Instr}
 use Rattle.bril_tree.specs.declared.numbered.Instr.TheVariants.{Label, Const, Act}
 use Rattle.bril_tree.specs.declared.numbered_function.Func.{Func}

@@ -1,6 +1,6 @@
 -- How many different locations edges leave from to each label: what a form with copies on the edges has to pay.
 use Rattle.std.specs.Prelude.{◌≡◌, ◌≢◌, ℕ, ◌≤◌, List, length, All, Option, Some, None, slice_get}
-use Rattle.std.specs.List.{Contains, AllPairs, sum_by}
+use Rattle.std.specs.List.{Contains, AllPairs}
 use Rattle.bril_tree.specs.declared.edge.Edge.{Edge}
 use Rattle.bril_tree.specs.declared.numbered.Instr.{Instr}
 use Rattle.bril_tree.specs.declared.numbered.Instr.TheVariants.{Label}

@@ -7,7 +7,7 @@ use Rattle.bril_tree.specs.Operand.{reads_of}
 use Rattle.bril_tree.specs.declared.numbered.Instr.{Instr}
 use Rattle.definite_assignment.specs.Leaving.{leaving_arc, leaving_arcs, turned}
 use Rattle.definite_assignment.specs.Reads.{read_at, reads_from, item_reads}
-use Rattle.definite_assignment.proofs.Edges.{IsEdgeAt, edge-back}
+use Rattle.flow_graph.proofs.GraphEdges.{IsEdgeAt, edge-back}
 use Rattle.bril_tree.proofs.Replays.{sites-inside}
 use Rattle.definite_assignment.proofs.Branches.{branch-is, branch-inside}
 use Rattle.bril_tree.specs.Leaving.{leave_of}

@@ -16,8 +16,9 @@ use Rattle.bril_tree.specs.declared.numbered.Instr.{Instr}
 use Rattle.definite_assignment.specs.Leaving.{leaving_arc, leaving_arcs}
 use Rattle.definite_assignment.specs.Location.{number_of, is_argument, label_of, location_at}
 use Rattle.definite_assignment.specs.Reads.{IsOpen, read_at}
-use Rattle.definite_assignment.proofs.Edges.{IsEdgeAt, edge-there, edge-back}
-use Rattle.definite_assignment.proofs.Locations.{Contains-map, Contains-map_back, label-one, argument-is, argument-there}
+use Rattle.flow_graph.proofs.GraphEdges.{IsEdgeAt, edge-there, edge-back}
+use Rattle.bril_tree.proofs.Members.{Contains-map, Contains-map_back}
+use Rattle.definite_assignment.proofs.Locations.{label-one, argument-is, argument-there}
 use Rattle.bril_tree.proofs.Replays.{IsSaved, saved-back, same-length, open-sites, replay}
 use Rattle.definite_assignment.proofs.Branches.{IsAbort, branch-is, branch-inside, locations-passed, opens-nothing}
 use Rattle.bril_tree.specs.Leaving.{edge_of, leave_of}

@@ -1,5 +1,4 @@
 pub mod Bounds
-pub mod Edges
 pub mod FirstRead
 pub mod FirstUnassigned
 pub mod Law

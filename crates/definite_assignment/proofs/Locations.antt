@@ -18,17 +18,6 @@ pub label-one : (o : Option Location) (location : Location) → option_map numbe
 label-one None location e = cc
 label-one (Some other) location e = let same : number_of other ≡ number_of location = cc in ap Some (number-one other location same)
 
-pub Contains-map : {A B : Type 0} (f : A → B) (xs : List A) (x : A) → Contains xs x → Contains (map f xs) (f x)
-Contains-map f xs x h =
-    (h.0, rw length-map h.1, get_or-map f xs h.0 x (f x) h.1 ∙ ap f h.2)
-
-pub Contains-map_back : {A B : Type 0} (f : A → B) (xs : List A) (y : B) → Contains (map f xs) y → (x : A) × Contains xs x × (f x ≡ y)
-Contains-map_back f [] y h = absurd (omega (arith, h.1))
-Contains-map_back f (x ∷ xs) y (zero, low, e) = (x, (0, omega arith, refl), e)
-Contains-map_back f (x ∷ xs) y (suc k, low, e) =
-    let rest = Contains-map_back f xs y (k, omega arith, e) in
-    (rest.0, (suc rest.1.0, omega (arith, rest.1.1), rest.1.2), rest.2)
-
 -- the arguments, as locations
 pub argument-there : (args : ℕ) (location : Location) → is_argument args (number_of location) ≡ true → Contains (map Variable (range_with_len 0 args)) location
 argument-there args (Variable x) h =

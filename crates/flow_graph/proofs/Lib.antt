@@ -1,9 +1,11 @@
-pub mod Order
-pub mod FirstWalks
-pub mod OpenSites
 pub mod BranchRows
-pub mod Searching
-pub mod Turns
 pub mod Failing
-pub mod PointEdges
+pub mod FirstWalks
+pub mod GraphEdges
 pub mod Listed
+pub mod OpenSites
+pub mod Order
+pub mod PointEdges
+pub mod Searching
+pub mod Told
+pub mod Turns

@@ -14,4 +14,4 @@ mod branches;
 
 pub use bril_tree::edge::Edge;
 pub use graph::{Graph, GraphFault};
-pub use laws::walks_agree;
+pub use laws::{edges_leave, walks_agree};

@@ -5,7 +5,7 @@ use Rattle.std.specs.List.{Contains}
 use Rattle.std.proofs.lemmas.List.Elements.{Contains-append_left, Contains-append_right, Contains-append_cases}
 use Rattle.bril_tree.specs.Edge.{Branch, branches_at}
 use Rattle.bril_tree.specs.declared.numbered.Instr.{Instr}
-use Rattle.definite_assignment.proofs.Locations.{Contains-map, Contains-map_back}
+use Rattle.bril_tree.proofs.Members.{Contains-map, Contains-map_back}
 use Rattle.bril_tree.specs.Leaving.{edge_of}
 use Rattle.flow_graph.specs.Graph.{edges_at, edges_from}
 use Rattle.bril_tree.specs.declared.edge.Edge.{Edge}
