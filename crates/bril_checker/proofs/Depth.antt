@@ -8,7 +8,6 @@ use Rattle.bril_tree.specs.FrameWords.{IsDepth}
 use Rattle.bril_tree.specs.Sites.{AreSitesSound, TooMany, sites_of}
 use Rattle.bril_tree.specs.Walk.{IsWalk, end_of}
 use Rattle.flow_graph.specs.Graph.{GraphView, IsGraphOf}
-use Rattle.flow_graph.specs.Laws.{SoundWalksAgree}
 use Rattle.bril_tree.proofs.Branches.{walk_within}
 use Rattle.bril_tree.proofs.Elements.{get_inside}
 use Rattle.flow_graph.proofs.Told.{walk_to, sites_of_walk}
@@ -53,7 +52,7 @@ module _ (code : List Instr) (graph : GraphView) where
         λ k sites lt told. subst (λ d. length sites ≤ d) (sym e) (still_none depth k sites (cases_lt k point) lt none told),
       )
 
-    module _ (agree : SoundWalksAgree) (sound : AreSitesSound code) (depth : ℕ) (has : HasDepth depth) where
+    module _ (sound : AreSitesSound code) (depth : ℕ) (has : HasDepth depth) where
       pub is_depth : (point : ℕ) → length code < point → NoneDeeper point depth → IsDepth code depth
       is_depth point past none = record {
         deepest = has.0;

@@ -1,5 +1,5 @@
 -- What a flow graph tells of the walks of its function, and where edges leave.
-use Rattle.std.proofs.Common.{◌≡◌, ◌⊎◌, ◌↔◌, ℕ, ◌<◌, Bool, true, false, List, [], ◌∷◌, length, Option, Some, None, refl, sym, ap, ◌∙◌, subst, inl, inr, arith, true≢false}
+use Rattle.std.proofs.Common.{◌≡◌, ◌⊎◌, ◌↔◌, ℕ, ◌+◌, ◌<◌, Bool, true, false, List, [], ◌∷◌, length, Option, Some, None, refl, sym, ap, ◌∙◌, subst, inl, inr, arith, true≢false}
 use Rattle.std.specs.Prelude.{slice_get, IsTrue, is_some}
 use Rattle.std.specs.List.{Contains}
 use Rattle.std.specs.Option.{option_map}
@@ -55,15 +55,15 @@ module _ (code : List Instr) where
       from = branch_from code (end_of e.walk) e.branch (in_contains e.branch (branches_at code (end_of e.walk)) e.at)
 
       by : (b : Bool) → e.branch.aborts ≡ b → (sites : List ℕ) → sites_of code e.walk ≡ sites → Leaves code edge.leave e.branch
-      by false plain sites open =
+      by false plain sites opened =
           let same : edge.leave ≡ end_of e.walk = ap (λ (x : Edge). x.leave) e.are ∙ leave-plain e.branch (sites_of code e.walk) plain ∙ from in
           inl (subst (λ p. Contains (branches_at code p) e.branch) (sym same) e.at, plain)
-      by true aborts [] open =
+      by true aborts [] opened =
           let closes = aborts-close code (end_of e.walk) (slice_get code (end_of e.walk)) e.branch (in_contains e.branch (branches_at code (end_of e.walk)) e.at) aborts in
-          absurd (some_site code e.walk sound e.is (closing_needs (slice_get code (end_of e.walk)) true closes) open)
-      by true aborts (newest ∷ older) open =
-          let same : edge.leave ≡ newest = ap (λ (x : Edge). x.leave) e.are ∙ ap (leave_of e.branch.aborts e.branch.from) open ∙ leave-abort e.branch newest older aborts in
-          inr (record { aborts = aborts; walk = e.walk; is = e.is; at = e.at; older = older; sites = open ∙ ap (λ s. s ∷ older) (sym same) })
+          absurd (some_site code e.walk sound e.is (closing_needs (slice_get code (end_of e.walk)) true closes) opened)
+      by true aborts (newest ∷ older) opened =
+          let same : edge.leave ≡ newest = ap (λ (x : Edge). x.leave) e.are ∙ ap (leave_of e.branch.aborts e.branch.from) opened ∙ leave-abort e.branch newest older aborts in
+          inr (record { aborts = aborts; walk = e.walk; is = e.is; at = e.at; older = older; sites = opened ∙ ap (λ s. s ∷ older) (sym same) })
 
   -- and a branch that leaves from a reached point has an edge
   pub leaves_edge : (point : ℕ) (branch : Branch) → IsReached code point → Leaves code point branch → (edge : Edge) × IsEdge code edge × (edge.leave ≡ point) × (edge.to ≡ branch.to)

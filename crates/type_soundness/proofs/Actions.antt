@@ -28,7 +28,7 @@ use Rattle.bril_tree.specs.Typing.{variable_type, argument_type, both_typed, poi
 use Rattle.bril_tree.specs.Membership.{In}
 use Rattle.bril_tree.proofs.Members.{in_map, contains_in}
 use Rattle.bril_tree.proofs.Elements.{in_index}
-use Rattle.bril_tree.proofs.Shapes.{shape-parts, dest_none, dest_there}
+use Rattle.bril_tree.proofs.Shapes.{shape-parts, no_dest, dest_none, dest_there}
 use Rattle.type_soundness.proofs.Blocks.{Remembers, Remembers-push, Remembers-changed, pushed-type, block-fits, stored-keeps, stored-typed, held-typed}
 use Rattle.type_soundness.proofs.Calls.{fault-runs, cond-runs, returns-runs, calls-runs}
 use Rattle.type_soundness.proofs.Frames.{Sits-more, before}

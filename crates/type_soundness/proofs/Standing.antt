@@ -20,10 +20,9 @@ use Rattle.bril_tree.specs.Sites.{AreFirstSites, AreSitesSound, TooMany, NoSite,
 use Rattle.bril_tree.specs.State.{Locals, Frame}
 use Rattle.bril_tree.specs.Typing.{type_fault}
 use Rattle.bril_tree.specs.Walk.{IsWalk, IsReached, end_of}
-use Rattle.flow_graph.proofs.FirstWalks.{reached_have_first}
 use Rattle.bril_tree.specs.Membership.{In}
 use Rattle.bril_tree.proofs.Members.{in_contains}
-use Rattle.flow_graph.proofs.OpenSites.{sound_walks_agree}
+use Rattle.flow_graph.proofs.Told.{first_sites, some_site}
 use Rattle.bril_tree.proofs.Branches.{walk_within}
 use Rattle.bril_tree.specs.Locals.{location_type, location_value}
 use Rattle.bril_tree.proofs.Acceptance.{shaped_at, typed_at, function_walks}
@@ -46,21 +45,11 @@ nil_of : {A : Type 0} (xs : List A) → length xs ≡ 0 → xs ≡ []
 nil_of [] e = refl
 nil_of (x ∷ xs) e = absurd (omega arith)
 
--- the sites of a walk are those of the first walk to its end
-first-sites : (code : List Instr) (walk : List Branch) → AreSitesSound code → IsWalk code walk → AreFirstSites code (end_of walk) (sites_of code walk)
-first-sites code walk sound is =
-    let w = reached_have_first code (end_of walk) (record { walk = walk; is = is; ends = refl }) in
-    record {
-      walk = w.0;
-      first = w.1;
-      are = sym (sound_walks_agree code sound walk is (sites_of code w.0) (record { walk = w.0; first = w.1; are = refl }));
-    }
-
 -- ---- what a frame gives
 
 module _ (p : Prog) (heap : List Cell) (f : Func) (frame : Frame) (accepted : IsAcceptedFunction p f) (s : Sits p heap f frame) where
   pub first-here : AreFirstSites f.code frame.point (sites_of f.code s.walk)
-  first-here = subst (λ n. AreFirstSites f.code n (sites_of f.code s.walk)) s.ends (first-sites f.code s.walk accepted.sites s.is)
+  first-here = subst (λ n. AreFirstSites f.code n (sites_of f.code s.walk)) s.ends (first_sites f.code s.walk accepted.sites s.is)
 
   -- there are as many saves as open sites
   as_many : length frame.saves ≡ length (sites_of f.code s.walk)
@@ -74,8 +63,7 @@ module _ (p : Prog) (heap : List Cell) (f : Func) (frame : Frame) (accepted : Is
 
   pub has-save : IsTrue (needs_site (slice_get f.code frame.point)) → frame.saves ≢ []
   has-save needs none =
-      let no_sites : sites_of f.code s.walk ≡ [] = nil_of (sites_of f.code s.walk) (sym as_many ∙ ap length none) in
-      accepted.sites frame.point (NoSite (record { first = subst (λ sites. AreFirstSites f.code frame.point sites) no_sites first-here; needs = needs }))
+      some_site f.code s.walk accepted.sites s.is (subst (λ n. IsTrue (needs_site (slice_get f.code n))) (sym s.ends) needs) (nil_of (sites_of f.code s.walk) (sym as_many ∙ ap length none))
 
   few : (most_sites < length frame.saves) ⊎ (length frame.saves ≤ most_sites) → length frame.saves ≤ most_sites
   few (inl many) = absurd (accepted.sites frame.point (TooMany (record { sites = sites_of f.code s.walk; first = first-here; many = subst (λ n. most_sites < n) as_many many })))
