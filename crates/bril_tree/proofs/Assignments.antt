@@ -17,7 +17,7 @@ use Rattle.bril_tree.proofs.Branches.{branch_from}
 
 -- ---- locations are among those of a list or not
 
-same_location : (a b : Location) → (a ≡ b) ⊎ (a ≡ b → ⊥)
+pub same_location : (a b : Location) → (a ≡ b) ⊎ (a ≡ b → ⊥)
 same_location (Variable x) (Variable y) = ⊎_elim (λ e. inl (ap Variable e)) (λ n. inr (λ e. n (cc))) (cases_eq x y)
 same_location (Variable x) (Shadow y) = inr (λ e. cc)
 same_location (Shadow x) (Variable y) = inr (λ e. cc)

@@ -1,7 +1,8 @@
 -- The outcome of an item depends on what it reads alone, and an item that gives a value goes on.
-use Rattle.std.proofs.Common.{◌≡◌, ℕ, zero, suc, ◌<◌, Bool, true, List, [], ◌∷◌, length, map, Option, Some, None, refl, ap, ◌∙◌, arith}
+use Rattle.std.proofs.Common.{◌≡◌, ℕ, zero, suc, ◌<◌, Bool, true, false, cond, List, [], ◌∷◌, length, map, Option, Some, None, ℤ, pos, negsuc, refl, ap, ◌∙◌, arith}
 use Rattle.std.specs.Prelude.{is_some}
 use Rattle.std.specs.List.{AllZip}
+use Rattle.bril_tree.specs.declared.limits.Fault.{Fault}
 use Rattle.bril_tree.specs.declared.numbered.Instr.{Instr}
 use Rattle.bril_tree.specs.declared.numbered.Instr.TheVariants.{Label, Const, Act}
 use Rattle.bril_tree.specs.declared.operation.Op.{Op}
@@ -12,7 +13,7 @@ use Rattle.bril_tree.specs.Assigned.{assigns_of}
 use Rattle.bril_tree.specs.Edge.{item_branches, onward}
 use Rattle.bril_tree.specs.FunctionForm.{listed}
 use Rattle.bril_tree.specs.Operand.{Location, Variable, dest_of, locations_read, reading_of, shadow_of}
-use Rattle.bril_tree.specs.Outcome.{Yields, outcome_of, action_outcome, computed, argument, shadow_given}
+use Rattle.bril_tree.specs.Outcome.{Yields, FaultsWith, HasEffect, outcome_of, action_outcome, computed, argument, shadow_given, divided, char_from, is_scalar, moved, fits_32}
 use Rattle.bril_tree.specs.Locals.{value_at}
 use Rattle.bril_tree.specs.Shape.{is_action_shaped, shape_of}
 use Rattle.bril_tree.specs.Sites.{Keeps, item_change}
@@ -80,6 +81,23 @@ module _ (returns : Bool) (ty : Option Ty) (dest : Bool) (n funcs labels : ℕ) 
   computed-same op.Or s = both op.Or ty n a b x y h (shape-parts (shape_of returns op.Or) dest n funcs labels s).args_are
   computed-same op.PtrAdd s = both op.PtrAdd ty n a b x y h (shape-parts (shape_of returns op.PtrAdd) dest n funcs labels s).args_are
   computed-same _ s = refl
+
+-- ---- operations that always yield a value or a fault
+
+either-yields : (b : Bool) (v : Value) (kind : Fault) → cond b (Yields v) (FaultsWith kind) ≡ HasEffect → ⊥
+either-yields true v kind e = cc
+either-yields false v kind e = cc
+
+pub divided-yields : (b : Bool) (x y : ℤ) → divided b x y ≡ HasEffect → ⊥
+divided-yields true x y e = cc
+divided-yields false x y e = cc
+
+pub char_from-yields : (z : ℤ) → char_from z ≡ HasEffect → ⊥
+char_from-yields (pos n) e = either-yields (is_scalar n) _ _ e
+char_from-yields (negsuc n) e = cc
+
+pub moved-yields : (block : ℕ) (offset : ℤ) → moved block offset ≡ HasEffect → ⊥
+moved-yields block offset e = either-yields (fits_32 offset) _ _ e
 
 -- two frames hold the same at locations that are read
 module _ (p q : Locals) where

@@ -1,4 +1,4 @@
--- Where a run stands well: all that its next step needs is there.
+-- When a run is well typed: all that its next step needs is there.
 use Rattle.std.specs.Prelude.{◌≡◌, ◌≢◌, ℕ, ◌<◌, ◌≤◌, Bool, false, ◌==◌, List, [], ◌∷◌, All, Option, Some, None, IsSome, IsTrue, length, slice_get, slice_index}
 use Rattle.std.specs.List.{Contains}
 use Rattle.bril_tree.specs.declared.limits.Limits.{Limits}
@@ -25,7 +25,7 @@ use Rattle.bril_tree.specs.Typing.{variable_type}
 use Rattle.bril_tree.specs.Value.{IsInRange, literal_value}
 use Rattle.bril_tree.specs.Walk.{IsWalk, end_of}
 
--- The frame stands where all that its step needs is there.
+-- All that the step of the frame needs is there.
 pub record IsWellTyped (p : Prog) (f : Frame) : Type 0 where
   pub function : Func
   -- it is in a function of the program, at an item or at the end, where a walk leads
@@ -58,13 +58,13 @@ calls_function g (Some (Const dest ty value)) = false
 calls_function g (Some (Act dest ty op.Call args funcs labels)) = slice_index funcs 0 == g
 calls_function g (Some (Act dest ty _ args funcs labels)) = false
 
--- each older frame stands well too, at a call of the function of the frame above it
+-- each older frame is well typed too, and stands at a call of the function of the frame above it
 abbrev pub OlderAreWellTyped : Prog → ℕ → List Frame → Type 0
 OlderAreWellTyped p above [] = Unit {0}
 OlderAreWellTyped p above (f ∷ older) = IsWellTyped p f × IsTrue (calls_function above (item_at p f.function f.point)) × OlderAreWellTyped p f.function older
 
 -- A run of an accepted program, with arguments that fit, has a newest frame after every number of steps, and its
--- frames stand well.
+-- frames are well typed.
 abbrev pub RunsAreWellTyped : Type 0
 RunsAreWellTyped = (p : Prog) (limits : Limits) (args : List Value) → IsAccepted p → AreLiteralsInRange p → FitMain p args → (n : ℕ) →
     (f : Frame) × (older : List Frame) × ((state_after p limits args n).frames ≡ f ∷ older) × IsWellTyped p f × OlderAreWellTyped p f.function older
