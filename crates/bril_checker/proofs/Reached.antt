@@ -1,15 +1,10 @@
 -- What a flow graph tells of the walks of its function.
-use Rattle.std.proofs.Common.{◌≡◌, ℕ, ◌<◌, Bool, true, List, [], ◌∷◌, length, Option, Some, None, refl, sym, ap, ◌∙◌, subst, arith}
-use Rattle.std.specs.Prelude.{slice_get, IsTrue, is_some, nat_lt}
-use Rattle.std.specs.Option.{option_map}
-use Rattle.std.proofs.lemmas.Bool.{false≢true, ltb-true, lt-ltb}
-use Rattle.std.proofs.lemmas.Option.{slice_get-get_or, same_Some}
-use Rattle.bril_tree.specs.declared.numbered.Instr.{Instr}
+use Rattle.std.proofs.Common.{◌≡◌, ℕ, ◌<◌, true, List, [], ◌∷◌, length, Option, Some, None, refl, sym, ap, ◌∙◌, subst, arith}
+use Rattle.std.specs.Prelude.{slice_get, IsTrue, nat_lt}
+use Rattle.std.proofs.lemmas.Bool.{ltb-true, lt-ltb}
 use Rattle.bril_tree.specs.declared.numbered_function.Func.{Func}
 use Rattle.bril_tree.specs.Accepted.{leaves_frame}
-use Rattle.bril_tree.specs.Edge.{Branch}
 use Rattle.bril_tree.specs.Sites.{AreSitesSound, sites_of}
-use Rattle.bril_tree.specs.Walk.{IsWalk, IsReached, end_of}
 use Rattle.flow_graph.specs.Graph.{GraphView, IsGraphOf}
 use Rattle.bril_tree.proofs.Elements.{get_inside}
 use Rattle.flow_graph.proofs.Told.{sites_of_walk, walk_to}

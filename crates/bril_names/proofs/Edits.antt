@@ -1,17 +1,14 @@
 -- Trees whose functions are edits of a program's.
-use Rattle.std.proofs.Common.{◌≡◌, ℕ, List, [], ◌∷◌, map, Option, Some, None, refl, sym, ap, subst, ◌∙◌, All}
-use Rattle.std.specs.Prelude.{slice_get}
+use Rattle.std.proofs.Common.{◌≡◌, ℕ, List, [], ◌∷◌, map, refl, sym, subst, ◌∙◌, All}
 use Rattle.std.specs.List.{AllZip, Contains}
 use Rattle.std.proofs.lemmas.List.Elements.{All-nil, All-cons, All-head, All-tail}
 use Rattle.bril_tree.specs.declared.function_tree.Dest.{Dest}
 use Rattle.bril_tree.specs.declared.function_tree.FuncTree.{FuncTree}
-use Rattle.bril_tree.specs.declared.numbered_function.Func.{Func}
 use Rattle.bril_tree.specs.declared.program.Prog.{Prog}
 use Rattle.bril_tree.specs.declared.tree.Tree.{Tree}
 use Rattle.bril_tree.specs.Numbered.{names_of_functions, tree_of}
 use Rattle.bril_tree.specs.ProgramForm.{main_name}
-use Rattle.bril_tree.proofs.Elements.{zip-get}
-use Rattle.bril_tree.proofs.Trees.{tree_of-numbered, function_at}
+use Rattle.bril_tree.proofs.Trees.{tree_of-numbered}
 use Rattle.bril_names.specs.declared.fault.NameFault.{NameFault}
 use Rattle.bril_names.specs.Faults.{Differ, HasFault, IsSound, SameHead, IsSoundEdit, function_names}
 use Rattle.bril_names.proofs.Faultless.{IsSoundTree, faultless}

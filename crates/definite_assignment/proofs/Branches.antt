@@ -1,13 +1,11 @@
 -- The branches from a point.
-use Rattle.std.proofs.Common.{◌≡◌, ℕ, ◌<◌, ◌≤◌, List, [], ◌∷◌, ◌++◌, Bool, true, false, cond, Option, Some, None, map, length, sym, ap, subst, refl, inl, inr, ◌⊎◌, ⊎_elim, arith, suc, zero}
+use Rattle.std.proofs.Common.{◌≡◌, ℕ, ◌<◌, ◌≤◌, List, ◌++◌, Bool, true, false, Option, Some, None, length, refl}
 use Rattle.std.specs.Prelude.{slice_get}
 use Rattle.std.specs.List.{Contains}
 use Rattle.std.specs.Option.{option_to_list}
-use Rattle.std.proofs.lemmas.Option.{slice_get_cases}
 use Rattle.bril_tree.specs.Assigned.{Assigned, assigned_changed, assigns_at, operation_assigns}
-use Rattle.bril_tree.specs.Edge.{Branch, branches_at, branches_from, action_branches, onward, jump, abort}
+use Rattle.bril_tree.specs.Edge.{Branch, branches_at}
 use Rattle.bril_tree.specs.Sites.{Opens, Closes, item_change, operation_change, needs_site}
-use Rattle.bril_tree.specs.Step.{point_of, is_label}
 use Rattle.bril_tree.specs.declared.numbered.Instr.{Instr}
 use Rattle.bril_tree.specs.declared.numbered.Instr.TheVariants.{Label, Const, Act}
 use Rattle.bril_tree.specs.declared.operation.Op.{Op}

@@ -1,12 +1,11 @@
 -- A location may be unassigned at a point exactly where it is no argument and the search from the first item, over edges
 -- from the points where they leave, past items that don't assign it, leads to the point.
-use Rattle.std.proofs.Common.{◌≡◌, ◌≢◌, ℕ, suc, zero, ◌+◌, ◌<◌, ◌↔◌, List, [], ◌∷◌, ◌++◌, Bool, true, false, Option, Some, None, length, sym, ap, ◌∙◌, subst, refl, ⊎_elim, arith}
+use Rattle.std.proofs.Common.{◌≡◌, ◌≢◌, ℕ, suc, zero, ◌+◌, ◌↔◌, List, [], ◌∷◌, ◌++◌, Bool, true, false, Option, Some, None, length, sym, ap, ◌∙◌, subst, refl, ⊎_elim, arith}
 use Rattle.std.specs.Prelude.{slice_get}
 use Rattle.std.specs.List.{Contains}
 use Rattle.std.specs.Option.{option_map, option_to_list}
 use Rattle.std.proofs.lemmas.Bool.{cases_Bool, both_ways, false_from_ne_true}
 use Rattle.std.proofs.lemmas.List.Elements.{Contains-append_left, Contains-append_right, Contains-append_cases}
-use Rattle.std.proofs.lemmas.Option.{slice_get_cases}
 use Rattle.bril_tree.specs.Assigned.{Assigned, IsMaybeUnassigned, assigned_of, assigned_behind, assigned_changed, assigns_at, newest_saved}
 use Rattle.bril_tree.specs.Edge.{Branch, branches_at}
 use Rattle.bril_tree.specs.Operand.{Location}
@@ -20,7 +19,7 @@ use Rattle.flow_graph.proofs.GraphEdges.{IsEdgeAt, edge-there, edge-back}
 use Rattle.bril_tree.proofs.Members.{Contains-map, Contains-map_back}
 use Rattle.definite_assignment.proofs.Locations.{label-one, argument-is, argument-there}
 use Rattle.bril_tree.proofs.Replays.{IsSaved, saved-back, same-length, open-sites, replay}
-use Rattle.definite_assignment.proofs.Branches.{IsAbort, branch-is, branch-inside, locations-passed, opens-nothing}
+use Rattle.definite_assignment.proofs.Branches.{IsAbort, branch-is, locations-passed, opens-nothing}
 use Rattle.bril_tree.specs.Leaving.{edge_of, leave_of}
 use Rattle.flow_graph.specs.Graph.{GraphView, IsGraphOf}
 use Rattle.bril_tree.specs.declared.edge.Edge.{Edge}

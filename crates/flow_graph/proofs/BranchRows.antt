@@ -1,8 +1,8 @@
 -- The rows of branches, the table of labels, and what the shapes and the form of a function say of its labels.
 use Rattle.std.proofs.Common.{◌≡◌, ℕ, zero, suc, ◌+◌, ◌<◌, ◌≤◌, Bool, true, false, cond, eqb, ltb, ◌&&◌, not, List, [], ◌∷◌, ◌++◌, length, map, Some, None, refl, sym, ap, ◌∙◌, subst, inl, inr, arith, add-zero}
 use Rattle.std.specs.Prelude.{◌⊎◌, slice_get, option_map, is_some}
-use Rattle.std.specs.List.{All, flat_map, list_all, range_with_len, prefix_len, position_or_len}
-use Rattle.std.proofs.lemmas.Bool.{and_parts, and_from, cond-true, cond-false, eqb-true, eq-eqb, ne_eqb, ltb-true, ltb-false, cases_Bool}
+use Rattle.std.specs.List.{All, flat_map, list_all, prefix_len, position_or_len}
+use Rattle.std.proofs.lemmas.Bool.{and_parts, and_from, cond-true, eqb-true, ltb-true, ltb-false, cases_Bool}
 use Rattle.std.proofs.lemmas.List.{length-map}
 use Rattle.std.proofs.lemmas.List.Elements.{All-nil, All-cons}
 use Rattle.std.proofs.lemmas.Option.{slice_get-map, slice_get_within, same_Some}
@@ -11,11 +11,9 @@ use Rattle.bril_tree.specs.declared.numbered.Instr.TheVariants.{Label, Const, Ac
 use Rattle.bril_tree.specs.declared.operation.Op.{Op}
 use Rattle.bril_tree.specs.declared.operation.Op.TheVariants as op
 use Rattle.bril_tree.specs.Edge.{branches_at, branches_from, item_branches}
-use Rattle.bril_tree.specs.FunctionForm.{label_at, targets_of}
+use Rattle.bril_tree.specs.FunctionForm.{targets_of}
 use Rattle.bril_tree.specs.Shape.{is_action_shaped, is_shaped, shape_fault_of}
-use Rattle.bril_tree.specs.Step.{point_of}
 use Rattle.flow_graph.specs.declared.branches.Branches.{Branches}
-use Rattle.bril_tree.specs.Labels.{labels_from, IsLabelTable}
 use Rattle.flow_graph.specs.Branches.{branches_of, label_count, HasLabels, branches_from_on, AreBranchRows}
 
 -- ---- rows

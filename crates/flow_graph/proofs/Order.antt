@@ -1,17 +1,15 @@
 -- The order of walks.
-use Rattle.std.proofs.Common.{◌≡◌, ℕ, suc, ◌<◌, ◌≤◌, Bool, true, false, List, [], ◌∷◌, length, Option, Some, None, map, refl, sym, ap, ◌∙◌, subst, inl, inr, arith}
-use Rattle.std.specs.Prelude.{◌⊎◌, slice_get}
-use Rattle.std.proofs.lemmas.Bool.{cond_both, cases_order, cases_Bool}
-use Rattle.std.proofs.lemmas.Option.{slice_get_within}
+use Rattle.std.proofs.Common.{◌≡◌, ℕ, ◌<◌, true, false, List, [], ◌∷◌, length, Option, Some, None, map, refl, sym, ap, ◌∙◌, subst, inl, inr, arith}
+use Rattle.std.specs.Prelude.{◌⊎◌}
+use Rattle.std.proofs.lemmas.Bool.{cases_order, cases_Bool}
 use Rattle.bril_tree.specs.declared.numbered.Instr.{Instr}
 use Rattle.bril_tree.specs.declared.numbered.Instr.TheVariants.{Label, Const, Act}
 use Rattle.bril_tree.specs.declared.operation.Op.{Op}
 use Rattle.bril_tree.specs.declared.operation.Op.TheVariants as op
-use Rattle.bril_tree.specs.Edge.{Branch, onward, jump, abort, branches_from, branches_at, action_branches, item_branches}
+use Rattle.bril_tree.specs.Edge.{Branch, onward, jump, branches_from, branches_at, action_branches}
 use Rattle.bril_tree.specs.Walk.{IsWalk, end_of, Sooner, Earlier}
-use Rattle.bril_tree.specs.Membership.{In}
 use Rattle.bril_tree.proofs.Branches.{same_branch, branch_from}
-use Rattle.bril_tree.proofs.Members.{in_contains, in_map_source}
+use Rattle.bril_tree.proofs.Members.{in_contains}
 
 -- the second walk isn't earlier than the first
 abbrev pub NotAfter : List Branch → List Branch → Type 0

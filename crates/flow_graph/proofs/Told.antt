@@ -1,5 +1,5 @@
 -- What a flow graph tells of the walks of its function, and where edges leave.
-use Rattle.std.proofs.Common.{◌≡◌, ◌⊎◌, ◌↔◌, ℕ, ◌+◌, ◌<◌, Bool, true, false, List, [], ◌∷◌, length, Option, Some, None, refl, sym, ap, ◌∙◌, subst, inl, inr, arith, true≢false}
+use Rattle.std.proofs.Common.{◌≡◌, ◌⊎◌, ◌↔◌, ℕ, ◌+◌, Bool, true, false, List, [], ◌∷◌, Option, Some, None, refl, sym, ap, ◌∙◌, subst, inl, inr, arith, true≢false}
 use Rattle.std.specs.Prelude.{slice_get, IsTrue, is_some}
 use Rattle.std.specs.List.{Contains}
 use Rattle.std.specs.Option.{option_map}
@@ -7,7 +7,7 @@ use Rattle.std.proofs.lemmas.Option.{same_Some}
 use Rattle.bril_tree.specs.declared.edge.Edge.{Edge}
 use Rattle.bril_tree.specs.declared.numbered.Instr.{Instr}
 use Rattle.bril_tree.specs.Edge.{Branch, branches_at}
-use Rattle.bril_tree.specs.Leaving.{leave_of, edge_of, IsEdge, AbortsFrom, Leaves}
+use Rattle.bril_tree.specs.Leaving.{leave_of, edge_of, IsEdge, Leaves}
 use Rattle.bril_tree.specs.Sites.{AreFirstSites, AreSitesSound, NoSite, needs_site, sites_of}
 use Rattle.bril_tree.specs.Walk.{IsWalk, IsReached, end_of}
 use Rattle.bril_tree.proofs.Branches.{branch_from, walk_within, aborts-close}
@@ -18,7 +18,7 @@ use Rattle.flow_graph.specs.declared.graph.GraphFault.{GraphFault}
 use Rattle.flow_graph.specs.declared.graph.GraphFault.TheVariants.{Nest, Memory}
 use Rattle.flow_graph.specs.Graph.{GraphView, IsGraphOf, IsLeastFailing, edges_from}
 use Rattle.flow_graph.proofs.FirstWalks.{reached_have_first}
-use Rattle.flow_graph.proofs.GraphEdges.{IsEdgeAt, edge-there, edge-back}
+use Rattle.flow_graph.proofs.GraphEdges.{edge-there, edge-back}
 use Rattle.flow_graph.proofs.OpenSites.{sound_walks_agree}
 
 -- ---- open sites of walks

@@ -19,7 +19,7 @@ use Rattle.bril_tree.specs.FunctionForm.{listed}
 use Rattle.bril_tree.specs.Memory.{allocation_fault, held, live_block, is_freeable, changed_block, new_block, cells_of}
 use Rattle.bril_tree.specs.Operand.{Variable, reads_of, dest_of}
 use Rattle.bril_tree.specs.Outcome.{Yields, FaultsWith, HasEffect, outcome_of, action_outcome, argument, block_of, offset_of, int_of, bool_of, divided, char_from, undefined, shadow_given, is_scalar}
-use Rattle.bril_tree.specs.Shape.{Shape, same, is_action_shaped, fits_shape, shape_of}
+use Rattle.bril_tree.specs.Shape.{is_action_shaped, fits_shape, shape_of}
 use Rattle.bril_tree.specs.State.{Frame, Block, State, with_value}
 use Rattle.bril_tree.specs.Sites.{Keeps, item_change}
 use Rattle.bril_tree.specs.Assigned.{assigns_of}

@@ -3,7 +3,7 @@ use Rattle.std.proofs.Common.{◌≡◌, ℕ, zero, suc, Bool, true, false, cond
 use Rattle.std.specs.Prelude.{nat_lt, ◌+ℤ◌}
 use Rattle.std.specs.Char.{IsScalar}
 use Rattle.std.specs.Int.{w32, w64}
-use Rattle.std.proofs.lemmas.Bool.{and_parts, eqb-true}
+use Rattle.std.proofs.lemmas.Bool.{and_parts}
 use Rattle.std.proofs.lemmas.Bool.Decides.{nat_tests}
 use Rattle.std.proofs.lemmas.Int.{SFits-int_wrap}
 use Rattle.bril_tree.specs.declared.limits.Fault.TheVariants.{BadChar, PtrRange}
@@ -17,7 +17,6 @@ use Rattle.bril_tree.specs.declared.types.Ty.{Ty}
 use Rattle.bril_tree.specs.declared.value.Value.{Value}
 use Rattle.bril_tree.specs.declared.value.Value.TheVariants.{Int, Bool as Boolean, Char, Ptr}
 use Rattle.bril_tree.specs.Outcome.{Yields, FaultsWith, computed, divided, char_from, is_scalar, fits_32, moved, undefined, char_of, block_of, offset_of, int_of, int_same}
-use Rattle.bril_tree.specs.Shape.{Shape, fits_shape, same}
 use Rattle.bril_tree.specs.Typing.{is_action_typed, argument_type, if_typed, is_plain, is_pointer}
 use Rattle.bril_tree.specs.Value.{IsInRange, zero_of, zero_at}
 use Rattle.type_soundness.proofs.Typed.{Cell, HasType, IsTyped, HasType-plain, HasType-suits, HasType-both}

@@ -1,25 +1,21 @@
 -- A frame at the end of a walk of an accepted function stands well.
-use Rattle.std.proofs.Common.{◌≡◌, ◌⊎◌, ℕ, suc, ◌<◌, ◌≤◌, Bool, true, List, [], ◌∷◌, length, Some, None, refl, sym, ap, subst, ◌∙◌, inl, inr, arith, All}
+use Rattle.std.proofs.Common.{◌≡◌, ◌⊎◌, suc, ◌<◌, ◌≤◌, List, [], ◌∷◌, length, Some, refl, sym, ap, subst, ◌∙◌, inl, inr, arith}
 use Rattle.std.specs.Prelude.{slice_get, is_some, IsSome, IsTrue, ◌≢◌}
 use Rattle.std.specs.List.{Contains}
-use Rattle.std.proofs.lemmas.Bool.{cases_eq, cases_lt}
-use Rattle.std.proofs.lemmas.Option.{get_or_from_slice_get, slice_get_within}
+use Rattle.std.proofs.lemmas.Bool.{cases_lt}
 use Rattle.bril_tree.specs.declared.numbered.Instr.{Instr}
 use Rattle.bril_tree.specs.declared.numbered_function.Func.{Func}
 use Rattle.bril_tree.specs.declared.program.Prog.{Prog}
 use Rattle.bril_tree.specs.declared.value.Value.{Value}
-use Rattle.bril_tree.specs.Accepted.{IsAccepted, IsAcceptedFunction, leaves_frame}
-use Rattle.bril_tree.specs.Assigned.{Assigned, assigned_of, assigned_changed, assigns_at}
-use Rattle.bril_tree.specs.Edge.{Branch, branches_at}
+use Rattle.bril_tree.specs.Accepted.{IsAcceptedFunction, leaves_frame}
+use Rattle.bril_tree.specs.Assigned.{assigned_of}
 use Rattle.bril_tree.specs.declared.types.Ty.{Ty}
 use Rattle.bril_tree.specs.Live.{IsLive}
-use Rattle.bril_tree.specs.Operand.{Location, Variable, Shadow, reads_of}
+use Rattle.bril_tree.specs.Operand.{Location, reads_of}
 use Rattle.bril_tree.specs.Run.{Suits}
-use Rattle.bril_tree.specs.Shape.{is_shaped}
-use Rattle.bril_tree.specs.Sites.{AreFirstSites, AreSitesSound, TooMany, NoSite, Change, Opens, Closes, Keeps, change_of, most_sites, needs_site, sites_of, sites_changed, without_newest}
+use Rattle.bril_tree.specs.Sites.{AreFirstSites, TooMany, most_sites, needs_site, sites_of}
 use Rattle.bril_tree.specs.State.{Locals, Frame}
-use Rattle.bril_tree.specs.Typing.{type_fault}
-use Rattle.bril_tree.specs.Walk.{IsWalk, IsReached, end_of}
+use Rattle.bril_tree.specs.Walk.{IsReached}
 use Rattle.bril_tree.specs.Membership.{In}
 use Rattle.bril_tree.proofs.Members.{in_contains}
 use Rattle.flow_graph.proofs.Told.{first_sites, some_site}

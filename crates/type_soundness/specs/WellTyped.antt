@@ -1,5 +1,5 @@
 -- When a run is well typed: all that its next step needs is there.
-use Rattle.std.specs.Prelude.{◌≡◌, ◌≢◌, ℕ, ◌<◌, ◌≤◌, Bool, false, ◌==◌, List, [], ◌∷◌, All, Option, Some, None, IsSome, IsTrue, length, slice_get, slice_index}
+use Rattle.std.specs.Prelude.{◌≡◌, ◌≢◌, ℕ, ◌<◌, ◌≤◌, Bool, false, ◌==◌, List, [], ◌∷◌, Option, Some, None, IsSome, IsTrue, length, slice_get, slice_index}
 use Rattle.std.specs.List.{Contains}
 use Rattle.bril_tree.specs.declared.limits.Limits.{Limits}
 use Rattle.bril_tree.specs.declared.numbered.Instr.{Instr}
@@ -14,15 +14,13 @@ use Rattle.bril_tree.specs.Literals.{AreLiteralsInRange}
 use Rattle.bril_tree.specs.Edge.{Branch}
 use Rattle.bril_tree.specs.Live.{IsLive}
 use Rattle.bril_tree.specs.Memory.{held}
-use Rattle.bril_tree.specs.Operand.{Location, Variable, Shadow, reads_of}
+use Rattle.bril_tree.specs.Operand.{Location, reads_of}
 use Rattle.bril_tree.specs.Outcome.{argument}
 use Rattle.bril_tree.specs.Locals.{location_type, location_value}
 use Rattle.bril_tree.specs.Run.{FitMain, Suits, state_after}
 use Rattle.bril_tree.specs.Sites.{most_sites, needs_site, sites_of}
-use Rattle.bril_tree.specs.State.{Locals, Frame}
+use Rattle.bril_tree.specs.State.{Frame}
 use Rattle.bril_tree.specs.Step.{item_at}
-use Rattle.bril_tree.specs.Typing.{variable_type}
-use Rattle.bril_tree.specs.Value.{IsInRange, literal_value}
 use Rattle.bril_tree.specs.Walk.{IsWalk, end_of}
 
 -- All that the step of the frame needs is there.

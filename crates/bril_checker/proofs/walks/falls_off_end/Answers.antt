@@ -1,4 +1,4 @@
-use Rattle.std.proofs.Common.{◌≡◌, length, sym, ◌∙◌, ap, arith}
+use Rattle.std.proofs.Common.{◌≡◌, length, sym, ◌∙◌, ap}
 use Rattle.std.specs.Prelude.{IsSome}
 use Rattle.flow_graph.proofs.Told.{reach_tells}
 use Rattle.bril_checker.proofs.walks.falls_off_end.Goals as goal
