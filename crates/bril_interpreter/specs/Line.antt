@@ -21,7 +21,7 @@ abbrev pub item_print : Option Instr → Frame → Option (List Value)
 item_print None f = None
 item_print (Some (Label l)) f = None
 item_print (Some (Const dest ty value)) f = None
-item_print (Some (Act dest ty operation args funcs labels)) f = operation_print operation (map (read f.places.vars) args)
+item_print (Some (Act dest ty operation args funcs labels)) f = operation_print operation (map (read f.locations.vars) args)
 
 abbrev pub frames_print : Prog → List Frame → Option (List Value)
 frames_print p [] = None

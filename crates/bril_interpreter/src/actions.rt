@@ -18,7 +18,7 @@ impl<'a> Interp<'a> {
 
     // The point of the first label where the condition holds, else that of the second.
     pub(crate) fn branch(&mut self, args: &[u32], labels: &[u32])
-        ensures { Makes self.old (under self.old jumps (slice_index labels.now (if meaning.bool_of (meaning.argument (newest_of self.old).places args.now 0) then 0 else 1))) self.new }
+        ensures { Makes self.old (under self.old jumps (slice_index labels.now (if meaning.bool_of (meaning.argument (newest_of self.old).locations args.now 0) then 0 else 1))) self.new }
     {
         let taken = if bool_of(self.argument(args, 0)) {
             0
@@ -32,12 +32,12 @@ impl<'a> Interp<'a> {
     pub(crate) fn get(&mut self, dest: Option<u32>)
         requires item { IsAtItem self.old }
         requires dest { HasDest self.old dest }
-        ensures { Makes self.old (under self.old by_outcome (meaning.shadow_given (newest_of self.old).places dest) (Act dest None Get [] [] [])) self.new }
+        ensures { Makes self.old (under self.old by_outcome (meaning.shadow_given (newest_of self.old).locations dest) (Act dest None Get [] [] [])) self.new }
     {
         match dest {
-            None => self.pass(),
+            None => self.advance(),
             Some(x) => {
-                let value = self.newest.places().shadow(x);
+                let value = self.newest.locations().shadow(x);
                 self.give(dest, value);
             }
         }
@@ -47,12 +47,12 @@ impl<'a> Interp<'a> {
     pub(crate) fn calculate(&mut self, op: Op, dest: Option<u32>, ty: Option<Ty>, args: &[u32])
         requires item { IsAtItem self.old }
         requires dest { HasDest self.old dest }
-        ensures { Makes self.old (under self.old by_outcome (meaning.computed op ty (meaning.argument (newest_of self.old).places args.now 0) (meaning.argument (newest_of self.old).places args.now 1)) (Act dest None Nop [] [] [])) self.new }
+        ensures { Makes self.old (under self.old by_outcome (meaning.computed op ty (meaning.argument (newest_of self.old).locations args.now 0) (meaning.argument (newest_of self.old).locations args.now 1)) (Act dest None Nop [] [] [])) self.new }
     {
         match compute(op, ty, self.argument(args, 0), self.argument(args, 1)) {
-            Outcome::Gives(value) => self.give(dest, value),
-            Outcome::Fails(kind) => self.fault(kind),
-            Outcome::Acts => self.pass(),
+            Outcome::Yields(value) => self.give(dest, value),
+            Outcome::FaultsWith(kind) => self.fault(kind),
+            Outcome::HasEffect => self.advance(),
         }
     }
 }

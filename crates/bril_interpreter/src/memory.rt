@@ -40,7 +40,7 @@ impl<'a> Interp<'a> {
         ensures { Makes self.old (under self.old frees pointer) self.new }
     {
         if self.cells.free(block_of(pointer), offset_of(pointer)) {
-            self.pass();
+            self.advance();
         } else {
             self.fault(Fault::BadFree);
         }
@@ -55,7 +55,7 @@ impl<'a> Interp<'a> {
             .cells
             .store(block_of(pointer), offset_of(pointer), value)
         {
-            Ok(()) => self.pass(),
+            Ok(()) => self.advance(),
             Err(kind) => self.fault(kind),
         }
     }

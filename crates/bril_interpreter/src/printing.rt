@@ -7,29 +7,29 @@ ghost use Rattle.bril_heap.specs.Heap.{entries_of};
 ghost use Rattle.bril_interpreter.specs.Line.{line_pieces};
 
 use crate::interp::Interp;
-use crate::places::Places;
+use crate::locals::Locals;
 use bril_outside::sink::{Failed, Sink};
-use bril_values::Shown;
+use bril_values::PrintedValue;
 
 // Puts the values of variables, with one space between two, and LF: by one put for each value and the byte after it, and
 // by one for LF alone. After a put that failed there is none.
-fn put_line<S: Sink>(places: &Places, args: &[u32], out: &mut S) -> Result<(), Failed>
-    ensures ok { OnOk result (PutAll (S.seen out.old) (line_pieces (map (read (entries_of places.now.vars)) args.now)) (S.seen out.new)) }
-    ensures err { OnErr result (PutSome (S.seen out.old) (line_pieces (map (read (entries_of places.now.vars)) args.now)) (S.seen out.new)) }
+fn put_line<S: Sink>(locations: &Locals, args: &[u32], out: &mut S) -> Result<(), Failed>
+    ensures ok { OnOk result (PutAll (S.seen out.old) (line_pieces (map (read (entries_of locations.now.vars)) args.now)) (S.seen out.new)) }
+    ensures err { OnErr result (PutSome (S.seen out.old) (line_pieces (map (read (entries_of locations.now.vars)) args.now)) (S.seen out.new)) }
 {
     let Some((last, others)) = args.split_last() else {
         return out.put(b"\n");
     };
     for x in others {
-        out.put(Shown::of(places.variable(*x), b' ').as_bytes())?;
+        out.put(PrintedValue::of(locations.variable(*x), b' ').as_bytes())?;
     }
-    out.put(Shown::of(places.variable(*last), b'\n').as_bytes())
+    out.put(PrintedValue::of(locations.variable(*last), b'\n').as_bytes())
 }
 
 impl<'a> Interp<'a> {
     ghost use Rattle.bril_tree.specs.Step.{prints};
     ghost use Rattle.bril_interpreter.specs.Interpreter.{under};
-    ghost use Rattle.bril_interpreter.specs.Steps.{values_in, changed, IsAtItem, Executed, Unwritten};
+    ghost use Rattle.bril_interpreter.specs.Steps.{values_in, changed, IsAtItem, Executed, CannotWrite};
 
     // The values of variables are printed. Where that fails nothing else is done.
     pub(crate) fn print<S: Sink>(&mut self, args: &[u32], out: &mut S) -> Result<(), Failed>
@@ -37,10 +37,10 @@ impl<'a> Interp<'a> {
         ensures ok { let values = values_in self.old args.now in let t = changed self.old (under self.old prints values) in
             OnOk result (Executed t (Some values) self.old self.new (S.seen out.old) (S.seen out.new)) }
         ensures err { let values = values_in self.old args.now in let t = changed self.old (under self.old prints values) in
-            OnErr result (Unwritten t (Some values) self.old self.new (S.seen out.old) (S.seen out.new)) }
+            OnErr result (CannotWrite t (Some values) self.old self.new (S.seen out.old) (S.seen out.new)) }
     {
-        put_line(self.newest.places(), args, out)?;
-        self.pass();
+        put_line(self.newest.locations(), args, out)?;
+        self.advance();
         Ok(())
     }
 }

@@ -3,10 +3,10 @@
 
 mod outcome;
 mod parts;
-mod shown;
+mod printed_value;
 #[cfg(test)]
 mod tests;
 
 pub use outcome::{Outcome, compute};
 pub use parts::{block_of, bool_of, int_of, offset_of};
-pub use shown::Shown;
+pub use printed_value::PrintedValue;

@@ -19,7 +19,7 @@ loop-x-init g c =
 
 pub returns-in_err-put-clause-err : goal.returns-in_err-put-clause-err
 returns-in_err-put-clause-err g c =
-    let value : ℕ → Value = read (entries_of c.args.places.now.vars) in
+    let value : ℕ → Value = read (entries_of c.args.locations.now.vars) in
     let others = c.in-Some.others.now in
     let k = c.loop-x.x-index in
     let bytes = c.as_bytes.result.now in
@@ -31,7 +31,7 @@ returns-in_err-put-clause-err g c =
 
 pub loop-x-preserved : goal.loop-x-preserved
 loop-x-preserved g c =
-    let value : ℕ → Value = read (entries_of c.args.places.now.vars) in
+    let value : ℕ → Value = read (entries_of c.args.locations.now.vars) in
     let others = c.in-Some.others.now in
     let k = c.loop-x.x-index in
     let bytes = c.as_bytes.result.now in
@@ -41,7 +41,7 @@ loop-x-preserved g c =
 
 pub returns-clause-ok : goal.returns-clause-ok
 returns-clause-ok g c =
-    let value : ℕ → Value = read (entries_of c.args.places.now.vars) in
+    let value : ℕ → Value = read (entries_of c.args.locations.now.vars) in
     let others = c.in-Some.others.now in
     let last = c.in-Some.last.now in
     let bytes = c.as_bytes-2.result.now in
@@ -54,7 +54,7 @@ returns-clause-ok g c =
 
 pub returns-clause-err : goal.returns-clause-err
 returns-clause-err g c =
-    let value : ℕ → Value = read (entries_of c.args.places.now.vars) in
+    let value : ℕ → Value = read (entries_of c.args.locations.now.vars) in
     let others = c.in-Some.others.now in
     let last = c.in-Some.last.now in
     let bytes = c.as_bytes-2.result.now in
