@@ -1,15 +1,7 @@
 // The command line of Roolvist.
 #![tactic(auto)]
 
-mod emission;
-mod interpretation;
-mod source;
-mod straight;
-#[cfg(test)]
-mod tests;
-mod top;
-mod work;
-
+use bril_cli::top::bril_top;
 use bril_outside::os_files::OsFiles;
 use bril_outside::os_sink::OsSink;
 use bril_tree::sequence::Seq;
@@ -22,7 +14,7 @@ use std::process::ExitCode;
 // The status where the system gives no words, or words that are no text.
 const NO_WORDS: u8 = 64;
 
-// The status where memory is wanting for the words.
+// The status where the words don't fit into memory.
 const NO_MEMORY: u8 = 71;
 
 fn main(rt: HostRuntime) -> ExitCode {
@@ -38,7 +30,7 @@ fn main(rt: HostRuntime) -> ExitCode {
     let mut files = OsFiles::new(&rt);
     let mut out = OsSink::new(rt.stdout());
     let mut err = OsSink::new(rt.stderr());
-    let status = top::bril_top(alloc, words.as_slice(), &mut files, &mut out, &mut err);
+    let status = bril_top(alloc, words.as_slice(), &mut files, &mut out, &mut err);
     ExitCode::from(status)
 }
 
