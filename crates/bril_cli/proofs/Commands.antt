@@ -29,11 +29,17 @@ use Rattle.bril_words.specs.declared.misuse.Misuse.{Misuse}
 use Rattle.bril_words.specs.declared.request.Action.{Action}
 use Rattle.bril_words.specs.declared.request.Action.TheVariants.{Run, Interpret, Check, WriteText, WriteJson}
 use Rattle.bril_cli.specs.declared.source.Format.{Format}
-use Rattle.bril_cli.specs.Answers.{Call, ReadsWell, AsksNone, Prints, TellsRun, UnlessMemory, argument_line}
+use Rattle.bril_cli.specs.Call.{Call, ReadsWell, AsksNone, UnlessMemory}
+use Rattle.bril_cli.specs.Driver.{IsFormless, DoesProgram, AsksProgram, DoesTree}
+use Rattle.bril_cli.specs.Source.{most_bytes, HoldsFile, ReadsAs, HasFault, HasNameFault, HasOnlyCheckFault, HasImports, IsOnlyTree, IsOnlyFault, IsSource, IsLongFile}
+use Rattle.bril_cli.specs.Stages.{RefusesFile, RefusesTree, RefusesProgram, IsOnlyNameFault, IsOnlyProgram, IsAcceptedProgram, IsFaultless, PutsText}
+use Rattle.bril_cli.specs.commands.Check.{accepted_line}
+use Rattle.bril_cli.specs.commands.Interp.{TellsRun, argument_line, HasOnlyArgFault, RefusesArgs, StepsTo}
+use Rattle.bril_cli.specs.commands.Json.{json_line}
+use Rattle.bril_cli.specs.commands.Run.{Prints, IsCrooked, IsWithin, RunsProgram}
+use Rattle.bril_report.specs.StageFaults.{argument_status}
 use Rattle.bril_cli.specs.CommandLine.{AsksFor, format_of, NeedsProgram}
-use Rattle.bril_cli.specs.Source.{most_bytes, json_line, accepted_line, HoldsFile, ReadsAs, HasFault, HasNameFault, HasOnlyCheckFault, HasOnlyArgFault, HasImports, IsCrooked, IsFormless, IsOnlyTree, IsOnlyFault, IsSource, IsWithin}
 use Rattle.bril_cli.specs.Straight.{is_straight}
-use Rattle.bril_cli.specs.Works.{RefusesFile, RefusesTree, RefusesProgram, RefusesArgs, IsOnlyNameFault, IsOnlyProgram, IsAcceptedProgram, IsFaultless, RunsProgram, StepsTo, DoesProgram, AsksProgram, PutsText, DoesTree, IsLongFile, argument_status}
 use Rattle.bril_cli.proofs.Interpreting.{Limits-same}
 use Rattle.bril_cli.proofs.Statuses.{Ends, Numbered-source, has_in}
 

@@ -20,7 +20,8 @@ use Rattle.bril_text.specs.Reading as text_reading
 use Rattle.bril_text.specs.declared.fault.TextFault.{TextFault}
 use Rattle.bril_text.specs.declared.fault.TextFault.TheVariants as text
 use Rattle.bril_cli.specs.Source.{HasFault, HasOnlyCheckFault, IsOnlyTree, IsOnlyFault}
-use Rattle.bril_cli.specs.Works.{RefusesTree, RefusesNames, RefusesCheck, RefusesProgram, PutsText, IsOnlyNameFault, IsOnlyProgram, IsFaultless, IsAcceptedProgram, text_status, json_status, name_status, check_status}
+use Rattle.bril_cli.specs.Stages.{RefusesTree, RefusesNames, RefusesCheck, RefusesProgram, PutsText, IsOnlyNameFault, IsOnlyProgram, IsFaultless, IsAcceptedProgram}
+use Rattle.bril_report.specs.StageFaults.{text_status, json_status, name_status, check_status}
 use Rattle.bril_report.specs.declared.status.Status.{Status}
 use Rattle.bril_report.specs.declared.status.Status.TheVariants as status
 use Rattle.bril_cli.specs.declared.source.Format.TheVariants.{InText, InJson}

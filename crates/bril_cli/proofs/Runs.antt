@@ -16,9 +16,8 @@ use Rattle.rv64_machine.specs.Machine.{State, Finished, Trapped, machine_after, 
 use Rattle.rv64_machine.specs.MachineView.{state_of, words_in, sizes_in, has_failed}
 use Rattle.bril_cli.specs.Carries.{Carries, image_system}
 use Rattle.bril_cli.specs.Emitted.{items_in}
-use Rattle.bril_cli.specs.Source.{run_limits, EndsPrinting, IsWithin}
+use Rattle.bril_cli.specs.commands.Run.{run_limits, EndsPrinting, IsWithin, RanWhole, RanPartly}
 use Rattle.bril_cli.specs.Straight.{IsStraightCode}
-use Rattle.bril_cli.specs.Works.{RanWhole, RanPartly}
 use Rattle.bril_cli.proofs.Ending.{straight_ends, runs_to_end, machine_after-after}
 use Rattle.bril_cli.proofs.ImageSystem.{image_is_system}
 

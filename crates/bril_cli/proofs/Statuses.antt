@@ -21,11 +21,17 @@ use Rattle.bril_report.specs.declared.status.Status.TheVariants as status
 use Rattle.bril_words.specs.declared.request.Action.{Action}
 use Rattle.bril_words.specs.declared.request.Action.TheVariants.{Run, Interpret, Check, WriteText, WriteJson}
 use Rattle.bril_cli.specs.declared.source.Format.{Format}
-use Rattle.bril_cli.specs.Answers.{Call, Answers, Produces, Puts, Leaves, argument_line}
+use Rattle.bril_cli.specs.Answers.{Answers}
+use Rattle.bril_cli.specs.Call.{Call}
+use Rattle.bril_cli.specs.Driver.{Produces, Puts, Leaves, IsFormless, AsksProgram, DoesFile, FailsToRead, FindsNoTree, DealsWithTree}
+use Rattle.bril_cli.specs.Source.{IsFile, HasNameFault, HasOnlyNameFault, IsOnlyTree, IsSource, IsOnlySource}
+use Rattle.bril_cli.specs.Stages.{IsOnlyNameFault, IsOnlyProgram, IsAcceptedProgram, RefusesProgram, PutsText}
+use Rattle.bril_cli.specs.commands.Check.{accepted_line}
+use Rattle.bril_cli.specs.commands.Interp.{argument_line, HasOnlyArgFault, StopsForMemory, Interprets, Exhausts, AreOnlyValues, RefusesArgs, StepsTo, InterpretsProgram}
+use Rattle.bril_cli.specs.commands.Json.{json_line}
+use Rattle.bril_cli.specs.commands.Run.{IsWithin, EndsPrinting, Runs, RunsProgram}
 use Rattle.bril_cli.specs.CommandLine.{AsksFor, format_of, NeedsProgram}
-use Rattle.bril_cli.specs.Source.{json_line, accepted_line, IsFile, IsFormless, HasNameFault, HasOnlyNameFault, HasOnlyArgFault, IsOnlyTree, IsSource, IsOnlySource, IsWithin, EndsPrinting, StopsForMemory, Runs, Interprets, Exhausts}
 use Rattle.bril_cli.specs.Straight.{is_straight}
-use Rattle.bril_cli.specs.Works.{IsOnlyNameFault, IsOnlyProgram, IsAcceptedProgram, RefusesProgram, RunsProgram, AreOnlyValues, RefusesArgs, StepsTo, InterpretsProgram, AsksProgram, PutsText, DoesFile, FailsToRead, FindsNoTree, DealsWithTree}
 
 -- ---- the program and the name fault of bytes are those of their tree
 

@@ -3,7 +3,8 @@
 ghost use Rattle.std.specs.Prelude.{◌≡◌, ◌≤◌, length, IfOk, IfErr};
 ghost use Rattle.bril_cli.specs.CommandLine.{is_json, format_of};
 ghost use Rattle.bril_cli.specs.Source.{most_bytes, IsOnlyTree};
-ghost use Rattle.bril_cli.specs.Works.{RefusesTree, text_status, json_status};
+ghost use Rattle.bril_cli.specs.Stages.{RefusesTree};
+ghost use Rattle.bril_report.specs.StageFaults.{text_status, json_status};
 ghost use Rattle.bril_cli.specs.declared.source.Format.TheVariants.{InText, InJson};
 
 use bril_json::{JsonFault, read_json};

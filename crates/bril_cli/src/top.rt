@@ -20,9 +20,15 @@ ghost use Rattle.bril_report.specs.Lines.{form_line, misread_line, misnamed_line
 ghost use Rattle.bril_report.specs.Report.{Says};
 ghost use Rattle.bril_report.specs.declared.status.SourceFault.{SourceFault};
 ghost use Rattle.bril_words.specs.declared.request.Action.{Action};
-ghost use Rattle.bril_cli.specs.Answers.{call_of, Answers, Finished, Stopped, GoesOn, Unformed, Unread, TooLarge, Misargued, ReadsWell, AsksNone, Prints, TellsRun, UnlessMemory, argument_line};
+ghost use Rattle.bril_cli.specs.Answers.{Answers, Finished, Stopped, GoesOn, Unformed, Unread, TooLarge, Misargued};
+ghost use Rattle.bril_cli.specs.Call.{call_of, ReadsWell, AsksNone, UnlessMemory};
+ghost use Rattle.bril_cli.specs.Driver.{IsFormless};
+ghost use Rattle.bril_cli.specs.Source.{most_bytes, ReadsAs, HasFault, HasNameFault, IsSource};
+ghost use Rattle.bril_cli.specs.commands.Check.{accepted_line};
+ghost use Rattle.bril_cli.specs.commands.Interp.{TellsRun, argument_line};
+ghost use Rattle.bril_cli.specs.commands.Json.{json_line};
+ghost use Rattle.bril_cli.specs.commands.Run.{Prints, IsWithin};
 ghost use Rattle.bril_cli.specs.CommandLine.{AskNothing, format_of, NeedsProgram};
-ghost use Rattle.bril_cli.specs.Source.{most_bytes, json_line, accepted_line, ReadsAs, HasFault, HasNameFault, IsSource, IsFormless, IsWithin};
 ghost use Rattle.bril_cli.specs.Straight.{is_straight};
 
 use crate::work::do_file;

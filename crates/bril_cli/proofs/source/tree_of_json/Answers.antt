@@ -1,6 +1,6 @@
 -- The tree and the fault are the only ones, or memory was wanting.
 use Rattle.std.proofs.Common.{sym, subst}
-use Rattle.bril_cli.specs.Works.{RefusesTree}
+use Rattle.bril_cli.specs.Stages.{RefusesTree}
 use Rattle.bril_cli.specs.declared.source.Format.TheVariants.{InJson}
 use Rattle.bril_report.specs.declared.status.Status.{Status}
 use Rattle.bril_cli.proofs.Outcomes.{IsOnlyTree-json, RefusesTree-json}

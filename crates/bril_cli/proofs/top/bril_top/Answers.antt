@@ -1,6 +1,7 @@
 -- What the command answers, from what its steps answered.
 use Rattle.std.proofs.Common.{sym, subst}
-use Rattle.bril_cli.specs.Answers.{Call, call_of, Answers}
+use Rattle.bril_cli.specs.Answers.{Answers}
+use Rattle.bril_cli.specs.Call.{Call, call_of}
 use Rattle.bril_cli.proofs.Commands.{runs_where, interprets_where, misargued_where, refused_where, checks_where, unchecked_where, formless_where, misnamed_where, writes_where, writes_json_where, misread_where, long_where, lacking_where}
 use Rattle.bril_cli.proofs.Statuses.{Ends, Answers-of}
 use Rattle.bril_cli.proofs.top.bril_top.Given.{Over}

@@ -1,6 +1,7 @@
 -- The fault is the only one, or memory was wanting.
 use Rattle.std.proofs.Common.{sym, subst}
-use Rattle.bril_cli.specs.Works.{RefusesCheck, check_status}
+use Rattle.bril_cli.specs.Stages.{RefusesCheck}
+use Rattle.bril_report.specs.StageFaults.{check_status}
 use Rattle.bril_report.specs.declared.status.Status.{Status}
 use Rattle.bril_tree.specs.declared.program.Prog.{Prog}
 use Rattle.bril_cli.proofs.Outcomes.{RefusesCheck-of}

@@ -1,8 +1,8 @@
 -- The line of the tree's accepted program was put, or there was no memory for it.
 use Rattle.std.proofs.Common.{inr, subst}
 use Rattle.bril_tree.specs.declared.program.Prog.{Prog}
-use Rattle.bril_cli.specs.Source.{accepted_line}
-use Rattle.bril_cli.specs.Works.{PutsText}
+use Rattle.bril_cli.specs.Stages.{PutsText}
+use Rattle.bril_cli.specs.commands.Check.{accepted_line}
 use Rattle.bril_cli.proofs.Outcomes.{puts_made}
 use Rattle.bril_cli.proofs.work.check_tree.Goals as goal
 

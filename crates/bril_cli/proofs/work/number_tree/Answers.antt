@@ -1,6 +1,6 @@
 -- The fault is the only one, or memory was wanting.
 use Rattle.std.proofs.Common.{sym, subst}
-use Rattle.bril_cli.specs.Works.{RefusesNames}
+use Rattle.bril_cli.specs.Stages.{RefusesNames}
 use Rattle.bril_report.specs.declared.status.Status.{Status}
 use Rattle.bril_cli.proofs.Outcomes.{RefusesNames-of}
 use Rattle.bril_cli.proofs.work.number_tree.Goals as goal

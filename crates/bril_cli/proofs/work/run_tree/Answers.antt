@@ -1,7 +1,7 @@
 -- The tree's accepted program was run.
 use Rattle.std.proofs.Common.{inr, subst}
 use Rattle.bril_tree.specs.declared.program.Prog.{Prog}
-use Rattle.bril_cli.specs.Works.{RunsAccepted}
+use Rattle.bril_cli.specs.commands.Run.{RunsAccepted}
 use Rattle.bril_cli.proofs.work.run_tree.Goals as goal
 
 pub returns-in-Ok : goal.returns-in-Ok
