@@ -19,7 +19,7 @@ use Rattle.bril_words.specs.declared.misuse.Misuse.{Misuse}
 use Rattle.bril_words.specs.declared.request.Action.TheVariants.{Run, Interpret}
 use Rattle.bril_words.specs.declared.request.Action.{Action}
 use Rattle.bril_cli.specs.Call.{Call, SaysAlone, ReadsWell, AsksNone, UnlessMemory}
-use Rattle.bril_cli.specs.Carries.{frame_words}
+use Rattle.bril_cli.specs.Implements.{frame_words}
 use Rattle.bril_cli.specs.CommandLine.{format_of, AsksFor, NeedsProgram, AskNothing}
 use Rattle.bril_cli.specs.Driver.{IsFormless, Produces, Puts, Leaves}
 use Rattle.bril_cli.specs.Emitted.{bound_sum}
@@ -111,7 +111,7 @@ pub record MisreadFile (c : Call) (path : List ℕ) : Type 0 where
   pub only : IsOnlyFault (format_of path) bytes fault
   pub alone : SaysAlone c (misread_line path fault)
 
-pub record Unformed (c : Call) : Type 0 where
+pub record SourceRefused (c : Call) : Type 0 where
   pub action : Action
   pub path : List ℕ
   pub args : List (List ℕ)
@@ -119,7 +119,7 @@ pub record Unformed (c : Call) : Type 0 where
   pub because : FormlessFile c action path ⊎ (MisnamedFile c action path ⊎ (UnacceptedFile c action path ⊎ MisreadFile c path))
 
 -- 66: reading failed, or the files are told and lack the path.
-pub record Unread (c : Call) : Type 0 where
+pub record CannotRead (c : Call) : Type 0 where
   pub action : Action
   pub path : List ℕ
   pub args : List (List ℕ)
@@ -189,7 +189,7 @@ pub record Exhausted (c : Call) : Type 0 where
   pub says : Says c.err_before (codes "out of memory\n") c.err_after
 
 -- 74: a write to the output failed, which took the first of what the action puts there.
-pub record Unwritten (c : Call) : Type 0 where
+pub record CannotWrite (c : Call) : Type 0 where
   pub action : Action
   pub path : List ℕ
   pub args : List (List ℕ)
@@ -207,12 +207,12 @@ Answers status c =
     (MatchBool (status == 2) (Stopped c)
     (MatchBool (status == 3) (GoesOn c)
     (MatchBool (status == 64) (Misused c)
-    (MatchBool (status == 65) (Unformed c)
-    (MatchBool (status == 66) (Unread c)
+    (MatchBool (status == 65) (SourceRefused c)
+    (MatchBool (status == 66) (CannotRead c)
     (MatchBool (status == 68) (TooLarge c)
     (MatchBool (status == 69) (Misargued c)
     (MatchBool (status == 71) (Exhausted c)
-    (MatchBool (status == 74) (Unwritten c) ⊥)))))))))
+    (MatchBool (status == 74) (CannotWrite c) ⊥)))))))))
 
 -- ---- when a status comes to every command that has its cause
 
@@ -255,8 +255,8 @@ pub record Promises (status : ℕ) (c : Call) : Type 0 where
   pub done : status ≡ 0 → Finished c
   pub faulted : status ≡ 2 → Stopped c
   pub spent : status ≡ 3 → GoesOn c
-  pub form : status ≡ 65 → Unformed c
-  pub read : status ≡ 66 → Unread c
+  pub form : status ≡ 65 → SourceRefused c
+  pub read : status ≡ 66 → CannotRead c
   pub size : status ≡ 68 → TooLarge c
   pub argued : status ≡ 69 → Misargued c
   pub write : status ≡ 74 → Rose c.out_before.faults c.out_after.faults

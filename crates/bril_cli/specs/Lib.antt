@@ -1,6 +1,6 @@
 pub mod Answers
 pub mod Call
-pub mod Carries
+pub mod Implements
 pub mod CommandLine
 pub mod Driver
 pub mod Emitted

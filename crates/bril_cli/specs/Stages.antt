@@ -17,7 +17,7 @@ use Rattle.bril_cli.specs.declared.source.Format.{Format}
 
 -- why a file was not read
 abbrev pub RefusesFile : Status → FilesSeen → FilesSeen → List ℕ → Type 0
-RefusesFile status.Unread f g path = MayFail f g path
+RefusesFile status.CannotRead f g path = MayFail f g path
 RefusesFile status.FileTooBig f g path = IsLongFile f path
 RefusesFile status.OutOfMemory f g path = Unit {0}
 RefusesFile _ f g path = ⊥
@@ -59,7 +59,7 @@ RefusesCheck _ p = ⊥
 
 -- why a tree has no accepted program
 abbrev pub RefusesProgram : Status → Tree → Type 0
-RefusesProgram status.Unformed tree = tree.imports ≢ []
+RefusesProgram status.Unsupported tree = tree.imports ≢ []
 RefusesProgram (status.Misnamed fault) tree = (tree.imports ≡ []) × IsOnlyNameFault tree fault
 RefusesProgram (status.Unaccepted program fault) tree = IsOnlyProgram tree program × HasOnlyCheckFault program fault
 RefusesProgram status.OutOfMemory tree = Unit {0}
@@ -73,6 +73,6 @@ pub record IsAcceptedProgram (tree : Tree) (p : Prog) : Type 0 where
 -- what a write of a text answers
 abbrev pub PutsText : Status → List ℕ → SinkSeen → SinkSeen → Type 0
 PutsText status.Done text s t = TookAll s text t
-PutsText status.Unwritten text s t = TookSome s text t × Rose s.faults t.faults
+PutsText status.CannotWrite text s t = TookSome s text t × Rose s.faults t.faults
 PutsText status.OutOfMemory text s t = t ≡ s
 PutsText _ text s t = ⊥

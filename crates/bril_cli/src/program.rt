@@ -14,13 +14,13 @@ use std::alloc::Global;
 
 /// The program of a tree, which has no imports, names without a fault, and a program that is accepted.
 ///
-/// `Unformed`: the tree has imports. `Misnamed`: a name has this fault. `Unaccepted`: the program has this fault.
+/// `SourceRefused`: the tree has imports. `Misnamed`: a name has this fault. `Unaccepted`: the program has this fault.
 pub fn accepted_program(alloc: Global, tree: &Tree) -> Result<Checked, Status>
     ensures ok { IfOk result (λ checked. IsAcceptedProgram tree.now checked.prog) }
     ensures err { IfErr result (λ status. RefusesProgram status tree.now) }
 {
     if !tree.imports.as_slice().is_empty() {
-        return Err(Status::Unformed);
+        return Err(Status::Unsupported);
     }
     let program = number(alloc, tree)?;
     check_program(alloc, program)

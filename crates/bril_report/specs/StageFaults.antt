@@ -24,7 +24,7 @@ status_of (Err how) = how
 
 -- the status of a fault of reading a file
 abbrev pub file_status : FileFault → Status
-file_status file.Failed = status.Unread
+file_status file.Failed = status.CannotRead
 file_status file.Memory = status.OutOfMemory
 
 -- the status of a fault of the text
@@ -69,6 +69,6 @@ check_status p check.Memory = status.OutOfMemory
 
 -- the status of a fault of the arguments
 abbrev pub argument_status : ArgFault → Status
-argument_status (argument.Count given wanted) = status.Miscounted given wanted
-argument_status (argument.Spelling place) = status.Misspelt place
+argument_status (argument.Count given wanted) = status.ArgumentCount given wanted
+argument_status (argument.Spelling position) = status.BadArgument position
 argument_status argument.Memory = status.OutOfMemory

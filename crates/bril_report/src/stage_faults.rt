@@ -2,7 +2,7 @@
 
 ghost use Rattle.std.specs.Prelude.{◌≡◌};
 ghost use Rattle.bril_report.specs.StageFaults.{status_of, file_status, text_status, json_status, name_status, check_status, argument_status};
-ghost use Rattle.bril_report.specs.declared.status.Status.TheVariants.{OutOfMemory, Unwritten};
+ghost use Rattle.bril_report.specs.declared.status.Status.TheVariants.{OutOfMemory, CannotWrite};
 
 use crate::status::{SourceFault, Status};
 use bril_arguments::ArgFault;
@@ -37,10 +37,10 @@ impl From<AllocError> for Status {
 
 /// A write to the output failed.
 impl From<Failed> for Status {
-    ghost from_gives = { λ _ status. status ≡ Unwritten };
+    ghost from_gives = { λ _ status. status ≡ CannotWrite };
 
     fn from(_fault: Failed) -> Status {
-        Status::Unwritten
+        Status::CannotWrite
     }
 }
 
@@ -49,7 +49,7 @@ impl From<FileFault> for Status {
 
     fn from(fault: FileFault) -> Status {
         match fault {
-            FileFault::Failed => Status::Unread,
+            FileFault::Failed => Status::CannotRead,
             FileFault::Memory => Status::OutOfMemory,
         }
     }
@@ -130,8 +130,8 @@ impl From<ArgFault> for Status {
 
     fn from(fault: ArgFault) -> Status {
         match fault {
-            ArgFault::Count { given, wanted } => Status::Miscounted { given, wanted },
-            ArgFault::Spelling { place } => Status::Misspelt { place },
+            ArgFault::Count { given, wanted } => Status::ArgumentCount { given, wanted },
+            ArgFault::Spelling { position } => Status::BadArgument { position },
             ArgFault::Memory => Status::OutOfMemory,
         }
     }

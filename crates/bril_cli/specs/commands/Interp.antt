@@ -5,7 +5,7 @@ use Rattle.bril_arguments.specs.Spelled.{AreSpelled}
 use Rattle.bril_arguments.specs.declared.fault.ArgFault.TheVariants as argument
 use Rattle.bril_arguments.specs.declared.fault.ArgFault.TheVariants.{Memory, Count, Spelling}
 use Rattle.bril_arguments.specs.declared.fault.ArgFault.{ArgFault}
-use Rattle.bril_interpreter.specs.Call.{WantsMemory}
+use Rattle.bril_interpreter.specs.StepAnswers.{WantsMemory}
 use Rattle.bril_outside.specs.Files.{FilesSeen}
 use Rattle.bril_outside.specs.Sink.{SinkSeen, Rose, TookAll, TookSome}
 use Rattle.bril_report.specs.Lines.{fault_line, spent_line, count_line, spelling_line}
@@ -36,7 +36,7 @@ pub record HasOnlyArgFault (types : List (Option Ty)) (words : List (List ℕ)) 
   pub only : (other : ArgFault) → HasArgFault types words other → fault ≡ other
   pub unspelled : (values : List Value) → AreSpelled types words values → ⊥
 
--- By its written meaning, and with the values that these words spell, the program under limits of so many frames and
+-- By its semantics, and with the values that these words spell, the program under limits of so many frames and
 -- cells has ended so within the steps, or runs on for None, and has printed these bytes.
 pub record Shows (p : Prog) (words : List (List ℕ)) (frames cells steps : ℕ) (ended : Option End) (output : List ℕ) : Type 0 where
   pub values : List Value
@@ -47,7 +47,7 @@ pub record Shows (p : Prog) (words : List (List ℕ)) (frames cells steps : ℕ)
   pub ends : (state_after p limits values steps).ended ≡ ended
   pub prints : (state_after p limits values steps).printed ≡ output
 
--- By its written meaning the program with these values stands after fewer than the steps at an item that takes memory and
+-- By its semantics the program with these values stands after fewer than the steps at an item that takes memory and
 -- doesn't end the run, and has printed these bytes.
 pub record StopsForMemory (p : Prog) (limits : Limits) (values : List Value) (steps : ℕ) (output : List ℕ) : Type 0 where
   pub made : ℕ
@@ -89,8 +89,8 @@ pub record AreOnlyValues (p : Prog) (args : List (List ℕ)) (values : List Valu
 -- why words are no arguments of `main`: memory is wanting only for values that they spell, or where no number of 32
 -- bits counts them
 abbrev pub RefusesArgs : Status → Prog → List (List ℕ) → Type 0
-RefusesArgs (status.Miscounted given wanted) p args = HasOnlyArgFault (main_types p) args (argument.Count given wanted)
-RefusesArgs (status.Misspelt place) p args = HasOnlyArgFault (main_types p) args (argument.Spelling place)
+RefusesArgs (status.ArgumentCount given wanted) p args = HasOnlyArgFault (main_types p) args (argument.Count given wanted)
+RefusesArgs (status.BadArgument place) p args = HasOnlyArgFault (main_types p) args (argument.Spelling place)
 RefusesArgs status.OutOfMemory p args = (2 ^ 32 ≤ length args) ⊎ IsFaultOf (main_types p) args argument.Memory
 RefusesArgs _ p args = ⊥
 
@@ -108,7 +108,7 @@ StepsTo status.Done p limits values steps s t = StandsAt (Some Ended) (state_aft
 StepsTo (status.Faulted fault) p limits values steps s t = StandsAt (Some (Faulted fault)) (state_after p limits values steps) s t
 StepsTo (status.Spent made) p limits values steps s t = (made ≡ steps) × StandsAt None (state_after p limits values steps) s t
 StepsTo status.OutOfMemory p limits values steps s t = StopsShort p limits values steps s t
-StepsTo status.Unwritten p limits values steps s t = TookSome s (state_after p limits values steps).printed t × Rose s.faults t.faults
+StepsTo status.CannotWrite p limits values steps s t = TookSome s (state_after p limits values steps).printed t × Rose s.faults t.faults
 StepsTo _ p limits values steps s t = ⊥
 
 -- what interpreting a program with the values that words spell answers

@@ -12,7 +12,7 @@ use Rattle.bril_tree.specs.declared.limits.Limits.{Limits}
 use Rattle.bril_tree.specs.declared.program.Prog.{Prog}
 use Rattle.bril_words.specs.declared.request.Action.TheVariants.{Run}
 use Rattle.bril_cli.specs.Call.{Call, ReadsWell, UnlessMemory}
-use Rattle.bril_cli.specs.Carries.{frame_words}
+use Rattle.bril_cli.specs.Implements.{frame_words}
 use Rattle.bril_cli.specs.CommandLine.{format_of}
 use Rattle.bril_cli.specs.Emitted.{bound_sum}
 use Rattle.bril_cli.specs.Refusal.{capped, PassesCode, PassesStack}
@@ -43,7 +43,7 @@ pub record IsWithin (p : Prog) : Type 0 where
   pub code : bound_sum p ≤ 250000
   pub stack : 8192 * frame_words p ≤ 8388608
 
--- By its written meaning the program ends after some steps, without a fault, and has printed these bytes.
+-- By its semantics the program ends after some steps, without a fault, and has printed these bytes.
 pub record EndsPrinting (p : Prog) (output : List ℕ) : Type 0 where
   pub steps : ℕ
   pub ended : (state_after p run_limits [] steps).ended ≡ Some Ended
@@ -90,14 +90,14 @@ RefusesImage _ p = ⊥
 -- what running an image of the program answers
 abbrev pub RunsImage : Status → Prog → SinkSeen → SinkSeen → Type 0
 RunsImage status.Done p s t = RanWhole p s t
-RunsImage status.Unwritten p s t = RanPartly p s t
+RunsImage status.CannotWrite p s t = RanPartly p s t
 RunsImage status.OutOfMemory p s t = t ≡ s
 RunsImage _ p s t = ⊥
 
 -- what running a program answers
 abbrev pub RunsProgram : Status → Prog → SinkSeen → SinkSeen → Type 0
 RunsProgram status.Done p s t = IsWithin p × RanWhole p s t
-RunsProgram status.Unwritten p s t = IsWithin p × RanPartly p s t
+RunsProgram status.CannotWrite p s t = IsWithin p × RanPartly p s t
 RunsProgram (status.CodeTooBig words) p s t = (PassesCode p × (words ≡ capped (bound_sum p))) × (t ≡ s)
 RunsProgram (status.StackTooBig words) p s t =
     ((bound_sum p ≤ 250000) × PassesStack 8192 p × (words ≡ capped (8192 * frame_words p))) × (t ≡ s)
@@ -107,7 +107,7 @@ RunsProgram _ p s t = ⊥
 -- what running an accepted program answers: one that isn't straight does not run
 abbrev pub RunsAccepted : Status → Prog → SinkSeen → SinkSeen → Type 0
 RunsAccepted how p s t =
-    ((is_straight p ≡ false) × (how ≡ status.Unformed) × (t ≡ s)) ⊎ ((is_straight p ≡ true) × RunsProgram how p s t)
+    ((is_straight p ≡ false) × (how ≡ status.Unsupported) × (t ≡ s)) ⊎ ((is_straight p ≡ true) × RunsProgram how p s t)
 
 -- ---- when `run` answers what
 

@@ -20,8 +20,8 @@ use std::alloc::Global;
 /// Interprets the program under the limits for so many steps, with the values that the words spell as the arguments of
 /// its `main`: what it prints goes to `out`.
 ///
-/// `Miscounted`, `Misspelt`: the words spell no such values, and nothing is put. `Faulted`, `Spent`: the program stopped
-/// with a fault, or goes on after the steps. `Unwritten`: a write failed. Out of memory, nothing is put, or what the
+/// `ArgumentCount`, `BadArgument`: the words spell no such values, and nothing is put. `Faulted`, `Spent`: the program stopped
+/// with a fault, or goes on after the steps. `CannotWrite`: a write failed. Out of memory, nothing is put, or what the
 /// program prints up to an item that takes memory.
 pub fn interpret<O: Sink>(
     alloc: Global,
@@ -69,7 +69,7 @@ fn run_with<O: Sink>(
         StepAnswer::Go => Err(Status::Spent { steps }),
         StepAnswer::End(End::Ended) => Ok(()),
         StepAnswer::End(End::Faulted(fault)) => Err(Status::Faulted { fault }),
-        StepAnswer::WriteFault => Err(Status::Unwritten),
+        StepAnswer::WriteFault => Err(Status::CannotWrite),
         StepAnswer::Memory => Err(Status::OutOfMemory),
     }
 }

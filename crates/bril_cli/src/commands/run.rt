@@ -1,7 +1,7 @@
 // `run`: an accepted program that is straight is made into an image, which the machine runs to its end.
 
 ghost use Rattle.std.specs.Prelude.{◌≡◌, ◌≤◌, ◌*◌, length, IfOk, IfErr};
-ghost use Rattle.bril_cli.specs.Carries.{Carries, frame_words};
+ghost use Rattle.bril_cli.specs.Implements.{Implements, frame_words};
 ghost use Rattle.bril_cli.specs.Straight.{IsStraightCode};
 ghost use Rattle.bril_cli.specs.commands.Run.{run_limits, emit_status, IsWithin, RefusesImage, RunsImage, RunsProgram, RunsAccepted};
 ghost use Rattle.bril_report.specs.StageFaults.{status_of};
@@ -23,14 +23,14 @@ const MOST_STEPS: u64 = 1000000000;
 
 /// Runs an accepted program on the machine: what it prints goes to `out`.
 ///
-/// `Unformed`: the program isn't straight. `CodeTooBig`, `StackTooBig`: it may have more than 250,000 words, or needs more
-/// than 8,388,608 words of stack. With these, and out of memory, nothing is put. `Unwritten`: a write failed.
+/// `SourceRefused`: the program isn't straight. `CodeTooBig`, `StackTooBig`: it may have more than 250,000 words, or needs more
+/// than 8,388,608 words of stack. With these, and out of memory, nothing is put. `CannotWrite`: a write failed.
 pub fn run<O: Sink>(alloc: Global, checked: &Checked, out: &mut O) -> Result<(), Status>
     ensures { RunsAccepted (status_of result) checked.now.prog (O.seen out.old) (O.seen out.new) }
 {
     let program = checked.prog();
     if !is_straight(program) {
-        return Err(Status::Unformed);
+        return Err(Status::Unsupported);
     }
     run_program(alloc, program, out)
 }
@@ -57,7 +57,7 @@ fn run_limits() -> Limits
 // The image of the program.
 fn compile(alloc: Global, program: &Prog) -> Result<Image, Status>
     requires { IsStraightCode program.now }
-    ensures carries { IfOk result (λ image. Carries image program.now run_limits) }
+    ensures implements { IfOk result (λ image. Implements image program.now run_limits) }
     ensures stack { IfOk result (λ image. image.stack ≡ 8192 * frame_words program.now) }
     ensures words { IfOk result (λ image. length image.words ≤ 250000) }
     ensures within { IfOk result (λ _. IsWithin program.now) }
@@ -87,7 +87,7 @@ fn run_image<O: Sink>(
     out: &mut O,
 ) -> Result<(), Status>
     requires straight { IsStraightCode program.now }
-    requires carries { Carries image.now program.now run_limits }
+    requires implements { Implements image.now program.now run_limits }
     requires stack { image.now.stack ≡ 8192 * frame_words program.now }
     requires words { length image.now.words ≤ 250000 }
     requires within { IsWithin program.now }
@@ -99,7 +99,7 @@ fn run_image<O: Sink>(
     };
     match machine.run(steps, out) {
         RunAnswer::End(End::Ended) => Ok(()),
-        RunAnswer::WriteFault => Err(Status::Unwritten),
+        RunAnswer::WriteFault => Err(Status::CannotWrite),
         RunAnswer::End(End::Faulted(_)) => unreachable!(),
         RunAnswer::Spent => unreachable!(),
         RunAnswer::Trap(_) => unreachable!(),

@@ -7,10 +7,10 @@ use Rattle.bril_arguments.proofs.Outcomes.{fits, reads, faults}
 use Rattle.bril_arguments.proofs.arguments.read_args.Goals as goal
 
 pub returns-clause-ok : goal.returns-clause-ok
-returns-clause-ok c = subst (λ ts. IfOk c.read_words.result (λ vs. AreSpelled ts c.args.words.now vs)) c.taken_by_main.ensures.types c.read_words.ensures.ok
+returns-clause-ok c = subst (λ ts. IfOk c.read_words.result (λ vs. AreSpelled ts c.args.words.now vs)) c.parameters_by_main.ensures.types c.read_words.ensures.ok
 
 pub returns-clause-fault : goal.returns-clause-fault
-returns-clause-fault c = subst (λ ts. IfErr c.read_words.result (λ e. IsFaultOf ts c.args.words.now e)) c.taken_by_main.ensures.types c.read_words.ensures.fault
+returns-clause-fault c = subst (λ ts. IfErr c.read_words.result (λ e. IsFaultOf ts c.args.words.now e)) c.parameters_by_main.ensures.types c.read_words.ensures.fault
 
 pub returns-clause-fits : goal.returns-clause-fits
 returns-clause-fits c = fits (main_types c.args.prog.now) c.args.words.now c.read_words.result (returns-clause-ok c)
