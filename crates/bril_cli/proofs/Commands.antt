@@ -50,21 +50,25 @@ asked_in : Asked → Result Asked Misuse → Asked
 asked_in other (Ok request) = request
 asked_in other (Err misuse) = other
 
-module _ (c : Call) (a b : Action) (p q : List ℕ) (xs ys : List (List ℕ)) (e : AsksFor c.words a p xs) (f : AsksFor c.words b q ys) where
-  one_request : Asked
-  one_request = record { action = a; path = p; args = xs }
+-- a request with these parts
+abbrev pub request_of : Action → List ℕ → List (List ℕ) → Asked
+request_of action path args = record { action = action; path = path; args = args }
 
+pub Ok_not_Err : {request : Asked} {misuse : Misuse} → Ok request ≡ Err misuse → ⊥
+Ok_not_Err e = cc
+
+module _ (c : Call) (a b : Action) (p q : List ℕ) (xs ys : List (List ℕ)) (e : AsksFor c.words a p xs) (f : AsksFor c.words b q ys) where
   asked_path : q ≡ p
-  unfolding asked_in one_request
-  asked_path = ap (λ r. (asked_in one_request r).path) (sym f ∙ e)
+  unfolding asked_in
+  asked_path = ap (λ r. (asked_in (request_of a p xs) r).path) (sym f ∙ e)
 
   asked_args : ys ≡ xs
-  unfolding asked_in one_request
-  asked_args = ap (λ r. (asked_in one_request r).args) (sym f ∙ e)
+  unfolding asked_in
+  asked_args = ap (λ r. (asked_in (request_of a p xs) r).args) (sym f ∙ e)
 
   asked_action : b ≡ a
-  unfolding asked_in one_request
-  asked_action = ap (λ r. (asked_in one_request r).action) (sym f ∙ e)
+  unfolding asked_in
+  asked_action = ap (λ r. (asked_in (request_of a p xs) r).action) (sym f ∙ e)
 
 -- ---- where the files tell the bytes, what they may hold is these
 

@@ -218,35 +218,35 @@ Answers status c =
 
 -- The bytes' fault is told.
 abbrev pub MisreadWhere : ℕ → Call → Type 0
-MisreadWhere status c =
+MisreadWhere number c =
     (action : Action) (bytes : List ℕ) (fault : SourceFault) (reads : ReadsWell c action bytes) → length bytes ≤ most_bytes → HasFault (format_of reads.path) bytes fault →
-    UnlessMemory status ((status ≡ 65) × Says c.err_before (misread_line reads.path fault) c.err_after)
+    UnlessMemory number ((number ≡ 65) × Says c.err_before (misread_line reads.path fault) c.err_after)
 
 -- The names' fault is told.
 abbrev pub MisnamedWhere : ℕ → Call → Type 0
-MisnamedWhere status c =
+MisnamedWhere number c =
     (action : Action) → NeedsProgram action → (bytes : List ℕ) (fault : NameFault) (reads : ReadsWell c action bytes) → length bytes ≤ most_bytes → HasNameFault (format_of reads.path) bytes fault →
-    UnlessMemory status ((status ≡ 65) × Says c.err_before (misnamed_line fault) c.err_after)
+    UnlessMemory number ((number ≡ 65) × Says c.err_before (misnamed_line fault) c.err_after)
 
 -- The checker's fault is told.
 abbrev pub UncheckedWhere : ℕ → Call → Type 0
-UncheckedWhere status c =
+UncheckedWhere number c =
     (action : Action) → NeedsProgram action → (bytes : List ℕ) (program : Prog) (fault : CheckFault) (reads : ReadsWell c action bytes) → length bytes ≤ most_bytes → IsSource (format_of reads.path) bytes program →
-    checker.HasFault program fault → UnlessMemory status ((status ≡ 65) × Says c.err_before (unaccepted_line program fault) c.err_after)
+    checker.HasFault program fault → UnlessMemory number ((number ≡ 65) × Says c.err_before (unaccepted_line program fault) c.err_after)
 
 -- A file whose program isn't built, or can't run yet, is told.
 abbrev pub FormlessWhere : ℕ → Call → Type 0
-FormlessWhere status c =
+FormlessWhere number c =
     (action : Action) → NeedsProgram action → (bytes : List ℕ) (reads : ReadsWell c action bytes) → length bytes ≤ most_bytes → IsFormless action (format_of reads.path) bytes →
-    UnlessMemory status ((status ≡ 65) × Says c.err_before (form_line reads.path) c.err_after)
+    UnlessMemory number ((number ≡ 65) × Says c.err_before (form_line reads.path) c.err_after)
 
 -- No file is at the path.
 abbrev pub LackingWhere : ℕ → Call → Type 0
-LackingWhere status c = AsksNone c → UnlessMemory status (status ≡ 66)
+LackingWhere number c = AsksNone c → UnlessMemory number (number ≡ 66)
 
 -- The file has too many bytes.
 abbrev pub LongFileWhere : ℕ → Call → Type 0
-LongFileWhere status c = (action : Action) (bytes : List ℕ) → ReadsWell c action bytes → most_bytes < length bytes → UnlessMemory status (status ≡ 68)
+LongFileWhere number c = (action : Action) (bytes : List ℕ) → ReadsWell c action bytes → most_bytes < length bytes → UnlessMemory number (number ≡ 68)
 
 -- What the top call promises of its status.
 pub record Promises (status : ℕ) (c : Call) : Type 0 where

@@ -129,23 +129,23 @@ argument_line Memory = codes "out of memory\n"
 
 -- what is told of a run that was interpreted for so many steps and has ended so, None where it goes on
 abbrev pub TellsRun : Option End → ℕ → ℕ → Call → Type 0
-TellsRun None steps status c = (status ≡ 3) × Says c.err_before (spent_line steps) c.err_after
-TellsRun (Some Ended) steps status c = (status ≡ 0) × (c.err_after ≡ c.err_before)
-TellsRun (Some (Faulted fault)) steps status c = (status ≡ 2) × Says c.err_before (fault_line fault) c.err_after
+TellsRun None steps number c = (number ≡ 3) × Says c.err_before (spent_line steps) c.err_after
+TellsRun (Some Ended) steps number c = (number ≡ 0) × (c.err_after ≡ c.err_before)
+TellsRun (Some (Faulted fault)) steps number c = (number ≡ 2) × Says c.err_before (fault_line fault) c.err_after
 
 -- ---- when `interp` answers what
 
 -- An accepted program whose arguments are spelled is interpreted for the steps.
 abbrev pub InterpretsWhere : ℕ → Call → Type 0
-InterpretsWhere status c =
+InterpretsWhere number c =
     (frames cells steps : ℕ) (bytes : List ℕ) (program : Prog) (values : List Value) (limits : Limits) (reads : ReadsWell c (Interpret frames cells steps) bytes) →
     length bytes ≤ most_bytes → IsSource (format_of reads.path) bytes program → IsAccepted program → AreSpelled (main_types program) reads.args values →
     limits.frames ≡ frames → limits.cells ≡ cells → ¬ Rose c.out_before.faults c.out_after.faults → let state = state_after program limits values steps in
-    UnlessMemory status (TellsRun state.ended steps status c × TookAll c.out_before state.printed c.out_after)
+    UnlessMemory number (TellsRun state.ended steps number c × TookAll c.out_before state.printed c.out_after)
 
 -- Arguments that don't fit an accepted program are told.
 abbrev pub MisarguedWhere : ℕ → Call → Type 0
-MisarguedWhere status c =
+MisarguedWhere number c =
     (frames cells steps : ℕ) (bytes : List ℕ) (program : Prog) (fault : ArgFault) (reads : ReadsWell c (Interpret frames cells steps) bytes) →
     length bytes ≤ most_bytes → IsSource (format_of reads.path) bytes program → IsAccepted program → fault ≢ Memory → IsFaultOf (main_types program) reads.args fault →
-    UnlessMemory status ((status ≡ 69) × Says c.err_before (argument_line fault) c.err_after)
+    UnlessMemory number ((number ≡ 69) × Says c.err_before (argument_line fault) c.err_after)

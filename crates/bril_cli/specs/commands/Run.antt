@@ -11,6 +11,8 @@ use Rattle.bril_tree.specs.declared.limits.End.TheVariants.{Ended}
 use Rattle.bril_tree.specs.declared.limits.Limits.{Limits}
 use Rattle.bril_tree.specs.declared.program.Prog.{Prog}
 use Rattle.bril_words.specs.declared.request.Action.TheVariants.{Run}
+use Rattle.bril_cli.specs.declared.emission.EmitFault.{EmitFault}
+use Rattle.bril_cli.specs.declared.emission.EmitFault.TheVariants as fault
 use Rattle.bril_cli.specs.Call.{Call, ReadsWell, UnlessMemory}
 use Rattle.bril_cli.specs.Implements.{frame_words}
 use Rattle.bril_cli.specs.CommandLine.{format_of}
@@ -79,6 +81,12 @@ pub record RanPartly (p : Prog) (s t : SinkSeen) : Type 0 where
   pub took : TookSome s output t
   pub rose : Rose s.faults t.faults
 
+-- the status of a program that gets no image
+abbrev pub emit_status : EmitFault → Status
+emit_status (fault.CodeTooBig words) = status.CodeTooBig words
+emit_status (fault.StackTooBig words) = status.StackTooBig words
+emit_status fault.Memory = status.OutOfMemory
+
 -- why no image was made of a program
 abbrev pub RefusesImage : Status → Prog → Type 0
 RefusesImage (status.CodeTooBig words) p = PassesCode p × (words ≡ capped (bound_sum p))
@@ -113,12 +121,12 @@ RunsAccepted how p s t =
 
 -- An accepted straight program within the bounds is run to its end.
 abbrev pub RunsWhere : ℕ → Call → Type 0
-RunsWhere status c =
+RunsWhere number c =
     (bytes : List ℕ) (program : Prog) (reads : ReadsWell c Run bytes) → length bytes ≤ most_bytes → IsSource (format_of reads.path) bytes program →
-    IsAccepted program → is_straight program ≡ true → IsWithin program → ¬ Rose c.out_before.faults c.out_after.faults → UnlessMemory status ((status ≡ 0) × Prints c program)
+    IsAccepted program → is_straight program ≡ true → IsWithin program → ¬ Rose c.out_before.faults c.out_after.faults → UnlessMemory number ((number ≡ 0) × Prints c program)
 
 -- One that isn't within them is too large.
 abbrev pub LongProgramWhere : ℕ → Call → Type 0
-LongProgramWhere status c =
+LongProgramWhere number c =
     (bytes : List ℕ) (program : Prog) (reads : ReadsWell c Run bytes) → length bytes ≤ most_bytes → IsSource (format_of reads.path) bytes program →
-    IsAccepted program → is_straight program ≡ true → ¬ IsWithin program → UnlessMemory status (status ≡ 68)
+    IsAccepted program → is_straight program ≡ true → ¬ IsWithin program → UnlessMemory number (number ≡ 68)

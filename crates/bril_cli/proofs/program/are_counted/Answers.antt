@@ -3,7 +3,7 @@ use Rattle.std.specs.Prelude.{◌^◌, ◌-◌}
 use Rattle.std.proofs.lemmas.List.{take_all}
 use Rattle.std.proofs.lemmas.List.Elements.{All-more}
 use Rattle.bril_tree.specs.declared.numbered_function.Func.{Func}
-use Rattle.bril_cli.proofs.work.are_counted.Goals as goal
+use Rattle.bril_cli.proofs.program.are_counted.Goals as goal
 
 abbrev HasFew : Func → Type 0
 HasFew f = length f.code < 2 ^ 32 - 1

@@ -1,9 +1,9 @@
 -- A run of the image ends as the program does, or a write fails.
 use Rattle.std.proofs.Common.{rules}
 use Rattle.bril_cli.proofs.Runs.{IsFresh, IsImageOf, whole, partly, no_fault, no_trap, not_spent}
-use Rattle.bril_cli.proofs.work.run_image.Given.{Over}
-use Rattle.bril_cli.proofs.work.run_image.Goals as goal
-use Rattle.bril_cli.proofs.work.run_image.Goals.{After-run}
+use Rattle.bril_cli.proofs.commands.run.run_image.Given.{Over}
+use Rattle.bril_cli.proofs.commands.run.run_image.Goals as goal
+use Rattle.bril_cli.proofs.commands.run.run_image.Goals.{After-run}
 
 made : (g : Over) (c : After-run g) → IsImageOf c.args.image.now c.args.program.now
 made g c = record { straight = c.requires.straight; implements = c.requires.implements; within = c.requires.within }

@@ -1,6 +1,6 @@
 use Rattle.std.proofs.Common.{◌<◌, length, take, All}
 use Rattle.std.specs.Prelude.{◌^◌, ◌-◌}
-use Rattle.bril_cli.proofs.work.are_counted.Given as goal
+use Rattle.bril_cli.proofs.program.are_counted.Given as goal
 
 -- the items of the functions so far have numbers of 32 bits
 abbrev pub invariant-loop-function : goal.invariant-loop-function
