@@ -114,7 +114,7 @@ no_program _ tree refuses = absurd refuses
 exhausted : (how : Status) (A : Type 0) → how ≡ status.OutOfMemory → UnlessMemory (status_number how) A
 exhausted how A e = inl (ap status_number e)
 
--- From what was read well: memory was wanting, or the file is too long, or its bytes have a fault, or its tree was dealt with.
+-- From what was read well: memory ran out, or the file is too long, or its bytes have a fault, or its tree was dealt with.
 module _ (c : Call) (action : Action) (path : List ℕ) (args : List (List ℕ)) (how : Status) (ends : Ends c action path args how) (asks : Action) (bytes : List ℕ) (reads : ReadsWell c asks bytes) where
   same_path : reads.path ≡ path
   same_path = asked_path c action asks path reads.path args reads.args ends.asked reads.asked
@@ -153,7 +153,7 @@ asks_program (Interpret frames cells steps) how tree args s t needs does = does
 asks_program Check how tree args s t needs does = does
 asks_program _ how tree args s t needs does = absurd needs
 
--- From asking for a program: memory was wanting, or the tree has imports, or a fault of a name, or a program with a fault of the checker, or its accepted program was dealt with.
+-- From asking for a program: memory ran out, or the tree has imports, or a fault of a name, or a program with a fault of the checker, or its accepted program was dealt with.
 module _ (action : Action) (how : Status) (tree : Tree) (args : List (List ℕ)) (s t : SinkSeen) (asks : AsksProgram action how tree args s t) where
   by_names : (A : Type 0) → (how ≡ status.OutOfMemory → A) → (tree.imports ≢ [] → how ≡ status.Unsupported → A)
       → (tree.imports ≡ [] → (fault : NameFault) → how ≡ status.Misnamed fault → IsOnlyNameFault tree fault → A)
@@ -226,7 +226,7 @@ one_program tree p q numbered only = only.alone p numbered
 -- ---- the clauses
 
 module _ (c : Call) (action : Action) (path : List ℕ) (args : List (List ℕ)) (how : Status) (ends : Ends c action path args how) where
-  -- The bytes' program is that of their tree, and nothing else comes where there is one: memory was wanting, or the program has a fault of the checker, or it is accepted and was dealt with.
+  -- The bytes' program is that of their tree, and nothing else comes where there is one: memory ran out, or the program has a fault of the checker, or it is accepted and was dealt with.
   with_program : (asks : Action) → NeedsProgram asks → (A : Type 0) (bytes : List ℕ) (p : Prog) (reads : ReadsWell c asks bytes) → length bytes ≤ most_bytes → IsSource (format_of reads.path) bytes p
       → (how ≡ status.OutOfMemory → A) → ((fault : CheckFault) → how ≡ status.Unaccepted p fault → HasOnlyCheckFault p fault → A) → (IsFaultless p → DoesProgram asks how p args c.out_before c.out_after → A) → A
   with_program asks needs A bytes p reads short source memory unaccepted goes =

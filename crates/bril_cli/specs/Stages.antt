@@ -52,7 +52,7 @@ pub record IsFaultless (p : Prog) : Type 0 where
   pub accepted : IsAccepted p
   pub faultless : (fault : CheckFault) → checker.HasFault p fault → ⊥
 
--- why a program was not accepted: memory is wanting only for the checker, or where no numbers of 32 bits count its parts
+-- why a program was not accepted: memory runs out only for the checker, or where no numbers of 32 bits count its parts
 abbrev pub RefusesCheck : Status → Prog → Type 0
 RefusesCheck (status.Unaccepted program fault) p = (program ≡ p) × HasOnlyCheckFault p fault
 RefusesCheck status.OutOfMemory p = (¬ IsCounted p) ⊎ checker.TakesMemory p

@@ -17,8 +17,8 @@ use std::alloc::Global;
 /// The words are the program's name, a command, and the path of a file: one byte or more, of which the first
 /// is no `-`. The commands are `run`, which runs the file's program, `interp`, which interprets it, `check`, which writes
 /// how many functions and items its accepted program has, and `text` and `json`, which write the file in canonical text,
-/// and in canonical JSON and LF. Behind the path of `interp` may stand options, each with its number as the next word,
-/// `--frames` (from 1 to 65,536; 8,192 where it doesn't stand), `--cells` (to 4,194,304; 1,048,576) and `--steps` (to
+/// and in canonical JSON and LF. After the path of `interp` there may be options, each with its number as the next word,
+/// `--frames` (from 1 to 65,536; 8,192 where it isn't given), `--cells` (to 4,194,304; 1,048,576) and `--steps` (to
 /// 1,000,000,000,000; 1,000,000,000), and then `--` and the arguments of `@main`. A file whose path ends in `.json` is in
 /// the JSON form of the Bril documentation, and any other in its text form. To be checked, interpreted or run it has to be
 /// without imports. To be run its program has to be straight: one function `@main` of constants, sums and prints of ints,
@@ -34,12 +34,12 @@ use std::alloc::Global;
 /// | 65 | the file is no program in its form | `PATH: text K at AT`, `PATH: json K function F item I` |
 /// | 65 | the file is to be checked, interpreted or run and has imports | `PATH: form` |
 /// | 65 | the file is to be checked, interpreted or run, and a name in it stands twice or for nothing | `name K function F item I` |
-/// | 65 | the file is to be checked, interpreted or run, and its program isn't accepted | `check K function F item I`, for K = 3 with ` variable NAME` behind it |
+/// | 65 | the file is to be checked, interpreted or run, and its program isn't accepted | `check K function F item I`, for K = 3 with ` variable NAME` after it |
 /// | 65 | the file is to be run, and its accepted program isn't straight | `PATH: form` |
 /// | 66 | the file is not there, or reading it failed | `cannot read PATH` |
 /// | 68 | the file has more than 16,777,216 bytes, or the program's words may be more than 250,000, or its 8,192 frames need more than 8,388,608 words | `too large: bytes`, `too large: code WORDS`, `too large: stack WORDS` |
 /// | 69 | the program is to be interpreted, and the arguments are not as many as `@main` takes, or one spells no value of its type, the first of them at this place from 1 | `arguments: GIVEN given, WANTED wanted`, `argument PLACE` |
-/// | 71 | memory was wanting before anything was put on `out` or, for `interp`, at an item that takes memory, up to which `out` took what the program prints | `out of memory` |
+/// | 71 | memory ran out before anything was put on `out` or, for `interp`, at an item that takes memory, up to which `out` took what the program prints | `out of memory` |
 /// | 74 | a write to `out` failed, which took the first of what goes there | `cannot write` |
 ///
 /// Where several causes stand together, the first in this order is answered: 64, 66, the file's size, 65 in the order of

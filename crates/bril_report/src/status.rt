@@ -46,7 +46,7 @@ pub enum Status {
     ArgumentCount { given: u32, wanted: u32 },
     /// The argument at this position, from 1, spells no value of its type.
     BadArgument { position: u32 },
-    /// Memory was wanting.
+    /// Memory ran out.
     OutOfMemory,
     /// A write to the output failed.
     CannotWrite,

@@ -86,7 +86,7 @@ pub record AreOnlyValues (p : Prog) (args : List (List ℕ)) (values : List Valu
   pub only : (other : List Value) → AreSpelled (main_types p) args other → values ≡ other
   pub faultless : (fault : ArgFault) → HasArgFault (main_types p) args fault → ⊥
 
--- why words are no arguments of `main`: memory is wanting only for values that they spell, or where no number of 32
+-- why words are no arguments of `main`: memory runs out only for values that they spell, or where no number of 32
 -- bits counts them
 abbrev pub RefusesArgs : Status → Prog → List (List ℕ) → Type 0
 RefusesArgs (status.ArgumentCount given wanted) p args = HasOnlyArgFault (main_types p) args (argument.Count given wanted)
@@ -98,7 +98,7 @@ RefusesArgs _ p args = ⊥
 abbrev pub StandsAt : Option End → State → SinkSeen → SinkSeen → Type 0
 StandsAt ended u s t = (u.ended ≡ ended) × TookAll s u.printed t
 
--- what is left where memory was wanting: nothing, or what was printed up to an item that takes memory
+-- what is left where memory ran out: nothing, or what was printed up to an item that takes memory
 abbrev pub StopsShort : Prog → Limits → List Value → ℕ → SinkSeen → SinkSeen → Type 0
 StopsShort p limits values steps s t = (t ≡ s) ⊎ ((output : List ℕ) × StopsForMemory p limits values steps output × TookAll s output t)
 

@@ -3,6 +3,7 @@ use Rattle.std.proofs.Common.{lit≤}
 use Rattle.std.specs.Prelude.{ℕ, ◌≡◌, ◌⊎◌, ◌*◌, ◌≤◌, true, false, List, [], length, Some}
 use Rattle.bril_outside.specs.Files.{FilesSeen}
 use Rattle.bril_outside.specs.Sink.{SinkSeen, Rose, TookAll, TookSome}
+use Rattle.bril_report.specs.Lines.{code_line, stack_line}
 use Rattle.bril_report.specs.declared.status.Status.TheVariants as status
 use Rattle.bril_report.specs.declared.status.Status.{Status}
 use Rattle.bril_tree.specs.Accepted.{IsAccepted}
@@ -13,7 +14,7 @@ use Rattle.bril_tree.specs.declared.program.Prog.{Prog}
 use Rattle.bril_words.specs.declared.request.Action.TheVariants.{Run}
 use Rattle.bril_cli.specs.declared.emission.EmitFault.{EmitFault}
 use Rattle.bril_cli.specs.declared.emission.EmitFault.TheVariants as fault
-use Rattle.bril_cli.specs.Call.{Call, ReadsWell, UnlessMemory}
+use Rattle.bril_cli.specs.Call.{Call, SaysAlone, ReadsWell, UnlessMemory}
 use Rattle.bril_cli.specs.Implements.{frame_words}
 use Rattle.bril_cli.specs.CommandLine.{format_of}
 use Rattle.bril_cli.specs.Emitted.{bound_sum}
@@ -51,16 +52,34 @@ pub record EndsPrinting (p : Prog) (output : List ℕ) : Type 0 where
   pub ended : (state_after p run_limits [] steps).ended ≡ Some Ended
   pub prints : (state_after p run_limits [] steps).printed ≡ output
 
--- The file at the path reads as an accepted program that is straight and within the bounds, and prints this output.
-pub record Runs (files : FilesSeen) (path output : List ℕ) : Type 0 where
+-- The file at the path reads as this program, which is accepted and straight.
+pub record IsStraightFile (files : FilesSeen) (path : List ℕ) (p : Prog) : Type 0 where
   pub bytes : List ℕ
   pub file : IsFile files path bytes
+  pub source : IsOnlySource (format_of path) bytes p
+  pub accepted : IsAccepted p
+  pub straight : is_straight p ≡ true
+
+-- The program is within the bounds, and prints this output.
+pub record Runs (files : FilesSeen) (path output : List ℕ) : Type 0 where
   pub program : Prog
-  pub source : IsOnlySource (format_of path) bytes program
-  pub accepted : IsAccepted program
-  pub straight : is_straight program ≡ true
+  pub is : IsStraightFile files path program
   pub within : IsWithin program
   pub prints : EndsPrinting program output
+
+-- The program has too many words of code, or it has few enough and needs too many words of stack.
+pub record LongCode (c : Call) (path : List ℕ) : Type 0 where
+  pub program : Prog
+  pub is : IsStraightFile c.files_before path program
+  pub long : PassesCode program
+  pub alone : SaysAlone c (code_line (capped (bound_sum program)))
+
+pub record LongStack (c : Call) (path : List ℕ) : Type 0 where
+  pub program : Prog
+  pub is : IsStraightFile c.files_before path program
+  pub short_code : bound_sum program ≤ 250000
+  pub long : PassesStack 8192 program
+  pub alone : SaysAlone c (stack_line (capped (8192 * frame_words program)))
 
 -- The output took all that the program prints up to its end.
 pub record Prints (c : Call) (p : Prog) : Type 0 where

@@ -1,4 +1,4 @@
--- A run of the interpreter makes the steps of the program, or a write fails, or memory is wanting.
+-- A run of the interpreter makes the steps of the program, or a write fails, or memory runs out.
 use Rattle.std.proofs.Common.{refl, ap, inl}
 use Rattle.bril_checker.specs.Checked.{CheckedView}
 use Rattle.bril_cli.proofs.Interpreting.{IsFresh, ended, goes_on, exhausted, failed}
