@@ -29,11 +29,17 @@ use Rattle.bril_words.specs.declared.misuse.Misuse.{Misuse}
 use Rattle.bril_words.specs.declared.request.Action.{Action}
 use Rattle.bril_words.specs.declared.request.Action.TheVariants.{Run, Interpret, Check, WriteText, WriteJson}
 use Rattle.bril_cli.specs.declared.source.Format.{Format}
-use Rattle.bril_cli.specs.Answers.{Call, ReadsWell, AsksNone, Prints, TellsRun, UnlessMemory, argument_line}
+use Rattle.bril_cli.specs.Call.{Call, ReadsWell, AsksNone, UnlessMemory}
+use Rattle.bril_cli.specs.Driver.{IsFormless, DoesProgram, AsksProgram, DoesTree}
+use Rattle.bril_cli.specs.Source.{most_bytes, HoldsFile, ReadsAs, HasFault, HasNameFault, HasOnlyCheckFault, HasImports, IsOnlyTree, IsOnlyFault, IsSource, IsLongFile}
+use Rattle.bril_cli.specs.Stages.{RefusesFile, RefusesTree, RefusesProgram, IsOnlyNameFault, IsOnlyProgram, IsAcceptedProgram, IsFaultless, PutsText}
+use Rattle.bril_cli.specs.commands.Check.{accepted_line}
+use Rattle.bril_cli.specs.commands.Interp.{TellsRun, argument_line, HasOnlyArgFault, RefusesArgs, StepsTo}
+use Rattle.bril_cli.specs.commands.Json.{json_line}
+use Rattle.bril_cli.specs.commands.Run.{Prints, IsCrooked, IsWithin, RunsProgram}
+use Rattle.bril_report.specs.StageFaults.{argument_status}
 use Rattle.bril_cli.specs.CommandLine.{AsksFor, format_of, NeedsProgram}
-use Rattle.bril_cli.specs.Source.{most_bytes, json_line, accepted_line, HoldsFile, ReadsAs, HasFault, HasNameFault, HasOnlyCheckFault, HasOnlyArgFault, HasImports, IsCrooked, IsFormless, IsOnlyTree, IsOnlyFault, IsSource, IsWithin}
 use Rattle.bril_cli.specs.Straight.{is_straight}
-use Rattle.bril_cli.specs.Works.{RefusesFile, RefusesTree, RefusesProgram, RefusesArgs, IsOnlyNameFault, IsOnlyProgram, IsAcceptedProgram, IsFaultless, RunsProgram, StepsTo, DoesProgram, AsksProgram, PutsText, DoesTree, IsLongFile, argument_status}
 use Rattle.bril_cli.proofs.Interpreting.{Limits-same}
 use Rattle.bril_cli.proofs.Statuses.{Ends, Numbered-source, has_in}
 
@@ -44,21 +50,25 @@ asked_in : Asked → Result Asked Misuse → Asked
 asked_in other (Ok request) = request
 asked_in other (Err misuse) = other
 
-module _ (c : Call) (a b : Action) (p q : List ℕ) (xs ys : List (List ℕ)) (e : AsksFor c.words a p xs) (f : AsksFor c.words b q ys) where
-  one_request : Asked
-  one_request = record { action = a; path = p; args = xs }
+-- a request with these parts
+abbrev pub request_of : Action → List ℕ → List (List ℕ) → Asked
+request_of action path args = record { action = action; path = path; args = args }
 
+pub Ok_not_Err : {request : Asked} {misuse : Misuse} → Ok request ≡ Err misuse → ⊥
+Ok_not_Err e = cc
+
+module _ (c : Call) (a b : Action) (p q : List ℕ) (xs ys : List (List ℕ)) (e : AsksFor c.words a p xs) (f : AsksFor c.words b q ys) where
   asked_path : q ≡ p
-  unfolding asked_in one_request
-  asked_path = ap (λ r. (asked_in one_request r).path) (sym f ∙ e)
+  unfolding asked_in
+  asked_path = ap (λ r. (asked_in (request_of a p xs) r).path) (sym f ∙ e)
 
   asked_args : ys ≡ xs
-  unfolding asked_in one_request
-  asked_args = ap (λ r. (asked_in one_request r).args) (sym f ∙ e)
+  unfolding asked_in
+  asked_args = ap (λ r. (asked_in (request_of a p xs) r).args) (sym f ∙ e)
 
   asked_action : b ≡ a
-  unfolding asked_in one_request
-  asked_action = ap (λ r. (asked_in one_request r).action) (sym f ∙ e)
+  unfolding asked_in
+  asked_action = ap (λ r. (asked_in (request_of a p xs) r).action) (sym f ∙ e)
 
 -- ---- where the files tell the bytes, what they may hold is these
 
@@ -104,7 +114,7 @@ no_program _ tree refuses = absurd refuses
 exhausted : (how : Status) (A : Type 0) → how ≡ status.OutOfMemory → UnlessMemory (status_number how) A
 exhausted how A e = inl (ap status_number e)
 
--- From what was read well: memory was wanting, or the file is too long, or its bytes have a fault, or its tree was dealt with.
+-- From what was read well: memory ran out, or the file is too long, or its bytes have a fault, or its tree was dealt with.
 module _ (c : Call) (action : Action) (path : List ℕ) (args : List (List ℕ)) (how : Status) (ends : Ends c action path args how) (asks : Action) (bytes : List ℕ) (reads : ReadsWell c asks bytes) where
   same_path : reads.path ≡ path
   same_path = asked_path c action asks path reads.path args reads.args ends.asked reads.asked
@@ -143,7 +153,7 @@ asks_program (Interpret frames cells steps) how tree args s t needs does = does
 asks_program Check how tree args s t needs does = does
 asks_program _ how tree args s t needs does = absurd needs
 
--- From asking for a program: memory was wanting, or the tree has imports, or a fault of a name, or a program with a fault of the checker, or its accepted program was dealt with.
+-- From asking for a program: memory ran out, or the tree has imports, or a fault of a name, or a program with a fault of the checker, or its accepted program was dealt with.
 module _ (action : Action) (how : Status) (tree : Tree) (args : List (List ℕ)) (s t : SinkSeen) (asks : AsksProgram action how tree args s t) where
   by_names : (A : Type 0) → (how ≡ status.OutOfMemory → A) → (tree.imports ≢ [] → how ≡ status.Unsupported → A)
       → (tree.imports ≡ [] → (fault : NameFault) → how ≡ status.Misnamed fault → IsOnlyNameFault tree fault → A)
@@ -216,7 +226,7 @@ one_program tree p q numbered only = only.alone p numbered
 -- ---- the clauses
 
 module _ (c : Call) (action : Action) (path : List ℕ) (args : List (List ℕ)) (how : Status) (ends : Ends c action path args how) where
-  -- The bytes' program is that of their tree, and nothing else comes where there is one: memory was wanting, or the program has a fault of the checker, or it is accepted and was dealt with.
+  -- The bytes' program is that of their tree, and nothing else comes where there is one: memory ran out, or the program has a fault of the checker, or it is accepted and was dealt with.
   with_program : (asks : Action) → NeedsProgram asks → (A : Type 0) (bytes : List ℕ) (p : Prog) (reads : ReadsWell c asks bytes) → length bytes ≤ most_bytes → IsSource (format_of reads.path) bytes p
       → (how ≡ status.OutOfMemory → A) → ((fault : CheckFault) → how ≡ status.Unaccepted p fault → HasOnlyCheckFault p fault → A) → (IsFaultless p → DoesProgram asks how p args c.out_before c.out_after → A) → A
   with_program asks needs A bytes p reads short source memory unaccepted goes =

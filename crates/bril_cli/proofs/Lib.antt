@@ -8,6 +8,7 @@ pub mod ImageSystem
 pub mod Interpreting
 pub mod MachineSteps
 pub mod Outcomes
+pub mod Promises
 pub mod Relation
 pub mod Runs
 pub mod Start

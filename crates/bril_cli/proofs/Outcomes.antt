@@ -1,7 +1,9 @@
 -- What the steps of an action on a file come to.
 use Rattle.std.proofs.Common.{◌≡◌, ◌⊎◌, ℕ, List, [], Result, Ok, Err, IfOk, refl, sym, subst, ⊎_elim, inr}
-use Rattle.std.specs.Prelude.{IfErr, MatchResult}
-use Rattle.bril_outside.specs.Sink.{SinkSeen}
+use Rattle.std.specs.Prelude.{IfErr}
+use Rattle.bril_outside.specs.Files.{FilesSeen, MayFail}
+use Rattle.bril_outside.specs.declared.files.FileFault.{FileFault}
+use Rattle.bril_outside.specs.declared.files.FileFault.TheVariants as file
 use Rattle.bril_tree.specs.declared.tree.Tree.{Tree}
 use Rattle.bril_tree.specs.Accepted.{IsAccepted}
 use Rattle.bril_tree.specs.declared.program.Prog.{Prog}
@@ -20,12 +22,19 @@ use Rattle.bril_text.specs.Reading as text_reading
 use Rattle.bril_text.specs.declared.fault.TextFault.{TextFault}
 use Rattle.bril_text.specs.declared.fault.TextFault.TheVariants as text
 use Rattle.bril_cli.specs.Source.{HasFault, HasOnlyCheckFault, IsOnlyTree, IsOnlyFault}
-use Rattle.bril_cli.specs.Works.{RefusesTree, RefusesNames, RefusesCheck, RefusesProgram, PutsText, IsOnlyNameFault, IsOnlyProgram, IsFaultless, IsAcceptedProgram, text_status, json_status, name_status, check_status}
+use Rattle.bril_cli.specs.Stages.{RefusesFile, RefusesTree, RefusesNames, RefusesCheck, RefusesProgram, IsOnlyNameFault, IsOnlyProgram, IsFaultless, IsAcceptedProgram}
+use Rattle.bril_report.specs.StageFaults.{file_status, text_status, json_status, name_status, check_status}
 use Rattle.bril_report.specs.declared.status.Status.{Status}
 use Rattle.bril_report.specs.declared.status.Status.TheVariants as status
 use Rattle.bril_cli.specs.declared.source.Format.TheVariants.{InText, InJson}
 use Rattle.bril_report.specs.declared.status.SourceFault.{SourceFault}
 use Rattle.bril_report.specs.declared.status.SourceFault.TheVariants.{Text, Json}
+
+-- ---- What reading a file answers.
+
+pub RefusesFile-of : (fault : FileFault) (f g : FilesSeen) (path : List ℕ) → (fault ≡ file.Failed → MayFail f g path) → RefusesFile (file_status fault) f g path
+RefusesFile-of file.Failed f g path failed = failed refl
+RefusesFile-of file.Memory f g path failed = tt
 
 -- ---- What a reader answers: what it reads is the only tree, and its fault the only one or want of memory.
 
@@ -145,9 +154,3 @@ module _ (tree : Tree) (p : Prog) (only : IsOnlyProgram tree p) where
   pub refused_if : (r : Result CheckedView Status) → IfErr r (λ how. RefusesCheck how p) → IfErr r (λ how. RefusesProgram how tree)
   refused_if (Ok checked) refuses = tt
   refused_if (Err how) refuses = RefusesProgram-check how tree p only refuses
-
--- what putting a text that was to be made answers
-pub puts_made : {E : Type 0} (made : Result (List ℕ) E) (text : List ℕ) (how : Status) (s t : SinkSeen) → IfOk made (λ m. m ≡ text)
-    → MatchResult made (λ m. PutsText how m s t) (λ _. (how ≡ status.OutOfMemory) × (t ≡ s)) → PutsText how text s t
-puts_made (Ok m) text how s t is puts = subst (λ m. PutsText how m s t) is puts
-puts_made (Err e) text how s t is puts = subst (λ (h : Status). PutsText h text s t) (sym puts.0) puts.1

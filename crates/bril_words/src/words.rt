@@ -27,8 +27,8 @@ const STEPS: u64 = 1_000_000_000;
 /// What the words ask for. Takes no memory.
 ///
 /// The words are the program's name, a command, and the path of a file: one byte or more, of which the first is no
-/// `-`. The commands are `run`, `check`, `text` and `json`, with nothing behind the path, and `interp`, with options
-/// behind the path, each at most once and as two words, `--frames N`, `--cells N` and `--steps N`, and then perhaps
+/// `-`. The commands are `run`, `check`, `text` and `json`, with nothing after the path, and `interp`, with options
+/// after the path, each at most once and as two words, `--frames N`, `--cells N` and `--steps N`, and then perhaps
 /// `--` and the arguments of the program. Where an option doesn't stand it is 8,192 frames, 1,048,576 cells and
 /// 1,000,000,000 steps.
 ///
@@ -46,7 +46,7 @@ pub fn read_words<'a>(words: &'a [Text]) -> Result<Request<'a>, Misuse>
     }
 }
 
-// What a command's name, its path and the words behind it ask for.
+// What a command's name, its path and the words after it ask for.
 fn read_command<'a>(name: &str, path: &'a Text, rest: &'a [Text]) -> Result<Request<'a>, Misuse>
     ensures read { result_map_both request_seen (λ e. e) result ≡ command_asked name.now path.now rest.now }
     ensures range { IfOk result (λ request. IsActionInRange request.action) }
