@@ -1,6 +1,6 @@
 pub mod Bounds
 pub mod Carrying
-pub mod Commands
+pub mod Causes
 pub mod Counting
 pub mod Digits
 pub mod Ending
@@ -12,5 +12,5 @@ pub mod Promises
 pub mod Relation
 pub mod Runs
 pub mod Start
-pub mod Straightness
 pub mod Statuses
+pub mod Straightness

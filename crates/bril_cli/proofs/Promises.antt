@@ -11,7 +11,7 @@ use Rattle.bril_words.specs.declared.request.Action.TheVariants.{Run, Interpret,
 use Rattle.bril_cli.specs.Answers.{Answers, CannotWrite, Misused, Promises, SourceRefused, TooLarge}
 use Rattle.bril_cli.specs.Call.{Call, ReadsWell, SaysAlone}
 use Rattle.bril_cli.specs.CommandLine.{AsksFor, AskNothing}
-use Rattle.bril_cli.proofs.Commands.{Ok_not_Err, request_of, runs_where, interprets_where, misargued_where, refused_where, checks_where, unchecked_where, formless_where, misnamed_where, writes_where, writes_json_where, misread_where, long_where, lacking_where}
+use Rattle.bril_cli.proofs.Causes.{Ok_not_Err, request_of, runs_where, interprets_where, misargued_where, refused_where, checks_where, unchecked_where, formless_where, misnamed_where, writes_where, writes_json_where, misread_where, long_where, lacking_where}
 use Rattle.bril_cli.proofs.Statuses.{Ends, Answers-of}
 
 refused_silent : (c : Call) → SourceRefused c → c.out_after ≡ c.out_before

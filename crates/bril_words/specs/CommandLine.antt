@@ -7,6 +7,7 @@ use Rattle.bril_words.specs.declared.misuse.Setting.{Setting}
 use Rattle.bril_words.specs.declared.misuse.Setting.TheVariants.{Frames, Cells, Steps}
 use Rattle.bril_words.specs.declared.request.Action.{Action}
 use Rattle.bril_words.specs.declared.request.Action.TheVariants.{Run, Interpret, Check, WriteText, WriteJson}
+use Rattle.bril_words.specs.Defaults.{default_frames, default_cells, default_steps}
 use Rattle.bril_words.specs.Request.{Asked}
 
 -- one byte or more, of which the first is no `-`
@@ -89,8 +90,8 @@ interpret_with path args (Some frames) (Some cells) (Some steps) = asked (Interp
 abbrev pub interp_asked : List ℕ → Option Tail → Result Asked Misuse
 interp_asked path None = Err Words
 interp_asked path (Some tail) =
-    interpret_with path tail.args (value_of 65536 8192 tail.written.frames) (value_of 4194304 1048576 tail.written.cells)
-    (value_of 1000000000000 1000000000 tail.written.steps)
+    interpret_with path tail.args (value_of 65536 default_frames tail.written.frames) (value_of 4194304 default_cells tail.written.cells)
+    (value_of 1000000000000 default_steps tail.written.steps)
 
 -- a command without options, with nothing after its path
 abbrev pub plain_asked : Action → List ℕ → List (List ℕ) → Result Asked Misuse

@@ -11,6 +11,7 @@ use Rattle.bril_tree.specs.Run.{state_after}
 use Rattle.bril_tree.specs.declared.limits.End.TheVariants.{Ended}
 use Rattle.bril_tree.specs.declared.limits.Limits.{Limits}
 use Rattle.bril_tree.specs.declared.program.Prog.{Prog}
+use Rattle.bril_words.specs.Defaults.{default_frames, default_cells}
 use Rattle.bril_words.specs.declared.request.Action.TheVariants.{Run}
 use Rattle.bril_cli.specs.declared.emission.EmitFault.{EmitFault}
 use Rattle.bril_cli.specs.declared.emission.EmitFault.TheVariants as fault
@@ -26,8 +27,8 @@ use Rattle.bril_cli.specs.declared.source.Format.{Format}
 -- the limits of a run
 abbrev pub run_limits : Limits
 run_limits = record {
-  frames = 8192;
-  cells = 1048576;
+  frames = default_frames;
+  cells = default_cells;
   some_frames = lit≤ tt;
   few_frames = lit≤ tt;
   some_cells = lit≤ tt;
@@ -44,7 +45,7 @@ pub record IsCrooked (format : Format) (bytes : List ℕ) : Type 0 where
 -- the program has no more words than an image has, and needs no more than a stack has
 pub record IsWithin (p : Prog) : Type 0 where
   pub code : bound_sum p ≤ 250000
-  pub stack : 8192 * frame_words p ≤ 8388608
+  pub stack : default_frames * frame_words p ≤ 8388608
 
 -- By its semantics the program ends after some steps, without a fault, and has printed these bytes.
 pub record EndsPrinting (p : Prog) (output : List ℕ) : Type 0 where
@@ -78,8 +79,8 @@ pub record LongStack (c : Call) (path : List ℕ) : Type 0 where
   pub program : Prog
   pub is : IsStraightFile c.files_before path program
   pub short_code : bound_sum program ≤ 250000
-  pub long : PassesStack 8192 program
-  pub alone : SaysAlone c (stack_line (capped (8192 * frame_words program)))
+  pub long : PassesStack default_frames program
+  pub alone : SaysAlone c (stack_line (capped (default_frames * frame_words program)))
 
 -- The output took all that the program prints up to its end.
 pub record Prints (c : Call) (p : Prog) : Type 0 where
@@ -110,7 +111,7 @@ emit_status fault.Memory = status.OutOfMemory
 abbrev pub RefusesImage : Status → Prog → Type 0
 RefusesImage (status.CodeTooBig words) p = PassesCode p × (words ≡ capped (bound_sum p))
 RefusesImage (status.StackTooBig words) p =
-    (bound_sum p ≤ 250000) × PassesStack 8192 p × (words ≡ capped (8192 * frame_words p))
+    (bound_sum p ≤ 250000) × PassesStack default_frames p × (words ≡ capped (default_frames * frame_words p))
 RefusesImage status.OutOfMemory p = Unit {0}
 RefusesImage _ p = ⊥
 
@@ -127,7 +128,7 @@ RunsProgram status.Done p s t = IsWithin p × RanWhole p s t
 RunsProgram status.CannotWrite p s t = IsWithin p × RanPartly p s t
 RunsProgram (status.CodeTooBig words) p s t = (PassesCode p × (words ≡ capped (bound_sum p))) × (t ≡ s)
 RunsProgram (status.StackTooBig words) p s t =
-    ((bound_sum p ≤ 250000) × PassesStack 8192 p × (words ≡ capped (8192 * frame_words p))) × (t ≡ s)
+    ((bound_sum p ≤ 250000) × PassesStack default_frames p × (words ≡ capped (default_frames * frame_words p))) × (t ≡ s)
 RunsProgram status.OutOfMemory p s t = t ≡ s
 RunsProgram _ p s t = ⊥
 
