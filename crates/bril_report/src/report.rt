@@ -196,10 +196,7 @@ fn put_unaccepted<E: Sink>(err: &mut E, program: &Prog, fault: CheckFault) -> Re
 fn put_main<E: Sink>(err: &mut E, main: u32) -> Result<(), Failed>
     ensures { PutsPieces result (E.seen err.old) (main_pieces main) (E.seen err.new) }
 {
-    put_placed(err, b"check 7 function ",
-        function_position(main),
-        b"\n",
-    )
+    put_placed(err, b"check 7 function ", function_position(main), b"\n")
 }
 
 // Puts a piece, a function and an item, and LF.
