@@ -1,5 +1,5 @@
 -- What a run of an interpreter leaves.
-use Rattle.std.proofs.Common.{◌≡◌, ℕ, suc, ◌≤◌, false, List, Some, None, ◌++◌, refl, sym, ap, ◌∙◌, subst, arith, inr, ⊎_elim, append_assoc, true≢false}
+use Rattle.std.proofs.Common.{◌≡◌, ℕ, suc, ◌≤◌, false, List, Some, None, refl, sym, ap, ◌∙◌, subst, arith, inr, ⊎_elim, true≢false}
 use Rattle.std.proofs.Math.Bridge.{le_prop}
 use Rattle.bril_interpreter.specs.declared.answer.StepAnswer.TheVariants as run
 use Rattle.bril_interpreter.specs.StepAnswers.{Ran, RunFailed, WantsMemory, reached_after, puts_within}

@@ -1,5 +1,5 @@
 -- The position is put after the path.
-use Rattle.std.proofs.Common.{[], ◌∷◌, codes}
+use Rattle.std.proofs.Common.{◌∷◌, codes}
 use Rattle.std.proofs.lemmas.Result.{err_from_is_err_and}
 use Rattle.bril_outside.proofs.SinkWrites.{PutAll-one, PutAll-append, PutSome-one, PutSome-longer, PutSome-after}
 use Rattle.bril_report.specs.Report.{position_pieces}

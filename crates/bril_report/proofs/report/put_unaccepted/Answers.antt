@@ -1,6 +1,6 @@
 -- The line of each kind is that of its call.
 use Rattle.std.proofs.Common.{ℕ, List, subst}
-use Rattle.bril_report.specs.Report.{PutsPieces, position_pieces, unassigned_pieces}
+use Rattle.bril_report.specs.Report.{PutsPieces, unassigned_pieces}
 use Rattle.bril_report.proofs.report.put_unaccepted.Goals as goal
 
 pub returns-in-MaybeUnassigned : goal.returns-in-MaybeUnassigned

@@ -1,6 +1,6 @@
 -- The position is that of the item.
 use Rattle.std.proofs.Common.{[], ◌∷◌, ◌++◌, codes, subst}
-use Rattle.bril_report.specs.Report.{PutsPieces, position_pieces, unassigned_pieces}
+use Rattle.bril_report.specs.Report.{PutsPieces, position_pieces}
 use Rattle.bril_report.specs.declared.report.Position.{Position}
 use Rattle.bril_report.proofs.report.put_unassigned.Goals as goal
 
