@@ -1,9 +1,10 @@
 -- What a run of an interpreter leaves.
-use Rattle.std.proofs.Common.{◌≡◌, ℕ, suc, ◌≤◌, false, List, Some, None, ◌++◌, refl, sym, ap, ◌∙◌, subst, arith, inr, ⊎_elim, append_assoc, true≢false}
+use Rattle.std.proofs.Common.{◌≡◌, ℕ, suc, ◌≤◌, false, List, Some, None, refl, sym, ap, ◌∙◌, subst, arith, inr, ⊎_elim, true≢false}
 use Rattle.std.proofs.Math.Bridge.{le_prop}
 use Rattle.bril_interpreter.specs.declared.answer.StepAnswer.TheVariants as run
-use Rattle.bril_interpreter.specs.StepAnswers.{Ran, RunFailed, WantsMemory, reached_after}
+use Rattle.bril_interpreter.specs.StepAnswers.{Ran, RunFailed, WantsMemory, reached_after, puts_within}
 use Rattle.bril_interpreter.specs.Interpreter.{InterpView, state_of}
+use Rattle.bril_outside.proofs.SinkWrites.{FailedAfter-took}
 use Rattle.bril_outside.specs.Sink.{SinkSeen, Rose, TookAll, TookSome}
 use Rattle.bril_tree.proofs.Grows.{program_is_system}
 use Rattle.bril_tree.specs.declared.limits.End.{End}
@@ -16,7 +17,7 @@ use Rattle.bril_tree.specs.Step.{step}
 use Rattle.simulation.specs.System.{after, IsPrefix}
 use Rattle.simulation.proofs.After.{after-grows_le}
 use Rattle.bril_cli.proofs.Runs.{TookSome-prefix}
-use Rattle.bril_cli.specs.Works.{StopsShort}
+use Rattle.bril_cli.specs.commands.Interp.{StopsShort}
 
 -- the interpreter was made for the program, the limits and the values, and has made no step
 pub record IsFresh (i : InterpView) (p : Prog) (limits : Limits) (values : List Value) : Type 0 where
@@ -37,10 +38,10 @@ module _ (i : InterpView) (p : Prog) (limits : Limits) (values : List Value) (fr
 
   module _ (i' : InterpView) (s t : SinkSeen) where
     pub ended : (e : End) → Ran (run.End e) steps i i' s t → ((state_after p limits values steps).ended ≡ Some e) × TookAll s (state_after p limits values steps).printed t
-    ended e ran = (ap (λ (u : State). u.ended) (sym (reached steps)) ∙ ran.0, subst (λ (u : State). TookAll s u.printed t) (reached steps) ran.1.took)
+    ended e ran = (ap (λ (u : State). u.ended) (sym (reached steps)) ∙ ran.0, subst (λ (u : State). TookAll s u.printed t) (reached steps) ran.1.printed.took)
 
     pub goes_on : Ran run.Go steps i i' s t → ((state_after p limits values steps).ended ≡ None) × TookAll s (state_after p limits values steps).printed t
-    goes_on ran = (ap (λ (u : State). u.ended) (sym (reached steps)) ∙ ran.0, subst (λ (u : State). TookAll s u.printed t) (reached steps) ran.1.took)
+    goes_on ran = (ap (λ (u : State). u.ended) (sym (reached steps)) ∙ ran.0, subst (λ (u : State). TookAll s u.printed t) (reached steps) ran.1.printed.took)
 
     pub exhausted : Ran run.Memory steps i i' s t → StopsShort p limits values steps s t
     exhausted ran = inr (
@@ -53,7 +54,7 @@ module _ (i : InterpView) (p : Prog) (limits : Limits) (values : List Value) (fr
             (subst (λ (u : State). WantsMemory i.checked.prog i.limits u) (reached ran.made) ran.wants));
         prints = refl;
       },
-      subst (λ (u : State). TookAll s u.printed t) (reached ran.made) ran.reached.took,
+      subst (λ (u : State). TookAll s u.printed t) (reached ran.made) ran.reached.printed.took,
     )
 
     by_print : RunFailed steps i i' s t → TookSome s (state_after p limits values steps).printed t × Rose s.faults t.faults
@@ -61,13 +62,8 @@ module _ (i : InterpView) (p : Prog) (limits : Limits) (values : List Value) (fr
         let print = failed.print in (
           TookSome-prefix (reached_after i (suc failed.made)).printed (state_after p limits values steps).printed
               (shown_before (suc failed.made) (let h = failed.within in omega arith))
-              (record {
-                part = (reached_after i failed.made).printed ++ print.part;
-                rest = print.rest;
-                whole = print.line ∙ sym (append_assoc (reached_after i failed.made).printed print.part print.rest);
-                took = print.took;
-              }),
-          print.rose,
+              (subst (λ bytes. TookSome s bytes t) (sym print.line) (FailedAfter-took (puts_within i failed.made) print.put)),
+          print.put.rose,
         )
 
     pub failed : Ran run.WriteFault steps i i' s t → TookSome s (state_after p limits values steps).printed t × Rose s.faults t.faults

@@ -1,7 +1,7 @@
 -- What the parts of a step leave.
-use Rattle.std.proofs.Common.{◌≡◌, ℕ, suc, List, ◌∷◌, length, Option, Some, None, Err, refl, ap, ◌∙◌, subst}
-use Rattle.bril_outside.specs.Sink.{SinkSeen, Rose, TookAll, TookSome}
-use Rattle.bril_outside.proofs.SinkWrites.{TookAll-none}
+use Rattle.std.proofs.Common.{◌≡◌, ℕ, suc, List, ◌∷◌, length, Option, Some, None, Err, refl, ap, sym, ◌∙◌, subst}
+use Rattle.bril_outside.specs.Sink.{SinkSeen, PutAll, PutSome, TookBy}
+use Rattle.bril_outside.proofs.SinkWrites.{TookBy-none, TookBy-pieces, FailedAfter-none}
 use Rattle.bril_tree.specs.declared.limits.Fault.{Fault}
 use Rattle.bril_tree.specs.declared.limits.Fault.TheVariants as fault
 use Rattle.bril_tree.specs.declared.limits.Limits.{Limits}
@@ -9,42 +9,43 @@ use Rattle.bril_tree.specs.declared.program.Prog.{Prog}
 use Rattle.bril_tree.specs.declared.value.Value.{Value}
 use Rattle.bril_tree.specs.Memory.{held}
 use Rattle.bril_tree.specs.State.{Frame, Block, State}
-use Rattle.bril_tree.specs.Step.{with_frames, faulted, gives, advances, prints, advanced, with_locations, with_failure, stores, loads, loads_held}
+use Rattle.bril_tree.specs.Step.{with_frames, faulted, gives, advances, prints, line_of, advanced, with_locations, with_failure, stores, loads, loads_held}
 use Rattle.bril_heap.specs.Heap.{load_answer, stored_or_fault, Stores}
 use Rattle.bril_interpreter.specs.Frames.{FrameView, frame_of, with_dest, HasLocation}
 use Rattle.bril_interpreter.specs.Interpreter.{InterpView, count_at, state_of}
-use Rattle.bril_interpreter.specs.Line.{line}
+use Rattle.bril_interpreter.specs.Line.{line_pieces}
 use Rattle.bril_interpreter.specs.Steps.{Did, Executed, CannotWrite, newest_of, older_of}
 use Rattle.bril_interpreter.proofs.Held.{with_dest-locations}
-use Rattle.bril_interpreter.proofs.Lines.{line_is, line_of-some}
+use Rattle.bril_interpreter.proofs.Lines.{joined-line_pieces, length-line_pieces, line_pieces-some}
 
 -- what prints nothing is done with a sink that stays
-pub Executed-quiet : (t : State) (old new : InterpView) (s : SinkSeen) → Did old t new → Executed t old new s s
+pub Executed-quiet : (t : State) (old new : InterpView) (s : SinkSeen) → Did old t new → Executed t None old new s s
 Executed-quiet t old new s did =
-    let own : Executed (state_of new) old new s s = record {
-      took = TookAll-none s;
-      silent = λ _. refl;
+    let own : Executed (state_of new) None old new s s = record {
+      printed = TookBy-none s;
       did = record { became = record { state = refl; checked = did.became.checked; limits = did.became.limits }; failed = did.failed };
     } in
-    subst (λ t. Executed t old new s s) did.became.state own
+    subst (λ t. Executed t None old new s s) did.became.state own
 
 -- a print that was put
-pub Executed-print : (p : Prog) (limits : Limits) (vs : List Value) (old new : InterpView) (before after : SinkSeen) → TookAll before (line vs) after
-    → Did old (advances p limits (newest_of old) (older_of old) (state_of old)) new → Executed (prints p limits vs (newest_of old) (older_of old) (state_of old)) old new before after
-Executed-print p limits vs old new before after took did = record {
-  took = subst (λ bytes. TookAll before bytes after) (line_is p limits vs) took;
-  silent = λ e. absurd (line_of-some p limits vs e);
+pub Executed-print : (p : Prog) (limits : Limits) (vs : List Value) (old new : InterpView) (before after : SinkSeen) → PutAll before (line_pieces vs) after
+    → Did old (advances p limits (newest_of old) (older_of old) (state_of old)) new → Executed (prints p limits vs (newest_of old) (older_of old) (state_of old)) (Some vs) old new before after
+Executed-print p limits vs old new before after put did = record {
+  printed =
+      subst (λ puts. TookBy before (line_of vs) puts after) (length-line_pieces vs)
+      (subst (λ bytes. TookBy before bytes (length (line_pieces vs)) after) (joined-line_pieces p limits vs)
+      (TookBy-pieces (line_pieces-some p limits vs) put));
   did = did;
 }
 
 -- a print of which the first was put
-pub CannotWrite-print : (p : Prog) (limits : Limits) (vs : List Value) (old : InterpView) (before after : SinkSeen) → TookSome before (line vs) after → Rose before.faults after.faults
-    → CannotWrite (prints p limits vs (newest_of old) (older_of old) (state_of old)) old old before after
-CannotWrite-print p limits vs old before after took rose = record {
+pub CannotWrite-print : (p : Prog) (limits : Limits) (vs : List Value) (old : InterpView) (before after : SinkSeen) → PutSome before (line_pieces vs) after
+    → CannotWrite (prints p limits vs (newest_of old) (older_of old) (state_of old)) (Some vs) old old before after
+CannotWrite-print p limits vs old before after put = record {
   same = refl;
-  prints = line_of-some p limits vs;
-  took = subst (λ bytes. TookSome before bytes after) (line_is p limits vs) took;
-  rose = rose;
+  line = sym (joined-line_pieces p limits vs);
+  prints = line_pieces-some p limits vs;
+  put = FailedAfter-none put;
 }
 
 -- what is done from a state on the way

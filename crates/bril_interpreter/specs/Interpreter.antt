@@ -25,6 +25,10 @@ pub record InterpView : Type 0 where
   pub failures : List (List ℕ)
   pub has_failed : Bool
 
+-- what the program and the limits of an interpreter make of a rule
+abbrev pub under : {A : Type 0} → InterpView → (Prog → Limits → A) → A
+under i rule = rule i.checked.prog i.limits
+
 -- a count by function and item, 0 where there is none
 abbrev pub count_at : List (List ℕ) → ℕ → ℕ → ℕ
 count_at counts function item = slice_index (slice_index_or counts function []) item

@@ -3,24 +3,24 @@
 ghost use Rattle.std.specs.Prelude.{[], slice_index, if◌then◌else◌};
 
 use crate::interp::Interp;
-use crate::operand::{bool_in, number_at};
+use crate::operand::number_at;
 use bril_tree::operation::Op;
 use bril_tree::types::Ty;
-use bril_values::{Outcome, compute};
+use bril_values::{Outcome, bool_of, compute};
 
 impl<'a> Interp<'a> {
-    ghost use Rattle.bril_tree.specs.Outcome.{argument, bool_of, computed, shadow_given};
+    ghost use Rattle.bril_tree.specs.Outcome as meaning;
     ghost use Rattle.bril_tree.specs.Step.{by_outcome, jumps};
     ghost use Rattle.bril_tree.specs.declared.numbered.Instr.TheVariants.{Act};
     ghost use Rattle.bril_tree.specs.declared.operation.Op.TheVariants.{Get, Nop};
-    ghost use Rattle.bril_interpreter.specs.Interpreter.{state_of};
-    ghost use Rattle.bril_interpreter.specs.Steps.{newest_of, older_of, IsAtItem, HasDest, Did};
+    ghost use Rattle.bril_interpreter.specs.Interpreter.{under};
+    ghost use Rattle.bril_interpreter.specs.Steps.{newest_of, IsAtItem, HasDest, Makes};
 
     // The point of the first label where the condition holds, else that of the second.
     pub(crate) fn branch(&mut self, args: &[u32], labels: &[u32])
-        ensures { Did self.old (jumps self.old.checked.prog self.old.limits (slice_index labels.now (if bool_of (argument (newest_of self.old).locations args.now 0) then 0 else 1)) (newest_of self.old) (older_of self.old) (state_of self.old)) self.new }
+        ensures { Makes self.old (under self.old jumps (slice_index labels.now (if meaning.bool_of (meaning.argument (newest_of self.old).locations args.now 0) then 0 else 1))) self.new }
     {
-        let taken = if bool_in(self.argument(args, 0)) {
+        let taken = if bool_of(self.argument(args, 0)) {
             0
         } else {
             1
@@ -32,7 +32,7 @@ impl<'a> Interp<'a> {
     pub(crate) fn get(&mut self, dest: Option<u32>)
         requires item { IsAtItem self.old }
         requires dest { HasDest self.old dest }
-        ensures { Did self.old (by_outcome self.old.checked.prog self.old.limits (shadow_given (newest_of self.old).locations dest) (Act dest None Get [] [] []) (newest_of self.old) (older_of self.old) (state_of self.old)) self.new }
+        ensures { Makes self.old (under self.old by_outcome (meaning.shadow_given (newest_of self.old).locations dest) (Act dest None Get [] [] [])) self.new }
     {
         match dest {
             None => self.advance(),
@@ -47,7 +47,7 @@ impl<'a> Interp<'a> {
     pub(crate) fn calculate(&mut self, op: Op, dest: Option<u32>, ty: Option<Ty>, args: &[u32])
         requires item { IsAtItem self.old }
         requires dest { HasDest self.old dest }
-        ensures { Did self.old (by_outcome self.old.checked.prog self.old.limits (computed op ty (argument (newest_of self.old).locations args.now 0) (argument (newest_of self.old).locations args.now 1)) (Act dest None Nop [] [] []) (newest_of self.old) (older_of self.old) (state_of self.old)) self.new }
+        ensures { Makes self.old (under self.old by_outcome (meaning.computed op ty (meaning.argument (newest_of self.old).locations args.now 0) (meaning.argument (newest_of self.old).locations args.now 1)) (Act dest None Nop [] [] [])) self.new }
     {
         match compute(op, ty, self.argument(args, 0), self.argument(args, 1)) {
             Outcome::Yields(value) => self.give(dest, value),

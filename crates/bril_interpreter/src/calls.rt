@@ -38,16 +38,16 @@ fn dest_in(item: &Instr) -> Option<u32>
 }
 
 impl<'a> Interp<'a> {
-    ghost use Rattle.bril_tree.specs.Step.{calls, new_frame, returns, ends, awaited, item_at};
+    ghost use Rattle.bril_tree.specs.Step.{calls, new_frame, returns, ends, awaited};
     ghost use Rattle.bril_tree.specs.Memory.{is_live_any};
     ghost use Rattle.bril_interpreter.specs.Frames.{frame_of, IsFrame};
-    ghost use Rattle.bril_interpreter.specs.Interpreter.{state_of};
-    ghost use Rattle.bril_interpreter.specs.Steps.{newest_of, older_of, IsAtItem, HasDest, Did};
+    ghost use Rattle.bril_interpreter.specs.Interpreter.{state_of, under};
+    ghost use Rattle.bril_interpreter.specs.Steps.{older_of, values_in, item_of, IsAtItem, HasDest, Did, Makes};
 
     // A frame more, where the limit allows it. Memory is wanting only where it does, and then nothing changes.
     pub(crate) fn call(&mut self, callee: u32, args: &[u32]) -> Result<(), AllocError>
         requires { IsAtItem self.old }
-        ensures ok { OnOk result (Did self.old (calls self.old.checked.prog self.old.limits callee (map (read (newest_of self.old).locations.vars) args.now) (newest_of self.old) (older_of self.old) (state_of self.old)) self.new) }
+        ensures ok { OnOk result (Makes self.old (under self.old calls callee (values_in self.old args.now)) self.new) }
         ensures room { OnErr result (nat_lt (suc (length (older_of self.old))) self.old.limits.frames ≡ true) }
         ensures err { OnErr result (self.new ≡ self.old) }
     {
@@ -64,7 +64,7 @@ impl<'a> Interp<'a> {
 
     // The frame of a call, with the values of these variables.
     fn new_frame(&self, callee: u32, args: &[u32]) -> Result<Frame, AllocError>
-        ensures frame { IfOk result (λ frame. frame_of frame ≡ new_frame callee (map (read (newest_of self.now).locations.vars) args.now)) }
+        ensures frame { IfOk result (λ frame. frame_of frame ≡ new_frame callee (values_in self.now args.now)) }
         ensures form { IfOk result (λ frame. IsFrame self.now.checked.prog frame) }
     {
         let alloc = *self.older.allocator();
@@ -76,7 +76,7 @@ impl<'a> Interp<'a> {
 
     // The newest frame is popped, and its value goes to the call at which its caller stands.
     pub(crate) fn return_value(&mut self, value: Value)
-        ensures { Did self.old (returns self.old.checked.prog self.old.limits value (older_of self.old) (state_of self.old)) self.new }
+        ensures { Did self.old (under self.old returns value (older_of self.old) (state_of self.old)) self.new }
     {
         match self.older.pop() {
             None => self.finish(),
@@ -90,7 +90,7 @@ impl<'a> Interp<'a> {
 
     // The destination of the item at which the newest frame stands.
     fn awaited(&self) -> Option<u32>
-        ensures value { result ≡ awaited self.now.checked.prog self.now.limits (item_at self.now.checked.prog self.now.newest.function self.now.newest.point) }
+        ensures value { result ≡ under self.now awaited (item_of self.now) }
         ensures place { HasDest self.now result }
     {
         match self.item() {
@@ -101,7 +101,7 @@ impl<'a> Interp<'a> {
 
     // The first frame ends.
     fn finish(&mut self)
-        ensures { Did self.old (ends self.old.checked.prog self.old.limits (is_live_any (state_of self.old).blocks) (state_of self.old)) self.new }
+        ensures { Did self.old (under self.old ends (is_live_any (state_of self.old).blocks) (state_of self.old)) self.new }
     {
         self.ended = Some(if self.cells.live() == 0 {
             End::Ended

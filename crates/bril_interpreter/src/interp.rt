@@ -52,10 +52,10 @@ impl<'a> Model for Interp<'a> {
 }
 
 impl<'a> Interp<'a> {
-    ghost use Rattle.bril_tree.specs.Step.{code_of, item_at, point_of};
+    ghost use Rattle.bril_tree.specs.Step.{code_of, point_of};
     ghost use Rattle.bril_tree.specs.Outcome.{argument};
-    ghost use Rattle.bril_interpreter.specs.Interpreter.{state_of, newest_frame, place_in, value_in};
-    ghost use Rattle.bril_interpreter.specs.Steps.{newest_of, older_of, IsAtItem, HasDest, Did};
+    ghost use Rattle.bril_interpreter.specs.Interpreter.{state_of, under, newest_frame, place_in, value_in};
+    ghost use Rattle.bril_interpreter.specs.Steps.{newest_of, item_of, IsAtItem, HasDest, Did, Makes};
     ghost use Rattle.bril_tree.specs.Step.{gives, advances, jumps, faulted};
 
     /// A run of the program under the limits, at the first item of `main` with these arguments. It makes the counts of
@@ -140,8 +140,7 @@ impl<'a> Interp<'a> {
 
     // The item at which the newest frame stands; None at its function's end.
     pub(crate) fn item(&self) -> Option<&'a Instr>
-        ensures { MatchOption result (item_at self.now.checked.prog self.now.newest.function self.now.newest.point ≡ None)
-            (λ item. item_at self.now.checked.prog self.now.newest.function self.now.newest.point ≡ Some item.now) }
+        ensures { MatchOption result (item_of self.now ≡ None) (λ item. item_of self.now ≡ Some item.now) }
     {
         self.code().get(self.newest.point())
     }
@@ -167,7 +166,7 @@ impl<'a> Interp<'a> {
     // The next point alone.
     pub(crate) fn advance(&mut self)
         requires { IsAtItem self.old }
-        ensures { Did self.old (advances self.old.checked.prog self.old.limits (newest_of self.old) (older_of self.old) (state_of self.old)) self.new }
+        ensures { Makes self.old (under self.old advances) self.new }
     {
         self.newest.advance();
     }
@@ -176,7 +175,7 @@ impl<'a> Interp<'a> {
     pub(crate) fn give(&mut self, dest: Option<u32>, value: Value)
         requires item { IsAtItem self.old }
         requires dest { HasDest self.old dest }
-        ensures { Did self.old (gives self.old.checked.prog self.old.limits dest value (newest_of self.old) (older_of self.old) (state_of self.old)) self.new }
+        ensures { Makes self.old (under self.old gives dest value) self.new }
     {
         self.newest.assign(dest, value);
         self.newest.advance();
@@ -184,7 +183,7 @@ impl<'a> Interp<'a> {
 
     // The point of a label.
     pub(crate) fn jump(&mut self, label: u32)
-        ensures { Did self.old (jumps self.old.checked.prog self.old.limits label (newest_of self.old) (older_of self.old) (state_of self.old)) self.new }
+        ensures { Makes self.old (under self.old jumps label) self.new }
     {
         let point = self.label_point(label);
         self.newest.go_to(point);

@@ -1,21 +1,21 @@
 // What is printed.
 
-ghost use Rattle.std.specs.Prelude.{map, OnOk, OnErr};
-ghost use Rattle.bril_outside.specs.Sink.{Rose, TookAll, TookSome};
+ghost use Rattle.std.specs.Prelude.{Some, map, OnOk, OnErr};
+ghost use Rattle.bril_outside.specs.Sink.{PutAll, PutSome};
 ghost use Rattle.bril_tree.specs.State.{read};
 ghost use Rattle.bril_heap.specs.Heap.{entries_of};
-ghost use Rattle.bril_interpreter.specs.Line.{line};
+ghost use Rattle.bril_interpreter.specs.Line.{line_pieces};
 
 use crate::interp::Interp;
 use crate::locals::Locals;
 use bril_outside::sink::{Failed, Sink};
 use bril_values::PrintedValue;
 
-// Puts the values of variables, with one space between two, and LF: a piece for each value and the byte behind it.
+// Puts the values of variables, with one space between two, and LF: by one put for each value and the byte after it, and
+// by one for LF alone. After a put that failed there is none.
 fn put_line<S: Sink>(locations: &Locals, args: &[u32], out: &mut S) -> Result<(), Failed>
-    ensures ok { OnOk result (TookAll (S.seen out.old) (line (map (read (entries_of locations.now.vars)) args.now)) (S.seen out.new)) }
-    ensures err { OnErr result (TookSome (S.seen out.old) (line (map (read (entries_of locations.now.vars)) args.now)) (S.seen out.new)
-        × Rose (S.seen out.old).faults (S.seen out.new).faults) }
+    ensures ok { OnOk result (PutAll (S.seen out.old) (line_pieces (map (read (entries_of locations.now.vars)) args.now)) (S.seen out.new)) }
+    ensures err { OnErr result (PutSome (S.seen out.old) (line_pieces (map (read (entries_of locations.now.vars)) args.now)) (S.seen out.new)) }
 {
     let Some((last, others)) = args.split_last() else {
         return out.put(b"\n");
@@ -28,16 +28,16 @@ fn put_line<S: Sink>(locations: &Locals, args: &[u32], out: &mut S) -> Result<()
 
 impl<'a> Interp<'a> {
     ghost use Rattle.bril_tree.specs.Step.{prints};
-    ghost use Rattle.bril_interpreter.specs.Interpreter.{state_of};
-    ghost use Rattle.bril_interpreter.specs.Steps.{newest_of, older_of, IsAtItem, Executed, CannotWrite};
+    ghost use Rattle.bril_interpreter.specs.Interpreter.{under};
+    ghost use Rattle.bril_interpreter.specs.Steps.{values_in, changed, IsAtItem, Executed, CannotWrite};
 
     // The values of variables are printed. Where that fails nothing else is done.
     pub(crate) fn print<S: Sink>(&mut self, args: &[u32], out: &mut S) -> Result<(), Failed>
         requires { IsAtItem self.old }
-        ensures ok { let t = prints self.old.checked.prog self.old.limits (map (read (newest_of self.old).locations.vars) args.now) (newest_of self.old) (older_of self.old) (state_of self.old) in
-            OnOk result (Executed t self.old self.new (S.seen out.old) (S.seen out.new)) }
-        ensures err { let t = prints self.old.checked.prog self.old.limits (map (read (newest_of self.old).locations.vars) args.now) (newest_of self.old) (older_of self.old) (state_of self.old) in
-            OnErr result (CannotWrite t self.old self.new (S.seen out.old) (S.seen out.new)) }
+        ensures ok { let values = values_in self.old args.now in let t = changed self.old (under self.old prints values) in
+            OnOk result (Executed t (Some values) self.old self.new (S.seen out.old) (S.seen out.new)) }
+        ensures err { let values = values_in self.old args.now in let t = changed self.old (under self.old prints values) in
+            OnErr result (CannotWrite t (Some values) self.old self.new (S.seen out.old) (S.seen out.new)) }
     {
         put_line(self.newest.locations(), args, out)?;
         self.advance();

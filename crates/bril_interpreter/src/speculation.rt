@@ -8,14 +8,14 @@ use std::alloc::AllocError;
 
 impl<'a> Interp<'a> {
     ghost use Rattle.bril_tree.specs.Step.{advances, with_locations, shadowed, speculates, commits, guards, with_failure};
-    ghost use Rattle.bril_interpreter.specs.Interpreter.{state_of};
-    ghost use Rattle.bril_interpreter.specs.Steps.{newest_of, older_of, IsAtItem, HasShadow, Did};
+    ghost use Rattle.bril_interpreter.specs.Interpreter.{state_of, under};
+    ghost use Rattle.bril_interpreter.specs.Steps.{newest_of, older_of, IsAtItem, HasShadow, Did, Makes};
 
     // The shadow gets the value.
     pub(crate) fn shade(&mut self, x: u32, value: Value)
         requires item { IsAtItem self.old }
         requires shadow { HasShadow self.old x }
-        ensures { Did self.old (advances self.old.checked.prog self.old.limits (with_locations (shadowed x value (newest_of self.old).locations) (newest_of self.old)) (older_of self.old) (state_of self.old)) self.new }
+        ensures { Did self.old (under self.old advances (with_locations (shadowed x value (newest_of self.old).locations) (newest_of self.old)) (older_of self.old) (state_of self.old)) self.new }
     {
         self.newest.shade(x, value);
         self.newest.advance();
@@ -25,7 +25,7 @@ impl<'a> Interp<'a> {
     // more saves than `u32::MAX`.
     pub(crate) fn speculate(&mut self) -> Result<(), AllocError>
         requires { IsAtItem self.old }
-        ensures ok { OnOk result (Did self.old (speculates self.old.checked.prog self.old.limits (newest_of self.old) (older_of self.old) (state_of self.old)) self.new) }
+        ensures ok { OnOk result (Makes self.old (under self.old speculates) self.new) }
         ensures err { OnErr result (self.new ≡ self.old) }
     {
         if self.newest.depth() >= u32::MAX as usize {
@@ -40,7 +40,7 @@ impl<'a> Interp<'a> {
     // The newest save is dropped.
     pub(crate) fn commit(&mut self)
         requires { IsAtItem self.old }
-        ensures { Did self.old (commits self.old.checked.prog self.old.limits (newest_of self.old) (older_of self.old) (state_of self.old)) self.new }
+        ensures { Makes self.old (under self.old commits) self.new }
     {
         self.newest.drop_save();
         self.newest.advance();
@@ -50,7 +50,7 @@ impl<'a> Interp<'a> {
     // is dropped, and the frame goes to the label.
     pub(crate) fn guard(&mut self, holds: bool, label: u32)
         requires { IsAtItem self.old }
-        ensures { Did self.old (guards self.old.checked.prog self.old.limits holds label (newest_of self.old) (older_of self.old) (state_of self.old)) self.new }
+        ensures { Makes self.old (under self.old guards holds label) self.new }
     {
         if holds {
             return self.advance();
@@ -63,7 +63,7 @@ impl<'a> Interp<'a> {
     // The guard at which the newest frame stands failed once more.
     fn count_failure(&mut self)
         requires { IsAtItem self.old }
-        ensures { Did self.old (with_failure self.old.checked.prog self.old.limits (newest_of self.old) (state_of self.old)) self.new }
+        ensures { Did self.old (under self.old with_failure (newest_of self.old) (state_of self.old)) self.new }
     {
         let table = &mut self.tables[self.newest.function() as usize];
         table.count_failure(self.newest.point());

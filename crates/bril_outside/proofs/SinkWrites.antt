@@ -1,8 +1,8 @@
 -- Several writes to a sink, one after another.
-use Rattle.std.proofs.Common.{◌≡◌, ℕ, ◌+◌, ◌^◌, ◌<◌, ◌≤◌, List, [], ◌∷◌, ◌++◌, length, Option, Some, None, refl, ap, sym, ◌∙◌, append_assoc, append-nil, length-append, arith}
+use Rattle.std.proofs.Common.{◌≡◌, ◌≢◌, ℕ, ◌+◌, ◌^◌, ◌<◌, ◌≤◌, List, [], ◌∷◌, ◌++◌, length, Option, Some, None, refl, ap, sym, subst, ◌∙◌, append_assoc, append-nil, length-append, zero-add, arith}
 use Rattle.std.proofs.lemmas.Grind.{common_steps}
 use Rattle.std.specs.Option.{option_map}
-use Rattle.bril_outside.specs.Sink.{SinkSeen, Rose, amount_after, TookAll, TookSome}
+use Rattle.bril_outside.specs.Sink.{SinkSeen, Rose, amount_after, TookAll, TookSome, PutTimes, joined, PutAll, PutSome, TookBy, FailedAfter}
 
 -- nothing more leaves an amount
 pub amount_after-zero : (a : Option ℕ) → amount_after a 0 ≡ a
@@ -94,3 +94,157 @@ TookAll-amount {s} {t} {a} n all told fits = all.amount ∙ (ap (λ m. amount_af
 -- bytes that were not told are not told after
 pub TookAll-untold : {s t : SinkSeen} {a : List ℕ} → TookAll s a t → s.written ≡ None → t.written ≡ None
 TookAll-untold {s} {t} {a} all none = all.written ∙ ap (option_map (λ v. v ++ a)) none
+
+-- ---- puts
+
+-- no put
+pub PutTimes-none : (s : SinkSeen) → PutTimes s 0 s
+PutTimes-none s = record { told = sym (amount_after-zero s.puts) }
+
+-- some puts and then some more
+pub PutTimes-append : {s t u : SinkSeen} (m n : ℕ) → PutTimes s m t → PutTimes t n u → PutTimes s (m + n) u
+PutTimes-append {s} {t} {u} m n one two = record { told = two.told ∙ ap (λ a. amount_after a n) one.told ∙ amount_after-twice s.puts m n }
+
+pub joined-cons : (piece : List ℕ) (pieces : List (List ℕ)) → joined (piece ∷ pieces) ≡ piece ++ joined pieces
+joined-cons piece [] = sym (append-nil piece)
+joined-cons piece (next ∷ more) = refl
+
+pub joined-append : (ps qs : List (List ℕ)) → joined (ps ++ qs) ≡ joined ps ++ joined qs
+joined-append [] qs = refl
+joined-append (p ∷ ps) qs =
+    joined-cons p (ps ++ qs)
+    ∙ ap (λ v. p ++ v) (joined-append ps qs)
+    ∙ sym (append_assoc p (joined ps) (joined qs))
+    ∙ ap (λ v. v ++ joined qs) (sym (joined-cons p ps))
+
+-- the piece that was cut, and what comes after it
+joined-cut : (front : List (List ℕ)) (part rest : List ℕ) (unput : List (List ℕ))
+    → joined (front ++ (part ++ rest) ∷ unput) ≡ joined (front ++ part ∷ []) ++ (rest ++ joined unput)
+joined-cut front part rest unput =
+    joined-append front ((part ++ rest) ∷ unput)
+    ∙ ap (λ v. joined front ++ v) (joined-cons (part ++ rest) unput ∙ append_assoc part rest (joined unput))
+    ∙ sym (append_assoc (joined front) part (rest ++ joined unput))
+    ∙ ap (λ v. v ++ (rest ++ joined unput)) (sym (joined-append front (part ∷ [])))
+
+-- nothing is put
+pub PutAll-none : (s : SinkSeen) → PutAll s [] s
+PutAll-none s = record { took = TookAll-none s; times = PutTimes-none s }
+
+-- one piece
+pub PutAll-one : {s t : SinkSeen} {piece : List ℕ} → TookAll s piece t → PutTimes s 1 t → PutAll s (piece ∷ []) t
+PutAll-one took times = record { took = took; times = times }
+
+pub PutSome-one : {s t : SinkSeen} {piece : List ℕ} → TookSome s piece t → PutTimes s 1 t → Rose s.faults t.faults → PutSome s (piece ∷ []) t
+PutSome-one took times rose = record {
+  front = [];
+  part = took.part;
+  rest = took.rest;
+  unput = [];
+  whole = ap (λ v. v ∷ []) took.whole;
+  put = PutAll-one took.took times;
+  rose = rose;
+}
+
+-- some pieces and then some more
+pub PutAll-append : {s t u : SinkSeen} {ps qs : List (List ℕ)} → PutAll s ps t → PutAll t qs u → PutAll s (ps ++ qs) u
+PutAll-append {s} {t} {u} {ps} {qs} one two = record {
+  took = subst (λ v. TookAll s v u) (sym (joined-append ps qs)) (TookAll-append one.took two.took);
+  times = subst (λ n. PutTimes s n u) (sym (length-append ps qs)) (PutTimes-append (length ps) (length qs) one.times two.times);
+}
+
+-- the pieces that come after the one whose put failed are not put
+pub PutSome-longer : {s t : SinkSeen} {ps : List (List ℕ)} (qs : List (List ℕ)) → PutSome s ps t → PutSome s (ps ++ qs) t
+PutSome-longer {s} {t} {ps} qs some = record {
+  front = some.front;
+  part = some.part;
+  rest = some.rest;
+  unput = some.unput ++ qs;
+  whole = ap (λ v. v ++ qs) some.whole ∙ append_assoc some.front ((some.part ++ some.rest) ∷ some.unput) qs;
+  put = some.put;
+  rose = some.rose;
+}
+
+-- a put fails after all of some pieces
+pub PutSome-after : {s t u : SinkSeen} {ps qs : List (List ℕ)} → PutAll s ps t → PutSome t qs u → PutSome s (ps ++ qs) u
+PutSome-after {s} {t} {u} {ps} {qs} one some = record {
+  front = ps ++ some.front;
+  part = some.part;
+  rest = some.rest;
+  unput = some.unput;
+  whole = ap (λ v. ps ++ v) some.whole ∙ sym (append_assoc ps some.front ((some.part ++ some.rest) ∷ some.unput));
+  put = subst (λ v. PutAll s v u) (sym (append_assoc ps some.front (some.part ∷ []))) (PutAll-append one some.put);
+  rose = Rose-after _ _ _ one.took.faults some.rose;
+}
+
+-- what was taken of pieces is the first of their bytes
+pub PutSome-took : {s t : SinkSeen} {ps : List (List ℕ)} → PutSome s ps t → TookSome s (joined ps) t
+PutSome-took {s} {t} {ps} some = record {
+  part = joined (some.front ++ some.part ∷ []);
+  rest = some.rest ++ joined some.unput;
+  whole = ap joined some.whole ∙ joined-cut some.front some.part some.rest some.unput;
+  took = some.put.took;
+}
+
+-- ---- bytes by so many puts
+
+pub TookBy-none : (s : SinkSeen) → TookBy s [] 0 s
+TookBy-none s = record { took = TookAll-none s; times = PutTimes-none s; silent = λ _. refl }
+
+-- one put of something
+pub TookBy-one : {s t : SinkSeen} {piece : List ℕ} → piece ≢ [] → TookAll s piece t → PutTimes s 1 t → TookBy s piece 1 t
+TookBy-one some took times = record { took = took; times = times; silent = λ e. absurd (some e) }
+
+-- pieces that are something together
+pub TookBy-pieces : {s t : SinkSeen} {ps : List (List ℕ)} → joined ps ≢ [] → PutAll s ps t → TookBy s (joined ps) (length ps) t
+TookBy-pieces some put = record { took = put.took; times = put.times; silent = λ e. absurd (some e) }
+
+-- some bytes and then some more
+pub TookBy-append : {s t u : SinkSeen} {a b : List ℕ} (m n : ℕ) → TookBy s a m t → TookBy t b n u → TookBy s (a ++ b) (m + n) u
+TookBy-append {s} {t} {u} {a} {b} m n one two = record {
+  took = TookAll-append one.took two.took;
+  times = PutTimes-append m n one.times two.times;
+  silent = λ e. let none = both_nothing a b e in two.silent none.1 ∙ one.silent none.0;
+}
+
+-- a put fails, and nothing was put before its pieces
+pub FailedAfter-none : {s t : SinkSeen} {ps : List (List ℕ)} → PutSome s ps t → FailedAfter s [] 0 ps t
+FailedAfter-none {s} {t} {ps} some = record {
+  front = some.front;
+  part = some.part;
+  rest = some.rest;
+  unput = some.unput;
+  whole = some.whole;
+  took = some.put.took;
+  times = subst (λ n. PutTimes s n t) (sym (zero-add (length (some.front ++ some.part ∷ [])))) some.put.times;
+  rose = some.rose;
+}
+
+-- a put fails after some bytes and then some more
+pub FailedAfter-append : {s t u : SinkSeen} {a b : List ℕ} {ps : List (List ℕ)} (m n : ℕ) → TookBy s a m t → FailedAfter t b n ps u → FailedAfter s (a ++ b) (m + n) ps u
+FailedAfter-append {s} {t} {u} {a} {b} {ps} m n one two =
+    let put : List (List ℕ) = two.front ++ two.part ∷ [] in
+    record {
+      front = two.front;
+      part = two.part;
+      rest = two.rest;
+      unput = two.unput;
+      whole = two.whole;
+      took = subst (λ v. TookAll s v u) (sym (append_assoc a b (joined put))) (TookAll-append one.took two.took);
+      times = subst (λ k. PutTimes s k u) (let e : m + (n + length put) ≡ (m + n) + length put = omega arith in e) (PutTimes-append m (n + length put) one.times two.times);
+      rose = Rose-after _ _ _ one.took.faults two.rose;
+    }
+
+-- what was taken is the first of the bytes and of the pieces' bytes
+pub FailedAfter-took : {s t : SinkSeen} {a : List ℕ} {ps : List (List ℕ)} (n : ℕ) → FailedAfter s a n ps t → TookSome s (a ++ joined ps) t
+FailedAfter-took {s} {t} {a} {ps} n failed = record {
+  part = a ++ joined (failed.front ++ failed.part ∷ []);
+  rest = failed.rest ++ joined failed.unput;
+  whole =
+      ap (λ v. a ++ v) (ap joined failed.whole ∙ joined-cut failed.front failed.part failed.rest failed.unput)
+      ∙ sym (append_assoc a (joined (failed.front ++ failed.part ∷ [])) (failed.rest ++ joined failed.unput));
+  took = failed.took;
+}
+
+-- a number of puts that was told stays told within its range
+pub PutTimes-told : {s t : SinkSeen} (puts n : ℕ) → PutTimes s puts t → s.puts ≡ Some n → n + puts < 2 ^ 64 → t.puts ≡ Some (n + puts)
+PutTimes-told puts n times told fits = times.told ∙ ap (λ m. amount_after m puts) told ∙ amount_after-in_range n puts fits

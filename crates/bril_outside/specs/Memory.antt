@@ -1,30 +1,35 @@
 -- Files and sinks that lie in memory.
-use Rattle.std.specs.Prelude.{ℕ, ◌≡◌, ◌≢◌, ◌-◌, nat_le, Bool, true, ◌&&◌, ◌==◌, not, List, [], ◌++◌, length, take, find, Option, Some, None, Result, Ok, Err, if◌then◌else◌}
+use Rattle.std.specs.Prelude.{ℕ, ◌≡◌, ◌≢◌, ◌-◌, nat_le, Bool, true, false, ◌&&◌, ◌==◌, not, List, [], ◌++◌, length, take, find, Option, Some, None, Result, Ok, Err, if◌then◌else◌}
 use Rattle.std.specs.List.{list_any}
 use Rattle.std.specs.Option.{option_map}
 use Rattle.std.specs.Str.{bytes_eq}
-use Rattle.bril_outside.specs.Sink.{SinkSeen, next_count}
+use Rattle.bril_outside.specs.Sink.{SinkSeen, amount_after, next_count}
 use Rattle.bril_outside.specs.Files.{FileMap, FilesSeen}
 use Rattle.bril_outside.specs.declared.stored_file.StoredFile.{StoredFile}
 use Rattle.bril_outside.specs.declared.files.FileFault.{FileFault}
 use Rattle.bril_outside.specs.declared.files.FileFault.TheVariants.{Failed, Memory}
 
--- A sink in memory: what it holds and for how many bytes it has room, how many times it was put to, the
--- numbers of the puts that are to fail, and how many failed.
+-- A sink in memory: what it holds and for how many bytes it has room, how many times it was put to, as long as it
+-- knows that, the numbers of the puts that are to fail, and how many failed.
 pub record SinkMemory : Type 0 where
   pub held : List ℕ
   pub room : ℕ
-  pub puts : ℕ
+  pub puts : Option ℕ
   pub fails : List ℕ
   pub faults : ℕ
 
 -- it tells all that it holds
 abbrev pub sink_seen : SinkMemory → SinkSeen
-sink_seen m = record { written = Some m.held; amount = Some (length m.held); faults = m.faults }
+sink_seen m = record { written = Some m.held; amount = Some (length m.held); puts = m.puts; faults = m.faults }
+
+-- whether the number, where there is one, is on the list
+abbrev pub has_number : List ℕ → Option ℕ → Bool
+has_number list None = false
+has_number list (Some number) = list_any (λ n. n == number) list
 
 -- whether the next put is one that is to fail
 abbrev pub next_put_fails : SinkMemory → Bool
-next_put_fails m = list_any (λ n. n == next_count m.puts) m.fails
+next_put_fails m = has_number m.fails (amount_after m.puts 1)
 
 -- the bytes of a piece that the next put takes: none where it is to fail, else those that there is room for
 abbrev pub taken : SinkMemory → List ℕ → List ℕ
@@ -39,7 +44,7 @@ abbrev pub after_put : SinkMemory → List ℕ → SinkMemory
 after_put m piece =
     record m {
       held = m.held ++ taken m piece;
-      puts = next_count m.puts;
+      puts = amount_after m.puts 1;
       faults = if takes_all m piece then m.faults else next_count m.faults;
     }
 

@@ -1,12 +1,14 @@
 -- What contracts say of a sink of bytes.
-use Rattle.std.specs.Prelude.{ℕ, ◌≡◌, ◌+◌, ◌-◌, ◌^◌, ◌≤◌, min, nat_lt, nat_le, List, ◌++◌, length, Option, Some, None, if◌then◌else◌}
+use Rattle.std.specs.Prelude.{ℕ, ◌≡◌, ◌+◌, ◌-◌, ◌^◌, ◌≤◌, min, nat_lt, nat_le, List, [], ◌∷◌, ◌++◌, length, Option, Some, None, if◌then◌else◌}
 use Rattle.std.specs.Option.{option_map}
 
--- What is told of a sink: the bytes that were written to it and how many they are, where it tells them, and
--- how many of its writes failed. The last never falls, and stays at the end of its type.
+-- What is told of a sink: the bytes that were written to it, how many they are, and by how many puts, those that
+-- failed among them, where it tells these; and how many of its writes failed. The last never falls, and stays at the
+-- end of its type.
 pub record SinkSeen : Type 0 where
   pub written : Option (List ℕ)
   pub amount : Option ℕ
+  pub puts : Option ℕ
   pub faults : ℕ
 
 -- a count of faults rose, or stands at the end of its type
@@ -17,7 +19,7 @@ Rose before now = min (before + 1) (2 ^ 64 - 1) ≤ now
 abbrev pub next_count : ℕ → ℕ
 next_count n = if nat_lt n (2 ^ 64 - 1) then n + 1 else n
 
--- an amount with so many more; past 2 ^ 64 - 1, the end of its type, nothing is told
+-- an amount, or a number of puts, with so many more; past 2 ^ 64 - 1, the end of its type, nothing is told
 abbrev pub amount_after : Option ℕ → ℕ → Option ℕ
 amount_after None more = None
 amount_after (Some n) more = if nat_le more ((2 ^ 64 - 1) - n) then Some (n + more) else None
@@ -35,6 +37,54 @@ pub record TookSome (s : SinkSeen) (bytes : List ℕ) (t : SinkSeen) : Type 0 wh
   pub whole : bytes ≡ part ++ rest
   pub took : TookAll s part t
 
+-- ---- puts
+
+-- the sink was put to so many times
+pub record PutTimes (s : SinkSeen) (puts : ℕ) (t : SinkSeen) : Type 0 where
+  pub told : t.puts ≡ amount_after s.puts puts
+
+-- the bytes of the pieces, one after another
+abbrev pub joined : List (List ℕ) → List ℕ
+joined [] = []
+joined (piece ∷ []) = piece
+joined (piece ∷ next ∷ more) = piece ++ joined (next ∷ more)
+
+-- each of the pieces was put by one put, in this order, and the sink took all of them
+pub record PutAll (s : SinkSeen) (pieces : List (List ℕ)) (t : SinkSeen) : Type 0 where
+  pub took : TookAll s (joined pieces) t
+  pub times : PutTimes s (length pieces) t
+
+-- The pieces were put, each by one put, in this order, up to one whose put failed, of which the sink took the first
+-- part; none was put after it.
+pub record PutSome (s : SinkSeen) (pieces : List (List ℕ)) (t : SinkSeen) : Type 0 where
+  pub front : List (List ℕ)
+  pub part : List ℕ
+  pub rest : List ℕ
+  pub unput : List (List ℕ)
+  pub whole : pieces ≡ front ++ (part ++ rest) ∷ unput
+  pub put : PutAll s (front ++ part ∷ []) t
+  pub rose : Rose s.faults t.faults
+
+-- the sink took the bytes by so many puts, and stays where there is nothing to take
+pub record TookBy (s : SinkSeen) (bytes : List ℕ) (puts : ℕ) (t : SinkSeen) : Type 0 where
+  pub took : TookAll s bytes t
+  pub times : PutTimes s puts t
+  pub silent : bytes ≡ [] → t ≡ s
+
+-- The sink took all of the bytes by so many puts. Then the pieces were put, each by one put, up to one whose put failed,
+-- of which the sink took the first part; none was put after it.
+pub record FailedAfter (s : SinkSeen) (bytes : List ℕ) (puts : ℕ) (pieces : List (List ℕ)) (t : SinkSeen) : Type 0 where
+  pub front : List (List ℕ)
+  pub part : List ℕ
+  pub rest : List ℕ
+  pub unput : List (List ℕ)
+  pub whole : pieces ≡ front ++ (part ++ rest) ∷ unput
+  pub took : TookAll s (bytes ++ joined (front ++ part ∷ [])) t
+  pub times : PutTimes s (puts + length (front ++ part ∷ [])) t
+  pub rose : Rose s.faults t.faults
+
+-- ---- the amount and the bytes
+
 -- the number is the length of the list, where both are there
 abbrev pub IsLengthWhereTold : Option (List ℕ) → Option ℕ → Type 0
 IsLengthWhereTold None amount = Unit {0}
@@ -45,6 +95,17 @@ IsLengthWhereTold (Some bytes) (Some n) = n ≡ length bytes
 abbrev pub AmountIsLength : SinkSeen → Type 0
 AmountIsLength s = IsLengthWhereTold s.written s.amount
 
--- what is told of a sink that counts its bytes, as long as it knows how many they are
-abbrev pub count_seen : Option ℕ → SinkSeen
-count_seen amount = record { written = None; amount = amount; faults = 0 }
+-- ---- a sink that counts
+
+-- how many bytes it took by how many puts, as long as it knows these
+pub record Counted : Type 0 where
+  pub amount : Option ℕ
+  pub puts : Option ℕ
+
+-- it tells both
+abbrev pub count_seen : Counted → SinkSeen
+count_seen c = record { written = None; amount = c.amount; puts = c.puts; faults = 0 }
+
+-- after a put of so many bytes
+abbrev pub counted_after : Counted → ℕ → Counted
+counted_after c more = record { amount = amount_after c.amount more; puts = amount_after c.puts 1 }

@@ -1,10 +1,11 @@
 // A sink in memory.
 
-ghost use Rattle.std.specs.Prelude.{◌≡◌, ◌≤◌, ◌+◌, ◌++◌, [], ◌==◌, IfOk, OnOk, OnErr, is_ok, refl, length, vec_len, vec_capacity};
+ghost use Rattle.std.specs.Prelude.{◌≡◌, ◌≤◌, ◌+◌, ◌++◌, [], ◌==◌, IfOk, OnOk, OnErr, Some, is_ok, refl, length, vec_len, vec_capacity};
 ghost use Rattle.std.specs.List.{list_any};
-ghost use Rattle.bril_outside.specs.Sink.{TookAll, TookSome, Rose};
-ghost use Rattle.bril_outside.specs.Memory.{SinkMemory, sink_seen, takes_all, after_put};
+ghost use Rattle.bril_outside.specs.Sink.{TookAll, TookSome, PutTimes, Rose};
+ghost use Rattle.bril_outside.specs.Memory.{SinkMemory, sink_seen, has_number, takes_all, after_put};
 
+use crate::count_sink::count_after;
 use crate::sink::{Failed, Sink};
 use bril_tree::sequence::Seq;
 use std::alloc::{AllocError, Global};
@@ -12,13 +13,13 @@ use std::marker::Model;
 
 /// A sink that keeps what is written to it, in memory that it reserves when it is made.
 ///
-/// It counts its puts from 1, and a put whose number is on its list fails and takes nothing. The count
-/// stays at `u64::MAX`.
+/// It counts its puts from 1, and a put whose number is on its list fails and takes nothing. Puts past `u64::MAX` have
+/// no number.
 #[derive(Drop)]
 pub struct MemSink {
     held: Vec<u8>,
     room: u32,
-    puts: u64,
+    puts: Option<u64>,
     fails: Seq<u64>,
     faults: u64,
 }
@@ -45,12 +46,12 @@ impl MemSink {
     /// from 1, that are to fail. Fails only for want of memory.
     pub fn new(alloc: Global, room: u32, fails: Seq<u64>) -> Result<MemSink, AllocError>
         ensures { IfOk result (λ made.
-            made ≡ record { held = []; room = room; puts = 0; fails = fails; faults = 0 }) }
+            made ≡ record { held = []; room = room; puts = Some 0; fails = fails; faults = 0 }) }
     {
         Ok(MemSink {
             held: Vec::with_capacity(alloc, room as usize)?,
             room,
-            puts: 0,
+            puts: Some(0),
             fails,
             faults: 0,
         })
@@ -73,11 +74,12 @@ impl Sink for MemSink {
         ensures ok { OnOk result (TookAll (sink_seen self.old) piece.now (sink_seen self.new)) }
         ensures err { OnErr result (TookSome (sink_seen self.old) piece.now (sink_seen self.new)
             × Rose self.old.faults self.new.faults) }
+        ensures times { PutTimes (sink_seen self.old) 1 (sink_seen self.new) }
         ensures answer { is_ok result ≡ takes_all self.old piece.now }
         ensures after { self.new ≡ after_put self.old piece.now }
     {
-        self.puts = self.puts.saturating_add(1);
-        if is_listed(self.fails.as_slice(), self.puts) {
+        self.puts = count_after(self.puts, 1);
+        if has_number(self.fails.as_slice(), self.puts) {
             self.faults = self.faults.saturating_add(1);
             return Err(Failed);
         }
@@ -92,6 +94,16 @@ impl Sink for MemSink {
     }
 
     ghost amount_is_length = { λ s. refl };
+}
+
+/// Whether the number, where there is one, is on the list. Takes no memory.
+fn has_number(list: &[u64], number: Option<u64>) -> bool
+    ensures { result ≡ has_number list.now number }
+{
+    match number {
+        Some(number) => is_listed(list, number),
+        None => false,
+    }
 }
 
 /// Whether the number is on the list. Takes no memory.

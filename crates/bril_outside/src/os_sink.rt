@@ -36,7 +36,7 @@ impl<W: Write> OsSink<W> {
 }
 
 impl<W: Write> Sink for OsSink<W> {
-    ghost seen = { λ s. record { written = None; amount = None; faults = s.faults } };
+    ghost seen = { λ s. record { written = None; amount = None; puts = None; faults = s.faults } };
 
     /// Writes the piece and flushes the writer. Takes no memory of its own. Fails where the writer fails, other
     /// than by an interruption, takes nothing of bytes that are left, or cannot be flushed. No clause says when a

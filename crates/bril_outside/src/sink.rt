@@ -1,7 +1,7 @@
 // Sinks: what bytes are written to.
 
-ghost use Rattle.std.specs.Prelude.{OnOk, OnErr, ◌++◌};
-ghost use Rattle.bril_outside.specs.Sink.{SinkSeen, Rose, TookAll, TookSome, AmountIsLength};
+ghost use Rattle.std.specs.Prelude.{OnOk, OnErr, [], ◌∷◌};
+ghost use Rattle.bril_outside.specs.Sink.{SinkSeen, Rose, TookAll, TookSome, PutTimes, PutAll, PutSome, AmountIsLength};
 
 use thiserror::Error;
 
@@ -19,25 +19,26 @@ pub trait Sink {
     ///
     /// `Ok`: the whole piece was written. `Failed`: the sink counted a fault in this call, and the first
     /// bytes of the piece, perhaps none, were written. A sink that takes nothing of a piece that isn't
-    /// empty counts a fault. What the sink tells before a call it tells after it, except an amount that
-    /// would pass `u64::MAX`; what it does not tell before it does not tell after.
+    /// empty counts a fault. What the sink tells before a call it tells after it, except an amount or a
+    /// number of puts that would pass `u64::MAX`; what it does not tell before it does not tell after. Each
+    /// call is one put, also one that fails and one of an empty piece.
     fn put(&mut self, piece: &[u8]) -> Result<(), Failed>
         ensures ok { OnOk result (TookAll (seen self.old) piece.now (seen self.new)) }
         ensures err { OnErr result (TookSome (seen self.old) piece.now (seen self.new)
-            × Rose (seen self.old).faults (seen self.new).faults) };
+            × Rose (seen self.old).faults (seen self.new).faults) }
+        ensures times { PutTimes (seen self.old) 1 (seen self.new) };
 
     /// The amount is the length of what was written, where both are told.
     ghost amount_is_length: { (s : Self) → AmountIsLength (seen s) };
 }
 
-/// Writes the pieces, one after another. Takes no memory.
+/// Writes the pieces, one after another, each by one put. Takes no memory.
 ///
-/// `Ok`: both were written. `Failed`: the sink counted a fault, and the first bytes of the two, perhaps
-/// none, were written.
+/// `Ok`: both were written. `Failed`: the sink counted a fault in the put of a piece, of which the first bytes,
+/// perhaps none, were written; those before it were written, and none after it was put.
 pub fn put_two<S: Sink>(sink: &mut S, first: &[u8], second: &[u8]) -> Result<(), Failed>
-    ensures ok { OnOk result (TookAll (S.seen sink.old) (first.now ++ second.now) (S.seen sink.new)) }
-    ensures err { OnErr result (TookSome (S.seen sink.old) (first.now ++ second.now) (S.seen sink.new)
-        × Rose (S.seen sink.old).faults (S.seen sink.new).faults) }
+    ensures ok { OnOk result (PutAll (S.seen sink.old) (first.now ∷ second.now ∷ []) (S.seen sink.new)) }
+    ensures err { OnErr result (PutSome (S.seen sink.old) (first.now ∷ second.now ∷ []) (S.seen sink.new)) }
 {
     sink.put(first)?;
     match sink.put(second) {
@@ -46,22 +47,21 @@ pub fn put_two<S: Sink>(sink: &mut S, first: &[u8], second: &[u8]) -> Result<(),
     }
 }
 
-/// Writes the pieces, one after another. Takes no memory.
+/// Writes the pieces, one after another, each by one put. Takes no memory.
 ///
-/// `Ok`: all three were written. `Failed`: the sink counted a fault, and the first bytes of the three,
-/// perhaps none, were written.
+/// `Ok`: all three were written. `Failed`: the sink counted a fault in the put of a piece, of which the first bytes,
+/// perhaps none, were written; those before it were written, and none after it was put.
 pub fn put_three<S: Sink>(
     sink: &mut S,
     first: &[u8],
     second: &[u8],
     third: &[u8],
 ) -> Result<(), Failed>
-    ensures ok { OnOk result (TookAll (S.seen sink.old) (first.now ++ second.now ++ third.now) (S.seen sink.new)) }
-    ensures err { OnErr result (TookSome (S.seen sink.old) (first.now ++ second.now ++ third.now) (S.seen sink.new)
-        × Rose (S.seen sink.old).faults (S.seen sink.new).faults) }
+    ensures ok { OnOk result (PutAll (S.seen sink.old) (first.now ∷ second.now ∷ third.now ∷ []) (S.seen sink.new)) }
+    ensures err { OnErr result (PutSome (S.seen sink.old) (first.now ∷ second.now ∷ third.now ∷ []) (S.seen sink.new)) }
 {
-    put_two(sink, first, second)?;
-    match sink.put(third) {
+    sink.put(first)?;
+    match put_two(sink, second, third) {
         Ok(()) => Ok(()),
         Err(failed) => Err(failed),
     }

@@ -26,7 +26,8 @@ fn numbers(alloc: Global, listed: &[u64]) -> Result<Seq<u64>, AllocError> {
 #[test]
 fn reads_system_files(rt: HostRuntime) -> Result<(), Fail> {
     let alloc = rt.alloc();
-    let name = "bril_outside_reads.tmp";
+    // The blanks at both ends belong to the name.
+    let name = " bril_outside reads.tmp ";
     let long = vec![in alloc; 97u8; 10000]?;
     fs::write(&rt, name, long.as_slice())?;
     let path = Text::of(alloc, name)?;
@@ -46,6 +47,11 @@ fn reads_system_files(rt: HostRuntime) -> Result<(), Fail> {
     let missing = Text::of(alloc, "bril_outside_missing.tmp")?;
     assert_eq!(rt;
         files.read(alloc, &missing, 10000, &mut into),
+        Err(FileFault::Failed)
+    );
+    let trimmed = Text::of(alloc, "bril_outside reads.tmp")?;
+    assert_eq!(rt;
+        files.read(alloc, &trimmed, 10000, &mut into),
         Err(FileFault::Failed)
     );
     assert_eq!(rt; into.as_slice().len(), 10001);
@@ -105,6 +111,36 @@ impl Write for Weak {
     }
 }
 
+/// A stream that fails once, where it is read, or takes nothing once, where it is written to, and is well afterwards.
+#[derive(Drop)]
+struct Late {
+    turns: u8,
+}
+
+impl Read for Late {
+    fn read(&mut self, _buf: &mut [u8]) -> io::Result<usize> {
+        self.turns = self.turns.saturating_add(1);
+        if self.turns == 1 {
+            return Err(io::Error::from(ErrorKind::Other));
+        }
+        Ok(0)
+    }
+}
+
+impl Write for Late {
+    fn write(&mut self, buf: &[u8]) -> io::Result<usize> {
+        self.turns = self.turns.saturating_add(1);
+        if self.turns == 1 {
+            return Ok(0);
+        }
+        Ok(buf.len())
+    }
+
+    fn flush(&mut self) -> io::Result<()> {
+        Ok(())
+    }
+}
+
 #[test]
 fn streams_that_fail(rt: HostRuntime) -> Result<(), Fail> {
     let alloc = rt.alloc();
@@ -120,6 +156,14 @@ fn streams_that_fail(rt: HostRuntime) -> Result<(), Fail> {
     assert_eq!(rt; sink.put(b""), Ok(()));
     assert_eq!(rt; sink.put(b"more"), Err(Failed));
     assert_eq!(rt; sink.put(b""), Err(Failed));
+    // A failed read is no interruption, and a writer that takes nothing isn't tried again.
+    assert_eq!(rt;
+        append_rest(&mut Late { turns: 0 }, alloc, 4, &mut into),
+        Err(FileFault::Failed)
+    );
+    let mut late = OsSink::new(Late { turns: 0 });
+    assert_eq!(rt; late.put(b"late"), Err(Failed));
+    assert_eq!(rt; late.put(b"late"), Ok(()));
     // A writer with room for three bytes takes nothing from then on.
     let mut room = [0u8; 3];
     assert_eq!(rt; OsSink::new(room.as_mut_slice()).put(b"four"), Err(Failed));

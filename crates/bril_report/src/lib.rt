@@ -2,6 +2,7 @@
 #![tactic(auto)]
 
 mod report;
+mod stage_faults;
 mod status;
 #[cfg(test)]
 mod tests;

@@ -1,9 +1,8 @@
 // What is told of how a command ended: its number, and its line on the error output.
 
-ghost use Rattle.std.specs.Prelude.{◌≡◌, ◌++◌, codes, None, Some};
-ghost use Rattle.std.specs.Fmt.{decimal};
-ghost use Rattle.bril_report.specs.Lines.{misread_line, misnamed_line, text_front, text_position, json_front, json_position, name_front, name_position, number_or_dash, position_then, position_end, position_of, variable_name, unassigned_line, unaccepted_line, fault_line, count_line, misuse_line};
-ghost use Rattle.bril_report.specs.Report.{Says, status_number, status_line, PutsLine, SaysStatus};
+ghost use Rattle.std.specs.Prelude.{◌≡◌, [], ◌∷◌, ◌++◌, codes, None, Some};
+ghost use Rattle.bril_report.specs.Lines.{text_front, text_position, json_front, json_position, name_front, name_position, number_or_dash, position_of, variable_name, fault_line, misuse_line};
+ghost use Rattle.bril_report.specs.Report.{Says, SaysBy, status_number, SaysStatus, PutsPieces, status_pieces, position_pieces, number_pieces, misread_pieces, misnamed_pieces, item_pieces, main_pieces, unassigned_pieces, unaccepted_pieces, count_pieces};
 
 use crate::status::{SourceFault, Status};
 use bril_checker::CheckFault;
@@ -32,6 +31,7 @@ pub fn status_number(status: &Status) -> u8
         Status::Done => 0,
         Status::Faulted { .. } => 2,
         Status::Spent { .. } => 3,
+        Status::Misused { .. } => 64,
         Status::Unsupported
         | Status::Misread { .. }
         | Status::Misnamed { .. }
@@ -45,19 +45,25 @@ pub fn status_number(status: &Status) -> u8
 }
 
 /// Puts the line of a status, for the file at a path, on the error output: all of it, or the first of it where the
-/// output counts a fault. Where all was done nothing is put.
+/// output counts a fault. Each piece of the line is one put, and none comes after one that failed. Where all was done
+/// nothing is put.
 pub fn say<E: Sink>(err: &mut E, path: &Text, status: &Status)
-    ensures { SaysStatus status.now path.now (E.seen err.old) (E.seen err.new) }
+    ensures line { SaysStatus status.now path.now (E.seen err.old) (E.seen err.new) }
+    ensures puts { SaysBy (E.seen err.old) (status_pieces status.now path.now) (E.seen err.new) }
 {
-    if !matches!(status, Status::Done) {
-        let _ = put_status(err, path, status);
+    match status {
+        Status::Done => {}
+        _ => {
+            let _ = put_status(err, path, status);
+        }
     }
 }
 
 /// Puts the line of words that ask for nothing on the error output: all of it, or the first of it where the output
-/// counts a fault.
+/// counts a fault. The line is one put.
 pub fn say_misuse<E: Sink>(err: &mut E, misuse: Misuse)
-    ensures { Says (E.seen err.old) (misuse_line misuse) (E.seen err.new) }
+    ensures line { Says (E.seen err.old) (misuse_line misuse) (E.seen err.new) }
+    ensures puts { SaysBy (E.seen err.old) (misuse_line misuse ∷ []) (E.seen err.new) }
 {
     let _ = put_line(err, misuse_line(misuse));
 }
@@ -82,12 +88,13 @@ fn misuse_line(misuse: Misuse) -> &'static [u8]
 
 // Puts the line of a status.
 fn put_status<E: Sink>(err: &mut E, path: &Text, status: &Status) -> Result<(), Failed>
-    ensures { PutsLine result (E.seen err.old) (status_line status.now path.now) (E.seen err.new) }
+    ensures { PutsPieces result (E.seen err.old) (status_pieces status.now path.now) (E.seen err.new) }
 {
     match status {
-        Status::Done => put_line(err, b""),
+        Status::Done => Ok(()),
         Status::Faulted { fault } => put_line(err, fault_line(*fault)),
         Status::Spent { steps } => put_number(err, b"spent ", *steps),
+        Status::Misused { misuse } => put_line(err, misuse_line(*misuse)),
         Status::Unsupported => put_two(err, path.as_bytes(), b": form\n"),
         Status::Misread { fault } => put_misread(err, path.as_bytes(), *fault),
         Status::Misnamed { fault } => put_misnamed(err, *fault),
@@ -124,7 +131,7 @@ fn fault_line(fault: Fault) -> &'static [u8]
 
 // Puts the line of a wrong number of arguments.
 fn put_counts<E: Sink>(err: &mut E, given: u32, wanted: u32) -> Result<(), Failed>
-    ensures { PutsLine result (E.seen err.old) (count_line given wanted) (E.seen err.new) }
+    ensures { PutsPieces result (E.seen err.old) (count_pieces given wanted) (E.seen err.new) }
 {
     let mut first = Buffer::new();
     let mut second = Buffer::new();
@@ -137,7 +144,7 @@ fn put_counts<E: Sink>(err: &mut E, given: u32, wanted: u32) -> Result<(), Faile
 
 // Puts the line of how many arguments were given and are wanted, both as decimals.
 fn put_counted<E: Sink>(err: &mut E, given: &[u8], wanted: &[u8]) -> Result<(), Failed>
-    ensures { PutsLine result (E.seen err.old) ((codes "arguments: " ++ given.now) ++ (codes " given, " ++ wanted.now ++ codes " wanted\n")) (E.seen err.new) }
+    ensures { PutsPieces result (E.seen err.old) (codes "arguments: " ∷ given.now ∷ codes " given, " ∷ wanted.now ∷ codes " wanted\n" ∷ []) (E.seen err.new) }
 {
     put_five(
         err,
@@ -151,89 +158,57 @@ fn put_counted<E: Sink>(err: &mut E, given: &[u8], wanted: &[u8]) -> Result<(), 
 
 // Puts the line of a fault of the bytes of the file at a path.
 fn put_misread<E: Sink>(err: &mut E, path: &[u8], fault: SourceFault) -> Result<(), Failed>
-    ensures { PutsLine result (E.seen err.old) (misread_line path.now fault) (E.seen err.new) }
+    ensures { PutsPieces result (E.seen err.old) (misread_pieces path.now fault) (E.seen err.new) }
 {
     match fault {
         SourceFault::Text(fault) => put_text_fault(err, path, fault),
-        SourceFault::Json(fault) => {
-            put_placed(err, path, json_front(fault), json_position(fault), b"\n")
-        }
+        SourceFault::Json(fault) => put_after(err, path, json_front(fault), json_position(fault)),
     }
 }
 
 // Puts the line of a fault of the names.
 fn put_misnamed<E: Sink>(err: &mut E, fault: NameFault) -> Result<(), Failed>
-    ensures { PutsLine result (E.seen err.old) (misnamed_line fault) (E.seen err.new) }
+    ensures { PutsPieces result (E.seen err.old) (misnamed_pieces fault) (E.seen err.new) }
 {
-    put_placed(err, b"", name_front(fault), name_position(fault), b"\n")
+    put_placed(err, name_front(fault), name_position(fault), b"\n")
 }
 
 // Puts the line of a fault of the checker, which the program has.
 fn put_unaccepted<E: Sink>(err: &mut E, program: &Prog, fault: CheckFault) -> Result<(), Failed>
-    ensures { PutsLine result (E.seen err.old) (unaccepted_line program.now fault) (E.seen err.new) }
+    ensures { PutsPieces result (E.seen err.old) (unaccepted_pieces program.now fault) (E.seen err.new) }
 {
     match fault {
-        CheckFault::Types { func, item } => put_item(err, b"check 1 function ", func, item, b"\n"),
-        CheckFault::Arity { func, item } => put_item(err, b"check 2 function ", func, item, b"\n"),
+        CheckFault::Types { func, item } => put_item(err, b"check 1 function ", func, item),
+        CheckFault::Arity { func, item } => put_item(err, b"check 2 function ", func, item),
         CheckFault::MaybeUnassigned { func, item, var } => {
             put_unassigned(err, variable_name(program, func, var), func, item)
         }
-        CheckFault::Nest { func, item } => put_item(err, b"check 4 function ", func, item, b"\n"),
-        CheckFault::SpecCall { func, item } => put_item(
-            err,
-            b"check 5 function ",
-            func,
-            item,
-            b"\n",
-        ),
-        CheckFault::NoReturn { func, item } => put_item(
-            err,
-            b"check 6 function ",
-            func,
-            item,
-            b"\n",
-        ),
+        CheckFault::Nest { func, item } => put_item(err, b"check 4 function ", func, item),
+        CheckFault::SpecCall { func, item } => put_item(err, b"check 5 function ", func, item),
+        CheckFault::NoReturn { func, item } => put_item(err, b"check 6 function ", func, item),
         CheckFault::MainType => put_main(err, program.main),
-        CheckFault::PrintPtr { func, item } => put_item(
-            err,
-            b"check 8 function ",
-            func,
-            item,
-            b"\n",
-        ),
+        CheckFault::PrintPtr { func, item } => put_item(err, b"check 8 function ", func, item),
         CheckFault::Memory => put_line(err, b"check 0 function - item -\n"),
     }
 }
 
 // Puts the line of a `main` that returns a value or takes a pointer.
 fn put_main<E: Sink>(err: &mut E, main: u32) -> Result<(), Failed>
-    ensures { PutsLine result (E.seen err.old) (codes "check 7 function " ++ position_end (position_of (Some main) None)) (E.seen err.new) }
+    ensures { PutsPieces result (E.seen err.old) (main_pieces main) (E.seen err.new) }
 {
-    put_placed(
-        err,
-        b"",
-        b"check 7 function ",
-        function_position(main),
-        b"\n",
-    )
+    put_placed(err, b"check 7 function ", function_position(main), b"\n")
 }
 
-// Puts a piece, a function and an item, and what follows them.
-fn put_item<E: Sink>(
-    err: &mut E,
-    front: &[u8],
-    func: u32,
-    item: u32,
-    rest: &[u8],
-) -> Result<(), Failed>
-    ensures { PutsLine result (E.seen err.old) (front.now ++ position_then (position_of (Some func) (Some item)) rest.now) (E.seen err.new) }
+// Puts a piece, a function and an item, and LF.
+fn put_item<E: Sink>(err: &mut E, front: &[u8], func: u32, item: u32) -> Result<(), Failed>
+    ensures { PutsPieces result (E.seen err.old) (item_pieces front.now func item) (E.seen err.new) }
 {
-    put_placed(err, b"", front, item_position(func, item), rest)
+    put_placed(err, front, item_position(func, item), b"\n")
 }
 
 // Puts the line of a variable of this name that may be unassigned.
 fn put_unassigned<E: Sink>(err: &mut E, name: &[u8], func: u32, item: u32) -> Result<(), Failed>
-    ensures { PutsLine result (E.seen err.old) (unassigned_line name.now func item) (E.seen err.new) }
+    ensures { PutsPieces result (E.seen err.old) (unassigned_pieces name.now func item) (E.seen err.new) }
 {
     put_named(
         err,
@@ -252,9 +227,9 @@ fn put_named<E: Sink>(
     rest: &[u8],
     name: &[u8],
 ) -> Result<(), Failed>
-    ensures { PutsLine result (E.seen err.old) (front.now ++ position_then position rest.now ++ (name.now ++ codes "\n")) (E.seen err.new) }
+    ensures { PutsPieces result (E.seen err.old) (front.now ∷ (position_pieces position rest.now ++ name.now ∷ codes "\n" ∷ [])) (E.seen err.new) }
 {
-    put_placed(err, b"", front, position, rest)?;
+    put_placed(err, front, position, rest)?;
     match put_two(err, name, b"\n") {
         Ok(()) => Ok(()),
         Err(Failed) => Err(Failed),
@@ -276,7 +251,7 @@ fn variable_name(program: &Prog, func: u32, var: u32) -> &[u8]
 
 // Puts the line of a fault of the text of the file at a path.
 fn put_text_fault<E: Sink>(err: &mut E, path: &[u8], fault: TextFault) -> Result<(), Failed>
-    ensures { PutsLine result (E.seen err.old) (misread_line path.now (SourceFault.Text fault)) (E.seen err.new) }
+    ensures { PutsPieces result (E.seen err.old) (misread_pieces path.now (SourceFault.Text fault)) (E.seen err.new) }
 {
     let mut buffer = Buffer::new();
     put_four(
@@ -288,31 +263,36 @@ fn put_text_fault<E: Sink>(err: &mut E, path: &[u8], fault: TextFault) -> Result
     )
 }
 
-// Puts two pieces, a position and what follows it.
-fn put_placed<E: Sink>(
+// Puts a path, a piece, a position and LF.
+fn put_after<E: Sink>(
     err: &mut E,
-    a: &[u8],
-    b: &[u8],
+    path: &[u8],
+    front: &[u8],
     position: Position,
-    rest: &[u8],
 ) -> Result<(), Failed>
-    ensures { PutsLine result (E.seen err.old) (a.now ++ b.now ++ position_then position rest.now) (E.seen err.new) }
+    ensures { PutsPieces result (E.seen err.old) (path.now ∷ front.now ∷ position_pieces position (codes "\n")) (E.seen err.new) }
 {
-    put_two(err, a, b)?;
-    match put_position(err, position, rest) {
+    err.put(path)?;
+    match put_placed(err, front, position, b"\n") {
         Ok(()) => Ok(()),
         Err(Failed) => Err(Failed),
     }
 }
 
-// Puts a position and what follows it.
-fn put_position<E: Sink>(err: &mut E, position: Position, rest: &[u8]) -> Result<(), Failed>
-    ensures { PutsLine result (E.seen err.old) (position_then position rest.now) (E.seen err.new) }
+// Puts a piece, a position and what follows it.
+fn put_placed<E: Sink>(
+    err: &mut E,
+    front: &[u8],
+    position: Position,
+    rest: &[u8],
+) -> Result<(), Failed>
+    ensures { PutsPieces result (E.seen err.old) (front.now ∷ position_pieces position rest.now) (E.seen err.new) }
 {
     let mut func = Buffer::new();
     let mut item = Buffer::new();
-    put_four(
+    put_five(
         err,
+        front,
         number_or_dash(&mut func, position.func),
         b" item ",
         number_or_dash(&mut item, position.item),
@@ -445,7 +425,7 @@ fn text_position(fault: TextFault) -> u32
 
 // Puts four pieces.
 fn put_four<E: Sink>(err: &mut E, a: &[u8], b: &[u8], c: &[u8], d: &[u8]) -> Result<(), Failed>
-    ensures { PutsLine result (E.seen err.old) (a.now ++ b.now ++ (c.now ++ d.now)) (E.seen err.new) }
+    ensures { PutsPieces result (E.seen err.old) (a.now ∷ b.now ∷ c.now ∷ d.now ∷ []) (E.seen err.new) }
 {
     put_two(err, a, b)?;
     match put_two(err, c, d) {
@@ -463,7 +443,7 @@ fn put_five<E: Sink>(
     d: &[u8],
     e: &[u8],
 ) -> Result<(), Failed>
-    ensures { PutsLine result (E.seen err.old) ((a.now ++ b.now) ++ (c.now ++ d.now ++ e.now)) (E.seen err.new) }
+    ensures { PutsPieces result (E.seen err.old) (a.now ∷ b.now ∷ c.now ∷ d.now ∷ e.now ∷ []) (E.seen err.new) }
 {
     put_two(err, a, b)?;
     match put_three(err, c, d, e) {
@@ -474,21 +454,21 @@ fn put_five<E: Sink>(
 
 // Puts a line that is one piece.
 fn put_line<E: Sink>(err: &mut E, line: &[u8]) -> Result<(), Failed>
-    ensures { PutsLine result (E.seen err.old) line.now (E.seen err.new) }
+    ensures { PutsPieces result (E.seen err.old) (line.now ∷ []) (E.seen err.new) }
 {
     err.put(line)
 }
 
 // Puts two pieces and LF.
 fn put_around<E: Sink>(err: &mut E, front: &[u8], back: &[u8]) -> Result<(), Failed>
-    ensures { PutsLine result (E.seen err.old) (front.now ++ back.now ++ codes "\n") (E.seen err.new) }
+    ensures { PutsPieces result (E.seen err.old) (front.now ∷ back.now ∷ codes "\n" ∷ []) (E.seen err.new) }
 {
     put_three(err, front, back, b"\n")
 }
 
 // Puts a line that ends with a number.
 fn put_number<E: Sink>(err: &mut E, front: &[u8], number: u64) -> Result<(), Failed>
-    ensures { PutsLine result (E.seen err.old) (front.now ++ decimal number ++ codes "\n") (E.seen err.new) }
+    ensures { PutsPieces result (E.seen err.old) (number_pieces front.now number) (E.seen err.new) }
 {
     let mut buffer = Buffer::new();
     put_around(err, front, buffer.format(number).as_bytes())

@@ -1,4 +1,4 @@
-//! What operations compute from values, and what `print` shows of a value.
+//! What a value is as an int, a bool and a pointer, what operations compute from values, and what `print` shows of one.
 #![tactic(auto)]
 
 mod outcome;
@@ -8,4 +8,5 @@ mod printed_value;
 mod tests;
 
 pub use outcome::{Outcome, compute};
+pub use parts::{block_of, bool_of, int_of, offset_of};
 pub use printed_value::PrintedValue;

@@ -1,13 +1,14 @@
 // What a value is as an int, a bool, a char and a pointer, and the zero of a type.
 
-ghost use Rattle.std.specs.Prelude.{◌≡◌};
+ghost use Rattle.std.specs.Prelude.{◌≡◌, FitsSigned};
+ghost use Rattle.std.specs.Int.{w32};
 ghost use Rattle.bril_tree.specs.Outcome as meaning;
 ghost use Rattle.bril_tree.specs.Value as values;
 
 use bril_tree::types::{Base, Ty};
 use bril_tree::value::Value;
 
-// The int, and 0 where the value is none.
+/// The int; 0 where the value is none. Takes no memory.
 #[inline]
 pub fn int_of(value: Value) -> i64
     ensures { result ≡ meaning.int_of value }
@@ -18,7 +19,7 @@ pub fn int_of(value: Value) -> i64
     }
 }
 
-// The bool, and false where the value is none.
+/// The bool; false where the value is none. Takes no memory.
 #[inline]
 pub fn bool_of(value: Value) -> bool
     ensures { result ≡ meaning.bool_of value }
@@ -29,7 +30,7 @@ pub fn bool_of(value: Value) -> bool
     }
 }
 
-// The char, and U+0000 where the value is none.
+// The char; U+0000 where the value is none.
 #[inline]
 pub fn char_of(value: Value) -> char
     ensures { result ≡ meaning.char_of value }
@@ -40,7 +41,7 @@ pub fn char_of(value: Value) -> char
     }
 }
 
-// The pointer's block, and 0 where the value is no pointer.
+/// The number of the pointer's block; 0 where the value is no pointer. Takes no memory.
 #[inline]
 pub fn block_of(value: Value) -> u32
     ensures { result ≡ meaning.block_of value }
@@ -51,10 +52,11 @@ pub fn block_of(value: Value) -> u32
     }
 }
 
-// The pointer's offset, and 0 where the value is no pointer.
+/// The pointer's offset, in cells; 0 where the value is no pointer. Takes no memory.
 #[inline]
 pub fn offset_of(value: Value) -> i32
-    ensures { result ≡ meaning.offset_of value }
+    ensures value { result ≡ meaning.offset_of value }
+    ensures fits { FitsSigned w32 result }
 {
     match value {
         Value::Ptr { offset, .. } => offset,

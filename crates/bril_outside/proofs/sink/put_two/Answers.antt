@@ -1,9 +1,15 @@
--- The first bytes of the last piece come after all of what stands before it.
-use Rattle.std.proofs.Common.{arith}
-use Rattle.bril_outside.proofs.SinkWrites.{TookSome-after}
+-- The second piece is put after all of the first.
+use Rattle.std.proofs.Common.{[], ◌∷◌, rules}
+use Rattle.bril_outside.proofs.SinkWrites.{PutAll-one, PutSome-one, PutSome-longer, PutSome-after}
 use Rattle.bril_outside.proofs.sink.put_two.Goals as goal
+
+pub returns-in_err-put-clause-err : goal.returns-in_err-put-clause-err
+returns-in_err-put-clause-err g c =
+    let failed = c.in_err-put.ensures in
+    let some = PutSome-longer (c.args.second.now ∷ []) (PutSome-one failed.err.0 failed.times failed.err.1) in search rules
 
 pub returns-in-Err-clause-err : goal.returns-in-Err-clause-err
 returns-in-Err-clause-err g c =
-    let front = c.in_ok-put.ensures.ok in
-    (TookSome-after front c.in-Err.ensures.err.0, omega (arith, front, c.in-Err.ensures.err.1))
+    let front = c.in_ok-put.ensures in
+    let failed = c.in-Err.ensures in
+    PutSome-after (PutAll-one front.ok front.times) (PutSome-one failed.err.0 failed.times failed.err.1)

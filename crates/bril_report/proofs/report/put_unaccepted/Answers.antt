@@ -1,13 +1,12 @@
 -- The line of each kind is that of its call.
 use Rattle.std.proofs.Common.{ℕ, List, subst}
-use Rattle.bril_report.specs.Lines.{unassigned_line}
-use Rattle.bril_report.specs.Report.{PutsLine}
+use Rattle.bril_report.specs.Report.{PutsPieces, unassigned_pieces}
 use Rattle.bril_report.proofs.report.put_unaccepted.Goals as goal
 
 pub returns-in-MaybeUnassigned : goal.returns-in-MaybeUnassigned
 returns-in-MaybeUnassigned g c =
     rw c.in-MaybeUnassigned.is
-    (subst (λ (name : List ℕ). PutsLine c.put_unassigned.result (g.E.Sink.seen c.args.err.now) (unassigned_line name c.in-MaybeUnassigned.func c.in-MaybeUnassigned.item) (g.E.Sink.seen c.put_unassigned.new.err))
+    (subst (λ (name : List ℕ). PutsPieces c.put_unassigned.result (g.E.Sink.seen c.args.err.now) (unassigned_pieces name c.in-MaybeUnassigned.func c.in-MaybeUnassigned.item) (g.E.Sink.seen c.put_unassigned.new.err))
     c.variable_name.ensures c.put_unassigned.ensures)
 
 pub returns-in-MainType : goal.returns-in-MainType

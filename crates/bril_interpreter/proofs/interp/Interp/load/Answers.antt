@@ -9,9 +9,9 @@ pub returns-in-Err : goal.returns-in-Err
 returns-in-Err c =
     let i = c.args.self.now in
     let cells : c.self.inside.cells ≡ i.cells = ap (λ (i : InterpView). i.cells) c.self.view_is in
-    let fits = c.offset_in.ensures.fits in
+    let fits = c.offset_of.ensures.fits in
     let told = simp to_z-of_z at c.in-Err.ensures in
-    let answer = rw (c.block_in.ensures, c.offset_in.ensures.value, cells) at told in
+    let answer = rw (c.block_of.ensures, c.offset_of.ensures.value, cells) at told in
     Did-from i i c.fault.new.self _ _ c.fault.ensures
     (loads-fault i.checked.prog i.limits (newest_of i) (older_of i) (state_of i) _ c.in-Err.kind c.args.pointer c.args.dest answer)
     refl refl refl

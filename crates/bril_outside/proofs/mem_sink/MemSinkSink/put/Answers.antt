@@ -8,4 +8,4 @@ returns-then-left-piece-clause-err c =
     let inside = c.self.inside in
     let left = inside.room - length inside.held.items in
     rw (← c.self.view_is)
-    (TookSome-held inside.held.items c.args.piece.now c.append_within.new.held.items left inside.faults c.saturating_add-self-inside-then-left-piece.result (grind (arith, rules)) (omega (arith, c.append_within.new.held.ok.0)) (omega arith), omega arith)
+    (TookSome-held inside.held.items c.args.piece.now c.append_within.new.held.items inside.puts c.count_after-self-inside.result left inside.faults c.saturating_add-self-inside-then-left-piece.result (grind (arith, rules)) (omega (arith, c.append_within.new.held.ok.0)) (omega arith), omega arith)
