@@ -1,15 +1,15 @@
--- The JSON form of a file: which tree a JSON value is, or its first fault. Each definition reads one row of the form,
--- its keys in the order in which they are looked at; the first key that isn't as it should be is the fault. Keys that
--- no row names are never looked at. A key with the value null is there, and null is neither a list, a name nor a type.
-use Rattle.std.specs.Prelude.{ℕ, zero, suc, ◌-◌, ℤ, ◌≡◌, Bool, true, false, ◌&&◌, List, [], ◌∷◌, length, Option, Some, None, Result, Ok, Err, codes, bytes_eq, nat_lt, nat_le, if◌then◌else◌}
+-- The JSON form of a file: which tree a JSON value is, or its first fault. Each definition reads one kind of object,
+-- its keys in the order in which they are looked at; the first key that is not as required is the fault. Other keys are
+-- never looked at. A key with the value null is not missing, and null is neither a list, a name nor a type.
+use Rattle.std.specs.Prelude.{ℕ, zero, suc, ◌-◌, ℤ, Bool, ◌&&◌, List, [], ◌∷◌, length, Option, Some, None, Result, Ok, Err, codes, bytes_eq, nat_lt, nat_le, if◌then◌else◌, ok_or}
 use Rattle.std.specs.List.{list_all, list_any}
 use Rattle.std.specs.Str.{chars}
-use Rattle.std.proofs.Common.{refl, ltb-true, leb-true, zero-lt-suc}
+use Rattle.std.proofs.Common.{zero-lt-suc}
 use Rattle.std.proofs.Math.Nat.{sub-le}
 use Rattle.serde_json.specs.Data.{Data, null, boolean, number, string, array, object}
 use Rattle.serde_json.specs.Find.{get, as_str, as_i64, as_u64}
 use Rattle.bril_tree.specs.Identifier.{is_identifier}
-use Rattle.bril_tree.specs.Path.{IsImportPath, is_path_byte}
+use Rattle.bril_tree.specs.Path.{ImportPath, import_path, is_path_byte}
 use Rattle.bril_tree.specs.Spelling.{base_text, float_operations, operation_of}
 use Rattle.bril_tree.specs.declared.function_tree.Dest.{Dest}
 use Rattle.bril_tree.specs.declared.function_tree.FuncTree.{FuncTree}
@@ -26,72 +26,72 @@ use Rattle.bril_tree.specs.declared.value.Lit.{Lit}
 use Rattle.bril_tree.specs.declared.value.Lit.TheVariants as literal
 use Rattle.bril_json.specs.Steps.{◌>>=◌, file, in_function, in_item, misshapen, required, list_at, list_or_none, each, each_from}
 use Rattle.bril_json.specs.declared.fault.JsonFault.{JsonFault}
-use Rattle.bril_json.specs.declared.fault.JsonFault.TheVariants.{IntRange, Float, Deep}
+use Rattle.bril_json.specs.declared.fault.JsonFault.TheVariants.{Shape, IntRange, Float, Deep}
 use Rattle.bril_json.specs.declared.instruction.Instruction.{Instruction}
 use Rattle.bril_json.specs.declared.instruction.Instruction.TheVariants.{Constant, Operation}
-use Rattle.bril_json.specs.declared.place.Place.{Place}
+use Rattle.bril_json.specs.declared.position.Position.{Position}
 
 -- ---- names
 
 -- a name: a text that is an identifier
-abbrev pub name_text : Place → Option (List ℕ) → Result (List ℕ) JsonFault
-name_text place None = misshapen place
-name_text place (Some text) = if is_identifier text then Ok text else misshapen place
+abbrev pub name_text : Position → Option (List ℕ) → Result (List ℕ) JsonFault
+name_text position None = misshapen position
+name_text position (Some text) = if is_identifier text then Ok text else misshapen position
 
-abbrev pub name_of : Place → Data → Result (List ℕ) JsonFault
-name_of place d = name_text place (as_str d)
+abbrev pub name_of : Position → Data → Result (List ℕ) JsonFault
+name_of position d = name_text position (as_str d)
 
 -- the name at a key that must be there
-abbrev pub name_at : Place → List ℕ → Data → Result (List ℕ) JsonFault
-name_at place key d = required place key d >>= name_of place
+abbrev pub name_at : Position → List ℕ → Data → Result (List ℕ) JsonFault
+name_at position key d = required position key d >>= name_of position
 
 -- the names of the list at a key, none where the key is missing
-abbrev pub names_at : Place → List ℕ → Data → Result (List (List ℕ)) JsonFault
-names_at place key d = list_or_none place (get key d) >>= each (name_of place)
+abbrev pub names_at : Position → List ℕ → Data → Result (List (List ℕ)) JsonFault
+names_at position key d = list_or_none position (get key d) >>= each (name_of position)
 
 -- ---- types
 
--- a type around a base, where this many of 32 `ptr` are left
+-- the type with this base, where this many of 32 `ptr` are left
 abbrev pub type_around : ℕ → Base → Ty
 type_around left b = record { depth = 32 - left; base = b; nests = sub-le 32 left }
 
 -- the base that a text names
-abbrev pub base_of : Place → ℕ → List ℕ → Result Ty JsonFault
-base_of place left text =
+abbrev pub base_of : Position → ℕ → List ℕ → Result Ty JsonFault
+base_of position left text =
     if bytes_eq text (base_text base.Int) then Ok (type_around left base.Int) else
     (if bytes_eq text (base_text base.Bool) then Ok (type_around left base.Bool) else
     (if bytes_eq text (base_text base.Char) then Ok (type_around left base.Char) else
-    (if bytes_eq text (codes "float") then Err (Float place.func place.item) else misshapen place)))
+    (if bytes_eq text (codes "float") then Err (Float position.func position.item) else misshapen position)))
 
 -- a text that names a base, or the value of the key `ptr`, which is read by `inner`
-abbrev pub type_parts : Place → ℕ → (Data → Result Ty JsonFault) → Option (List ℕ) → Option Data → Result Ty JsonFault
-type_parts place left inner (Some text) pointed = base_of place left text
-type_parts place left inner None (Some pointed) = inner pointed
-type_parts place left inner None None = misshapen place
+abbrev pub type_parts : Position → ℕ → (Data → Result Ty JsonFault) → Option (List ℕ) → Option Data → Result Ty JsonFault
+type_parts position left inner (Some text) pointed = base_of position left text
+type_parts position left inner None (Some pointed) = inner pointed
+type_parts position left inner None None = misshapen position
 
--- a type inside of which this many `ptr` may still come
-unfoldable pub type_within : Place → ℕ → Data → Result Ty JsonFault
-type_within place zero d = type_parts place zero (λ pointed. Err (Deep place.func place.item)) (as_str d) (get (codes "ptr") d)
-type_within place (suc left) d = type_parts place (suc left) (type_within place left) (as_str d) (get (codes "ptr") d)
+-- a type, which may have this many more `ptr`
+unfoldable pub type_within : Position → ℕ → Data → Result Ty JsonFault
+type_within position zero d = type_parts position zero (λ pointed. Err (Deep position.func position.item)) (as_str d) (get (codes "ptr") d)
+type_within position (suc left) d = type_parts position (suc left) (type_within position left) (as_str d) (get (codes "ptr") d)
 
 -- a type: "int", "bool", "char", or an object whose key `ptr` is a type; the 33rd `ptr` from the outside is too deep
-abbrev pub type_of : Place → Data → Result Ty JsonFault
-type_of place d = type_within place 32 d
+abbrev pub type_of : Position → Data → Result Ty JsonFault
+type_of position d = type_within position 32 d
 
 -- a name with its type
-abbrev pub typed_name : Place → Data → Data → Result Dest JsonFault
-typed_name place named typed = do
-  name ← name_of place named
-  ty ← type_of place typed
+abbrev pub typed_name : Position → Data → Data → Result Dest JsonFault
+typed_name position named typed = do
+  name ← name_of position named
+  ty ← type_of position typed
   Ok (record { name = name; ty = ty })
 
 -- ---- items
 
 -- the one scalar value of a text
-abbrev pub char_of : Place → List ℕ → Result Lit JsonFault
-char_of place [] = misshapen place
-char_of place (c ∷ []) = Ok (literal.Char c)
-char_of place (c ∷ next ∷ rest) = misshapen place
+abbrev pub char_of : Position → List ℕ → Result Lit JsonFault
+char_of position [] = misshapen position
+char_of position (c ∷ []) = Ok (literal.Char c)
+char_of position (c ∷ next ∷ rest) = misshapen position
 
 -- a number that is an int, is a whole number above the greatest int, or is no whole number of 64 bits
 abbrev pub int_of : ℕ → ℕ → Option ℤ → Option ℕ → Result Lit JsonFault
@@ -119,36 +119,36 @@ constant_of func i d = do
   Ok (Const dest ty lit)
 
 -- the destination of an instruction and its type, both or neither
-abbrev pub dest_of : Place → Option Data → Option Data → Result (Option Dest) JsonFault
-dest_of place None None = Ok None
-dest_of place None (Some typed) = misshapen place
-dest_of place (Some named) None = misshapen place
-dest_of place (Some named) (Some typed) = typed_name place named typed >>= (λ dest. Ok (Some dest))
+abbrev pub dest_of : Position → Option Data → Option Data → Result (Option Dest) JsonFault
+dest_of position None None = Ok None
+dest_of position None (Some typed) = misshapen position
+dest_of position (Some named) None = misshapen position
+dest_of position (Some named) (Some typed) = typed_name position named typed >>= (λ dest. Ok (Some dest))
 
 -- an instruction other than a constant: its destination, then the names of its arguments, functions and labels
-abbrev pub act_of : Place → Op → Data → Result Item JsonFault
-act_of place op d = do
-  dest ← dest_of place (get (codes "dest") d) (get (codes "type") d)
-  args ← names_at place (codes "args") d
-  funcs ← names_at place (codes "funcs") d
-  labels ← names_at place (codes "labels") d
+abbrev pub act_of : Position → Op → Data → Result Item JsonFault
+act_of position op d = do
+  dest ← dest_of position (get (codes "dest") d) (get (codes "type") d)
+  args ← names_at position (codes "args") d
+  funcs ← names_at position (codes "funcs") d
+  labels ← names_at position (codes "labels") d
   Ok (Act dest op args funcs labels)
 
 -- an operation other than `const`
-abbrev pub operation_named : Place → Option Op → Result Instruction JsonFault
-operation_named place None = misshapen place
-operation_named place (Some op) = Ok (Operation op)
+abbrev pub operation_named : Position → Option Op → Result Instruction JsonFault
+operation_named position None = misshapen position
+operation_named position (Some op) = Ok (Operation op)
 
 -- `const`, an operation on floats, or another operation
-abbrev pub instruction_text : Place → Option (List ℕ) → Result Instruction JsonFault
-instruction_text place None = misshapen place
-instruction_text place (Some text) =
+abbrev pub instruction_text : Position → Option (List ℕ) → Result Instruction JsonFault
+instruction_text position None = misshapen position
+instruction_text position (Some text) =
     if bytes_eq text (codes "const") then Ok Constant else
-    (if list_any (bytes_eq text) float_operations then Err (Float place.func place.item) else
-    operation_named place (operation_of text))
+    (if list_any (bytes_eq text) float_operations then Err (Float position.func position.item) else
+    operation_named position (operation_of text))
 
-abbrev pub instruction_of : Place → Data → Result Instruction JsonFault
-instruction_of place d = instruction_text place (as_str d)
+abbrev pub instruction_of : Position → Data → Result Instruction JsonFault
+instruction_of position d = instruction_text position (as_str d)
 
 -- what an instruction's other keys are
 abbrev pub operands_of : ℕ → ℕ → Instruction → Data → Result Item JsonFault
@@ -169,17 +169,17 @@ item_of func i d = item_by func i (get (codes "label") d) (get (codes "op") d) d
 -- ---- functions
 
 -- an argument of a function: its name and its type
-abbrev pub argument_of : Place → Data → Result Dest JsonFault
-argument_of place d = do
-  name ← name_at place (codes "name") d
-  typed ← required place (codes "type") d
-  ty ← type_of place typed
+abbrev pub argument_of : Position → Data → Result Dest JsonFault
+argument_of position d = do
+  name ← name_at position (codes "name") d
+  typed ← required position (codes "type") d
+  ty ← type_of position typed
   Ok (record { name = name; ty = ty })
 
--- the type that a function returns, where it returns one
-abbrev pub return_of : Place → Option Data → Result (Option Ty) JsonFault
-return_of place None = Ok None
-return_of place (Some d) = type_of place d >>= (λ ty. Ok (Some ty))
+-- the type that a function returns, if it returns one
+abbrev pub return_of : Position → Option Data → Result (Option Ty) JsonFault
+return_of position None = Ok None
+return_of position (Some d) = type_of position d >>= (λ ty. Ok (Some ty))
 
 -- a function by its number: its name, its arguments, the type that it returns, and its items
 abbrev pub function_of : ℕ → Data → Result FuncTree JsonFault
@@ -194,49 +194,37 @@ function_of func d = do
 
 -- ---- imports
 
--- a path that an import may name
-pub record ImportPath : Type 0 where
-  pub bytes : List ℕ
-  pub is_path : IsImportPath bytes
-
 -- the three tests of `IsImportPath`
 abbrev pub is_import_path : List ℕ → Bool
 is_import_path path = (nat_lt 0 (length path) && nat_le (length path) 4096) && list_all is_path_byte path
 
--- a path with the outcomes of these tests
-abbrev pub tested_path : (path : List ℕ) (some short spelled : Bool) → nat_lt 0 (length path) ≡ some → nat_le (length path) 4096 ≡ short → list_all is_path_byte path ≡ spelled → Result ImportPath JsonFault
-tested_path path true true true a b c = Ok (record { bytes = path; is_path = record { some = ltb-true 0 (length path) a; short = leb-true (length path) 4096 b; spelled = c } })
-tested_path path true true false a b c = misshapen file
-tested_path path true false spelled a b c = misshapen file
-tested_path path false short spelled a b c = misshapen file
-
 -- a text that an import may name: 1 to 4,096 bytes, none of them `"`, `\` or below 0x20
 abbrev pub path_text : Option (List ℕ) → Result ImportPath JsonFault
 path_text None = misshapen file
-path_text (Some path) = tested_path path (nat_lt 0 (length path)) (nat_le (length path) 4096) (list_all is_path_byte path) refl refl refl
+path_text (Some path) = ok_or (import_path path) (Shape None None)
 
 abbrev pub path_of : Data → Result ImportPath JsonFault
 path_of d = path_text (as_str d)
 
--- the other name of a taken function, where it has one
+-- the other name of an imported function, if it has one
 abbrev pub alias_of : Option Data → Result (Option (List ℕ)) JsonFault
 alias_of None = Ok None
 alias_of (Some d) = name_of file d >>= (λ name. Ok (Some name))
 
--- a function that an import takes
+-- an imported function
 abbrev pub taken_of : Data → Result Taken JsonFault
 taken_of d = do
   name ← name_at file (codes "name") d
   alias ← alias_of (get (codes "alias") d)
   Ok (record { name = name; alias = alias })
 
--- an import takes one function or more
+-- an import has at least one function
 abbrev pub import_with : ImportPath → List Taken → Result Import JsonFault
 import_with path [] = misshapen file
 import_with path (first ∷ rest) =
     Ok (record { path = path.bytes; names = first ∷ rest; has_path = path.is_path; takes_some = zero-lt-suc (length rest) })
 
--- an import: its path, and the functions that it takes
+-- an import: its path and its functions
 abbrev pub import_of : Data → Result Import JsonFault
 import_of d = do
   named ← required file (codes "path") d
