@@ -7,6 +7,7 @@ ghost use Rattle.bril_heap.specs.Heap.{entries_of};
 
 use crate::frame::Frame;
 use crate::interp::Interp;
+use crate::locals::Locals;
 use crate::lookup::variables_of;
 use crate::locals::Locals;
 use bril_tree::limits::{End, Fault};

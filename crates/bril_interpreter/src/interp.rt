@@ -6,6 +6,7 @@ ghost use Rattle.bril_tree.specs.Run.{FitMain, first_state};
 
 use crate::answer::Here;
 use crate::frame::Frame;
+use crate::locals::Locals;
 use crate::lookup::{items_of, variables_of};
 use crate::operand::number_at;
 use crate::locals::Locals;

@@ -6,6 +6,7 @@ mod answer;
 mod calls;
 mod frame;
 mod interp;
+mod locals;
 mod lookup;
 mod memory;
 mod operand;

@@ -7,6 +7,7 @@ ghost use Rattle.flow_graph.specs.Graph.{ArePreds, ArePreds-prop, IsGraphOf, IsL
 ghost use Rattle.flow_graph.specs.Branches.{AreBranchRows};
 ghost use Rattle.flow_graph.specs.declared.graph.GraphFault.TheVariants.{Nest, Memory};
 
+use crate::branches::{Branches, all_branches};
 use crate::edge::Edge;
 use crate::edges::{all_edges, all_preds};
 use crate::labels::label_points;

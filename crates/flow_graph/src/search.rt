@@ -6,6 +6,7 @@ ghost use Rattle.flow_graph.specs.Branches.{AreBranchRows, branch_of, visiting};
 ghost use Rattle.flow_graph.specs.declared.visits.Visit.{Visit};
 ghost use Rattle.flow_graph.specs.declared.branches.Branches.{Branches};
 
+use crate::branches::{Branch, Branches};
 use crate::visits::{Visit, visit_behind};
 use crate::branches::{Branch, Branches};
 use bril_tree::numbered::Instr;

@@ -7,6 +7,7 @@ ghost use Rattle.flow_graph.specs.Graph.{IsGraphOf};
 ghost use Rattle.flow_graph.specs.Labels.{IsLabelTable};
 ghost use Rattle.flow_graph.specs.Branches.{HasLabels, label_count};
 
+use crate::branches::all_branches;
 use crate::edge::Edge;
 use crate::graph::{Graph, GraphFault};
 use crate::labels::label_points;
