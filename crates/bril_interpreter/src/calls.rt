@@ -9,7 +9,6 @@ use crate::frame::Frame;
 use crate::interp::Interp;
 use crate::locals::Locals;
 use crate::lookup::variables_of;
-use crate::locals::Locals;
 use bril_tree::limits::{End, Fault};
 use bril_tree::numbered::Instr;
 use bril_tree::value::Value;

@@ -9,7 +9,6 @@ use crate::frame::Frame;
 use crate::locals::Locals;
 use crate::lookup::{items_of, variables_of};
 use crate::operand::number_at;
-use crate::locals::Locals;
 use crate::table::{Table, tables_of};
 use bril_checker::Checked;
 use bril_heap::Cells;

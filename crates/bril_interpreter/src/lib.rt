@@ -10,7 +10,6 @@ mod locals;
 mod lookup;
 mod memory;
 mod operand;
-mod locals;
 mod printing;
 mod speculation;
 mod step;

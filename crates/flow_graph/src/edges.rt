@@ -7,7 +7,6 @@ ghost use Rattle.flow_graph.specs.Branches.{AreBranchRows, edges_on, branch_of, 
 
 use crate::branches::{Branch, Branches};
 use crate::edge::Edge;
-use crate::branches::{Branch, Branches};
 use bril_tree::sequence::Seq;
 use std::alloc::{AllocError, Global};
 

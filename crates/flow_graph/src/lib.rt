@@ -13,7 +13,6 @@ mod sites;
 #[cfg(test)]
 mod tests;
 mod visits;
-mod branches;
 
 pub use edge::Edge;
 pub use graph::{Graph, GraphFault};

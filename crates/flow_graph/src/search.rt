@@ -8,7 +8,6 @@ ghost use Rattle.flow_graph.specs.declared.branches.Branches.{Branches};
 
 use crate::branches::{Branch, Branches};
 use crate::visits::{Visit, visit_behind};
-use crate::branches::{Branch, Branches};
 use bril_tree::numbered::Instr;
 use std::alloc::{AllocError, Global};
 use std::collections::VecDeque;
@@ -110,7 +109,11 @@ fn wait(waiting: &mut VecDeque<Branch>, branches: Branches) -> Result<(), AllocE
 }
 
 // Adds two branches at the end.
-fn wait_both(waiting: &mut VecDeque<Branch>, first: Branch, second: Branch) -> Result<(), AllocError>
+fn wait_both(
+    waiting: &mut VecDeque<Branch>,
+    first: Branch,
+    second: Branch,
+) -> Result<(), AllocError>
     ensures { OnOk result (waiting.new.items ≡ waiting.old.items ++ first ∷ second ∷ []) }
 {
     waiting.push_back(first)?;

@@ -9,7 +9,6 @@ ghost use Rattle.flow_graph.specs.Branches.{AreBranchRows, branch_of};
 
 use crate::branches::{Branch, Branches};
 use crate::visits::{MOST_SITES, Visit, visit_at, visit_behind};
-use crate::branches::{Branch, Branches};
 use bril_tree::numbered::Instr;
 use bril_tree::operation::Op;
 

@@ -11,7 +11,6 @@ use crate::branches::all_branches;
 use crate::edge::Edge;
 use crate::graph::{Graph, GraphFault};
 use crate::labels::label_points;
-use crate::branches::all_branches;
 use bril_tree::numbered::Instr;
 use bril_tree::operation::Op;
 use bril_tree::sequence::Seq;

@@ -10,11 +10,9 @@
 mod adjacency;
 mod graph;
 mod reached;
-mod adjacency;
 #[cfg(test)]
 mod tests;
 
 pub use adjacency::Adjacency;
 pub use graph::{Arc, ArcGraph};
 pub use reached::Reached;
-pub use adjacency::Adjacency;
