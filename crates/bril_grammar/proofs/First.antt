@@ -7,29 +7,29 @@ use Rattle.bril_tree.specs.declared.types.Ty.{Ty}
 use Rattle.bril_grammar.specs.declared.fault.Fault.{Fault}
 use Rattle.bril_grammar.specs.declared.fault.FaultKind.{FaultKind}
 use Rattle.bril_grammar.specs.declared.fault.FaultKind.TheVariants.{Float, IntRange, Deep, Grammar}
-use Rattle.bril_grammar.specs.declared.keyword.Keyword.TheVariants as word
+use Rattle.bril_grammar.specs.declared.keyword.Keyword.TheVariants as keyword
 use Rattle.bril_grammar.specs.declared.mark.Mark.TheVariants.{Colon, Less, Greater}
 use Rattle.bril_grammar.specs.Keyword.{keyword_of}
-use Rattle.bril_grammar.specs.Machine.{Move, Goes, GoesBeforeColon, FloatUnlessColon, Fails, type_of, typed, closing, type_word, move, same_mark, is_colon, begins_with_colon, decided, go_on, at_end, run}
-use Rattle.bril_grammar.specs.State.{Place, ArgPlace, RetPlace, DestPlace, State, AtImport, AtFunction, AtType, Expect}
-use Rattle.bril_grammar.specs.Word.{Word, Name, Number, Punctuation}
-use Rattle.bril_grammar.specs.Written.{pointer_words}
+use Rattle.bril_grammar.specs.Machine.{Move, Goes, GoesBeforeColon, FloatUnlessColon, Fails, type_of, typed, closing, type_keyword, move, same_mark, is_colon, begins_with_colon, decided, go_on, at_end, run}
+use Rattle.bril_grammar.specs.State.{TypePosition, ArgumentType, ReturnType, DestinationType, State, AtImport, AtFunction, AtType, Expect}
+use Rattle.bril_grammar.specs.Terminal.{Terminal, Name, Number, Punctuation}
+use Rattle.bril_grammar.specs.Written.{pointer_terminals}
 use Rattle.bril_grammar.specs.Fault.{Readable, front, NoReading, FloatLiteral, FloatTypeName, FloatOperationName, Holds, rank, IsFirstFault}
 use Rattle.bril_grammar.proofs.Complete.{spelling-run}
 use Rattle.bril_grammar.proofs.Keywords.{Means, keyword_base, keyword_ptr, means}
-use Rattle.bril_grammar.proofs.Places.{inner_base, label_item, number_const, deep_base, ReadsType, ReadsOperation, IsKeyword, WhyFails, Why, why, literal_place, type_place, operation_place}
+use Rattle.bril_grammar.proofs.Positions.{inner_base, label_item, number_const, deep_base, ReadsType, ReadsOperation, IsKeyword, WhyFails, Why, why, literal_position, type_position, operation_position}
 use Rattle.bril_grammar.proofs.Sound.{spelled}
 use Rattle.bril_grammar.proofs.Steps.{goes, mark_same}
 use Rattle.bril_grammar.proofs.Viable.{CanRead, number, viable}
 
--- inside a type: as many `>` may follow as `ptr <` stand before
+-- inside a type: as many `>` may follow as there are `ptr <` before
 
-closed_deep : (n k : ℕ) (place : Place) (ty : Ty) (x : List Word) (t : Tree) → run (closing k (typed place ty)) (replicate n (Punctuation Greater) ++ x) ≡ Ok t → n ≤ k
-closed_deep zero k place ty x t e = omega arith
-closed_deep (suc n) zero (ArgPlace b name) ty x t e = cc
-closed_deep (suc n) zero (RetPlace b) ty x t e = cc
-closed_deep (suc n) zero (DestPlace b name) ty x t e = cc
-closed_deep (suc n) (suc k) place ty x t e = let below = closed_deep n k place ty x t e in omega arith
+closed_deep : (n k : ℕ) (position : TypePosition) (ty : Ty) (x : List Terminal) (t : Tree) → run (closing k (typed position ty)) (replicate n (Punctuation Greater) ++ x) ≡ Ok t → n ≤ k
+closed_deep zero k position ty x t e = omega arith
+closed_deep (suc n) zero (ArgumentType b name) ty x t e = cc
+closed_deep (suc n) zero (ReturnType b) ty x t e = cc
+closed_deep (suc n) zero (DestinationType b name) ty x t e = cc
+closed_deep (suc n) (suc k) position ty x t e = let below = closed_deep n k position ty x t e in omega arith
 
 not_below : (k : ℕ) → 32 ≤ k → nat_lt k 32 ≡ false
 not_below k h = by (nat_lt k 32) refl
@@ -38,24 +38,24 @@ not_below k h = by (nat_lt k 32) refl
     by true e = let below : k < 32 = ltb-true k 32 e in absurd (omega arith)
     by false e = e
 
-deep_place : (s : State) → CanRead s deep_base → (text : List ℕ) → keyword_of text ≡ word.Ptr → move s (Name text) ≡ Fails Deep
+deep_position : (s : State) → CanRead s deep_base → (text : List ℕ) → keyword_of text ≡ keyword.Ptr → move s (Name text) ≡ Fails Deep
 unfolding keyword_of
-deep_place (AtType place k) h text e =
-    let closers : List Word = replicate 32 (Punctuation Greater) ++ h.0 in
-    let based = goes (AtType place k) (Name (codes "int")) closers (closing k (typed place (type_of k base.Int))) (ap (type_word place k) (keyword_base base.Int)) in
-    let high : 32 ≤ k = closed_deep 32 k place (type_of k base.Int) h.0 h.1 (sym based ∙ h.2) in
-    ap (type_word place k) e ∙ ap (λ b. cond b (Goes (Expect Less (AtType place (suc k)))) (Fails Deep)) (not_below k high)
-deep_place _ h text e = cc
+deep_position (AtType position k) h text e =
+    let closers : List Terminal = replicate 32 (Punctuation Greater) ++ h.0 in
+    let based = goes (AtType position k) (Name (codes "int")) closers (closing k (typed position (type_of k base.Int))) (ap (type_keyword position k) (keyword_base base.Int)) in
+    let high : 32 ≤ k = closed_deep 32 k position (type_of k base.Int) h.0 h.1 (sym based ∙ h.2) in
+    ap (type_keyword position k) e ∙ ap (λ b. cond b (Goes (Expect Less (AtType position (suc k)))) (Fails Deep)) (not_below k high)
+deep_position _ h text e = cc
 
--- the words p lead from the start to the state s
+-- the terminals p lead from the start to the state s
 
 start : State
 start = AtImport []
 
-Leads : List Word → State → Type 0
-Leads p s = (x : List Word) (t : Tree) → (run (AtImport []) (p ++ x) ≡ Ok t) ↔ (run s x ≡ Ok t)
+Leads : List Terminal → State → Type 0
+Leads p s = (x : List Terminal) (t : Tree) → (run (AtImport []) (p ++ x) ≡ Ok t) ↔ (run s x ≡ Ok t)
 
-colon_needed : (next : State) (x : List Word) (t : Tree) → begins_with_colon x ≡ false → run (Expect Colon next) x ≡ Ok t → ⊥
+colon_needed : (next : State) (x : List Terminal) (t : Tree) → begins_with_colon x ≡ false → run (Expect Colon next) x ≡ Ok t → ⊥
 colon_needed next [] t e h = cc
 colon_needed next (Punctuation m ∷ ws) t e h =
     let fails : run (Expect Colon next) (Punctuation m ∷ ws) ≡ Err (record { kind = Grammar; left = suc (length ws) }) =
@@ -64,7 +64,7 @@ colon_needed next (Punctuation m ∷ ws) t e h =
 colon_needed next (w ∷ ws) t e h = cc
 
 -- one step, forward and back
-one_step : (m : Move) (colon : Bool) (next : State) → decided m colon ≡ Ok next → (x : List Word) (t : Tree) → (go_on (decided m (begins_with_colon x)) (λ n. run n x) (suc (length x)) ≡ Ok t) ↔ (run next x ≡ Ok t)
+one_step : (m : Move) (colon : Bool) (next : State) → decided m colon ≡ Ok next → (x : List Terminal) (t : Tree) → (go_on (decided m (begins_with_colon x)) (λ n. run n x) (suc (length x)) ≡ Ok t) ↔ (run next x ≡ Ok t)
 one_step (Goes n) colon next e x t =
     let same : n ≡ next = cc in
     (λ h. subst (λ k. run k x ≡ Ok t) same h, λ h. subst (λ k. run k x ≡ Ok t) (sym same) h)
@@ -80,7 +80,7 @@ one_step FloatUnlessColon true next e x t = cc
 one_step FloatUnlessColon false next e x t = cc
 one_step (Fails kind) colon next e x t = cc
 
-leads_on : (p : List Word) (s : State) (w : Word) (colon : Bool) (next : State) → Leads p s → decided (move s w) colon ≡ Ok next → Leads (p ++ (w ∷ [])) next
+leads_on : (p : List Terminal) (s : State) (w : Terminal) (colon : Bool) (next : State) → Leads p s → decided (move s w) colon ≡ Ok next → Leads (p ++ (w ∷ [])) next
 unfolding Leads
 leads_on p s w colon next l e x t =
     let shown = ap (run (AtImport [])) (append_assoc p (w ∷ []) x) in
@@ -88,22 +88,22 @@ leads_on p s w colon next l e x t =
     let before = l (w ∷ x) t in
     (λ h. step.0 (before.0 (sym shown ∙ h)), λ h. shown ∙ before.1 (step.1 h))
 
-to_readable : (p : List Word) (s : State) (u : List Word) → Leads p s → CanRead s u → Readable (p ++ u)
+to_readable : (p : List Terminal) (s : State) (u : List Terminal) → Leads p s → CanRead s u → Readable (p ++ u)
 unfolding Leads
 to_readable p s u l h =
     (h.0, h.1, spelled ((p ++ u) ++ h.0) h.1 (ap (run (AtImport [])) (append_assoc p u h.0) ∙ (l (u ++ h.0) h.1).1 h.2))
 
-from_readable : (p : List Word) (s : State) (u : List Word) → Leads p s → Readable (p ++ u) → CanRead s u
+from_readable : (p : List Terminal) (s : State) (u : List Terminal) → Leads p s → Readable (p ++ u) → CanRead s u
 unfolding Leads
 from_readable p s u l h =
     (h.0, h.1, (l (u ++ h.0) h.1).0 (sym (ap (run (AtImport [])) (append_assoc p u h.0)) ∙ spelling-run ((p ++ u) ++ h.0) h.1 h.2))
 
-readable_here : (p : List Word) (s : State) → Leads p s → Readable p
+readable_here : (p : List Terminal) (s : State) → Leads p s → Readable p
 readable_here p s l = subst Readable (append-nil p) (to_readable p s [] l (viable s))
 
--- where no word fits, nothing is read
+-- where no terminal fits, nothing is read
 
-no_reading : (p : List Word) (s : State) (w : Word) (v : List Word) → Leads p s → ((colon : Bool) (next : State) → decided (move s w) colon ≡ Ok next → ⊥) → NoReading p (w ∷ v)
+no_reading : (p : List Terminal) (s : State) (w : Terminal) (v : List Terminal) → Leads p s → ((colon : Bool) (next : State) → decided (move s w) colon ≡ Ok next → ⊥) → NoReading p (w ∷ v)
 unfolding Leads
 no_reading p s w v l refuse [] t e h = cc
 no_reading p s w v l refuse (u ∷ x) t e h =
@@ -116,7 +116,7 @@ no_reading p s w v l refuse (u ∷ x) t e h =
     by (Ok next) e f = refuse (begins_with_colon x) next e
     by (Err kind) e f = cc
 
-no_end : (p : List Word) (s : State) (f : Fault) → Leads p s → at_end s ≡ Err f → NoReading p []
+no_end : (p : List Terminal) (s : State) (f : Fault) → Leads p s → at_end s ≡ Err f → NoReading p []
 unfolding Leads
 no_end p s f l e [] t g h = let read : at_end s ≡ Ok t = (l [] t).0 (spelling-run (p ++ []) t h) in cc
 no_end p s f l e (u ∷ x) t g h = cc
@@ -128,34 +128,34 @@ never FloatUnlessColon e true next h = cc
 never FloatUnlessColon e false next h = cc
 never (Fails k) e colon next h = cc
 
-no_colon : (v : List Word) → begins_with_colon v ≡ false → front v ≡ Some (Punctuation Colon) → ⊥
+no_colon : (v : List Terminal) → begins_with_colon v ≡ false → front v ≡ Some (Punctuation Colon) → ⊥
 no_colon [] e h = cc
 no_colon (w ∷ ws) e h =
     let same : w ≡ Punctuation Colon = cc in
     let test : is_colon w ≡ true = ap is_colon same in
     cc
 
-type_samples : (p : List Word) (s : State) → Leads p s → ReadsType s → Readable (p ++ pointer_words) ⊎ Readable (p ++ inner_base)
-type_samples p s l (inl h) = inl (to_readable p s pointer_words l h)
+type_samples : (p : List Terminal) (s : State) → Leads p s → ReadsType s → Readable (p ++ pointer_terminals) ⊎ Readable (p ++ inner_base)
+type_samples p s l (inl h) = inl (to_readable p s pointer_terminals l h)
 type_samples p s l (inr h) = inr (to_readable p s inner_base l h)
 
-operation_samples : (p : List Word) (s : State) → Leads p s → ReadsOperation s → Readable (p ++ label_item) ⊎ Readable (p ++ number_const)
+operation_samples : (p : List Terminal) (s : State) → Leads p s → ReadsOperation s → Readable (p ++ label_item) ⊎ Readable (p ++ number_const)
 operation_samples p s l (inl h) = inl (to_readable p s label_item l h)
 operation_samples p s l (inr h) = inr (to_readable p s number_const l h)
 
-type_reads_back : (p : List Word) (s : State) → Leads p s → Readable (p ++ pointer_words) ⊎ Readable (p ++ inner_base) → ReadsType s
-type_reads_back p s l (inl h) = inl (from_readable p s pointer_words l h)
+type_reads_back : (p : List Terminal) (s : State) → Leads p s → Readable (p ++ pointer_terminals) ⊎ Readable (p ++ inner_base) → ReadsType s
+type_reads_back p s l (inl h) = inl (from_readable p s pointer_terminals l h)
 type_reads_back p s l (inr h) = inr (from_readable p s inner_base l h)
 
-operation_reads_back : (p : List Word) (s : State) → Leads p s → Readable (p ++ label_item) ⊎ Readable (p ++ number_const) → ReadsOperation s
+operation_reads_back : (p : List Terminal) (s : State) → Leads p s → Readable (p ++ label_item) ⊎ Readable (p ++ number_const) → ReadsOperation s
 operation_reads_back p s l (inl h) = inl (from_readable p s label_item l h)
 operation_reads_back p s l (inr h) = inr (from_readable p s number_const l h)
 
-float_operation_holds : (p : List Word) (s : State) (w : Word) (v : List Word) → Leads p s → begins_with_colon v ≡ false → IsKeyword word.FloatOperation w × ReadsOperation s → Holds Float p (w ∷ v)
+float_operation_holds : (p : List Terminal) (s : State) (w : Terminal) (v : List Terminal) → Leads p s → begins_with_colon v ≡ false → IsKeyword keyword.FloatOperation w × ReadsOperation s → Holds Float p (w ∷ v)
 float_operation_holds p s w v l c h = FloatOperationName h.0.0 v (ap (λ u. u ∷ v) h.0.1) h.0.2 (no_colon v c) (operation_samples p s l h.1)
 
 -- the machine's fault holds
-holds : (p : List Word) (s : State) (w : Word) (v : List Word) (kind : FaultKind) → Leads p s → decided (move s w) (begins_with_colon v) ≡ Err kind → Holds kind p (w ∷ v)
+holds : (p : List Terminal) (s : State) (w : Terminal) (v : List Terminal) (kind : FaultKind) → Leads p s → decided (move s w) (begins_with_colon v) ≡ Err kind → Holds kind p (w ∷ v)
 holds p s w v kind l e = by (move s w) refl (why s w) (begins_with_colon v) refl e
   where
     fails : (k : FaultKind) → move s w ≡ Fails k → WhyFails s w k → Holds k p (w ∷ v)
@@ -180,7 +180,7 @@ holds p s w v kind l e = by (move s w) refl (why s w) (begins_with_colon v) refl
 
 -- a fault other than Grammar that holds is the machine's
 
-colon_false : (v : List Word) → (front v ≡ Some (Punctuation Colon) → ⊥) → begins_with_colon v ≡ false
+colon_false : (v : List Terminal) → (front v ≡ Some (Punctuation Colon) → ⊥) → begins_with_colon v ≡ false
 colon_false [] refuse = refl
 colon_false (Punctuation m ∷ ws) refuse = by (same_mark m Colon) refl
   where
@@ -189,35 +189,35 @@ colon_false (Punctuation m ∷ ws) refuse = by (same_mark m Colon) refl
     by false e = e
 colon_false (_ ∷ ws) refuse = refl
 
-found : (p : List Word) (s : State) (kind : FaultKind) (w : Word) (v : List Word) → Leads p s → (kind ≡ Grammar → ⊥) → Holds kind p (w ∷ v) → decided (move s w) (begins_with_colon v) ≡ Err kind
+found : (p : List Terminal) (s : State) (kind : FaultKind) (w : Terminal) (v : List Terminal) → Leads p s → (kind ≡ Grammar → ⊥) → Holds kind p (w ∷ v) → decided (move s w) (begins_with_colon v) ≡ Err kind
 found p s Float w v l refuse (FloatLiteral r e h) =
-    let same : w ≡ Word.Float = cc in
-    let fails = (literal_place s (from_readable p s number l h)).0 in
+    let same : w ≡ Terminal.Float = cc in
+    let fails = (literal_position s (from_readable p s number l h)).0 in
     ap (λ u. decided (move s u) (begins_with_colon v)) same ∙ ap (λ m. decided m (begins_with_colon v)) fails
 found p s Float w v l refuse (FloatTypeName text r e key h) =
     let same : w ≡ Name text = cc in
-    let fails = type_place s (type_reads_back p s l h) text key in
+    let fails = type_position s (type_reads_back p s l h) text key in
     ap (λ u. decided (move s u) (begins_with_colon v)) same ∙ ap (λ m. decided m (begins_with_colon v)) fails
 found p s Float w v l refuse (FloatOperationName text r e key other h) =
     let same : w ≡ Name text = cc in
     let rest : v ≡ r = cc in
     let alone : begins_with_colon v ≡ false = ap begins_with_colon rest ∙ colon_false r other in
-    let fails = operation_place s (operation_reads_back p s l h) text key in
+    let fails = operation_position s (operation_reads_back p s l h) text key in
     ap (λ u. decided (move s u) (begins_with_colon v)) same ∙ (ap (decided (move s (Name text))) alone ∙ fails)
 found p s IntRange w v l refuse h =
     let e = h.1 in
     let same : w ≡ Number None = cc in
-    let fails = (literal_place s (from_readable p s number l h.2)).1 in
+    let fails = (literal_position s (from_readable p s number l h.2)).1 in
     ap (λ u. decided (move s u) (begins_with_colon v)) same ∙ ap (λ m. decided m (begins_with_colon v)) fails
 found p s Deep w v l refuse h =
     let e = h.1 in
     let same : w ≡ Name (codes "ptr") = cc in
-    let fails = deep_place s (from_readable p s deep_base l h.2) (codes "ptr") keyword_ptr in
+    let fails = deep_position s (from_readable p s deep_base l h.2) (codes "ptr") keyword_ptr in
     ap (λ u. decided (move s u) (begins_with_colon v)) same ∙ ap (λ m. decided m (begins_with_colon v)) fails
 found p s Grammar w v l refuse h = absurd (refuse refl)
 
--- where the machine goes on no fault holds
-none_holds : (p : List Word) (s : State) (kind : FaultKind) (w : Word) (v : List Word) (next : State) → Leads p s → decided (move s w) (begins_with_colon v) ≡ Ok next → Holds kind p (w ∷ v) → ⊥
+-- where the machine goes on, no fault holds
+none_holds : (p : List Terminal) (s : State) (kind : FaultKind) (w : Terminal) (v : List Terminal) (next : State) → Leads p s → decided (move s w) (begins_with_colon v) ≡ Ok next → Holds kind p (w ∷ v) → ⊥
 unfolding Leads
 none_holds p s Grammar w v next l e h =
     let rest = viable next in
@@ -227,7 +227,7 @@ none_holds p s Float w v next l e h = let d = found p s Float w v l (λ g. cc) h
 none_holds p s IntRange w v next l e h = let d = found p s IntRange w v l (λ g. cc) h in cc
 none_holds p s Deep w v next l e h = let d = found p s Deep w v l (λ g. cc) h in cc
 
-end_holds : (p : List Word) (kind : FaultKind) → (kind ≡ Grammar → ⊥) → Holds kind p [] → ⊥
+end_holds : (p : List Terminal) (kind : FaultKind) → (kind ≡ Grammar → ⊥) → Holds kind p [] → ⊥
 end_holds p Float refuse (FloatLiteral r e h) = cc
 end_holds p Float refuse (FloatTypeName text r e key h) = cc
 end_holds p Float refuse (FloatOperationName text r e key other h) = cc
@@ -237,10 +237,10 @@ end_holds p Grammar refuse h = refuse refl
 
 -- no fault holds before p ends
 
-Clean : List Word → List Word → Type 0
-Clean p ws = (a b : List Word) (kind : FaultKind) → p ++ ws ≡ a ++ b → length a < length p → Holds kind a b → ⊥
+Clean : List Terminal → List Terminal → Type 0
+Clean p ws = (a b : List Terminal) (kind : FaultKind) → p ++ ws ≡ a ++ b → length a < length p → Holds kind a b → ⊥
 
-append_cut : (p a u b : List Word) → p ++ u ≡ a ++ b → length p ≡ length a → (p ≡ a) × (u ≡ b)
+append_cut : (p a u b : List Terminal) → p ++ u ≡ a ++ b → length p ≡ length a → (p ≡ a) × (u ≡ b)
 append_cut [] [] u b e l = (refl, e)
 append_cut [] (x ∷ a) u b e l = absurd (omega arith)
 append_cut (w ∷ p) [] u b e l = absurd (omega arith)
@@ -250,7 +250,7 @@ append_cut (w ∷ p) (x ∷ a) u b e l =
     let rest = append_cut p a u b tail (omega arith) in
     (cc (head, rest.0), rest.1)
 
-clean_on : (p : List Word) (s : State) (w : Word) (ws : List Word) (next : State) → Leads p s → Clean p (w ∷ ws) → decided (move s w) (begins_with_colon ws) ≡ Ok next → Clean (p ++ (w ∷ [])) ws
+clean_on : (p : List Terminal) (s : State) (w : Terminal) (ws : List Terminal) (next : State) → Leads p s → Clean p (w ∷ ws) → decided (move s w) (begins_with_colon ws) ≡ Ok next → Clean (p ++ (w ∷ [])) ws
 unfolding Clean
 clean_on p s w ws next l clean e a b kind cut short h =
     let whole : p ++ (w ∷ ws) ≡ a ++ b = sym (append_assoc p (w ∷ []) ws) ∙ cut in
@@ -272,8 +272,8 @@ ended_grammar _ f e = cc
 lower_kind : (kind : FaultKind) → rank kind < rank Grammar → kind ≡ Grammar → ⊥
 lower_kind kind h e = let same : rank kind ≡ 3 = ap rank e in omega arith
 
--- at the end of the words
-end_fault : (p : List Word) (s : State) (f : Fault) → Leads p s → Clean p [] → at_end s ≡ Err f → IsFirstFault (p ++ []) f
+-- at the end of the terminals
+end_fault : (p : List Terminal) (s : State) (f : Fault) → Leads p s → Clean p [] → at_end s ≡ Err f → IsFirstFault (p ++ []) f
 unfolding Clean
 end_fault p s f l clean e =
     let is = ended_grammar s f e in
@@ -289,10 +289,10 @@ end_fault p s f l clean e =
     } in
     subst (IsFirstFault (p ++ [])) (sym is) fault
 
--- at a word
-word_fault : (p : List Word) (s : State) (w : Word) (ws : List Word) (kind : FaultKind) → Leads p s → Clean p (w ∷ ws) → decided (move s w) (begins_with_colon ws) ≡ Err kind → IsFirstFault (p ++ (w ∷ ws)) (record { kind = kind; left = suc (length ws) })
+-- at a terminal
+terminal_fault : (p : List Terminal) (s : State) (w : Terminal) (ws : List Terminal) (kind : FaultKind) → Leads p s → Clean p (w ∷ ws) → decided (move s w) (begins_with_colon ws) ≡ Err kind → IsFirstFault (p ++ (w ∷ ws)) (record { kind = kind; left = suc (length ws) })
 unfolding Clean
-word_fault p s w ws kind l clean e = record {
+terminal_fault p s w ws kind l clean e = record {
   before = p;
   rest = w ∷ ws;
   cut = refl;
@@ -316,7 +316,7 @@ word_fault p s w ws kind l clean e = record {
         let ranks : rank k ≡ rank kind = ap rank same in
         omega arith
 
-first : (ws p : List Word) (s : State) (f : Fault) → Leads p s → Clean p ws → run s ws ≡ Err f → IsFirstFault (p ++ ws) f
+first : (ws p : List Terminal) (s : State) (f : Fault) → Leads p s → Clean p ws → run s ws ≡ Err f → IsFirstFault (p ++ ws) f
 first [] p s f l clean e = end_fault p s f l clean e
 first (w ∷ ws) p s f l clean e = by (decided (move s w) (begins_with_colon ws)) refl e (λ next. first ws (p ++ (w ∷ [])) next f)
   where
@@ -326,23 +326,23 @@ first (w ∷ ws) p s f l clean e = by (decided (move s w) (begins_with_colon ws)
         subst (λ xs. IsFirstFault xs f) (append_assoc p (w ∷ []) ws) (ih next (leads_on p s w (begins_with_colon ws) next l d) (clean_on p s w ws next l clean d) g)
     by (Err kind) d g ih =
         let is : record { kind = kind; left = suc (length ws) } ≡ f = cc in
-        subst (IsFirstFault (p ++ (w ∷ ws))) is (word_fault p s w ws kind l clean d)
+        subst (IsFirstFault (p ++ (w ∷ ws))) is (terminal_fault p s w ws kind l clean d)
 
 leads_nowhere : Leads [] (AtImport [])
 unfolding Leads
 leads_nowhere x t = (λ h. h, λ h. h)
 
-clean_nowhere : (ws : List Word) → Clean [] ws
+clean_nowhere : (ws : List Terminal) → Clean [] ws
 unfolding Clean
 clean_nowhere ws a b kind cut short h = omega arith
 
 -- the machine's fault is the first
-pub fault-first : (ws : List Word) (f : Fault) → run (AtImport []) ws ≡ Err f → IsFirstFault ws f
+pub fault-first : (ws : List Terminal) (f : Fault) → run (AtImport []) ws ≡ Err f → IsFirstFault ws f
 fault-first ws f e = first ws [] (AtImport []) f leads_nowhere (clean_nowhere ws) e
 
--- where the words are a program no fault holds anywhere
+-- where the terminals are a program, no fault holds anywhere
 
-program_clean : (ws p : List Word) (s : State) (t : Tree) → Leads p s → Clean p ws → run s ws ≡ Ok t → (a b : List Word) (kind : FaultKind) → p ++ ws ≡ a ++ b → Holds kind a b → ⊥
+program_clean : (ws p : List Terminal) (s : State) (t : Tree) → Leads p s → Clean p ws → run s ws ≡ Ok t → (a b : List Terminal) (kind : FaultKind) → p ++ ws ≡ a ++ b → Holds kind a b → ⊥
 unfolding Leads Clean
 program_clean [] p s t l clean e a b kind cut h = by (cases_lt (length a) (length p))
   where
@@ -366,11 +366,11 @@ program_clean [] p s t l clean e a b kind cut h = by (cases_lt (length a) (lengt
 program_clean (w ∷ ws) p s t l clean e a b kind cut h = by (decided (move s w) (begins_with_colon ws)) refl e (λ next. program_clean ws (p ++ (w ∷ [])) next t)
   where
     by : (d : Result State FaultKind) → decided (move s w) (begins_with_colon ws) ≡ d → go_on d (λ n. run n ws) (suc (length ws)) ≡ Ok t
-        → ((next : State) → Leads (p ++ (w ∷ [])) next → Clean (p ++ (w ∷ [])) ws → run next ws ≡ Ok t → (a b : List Word) (kind : FaultKind) → (p ++ (w ∷ [])) ++ ws ≡ a ++ b → Holds kind a b → ⊥) → ⊥
+        → ((next : State) → Leads (p ++ (w ∷ [])) next → Clean (p ++ (w ∷ [])) ws → run next ws ≡ Ok t → (a b : List Terminal) (kind : FaultKind) → (p ++ (w ∷ [])) ++ ws ≡ a ++ b → Holds kind a b → ⊥) → ⊥
     by (Ok next) d g ih = ih next (leads_on p s w (begins_with_colon ws) next l d) (clean_on p s w ws next l clean d) g a b kind (append_assoc p (w ∷ []) ws ∙ cut) h
     by (Err k) d g ih = cc
 
--- there is one first fault
+-- there is at most one first fault
 
 rank_same : (k j : FaultKind) → rank k ≡ rank j → k ≡ j
 rank_same Float Float e = refl
@@ -379,7 +379,7 @@ rank_same Deep Deep e = refl
 rank_same Grammar Grammar e = refl
 rank_same _ _ e = absurd (omega arith)
 
-one_fault : (ws : List Word) (f g : Fault) → IsFirstFault ws f → IsFirstFault ws g → f ≡ g
+one_fault : (ws : List Terminal) (f g : Fault) → IsFirstFault ws f → IsFirstFault ws g → f ≡ g
 one_fault ws f g F G = by (cases_lt (length F.before) (length G.before)) (cases_lt (length G.before) (length F.before))
   where
     kinds : F.before ≡ G.before → F.rest ≡ G.rest → (rank f.kind < rank g.kind) ⊎ (rank g.kind ≤ rank f.kind) → (rank g.kind < rank f.kind) ⊎ (rank f.kind ≤ rank g.kind) → f.kind ≡ g.kind
@@ -397,7 +397,7 @@ one_fault ws f g F G = by (cases_lt (length F.before) (length G.before)) (cases_
         λ i. record { kind = kind i; left = left i }
 
 -- the first fault is the machine's
-pub first-fault : (ws : List Word) (f : Fault) → IsFirstFault ws f → run (AtImport []) ws ≡ Err f
+pub first-fault : (ws : List Terminal) (f : Fault) → IsFirstFault ws f → run (AtImport []) ws ≡ Err f
 first-fault ws f F = by (run (AtImport []) ws) refl
   where
     by : (r : Result Tree Fault) → run (AtImport []) ws ≡ r → r ≡ Err f

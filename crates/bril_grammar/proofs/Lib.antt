@@ -1,10 +1,9 @@
 pub mod Complete
-pub mod Equal
 pub mod First
 pub mod Keywords
-pub mod Whole
-pub mod Places
+pub mod Positions
 pub mod Sound
 pub mod Steps
+pub mod Terminals
 pub mod Viable
-pub mod Words
+pub mod Whole

@@ -1,5 +1,5 @@
 -- One step of the machine.
-use Rattle.std.proofs.Common.{◌≡◌, ℕ, suc, Bool, true, false, List, [], ◌∷◌, length, Ok, Err, Result, refl, sym, ap, ◌∙◌}
+use Rattle.std.proofs.Common.{◌≡◌, ℕ, suc, ◌≤◌, Bool, true, false, List, [], ◌∷◌, length, Ok, Err, Result, refl, sym, ap, ◌∙◌, arith}
 use Rattle.std.proofs.Common.{eqb-true, cond}
 use mathlib.Core.Logic.{◌⊎◌, inl, inr}
 use Rattle.bril_tree.specs.declared.tree.Tree.{Tree}
@@ -7,12 +7,14 @@ use Rattle.bril_grammar.specs.declared.fault.Fault.{Fault}
 use Rattle.bril_grammar.specs.declared.fault.FaultKind.{FaultKind}
 use Rattle.bril_grammar.specs.declared.mark.Mark.{Mark}
 use Rattle.bril_grammar.specs.declared.mark.Mark.TheVariants.{OpenBrace, CloseBrace, OpenParen, CloseParen, Colon, Comma, Semicolon, Equals, Less, Greater}
-use Rattle.bril_grammar.specs.Machine.{Way, same_mark, mark_move, Move, Goes, GoesBeforeColon, FloatUnlessColon, Fails, move, run, decided, go_on, begins_with_colon}
+use Rattle.bril_tree.specs.declared.types.Ty.{Ty}
+use Rattle.bril_tree.proofs.Equal.{Ty-equal}
+use Rattle.bril_grammar.specs.Machine.{type_of, Way, same_mark, mark_move, Move, Goes, GoesBeforeColon, FloatUnlessColon, Fails, move, run, decided, go_on, begins_with_colon}
 use Rattle.bril_grammar.specs.State.{State, Expect}
-use Rattle.bril_grammar.specs.Word.{Word, Punctuation, mark_byte, mark_among, marks}
+use Rattle.bril_grammar.specs.Terminal.{Terminal, Punctuation, mark_byte, mark_among, marks}
 
--- a word that leads on
-pub goes : (s : State) (w : Word) (ws : List Word) (next : State) → move s w ≡ Goes next → run s (w ∷ ws) ≡ run next ws
+-- a terminal that leads on
+pub goes : (s : State) (w : Terminal) (ws : List Terminal) (next : State) → move s w ≡ Goes next → run s (w ∷ ws) ≡ run next ws
 goes s w ws next e = ap (λ m. go_on (decided m (begins_with_colon ws)) (λ n. run n ws) (suc (length ws))) e
 
 -- what holds of the state that a move leads to
@@ -46,7 +48,7 @@ mark_again Greater = refl
 pub mark_same : (m n : Mark) → same_mark m n ≡ true → m ≡ n
 mark_same m n e =
     let bytes : mark_byte m ≡ mark_byte n = eqb-true (mark_byte m) (mark_byte n) e in
-    let words : Punctuation m ≡ Punctuation n = sym (mark_again m) ∙ (ap (mark_among marks) bytes ∙ mark_again n) in
+    let terminals : Punctuation m ≡ Punctuation n = sym (mark_again m) ∙ (ap (mark_among marks) bytes ∙ mark_again n) in
     cc
 
 -- one of the ways has this mark
@@ -61,3 +63,7 @@ mark_led P m (w ∷ ws) h = by (same_mark m w.mark) refl (mark_led P m ws) h
     by : (b : Bool) → same_mark m w.mark ≡ b → (OnState P (decided (mark_move ws m) true) → OneWay P m ws) → OnState P (decided (cond b (Goes w.next) (mark_move ws m)) true) → OneWay P m (w ∷ ws)
     by true e later h = inl (mark_same m w.mark e, h)
     by false e later h = inr (later h)
+
+-- a type from its parts
+pub type_of-ty : (ty : Ty) → type_of ty.depth ty.base ≡ ty
+type_of-ty ty = let below : ty.depth ≤ 32 = ty.nests in Ty-equal (type_of ty.depth ty.base) ty (omega arith) refl

@@ -5,16 +5,16 @@ use Rattle.bril_grammar.specs.declared.fault.Fault.{Fault}
 use Rattle.bril_grammar.specs.Fault.{FirstFault}
 use Rattle.bril_grammar.specs.Laws.{ProgramsAreRead, ReadingsAreSpellings, SpellOneTree, ReadFaultIsFirst, FirstFaultIsRead, ProgramsHaveNoFault, OthersHaveOneFault}
 use Rattle.bril_grammar.specs.Machine.{read}
-use Rattle.bril_grammar.specs.Word.{words_of}
+use Rattle.bril_grammar.specs.Terminal.{terminals_of}
 use Rattle.bril_grammar.proofs.Complete.{spelling-run}
 use Rattle.bril_grammar.proofs.First.{fault-first, first-fault}
 use Rattle.bril_grammar.proofs.Sound.{spelled}
 
 pub programs_are_read : ProgramsAreRead
-programs_are_read lexemes tree h = spelling-run (words_of lexemes) tree h
+programs_are_read lexemes tree h = spelling-run (terminals_of lexemes) tree h
 
 pub readings_are_spellings : ReadingsAreSpellings
-readings_are_spellings lexemes tree e = spelled (words_of lexemes) tree e
+readings_are_spellings lexemes tree e = spelled (terminals_of lexemes) tree e
 
 pub spell_one_tree : SpellOneTree
 spell_one_tree lexemes t u g h =
@@ -23,10 +23,10 @@ spell_one_tree lexemes t u g h =
     cc
 
 pub read_fault_is_first : ReadFaultIsFirst
-read_fault_is_first lexemes f e = fault-first (words_of lexemes) f e
+read_fault_is_first lexemes f e = fault-first (terminals_of lexemes) f e
 
 pub first_fault_is_read : FirstFaultIsRead
-first_fault_is_read lexemes f h = first-fault (words_of lexemes) f h
+first_fault_is_read lexemes f h = first-fault (terminals_of lexemes) f h
 
 pub programs_have_no_fault : ProgramsHaveNoFault
 programs_have_no_fault lexemes tree f g h =

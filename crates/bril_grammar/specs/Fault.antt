@@ -1,5 +1,5 @@
--- Why words are no program: the first word that doesn't fit. What may stand at a place is said by words that stand
--- nowhere else.
+-- Why terminals are no program: the first terminal that doesn't fit. What may come at a position is said by terminals
+-- that can come nowhere else.
 use Rattle.std.specs.Prelude.{◌≡◌, ℕ, ◌<◌, List, [], ◌∷◌, ◌++◌, length, replicate, pos, Option, Some, None, ◌⊎◌, codes}
 use Rattle.bril_tree.specs.declared.tree.Tree.{Tree}
 use Rattle.bril_lex.specs.Lexeme.{Lexeme}
@@ -9,71 +9,71 @@ use Rattle.bril_grammar.specs.declared.fault.FaultKind.TheVariants.{Float, IntRa
 use Rattle.bril_grammar.specs.declared.keyword.Keyword.TheVariants.{FloatType, FloatOperation}
 use Rattle.bril_grammar.specs.declared.mark.Mark.TheVariants.{Colon, Greater}
 use Rattle.bril_grammar.specs.Keyword.{keyword_of}
-use Rattle.bril_grammar.specs.Word.{Word, words_of}
-use Rattle.bril_grammar.specs.Written.{Spells, pointer_words}
+use Rattle.bril_grammar.specs.Terminal.{Terminal, terminals_of}
+use Rattle.bril_grammar.specs.Written.{Spells, pointer_terminals}
 
--- the words are a front of a program
-abbrev pub Readable : List Word → Type 0
-Readable words = (x : List Word) × (tree : Tree) × Spells (words ++ x) tree
+-- some program begins with these terminals
+abbrev pub Readable : List Terminal → Type 0
+Readable terminals = (x : List Terminal) × (tree : Tree) × Spells (terminals ++ x) tree
 
--- the first word, where there is one
-abbrev pub front : List Word → Option Word
+-- the first terminal, where there is one
+abbrev pub front : List Terminal → Option Terminal
 front [] = None
 front (w ∷ ws) = Some w
 
--- no program goes on from `before` with the next word, or ends there where no word is left
-abbrev pub NoReading : List Word → List Word → Type 0
-NoReading before rest = (x : List Word) (tree : Tree) → front x ≡ front rest → Spells (before ++ x) tree → ⊥
+-- no program continues `before` with the next terminal or, where no terminal is left, ends there
+abbrev pub NoReading : List Terminal → List Terminal → Type 0
+NoReading before rest = (x : List Terminal) (tree : Tree) → front x ≡ front rest → Spells (before ++ x) tree → ⊥
 
--- a number stands only where a literal may
-abbrev pub TakesLiteral : List Word → Type 0
-TakesLiteral before = Readable (before ++ (Word.Number (Some (pos 0)) ∷ []))
+-- a number comes only where a literal may
+abbrev pub TakesLiteral : List Terminal → Type 0
+TakesLiteral before = Readable (before ++ (Terminal.Number (Some (pos 0)) ∷ []))
 
--- `<` stands only in a type, and so does `>`
-abbrev pub TakesType : List Word → Type 0
-TakesType before = Readable (before ++ pointer_words) ⊎ Readable (before ++ (Word.Name (codes "int") ∷ Word.Punctuation Greater ∷ []))
+-- `<` comes only in a type, and so does `>`
+abbrev pub TakesType : List Terminal → Type 0
+TakesType before = Readable (before ++ pointer_terminals) ⊎ Readable (before ++ (Terminal.Name (codes "int") ∷ Terminal.Punctuation Greater ∷ []))
 
--- a label before `:` stands only where an item begins; a number behind `const` only where `const` is an operation
-abbrev pub TakesOperation : List Word → Type 0
+-- a label before `:` comes only where an item begins, and a number after `const` only where `const` is an operation
+abbrev pub TakesOperation : List Terminal → Type 0
 TakesOperation before =
-    Readable (before ++ (Word.Label (codes "l") ∷ Word.Punctuation Colon ∷ []))
-    ⊎ Readable (before ++ (Word.Name (codes "const") ∷ Word.Number (Some (pos 0)) ∷ []))
+    Readable (before ++ (Terminal.Label (codes "l") ∷ Terminal.Punctuation Colon ∷ []))
+    ⊎ Readable (before ++ (Terminal.Name (codes "const") ∷ Terminal.Number (Some (pos 0)) ∷ []))
 
--- a type stands here inside 32 `ptr <`
-abbrev pub TakesDeepType : List Word → Type 0
-TakesDeepType before = Readable (before ++ (Word.Name (codes "int") ∷ replicate 32 (Word.Punctuation Greater)))
+-- a type may come here, inside 32 `ptr <`
+abbrev pub TakesDeepType : List Terminal → Type 0
+TakesDeepType before = Readable (before ++ (Terminal.Name (codes "int") ∷ replicate 32 (Terminal.Punctuation Greater)))
 
 -- a floating point literal, type or operation at the front, where it isn't the name of a destination
-pub data IsFloatAt (before rest : List Word) : Type 0 where
-  FloatLiteral : (r : List Word) → rest ≡ Word.Float ∷ r → TakesLiteral before → IsFloatAt before rest
-  FloatTypeName : (text : List ℕ) (r : List Word) → rest ≡ Word.Name text ∷ r → keyword_of text ≡ FloatType → TakesType before → IsFloatAt before rest
-  FloatOperationName : (text : List ℕ) (r : List Word) → rest ≡ Word.Name text ∷ r → keyword_of text ≡ FloatOperation → (front r ≡ Some (Word.Punctuation Colon) → ⊥) → TakesOperation before → IsFloatAt before rest
+pub data IsFloatAt (before rest : List Terminal) : Type 0 where
+  FloatLiteral : (r : List Terminal) → rest ≡ Terminal.Float ∷ r → TakesLiteral before → IsFloatAt before rest
+  FloatTypeName : (text : List ℕ) (r : List Terminal) → rest ≡ Terminal.Name text ∷ r → keyword_of text ≡ FloatType → TakesType before → IsFloatAt before rest
+  FloatOperationName : (text : List ℕ) (r : List Terminal) → rest ≡ Terminal.Name text ∷ r → keyword_of text ≡ FloatOperation → (front r ≡ Some (Terminal.Punctuation Colon) → ⊥) → TakesOperation before → IsFloatAt before rest
 
--- the fault is at the first word of `rest`, behind `before`
-abbrev pub Holds : FaultKind → List Word → List Word → Type 0
+-- the fault is at the first terminal of `rest`, after `before`
+abbrev pub Holds : FaultKind → List Terminal → List Terminal → Type 0
 Holds Float before rest = IsFloatAt before rest
-Holds IntRange before rest = (r : List Word) × (rest ≡ Word.Number None ∷ r) × TakesLiteral before
-Holds Deep before rest = (r : List Word) × (rest ≡ Word.Name (codes "ptr") ∷ r) × TakesDeepType before
+Holds IntRange before rest = (r : List Terminal) × (rest ≡ Terminal.Number None ∷ r) × TakesLiteral before
+Holds Deep before rest = (r : List Terminal) × (rest ≡ Terminal.Name (codes "ptr") ∷ r) × TakesDeepType before
 Holds Grammar before rest = NoReading before rest
 
--- the order in which the kinds count at one word
+-- the order in which the kinds of fault count at one terminal
 abbrev pub rank : FaultKind → ℕ
 rank Float = 0
 rank IntRange = 1
 rank Deep = 2
 rank Grammar = 3
 
--- The fault is the first: what comes before can be read, the fault holds there, none holds at an earlier word, and none
--- of the kinds before it holds at this one.
-pub record IsFirstFault (words : List Word) (f : Fault) : Type 0 where
-  pub before : List Word
-  pub rest : List Word
-  pub cut : words ≡ before ++ rest
+-- The fault is the first one: what comes before can be read, the fault holds there, no fault holds at an earlier
+-- terminal, and no kind of lower rank holds at this one.
+pub record IsFirstFault (terminals : List Terminal) (f : Fault) : Type 0 where
+  pub before : List Terminal
+  pub rest : List Terminal
+  pub cut : terminals ≡ before ++ rest
   pub left : f.left ≡ length rest
   pub readable : Readable before
   pub holds : Holds f.kind before rest
-  pub earlier : (w v : List Word) (kind : FaultKind) → words ≡ w ++ v → length w < length before → Holds kind w v → ⊥
+  pub earlier : (w v : List Terminal) (kind : FaultKind) → terminals ≡ w ++ v → length w < length before → Holds kind w v → ⊥
   pub order : (kind : FaultKind) → rank kind < rank f.kind → Holds kind before rest → ⊥
 
 abbrev pub FirstFault : List Lexeme → Fault → Type 0
-FirstFault lexemes f = IsFirstFault (words_of lexemes) f
+FirstFault lexemes f = IsFirstFault (terminals_of lexemes) f

@@ -1,4 +1,4 @@
--- Laws of the words of tokens, and of the grammar and its machine.
+-- Laws of terminals, and of the grammar and its machine.
 use Rattle.std.specs.Prelude.{◌≡◌, ℕ, ℤ, FitsSigned, List, [], ◌∷◌, Some, None, Ok, Err}
 use Rattle.std.specs.Int.{w64}
 use Rattle.bril_nums.specs.Decimal.{IsInt}
@@ -10,21 +10,21 @@ use Rattle.bril_grammar.specs.declared.fault.Fault.{Fault}
 use Rattle.bril_grammar.specs.declared.mark.Mark.{Mark}
 use Rattle.bril_grammar.specs.Fault.{FirstFault}
 use Rattle.bril_grammar.specs.Machine.{read}
-use Rattle.bril_grammar.specs.Word.{Word, word_as, mark_byte}
+use Rattle.bril_grammar.specs.Terminal.{Terminal, terminal_as, mark_byte}
 use Rattle.bril_grammar.specs.Written.{IsProgram}
 
--- The word of a token is what its text spells: its name, its number where that is an int of 64 bits, its char, its
+-- The terminal of a token is what its text spells: its name, its number where that is an int of 64 bits, its char, its
 -- path, or its mark.
-pub record WordsAreSpelled : Type 0 where
-  pub identifiers : (text : List ℕ) → word_as kind.Identifier text ≡ Word.Name text
-  pub functions : (name : List ℕ) → word_as kind.Function (64 ∷ name) ≡ Word.Function name
-  pub labels : (name : List ℕ) → word_as kind.Label (46 ∷ name) ≡ Word.Label name
-  pub numbers : (text : List ℕ) (z : ℤ) → FitsSigned w64 z → IsInt text z → word_as kind.Number text ≡ Word.Number (Some z)
-  pub others : (text : List ℕ) → ((z : ℤ) → FitsSigned w64 z → IsInt text z → ⊥) → word_as kind.Number text ≡ Word.Number None
-  pub floats : (text : List ℕ) → word_as kind.Float text ≡ Word.Float
-  pub chars : (text : List ℕ) (c : ℕ) → SpellsChar c text → word_as kind.Char text ≡ Word.Char c
-  pub paths : (text path : List ℕ) (spelled : SpellsPath path text) → word_as kind.Path text ≡ Word.Path (record { bytes = path; is_path = spelled.is_path })
-  pub marks : (mark : Mark) → word_as kind.Mark (mark_byte mark ∷ []) ≡ Word.Punctuation mark
+pub record TerminalsAreSpelled : Type 0 where
+  pub identifiers : (text : List ℕ) → terminal_as kind.Identifier text ≡ Terminal.Name text
+  pub functions : (name : List ℕ) → terminal_as kind.Function (64 ∷ name) ≡ Terminal.Function name
+  pub labels : (name : List ℕ) → terminal_as kind.Label (46 ∷ name) ≡ Terminal.Label name
+  pub numbers : (text : List ℕ) (z : ℤ) → FitsSigned w64 z → IsInt text z → terminal_as kind.Number text ≡ Terminal.Number (Some z)
+  pub others : (text : List ℕ) → ((z : ℤ) → FitsSigned w64 z → IsInt text z → ⊥) → terminal_as kind.Number text ≡ Terminal.Number None
+  pub floats : (text : List ℕ) → terminal_as kind.Float text ≡ Terminal.Float
+  pub chars : (text : List ℕ) (c : ℕ) → SpellsChar c text → terminal_as kind.Char text ≡ Terminal.Char c
+  pub paths : (text path : List ℕ) (spelled : SpellsPath path text) → terminal_as kind.Path text ≡ Terminal.Path (record { bytes = path; is_path = spelled.is_path })
+  pub marks : (mark : Mark) → terminal_as kind.Mark (mark_byte mark ∷ []) ≡ Terminal.Punctuation mark
 
 -- a spelling of a tree is read as that tree
 abbrev pub ProgramsAreRead : Type 0
@@ -34,7 +34,7 @@ ProgramsAreRead = (lexemes : List Lexeme) (tree : Tree) → IsProgram lexemes tr
 abbrev pub ReadingsAreSpellings : Type 0
 ReadingsAreSpellings = (lexemes : List Lexeme) (tree : Tree) → read lexemes ≡ Ok tree → IsProgram lexemes tree
 
--- lexemes spell one tree at most
+-- lexemes spell at most one tree
 abbrev pub SpellOneTree : Type 0
 SpellOneTree = (lexemes : List Lexeme) (t u : Tree) → IsProgram lexemes t → IsProgram lexemes u → t ≡ u
 
@@ -50,6 +50,6 @@ FirstFaultIsRead = (lexemes : List Lexeme) (f : Fault) → FirstFault lexemes f 
 abbrev pub ProgramsHaveNoFault : Type 0
 ProgramsHaveNoFault = (lexemes : List Lexeme) (tree : Tree) (f : Fault) → IsProgram lexemes tree → FirstFault lexemes f → ⊥
 
--- lexemes that spell no tree have one first fault
+-- lexemes that spell no tree have exactly one first fault
 abbrev pub OthersHaveOneFault : Type 0
 OthersHaveOneFault = (lexemes : List Lexeme) → ((tree : Tree) → IsProgram lexemes tree → ⊥) → (f : Fault) × FirstFault lexemes f × ((g : Fault) → FirstFault lexemes g → g ≡ f)

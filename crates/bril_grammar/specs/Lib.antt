@@ -4,5 +4,5 @@ pub mod Laws
 pub mod Machine
 pub mod Pieces
 pub mod State
-pub mod Word
+pub mod Terminal
 pub mod Written

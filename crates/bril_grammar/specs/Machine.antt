@@ -1,4 +1,4 @@
--- The machine that reads words one by one.
+-- The machine that reads terminals one by one.
 use Rattle.std.specs.Prelude.{ℕ, zero, suc, min, Bool, true, false, ◌==◌, List, [], ◌∷◌, ◌++◌, length, Option, Some, None, Result, Ok, Err, if◌then◌else◌, nat_lt}
 use Rattle.bril_tree.specs.declared.function_tree.Dest.{Dest}
 use Rattle.bril_tree.specs.declared.function_tree.FuncTree.{FuncTree}
@@ -17,17 +17,18 @@ use Rattle.bril_grammar.specs.declared.fault.Fault.{Fault}
 use Rattle.bril_grammar.specs.declared.fault.FaultKind.{FaultKind}
 use Rattle.bril_grammar.specs.declared.fault.FaultKind.TheVariants.{Float, IntRange, Deep, Grammar}
 use Rattle.bril_grammar.specs.declared.keyword.Keyword.{Keyword}
-use Rattle.bril_grammar.specs.declared.keyword.Keyword.TheVariants as word
+use Rattle.bril_grammar.specs.declared.keyword.Keyword.TheVariants as keyword
 use Rattle.bril_grammar.specs.declared.mark.Mark.{Mark}
 use Rattle.bril_grammar.specs.declared.mark.Mark.TheVariants.{OpenBrace, CloseBrace, OpenParen, CloseParen, Colon, Comma, Semicolon, Equals, Less, Greater}
 use Rattle.bril_grammar.specs.Keyword.{keyword_of}
-use Rattle.bril_grammar.specs.State.{Begun, Place, ArgPlace, RetPlace, DestPlace, Importing, Acting, State, AtImport, AtPath, AtImportWord, AtTaken, AfterTaken, AtAlias, AfterAlias, AtFunction, AfterName, AtFirstArg, AtArg, AfterArg, AfterArgs, AtItem, AfterOperation, AtOperation, AtLiteral, AtOperand, AtType, Expect}
-use Rattle.bril_grammar.specs.Word.{Word, Name, Function, Label, Number, Char, Path, Punctuation, ImportPath, mark_byte, words_of}
+use Rattle.bril_grammar.specs.State.{Begun, TypePosition, ArgumentType, ReturnType, DestinationType, Importing, Acting, State, AtImport, AtPath, AtImportKeyword, AtTaken, AfterTaken, AtAlias, AfterAlias, AtFunction, AfterName, AtFirstArg, AtArg, AfterArg, AfterArgs, AtItem, AfterOperation, AtOperation, AtLiteral, AtOperand, AtType, Expect}
+use Rattle.bril_tree.specs.Path.{ImportPath}
+use Rattle.bril_grammar.specs.Terminal.{Terminal, Name, Function, Label, Number, Char, Path, Punctuation, mark_byte, terminals_of}
 use Rattle.bril_grammar.specs.Pieces.{push-some}
 use native.Mathlib.Nat.{min-le_right}
 
--- what a word leads to: a state; a state where `:` must come next, and a word that is an operation on floats where it
--- doesn't; an operation on floats unless `:` comes next, and no reading else; a fault
+-- What a terminal leads to: a state; a state where `:` must come next, with the fault Float where it doesn't; the fault
+-- Float unless `:` comes next, and then Grammar; or a fault.
 pub data Move : Type 0 where
   Goes : (next : State) → Move
   GoesBeforeColon : (next : State) → Move
@@ -58,36 +59,36 @@ with_ret b ty = record b { ret = Some ty }
 abbrev pub with_item : Begun → Item → Begun
 with_item b i = record b { code = b.code ++ (i ∷ []) }
 
--- the function that was begun, as it is now
+-- the begun function, as it is now
 abbrev pub function_begun : Begun → FuncTree
 function_begun b = record { name = b.name; args = b.args; ret = b.ret; code = b.code }
 
--- behind the function's `}`
+-- after the function's `}`
 abbrev pub finished : Begun → State
 finished b = AtFunction b.imports (b.funcs ++ (function_begun b ∷ []))
 
 abbrev pub dest_of_type : List ℕ → Ty → Dest
 dest_of_type name ty = record { name = name; ty = ty }
 
--- behind a type
-abbrev pub typed : Place → Ty → State
-typed (ArgPlace b name) ty = AfterArg (with_arg b (dest_of_type name ty))
-typed (RetPlace b) ty = Expect OpenBrace (AtItem (with_ret b ty))
-typed (DestPlace b name) ty = Expect Equals (AtOperation b (dest_of_type name ty))
+-- after a type
+abbrev pub typed : TypePosition → Ty → State
+typed (ArgumentType b name) ty = AfterArg (with_arg b (dest_of_type name ty))
+typed (ReturnType b) ty = Expect OpenBrace (AtItem (with_ret b ty))
+typed (DestinationType b name) ty = Expect Equals (AtOperation b (dest_of_type name ty))
 
--- where this many `>` must stand
+-- where this many `>` must come
 abbrev pub closing : ℕ → State → State
 closing zero next = next
 closing (suc n) next = Expect Greater (closing n next)
 
--- behind the name of an argument, and of a destination
+-- after the name of an argument, and of a destination
 abbrev pub arg_named : Begun → List ℕ → State
-arg_named b name = Expect Colon (AtType (ArgPlace b name) 0)
+arg_named b name = Expect Colon (AtType (ArgumentType b name) 0)
 
 abbrev pub dest_type : Begun → List ℕ → State
-dest_type b name = AtType (DestPlace b name) 0
+dest_type b name = AtType (DestinationType b name) 0
 
--- behind a literal
+-- after a literal
 abbrev pub const_of : Begun → Dest → Lit → State
 const_of b dest value = Expect Semicolon (AtItem (with_item b (item.Const dest.name dest.ty value)))
 
@@ -104,11 +105,11 @@ with_function a name = record a { funcs = a.funcs ++ (name ∷ []) }
 abbrev pub with_label : Acting → List ℕ → Acting
 with_label a name = record a { labels = a.labels ++ (name ∷ []) }
 
--- behind the `;` of an instruction
+-- after the `;` of an instruction
 abbrev pub acted : Acting → State
 acted a = AtItem (with_item a.begun (item.Act a.dest a.operation a.args a.funcs a.labels))
 
--- a mark, and the state behind it
+-- a mark, and the state after it
 pub record Way : Type 0 where
   pub mark : Mark
   pub next : State
@@ -116,7 +117,7 @@ pub record Way : Type 0 where
 abbrev pub same_mark : Mark → Mark → Bool
 same_mark m n = mark_byte m == mark_byte n
 
--- the way of this mark, where there is one
+-- the state after this mark, where there is one
 abbrev pub mark_move : List Way → Mark → Move
 mark_move [] m = Fails Grammar
 mark_move (w ∷ ws) m = if same_mark m w.mark then Goes w.next else mark_move ws m
@@ -124,8 +125,8 @@ mark_move (w ∷ ws) m = if same_mark m w.mark then Goes w.next else mark_move w
 abbrev pub way : Mark → State → Way
 way m next = record { mark = m; next = next }
 
--- what a mark alone may lead on from
-abbrev pub marks_alone : List Way → Word → Move
+-- where only a mark may come
+abbrev pub marks_alone : List Way → Terminal → Move
 marks_alone ways (Punctuation m) = mark_move ways m
 marks_alone ways _ = Fails Grammar
 
@@ -133,119 +134,119 @@ abbrev pub taken_ways : Importing → Taken → List Way
 taken_ways i taken = way Comma (AtTaken (taking i taken)) ∷ way Semicolon (AtImport (i.imports ++ (import_of i taken ∷ []))) ∷ []
 
 abbrev pub head_ways : Begun → List Way
-head_ways b = way Colon (AtType (RetPlace b) 0) ∷ way OpenBrace (AtItem b) ∷ []
+head_ways b = way Colon (AtType (ReturnType b) 0) ∷ way OpenBrace (AtItem b) ∷ []
 
-abbrev pub first_import_word : List Import → Keyword → Move
-first_import_word imports word.From = Goes (AtPath imports)
-first_import_word imports _ = Fails Grammar
+abbrev pub first_import_keyword : List Import → Keyword → Move
+first_import_keyword imports keyword.From = Goes (AtPath imports)
+first_import_keyword imports _ = Fails Grammar
 
-abbrev pub import_move : List Import → Word → Move
-import_move imports (Name text) = first_import_word imports (keyword_of text)
+abbrev pub import_move : List Import → Terminal → Move
+import_move imports (Name text) = first_import_keyword imports (keyword_of text)
 import_move imports (Function name) = Goes (AfterName (begin imports [] name))
 import_move imports _ = Fails Grammar
 
-abbrev pub path_move : List Import → Word → Move
-path_move imports (Path path) = Goes (AtImportWord imports path)
+abbrev pub path_move : List Import → Terminal → Move
+path_move imports (Path path) = Goes (AtImportKeyword imports path)
 path_move imports _ = Fails Grammar
 
-abbrev pub import_word : List Import → ImportPath → Keyword → Move
-import_word imports path word.Import = Goes (AtTaken (record { imports = imports; path = path; names = [] }))
-import_word imports path _ = Fails Grammar
+abbrev pub import_keyword : List Import → ImportPath → Keyword → Move
+import_keyword imports path keyword.Import = Goes (AtTaken (record { imports = imports; path = path; names = [] }))
+import_keyword imports path _ = Fails Grammar
 
-abbrev pub import_word_move : List Import → ImportPath → Word → Move
-import_word_move imports path (Name text) = import_word imports path (keyword_of text)
-import_word_move imports path _ = Fails Grammar
+abbrev pub import_keyword_move : List Import → ImportPath → Terminal → Move
+import_keyword_move imports path (Name text) = import_keyword imports path (keyword_of text)
+import_keyword_move imports path _ = Fails Grammar
 
-abbrev pub taken_move : Importing → Word → Move
+abbrev pub taken_move : Importing → Terminal → Move
 taken_move i (Function name) = Goes (AfterTaken i name)
 taken_move i _ = Fails Grammar
 
-abbrev pub as_word : Importing → List ℕ → Keyword → Move
-as_word i name word.As = Goes (AtAlias i name)
-as_word i name _ = Fails Grammar
+abbrev pub as_keyword : Importing → List ℕ → Keyword → Move
+as_keyword i name keyword.As = Goes (AtAlias i name)
+as_keyword i name _ = Fails Grammar
 
-abbrev pub after_taken_move : Importing → List ℕ → Word → Move
-after_taken_move i name (Name text) = as_word i name (keyword_of text)
+abbrev pub after_taken_move : Importing → List ℕ → Terminal → Move
+after_taken_move i name (Name text) = as_keyword i name (keyword_of text)
 after_taken_move i name (Punctuation m) = mark_move (taken_ways i (record { name = name; alias = None })) m
 after_taken_move i name _ = Fails Grammar
 
-abbrev pub alias_move : Importing → List ℕ → Word → Move
+abbrev pub alias_move : Importing → List ℕ → Terminal → Move
 alias_move i name (Function alias) = Goes (AfterAlias i (record { name = name; alias = Some alias }))
 alias_move i name _ = Fails Grammar
 
-abbrev pub function_move : List Import → List FuncTree → Word → Move
+abbrev pub function_move : List Import → List FuncTree → Terminal → Move
 function_move imports funcs (Function name) = Goes (AfterName (begin imports funcs name))
 function_move imports funcs _ = Fails Grammar
 
-abbrev pub first_arg_move : Begun → Word → Move
+abbrev pub first_arg_move : Begun → Terminal → Move
 first_arg_move b (Name name) = Goes (arg_named b name)
 first_arg_move b (Punctuation m) = mark_move (way CloseParen (AfterArgs b) ∷ []) m
 first_arg_move b _ = Fails Grammar
 
-abbrev pub arg_move : Begun → Word → Move
+abbrev pub arg_move : Begun → Terminal → Move
 arg_move b (Name name) = Goes (arg_named b name)
 arg_move b _ = Fails Grammar
 
--- an identifier where an item stands
-abbrev pub first_word : Begun → List ℕ → Keyword → Move
-first_word b text (word.Operation operation) = Goes (AfterOperation b operation text)
-first_word b text word.FloatOperation = GoesBeforeColon (dest_type b text)
-first_word b text _ = Goes (Expect Colon (dest_type b text))
+-- an identifier where an item may come
+abbrev pub first_keyword : Begun → List ℕ → Keyword → Move
+first_keyword b text (keyword.Operation operation) = Goes (AfterOperation b operation text)
+first_keyword b text keyword.FloatOperation = GoesBeforeColon (dest_type b text)
+first_keyword b text _ = Goes (Expect Colon (dest_type b text))
 
-abbrev pub item_move : Begun → Word → Move
-item_move b (Name text) = first_word b text (keyword_of text)
+abbrev pub item_move : Begun → Terminal → Move
+item_move b (Name text) = first_keyword b text (keyword_of text)
 item_move b (Label name) = Goes (Expect Colon (AtItem (with_item b (item.Label name))))
 item_move b (Punctuation m) = mark_move (way CloseBrace (finished b) ∷ []) m
 item_move b _ = Fails Grammar
 
 -- an operand, or a mark
-abbrev pub operand_move : Acting → List Way → Word → Move
+abbrev pub operand_move : Acting → List Way → Terminal → Move
 operand_move a ways (Name name) = Goes (AtOperand (with_variable a name))
 operand_move a ways (Function name) = Goes (AtOperand (with_function a name))
 operand_move a ways (Label name) = Goes (AtOperand (with_label a name))
 operand_move a ways (Punctuation m) = mark_move ways m
 operand_move a ways _ = Fails Grammar
 
--- an identifier behind `=`
-abbrev pub operation_word : Begun → Dest → Keyword → Move
-operation_word b dest word.Const = Goes (AtLiteral b dest)
-operation_word b dest (word.Operation operation) = Goes (AtOperand (act b (Some dest) operation))
-operation_word b dest word.FloatOperation = FloatUnlessColon
-operation_word b dest _ = Fails Grammar
+-- an identifier after `=`
+abbrev pub operation_keyword : Begun → Dest → Keyword → Move
+operation_keyword b dest keyword.Const = Goes (AtLiteral b dest)
+operation_keyword b dest (keyword.Operation operation) = Goes (AtOperand (act b (Some dest) operation))
+operation_keyword b dest keyword.FloatOperation = FloatUnlessColon
+operation_keyword b dest _ = Fails Grammar
 
-abbrev pub operation_move : Begun → Dest → Word → Move
-operation_move b dest (Name text) = operation_word b dest (keyword_of text)
+abbrev pub operation_move : Begun → Dest → Terminal → Move
+operation_move b dest (Name text) = operation_keyword b dest (keyword_of text)
 operation_move b dest _ = Fails Grammar
 
--- an identifier where a literal stands
-abbrev pub truth_word : Begun → Dest → Keyword → Move
-truth_word b dest (word.Truth value) = Goes (const_of b dest (literal.Bool value))
-truth_word b dest _ = Fails Grammar
+-- an identifier where a literal may come
+abbrev pub truth_keyword : Begun → Dest → Keyword → Move
+truth_keyword b dest (keyword.Truth value) = Goes (const_of b dest (literal.Bool value))
+truth_keyword b dest _ = Fails Grammar
 
-abbrev pub literal_move : Begun → Dest → Word → Move
-literal_move b dest (Name text) = truth_word b dest (keyword_of text)
+abbrev pub literal_move : Begun → Dest → Terminal → Move
+literal_move b dest (Name text) = truth_keyword b dest (keyword_of text)
 literal_move b dest (Number (Some n)) = Goes (const_of b dest (literal.Int n))
 literal_move b dest (Number None) = Fails IntRange
-literal_move b dest Word.Float = Fails Float
+literal_move b dest Terminal.Float = Fails Float
 literal_move b dest (Char value) = Goes (const_of b dest (literal.Char value))
 literal_move b dest _ = Fails Grammar
 
--- an identifier where a type stands
-abbrev pub type_word : Place → ℕ → Keyword → Move
-type_word place depth (word.BaseType base) = Goes (closing depth (typed place (type_of depth base)))
-type_word place depth word.Ptr = if nat_lt depth 32 then Goes (Expect Less (AtType place (suc depth))) else Fails Deep
-type_word place depth word.FloatType = Fails Float
-type_word place depth _ = Fails Grammar
+-- an identifier where a type may come
+abbrev pub type_keyword : TypePosition → ℕ → Keyword → Move
+type_keyword position depth (keyword.BaseType base) = Goes (closing depth (typed position (type_of depth base)))
+type_keyword position depth keyword.Ptr = if nat_lt depth 32 then Goes (Expect Less (AtType position (suc depth))) else Fails Deep
+type_keyword position depth keyword.FloatType = Fails Float
+type_keyword position depth _ = Fails Grammar
 
-abbrev pub type_move : Place → ℕ → Word → Move
-type_move place depth (Name text) = type_word place depth (keyword_of text)
-type_move place depth _ = Fails Grammar
+abbrev pub type_move : TypePosition → ℕ → Terminal → Move
+type_move position depth (Name text) = type_keyword position depth (keyword_of text)
+type_move position depth _ = Fails Grammar
 
--- what a word leads to
-abbrev pub move : State → Word → Move
+-- what a terminal leads to
+abbrev pub move : State → Terminal → Move
 move (AtImport imports) w = import_move imports w
 move (AtPath imports) w = path_move imports w
-move (AtImportWord imports path) w = import_word_move imports path w
+move (AtImportKeyword imports path) w = import_keyword_move imports path w
 move (AtTaken i) w = taken_move i w
 move (AfterTaken i name) w = after_taken_move i name w
 move (AtAlias i name) w = alias_move i name w
@@ -262,19 +263,19 @@ move (AfterOperation b operation text) w =
 move (AtOperation b dest) w = operation_move b dest w
 move (AtLiteral b dest) w = literal_move b dest w
 move (AtOperand a) w = operand_move a (way Semicolon (acted a) ∷ []) w
-move (AtType place depth) w = type_move place depth w
+move (AtType position depth) w = type_move position depth w
 move (Expect m next) w = marks_alone (way m next ∷ []) w
 
--- whether the next word is `:`
-abbrev pub is_colon : Word → Bool
+-- whether the next terminal is `:`
+abbrev pub is_colon : Terminal → Bool
 is_colon (Punctuation m) = same_mark m Colon
 is_colon _ = false
 
-abbrev pub begins_with_colon : List Word → Bool
+abbrev pub begins_with_colon : List Terminal → Bool
 begins_with_colon [] = false
 begins_with_colon (w ∷ ws) = is_colon w
 
--- a move, once it is known whether `:` comes next
+-- the result of a move, once it is known whether `:` comes next
 abbrev pub decided : Move → Bool → Result State FaultKind
 decided (Goes next) colon = Ok next
 decided (GoesBeforeColon next) true = Ok (Expect Colon next)
@@ -283,22 +284,22 @@ decided FloatUnlessColon true = Err Grammar
 decided FloatUnlessColon false = Err Float
 decided (Fails kind) colon = Err kind
 
--- the end of the words
+-- the end of the terminals
 abbrev pub at_end : State → Result Tree Fault
 at_end (AtImport imports) = Ok (record { imports = imports; funcs = [] })
 at_end (AtFunction imports funcs) = Ok (record { imports = imports; funcs = funcs })
 at_end _ = Err (record { kind = Grammar; left = 0 })
 
--- goes on from the state, or ends with the fault where this many words are left
+-- the run from the next state, or the fault where this many terminals are left
 abbrev pub go_on : Result State FaultKind → (State → Result Tree Fault) → ℕ → Result Tree Fault
 go_on (Ok next) rest left = rest next
 go_on (Err kind) rest left = Err (record { kind = kind; left = left })
 
--- what the words give from this state on: a tree, or the first fault
-abbrev pub run : State → List Word → Result Tree Fault
+-- what the terminals give from this state on: a tree, or the first fault
+abbrev pub run : State → List Terminal → Result Tree Fault
 run s [] = at_end s
 run s (w ∷ ws) = go_on (decided (move s w) (begins_with_colon ws)) (λ next. run next ws) (suc (length ws))
 
--- what the lexemes give: their tree, or their first fault
+-- the tree of the lexemes, or their first fault
 abbrev pub read : List Lexeme → Result Tree Fault
-read lexemes = run (AtImport []) (words_of lexemes)
+read lexemes = run (AtImport []) (terminals_of lexemes)

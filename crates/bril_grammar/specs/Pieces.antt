@@ -1,4 +1,4 @@
--- A list that was pushed onto has an item.
+-- A list to which an item was added is not empty.
 use Rattle.std.specs.Prelude.{◌<◌, List, [], ◌∷◌, ◌++◌, length}
 use Rattle.std.proofs.Common.{zero-lt-suc}
 

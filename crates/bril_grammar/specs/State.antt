@@ -1,4 +1,4 @@
--- The states of the machine that reads words one by one: what was read so far, and what may come next.
+-- The states of the machine that reads terminals one by one: what was read so far, and what may come next.
 use Rattle.std.specs.Prelude.{ℕ, List, Option}
 use Rattle.bril_tree.specs.declared.function_tree.Dest.{Dest}
 use Rattle.bril_tree.specs.declared.function_tree.FuncTree.{FuncTree}
@@ -8,9 +8,9 @@ use Rattle.bril_tree.specs.declared.import.Taken.{Taken}
 use Rattle.bril_tree.specs.declared.operation.Op.{Op}
 use Rattle.bril_tree.specs.declared.types.Ty.{Ty}
 use Rattle.bril_grammar.specs.declared.mark.Mark.{Mark}
-use Rattle.bril_grammar.specs.Word.{ImportPath}
+use Rattle.bril_tree.specs.Path.{ImportPath}
 
--- the imports and functions so far, and the function that was begun
+-- the imports and functions so far, and the parts of the function that was begun
 pub record Begun : Type 0 where
   pub imports : List Import
   pub funcs : List FuncTree
@@ -19,11 +19,11 @@ pub record Begun : Type 0 where
   pub ret : Option Ty
   pub code : List Item
 
--- where a type stands: behind the name of an argument, behind a function's head, or behind a destination
-pub data Place : Type 0 where
-  ArgPlace : (b : Begun) (name : List ℕ) → Place
-  RetPlace : (b : Begun) → Place
-  DestPlace : (b : Begun) (name : List ℕ) → Place
+-- where a type may come: after the name of an argument, after a function's head, or after the name of a destination
+pub data TypePosition : Type 0 where
+  ArgumentType : (b : Begun) (name : List ℕ) → TypePosition
+  ReturnType : (b : Begun) → TypePosition
+  DestinationType : (b : Begun) (name : List ℕ) → TypePosition
 
 -- an import that was begun: the imports before it, its path, and what it took so far
 pub record Importing : Type 0 where
@@ -41,43 +41,43 @@ pub record Acting : Type 0 where
   pub labels : List (List ℕ)
 
 pub data State : Type 0 where
-  -- at the start, and behind an import
+  -- at the start, and after an import
   AtImport : (imports : List Import) → State
-  -- behind `from`
+  -- after `from`
   AtPath : (imports : List Import) → State
-  -- behind the path
-  AtImportWord : (imports : List Import) (path : ImportPath) → State
-  -- where a taken function stands
+  -- after the path
+  AtImportKeyword : (imports : List Import) (path : ImportPath) → State
+  -- where an imported function must come
   AtTaken : (i : Importing) → State
-  -- behind its name
+  -- after its name
   AfterTaken : (i : Importing) (name : List ℕ) → State
-  -- behind `as`
+  -- after `as`
   AtAlias : (i : Importing) (name : List ℕ) → State
-  -- behind a whole taken function
+  -- after an imported function
   AfterAlias : (i : Importing) (taken : Taken) → State
-  -- behind a function
+  -- after a function
   AtFunction : (imports : List Import) (funcs : List FuncTree) → State
-  -- behind a function's name
+  -- after a function's name
   AfterName : (b : Begun) → State
-  -- behind `(`
+  -- after `(`
   AtFirstArg : (b : Begun) → State
-  -- where an argument stands
+  -- where an argument must come
   AtArg : (b : Begun) → State
-  -- behind an argument
+  -- after an argument
   AfterArg : (b : Begun) → State
-  -- behind `)`
+  -- after `)`
   AfterArgs : (b : Begun) → State
-  -- where an item stands
+  -- where an item may come
   AtItem : (b : Begun) → State
-  -- behind the text of an operation with which an item begins
+  -- after an operation with which an item begins
   AfterOperation : (b : Begun) (operation : Op) (text : List ℕ) → State
-  -- behind the `=` of a destination
+  -- after the `=` of a destination
   AtOperation : (b : Begun) (dest : Dest) → State
-  -- behind `const`
+  -- after `const`
   AtLiteral : (b : Begun) (dest : Dest) → State
-  -- where an operand stands
+  -- where an operand may come
   AtOperand : (a : Acting) → State
-  -- where a type stands, inside this many `ptr <`
-  AtType : (place : Place) (depth : ℕ) → State
-  -- where this mark must stand, and what comes behind it
+  -- where a type must come, inside this many `ptr <`
+  AtType : (position : TypePosition) (depth : ℕ) → State
+  -- where this mark must come, and the state after it
   Expect : (mark : Mark) (next : State) → State

@@ -1,5 +1,5 @@
--- The grammar. A source is a tree with what the tree leaves out: whether parentheses stand around no arguments,
--- and the order of operands of different kinds. A source has one spelling in words.
+-- The grammar. A source is a tree with what the tree leaves out: whether a function without arguments has parentheses,
+-- and the order of operands of different kinds. Each source has one spelling in terminals.
 use Rattle.std.specs.Prelude.{◌≡◌, ℕ, List, [], ◌∷◌, ◌++◌, map, replicate, Option, Some, None, codes}
 use Rattle.std.specs.List.{flat_map, join_by, repeat}
 use Rattle.bril_tree.specs.declared.function_tree.Dest.{Dest}
@@ -16,7 +16,7 @@ use Rattle.bril_tree.specs.declared.value.Lit.TheVariants as literal
 use Rattle.bril_lex.specs.Lexeme.{Lexeme}
 use Rattle.bril_grammar.specs.declared.mark.Mark.TheVariants.{OpenBrace, CloseBrace, OpenParen, CloseParen, Colon, Comma, Semicolon, Equals, Less, Greater}
 use Rattle.bril_tree.specs.Spelling.{operation_text, base_text, truth_text}
-use Rattle.bril_grammar.specs.Word.{Word, words_of}
+use Rattle.bril_grammar.specs.Terminal.{Terminal, terminals_of}
 
 pub data Operand : Type 0 where
   VariableOperand : (name : List ℕ) → Operand
@@ -29,7 +29,7 @@ pub data Line : Type 0 where
   ConstLine : (dest : List ℕ) (ty : Ty) (value : Lit) → Line
   ActLine : (dest : Option Dest) (operation : Op) (operands : List Operand) → Line
 
--- a function; it has no argument list, or one of no, one or more arguments
+-- a function; it has no argument list, or a list of any number of arguments
 pub record Written : Type 0 where
   pub name : List ℕ
   pub args : Option (List Dest)
@@ -76,72 +76,72 @@ abbrev pub tree_of : Source → Tree
 tree_of s = record { imports = s.imports; funcs = map function_of s.functions }
 
 -- `import f` or `import f as g`
-abbrev pub alias_words : Option (List ℕ) → List Word
-alias_words None = []
-alias_words (Some alias) = Word.Name (codes "as") ∷ Word.Function alias ∷ []
+abbrev pub alias_terminals : Option (List ℕ) → List Terminal
+alias_terminals None = []
+alias_terminals (Some alias) = Terminal.Name (codes "as") ∷ Terminal.Function alias ∷ []
 
-abbrev pub taken_words : Taken → List Word
-taken_words taken = Word.Function taken.name ∷ alias_words taken.alias
+abbrev pub taken_terminals : Taken → List Terminal
+taken_terminals taken = Terminal.Function taken.name ∷ alias_terminals taken.alias
 
 -- `from "path" import .. ;`
-abbrev pub import_words : Import → List Word
-import_words i =
-    Word.Name (codes "from") ∷ Word.Path (record { bytes = i.path; is_path = i.has_path }) ∷ Word.Name (codes "import")
-    ∷ (join_by taken_words (Word.Punctuation Comma ∷ []) i.names ++ (Word.Punctuation Semicolon ∷ []))
+abbrev pub import_terminals : Import → List Terminal
+import_terminals i =
+    Terminal.Name (codes "from") ∷ Terminal.Path (record { bytes = i.path; is_path = i.has_path }) ∷ Terminal.Name (codes "import")
+    ∷ (join_by taken_terminals (Terminal.Punctuation Comma ∷ []) i.names ++ (Terminal.Punctuation Semicolon ∷ []))
 
 -- as many `ptr <` as the type is deep, its base, and as many `>`
-abbrev pub pointer_words : List Word
-pointer_words = Word.Name (codes "ptr") ∷ Word.Punctuation Less ∷ []
+abbrev pub pointer_terminals : List Terminal
+pointer_terminals = Terminal.Name (codes "ptr") ∷ Terminal.Punctuation Less ∷ []
 
-abbrev pub type_words : Ty → List Word
-type_words ty = repeat ty.depth pointer_words ++ (Word.Name (base_text ty.base) ∷ replicate ty.depth (Word.Punctuation Greater))
+abbrev pub type_terminals : Ty → List Terminal
+type_terminals ty = repeat ty.depth pointer_terminals ++ (Terminal.Name (base_text ty.base) ∷ replicate ty.depth (Terminal.Punctuation Greater))
 
 -- `name : type`
-abbrev pub typed_words : Dest → List Word
-typed_words dest = Word.Name dest.name ∷ Word.Punctuation Colon ∷ type_words dest.ty
+abbrev pub typed_terminals : Dest → List Terminal
+typed_terminals dest = Terminal.Name dest.name ∷ Terminal.Punctuation Colon ∷ type_terminals dest.ty
 
-abbrev pub args_words : Option (List Dest) → List Word
-args_words None = []
-args_words (Some args) = Word.Punctuation OpenParen ∷ (join_by typed_words (Word.Punctuation Comma ∷ []) args ++ (Word.Punctuation CloseParen ∷ []))
+abbrev pub args_terminals : Option (List Dest) → List Terminal
+args_terminals None = []
+args_terminals (Some args) = Terminal.Punctuation OpenParen ∷ (join_by typed_terminals (Terminal.Punctuation Comma ∷ []) args ++ (Terminal.Punctuation CloseParen ∷ []))
 
-abbrev pub ret_words : Option Ty → List Word
-ret_words None = []
-ret_words (Some ty) = Word.Punctuation Colon ∷ type_words ty
+abbrev pub ret_terminals : Option Ty → List Terminal
+ret_terminals None = []
+ret_terminals (Some ty) = Terminal.Punctuation Colon ∷ type_terminals ty
 
-abbrev pub literal_word : Lit → Word
-literal_word (literal.Int n) = Word.Number (Some n)
-literal_word (literal.Bool b) = Word.Name (truth_text b)
-literal_word (literal.Char c) = Word.Char c
+abbrev pub literal_terminal : Lit → Terminal
+literal_terminal (literal.Int n) = Terminal.Number (Some n)
+literal_terminal (literal.Bool b) = Terminal.Name (truth_text b)
+literal_terminal (literal.Char c) = Terminal.Char c
 
-abbrev pub operand_word : Operand → Word
-operand_word (VariableOperand x) = Word.Name x
-operand_word (FunctionOperand f) = Word.Function f
-operand_word (LabelOperand l) = Word.Label l
+abbrev pub operand_terminal : Operand → Terminal
+operand_terminal (VariableOperand x) = Terminal.Name x
+operand_terminal (FunctionOperand f) = Terminal.Function f
+operand_terminal (LabelOperand l) = Terminal.Label l
 
-abbrev pub dest_words : Option Dest → List Word
-dest_words None = []
-dest_words (Some dest) = typed_words dest ++ (Word.Punctuation Equals ∷ [])
+abbrev pub dest_terminals : Option Dest → List Terminal
+dest_terminals None = []
+dest_terminals (Some dest) = typed_terminals dest ++ (Terminal.Punctuation Equals ∷ [])
 
-abbrev pub line_words : Line → List Word
-line_words (LabelLine name) = Word.Label name ∷ Word.Punctuation Colon ∷ []
-line_words (ConstLine dest ty value) =
-    typed_words (record { name = dest; ty = ty })
-    ++ (Word.Punctuation Equals ∷ Word.Name (codes "const") ∷ literal_word value ∷ Word.Punctuation Semicolon ∷ [])
-line_words (ActLine dest operation operands) =
-    dest_words dest ++ (Word.Name (operation_text operation) ∷ (map operand_word operands ++ (Word.Punctuation Semicolon ∷ [])))
+abbrev pub line_terminals : Line → List Terminal
+line_terminals (LabelLine name) = Terminal.Label name ∷ Terminal.Punctuation Colon ∷ []
+line_terminals (ConstLine dest ty value) =
+    typed_terminals (record { name = dest; ty = ty })
+    ++ (Terminal.Punctuation Equals ∷ Terminal.Name (codes "const") ∷ literal_terminal value ∷ Terminal.Punctuation Semicolon ∷ [])
+line_terminals (ActLine dest operation operands) =
+    dest_terminals dest ++ (Terminal.Name (operation_text operation) ∷ (map operand_terminal operands ++ (Terminal.Punctuation Semicolon ∷ [])))
 
-abbrev pub function_words : Written → List Word
-function_words f =
-    Word.Function f.name
-    ∷ (args_words f.args ++ (ret_words f.ret ++ (Word.Punctuation OpenBrace ∷ (flat_map line_words f.lines ++ (Word.Punctuation CloseBrace ∷ [])))))
+abbrev pub function_terminals : Written → List Terminal
+function_terminals f =
+    Terminal.Function f.name
+    ∷ (args_terminals f.args ++ (ret_terminals f.ret ++ (Terminal.Punctuation OpenBrace ∷ (flat_map line_terminals f.lines ++ (Terminal.Punctuation CloseBrace ∷ [])))))
 
-abbrev pub source_words : Source → List Word
-source_words s = flat_map import_words s.imports ++ flat_map function_words s.functions
+abbrev pub source_terminals : Source → List Terminal
+source_terminals s = flat_map import_terminals s.imports ++ flat_map function_terminals s.functions
 
--- the words are a spelling of the tree
-abbrev pub Spells : List Word → Tree → Type 0
-Spells words tree = (s : Source) × (words ≡ source_words s) × (tree ≡ tree_of s)
+-- the terminals are a spelling of the tree
+abbrev pub Spells : List Terminal → Tree → Type 0
+Spells terminals tree = (s : Source) × (terminals ≡ source_terminals s) × (tree ≡ tree_of s)
 
 -- the lexemes are a spelling of the tree
 abbrev pub IsProgram : List Lexeme → Tree → Type 0
-IsProgram lexemes tree = Spells (words_of lexemes) tree
+IsProgram lexemes tree = Spells (terminals_of lexemes) tree

@@ -1,9 +1,9 @@
-// What an identifier means at the places where the grammar asks for a word.
+// What an identifier means where the grammar asks for a keyword.
 
 use bril_tree::operation::Op;
 use bril_tree::types::Base;
 
-/// The word that an identifier spells. None of them is reserved: each may also name a variable.
+/// The keyword that an identifier spells. None is reserved: each may also name a variable.
 #[derive(Clone, Copy, PartialEq, Eq, Debug, Drop)]
 pub enum Keyword {
     From,
@@ -12,13 +12,13 @@ pub enum Keyword {
     /// `int`, `bool` or `char`.
     BaseType(Base),
     Ptr,
-    /// `float`, the type of Bril's floating point extension, which has no meaning here.
+    /// `float`, the type of Bril's floating point extension, which is not supported.
     FloatType,
     Const,
     /// `true` or `false`.
     Truth(bool),
     Operation(Op),
-    /// One of the nine operations of Bril's floating point extension, which have no meaning here.
+    /// One of the nine operations of Bril's floating point extension, which are not supported.
     FloatOperation,
     /// Any other identifier.
     Plain,

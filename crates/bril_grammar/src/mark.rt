@@ -1,4 +1,4 @@
-// The marks of Bril's text form.
+// The punctuation of Bril's text form.
 
 /// A token of one byte, one of `{ } ( ) : , ; = < >`.
 #[derive(Clone, Copy, PartialEq, Eq, Debug, Drop)]

@@ -1,15 +1,16 @@
--- The laws of the canonical JSON.
-use Rattle.std.proofs.Common.{ℕ, List, subst, arith}
+-- The canonical JSON of a tree is read as that tree.
+use Rattle.std.proofs.Common.{arith}
 use Rattle.bril_json.specs.Canonical.{json_of, canonical_json}
-use Rattle.bril_json.specs.CanonicalReading.{CanonicalJsonIsTree, CanonicalJsonIsTreeAlone, CanonicalJsonTellsTrees}
+use Rattle.bril_tree.specs.SourceLaws.{CanonicalSpells, CanonicalSpellsAlone}
+use Rattle.bril_tree.proofs.Canonical.{spells_alone}
+use Rattle.bril_json.proofs.Sources.{one_tree}
 use Rattle.bril_json.specs.Reading.{JsonOf}
 use Rattle.bril_json.proofs.Plain.{text_utf8, text_read}
 use Rattle.bril_json.proofs.PlainTrees.{tree_flat}
 use Rattle.bril_json.proofs.ReadBack.{tree_read}
-use Rattle.bril_json.proofs.Sources.{one_tree}
 
 -- the canonical JSON of a tree is that tree
-pub canonical_json_is_tree : CanonicalJsonIsTree
+pub canonical_json_is_tree : CanonicalSpells canonical_json JsonOf
 unfolding canonical_json
 canonical_json_is_tree tree is =
     let flat = tree_flat tree is in
@@ -20,8 +21,5 @@ canonical_json_is_tree tree is =
     }
 
 -- and no other tree
-pub canonical_json_is_tree_alone : CanonicalJsonIsTreeAlone
-canonical_json_is_tree_alone tree other is h = one_tree (canonical_json tree) other tree h (canonical_json_is_tree tree is)
-
-pub canonical_json_tells_trees : CanonicalJsonTellsTrees
-canonical_json_tells_trees tree other is also e = canonical_json_is_tree_alone other tree also (subst (λ (l : List ℕ). JsonOf l tree) e (canonical_json_is_tree tree is))
+pub canonical_json_is_tree_alone : CanonicalSpellsAlone canonical_json JsonOf
+canonical_json_is_tree_alone = spells_alone canonical_json JsonOf one_tree canonical_json_is_tree

@@ -45,7 +45,7 @@ goes_on read list done i value x next r below is ok pushed = record {
       ∙ r.same;
 }
 
--- the same where the value's number was counted apart
+-- the same, where the value's number is counted separately
 pub goes_on_numbered : {A : Type 0} (read : ℕ → Data → Result A JsonFault) (list : List Value) (done : List A) (i n : ℕ) (value : Value) (x : A) (next : List A) →
     HasRead read list done i → i < length list → value ≡ get_or list i value → n ≡ i → read n (view value) ≡ Ok x → next ≡ done ++ (x ∷ []) → HasRead read list next (i + 1)
 goes_on_numbered read list done i n value x next r below is e ok pushed =

@@ -1,21 +1,22 @@
--- Reading an import: what its parts are, it is.
-use Rattle.std.proofs.Common.{◌≡◌, ℕ, ◌<◌, Bool, true, false, List, [], ◌∷◌, length, Some, Ok, refl, sym, ap, ◌∙◌, leb-true, ltb-true, subst, arith}
-use Rattle.std.specs.Prelude.{◌&&◌, Result, codes, nat_lt, nat_le}
+-- Reading an import from its parts.
+use Rattle.std.proofs.Common.{◌≡◌, ℕ, ◌<◌, Bool, true, false, List, [], ◌∷◌, length, Some, Ok, refl, sym, ap, ◌∙◌, leb-true, ltb-true, arith}
+use Rattle.std.specs.Prelude.{◌&&◌, Result, Option, None, codes, nat_lt, nat_le, ok_or}
 use Rattle.std.specs.List.{list_all}
 use Rattle.serde_json.specs.Data.{Data, Items}
 use Rattle.serde_json.specs.Find.{as_str}
-use Rattle.bril_tree.specs.Path.{is_path_byte}
+use Rattle.bril_tree.specs.Path.{ImportPath, is_path_byte, tested_path}
 use Rattle.bril_tree.specs.declared.import.Import.{Import}
 use Rattle.bril_tree.specs.declared.import.Taken.{Taken}
-use Rattle.bril_json.specs.Form.{ImportPath, is_import_path, tested_path, path_text, path_of, taken_of, import_with, import_of}
+use Rattle.bril_json.specs.Form.{is_import_path, path_text, path_of, taken_of, import_with, import_of}
 use Rattle.bril_json.specs.Steps.{◌>>=◌, file, required, list_at, each}
 use Rattle.bril_json.specs.declared.fault.JsonFault.{JsonFault}
+use Rattle.bril_json.specs.declared.fault.JsonFault.TheVariants.{Shape}
 use Rattle.bril_json.specs.declared.position.Position.{Position}
-use Rattle.bril_json.proofs.Equal.{Import-equal}
+use Rattle.bril_tree.proofs.Equal.{Import-equal}
 
 -- a path that passes the three tests
-abbrev pub IsPathOf : List ℕ → Result ImportPath JsonFault → Type 0
-IsPathOf path read = (p : ImportPath) × (p.bytes ≡ path) × (read ≡ Ok p)
+abbrev pub IsPathOf : List ℕ → Option ImportPath → Type 0
+IsPathOf path read = (p : ImportPath) × (p.bytes ≡ path) × (read ≡ Some p)
 
 passes : (path : List ℕ) (some short spelled : Bool) (a : nat_lt 0 (length path) ≡ some) (b : nat_le (length path) 4096 ≡ short) (c : list_all is_path_byte path ≡ spelled) →
     (some && short) && spelled ≡ true → IsPathOf path (tested_path path some short spelled a b c)
@@ -26,8 +27,10 @@ passes path true true false a b c all = absurd cc
 passes path true false spelled a b c all = absurd cc
 passes path false short spelled a b c all = absurd cc
 
-pub path_is : (d : Data) (path : List ℕ) → as_str d ≡ Some path → is_import_path path ≡ true → IsPathOf path (path_of d)
-path_is d path text all = subst (λ t. IsPathOf path (path_text t)) (sym text) (passes path _ _ _ refl refl refl all)
+pub path_is : (d : Data) (path : List ℕ) → as_str d ≡ Some path → is_import_path path ≡ true → (p : ImportPath) × (p.bytes ≡ path) × (path_of d ≡ Ok p)
+path_is d path text all =
+    let found = passes path _ _ _ refl refl refl all in
+    (found.0, found.1, ap path_text text ∙ ap (λ o. ok_or o (Shape None None)) found.2)
 
 -- an import with its parts
 with_is : (p : ImportPath) (names : List Taken) (i : Import) → i.path ≡ p.bytes → i.names ≡ names → import_with p names ≡ Ok i

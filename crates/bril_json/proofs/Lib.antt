@@ -1,7 +1,6 @@
 pub mod CanonicalJson
 pub mod Chars
 pub mod Each
-pub mod Equal
 pub mod Identifiers
 pub mod Importing
 pub mod Lists

@@ -42,11 +42,11 @@ some_items (v ∷ vs) h = refl
 pub list_view : (v : Vec Value Global) → 0 < length v.items → Some (view (Array v)) ≡ unless_empty (items_view v.items)
 list_view v h = ap Some (view-Array v) ∙ some_items v.items h
 
--- one more is as it should be
+-- one more is valid
 pub valid_more : {X : Type 0} (P : X → Type 0) (xs : List X) (i : ℕ) (x : X) → i < length xs → x ≡ get_or xs i x → All P (take i xs) → P x → All P (take (i + 1) xs)
 valid_more P xs i x h g all p = All-more P xs i x h all (let at : P (get_or xs i x) = rw (← g) p in at)
 
--- all are as they should be
+-- all are valid
 pub valid_all : {X : Type 0} (P : X → Type 0) (xs : List X) (i : ℕ) → length xs ≤ i → All P (take i xs) → All P xs
 valid_all P xs i h all = All-same P xs (take i xs) (sym (take_all i xs h)) all
 

@@ -28,7 +28,7 @@ IsPlainNumber (negative (pos n)) = ⊥
 IsPlainNumber (negative (negsuc n)) = n < 2 ^ 63
 IsPlainNumber (float x) = ⊥
 
--- the key stands before those of the members
+-- the key comes before those of the members
 abbrev pub IsBefore : List ℕ → Members → Type 0
 IsBefore key no_members = ⊤
 IsBefore key (member other d ms) = (slice_cmp nat_cmp other key ≡ Greater) × IsBefore key ms
@@ -61,7 +61,7 @@ number_read (float x) h = absurd h
 put_past : (key other : List ℕ) (d e : Data) (found : Members) → slice_cmp nat_cmp other key ≡ Greater → put other e (member key d found) ≡ member key d (put other e found)
 put_past key other d e found h = rw h refl
 
--- a member that stands before all others stays the first
+-- a member that comes before all others stays the first
 first_stays : (key : List ℕ) (d : Data) (ms found : Members) → IsBefore key ms → of_members (members_outline ms) (member key d found) ≡ option_map (member key d) (of_members (members_outline ms) found)
 first_stays key d no_members found h = refl
 first_stays key d (member other e ms) found h = by (λ x. first_stays key d ms (put other x found) h.1) (of_json (outline e))
@@ -186,7 +186,7 @@ mutual
   members_whole no_members h = refl
   members_whole (member key d ms) h = or_from _ _ (plain_whole d h.1) (members_whole ms h.3)
 
--- what is read where these are the value and the tokens behind it
+-- what is read where these are the value and the tokens after it
 abbrev whole : Option (json.Json × List Token) → Option Data
 whole o = option_and_then of_json (option_and_then (λ p. json.if_last p.0 p.1) o)
 

@@ -16,7 +16,7 @@ use Rattle.bril_tree.specs.declared.function_tree.Item.TheVariants as line
 use Rattle.bril_tree.specs.declared.import.Import.{Import}
 use Rattle.bril_tree.specs.declared.import.Taken.{Taken}
 use Rattle.bril_tree.specs.declared.operation.Op.{Op}
-use Rattle.bril_tree.specs.declared.operation.Op.TheVariants as op
+use Rattle.bril_tree.proofs.Named.{each_passes}
 use Rattle.bril_tree.specs.declared.tree.Tree.{Tree}
 use Rattle.bril_tree.specs.declared.types.Base.{Base}
 use Rattle.bril_tree.specs.declared.types.Base.TheVariants as base
@@ -53,7 +53,7 @@ greater Less e = absurd (false≢true e)
 greater Equal e = absurd (false≢true e)
 greater Greater e = refl
 
--- the key stands before those of the parts
+-- the key comes before those of the parts
 abbrev stands_before : List ℕ → List Part → Bool
 stands_before key [] = true
 stands_before key (part ∷ parts) = is_greater (slice_cmp nat_cmp part.0 key) && stands_before key parts
@@ -140,43 +140,7 @@ argument_flat : (arg : Dest) → IsDest arg → IsFlat 33 (argument_json arg)
 argument_flat arg is = object_flat 32 (argument_parts arg) refl (name_flat 32 arg.name is, (type_flat arg.ty, tt))
 
 operation_ascii : (o : Op) → are_ascii (operation_text o) ≡ true
-operation_ascii op.Add = refl
-operation_ascii op.Sub = refl
-operation_ascii op.Mul = refl
-operation_ascii op.Div = refl
-operation_ascii op.Eq = refl
-operation_ascii op.Lt = refl
-operation_ascii op.Gt = refl
-operation_ascii op.Le = refl
-operation_ascii op.Ge = refl
-operation_ascii op.Ceq = refl
-operation_ascii op.Clt = refl
-operation_ascii op.Cgt = refl
-operation_ascii op.Cle = refl
-operation_ascii op.Cge = refl
-operation_ascii op.Not = refl
-operation_ascii op.And = refl
-operation_ascii op.Or = refl
-operation_ascii op.Id = refl
-operation_ascii op.Nop = refl
-operation_ascii op.Jmp = refl
-operation_ascii op.Br = refl
-operation_ascii op.Call = refl
-operation_ascii op.Ret = refl
-operation_ascii op.Print = refl
-operation_ascii op.Alloc = refl
-operation_ascii op.Free = refl
-operation_ascii op.Store = refl
-operation_ascii op.Load = refl
-operation_ascii op.PtrAdd = refl
-operation_ascii op.CharToInt = refl
-operation_ascii op.IntToChar = refl
-operation_ascii op.Get = refl
-operation_ascii op.Set = refl
-operation_ascii op.Undef = refl
-operation_ascii op.Speculate = refl
-operation_ascii op.Commit = refl
-operation_ascii op.Guard = refl
+operation_ascii o = each_passes (λ (p : Op). are_ascii (operation_text p)) refl o
 
 dest_flat : (dest : Option Dest) → IfSome dest IsDest → IsFlatPart 32 (option_map (λ (d : Dest). string d.name) dest)
 dest_flat None is = tt

@@ -1,17 +1,17 @@
 -- The JSON value of a tree is that tree in the JSON form.
-use Rattle.std.proofs.Common.{◌≡◌, ℕ, zero, suc, ◌+◌, ◌-◌, ◌<◌, ◌≤◌, ◌^◌, pos, negsuc, ℤ, List, [], ◌∷◌, length, Bool, true, false, Option, Some, None, option_map, Ok, Result, Ordering, Less, Equal, Greater, nat_cmp, nat_lt, nat_le, FitsSigned, codes, refl, sym, ap, ◌∙◌, arith, append-nil, lt-ltb, le-leb}
-use Rattle.std.proofs.lemmas.Bool.{false≢true}
+use Rattle.std.proofs.Common.{◌≡◌, ℕ, zero, suc, ◌+◌, ◌-◌, ◌<◌, ◌≤◌, ◌^◌, pos, negsuc, ℤ, List, [], ◌∷◌, length, Bool, false, Option, Some, None, option_map, Ok, Result, Ordering, Less, Equal, Greater, nat_cmp, FitsSigned, codes, refl, sym, ap, ◌∙◌, arith, append-nil, lt-ltb}
+use Rattle.std.proofs.lemmas.Bool.{and_parts, not-true}
 use Rattle.std.proofs.lemmas.List.Elements.{All-head, All-tail}
 use Rattle.std.proofs.lemmas.Str.{IsUtf8-encode, chars_from_encodes}
 use Rattle.std.specs.Char.{IsScalar, encode_utf8}
 use Rattle.std.specs.Cmp.Lexicographic.{slice_cmp}
 use Rattle.std.specs.Int.{w64}
-use Rattle.std.specs.List.{All, list_all}
+use Rattle.std.specs.List.{All, list_any}
 use Rattle.std.specs.Option.{IfSome}
 use Rattle.std.specs.Ordering.{match_ordering}
 use Rattle.std.specs.Str.{chars}
-use Rattle.bril_tree.specs.Path.{IsImportPath, is_path_byte}
-use Rattle.bril_tree.specs.Spelling.{operation_text, operation_of, base_text}
+use Rattle.bril_tree.specs.Path.{IsImportPath}
+use Rattle.bril_tree.specs.Spelling.{operation_text, operation_of, base_text, float_operations}
 use Rattle.bril_tree.specs.TreeForm.{IsName, AreNames, IsTaken, IsImport, IsDest, IsLiteral, IsItem, IsFunction, IsTree}
 use Rattle.bril_tree.specs.declared.function_tree.Dest.{Dest}
 use Rattle.bril_tree.specs.declared.function_tree.FuncTree.{FuncTree}
@@ -20,7 +20,7 @@ use Rattle.bril_tree.specs.declared.function_tree.Item.TheVariants as line
 use Rattle.bril_tree.specs.declared.import.Import.{Import}
 use Rattle.bril_tree.specs.declared.import.Taken.{Taken}
 use Rattle.bril_tree.specs.declared.operation.Op.{Op}
-use Rattle.bril_tree.specs.declared.operation.Op.TheVariants as op
+use Rattle.bril_tree.proofs.Named.{named_is_found, each_passes}
 use Rattle.bril_tree.specs.declared.tree.Tree.{Tree}
 use Rattle.bril_tree.specs.declared.types.Base.{Base}
 use Rattle.bril_tree.specs.declared.types.Base.TheVariants as base
@@ -30,20 +30,22 @@ use Rattle.bril_tree.specs.declared.value.Lit.TheVariants as literal
 use Rattle.serde_json.specs.Data.{Data, number, string, array, Items, no_items, item}
 use Rattle.serde_json.specs.Find.{get, get_member, of_integer}
 use Rattle.bril_json.specs.Canonical.{Part, standing, object_of, listed, unless_empty, in_pointers, type_json, literal_json, argument_json, item_parts, item_json, function_parts, function_json, taken_parts, taken_json, import_json, tree_parts, json_of}
-use Rattle.bril_json.specs.Form.{name_of, names_at, type_around, type_within, type_of, literal_of, constant_of, dest_of, act_of, instruction_of, item_of, argument_of, return_of, function_of, tested_path, path_of, alias_of, taken_of, import_with, import_of, tree_of}
+use Rattle.bril_json.specs.Form.{name_of, names_at, type_around, type_within, type_of, literal_of, constant_of, dest_of, act_of, operation_named, instruction_text, instruction_of, item_of, argument_of, return_of, function_of, path_of, alias_of, taken_of, import_with, import_of, tree_of}
 use Rattle.bril_json.specs.Steps.{file, in_function, in_item, list_or_none, each_from}
 use Rattle.bril_json.specs.declared.fault.JsonFault.{JsonFault}
-use Rattle.bril_json.specs.declared.instruction.Instruction.TheVariants.{Operation}
+use Rattle.bril_json.specs.declared.fault.JsonFault.TheVariants.{Shape, Float}
+use Rattle.std.specs.Prelude.{not, ◌&&◌, bytes_eq, ok_or, Err, if◌then◌else◌}
+use Rattle.bril_json.specs.declared.instruction.Instruction.TheVariants.{Constant, Operation}
 use Rattle.bril_json.specs.declared.position.Position.{Position}
-use Rattle.bril_json.proofs.Equal.{Ty-equal, Import-equal, ImportPath-equal}
+use Rattle.bril_tree.proofs.Equal.{Ty-equal, Import-equal, import_path-path}
 
--- ---- what stands at a key
+-- ---- what is at a key
 
 abbrev or_later : Option Data → Option Data → Option Data
 or_later None later = later
 or_later (Some d) later = Some d
 
--- the value of the first part that has the key and stands
+-- the value of the first part that has the key and a value
 abbrev found : List ℕ → List Part → Option Data
 found key [] = None
 found key (part ∷ parts) = match_ordering (slice_cmp nat_cmp key part.0) (found key parts) (or_later part.1 (found key parts)) (found key parts)
@@ -123,45 +125,21 @@ dest_read : (position : Position) (dest : Option Dest) → IfSome dest IsDest �
 dest_read position None is = refl
 dest_read position (Some d) is = rw (is, type_read position d.ty) refl
 
+-- no operation is `const` or an operation on floats
+is_other : Op → Bool
+is_other o = not (bytes_eq (operation_text o) (codes "const")) && not (list_any (bytes_eq (operation_text o)) float_operations)
+
+named_read : (position : Position) (o : Op) (text : List ℕ) → bytes_eq text (codes "const") ≡ false → list_any (bytes_eq text) float_operations ≡ false → operation_of text ≡ Some o → instruction_text position (Some text) ≡ Ok (Operation o)
+named_read position o text no_constant no_float named =
+    ap (λ (b : Bool). if b then Ok Constant else (if list_any (bytes_eq text) float_operations then Err (Float position.func position.item) else operation_named position (operation_of text))) no_constant
+    ∙ ap (λ (b : Bool). if b then Err (Float position.func position.item) else operation_named position (operation_of text)) no_float
+    ∙ ap (operation_named position) named
+
 operation_read : (position : Position) (o : Op) → instruction_of position (string (operation_text o)) ≡ Ok (Operation o)
-unfolding operation_of
-operation_read position op.Add = refl
-operation_read position op.Sub = refl
-operation_read position op.Mul = refl
-operation_read position op.Div = refl
-operation_read position op.Eq = refl
-operation_read position op.Lt = refl
-operation_read position op.Gt = refl
-operation_read position op.Le = refl
-operation_read position op.Ge = refl
-operation_read position op.Ceq = refl
-operation_read position op.Clt = refl
-operation_read position op.Cgt = refl
-operation_read position op.Cle = refl
-operation_read position op.Cge = refl
-operation_read position op.Not = refl
-operation_read position op.And = refl
-operation_read position op.Or = refl
-operation_read position op.Id = refl
-operation_read position op.Nop = refl
-operation_read position op.Jmp = refl
-operation_read position op.Br = refl
-operation_read position op.Call = refl
-operation_read position op.Ret = refl
-operation_read position op.Print = refl
-operation_read position op.Alloc = refl
-operation_read position op.Free = refl
-operation_read position op.Store = refl
-operation_read position op.Load = refl
-operation_read position op.PtrAdd = refl
-operation_read position op.CharToInt = refl
-operation_read position op.IntToChar = refl
-operation_read position op.Get = refl
-operation_read position op.Set = refl
-operation_read position op.Undef = refl
-operation_read position op.Speculate = refl
-operation_read position op.Commit = refl
-operation_read position op.Guard = refl
+unfolding is_other
+operation_read position o =
+    let other = and_parts (not (bytes_eq (operation_text o) (codes "const"))) (not (list_any (bytes_eq (operation_text o)) float_operations)) (each_passes is_other refl o) in
+    named_read position o (operation_text o) (not-true (bytes_eq (operation_text o) (codes "const")) other.0) (not-true (list_any (bytes_eq (operation_text o)) float_operations) other.1) (named_is_found o)
 
 act_read : (position : Position) (d : Data) (dest : Option Dest) (o : Op) (args funcs labels : List (List ℕ)) → IsItem (line.Act dest o args funcs labels)
     → get (codes "dest") d ≡ option_map (λ (x : Dest). string x.name) dest → get (codes "type") d ≡ option_map (λ (x : Dest). type_json x.ty) dest
@@ -215,14 +193,8 @@ taken_read_at d taken is name alias = rw (name, alias) (rw (is.0, alias_read tak
 taken_read : (taken : Taken) → IsTaken taken → taken_of (taken_json taken) ≡ Ok taken
 taken_read taken is = let parts = taken_parts taken in taken_read_at (object_of parts) taken is (get_found (codes "name") parts) (get_found (codes "alias") parts ∙ or_none _)
 
-tested : (path : List ℕ) (h : IsImportPath path) (a b c : Bool) (e : nat_lt 0 (length path) ≡ a) (f : nat_le (length path) 4096 ≡ b) (g : list_all is_path_byte path ≡ c) → tested_path path a b c e f g ≡ Ok (record { bytes = path; is_path = h })
-tested path h true true true e f g = ap Ok (ImportPath-equal _ _ refl)
-tested path h true true false e f g = absurd (false≢true (sym g ∙ h.spelled))
-tested path h true false c e f g = absurd (false≢true (sym f ∙ le-leb _ _ h.short))
-tested path h false b c e f g = absurd (false≢true (sym e ∙ lt-ltb _ _ h.some))
-
 path_read : (path : List ℕ) (h : IsImportPath path) → path_of (string path) ≡ Ok (record { bytes = path; is_path = h })
-path_read path h = tested path h (nat_lt 0 (length path)) (nat_le (length path) 4096) (list_all is_path_byte path) refl refl refl
+path_read path h = ap (λ o. ok_or o (Shape None None)) (import_path-path path h)
 
 import_read_with : (i : Import) (names : List Taken) → i.names ≡ names → import_with (record { bytes = i.path; is_path = i.has_path }) names ≡ Ok i
 import_read_with i [] e = absurd (omega (arith, ap length e, i.takes_some))

@@ -1,18 +1,18 @@
--- The faults of the table: no step of reading a value answers that the source is no value, or that memory is wanting.
+-- The faults of the JSON form: no step of reading a value returns `Syntax` or `Memory`.
 use Rattle.std.proofs.Common.{ℕ, zero, suc, ℤ, Bool, true, false, cond, List, [], ◌∷◌, Option, Some, None, Result, Ok, Err}
-use Rattle.std.specs.Prelude.{codes, ok_or, length, nat_lt, nat_le, ◌≡◌, bytes_eq}
-use Rattle.std.specs.List.{list_all, list_any}
+use Rattle.std.specs.Prelude.{codes, ok_or, bytes_eq}
+use Rattle.std.specs.List.{list_any}
 use Rattle.std.specs.Str.{chars}
 use Rattle.serde_json.specs.Data.{Data, null, boolean, number, string, array, object, Items, no_items, item}
 use Rattle.serde_json.specs.Find.{get, as_str, as_array, as_i64, as_u64}
 use Rattle.bril_tree.specs.Identifier.{is_identifier}
-use Rattle.bril_tree.specs.Path.{is_path_byte}
+use Rattle.bril_tree.specs.Path.{ImportPath, import_path}
 use Rattle.bril_tree.specs.Spelling.{base_text, float_operations, operation_of}
 use Rattle.bril_tree.specs.declared.import.Taken.{Taken}
 use Rattle.bril_tree.specs.declared.operation.Op.{Op}
 use Rattle.bril_tree.specs.declared.types.Base.TheVariants as base
 use Rattle.bril_tree.specs.declared.types.Ty.{Ty}
-use Rattle.bril_json.specs.Form.{ImportPath, name_text, name_of, name_at, names_at, base_of, type_parts, type_within, type_of, typed_name, char_of, int_of, literal_of, constant_of, dest_of, act_of, operation_named, instruction_text, instruction_of, operands_of, item_by, item_of, argument_of, return_of, function_of, tested_path, path_text, path_of, alias_of, taken_of, import_with, import_of, tree_of}
+use Rattle.bril_json.specs.Form.{name_text, name_of, name_at, names_at, base_of, type_parts, type_within, type_of, typed_name, char_of, int_of, literal_of, constant_of, dest_of, act_of, operation_named, instruction_text, instruction_of, operands_of, item_by, item_of, argument_of, return_of, function_of, path_text, path_of, alias_of, taken_of, import_with, import_of, tree_of}
 use Rattle.bril_json.specs.Steps.{◌>>=◌, file, in_function, in_item, required, list_of, list_at, list_or_none, each, each_from}
 use Rattle.bril_json.specs.declared.fault.JsonFault.{JsonFault}
 use Rattle.bril_json.specs.declared.fault.JsonFault.TheVariants.{Syntax, Shape, IntRange, Float, Deep, Memory}
@@ -20,7 +20,7 @@ use Rattle.bril_json.specs.declared.instruction.Instruction.{Instruction}
 use Rattle.bril_json.specs.declared.instruction.Instruction.TheVariants.{Constant, Operation}
 use Rattle.bril_json.specs.declared.position.Position.{Position}
 
--- a fault that the table names
+-- a fault of the JSON form
 abbrev pub IsOfTable : JsonFault → Type 0
 IsOfTable Syntax = ⊥
 IsOfTable (Shape func i) = Unit {0}
@@ -33,7 +33,7 @@ abbrev pub FaultIsOfTable : {A : Type 0} → Result A JsonFault → Type 0
 FaultIsOfTable (Ok x) = Unit {0}
 FaultIsOfTable (Err fault) = IsOfTable fault
 
--- a step whose fault, where it has one, is one that the table names
+-- a step whose fault, if it has one, is one of the JSON form
 pub record Sound {A : Type 0} (step : Result A JsonFault) : Type 0 where
   pub is : FaultIsOfTable step
 
@@ -189,16 +189,13 @@ function_of-sound func d =
     (λ ret. then (list_at position (codes "instrs") d) _ (list_at-sound position (codes "instrs") d)
     (λ items. then (each_from (item_of func) 0 items) _ (each_from-sound (item_of func) (item_of-sound func) 0 items) (λ code. record { is = tt }))))))
 
-tested_path-sound : (path : List ℕ) (some short spelled : Bool) (a : nat_lt 0 (length path) ≡ some) (b : nat_le (length path) 4096 ≡ short) (c : list_all is_path_byte path ≡ spelled) →
-    Sound (tested_path path some short spelled a b c)
-tested_path-sound path true true true a b c = record { is = tt }
-tested_path-sound path true true false a b c = record { is = tt }
-tested_path-sound path true false spelled a b c = record { is = tt }
-tested_path-sound path false short spelled a b c = record { is = tt }
+path_or-sound : (path : Option ImportPath) → Sound (ok_or path (Shape None None))
+path_or-sound None = record { is = tt }
+path_or-sound (Some path) = record { is = tt }
 
 path_text-sound : (text : Option (List ℕ)) → Sound (path_text text)
 path_text-sound None = record { is = tt }
-path_text-sound (Some path) = tested_path-sound path _ _ _ _ _ _
+path_text-sound (Some path) = path_or-sound (import_path path)
 
 alias_of-sound : (o : Option Data) → Sound (alias_of o)
 alias_of-sound None = record { is = tt }

@@ -1,9 +1,10 @@
--- A source has one value at most, and so one tree or one fault.
+-- A source has at most one value, and so one tree or one fault.
 use Rattle.std.proofs.Common.{◌≡◌, ℕ, Bool, true, false, List, Option, Some, None, Result, Ok, Err, refl, ap, ◌∙◌, subst, ◌⊎◌, inl, inr}
 use Rattle.std.specs.Str.{IsUtf8, is_utf8}
 use Rattle.std.proofs.lemmas.Str.{IsUtf8-from_is_utf8, is_utf8-from_IsUtf8}
 use Rattle.serde_json.specs.Data.{Data}
 use Rattle.serde_json.specs.Read.{read}
+use Rattle.bril_tree.specs.SourceLaws.{SourcesSpellOneTree, SourcesHaveOneFault, SpelledHaveNoFault, EachHasTreeOrFault}
 use Rattle.bril_tree.specs.declared.tree.Tree.{Tree}
 use Rattle.bril_json.specs.Form.{tree_of}
 use Rattle.bril_json.specs.Reading.{IsValue, JsonOf, HasFault, HasFaultWithin, IsFaultOf}
@@ -42,12 +43,12 @@ has_fault source d why v fails = by why (subst FaultIsOfTable fails (tree_of-sou
     by (Deep func i) s e = record { value = d; is = v; fails = e }
     by Memory s e = absurd s
 
--- what a reader of the source's value answers
+-- what a reader of the source's value returns
 pub answers_fault : (source : List ℕ) (d : Data) → IsValue source d → (fault : JsonFault) → (fault ≡ Memory) ⊎ (tree_of d ≡ Err fault) → IsFaultOf source fault
 answers_fault source d v fault (inl memory) = inl memory
 answers_fault source d v fault (inr fails) = inr (has_fault source d fault v fails)
 
-pub one_tree : (source : List ℕ) (t u : Tree) → JsonOf source t → JsonOf source u → t ≡ u
+pub one_tree : SourcesSpellOneTree JsonOf
 one_tree source t u j k = let one = j.makes in let other = is_tree source j.value u j.is k in cc
 
 one_within : (source : List ℕ) (f g : JsonFault) → HasFaultWithin source f → HasFault source g → f ≡ g
@@ -61,7 +62,7 @@ no_value source (Float func i) h k = absurd (h k.value k.is)
 no_value source (Deep func i) h k = absurd (h k.value k.is)
 no_value source Memory h k = absurd k
 
-pub one_fault : (source : List ℕ) (f g : JsonFault) → HasFault source f → HasFault source g → f ≡ g
+pub one_fault : SourcesHaveOneFault HasFault
 one_fault source Syntax g h k = no_value source g h k
 one_fault source (Shape func i) g h k = one_within source (Shape func i) g h k
 one_fault source (IntRange func i) g h k = one_within source (IntRange func i) g h k
@@ -69,7 +70,7 @@ one_fault source (Float func i) g h k = one_within source (Float func i) g h k
 one_fault source (Deep func i) g h k = one_within source (Deep func i) g h k
 one_fault source Memory g h k = absurd h
 
-pub no_fault : (source : List ℕ) (tree : Tree) (f : JsonFault) → JsonOf source tree → HasFault source f → ⊥
+pub no_fault : SpelledHaveNoFault JsonOf HasFault
 no_fault source tree f j h = let one = j.makes in let other = is_fault source j.value f j.is h in cc
 
 abbrev HasTreeOrFault : List ℕ → Type 0
@@ -89,7 +90,7 @@ of_text source utf8 = by (read source) refl
     by None e = inr (Syntax, λ d v. let reads = v.reads in absurd cc)
     by (Some d) e = of_value source d (record { utf8 = utf8; reads = e })
 
-pub tree_or_fault : (source : List ℕ) → HasTreeOrFault source
+pub tree_or_fault : EachHasTreeOrFault JsonOf HasFault
 tree_or_fault source = by (is_utf8 source) refl
   where
     by : (b : Bool) → is_utf8 source ≡ b → HasTreeOrFault source

@@ -2,7 +2,7 @@
 use Rattle.std.specs.Prelude.{ℕ, List, Option, Some, None}
 use Rattle.serde_json.specs.Data.{Data, Members, put}
 
--- the members, with a part put in where it stands
+-- the members, with the part added if there is one
 abbrev pub put_part : List ℕ → Option Data → Members → Members
 put_part key None members = members
 put_part key (Some value) members = put key value members

@@ -16,7 +16,7 @@ use Rattle.serde_json.specs.Data.{Data, boolean, number, string, array, object, 
 use Rattle.serde_json.specs.Find.{of_integer}
 use Rattle.serde_json.specs.Written.{compact_text}
 
--- a key, and its value where it stands
+-- a key, and its value if there is one
 abbrev pub Part : Type 0
 Part = List ℕ × Option Data
 
@@ -25,7 +25,7 @@ abbrev pub with_part : List ℕ → Option Data → Members → Members
 with_part key None rest = rest
 with_part key (Some value) rest = member key value rest
 
--- the members of the parts that stand
+-- the members of the parts that have a value
 abbrev pub standing : List Part → Members
 standing [] = no_members
 standing (part ∷ parts) = with_part part.0 part.1 (standing parts)
@@ -38,12 +38,12 @@ abbrev pub listed : {A : Type 0} → (A → Data) → List A → Items
 listed f [] = no_items
 listed f (x ∷ xs) = item (f x) (listed f xs)
 
--- a list, where it has an item
+-- a list, if it has an item
 abbrev pub unless_empty : Items → Option Data
 unless_empty no_items = None
 unless_empty (item value values) = Some (array (item value values))
 
--- so many objects with the one key `ptr` around a value
+-- a value inside this many objects with the one key `ptr`
 abbrev pub in_pointers : ℕ → Data → Data
 in_pointers zero value = value
 in_pointers (suc depth) value = object_of ((codes "ptr", Some (in_pointers depth value)) ∷ [])
@@ -51,7 +51,7 @@ in_pointers (suc depth) value = object_of ((codes "ptr", Some (in_pointers depth
 abbrev pub type_json : Ty → Data
 type_json ty = in_pointers ty.depth (string (base_text ty.base))
 
--- a number, a truth value, or a text of one character
+-- a number, a boolean, or a text of one character
 abbrev pub literal_json : Lit → Data
 literal_json (literal.Int n) = number (of_integer n)
 literal_json (literal.Bool b) = boolean b
@@ -98,7 +98,7 @@ function_parts f =
 abbrev pub function_json : FuncTree → Data
 function_json f = object_of (function_parts f)
 
--- a function that an import takes, and its other name here where it has one
+-- an imported function, and its other name here if it has one
 abbrev pub taken_parts : Taken → List Part
 taken_parts taken =
     (codes "alias", option_map string taken.alias)

@@ -1,15 +1,15 @@
--- The JSON form of a file: which tree a JSON value is, or its first fault. Each definition reads one row of the form,
--- its keys in the order in which they are looked at; the first key that isn't as it should be is the fault. Keys that
--- no row names are never looked at. A key with the value null is there, and null is neither a list, a name nor a type.
-use Rattle.std.specs.Prelude.{ℕ, zero, suc, ◌-◌, ℤ, ◌≡◌, Bool, true, false, ◌&&◌, List, [], ◌∷◌, length, Option, Some, None, Result, Ok, Err, codes, bytes_eq, nat_lt, nat_le, if◌then◌else◌}
+-- The JSON form of a file: which tree a JSON value is, or its first fault. Each definition reads one kind of object,
+-- its keys in the order in which they are looked at; the first key that is not as required is the fault. Other keys are
+-- never looked at. A key with the value null is not missing, and null is neither a list, a name nor a type.
+use Rattle.std.specs.Prelude.{ℕ, zero, suc, ◌-◌, ℤ, Bool, ◌&&◌, List, [], ◌∷◌, length, Option, Some, None, Result, Ok, Err, codes, bytes_eq, nat_lt, nat_le, if◌then◌else◌, ok_or}
 use Rattle.std.specs.List.{list_all, list_any}
 use Rattle.std.specs.Str.{chars}
-use Rattle.std.proofs.Common.{refl, ltb-true, leb-true, zero-lt-suc}
+use Rattle.std.proofs.Common.{zero-lt-suc}
 use Rattle.std.proofs.Math.Nat.{sub-le}
 use Rattle.serde_json.specs.Data.{Data, null, boolean, number, string, array, object}
 use Rattle.serde_json.specs.Find.{get, as_str, as_i64, as_u64}
 use Rattle.bril_tree.specs.Identifier.{is_identifier}
-use Rattle.bril_tree.specs.Path.{IsImportPath, is_path_byte}
+use Rattle.bril_tree.specs.Path.{ImportPath, import_path, is_path_byte}
 use Rattle.bril_tree.specs.Spelling.{base_text, float_operations, operation_of}
 use Rattle.bril_tree.specs.declared.function_tree.Dest.{Dest}
 use Rattle.bril_tree.specs.declared.function_tree.FuncTree.{FuncTree}
@@ -26,7 +26,7 @@ use Rattle.bril_tree.specs.declared.value.Lit.{Lit}
 use Rattle.bril_tree.specs.declared.value.Lit.TheVariants as literal
 use Rattle.bril_json.specs.Steps.{◌>>=◌, file, in_function, in_item, misshapen, required, list_at, list_or_none, each, each_from}
 use Rattle.bril_json.specs.declared.fault.JsonFault.{JsonFault}
-use Rattle.bril_json.specs.declared.fault.JsonFault.TheVariants.{IntRange, Float, Deep}
+use Rattle.bril_json.specs.declared.fault.JsonFault.TheVariants.{Shape, IntRange, Float, Deep}
 use Rattle.bril_json.specs.declared.instruction.Instruction.{Instruction}
 use Rattle.bril_json.specs.declared.instruction.Instruction.TheVariants.{Constant, Operation}
 use Rattle.bril_json.specs.declared.position.Position.{Position}
@@ -51,7 +51,7 @@ names_at position key d = list_or_none position (get key d) >>= each (name_of po
 
 -- ---- types
 
--- a type around a base, where this many of 32 `ptr` are left
+-- the type with this base, where this many of 32 `ptr` are left
 abbrev pub type_around : ℕ → Base → Ty
 type_around left b = record { depth = 32 - left; base = b; nests = sub-le 32 left }
 
@@ -69,7 +69,7 @@ type_parts position left inner (Some text) pointed = base_of position left text
 type_parts position left inner None (Some pointed) = inner pointed
 type_parts position left inner None None = misshapen position
 
--- a type inside of which this many `ptr` may still come
+-- a type, which may have this many more `ptr`
 unfoldable pub type_within : Position → ℕ → Data → Result Ty JsonFault
 type_within position zero d = type_parts position zero (λ pointed. Err (Deep position.func position.item)) (as_str d) (get (codes "ptr") d)
 type_within position (suc left) d = type_parts position (suc left) (type_within position left) (as_str d) (get (codes "ptr") d)
@@ -176,7 +176,7 @@ argument_of position d = do
   ty ← type_of position typed
   Ok (record { name = name; ty = ty })
 
--- the type that a function returns, where it returns one
+-- the type that a function returns, if it returns one
 abbrev pub return_of : Position → Option Data → Result (Option Ty) JsonFault
 return_of position None = Ok None
 return_of position (Some d) = type_of position d >>= (λ ty. Ok (Some ty))
@@ -194,49 +194,37 @@ function_of func d = do
 
 -- ---- imports
 
--- a path that an import may name
-pub record ImportPath : Type 0 where
-  pub bytes : List ℕ
-  pub is_path : IsImportPath bytes
-
 -- the three tests of `IsImportPath`
 abbrev pub is_import_path : List ℕ → Bool
 is_import_path path = (nat_lt 0 (length path) && nat_le (length path) 4096) && list_all is_path_byte path
 
--- a path with the outcomes of these tests
-abbrev pub tested_path : (path : List ℕ) (some short spelled : Bool) → nat_lt 0 (length path) ≡ some → nat_le (length path) 4096 ≡ short → list_all is_path_byte path ≡ spelled → Result ImportPath JsonFault
-tested_path path true true true a b c = Ok (record { bytes = path; is_path = record { some = ltb-true 0 (length path) a; short = leb-true (length path) 4096 b; spelled = c } })
-tested_path path true true false a b c = misshapen file
-tested_path path true false spelled a b c = misshapen file
-tested_path path false short spelled a b c = misshapen file
-
 -- a text that an import may name: 1 to 4,096 bytes, none of them `"`, `\` or below 0x20
 abbrev pub path_text : Option (List ℕ) → Result ImportPath JsonFault
 path_text None = misshapen file
-path_text (Some path) = tested_path path (nat_lt 0 (length path)) (nat_le (length path) 4096) (list_all is_path_byte path) refl refl refl
+path_text (Some path) = ok_or (import_path path) (Shape None None)
 
 abbrev pub path_of : Data → Result ImportPath JsonFault
 path_of d = path_text (as_str d)
 
--- the other name of a taken function, where it has one
+-- the other name of an imported function, if it has one
 abbrev pub alias_of : Option Data → Result (Option (List ℕ)) JsonFault
 alias_of None = Ok None
 alias_of (Some d) = name_of file d >>= (λ name. Ok (Some name))
 
--- a function that an import takes
+-- an imported function
 abbrev pub taken_of : Data → Result Taken JsonFault
 taken_of d = do
   name ← name_at file (codes "name") d
   alias ← alias_of (get (codes "alias") d)
   Ok (record { name = name; alias = alias })
 
--- an import takes one function or more
+-- an import has at least one function
 abbrev pub import_with : ImportPath → List Taken → Result Import JsonFault
 import_with path [] = misshapen file
 import_with path (first ∷ rest) =
     Ok (record { path = path.bytes; names = first ∷ rest; has_path = path.is_path; takes_some = zero-lt-suc (length rest) })
 
--- an import: its path, and the functions that it takes
+-- an import: its path and its functions
 abbrev pub import_of : Data → Result Import JsonFault
 import_of d = do
   named ← required file (codes "path") d

@@ -33,6 +33,6 @@ HasFault source (Float func item) = HasFaultWithin source (Float func item)
 HasFault source (Deep func item) = HasFaultWithin source (Deep func item)
 HasFault source Memory = ⊥
 
--- what a fault says of the source; want of memory says nothing
+-- what a fault says about the source; running out of memory says nothing
 abbrev pub IsFaultOf : List ℕ → JsonFault → Type 0
 IsFaultOf source fault = (fault ≡ Memory) ⊎ HasFault source fault

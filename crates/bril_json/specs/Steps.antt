@@ -1,4 +1,4 @@
--- The steps of reading: each gives what it read, or a fault, and the first fault of a chain of steps is its fault.
+-- The steps of reading: each gives what it read or a fault, and the fault of a chain of steps is the first one.
 use Rattle.std.specs.Prelude.{ℕ, suc, List, [], ◌∷◌, Option, Some, None, Result, Ok, Err, ok_or, option_map}
 use denote.Ref.{Bor}
 use Rattle.serde_json.specs.declared.value.Value.{Value}
@@ -15,7 +15,7 @@ abbrev pub ◌>>=◌ : {A B : Type 0} → Result A JsonFault → (A → Result B
 Ok x >>= next = next x
 Err fault >>= next = Err fault
 
--- where a value stands: in no function, in a function, in an item of a function
+-- where a value is: in no function, in a function, in an item of a function
 abbrev pub file : Position
 file = record { func = None; item = None }
 
@@ -25,7 +25,7 @@ in_function func = record { func = Some func; item = None }
 abbrev pub in_item : ℕ → ℕ → Position
 in_item func i = record { func = Some func; item = Some i }
 
--- what stands here isn't as the form has it
+-- something here is not as the JSON form requires
 abbrev pub misshapen : {A : Type 0} → Position → Result A JsonFault
 misshapen position = Err (Shape position.func position.item)
 

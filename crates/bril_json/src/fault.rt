@@ -1,4 +1,4 @@
-// Why a source could not be read.
+// Why a source can't be read.
 
 ghost use Rattle.std.specs.Prelude.{◌≡◌};
 ghost use Rattle.bril_json.specs.declared.fault.JsonFault.TheVariants.{Memory};
@@ -6,14 +6,14 @@ ghost use Rattle.bril_json.specs.declared.fault.JsonFault.TheVariants.{Memory};
 use std::alloc::AllocError;
 use thiserror::Error;
 
-/// Why a source is no program of Bril's JSON form. `func` and `item` are the numbers from 0 of the function and of
-/// the item in which the fault stands, and None where it stands in none.
+/// Why a source is not a program in Bril's JSON form. `func` and `item` are the numbers, from 0, of the function and the
+/// item with the fault, or None where it is in none.
 #[derive(Clone, Copy, PartialEq, Eq, Debug, Drop, Error)]
 pub enum JsonFault {
-    /// The source is no JSON value.
+    /// The source is not a JSON value.
     #[error("no JSON value")]
     Syntax,
-    /// Something isn't as the form has it.
+    /// Something is not as the JSON form requires.
     #[error("not as the form has it")]
     Shape {
         func: Option<u32>,

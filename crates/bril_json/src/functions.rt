@@ -70,7 +70,7 @@ fn argument_of(alloc: Global, position: Position, object: &Value) -> Result<Dest
     Ok(Dest { name, ty })
 }
 
-// The type that a function returns, where it returns one.
+// The type that a function returns, if it returns one.
 fn return_of(position: Position, value: Option<&Value>) -> Result<Option<Ty>, JsonFault>
     ensures { result ≡ return_of position (seen value.entry) }
 {

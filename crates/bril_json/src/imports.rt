@@ -3,8 +3,8 @@
 ghost use Rattle.std.specs.Prelude.{◌≡◌, ◌⊎◌, IfOk, IfErr, Ok, Err};
 ghost use Rattle.std.specs.List.{list_all};
 ghost use Rattle.serde_json.specs.View.{view, items_view};
-ghost use Rattle.bril_tree.specs.Path.{is_path_byte};
-ghost use Rattle.bril_json.specs.Form.{ImportPath, is_import_path, path_of, alias_of, taken_of, import_with, import_of};
+ghost use Rattle.bril_tree.specs.Path.{ImportPath, is_path_byte};
+ghost use Rattle.bril_json.specs.Form.{is_import_path, path_of, alias_of, taken_of, import_with, import_of};
 ghost use Rattle.bril_json.specs.Steps.{seen, each};
 ghost use Rattle.bril_json.specs.declared.fault.JsonFault.TheVariants.{Memory};
 
@@ -31,7 +31,7 @@ pub fn imports_of(alloc: Global, list: &[Value]) -> Result<Seq<Import>, JsonFaul
     Ok(imports)
 }
 
-// An import: its path, and the functions that it takes, one or more.
+// An import: its path and its functions, of which there is at least one.
 fn import_of(alloc: Global, object: &Value) -> Result<Import, JsonFault>
     ensures ok { IfOk result (λ import. import_of (view object.now) ≡ Ok import) }
     ensures err { IfErr result (λ fault. (fault ≡ Memory) ⊎ (import_of (view object.now) ≡ Err fault)) }
@@ -64,7 +64,7 @@ fn is_path(path: &[u8]) -> bool
     !path.is_empty() && path.len() <= 4096 && all_path_bytes(path)
 }
 
-// Whether each byte may stand in a path.
+// Whether each byte may be part of a path.
 fn all_path_bytes(path: &[u8]) -> bool
     ensures { result ≡ list_all is_path_byte path.now }
 {
@@ -78,7 +78,7 @@ fn is_path_byte(byte: u8) -> bool
     byte >= 32 && byte != b'"' && byte != b'\\'
 }
 
-// The functions that an import takes, in order.
+// The functions of an import, in order.
 fn all_taken(alloc: Global, list: &[Value]) -> Result<Seq<Taken>, JsonFault>
     ensures ok { IfOk result (λ names. each taken_of (items_view list.now) ≡ Ok names) }
     ensures err { IfErr result (λ fault. (fault ≡ Memory) ⊎ (each taken_of (items_view list.now) ≡ Err fault)) }
@@ -90,7 +90,7 @@ fn all_taken(alloc: Global, list: &[Value]) -> Result<Seq<Taken>, JsonFault>
     Ok(names)
 }
 
-// A function that an import takes.
+// An imported function.
 fn taken_of(alloc: Global, object: &Value) -> Result<Taken, JsonFault>
     ensures ok { IfOk result (λ taken. taken_of (view object.now) ≡ Ok taken) }
     ensures err { IfErr result (λ fault. (fault ≡ Memory) ⊎ (taken_of (view object.now) ≡ Err fault)) }
@@ -100,7 +100,7 @@ fn taken_of(alloc: Global, object: &Value) -> Result<Taken, JsonFault>
     Ok(Taken { name, alias })
 }
 
-// The other name of a taken function, where it has one.
+// The other name of an imported function, if it has one.
 fn alias_of(alloc: Global, value: Option<&Value>) -> Result<Option<Name>, JsonFault>
     ensures ok { IfOk result (λ alias. alias_of (seen value.entry) ≡ Ok alias) }
     ensures err { IfErr result (λ fault. (fault ≡ Memory) ⊎ (alias_of (seen value.entry) ≡ Err fault)) }

@@ -58,7 +58,7 @@ pub fn list_or_none(position: Position, value: Option<&Value>) -> Result<&[Value
     }
 }
 
-// The number of a position in a list. Memory holds no list with a number above 32 bits.
+// An index into a list as a number of 32 bits. No list in memory has an index above that.
 pub fn number_of(index: usize) -> Result<u32, JsonFault>
     ensures ok { IfOk result (λ number. number ≡ index) }
     ensures err { IfErr result (λ fault. fault ≡ Memory) }

@@ -1,15 +1,16 @@
 // Laws of reading. Each function states some, and does nothing when it is called.
 
-ghost use Rattle.bril_json.specs.Laws.{SourcesAreOneTree, SourcesHaveOneFault, TreesHaveNoFault, EachHasTreeOrFault};
+ghost use Rattle.bril_tree.specs.SourceLaws.{SourcesSpellOneTree, SourcesHaveOneFault, SpelledHaveNoFault, EachHasTreeOrFault};
+ghost use Rattle.bril_json.specs.Reading.{JsonOf, HasFault};
 
-/// A source is one tree at most: two readings of the same bytes are one tree.
+/// A source is at most one tree: two readings of the same bytes are the same tree.
 pub fn one_tree()
-    ensures { SourcesAreOneTree }
+    ensures { SourcesSpellOneTree JsonOf }
 {}
 
-/// A source is a tree or has exactly one fault, and never both.
+/// A source either is a tree or has exactly one fault, never both.
 pub fn tree_or_fault()
-    ensures one { SourcesHaveOneFault }
-    ensures never_both { TreesHaveNoFault }
-    ensures either { EachHasTreeOrFault }
+    ensures one { SourcesHaveOneFault HasFault }
+    ensures never_both { SpelledHaveNoFault JsonOf HasFault }
+    ensures either { EachHasTreeOrFault JsonOf HasFault }
 {}

@@ -1,4 +1,4 @@
-// Where a value stands in a program.
+// Where a value is in a program.
 
 ghost use Rattle.std.specs.Prelude.{◌≡◌, Some};
 ghost use Rattle.bril_json.specs.Steps.{file, in_function, in_item};
@@ -6,7 +6,7 @@ ghost use Rattle.bril_json.specs.declared.fault.JsonFault.TheVariants.{Shape, Fl
 
 use crate::fault::JsonFault;
 
-// The function and the item in which a value stands, by their numbers from 0, and None where it stands in none.
+// The numbers, from 0, of the function and the item that a value is part of, or None where it is part of none.
 #[derive(Clone, Copy, Drop)]
 pub struct Position {
     pub func: Option<u32>,
@@ -14,7 +14,7 @@ pub struct Position {
 }
 
 impl Position {
-    // What stands in no function.
+    // The position of a value outside all functions.
     pub fn file() -> Position
         ensures { result ≡ file }
     {
@@ -24,7 +24,7 @@ impl Position {
         }
     }
 
-    // What stands in a function, but in none of its items.
+    // The position of a value in a function, outside its items.
     pub fn function(func: u32) -> Position
         ensures { result ≡ in_function func }
     {
@@ -34,7 +34,7 @@ impl Position {
         }
     }
 
-    // What stands in an item of a function.
+    // The position of a value in an item of a function.
     pub fn item(func: u32, item: u32) -> Position
         ensures { result ≡ in_item func item }
     {
@@ -44,7 +44,7 @@ impl Position {
         }
     }
 
-    // Something here isn't as the form has it.
+    // The fault that something here is not as the JSON form requires.
     pub fn shape(self) -> JsonFault
         ensures { result ≡ Shape self.func self.item }
     {
@@ -54,7 +54,7 @@ impl Position {
         }
     }
 
-    // Something here is of the floating point extension.
+    // The fault that something here is of the floating point extension.
     pub fn float(self) -> JsonFault
         ensures { result ≡ Float self.func self.item }
     {
@@ -64,7 +64,7 @@ impl Position {
         }
     }
 
-    // A type here has more than 32 `ptr`.
+    // The fault that a type here has more than 32 `ptr`.
     pub fn deep(self) -> JsonFault
         ensures { result ≡ Deep self.func self.item }
     {

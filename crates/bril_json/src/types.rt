@@ -16,7 +16,7 @@ pub fn type_of(position: Position, value: &Value) -> Result<Ty, JsonFault>
     type_within(position, 32, value)
 }
 
-// A type inside of which this many `ptr` may still come.
+// A type, which may have this many more `ptr`.
 fn type_within(position: Position, left: u8, value: &Value) -> Result<Ty, JsonFault>
     requires { left ≤ 32 }
     ensures { result ≡ type_within position left (view value.now) }
@@ -31,7 +31,7 @@ fn type_within(position: Position, left: u8, value: &Value) -> Result<Ty, JsonFa
     }
 }
 
-// The type around the base that a text names.
+// The type whose base a text names.
 fn base_of(position: Position, left: u8, text: &str) -> Result<Ty, JsonFault>
     requires { left ≤ 32 }
     ensures { result ≡ base_of position left text.now }
@@ -49,7 +49,7 @@ fn base_of(position: Position, left: u8, text: &str) -> Result<Ty, JsonFault>
     }
 }
 
-// The type around a base, where this many of 32 `ptr` are left.
+// The type with this base, where this many of 32 `ptr` are left.
 fn type_around(left: u8, base: Base) -> Ty
     requires { left ≤ 32 }
     ensures { result ≡ type_around left base }

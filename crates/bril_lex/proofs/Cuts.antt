@@ -6,7 +6,7 @@ use Rattle.std.proofs.lemmas.List.{take_at, drop_at, drop-drop, drop_all}
 use Rattle.bril_lex.specs.Piece.{IsFront}
 use Rattle.bril_lex.specs.Cut.{Piece, bytes_of, AreLongest, token_at, tokens_from, AreTokens, StopsAt}
 use Rattle.bril_lex.specs.Scan.{front_of}
-use Rattle.bril_lex.specs.Laws.{CutsInOneWay}
+use Rattle.bril_lex.specs.Laws.{CutsOrStops, CutsInOneWay}
 use Rattle.bril_lex.specs.declared.token.Token.{Token}
 use Rattle.bril_lex.specs.declared.scan.Front.{Front}
 use Rattle.bril_lex.proofs.Fronts.{front}
@@ -70,9 +70,9 @@ AreLongest-append (p ∷ ps) qs rest a b =
 pub tokens_from-append : (at : ℕ) (ps qs : List Piece) → tokens_from at (ps ++ qs) ≡ tokens_from at ps ++ tokens_from (at + length (bytes_of ps)) qs
 tokens_from-append at [] qs = rw add-zero refl
 tokens_from-append at (p ∷ ps) qs =
-    let place : at + length p.text + length (bytes_of ps) ≡ at + length (p.text ++ bytes_of ps) = omega (arith, length-append p.text (bytes_of ps)) in
+    let position : at + length p.text + length (bytes_of ps) ≡ at + length (p.text ++ bytes_of ps) = omega (arith, length-append p.text (bytes_of ps)) in
     ap (λ l. token_at p.class at (at + length p.text) ++ l)
-    (tokens_from-append (at + length p.text) ps qs ∙ ap (λ n. tokens_from (at + length p.text) ps ++ tokens_from n qs) place)
+    (tokens_from-append (at + length p.text) ps qs ∙ ap (λ n. tokens_from (at + length p.text) ps ++ tokens_from n qs) position)
     ∙ sym (append_assoc (token_at p.class at (at + length p.text)) (tokens_from (at + length p.text) ps) (tokens_from (at + length (p.text ++ bytes_of ps)) qs))
 
 length-bytes_push : (ps : List Piece) (p : Piece) → length (bytes_of (ps ++ p ∷ [])) ≡ length (bytes_of ps) + length p.text
@@ -88,16 +88,16 @@ tokens_from_push ps p at to e f =
     ∙ ap (λ n. token_at p.class n (n + length p.text)) from ∙ ap (token_at p.class at) f)
 
 -- ---- the scan
--- the source is cut up to a place, and these are the tokens before it
+-- the source is cut up to a position, and these are the tokens before it
 pub record IsCutTo (source : List ℕ) (at : ℕ) (tokens : List Token) : Type 0 where
   pub pieces : List Piece
   pub cut : source ≡ bytes_of pieces ++ drop at source
-  pub place : length (bytes_of pieces) ≡ at
+  pub position : length (bytes_of pieces) ≡ at
   pub longest : AreLongest pieces (drop at source)
   pub are : tokens ≡ tokens_from 0 pieces
 
 pub cut_start : (source : List ℕ) → IsCutTo source 0 []
-cut_start source = record { pieces = []; cut = refl; place = refl; longest = tt; are = refl }
+cut_start source = record { pieces = []; cut = refl; position = refl; longest = tt; are = refl }
 
 pub cut_more : (source : List ℕ) (at : ℕ) (tokens : List Token) (f : Front) → IsCutTo source at tokens → Some f ≡ front_of (drop at source) → IsCutTo source (at + f.length) (tokens ++ token_at f.class at (at + f.length))
 cut_more source at tokens f before e =
@@ -112,12 +112,12 @@ cut_more source at tokens f before e =
     record {
       pieces = before.pieces ++ (piece ∷ []);
       cut = before.cut ∙ ap (λ l. bytes_of before.pieces ++ l) (whole ∙ sym alone) ∙ sym (bytes_of-append before.pieces (piece ∷ []) (drop (at + f.length) source));
-      place = omega (arith, before.place, fits.size, length-bytes_push before.pieces piece);
+      position = omega (arith, before.position, fits.size, length-bytes_push before.pieces piece);
       longest = AreLongest-append before.pieces (piece ∷ []) (drop (at + f.length) source)
           (subst (AreLongest before.pieces) (whole ∙ sym alone) before.longest)
           (is_front f.class fits.text (drop (at + f.length) source) front_at fits.fits, tt);
       are = ap (λ l. l ++ token_at f.class at (at + f.length)) before.are
-          ∙ sym (tokens_from_push before.pieces piece at (at + f.length) before.place (ap (λ n. at + n) fits.size));
+          ∙ sym (tokens_from_push before.pieces piece at (at + f.length) before.position (ap (λ n. at + n) fits.size));
     }
 
 pub cut_whole : (source : List ℕ) (at : ℕ) (tokens : List Token) → IsCutTo source at tokens → length source ≤ at → AreTokens source tokens
@@ -136,7 +136,7 @@ cut_stops source at tokens c more e = record {
   rest = drop at source;
   cut = c.cut;
   longest = c.longest;
-  place = sym c.place;
+  position = sym c.position;
   more = λ nil. absurd (omega (arith, ap length nil, length-drop at source));
   nothing = begins_nothing (drop at source) (sym e);
 }
@@ -152,9 +152,6 @@ front_within bytes = by (front_of bytes) (front_fits bytes)
         (omega (arith, size, piece_size f.class fits.text fits.fits), omega (arith, size, ap length fits.cut, length-append fits.text fits.rest))
 
 -- ---- a source is cut, or stops
-abbrev CutsOrStops : List ℕ → Type 0
-CutsOrStops source = ((ts : List Token) × AreTokens source ts) ⊎ ((at : ℕ) × StopsAt source at)
-
 -- one piece, or the end
 cut_one : (source : List ℕ) (at : ℕ) (ts : List Token) → IsCutTo source at ts → (o : Option Front) → front_of (drop at source) ≡ o → at < length source
     → ((next : ℕ) (more : List Token) → at < next → IsCutTo source next more → CutsOrStops source) → CutsOrStops source
@@ -177,7 +174,7 @@ cuts_in_one_way = record {
   tokens = λ source a b x y.
       x.are ∙ ap (tokens_from 0) (same_ends source x.pieces y.pieces [] [] (tokens_end source a x) (tokens_end source b y)).0 ∙ sym y.are;
   stops = λ source a b x y.
-      x.place ∙ ap (λ ps. length (bytes_of ps)) (same_ends source x.pieces y.pieces x.rest y.rest (stop_ends source a x) (stop_ends source b y)).0 ∙ sym y.place;
+      x.position ∙ ap (λ ps. length (bytes_of ps)) (same_ends source x.pieces y.pieces x.rest y.rest (stop_ends source a x) (stop_ends source b y)).0 ∙ sym y.position;
   never_both = λ source ts at x y.
       y.more (sym (same_ends source x.pieces y.pieces [] y.rest (tokens_end source ts x) (stop_ends source at y)).1);
 }

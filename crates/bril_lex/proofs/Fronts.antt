@@ -7,7 +7,7 @@ use Rattle.std.proofs.lemmas.Bool.{and_parts, ne_eqb, cond-false}
 use Rattle.bril_tree.specs.Identifier.{begins_identifier, continues_identifier, is_identifier}
 use Rattle.bril_lex.specs.Spelling.{is_mark, is_blank}
 use Rattle.bril_lex.specs.Piece.{stays_in_line}
-use Rattle.bril_lex.specs.Scan.{front_behind, identifier_len, comment_len, front_at, front_of}
+use Rattle.bril_lex.specs.Scan.{front_after, identifier_len, comment_len, front_at, front_of}
 use Rattle.bril_lex.specs.declared.token.Kind.{Kind}
 use Rattle.bril_lex.specs.declared.token.Kind.TheVariants as kind
 use Rattle.bril_lex.specs.declared.class.Class.{Class}
@@ -22,7 +22,7 @@ abbrev pub front : Class → ℕ → Option Front
 front class n = Some (record { class = class; length = n })
 
 -- ---- identifiers, functions and labels
--- an identifier at the front, and how far it goes on
+-- an identifier at the front, and how long it is
 pub identifier_len-append : (name rest : List ℕ) → is_identifier name ≡ true → identifier_len (name ++ rest) ≡ length name + prefix_len continues_identifier rest
 identifier_len-append [] rest h = cc
 identifier_len-append (first ∷ more) rest h =
@@ -37,8 +37,8 @@ front_of-identifier (first ∷ more) rest h =
     ap (λ l. front_at l first (more ++ rest)) (lead_of-identifier first parts.0) ∙ ap (front (OfKind kind.Identifier)) size
 
 -- a token of one byte and others
-pub front_behind-some : (k : Kind) (n : ℕ) → 0 < n → front_behind k n ≡ front (OfKind k) (n + 1)
-front_behind-some k n h = let e : (n == 0) ≡ false = ne_eqb n 0 (λ z. omega arith) in cond-false _ _ _ e
+pub front_after-some : (k : Kind) (n : ℕ) → 0 < n → front_after k n ≡ front (OfKind k) (n + 1)
+front_after-some k n h = let e : (n == 0) ≡ false = ne_eqb n 0 (λ z. omega arith) in cond-false _ _ _ e
 
 name_size : (name : List ℕ) → is_identifier name ≡ true → 0 < length name
 name_size [] h = cc
@@ -48,13 +48,13 @@ pub front_of-function : (name rest : List ℕ) → is_identifier name ≡ true �
 front_of-function name rest h =
     let size = identifier_len-append name rest h in
     let some : 0 < identifier_len (name ++ rest) = omega (arith, size, name_size name h) in
-    front_behind-some kind.Function _ some ∙ ap (front (OfKind kind.Function)) (omega (arith, size))
+    front_after-some kind.Function _ some ∙ ap (front (OfKind kind.Function)) (omega (arith, size))
 
 pub front_of-label : (name rest : List ℕ) → is_identifier name ≡ true → front_of (46 ∷ (name ++ rest)) ≡ front (OfKind kind.Label) (length name + 1 + prefix_len continues_identifier rest)
 front_of-label name rest h =
     let size = identifier_len-append name rest h in
     let some : 0 < identifier_len (name ++ rest) = omega (arith, size, name_size name h) in
-    front_behind-some kind.Label _ some ∙ ap (front (OfKind kind.Label)) (omega (arith, size))
+    front_after-some kind.Label _ some ∙ ap (front (OfKind kind.Label)) (omega (arith, size))
 
 -- ---- marks, blanks and comments
 pub front_of-mark : (mark : ℕ) (rest : List ℕ) → is_mark mark ≡ true → front_of (mark ∷ rest) ≡ front (OfKind kind.Mark) 1
@@ -63,7 +63,7 @@ front_of-mark mark rest h = ap (λ l. front_at l mark rest) (lead_of-mark mark h
 pub front_of-blank : (blank : ℕ) (rest : List ℕ) → is_blank blank ≡ true → front_of (blank ∷ rest) ≡ front Blank 1
 front_of-blank blank rest h = ap (λ l. front_at l blank rest) (lead_of-blank blank h)
 
--- what stands in a line and is UTF-8 is part of the comment
+-- what is in the line and is UTF-8 is part of the comment
 pub comment_len-reaches : (body rest : List ℕ) → IsUtf8 body → list_all stays_in_line body ≡ true → length body ≤ comment_len (body ++ rest)
 comment_len-reaches body rest u line =
     let size = prefix_len-append_all stays_in_line body rest line in

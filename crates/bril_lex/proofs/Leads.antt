@@ -51,7 +51,7 @@ lead_of-number b h = ⊎_elim (λ sign. by_sign sign) (by_digit b) (or_cases (is
     by_sign : is_sign b ≡ true → lead_of b ≡ lead.Number
     by_sign s = ⊎_elim (λ e. subst (λ x. lead_of x ≡ lead.Number) (sym (eqb-true b 45 e)) refl) (λ e. subst (λ x. lead_of x ≡ lead.Number) (sym (eqb-true b 43 e)) refl) (or_cases _ _ s)
 
--- what a lead says of its byte
+-- what a lead says about its byte
 abbrev pub Tells : Lead → ℕ → Type 0
 Tells lead.Mark b = is_mark b ≡ true
 Tells lead.Blank b = is_blank b ≡ true

@@ -1,4 +1,4 @@
--- What the tokens of a cut spell, and how their spans lie.
+-- What the tokens of a cut spell, and where their spans are.
 use Rattle.std.proofs.Common.{◌≡◌, ℕ, ◌+◌, ◌-◌, ◌<◌, ◌≤◌, List, [], ◌∷◌, ◌++◌, length, take, Result, Ok, Err, refl, sym, ap, ◌∙◌, subst, inl, inr, arith, length-append, append_assoc}
 use Rattle.std.specs.Prelude.{◌⊎◌, IfOk, IfErr, MatchResult, slice_range}
 use Rattle.std.specs.List.{All}

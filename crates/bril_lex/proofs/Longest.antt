@@ -12,7 +12,7 @@ use Rattle.bril_tree.specs.Identifier.{begins_identifier, continues_identifier, 
 use Rattle.bril_lex.specs.Spelling.{is_blank, is_number, makes_float, continues_float, IsTokenOf}
 use Rattle.bril_lex.specs.Piece.{stays_in_line, IsPiece, IsFront, BeginsNothing}
 use Rattle.bril_lex.specs.Printed.{ends_before}
-use Rattle.bril_lex.specs.Scan.{lead_of, front_behind, identifier_len, sign_len, digits_len, fraction_len, front_of_digits, number_front, char_len, path_len, comment_len, front_at, front_of}
+use Rattle.bril_lex.specs.Scan.{lead_of, front_after, identifier_len, sign_len, digits_len, fraction_len, front_of_digits, number_front, char_len, path_len, comment_len, front_at, front_of}
 use Rattle.bril_lex.specs.declared.token.Kind.{Kind}
 use Rattle.bril_lex.specs.declared.token.Kind.TheVariants as kind
 use Rattle.bril_lex.specs.declared.class.Class.{Class}
@@ -64,7 +64,7 @@ piece_reaches Comment text rest h =
     let long = comment_len-reaches h.body rest h.is_utf8 h.one_line in
     subst (λ t. Reaches (front_of (t ++ rest)) Comment (length t)) (sym h.spelled) (reaches _ _ _ _ (front_of-comment h.body rest) (omega (arith, long)))
 
--- ---- a token that doesn't go on
+-- ---- a token that is not continued
 stop : (p : ℕ → Bool) (rest : List ℕ) → ((b : ℕ) (bs : List ℕ) → rest ≡ b ∷ bs → p b ≡ false) → prefix_len p rest ≡ 0
 stop p [] h = refl
 stop p (b ∷ bs) h = cond-false (p b) _ 0 (h b bs refl)
@@ -111,7 +111,7 @@ abbrev pub Fits : Option Front → List ℕ → Type 0
 Fits None bytes = Unit {0}
 Fits (Some f) bytes = FitsAt f bytes
 
-name_fits : (k : Kind) (first : ℕ) (rest : List ℕ) → ((name : List ℕ) → is_identifier name ≡ true → IsTokenOf k (first ∷ name)) → Fits (front_behind k (identifier_len rest)) (first ∷ rest)
+name_fits : (k : Kind) (first : ℕ) (rest : List ℕ) → ((name : List ℕ) → is_identifier name ≡ true → IsTokenOf k (first ∷ name)) → Fits (front_after k (identifier_len rest)) (first ∷ rest)
 name_fits k first [] token = tt
 name_fits k first (b ∷ bs) token = by (begins_identifier b) refl
   where
@@ -130,7 +130,7 @@ name_fits k first (b ∷ bs) token = by (begins_identifier b) refl
       fits = token (b ∷ take n bs) (is h);
     }
 
-    by : (t : Bool) → begins_identifier b ≡ t → Fits (front_behind k (cond t (n + 1) 0)) (first ∷ b ∷ bs)
+    by : (t : Bool) → begins_identifier b ≡ t → Fits (front_after k (cond t (n + 1) 0)) (first ∷ b ∷ bs)
     by true h = cond_both (n + 1 == 0) None (Some (record { class = OfKind k; length = n + 1 + 1 })) (λ o. Fits o (first ∷ b ∷ bs)) (λ _. tt) (λ _. fits h)
     by false h = tt
 
@@ -212,25 +212,21 @@ number_fits first rest =
     by e [] left = plain e
     by e (c ∷ cs) left = either e c cs left (makes_float c) refl
 
-char_fits : (rest : List ℕ) → Fits (front_behind kind.Char (char_len rest)) (39 ∷ rest)
-char_fits rest =
-    cond_both (char_len rest == 0) None (Some (record { class = OfKind kind.Char; length = char_len rest + 1 })) (λ o. Fits o (39 ∷ rest)) (λ _. tt)
-    (λ e.
-    let found = char_len-tells rest (some e) in
-    record { text = found.text; rest = found.rest; cut = found.cut; size = found.size; fits = (found.character, found.spells) })
-  where
-    some : (char_len rest == 0) ≡ false → 0 < char_len rest
-    some e = let ne = eqb-false (char_len rest) 0 e in omega arith
+-- a token of one byte and n others, where these are found
+after_fits : (k : Kind) (n : ℕ) (bytes : List ℕ) → (0 < n → FitsAt (record { class = OfKind k; length = n + 1 }) bytes) → Fits (front_after k n) bytes
+after_fits k n bytes found =
+    cond_both (n == 0) None (Some (record { class = OfKind k; length = n + 1 })) (λ o. Fits o bytes) (λ _. tt)
+    (λ e. found (let some = eqb-false n 0 e in omega arith))
 
-path_fits : (rest : List ℕ) → Fits (front_behind kind.Path (path_len rest)) (34 ∷ rest)
+char_fits : (rest : List ℕ) → Fits (front_after kind.Char (char_len rest)) (39 ∷ rest)
+char_fits rest =
+    after_fits kind.Char (char_len rest) (39 ∷ rest)
+    (λ some. let found = char_len-tells rest some in record { text = found.text; rest = found.rest; cut = found.cut; size = found.size; fits = (found.character, found.spells) })
+
+path_fits : (rest : List ℕ) → Fits (front_after kind.Path (path_len rest)) (34 ∷ rest)
 path_fits rest =
-    cond_both (path_len rest == 0) None (Some (record { class = OfKind kind.Path; length = path_len rest + 1 })) (λ o. Fits o (34 ∷ rest)) (λ _. tt)
-    (λ e.
-    let found = path_len-tells rest (some e) in
-    record { text = found.text; rest = found.rest; cut = found.cut; size = found.size; fits = (found.path, found.spells) })
-  where
-    some : (path_len rest == 0) ≡ false → 0 < path_len rest
-    some e = let ne = eqb-false (path_len rest) 0 e in omega arith
+    after_fits kind.Path (path_len rest) (34 ∷ rest)
+    (λ some. let found = path_len-tells rest some in record { text = found.text; rest = found.rest; cut = found.cut; size = found.size; fits = (found.path, found.spells) })
 
 by_lead : (l : Lead) (first : ℕ) (rest : List ℕ) → Tells l first → Fits (front_at l first rest) (first ∷ rest)
 by_lead lead.Mark first rest h = record { text = first ∷ []; rest = rest; cut = refl; size = refl; fits = (first, refl, h) }
@@ -239,8 +235,8 @@ by_lead lead.Identifier first rest h = identifier_fits first rest h
 by_lead lead.Number first rest h = number_fits first rest
 by_lead lead.Function first rest h = name_fits kind.Function first rest (λ name is. (name, ap (λ b. b ∷ name) h, is))
 by_lead lead.Label first rest h = name_fits kind.Label first rest (λ name is. (name, ap (λ b. b ∷ name) h, is))
-by_lead lead.Char first rest h = subst (λ b. Fits (front_behind kind.Char (char_len rest)) (b ∷ rest)) (sym h) (char_fits rest)
-by_lead lead.Path first rest h = subst (λ b. Fits (front_behind kind.Path (path_len rest)) (b ∷ rest)) (sym h) (path_fits rest)
+by_lead lead.Char first rest h = subst (λ b. Fits (front_after kind.Char (char_len rest)) (b ∷ rest)) (sym h) (char_fits rest)
+by_lead lead.Path first rest h = subst (λ b. Fits (front_after kind.Path (path_len rest)) (b ∷ rest)) (sym h) (path_fits rest)
 by_lead lead.Comment first rest h = subst (λ b. Fits (front_at lead.Comment b rest) (b ∷ rest)) (sym h) (comment_fits rest)
 by_lead lead.Nothing first rest h = tt
 
@@ -283,7 +279,7 @@ pub piece_size : (class : Class) (text : List ℕ) → IsPiece class text → 0 
 piece_size class [] h = absurd (piece_reaches class [] [] h)
 piece_size class (b ∷ bs) h = omega arith
 
--- a token that doesn't go on into what stands behind it is the longest piece there
+-- a token that what follows doesn't continue is the longest piece there
 pub token_is_front : (k : Kind) (text rest : List ℕ) → IsTokenOf k text → ends_before k rest ≡ true → IsFront (OfKind k) text rest
 token_is_front k text rest h ends = is_front (OfKind k) text rest (token_front k text rest h ends) h
 

@@ -22,7 +22,7 @@ digits_test : (ds : List ℕ) → all_ascii_digits ds ≡ list_all is_ascii_digi
 digits_test [] = refl
 digits_test (d ∷ ds) = ap (λ t. is_ascii_digit d && t) (digits_test ds)
 
--- std's word for what stands behind a sign
+-- std's word for what comes after a sign
 behind_sign : (text : List ℕ) → without_leading_sign text ≡ drop (sign_len text) text
 behind_sign [] = refl
 behind_sign (b ∷ bs) = by (b == 45) (b == 43)
@@ -35,7 +35,7 @@ behind_sign (b ∷ bs) = by (b == 45) (b == 43)
 -- a number is a sign and digits
 pub record HasDigits (text : List ℕ) : Type 0 where
   pub digits : List ℕ
-  pub behind : digits ≡ drop (sign_len text) text
+  pub following : digits ≡ drop (sign_len text) text
   pub some : 0 < length digits
   pub all : list_all is_ascii_digit digits ≡ true
 
@@ -44,7 +44,7 @@ has_digits text h =
     let parts = and_parts _ _ h in
     record {
       digits = without_leading_sign text;
-      behind = behind_sign text;
+      following = behind_sign text;
       some = ltb-true _ _ parts.0;
       all = sym (digits_test (without_leading_sign text)) ∙ parts.1;
     }
@@ -74,27 +74,27 @@ number_byte (b ∷ bs) rest h =
     by : (t : Bool) → is_sign b ≡ t → (is_sign b || is_ascii_digit b) ≡ true
     by true e = or_left _ _ e
     by false e =
-        let same : has.digits ≡ b ∷ bs = has.behind ∙ ap (λ n. drop n (b ∷ bs)) (cond-false (is_sign b) 1 0 e) in
+        let same : has.digits ≡ b ∷ bs = has.following ∙ ap (λ n. drop n (b ∷ bs)) (cond-false (is_sign b) 1 0 e) in
         or_right _ _ (first (subst (λ l. list_all is_ascii_digit l ≡ true) same has.all))
 
 same_sign : (text rest : List ℕ) → is_number text ≡ true → sign_len (text ++ rest) ≡ sign_len text
 same_sign [] rest h = cc
 same_sign (b ∷ bs) rest h = refl
 
--- how far the digits of a number go on
+-- how many digits a number has
 pub number_size : (text rest : List ℕ) → is_number text ≡ true → (sign_len (text ++ rest) + digits_len (text ++ rest) ≡ length text + prefix_len is_ascii_digit rest) × (0 < digits_len (text ++ rest))
 number_size text rest h =
     let has = has_digits text h in
     let le = sign_len_le text in
     let sign = same_sign text rest h in
-    let behind : drop (sign_len (text ++ rest)) (text ++ rest) ≡ has.digits ++ rest =
-    ap (λ n. drop n (text ++ rest)) sign ∙ drop-append-le (sign_len text) text rest le ∙ ap (λ l. l ++ rest) (sym has.behind) in
+    let following : drop (sign_len (text ++ rest)) (text ++ rest) ≡ has.digits ++ rest =
+    ap (λ n. drop n (text ++ rest)) sign ∙ drop-append-le (sign_len text) text rest le ∙ ap (λ l. l ++ rest) (sym has.following) in
     let count : digits_len (text ++ rest) ≡ length has.digits + prefix_len is_ascii_digit rest =
-    ap (prefix_len is_ascii_digit) behind ∙ prefix_len-append_all is_ascii_digit has.digits rest has.all in
-    let long = ap length has.behind ∙ length-drop (sign_len text) text in
+    ap (prefix_len is_ascii_digit) following ∙ prefix_len-append_all is_ascii_digit has.digits rest has.all in
+    let long = ap length has.following ∙ length-drop (sign_len text) text in
     (omega (arith, sign, count, long, le), omega (arith, count, has.some))
 
--- the number at the front, and what makes a float of it
+-- the number at the front, and what makes it a float
 pub front_of-digits : (text rest : List ℕ) → is_number text ≡ true
     → front_of (text ++ rest) ≡ Some (front_of_digits (length text + prefix_len is_ascii_digit rest) (fraction_len (drop (prefix_len is_ascii_digit rest) rest)))
 front_of-digits text rest h =
@@ -105,7 +105,7 @@ front_of-digits text rest h =
     number_byte text rest h ∙ cond-false _ None _ some
     ∙ (λ i. Some (front_of_digits (size.0 i) (fraction_len (left i))))
 
--- the digits end at what makes a float
+-- the digits end at what makes them a float
 makes_no_digit : (b : ℕ) → makes_float b ≡ true → is_ascii_digit b ≡ false
 makes_no_digit b h = one_of (λ x. is_ascii_digit x ≡ false) (46 ∷ 101 ∷ 69 ∷ []) b h (refl, (refl, (refl, tt)))
 
@@ -133,11 +133,11 @@ pub is_number-take : (bytes : List ℕ) → 0 < digits_len bytes → is_number (
 is_number-take bytes some =
     let text = take (sign_len bytes + digits_len bytes) bytes in
     let sign : sign_len text ≡ sign_len bytes = same_sign_take (sign_len bytes + digits_len bytes) bytes (omega arith) in
-    let behind : drop (sign_len text) text ≡ take (digits_len bytes) (drop (sign_len bytes) bytes) =
+    let following : drop (sign_len text) text ≡ take (digits_len bytes) (drop (sign_len bytes) bytes) =
     ap (λ n. drop n text) sign ∙ drop-take (sign_len bytes) (digits_len bytes) bytes in
     is_number_from text
-    (omega (arith, ap length behind, length-prefix_len is_ascii_digit (drop (sign_len bytes) bytes)))
-    (ap (list_all is_ascii_digit) behind ∙ list_all-prefix is_ascii_digit (drop (sign_len bytes) bytes))
+    (omega (arith, ap length following, length-prefix_len is_ascii_digit (drop (sign_len bytes) bytes)))
+    (ap (list_all is_ascii_digit) following ∙ list_all-prefix is_ascii_digit (drop (sign_len bytes) bytes))
 
 pub digits_within : (bytes : List ℕ) → sign_len bytes + digits_len bytes ≤ length bytes
 digits_within bytes =

@@ -25,14 +25,14 @@ unfolding blank_pieces
 bytes_of-blanks [] = refl
 bytes_of-blanks (b ∷ bs) = ap (λ l. b ∷ l) (bytes_of-blanks bs)
 
--- the bytes of the pieces, and what stands behind them
-bytes_of-pieces : (ss : List Spaced) (behind : List ℕ) → bytes_of (pieces_of ss) ++ behind ≡ printed ss ++ behind
+-- the bytes of the pieces, and those after them
+bytes_of-pieces : (ss : List Spaced) (following : List ℕ) → bytes_of (pieces_of ss) ++ following ≡ printed ss ++ following
 unfolding pieces_of
-bytes_of-pieces [] behind = refl
-bytes_of-pieces (s ∷ ss) behind =
-    append_assoc s.lexeme.text (bytes_of (blank_pieces s.blanks ++ pieces_of ss)) behind
-    ∙ ap (λ l. s.lexeme.text ++ l) (bytes_of-append (blank_pieces s.blanks) (pieces_of ss) behind ∙ (λ i. bytes_of-blanks s.blanks i ++ bytes_of-pieces ss behind i) ∙ sym (append_assoc s.blanks (printed ss) behind))
-    ∙ sym (append_assoc s.lexeme.text (s.blanks ++ printed ss) behind)
+bytes_of-pieces [] following = refl
+bytes_of-pieces (s ∷ ss) following =
+    append_assoc s.lexeme.text (bytes_of (blank_pieces s.blanks ++ pieces_of ss)) following
+    ∙ ap (λ l. s.lexeme.text ++ l) (bytes_of-append (blank_pieces s.blanks) (pieces_of ss) following ∙ (λ i. bytes_of-blanks s.blanks i ++ bytes_of-pieces ss following i) ∙ sym (append_assoc s.blanks (printed ss) following))
+    ∙ sym (append_assoc s.lexeme.text (s.blanks ++ printed ss) following)
 
 blanks_are_longest : (bs rest : List ℕ) → list_all is_blank bs ≡ true → AreLongest (blank_pieces bs) rest
 unfolding blank_pieces
@@ -41,14 +41,14 @@ blanks_are_longest (b ∷ bs) rest h =
     let parts = and_parts (is_blank b) (list_all is_blank bs) h in
     (blank_is_front b (bytes_of (blank_pieces bs) ++ rest) parts.0, blanks_are_longest bs rest parts.1)
 
-pieces_are_longest : (ss : List Spaced) (behind : List ℕ) → AreApart ss behind → AreLongest (pieces_of ss) behind
+pieces_are_longest : (ss : List Spaced) (following : List ℕ) → AreApart ss following → AreLongest (pieces_of ss) following
 unfolding pieces_of
-pieces_are_longest [] behind h = tt
-pieces_are_longest (s ∷ ss) behind h =
-    let follows : s.blanks ++ (printed ss ++ behind) ≡ bytes_of (blank_pieces s.blanks ++ pieces_of ss) ++ behind =
-    sym (λ i. bytes_of-blanks s.blanks i ++ bytes_of-pieces ss behind i) ∙ sym (bytes_of-append (blank_pieces s.blanks) (pieces_of ss) behind) in (
-      subst (IsFront (OfKind s.lexeme.kind) s.lexeme.text) follows (token_is_front s.lexeme.kind s.lexeme.text (s.blanks ++ (printed ss ++ behind)) h.0 h.2),
-      AreLongest-append (blank_pieces s.blanks) (pieces_of ss) behind (blanks_are_longest s.blanks (bytes_of (pieces_of ss) ++ behind) h.1) (pieces_are_longest ss behind h.3),
+pieces_are_longest [] following h = tt
+pieces_are_longest (s ∷ ss) following h =
+    let follows : s.blanks ++ (printed ss ++ following) ≡ bytes_of (blank_pieces s.blanks ++ pieces_of ss) ++ following =
+    sym (λ i. bytes_of-blanks s.blanks i ++ bytes_of-pieces ss following i) ∙ sym (bytes_of-append (blank_pieces s.blanks) (pieces_of ss) following) in (
+      subst (IsFront (OfKind s.lexeme.kind) s.lexeme.text) follows (token_is_front s.lexeme.kind s.lexeme.text (s.blanks ++ (printed ss ++ following)) h.0 h.2),
+      AreLongest-append (blank_pieces s.blanks) (pieces_of ss) following (blanks_are_longest s.blanks (bytes_of (pieces_of ss) ++ following) h.1) (pieces_are_longest ss following h.3),
     )
 
 lexemes_in-blanks : (bs : List ℕ) (ps : List Piece) → lexemes_in (blank_pieces bs ++ ps) ≡ lexemes_in ps
@@ -61,7 +61,7 @@ unfolding pieces_of
 lexemes_in-pieces [] = refl
 lexemes_in-pieces (s ∷ ss) = ap (λ l. s.lexeme ∷ l) (lexemes_in-blanks s.blanks (pieces_of ss) ∙ lexemes_in-pieces ss)
 
--- printed tokens that stand apart are the tokens of what is printed
+-- printed tokens that are apart are the tokens of what is printed
 pub printed_is_cut : (ss : List Spaced) → AreApart ss [] → IsCutIntoItself ss
 printed_is_cut ss h =
     let whole : printed ss ≡ bytes_of (pieces_of ss) = sym (append-nil (printed ss)) ∙ sym (bytes_of-pieces ss []) ∙ append-nil (bytes_of (pieces_of ss)) in
@@ -72,7 +72,7 @@ printed_is_cut ss h =
       spell = lexemes_of-AreTokens (printed ss) (tokens_from 0 (pieces_of ss)) are ∙ lexemes_in-pieces ss;
     }
 
--- parts that stand apart, one behind the other
+-- parts that are apart, one after another
 pub printed-append : (xs ys : List Spaced) → printed (xs ++ ys) ≡ printed xs ++ printed ys
 printed-append [] ys = refl
 printed-append (x ∷ xs) ys =
@@ -80,9 +80,9 @@ printed-append (x ∷ xs) ys =
     ∙ ap (λ l. x.lexeme.text ++ l) (sym (append_assoc x.blanks (printed xs) (printed ys)))
     ∙ sym (append_assoc x.lexeme.text (x.blanks ++ printed xs) (printed ys))
 
-pub AreApart-append : (xs ys : List Spaced) (behind : List ℕ) → AreApart xs (printed ys ++ behind) → AreApart ys behind → AreApart (xs ++ ys) behind
-AreApart-append [] ys behind a b = b
-AreApart-append (x ∷ xs) ys behind a b =
-    let follows : printed xs ++ (printed ys ++ behind) ≡ printed (xs ++ ys) ++ behind =
-    sym (append_assoc (printed xs) (printed ys) behind) ∙ ap (λ l. l ++ behind) (sym (printed-append xs ys)) in
-    (a.0, a.1, subst (λ l. ends_before x.lexeme.kind (x.blanks ++ l) ≡ true) follows a.2, AreApart-append xs ys behind a.3 b)
+pub AreApart-append : (xs ys : List Spaced) (following : List ℕ) → AreApart xs (printed ys ++ following) → AreApart ys following → AreApart (xs ++ ys) following
+AreApart-append [] ys following a b = b
+AreApart-append (x ∷ xs) ys following a b =
+    let follows : printed xs ++ (printed ys ++ following) ≡ printed (xs ++ ys) ++ following =
+    sym (append_assoc (printed xs) (printed ys) following) ∙ ap (λ l. l ++ following) (sym (printed-append xs ys)) in
+    (a.0, a.1, subst (λ l. ends_before x.lexeme.kind (x.blanks ++ l) ≡ true) follows a.2, AreApart-append xs ys following a.3 b)

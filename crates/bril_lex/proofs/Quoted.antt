@@ -15,10 +15,10 @@ use Rattle.bril_lex.specs.declared.token.Kind.TheVariants as kind
 use Rattle.bril_lex.specs.declared.class.Class.TheVariants.{OfKind}
 use Rattle.bril_lex.proofs.Spans.{prefix_len-append_all, list_all-prefix}
 use Rattle.bril_lex.proofs.Utf8.{scalar_len-encode, scalar_len-tells, BeginsScalar, first_of}
-use Rattle.bril_lex.proofs.Fronts.{front, front_behind-some}
+use Rattle.bril_lex.proofs.Fronts.{front, front_after-some}
 use lib.Utf8.{encode}
 
--- ---- a byte at a place
+-- ---- a byte at an index
 pub stands_at-append : (b : ℕ) (text rest : List ℕ) (n : ℕ) → length text ≡ n → stands_at b n (text ++ (b ∷ rest)) ≡ true
 stands_at-append b text rest n e =
     and_from _ _ (lt-ltb n (length (text ++ (b ∷ rest))) (omega (arith, e, length-append text (b ∷ rest))))
@@ -76,17 +76,17 @@ char_len-escape letter c rest e = cond-true _ _ _ (escape_begins letter c rest e
 pub front_of-char : (text rest : List ℕ) (c : ℕ) → SpellsChar c text → front_of (text ++ rest) ≡ front (OfKind kind.Char) (length text)
 front_of-char text rest c (inl e) =
     let size = char_len-escape e.letter c rest e.stands_for in
-    let some = front_behind-some kind.Char (char_len (92 ∷ e.letter ∷ 39 ∷ rest)) (omega (arith, size)) in
+    let some = front_after-some kind.Char (char_len (92 ∷ e.letter ∷ 39 ∷ rest)) (omega (arith, size)) in
     subst (λ t. front_of (t ++ rest) ≡ front (OfKind kind.Char) (length t)) (sym e.spelled)
     (some ∙ ap (front (OfKind kind.Char)) (omega (arith, size)))
 front_of-char text rest c (inr p) =
     let whole : (encode c ++ (39 ∷ [])) ++ rest ≡ encode c ++ (39 ∷ rest) = append_assoc (encode c) (39 ∷ []) rest in
     let size : char_len ((encode c ++ (39 ∷ [])) ++ rest) ≡ length (encode c) + 1 = ap char_len whole ∙ char_len-plain c rest p.scalar p.no_line_end in
-    let some = front_behind-some kind.Char (char_len ((encode c ++ (39 ∷ [])) ++ rest)) (omega (arith, size)) in
+    let some = front_after-some kind.Char (char_len ((encode c ++ (39 ∷ [])) ++ rest)) (omega (arith, size)) in
     subst (λ t. front_of (t ++ rest) ≡ front (OfKind kind.Char) (length t)) (sym p.spelled)
     (some ∙ ap (front (OfKind kind.Char)) (omega (arith, size, length-append (encode c) (39 ∷ []))))
 
--- a char literal stands behind a quote, and n bytes after it
+-- a char literal begins with a quote, and has n bytes after it
 pub record BeginsChar (bytes : List ℕ) (n : ℕ) : Type 0 where
   pub character : ℕ
   pub text : List ℕ
@@ -128,13 +128,13 @@ pub record PlainParts (bytes : List ℕ) : Type 0 where
 plain_at : (bytes : List ℕ) → PlainParts bytes → BeginsChar bytes (scalar_len bytes + 1)
 plain_at bytes p =
     let v = scalar_len-tells bytes p.some in
-    let behind = stands_at-drop 39 (scalar_len bytes) bytes p.quote in
+    let following = stands_at-drop 39 (scalar_len bytes) bytes p.quote in
     let rest = drop (suc (scalar_len bytes)) bytes in
     record {
       character = v.value;
       text = 39 ∷ (encode v.value ++ (39 ∷ []));
       rest = rest;
-      cut = ap (λ l. 39 ∷ l) (v.cut ∙ ap (λ l. encode v.value ++ l) behind ∙ sym (append_assoc (encode v.value) (39 ∷ []) rest));
+      cut = ap (λ l. 39 ∷ l) (v.cut ∙ ap (λ l. encode v.value ++ l) following ∙ sym (append_assoc (encode v.value) (39 ∷ []) rest));
       size = omega (arith, length-append (encode v.value) (39 ∷ []), v.size);
       spells = inr (record { spelled = refl; scalar = v.scalar; no_line_end = λ lf. lf_stands v lf });
     }
@@ -175,11 +175,11 @@ front_of-path path text rest s =
     let utf8 : is_utf8 (take (prefix_len is_path_byte (path ++ (34 ∷ rest))) (path ++ (34 ∷ rest))) ≡ true = ap is_utf8 cut ∙ is_utf8-from_IsUtf8 path s.is_utf8 in
     let size : path_len ((path ++ (34 ∷ [])) ++ rest) ≡ length path + 1 =
     ap path_len whole ∙ cond-true _ _ 0 (and_from _ _ (and_from _ _ (and_from _ _ some short) quote) utf8) ∙ ap (λ n. n + 1) count in
-    let front_is = front_behind-some kind.Path (path_len ((path ++ (34 ∷ [])) ++ rest)) (omega (arith, size)) in
+    let front_is = front_after-some kind.Path (path_len ((path ++ (34 ∷ [])) ++ rest)) (omega (arith, size)) in
     subst (λ t. front_of (t ++ rest) ≡ front (OfKind kind.Path) (length t)) (sym s.spelled)
     (front_is ∙ ap (front (OfKind kind.Path)) (omega (arith, size, length-append path (34 ∷ []))))
 
--- a path stands behind a quote, and n bytes after it
+-- a path begins with a quote, and has n bytes after it
 pub record BeginsPath (bytes : List ℕ) (n : ℕ) : Type 0 where
   pub path : List ℕ
   pub text : List ℕ
@@ -198,12 +198,12 @@ path_at : (bytes : List ℕ) → PathParts bytes (prefix_len is_path_byte bytes)
 path_at bytes p =
     let n = prefix_len is_path_byte bytes in
     let long = length-take-le n bytes (prefix_len-le-length is_path_byte bytes) in
-    let behind = stands_at-drop 34 n bytes p.quote in
+    let following = stands_at-drop 34 n bytes p.quote in
     record {
       path = take n bytes;
       text = 34 ∷ (take n bytes ++ (34 ∷ []));
       rest = drop (suc n) bytes;
-      cut = ap (λ l. 34 ∷ l) (sym (take-append-drop n bytes) ∙ ap (λ l. take n bytes ++ l) behind ∙ sym (append_assoc (take n bytes) (34 ∷ []) (drop (suc n) bytes)));
+      cut = ap (λ l. 34 ∷ l) (sym (take-append-drop n bytes) ∙ ap (λ l. take n bytes ++ l) following ∙ sym (append_assoc (take n bytes) (34 ∷ []) (drop (suc n) bytes)));
       size = omega (arith, length-append (take n bytes) (34 ∷ []), long);
       spells = record {
         spelled = refl;

@@ -6,14 +6,14 @@ use Rattle.std.proofs.lemmas.Bool.{and_parts, and_from, or_cases, eqb-true}
 use Rattle.std.specs.Prelude.{◌==◌}
 use Rattle.std.specs.List.{list_all, list_any, prefix_len}
 
--- a test that holds of all of a text goes on behind it
+-- a test that holds for all of a text continues after it
 pub prefix_len-append_all : (p : ℕ → Bool) (text rest : List ℕ) → list_all p text ≡ true → prefix_len p (text ++ rest) ≡ length text + prefix_len p rest
 prefix_len-append_all p [] rest h = omega arith
 prefix_len-append_all p (b ∷ bs) rest h =
     let parts = and_parts (p b) (list_all p bs) h in
     rw parts.0 (omega (arith, prefix_len-append_all p bs rest parts.1))
 
--- the test holds of all that it counts
+-- the test holds for all that it counts
 pub list_all-prefix : (p : ℕ → Bool) (bytes : List ℕ) → list_all p (take (prefix_len p bytes) bytes) ≡ true
 list_all-prefix p [] = refl
 list_all-prefix p (b ∷ bs) = by (list_all-prefix p bs) (p b) refl
@@ -22,7 +22,7 @@ list_all-prefix p (b ∷ bs) = by (list_all-prefix p bs) (p b) refl
     by ih true e = rw one-add (and_from _ _ e ih)
     by ih false e = refl
 
--- what holds of each byte of a list holds of one that equals some byte of it
+-- what holds for each byte of a list holds for one that equals some byte of it
 abbrev pub Each : (ℕ → Type 0) → List ℕ → Type 0
 Each P [] = Unit {0}
 Each P (b ∷ bs) = P b × Each P bs
@@ -41,7 +41,7 @@ pub drop_append : (xs ys : List ℕ) (n : ℕ) → drop (length xs + n) (xs ++ y
 drop_append [] ys n = rw zero-add refl
 drop_append (x ∷ xs) ys n = rw suc-add (drop_append xs ys n)
 
--- the test holds of a front of what it holds of
+-- the test holds for each front of what it holds for
 pub list_all-take : (p : ℕ → Bool) (n : ℕ) (bytes : List ℕ) → list_all p bytes ≡ true → list_all p (take n bytes) ≡ true
 list_all-take p zero bytes h = refl
 list_all-take p (suc n) [] h = refl

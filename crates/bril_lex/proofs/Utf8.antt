@@ -15,7 +15,7 @@ use lib.Utf8.{scalar, scalars, encode, encodes, scalar_cases}
 pub is_utf8-false : (bs : List ℕ) → (IsUtf8 bs → ⊥) → is_utf8 bs ≡ false
 is_utf8-false bs never = false_from_ne_true (is_utf8 bs) (λ test. never (IsUtf8-from_is_utf8 bs test))
 
--- what `from_utf8` answers decides the test
+-- what `from_utf8` returns decides the test
 pub is_ok-is_utf8 : {T E : Type 0} (r : Result T E) (bs : List ℕ) (P : T → Type 0) (Q : E → Type 0) → MatchResult r (λ s. P s × IsUtf8 bs) (λ e. ¬ (IsUtf8 bs) × Q e) → is_ok r ≡ is_utf8 bs
 is_ok-is_utf8 (Ok s) bs P Q h = sym (is_utf8-from_IsUtf8 bs h.1)
 is_ok-is_utf8 (Err e) bs P Q h = sym (is_utf8-false bs h.0)
@@ -61,7 +61,7 @@ first_by_shape c (laws.of4 a b d y l h f g k x e) = record { first = a; more = b
 pub first_of : (c : ℕ) → IsScalar c → HasFirst c
 first_of c s = first_by_shape c (laws.shape c (scalar_cases c s))
 
--- the length of a scalar value that stands at the front
+-- the length of a scalar value at the front
 pub scalar_len-encode : (c : ℕ) (rest : List ℕ) → IsScalar c → scalar_len (encode c ++ rest) ≡ length (encode c)
 scalar_len-encode c rest s =
     let f = first_of c s in
@@ -76,7 +76,7 @@ scalar_len-encode c rest s =
         let test : is_utf8 (take (continuation_len first + 1) ((first ∷ more) ++ rest)) ≡ true = ap is_utf8 front ∙ is_utf8-from_IsUtf8 (first ∷ more) u in
         cond-true _ _ _ (and_from _ _ room test) ∙ sym n
 
--- a scalar value stands at the front
+-- a scalar value is at the front
 pub record BeginsScalar (bytes : List ℕ) (n : ℕ) : Type 0 where
   pub value : ℕ
   pub scalar : IsScalar value
@@ -120,7 +120,7 @@ scalar_len-tells (b ∷ bs) h =
     test : Bool
     test = leb n (length (b ∷ bs)) && is_utf8 (take n (b ∷ bs))
 
--- the front that is UTF-8, and none longer
+-- the longest front that is UTF-8
 up_to_is : (bs : List ℕ) (n : ℕ) → IsUtf8 (take (valid_len_up_to bs n) bs)
 up_to_is bs zero = IsUtf8-nil
 up_to_is bs (suc n) =

@@ -23,7 +23,7 @@ IsPiece (OfKind kind) text = IsTokenOf kind text
 IsPiece Blank text = (blank : ℕ) × (text ≡ blank ∷ []) × IsTrue (is_blank blank)
 IsPiece Comment text = IsComment text
 
--- before the rest the text is a piece of the class, and no piece of any class that begins there is longer
+-- where the rest follows, the text is a piece of the class, and no piece of any class that begins there is longer
 pub record IsFront (class : Class) (text rest : List ℕ) : Type 0 where
   pub fits : IsPiece class text
   pub longest : (other : Class) (piece after : List ℕ) → text ++ rest ≡ piece ++ after → IsPiece other piece → length piece ≤ length text

@@ -10,7 +10,7 @@ use Rattle.bril_lex.specs.declared.token.Token.{Token}
 use Rattle.bril_lex.specs.declared.token.Kind.{Kind}
 use Rattle.bril_lex.specs.declared.token.Kind.TheVariants.{Identifier, Function, Label, Number, Float, Char, Path, Mark}
 
--- a byte that may go on a token of the kind
+-- a byte that may continue a token of the kind
 abbrev pub continues : Kind → ℕ → Bool
 continues Identifier byte = continues_identifier byte
 continues Function byte = continues_identifier byte
@@ -21,12 +21,12 @@ continues Char byte = false
 continues Path byte = false
 continues Mark byte = false
 
--- a token of the kind doesn't go on into the bytes
+-- the bytes don't continue a token of the kind
 abbrev pub ends_before : Kind → List ℕ → Bool
 ends_before kind [] = true
 ends_before kind (byte ∷ bytes) = not (continues kind byte)
 
--- a token and the blanks behind it
+-- a token and the blanks after it
 pub record Spaced : Type 0 where
   pub lexeme : Lexeme
   pub blanks : List ℕ
@@ -36,14 +36,14 @@ abbrev pub printed : List Spaced → List ℕ
 printed [] = []
 printed (spaced ∷ more) = spaced.lexeme.text ++ (spaced.blanks ++ printed more)
 
--- before the bytes behind them, each is a token of its kind that doesn't go on into what follows it, and has blanks behind it
+-- where these bytes follow, each is a token of its kind with blanks after it, and what comes next doesn't continue it
 abbrev pub AreApart : List Spaced → List ℕ → Type 0
-AreApart [] behind = Unit {0}
-AreApart (spaced ∷ more) behind =
+AreApart [] following = Unit {0}
+AreApart (spaced ∷ more) following =
     IsTokenOf spaced.lexeme.kind spaced.lexeme.text
     × IsTrue (list_all is_blank spaced.blanks)
-    × IsTrue (ends_before spaced.lexeme.kind (spaced.blanks ++ (printed more ++ behind)))
-    × AreApart more behind
+    × IsTrue (ends_before spaced.lexeme.kind (spaced.blanks ++ (printed more ++ following)))
+    × AreApart more following
 
 -- what is printed has tokens, and they spell what was printed
 pub record IsCutIntoItself (spaced : List Spaced) : Type 0 where

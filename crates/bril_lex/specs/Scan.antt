@@ -1,4 +1,4 @@
--- The longest piece at the front of bytes, computed.
+-- The longest piece at the front of the bytes, computed.
 use Rattle.std.specs.Prelude.{ℕ, ◌+◌, Bool, not, ◌&&◌, ◌||◌, ◌==◌, nat_lt, nat_le, List, [], ◌∷◌, length, take, drop, slice_index, Option, Some, None, is_some, if◌then◌else◌}
 use Rattle.std.specs.List.{prefix_len}
 use Rattle.std.specs.Char.{is_ascii_digit}
@@ -33,13 +33,13 @@ lead_of byte =
     else (if byte == 35 then lead.Comment
     else lead.Nothing))))))))
 
--- the byte stands at the place
+-- the byte at this index is there and equals `byte`
 abbrev pub stands_at : ℕ → ℕ → List ℕ → Bool
-stands_at byte place bytes = nat_lt place (length bytes) && (slice_index bytes place == byte)
+stands_at byte index bytes = nat_lt index (length bytes) && (slice_index bytes index == byte)
 
 -- a token of one byte and n others, if n is not 0
-abbrev pub front_behind : Kind → ℕ → Option Front
-front_behind kind n = if n == 0 then None else Some (record { class = OfKind kind; length = n + 1 })
+abbrev pub front_after : Kind → ℕ → Option Front
+front_after kind n = if n == 0 then None else Some (record { class = OfKind kind; length = n + 1 })
 
 -- the length of the identifier at the front, 0 where there is none
 abbrev pub identifier_len : List ℕ → ℕ
@@ -51,16 +51,16 @@ abbrev pub sign_len : List ℕ → ℕ
 sign_len [] = 0
 sign_len (first ∷ rest) = if is_sign first then 1 else 0
 
--- the number of digits behind a sign at the front
+-- the number of digits after a sign at the front
 abbrev pub digits_len : List ℕ → ℕ
 digits_len bytes = prefix_len is_ascii_digit (drop (sign_len bytes) bytes)
 
--- the length of what makes a float of the number before it, 0 where nothing does
+-- the length of what turns the number before it into a float, 0 where nothing does
 abbrev pub fraction_len : List ℕ → ℕ
 fraction_len [] = 0
 fraction_len (first ∷ rest) = if makes_float first then prefix_len continues_float rest + 1 else 0
 
--- a number of a length, or the float that goes on from it
+-- a number of this length, or the float that continues it
 abbrev pub front_of_digits : ℕ → ℕ → Front
 front_of_digits number fraction =
     if fraction == 0 then record { class = OfKind kind.Number; length = number }
@@ -88,18 +88,18 @@ plain_len bytes =
     if (nat_lt 0 (scalar_len bytes) && not (stands_at 10 0 bytes)) && stands_at 39 (scalar_len bytes) bytes
     then scalar_len bytes + 1 else 0
 
--- the length of a char literal behind its first quote, 0 where there is none
+-- the length of a char literal after its first quote, 0 where there is none
 abbrev pub char_len : List ℕ → ℕ
 char_len bytes = if begins_escape bytes then 3 else plain_len bytes
 
--- the length of a path behind its first quote, 0 where there is none
+-- the length of a path after its first quote, 0 where there is none
 abbrev pub path_len : List ℕ → ℕ
 path_len bytes =
     if ((nat_lt 0 (prefix_len is_path_byte bytes) && nat_le (prefix_len is_path_byte bytes) 4096)
     && stands_at 34 (prefix_len is_path_byte bytes) bytes) && is_utf8 (take (prefix_len is_path_byte bytes) bytes)
     then prefix_len is_path_byte bytes + 1 else 0
 
--- the length of a comment behind `#`
+-- the length of a comment after `#`
 abbrev pub comment_len : List ℕ → ℕ
 comment_len bytes = utf8_valid_len (take (prefix_len stays_in_line bytes) bytes)
 
@@ -109,10 +109,10 @@ front_at lead.Mark first rest = Some (record { class = OfKind kind.Mark; length 
 front_at lead.Blank first rest = Some (record { class = Blank; length = 1 })
 front_at lead.Identifier first rest = Some (record { class = OfKind kind.Identifier; length = prefix_len continues_identifier rest + 1 })
 front_at lead.Number first rest = number_front (first ∷ rest)
-front_at lead.Function first rest = front_behind kind.Function (identifier_len rest)
-front_at lead.Label first rest = front_behind kind.Label (identifier_len rest)
-front_at lead.Char first rest = front_behind kind.Char (char_len rest)
-front_at lead.Path first rest = front_behind kind.Path (path_len rest)
+front_at lead.Function first rest = front_after kind.Function (identifier_len rest)
+front_at lead.Label first rest = front_after kind.Label (identifier_len rest)
+front_at lead.Char first rest = front_after kind.Char (char_len rest)
+front_at lead.Path first rest = front_after kind.Path (path_len rest)
 front_at lead.Comment first rest = Some (record { class = Comment; length = comment_len rest + 1 })
 front_at lead.Nothing first rest = None
 

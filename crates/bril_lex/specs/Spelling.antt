@@ -17,11 +17,11 @@ is_mark byte = list_any (λ mark. mark == byte) (codes "{}():,;=<>")
 abbrev pub is_blank : ℕ → Bool
 is_blank byte = list_any (λ blank. blank == byte) (32 ∷ 9 ∷ 13 ∷ 10 ∷ [])
 
--- an optional sign and then one digit or more
+-- an optional sign, then one or more digits
 abbrev pub is_number : List ℕ → Bool
 is_number text = nat_lt 0 (length (without_leading_sign text)) && all_ascii_digits (without_leading_sign text)
 
--- `.`, `e` or `E`: a number that it follows is a float
+-- `.`, `e` or `E`: a number before it is a float
 abbrev pub makes_float : ℕ → Bool
 makes_float byte = list_any (λ maker. maker == byte) (codes ".eE")
 
@@ -39,7 +39,7 @@ pub record IsFloat (text : List ℕ) : Type 0 where
   pub makes_float : IsTrue (makes_float maker)
   pub continues : IsTrue (list_all continues_float more)
 
--- the character that a letter of `0abtnvfr` stands for behind `\`
+-- the character that `\` and a letter of `0abtnvfr` stand for
 abbrev pub escaped : ℕ → Option ℕ
 escaped letter =
     if letter == 48 then Some 0

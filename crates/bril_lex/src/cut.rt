@@ -18,11 +18,11 @@ use thiserror::Error;
 /// Why a source has no tokens.
 #[derive(Clone, Copy, PartialEq, Eq, Debug, Drop, Error)]
 pub enum LexFault {
-    /// No token, blank or comment begins at byte `at`, counted from 0, and all before it are tokens,
-    /// blanks and comments.
+    /// No token, blank or comment begins at byte `at`, counted from 0. Everything before it is tokens, blanks and
+    /// comments.
     #[error("nothing begins at byte {at}")]
     At { at: u32 },
-    /// Memory was wanting.
+    /// Out of memory.
     #[error("out of memory")]
     Memory,
 }
@@ -35,16 +35,17 @@ impl From<AllocError> for LexFault {
     }
 }
 
-/// The tokens of a source of fewer than 2^32 bytes of Bril's text form, in order; their spans count
-/// bytes from 0 and don't meet.
+/// The tokens of a source in Bril's text form, in order. The source has fewer than 2^32 bytes. Spans count bytes from 0
+/// and don't overlap.
 ///
-/// At each byte the longest token, blank (space, tab, CR, LF) or comment is taken. A comment runs from
-/// `#` to the end of its line (before LF), or to the first byte that belongs to no scalar value of
-/// UTF-8. `Kind` has the tokens. Takes time in proportion to the source.
+/// At each byte the longest token, blank (space, tab, CR, LF) or comment is taken; `Kind` lists the tokens. A comment
+/// runs from `#` to the end of its line (before LF), or up to the first byte that is not valid UTF-8. Takes time in
+/// proportion to the source.
 ///
-/// `At` comes exactly where nothing begins at that byte and all before it is cut; `Memory` where memory
-/// is wanting. The text form is that of the Bril documentation of Cornell's CS 6120, with chars, paths
-/// and comments as said here.
+/// `At` comes exactly where nothing begins at that byte and everything before it is cut, `Memory` when memory runs out.
+///
+/// The text form is that of the Bril documentation (Cornell's CS 6120), with chars, paths and comments as described
+/// here.
 pub fn tokens(alloc: Global, source: &[u8]) -> Result<Tokens, LexFault>
     requires { length source.now < 2 ^ 32 }
     ensures ok { IfOk result (λ found. AreTokens source.now found.list) }
@@ -77,7 +78,7 @@ fn cut(alloc: Global, source: &[u8]) -> Result<Tokens, LexFault>
     Ok(Tokens { list })
 }
 
-// Adds the token that a piece from one place up to another is, if it is one.
+// Adds the piece between two positions, if it is a token.
 fn add(list: &mut Seq<Token>, class: Class, from: u32, to: u32) -> Result<(), AllocError>
     ensures ok { OnOk result (list.new ≡ list.old ++ token_at class from to) }
 {

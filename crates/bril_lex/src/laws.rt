@@ -2,7 +2,7 @@
 
 ghost use Rattle.bril_lex.specs.Laws.{CutsInOneWay, CutSourcesAreUtf8, PrintedIsCutIntoItself};
 
-/// Each source has one list of tokens, or stops at one byte, and never both.
+/// Each source either has exactly one list of tokens or stops at exactly one byte.
 pub fn cuts_in_one_way()
     ensures { CutsInOneWay }
 {}
@@ -12,8 +12,8 @@ pub fn cut_sources_are_utf8()
     ensures { CutSourcesAreUtf8 }
 {}
 
-/// Printed tokens, with blanks behind each or a next byte that can't go on the token, are the tokens of
-/// what is printed.
+/// Tokens that are printed, each followed by blanks or by a byte that can't continue it, are the tokens of the printed
+/// text.
 pub fn printed_is_cut_into_itself()
     ensures { PrintedIsCutIntoItself }
 {}

@@ -1,4 +1,4 @@
-// The longest piece at the front of bytes.
+// The longest piece at the front of the bytes.
 
 ghost use Rattle.std.specs.Prelude.{◌≡◌, ◌<◌, ◌≤◌, ◌+◌, ◌-◌, ◌^◌, length, is_some, IfSome};
 ghost use Rattle.std.specs.List.{prefix_len};
@@ -9,14 +9,14 @@ ghost use Rattle.bril_tree.specs.Identifier.{continues_identifier};
 ghost use Rattle.bril_tree.specs.Path.{is_path_byte};
 ghost use Rattle.bril_lex.specs.Spelling.{is_mark, is_blank, makes_float, continues_float, escaped};
 ghost use Rattle.bril_lex.specs.Piece.{stays_in_line};
-ghost use Rattle.bril_lex.specs.Scan.{is_sign, lead_of, stands_at, front_behind, identifier_len, sign_len, digits_len, fraction_len, front_of_digits, number_front, scalar_len, begins_escape, plain_len, char_len, path_len, comment_len, front_of};
+ghost use Rattle.bril_lex.specs.Scan.{is_sign, lead_of, stands_at, front_after, identifier_len, sign_len, digits_len, fraction_len, front_of_digits, number_front, scalar_len, begins_escape, plain_len, char_len, path_len, comment_len, front_of};
 
 use crate::class::Class;
 use crate::token::Kind;
 use bril_tree::name::{begins_name, continues_name};
 use std::str::from_utf8;
 
-/// A piece at the front of bytes: its class, and its length in bytes.
+/// A piece at the front of the bytes: its class, and its length in bytes.
 #[derive(Clone, Copy, PartialEq, Eq, Debug, Drop)]
 pub struct Front {
     pub class: Class,
@@ -38,7 +38,7 @@ enum Lead {
     Nothing,
 }
 
-// The longest piece of any class at the front, None where none begins the bytes.
+// The longest piece of any class at the front, None where no piece begins.
 pub fn first_piece(bytes: &[u8]) -> Option<Front>
     ensures value { result ≡ front_of bytes.now }
     ensures some { IfSome result (λ front. 0 < front.length) }
@@ -59,10 +59,10 @@ pub fn first_piece(bytes: &[u8]) -> Option<Front>
             length: name_bytes(rest) + 1,
         }),
         Lead::Number => number_front(bytes),
-        Lead::Function => front_behind(Kind::Function, identifier_len(rest)),
-        Lead::Label => front_behind(Kind::Label, identifier_len(rest)),
-        Lead::Char => front_behind(Kind::Char, char_len(rest)),
-        Lead::Path => front_behind(Kind::Path, path_len(rest)),
+        Lead::Function => front_after(Kind::Function, identifier_len(rest)),
+        Lead::Label => front_after(Kind::Label, identifier_len(rest)),
+        Lead::Char => front_after(Kind::Char, char_len(rest)),
+        Lead::Path => front_after(Kind::Path, path_len(rest)),
         Lead::Comment => Some(Front {
             class: Class::Comment,
             length: comment_len(rest) + 1,
@@ -161,7 +161,7 @@ fn float_bytes(bytes: &[u8]) -> usize
         .count()
 }
 
-// How many bytes at the front may stand in a path.
+// How many bytes at the front may be part of a path.
 fn path_bytes(bytes: &[u8]) -> usize
     ensures count { result ≡ prefix_len is_path_byte bytes.now }
     ensures within { result ≤ length bytes.now }
@@ -172,7 +172,7 @@ fn path_bytes(bytes: &[u8]) -> usize
         .count()
 }
 
-// How many bytes stand before the first LF.
+// How many bytes come before the first LF.
 fn line_bytes(bytes: &[u8]) -> usize
     ensures count { result ≡ prefix_len stays_in_line bytes.now }
     ensures within { result ≤ length bytes.now }
@@ -180,10 +180,10 @@ fn line_bytes(bytes: &[u8]) -> usize
     bytes.iter().take_while(|byte| **byte != b'\n').count()
 }
 
-// A token of one byte and `others` more, None where there are no more.
-fn front_behind(kind: Kind, others: usize) -> Option<Front>
+// A token of one byte and `others` more, None where there are no others.
+fn front_after(kind: Kind, others: usize) -> Option<Front>
     requires { others < 2 ^ 64 - 1 }
-    ensures { result ≡ front_behind kind others }
+    ensures { result ≡ front_after kind others }
 {
     if others == 0 {
         None
@@ -223,7 +223,7 @@ fn sign_len(bytes: &[u8]) -> usize
     }
 }
 
-// The length of what makes a float of the number before it, 0 where nothing does.
+// The length of what turns the number before it into a float, 0 where nothing does.
 fn fraction_len(bytes: &[u8]) -> usize
     ensures value { result ≡ fraction_len bytes.now }
     ensures within { result ≤ length bytes.now }
@@ -254,7 +254,7 @@ fn number_front(bytes: &[u8]) -> Option<Front>
     Some(front_of_digits(sign + digits, fraction))
 }
 
-// A number of a length, or the float that goes on from it.
+// A number of this length, or the float that continues it.
 fn front_of_digits(number: usize, fraction: usize) -> Front
     requires { number + fraction < 2 ^ 64 }
     ensures value { result ≡ front_of_digits number fraction }
@@ -273,11 +273,11 @@ fn front_of_digits(number: usize, fraction: usize) -> Front
     }
 }
 
-// Whether the byte stands at the place.
-fn stands_at(byte: u8, place: usize, bytes: &[u8]) -> bool
-    ensures { result ≡ stands_at byte place bytes.now }
+// Whether the byte at this index is there and equals `byte`.
+fn stands_at(byte: u8, index: usize, bytes: &[u8]) -> bool
+    ensures { result ≡ stands_at byte index bytes.now }
 {
-    place < bytes.len() && bytes[place] == byte
+    index < bytes.len() && bytes[index] == byte
 }
 
 // Whether the bytes are UTF-8.
@@ -319,7 +319,7 @@ fn scalar_len(bytes: &[u8]) -> usize
     }
 }
 
-// Whether the letter stands for a character behind `\`.
+// Whether `\` and this letter are an escape.
 fn is_escape_letter(letter: u8) -> bool
     ensures { result ≡ is_some (escaped letter) }
 {
@@ -329,7 +329,7 @@ fn is_escape_letter(letter: u8) -> bool
     )
 }
 
-// Whether `\`, the letter of an escape and a quote begin the bytes.
+// Whether the bytes begin with `\`, the letter of an escape and a quote.
 fn begins_escape(bytes: &[u8]) -> bool
     ensures { result ≡ begins_escape bytes.now }
 {
@@ -349,7 +349,7 @@ fn plain_len(bytes: &[u8]) -> usize
     }
 }
 
-// The length of a char literal behind its first quote, 0 where there is none.
+// The length of a char literal after its first quote, 0 where there is none.
 fn char_len(bytes: &[u8]) -> usize
     ensures value { result ≡ char_len bytes.now }
     ensures within { result ≤ length bytes.now }
@@ -361,7 +361,7 @@ fn char_len(bytes: &[u8]) -> usize
     }
 }
 
-// The length of a path behind its first quote, 0 where there is none.
+// The length of a path after its first quote, 0 where there is none.
 fn path_len(bytes: &[u8]) -> usize
     ensures value { result ≡ path_len bytes.now }
     ensures within { result ≤ length bytes.now }
@@ -374,7 +374,7 @@ fn path_len(bytes: &[u8]) -> usize
     }
 }
 
-// The length of a comment behind `#`: up to the LF, the end, or the first byte of no scalar value.
+// The length of a comment after `#`: up to the LF, the end, or the first byte that is not valid UTF-8.
 fn comment_len(bytes: &[u8]) -> usize
     ensures value { result ≡ comment_len bytes.now }
     ensures within { result ≤ length bytes.now }

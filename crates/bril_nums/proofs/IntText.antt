@@ -35,7 +35,7 @@ test-from_FitsSigned : (z : ℤ) → FitsSigned w64 z → fits_int z ≡ true
 test-from_FitsSigned (pos n) f = grind (arith, nat_tests, f.sfits)
 test-from_FitsSigned (negsuc n) f = grind (arith, nat_tests, f.sfits)
 
--- digits under a sign pass the test, and std reads their number
+-- digits with a sign pass the test, and std reads their number
 signed_test : (s : Sign) (ds : List ℕ) → IsNumeral 10 ds → (is_int_text (sign_text s ++ ds) ≡ true) × (signed_digits_value 10 (sign_text s ++ ds) ≡ with_sign s (digits_value 10 ds))
 signed_test no_sign [] h = absurd (omega (arith, h.0))
 signed_test no_sign (c ∷ cs) h =

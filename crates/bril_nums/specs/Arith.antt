@@ -3,7 +3,7 @@ use Rattle.std.specs.Prelude.{◌≡◌, ℕ, zero, suc, ◌^◌, ◌<◌, ◌�
 use Rattle.std.specs.Int.{int_wrap, w64}
 use lib.Utf8.{scalar}
 
--- `div`: none where the divisor is 0, else the quotient rounded toward zero, wrapped to 64 bits
+-- `div`: None where the divisor is 0, else the quotient rounded toward zero, wrapped to 64 bits
 abbrev pub quotient : ℤ → ℤ → Option ℤ
 quotient a (pos zero) = None
 quotient a (pos (suc n)) = Some (int_wrap w64 (int_div a (pos (suc n))))
@@ -14,13 +14,13 @@ abbrev pub scalar_of : ℤ → Option ℕ
 scalar_of (pos n) = if scalar n then Some n else None
 scalar_of (negsuc n) = None
 
--- w is z with a multiple of 2 ^ 64 added, and lies in the range of 64 bits
+-- w is z with a multiple of 2 ^ 64 added, and is in the range of 64 bits
 pub record IsWrapped (z w : ℤ) : Type 0 where
   pub fits : FitsSigned w64 w
   pub turns : ℤ
   pub congruent : w ≡ z +ℤ (turns *ℤ pos (2 ^ 64))
 
--- q is a / b rounded toward zero: with a remainder smaller than b it gives a back, and q * b is no further from 0 than a
+-- q is a / b rounded toward zero: with a remainder smaller than b it gives a, and q * b is no further from 0 than a
 pub record IsTruncatedQuotient (a b q : ℤ) : Type 0 where
   pub remainder : ℤ
   pub whole : (q *ℤ b) +ℤ remainder ≡ a

@@ -1,9 +1,9 @@
--- How an int is spelled: an optional sign, then one decimal digit or more. Its plain decimal is std's `signed_decimal`.
+-- How an int is spelled: an optional sign, then one or more decimal digits. Its plain decimal is std's `signed_decimal`.
 use Rattle.std.specs.Prelude.{◌≡◌, ℕ, suc, ◌^◌, Bool, ◌&&◌, List, [], ◌++◌, length, ℤ, pos, negsuc, neg_ℤ, Option, Some, None, if◌then◌else◌, nat_lt, slice_index, codes}
 use Rattle.std.specs.Str.{all_ascii_digits}
 use Rattle.std.specs.Str.Parse.{IsNumeral, digits_value, without_leading_sign, signed_digits_value}
 
--- what may stand before the digits
+-- what may come before the digits
 pub data Sign : Type 0 where
   no_sign : Sign
   plus : Sign
@@ -15,13 +15,13 @@ sign_text no_sign = []
 sign_text plus = codes "+"
 sign_text minus = codes "-"
 
--- the number n under a sign
+-- the number n with a sign
 abbrev pub with_sign : Sign → ℕ → ℤ
 with_sign no_sign n = pos n
 with_sign plus n = pos n
 with_sign minus n = neg_ℤ (pos n)
 
--- the bytes are an optional sign and then one digit or more, and z is the number that they spell
+-- the bytes are an optional sign and then one or more digits, and z is the number that they spell
 pub record IsInt (bytes : List ℕ) (z : ℤ) : Type 0 where
   pub sign : Sign
   pub digits : List ℕ
@@ -49,7 +49,7 @@ abbrev pub fits_int : ℤ → Bool
 fits_int (pos n) = nat_lt n (2 ^ 63)
 fits_int (negsuc n) = nat_lt n (2 ^ 63)
 
--- the bytes are an optional sign and then one digit or more
+-- the bytes are an optional sign and then one or more digits
 abbrev pub is_int_text : List ℕ → Bool
 is_int_text bytes = nat_lt 0 (length (without_leading_sign bytes)) && all_ascii_digits (without_leading_sign bytes)
 

@@ -7,9 +7,9 @@ ghost use Rattle.bril_nums.specs.Decimal.{IsInt, IsPlainDecimal, int_of};
 use itoa::Buffer;
 use std::str;
 
-/// Reads an int: an optional `+` or `-`, then one ASCII digit or more. Leading zeros are allowed, however many.
+/// Reads an int: an optional `+` or `-`, then one or more ASCII digits. Any number of leading zeros is allowed.
 ///
-/// `None` exactly where the bytes are not that, or the number that they spell is outside -2^63 to 2^63 - 1.
+/// `None` exactly where the bytes are anything else, or the number that they spell is outside -2^63 to 2^63 - 1.
 pub fn read_int(bytes: &[u8]) -> Option<i64>
     ensures value { result ≡ int_of bytes.now }
     ensures found { IfSome result (λ z. IsInt bytes.now z) }
@@ -19,9 +19,10 @@ pub fn read_int(bytes: &[u8]) -> Option<i64>
     text.parse().ok()
 }
 
-/// Writes the plain decimal of `n` into the first bytes of `into`, and gives their number, 1 to 20.
+/// Writes the plain decimal of `n` into the first bytes of `into`, and returns how many bytes it has, 1 to 20.
 ///
-/// The plain decimal has a `-` exactly where `n` is below 0, and no leading zero. The other bytes of `into` stay.
+/// The plain decimal has a `-` exactly where `n` is below 0, and no leading zero. The other bytes of `into` are
+/// unchanged.
 ///
 /// This is how `print` of the Bril documentation, core language, writes an int.
 pub fn put_int(n: i64, into: &mut [u8; 20]) -> usize

@@ -5,15 +5,15 @@ ghost use Rattle.std.specs.Fmt.{signed_decimal};
 ghost use Rattle.bril_nums.specs.Arith.{quotient, IsWrapped, IsTruncatedQuotient};
 ghost use Rattle.bril_nums.specs.Decimal.{IsInt, IsPlainDecimal, int_of};
 
-/// The law of wrapping: a wrapped number differs from the number by a multiple of 2^64 and lies in the range of an
-/// int, and no other number does.
+/// The law of wrapping: a wrapped number differs from the number by a multiple of 2^64 and is in the range of an int,
+/// and no other number is.
 pub fn wrapping_law()
     ensures wrapped { (z : ℤ) → IsWrapped z (int_wrap w64 z) }
     ensures only { (z w : ℤ) → IsWrapped z w → w ≡ int_wrap w64 z }
 {}
 
-/// The law of the quotient: where it lies in the range of an int it is the quotient rounded toward zero, so that it
-/// and the remainder give the dividend back. The least int by -1 is the least int.
+/// The law of the quotient: where it is in the range of an int, it is the quotient rounded toward zero, so that it and
+/// the remainder give the dividend. The least int by -1 is the least int.
 pub fn quotient_law()
     ensures truncated { (a b q : ℤ) → FitsSigned w64 (int_div a b) → quotient a b ≡ Some q → IsTruncatedQuotient a b q }
     ensures remainder { (a b q : ℤ) → FitsSigned w64 (int_div a b) → quotient a b ≡ Some q → (q *ℤ b) +ℤ int_rem a b ≡ a }

@@ -1,4 +1,4 @@
-//! Bril's ints: their arithmetic, how they are read and how they are written. Nothing here takes memory.
+//! Bril's ints: arithmetic, reading and writing. Nothing here allocates.
 #![tactic(auto)]
 
 mod arith;

@@ -1,37 +1,35 @@
 -- What a source spells, and its one fault.
-use Rattle.std.proofs.Common.{◌≡◌, ℕ, zero, suc, ◌+◌, ◌-◌, ◌≤◌, ◌<◌, List, [], ◌∷◌, ◌++◌, length, drop, Option, Some, None, Result, Ok, Err, refl, sym, ap, ◌∙◌, subst, inl, inr, arith, length-append}
-use Rattle.std.specs.Prelude.{◌⊎◌, IfSome}
+use Rattle.std.proofs.Common.{◌≡◌, ℕ, ◌-◌, ◌≤◌, List, [], ◌∷◌, length, drop, Result, Ok, Err, refl, sym, ap, ◌∙◌, subst, inl, inr, arith, length-append}
+use Rattle.std.specs.Prelude.{◌⊎◌}
 use Rattle.std.specs.List.{All}
-use Rattle.std.proofs.lemmas.Bool.{cases_lt}
 use Rattle.std.proofs.lemmas.List.{length-map}
 use Rattle.std.proofs.lemmas.List.Elements.{All-nil, All-cons, All-head, All-tail}
 use Rattle.bril_tree.specs.declared.tree.Tree.{Tree}
-use Rattle.bril_lex.specs.Cut.{AreTokens, StopsAt, AreInOrder, token_at}
+use Rattle.bril_lex.specs.Cut.{AreTokens, StopsAt, AreInOrder}
+use Rattle.bril_lex.specs.Laws.{CutsOrStops}
 use Rattle.bril_lex.specs.Lexeme.{Lexeme, lexeme_of, lexemes_of}
-use Rattle.bril_lex.specs.Scan.{front_of}
 use Rattle.bril_lex.specs.Spelling.{IsTokenOf}
-use Rattle.bril_lex.specs.declared.scan.Front.{Front}
 use Rattle.bril_lex.specs.declared.token.Token.{Token}
-use Rattle.bril_lex.proofs.Cuts.{cuts_in_one_way, IsCutTo, cut_start, cut_more, cut_whole, cut_stops, front_within}
+use Rattle.bril_lex.proofs.Cuts.{cuts_in_one_way}
 use Rattle.bril_grammar.specs.declared.fault.Fault.{Fault}
 use Rattle.bril_grammar.specs.declared.fault.FaultKind.{FaultKind}
 use Rattle.bril_grammar.specs.declared.fault.FaultKind.TheVariants as kind
 use Rattle.bril_grammar.specs.Machine.{read}
-use Rattle.bril_grammar.specs.Word.{word_of, words_of}
+use Rattle.bril_grammar.specs.Terminal.{terminal_of, terminals_of}
 use Rattle.bril_grammar.proofs.Whole.{programs_are_read, readings_are_spellings, read_fault_is_first, first_fault_is_read}
 use Rattle.bril_text.specs.declared.fault.TextFault.{TextFault}
 use Rattle.bril_text.specs.declared.fault.TextFault.TheVariants.{Lex, Grammar, IntRange, Float, Deep, Memory}
-use Rattle.bril_text.specs.Laws.{SourcesSpellOneTree, SourcesHaveOneFault, SpelledHaveNoFault, EachHasTreeOrFault}
-use Rattle.bril_text.specs.Reading.{Spells, HasFaultAt, HasFault, place_of, fault_of_kind, lexed, IsFaultOf, IsWithin, text_fault}
+use Rattle.bril_tree.specs.SourceLaws.{SourcesSpellOneTree, SourcesHaveOneFault, SpelledHaveNoFault, EachHasTreeOrFault}
+use Rattle.bril_text.specs.Reading.{Spells, HasFaultAt, HasFault, position_of, fault_of_kind, lexed, IsFaultOf, IsWithin, text_fault}
 use Rattle.bril_text.specs.Parse.{Fails}
 use Rattle.bril_text.specs.declared.parse.ParseFault.{ParseFault}
 use Rattle.bril_text.specs.declared.parse.ParseFault.TheVariants as parse
 use Rattle.bril_lex.specs.Cut.{IsFaultOf as IsLexFaultOf}
 use Rattle.bril_lex.specs.declared.cut.LexFault.{LexFault}
 use Rattle.bril_lex.specs.declared.cut.LexFault.TheVariants as lex
-use Rattle.bril_text.specs.Words.{IsTokenIn}
+use Rattle.bril_text.specs.Terminals.{IsTokenIn}
 
--- ---- tokens lie in their source
+-- ---- tokens are in their source
 
 order_end : (at : ℕ) (ts : List Token) (end : ℕ) → AreInOrder at ts end → at ≤ end
 order_end at [] end o = o
@@ -56,19 +54,19 @@ read_spells source ts tree are s =
     let same = cuts_in_one_way.tokens source s.tokens ts s.are are in
     subst (λ t. read (lexemes_of source t) ≡ Ok tree) same (programs_are_read (lexemes_of source s.tokens) tree s.spell)
 
-pub has_fault_read : (source : List ℕ) (ts : List Token) (f : Fault) → AreTokens source ts → read (lexemes_of source ts) ≡ Err f → HasFaultAt source f.kind (place_of source (drop (length ts - f.left) ts))
-has_fault_read source ts f are e = record { tokens = ts; are = are; left = f.left; first = read_fault_is_first (lexemes_of source ts) f e; place = refl }
+pub has_fault_read : (source : List ℕ) (ts : List Token) (f : Fault) → AreTokens source ts → read (lexemes_of source ts) ≡ Err f → HasFaultAt source f.kind (position_of source (drop (length ts - f.left) ts))
+has_fault_read source ts f are e = record { tokens = ts; are = are; left = f.left; first = read_fault_is_first (lexemes_of source ts) f e; position = refl }
 
 -- the machine's answer at a fault
 pub record Stopped (source : List ℕ) (ts : List Token) (k : FaultKind) (at : ℕ) : Type 0 where
   pub left : ℕ
   pub stops : read (lexemes_of source ts) ≡ Err (record { kind = k; left = left })
-  pub place : at ≡ place_of source (drop (length ts - left) ts)
+  pub position : at ≡ position_of source (drop (length ts - left) ts)
 
 pub read_fault : (source : List ℕ) (ts : List Token) (k : FaultKind) (at : ℕ) → AreTokens source ts → HasFaultAt source k at → Stopped source ts k at
 read_fault source ts k at are h =
     let same = cuts_in_one_way.tokens source h.tokens ts h.are are in
-    subst (λ t. Stopped source t k at) same (record { left = h.left; stops = first_fault_is_read (lexemes_of source h.tokens) (record { kind = k; left = h.left }) h.first; place = h.place })
+    subst (λ t. Stopped source t k at) same (record { left = h.left; stops = first_fault_is_read (lexemes_of source h.tokens) (record { kind = k; left = h.left }) h.first; position = h.position })
 
 pub fault_is : (source : List ℕ) (k : FaultKind) (at : ℕ) → HasFaultAt source k at → HasFault source (fault_of_kind k at)
 fault_is source kind.Float at h = h
@@ -93,7 +91,7 @@ which source Memory h = absurd h
 
 -- ---- the laws
 
-pub one_tree : SourcesSpellOneTree
+pub one_tree : SourcesSpellOneTree Spells
 one_tree source t u s r =
     let first = read_spells source s.tokens t s.are s in
     let second = read_spells source s.tokens u s.are r in
@@ -107,10 +105,10 @@ same_fault source ts k l at to s r =
     let faults = faults_same (record { kind = k; left = s.left }) (record { kind = l; left = r.left }) (read (lexemes_of source ts)) s.stops r.stops in
     let kinds : k ≡ l = ap (λ (f : Fault). f.kind) faults in
     let lefts : s.left ≡ r.left = ap (λ (f : Fault). f.left) faults in
-    let places : at ≡ to = s.place ∙ ap (λ n. place_of source (drop (length ts - n) ts)) lefts ∙ sym r.place in
-    (λ i. fault_of_kind (kinds i) (places i))
+    let positions : at ≡ to = s.position ∙ ap (λ n. position_of source (drop (length ts - n) ts)) lefts ∙ sym r.position in
+    (λ i. fault_of_kind (kinds i) (positions i))
 
-pub one_fault : SourcesHaveOneFault
+pub one_fault : SourcesHaveOneFault HasFault
 one_fault source f g hf hg = by (which source f hf) (which source g hg)
   where
     by : IsLex source f ⊎ IsOfToken source f → IsLex source g ⊎ IsOfToken source g → f ≡ g
@@ -119,7 +117,7 @@ one_fault source f g hf hg = by (which source f hf) (which source g hg)
     by (inr a) (inl b) = absurd (cuts_in_one_way.never_both source a.3.tokens b.0 a.3.are b.2)
     by (inr a) (inr b) = a.2 ∙ same_fault source a.3.tokens a.0 b.0 a.1 b.1 (read_fault source a.3.tokens a.0 a.1 a.3.are a.3) (read_fault source a.3.tokens b.0 b.1 a.3.are b.3) ∙ sym b.2
 
-pub no_fault : SpelledHaveNoFault
+pub no_fault : SpelledHaveNoFault Spells HasFault
 no_fault source tree f s h = by (which source f h)
   where
     by : IsLex source f ⊎ IsOfToken source f → ⊥
@@ -129,33 +127,13 @@ no_fault source tree f s h = by (which source f h)
         let fault = (read_fault source s.tokens a.0 a.1 s.are a.3).stops in
         cc
 
--- a source is cut, or stops
-abbrev CutsOrStops : List ℕ → Type 0
-CutsOrStops source = ((ts : List Token) × AreTokens source ts) ⊎ ((at : ℕ) × StopsAt source at)
-
--- one piece, or the end
-cut_one : (source : List ℕ) (at : ℕ) (ts : List Token) → IsCutTo source at ts → (o : Option Front) → front_of (drop at source) ≡ o → at < length source
-    → ((next : ℕ) (more : List Token) → at < next → IsCutTo source next more → CutsOrStops source) → CutsOrStops source
-cut_one source at ts c None e below goes_on = inr (at, cut_stops source at ts c below (sym e))
-cut_one source at ts c (Some f) e below goes_on =
-    let some = subst (λ o. IfSome o (λ (g : Front). (0 < g.length) × (g.length ≤ length (drop at source)))) e (front_within (drop at source)) in
-    goes_on (at + f.length) (ts ++ token_at f.class at (at + f.length)) (omega (arith, some.0)) (cut_more source at ts f c (sym e))
-
-cut_on : (n : ℕ) (source : List ℕ) (at : ℕ) (ts : List Token) → length source ≤ at + n → IsCutTo source at ts → CutsOrStops source
-cut_on zero source at ts enough c = inl (ts, cut_whole source at ts c (omega (arith, enough)))
-cut_on (suc n) source at ts enough c = by (cases_lt at (length source)) (λ next more above d. cut_on n source next more (omega (arith, above, enough)) d)
-  where
-    by : (at < length source) ⊎ (length source ≤ at) → ((next : ℕ) (more : List Token) → at < next → IsCutTo source next more → CutsOrStops source) → CutsOrStops source
-    by (inl below) goes_on = cut_one source at ts c (front_of (drop at source)) refl below goes_on
-    by (inr past) goes_on = inl (ts, cut_whole source at ts c past)
-
-pub tree_or_fault : EachHasTreeOrFault
-tree_or_fault source = by (cut_on (length source) source 0 [] (omega arith) (cut_start source))
+pub tree_or_fault : EachHasTreeOrFault Spells HasFault
+tree_or_fault source = by (cuts_in_one_way.either source)
   where
     of_tokens : (ts : List Token) → AreTokens source ts → (r : Result Tree Fault) → read (lexemes_of source ts) ≡ r → ((tree : Tree) × Spells source tree) ⊎ ((f : TextFault) × HasFault source f)
     of_tokens ts are (Ok tree) e = inl (tree, spells_read source ts tree are e)
     of_tokens ts are (Err f) e =
-        let at = place_of source (drop (length ts - f.left) ts) in
+        let at = position_of source (drop (length ts - f.left) ts) in
         inr (fault_of_kind f.kind at, fault_is source f.kind at (has_fault_read source ts f are e))
 
     by : CutsOrStops source → ((tree : Tree) × Spells source tree) ⊎ ((f : TextFault) × HasFault source f)
@@ -166,10 +144,10 @@ tree_or_fault source = by (cut_on (length source) source 0 [] (omega arith) (cut
 pub left_within : (source : List ℕ) (ts : List Token) (f : Fault) → read (lexemes_of source ts) ≡ Err f → f.left ≤ length ts
 left_within source ts f e =
     let first = read_fault_is_first (lexemes_of source ts) f e in
-    let words : length (words_of (lexemes_of source ts)) ≡ length ts = length-map (lexemes_of source ts) word_of ∙ length-map ts (lexeme_of source) in
-    omega (arith, first.left, ap length first.cut, length-append first.before first.rest, words)
+    let terminals : length (terminals_of (lexemes_of source ts)) ≡ length ts = length-map (lexemes_of source ts) terminal_of ∙ length-map ts (lexeme_of source) in
+    omega (arith, first.left, ap length first.cut, length-append first.before first.rest, terminals)
 
--- ---- faults as they are answered
+-- ---- faults as they are returned
 
 pub lex_fault : (source : List ℕ) (e : LexFault) → IsLexFaultOf source e → IsFaultOf source (lexed e)
 lex_fault source (lex.At at) h = inr h
@@ -189,7 +167,7 @@ module _ (source : List ℕ) (ts : List Token) (are : AreTokens source ts) where
   parse_reads parse.Memory h tree s = refl
 
   pub parse_has : (f : Fault) → read (lexemes_of source ts) ≡ Err f → HasFault source (text_fault source ts (parse.At f))
-  parse_has f h = fault_is source f.kind (place_of source (drop (length ts - f.left) ts)) (has_fault_read source ts f are h)
+  parse_has f h = fault_is source f.kind (position_of source (drop (length ts - f.left) ts)) (has_fault_read source ts f are h)
 
   pub parse_fault : (e : ParseFault) → Fails (read (lexemes_of source ts)) e → IsFaultOf source (text_fault source ts e)
   parse_fault (parse.At f) h = inr (parse_has f h)

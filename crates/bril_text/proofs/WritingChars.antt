@@ -4,11 +4,11 @@ use Rattle.std.specs.Prelude.{if◌then◌else◌, ◌==◌}
 use Rattle.std.specs.Char.{IsScalar, encode_utf8}
 use Rattle.std.proofs.lemmas.Bool.{eqb-true, eqb-false}
 use Rattle.bril_lex.specs.Spelling.{escaped, SpellsChar}
-use Rattle.bril_grammar.specs.Word.{char_value}
-use Rattle.bril_grammar.proofs.Words.{char_value-escape, char_value-plain}
+use Rattle.bril_grammar.specs.Terminal.{char_value}
+use Rattle.bril_grammar.proofs.Terminals.{char_value-escape, char_value-plain}
 use Rattle.bril_text.specs.Canonical.{inner_char_text}
 
--- the literal around the text spells the character, and its word is the character's
+-- the text in quotes spells the character, and its terminal is the character's
 pub record IsCharText (c : ℕ) (text : List ℕ) : Type 0 where
   pub spells : SpellsChar c (39 ∷ (text ++ (39 ∷ [])))
   pub value : char_value text ≡ c

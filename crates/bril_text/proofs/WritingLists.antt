@@ -12,7 +12,7 @@ repeat-suc (suc n) xs = ap (λ l. xs ++ l) (repeat-suc n xs) ∙ sym (append_ass
 repeat_more : {A : Type 0} (n : ℕ) (xs : List A) → repeat (n + 1) xs ≡ repeat n xs ++ xs
 repeat_more n xs = rw add-one (repeat-suc n xs)
 
--- the piece once more
+-- the piece one more time
 pub repeat_written : (n : ℕ) (old piece now next : List ℕ) → now ≡ old ++ repeat n piece → next ≡ now ++ piece → next ≡ old ++ repeat (n + 1) piece
 repeat_written n old piece now next e p = p ∙ ap (λ l. l ++ piece) e ∙ append_assoc old (repeat n piece) piece ∙ ap (λ l. old ++ l) (sym (repeat_more n piece))
 
@@ -22,15 +22,15 @@ items_written f xs i x old now next h g e p =
     p ∙ ap (λ l. l ++ f x) e ∙ flat_map_more f old (take i xs) x
     ∙ ap (λ l. old ++ flat_map f l) (ap (λ y. take i xs ++ (y ∷ [])) g ∙ sym (take_more xs i x h))
 
--- one more item is as it should be
+-- one more item is valid
 pub items_valid : {X : Type 0} (P : X → Type 0) (xs : List X) (i : ℕ) (x : X) → i < length xs → x ≡ get_or xs i x → All P (take i xs) → P x → All P (take (i + 1) xs)
 items_valid P xs i x h g all p = All-more P xs i x h all (let at : P (get_or xs i x) = rw (← g) p in at)
 
--- two pieces, one behind the other
+-- one piece after another
 pub two_written : (now then last p q : List ℕ) → then ≡ now ++ p → last ≡ then ++ q → last ≡ now ++ (p ++ q)
 two_written now then last p q e f = f ∙ ap (λ l. l ++ q) e ∙ append_assoc now p q
 
--- all items are as they should be
+-- all items are valid
 pub all_valid : {X : Type 0} (P : X → Type 0) (xs : List X) (i : ℕ) → length xs ≤ i → All P (take i xs) → All P xs
 all_valid P xs i h all = All-same P xs (take i xs) (sym (take_all i xs h)) all
 

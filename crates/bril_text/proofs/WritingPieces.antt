@@ -1,4 +1,4 @@
--- Text that is cut into pieces whose tokens have given words of the grammar.
+-- Text that is cut into pieces whose tokens are given terminals.
 use Rattle.std.proofs.Common.{◌≡◌, ℕ, true, List, [], ◌∷◌, ◌++◌, refl, sym, ap, ◌∙◌, subst, append_assoc, append-nil}
 use Rattle.std.proofs.lemmas.List.{map-append}
 use Rattle.bril_lex.specs.Spelling.{IsTokenOf, is_blank, is_mark}
@@ -11,36 +11,36 @@ use Rattle.bril_lex.specs.declared.token.Kind.TheVariants as kind
 use Rattle.bril_lex.proofs.Cuts.{bytes_of-append, AreLongest-append}
 use Rattle.bril_lex.proofs.Lexemes.{lexeme_at, lexemes_in}
 use Rattle.bril_lex.proofs.Longest.{token_is_front, blank_is_front}
-use Rattle.bril_grammar.specs.Word.{Word, word_as, word_of, words_of, mark_word}
+use Rattle.bril_grammar.specs.Terminal.{Terminal, terminal_as, terminal_of, terminals_of, mark_terminal}
 
--- before what stands behind it the text is cut into the longest pieces, and their tokens have these words
-pub record Prints (text behind : List ℕ) (words : List Word) : Type 0 where
+-- where these bytes follow, the text is cut into the longest pieces, and their tokens are these terminals
+pub record Prints (text following : List ℕ) (terminals : List Terminal) : Type 0 where
   pub pieces : List Piece
   pub cut : bytes_of pieces ≡ text
-  pub longest : AreLongest pieces behind
-  pub are : words_of (lexemes_in pieces) ≡ words
+  pub longest : AreLongest pieces following
+  pub are : terminals_of (lexemes_in pieces) ≡ terminals
 
-pub nothing : (behind : List ℕ) → Prints [] behind []
-nothing behind = record { pieces = []; cut = refl; longest = tt; are = refl }
+pub nothing : (following : List ℕ) → Prints [] following []
+nothing following = record { pieces = []; cut = refl; longest = tt; are = refl }
 
--- a token that doesn't go on into what follows it
-pub token : (k : Kind) (text more behind : List ℕ) (words : List Word) → IsTokenOf k text → ends_before k (more ++ behind) ≡ true → Prints more behind words → Prints (text ++ more) behind (word_as k text ∷ words)
-token k text more behind words is ends p = record {
+-- a token that what follows doesn't continue
+pub token : (k : Kind) (text more following : List ℕ) (terminals : List Terminal) → IsTokenOf k text → ends_before k (more ++ following) ≡ true → Prints more following terminals → Prints (text ++ more) following (terminal_as k text ∷ terminals)
+token k text more following terminals is ends p = record {
   pieces = record { class = OfKind k; text = text } ∷ p.pieces;
   cut = ap (λ l. text ++ l) p.cut;
-  longest = (subst (λ l. IsFront (OfKind k) text (l ++ behind)) (sym p.cut) (token_is_front k text (more ++ behind) is ends), p.longest);
-  are = ap (λ l. word_as k text ∷ l) p.are;
+  longest = (subst (λ l. IsFront (OfKind k) text (l ++ following)) (sym p.cut) (token_is_front k text (more ++ following) is ends), p.longest);
+  are = ap (λ l. terminal_as k text ∷ l) p.are;
 }
 
-pub blank : (byte : ℕ) (more behind : List ℕ) (words : List Word) → is_blank byte ≡ true → Prints more behind words → Prints (byte ∷ more) behind words
-blank byte more behind words is p = record {
+pub blank : (byte : ℕ) (more following : List ℕ) (terminals : List Terminal) → is_blank byte ≡ true → Prints more following terminals → Prints (byte ∷ more) following terminals
+blank byte more following terminals is p = record {
   pieces = record { class = Blank; text = byte ∷ [] } ∷ p.pieces;
   cut = ap (λ l. byte ∷ l) p.cut;
-  longest = (blank_is_front byte (bytes_of p.pieces ++ behind) is, p.longest);
+  longest = (blank_is_front byte (bytes_of p.pieces ++ following) is, p.longest);
   are = p.are;
 }
 
--- marks, char literals and paths go on into nothing
+-- nothing continues a mark, a char literal or a path
 pub mark_ends : (l : List ℕ) → ends_before kind.Mark l ≡ true
 mark_ends [] = refl
 mark_ends (x ∷ xs) = refl
@@ -53,22 +53,22 @@ pub path_ends : (l : List ℕ) → ends_before kind.Path l ≡ true
 path_ends [] = refl
 path_ends (x ∷ xs) = refl
 
-pub mark : (byte : ℕ) (more behind : List ℕ) (words : List Word) → is_mark byte ≡ true → Prints more behind words → Prints (byte ∷ more) behind (mark_word (byte ∷ []) ∷ words)
-mark byte more behind words is p = token kind.Mark (byte ∷ []) more behind words (byte, refl, is) (mark_ends (more ++ behind)) p
+pub mark : (byte : ℕ) (more following : List ℕ) (terminals : List Terminal) → is_mark byte ≡ true → Prints more following terminals → Prints (byte ∷ more) following (mark_terminal (byte ∷ []) ∷ terminals)
+mark byte more following terminals is p = token kind.Mark (byte ∷ []) more following terminals (byte, refl, is) (mark_ends (more ++ following)) p
 
 lexemes_in-append : (ps qs : List Piece) → lexemes_in (ps ++ qs) ≡ lexemes_in ps ++ lexemes_in qs
 lexemes_in-append [] qs = refl
 lexemes_in-append (p ∷ ps) qs = ap (λ l. lexeme_at p.class p.text ++ l) (lexemes_in-append ps qs) ∙ sym (append_assoc (lexeme_at p.class p.text) (lexemes_in ps) (lexemes_in qs))
 
--- one text behind another
-pub both : (a b behind : List ℕ) (v w : List Word) → Prints a (b ++ behind) v → Prints b behind w → Prints (a ++ b) behind (v ++ w)
-both a b behind v w p q = record {
+-- one text after another
+pub both : (a b following : List ℕ) (v w : List Terminal) → Prints a (b ++ following) v → Prints b following w → Prints (a ++ b) following (v ++ w)
+both a b following v w p q = record {
   pieces = p.pieces ++ q.pieces;
   cut = sym (append-nil (bytes_of (p.pieces ++ q.pieces))) ∙ bytes_of-append p.pieces q.pieces [] ∙ (λ i. p.cut i ++ (append-nil (bytes_of q.pieces) ∙ q.cut) i);
-  longest = AreLongest-append p.pieces q.pieces behind (subst (λ l. AreLongest p.pieces (l ++ behind)) (sym q.cut) p.longest) q.longest;
-  are = ap words_of (lexemes_in-append p.pieces q.pieces) ∙ map-append word_of (lexemes_in p.pieces) (lexemes_in q.pieces) ∙ (λ i. p.are i ++ q.are i);
+  longest = AreLongest-append p.pieces q.pieces following (subst (λ l. AreLongest p.pieces (l ++ following)) (sym q.cut) p.longest) q.longest;
+  are = ap terminals_of (lexemes_in-append p.pieces q.pieces) ∙ map-append terminal_of (lexemes_in p.pieces) (lexemes_in q.pieces) ∙ (λ i. p.are i ++ q.are i);
 }
 
 -- along an equation of texts
-pub same_text : (text other behind : List ℕ) (words : List Word) → text ≡ other → Prints text behind words → Prints other behind words
-same_text text other behind words e p = subst (λ l. Prints l behind words) e p
+pub same_text : (text other following : List ℕ) (terminals : List Terminal) → text ≡ other → Prints text following terminals → Prints other following terminals
+same_text text other following terminals e p = subst (λ l. Prints l following terminals) e p

@@ -1,5 +1,5 @@
--- The source that is written of a tree: no parentheses where there are no arguments, and functions before
--- arguments before labels.
+-- The source that is written for a tree: no parentheses where there are no arguments, and functions before arguments
+-- before labels.
 use Rattle.std.proofs.Common.{◌≡◌, ℕ, List, [], ◌∷◌, ◌++◌, map, Option, Some, None, refl, ap}
 use Rattle.bril_tree.specs.declared.function_tree.Dest.{Dest}
 use Rattle.bril_tree.specs.declared.function_tree.FuncTree.{FuncTree}

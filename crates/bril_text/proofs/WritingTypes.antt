@@ -1,4 +1,4 @@
--- Types, and lists of things with commas between, as they are printed.
+-- Types, and lists with commas between their items, as they are printed.
 use Rattle.std.proofs.Common.{◌≡◌, ℕ, true, zero, suc, List, [], ◌∷◌, ◌++◌, refl, codes}
 use Rattle.std.specs.List.{repeat, flat_map, join_by, All}
 use Rattle.std.proofs.Math.ListN.{replicate}
@@ -11,69 +11,69 @@ use Rattle.bril_lex.specs.Printed.{ends_before}
 use Rattle.bril_lex.specs.declared.token.Kind.TheVariants as kind
 use Rattle.bril_grammar.specs.declared.mark.Mark.TheVariants.{Comma, Less, Greater}
 use Rattle.bril_tree.specs.Spelling.{base_text}
-use Rattle.bril_grammar.specs.Word.{Word}
-use Rattle.bril_grammar.specs.Written.{pointer_words, type_words, typed_words}
+use Rattle.bril_grammar.specs.Terminal.{Terminal}
+use Rattle.bril_grammar.specs.Written.{pointer_terminals, type_terminals, typed_terminals}
 use Rattle.bril_text.specs.Canonical.{type_text, typed_text}
 use Rattle.bril_tree.specs.TreeForm.{IsDest}
 use Rattle.bril_text.proofs.WritingPieces.{Prints, nothing, token, blank, mark, both}
 
--- no identifier, function, label or number goes on into the bytes
+-- the bytes don't continue an identifier, a function, a label or a number
 abbrev pub Ends : List ℕ → Type 0
-Ends behind = ends_before kind.Identifier behind ≡ true
+Ends following = ends_before kind.Identifier following ≡ true
 
-closing : (n : ℕ) (behind : List ℕ) → Prints (repeat n (codes ">")) behind (replicate n (Word.Punctuation Greater))
-closing zero behind = nothing behind
-closing (suc n) behind = mark 62 (repeat n (codes ">")) behind (replicate n (Word.Punctuation Greater)) refl (closing n behind)
+closing : (n : ℕ) (following : List ℕ) → Prints (repeat n (codes ">")) following (replicate n (Terminal.Punctuation Greater))
+closing zero following = nothing following
+closing (suc n) following = mark 62 (repeat n (codes ">")) following (replicate n (Terminal.Punctuation Greater)) refl (closing n following)
 
-closing_ends : (n : ℕ) (behind : List ℕ) → Ends behind → Ends (repeat n (codes ">") ++ behind)
-closing_ends zero behind e = e
-closing_ends (suc n) behind e = refl
+closing_ends : (n : ℕ) (following : List ℕ) → Ends following → Ends (repeat n (codes ">") ++ following)
+closing_ends zero following e = e
+closing_ends (suc n) following e = refl
 
-base_prints : (b : Base) (more behind : List ℕ) (words : List Word) → Ends (more ++ behind) → Prints more behind words → Prints (base_text b ++ more) behind (Word.Name (base_text b) ∷ words)
-base_prints base.Int more behind words e p = token kind.Identifier (codes "int") more behind words refl e p
-base_prints base.Bool more behind words e p = token kind.Identifier (codes "bool") more behind words refl e p
-base_prints base.Char more behind words e p = token kind.Identifier (codes "char") more behind words refl e p
+base_prints : (b : Base) (more following : List ℕ) (terminals : List Terminal) → Ends (more ++ following) → Prints more following terminals → Prints (base_text b ++ more) following (Terminal.Name (base_text b) ∷ terminals)
+base_prints base.Int more following terminals e p = token kind.Identifier (codes "int") more following terminals refl e p
+base_prints base.Bool more following terminals e p = token kind.Identifier (codes "bool") more following terminals refl e p
+base_prints base.Char more following terminals e p = token kind.Identifier (codes "char") more following terminals refl e p
 
-opening : (n : ℕ) (more behind : List ℕ) (words : List Word) → Prints more behind words → Prints (repeat n (codes "ptr<") ++ more) behind (repeat n pointer_words ++ words)
-opening zero more behind words p = p
-opening (suc n) more behind words p =
+opening : (n : ℕ) (more following : List ℕ) (terminals : List Terminal) → Prints more following terminals → Prints (repeat n (codes "ptr<") ++ more) following (repeat n pointer_terminals ++ terminals)
+opening zero more following terminals p = p
+opening (suc n) more following terminals p =
     let after = repeat n (codes "ptr<") ++ more in
-    let later = repeat n pointer_words ++ words in
-    token kind.Identifier (codes "ptr") (60 ∷ after) behind (Word.Punctuation Less ∷ later) refl refl (mark 60 after behind later refl (opening n more behind words p))
+    let later = repeat n pointer_terminals ++ terminals in
+    token kind.Identifier (codes "ptr") (60 ∷ after) following (Terminal.Punctuation Less ∷ later) refl refl (mark 60 after following later refl (opening n more following terminals p))
 
-pub type_prints : (ty : Ty) (behind : List ℕ) → Ends behind → Prints (type_text ty) behind (type_words ty)
-type_prints ty behind e =
-    opening ty.depth (base_text ty.base ++ repeat ty.depth (codes ">")) behind _
-    (base_prints ty.base (repeat ty.depth (codes ">")) behind _ (closing_ends ty.depth behind e) (closing ty.depth behind))
+pub type_prints : (ty : Ty) (following : List ℕ) → Ends following → Prints (type_text ty) following (type_terminals ty)
+type_prints ty following e =
+    opening ty.depth (base_text ty.base ++ repeat ty.depth (codes ">")) following _
+    (base_prints ty.base (repeat ty.depth (codes ">")) following _ (closing_ends ty.depth following e) (closing ty.depth following))
 
-pub typed_prints : (dest : Dest) (behind : List ℕ) → IsDest dest → Ends behind → Prints (typed_text dest) behind (typed_words dest)
-typed_prints dest behind is e =
-    token kind.Identifier dest.name (codes ": " ++ type_text dest.ty) behind _ is refl
-    (mark 58 (32 ∷ type_text dest.ty) behind (type_words dest.ty) refl (blank 32 (type_text dest.ty) behind (type_words dest.ty) refl (type_prints dest.ty behind e)))
+pub typed_prints : (dest : Dest) (following : List ℕ) → IsDest dest → Ends following → Prints (typed_text dest) following (typed_terminals dest)
+typed_prints dest following is e =
+    token kind.Identifier dest.name (codes ": " ++ type_text dest.ty) following _ is refl
+    (mark 58 (32 ∷ type_text dest.ty) following (type_terminals dest.ty) refl (blank 32 (type_text dest.ty) following (type_terminals dest.ty) refl (type_prints dest.ty following e)))
 
--- things one behind the other
-pub all_print : {X : Type 0} (f : X → List ℕ) (g : X → List Word) (P : X → Type 0) (each : (x : X) (behind : List ℕ) → P x → Prints (f x) behind (g x)) (xs : List X) (behind : List ℕ) → All P xs → Prints (flat_map f xs) behind (flat_map g xs)
-all_print f g P each [] behind all = nothing behind
-all_print f g P each (x ∷ xs) behind all =
-    both (f x) (flat_map f xs) behind (g x) (flat_map g xs) (each x (flat_map f xs ++ behind) (All-head P x xs all)) (all_print f g P each xs behind (All-tail P x xs all))
+-- items, one after another
+pub all_print : {X : Type 0} (f : X → List ℕ) (g : X → List Terminal) (P : X → Type 0) (each : (x : X) (following : List ℕ) → P x → Prints (f x) following (g x)) (xs : List X) (following : List ℕ) → All P xs → Prints (flat_map f xs) following (flat_map g xs)
+all_print f g P each [] following all = nothing following
+all_print f g P each (x ∷ xs) following all =
+    both (f x) (flat_map f xs) following (g x) (flat_map g xs) (each x (flat_map f xs ++ following) (All-head P x xs all)) (all_print f g P each xs following (All-tail P x xs all))
 
--- others behind the first of things with commas between
-others_end : {X : Type 0} (f : X → List ℕ) (xs : List X) (behind : List ℕ) → Ends behind → Ends (flat_map (λ (y : X). codes ", " ++ f y) xs ++ behind)
-others_end f [] behind e = e
-others_end f (x ∷ xs) behind e = refl
+-- the items after the first, with commas between them
+others_end : {X : Type 0} (f : X → List ℕ) (xs : List X) (following : List ℕ) → Ends following → Ends (flat_map (λ (y : X). codes ", " ++ f y) xs ++ following)
+others_end f [] following e = e
+others_end f (x ∷ xs) following e = refl
 
-others_print : {X : Type 0} (f : X → List ℕ) (g : X → List Word) (P : X → Type 0) (each : (x : X) (behind : List ℕ) → P x → Ends behind → Prints (f x) behind (g x)) (xs : List X) (behind : List ℕ) → All P xs → Ends behind → Prints (flat_map (λ (y : X). codes ", " ++ f y) xs) behind (flat_map (λ (y : X). (Word.Punctuation Comma ∷ []) ++ g y) xs)
-others_print f g P each [] behind all e = nothing behind
-others_print {X} f g P each (x ∷ xs) behind all e =
+others_print : {X : Type 0} (f : X → List ℕ) (g : X → List Terminal) (P : X → Type 0) (each : (x : X) (following : List ℕ) → P x → Ends following → Prints (f x) following (g x)) (xs : List X) (following : List ℕ) → All P xs → Ends following → Prints (flat_map (λ (y : X). codes ", " ++ f y) xs) following (flat_map (λ (y : X). (Terminal.Punctuation Comma ∷ []) ++ g y) xs)
+others_print f g P each [] following all e = nothing following
+others_print {X} f g P each (x ∷ xs) following all e =
     let after = flat_map (λ (y : X). codes ", " ++ f y) xs in
-    let later = flat_map (λ (y : X). (Word.Punctuation Comma ∷ []) ++ g y) xs in
-    let here = both (f x) after behind (g x) later (each x (after ++ behind) (All-head P x xs all) (others_end f xs behind e)) (others_print f g P each xs behind (All-tail P x xs all) e) in
-    mark 44 (32 ∷ (f x ++ after)) behind (g x ++ later) refl (blank 32 (f x ++ after) behind (g x ++ later) refl here)
+    let later = flat_map (λ (y : X). (Terminal.Punctuation Comma ∷ []) ++ g y) xs in
+    let here = both (f x) after following (g x) later (each x (after ++ following) (All-head P x xs all) (others_end f xs following e)) (others_print f g P each xs following (All-tail P x xs all) e) in
+    mark 44 (32 ∷ (f x ++ after)) following (g x ++ later) refl (blank 32 (f x ++ after) following (g x ++ later) refl here)
 
--- things with commas between
-pub list_prints : {X : Type 0} (f : X → List ℕ) (g : X → List Word) (P : X → Type 0) (each : (x : X) (behind : List ℕ) → P x → Ends behind → Prints (f x) behind (g x)) (xs : List X) (behind : List ℕ) → All P xs → Ends behind → Prints (join_by f (codes ", ") xs) behind (join_by g (Word.Punctuation Comma ∷ []) xs)
-list_prints f g P each [] behind all e = nothing behind
-list_prints {X} f g P each (x ∷ xs) behind all e =
+-- items with commas between them
+pub list_prints : {X : Type 0} (f : X → List ℕ) (g : X → List Terminal) (P : X → Type 0) (each : (x : X) (following : List ℕ) → P x → Ends following → Prints (f x) following (g x)) (xs : List X) (following : List ℕ) → All P xs → Ends following → Prints (join_by f (codes ", ") xs) following (join_by g (Terminal.Punctuation Comma ∷ []) xs)
+list_prints f g P each [] following all e = nothing following
+list_prints {X} f g P each (x ∷ xs) following all e =
     let after = flat_map (λ (y : X). codes ", " ++ f y) xs in
-    let later = flat_map (λ (y : X). (Word.Punctuation Comma ∷ []) ++ g y) xs in
-    both (f x) after behind (g x) later (each x (after ++ behind) (All-head P x xs all) (others_end f xs behind e)) (others_print f g P each xs behind (All-tail P x xs all) e)
+    let later = flat_map (λ (y : X). (Terminal.Punctuation Comma ∷ []) ++ g y) xs in
+    both (f x) after following (g x) later (each x (after ++ following) (All-head P x xs all) (others_end f xs following e)) (others_print f g P each xs following (All-tail P x xs all) e)

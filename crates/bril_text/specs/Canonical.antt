@@ -15,7 +15,7 @@ use Rattle.bril_tree.specs.declared.value.Lit.{Lit}
 use Rattle.bril_tree.specs.declared.value.Lit.TheVariants as literal
 use Rattle.bril_tree.specs.Spelling.{operation_text, base_text, truth_text}
 
--- ` as @g` where the function has another name here
+-- ` as @g` if the function has another name here
 abbrev pub alias_text : Option (List ℕ) → List ℕ
 alias_text None = []
 alias_text (Some alias) = codes " as @" ++ alias
@@ -35,12 +35,12 @@ type_text ty = repeat ty.depth (codes "ptr<") ++ (base_text ty.base ++ repeat ty
 abbrev pub typed_text : Dest → List ℕ
 typed_text dest = dest.name ++ (codes ": " ++ type_text dest.ty)
 
--- `(a: int, b: bool)` where there are arguments
+-- `(a: int, b: bool)` if there are arguments
 abbrev pub args_text : List Dest → List ℕ
 args_text [] = []
 args_text (arg ∷ args) = codes "(" ++ (join_by typed_text (codes ", ") (arg ∷ args) ++ codes ")")
 
--- `: type` where a function returns one
+-- `: type` if a function returns one
 abbrev pub ret_text : Option Ty → List ℕ
 ret_text None = []
 ret_text (Some ty) = codes ": " ++ type_text ty
@@ -63,7 +63,7 @@ literal_text (literal.Int n) = signed_decimal n
 literal_text (literal.Bool b) = truth_text b
 literal_text (literal.Char c) = codes "'" ++ (inner_char_text c ++ codes "'")
 
--- each name behind a blank and its sign
+-- the names, each after the sign
 abbrev pub names_text : List ℕ → List (List ℕ) → List ℕ
 names_text sign names = flat_map (λ (name : List ℕ). sign ++ name) names
 
@@ -71,7 +71,7 @@ names_text sign names = flat_map (λ (name : List ℕ). sign ++ name) names
 abbrev pub operands_text : List (List ℕ) → List (List ℕ) → List (List ℕ) → List ℕ
 operands_text args funcs labels = names_text (codes " @") funcs ++ (names_text (codes " ") args ++ names_text (codes " .") labels)
 
--- `dest: type = ` where an instruction has a destination
+-- `dest: type = ` if an instruction has a destination
 abbrev pub dest_text : Option Dest → List ℕ
 dest_text None = []
 dest_text (Some dest) = typed_text dest ++ codes " = "

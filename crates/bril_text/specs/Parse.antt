@@ -1,4 +1,4 @@
--- What a function of the parser says of the machine: which run is left.
+-- What a function of the parser says about the machine: which run is left.
 use Rattle.std.specs.Prelude.{◌≡◌, ℕ, suc, Bool, false, Option, Some, None, Result, Ok, Err, List, [], ◌∷◌, length}
 use Rattle.bril_tree.specs.declared.function_tree.Dest.{Dest}
 use Rattle.bril_tree.specs.declared.function_tree.FuncTree.{FuncTree}
@@ -12,23 +12,24 @@ use Rattle.bril_grammar.specs.declared.fault.Fault.{Fault}
 use Rattle.bril_grammar.specs.declared.fault.FaultKind.{FaultKind}
 use Rattle.bril_grammar.specs.declared.fault.FaultKind.TheVariants.{Grammar}
 use Rattle.bril_grammar.specs.declared.keyword.Keyword.{Keyword}
-use Rattle.bril_grammar.specs.declared.keyword.Keyword.TheVariants as word
+use Rattle.bril_grammar.specs.declared.keyword.Keyword.TheVariants as keyword
 use Rattle.bril_grammar.specs.declared.mark.Mark.{Mark}
 use Rattle.bril_grammar.specs.Fault.{front}
 use Rattle.bril_grammar.specs.Keyword.{keyword_of}
 use Rattle.bril_grammar.specs.Machine.{Move, run, decided, go_on, begins_with_colon, same_mark}
 use Rattle.bril_grammar.specs.State.{Begun, Importing, Acting}
-use Rattle.bril_grammar.specs.Word.{Word, Name, Punctuation, ImportPath}
+use Rattle.bril_tree.specs.Path.{ImportPath}
+use Rattle.bril_grammar.specs.Terminal.{Terminal, Name, Punctuation}
 use Rattle.bril_text.specs.declared.operands.Operands.{Operands}
 use Rattle.bril_text.specs.declared.parse.ParseFault.{ParseFault}
 use Rattle.bril_text.specs.declared.parse.ParseFault.TheVariants.{At, Memory}
 
--- the run stops with the fault; want of memory says nothing
+-- the run stops with the fault; running out of memory says nothing
 abbrev pub Fails : Result Tree Fault → ParseFault → Type 0
 Fails before (At fault) = before ≡ Err fault
 Fails before Memory = Unit {0}
 
--- the run is that which is left behind what was read, or it fails
+-- the run is the one that is left after what was read, or it fails
 abbrev pub Runs : {X : Type 0} → Result Tree Fault → Result X ParseFault → (X → Result Tree Fault) → Type 0
 Runs before (Ok x) after = before ≡ after x
 Runs before (Err fault) after = Fails before fault
@@ -38,40 +39,40 @@ abbrev pub LeadsTo : {X : Type 0} → Result Tree Fault → Result X ParseFault 
 LeadsTo before (Ok x) P = P x
 LeadsTo before (Err fault) P = Fails before fault
 
--- the fault is of this kind, where this many words are left
-abbrev pub StopsAtWord : ParseFault → FaultKind → ℕ → Type 0
-StopsAtWord fault kind left = fault ≡ At (record { kind = kind; left = left })
+-- the fault is of this kind, where this many terminals are left
+abbrev pub StopsAtTerminal : ParseFault → FaultKind → ℕ → Type 0
+StopsAtTerminal fault kind left = fault ≡ At (record { kind = kind; left = left })
 
--- where a word must come next, by where it leads
-abbrev pub go : (Word → Move) → List Word → Result Tree Fault
+-- where a terminal must come next, by where it leads
+abbrev pub go : (Terminal → Move) → List Terminal → Result Tree Fault
 go moves [] = Err (record { kind = Grammar; left = 0 })
 go moves (w ∷ ws) = go_on (decided (moves w) (begins_with_colon ws)) (λ next. run next ws) (suc (length ws))
 
--- the word is this mark
-abbrev pub is_word_of : Mark → Word → Bool
-is_word_of mark (Punctuation m) = same_mark m mark
-is_word_of mark _ = false
+-- the terminal is this mark
+abbrev pub is_terminal_of : Mark → Terminal → Bool
+is_terminal_of mark (Punctuation m) = same_mark m mark
+is_terminal_of mark _ = false
 
--- the word, if there is one, is this mark
-abbrev pub is_front_of : Mark → Option Word → Bool
+-- the terminal, if there is one, is this mark
+abbrev pub is_front_of : Mark → Option Terminal → Bool
 is_front_of mark None = false
-is_front_of mark (Some w) = is_word_of mark w
+is_front_of mark (Some w) = is_terminal_of mark w
 
 -- this mark comes next
-abbrev pub begins_with : Mark → List Word → Bool
+abbrev pub begins_with : Mark → List Terminal → Bool
 begins_with mark ws = is_front_of mark (front ws)
 
--- what a word is to the grammar
-abbrev pub keyword_as : Word → Keyword
+-- what a terminal is to the grammar
+abbrev pub keyword_as : Terminal → Keyword
 keyword_as (Name text) = keyword_of text
-keyword_as _ = word.Plain
+keyword_as _ = keyword.Plain
 
-abbrev pub keyword_in : Option Word → Keyword
-keyword_in None = word.Plain
+abbrev pub keyword_in : Option Terminal → Keyword
+keyword_in None = keyword.Plain
 keyword_in (Some w) = keyword_as w
 
--- what the next word is to the grammar
-abbrev pub keyword_at : List Word → Keyword
+-- what the next terminal is to the grammar
+abbrev pub keyword_at : List Terminal → Keyword
 keyword_at ws = keyword_in (front ws)
 
 -- a function that was begun, from its parts

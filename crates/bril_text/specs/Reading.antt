@@ -22,9 +22,9 @@ pub record Spells (source : List ℕ) (tree : Tree) : Type 0 where
   pub spell : IsProgram (lexemes_of source tokens) tree
 
 -- where the first of the tokens begins, or the source's end where there is none
-abbrev pub place_of : List ℕ → List Token → ℕ
-place_of source [] = length source
-place_of source (token ∷ tokens) = token.from
+abbrev pub position_of : List ℕ → List Token → ℕ
+position_of source [] = length source
+position_of source (token ∷ tokens) = token.from
 
 -- the bytes have tokens, and the first of these that doesn't fit is at this byte
 pub record HasFaultAt (source : List ℕ) (kind : FaultKind) (at : ℕ) : Type 0 where
@@ -32,7 +32,7 @@ pub record HasFaultAt (source : List ℕ) (kind : FaultKind) (at : ℕ) : Type 0
   pub are : AreTokens source tokens
   pub left : ℕ
   pub first : FirstFault (lexemes_of source tokens) (record { kind = kind; left = left })
-  pub place : at ≡ place_of source (drop (length tokens - left) tokens)
+  pub position : at ≡ position_of source (drop (length tokens - left) tokens)
 
 -- the source has this fault
 abbrev pub HasFault : List ℕ → TextFault → Type 0
@@ -43,7 +43,7 @@ HasFault source (Float at) = HasFaultAt source kind.Float at
 HasFault source (Deep at) = HasFaultAt source kind.Deep at
 HasFault source Memory = ⊥
 
--- what a fault says of the source; want of memory says nothing
+-- what a fault says about the source; running out of memory says nothing
 abbrev pub IsFaultOf : List ℕ → TextFault → Type 0
 IsFaultOf source fault = (fault ≡ Memory) ⊎ HasFault source fault
 
@@ -59,12 +59,12 @@ abbrev pub lexed : LexFault → TextFault
 lexed (lex.At at) = Lex at
 lexed lex.Memory = Memory
 
--- a fault of the parser has no more tokens left than there are
+-- a fault of the parser has at most as many tokens left as there are
 abbrev pub IsWithin : List Token → ParseFault → Type 0
 IsWithin tokens (parse.At fault) = fault.left ≤ length tokens
 IsWithin tokens parse.Memory = Unit {0}
 
 -- the fault at the byte where its token begins
 abbrev pub text_fault : List ℕ → List Token → ParseFault → TextFault
-text_fault source tokens (parse.At fault) = fault_of_kind fault.kind (place_of source (drop (length tokens - fault.left) tokens))
+text_fault source tokens (parse.At fault) = fault_of_kind fault.kind (position_of source (drop (length tokens - fault.left) tokens))
 text_fault source tokens parse.Memory = Memory

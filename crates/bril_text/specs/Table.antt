@@ -1,4 +1,4 @@
--- The table of the grammar's words.
+-- The table of keywords.
 use Rattle.std.specs.Prelude.{ℕ, List}
 use Rattle.std.specs.Borrow.{Bor}
 use Rattle.bril_grammar.specs.declared.keyword.Keyword.{Keyword}

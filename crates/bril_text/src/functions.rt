@@ -7,14 +7,14 @@ ghost use Rattle.bril_tree.specs.declared.import.Import.{Import};
 ghost use Rattle.bril_tree.specs.Identifier.{is_identifier};
 ghost use Rattle.bril_grammar.specs.Machine.{run, begin, with_arg};
 ghost use Rattle.bril_grammar.specs.State.{Begun, AtFunction, AfterName, AfterArgs, AtFirstArg, AtArg, AfterArg, AtItem};
-ghost use Rattle.bril_grammar.specs.Word.{words_of};
+ghost use Rattle.bril_grammar.specs.Terminal.{terminals_of};
 ghost use Rattle.bril_text.specs.Parse.{Runs, begun_with};
 
 use crate::items::items_at;
 use crate::parse::{ParseFault, comma_or, expect, fault_at, identifier, name_of};
+use crate::terminal::TerminalRef;
+use crate::terminals::Terminals;
 use crate::types::type_at;
-use crate::word::WordRef;
-use crate::words::Words;
 use bril_grammar::fault::FaultKind;
 use bril_grammar::mark::Mark;
 use bril_tree::function_tree::{Dest, FuncTree};
@@ -22,42 +22,42 @@ use bril_tree::sequence::Seq;
 use bril_tree::types::Ty;
 use std::alloc::Global;
 
-// The functions up to the end.
-pub fn functions_at(alloc: Global, words: Words<'_>) -> Result<Seq<FuncTree>, ParseFault>
-    ensures { (imports : List Import) → Runs (run (AtFunction imports []) (words_of words.entry)) result
+// The functions, up to the end.
+pub fn functions_at(alloc: Global, terminals: Terminals<'_>) -> Result<Seq<FuncTree>, ParseFault>
+    ensures { (imports : List Import) → Runs (run (AtFunction imports []) (terminals_of terminals.entry)) result
         (λ funcs. Ok (record { imports = imports; funcs = funcs })) }
 {
     let mut funcs = Seq::new(alloc);
-    let mut words = words;
+    let mut terminals = terminals;
     'functions: loop {
-        let left = words.left();
-        match words.split() {
+        let left = terminals.left();
+        match terminals.split() {
             None => return Ok(funcs),
-            Some((WordRef::Function(text), rest)) => {
+            Some((TerminalRef::Function(text), rest)) => {
                 let (function, after) = function_at(alloc, text, rest)?;
                 funcs.push(function)?;
-                words = after;
+                terminals = after;
             }
             _ => return Err(fault_at(FaultKind::Grammar, left)),
         }
     }
 }
 
-// A function, behind its name.
+// The rest of a function, after its name.
 fn function_at<'a>(
     alloc: Global,
     text: &[u8],
-    words: Words<'a>,
-) -> Result<(FuncTree, Words<'a>), ParseFault>
+    terminals: Terminals<'a>,
+) -> Result<(FuncTree, Terminals<'a>), ParseFault>
     requires { IsTrue (is_identifier text.now) }
     ensures runs { (imports : List Import) (funcs : List FuncTree) →
-        Runs (run (AfterName (begin imports funcs text.now)) (words_of words.entry)) result
-        (λ x. run (AtFunction imports (funcs ++ (x.0 ∷ []))) (words_of x.1)) }
-    ensures shorter { IfOk result (λ x. length x.1 < length words.entry) }
+        Runs (run (AfterName (begin imports funcs text.now)) (terminals_of terminals.entry)) result
+        (λ x. run (AtFunction imports (funcs ++ (x.0 ∷ []))) (terminals_of x.1)) }
+    ensures shorter { IfOk result (λ x. length x.1 < length terminals.entry) }
 {
-    let (args, words) = arguments_at(alloc, words)?;
-    let (ret, words) = return_at(words)?;
-    let (code, words) = items_at(alloc, words)?;
+    let (args, terminals) = arguments_at(alloc, terminals)?;
+    let (ret, terminals) = return_at(terminals)?;
+    let (code, terminals) = items_at(alloc, terminals)?;
     let name = name_of(alloc, text)?;
     Ok((
         FuncTree {
@@ -66,84 +66,96 @@ fn function_at<'a>(
             ret,
             code,
         },
-        words,
+        terminals,
     ))
 }
 
-// The arguments between parentheses, where these come next.
-fn arguments_at<'a>(alloc: Global, words: Words<'a>) -> Result<(Seq<Dest>, Words<'a>), ParseFault>
+// The arguments between parentheses, if these come next.
+fn arguments_at<'a>(
+    alloc: Global,
+    terminals: Terminals<'a>,
+) -> Result<(Seq<Dest>, Terminals<'a>), ParseFault>
     ensures runs { (imports : List Import) (funcs : List FuncTree) (name : List ℕ) →
-        Runs (run (AfterName (begin imports funcs name)) (words_of words.entry)) result
-        (λ x. run (AfterArgs (begun_with imports funcs name x.0 None [])) (words_of x.1)) }
-    ensures shorter { IfOk result (λ x. length x.1 ≤ length words.entry) }
+        Runs (run (AfterName (begin imports funcs name)) (terminals_of terminals.entry)) result
+        (λ x. run (AfterArgs (begun_with imports funcs name x.0 None [])) (terminals_of x.1)) }
+    ensures shorter { IfOk result (λ x. length x.1 ≤ length terminals.entry) }
 {
-    if words.begins_with(Mark::OpenParen) {
-        argument_list(alloc, words.skip())
+    if terminals.begins_with(Mark::OpenParen) {
+        argument_list(alloc, terminals.skip())
     } else {
-        Ok((Seq::new(alloc), words))
+        Ok((Seq::new(alloc), terminals))
     }
 }
 
-// The arguments behind `(`, up to `)`, and what stands behind it.
-fn argument_list<'a>(alloc: Global, words: Words<'a>) -> Result<(Seq<Dest>, Words<'a>), ParseFault>
+// The arguments after `(`, up to `)`, and the terminals after it.
+fn argument_list<'a>(
+    alloc: Global,
+    terminals: Terminals<'a>,
+) -> Result<(Seq<Dest>, Terminals<'a>), ParseFault>
     ensures runs { (imports : List Import) (funcs : List FuncTree) (name : List ℕ) →
-        Runs (run (AtFirstArg (begin imports funcs name)) (words_of words.entry)) result
-        (λ x. run (AfterArgs (begun_with imports funcs name x.0 None [])) (words_of x.1)) }
-    ensures shorter { IfOk result (λ x. length x.1 ≤ length words.entry) }
+        Runs (run (AtFirstArg (begin imports funcs name)) (terminals_of terminals.entry)) result
+        (λ x. run (AfterArgs (begun_with imports funcs name x.0 None [])) (terminals_of x.1)) }
+    ensures shorter { IfOk result (λ x. length x.1 ≤ length terminals.entry) }
 {
-    if words.begins_with(Mark::CloseParen) {
-        Ok((Seq::new(alloc), words.skip()))
+    if terminals.begins_with(Mark::CloseParen) {
+        Ok((Seq::new(alloc), terminals.skip()))
     } else {
-        arguments(alloc, words)
+        arguments(alloc, terminals)
     }
 }
 
-// One argument or more, up to `)`, and what stands behind it.
-fn arguments<'a>(alloc: Global, words: Words<'a>) -> Result<(Seq<Dest>, Words<'a>), ParseFault>
+// One or more arguments, up to `)`, and the terminals after it.
+fn arguments<'a>(
+    alloc: Global,
+    terminals: Terminals<'a>,
+) -> Result<(Seq<Dest>, Terminals<'a>), ParseFault>
     ensures runs { (imports : List Import) (funcs : List FuncTree) (name : List ℕ) →
-        Runs (run (AtArg (begin imports funcs name)) (words_of words.entry)) result
-        (λ x. run (AfterArgs (begun_with imports funcs name x.0 None [])) (words_of x.1)) }
-    ensures shorter { IfOk result (λ x. length x.1 ≤ length words.entry) }
+        Runs (run (AtArg (begin imports funcs name)) (terminals_of terminals.entry)) result
+        (λ x. run (AfterArgs (begun_with imports funcs name x.0 None [])) (terminals_of x.1)) }
+    ensures shorter { IfOk result (λ x. length x.1 ≤ length terminals.entry) }
 {
     let mut args = Seq::new(alloc);
-    let mut words = words;
+    let mut terminals = terminals;
     'arguments: loop {
-        let (arg, rest) = argument_at(alloc, words)?;
+        let (arg, rest) = argument_at(alloc, terminals)?;
         args.push(arg)?;
         let (more, rest) = comma_or(Mark::CloseParen, rest)?;
         if !more {
             return Ok((args, rest));
         }
-        words = rest;
+        terminals = rest;
     }
 }
 
 // An argument.
-fn argument_at<'a>(alloc: Global, words: Words<'a>) -> Result<(Dest, Words<'a>), ParseFault>
-    ensures runs { (begun : Begun) → Runs (run (AtArg begun) (words_of words.entry)) result
-        (λ x. run (AfterArg (with_arg begun x.0)) (words_of x.1)) }
-    ensures shorter { IfOk result (λ x. length x.1 < length words.entry) }
+fn argument_at<'a>(
+    alloc: Global,
+    terminals: Terminals<'a>,
+) -> Result<(Dest, Terminals<'a>), ParseFault>
+    ensures runs { (begun : Begun) → Runs (run (AtArg begun) (terminals_of terminals.entry)) result
+        (λ x. run (AfterArg (with_arg begun x.0)) (terminals_of x.1)) }
+    ensures shorter { IfOk result (λ x. length x.1 < length terminals.entry) }
 {
-    let (text, words) = identifier(words)?;
-    let words = expect(Mark::Colon, words)?;
-    let (ty, words) = type_at(words)?;
+    let (text, terminals) = identifier(terminals)?;
+    let terminals = expect(Mark::Colon, terminals)?;
+    let (ty, terminals) = type_at(terminals)?;
     let name = name_of(alloc, text)?;
-    Ok((Dest { name, ty }, words))
+    Ok((Dest { name, ty }, terminals))
 }
 
-// The type that is returned, where there is one, up to `{`, and what stands behind it.
-fn return_at(words: Words<'_>) -> Result<(Option<Ty>, Words<'_>), ParseFault>
+// The return type, if there is one, up to `{`, and the terminals after it.
+fn return_at(terminals: Terminals<'_>) -> Result<(Option<Ty>, Terminals<'_>), ParseFault>
     ensures runs { (imports : List Import) (funcs : List FuncTree) (name : List ℕ) (args : List Dest) →
-        Runs (run (AfterArgs (begun_with imports funcs name args None [])) (words_of words.entry)) result
-        (λ x. run (AtItem (begun_with imports funcs name args x.0 [])) (words_of x.1)) }
-    ensures shorter { IfOk result (λ x. length x.1 < length words.entry) }
+        Runs (run (AfterArgs (begun_with imports funcs name args None [])) (terminals_of terminals.entry)) result
+        (λ x. run (AtItem (begun_with imports funcs name args x.0 [])) (terminals_of x.1)) }
+    ensures shorter { IfOk result (λ x. length x.1 < length terminals.entry) }
 {
-    if words.begins_with(Mark::Colon) {
-        let (ty, words) = type_at(words.skip())?;
-        let words = expect(Mark::OpenBrace, words)?;
-        Ok((Some(ty), words))
+    if terminals.begins_with(Mark::Colon) {
+        let (ty, terminals) = type_at(terminals.skip())?;
+        let terminals = expect(Mark::OpenBrace, terminals)?;
+        Ok((Some(ty), terminals))
     } else {
-        let words = expect(Mark::OpenBrace, words)?;
-        Ok((None, words))
+        let terminals = expect(Mark::OpenBrace, terminals)?;
+        Ok((None, terminals))
     }
 }

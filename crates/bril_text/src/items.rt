@@ -8,7 +8,7 @@ ghost use Rattle.bril_tree.specs.declared.types.Ty.{Ty};
 ghost use Rattle.bril_tree.specs.Identifier.{is_identifier};
 ghost use Rattle.bril_grammar.specs.Machine.{run, with_item, dest_type, finished, act};
 ghost use Rattle.bril_grammar.specs.State.{Begun, AtItem, AtOperation, AtLiteral, AtOperand, Expect};
-ghost use Rattle.bril_grammar.specs.Word.{words_of, Name};
+ghost use Rattle.bril_grammar.specs.Terminal.{terminals_of, Name};
 ghost use Rattle.bril_grammar.specs.declared.mark.Mark.TheVariants.{Colon};
 ghost use Rattle.std.specs.Prelude.{IsTrue, ℕ};
 ghost use Rattle.bril_text.specs.Parse.{Runs, begun_with};
@@ -17,9 +17,9 @@ use crate::keyword::keyword;
 use crate::literal::literal_at;
 use crate::operands::operands_at;
 use crate::parse::{ParseFault, expect, fault_at, name_of};
+use crate::terminal::TerminalRef;
+use crate::terminals::Terminals;
 use crate::types::type_at;
-use crate::word::WordRef;
-use crate::words::Words;
 use bril_grammar::fault::FaultKind;
 use bril_grammar::keyword::Keyword;
 use bril_grammar::mark::Mark;
@@ -28,104 +28,107 @@ use bril_tree::operation::Op;
 use bril_tree::sequence::Seq;
 use std::alloc::Global;
 
-// The items that come next, up to `}`, and what stands behind it.
-pub fn items_at<'a>(alloc: Global, words: Words<'a>) -> Result<(Seq<Item>, Words<'a>), ParseFault>
+// The items that come next, up to `}`, and the terminals after it.
+pub fn items_at<'a>(
+    alloc: Global,
+    terminals: Terminals<'a>,
+) -> Result<(Seq<Item>, Terminals<'a>), ParseFault>
     ensures runs { (imports : List Import) (funcs : List FuncTree) (name : List ℕ) (args : List Dest) (ret : Option Ty) →
-        Runs (run (AtItem (begun_with imports funcs name args ret [])) (words_of words.entry)) result
-        (λ x. run (finished (begun_with imports funcs name args ret x.0)) (words_of x.1)) }
-    ensures shorter { IfOk result (λ x. length x.1 < length words.entry) }
+        Runs (run (AtItem (begun_with imports funcs name args ret [])) (terminals_of terminals.entry)) result
+        (λ x. run (finished (begun_with imports funcs name args ret x.0)) (terminals_of x.1)) }
+    ensures shorter { IfOk result (λ x. length x.1 < length terminals.entry) }
 {
     let mut code = Seq::new(alloc);
-    let mut words = words;
+    let mut terminals = terminals;
     'items: loop {
-        let left = words.left();
-        match words.split() {
-            Some((WordRef::Label(text), rest)) => {
+        let left = terminals.left();
+        match terminals.split() {
+            Some((TerminalRef::Label(text), rest)) => {
                 let (item, after) = label_at(alloc, text, rest)?;
                 code.push(item)?;
-                words = after;
+                terminals = after;
             }
-            Some((WordRef::Name(text), rest)) => {
+            Some((TerminalRef::Name(text), rest)) => {
                 let (item, after) = instruction_at(alloc, text, rest)?;
                 code.push(item)?;
-                words = after;
+                terminals = after;
             }
-            Some((WordRef::Mark(Mark::CloseBrace), rest)) => return Ok((code, rest)),
+            Some((TerminalRef::Mark(Mark::CloseBrace), rest)) => return Ok((code, rest)),
             _ => return Err(fault_at(FaultKind::Grammar, left)),
         }
     }
 }
 
-// A label, behind its name.
+// The rest of a label, after its name.
 fn label_at<'a>(
     alloc: Global,
     text: &[u8],
-    words: Words<'a>,
-) -> Result<(Item, Words<'a>), ParseFault>
+    terminals: Terminals<'a>,
+) -> Result<(Item, Terminals<'a>), ParseFault>
     requires { IsTrue (is_identifier text.now) }
     ensures runs { (begun : Begun) →
-        Runs (run (Expect Colon (AtItem (with_item begun (Item.Label text.now)))) (words_of words.entry)) result
-        (λ x. run (AtItem (with_item begun x.0)) (words_of x.1)) }
-    ensures shorter { IfOk result (λ x. length x.1 < length words.entry) }
+        Runs (run (Expect Colon (AtItem (with_item begun (Item.Label text.now)))) (terminals_of terminals.entry)) result
+        (λ x. run (AtItem (with_item begun x.0)) (terminals_of x.1)) }
+    ensures shorter { IfOk result (λ x. length x.1 < length terminals.entry) }
 {
-    let words = expect(Mark::Colon, words)?;
-    Ok((Item::Label(name_of(alloc, text)?), words))
+    let terminals = expect(Mark::Colon, terminals)?;
+    Ok((Item::Label(name_of(alloc, text)?), terminals))
 }
 
-// An instruction, behind the identifier with which it begins.
+// The rest of an instruction, after the identifier with which it begins.
 fn instruction_at<'a>(
     alloc: Global,
     text: &[u8],
-    words: Words<'a>,
-) -> Result<(Item, Words<'a>), ParseFault>
+    terminals: Terminals<'a>,
+) -> Result<(Item, Terminals<'a>), ParseFault>
     requires { IsTrue (is_identifier text.now) }
     ensures runs { (begun : Begun) →
-        Runs (run (AtItem begun) (Name text.now ∷ words_of words.entry)) result
-        (λ x. run (AtItem (with_item begun x.0)) (words_of x.1)) }
-    ensures shorter { IfOk result (λ x. length x.1 < length words.entry) }
+        Runs (run (AtItem begun) (Name text.now ∷ terminals_of terminals.entry)) result
+        (λ x. run (AtItem (with_item begun x.0)) (terminals_of x.1)) }
+    ensures shorter { IfOk result (λ x. length x.1 < length terminals.entry) }
 {
-    if words.begins_with(Mark::Colon) {
-        return assignment_at(alloc, text, words);
+    if terminals.begins_with(Mark::Colon) {
+        return assignment_at(alloc, text, terminals);
     }
     match keyword(text) {
-        Keyword::Operation(op) => act_at(alloc, None, op, words),
-        Keyword::FloatOperation => Err(fault_at(FaultKind::Float, words.left() + 1)),
-        _ => Err(fault_at(FaultKind::Grammar, words.left())),
+        Keyword::Operation(op) => act_at(alloc, None, op, terminals),
+        Keyword::FloatOperation => Err(fault_at(FaultKind::Float, terminals.left() + 1)),
+        _ => Err(fault_at(FaultKind::Grammar, terminals.left())),
     }
 }
 
-// An instruction with a destination, behind the destination's name.
+// The rest of an instruction with a destination, after the destination's name.
 fn assignment_at<'a>(
     alloc: Global,
     text: &[u8],
-    words: Words<'a>,
-) -> Result<(Item, Words<'a>), ParseFault>
+    terminals: Terminals<'a>,
+) -> Result<(Item, Terminals<'a>), ParseFault>
     requires { IsTrue (is_identifier text.now) }
     ensures runs { (begun : Begun) →
-        Runs (run (Expect Colon (dest_type begun text.now)) (words_of words.entry)) result
-        (λ x. run (AtItem (with_item begun x.0)) (words_of x.1)) }
-    ensures shorter { IfOk result (λ x. length x.1 < length words.entry) }
+        Runs (run (Expect Colon (dest_type begun text.now)) (terminals_of terminals.entry)) result
+        (λ x. run (AtItem (with_item begun x.0)) (terminals_of x.1)) }
+    ensures shorter { IfOk result (λ x. length x.1 < length terminals.entry) }
 {
-    let words = expect(Mark::Colon, words)?;
-    let (ty, words) = type_at(words)?;
-    let words = expect(Mark::Equals, words)?;
+    let terminals = expect(Mark::Colon, terminals)?;
+    let (ty, terminals) = type_at(terminals)?;
+    let terminals = expect(Mark::Equals, terminals)?;
     let name = name_of(alloc, text)?;
-    operation_at(alloc, Dest { name, ty }, words)
+    operation_at(alloc, Dest { name, ty }, terminals)
 }
 
-// What is assigned, from its operation on.
+// The right side of an assignment, from its operation on.
 fn operation_at<'a>(
     alloc: Global,
     dest: Dest,
-    words: Words<'a>,
-) -> Result<(Item, Words<'a>), ParseFault>
+    terminals: Terminals<'a>,
+) -> Result<(Item, Terminals<'a>), ParseFault>
     ensures runs { (begun : Begun) →
-        Runs (run (AtOperation begun dest) (words_of words.entry)) result
-        (λ x. run (AtItem (with_item begun x.0)) (words_of x.1)) }
-    ensures shorter { IfOk result (λ x. length x.1 < length words.entry) }
+        Runs (run (AtOperation begun dest) (terminals_of terminals.entry)) result
+        (λ x. run (AtItem (with_item begun x.0)) (terminals_of x.1)) }
+    ensures shorter { IfOk result (λ x. length x.1 < length terminals.entry) }
 {
-    let left = words.left();
-    let Some((WordRef::Name(text), rest)) = words.split() else {
+    let left = terminals.left();
+    let Some((TerminalRef::Name(text), rest)) = terminals.split() else {
         return Err(fault_at(FaultKind::Grammar, left));
     };
     match keyword(text) {
@@ -138,15 +141,15 @@ fn operation_at<'a>(
     }
 }
 
-// A constant, behind `const`.
-fn constant_at(dest: Dest, words: Words<'_>) -> Result<(Item, Words<'_>), ParseFault>
+// The rest of a constant, after `const`.
+fn constant_at(dest: Dest, terminals: Terminals<'_>) -> Result<(Item, Terminals<'_>), ParseFault>
     ensures runs { (begun : Begun) →
-        Runs (run (AtLiteral begun dest) (words_of words.entry)) result
-        (λ x. run (AtItem (with_item begun x.0)) (words_of x.1)) }
-    ensures shorter { IfOk result (λ x. length x.1 < length words.entry) }
+        Runs (run (AtLiteral begun dest) (terminals_of terminals.entry)) result
+        (λ x. run (AtItem (with_item begun x.0)) (terminals_of x.1)) }
+    ensures shorter { IfOk result (λ x. length x.1 < length terminals.entry) }
 {
-    let (value, words) = literal_at(words)?;
-    let words = expect(Mark::Semicolon, words)?;
+    let (value, terminals) = literal_at(terminals)?;
+    let terminals = expect(Mark::Semicolon, terminals)?;
     let Dest { name, ty } = dest;
     Ok((
         Item::Const {
@@ -154,23 +157,23 @@ fn constant_at(dest: Dest, words: Words<'_>) -> Result<(Item, Words<'_>), ParseF
             ty,
             value,
         },
-        words,
+        terminals,
     ))
 }
 
-// An instruction that is no constant, behind its operation.
+// The rest of an instruction other than a constant, after its operation.
 fn act_at<'a>(
     alloc: Global,
     dest: Option<Dest>,
     op: Op,
-    words: Words<'a>,
-) -> Result<(Item, Words<'a>), ParseFault>
+    terminals: Terminals<'a>,
+) -> Result<(Item, Terminals<'a>), ParseFault>
     ensures runs { (begun : Begun) →
-        Runs (run (AtOperand (act begun dest op)) (words_of words.entry)) result
-        (λ x. run (AtItem (with_item begun x.0)) (words_of x.1)) }
-    ensures shorter { IfOk result (λ x. length x.1 < length words.entry) }
+        Runs (run (AtOperand (act begun dest op)) (terminals_of terminals.entry)) result
+        (λ x. run (AtItem (with_item begun x.0)) (terminals_of x.1)) }
+    ensures shorter { IfOk result (λ x. length x.1 < length terminals.entry) }
 {
-    let (operands, words) = operands_at(alloc, words)?;
+    let (operands, terminals) = operands_at(alloc, terminals)?;
     Ok((
         Item::Act {
             dest,
@@ -179,6 +182,6 @@ fn act_at<'a>(
             funcs: operands.funcs,
             labels: operands.labels,
         },
-        words,
+        terminals,
     ))
 }

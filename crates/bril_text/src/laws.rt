@@ -1,15 +1,16 @@
 // Laws of reading. Each function states some, and does nothing when it is called.
 
-ghost use Rattle.bril_text.specs.Laws.{SourcesSpellOneTree, SourcesHaveOneFault, SpelledHaveNoFault, EachHasTreeOrFault};
+ghost use Rattle.bril_tree.specs.SourceLaws.{SourcesSpellOneTree, SourcesHaveOneFault, SpelledHaveNoFault, EachHasTreeOrFault};
+ghost use Rattle.bril_text.specs.Reading.{Spells, HasFault};
 
-/// A source spells one tree at most: two readings of the same bytes are one tree.
+/// A source spells at most one tree: two readings of the same bytes are the same tree.
 pub fn one_tree()
-    ensures { SourcesSpellOneTree }
+    ensures { SourcesSpellOneTree Spells }
 {}
 
-/// A source spells a tree or has exactly one fault, and never both.
+/// A source either spells a tree or has exactly one fault, never both.
 pub fn tree_or_fault()
-    ensures one { SourcesHaveOneFault }
-    ensures never_both { SpelledHaveNoFault }
-    ensures either { EachHasTreeOrFault }
+    ensures one { SourcesHaveOneFault HasFault }
+    ensures never_both { SpelledHaveNoFault Spells HasFault }
+    ensures either { EachHasTreeOrFault Spells HasFault }
 {}

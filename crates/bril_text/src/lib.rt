@@ -11,9 +11,9 @@ mod literal;
 mod operands;
 mod parse;
 mod reading;
+mod terminal;
+mod terminals;
 mod types;
-mod word;
-mod words;
 mod writing;
 
 pub use fault::TextFault;

@@ -1,4 +1,4 @@
-// What the functions of the parser answer.
+// What the functions of the parser return, and those that several of them use.
 
 ghost use Rattle.std.specs.Prelude.{◌≡◌, IfOk, IfErr, IsTrue, length, ◌<◌};
 ghost use Rattle.bril_tree.specs.Identifier.{is_identifier};
@@ -6,18 +6,18 @@ ghost use Rattle.bril_grammar.specs.Machine.{run, marks_alone, way, arg_named};
 ghost use Rattle.bril_grammar.specs.State.{State, Begun, Importing, Expect, AtArg, AtTaken, AfterTaken, AtAlias, AfterAlias};
 ghost use Rattle.bril_grammar.specs.declared.mark.Mark.TheVariants.{Comma};
 ghost use Rattle.std.specs.Prelude.{ℕ, List, [], ◌∷◌, Some, if◌then◌else◌};
-ghost use Rattle.bril_grammar.specs.Word.{words_of};
+ghost use Rattle.bril_grammar.specs.Terminal.{terminals_of};
 ghost use Rattle.bril_text.specs.declared.parse.ParseFault.TheVariants.{Memory};
-ghost use Rattle.bril_text.specs.Parse.{Runs, StopsAtWord, go};
+ghost use Rattle.bril_text.specs.Parse.{Runs, StopsAtTerminal, go};
 
-use crate::word::WordRef;
-use crate::words::Words;
+use crate::terminal::TerminalRef;
+use crate::terminals::Terminals;
 use bril_grammar::fault::{Fault, FaultKind};
 use bril_grammar::mark::Mark;
 use bril_tree::name::{IdentFault, Name};
 use std::alloc::{AllocError, Global};
 
-// Why the parser stopped: a token that doesn't fit, or want of memory.
+// Why the parser stopped: at a token that doesn't fit, or out of memory.
 #[derive(Clone, Copy, PartialEq, Eq, Debug, Drop)]
 pub enum ParseFault {
     At(Fault),
@@ -34,7 +34,7 @@ impl From<AllocError> for ParseFault {
 
 // The fault of a kind where this many tokens are left.
 pub fn fault_at(kind: FaultKind, left: usize) -> ParseFault
-    ensures { StopsAtWord result kind left }
+    ensures { StopsAtTerminal result kind left }
 {
     ParseFault::At(Fault { kind, left })
 }
@@ -52,59 +52,62 @@ pub fn name_of(alloc: Global, text: &[u8]) -> Result<Name, ParseFault>
     }
 }
 
-// What stands behind this mark, which must come next.
-pub fn expect<'a>(mark: Mark, words: Words<'a>) -> Result<Words<'a>, ParseFault>
-    ensures runs { (next : State) → Runs (run (Expect mark next) (words_of words.entry)) result (λ rest. run next (words_of rest)) }
-    ensures shorter { IfOk result (λ rest. length rest < length words.entry) }
+// The terminals after this mark, which must come next.
+pub fn expect<'a>(mark: Mark, terminals: Terminals<'a>) -> Result<Terminals<'a>, ParseFault>
+    ensures runs { (next : State) → Runs (run (Expect mark next) (terminals_of terminals.entry)) result (λ rest. run next (terminals_of rest)) }
+    ensures shorter { IfOk result (λ rest. length rest < length terminals.entry) }
 {
-    let left = words.left();
-    match words.split() {
-        Some((WordRef::Mark(found), rest)) if found == mark => Ok(rest),
+    let left = terminals.left();
+    match terminals.split() {
+        Some((TerminalRef::Mark(found), rest)) if found == mark => Ok(rest),
         _ => Err(fault_at(FaultKind::Grammar, left)),
     }
 }
 
-// Whether a comma comes next; else this mark must. What stands behind either.
-pub fn comma_or<'a>(mark: Mark, words: Words<'a>) -> Result<(bool, Words<'a>), ParseFault>
-    ensures runs { (again end : State) → Runs (go (marks_alone (way Comma again ∷ way mark end ∷ [])) (words_of words.entry)) result
-        (λ x. run (if x.0 then again else end) (words_of x.1)) }
-    ensures shorter { IfOk result (λ x. length x.1 < length words.entry) }
+// Whether a comma comes next, where otherwise this mark must, and the terminals after either.
+pub fn comma_or<'a>(
+    mark: Mark,
+    terminals: Terminals<'a>,
+) -> Result<(bool, Terminals<'a>), ParseFault>
+    ensures runs { (again end : State) → Runs (go (marks_alone (way Comma again ∷ way mark end ∷ [])) (terminals_of terminals.entry)) result
+        (λ x. run (if x.0 then again else end) (terminals_of x.1)) }
+    ensures shorter { IfOk result (λ x. length x.1 < length terminals.entry) }
 {
-    if words.begins_with(Mark::Comma) {
-        let rest = expect(Mark::Comma, words)?;
+    if terminals.begins_with(Mark::Comma) {
+        let rest = expect(Mark::Comma, terminals)?;
         Ok((true, rest))
     } else {
-        let rest = expect(mark, words)?;
+        let rest = expect(mark, terminals)?;
         Ok((false, rest))
     }
 }
 
 // The identifier that comes next.
-pub fn identifier(words: Words<'_>) -> Result<(&[u8], Words<'_>), ParseFault>
-    ensures runs { (begun : Begun) → Runs (run (AtArg begun) (words_of words.entry)) result
-        (λ x. run (arg_named begun x.0.now) (words_of x.1)) }
+pub fn identifier(terminals: Terminals<'_>) -> Result<(&[u8], Terminals<'_>), ParseFault>
+    ensures runs { (begun : Begun) → Runs (run (AtArg begun) (terminals_of terminals.entry)) result
+        (λ x. run (arg_named begun x.0.now) (terminals_of x.1)) }
     ensures identifier { IfOk result (λ x. IsTrue (is_identifier x.0.now)) }
-    ensures shorter { IfOk result (λ x. length x.1 < length words.entry) }
+    ensures shorter { IfOk result (λ x. length x.1 < length terminals.entry) }
 {
-    let left = words.left();
-    match words.split() {
-        Some((WordRef::Name(text), rest)) => Ok((text, rest)),
+    let left = terminals.left();
+    match terminals.split() {
+        Some((TerminalRef::Name(text), rest)) => Ok((text, rest)),
         _ => Err(fault_at(FaultKind::Grammar, left)),
     }
 }
 
-// The function's name that comes next.
-pub fn function_name(words: Words<'_>) -> Result<(&[u8], Words<'_>), ParseFault>
-    ensures taken { (i : Importing) → Runs (run (AtTaken i) (words_of words.entry)) result
-        (λ x. run (AfterTaken i x.0.now) (words_of x.1)) }
-    ensures alias { (i : Importing) (name : List ℕ) → Runs (run (AtAlias i name) (words_of words.entry)) result
-        (λ x. run (AfterAlias i (record { name = name; alias = Some x.0.now })) (words_of x.1)) }
+// The name of a function that comes next.
+pub fn function_name(terminals: Terminals<'_>) -> Result<(&[u8], Terminals<'_>), ParseFault>
+    ensures taken { (i : Importing) → Runs (run (AtTaken i) (terminals_of terminals.entry)) result
+        (λ x. run (AfterTaken i x.0.now) (terminals_of x.1)) }
+    ensures alias { (i : Importing) (name : List ℕ) → Runs (run (AtAlias i name) (terminals_of terminals.entry)) result
+        (λ x. run (AfterAlias i (record { name = name; alias = Some x.0.now })) (terminals_of x.1)) }
     ensures identifier { IfOk result (λ x. IsTrue (is_identifier x.0.now)) }
-    ensures shorter { IfOk result (λ x. length x.1 < length words.entry) }
+    ensures shorter { IfOk result (λ x. length x.1 < length terminals.entry) }
 {
-    let left = words.left();
-    match words.split() {
-        Some((WordRef::Function(text), rest)) => Ok((text, rest)),
+    let left = terminals.left();
+    match terminals.split() {
+        Some((TerminalRef::Function(text), rest)) => Ok((text, rest)),
         _ => Err(fault_at(FaultKind::Grammar, left)),
     }
 }

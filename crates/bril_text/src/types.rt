@@ -2,47 +2,47 @@
 
 ghost use Rattle.std.specs.Prelude.{◌≡◌, ◌<◌, ◌≤◌, IfOk, length};
 ghost use Rattle.bril_grammar.specs.Machine.{run, typed, closing};
-ghost use Rattle.bril_grammar.specs.State.{State, Place, AtType};
-ghost use Rattle.bril_grammar.specs.Word.{words_of};
+ghost use Rattle.bril_grammar.specs.State.{State, TypePosition, AtType};
+ghost use Rattle.bril_grammar.specs.Terminal.{terminals_of};
 ghost use Rattle.bril_text.specs.Parse.{Runs};
 
 use crate::keyword::keyword;
 use crate::parse::{ParseFault, expect, fault_at};
-use crate::word::WordRef;
-use crate::words::Words;
+use crate::terminal::TerminalRef;
+use crate::terminals::Terminals;
 use bril_grammar::fault::FaultKind;
 use bril_grammar::keyword::Keyword;
 use bril_grammar::mark::Mark;
 use bril_tree::types::Ty;
 
 // The type that comes next.
-pub fn type_at(words: Words<'_>) -> Result<(Ty, Words<'_>), ParseFault>
-    ensures runs { (place : Place) → Runs (run (AtType place 0) (words_of words.entry)) result
-        (λ x. run (typed place x.0) (words_of x.1)) }
-    ensures shorter { IfOk result (λ x. length x.1 < length words.entry) }
+pub fn type_at(terminals: Terminals<'_>) -> Result<(Ty, Terminals<'_>), ParseFault>
+    ensures runs { (position : TypePosition) → Runs (run (AtType position 0) (terminals_of terminals.entry)) result
+        (λ x. run (typed position x.0) (terminals_of x.1)) }
+    ensures shorter { IfOk result (λ x. length x.1 < length terminals.entry) }
 {
-    let (ty, words) = opened(words)?;
-    let words = closed(ty.depth, words)?;
-    Ok((ty, words))
+    let (ty, terminals) = opened(terminals)?;
+    let terminals = closed(ty.depth, terminals)?;
+    Ok((ty, terminals))
 }
 
 // The type up to its base.
-fn opened(words: Words<'_>) -> Result<(Ty, Words<'_>), ParseFault>
-    ensures runs { (place : Place) → Runs (run (AtType place 0) (words_of words.entry)) result
-        (λ x. run (closing x.0.depth (typed place x.0)) (words_of x.1)) }
-    ensures shorter { IfOk result (λ x. length x.1 < length words.entry) }
+fn opened(terminals: Terminals<'_>) -> Result<(Ty, Terminals<'_>), ParseFault>
+    ensures runs { (position : TypePosition) → Runs (run (AtType position 0) (terminals_of terminals.entry)) result
+        (λ x. run (closing x.0.depth (typed position x.0)) (terminals_of x.1)) }
+    ensures shorter { IfOk result (λ x. length x.1 < length terminals.entry) }
 {
-    let mut words = words;
+    let mut terminals = terminals;
     let mut depth = 0;
     'pointers: loop {
-        let left = words.left();
-        let Some((WordRef::Name(text), rest)) = words.split() else {
+        let left = terminals.left();
+        let Some((TerminalRef::Name(text), rest)) = terminals.split() else {
             return Err(fault_at(FaultKind::Grammar, left));
         };
         match keyword(text) {
             Keyword::BaseType(base) => return Ok((Ty { depth, base }, rest)),
             Keyword::Ptr if depth < 32 => {
-                words = expect(Mark::Less, rest)?;
+                terminals = expect(Mark::Less, rest)?;
                 depth += 1;
             }
             Keyword::Ptr => return Err(fault_at(FaultKind::Deep, left)),
@@ -52,15 +52,15 @@ fn opened(words: Words<'_>) -> Result<(Ty, Words<'_>), ParseFault>
     }
 }
 
-// What stands behind this many `>`.
-fn closed(depth: u8, words: Words<'_>) -> Result<Words<'_>, ParseFault>
-    ensures runs { (next : State) → Runs (run (closing depth next) (words_of words.entry)) result
-        (λ rest. run next (words_of rest)) }
-    ensures shorter { IfOk result (λ rest. length rest ≤ length words.entry) }
+// The terminals after this many `>`.
+fn closed(depth: u8, terminals: Terminals<'_>) -> Result<Terminals<'_>, ParseFault>
+    ensures runs { (next : State) → Runs (run (closing depth next) (terminals_of terminals.entry)) result
+        (λ rest. run next (terminals_of rest)) }
+    ensures shorter { IfOk result (λ rest. length rest ≤ length terminals.entry) }
 {
-    let mut words = words;
+    let mut terminals = terminals;
     for _ in 0..depth {
-        words = expect(Mark::Greater, words)?;
+        terminals = expect(Mark::Greater, terminals)?;
     }
-    Ok(words)
+    Ok(terminals)
 }

@@ -2,6 +2,8 @@ pub mod Acceptance
 pub mod Appearance
 pub mod Assignments
 pub mod Bare
+pub mod Canonical
+pub mod Equal
 pub mod Elements
 pub mod First
 pub mod Formed

@@ -1,6 +1,8 @@
 -- Each operation is found by its own name, and by no other.
-use Rattle.std.proofs.Common.{◌≡◌, ℕ, Bool, true, false, cond, List, [], ◌∷◌, Some, bytes_eq, Decides, refl, ◌∙◌, ap}
+use Rattle.std.proofs.Common.{◌≡◌, ℕ, Bool, true, false, cond, List, [], ◌∷◌, Some, bytes_eq, Decides, refl, subst, ◌∙◌, ap}
 use Rattle.std.specs.Prelude.{◌↔◌}
+use Rattle.std.specs.List.{list_all}
+use Rattle.std.proofs.lemmas.Bool.{and_parts}
 use Rattle.std.proofs.lemmas.Option.{same_Some}
 use Rattle.std.proofs.lemmas.Slice.Eq.{bytes_eq-Decides}
 use Rattle.bril_tree.specs.declared.operation.Op.{Op}
@@ -15,7 +17,7 @@ found_is_named (x ∷ os) name o e = by (bytes_eq name (operation_text x)) (byte
     by true same later h = same.0 refl ∙ ap operation_text (same_Some x o h)
     by false same later h = later h
 
-named_is_found : (o : Op) → operation_of (operation_text o) ≡ Some o
+pub named_is_found : (o : Op) → operation_of (operation_text o) ≡ Some o
 unfolding operation_of
 named_is_found op.Add = refl
 named_is_found op.Sub = refl
@@ -58,3 +60,16 @@ named_is_found op.Guard = refl
 pub operation_is_named : (o : Op) (name : List ℕ) → (operation_of name ≡ Some o) ↔ (name ≡ operation_text o)
 unfolding operation_of
 operation_is_named o name = (found_is_named operations name o, λ e. rw e (named_is_found o))
+
+found_passes : (test : Op → Bool) (os : List Op) (name : List ℕ) (o : Op) → operation_among os name ≡ Some o → list_all test os ≡ true → test o ≡ true
+found_passes test [] name o e all = absurd (cc)
+found_passes test (x ∷ os) name o e all = by (bytes_eq name (operation_text x)) (found_passes test os name o) e
+  where
+    by : (b : Bool) → (operation_among os name ≡ Some o → list_all test os ≡ true → test o ≡ true) → cond b (Some x) (operation_among os name) ≡ Some o → test o ≡ true
+    by true later h = subst (λ y. test y ≡ true) (same_Some x o h) (and_parts (test x) (list_all test os) all).0
+    by false later h = later h (and_parts (test x) (list_all test os) all).1
+
+-- a test that all operations in the list pass is passed by each operation
+pub each_passes : (test : Op → Bool) → list_all test operations ≡ true → (o : Op) → test o ≡ true
+unfolding operation_of
+each_passes test all o = found_passes test operations (operation_text o) o (named_is_found o) all

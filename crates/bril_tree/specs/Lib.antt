@@ -23,6 +23,7 @@ pub mod Run
 pub mod Shape
 pub mod Sites
 pub mod Size
+pub mod SourceLaws
 pub mod Spelling
 pub mod State
 pub mod Step

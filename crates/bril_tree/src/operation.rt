@@ -1,7 +1,8 @@
 // The operations other than `const`.
 
-ghost use Rattle.std.specs.Prelude.{◌≡◌};
-ghost use Rattle.bril_tree.specs.Spelling.{operation_text, operation_of, operation_among};
+ghost use Rattle.std.specs.Prelude.{◌≡◌, bytes_eq};
+ghost use Rattle.std.specs.List.{list_any};
+ghost use Rattle.bril_tree.specs.Spelling.{operation_text, operation_of, operation_among, float_operations};
 
 /// An operation of Bril's core language or of its memory, character, SSA and speculation extensions.
 #[derive(Clone, Copy, PartialEq, Eq, Debug, Drop)]
@@ -136,18 +137,36 @@ impl Op {
     pub fn named(name: &str) -> Option<Op>
         ensures { result ≡ operation_of name.now }
     {
+        Op::spelled(name.as_bytes())
+    }
+
+    /// The operation that these bytes spell, and None exactly where there is none. Takes no memory.
+    pub fn spelled(name: &[u8]) -> Option<Op>
+        ensures { result ≡ operation_of name.now }
+    {
         first_named(&OPERATIONS, name)
     }
 }
 
 // The first of the operations with this name.
-fn first_named(operations: &[Op], name: &str) -> Option<Op>
+fn first_named(operations: &[Op], name: &[u8]) -> Option<Op>
     ensures { result ≡ operation_among operations.now name.now }
 {
     'operations: for op in operations {
-        if name == op.name() {
+        if name == op.name().as_bytes() {
             return Some(*op);
         }
     }
     None
+}
+
+/// Whether the bytes spell one of the nine operations of Bril's floating point extension, which are not supported.
+/// Takes no memory.
+pub fn is_float_operation(name: &[u8]) -> bool
+    ensures { result ≡ list_any (bytes_eq name.now) float_operations }
+{
+    matches!(
+        name,
+        b"fadd" | b"fsub" | b"fmul" | b"fdiv" | b"feq" | b"flt" | b"fgt" | b"fle" | b"fge"
+    )
 }

@@ -7,7 +7,7 @@ ghost use Rattle.serde_json.specs.Data.{string};
 ghost use Rattle.serde_json.specs.View.{view};
 ghost use Rattle.bril_json.specs.Canonical.{type_json, literal_json, item_json};
 
-use crate::writing::part::{name_text, name_value, names_part, put_part};
+use crate::writing::part::{ListItem, name_text, names_part, put_part};
 use bril_tree::function_tree::{Dest, Item};
 use bril_tree::name::Name;
 use bril_tree::operation::Op;
@@ -17,7 +17,7 @@ use bril_tree::value::Lit;
 use serde_json::{Map, Value, json, put};
 use std::alloc::{AllocError, Global};
 
-// The type: its base in as many objects with the key `ptr` as it is deep.
+// The type: its base inside as many objects with the key `ptr` as the type is deep.
 pub fn type_value(alloc: Global, ty: &Ty) -> Result<Value, AllocError>
     ensures { IfOk result (λ v. view v ≡ type_json ty.now) }
 {
@@ -28,7 +28,7 @@ pub fn type_value(alloc: Global, ty: &Ty) -> Result<Value, AllocError>
     Ok(value)
 }
 
-// The type, where there is one.
+// The type, if there is one.
 pub fn type_part(alloc: Global, ty: &Option<Ty>) -> Result<Option<Value>, AllocError>
     ensures { IfOk result (λ part. option_map view part ≡ option_map type_json ty.now) }
 {
@@ -38,7 +38,7 @@ pub fn type_part(alloc: Global, ty: &Option<Ty>) -> Result<Option<Value>, AllocE
     }
 }
 
-// The name of the destination, where there is one.
+// The name of the destination, if there is one.
 fn dest_part(alloc: Global, dest: &Option<Dest>) -> Result<Option<Value>, AllocError>
     ensures part { IfOk result (λ part. option_map view part
         ≡ option_map (λ (d : Dest). string d.name) dest.now) }
@@ -46,11 +46,11 @@ fn dest_part(alloc: Global, dest: &Option<Dest>) -> Result<Option<Value>, AllocE
 {
     match dest {
         None => Ok(None),
-        Some(dest) => Ok(Some(name_value(alloc, &dest.name)?)),
+        Some(dest) => Ok(Some(dest.name.value(alloc)?)),
     }
 }
 
-// The type of the destination, where there is one.
+// The type of the destination, if there is one.
 fn dest_type_part(alloc: Global, dest: &Option<Dest>) -> Result<Option<Value>, AllocError>
     ensures { IfOk result (λ part. option_map view part
         ≡ option_map (λ (d : Dest). type_json d.ty) dest.now) }
@@ -61,7 +61,7 @@ fn dest_type_part(alloc: Global, dest: &Option<Dest>) -> Result<Option<Value>, A
     }
 }
 
-// The literal: a number, a truth value, or a text of one character.
+// The literal: a number, a boolean, or a text of one character.
 fn literal_value(alloc: Global, literal: &Lit) -> Result<Value, AllocError>
     ensures value { IfOk result (λ v. view v ≡ literal_json literal.now) }
     ensures valid { OnOk result (IsLiteral literal.now) }
@@ -91,7 +91,7 @@ fn const_value(alloc: Global, dest: &Name, ty: &Ty, value: &Lit) -> Result<Value
     json!(in alloc; {"dest": name_text(dest), "op": "const", "type": ty, "value": value})
 }
 
-// An instruction other than `const`. Its parts are put in in the order of their keys.
+// An instruction other than `const`. Its members are added in the order of their keys.
 fn act_value(
     alloc: Global,
     dest: &Option<Dest>,
@@ -114,20 +114,23 @@ fn act_value(
     Ok(Value::Object(members))
 }
 
-// A label or an instruction.
-pub fn item_value(alloc: Global, item: &Item) -> Result<Value, AllocError>
-    ensures value { IfOk result (λ v. view v ≡ item_json item.now) }
-    ensures valid { OnOk result (IsItem item.now) }
-{
-    match item {
-        Item::Label(name) => label_value(alloc, name),
-        Item::Const { dest, ty, value } => const_value(alloc, dest, ty, value),
-        Item::Act {
-            dest,
-            op,
-            args,
-            funcs,
-            labels,
-        } => act_value(alloc, dest, *op, args, funcs, labels),
+impl ListItem for Item {
+    ghost json = { item_json };
+
+    ghost is_part = { IsItem };
+
+    // A label or an instruction.
+    fn value(&self, alloc: Global) -> Result<Value, AllocError> {
+        match self {
+            Item::Label(name) => label_value(alloc, name),
+            Item::Const { dest, ty, value } => const_value(alloc, dest, ty, value),
+            Item::Act {
+                dest,
+                op,
+                args,
+                funcs,
+                labels,
+            } => act_value(alloc, dest, *op, args, funcs, labels),
+        }
     }
 }

@@ -1,8 +1,8 @@
-// Names, and parts of objects that stand or are left out.
+// Lists of values, names, and parts of objects that may be left out.
 
-ghost use Rattle.std.specs.Prelude.{◌≡◌, IfOk, OnOk, option_map};
+ghost use Rattle.std.specs.Prelude.{◌≡◌, IfOk, OnOk, All, option_map};
 ghost use Rattle.bril_tree.specs.TreeForm.{IsName, AreNames};
-ghost use Rattle.serde_json.specs.Data.{string};
+ghost use Rattle.serde_json.specs.Data.{Data, string};
 ghost use Rattle.serde_json.specs.View.{view, items_view, members_view};
 ghost use Rattle.bril_json.specs.Built as built;
 ghost use Rattle.bril_json.specs.Canonical.{listed, unless_empty};
@@ -12,6 +12,31 @@ use bril_tree::sequence::Seq;
 use serde_json::{Map, Value, put};
 use std::alloc::{AllocError, Global};
 use std::str;
+
+// A part of a tree that is an item of a list in the JSON form.
+pub trait ListItem {
+    // Its canonical JSON, and what it means to be a valid part of a tree.
+    ghost json: { Self → Data };
+
+    ghost is_part: { Self → Type 0 };
+
+    // Its canonical JSON.
+    fn value(&self, alloc: Global) -> Result<Value, AllocError>
+        ensures value { IfOk result (λ v. view v ≡ json self.now) }
+        ensures valid { OnOk result (is_part self.now) };
+}
+
+// The values of the items, in order.
+pub fn list_values<T: ListItem>(alloc: Global, list: &[T]) -> Result<Vec<Value>, AllocError>
+    ensures values { IfOk result (λ vs. items_view vs.items ≡ listed T.json list.now) }
+    ensures valid { OnOk result (All T.is_part list.now) }
+{
+    let mut values = Vec::new(alloc);
+    for item in list {
+        values.push(item.value(alloc)?)?;
+    }
+    Ok(values)
+}
 
 // The name as text.
 pub fn name_text(name: &Name) -> &str
@@ -24,27 +49,17 @@ pub fn name_text(name: &Name) -> &str
     }
 }
 
-// The name as a value.
-pub fn name_value(alloc: Global, name: &Name) -> Result<Value, AllocError>
-    ensures value { IfOk result (λ v. view v ≡ string name.now) }
-    ensures valid { OnOk result (IsName name.now) }
-{
-    Value::try_from_str(alloc, name_text(name))
-}
+impl ListItem for Name {
+    ghost json = { string };
 
-// The names, in order.
-fn name_values(alloc: Global, names: &[Name]) -> Result<Vec<Value>, AllocError>
-    ensures values { IfOk result (λ vs. items_view vs.items ≡ listed string names.now) }
-    ensures valid { OnOk result (AreNames names.now) }
-{
-    let mut values = Vec::new(alloc);
-    for name in names {
-        values.push(name_value(alloc, name)?)?;
+    ghost is_part = { IsName };
+
+    fn value(&self, alloc: Global) -> Result<Value, AllocError> {
+        Value::try_from_str(alloc, name_text(self))
     }
-    Ok(values)
 }
 
-// The list, where it has an item.
+// The list, if it has an item.
 pub fn list_part(values: Vec<Value>) -> Option<Value>
     ensures { option_map view result ≡ unless_empty (items_view values.items) }
 {
@@ -54,15 +69,15 @@ pub fn list_part(values: Vec<Value>) -> Option<Value>
     Some(Value::Array(values))
 }
 
-// The list of the names, where there are some.
+// The list of the names, if there are any.
 pub fn names_part(alloc: Global, names: &Seq<Name>) -> Result<Option<Value>, AllocError>
     ensures part { IfOk result (λ part. option_map view part ≡ unless_empty (listed string names.now)) }
     ensures valid { OnOk result (AreNames names.now) }
 {
-    Ok(list_part(name_values(alloc, names.as_slice())?))
+    Ok(list_part(list_values(alloc, names.as_slice())?))
 }
 
-// Puts in the part, where it stands.
+// Adds the part, if there is one.
 pub fn put_part(
     members: &mut Map<String, Value>,
     alloc: Global,

@@ -4,7 +4,8 @@ ghost use Rattle.std.specs.Prelude.{◌≡◌, ◌++◌, OnOk, IfSome, codes};
 ghost use Rattle.bril_text.specs.Canonical.{names_text, operands_text, dest_text, item_text};
 ghost use Rattle.bril_tree.specs.TreeForm.{IsName, AreNames, IsDest, IsItem};
 
-use crate::writing::word::{put_literal, put_typed};
+use crate::writing::part::Part;
+use crate::writing::terminal::{put_literal, put_typed};
 use bril_tree::bytes::Bytes;
 use bril_tree::function_tree::{Dest, Item};
 use bril_tree::name::Name;
@@ -13,7 +14,7 @@ use bril_tree::types::Ty;
 use bril_tree::value::Lit;
 use std::alloc::AllocError;
 
-// Appends each name behind the sign.
+// Appends the names, each after the sign.
 fn put_names(sign: &[u8], names: &Seq<Name>, into: &mut Bytes) -> Result<(), AllocError>
     ensures text { OnOk result (into.new ≡ into.old ++ names_text sign.now names.now) }
     ensures valid { OnOk result (AreNames names.now) }
@@ -40,7 +41,7 @@ fn put_operands(
     put_names(b" .", labels, into)
 }
 
-// Appends `dest: type = ` where there is a destination.
+// Appends `dest: type = ` if there is a destination.
 fn put_dest(dest: &Option<Dest>, into: &mut Bytes) -> Result<(), AllocError>
     ensures text { OnOk result (into.new ≡ into.old ++ dest_text dest.now) }
     ensures valid { OnOk result (IfSome dest.now IsDest) }
@@ -76,26 +77,29 @@ fn put_const(dest: &Name, ty: &Ty, value: &Lit, into: &mut Bytes) -> Result<(), 
     into.add(b";\n")
 }
 
-// Appends a label or an instruction.
-pub fn put_item(item: &Item, into: &mut Bytes) -> Result<(), AllocError>
-    ensures text { OnOk result (into.new ≡ into.old ++ item_text item.now) }
-    ensures valid { OnOk result (IsItem item.now) }
-{
-    match item {
-        Item::Label(name) => put_label(name, into),
-        Item::Const { dest, ty, value } => put_const(dest, ty, value, into),
-        Item::Act {
-            dest,
-            op,
-            args,
-            funcs,
-            labels,
-        } => {
-            into.add(b"  ")?;
-            put_dest(dest, into)?;
-            into.add(op.name().as_bytes())?;
-            put_operands(args, funcs, labels, into)?;
-            into.add(b";\n")
+impl Part for Item {
+    ghost canonical = { item_text };
+
+    ghost is_part = { IsItem };
+
+    // A label or an instruction, on a line of its own.
+    fn put(&self, into: &mut Bytes) -> Result<(), AllocError> {
+        match self {
+            Item::Label(name) => put_label(name, into),
+            Item::Const { dest, ty, value } => put_const(dest, ty, value, into),
+            Item::Act {
+                dest,
+                op,
+                args,
+                funcs,
+                labels,
+            } => {
+                into.add(b"  ")?;
+                put_dest(dest, into)?;
+                into.add(op.name().as_bytes())?;
+                put_operands(args, funcs, labels, into)?;
+                into.add(b";\n")
+            }
         }
     }
 }

@@ -6,9 +6,9 @@ use Rattle.bril_text.proofs.types.type_at.Goals as goal
 pub returns-in_err-ty-clause-runs : goal.returns-in_err-ty-clause-runs
 returns-in_err-ty-clause-runs c =
     let p = err_from_is_err_and c.from_residual.result c.from_residual.ensures.1 in
-    λ place. rw (p.1, p.2) (c.in_err-ty.ensures.runs place)
+    λ position. rw (p.1, p.2) (c.in_err-ty.ensures.runs position)
 
-pub returns-in_err-words-clause-runs : goal.returns-in_err-words-clause-runs
-returns-in_err-words-clause-runs c =
-    let p = err_from_is_err_and c.from_residual-in_err-words.result c.from_residual-in_err-words.ensures.1 in
-    λ place. rw (p.1, p.2) (along c.in_err-words.field-0.0 (c.in_ok-ty.ensures.runs place) (c.in_err-words.ensures.runs (typed place c.in_ok-ty.ty)))
+pub returns-in_err-terminals-clause-runs : goal.returns-in_err-terminals-clause-runs
+returns-in_err-terminals-clause-runs c =
+    let p = err_from_is_err_and c.from_residual-in_err-terminals.result c.from_residual-in_err-terminals.ensures.1 in
+    λ position. rw (p.1, p.2) (along c.in_err-terminals.field-0.0 (c.in_ok-ty.ensures.runs position) (c.in_err-terminals.ensures.runs (typed position c.in_ok-ty.ty)))

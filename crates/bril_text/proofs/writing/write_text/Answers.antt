@@ -9,11 +9,11 @@ use Rattle.bril_text.proofs.WritingTrees.{canonical_text_spells, canonical_text_
 use Rattle.bril_text.proofs.writing.write_text.Goals as goal
 use Rattle.bril_text.proofs.writing.write_text.Goals.{After-add}
 
--- what was written is a tree as it should be
+-- what was written is a valid tree
 is_tree : (c : After-add) → IsTree c.args.tree.now
 is_tree c = (
-  All-same IsImport c.args.tree.now.imports c.as_slice.result.now (sym c.as_slice.ensures) c.in_ok-put_imports.ensures.valid,
-  All-same IsFunction c.args.tree.now.funcs c.as_slice-2.result.now (sym c.as_slice-2.ensures) c.in_ok-put_functions.ensures.valid,
+  All-same IsImport c.args.tree.now.imports c.as_slice.result.now (sym c.as_slice.ensures) c.in_ok-put_each.ensures.valid,
+  All-same IsFunction c.args.tree.now.funcs c.as_slice-2.result.now (sym c.as_slice-2.ensures) c.in_ok-put_each-2.ensures.valid,
 )
 
 pub returns-clause-valid : goal.returns-clause-valid
