@@ -1,0 +1,175 @@
+// A case: the files and outputs that its lines set up, and its command lines.
+
+use bril_cli::top::bril_top;
+use bril_outside::mem_files::MemFiles;
+use bril_outside::mem_sink::MemSink;
+use bril_tree::sequence::Seq;
+use bril_tree::text::Text;
+use row_text::{LineFault, add_lines, add_unescaped};
+use std::alloc::{AllocError, Global};
+use std::mem;
+
+// How many bytes an output takes where a case doesn't say it.
+const ROOM: u32 = 65_536;
+
+/// What the lines of a case have set up so far.
+#[derive(Drop)]
+pub struct Case {
+    alloc: Global,
+    files: MemFiles,
+    // The path of the file that is being written, and its bytes so far.
+    path: Option<Text>,
+    content: Vec<u8>,
+    // For the next command line.
+    puts: Seq<u64>,
+    errs: Seq<u64>,
+    room: u32,
+}
+
+impl Case {
+    /// A case without files.
+    pub fn new(alloc: Global) -> Case {
+        Case {
+            alloc,
+            files: MemFiles::new(alloc, Seq::new(alloc)),
+            path: None,
+            content: Vec::new(alloc),
+            puts: Seq::new(alloc),
+            errs: Seq::new(alloc),
+            room: ROOM,
+        }
+    }
+
+    /// Takes the next line, and appends what it shows.
+    pub fn take(&mut self, line: &str, shown: &mut Vec<u8>) -> Result<(), LineFault> {
+        if let Some(text) = line.strip_prefix('|') {
+            self.content.extend_from_slice(text.as_bytes())?;
+            self.content.extend_from_slice(b"\n")?;
+            return Ok(());
+        }
+        let (word, rest) = line.split_once(' ').unwrap_or((line, ""));
+        match word {
+            "+" => add_unescaped(self.alloc, rest, 0, &mut self.content),
+            "fill" => self.fill(rest),
+            "file" => self.begin_file(rest),
+            "reads" => self.fail_reads(rest),
+            "puts" => {
+                self.puts = numbers_of(self.alloc, rest)?;
+                Ok(())
+            }
+            "errs" => {
+                self.errs = numbers_of(self.alloc, rest)?;
+                Ok(())
+            }
+            "room" => {
+                self.room = rest.parse::<u32>().map_err(|_| LineFault::Form)?;
+                Ok(())
+            }
+            "==" => {
+                *self = Case::new(self.alloc);
+                add_line(line, shown)?;
+                Ok(())
+            }
+            "$" => {
+                self.end_file()?;
+                add_line(line, shown)?;
+                self.run(rest, shown)
+            }
+            "#" | "" => Ok(()),
+            _ => Err(LineFault::Form),
+        }
+    }
+
+    // Appends the bytes of the line so many times to the file.
+    fn fill(&mut self, line: &str) -> Result<(), LineFault> {
+        let (count, text) = line.split_once(' ').ok_or(LineFault::Form)?;
+        let count = count.parse::<u64>().map_err(|_| LineFault::Form)?;
+        if text.contains("\\#") {
+            for number in 0..count {
+                add_unescaped(self.alloc, text, number, &mut self.content)?;
+            }
+            return Ok(());
+        }
+        let mut piece = Vec::new(self.alloc);
+        add_unescaped(self.alloc, text, 0, &mut piece)?;
+        for _ in 0..count {
+            self.content.extend_from_slice(piece.as_slice())?;
+        }
+        Ok(())
+    }
+
+    // Begins the file at the path.
+    fn begin_file(&mut self, path: &str) -> Result<(), LineFault> {
+        self.end_file()?;
+        self.path = Some(text_of(self.alloc, path)?);
+        Ok(())
+    }
+
+    // Puts the file that was being written.
+    fn end_file(&mut self) -> Result<(), LineFault> {
+        if let Some(path) = self.path.take() {
+            self.files.add(&path, self.content.as_slice())?;
+        }
+        self.content.clear();
+        Ok(())
+    }
+
+    // No files, of which the reads of these numbers fail.
+    fn fail_reads(&mut self, line: &str) -> Result<(), LineFault> {
+        let fails = numbers_of(self.alloc, line)?;
+        self.files = MemFiles::new(self.alloc, fails);
+        Ok(())
+    }
+
+    // Runs a command line, and appends what it leaves.
+    fn run(&mut self, line: &str, shown: &mut Vec<u8>) -> Result<(), LineFault> {
+        let alloc = self.alloc;
+        let words = words_of(alloc, line)?;
+        let puts = mem::replace(&mut self.puts, Seq::new(alloc));
+        let errs = mem::replace(&mut self.errs, Seq::new(alloc));
+        let room = mem::replace(&mut self.room, ROOM);
+        let mut out = MemSink::new(alloc, room, puts)?;
+        let mut err = MemSink::new(alloc, ROOM, errs)?;
+        let status = bril_top(alloc, words.as_slice(), &mut self.files, &mut out, &mut err);
+        let told = format!(in alloc; "status {status}")?;
+        add_line(told.as_str(), shown)?;
+        add_lines(alloc, "", out.bytes(), shown)?;
+        add_lines(alloc, "err ", err.bytes(), shown)?;
+        Ok(())
+    }
+}
+
+// Appends the line and LF.
+fn add_line(line: &str, shown: &mut Vec<u8>) -> Result<(), AllocError> {
+    shown.extend_from_slice(line.as_bytes())?;
+    shown.extend_from_slice(b"\n")
+}
+
+// The words between blanks.
+fn words_of(alloc: Global, line: &str) -> Result<Seq<Text>, LineFault> {
+    let mut words = Seq::new(alloc);
+    if line.is_empty() {
+        return Ok(words);
+    }
+    for word in line.split(' ') {
+        words.push(text_of(alloc, word)?)?;
+    }
+    Ok(words)
+}
+
+// The text that is written with escapes.
+fn text_of(alloc: Global, written: &str) -> Result<Text, LineFault> {
+    let mut bytes = Vec::new(alloc);
+    add_unescaped(alloc, written, 0, &mut bytes)?;
+    let text = str::from_utf8(bytes.as_slice()).map_err(|_| LineFault::Form)?;
+    Ok(Text::of(alloc, text)?)
+}
+
+// The numbers between blanks.
+fn numbers_of(alloc: Global, line: &str) -> Result<Seq<u64>, LineFault> {
+    let mut numbers = Seq::new(alloc);
+    for word in line.split_whitespace() {
+        numbers.push(word.parse::<u64>().map_err(|_| LineFault::Form)?)?;
+    }
+    Ok(numbers)
+}
