@@ -1,0 +1,96 @@
+// Runs, a step at a time.
+
+ghost use Rattle.std.specs.Prelude.{◌↔◌, ◌-◌, ◌<◌, ◌^◌, IsTrue, length};
+ghost use Rattle.std.specs.List.{All};
+
+use crate::program::program_of;
+use crate::row::add_line;
+use bril_arguments::{ArgFault, read_args};
+use bril_checker::{Checked, check};
+use bril_interpreter::{Interp, StepAnswer};
+use bril_outside::mem_sink::MemSink;
+use bril_tree::limits::Limits;
+use bril_tree::numbered_function::Func;
+use bril_tree::sequence::Seq;
+use row_text::{LineFault, add_lines};
+use std::alloc::{AllocError, Global};
+
+// A run makes no more steps.
+const MOST: u32 = 1000;
+
+const LIMITS: Limits = Limits {
+    frames: 8,
+    cells: 8,
+};
+
+/// Appends each step of the run of the source's program, whose `main` has no arguments.
+pub fn add_steps(alloc: Global, source: &[u8], shown: &mut Vec<u8>) -> Result<(), LineFault>
+    requires { length source.now < 2 ^ 32 }
+{
+    let prog = program_of(alloc, source)?;
+    let functions = prog.funcs.as_slice();
+    if functions.len() > 1000 || !are_short(functions) {
+        return Err(LineFault::Form);
+    }
+    let Ok(checked) = check(alloc, prog) else {
+        return Err(LineFault::Form);
+    };
+    let values = match read_args(alloc, &checked, &[]) {
+        Ok(values) => values,
+        Err(ArgFault::Memory) => return Err(LineFault::Memory),
+        Err(_) => return Err(LineFault::Form),
+    };
+    let mut run = Interp::new(alloc, &checked, LIMITS, values.as_slice())?;
+    let mut out = MemSink::new(alloc, 100, Seq::new(alloc))?;
+    for _ in 0..MOST {
+        if !add_step(alloc, &mut run, &mut out, shown)? {
+            break;
+        }
+    }
+    add_failures(alloc, &run, shown)?;
+    add_lines(alloc, "", out.bytes(), shown)?;
+    Ok(())
+}
+
+// Whether the points of each function have numbers of 32 bits.
+fn are_short(functions: &[Func]) -> bool
+    ensures { IsTrue result ↔ All (λ f. length f.code < 2 ^ 32 - 1) functions.now }
+{
+    functions
+        .iter()
+        .all(|function| function.code.as_slice().len() < 4_294_967_295)
+}
+
+// Makes a step, appends what it shows, and says whether the run goes on.
+fn add_step(
+    alloc: Global,
+    run: &mut Interp,
+    out: &mut MemSink,
+    shown: &mut Vec<u8>,
+) -> Result<bool, AllocError> {
+    let answer = run.step(out);
+    let line = match run.here() {
+        None => format!(in alloc; "{answer:?}")?,
+        Some(here) => {
+            let func = here.func;
+            let item = here.item;
+            let depth = here.depth;
+            let value = run.value(0);
+            format!(in alloc; "{answer:?} function {func} item {item} saves {depth} {value:?}")?
+        }
+    };
+    add_line(line.as_str(), shown)?;
+    Ok(answer == StepAnswer::Go)
+}
+
+// Appends the guards of the first function that failed.
+fn add_failures(alloc: Global, run: &Interp, shown: &mut Vec<u8>) -> Result<(), AllocError> {
+    for item in 0..MOST {
+        let failures = run.fails(0, item);
+        if failures > 0 {
+            let line = format!(in alloc; "guard {item} fails {failures}")?;
+            add_line(line.as_str(), shown)?;
+        }
+    }
+    Ok(())
+}
