@@ -5,7 +5,5 @@ mod emission;
 mod interpretation;
 mod source;
 mod straight;
-#[cfg(test)]
-mod tests;
 pub mod top;
 mod work;
