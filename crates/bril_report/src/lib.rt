@@ -3,8 +3,6 @@
 
 mod report;
 mod status;
-#[cfg(test)]
-mod tests;
 
 pub use report::{say, say_misuse, status_number};
 pub use status::{SourceFault, Status};
