@@ -8,8 +8,6 @@ ghost use Rattle.bril_text.specs.Reading.{Spells};
 
 pub mod laws;
 mod line;
-#[cfg(test)]
-mod tests;
 mod word;
 
 use bril_tree::bytes::Bytes;
