@@ -4,8 +4,6 @@
 mod outcome;
 mod parts;
 mod printed_value;
-#[cfg(test)]
-mod tests;
 
 pub use outcome::{Outcome, compute};
 pub use printed_value::PrintedValue;
