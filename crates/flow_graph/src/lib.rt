@@ -10,8 +10,6 @@ mod laws;
 mod open_sites;
 mod search;
 mod sites;
-#[cfg(test)]
-mod tests;
 mod visits;
 
 pub use edge::Edge;
