@@ -61,6 +61,3 @@ pub fn star_follows<E, S, T, R: Relates<S, T>>()
 pub fn plus_tracks<E, S, T, R: Relates<S, T>>()
     ensures { PlusTracks E R.related }
 {}
-
-#[cfg(test)]
-mod tests;
