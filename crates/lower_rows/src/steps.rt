@@ -42,6 +42,7 @@ pub fn add_steps(alloc: Global, source: &[u8], shown: &mut Vec<u8>) -> Result<()
     };
     let mut run = Interp::new(alloc, &checked, LIMITS, values.as_slice())?;
     let mut out = MemSink::new(alloc, 100, Seq::new(alloc))?;
+    add_frames(alloc, run.prog(), shown)?;
     for _ in 0..MOST {
         if !add_step(alloc, &mut run, &mut out, shown)? {
             break;
@@ -59,6 +60,17 @@ fn are_short(functions: &[Func]) -> bool
     functions
         .iter()
         .all(|function| function.code.as_slice().len() < 4_294_967_295)
+}
+
+// Appends how many words a frame of each function has.
+fn add_frames(alloc: Global, checked: &Checked, shown: &mut Vec<u8>) -> Result<(), AllocError> {
+    let functions = checked.prog().funcs.as_slice().len();
+    for func in 0..functions {
+        let words = checked.frame_words(func as u32);
+        let line = format!(in alloc; "function {func} has frames of {words} words")?;
+        add_line(line.as_str(), shown)?;
+    }
+    Ok(())
 }
 
 // Makes a step, appends what it shows, and says whether the run goes on.
