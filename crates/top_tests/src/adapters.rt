@@ -1,6 +1,6 @@
 // The adapters over the system's files and outputs, and over streams that fail.
 
-use crate::weak::{Weak, WeakFiles};
+use crate::weak::{Failing, Weak, WeakFiles};
 use bril_outside::files::{FileFault, Files};
 use bril_outside::os_files::OsFiles;
 use bril_outside::os_sink::OsSink;
@@ -13,6 +13,7 @@ use std::{fs, io};
 #[test]
 fn reads_system_files(rt: HostRuntime) -> Result<(), Fail> {
     let alloc = rt.alloc();
+    // The blanks at both ends belong to the name.
     let name = " top_tests reads.tmp ";
     let long = vec![in alloc; 97u8; 10000]?;
     fs::write(&rt, name, long.as_slice())?;
@@ -58,18 +59,28 @@ fn streams_that_fail(rt: HostRuntime) -> Result<(), Fail> {
     let alloc = rt.alloc();
     let path = Text::of(alloc, "any")?;
     let mut into = Bytes::new(alloc);
-    let mut files = OsFiles::new(&WeakFiles);
+    let after = WeakFiles(Failing::After);
+    let mut files = OsFiles::new(&after);
     assert!(rt; !files.read(alloc, &path, 3, &mut into)?);
     assert_eq!(rt;
         files.read(alloc, &path, 4, &mut into),
         Err(FileFault::Failed)
     );
     assert!(rt; into.as_slice().is_empty());
-    let mut sink = OsSink::new(Weak::new());
+    let mut sink = OsSink::new(Weak::new(Failing::After));
     assert_eq!(rt; sink.put(b"four"), Ok(()));
     assert_eq!(rt; sink.put(b""), Ok(()));
     assert_eq!(rt; sink.put(b"more"), Err(Failed));
     assert_eq!(rt; sink.put(b""), Err(Failed));
+    // A failed read is no interruption, and a writer that takes nothing isn't tried again.
+    let once = WeakFiles(Failing::Once);
+    assert_eq!(rt;
+        OsFiles::new(&once).read(alloc, &path, 4, &mut into),
+        Err(FileFault::Failed)
+    );
+    let mut late = OsSink::new(Weak::new(Failing::Once));
+    assert_eq!(rt; late.put(b"late"), Err(Failed));
+    assert_eq!(rt; late.put(b"late"), Ok(()));
     // A writer with room for three bytes takes nothing from then on.
     let mut room = [0u8; 3];
     assert_eq!(rt; OsSink::new(room.as_mut_slice()).put(b"four"), Err(Failed));

@@ -1,24 +1,34 @@
-// A system whose files are interrupted and fail.
+// Streams that fail, and a system of such files.
 
 use std::alloc::Allocator;
 use std::fs::{Metadata, OpenFile, OpenOptions};
 use std::io::{self, ErrorKind, Read, Seek, SeekFrom, Write};
 use std::rt::Files;
 
-/// A stream that is interrupted, moves two bytes at a time, and fails after four, when it can't be flushed either.
+/// How a stream fails.
+#[derive(Clone, Copy, Drop)]
+pub enum Failing {
+    /// It is interrupted, moves two bytes at a time, and fails after four, when it can't be flushed either.
+    After,
+    /// It fails once, where it is read, or takes nothing once, where it is written to, and is well afterwards.
+    Once,
+}
+
+/// A stream that fails.
 #[derive(Drop)]
 pub struct Weak {
+    failing: Failing,
     turns: u8,
 }
 
 impl Weak {
     /// A stream of which nothing was moved.
-    pub fn new() -> Weak {
-        Weak { turns: 0 }
+    pub fn new(failing: Failing) -> Weak {
+        Weak { failing, turns: 0 }
     }
 
-    fn turn(&mut self) -> io::Result<usize> {
-        self.turns = self.turns.saturating_add(1);
+    // How many bytes a stream moves that fails after four.
+    fn turn(&self) -> io::Result<usize> {
         match self.turns {
             1 => Err(io::Error::from(ErrorKind::Interrupted)),
             2 | 3 => Ok(2),
@@ -29,20 +39,30 @@ impl Weak {
 
 impl Read for Weak {
     fn read(&mut self, buf: &mut [u8]) -> io::Result<usize> {
-        Ok(self.turn()?.min(buf.len()))
+        self.turns = self.turns.saturating_add(1);
+        match self.failing {
+            Failing::After => Ok(self.turn()?.min(buf.len())),
+            Failing::Once if self.turns == 1 => Err(io::Error::from(ErrorKind::Other)),
+            Failing::Once => Ok(0),
+        }
     }
 }
 
 impl Write for Weak {
     fn write(&mut self, buf: &[u8]) -> io::Result<usize> {
-        Ok(self.turn()?.min(buf.len()))
+        self.turns = self.turns.saturating_add(1);
+        match self.failing {
+            Failing::After => Ok(self.turn()?.min(buf.len())),
+            Failing::Once if self.turns == 1 => Ok(0),
+            Failing::Once => Ok(buf.len()),
+        }
     }
 
     fn flush(&mut self) -> io::Result<()> {
-        if self.turns > 3 {
-            return Err(io::Error::from(ErrorKind::Other));
+        match self.failing {
+            Failing::After if self.turns > 3 => Err(io::Error::from(ErrorKind::Other)),
+            _ => Ok(()),
         }
-        Ok(())
     }
 }
 
@@ -70,8 +90,9 @@ impl OpenFile for Weak {
     }
 }
 
-/// A system each of whose files is such a stream.
-pub struct WeakFiles;
+/// A system each of whose files is a stream that fails so.
+#[derive(Drop)]
+pub struct WeakFiles(pub Failing);
 
 impl Files for WeakFiles {
     type File = Weak;
@@ -79,7 +100,7 @@ impl Files for WeakFiles {
     type Dir = Weak;
 
     fn open_file(&self, _how: &OpenOptions, _path: &str) -> io::Result<Weak> {
-        Ok(Weak::new())
+        Ok(Weak::new(self.0))
     }
 
     fn open_dir(&self, _path: &str) -> io::Result<Weak> {
