@@ -1,5 +1,7 @@
 // Words and images of the machine.
 
+ghost use Rattle.std.specs.Prelude.{◌≡◌, ◌≤◌, IfOk, length};
+
 use crate::row::add_line;
 use bril_outside::mem_sink::MemSink;
 use bril_tree::limits::Limits;
@@ -39,36 +41,76 @@ fn bits_of(word: &str) -> Result<u32, LineFault> {
 
 /// Appends what two runs of an image answer.
 pub fn add_run(alloc: Global, line: &str, shown: &mut Vec<u8>) -> Result<(), LineFault> {
-    let mut words = line.split(' ');
-    let steps = next_number(words.next())?;
-    let mut fails = Seq::new(alloc);
-    fails.push(next_number(words.next())?)?;
-    let argument = words.next().ok_or(LineFault::Form)?;
-    let argument = argument.parse::<i64>().map_err(|_| LineFault::Form)?;
-    let mut bits = Seq::new(alloc);
-    for word in words {
-        bits.push(bits_of(word)?)?;
-    }
-    if bits.as_slice().len() > 1000 {
-        return Err(LineFault::Form);
-    }
-    let image = Image {
-        words: bits,
-        guards: Seq::new(alloc),
-        stack: STACK,
-    };
-    let mut machine = Machine::new(alloc, &image, &[Value::Int(argument)], LIMITS)?;
-    let mut out = MemSink::new(alloc, 100, fails)?;
-    add_answer(alloc, &mut machine, steps, &mut out, shown)?;
-    add_answer(alloc, &mut machine, 1000, &mut out, shown)?;
-    add_lines(alloc, "", out.bytes(), shown)?;
+    let (steps, rest) = line.split_once(' ').ok_or(LineFault::Form)?;
+    let (put, rest) = rest.split_once(' ').ok_or(LineFault::Form)?;
+    let (argument, bits) = rest.split_once(' ').unwrap_or((rest, ""));
+    let steps = number_of(steps)?;
+    let put = number_of(put)?;
+    let argument = int_of(argument)?;
+    let image = image_of(alloc, bits)?;
+    add_answers(alloc, &image, argument, steps, put, shown)?;
     Ok(())
 }
 
+// The image of these words.
+fn image_of(alloc: Global, bits: &str) -> Result<Image, LineFault>
+    ensures words { IfOk result (λ image. length image.words ≤ 250000) }
+    ensures stack { IfOk result (λ image. image.stack ≡ 16) }
+{
+    let words = words_of(alloc, bits)?;
+    if words.as_slice().len() > 250_000 {
+        return Err(LineFault::Form);
+    }
+    Ok(Image {
+        words,
+        guards: Seq::new(alloc),
+        stack: STACK,
+    })
+}
+
+// The numbers of eight hexadecimal digits each.
+fn words_of(alloc: Global, bits: &str) -> Result<Seq<u32>, LineFault> {
+    let mut words = Seq::new(alloc);
+    for word in bits.split_whitespace() {
+        words.push(bits_of(word)?)?;
+    }
+    Ok(words)
+}
+
 // A number in decimal.
-fn next_number(word: Option<&str>) -> Result<u64, LineFault> {
-    let word = word.ok_or(LineFault::Form)?;
+fn number_of(word: &str) -> Result<u64, LineFault> {
     word.parse::<u64>().map_err(|_| LineFault::Form)
+}
+
+// An int in decimal.
+fn int_of(word: &str) -> Result<i64, LineFault> {
+    word.parse::<i64>().map_err(|_| LineFault::Form)
+}
+
+// An output of which the put of this number fails.
+fn output(alloc: Global, put: u64) -> Result<MemSink, AllocError> {
+    let mut fails = Seq::new(alloc);
+    fails.push(put)?;
+    MemSink::new(alloc, 100, fails)
+}
+
+// Runs the image twice, and appends the answers and the output.
+fn add_answers(
+    alloc: Global,
+    image: &Image,
+    argument: i64,
+    steps: u64,
+    put: u64,
+    shown: &mut Vec<u8>,
+) -> Result<(), AllocError>
+    requires words { length image.now.words ≤ 250000 }
+    requires stack { image.now.stack ≡ 16 }
+{
+    let mut out = output(alloc, put)?;
+    let mut machine = Machine::new(alloc, image, &[Value::Int(argument)], LIMITS)?;
+    add_answer(alloc, &mut machine, steps, &mut out, shown)?;
+    add_answer(alloc, &mut machine, 1000, &mut out, shown)?;
+    add_lines(alloc, "", out.bytes(), shown)
 }
 
 // Runs the machine, and appends its answer and how many words it executed in all.

@@ -1,7 +1,8 @@
 // Runs, a step at a time.
 
-ghost use Rattle.std.specs.Prelude.{◌↔◌, ◌-◌, ◌<◌, ◌^◌, IsTrue, length};
+ghost use Rattle.std.specs.Prelude.{◌↔◌, ◌-◌, ◌<◌, ◌^◌, IfOk, IsTrue, length};
 ghost use Rattle.std.specs.List.{All};
+ghost use Rattle.bril_tree.specs.Run.{FitMain};
 
 use crate::program::program_of;
 use crate::row::add_line;
@@ -12,6 +13,7 @@ use bril_outside::mem_sink::MemSink;
 use bril_tree::limits::Limits;
 use bril_tree::numbered_function::Func;
 use bril_tree::sequence::Seq;
+use bril_tree::value::Value;
 use row_text::{LineFault, add_lines};
 use std::alloc::{AllocError, Global};
 
@@ -27,20 +29,48 @@ const LIMITS: Limits = Limits {
 pub fn add_steps(alloc: Global, source: &[u8], shown: &mut Vec<u8>) -> Result<(), LineFault>
     requires { length source.now < 2 ^ 32 }
 {
+    let checked = checked_of(alloc, source)?;
+    let values = values_of(alloc, &checked)?;
+    add_run(alloc, &checked, values.as_slice(), shown)?;
+    Ok(())
+}
+
+// The source's program, which is accepted.
+fn checked_of(alloc: Global, source: &[u8]) -> Result<Checked, LineFault>
+    requires { length source.now < 2 ^ 32 }
+{
     let prog = program_of(alloc, source)?;
     let functions = prog.funcs.as_slice();
     if functions.len() > 1000 || !are_short(functions) {
         return Err(LineFault::Form);
     }
-    let Ok(checked) = check(alloc, prog) else {
-        return Err(LineFault::Form);
-    };
-    let values = match read_args(alloc, &checked, &[]) {
-        Ok(values) => values,
-        Err(ArgFault::Memory) => return Err(LineFault::Memory),
-        Err(_) => return Err(LineFault::Form),
-    };
-    let mut run = Interp::new(alloc, &checked, LIMITS, values.as_slice())?;
+    match check(alloc, prog) {
+        Ok(checked) => Ok(checked),
+        Err(_) => Err(LineFault::Form),
+    }
+}
+
+// The arguments of a program whose `main` has none.
+fn values_of(alloc: Global, checked: &Checked) -> Result<Seq<Value>, LineFault>
+    ensures { IfOk result (λ values. FitMain checked.now.prog values) }
+{
+    match read_args(alloc, checked, &[]) {
+        Ok(values) => Ok(values),
+        Err(ArgFault::Memory) => Err(LineFault::Memory),
+        Err(_) => Err(LineFault::Form),
+    }
+}
+
+// Appends each step of a run of the program, and then its output.
+fn add_run(
+    alloc: Global,
+    checked: &Checked,
+    values: &[Value],
+    shown: &mut Vec<u8>,
+) -> Result<(), AllocError>
+    requires { FitMain checked.now.prog values.now }
+{
+    let mut run = Interp::new(alloc, checked, LIMITS, values)?;
     let mut out = MemSink::new(alloc, 100, Seq::new(alloc))?;
     add_frames(alloc, run.prog(), shown)?;
     for _ in 0..MOST {
@@ -49,8 +79,7 @@ pub fn add_steps(alloc: Global, source: &[u8], shown: &mut Vec<u8>) -> Result<()
         }
     }
     add_failures(alloc, &run, shown)?;
-    add_lines(alloc, "", out.bytes(), shown)?;
-    Ok(())
+    add_lines(alloc, "", out.bytes(), shown)
 }
 
 // Whether the points of each function have numbers of 32 bits.
