@@ -3,7 +3,7 @@ use Rattle.std.proofs.Common.{◌≡◌, ◌≢◌, ℕ, ◌+◌, ◌<◌, Bool,
 use Rattle.std.specs.Prelude.{IfOk, IfErr, MatchResult}
 use Rattle.std.specs.Result.{is_err, OnOk}
 use Rattle.std.specs.List.{AllZip}
-use Rattle.std.proofs.lemmas.List.{length-map, get_or-map, take_all, take_more}
+use Rattle.std.proofs.lemmas.List.{length-map, get_or-map, take_more}
 use Rattle.std.proofs.lemmas.Option.{slice_get_read}
 use Rattle.bril_tree.specs.Run.{Suits}
 use Rattle.bril_tree.specs.declared.numbered.VarInfo.{VarInfo}
@@ -47,25 +47,12 @@ some_pushed (v ∷ vs) value e = cc
 abbrev pub types_of : List VarInfo → List (Option Ty)
 types_of vars = map (λ (v : VarInfo). v.ty) vars
 
--- so many words are read, and their values are held, or memory was wanting for one
+-- so many words are read, and their values are held, or memory ran out for one
 pub record AreRead (types : List (Option Ty)) (words : List (List ℕ)) (count : ℕ) (wanting : Bool) (values : List Value) : Type 0 where
   pub read : List Value
   pub spelled : AreSpelled (take count types) (take count words) read
   pub held : wanting ≡ false → values ≡ read
   pub lost : wanting ≡ true → read ≢ []
-
--- all words are read
-module _ (types : List (Option Ty)) (words : List (List ℕ)) (same : length words ≡ length types) where
-  whole : (values : List Value) → AreSpelled (take (length words) types) (take (length words) words) values → AreSpelled types words values
-  whole values all =
-      subst (λ ts. AreSpelled ts words values) (take_all (length words) types (omega arith))
-      (subst (λ ws. AreSpelled (take (length words) types) ws values) (take_all (length words) words (omega arith)) all)
-
-  pub values_held : (values : List Value) → AreRead types words (length words) false values → AreSpelled types words values
-  values_held values are = subst (λ vs. AreSpelled types words vs) (sym (are.held refl)) (whole are.read are.spelled)
-
-  pub values_lost : (values : List Value) → AreRead types words (length words) true values → IsFaultOf types words Memory
-  values_lost values are = (are.read, whole are.read are.spelled, are.lost refl)
 
 module _ (vars : List VarInfo) (words : List (List ℕ)) (i : ℕ) (v : VarInfo) (word : List ℕ)
     (in_vars : i < length vars) (in_words : i < length words) (word_is : word ≡ get_or words i word) where

@@ -10,7 +10,6 @@ ghost use Rattle.bril_arguments.specs.declared.fault.ArgFault.TheVariants.{Memor
 
 use crate::fault::ArgFault;
 use crate::spelling::read_value;
-use bril_checker::Checked;
 use bril_tree::numbered::VarInfo;
 use bril_tree::program::Prog;
 use bril_tree::sequence::Seq;
@@ -24,21 +23,21 @@ use std::alloc::Global;
 ///
 /// `Count` comes exactly where the number of words is not that of `main`'s arguments; else `Spelling` exactly where a word
 /// spells no value of its argument's type, with the place of the first such word, from 1. `Memory` may come in place of
-/// the values, where there are any and memory is wanting for them.
-pub fn read_args(alloc: Global, prog: &Checked, words: &[Text]) -> Result<Seq<Value>, ArgFault>
+/// the values, where there are any, out of memory.
+pub fn read_args(alloc: Global, prog: &Prog, words: &[Text]) -> Result<Seq<Value>, ArgFault>
     requires { length words.now < 2 ^ 32 }
     // The values are those that the words spell, and they fit `main`.
-    ensures ok { IfOk result (λ values. AreSpelled (main_types prog.now.prog) words.now values) }
-    ensures fits { IfOk result (λ values. FitMain prog.now.prog values) }
-    ensures reads { (values : List Value) → AreSpelled (main_types prog.now.prog) words.now values
+    ensures ok { IfOk result (λ values. AreSpelled (main_types prog.now) words.now values) }
+    ensures fits { IfOk result (λ values. FitMain prog.now values) }
+    ensures reads { (values : List Value) → AreSpelled (main_types prog.now) words.now values
         → MatchResult result (λ found. found ≡ values) (λ e. e ≡ Memory) }
 
     // A fault is the words', and the words' fault is answered.
-    ensures fault { IfErr result (λ e. IsFaultOf (main_types prog.now.prog) words.now e) }
-    ensures faults { (fault : ArgFault) → fault ≢ Memory → IsFaultOf (main_types prog.now.prog) words.now fault
+    ensures fault { IfErr result (λ e. IsFaultOf (main_types prog.now) words.now e) }
+    ensures faults { (fault : ArgFault) → fault ≢ Memory → IsFaultOf (main_types prog.now) words.now fault
         → MatchResult result (λ _. ⊥) (λ e. e ≡ fault) }
 {
-    read_words(alloc, parameters_by_main(prog.prog()), words)
+    read_words(alloc, parameters_by_main(prog), words)
 }
 
 // The variables that are the arguments of `main`.
@@ -64,7 +63,7 @@ fn read_words(alloc: Global, parameters: &[VarInfo], words: &[Text]) -> Result<S
         });
     }
     let mut values = Seq::new(alloc);
-    // Want of memory is told behind all words, so that it hides no fault of theirs.
+    // Out of memory is told after all words, so that it hides no fault of theirs.
     let mut wanting = false;
     for (index, word) in words.iter().enumerate() {
         let Some(value) = read_value(parameters[index].ty, word) else {

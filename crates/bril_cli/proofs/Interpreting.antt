@@ -16,7 +16,7 @@ use Rattle.bril_tree.specs.Step.{step}
 use Rattle.simulation.specs.System.{after, IsPrefix}
 use Rattle.simulation.proofs.After.{after-grows_le}
 use Rattle.bril_cli.proofs.Runs.{TookSome-prefix}
-use Rattle.bril_cli.specs.Works.{StopsShort}
+use Rattle.bril_cli.specs.commands.Interp.{StopsShort}
 
 -- the interpreter was made for the program, the limits and the values, and has made no step
 pub record IsFresh (i : InterpView) (p : Prog) (limits : Limits) (values : List Value) : Type 0 where

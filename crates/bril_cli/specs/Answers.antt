@@ -1,83 +1,32 @@
--- What the command line answers: its status, and what it does to the files and its two outputs.
-use Rattle.std.specs.Prelude.{ℕ, true, ◌≡◌, ◌*◌, ◌<◌, ◌≤◌, ◌⊎◌, ◌==◌, List, length, Option, Some, None, Err, MatchBool, codes}
+-- What the top call answers: its status, and what it does to the files and its two outputs.
+use Rattle.std.specs.Prelude.{ℕ, ◌≡◌, ◌⊎◌, ◌<◌, ◌≤◌, List, length, Some, None, codes, ◌==◌, Err, MatchBool, ◌↔◌}
 use Rattle.bril_arguments.specs.declared.fault.ArgFault.{ArgFault}
-use Rattle.bril_arguments.specs.declared.fault.ArgFault.TheVariants.{Count, Spelling, Memory}
-use Rattle.bril_tree.specs.Accepted.{IsAccepted}
-use Rattle.bril_tree.specs.declared.limits.End.{End}
-use Rattle.bril_tree.specs.declared.limits.End.TheVariants.{Ended, Faulted}
-use Rattle.bril_tree.specs.declared.limits.Fault.{Fault}
-use Rattle.bril_tree.specs.declared.program.Prog.{Prog}
-use Rattle.bril_tree.specs.Run.{main_types}
+use Rattle.bril_checker.specs.Faults as checker
 use Rattle.bril_checker.specs.declared.fault.CheckFault.{CheckFault}
-use Rattle.bril_outside.specs.Files.{FilesSeen, MayHold, MayFail, LacksFile}
-use Rattle.bril_outside.specs.Sink.{SinkSeen, Rose, TookAll, TookSome}
-use Rattle.bril_cli.specs.Implements.{frame_words}
-use Rattle.bril_cli.specs.CommandLine.{AsksFor, format_of, NeedsProgram}
-use Rattle.bril_cli.specs.Emitted.{bound_sum}
-use Rattle.bril_cli.specs.Refusal.{capped, PassesCode, PassesStack}
-use Rattle.bril_cli.specs.Source.{most_bytes, json_line, HoldsFile, IsFile, IsFormless, HasOnlyNameFault, HasOnlyCheckFault, HasOnlyArgFault, IsOnlyFault, IsOnlySource, EndsPrinting, Runs, Interprets, Exhausts, Checks, Writes}
-use Rattle.bril_cli.specs.Straight.{is_straight}
 use Rattle.bril_names.specs.declared.fault.NameFault.{NameFault}
-use Rattle.bril_report.specs.Lines.{form_line, misread_line, misnamed_line, unaccepted_line, unread_line, code_line, stack_line, fault_line, spent_line, count_line, spelling_line, misuse_line}
+use Rattle.bril_outside.specs.Files.{MayHold, MayFail}
+use Rattle.bril_outside.specs.Sink.{Rose, TookAll, TookSome}
+use Rattle.bril_report.specs.Lines.{form_line, misread_line, misnamed_line, unaccepted_line, unread_line, fault_line, spent_line, misuse_line}
 use Rattle.bril_report.specs.Report.{Says}
 use Rattle.bril_report.specs.declared.status.SourceFault.{SourceFault}
-use Rattle.bril_text.specs.Canonical.{canonical_text}
+use Rattle.bril_tree.specs.Accepted.{IsAccepted}
+use Rattle.bril_tree.specs.Run.{main_types}
+use Rattle.bril_tree.specs.declared.limits.End.TheVariants.{Faulted}
+use Rattle.bril_tree.specs.declared.limits.Fault.{Fault}
+use Rattle.bril_tree.specs.declared.program.Prog.{Prog}
 use Rattle.bril_words.specs.CommandLine.{words_read}
 use Rattle.bril_words.specs.declared.misuse.Misuse.{Misuse}
+use Rattle.bril_words.specs.declared.request.Action.TheVariants.{Run, Interpret}
 use Rattle.bril_words.specs.declared.request.Action.{Action}
-use Rattle.bril_words.specs.declared.request.Action.TheVariants.{Run, Interpret, Check, WriteText, WriteJson}
-
--- What is seen of a call: its words, and its files and its two outputs before and after it.
-pub record Call : Type 0 where
-  pub words : List (List ℕ)
-  pub files_before : FilesSeen
-  pub files_after : FilesSeen
-  pub out_before : SinkSeen
-  pub out_after : SinkSeen
-  pub err_before : SinkSeen
-  pub err_after : SinkSeen
-
-abbrev pub call_of : List (List ℕ) → FilesSeen → FilesSeen → SinkSeen → SinkSeen → SinkSeen → SinkSeen → Call
-call_of words files files' out out' err err' = record {
-  words = words;
-  files_before = files;
-  files_after = files';
-  out_before = out;
-  out_after = out';
-  err_before = err;
-  err_after = err';
-}
-
--- nothing was put on the output, and this line on the error output
-pub record SaysAlone (c : Call) (line : List ℕ) : Type 0 where
-  pub silent : c.out_after ≡ c.out_before
-  pub says : Says c.err_before line c.err_after
-
--- ---- the statuses
-
--- What an action produces of the file at a path: `run` and `interp` what its program prints, `check` the line of its
--- accepted program, `text` its canonical text, and `json` its canonical JSON.
-abbrev pub Produces : Action → FilesSeen → List ℕ → List (List ℕ) → List ℕ → Type 0
-Produces Run files path args output = Runs files path output
-Produces (Interpret frames cells steps) files path args output = Interprets files path args frames cells steps (Some Ended) output
-Produces Check files path args output = Checks files path output
-Produces WriteText files path args output = Writes canonical_text files path output
-Produces WriteJson files path args output = Writes json_line files path output
-
--- What an action puts on the output at most: what it produces, and `interp` what the program prints within the steps.
-abbrev pub Puts : Action → FilesSeen → List ℕ → List (List ℕ) → List ℕ → Type 0
-Puts Run files path args output = Produces Run files path args output
-Puts (Interpret frames cells steps) files path args output = (ended : Option End) × Interprets files path args frames cells steps ended output
-Puts Check files path args output = Produces Check files path args output
-Puts WriteText files path args output = Produces WriteText files path args output
-Puts WriteJson files path args output = Produces WriteJson files path args output
-
--- What an action leaves on the output where memory was wanting: nothing, or for `interp` what the program prints up to an
--- item that takes memory.
-abbrev pub Leaves : Action → Call → List ℕ → List (List ℕ) → Type 0
-Leaves (Interpret frames cells steps) c path args = (c.out_after ≡ c.out_before) ⊎ ((output : List ℕ)
-    × Exhausts c.files_before path args frames cells steps output × TookAll c.out_before output c.out_after)
-Leaves _ c path args = c.out_after ≡ c.out_before
+use Rattle.bril_cli.specs.Call.{Call, SaysAlone, ReadsWell, AsksNone, UnlessMemory}
+use Rattle.bril_cli.specs.CommandLine.{format_of, AsksFor, NeedsProgram, AskNothing}
+use Rattle.bril_cli.specs.Driver.{IsFormless, Produces, Puts, Leaves}
+use Rattle.bril_cli.specs.Source.{most_bytes, HasFault, IsOnlyFault, IsSource, IsOnlySource, HasNameFault, HasOnlyNameFault, HasOnlyCheckFault, IsFile}
+use Rattle.bril_cli.specs.commands.Check.{ChecksWhere}
+use Rattle.bril_cli.specs.commands.Interp.{HasOnlyArgFault, Interprets, argument_line, InterpretsWhere, MisarguedWhere}
+use Rattle.bril_cli.specs.commands.Json.{WritesJsonWhere}
+use Rattle.bril_cli.specs.commands.Run.{LongCode, LongStack, RunsWhere, LongProgramWhere}
+use Rattle.bril_cli.specs.commands.Text.{WritesTextWhere}
 
 -- 0: all was done, and the output took all that the action produces of the file.
 pub record Finished (c : Call) : Type 0 where
@@ -181,39 +130,12 @@ pub record LongFile (c : Call) (path : List ℕ) : Type 0 where
   pub long : most_bytes < length bytes
   pub alone : SaysAlone c (codes "too large: bytes\n")
 
-pub record LongCode (c : Call) (path : List ℕ) : Type 0 where
-  pub bytes : List ℕ
-  pub file : IsFile c.files_before path bytes
-  pub program : Prog
-  pub source : IsOnlySource (format_of path) bytes program
-  pub accepted : IsAccepted program
-  pub straight : is_straight program ≡ true
-  pub long : PassesCode program
-  pub alone : SaysAlone c (code_line (capped (bound_sum program)))
-
-pub record LongStack (c : Call) (path : List ℕ) : Type 0 where
-  pub bytes : List ℕ
-  pub file : IsFile c.files_before path bytes
-  pub program : Prog
-  pub source : IsOnlySource (format_of path) bytes program
-  pub accepted : IsAccepted program
-  pub straight : is_straight program ≡ true
-  pub short_code : bound_sum program ≤ 250000
-  pub long : PassesStack 8192 program
-  pub alone : SaysAlone c (stack_line (capped (8192 * frame_words program)))
-
 pub record TooLarge (c : Call) : Type 0 where
   pub action : Action
   pub path : List ℕ
   pub args : List (List ℕ)
   pub asked : AsksFor c.words action path args
   pub passes : LongFile c path ⊎ ((action ≡ Run) × (LongCode c path ⊎ LongStack c path))
-
--- the line of a fault of the arguments
-abbrev pub argument_line : ArgFault → List ℕ
-argument_line (Count given wanted) = count_line given wanted
-argument_line (Spelling place) = spelling_line place
-argument_line Memory = codes "out of memory\n"
 
 -- 69: the file reads as an accepted program, and the arguments don't fit it.
 pub record Misargued (c : Call) : Type 0 where
@@ -232,7 +154,7 @@ pub record Misargued (c : Call) : Type 0 where
   pub only : HasOnlyArgFault (main_types program) args fault
   pub alone : SaysAlone c (argument_line fault)
 
--- 71: memory was wanting, for `run` before the program began to run.
+-- 71: memory ran out, for `run` before the program began to run.
 pub record Exhausted (c : Call) : Type 0 where
   pub action : Action
   pub path : List ℕ
@@ -267,36 +189,65 @@ Answers status c =
     (MatchBool (status == 71) (Exhausted c)
     (MatchBool (status == 74) (CannotWrite c) ⊥)))))))))
 
--- ---- what is read of the files
+-- ---- when a status comes to every command that has its cause
 
--- The words ask for this of a file that the files tell, with these bytes, and no read of it failed.
-pub record ReadsWell (c : Call) (action : Action) (bytes : List ℕ) : Type 0 where
-  pub path : List ℕ
-  pub args : List (List ℕ)
-  pub asked : AsksFor c.words action path args
-  pub told : HoldsFile c.files_before.holds path bytes
-  pub sound : ¬ Rose c.files_before.faults c.files_after.faults
+-- The bytes' fault is told.
+abbrev pub MisreadWhere : ℕ → Call → Type 0
+MisreadWhere number c =
+    (action : Action) (bytes : List ℕ) (fault : SourceFault) (reads : ReadsWell c action bytes) → length bytes ≤ most_bytes → HasFault (format_of reads.path) bytes fault →
+    UnlessMemory number ((number ≡ 65) × Says c.err_before (misread_line reads.path fault) c.err_after)
 
--- the words ask for a path, and the files are told and have none there
-pub record AsksNone (c : Call) : Type 0 where
-  pub action : Action
-  pub path : List ℕ
-  pub args : List (List ℕ)
-  pub asked : AsksFor c.words action path args
-  pub lacks : LacksFile c.files_before.holds path
+-- The names' fault is told.
+abbrev pub MisnamedWhere : ℕ → Call → Type 0
+MisnamedWhere number c =
+    (action : Action) → NeedsProgram action → (bytes : List ℕ) (fault : NameFault) (reads : ReadsWell c action bytes) → length bytes ≤ most_bytes → HasNameFault (format_of reads.path) bytes fault →
+    UnlessMemory number ((number ≡ 65) × Says c.err_before (misnamed_line fault) c.err_after)
 
--- The output took all that the program prints up to its end.
-pub record Prints (c : Call) (p : Prog) : Type 0 where
-  pub output : List ℕ
-  pub prints : EndsPrinting p output
-  pub took : TookAll c.out_before output c.out_after
+-- The checker's fault is told.
+abbrev pub UncheckedWhere : ℕ → Call → Type 0
+UncheckedWhere number c =
+    (action : Action) → NeedsProgram action → (bytes : List ℕ) (program : Prog) (fault : CheckFault) (reads : ReadsWell c action bytes) → length bytes ≤ most_bytes → IsSource (format_of reads.path) bytes program →
+    checker.HasFault program fault → UnlessMemory number ((number ≡ 65) × Says c.err_before (unaccepted_line program fault) c.err_after)
 
--- what is told of a run that was interpreted for so many steps and has ended so, None where it goes on
-abbrev pub TellsRun : Option End → ℕ → ℕ → Call → Type 0
-TellsRun None steps status c = (status ≡ 3) × Says c.err_before (spent_line steps) c.err_after
-TellsRun (Some Ended) steps status c = (status ≡ 0) × (c.err_after ≡ c.err_before)
-TellsRun (Some (Faulted fault)) steps status c = (status ≡ 2) × Says c.err_before (fault_line fault) c.err_after
+-- A file whose program isn't built, or can't run yet, is told.
+abbrev pub FormlessWhere : ℕ → Call → Type 0
+FormlessWhere number c =
+    (action : Action) → NeedsProgram action → (bytes : List ℕ) (reads : ReadsWell c action bytes) → length bytes ≤ most_bytes → IsFormless action (format_of reads.path) bytes →
+    UnlessMemory number ((number ≡ 65) × Says c.err_before (form_line reads.path) c.err_after)
 
--- this status, unless memory was wanting
-abbrev pub UnlessMemory : ℕ → Type 0 → Type 0
-UnlessMemory status answer = (status ≡ 71) ⊎ answer
+-- No file is at the path.
+abbrev pub LackingWhere : ℕ → Call → Type 0
+LackingWhere number c = AsksNone c → UnlessMemory number (number ≡ 66)
+
+-- The file has too many bytes.
+abbrev pub LongFileWhere : ℕ → Call → Type 0
+LongFileWhere number c = (action : Action) (bytes : List ℕ) → ReadsWell c action bytes → most_bytes < length bytes → UnlessMemory number (number ≡ 68)
+
+-- What the top call promises of its status.
+pub record Promises (status : ℕ) (c : Call) : Type 0 where
+  -- what each status says
+  pub answers : Answers status c
+  pub done : status ≡ 0 → Finished c
+  pub faulted : status ≡ 2 → Stopped c
+  pub spent : status ≡ 3 → GoesOn c
+  pub form : status ≡ 65 → SourceRefused c
+  pub read : status ≡ 66 → CannotRead c
+  pub size : status ≡ 68 → TooLarge c
+  pub argued : status ≡ 69 → Misargued c
+  pub write : status ≡ 74 → Rose c.out_before.faults c.out_after.faults
+  pub silent : 64 ≤ status → status ≤ 70 → c.out_after ≡ c.out_before
+  -- when each status comes; out of memory, 71 comes in place of all but 64
+  pub misused : (status ≡ 64) ↔ AskNothing c.words
+  pub runs : RunsWhere status c
+  pub interprets : InterpretsWhere status c
+  pub misargued : MisarguedWhere status c
+  pub checks : ChecksWhere status c
+  pub writes : WritesTextWhere status c
+  pub writes_json : WritesJsonWhere status c
+  pub misread : MisreadWhere status c
+  pub misnamed : MisnamedWhere status c
+  pub unchecked : UncheckedWhere status c
+  pub formless : FormlessWhere status c
+  pub lacking : LackingWhere status c
+  pub long_file : LongFileWhere status c
+  pub long_program : LongProgramWhere status c

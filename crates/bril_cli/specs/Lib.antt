@@ -1,8 +1,11 @@
 pub mod Answers
+pub mod Call
 pub mod Implements
 pub mod CommandLine
+pub mod Driver
 pub mod Emitted
 pub mod Refusal
 pub mod Source
+pub mod Stages
 pub mod Straight
-pub mod Works
+pub mod commands

@@ -1,9 +1,10 @@
-// The command line of Roolvist: what each command does, from its words to its status.
+//! The command line of Roolvist: what its words ask for is done, and the exit status says how it ended.
 #![tactic(auto)]
 
+mod commands;
+mod driver;
 mod emission;
-mod interpretation;
+mod program;
 mod source;
 mod straight;
 pub mod top;
-mod work;

@@ -2,6 +2,7 @@
 #![tactic(auto)]
 
 mod report;
+mod stage_faults;
 mod status;
 
 pub use report::{say, say_misuse, status_number};

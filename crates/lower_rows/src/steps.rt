@@ -54,7 +54,7 @@ fn checked_of(alloc: Global, source: &[u8]) -> Result<Checked, LineFault>
 fn values_of(alloc: Global, checked: &Checked) -> Result<Seq<Value>, LineFault>
     ensures { IfOk result (λ values. FitMain checked.now.prog values) }
 {
-    match read_args(alloc, checked, &[]) {
+    match read_args(alloc, checked.prog(), &[]) {
         Ok(values) => Ok(values),
         Err(ArgFault::Memory) => Err(LineFault::Memory),
         Err(_) => Err(LineFault::Form),

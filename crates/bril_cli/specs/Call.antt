@@ -1,0 +1,54 @@
+-- What is seen of a call of the top call, and what it reads of its file.
+use Rattle.std.specs.Prelude.{ℕ, ◌≡◌, ◌⊎◌, List}
+use Rattle.bril_outside.specs.Files.{FilesSeen, LacksFile}
+use Rattle.bril_outside.specs.Sink.{SinkSeen, Rose}
+use Rattle.bril_report.specs.Report.{Says}
+use Rattle.bril_words.specs.declared.request.Action.{Action}
+use Rattle.bril_cli.specs.CommandLine.{AsksFor}
+use Rattle.bril_cli.specs.Source.{HoldsFile}
+
+-- What is seen of a call: its words, and its files and its two outputs before and after it.
+pub record Call : Type 0 where
+  pub words : List (List ℕ)
+  pub files_before : FilesSeen
+  pub files_after : FilesSeen
+  pub out_before : SinkSeen
+  pub out_after : SinkSeen
+  pub err_before : SinkSeen
+  pub err_after : SinkSeen
+
+abbrev pub call_of : List (List ℕ) → FilesSeen → FilesSeen → SinkSeen → SinkSeen → SinkSeen → SinkSeen → Call
+call_of words files files' out out' err err' = record {
+  words = words;
+  files_before = files;
+  files_after = files';
+  out_before = out;
+  out_after = out';
+  err_before = err;
+  err_after = err';
+}
+
+-- nothing was put on the output, and this line on the error output
+pub record SaysAlone (c : Call) (line : List ℕ) : Type 0 where
+  pub silent : c.out_after ≡ c.out_before
+  pub says : Says c.err_before line c.err_after
+
+-- The words ask for this of a file that the files tell, with these bytes, and no read of it failed.
+pub record ReadsWell (c : Call) (action : Action) (bytes : List ℕ) : Type 0 where
+  pub path : List ℕ
+  pub args : List (List ℕ)
+  pub asked : AsksFor c.words action path args
+  pub told : HoldsFile c.files_before.holds path bytes
+  pub sound : ¬ Rose c.files_before.faults c.files_after.faults
+
+-- the words ask for a path, and the files are told and have none there
+pub record AsksNone (c : Call) : Type 0 where
+  pub action : Action
+  pub path : List ℕ
+  pub args : List (List ℕ)
+  pub asked : AsksFor c.words action path args
+  pub lacks : LacksFile c.files_before.holds path
+
+-- this status, unless memory ran out
+abbrev pub UnlessMemory : ℕ → Type 0 → Type 0
+UnlessMemory status answer = (status ≡ 71) ⊎ answer

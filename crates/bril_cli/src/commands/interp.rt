@@ -1,0 +1,75 @@
+// `interp`: an accepted program is interpreted with the arguments that the words spell.
+
+ghost use Rattle.std.specs.Prelude.{◌≡◌, IfOk, IfErr};
+ghost use Rattle.bril_cli.specs.commands.Interp.{AreOnlyValues, RefusesArgs, StepsTo, InterpretsProgram};
+ghost use Rattle.bril_report.specs.StageFaults.{status_of};
+ghost use Rattle.bril_tree.specs.Run.{FitMain};
+
+use bril_arguments::read_args;
+use bril_checker::Checked;
+use bril_interpreter::{Interp, StepAnswer};
+use bril_outside::sink::Sink;
+use bril_report::Status;
+use bril_tree::limits::{End, Limits};
+use bril_tree::program::Prog;
+use bril_tree::sequence::Seq;
+use bril_tree::text::Text;
+use bril_tree::value::Value;
+use std::alloc::Global;
+
+/// Interprets the program under the limits for so many steps, with the values that the words spell as the arguments of
+/// its `main`: what it prints goes to `out`.
+///
+/// `ArgumentCount`, `BadArgument`: the words spell no such values, and nothing is put. `Faulted`, `Spent`: the program stopped
+/// with a fault, or goes on after the steps. `CannotWrite`: a write failed. Out of memory, nothing is put, or what the
+/// program prints up to an item that takes memory.
+pub fn interpret<O: Sink>(
+    alloc: Global,
+    checked: &Checked,
+    words: &[Text],
+    limits: Limits,
+    steps: u64,
+    out: &mut O,
+) -> Result<(), Status>
+    ensures { InterpretsProgram (status_of result) checked.now.prog words.now limits steps (O.seen out.old) (O.seen out.new) }
+{
+    let values = values_of(alloc, checked.prog(), words)?;
+    run_with(alloc, checked, values.as_slice(), limits, steps, out)
+}
+
+// The values that the words spell as the arguments of `main`.
+fn values_of(alloc: Global, program: &Prog, words: &[Text]) -> Result<Seq<Value>, Status>
+    ensures ok { IfOk result (λ values. AreOnlyValues program.now words.now values) }
+    ensures fits { IfOk result (λ values. FitMain program.now values) }
+    ensures err { IfErr result (λ status. RefusesArgs status program.now words.now) }
+{
+    // No command line has as many words.
+    if words.len() > 4294967295 {
+        return Err(Status::OutOfMemory);
+    }
+    Ok(read_args(alloc, program, words)?)
+}
+
+// Interprets the program with these values.
+fn run_with<O: Sink>(
+    alloc: Global,
+    checked: &Checked,
+    values: &[Value],
+    limits: Limits,
+    steps: u64,
+    out: &mut O,
+) -> Result<(), Status>
+    requires { FitMain checked.now.prog values.now }
+    ensures { StepsTo (status_of result) checked.now.prog limits values.now steps (O.seen out.old) (O.seen out.new) }
+{
+    let Ok(mut interp) = Interp::new(alloc, checked, limits, values) else {
+        return Err(Status::OutOfMemory);
+    };
+    match interp.run(steps, out) {
+        StepAnswer::Go => Err(Status::Spent { steps }),
+        StepAnswer::End(End::Ended) => Ok(()),
+        StepAnswer::End(End::Faulted(fault)) => Err(Status::Faulted { fault }),
+        StepAnswer::WriteFault => Err(Status::CannotWrite),
+        StepAnswer::Memory => Err(Status::OutOfMemory),
+    }
+}

@@ -1,0 +1,74 @@
+-- The status of each stage's fault, and of how a command ended.
+use Rattle.std.specs.Prelude.{Result, Ok, Err}
+use Rattle.bril_arguments.specs.declared.fault.ArgFault.{ArgFault}
+use Rattle.bril_arguments.specs.declared.fault.ArgFault.TheVariants as argument
+use Rattle.bril_checker.specs.declared.fault.CheckFault.{CheckFault}
+use Rattle.bril_checker.specs.declared.fault.CheckFault.TheVariants as check
+use Rattle.bril_json.specs.declared.fault.JsonFault.{JsonFault}
+use Rattle.bril_json.specs.declared.fault.JsonFault.TheVariants as json
+use Rattle.bril_names.specs.declared.fault.NameFault.{NameFault}
+use Rattle.bril_names.specs.declared.fault.NameFault.TheVariants as name
+use Rattle.bril_outside.specs.declared.files.FileFault.{FileFault}
+use Rattle.bril_outside.specs.declared.files.FileFault.TheVariants as file
+use Rattle.bril_report.specs.declared.status.Status.{Status}
+use Rattle.bril_report.specs.declared.status.Status.TheVariants as status
+use Rattle.bril_report.specs.declared.status.SourceFault.TheVariants.{Text, Json}
+use Rattle.bril_text.specs.declared.fault.TextFault.{TextFault}
+use Rattle.bril_text.specs.declared.fault.TextFault.TheVariants as text
+use Rattle.bril_tree.specs.declared.program.Prog.{Prog}
+
+-- the status of a command that was done, or ended so
+abbrev pub status_of : Result Unit Status → Status
+status_of (Ok done) = status.Done
+status_of (Err how) = how
+
+-- the status of a fault of reading a file
+abbrev pub file_status : FileFault → Status
+file_status file.Failed = status.CannotRead
+file_status file.Memory = status.OutOfMemory
+
+-- the status of a fault of the text
+abbrev pub text_status : TextFault → Status
+text_status (text.Lex at) = status.Misread (Text (text.Lex at))
+text_status (text.Grammar at) = status.Misread (Text (text.Grammar at))
+text_status (text.IntRange at) = status.Misread (Text (text.IntRange at))
+text_status (text.Float at) = status.Misread (Text (text.Float at))
+text_status (text.Deep at) = status.Misread (Text (text.Deep at))
+text_status text.Memory = status.OutOfMemory
+
+-- the status of a fault of the JSON
+abbrev pub json_status : JsonFault → Status
+json_status json.Syntax = status.Misread (Json json.Syntax)
+json_status (json.Shape func item) = status.Misread (Json (json.Shape func item))
+json_status (json.IntRange func item) = status.Misread (Json (json.IntRange func item))
+json_status (json.Float func item) = status.Misread (Json (json.Float func item))
+json_status (json.Deep func item) = status.Misread (Json (json.Deep func item))
+json_status json.Memory = status.OutOfMemory
+
+-- the status of a fault of the names
+abbrev pub name_status : NameFault → Status
+name_status (name.NoFunction func item) = status.Misnamed (name.NoFunction func item)
+name_status (name.TwiceFunction func) = status.Misnamed (name.TwiceFunction func)
+name_status (name.NoLabel func item) = status.Misnamed (name.NoLabel func item)
+name_status (name.TwiceLabel func item) = status.Misnamed (name.TwiceLabel func item)
+name_status name.NoMain = status.Misnamed name.NoMain
+name_status (name.TwiceArg func) = status.Misnamed (name.TwiceArg func)
+name_status name.Memory = status.OutOfMemory
+
+-- the status of a fault of the checker, with the program that has it
+abbrev pub check_status : Prog → CheckFault → Status
+check_status p (check.Types func item) = status.Unaccepted p (check.Types func item)
+check_status p (check.Arity func item) = status.Unaccepted p (check.Arity func item)
+check_status p (check.MaybeUnassigned func item variable) = status.Unaccepted p (check.MaybeUnassigned func item variable)
+check_status p (check.Nest func item) = status.Unaccepted p (check.Nest func item)
+check_status p (check.SpecCall func item) = status.Unaccepted p (check.SpecCall func item)
+check_status p (check.NoReturn func item) = status.Unaccepted p (check.NoReturn func item)
+check_status p check.MainType = status.Unaccepted p check.MainType
+check_status p (check.PrintPtr func item) = status.Unaccepted p (check.PrintPtr func item)
+check_status p check.Memory = status.OutOfMemory
+
+-- the status of a fault of the arguments
+abbrev pub argument_status : ArgFault → Status
+argument_status (argument.Count given wanted) = status.ArgumentCount given wanted
+argument_status (argument.Spelling position) = status.BadArgument position
+argument_status argument.Memory = status.OutOfMemory

@@ -1,0 +1,138 @@
+// The status of each stage's fault, so that `?` hands it on, and of how a command ended.
+
+ghost use Rattle.std.specs.Prelude.{◌≡◌};
+ghost use Rattle.bril_report.specs.StageFaults.{status_of, file_status, text_status, json_status, name_status, check_status, argument_status};
+ghost use Rattle.bril_report.specs.declared.status.Status.TheVariants.{OutOfMemory, CannotWrite};
+
+use crate::status::{SourceFault, Status};
+use bril_arguments::ArgFault;
+use bril_checker::CheckFault;
+use bril_json::JsonFault;
+use bril_names::NameFault;
+use bril_outside::files::FileFault;
+use bril_outside::sink::Failed;
+use bril_text::TextFault;
+use bril_tree::program::Prog;
+use std::alloc::AllocError;
+
+/// `Done` of a command that was done, and else the status with which it ended.
+impl From<Result<(), Status>> for Status {
+    ghost from_gives = { λ ended status. status ≡ status_of ended };
+
+    fn from(ended: Result<(), Status>) -> Status {
+        match ended {
+            Ok(()) => Status::Done,
+            Err(status) => status,
+        }
+    }
+}
+
+impl From<AllocError> for Status {
+    ghost from_gives = { λ _ status. status ≡ OutOfMemory };
+
+    fn from(_fault: AllocError) -> Status {
+        Status::OutOfMemory
+    }
+}
+
+/// A write to the output failed.
+impl From<Failed> for Status {
+    ghost from_gives = { λ _ status. status ≡ CannotWrite };
+
+    fn from(_fault: Failed) -> Status {
+        Status::CannotWrite
+    }
+}
+
+impl From<FileFault> for Status {
+    ghost from_gives = { λ fault status. status ≡ file_status fault };
+
+    fn from(fault: FileFault) -> Status {
+        match fault {
+            FileFault::Failed => Status::CannotRead,
+            FileFault::Memory => Status::OutOfMemory,
+        }
+    }
+}
+
+impl From<TextFault> for Status {
+    ghost from_gives = { λ fault status. status ≡ text_status fault };
+
+    fn from(fault: TextFault) -> Status {
+        match fault {
+            TextFault::Memory => Status::OutOfMemory,
+            TextFault::Lex { .. }
+            | TextFault::Grammar { .. }
+            | TextFault::IntRange { .. }
+            | TextFault::Float { .. }
+            | TextFault::Deep { .. } => Status::Misread {
+                fault: SourceFault::Text(fault),
+            },
+        }
+    }
+}
+
+impl From<JsonFault> for Status {
+    ghost from_gives = { λ fault status. status ≡ json_status fault };
+
+    fn from(fault: JsonFault) -> Status {
+        match fault {
+            JsonFault::Memory => Status::OutOfMemory,
+            JsonFault::Syntax
+            | JsonFault::Shape { .. }
+            | JsonFault::IntRange { .. }
+            | JsonFault::Float { .. }
+            | JsonFault::Deep { .. } => Status::Misread {
+                fault: SourceFault::Json(fault),
+            },
+        }
+    }
+}
+
+impl From<NameFault> for Status {
+    ghost from_gives = { λ fault status. status ≡ name_status fault };
+
+    fn from(fault: NameFault) -> Status {
+        match fault {
+            NameFault::Memory => Status::OutOfMemory,
+            NameFault::NoFunction { .. }
+            | NameFault::TwiceFunction { .. }
+            | NameFault::NoLabel { .. }
+            | NameFault::TwiceLabel { .. }
+            | NameFault::NoMain
+            | NameFault::TwiceArg { .. } => Status::Misnamed { fault },
+        }
+    }
+}
+
+/// A program, and the fault of the checker that it has.
+impl From<(Prog, CheckFault)> for Status {
+    ghost from_gives = { λ refused status. status ≡ check_status refused.0 refused.1 };
+
+    fn from(refused: (Prog, CheckFault)) -> Status {
+        let (program, fault) = refused;
+        match fault {
+            CheckFault::Memory => Status::OutOfMemory,
+            CheckFault::Types { .. }
+            | CheckFault::Arity { .. }
+            | CheckFault::MaybeUnassigned { .. }
+            | CheckFault::Nest { .. }
+            | CheckFault::SpecCall { .. }
+            | CheckFault::NoReturn { .. }
+            | CheckFault::MainType
+            | CheckFault::PrintPtr { .. } => Status::Unaccepted { program, fault },
+        }
+    }
+}
+
+impl From<ArgFault> for Status {
+    ghost from_gives = { λ fault status. status ≡ argument_status fault };
+
+    fn from(fault: ArgFault) -> Status {
+        match fault {
+            ArgFault::Count { given, wanted } => Status::ArgumentCount { given, wanted },
+            ArgFault::Spelling { place } => Status::BadArgument { position: place },
+            ArgFault::Memory => Status::OutOfMemory,
+        }
+    }
+}
