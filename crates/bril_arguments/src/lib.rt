@@ -4,8 +4,6 @@
 mod arguments;
 mod fault;
 mod spelling;
-#[cfg(test)]
-mod tests;
 
 pub use arguments::read_args;
 pub use fault::ArgFault;

@@ -8,8 +8,6 @@ mod frames;
 mod laws;
 mod mistakes;
 mod operands;
-#[cfg(test)]
-mod tests;
 mod types;
 mod walks;
 

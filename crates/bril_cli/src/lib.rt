@@ -7,6 +7,4 @@ mod emission;
 mod program;
 mod source;
 mod straight;
-#[cfg(test)]
-mod tests;
 pub mod top;

@@ -4,8 +4,6 @@
 mod block;
 mod cells;
 mod fault;
-#[cfg(test)]
-mod tests;
 
 pub use cells::Cells;
 pub use fault::HeapFault;

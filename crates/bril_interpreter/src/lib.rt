@@ -15,8 +15,6 @@ mod speculation;
 mod step;
 mod stop;
 mod table;
-#[cfg(test)]
-mod tests;
 
 pub use answer::{Here, StepAnswer};
 pub use interp::Interp;

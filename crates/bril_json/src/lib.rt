@@ -21,6 +21,3 @@ pub use laws::{one_tree, tree_or_fault};
 pub use reading::read_json;
 pub use writing::laws::canonical_json_is_read;
 pub use writing::write_json;
-
-#[cfg(test)]
-mod tests;

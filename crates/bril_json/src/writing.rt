@@ -10,8 +10,6 @@ ghost use Rattle.bril_json.specs.Reading.{JsonOf};
 mod item;
 pub mod laws;
 mod part;
-#[cfg(test)]
-mod tests;
 
 use bril_tree::bytes::Bytes;
 use bril_tree::function_tree::{Dest, FuncTree, Item};

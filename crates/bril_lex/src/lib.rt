@@ -5,8 +5,6 @@ pub mod class;
 pub mod cut;
 pub mod laws;
 mod scan;
-#[cfg(test)]
-mod tests;
 pub mod token;
 
 pub use cut::{LexFault, tokens};

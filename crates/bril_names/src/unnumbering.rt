@@ -9,8 +9,6 @@ ghost use Rattle.bril_names.specs.Range.{AreInRange};
 
 mod items;
 mod names;
-#[cfg(test)]
-mod tests;
 
 use bril_tree::function_tree::{Dest, FuncTree};
 use bril_tree::numbered_function::Func;

@@ -4,8 +4,6 @@
 mod arith;
 mod decimal;
 mod laws;
-#[cfg(test)]
-mod tests;
 
 pub use arith::{quot, scalar, wrap_add, wrap_mul, wrap_sub};
 pub use decimal::{put_int, read_int};

@@ -9,5 +9,3 @@ pub mod os_files;
 pub mod os_sink;
 pub mod sink;
 pub mod stored_file;
-#[cfg(test)]
-mod tests;

@@ -4,8 +4,6 @@
 mod report;
 mod stage_faults;
 mod status;
-#[cfg(test)]
-mod tests;
 
 pub use report::{say, say_misuse, status_number};
 pub use status::{SourceFault, Status};

@@ -21,6 +21,3 @@ pub use laws::{one_tree, tree_or_fault};
 pub use reading::read_text;
 pub use writing::laws::canonical_text_is_read;
 pub use writing::write_text;
-
-#[cfg(test)]
-mod tests;

@@ -9,8 +9,6 @@ pub mod laws;
 mod line;
 mod part;
 mod terminal;
-#[cfg(test)]
-mod tests;
 
 use bril_tree::bytes::Bytes;
 use bril_tree::function_tree::{Dest, FuncTree};

@@ -17,8 +17,6 @@ pub mod program;
 pub mod sequence;
 mod shape;
 mod size;
-#[cfg(test)]
-mod tests;
 pub mod text;
 pub mod tree;
 pub mod types;

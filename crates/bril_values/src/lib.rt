@@ -4,8 +4,6 @@
 mod outcome;
 mod parts;
 mod printed_value;
-#[cfg(test)]
-mod tests;
 
 pub use outcome::{Outcome, compute};
 pub use parts::{block_of, bool_of, int_of, offset_of};

@@ -4,8 +4,6 @@
 mod misuse;
 mod options;
 mod request;
-#[cfg(test)]
-mod tests;
 mod words;
 
 pub use misuse::{Misuse, Setting};

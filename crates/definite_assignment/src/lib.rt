@@ -6,7 +6,5 @@ mod arcs;
 mod flow;
 mod location;
 mod reads;
-#[cfg(test)]
-mod tests;
 
 pub use analysis::{Unassigned, first_unassigned};

@@ -8,8 +8,6 @@ mod laws;
 mod open_sites;
 mod search;
 mod sites;
-#[cfg(test)]
-mod tests;
 mod visits;
 
 pub use bril_tree::edge::Edge;

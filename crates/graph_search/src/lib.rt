@@ -10,8 +10,6 @@
 mod adjacency;
 mod graph;
 mod reached;
-#[cfg(test)]
-mod tests;
 
 pub use adjacency::Adjacency;
 pub use graph::{Arc, ArcGraph};

@@ -8,7 +8,5 @@ pub mod field;
 pub mod image;
 pub mod machine;
 mod region;
-#[cfg(test)]
-mod tests;
 pub mod trap;
 pub mod word;

@@ -66,6 +66,3 @@ pub fn plus_tracks<E, S, T, R: Relates<S, T>>()
 pub fn star_tracks<E, S, T, R: Relates<S, T>>()
     ensures { StarTracks E R.related }
 {}
-
-#[cfg(test)]
-mod tests;

@@ -1,0 +1,44 @@
+// Makes the calls of standard input that no command line makes or shows, and shows what they answer.
+//
+// Standard input is lines of text, each with a call; `stdin` beside src/ has all of them, and `stdout` what they must come
+// to, by hand.
+//
+//     # a comment
+//     == what the rows show
+//     tokens SOURCE          each token of the source: its kind, and its bytes from and to
+//     numbered SOURCE        the canonical text of the program that the source is numbered as
+//     graph SOURCE           of the first function's flow graph the edges, from, leaving and to; and of each point the open
+//                            sites, the newest first, and where the edges to it come from
+//     steps SOURCE           the words of each function's frame; each step of the run of `main`: the answer, where the run then
+//                            stands, and what the first variable holds; the guards of the first function that failed, and how
+//                            often; and the output
+//     count PIECE PIECE ..   how many bytes a sink that counts took, after each piece
+//     decode BITS            the machine word of eight hexadecimal digits
+//     machine STEPS PUT ARG BITS BITS ..
+//                            a run of so many steps of the image with one argument, where the put of that number, from 1, fails,
+//                            and another run after it: each answer, and how many words were executed; and the output
+//
+// A source, a piece and an argument may have the escapes `\n`, `\r`, `\t`, `\\`, `\xHH` and `\e`.
+#![tactic(auto)]
+
+mod graph;
+mod machine;
+mod program;
+mod row;
+mod steps;
+
+use anyhow::Context;
+use std::io::{self, Write};
+
+fn main(rt: HostRuntime) -> anyhow::Result<()> {
+    let alloc = rt.alloc();
+    let text = io::read_to_string(alloc, rt.reader())?;
+    let mut shown = Vec::new(alloc);
+    let mut number = 0u64;
+    for line in text.as_str().lines() {
+        number = number.saturating_add(1);
+        row::add_row(alloc, line, &mut shown).context(format_args!("line {number}"))?;
+    }
+    io::writer(&rt).write_all(shown.as_slice())?;
+    Ok(())
+}

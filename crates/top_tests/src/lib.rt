@@ -1,0 +1,10 @@
+// Tests of what no row of data can say: the adapters to the system's files and outputs, and laws at concrete types.
+// What command lines and other calls give is shown by the programs `worked_rows` and `lower_rows`.
+#![tactic(auto)]
+
+#[cfg(test)]
+mod adapters;
+#[cfg(test)]
+mod laws;
+#[cfg(test)]
+mod weak;

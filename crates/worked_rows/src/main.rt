@@ -1,0 +1,42 @@
+// Runs the command lines of standard input, each over files and outputs in memory, and shows what they leave.
+//
+// Standard input is lines of text; `stdin` beside src/ has all cases, and `stdout` what they must come to, by hand.
+//
+//     # a comment
+//     == what the case shows     a new case, without files
+//     reads 1 3                  the reads of the case, from 1, that fail; before its files
+//     file one.bril              a file, of what the next lines write
+//     |@main { }                 a line, verbatim, and LF
+//     + caf\xc3\xa9              bytes with escapes, and no LF
+//     fill 3 x\#;                so many times the bytes, `\#` being 0, 1 and so on
+//     puts 2                     the puts of the next command, from 1, that fail
+//     errs 1                     the puts of the next command to the error output that fail
+//     room 8                     how many bytes the output of the next command takes
+//     $ bril run one.bril        a command line: all its words, a blank between two; `\e` is an empty word
+//     cut bril run one.bril      the same for the last file, cut before each of its bytes
+//
+// Escapes are `\n`, `\r`, `\t`, `\\` and `\xHH`. Shown are the lines `==`, `$` and `cut`; after each `$` the line `status N`,
+// what went to the output as lines `|` and `+`, and what went to the error output as such lines after `err `; after each
+// `cut` how many of the cuts, from the shortest, ended with one status.
+#![tactic(auto)]
+
+mod case;
+
+use anyhow::Context;
+use case::Case;
+use std::io::{self, Write};
+
+fn main(rt: HostRuntime) -> anyhow::Result<()> {
+    let alloc = rt.alloc();
+    let text = io::read_to_string(alloc, rt.reader())?;
+    let mut shown = Vec::new(alloc);
+    let mut case = Case::new(alloc);
+    let mut number = 0u64;
+    for line in text.as_str().lines() {
+        number = number.saturating_add(1);
+        case.take(line, &mut shown)
+            .context(format_args!("line {number}"))?;
+    }
+    io::writer(&rt).write_all(shown.as_slice())?;
+    Ok(())
+}
