@@ -47,7 +47,7 @@ some_pushed (v ∷ vs) value e = cc
 abbrev pub types_of : List VarInfo → List (Option Ty)
 types_of vars = map (λ (v : VarInfo). v.ty) vars
 
--- so many words are read, and their values are held, or memory was wanting for one
+-- so many words are read, and their values are held, or memory ran out for one
 pub record AreRead (types : List (Option Ty)) (words : List (List ℕ)) (count : ℕ) (wanting : Bool) (values : List Value) : Type 0 where
   pub read : List Value
   pub spelled : AreSpelled (take count types) (take count words) read

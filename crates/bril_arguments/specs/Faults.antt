@@ -18,7 +18,7 @@ pub record IsFirstMisspelled (types : List (Option Ty)) (words : List (List ℕ)
   pub before : AreSpelled (take index types) (take index words) values
   pub none : (value : Value) → ¬ IsSpelled ty word value
 
--- what a fault says of the words, by these types: memory is wanting only where they spell values, and one at least
+-- what a fault says of the words, by these types: memory runs out only where they spell values, and one at least
 abbrev pub IsFaultOf : List (Option Ty) → List (List ℕ) → ArgFault → Type 0
 IsFaultOf types words (Count given wanted) = (given ≡ length words) × (wanted ≡ length types) × (given ≢ wanted)
 IsFaultOf types words (Spelling place) = (length words ≡ length types) × IsFirstMisspelled types words place

@@ -23,7 +23,7 @@ use std::alloc::Global;
 ///
 /// `Count` comes exactly where the number of words is not that of `main`'s arguments; else `Spelling` exactly where a word
 /// spells no value of its argument's type, with the place of the first such word, from 1. `Memory` may come in place of
-/// the values, where there are any and memory is wanting for them.
+/// the values, where there are any, out of memory.
 pub fn read_args(alloc: Global, prog: &Prog, words: &[Text]) -> Result<Seq<Value>, ArgFault>
     requires { length words.now < 2 ^ 32 }
     // The values are those that the words spell, and they fit `main`.
@@ -63,7 +63,7 @@ fn read_words(alloc: Global, parameters: &[VarInfo], words: &[Text]) -> Result<S
         });
     }
     let mut values = Seq::new(alloc);
-    // Want of memory is told behind all words, so that it hides no fault of theirs.
+    // Out of memory is told after all words, so that it hides no fault of theirs.
     let mut wanting = false;
     for (index, word) in words.iter().enumerate() {
         let Some(value) = read_value(parameters[index].ty, word) else {

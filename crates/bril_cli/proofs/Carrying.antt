@@ -60,7 +60,7 @@ module _ (decodes : Decodes) (image : Image) (p : Prog) (limits : Limits) (f : F
     pub below : AllByRecursion (λ x. x < n) (flat_map variables_of rest)
     pub has : HasAt image.words word (code_words rest)
     pub ready : Ready t word
-    pub words : HoldsWords n frame.places.vars t.stack
+    pub words : HoldsWords n frame.locations.vars t.stack
     pub printed : s.printed ≡ t.printed
 
   -- both ended, and printed the same
@@ -113,11 +113,11 @@ module _ (decodes : Decodes) (image : Image) (p : Prog) (limits : Limits) (f : F
       let steps : after stepped 11 t ≡ b.0 = after-add stepped 8 3 t ∙ ap (after stepped 3) a.1.steps ∙ b.1.steps in
       let after_is : step p limits s ≡ gives p limits (Some dest) (Int v) r.frame [] s = step_at s t r (Some item) (item_here s t r item rest e) in
       let one : IsIntWord (Int v) (cast_unsigned w64 v) = record { number = v; value = refl; fits = fits; word = refl } in
-      let held = words_assigned n r.frame.places.vars t.stack dest (Int v) (cast_unsigned w64 v) r.words one in
+      let held = words_assigned n r.frame.locations.vars t.stack dest (Int v) (cast_unsigned w64 v) r.words one in
       let stack_is : b.0.stack ≡ machine.assigned t.stack (2 + dest) (cast_unsigned w64 v) = b.1.stack ∙ ap (λ y. machine.assigned a.0.stack (2 + dest) y) a.1.holds ∙ ap (λ g. machine.assigned g (2 + dest) (cast_unsigned w64 v)) a.1.stack in
-      let words = subst (λ g. HoldsWords n (bril.with_value r.frame.places.vars dest (Int v)) g) (sym stack_is) held in
+      let words = subst (λ g. HoldsWords n (bril.with_value r.frame.locations.vars dest (Int v)) g) (sym stack_is) held in
       let next : Runs (gives p limits (Some dest) (Int v) r.frame [] s) b.0 = record {
-        frame = record { function = r.frame.function; point = suc r.frame.point; places = record { vars = bril.with_value r.frame.places.vars dest (Int v); shadows = r.frame.places.shadows }; saves = r.frame.saves };
+        frame = record { function = r.frame.function; point = suc r.frame.point; locations = record { vars = bril.with_value r.frame.locations.vars dest (Int v); shadows = r.frame.locations.shadows }; saves = r.frame.saves };
         past = r.past ++ item ∷ [];
         rest = rest;
         word = _;
@@ -165,24 +165,24 @@ module _ (decodes : Decodes) (image : Image) (p : Prog) (limits : Limits) (f : F
       let va = r.words a a_lt in
       let vb = r.words b b_lt in
       let sum = int_wrap w64 (va.number +ℤ vb.number) in
-      let read_a = bril.read r.frame.places.vars a in
-      let read_b = bril.read r.frame.places.vars b in
+      let read_a = bril.read r.frame.locations.vars a in
+      let read_b = bril.read r.frame.locations.vars b in
       let value_is : gives p limits (Some x) (Int (int_wrap w64 (int_of read_a +ℤ int_of read_b))) r.frame [] s ≡ gives p limits (Some x) (Int sum) r.frame [] s =
       ap (λ v. gives p limits (Some x) (Int (int_wrap w64 (int_of v +ℤ int_of read_b))) r.frame [] s) va.value
       ∙ ap (λ v. gives p limits (Some x) (Int (int_wrap w64 (va.number +ℤ int_of v))) r.frame [] s) vb.value in
       let after_is : step p limits s ≡ gives p limits (Some x) (Int sum) r.frame [] s = step_at s t r (Some item) (item_here s t r item rest e) ∙ value_is in
       let fits : FitsSigned w64 sum = SFits-int_wrap w64 (va.number +ℤ vb.number) in
       let one : IsIntWord (Int sum) (cast_unsigned w64 sum) = record { number = sum; value = refl; fits = fits; word = refl } in
-      let held = words_assigned n r.frame.places.vars t.stack x (Int sum) (cast_unsigned w64 sum) r.words one in
+      let held = words_assigned n r.frame.locations.vars t.stack x (Int sum) (cast_unsigned w64 sum) r.words one in
       let in_5 : m.0.registers 5 ≡ cast_unsigned w64 va.number = m.1.others 5 five_not_seven five_not_six ∙ l.1.holds ∙ va.word in
       let in_7 : m.0.registers 7 ≡ cast_unsigned w64 vb.number = m.1.holds ∙ ap (λ g. g (2 + b)) l.1.stack ∙ vb.word in
       let total_is : total ≡ cast_unsigned w64 sum = ap (λ y. (y + m.0.registers 7) % 2 ^ 64) in_5 ∙ ap (λ y. (cast_unsigned w64 va.number + y) % 2 ^ 64) in_7 ∙ sym (sum_word va.number vb.number va.fits vb.fits) in
       let stack_is : d.0.stack ≡ machine.assigned t.stack (2 + x) (cast_unsigned w64 sum) =
       d.1.stack ∙ ap (λ y. machine.assigned added.stack (2 + x) y) (c.holds ∙ total_is)
       ∙ ap (λ g. machine.assigned g (2 + x) (cast_unsigned w64 sum)) (c.stack ∙ m.1.stack ∙ l.1.stack) in
-      let words = subst (λ g. HoldsWords n (bril.with_value r.frame.places.vars x (Int sum)) g) (sym stack_is) held in
+      let words = subst (λ g. HoldsWords n (bril.with_value r.frame.locations.vars x (Int sum)) g) (sym stack_is) held in
       let next : Runs (gives p limits (Some x) (Int sum) r.frame [] s) d.0 = record {
-        frame = record { function = r.frame.function; point = suc r.frame.point; places = record { vars = bril.with_value r.frame.places.vars x (Int sum); shadows = r.frame.places.shadows }; saves = r.frame.saves };
+        frame = record { function = r.frame.function; point = suc r.frame.point; locations = record { vars = bril.with_value r.frame.locations.vars x (Int sum); shadows = r.frame.locations.shadows }; saves = r.frame.saves };
         past = r.past ++ item ∷ [];
         rest = rest;
         word = _;
@@ -213,13 +213,13 @@ module _ (decodes : Decodes) (image : Image) (p : Prog) (limits : Limits) (f : F
       let m = print_runs decodes image.words sizes t r.word a (code_words rest) a_in few r.ready has in
       let stepped = machine.machine_step image.words sizes in
       let va = r.words a a_lt in
-      let value = bril.read r.frame.places.vars a in
+      let value = bril.read r.frame.locations.vars a in
       let after_is : step p limits s ≡ prints p limits (value ∷ []) r.frame [] s = step_at s t r (Some item) (item_here s t r item rest e) in
       let number_is : cast_signed w64 (t.stack (2 + a)) ≡ va.number = ap (cast_signed w64) va.word ∙ to_z-of_z w64 va.number va.fits in
       let text_is : signed_decimal (cast_signed w64 (t.stack (2 + a))) ≡ shown value = ap signed_decimal number_is ∙ sym (ap shown va.value) in
-      let words = subst (λ g. HoldsWords n r.frame.places.vars g) (sym m.1.stack) r.words in
+      let words = subst (λ g. HoldsWords n r.frame.locations.vars g) (sym m.1.stack) r.words in
       let next : Runs (prints p limits (value ∷ []) r.frame [] s) m.0 = record {
-        frame = record { function = r.frame.function; point = suc r.frame.point; places = r.frame.places; saves = r.frame.saves };
+        frame = record { function = r.frame.function; point = suc r.frame.point; locations = r.frame.locations; saves = r.frame.saves };
         past = r.past ++ item ∷ [];
         rest = rest;
         word = _;

@@ -52,9 +52,9 @@ module _ (p : Prog) (limits : Limits) (f : Func) (alone : p.funcs ≡ f ∷ []) 
   step_here s item rest r = step_at s (item ∷ rest) r (Some item) (ap (λ c. slice_get c (length r.past)) r.code ∙ slice_get-seam r.past rest item)
 
   -- one item further
-  further : (s t : bril.State) (item : Instr) (rest : List Instr) (r : Stands s (item ∷ rest)) (places : bril.Places) → t.frames ≡ record { function = r.frame.function; point = suc r.frame.point; places = places; saves = r.frame.saves } ∷ [] → t.ended ≡ s.ended → t.blocks ≡ s.blocks → Stands t rest
-  further s t item rest r places frames ended blocks = record {
-    frame = record { function = r.frame.function; point = suc r.frame.point; places = places; saves = r.frame.saves };
+  further : (s t : bril.State) (item : Instr) (rest : List Instr) (r : Stands s (item ∷ rest)) (locations : bril.Locals) → t.frames ≡ record { function = r.frame.function; point = suc r.frame.point; locations = locations; saves = r.frame.saves } ∷ [] → t.ended ≡ s.ended → t.blocks ≡ s.blocks → Stands t rest
+  further s t item rest r locations frames ended blocks = record {
+    frame = record { function = r.frame.function; point = suc r.frame.point; locations = locations; saves = r.frame.saves };
     past = r.past ++ item ∷ [];
     frames = frames;
     main = r.main;
@@ -68,7 +68,7 @@ module _ (p : Prog) (limits : Limits) (f : Func) (alone : p.funcs ≡ f ∷ []) 
   act_further s op.Add (Some x) (a ∷ b ∷ []) ty funcs labels rest h r =
       subst (λ t. Stands t rest) (sym (step_here s _ rest r)) (further s _ _ rest r _ refl refl refl)
   act_further s op.Print None (a ∷ []) ty funcs labels rest h r =
-      subst (λ t. Stands t rest) (sym (step_here s _ rest r)) (further s _ _ rest r r.frame.places refl refl refl)
+      subst (λ t. Stands t rest) (sym (step_here s _ rest r)) (further s _ _ rest r r.frame.locations refl refl refl)
   act_further s op.Add None args ty funcs labels rest h r = absurd h
   act_further s op.Add (Some x) [] ty funcs labels rest h r = absurd h
   act_further s op.Add (Some x) (a ∷ []) ty funcs labels rest h r = absurd h
@@ -101,7 +101,7 @@ straight_ends p limits straight =
     let counted : items_in p ≡ length f.code = ap (λ fs. sum_by (λ g. length g.code) fs) straight.alone ∙ omega arith in
     ap (λ n. (state_after p limits [] (n + 1)).ended) counted
     ∙ ends_after p limits f straight.alone f.code (first_state p limits []) straight.items (record {
-      frame = record { function = p.main; point = 0; places = record { vars = bril.no_values; shadows = bril.no_values }; saves = [] };
+      frame = record { function = p.main; point = 0; locations = record { vars = bril.no_values; shadows = bril.no_values }; saves = [] };
       past = [];
       frames = refl;
       main = straight.first;

@@ -1,6 +1,6 @@
 pub mod Bounds
 pub mod Carrying
-pub mod Commands
+pub mod Causes
 pub mod Counting
 pub mod Digits
 pub mod Ending
@@ -8,8 +8,9 @@ pub mod ImageSystem
 pub mod Interpreting
 pub mod MachineSteps
 pub mod Outcomes
+pub mod Promises
 pub mod Relation
 pub mod Runs
 pub mod Start
-pub mod Straightness
 pub mod Statuses
+pub mod Straightness

@@ -1,7 +1,9 @@
 -- What the steps of an action on a file come to.
 use Rattle.std.proofs.Common.{◌≡◌, ◌⊎◌, ℕ, List, [], Result, Ok, Err, IfOk, refl, sym, subst, ⊎_elim, inr}
-use Rattle.std.specs.Prelude.{IfErr, MatchResult}
-use Rattle.bril_outside.specs.Sink.{SinkSeen}
+use Rattle.std.specs.Prelude.{IfErr}
+use Rattle.bril_outside.specs.Files.{FilesSeen, MayFail}
+use Rattle.bril_outside.specs.declared.files.FileFault.{FileFault}
+use Rattle.bril_outside.specs.declared.files.FileFault.TheVariants as file
 use Rattle.bril_tree.specs.declared.tree.Tree.{Tree}
 use Rattle.bril_tree.specs.Accepted.{IsAccepted}
 use Rattle.bril_tree.specs.declared.program.Prog.{Prog}
@@ -10,74 +12,22 @@ use Rattle.bril_checker.specs.Faults as checker
 use Rattle.bril_checker.specs.declared.fault.CheckFault.{CheckFault}
 use Rattle.bril_checker.specs.declared.fault.CheckFault.TheVariants as check
 use Rattle.bril_tree.specs.Numbered.{Numbered}
-use Rattle.bril_json.specs.Reading as json_reading
-use Rattle.bril_json.specs.declared.fault.JsonFault.{JsonFault}
-use Rattle.bril_json.specs.declared.fault.JsonFault.TheVariants as json
 use Rattle.bril_names.specs.Faults as names
 use Rattle.bril_names.specs.declared.fault.NameFault.{NameFault}
 use Rattle.bril_names.specs.declared.fault.NameFault.TheVariants as name
-use Rattle.bril_text.specs.Reading as text_reading
-use Rattle.bril_text.specs.declared.fault.TextFault.{TextFault}
-use Rattle.bril_text.specs.declared.fault.TextFault.TheVariants as text
-use Rattle.bril_cli.specs.Source.{HasFault, HasOnlyCheckFault, IsOnlyTree, IsOnlyFault}
-use Rattle.bril_cli.specs.Stages.{RefusesTree, RefusesNames, RefusesCheck, RefusesProgram, PutsText, IsOnlyNameFault, IsOnlyProgram, IsFaultless, IsAcceptedProgram}
-use Rattle.bril_report.specs.StageFaults.{text_status, json_status, name_status, check_status}
+use Rattle.bril_cli.specs.Source.{HasOnlyCheckFault}
+use Rattle.bril_cli.specs.Stages.{RefusesFile, RefusesNames, RefusesCheck, RefusesProgram, IsOnlyNameFault, IsOnlyProgram, IsFaultless, IsAcceptedProgram}
+use Rattle.bril_report.specs.StageFaults.{file_status, name_status, check_status}
 use Rattle.bril_report.specs.declared.status.Status.{Status}
 use Rattle.bril_report.specs.declared.status.Status.TheVariants as status
-use Rattle.bril_cli.specs.declared.source.Format.TheVariants.{InText, InJson}
-use Rattle.bril_report.specs.declared.status.SourceFault.{SourceFault}
-use Rattle.bril_report.specs.declared.status.SourceFault.TheVariants.{Text, Json}
 
--- ---- What a reader answers: what it reads is the only tree, and its fault the only one or want of memory.
+-- ---- What reading a file answers.
 
-module _ (bytes : List ℕ) where
-  pub IsOnlyTree-text : (tree : Tree) → text_reading.Spells bytes tree → ((other : Tree) → text_reading.Spells bytes other → tree ≡ other) → ((fault : TextFault) → text_reading.HasFault bytes fault → ⊥) → IsOnlyTree InText bytes tree
-  IsOnlyTree-text tree reads alone faultless = record { reads = reads; alone = alone; faultless = none }
-    where
-      none : (fault : SourceFault) → HasFault InText bytes fault → ⊥
-      none (Text fault) has = faultless fault has
-      none (Json fault) has = has
+pub RefusesFile-of : (fault : FileFault) (f g : FilesSeen) (path : List ℕ) → (fault ≡ file.Failed → MayFail f g path) → RefusesFile (file_status fault) f g path
+RefusesFile-of file.Failed f g path failed = failed refl
+RefusesFile-of file.Memory f g path failed = tt
 
-  pub IsOnlyTree-json : (tree : Tree) → json_reading.JsonOf bytes tree → ((other : Tree) → json_reading.JsonOf bytes other → tree ≡ other) → ((fault : JsonFault) → json_reading.HasFault bytes fault → ⊥) → IsOnlyTree InJson bytes tree
-  IsOnlyTree-json tree reads alone faultless = record { reads = reads; alone = alone; faultless = none }
-    where
-      none : (fault : SourceFault) → HasFault InJson bytes fault → ⊥
-      none (Text fault) has = has
-      none (Json fault) has = faultless fault has
-
-  module _ (fault : TextFault) (is : text_reading.IsFaultOf bytes fault) (only : (other : TextFault) → text_reading.HasFault bytes other → (fault ≡ other) ⊎ (fault ≡ text.Memory)) (reads : (tree : Tree) → text_reading.Spells bytes tree → fault ≡ text.Memory) where
-    only_text : (fault ≡ text.Memory → ⊥) → IsOnlyFault InText bytes (Text fault)
-    only_text ample = record { has = ⊎_elim (λ e. absurd (ample e)) (λ h. h) is; alone = one; unread = λ tree s. ample (reads tree s) }
-      where
-        one : (other : SourceFault) → HasFault InText bytes other → Text fault ≡ other
-        one (Text other) has = ⊎_elim (λ e. λ i. Text (e i)) (λ e. absurd (ample e)) (only other has)
-        one (Json other) has = absurd has
-
-  module _ (fault : JsonFault) (is : json_reading.IsFaultOf bytes fault) (only : (other : JsonFault) → json_reading.HasFault bytes other → (fault ≡ other) ⊎ (fault ≡ json.Memory)) (reads : (tree : Tree) → json_reading.JsonOf bytes tree → fault ≡ json.Memory) where
-    only_json : (fault ≡ json.Memory → ⊥) → IsOnlyFault InJson bytes (Json fault)
-    only_json ample = record { has = ⊎_elim (λ e. absurd (ample e)) (λ h. h) is; alone = one; unread = λ tree s. ample (reads tree s) }
-      where
-        one : (other : SourceFault) → HasFault InJson bytes other → Json fault ≡ other
-        one (Text other) has = absurd has
-        one (Json other) has = ⊎_elim (λ e. λ i. Json (e i)) (λ e. absurd (ample e)) (only other has)
-
-  pub RefusesTree-text : (fault : TextFault) → text_reading.IsFaultOf bytes fault → ((other : TextFault) → text_reading.HasFault bytes other → (fault ≡ other) ⊎ (fault ≡ text.Memory)) → ((tree : Tree) → text_reading.Spells bytes tree → fault ≡ text.Memory) → RefusesTree (text_status fault) InText bytes
-  RefusesTree-text (text.Lex at) is only reads = only_text (text.Lex at) is only reads (λ e. cc)
-  RefusesTree-text (text.Grammar at) is only reads = only_text (text.Grammar at) is only reads (λ e. cc)
-  RefusesTree-text (text.IntRange at) is only reads = only_text (text.IntRange at) is only reads (λ e. cc)
-  RefusesTree-text (text.Float at) is only reads = only_text (text.Float at) is only reads (λ e. cc)
-  RefusesTree-text (text.Deep at) is only reads = only_text (text.Deep at) is only reads (λ e. cc)
-  RefusesTree-text text.Memory is only reads = tt
-
-  pub RefusesTree-json : (fault : JsonFault) → json_reading.IsFaultOf bytes fault → ((other : JsonFault) → json_reading.HasFault bytes other → (fault ≡ other) ⊎ (fault ≡ json.Memory)) → ((tree : Tree) → json_reading.JsonOf bytes tree → fault ≡ json.Memory) → RefusesTree (json_status fault) InJson bytes
-  RefusesTree-json json.Syntax is only reads = only_json json.Syntax is only reads (λ e. cc)
-  RefusesTree-json (json.Shape func item) is only reads = only_json (json.Shape func item) is only reads (λ e. cc)
-  RefusesTree-json (json.IntRange func item) is only reads = only_json (json.IntRange func item) is only reads (λ e. cc)
-  RefusesTree-json (json.Float func item) is only reads = only_json (json.Float func item) is only reads (λ e. cc)
-  RefusesTree-json (json.Deep func item) is only reads = only_json (json.Deep func item) is only reads (λ e. cc)
-  RefusesTree-json json.Memory is only reads = tt
-
--- ---- What numbering answers: its fault is the only one or want of memory.
+-- ---- What numbering answers: its fault is the only one or out of memory.
 
 module _ (tree : Tree) where
   module _ (fault : NameFault) (is : names.IsFaultOf tree fault) (only : (other : NameFault) → names.HasFault tree other → (fault ≡ other) ⊎ (fault ≡ name.Memory)) (numbers : (p : Prog) → Numbered tree p → fault ≡ name.Memory) where
@@ -97,7 +47,7 @@ module _ (tree : Tree) where
   RefusesNames-of (name.TwiceArg func) is only numbers = only_name (name.TwiceArg func) is only numbers (λ e. cc)
   RefusesNames-of name.Memory is only numbers = tt
 
--- ---- What the checker answers: its fault is the only one or want of memory.
+-- ---- What the checker answers: its fault is the only one or out of memory.
 
 module _ (p : Prog) where
   module _ (fault : CheckFault) (is : checker.IsFaultOf p fault) (only : (other : CheckFault) → checker.HasFault p other → (fault ≡ other) ⊎ (fault ≡ check.Memory)) (accepts : IsAccepted p → fault ≡ check.Memory) where
@@ -146,9 +96,3 @@ module _ (tree : Tree) (p : Prog) (only : IsOnlyProgram tree p) where
   pub refused_if : (r : Result CheckedView Status) → IfErr r (λ how. RefusesCheck how p) → IfErr r (λ how. RefusesProgram how tree)
   refused_if (Ok checked) refuses = tt
   refused_if (Err how) refuses = RefusesProgram-check how tree p only refuses
-
--- what putting a text that was to be made answers
-pub puts_made : {E : Type 0} (made : Result (List ℕ) E) (text : List ℕ) (how : Status) (s t : SinkSeen) → IfOk made (λ m. m ≡ text)
-    → MatchResult made (λ m. PutsText how m s t) (λ _. (how ≡ status.OutOfMemory) × (t ≡ s)) → PutsText how text s t
-puts_made (Ok m) text how s t is puts = subst (λ m. PutsText how m s t) is puts
-puts_made (Err e) text how s t is puts = subst (λ (h : Status). PutsText h text s t) (sym puts.0) puts.1

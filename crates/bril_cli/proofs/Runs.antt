@@ -28,7 +28,7 @@ output_of p = (state_after p run_limits [] (items_in p + 1)).printed
 pub EndsPrinting-straight : (p : Prog) → IsStraightCode p → EndsPrinting p (output_of p)
 EndsPrinting-straight p straight = record { steps = items_in p + 1; ended = straight_ends p run_limits straight; prints = refl }
 
--- the first of some bytes are the first of those with more behind
+-- the first of some bytes are the first of those with more after them
 pub TookSome-prefix : {s t : SinkSeen} (a b : List ℕ) → IsPrefix a b → TookSome s a t → TookSome s b t
 TookSome-prefix {s} {t} a b more some = subst (λ bytes. TookSome s bytes t) (sym more.1) (TookSome-longer more.0 some)
 
@@ -57,7 +57,7 @@ module _ (image : Image) (p : Prog) (made : IsImageOf image p) (m : Machine) (fr
   reached : (n : ℕ) → reached_after m n ≡ machine_after image.words (sizes_of image 1048576) n (start [])
   reached n = λ i. machine_after (fresh.words i) (fresh.sizes i) n (fresh.state i)
 
-  -- the state behind the steps
+  -- the state after the steps
   at_end : reached_after m steps ≡ machine_after image.words (sizes_of image 1048576) 1000000000 (start [])
   at_end = reached steps ∙ ap (λ n. machine_after image.words (sizes_of image 1048576) n (start [])) enough
 

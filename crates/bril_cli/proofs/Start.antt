@@ -77,7 +77,7 @@ module _ (decodes : Decodes) (image : Image) (p : Prog) (limits : Limits) (strai
   begin =
       let words_here : map encoded (code_words straight.function.code) ≡ image.words = sym (words_are ∙ ap (λ fs. map encoded (program_words fs)) straight.alone) in
       record {
-        frame = record { function = p.main; point = 0; places = record { vars = bril.no_values; shadows = bril.no_values }; saves = [] };
+        frame = record { function = p.main; point = 0; locations = record { vars = bril.no_values; shadows = bril.no_values }; saves = [] };
         past = [];
         rest = straight.function.code;
         word = 0;

@@ -29,7 +29,7 @@ use Rattle.bril_cli.specs.Stages.{IsOnlyNameFault, IsOnlyProgram, IsAcceptedProg
 use Rattle.bril_cli.specs.commands.Check.{accepted_line}
 use Rattle.bril_cli.specs.commands.Interp.{argument_line, HasOnlyArgFault, StopsForMemory, Interprets, Exhausts, AreOnlyValues, RefusesArgs, StepsTo, InterpretsProgram}
 use Rattle.bril_cli.specs.commands.Json.{json_line}
-use Rattle.bril_cli.specs.commands.Run.{IsWithin, EndsPrinting, Runs, RunsProgram}
+use Rattle.bril_cli.specs.commands.Run.{IsStraightFile, IsWithin, EndsPrinting, Runs, RunsProgram}
 use Rattle.bril_cli.specs.CommandLine.{AsksFor, format_of, NeedsProgram}
 use Rattle.bril_cli.specs.Straight.{is_straight}
 
@@ -61,7 +61,7 @@ pub record Ends (c : Call) (action : Action) (path : List ℕ) (args : List (Lis
   pub does : DoesFile action how c.files_before c.files_after path args c.out_before c.out_after
   pub says : SaysStatus how path c.err_before c.err_after
 
--- ---- memory was wanting, and nothing was put
+-- ---- memory ran out, and nothing was put
 
 untouched : (action : Action) (c : Call) (path : List ℕ) (args : List (List ℕ)) → c.out_after ≡ c.out_before → Leaves action c path args
 untouched (Interpret frames cells steps) c path args silent = inl silent
@@ -216,17 +216,11 @@ module _ (c : Call) (path : List ℕ) (args : List (List ℕ)) (asked : AsksFor 
         (Answers-formless c Run path args asked tt bytes file tree only here (inr (refl, record { program = p; source = source.source; accepted = program.sound.accepted; crooked = bent })) silent)
 
     module _ (straight : is_straight p ≡ true) where
+      straight_file : IsStraightFile c.files_before path p
+      straight_file = record { bytes = bytes; file = file; source = source; accepted = program.sound.accepted; straight = straight }
+
       runs_file : IsWithin p → (output : List ℕ) → EndsPrinting p output → Runs c.files_before path output
-      runs_file within output prints = record {
-        bytes = bytes;
-        file = file;
-        program = p;
-        source = source;
-        accepted = program.sound.accepted;
-        straight = straight;
-        within = within;
-        prints = prints;
-      }
+      runs_file within output prints = record { program = p; is = straight_file; within = within; prints = prints }
 
       Answers-program : (how : Status) → SaysStatus how path c.err_before c.err_after → RunsProgram how p c.out_before c.out_after → Answers (status_number how) c
       Answers-program status.Done says runs = record {
@@ -247,12 +241,8 @@ module _ (c : Call) (path : List ℕ) (args : List (List ℕ)) (asked : AsksFor 
         passes = inr (
           refl,
           inl (record {
-            bytes = bytes;
-            file = file;
             program = p;
-            source = source;
-            accepted = program.sound.accepted;
-            straight = straight;
+            is = straight_file;
             long = runs.0.0;
             alone = record { silent = runs.1; says = subst (λ n. Says c.err_before (code_line n) c.err_after) runs.0.1 says };
           }),
@@ -266,12 +256,8 @@ module _ (c : Call) (path : List ℕ) (args : List (List ℕ)) (asked : AsksFor 
         passes = inr (
           refl,
           inr (record {
-            bytes = bytes;
-            file = file;
             program = p;
-            source = source;
-            accepted = program.sound.accepted;
-            straight = straight;
+            is = straight_file;
             short_code = runs.0.0;
             long = runs.0.1;
             alone = record { silent = runs.1; says = subst (λ n. Says c.err_before (stack_line n) c.err_after) runs.0.2 says };

@@ -1,12 +1,12 @@
 -- What the top call answers: its status, and what it does to the files and its two outputs.
-use Rattle.std.specs.Prelude.{ℕ, ◌≡◌, ◌⊎◌, ◌*◌, ◌<◌, ◌≤◌, true, List, length, Some, None, codes, ◌==◌, Err, MatchBool, ◌↔◌}
+use Rattle.std.specs.Prelude.{ℕ, ◌≡◌, ◌⊎◌, ◌<◌, ◌≤◌, List, length, Some, None, codes, ◌==◌, Err, MatchBool, ◌↔◌}
 use Rattle.bril_arguments.specs.declared.fault.ArgFault.{ArgFault}
 use Rattle.bril_checker.specs.Faults as checker
 use Rattle.bril_checker.specs.declared.fault.CheckFault.{CheckFault}
 use Rattle.bril_names.specs.declared.fault.NameFault.{NameFault}
 use Rattle.bril_outside.specs.Files.{MayHold, MayFail}
 use Rattle.bril_outside.specs.Sink.{Rose, TookAll, TookSome}
-use Rattle.bril_report.specs.Lines.{form_line, misread_line, misnamed_line, unaccepted_line, unread_line, code_line, stack_line, fault_line, spent_line, misuse_line}
+use Rattle.bril_report.specs.Lines.{form_line, misread_line, misnamed_line, unaccepted_line, unread_line, fault_line, spent_line, misuse_line}
 use Rattle.bril_report.specs.Report.{Says}
 use Rattle.bril_report.specs.declared.status.SourceFault.{SourceFault}
 use Rattle.bril_tree.specs.Accepted.{IsAccepted}
@@ -19,17 +19,13 @@ use Rattle.bril_words.specs.declared.misuse.Misuse.{Misuse}
 use Rattle.bril_words.specs.declared.request.Action.TheVariants.{Run, Interpret}
 use Rattle.bril_words.specs.declared.request.Action.{Action}
 use Rattle.bril_cli.specs.Call.{Call, SaysAlone, ReadsWell, AsksNone, UnlessMemory}
-use Rattle.bril_cli.specs.Implements.{frame_words}
 use Rattle.bril_cli.specs.CommandLine.{format_of, AsksFor, NeedsProgram, AskNothing}
 use Rattle.bril_cli.specs.Driver.{IsFormless, Produces, Puts, Leaves}
-use Rattle.bril_cli.specs.Emitted.{bound_sum}
-use Rattle.bril_cli.specs.Refusal.{capped, PassesCode, PassesStack}
 use Rattle.bril_cli.specs.Source.{most_bytes, HasFault, IsOnlyFault, IsSource, IsOnlySource, HasNameFault, HasOnlyNameFault, HasOnlyCheckFault, IsFile}
-use Rattle.bril_cli.specs.Straight.{is_straight}
 use Rattle.bril_cli.specs.commands.Check.{ChecksWhere}
 use Rattle.bril_cli.specs.commands.Interp.{HasOnlyArgFault, Interprets, argument_line, InterpretsWhere, MisarguedWhere}
 use Rattle.bril_cli.specs.commands.Json.{WritesJsonWhere}
-use Rattle.bril_cli.specs.commands.Run.{RunsWhere, LongProgramWhere}
+use Rattle.bril_cli.specs.commands.Run.{LongCode, LongStack, RunsWhere, LongProgramWhere}
 use Rattle.bril_cli.specs.commands.Text.{WritesTextWhere}
 
 -- 0: all was done, and the output took all that the action produces of the file.
@@ -134,27 +130,6 @@ pub record LongFile (c : Call) (path : List ℕ) : Type 0 where
   pub long : most_bytes < length bytes
   pub alone : SaysAlone c (codes "too large: bytes\n")
 
-pub record LongCode (c : Call) (path : List ℕ) : Type 0 where
-  pub bytes : List ℕ
-  pub file : IsFile c.files_before path bytes
-  pub program : Prog
-  pub source : IsOnlySource (format_of path) bytes program
-  pub accepted : IsAccepted program
-  pub straight : is_straight program ≡ true
-  pub long : PassesCode program
-  pub alone : SaysAlone c (code_line (capped (bound_sum program)))
-
-pub record LongStack (c : Call) (path : List ℕ) : Type 0 where
-  pub bytes : List ℕ
-  pub file : IsFile c.files_before path bytes
-  pub program : Prog
-  pub source : IsOnlySource (format_of path) bytes program
-  pub accepted : IsAccepted program
-  pub straight : is_straight program ≡ true
-  pub short_code : bound_sum program ≤ 250000
-  pub long : PassesStack 8192 program
-  pub alone : SaysAlone c (stack_line (capped (8192 * frame_words program)))
-
 pub record TooLarge (c : Call) : Type 0 where
   pub action : Action
   pub path : List ℕ
@@ -179,7 +154,7 @@ pub record Misargued (c : Call) : Type 0 where
   pub only : HasOnlyArgFault (main_types program) args fault
   pub alone : SaysAlone c (argument_line fault)
 
--- 71: memory was wanting, for `run` before the program began to run.
+-- 71: memory ran out, for `run` before the program began to run.
 pub record Exhausted (c : Call) : Type 0 where
   pub action : Action
   pub path : List ℕ
@@ -218,35 +193,35 @@ Answers status c =
 
 -- The bytes' fault is told.
 abbrev pub MisreadWhere : ℕ → Call → Type 0
-MisreadWhere status c =
+MisreadWhere number c =
     (action : Action) (bytes : List ℕ) (fault : SourceFault) (reads : ReadsWell c action bytes) → length bytes ≤ most_bytes → HasFault (format_of reads.path) bytes fault →
-    UnlessMemory status ((status ≡ 65) × Says c.err_before (misread_line reads.path fault) c.err_after)
+    UnlessMemory number ((number ≡ 65) × Says c.err_before (misread_line reads.path fault) c.err_after)
 
 -- The names' fault is told.
 abbrev pub MisnamedWhere : ℕ → Call → Type 0
-MisnamedWhere status c =
+MisnamedWhere number c =
     (action : Action) → NeedsProgram action → (bytes : List ℕ) (fault : NameFault) (reads : ReadsWell c action bytes) → length bytes ≤ most_bytes → HasNameFault (format_of reads.path) bytes fault →
-    UnlessMemory status ((status ≡ 65) × Says c.err_before (misnamed_line fault) c.err_after)
+    UnlessMemory number ((number ≡ 65) × Says c.err_before (misnamed_line fault) c.err_after)
 
 -- The checker's fault is told.
 abbrev pub UncheckedWhere : ℕ → Call → Type 0
-UncheckedWhere status c =
+UncheckedWhere number c =
     (action : Action) → NeedsProgram action → (bytes : List ℕ) (program : Prog) (fault : CheckFault) (reads : ReadsWell c action bytes) → length bytes ≤ most_bytes → IsSource (format_of reads.path) bytes program →
-    checker.HasFault program fault → UnlessMemory status ((status ≡ 65) × Says c.err_before (unaccepted_line program fault) c.err_after)
+    checker.HasFault program fault → UnlessMemory number ((number ≡ 65) × Says c.err_before (unaccepted_line program fault) c.err_after)
 
 -- A file whose program isn't built, or can't run yet, is told.
 abbrev pub FormlessWhere : ℕ → Call → Type 0
-FormlessWhere status c =
+FormlessWhere number c =
     (action : Action) → NeedsProgram action → (bytes : List ℕ) (reads : ReadsWell c action bytes) → length bytes ≤ most_bytes → IsFormless action (format_of reads.path) bytes →
-    UnlessMemory status ((status ≡ 65) × Says c.err_before (form_line reads.path) c.err_after)
+    UnlessMemory number ((number ≡ 65) × Says c.err_before (form_line reads.path) c.err_after)
 
 -- No file is at the path.
 abbrev pub LackingWhere : ℕ → Call → Type 0
-LackingWhere status c = AsksNone c → UnlessMemory status (status ≡ 66)
+LackingWhere number c = AsksNone c → UnlessMemory number (number ≡ 66)
 
 -- The file has too many bytes.
 abbrev pub LongFileWhere : ℕ → Call → Type 0
-LongFileWhere status c = (action : Action) (bytes : List ℕ) → ReadsWell c action bytes → most_bytes < length bytes → UnlessMemory status (status ≡ 68)
+LongFileWhere number c = (action : Action) (bytes : List ℕ) → ReadsWell c action bytes → most_bytes < length bytes → UnlessMemory number (number ≡ 68)
 
 -- What the top call promises of its status.
 pub record Promises (status : ℕ) (c : Call) : Type 0 where

@@ -49,6 +49,6 @@ pub record AsksNone (c : Call) : Type 0 where
   pub asked : AsksFor c.words action path args
   pub lacks : LacksFile c.files_before.holds path
 
--- this status, unless memory was wanting
+-- this status, unless memory ran out
 abbrev pub UnlessMemory : ℕ → Type 0 → Type 0
 UnlessMemory status answer = (status ≡ 71) ⊎ answer

@@ -86,7 +86,7 @@ Puts Check files path args output = Produces Check files path args output
 Puts WriteText files path args output = Produces WriteText files path args output
 Puts WriteJson files path args output = Produces WriteJson files path args output
 
--- What an action leaves on the output where memory was wanting: nothing, or for `interp` what the program prints up to an
+-- What an action leaves on the output where memory ran out: nothing, or for `interp` what the program prints up to an
 -- item that takes memory.
 abbrev pub Leaves : Action → Call → List ℕ → List (List ℕ) → Type 0
 Leaves (Interpret frames cells steps) c path args = (c.out_after ≡ c.out_before) ⊎ ((output : List ℕ)

@@ -19,7 +19,7 @@ PassesCode p = 250000 < bound_sum p
 abbrev pub PassesStack : ℕ → Prog → Type 0
 PassesStack frames p = 8388608 < frames * frame_words p
 
--- The cause of a refusal: the code is asked before the stack, and memory is wanting only behind both.
+-- The cause of a refusal: the code comes before the stack, and memory runs out only after both.
 abbrev pub EmitRefuses : Limits → Prog → EmitFault → Type 0
 EmitRefuses limits p (CodeTooBig words) = PassesCode p × (words ≡ capped (bound_sum p))
 EmitRefuses limits p (StackTooBig words) =

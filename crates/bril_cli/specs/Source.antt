@@ -2,13 +2,13 @@
 use Rattle.std.specs.Prelude.{ℕ, ◌≡◌, ◌≢◌, ◌<◌, ◌≤◌, List, [], length, Option, Some, None}
 use Rattle.bril_checker.specs.Faults as checker
 use Rattle.bril_checker.specs.declared.fault.CheckFault.{CheckFault}
-use Rattle.bril_json.specs.declared.fault.JsonFault.TheVariants as json
+use Rattle.bril_json.specs.Reading as json
 use Rattle.bril_names.specs.Faults as names
 use Rattle.bril_names.specs.declared.fault.NameFault.{NameFault}
 use Rattle.bril_outside.specs.Files.{FileMap, FilesSeen, MayHold}
 use Rattle.bril_report.specs.declared.status.SourceFault.TheVariants.{Text, Json}
 use Rattle.bril_report.specs.declared.status.SourceFault.{SourceFault}
-use Rattle.bril_text.specs.declared.fault.TextFault.TheVariants as text
+use Rattle.bril_text.specs.Reading as text
 use Rattle.bril_tree.specs.Accepted.{IsAccepted}
 use Rattle.bril_tree.specs.Numbered.{Numbered}
 use Rattle.bril_tree.specs.declared.program.Prog.{Prog}

@@ -2,6 +2,7 @@
 use Rattle.std.specs.Prelude.{ℕ, ◌≡◌, ◌≢◌, ◌⊎◌, List, []}
 use Rattle.bril_checker.specs.Faults as checker
 use Rattle.bril_checker.specs.declared.fault.CheckFault.{CheckFault}
+use Rattle.bril_names.specs.Faults.{HasFault}
 use Rattle.bril_names.specs.declared.fault.NameFault.{NameFault}
 use Rattle.bril_outside.specs.Files.{FilesSeen, MayFail}
 use Rattle.bril_outside.specs.Sink.{SinkSeen, Rose, TookAll, TookSome}
@@ -12,7 +13,7 @@ use Rattle.bril_tree.specs.Numbered.{Numbered}
 use Rattle.bril_tree.specs.Size.{IsCounted}
 use Rattle.bril_tree.specs.declared.program.Prog.{Prog}
 use Rattle.bril_tree.specs.declared.tree.Tree.{Tree}
-use Rattle.bril_cli.specs.Source.{HasFault, IsOnlyFault, HasOnlyCheckFault, IsLongFile}
+use Rattle.bril_cli.specs.Source.{IsOnlyFault, HasOnlyCheckFault, IsLongFile}
 use Rattle.bril_cli.specs.declared.source.Format.{Format}
 
 -- why a file was not read
@@ -51,7 +52,7 @@ pub record IsFaultless (p : Prog) : Type 0 where
   pub accepted : IsAccepted p
   pub faultless : (fault : CheckFault) → checker.HasFault p fault → ⊥
 
--- why a program was not accepted: memory is wanting only for the checker, or where no numbers of 32 bits count its parts
+-- why a program was not accepted: memory runs out only for the checker, or where no numbers of 32 bits count its parts
 abbrev pub RefusesCheck : Status → Prog → Type 0
 RefusesCheck (status.Unaccepted program fault) p = (program ≡ p) × HasOnlyCheckFault p fault
 RefusesCheck status.OutOfMemory p = (¬ IsCounted p) ⊎ checker.TakesMemory p

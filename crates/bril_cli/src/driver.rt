@@ -52,7 +52,10 @@ fn do_command<O: Sink>(
     ensures { DoesTree request.entry.action (status_of result) tree.now request.entry.args.now (O.seen out.old) (O.seen out.new) }
 {
     match request.action {
-        Action::Run => run(alloc, &accepted_program(alloc, tree)?, out),
+        Action::Run => {
+            let program = accepted_program(alloc, tree)?;
+            run(alloc, &program, out)
+        }
         Action::Interpret {
             frames,
             cells,
@@ -62,7 +65,10 @@ fn do_command<O: Sink>(
             let program = accepted_program(alloc, tree)?;
             interpret(alloc, &program, request.args, limits, steps, out)
         }
-        Action::Check => put_counts(alloc, &accepted_program(alloc, tree)?, out),
+        Action::Check => {
+            let program = accepted_program(alloc, tree)?;
+            put_counts(alloc, &program, out)
+        }
         Action::WriteText => put_text(alloc, tree, out),
         Action::WriteJson => put_json(alloc, tree, out),
     }

@@ -189,7 +189,7 @@ fn call(number: i16) -> [Word; 2]
 
 // ---- the words of items
 
-// Appends the encodings of words. Where memory is wanting some of them may be there.
+// Appends the encodings of words. Out of memory some of them may be there.
 fn put(code: &mut Seq<u32>, words: &[Word]) -> Result<(), AllocError>
     ensures { OnOk result (code.new ≡ code.old ++ map encoded words.now) }
 {

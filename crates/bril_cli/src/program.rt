@@ -1,6 +1,6 @@
 // The accepted program of a tree: the stages between a file's tree and what a command does with its program.
 
-ghost use Rattle.std.specs.Prelude.{◌≡◌, ◌↔◌, ◌<◌, ◌^◌, ◌-◌, All, IsTrue, length, IfOk, IfErr};
+ghost use Rattle.std.specs.Prelude.{[], ◌≡◌, ◌↔◌, ◌<◌, ◌^◌, ◌-◌, All, IsTrue, length, IfOk, IfErr};
 ghost use Rattle.bril_cli.specs.Stages.{IsFaultless, IsAcceptedProgram, RefusesCheck, RefusesProgram};
 ghost use Rattle.bril_tree.specs.Size.{IsCounted};
 
@@ -22,6 +22,15 @@ pub fn accepted_program(alloc: Global, tree: &Tree) -> Result<Checked, Status>
     if !tree.imports.as_slice().is_empty() {
         return Err(Status::Unsupported);
     }
+    named_program(alloc, tree)
+}
+
+// The program of a tree without imports.
+fn named_program(alloc: Global, tree: &Tree) -> Result<Checked, Status>
+    requires { tree.now.imports ≡ [] }
+    ensures ok { IfOk result (λ checked. IsAcceptedProgram tree.now checked.prog) }
+    ensures err { IfErr result (λ status. RefusesProgram status tree.now) }
+{
     let program = number(alloc, tree)?;
     check_program(alloc, program)
 }

@@ -1,17 +1,21 @@
-// The tree of a file, in the format that its path names.
+// The file of a command: its bytes, and the tree that they read as in the format that its path names.
 
 ghost use Rattle.std.specs.Prelude.{◌≡◌, ◌≤◌, length, IfOk, IfErr};
 ghost use Rattle.bril_cli.specs.CommandLine.{is_json, format_of};
-ghost use Rattle.bril_cli.specs.Source.{most_bytes, IsOnlyTree};
-ghost use Rattle.bril_cli.specs.Stages.{RefusesTree};
-ghost use Rattle.bril_report.specs.StageFaults.{text_status, json_status};
-ghost use Rattle.bril_cli.specs.declared.source.Format.TheVariants.{InText, InJson};
+ghost use Rattle.bril_cli.specs.Source.{most_bytes, IsFile, IsOnlyTree};
+ghost use Rattle.bril_cli.specs.Stages.{RefusesFile, RefusesTree};
 
-use bril_json::{JsonFault, read_json};
-use bril_report::{SourceFault, Status};
-use bril_text::{TextFault, read_text};
+use bril_json::read_json;
+use bril_outside::files::Files;
+use bril_report::Status;
+use bril_text::read_text;
+use bril_tree::bytes::Bytes;
+use bril_tree::text::Text;
 use bril_tree::tree::Tree;
 use std::alloc::Global;
+
+// The most bytes that a file may have.
+const MOST_BYTES: u64 = 16777216;
 
 /// A format of files.
 #[derive(Clone, Copy, PartialEq, Eq, Debug, Drop)]
@@ -20,16 +24,35 @@ pub enum Format {
     InJson,
 }
 
+/// The bytes of the file at the path, of at most 16,777,216.
+///
+/// `CannotRead`: the file is not there, or reading it failed. `FileTooBig`: it has more bytes.
+pub fn read_file<F: Files>(alloc: Global, path: &Text, files: &mut F) -> Result<Bytes, Status>
+    ensures holds { (F.seen files.new).holds ≡ (F.seen files.old).holds }
+    ensures faults { (F.seen files.old).faults ≤ (F.seen files.new).faults }
+    ensures ok { IfOk result (IsFile (F.seen files.old) path.now) }
+    ensures err { IfErr result (λ status. RefusesFile status (F.seen files.old) (F.seen files.new) path.now) }
+{
+    let mut source = Bytes::new(alloc);
+    if files.read(alloc, path, MOST_BYTES, &mut source)? {
+        Ok(source)
+    } else {
+        Err(Status::FileTooBig)
+    }
+}
+
 /// The tree that the bytes of the file at a path read as: in JSON where the path ends in `.json`, and in text
 /// anywhere else.
+///
+/// `Misread`: the bytes read as no tree, for this fault.
 pub fn read_tree(alloc: Global, path: &[u8], source: &[u8]) -> Result<Tree, Status>
     requires { length source.now ≤ most_bytes }
     ensures ok { IfOk result (IsOnlyTree (format_of path.now) source.now) }
     ensures err { IfErr result (λ status. RefusesTree status (format_of path.now) source.now) }
 {
     match format_of(path) {
-        Format::InText => tree_of_text(alloc, source),
-        Format::InJson => tree_of_json(alloc, source),
+        Format::InText => Ok(read_text(alloc, source)?),
+        Format::InJson => Ok(read_json(alloc, source)?),
     }
 }
 
@@ -49,60 +72,4 @@ fn is_json(path: &[u8]) -> bool
     ensures { result ≡ is_json path.now }
 {
     path.ends_with(b".json")
-}
-
-// The tree that the bytes spell.
-fn tree_of_text(alloc: Global, source: &[u8]) -> Result<Tree, Status>
-    requires { length source.now ≤ most_bytes }
-    ensures ok { IfOk result (IsOnlyTree InText source.now) }
-    ensures err { IfErr result (λ status. RefusesTree status InText source.now) }
-{
-    match read_text(alloc, source) {
-        Ok(tree) => Ok(tree),
-        Err(fault) => Err(text_status(fault)),
-    }
-}
-
-// The tree that the bytes are in JSON.
-fn tree_of_json(alloc: Global, source: &[u8]) -> Result<Tree, Status>
-    requires { length source.now ≤ most_bytes }
-    ensures ok { IfOk result (IsOnlyTree InJson source.now) }
-    ensures err { IfErr result (λ status. RefusesTree status InJson source.now) }
-{
-    match read_json(alloc, source) {
-        Ok(tree) => Ok(tree),
-        Err(fault) => Err(json_status(fault)),
-    }
-}
-
-// The status of a fault of the text.
-fn text_status(fault: TextFault) -> Status
-    ensures { result ≡ text_status fault }
-{
-    match fault {
-        TextFault::Memory => Status::OutOfMemory,
-        TextFault::Lex { .. }
-        | TextFault::Grammar { .. }
-        | TextFault::IntRange { .. }
-        | TextFault::Float { .. }
-        | TextFault::Deep { .. } => Status::Misread {
-            fault: SourceFault::Text(fault),
-        },
-    }
-}
-
-// The status of a fault of the JSON.
-fn json_status(fault: JsonFault) -> Status
-    ensures { result ≡ json_status fault }
-{
-    match fault {
-        JsonFault::Memory => Status::OutOfMemory,
-        JsonFault::Syntax
-        | JsonFault::Shape { .. }
-        | JsonFault::IntRange { .. }
-        | JsonFault::Float { .. }
-        | JsonFault::Deep { .. } => Status::Misread {
-            fault: SourceFault::Json(fault),
-        },
-    }
 }

@@ -4,7 +4,7 @@ use Rattle.bril_outside.specs.Sink.{SinkSeen, Rose, TookAll, TookSome}
 use Rattle.bril_outside.specs.declared.sink.Failed.{Failed}
 use Rattle.bril_report.specs.declared.status.Status.{Status}
 use Rattle.bril_report.specs.declared.status.Status.TheVariants as status
-use Rattle.bril_report.specs.Lines.{form_line, misread_line, misnamed_line, unaccepted_line, unread_line, code_line, stack_line, fault_line, spent_line, count_line, spelling_line}
+use Rattle.bril_report.specs.Lines.{form_line, misread_line, misnamed_line, unaccepted_line, unread_line, code_line, stack_line, fault_line, spent_line, count_line, spelling_line, misuse_line}
 
 -- a sink took the line, or its faults rose and it took the first of it
 abbrev pub Says : SinkSeen → List ℕ → SinkSeen → Type 0
@@ -15,6 +15,7 @@ abbrev pub status_number : Status → ℕ
 status_number status.Done = 0
 status_number (status.Faulted fault) = 2
 status_number (status.Spent steps) = 3
+status_number (status.Misused misuse) = 64
 status_number status.Unsupported = 65
 status_number (status.Misread fault) = 65
 status_number (status.Misnamed fault) = 65
@@ -33,6 +34,7 @@ abbrev pub status_line : Status → List ℕ → List ℕ
 status_line status.Done path = []
 status_line (status.Faulted fault) path = fault_line fault
 status_line (status.Spent steps) path = spent_line steps
+status_line (status.Misused misuse) path = misuse_line misuse
 status_line status.Unsupported path = form_line path
 status_line (status.Misread fault) path = misread_line path fault
 status_line (status.Misnamed fault) path = misnamed_line fault
@@ -56,6 +58,7 @@ abbrev pub SaysStatus : Status → List ℕ → SinkSeen → SinkSeen → Type 0
 SaysStatus status.Done path s t = t ≡ s
 SaysStatus (status.Faulted fault) path s t = Says s (status_line (status.Faulted fault) path) t
 SaysStatus (status.Spent steps) path s t = Says s (status_line (status.Spent steps) path) t
+SaysStatus (status.Misused misuse) path s t = Says s (status_line (status.Misused misuse) path) t
 SaysStatus status.Unsupported path s t = Says s (status_line status.Unsupported path) t
 SaysStatus (status.Misread fault) path s t = Says s (status_line (status.Misread fault) path) t
 SaysStatus (status.Misnamed fault) path s t = Says s (status_line (status.Misnamed fault) path) t

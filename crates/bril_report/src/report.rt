@@ -32,6 +32,7 @@ pub fn status_number(status: &Status) -> u8
         Status::Done => 0,
         Status::Faulted { .. } => 2,
         Status::Spent { .. } => 3,
+        Status::Misused { .. } => 64,
         Status::Unsupported
         | Status::Misread { .. }
         | Status::Misnamed { .. }
@@ -88,6 +89,7 @@ fn put_status<E: Sink>(err: &mut E, path: &Text, status: &Status) -> Result<(), 
         Status::Done => put_line(err, b""),
         Status::Faulted { fault } => put_line(err, fault_line(*fault)),
         Status::Spent { steps } => put_number(err, b"spent ", *steps),
+        Status::Misused { misuse } => put_line(err, misuse_line(*misuse)),
         Status::Unsupported => put_two(err, path.as_bytes(), b": form\n"),
         Status::Misread { fault } => put_misread(err, path.as_bytes(), *fault),
         Status::Misnamed { fault } => put_misnamed(err, *fault),

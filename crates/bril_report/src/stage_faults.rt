@@ -131,7 +131,7 @@ impl From<ArgFault> for Status {
     fn from(fault: ArgFault) -> Status {
         match fault {
             ArgFault::Count { given, wanted } => Status::ArgumentCount { given, wanted },
-            ArgFault::Spelling { position } => Status::BadArgument { position },
+            ArgFault::Spelling { place } => Status::BadArgument { position: place },
             ArgFault::Memory => Status::OutOfMemory,
         }
     }

@@ -6,6 +6,7 @@ use bril_names::NameFault;
 use bril_text::TextFault;
 use bril_tree::limits::Fault;
 use bril_tree::program::Prog;
+use bril_words::Misuse;
 
 /// Why a file's bytes read as no tree.
 #[derive(Clone, Copy, PartialEq, Eq, Debug, Drop)]
@@ -23,6 +24,8 @@ pub enum Status {
     Faulted { fault: Fault },
     /// The program still runs after so many steps.
     Spent { steps: u64 },
+    /// The words ask for nothing.
+    Misused { misuse: Misuse },
     /// The file has imports, or its accepted program can't run yet, since it isn't straight.
     Unsupported,
     /// The file's bytes read as no tree.
@@ -43,7 +46,7 @@ pub enum Status {
     ArgumentCount { given: u32, wanted: u32 },
     /// The argument at this position, from 1, spells no value of its type.
     BadArgument { position: u32 },
-    /// Memory was wanting.
+    /// Memory ran out.
     OutOfMemory,
     /// A write to the output failed.
     CannotWrite,

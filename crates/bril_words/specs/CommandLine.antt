@@ -7,6 +7,7 @@ use Rattle.bril_words.specs.declared.misuse.Setting.{Setting}
 use Rattle.bril_words.specs.declared.misuse.Setting.TheVariants.{Frames, Cells, Steps}
 use Rattle.bril_words.specs.declared.request.Action.{Action}
 use Rattle.bril_words.specs.declared.request.Action.TheVariants.{Run, Interpret, Check, WriteText, WriteJson}
+use Rattle.bril_words.specs.Defaults.{default_frames, default_cells, default_steps}
 use Rattle.bril_words.specs.Request.{Asked}
 
 -- one byte or more, of which the first is no `-`
@@ -53,7 +54,7 @@ tail_of written args = record { written = written; args = args }
 abbrev pub ends_options : List ℕ → Bool
 ends_options word = bytes_eq word (codes "--")
 
--- What stands behind the path: options, each with its value as the next word, and then perhaps `--` and the arguments.
+-- What comes after the path: options, each with its value as the next word, and then perhaps `--` and the arguments.
 abbrev pub tail_from : Written → List (List ℕ) → Option Tail
 tail_from w [] = Some (tail_of w [])
 tail_from w (word ∷ []) = if ends_options word then Some (tail_of w []) else None
@@ -89,10 +90,10 @@ interpret_with path args (Some frames) (Some cells) (Some steps) = asked (Interp
 abbrev pub interp_asked : List ℕ → Option Tail → Result Asked Misuse
 interp_asked path None = Err Words
 interp_asked path (Some tail) =
-    interpret_with path tail.args (value_of 65536 8192 tail.written.frames) (value_of 4194304 1048576 tail.written.cells)
-    (value_of 1000000000000 1000000000 tail.written.steps)
+    interpret_with path tail.args (value_of 65536 default_frames tail.written.frames) (value_of 4194304 default_cells tail.written.cells)
+    (value_of 1000000000000 default_steps tail.written.steps)
 
--- a command without options, behind whose path nothing stands
+-- a command without options, with nothing after its path
 abbrev pub plain_asked : Action → List ℕ → List (List ℕ) → Result Asked Misuse
 plain_asked action path [] = asked action path []
 plain_asked action path (word ∷ words) = Err Words
@@ -105,7 +106,7 @@ command_asked name path rest =
     else (if bytes_eq name (codes "text") then plain_asked WriteText path rest
     else (if bytes_eq name (codes "json") then plain_asked WriteJson path rest else Err Words))))
 
--- What the words ask for: NAME COMMAND PATH and what stands behind it, where NAME is the program's name.
+-- What the words ask for: NAME COMMAND PATH and what comes after it, where NAME is the program's name.
 abbrev pub words_read : List (List ℕ) → Result Asked Misuse
 words_read [] = Err Words
 words_read (name ∷ []) = Err Words

@@ -1,3 +1,4 @@
 pub mod CommandLine
+pub mod Defaults
 pub mod Request
 pub mod Seen

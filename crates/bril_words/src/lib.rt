@@ -10,4 +10,4 @@ mod words;
 
 pub use misuse::{Misuse, Setting};
 pub use request::{Action, Request};
-pub use words::read_words;
+pub use words::{CELLS, FRAMES, STEPS, read_words};

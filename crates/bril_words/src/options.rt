@@ -40,7 +40,7 @@ impl<'a> Values<'a> {
     }
 }
 
-// What stands behind the path: the values of options, and the arguments.
+// What comes after the path: the values of options, and the arguments.
 pub(crate) fn tail_of<'a>(rest: &'a [Text]) -> Option<(Values<'a>, &'a [Text])>
     ensures { option_map (λ t. tail_of (values_seen t.0) t.1.now) result ≡ tail_from nothing_written rest.now }
 {

@@ -11,24 +11,27 @@ use crate::options::{tail_of, value_of};
 use crate::request::{Action, Request};
 use bril_tree::text::Text;
 
-// The most of each option, and what it is where it doesn't stand.
+// The most of each option.
 const MOST_FRAMES: u64 = 65_536;
 
 const MOST_CELLS: u64 = 4_194_304;
 
 const MOST_STEPS: u64 = 1_000_000_000_000;
 
-const FRAMES: u64 = 8_192;
+/// The frames that a run has at most, where no option says otherwise.
+pub const FRAMES: u32 = 8_192;
 
-const CELLS: u64 = 1_048_576;
+/// The cells that a run has at most, where no option says otherwise.
+pub const CELLS: u32 = 1_048_576;
 
-const STEPS: u64 = 1_000_000_000;
+/// The steps that a run makes at most, where no option says otherwise.
+pub const STEPS: u64 = 1_000_000_000;
 
 /// What the words ask for. Takes no memory.
 ///
 /// The words are the program's name, a command, and the path of a file: one byte or more, of which the first is no
-/// `-`. The commands are `run`, `check`, `text` and `json`, with nothing behind the path, and `interp`, with options
-/// behind the path, each at most once and as two words, `--frames N`, `--cells N` and `--steps N`, and then perhaps
+/// `-`. The commands are `run`, `check`, `text` and `json`, with nothing after the path, and `interp`, with options
+/// after the path, each at most once and as two words, `--frames N`, `--cells N` and `--steps N`, and then perhaps
 /// `--` and the arguments of the program. Where an option doesn't stand it is 8,192 frames, 1,048,576 cells and
 /// 1,000,000,000 steps.
 ///
@@ -46,7 +49,7 @@ pub fn read_words<'a>(words: &'a [Text]) -> Result<Request<'a>, Misuse>
     }
 }
 
-// What a command's name, its path and the words behind it ask for.
+// What a command's name, its path and the words after it ask for.
 fn read_command<'a>(name: &str, path: &'a Text, rest: &'a [Text]) -> Result<Request<'a>, Misuse>
     ensures read { result_map_both request_seen (λ e. e) result ≡ command_asked name.now path.now rest.now }
     ensures range { IfOk result (λ request. IsActionInRange request.action) }
@@ -83,10 +86,10 @@ fn read_interp<'a>(path: &'a Text, rest: &'a [Text]) -> Result<Request<'a>, Misu
     ensures range { IfOk result (λ request. IsActionInRange request.action) }
 {
     let (values, args) = tail_of(rest).ok_or(Misuse::Words)?;
-    let frames = value_of(MOST_FRAMES, FRAMES, values.frames).ok_or(Misuse::Value {
+    let frames = value_of(MOST_FRAMES, FRAMES as u64, values.frames).ok_or(Misuse::Value {
         setting: Setting::Frames,
     })?;
-    let cells = value_of(MOST_CELLS, CELLS, values.cells).ok_or(Misuse::Value {
+    let cells = value_of(MOST_CELLS, CELLS as u64, values.cells).ok_or(Misuse::Value {
         setting: Setting::Cells,
     })?;
     let steps = value_of(MOST_STEPS, STEPS, values.steps).ok_or(Misuse::Value {

@@ -1,41 +1,78 @@
 // The command line of Roolvist.
 #![tactic(auto)]
 
+ghost use Rattle.std.specs.Prelude.{◌≡◌, IfOk, IfErr};
+ghost use Rattle.std.specs.IoError.{error_kind};
+ghost use Rattle.std.specs.Process.{exit_status};
+ghost use Rattle.bril_report.specs.Report.{status_number};
+ghost use Rattle.roolvist.specs.End.{AreAllOf, EndsAs, IsUntouched, no_words};
+
 use bril_cli::top::bril_top;
+use bril_outside::files::Files;
 use bril_outside::os_files::OsFiles;
 use bril_outside::os_sink::OsSink;
+use bril_outside::sink::Sink;
+use bril_report::{Status, status_number};
 use bril_tree::sequence::Seq;
 use bril_tree::text::Text;
+use bril_words::Misuse;
 use std::alloc::{AllocError, Global};
 use std::env::{self, Args};
-use std::io::ErrorKind;
+use std::io::{self, ErrorKind, Stderr, Stdout};
 use std::process::ExitCode;
 
-// The status where the system gives no words, or words that are no text.
-const NO_WORDS: u8 = 64;
-
-// The status where the words don't fit into memory.
-const NO_MEMORY: u8 = 71;
-
 fn main(rt: HostRuntime) -> ExitCode {
-    let alloc = rt.alloc();
-    let args = match env::args(&rt) {
-        Ok(args) => args,
-        Err(fault) if fault.kind() == ErrorKind::OutOfMemory => return ExitCode::from(NO_MEMORY),
-        Err(_) => return ExitCode::from(NO_WORDS),
-    };
-    let Ok(words) = collected(alloc, args) else {
-        return ExitCode::from(NO_MEMORY);
-    };
     let mut files = OsFiles::new(&rt);
     let mut out = OsSink::new(rt.stdout());
     let mut err = OsSink::new(rt.stderr());
-    let status = bril_top(alloc, words.as_slice(), &mut files, &mut out, &mut err);
-    ExitCode::from(status)
+    end::<OsFiles<HostRuntime>, OsSink<Stdout>, OsSink<Stderr>>(
+        rt.alloc(),
+        env::args(&rt),
+        &mut files,
+        &mut out,
+        &mut err,
+    )
 }
 
-// The words as text.
-fn collected(alloc: Global, args: Args) -> Result<Seq<Text>, AllocError> {
+// Does what the words ask for, and gives the exit status: that of `bril_top`, or 71 where the words don't fit into
+// memory. Where the system gives no words it is 71 out of memory, and else 64. In these cases nothing is written.
+fn end<F: Files, O: Sink, E: Sink>(
+    alloc: Global,
+    args: io::Result<Args>,
+    files: &mut F,
+    out: &mut O,
+    err: &mut E,
+) -> ExitCode
+    ensures words { IfOk args (λ args. EndsAs (exit_status result) args (F.seen files.old) (F.seen files.new) (O.seen out.old) (O.seen out.new) (E.seen err.old) (E.seen err.new)) }
+    ensures none { IfErr args (λ fault. exit_status result ≡ status_number (no_words (error_kind fault))) }
+    ensures silent { IfErr args (λ _. IsUntouched (F.seen files.old) (F.seen files.new) (O.seen out.old) (O.seen out.new) (E.seen err.old) (E.seen err.new)) }
+{
+    let args = match args {
+        Ok(args) => args,
+        Err(fault) => return ExitCode::from(status_number(&no_words(fault.kind()))),
+    };
+    let Ok(words) = collected(alloc, args) else {
+        return ExitCode::from(status_number(&Status::OutOfMemory));
+    };
+    ExitCode::from(bril_top(alloc, words.as_slice(), files, out, err))
+}
+
+// The status where the system gives no words: one that is no text is a faulty command line.
+fn no_words(kind: ErrorKind) -> Status
+    ensures { result ≡ no_words kind }
+{
+    match kind {
+        ErrorKind::OutOfMemory => Status::OutOfMemory,
+        _ => Status::Misused {
+            misuse: Misuse::Words,
+        },
+    }
+}
+
+// All words as text, as they are.
+fn collected(alloc: Global, args: Args) -> Result<Seq<Text>, AllocError>
+    ensures { IfOk result (AreAllOf args) }
+{
     let mut words = Seq::new(alloc);
     for word in args {
         words.push(Text::of(alloc, word.as_str())?)?;

@@ -28,7 +28,7 @@ pub record Checks (files : FilesSeen) (path output : List ℕ) : Type 0 where
 
 -- The line of an accepted program is written.
 abbrev pub ChecksWhere : ℕ → Call → Type 0
-ChecksWhere status c =
+ChecksWhere number c =
     (bytes : List ℕ) (program : Prog) (reads : ReadsWell c Check bytes) → length bytes ≤ most_bytes → IsSource (format_of reads.path) bytes program →
     IsAccepted program → ¬ Rose c.out_before.faults c.out_after.faults →
-    UnlessMemory status ((status ≡ 0) × TookAll c.out_before (accepted_line program) c.out_after)
+    UnlessMemory number ((number ≡ 0) × TookAll c.out_before (accepted_line program) c.out_after)

@@ -86,7 +86,7 @@ pub record AreOnlyValues (p : Prog) (args : List (List ℕ)) (values : List Valu
   pub only : (other : List Value) → AreSpelled (main_types p) args other → values ≡ other
   pub faultless : (fault : ArgFault) → HasArgFault (main_types p) args fault → ⊥
 
--- why words are no arguments of `main`: memory is wanting only for values that they spell, or where no number of 32
+-- why words are no arguments of `main`: memory runs out only for values that they spell, or where no number of 32
 -- bits counts them
 abbrev pub RefusesArgs : Status → Prog → List (List ℕ) → Type 0
 RefusesArgs (status.ArgumentCount given wanted) p args = HasOnlyArgFault (main_types p) args (argument.Count given wanted)
@@ -98,7 +98,7 @@ RefusesArgs _ p args = ⊥
 abbrev pub StandsAt : Option End → State → SinkSeen → SinkSeen → Type 0
 StandsAt ended u s t = (u.ended ≡ ended) × TookAll s u.printed t
 
--- what is left where memory was wanting: nothing, or what was printed up to an item that takes memory
+-- what is left where memory ran out: nothing, or what was printed up to an item that takes memory
 abbrev pub StopsShort : Prog → Limits → List Value → ℕ → SinkSeen → SinkSeen → Type 0
 StopsShort p limits values steps s t = (t ≡ s) ⊎ ((output : List ℕ) × StopsForMemory p limits values steps output × TookAll s output t)
 
@@ -129,23 +129,23 @@ argument_line Memory = codes "out of memory\n"
 
 -- what is told of a run that was interpreted for so many steps and has ended so, None where it goes on
 abbrev pub TellsRun : Option End → ℕ → ℕ → Call → Type 0
-TellsRun None steps status c = (status ≡ 3) × Says c.err_before (spent_line steps) c.err_after
-TellsRun (Some Ended) steps status c = (status ≡ 0) × (c.err_after ≡ c.err_before)
-TellsRun (Some (Faulted fault)) steps status c = (status ≡ 2) × Says c.err_before (fault_line fault) c.err_after
+TellsRun None steps number c = (number ≡ 3) × Says c.err_before (spent_line steps) c.err_after
+TellsRun (Some Ended) steps number c = (number ≡ 0) × (c.err_after ≡ c.err_before)
+TellsRun (Some (Faulted fault)) steps number c = (number ≡ 2) × Says c.err_before (fault_line fault) c.err_after
 
 -- ---- when `interp` answers what
 
 -- An accepted program whose arguments are spelled is interpreted for the steps.
 abbrev pub InterpretsWhere : ℕ → Call → Type 0
-InterpretsWhere status c =
+InterpretsWhere number c =
     (frames cells steps : ℕ) (bytes : List ℕ) (program : Prog) (values : List Value) (limits : Limits) (reads : ReadsWell c (Interpret frames cells steps) bytes) →
     length bytes ≤ most_bytes → IsSource (format_of reads.path) bytes program → IsAccepted program → AreSpelled (main_types program) reads.args values →
     limits.frames ≡ frames → limits.cells ≡ cells → ¬ Rose c.out_before.faults c.out_after.faults → let state = state_after program limits values steps in
-    UnlessMemory status (TellsRun state.ended steps status c × TookAll c.out_before state.printed c.out_after)
+    UnlessMemory number (TellsRun state.ended steps number c × TookAll c.out_before state.printed c.out_after)
 
 -- Arguments that don't fit an accepted program are told.
 abbrev pub MisarguedWhere : ℕ → Call → Type 0
-MisarguedWhere status c =
+MisarguedWhere number c =
     (frames cells steps : ℕ) (bytes : List ℕ) (program : Prog) (fault : ArgFault) (reads : ReadsWell c (Interpret frames cells steps) bytes) →
     length bytes ≤ most_bytes → IsSource (format_of reads.path) bytes program → IsAccepted program → fault ≢ Memory → IsFaultOf (main_types program) reads.args fault →
-    UnlessMemory status ((status ≡ 69) × Says c.err_before (argument_line fault) c.err_after)
+    UnlessMemory number ((number ≡ 69) × Says c.err_before (argument_line fault) c.err_after)

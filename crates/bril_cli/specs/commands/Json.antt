@@ -14,6 +14,6 @@ json_line tree = canonical_json tree ++ codes "\n"
 
 -- The canonical JSON of a file that reads as a tree is written, and LF.
 abbrev pub WritesJsonWhere : ℕ → Call → Type 0
-WritesJsonWhere status c =
+WritesJsonWhere number c =
     (bytes : List ℕ) (tree : Tree) (reads : ReadsWell c WriteJson bytes) → length bytes ≤ most_bytes → ReadsAs (format_of reads.path) bytes tree →
-    ¬ Rose c.out_before.faults c.out_after.faults → UnlessMemory status ((status ≡ 0) × TookAll c.out_before (json_line tree) c.out_after)
+    ¬ Rose c.out_before.faults c.out_after.faults → UnlessMemory number ((number ≡ 0) × TookAll c.out_before (json_line tree) c.out_after)

@@ -10,6 +10,6 @@ use Rattle.bril_cli.specs.Source.{most_bytes, ReadsAs}
 
 -- The canonical text of a file that reads as a tree is written.
 abbrev pub WritesTextWhere : ℕ → Call → Type 0
-WritesTextWhere status c =
+WritesTextWhere number c =
     (bytes : List ℕ) (tree : Tree) (reads : ReadsWell c WriteText bytes) → length bytes ≤ most_bytes → ReadsAs (format_of reads.path) bytes tree →
-    ¬ Rose c.out_before.faults c.out_after.faults → UnlessMemory status ((status ≡ 0) × TookAll c.out_before (canonical_text tree) c.out_after)
+    ¬ Rose c.out_before.faults c.out_after.faults → UnlessMemory number ((number ≡ 0) × TookAll c.out_before (canonical_text tree) c.out_after)

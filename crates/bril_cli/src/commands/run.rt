@@ -4,6 +4,7 @@ ghost use Rattle.std.specs.Prelude.{◌≡◌, ◌≤◌, ◌*◌, length, IfOk,
 ghost use Rattle.bril_cli.specs.Implements.{Implements, frame_words};
 ghost use Rattle.bril_cli.specs.Straight.{IsStraightCode};
 ghost use Rattle.bril_cli.specs.commands.Run.{run_limits, emit_status, IsWithin, RefusesImage, RunsImage, RunsProgram, RunsAccepted};
+ghost use Rattle.bril_words.specs.Defaults.{default_frames, default_steps};
 ghost use Rattle.bril_report.specs.StageFaults.{status_of};
 
 use crate::emission::{EmitFault, emit};
@@ -13,13 +14,11 @@ use bril_outside::sink::Sink;
 use bril_report::Status;
 use bril_tree::limits::{End, Limits};
 use bril_tree::program::Prog;
+use bril_words::{CELLS, FRAMES, STEPS};
 use rv64_machine::answer::RunAnswer;
 use rv64_machine::image::Image;
 use rv64_machine::machine::Machine;
 use std::alloc::Global;
-
-// The most words that the machine executes in a run. No straight program comes near.
-const MOST_STEPS: u64 = 1000000000;
 
 /// Runs an accepted program on the machine: what it prints goes to `out`.
 ///
@@ -35,13 +34,13 @@ pub fn run<O: Sink>(alloc: Global, checked: &Checked, out: &mut O) -> Result<(),
     run_program(alloc, program, out)
 }
 
-// Makes the program's image and runs it.
+// Makes the program's image and runs it. No straight program comes near so many steps.
 fn run_program<O: Sink>(alloc: Global, program: &Prog, out: &mut O) -> Result<(), Status>
     requires { IsStraightCode program.now }
     ensures { RunsProgram (status_of result) program.now (O.seen out.old) (O.seen out.new) }
 {
     let image = compile(alloc, program)?;
-    run_image(alloc, &image, program, MOST_STEPS, out)
+    run_image(alloc, &image, program, STEPS, out)
 }
 
 // The limits of a run.
@@ -49,8 +48,8 @@ fn run_limits() -> Limits
     ensures { result ≡ run_limits }
 {
     Limits {
-        frames: 8192,
-        cells: 1048576,
+        frames: FRAMES,
+        cells: CELLS,
     }
 }
 
@@ -58,7 +57,7 @@ fn run_limits() -> Limits
 fn compile(alloc: Global, program: &Prog) -> Result<Image, Status>
     requires { IsStraightCode program.now }
     ensures implements { IfOk result (λ image. Implements image program.now run_limits) }
-    ensures stack { IfOk result (λ image. image.stack ≡ 8192 * frame_words program.now) }
+    ensures stack { IfOk result (λ image. image.stack ≡ default_frames * frame_words program.now) }
     ensures words { IfOk result (λ image. length image.words ≤ 250000) }
     ensures within { IfOk result (λ _. IsWithin program.now) }
     ensures err { IfErr result (λ status. RefusesImage status program.now) }
@@ -88,10 +87,10 @@ fn run_image<O: Sink>(
 ) -> Result<(), Status>
     requires straight { IsStraightCode program.now }
     requires implements { Implements image.now program.now run_limits }
-    requires stack { image.now.stack ≡ 8192 * frame_words program.now }
+    requires stack { image.now.stack ≡ default_frames * frame_words program.now }
     requires words { length image.now.words ≤ 250000 }
     requires within { IsWithin program.now }
-    requires enough { steps ≡ 1000000000 }
+    requires enough { steps ≡ default_steps }
     ensures { RunsImage (status_of result) program.now (O.seen out.old) (O.seen out.new) }
 {
     let Ok(mut machine) = Machine::new(alloc, image, &[], run_limits()) else {

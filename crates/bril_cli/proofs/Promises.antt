@@ -1,0 +1,117 @@
+-- All that the top call promises.
+use Rattle.std.proofs.Common.{◌≡◌, ℕ, ◌≤◌, List, Ok, Err, refl, sym, ◌∙◌, subst, arith, ⊎_elim}
+use Rattle.bril_report.specs.Lines.{misuse_line}
+use Rattle.bril_report.specs.Report.{status_number}
+use Rattle.bril_report.specs.declared.status.Status.{Status}
+use Rattle.bril_report.specs.declared.status.Status.TheVariants as status
+use Rattle.bril_words.specs.CommandLine.{words_read}
+use Rattle.bril_words.specs.declared.misuse.Misuse.{Misuse}
+use Rattle.bril_words.specs.declared.request.Action.{Action}
+use Rattle.bril_words.specs.declared.request.Action.TheVariants.{Run, Interpret, Check, WriteText, WriteJson}
+use Rattle.bril_cli.specs.Answers.{Answers, CannotWrite, Misused, Promises, SourceRefused, TooLarge}
+use Rattle.bril_cli.specs.Call.{Call, ReadsWell, SaysAlone}
+use Rattle.bril_cli.specs.CommandLine.{AsksFor, AskNothing}
+use Rattle.bril_cli.proofs.Causes.{Ok_not_Err, request_of, runs_where, interprets_where, misargued_where, refused_where, checks_where, unchecked_where, formless_where, misnamed_where, writes_where, writes_json_where, misread_where, long_where, lacking_where}
+use Rattle.bril_cli.proofs.Statuses.{Ends, Answers-of}
+
+refused_silent : (c : Call) → SourceRefused c → c.out_after ≡ c.out_before
+refused_silent c says = ⊎_elim (λ form. form.alone.silent) (⊎_elim (λ name. name.alone.silent) (⊎_elim (λ program. program.alone.silent) (λ bytes. bytes.alone.silent))) says.because
+
+large_silent : (c : Call) → TooLarge c → c.out_after ≡ c.out_before
+large_silent c says = ⊎_elim (λ file. file.alone.silent) (λ program. ⊎_elim (λ code. code.alone.silent) (λ stack. stack.alone.silent) program.1) says.passes
+
+-- from 64 to 70 nothing is put on the output
+silent_at : (how : Status) (c : Call) → Answers (status_number how) c → 64 ≤ status_number how → status_number how ≤ 70 → c.out_after ≡ c.out_before
+silent_at status.Unsupported c says low high = refused_silent c says
+silent_at (status.Misread fault) c says low high = refused_silent c says
+silent_at (status.Misnamed fault) c says low high = refused_silent c says
+silent_at (status.Unaccepted p fault) c says low high = refused_silent c says
+silent_at status.CannotRead c says low high = says.alone.silent
+silent_at status.FileTooBig c says low high = large_silent c says
+silent_at (status.CodeTooBig words) c says low high = large_silent c says
+silent_at (status.StackTooBig words) c says low high = large_silent c says
+silent_at (status.Misused misuse) c says low high = says.alone.silent
+silent_at (status.ArgumentCount given wanted) c says low high = says.alone.silent
+silent_at (status.BadArgument position) c says low high = says.alone.silent
+silent_at _ c says low high = absurd (omega arith)
+
+-- of a request, once it was driven
+module _ (c : Call) (action : Action) (path : List ℕ) (args : List (List ℕ)) (how : Status) (ends : Ends c action path args how) where
+  told : Answers (status_number how) c
+  told = Answers-of c action path args how ends
+
+  at_status : (n : ℕ) → status_number how ≡ n → Answers n c
+  at_status n e = subst (λ k. Answers k c) e told
+
+  usage : status_number how ≡ 64 → Misused c
+  usage e = at_status 64 e
+
+  failed_write : status_number how ≡ 74 → CannotWrite c
+  failed_write e = at_status 74 e
+
+  asked_something : AskNothing c.words → status_number how ≡ 64
+  asked_something none = let e : Ok (request_of action path args) ≡ Err none.0 = sym ends.asked ∙ none.1 in absurd (Ok_not_Err e)
+
+  pub Promises-driven : Promises (status_number how) c
+  Promises-driven = record {
+    answers = told;
+    done = at_status 0;
+    faulted = at_status 2;
+    spent = at_status 3;
+    form = at_status 65;
+    read = at_status 66;
+    size = at_status 68;
+    argued = at_status 69;
+    write = λ e. (failed_write e).rose;
+    silent = silent_at how c told;
+    misused = (λ e. ((usage e).misuse, (usage e).unasked), asked_something);
+    runs = runs_where c action path args how ends;
+    interprets = interprets_where c action path args how ends;
+    misargued = misargued_where c action path args how ends;
+    checks = checks_where c action path args how ends;
+    writes = writes_where c action path args how ends;
+    writes_json = writes_json_where c action path args how ends;
+    misread = misread_where c action path args how ends;
+    misnamed = misnamed_where c action path args how ends;
+    unchecked = unchecked_where c action path args how ends;
+    formless = formless_where c action path args how ends;
+    lacking = lacking_where c action path args how ends;
+    long_file = long_where c action path args how ends;
+    long_program = refused_where c action path args how ends;
+  }
+
+-- of words that ask for nothing
+module _ (c : Call) (misuse : Misuse) (unasked : words_read c.words ≡ Err misuse) where
+  not_asked : {A : Type 0} (action : Action) (path : List ℕ) (args : List (List ℕ)) → AsksFor c.words action path args → A
+  not_asked action path args asks = let e : Ok (request_of action path args) ≡ Err misuse = sym asks ∙ unasked in absurd (Ok_not_Err e)
+
+  not_read : {A : Type 0} (action : Action) (bytes : List ℕ) → ReadsWell c action bytes → A
+  not_read action bytes reads = not_asked action reads.path reads.args reads.asked
+
+  pub Promises-misused : c.files_after ≡ c.files_before → SaysAlone c (misuse_line misuse) → Promises 64 c
+  Promises-misused unread alone = record {
+    answers = record { misuse = misuse; unasked = unasked; unread = unread; alone = alone };
+    done = λ e. absurd (omega arith);
+    faulted = λ e. absurd (omega arith);
+    spent = λ e. absurd (omega arith);
+    form = λ e. absurd (omega arith);
+    read = λ e. absurd (omega arith);
+    size = λ e. absurd (omega arith);
+    argued = λ e. absurd (omega arith);
+    write = λ e. absurd (omega arith);
+    silent = λ low high. alone.silent;
+    misused = (λ e. (misuse, unasked), λ none. refl);
+    runs = λ bytes p reads short source accepted straight within sound. not_read Run bytes reads;
+    interprets = λ frames cells steps bytes p values limits reads short source accepted spelled frames_are cells_are sound. not_read (Interpret frames cells steps) bytes reads;
+    misargued = λ frames cells steps bytes p fault reads short source accepted ample is. not_read (Interpret frames cells steps) bytes reads;
+    checks = λ bytes p reads short source accepted sound. not_read Check bytes reads;
+    writes = λ bytes tree reads short spelled sound. not_read WriteText bytes reads;
+    writes_json = λ bytes tree reads short read sound. not_read WriteJson bytes reads;
+    misread = λ action bytes fault reads short has. not_read action bytes reads;
+    misnamed = λ action needs bytes fault reads short has. not_read action bytes reads;
+    unchecked = λ action needs bytes p fault reads short source has. not_read action bytes reads;
+    formless = λ action needs bytes reads short formless. not_read action bytes reads;
+    lacking = λ asks. not_asked asks.action asks.path asks.args asks.asked;
+    long_file = λ action bytes reads long. not_read action bytes reads;
+    long_program = λ bytes p reads short source accepted straight beyond. not_read Run bytes reads;
+  }
