@@ -6,27 +6,37 @@ use Rattle.std.proofs.lemmas.List.Elements.{All-head, All-tail}
 use Rattle.bril_tree.specs.declared.numbered.Instr.{Instr}
 use Rattle.bril_tree.specs.declared.numbered_function.Func.{Func}
 use Rattle.bril_tree.specs.declared.program.Prog.{Prog}
-use Rattle.bril_tree.specs.Cost.{IsLargestFrame, IsCost, longest_arguments}
+use Rattle.bril_tree.specs.Cost.{IsCost, longest_arguments}
 use Rattle.bril_tree.specs.Entries.{AreSoMany, IsEntryWidth}
 use Rattle.bril_tree.specs.FrameWords.{IsDepth, AreFrameWords, location_count}
+use Rattle.bril_tree.specs.ProgramNumbers.{IsGreatest, IsSum}
 use Rattle.bril_tree.specs.Membership.{In}
 use Rattle.bril_tree.proofs.Members.{in_contains, contains_in}
 
-both_branches : (m n : ℕ) → m ≤ n → n ≤ m → m ≡ n
-both_branches m n h k = omega arith
+at_most_both : (m n : ℕ) → m ≤ n → n ≤ m → m ≡ n
+at_most_both m n h k = omega arith
 
 pub IsDepth-one : (code : List Instr) (m n : ℕ) → IsDepth code m → IsDepth code n → m ≡ n
 IsDepth-one code m n a b =
-    both_branches m n (subst (λ k. k ≤ n) a.reaches (b.most a.deepest a.is)) (subst (λ k. k ≤ m) b.reaches (a.most b.deepest b.is))
+    at_most_both m n (subst (λ k. k ≤ n) a.reaches (b.most a.deepest a.is)) (subst (λ k. k ≤ m) b.reaches (a.most b.deepest b.is))
 
 pub AreFrameWords-one : (f : Func) (m n : ℕ) → AreFrameWords f m → AreFrameWords f n → m ≡ n
 AreFrameWords-one f m n a b = a.are ∙ ap (λ d. 2 + location_count f * (1 + d)) (IsDepth-one f.code a.depth b.depth a.is b.is) ∙ sym b.are
 
-pub IsLargestFrame-one : (p : Prog) (m n : ℕ) → IsLargestFrame p m → IsLargestFrame p n → m ≡ n
-IsLargestFrame-one p m n a b = both_branches m n (b.most a.func m a.is a.has) (a.most b.func n b.is b.has)
+-- the greatest of the functions' numbers is one
+pub IsGreatest-one : (P : Func → ℕ → Type 0) (p : Prog) (m n : ℕ) → IsGreatest P p m → IsGreatest P p n → m ≡ n
+IsGreatest-one P p m n a b = at_most_both m n (b.most a.func m a.is a.has) (a.most b.func n b.is b.has)
+
+-- and so is their sum, where each function has one number
+pub IsSum-one : (P : Func → ℕ → Type 0) → ((f : Func) (m n : ℕ) → P f m → P f n → m ≡ n) → (funcs : List Func) (m n : ℕ) → IsSum P funcs m → IsSum P funcs n → m ≡ n
+IsSum-one P one [] m n a b = a ∙ sym b
+IsSum-one P one (f ∷ funcs) m n (i, j, first, rest, e) (k, l, first', rest', e') =
+    let here : i ≡ k = one f i k first first' in
+    let there : j ≡ l = IsSum-one P one funcs j l rest rest' in
+    omega (arith, e, e', here, there)
 
 pub IsCost-one : (p : Prog) (m n : ℕ) → IsCost p m → IsCost p n → m ≡ n
-IsCost-one p m n a b = a.is ∙ ap (λ w. 128 + 8 * (w + longest_arguments p)) (IsLargestFrame-one p a.frame b.frame a.largest b.largest) ∙ sym b.is
+IsCost-one p m n a b = a.is ∙ ap (λ w. 128 + 8 * (w + longest_arguments p)) (IsGreatest-one AreFrameWords p a.frame b.frame a.largest b.largest) ∙ sym b.is
 
 -- ---- counts of different things
 
@@ -78,4 +88,4 @@ AreSoMany-one P m n a b =
     omega arith
 
 pub IsEntryWidth-one : (code : List Instr) (m n : ℕ) → IsEntryWidth code m → IsEntryWidth code n → m ≡ n
-IsEntryWidth-one code m n a b = both_branches m n (b.most a.widest m a.has) (a.most b.widest n b.has)
+IsEntryWidth-one code m n a b = at_most_both m n (b.most a.widest m a.has) (a.most b.widest n b.has)

@@ -17,6 +17,7 @@ use Rattle.bril_tree.specs.FrameWords.{AreFrameWords}
 use Rattle.bril_tree.specs.Live.{IsLive}
 use Rattle.bril_tree.specs.Numbered.{Numbered, tree_of, tree_size}
 use Rattle.bril_tree.specs.Operand.{Location}
+use Rattle.bril_tree.specs.ProgramNumbers.{AreEntries}
 use Rattle.bril_tree.specs.Run.{program, Refines}
 use Rattle.bril_tree.specs.Size.{item_count, IsCounted}
 use Rattle.bril_tree.specs.Spelling.{operation_text, operation_of}
@@ -75,3 +76,6 @@ EntryWidthsAreOne = (code : List Instr) (m n : ℕ) → IsEntryWidth code m → 
 
 abbrev pub CostsAreOne : Type 0
 CostsAreOne = (p : Prog) (m n : ℕ) → IsCost p m → IsCost p n → m ≡ n
+
+abbrev pub EntriesAreOne : Type 0
+EntriesAreOne = (p : Prog) (m n : ℕ) → AreEntries p m → AreEntries p n → m ≡ n

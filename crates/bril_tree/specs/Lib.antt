@@ -19,6 +19,7 @@ pub mod Outcome
 pub mod Path
 pub mod Locals
 pub mod ProgramForm
+pub mod ProgramNumbers
 pub mod Run
 pub mod Shape
 pub mod Sites

@@ -1,4 +1,4 @@
-use Rattle.bril_tree.proofs.Measures.{AreFrameWords-one, AreSoMany-one, IsEntryWidth-one, IsCost-one}
+use Rattle.bril_tree.proofs.Measures.{AreFrameWords-one, AreSoMany-one, IsEntryWidth-one, IsSum-one, IsCost-one}
 use Rattle.bril_tree.proofs.laws.numbers_are_one.Goals as goal
 
 pub returns-clause-words : goal.returns-clause-words
@@ -12,3 +12,6 @@ returns-clause-width c = IsEntryWidth-one
 
 pub returns-clause-cost : goal.returns-clause-cost
 returns-clause-cost c = IsCost-one
+
+pub returns-clause-sum : goal.returns-clause-sum
+returns-clause-sum c = λ p m n. IsSum-one _ (λ f i j. AreSoMany-one _ i j) p.funcs m n
