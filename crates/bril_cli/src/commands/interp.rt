@@ -1,6 +1,6 @@
 // `interp`: an accepted program is interpreted with the arguments that the words spell.
 
-ghost use Rattle.std.specs.Prelude.{◌≡◌, IfOk, IfErr};
+ghost use Rattle.std.specs.Prelude.{IfOk, IfErr};
 ghost use Rattle.bril_cli.specs.commands.Interp.{AreOnlyValues, RefusesArgs, StepsTo, InterpretsProgram};
 ghost use Rattle.bril_report.specs.StageFaults.{status_of};
 ghost use Rattle.bril_tree.specs.Run.{FitMain};
