@@ -1,7 +1,6 @@
 pub mod Bounds
 pub mod Carrying
 pub mod Causes
-pub mod Counting
 pub mod Digits
 pub mod Ending
 pub mod ImageSystem

@@ -22,7 +22,7 @@ use std::alloc::Global;
 
 /// Runs an accepted program on the machine: what it prints goes to `out`.
 ///
-/// `SourceRefused`: the program isn't straight. `CodeTooBig`, `StackTooBig`: it may have more than 250,000 words, or needs more
+/// `Unsupported`: the program isn't straight. `CodeTooBig`, `StackTooBig`: it may have more than 250,000 words, or needs more
 /// than 8,388,608 words of stack. With these, and out of memory, nothing is put. `CannotWrite`: a write failed.
 pub fn run<O: Sink>(alloc: Global, checked: &Checked, out: &mut O) -> Result<(), Status>
     ensures { RunsAccepted (status_of result) checked.now.prog (O.seen out.old) (O.seen out.new) }

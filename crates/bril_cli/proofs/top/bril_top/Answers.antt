@@ -19,6 +19,6 @@ returns-clause-promises g c =
     let ends : Ends call request.action request.path.now request.args.now how = record {
       asked = sym c.in-Ok.ensures.read;
       does = c.drive.ensures.does;
-      says = subst (λ (h : Status). SaysStatus h request.path.now (g.E.Sink.seen c.args.err.now) (g.E.Sink.seen c.say.new.err)) c.from-status.ensures c.say.ensures;
+      says = subst (λ (h : Status). SaysStatus h request.path.now (g.E.Sink.seen c.args.err.now) (g.E.Sink.seen c.say.new.err)) c.from-status.ensures c.say.ensures.line;
     } in
     rw (c.status_number-2.ensures, c.from-status.ensures) (Promises-driven call request.action request.path.now request.args.now how ends)
