@@ -11,12 +11,12 @@ use Rattle.bril_grammar.specs.declared.keyword.Keyword.TheVariants as keyword
 use Rattle.bril_grammar.specs.declared.mark.Mark.{Mark}
 use Rattle.bril_grammar.specs.declared.mark.Mark.TheVariants.{CloseBrace, OpenParen, CloseParen, Colon, Comma, Semicolon, Less, Greater}
 use Rattle.bril_grammar.specs.Keyword.{keyword_of}
-use Rattle.bril_grammar.specs.Machine.{Move, Goes, GoesBeforeColon, FloatUnlessColon, Fails, Way, type_of, dest_type, first_import_keyword, import_keyword, as_keyword, first_keyword, operation_keyword, truth_keyword, type_keyword, mark_move, move, same_mark, decided, run}
+use Rattle.bril_grammar.specs.Machine.{Move, Goes, GoesBeforeColon, FloatUnlessColon, Fails, Transition, type_of, dest_type, first_import_keyword, import_keyword, as_keyword, first_keyword, operation_keyword, truth_keyword, type_keyword, mark_move, move, same_mark, decided, run}
 use Rattle.bril_grammar.specs.State.{Begun, TypePosition, Importing, Acting, State, AtImport, AtPath, AtImportKeyword, AtTaken, AfterTaken, AtAlias, AfterAlias, AtFunction, AfterName, AtFirstArg, AtArg, AfterArg, AfterArgs, AtItem, AfterOperation, AtOperation, AtLiteral, AtOperand, AtType, Expect}
 use Rattle.bril_tree.specs.Path.{ImportPath}
 use Rattle.bril_grammar.specs.Terminal.{Terminal, Name, Function, Label, Number, Char, Path, Punctuation}
 use Rattle.bril_grammar.specs.Written.{pointer_terminals}
-use Rattle.bril_grammar.specs.Machine.{way, taken_ways, head_ways, finished, act, acted, import_move, path_move, import_keyword_move, taken_move, after_taken_move, alias_move, function_move, first_arg_move, arg_move, item_move, operand_move, operation_move, literal_move, type_move, marks_alone}
+use Rattle.bril_grammar.specs.Machine.{transition, taken_transitions, head_transitions, finished, act, acted, import_move, path_move, import_keyword_move, taken_move, after_taken_move, alias_move, function_move, first_arg_move, arg_move, item_move, operand_move, operation_move, literal_move, type_move, marks_alone}
 use Rattle.bril_grammar.proofs.Keywords.{keyword_ptr, keyword_const}
 use Rattle.bril_grammar.proofs.Steps.{goes}
 use Rattle.bril_grammar.proofs.Viable.{CanRead, number, viable, viable_typed, base_run}
@@ -77,7 +77,7 @@ plain s w (Fails IntRange) h = absurd h
 plain s w (Fails Deep) h = absurd h
 plain s w (Fails Grammar) h = tt
 
-plain_marks : (ways : List Way) (m : Mark) → IsPlain (mark_move ways m)
+plain_marks : (transitions : List Transition) (m : Mark) → IsPlain (mark_move transitions m)
 unfolding IsPlain
 plain_marks [] m = tt
 plain_marks (w ∷ ws) m = by (same_mark m w.mark) (plain_marks ws m)
@@ -86,10 +86,10 @@ plain_marks (w ∷ ws) m = by (same_mark m w.mark) (plain_marks ws m)
     by true h = tt
     by false h = h
 
-plain_alone : (ways : List Way) (w : Terminal) → IsPlain (marks_alone ways w)
+plain_alone : (transitions : List Transition) (w : Terminal) → IsPlain (marks_alone transitions w)
 unfolding IsPlain
-plain_alone ways (Punctuation m) = plain_marks ways m
-plain_alone ways _ = tt
+plain_alone transitions (Punctuation m) = plain_marks transitions m
+plain_alone transitions _ = tt
 
 plain_import : (imports : List Import) (w : Terminal) → IsPlain (import_move imports w)
 unfolding IsPlain
@@ -127,7 +127,7 @@ plain_after_taken i name (Name text) = by (keyword_of text)
     by : (k : Keyword) → IsPlain (as_keyword i name k)
     by keyword.As = tt
     by _ = tt
-plain_after_taken i name (Punctuation m) = plain_marks (taken_ways i (record { name = name; alias = None })) m
+plain_after_taken i name (Punctuation m) = plain_marks (taken_transitions i (record { name = name; alias = None })) m
 plain_after_taken i name _ = tt
 
 plain_alias : (i : Importing) (name : List ℕ) (w : Terminal) → IsPlain (alias_move i name w)
@@ -143,7 +143,7 @@ plain_functions imports funcs _ = tt
 plain_first_arg : (b : Begun) (w : Terminal) → IsPlain (first_arg_move b w)
 unfolding IsPlain
 plain_first_arg b (Name name) = tt
-plain_first_arg b (Punctuation m) = plain_marks (way CloseParen (AfterArgs b) ∷ []) m
+plain_first_arg b (Punctuation m) = plain_marks (transition CloseParen (AfterArgs b) ∷ []) m
 plain_first_arg b _ = tt
 
 plain_arg : (b : Begun) (w : Terminal) → IsPlain (arg_move b w)
@@ -151,13 +151,13 @@ unfolding IsPlain
 plain_arg b (Name name) = tt
 plain_arg b _ = tt
 
-plain_operand : (a : Acting) (ways : List Way) (w : Terminal) → IsPlain (operand_move a ways w)
+plain_operand : (a : Acting) (transitions : List Transition) (w : Terminal) → IsPlain (operand_move a transitions w)
 unfolding IsPlain
-plain_operand a ways (Name name) = tt
-plain_operand a ways (Function name) = tt
-plain_operand a ways (Label name) = tt
-plain_operand a ways (Punctuation m) = plain_marks ways m
-plain_operand a ways _ = tt
+plain_operand a transitions (Name name) = tt
+plain_operand a transitions (Function name) = tt
+plain_operand a transitions (Label name) = tt
+plain_operand a transitions (Punctuation m) = plain_marks transitions m
+plain_operand a transitions _ = tt
 
 -- where an item, an operation, a literal and a type may come
 
@@ -173,7 +173,7 @@ why_item b (Name text) = by (keyword_of text) refl
     by keyword.FloatOperation e = ((text, refl, e), inl (item_reads b))
     by _ e = tt
 why_item b (Label name) = tt
-why_item b (Punctuation m) = plain (AtItem b) (Punctuation m) (item_move b (Punctuation m)) (plain_marks (way CloseBrace (finished b) ∷ []) m)
+why_item b (Punctuation m) = plain (AtItem b) (Punctuation m) (item_move b (Punctuation m)) (plain_marks (transition CloseBrace (finished b) ∷ []) m)
 why_item b _ = tt
 
 operation_reads : (b : Begun) (d : Dest) → CanRead (AtOperation b d) number_const
@@ -251,20 +251,20 @@ why (AtImportKeyword imports path) w = plain (AtImportKeyword imports path) w (i
 why (AtTaken i) w = plain (AtTaken i) w (taken_move i w) (plain_taken i w)
 why (AfterTaken i name) w = plain (AfterTaken i name) w (after_taken_move i name w) (plain_after_taken i name w)
 why (AtAlias i name) w = plain (AtAlias i name) w (alias_move i name w) (plain_alias i name w)
-why (AfterAlias i taken) w = plain (AfterAlias i taken) w (move (AfterAlias i taken) w) (plain_alone (taken_ways i taken) w)
+why (AfterAlias i taken) w = plain (AfterAlias i taken) w (move (AfterAlias i taken) w) (plain_alone (taken_transitions i taken) w)
 why (AtFunction imports funcs) w = plain (AtFunction imports funcs) w (function_move imports funcs w) (plain_functions imports funcs w)
-why (AfterName b) w = plain (AfterName b) w (move (AfterName b) w) (plain_alone (way OpenParen (AtFirstArg b) ∷ head_ways b) w)
+why (AfterName b) w = plain (AfterName b) w (move (AfterName b) w) (plain_alone (transition OpenParen (AtFirstArg b) ∷ head_transitions b) w)
 why (AtFirstArg b) w = plain (AtFirstArg b) w (first_arg_move b w) (plain_first_arg b w)
 why (AtArg b) w = plain (AtArg b) w (arg_move b w) (plain_arg b w)
-why (AfterArg b) w = plain (AfterArg b) w (move (AfterArg b) w) (plain_alone (way Comma (AtArg b) ∷ way CloseParen (AfterArgs b) ∷ []) w)
-why (AfterArgs b) w = plain (AfterArgs b) w (move (AfterArgs b) w) (plain_alone (head_ways b) w)
+why (AfterArg b) w = plain (AfterArg b) w (move (AfterArg b) w) (plain_alone (transition Comma (AtArg b) ∷ transition CloseParen (AfterArgs b) ∷ []) w)
+why (AfterArgs b) w = plain (AfterArgs b) w (move (AfterArgs b) w) (plain_alone (head_transitions b) w)
 why (AtItem b) w = why_item b w
-why (AfterOperation b o text) w = plain (AfterOperation b o text) w (move (AfterOperation b o text) w) (plain_operand (act b None o) (way Colon (dest_type b text) ∷ way Semicolon (acted (act b None o)) ∷ []) w)
+why (AfterOperation b o text) w = plain (AfterOperation b o text) w (move (AfterOperation b o text) w) (plain_operand (act b None o) (transition Colon (dest_type b text) ∷ transition Semicolon (acted (act b None o)) ∷ []) w)
 why (AtOperation b d) w = why_operation b d w
 why (AtLiteral b d) w = why_literal b d w
-why (AtOperand a) w = plain (AtOperand a) w (move (AtOperand a) w) (plain_operand a (way Semicolon (acted a) ∷ []) w)
+why (AtOperand a) w = plain (AtOperand a) w (move (AtOperand a) w) (plain_operand a (transition Semicolon (acted a) ∷ []) w)
 why (AtType position k) w = why_type position k w
-why (Expect m next) w = plain (Expect m next) w (move (Expect m next) w) (plain_alone (way m next ∷ []) w)
+why (Expect m next) w = plain (Expect m next) w (move (Expect m next) w) (plain_alone (transition m next ∷ []) w)
 
 -- the states in which terminals may come that come nowhere else
 

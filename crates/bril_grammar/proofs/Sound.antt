@@ -19,14 +19,14 @@ use Rattle.bril_grammar.specs.declared.keyword.Keyword.TheVariants as keyword
 use Rattle.bril_grammar.specs.declared.mark.Mark.TheVariants.{OpenBrace, CloseBrace, OpenParen, CloseParen, Colon, Comma, Semicolon, Equals, Less, Greater}
 use Rattle.bril_grammar.specs.Keyword.{keyword_of}
 use Rattle.bril_tree.specs.Spelling.{operation_text, base_text}
-use Rattle.bril_grammar.specs.Machine.{Goes, Fails, type_of, import_of, begin, with_arg, with_ret, with_item, function_begun, finished, typed, closing, const_of, act, acted, with_variable, with_function, with_label, type_keyword, first_import_keyword, import_keyword, as_keyword, operation_keyword, first_keyword, truth_keyword, dest_type, decided, at_end, run, way, taken_ways, head_ways, move, import_move, path_move, import_keyword_move, taken_move, after_taken_move, alias_move, function_move, first_arg_move, arg_move, item_move, operation_move, literal_move, type_move, marks_alone, begins_with_colon}
+use Rattle.bril_grammar.specs.Machine.{Goes, Fails, type_of, import_of, begin, with_arg, with_ret, with_item, function_begun, finished, typed, closing, const_of, act, acted, with_variable, with_function, with_label, type_keyword, first_import_keyword, import_keyword, as_keyword, operation_keyword, first_keyword, truth_keyword, dest_type, decided, at_end, run, transition, taken_transitions, head_transitions, move, import_move, path_move, import_keyword_move, taken_move, after_taken_move, alias_move, function_move, first_arg_move, arg_move, item_move, operation_move, literal_move, type_move, marks_alone, begins_with_colon}
 use Rattle.bril_grammar.specs.State.{Begun, TypePosition, ArgumentType, ReturnType, DestinationType, Importing, Acting, State, AtImport, AtPath, AtImportKeyword, AtTaken, AfterTaken, AtAlias, AfterAlias, AtFunction, AfterName, AtFirstArg, AtArg, AfterArg, AfterArgs, AtItem, AfterOperation, AtOperation, AtLiteral, AtOperand, AtType, Expect}
 use Rattle.bril_tree.specs.Path.{ImportPath}
 use Rattle.bril_grammar.specs.Terminal.{Terminal, Name, Function, Label, Number, Char, Path, Punctuation}
 use Rattle.bril_grammar.specs.Written.{Operand, VariableOperand, FunctionOperand, LabelOperand, Line, LabelLine, ConstLine, ActLine, Written, variables, functions, labels, item_of, listed, function_of, alias_terminals, taken_terminals, import_terminals, pointer_terminals, type_terminals, typed_terminals, args_terminals, ret_terminals, literal_terminal, operand_terminal, line_terminals, function_terminals, Spells}
 use Rattle.bril_tree.proofs.Equal.{ImportPath-equal}
 use Rattle.bril_grammar.proofs.Keywords.{Means, means}
-use Rattle.bril_grammar.proofs.Steps.{OnState, led, OneWay, mark_led, type_of-ty}
+use Rattle.bril_grammar.proofs.Steps.{OnState, led, OneTransition, mark_led, type_of-ty}
 
 -- What is left to read at each state, so that the whole is the tree.
 
@@ -263,7 +263,7 @@ item_back b (Name x) ws t h = keyword_back b x (keyword_of x) ws t (means x) h
 item_back b (Label l) ws t h = items_cons b (LabelLine l) (Label l ∷ ws) h.0 t (ap (λ y. Label l ∷ y) h.1) h.2
 item_back b (Punctuation m) ws t h = by (mark_led (λ n. Left n ws t) m (record { mark = CloseBrace; next = finished b } ∷ []) h)
   where
-    by : OneWay (λ n. Left n ws t) m (record { mark = CloseBrace; next = finished b } ∷ []) → ItemsLeft b (Punctuation m ∷ ws) t
+    by : OneTransition (λ n. Left n ws t) m (record { mark = CloseBrace; next = finished b } ∷ []) → ItemsLeft b (Punctuation m ∷ ws) t
     by (inl f) = ([], ws, ap (λ n. Punctuation n ∷ ws) f.0, subst (λ code. FunctionsLeft b.imports (b.funcs ++ (function_begun (record b { code = code }) ∷ [])) ws t) (sym (append-nil b.code)) f.1)
     by (inr f) = absurd f
 item_back b _ ws t h = absurd h
@@ -303,9 +303,9 @@ operand_back : (a : Acting) (w : Terminal) (ws : List Terminal) (t : Tree) → O
 operand_back a (Name x) ws t h = variable_cons a x ws t h
 operand_back a (Function x) ws t h = function_cons a x ws t h
 operand_back a (Label x) ws t h = label_cons a x ws t h
-operand_back a (Punctuation m) ws t h = by (mark_led (λ n. Left n ws t) m (way Semicolon (acted a) ∷ []) h)
+operand_back a (Punctuation m) ws t h = by (mark_led (λ n. Left n ws t) m (transition Semicolon (acted a) ∷ []) h)
   where
-    by : OneWay (λ n. Left n ws t) m (way Semicolon (acted a) ∷ []) → OperandsLeft a (Punctuation m ∷ ws) t
+    by : OneTransition (λ n. Left n ws t) m (transition Semicolon (acted a) ∷ []) → OperandsLeft a (Punctuation m ∷ ws) t
     by (inl f) = no_operand a m ws t f.0 f.1
     by (inr f) = absurd f
 operand_back a _ ws t h = absurd h
@@ -314,9 +314,9 @@ after_operation_back : (b : Begun) (o : Op) (text : List ℕ) (w : Terminal) (ws
 after_operation_back b o text (Name x) ws t h = inl (variable_cons (act b None o) x ws t h)
 after_operation_back b o text (Function x) ws t h = inl (function_cons (act b None o) x ws t h)
 after_operation_back b o text (Label x) ws t h = inl (label_cons (act b None o) x ws t h)
-after_operation_back b o text (Punctuation m) ws t h = by (mark_led (λ n. Left n ws t) m (way Colon (dest_type b text) ∷ way Semicolon (acted (act b None o)) ∷ []) h)
+after_operation_back b o text (Punctuation m) ws t h = by (mark_led (λ n. Left n ws t) m (transition Colon (dest_type b text) ∷ transition Semicolon (acted (act b None o)) ∷ []) h)
   where
-    by : OneWay (λ n. Left n ws t) m (way Colon (dest_type b text) ∷ way Semicolon (acted (act b None o)) ∷ []) → AfterOperationLeft b o text (Punctuation m ∷ ws) t
+    by : OneTransition (λ n. Left n ws t) m (transition Colon (dest_type b text) ∷ transition Semicolon (acted (act b None o)) ∷ []) → AfterOperationLeft b o text (Punctuation m ∷ ws) t
     by (inl f) = inr (ws, ap (λ n. Punctuation n ∷ ws) f.0, f.1)
     by (inr (inl f)) = inl (no_operand (act b None o) m ws t f.0 f.1)
     by (inr (inr f)) = absurd f
@@ -354,8 +354,8 @@ type_keyword_back position k _ ws t h = absurd h
 
 -- the head of a function
 
-ret_ways : (b : Begun) (m : Mark) (ws : List Terminal) (t : Tree) → OneWay (λ n. Left n ws t) m (head_ways b) → RetLeft b (Punctuation m ∷ ws) t
-ret_ways b m ws t (inl f) =
+ret_transitions : (b : Begun) (m : Mark) (ws : List Terminal) (t : Tree) → OneTransition (λ n. Left n ws t) m (head_transitions b) → RetLeft b (Punctuation m ∷ ws) t
+ret_transitions b m ws t (inl f) =
     let whole = whole_type (ReturnType b) ws t f.1 in
     inr (
       whole.ty,
@@ -363,19 +363,19 @@ ret_ways b m ws t (inl f) =
       ap (λ n. Punctuation n ∷ ws) f.0 ∙ (ap (λ y. Punctuation Colon ∷ y) whole.cut ∙ ap (λ y. Punctuation Colon ∷ (type_terminals whole.ty ++ y)) whole.left.1),
       whole.left.2,
     )
-ret_ways b m ws t (inr (inl f)) = inl (ws, ap (λ n. Punctuation n ∷ ws) f.0, f.1)
-ret_ways b m ws t (inr (inr f)) = absurd f
+ret_transitions b m ws t (inr (inl f)) = inl (ws, ap (λ n. Punctuation n ∷ ws) f.0, f.1)
+ret_transitions b m ws t (inr (inr f)) = absurd f
 
-after_args_back : (b : Begun) (w : Terminal) (ws : List Terminal) (t : Tree) → OnState (λ n. Left n ws t) (decided (marks_alone (head_ways b) w) true) → RetLeft b (w ∷ ws) t
-after_args_back b (Punctuation m) ws t h = ret_ways b m ws t (mark_led (λ n. Left n ws t) m (head_ways b) h)
+after_args_back : (b : Begun) (w : Terminal) (ws : List Terminal) (t : Tree) → OnState (λ n. Left n ws t) (decided (marks_alone (head_transitions b) w) true) → RetLeft b (w ∷ ws) t
+after_args_back b (Punctuation m) ws t h = ret_transitions b m ws t (mark_led (λ n. Left n ws t) m (head_transitions b) h)
 after_args_back b _ ws t h = absurd h
 
 name_back : (b : Begun) (w : Terminal) (ws : List Terminal) (t : Tree) → OnState (λ n. Left n ws t) (decided (move (AfterName b) w) true) → HeadLeft b (w ∷ ws) t
-name_back b (Punctuation m) ws t h = by (mark_led (λ n. Left n ws t) m (way OpenParen (AtFirstArg b) ∷ head_ways b) h)
+name_back b (Punctuation m) ws t h = by (mark_led (λ n. Left n ws t) m (transition OpenParen (AtFirstArg b) ∷ head_transitions b) h)
   where
-    by : OneWay (λ n. Left n ws t) m (way OpenParen (AtFirstArg b) ∷ head_ways b) → HeadLeft b (Punctuation m ∷ ws) t
+    by : OneTransition (λ n. Left n ws t) m (transition OpenParen (AtFirstArg b) ∷ head_transitions b) → HeadLeft b (Punctuation m ∷ ws) t
     by (inl f) = inr (ws, ap (λ n. Punctuation n ∷ ws) f.0, f.1)
-    by (inr f) = inl (ret_ways b m ws t f)
+    by (inr f) = inl (ret_transitions b m ws t f)
 name_back b _ ws t h = absurd h
 
 named_arg : (b : Begun) (x : List ℕ) (ws : List Terminal) (t : Tree) → MarkLeft Colon (TypeLeft (ArgumentType b x) 0) ws t → ArgLeft b (Name x ∷ ws) t
@@ -389,17 +389,17 @@ arg_back b _ ws t h = absurd h
 
 first_arg_back : (b : Begun) (w : Terminal) (ws : List Terminal) (t : Tree) → OnState (λ n. Left n ws t) (decided (first_arg_move b w) true) → FirstArgLeft b (w ∷ ws) t
 first_arg_back b (Name x) ws t h = inr (named_arg b x ws t h)
-first_arg_back b (Punctuation m) ws t h = by (mark_led (λ n. Left n ws t) m (way CloseParen (AfterArgs b) ∷ []) h)
+first_arg_back b (Punctuation m) ws t h = by (mark_led (λ n. Left n ws t) m (transition CloseParen (AfterArgs b) ∷ []) h)
   where
-    by : OneWay (λ n. Left n ws t) m (way CloseParen (AfterArgs b) ∷ []) → FirstArgLeft b (Punctuation m ∷ ws) t
+    by : OneTransition (λ n. Left n ws t) m (transition CloseParen (AfterArgs b) ∷ []) → FirstArgLeft b (Punctuation m ∷ ws) t
     by (inl f) = inl (ws, ap (λ n. Punctuation n ∷ ws) f.0, f.1)
     by (inr f) = absurd f
 first_arg_back b _ ws t h = absurd h
 
 after_arg_back : (b : Begun) (w : Terminal) (ws : List Terminal) (t : Tree) → OnState (λ n. Left n ws t) (decided (move (AfterArg b) w) true) → ArgsLeft b (w ∷ ws) t
-after_arg_back b (Punctuation m) ws t h = by (mark_led (λ n. Left n ws t) m (way Comma (AtArg b) ∷ way CloseParen (AfterArgs b) ∷ []) h)
+after_arg_back b (Punctuation m) ws t h = by (mark_led (λ n. Left n ws t) m (transition Comma (AtArg b) ∷ transition CloseParen (AfterArgs b) ∷ []) h)
   where
-    by : OneWay (λ n. Left n ws t) m (way Comma (AtArg b) ∷ way CloseParen (AfterArgs b) ∷ []) → ArgsLeft b (Punctuation m ∷ ws) t
+    by : OneTransition (λ n. Left n ws t) m (transition Comma (AtArg b) ∷ transition CloseParen (AfterArgs b) ∷ []) → ArgsLeft b (Punctuation m ∷ ws) t
     by (inl f) =
         let arg = f.1 in
         let rest = arg.3 in (
@@ -530,8 +530,8 @@ taken_back : (i : Importing) (w : Terminal) (ws : List Terminal) (t : Tree) → 
 taken_back i (Function name) ws t h = (record { name = name; alias = h.0 }, h.1, ap (λ y. Function name ∷ y) h.2, h.3)
 taken_back i _ ws t h = absurd h
 
-taken_ways_back : (i : Importing) (taken : Taken) (m : Mark) (ws : List Terminal) (t : Tree) → OneWay (λ n. Left n ws t) m (taken_ways i taken) → TakenLeft i taken (Punctuation m ∷ ws) t
-taken_ways_back i taken m ws t (inl f) =
+taken_transitions_back : (i : Importing) (taken : Taken) (m : Mark) (ws : List Terminal) (t : Tree) → OneTransition (λ n. Left n ws t) m (taken_transitions i taken) → TakenLeft i taken (Punctuation m ∷ ws) t
+taken_transitions_back i taken m ws t (inl f) =
     let next = f.1 in
     let later = next.3 in (
       next.0 ∷ later.0,
@@ -543,8 +543,8 @@ taken_ways_back i taken m ws t (inl f) =
       later.5 ∙ append_assoc i.names (taken ∷ []) (next.0 ∷ later.0),
       later.6,
     )
-taken_ways_back i taken m ws t (inr (inl f)) = ([], ws, import_of i taken, ap (λ n. Punctuation n ∷ ws) f.0, refl, refl, f.1)
-taken_ways_back i taken m ws t (inr (inr f)) = absurd f
+taken_transitions_back i taken m ws t (inr (inl f)) = ([], ws, import_of i taken, ap (λ n. Punctuation n ∷ ws) f.0, refl, refl, f.1)
+taken_transitions_back i taken m ws t (inr (inr f)) = absurd f
 
 as_key : (i : Importing) (name x : List ℕ) (key : Keyword) (ws : List Terminal) (t : Tree) → Means x key → OnState (λ n. Left n ws t) (decided (as_keyword i name key) true) → AfterTakenLeft i name (Name x ∷ ws) t
 as_key i name x keyword.As ws t e h = (Some h.0, h.1, ap (λ y. Name y ∷ ws) e ∙ ap (λ y. Name (codes "as") ∷ y) h.2, h.3)
@@ -553,21 +553,21 @@ as_key i name x _ ws t e h = absurd h
 after_taken_back : (i : Importing) (name : List ℕ) (w : Terminal) (ws : List Terminal) (t : Tree) → OnState (λ n. Left n ws t) (decided (after_taken_move i name w) true) → AfterTakenLeft i name (w ∷ ws) t
 after_taken_back i name (Name x) ws t h = as_key i name x (keyword_of x) ws t (means x) h
 after_taken_back i name (Punctuation m) ws t h =
-    (None, Punctuation m ∷ ws, refl, taken_ways_back i (record { name = name; alias = None }) m ws t (mark_led (λ n. Left n ws t) m (taken_ways i (record { name = name; alias = None })) h))
+    (None, Punctuation m ∷ ws, refl, taken_transitions_back i (record { name = name; alias = None }) m ws t (mark_led (λ n. Left n ws t) m (taken_transitions i (record { name = name; alias = None })) h))
 after_taken_back i name _ ws t h = absurd h
 
 alias_back : (i : Importing) (name : List ℕ) (w : Terminal) (ws : List Terminal) (t : Tree) → OnState (λ n. Left n ws t) (decided (alias_move i name w) true) → AliasLeft i name (w ∷ ws) t
 alias_back i name (Function alias) ws t h = (alias, ws, refl, h)
 alias_back i name _ ws t h = absurd h
 
-after_alias_back : (i : Importing) (taken : Taken) (w : Terminal) (ws : List Terminal) (t : Tree) → OnState (λ n. Left n ws t) (decided (marks_alone (taken_ways i taken) w) true) → TakenLeft i taken (w ∷ ws) t
-after_alias_back i taken (Punctuation m) ws t h = taken_ways_back i taken m ws t (mark_led (λ n. Left n ws t) m (taken_ways i taken) h)
+after_alias_back : (i : Importing) (taken : Taken) (w : Terminal) (ws : List Terminal) (t : Tree) → OnState (λ n. Left n ws t) (decided (marks_alone (taken_transitions i taken) w) true) → TakenLeft i taken (w ∷ ws) t
+after_alias_back i taken (Punctuation m) ws t h = taken_transitions_back i taken m ws t (mark_led (λ n. Left n ws t) m (taken_transitions i taken) h)
 after_alias_back i taken _ ws t h = absurd h
 
-expect_back : (m : Mark) (next : State) (w : Terminal) (ws : List Terminal) (t : Tree) → OnState (λ n. Left n ws t) (decided (marks_alone (way m next ∷ []) w) true) → MarkLeft m (Left next) (w ∷ ws) t
-expect_back m next (Punctuation n) ws t h = by (mark_led (λ s. Left s ws t) n (way m next ∷ []) h)
+expect_back : (m : Mark) (next : State) (w : Terminal) (ws : List Terminal) (t : Tree) → OnState (λ n. Left n ws t) (decided (marks_alone (transition m next ∷ []) w) true) → MarkLeft m (Left next) (w ∷ ws) t
+expect_back m next (Punctuation n) ws t h = by (mark_led (λ s. Left s ws t) n (transition m next ∷ []) h)
   where
-    by : OneWay (λ s. Left s ws t) n (way m next ∷ []) → MarkLeft m (Left next) (Punctuation n ∷ ws) t
+    by : OneTransition (λ s. Left s ws t) n (transition m next ∷ []) → MarkLeft m (Left next) (Punctuation n ∷ ws) t
     by (inl f) = (ws, ap (λ k. Punctuation k ∷ ws) f.0, f.1)
     by (inr f) = absurd f
 expect_back m next _ ws t h = absurd h

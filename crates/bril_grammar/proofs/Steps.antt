@@ -9,7 +9,7 @@ use Rattle.bril_grammar.specs.declared.mark.Mark.{Mark}
 use Rattle.bril_grammar.specs.declared.mark.Mark.TheVariants.{OpenBrace, CloseBrace, OpenParen, CloseParen, Colon, Comma, Semicolon, Equals, Less, Greater}
 use Rattle.bril_tree.specs.declared.types.Ty.{Ty}
 use Rattle.bril_tree.proofs.Equal.{Ty-equal}
-use Rattle.bril_grammar.specs.Machine.{type_of, Way, same_mark, mark_move, Move, Goes, GoesBeforeColon, FloatUnlessColon, Fails, move, run, decided, go_on, begins_with_colon}
+use Rattle.bril_grammar.specs.Machine.{type_of, Transition, same_mark, mark_move, Move, Goes, GoesBeforeColon, FloatUnlessColon, Fails, move, run, decided, go_on, begins_with_colon}
 use Rattle.bril_grammar.specs.State.{State, Expect}
 use Rattle.bril_grammar.specs.Terminal.{Terminal, Punctuation, mark_byte, mark_among, marks}
 
@@ -51,16 +51,16 @@ mark_same m n e =
     let terminals : Punctuation m ≡ Punctuation n = sym (mark_again m) ∙ (ap (mark_among marks) bytes ∙ mark_again n) in
     cc
 
--- one of the ways has this mark
-abbrev pub OneWay : (State → Type 0) → Mark → List Way → Type 0
-OneWay P m [] = ⊥
-OneWay P m (w ∷ ws) = ((m ≡ w.mark) × P w.next) ⊎ OneWay P m ws
+-- one of the transitions has this mark
+abbrev pub OneTransition : (State → Type 0) → Mark → List Transition → Type 0
+OneTransition P m [] = ⊥
+OneTransition P m (w ∷ ws) = ((m ≡ w.mark) × P w.next) ⊎ OneTransition P m ws
 
-pub mark_led : (P : State → Type 0) (m : Mark) (ways : List Way) → OnState P (decided (mark_move ways m) true) → OneWay P m ways
+pub mark_led : (P : State → Type 0) (m : Mark) (transitions : List Transition) → OnState P (decided (mark_move transitions m) true) → OneTransition P m transitions
 mark_led P m [] h = h
 mark_led P m (w ∷ ws) h = by (same_mark m w.mark) refl (mark_led P m ws) h
   where
-    by : (b : Bool) → same_mark m w.mark ≡ b → (OnState P (decided (mark_move ws m) true) → OneWay P m ws) → OnState P (decided (cond b (Goes w.next) (mark_move ws m)) true) → OneWay P m (w ∷ ws)
+    by : (b : Bool) → same_mark m w.mark ≡ b → (OnState P (decided (mark_move ws m) true) → OneTransition P m ws) → OnState P (decided (cond b (Goes w.next) (mark_move ws m)) true) → OneTransition P m (w ∷ ws)
     by true e later h = inl (mark_same m w.mark e, h)
     by false e later h = inr (later h)
 

@@ -110,7 +110,7 @@ abbrev pub acted : Acting → State
 acted a = AtItem (with_item a.begun (item.Act a.dest a.operation a.args a.funcs a.labels))
 
 -- a mark, and the state after it
-pub record Way : Type 0 where
+pub record Transition : Type 0 where
   pub mark : Mark
   pub next : State
 
@@ -118,23 +118,23 @@ abbrev pub same_mark : Mark → Mark → Bool
 same_mark m n = mark_byte m == mark_byte n
 
 -- the state after this mark, where there is one
-abbrev pub mark_move : List Way → Mark → Move
+abbrev pub mark_move : List Transition → Mark → Move
 mark_move [] m = Fails Grammar
 mark_move (w ∷ ws) m = if same_mark m w.mark then Goes w.next else mark_move ws m
 
-abbrev pub way : Mark → State → Way
-way m next = record { mark = m; next = next }
+abbrev pub transition : Mark → State → Transition
+transition m next = record { mark = m; next = next }
 
 -- where only a mark may come
-abbrev pub marks_alone : List Way → Terminal → Move
-marks_alone ways (Punctuation m) = mark_move ways m
-marks_alone ways _ = Fails Grammar
+abbrev pub marks_alone : List Transition → Terminal → Move
+marks_alone transitions (Punctuation m) = mark_move transitions m
+marks_alone transitions _ = Fails Grammar
 
-abbrev pub taken_ways : Importing → Taken → List Way
-taken_ways i taken = way Comma (AtTaken (taking i taken)) ∷ way Semicolon (AtImport (i.imports ++ (import_of i taken ∷ []))) ∷ []
+abbrev pub taken_transitions : Importing → Taken → List Transition
+taken_transitions i taken = transition Comma (AtTaken (taking i taken)) ∷ transition Semicolon (AtImport (i.imports ++ (import_of i taken ∷ []))) ∷ []
 
-abbrev pub head_ways : Begun → List Way
-head_ways b = way Colon (AtType (ReturnType b) 0) ∷ way OpenBrace (AtItem b) ∷ []
+abbrev pub head_transitions : Begun → List Transition
+head_transitions b = transition Colon (AtType (ReturnType b) 0) ∷ transition OpenBrace (AtItem b) ∷ []
 
 abbrev pub first_import_keyword : List Import → Keyword → Move
 first_import_keyword imports keyword.From = Goes (AtPath imports)
@@ -167,7 +167,7 @@ as_keyword i name _ = Fails Grammar
 
 abbrev pub after_taken_move : Importing → List ℕ → Terminal → Move
 after_taken_move i name (Name text) = as_keyword i name (keyword_of text)
-after_taken_move i name (Punctuation m) = mark_move (taken_ways i (record { name = name; alias = None })) m
+after_taken_move i name (Punctuation m) = mark_move (taken_transitions i (record { name = name; alias = None })) m
 after_taken_move i name _ = Fails Grammar
 
 abbrev pub alias_move : Importing → List ℕ → Terminal → Move
@@ -180,7 +180,7 @@ function_move imports funcs _ = Fails Grammar
 
 abbrev pub first_arg_move : Begun → Terminal → Move
 first_arg_move b (Name name) = Goes (arg_named b name)
-first_arg_move b (Punctuation m) = mark_move (way CloseParen (AfterArgs b) ∷ []) m
+first_arg_move b (Punctuation m) = mark_move (transition CloseParen (AfterArgs b) ∷ []) m
 first_arg_move b _ = Fails Grammar
 
 abbrev pub arg_move : Begun → Terminal → Move
@@ -196,16 +196,16 @@ first_keyword b text _ = Goes (Expect Colon (dest_type b text))
 abbrev pub item_move : Begun → Terminal → Move
 item_move b (Name text) = first_keyword b text (keyword_of text)
 item_move b (Label name) = Goes (Expect Colon (AtItem (with_item b (item.Label name))))
-item_move b (Punctuation m) = mark_move (way CloseBrace (finished b) ∷ []) m
+item_move b (Punctuation m) = mark_move (transition CloseBrace (finished b) ∷ []) m
 item_move b _ = Fails Grammar
 
 -- an operand, or a mark
-abbrev pub operand_move : Acting → List Way → Terminal → Move
-operand_move a ways (Name name) = Goes (AtOperand (with_variable a name))
-operand_move a ways (Function name) = Goes (AtOperand (with_function a name))
-operand_move a ways (Label name) = Goes (AtOperand (with_label a name))
-operand_move a ways (Punctuation m) = mark_move ways m
-operand_move a ways _ = Fails Grammar
+abbrev pub operand_move : Acting → List Transition → Terminal → Move
+operand_move a transitions (Name name) = Goes (AtOperand (with_variable a name))
+operand_move a transitions (Function name) = Goes (AtOperand (with_function a name))
+operand_move a transitions (Label name) = Goes (AtOperand (with_label a name))
+operand_move a transitions (Punctuation m) = mark_move transitions m
+operand_move a transitions _ = Fails Grammar
 
 -- an identifier after `=`
 abbrev pub operation_keyword : Begun → Dest → Keyword → Move
@@ -250,21 +250,21 @@ move (AtImportKeyword imports path) w = import_keyword_move imports path w
 move (AtTaken i) w = taken_move i w
 move (AfterTaken i name) w = after_taken_move i name w
 move (AtAlias i name) w = alias_move i name w
-move (AfterAlias i taken) w = marks_alone (taken_ways i taken) w
+move (AfterAlias i taken) w = marks_alone (taken_transitions i taken) w
 move (AtFunction imports funcs) w = function_move imports funcs w
-move (AfterName b) w = marks_alone (way OpenParen (AtFirstArg b) ∷ head_ways b) w
+move (AfterName b) w = marks_alone (transition OpenParen (AtFirstArg b) ∷ head_transitions b) w
 move (AtFirstArg b) w = first_arg_move b w
 move (AtArg b) w = arg_move b w
-move (AfterArg b) w = marks_alone (way Comma (AtArg b) ∷ way CloseParen (AfterArgs b) ∷ []) w
-move (AfterArgs b) w = marks_alone (head_ways b) w
+move (AfterArg b) w = marks_alone (transition Comma (AtArg b) ∷ transition CloseParen (AfterArgs b) ∷ []) w
+move (AfterArgs b) w = marks_alone (head_transitions b) w
 move (AtItem b) w = item_move b w
 move (AfterOperation b operation text) w =
-    operand_move (act b None operation) (way Colon (dest_type b text) ∷ way Semicolon (acted (act b None operation)) ∷ []) w
+    operand_move (act b None operation) (transition Colon (dest_type b text) ∷ transition Semicolon (acted (act b None operation)) ∷ []) w
 move (AtOperation b dest) w = operation_move b dest w
 move (AtLiteral b dest) w = literal_move b dest w
-move (AtOperand a) w = operand_move a (way Semicolon (acted a) ∷ []) w
+move (AtOperand a) w = operand_move a (transition Semicolon (acted a) ∷ []) w
 move (AtType position depth) w = type_move position depth w
-move (Expect m next) w = marks_alone (way m next ∷ []) w
+move (Expect m next) w = marks_alone (transition m next ∷ []) w
 
 -- whether the next terminal is `:`
 abbrev pub is_colon : Terminal → Bool
