@@ -13,7 +13,7 @@ use Rattle.bril_grammar.specs.declared.mark.Mark.{Mark}
 use Rattle.bril_grammar.specs.declared.mark.Mark.TheVariants.{Colon, Comma, CloseParen, Semicolon, Less, Greater}
 use Rattle.bril_grammar.specs.declared.fault.FaultKind.TheVariants.{Deep, Grammar}
 use Rattle.bril_grammar.specs.Keyword.{keyword_of}
-use Rattle.bril_grammar.specs.Machine.{Goes, Fails, run, closing, typed, type_keyword, as_keyword, first_import_keyword, taken_ways, marks_alone, way, mark_move, decided, go_on, begins_with_colon, head_ways, first_keyword, dest_type, act, acted}
+use Rattle.bril_grammar.specs.Machine.{Goes, Fails, run, closing, typed, type_keyword, as_keyword, first_import_keyword, taken_transitions, marks_alone, transition, mark_move, decided, go_on, begins_with_colon, head_transitions, first_keyword, dest_type, act, acted}
 use Rattle.bril_grammar.specs.State.{AtAlias, AtImport, AtItem, AfterOperation, AtOperand, State, Begun, TypePosition, Importing, AtType, AtPath, AtImportKeyword, AtArg, AfterArg, AfterArgs, AtFirstArg, AfterAlias, AfterTaken, Expect}
 use Rattle.bril_tree.specs.Path.{ImportPath}
 use Rattle.bril_grammar.specs.Terminal.{Terminal, Name, Function, Label, Number, Char, Path, Punctuation, Other, path_terminal, terminal_of, terminals_of}
@@ -94,22 +94,22 @@ from_run imports ls e =
     ap (run (AtImport imports)) n.first ∙ goes (AtImport imports) (Name n.text) (terminals_of (drop 1 ls)) (AtPath imports) (ap (first_import_keyword imports) n.means)
 
 -- after an imported function, and after an argument
-pub after_alias : (i : Importing) (taken : Taken) (ws : List Terminal) → run (AfterAlias i taken) ws ≡ go (marks_alone (taken_ways i taken)) ws
+pub after_alias : (i : Importing) (taken : Taken) (ws : List Terminal) → run (AfterAlias i taken) ws ≡ go (marks_alone (taken_transitions i taken)) ws
 after_alias i taken [] = refl
 after_alias i taken (w ∷ ws) = refl
 
-pub after_arg : (b : Begun) (ws : List Terminal) → run (AfterArg b) ws ≡ go (marks_alone (way Comma (AtArg b) ∷ way CloseParen (AfterArgs b) ∷ [])) ws
+pub after_arg : (b : Begun) (ws : List Terminal) → run (AfterArg b) ws ≡ go (marks_alone (transition Comma (AtArg b) ∷ transition CloseParen (AfterArgs b) ∷ [])) ws
 after_arg b [] = refl
 after_arg b (w ∷ ws) = refl
 
 -- a comma, or another mark
-pub comma_first : (m : Mark) (again end : State) (ls : List Lexeme) → begins_with Comma (terminals_of ls) ≡ true → go (marks_alone (way Comma again ∷ way m end ∷ [])) (terminals_of ls) ≡ run (Expect Comma again) (terminals_of ls)
+pub comma_first : (m : Mark) (again end : State) (ls : List Lexeme) → begins_with Comma (terminals_of ls) ≡ true → go (marks_alone (transition Comma again ∷ transition m end ∷ [])) (terminals_of ls) ≡ run (Expect Comma again) (terminals_of ls)
 comma_first m again end ls e =
     let first = begins_skip Comma ls e in
-    ap (go (marks_alone (way Comma again ∷ way m end ∷ []))) first ∙ sym (ap (run (Expect Comma again)) first)
+    ap (go (marks_alone (transition Comma again ∷ transition m end ∷ []))) first ∙ sym (ap (run (Expect Comma again)) first)
 
 -- one of two marks, where the first doesn't come next
-pub second_mark : (m n : Mark) (one two : State) (ws : List Terminal) → begins_with m ws ≡ false → go (marks_alone (way m one ∷ way n two ∷ [])) ws ≡ run (Expect n two) ws
+pub second_mark : (m n : Mark) (one two : State) (ws : List Terminal) → begins_with m ws ≡ false → go (marks_alone (transition m one ∷ transition n two ∷ [])) ws ≡ run (Expect n two) ws
 second_mark m n one two [] e = refl
 second_mark m n one two (Name text ∷ ws) e = refl
 second_mark m n one two (Function name ∷ ws) e = refl
@@ -119,11 +119,11 @@ second_mark m n one two (Terminal.Float ∷ ws) e = refl
 second_mark m n one two (Char value ∷ ws) e = refl
 second_mark m n one two (Path path ∷ ws) e = refl
 second_mark m n one two (Punctuation k ∷ ws) e =
-    ap (λ t. go_on (decided (cond t (Goes one) (mark_move (way n two ∷ []) k)) (begins_with_colon ws)) (λ next. run next ws) (suc (length ws))) e
+    ap (λ t. go_on (decided (cond t (Goes one) (mark_move (transition n two ∷ []) k)) (begins_with_colon ws)) (λ next. run next ws) (suc (length ws))) e
 second_mark m n one two (Other ∷ ws) e = refl
 
 -- after the arguments
-pub after_args : (b : Begun) (ws : List Terminal) → run (AfterArgs b) ws ≡ go (marks_alone (head_ways b)) ws
+pub after_args : (b : Begun) (ws : List Terminal) → run (AfterArgs b) ws ≡ go (marks_alone (head_transitions b)) ws
 after_args b [] = refl
 after_args b (w ∷ ws) = refl
 
@@ -172,7 +172,7 @@ operation_later b operation text (Terminal.Float ∷ ws) e = refl
 operation_later b operation text (Char value ∷ ws) e = refl
 operation_later b operation text (Path path ∷ ws) e = refl
 operation_later b operation text (Punctuation k ∷ ws) e =
-    ap (λ t. go_on (decided (cond t (Goes (dest_type b text)) (mark_move (way Semicolon (acted (act b None operation)) ∷ []) k)) (begins_with_colon ws)) (λ next. run next ws) (suc (length ws))) e
+    ap (λ t. go_on (decided (cond t (Goes (dest_type b text)) (mark_move (transition Semicolon (acted (act b None operation)) ∷ []) k)) (begins_with_colon ws)) (λ next. run next ws) (suc (length ws))) e
 operation_later b operation text (Other ∷ ws) e = refl
 
 pub item_operation : (b : Begun) (operation : Op) (text : List ℕ) (ws : List Terminal) → keyword_of text ≡ keyword.Operation operation → begins_with Colon ws ≡ false → run (AtItem b) (Name text ∷ ws) ≡ run (AtOperand (act b None operation)) ws

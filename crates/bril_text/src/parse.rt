@@ -2,7 +2,7 @@
 
 ghost use Rattle.std.specs.Prelude.{◌≡◌, IfOk, IfErr, IsTrue, length, ◌<◌};
 ghost use Rattle.bril_tree.specs.Identifier.{is_identifier};
-ghost use Rattle.bril_grammar.specs.Machine.{run, marks_alone, way, arg_named};
+ghost use Rattle.bril_grammar.specs.Machine.{run, marks_alone, transition, arg_named};
 ghost use Rattle.bril_grammar.specs.State.{State, Begun, Importing, Expect, AtArg, AtTaken, AfterTaken, AtAlias, AfterAlias};
 ghost use Rattle.bril_grammar.specs.declared.mark.Mark.TheVariants.{Comma};
 ghost use Rattle.std.specs.Prelude.{ℕ, List, [], ◌∷◌, Some, if◌then◌else◌};
@@ -69,7 +69,7 @@ pub fn comma_or<'a>(
     mark: Mark,
     terminals: Terminals<'a>,
 ) -> Result<(bool, Terminals<'a>), ParseFault>
-    ensures runs { (again end : State) → Runs (go (marks_alone (way Comma again ∷ way mark end ∷ [])) (terminals_of terminals.entry)) result
+    ensures runs { (again end : State) → Runs (go (marks_alone (transition Comma again ∷ transition mark end ∷ [])) (terminals_of terminals.entry)) result
         (λ x. run (if x.0 then again else end) (terminals_of x.1)) }
     ensures shorter { IfOk result (λ x. length x.1 < length terminals.entry) }
 {
