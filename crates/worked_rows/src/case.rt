@@ -49,38 +49,35 @@ impl Case {
         }
         let (word, rest) = line.split_once(' ').unwrap_or((line, ""));
         match word {
+            "+" => add_unescaped(self.alloc, rest, 0, &mut self.content),
+            "fill" => self.fill(rest),
+            "file" => self.begin_file(rest),
+            "reads" => self.fail_reads(rest),
+            "puts" => {
+                self.puts = numbers_of(self.alloc, rest)?;
+                Ok(())
+            }
+            "errs" => {
+                self.errs = numbers_of(self.alloc, rest)?;
+                Ok(())
+            }
+            "room" => {
+                self.room = rest.parse::<u32>().map_err(|_| LineFault::Form)?;
+                Ok(())
+            }
             "==" => {
                 *self = Case::new(self.alloc);
                 add_line(line, shown)?;
                 Ok(())
             }
             "$" => {
-                self.put_file()?;
+                self.end_file()?;
                 add_line(line, shown)?;
                 self.run(rest, shown)
             }
-            "cut" => {
-                add_line(line, shown)?;
-                self.run_cuts(rest, shown)
-            }
             "#" | "" => Ok(()),
-            _ => self.set(word, rest),
+            _ => Err(LineFault::Form),
         }
-    }
-
-    // Sets up what the line of this word says.
-    fn set(&mut self, word: &str, rest: &str) -> Result<(), LineFault> {
-        match word {
-            "file" => self.begin_file(rest)?,
-            "+" => add_unescaped(self.alloc, rest, 0, &mut self.content)?,
-            "fill" => self.fill(rest)?,
-            "reads" => self.fail_reads(rest)?,
-            "puts" => self.puts = numbers_of(self.alloc, rest)?,
-            "errs" => self.errs = numbers_of(self.alloc, rest)?,
-            "room" => self.room = rest.parse::<u32>().map_err(|_| LineFault::Form)?,
-            _ => return Err(LineFault::Form),
-        }
-        Ok(())
     }
 
     // Appends the bytes of the line so many times to the file.
@@ -103,26 +100,18 @@ impl Case {
 
     // Begins the file at the path.
     fn begin_file(&mut self, path: &str) -> Result<(), LineFault> {
-        self.put_file()?;
+        self.end_file()?;
         self.path = Some(text_of(self.alloc, path)?);
-        self.content.clear();
         Ok(())
     }
 
-    // Puts the file that is being written.
-    fn put_file(&mut self) -> Result<(), AllocError> {
-        match &self.path {
-            None => Ok(()),
-            Some(path) => self.files.add(path, self.content.as_slice()),
+    // Puts the file that was being written.
+    fn end_file(&mut self) -> Result<(), LineFault> {
+        if let Some(path) = self.path.take() {
+            self.files.add(&path, self.content.as_slice())?;
         }
-    }
-
-    // Puts the first bytes of the file that is being written.
-    fn put_first(&mut self, length: usize) -> Result<(), AllocError> {
-        match (&self.path, self.content.get(..length)) {
-            (Some(path), Some(first)) => self.files.add(path, first),
-            _ => Ok(()),
-        }
+        self.content.clear();
+        Ok(())
     }
 
     // No files, of which the reads of these numbers fail.
@@ -135,59 +124,19 @@ impl Case {
     // Runs a command line, and appends what it leaves.
     fn run(&mut self, line: &str, shown: &mut Vec<u8>) -> Result<(), LineFault> {
         let alloc = self.alloc;
+        let words = words_of(alloc, line)?;
         let puts = mem::replace(&mut self.puts, Seq::new(alloc));
         let errs = mem::replace(&mut self.errs, Seq::new(alloc));
         let room = mem::replace(&mut self.room, ROOM);
         let mut out = MemSink::new(alloc, room, puts)?;
         let mut err = MemSink::new(alloc, ROOM, errs)?;
-        let status = self.status(line, &mut out, &mut err)?;
+        let status = bril_top(alloc, words.as_slice(), &mut self.files, &mut out, &mut err);
         let told = format!(in alloc; "status {status}")?;
         add_line(told.as_str(), shown)?;
         add_lines(alloc, "", out.bytes(), shown)?;
         add_lines(alloc, "err ", err.bytes(), shown)?;
         Ok(())
     }
-
-    // Runs a command line for the last file cut before each byte, and appends how many cuts ended with which status.
-    fn run_cuts(&mut self, line: &str, shown: &mut Vec<u8>) -> Result<(), LineFault> {
-        let alloc = self.alloc;
-        let mut last = 0u8;
-        let mut count = 0u64;
-        for length in 0..self.content.len() {
-            self.put_first(length)?;
-            let mut out = MemSink::new(alloc, ROOM, Seq::new(alloc))?;
-            let mut err = MemSink::new(alloc, ROOM, Seq::new(alloc))?;
-            let status = self.status(line, &mut out, &mut err)?;
-            if status != last {
-                add_count(alloc, last, count, shown)?;
-                last = status;
-                count = 0;
-            }
-            count = count.saturating_add(1);
-        }
-        add_count(alloc, last, count, shown)?;
-        Ok(())
-    }
-
-    // The status of a command line over these outputs.
-    fn status(
-        &mut self,
-        line: &str,
-        out: &mut MemSink,
-        err: &mut MemSink,
-    ) -> Result<u8, LineFault> {
-        let words = words_of(self.alloc, line)?;
-        Ok(bril_top(self.alloc, words.as_slice(), &mut self.files, out, err))
-    }
-}
-
-// Appends how many cuts ended with a status, where there are any.
-fn add_count(alloc: Global, status: u8, count: u64, shown: &mut Vec<u8>) -> Result<(), AllocError> {
-    if count == 0 {
-        return Ok(());
-    }
-    let told = format!(in alloc; "status {status} for {count} cuts")?;
-    add_line(told.as_str(), shown)
 }
 
 // Appends the line and LF.

@@ -13,11 +13,9 @@
 //     errs 1                     the puts of the next command to the error output that fail
 //     room 8                     how many bytes the output of the next command takes
 //     $ bril run one.bril        a command line: all its words, a blank between two; `\e` is an empty word
-//     cut bril run one.bril      the same for the last file, cut before each of its bytes
 //
-// Escapes are `\n`, `\r`, `\t`, `\\` and `\xHH`. Shown are the lines `==`, `$` and `cut`; after each `$` the line `status N`,
-// what went to the output as lines `|` and `+`, and what went to the error output as such lines after `err `; after each
-// `cut` how many of the cuts, from the shortest, ended with one status.
+// Escapes are `\n`, `\r`, `\t`, `\\` and `\xHH`. Shown are the lines `==` and `$`; after each `$` the line `status N`, what
+// went to the output as lines `|` and `+`, and what went to the error output as such lines after `err `.
 #![tactic(auto)]
 
 mod case;
