@@ -12,33 +12,57 @@ use Rattle.definite_assignment.specs.declared.reads.Read.{Read}
 pub key_at : (reads : List Read) (k : ℕ) (read : Read) → slice_get reads k ≡ Some read → slice_index (map (λ r. r.location) reads) k ≡ read.location
 key_at reads k read e = get_or-map (λ r. r.location) reads k read 0 (slice_get_within reads k read e) ∙ ap (λ r. r.location) (get_or_from_slice_get reads k read read e)
 
--- the row of a location, by the keys that the adjacency keep
-pub row-is : (reads : List Read) (keys : List ℕ) (location bound end : ℕ) → keys ≡ map (λ r. r.location) reads → bound ≡ length keys → EndsRow keys location bound end →
+-- the row of a location, by the keys that the adjacency keeps
+row-is : (reads : List Read) (keys : List ℕ) (location bound end : ℕ) → keys ≡ map (λ r. r.location) reads → bound ≡ length keys → EndsRow keys location bound end →
     EndsRow (map (λ r. r.location) reads) location (length reads) end
 row-is reads keys location bound end e b row =
     let same : bound ≡ length reads = b ∙ ap length e ∙ length-map reads (λ r. r.location) in
     subst (λ n. EndsRow (map (λ r. r.location) reads) location n end) same (subst (λ ks. EndsRow ks location bound end) e row)
 
-pub row-next : (reads : List Read) (keys : List ℕ) (location bound end k earlier : ℕ) → keys ≡ map (λ r. r.location) reads → k + 1 ≡ end →
+row-next : (reads : List Read) (keys : List ℕ) (location bound end k earlier : ℕ) → keys ≡ map (λ r. r.location) reads → k + 1 ≡ end →
     EndsRow (map (λ r. r.location) reads) location bound end → EndsRow keys (slice_index keys k) k earlier → EndsRow (map (λ r. r.location) reads) location k earlier
 row-next reads keys location bound end k earlier e here row rest =
     let key : slice_index keys k ≡ location = ap (λ ks. slice_index ks k) e ∙ row.stands k here in
     subst (λ p. EndsRow (map (λ r. r.location) reads) p k earlier) key (subst (λ ks. EndsRow ks (slice_index keys k) k earlier) e rest)
 
-pub row-start : (reads : List Read) (location end : ℕ) (Q : ℕ → Read → Type 0) → EndsRow (map (λ r. r.location) reads) location (length reads) end →
-    (k : ℕ) (read : Read) → end ≤ k → slice_get reads k ≡ Some read → read.location ≡ location → Q k read
-row-start reads location end Q row k read late e is = absurd (row.last k late (slice_get_within reads k read e) (key_at reads k read e ∙ is))
+-- A location's row was gone through from its last read down to an end: what is left of it ends there, and each read from
+-- there on has the property.
+pub record RowDone (reads : List Read) (location end : ℕ) (Q : ℕ → Read → Type 0) : Type 0 where
+  pub bound : ℕ
+  pub within : bound ≤ length reads
+  pub row : EndsRow (map (λ r. r.location) reads) location bound end
+  pub all : (k : ℕ) (read : Read) → end ≤ k → slice_get reads k ≡ Some read → read.location ≡ location → Q k read
 
-pub row-more : (reads : List Read) (location end k earlier : ℕ) (Q : ℕ → Read → Type 0) → k + 1 ≡ end → EndsRow (map (λ r. r.location) reads) location k earlier →
-    ((j : ℕ) (read : Read) → end ≤ j → slice_get reads j ≡ Some read → read.location ≡ location → Q j read) → ((read : Read) → slice_get reads k ≡ Some read → Q k read) →
-    (j : ℕ) (read : Read) → earlier ≤ j → slice_get reads j ≡ Some read → read.location ≡ location → Q j read
-row-more reads location end k earlier Q here rest old new j read late e is = ⊎_elim
-    (λ below. absurd (rest.last j late below (key_at reads j read e ∙ is)))
-    (λ above. ⊎_elim
-    (λ same. subst (λ i. Q i read) (sym same) (new read (ap (slice_get reads) (sym same) ∙ e)))
-    (λ differs. old j read (omega arith) e is)
-    (cases_eq j k))
-    (cases_lt j k)
+-- nothing was gone through yet
+pub done-start : (reads : List Read) (keys : List ℕ) (location end : ℕ) (Q : ℕ → Read → Type 0) → keys ≡ map (λ r. r.location) reads → EndsRow keys location (length keys) end → RowDone reads location end Q
+done-start reads keys location end Q e ends =
+    let row : EndsRow (map (λ r. r.location) reads) location (length reads) end = row-is reads keys location (length keys) end e refl ends in
+    record {
+      bound = length reads;
+      within = omega arith;
+      row = row;
+      all = λ k read late at is. absurd (row.last k late (slice_get_within reads k read at) (key_at reads k read at ∙ is));
+    }
+
+-- one read more
+pub done-next : (reads : List Read) (keys : List ℕ) (location end k earlier : ℕ) (Q R : ℕ → Read → Type 0) → keys ≡ map (λ r. r.location) reads → k + 1 ≡ end → RowDone reads location end Q
+    → EndsRow keys (slice_index keys k) k earlier → ((j : ℕ) (read : Read) → Q j read → R j read) → ((read : Read) → slice_get reads k ≡ Some read → R k read) → RowDone reads location earlier R
+done-next reads keys location end k earlier Q R e here d ends old new =
+    let rest : EndsRow (map (λ r. r.location) reads) location k earlier = row-next reads keys location d.bound end k earlier e here d.row ends in
+    let within = d.within in
+    let below = d.row.within in
+    record {
+      bound = k;
+      within = omega arith;
+      row = rest;
+      all = λ j read late at is. ⊎_elim
+          (λ less. absurd (rest.last j late less (key_at reads j read at ∙ is)))
+          (λ above. ⊎_elim
+          (λ same. subst (λ i. R i read) (sym same) (new read (ap (slice_get reads) (sym same) ∙ at)))
+          (λ differs. old j read (d.all j read (omega arith) at is))
+          (cases_eq j k))
+          (cases_lt j k);
+    }
 
 -- the condition may be another that is met by the same reads
 pub Lowers-same : (reads : List Read) (P Q : Read → Type 0) (first least : ℕ) → ((r : Read) → P r → Q r) → ((r : Read) → Q r → P r) → Lowers reads P first least → Lowers reads Q first least
