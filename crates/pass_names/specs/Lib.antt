@@ -1,0 +1,4 @@
+pub mod Named
+pub mod NamedPlan
+pub mod Renaming
+pub mod Trees

@@ -1,0 +1,4 @@
+pub mod Deciding
+pub mod Accepting
+pub mod Based
+pub mod Walks
