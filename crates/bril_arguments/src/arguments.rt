@@ -38,11 +38,11 @@ pub fn read_args(alloc: Global, prog: &Checked, words: &[Text]) -> Result<Seq<Va
     ensures faults { (fault : ArgFault) → fault ≢ Memory → IsFaultOf (main_types prog.now.prog) words.now fault
         → MatchResult result (λ _. ⊥) (λ e. e ≡ fault) }
 {
-    read_words(alloc, taken_by_main(prog.prog()), words)
+    read_words(alloc, parameters_by_main(prog.prog()), words)
 }
 
 // The variables that are the arguments of `main`.
-fn taken_by_main(prog: &Prog) -> &[VarInfo]
+fn parameters_by_main(prog: &Prog) -> &[VarInfo]
     ensures types { map (λ v. v.ty) result.now ≡ main_types prog.now }
     ensures few { length result.now < 2 ^ 32 }
 {
@@ -51,23 +51,23 @@ fn taken_by_main(prog: &Prog) -> &[VarInfo]
 }
 
 // The values that the words spell, by the types of the variables; else the first fault.
-fn read_words(alloc: Global, taken: &[VarInfo], words: &[Text]) -> Result<Seq<Value>, ArgFault>
+fn read_words(alloc: Global, parameters: &[VarInfo], words: &[Text]) -> Result<Seq<Value>, ArgFault>
     requires few_words { length words.now < 2 ^ 32 }
-    requires few_taken { length taken.now < 2 ^ 32 }
-    ensures ok { IfOk result (λ values. AreSpelled (map (λ v. v.ty) taken.now) words.now values) }
-    ensures fault { IfErr result (λ e. IsFaultOf (map (λ v. v.ty) taken.now) words.now e) }
+    requires few_parameters { length parameters.now < 2 ^ 32 }
+    ensures ok { IfOk result (λ values. AreSpelled (map (λ v. v.ty) parameters.now) words.now values) }
+    ensures fault { IfErr result (λ e. IsFaultOf (map (λ v. v.ty) parameters.now) words.now e) }
 {
-    if words.len() != taken.len() {
+    if words.len() != parameters.len() {
         return Err(ArgFault::Count {
             given: words.len() as u32,
-            wanted: taken.len() as u32,
+            wanted: parameters.len() as u32,
         });
     }
     let mut values = Seq::new(alloc);
     // Want of memory is told behind all words, so that it hides no fault of theirs.
     let mut wanting = false;
     for (index, word) in words.iter().enumerate() {
-        let Some(value) = read_value(taken[index].ty, word) else {
+        let Some(value) = read_value(parameters[index].ty, word) else {
             return Err(ArgFault::Spelling {
                 place: index as u32 + 1,
             });

@@ -3,7 +3,7 @@ use Rattle.std.proofs.Common.{◌≡◌, ℕ, ◌+◌, ◌<◌, ◌≤◌, max, 
 use Rattle.std.specs.Prelude.{◌⊎◌, slice_get}
 use Rattle.std.proofs.lemmas.Bool.{cases_lt}
 use Rattle.bril_tree.specs.declared.numbered.Instr.{Instr}
-use Rattle.bril_tree.specs.Edge.{Way}
+use Rattle.bril_tree.specs.Edge.{Branch}
 use Rattle.bril_tree.specs.FrameWords.{IsDepth}
 use Rattle.bril_tree.specs.Sites.{AreSitesSound, TooMany, sites_of}
 use Rattle.bril_tree.specs.Walk.{IsWalk, end_of}
@@ -15,7 +15,7 @@ use Rattle.bril_checker.proofs.Reached.{at_place, walk_to, sites_of_walk}
 module _ (code : List Instr) (graph : GraphView) where
   -- a walk has so many open sites
   abbrev pub HasDepth : ℕ → Type 0
-  HasDepth depth = (walk : List Way) × IsWalk code walk × (length (sites_of code walk) ≡ depth)
+  HasDepth depth = (walk : List Branch) × IsWalk code walk × (length (sites_of code walk) ≡ depth)
 
   -- the points before this one have no more open sites
   abbrev pub NoneDeeper : ℕ → ℕ → Type 0

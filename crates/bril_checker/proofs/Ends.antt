@@ -7,7 +7,7 @@ use Rattle.bril_tree.specs.declared.numbered.Instr.{Instr}
 use Rattle.bril_tree.specs.declared.numbered.Instr.TheVariants.{Label, Const, Act}
 use Rattle.bril_tree.specs.declared.operation.Op.{Op}
 use Rattle.bril_tree.specs.declared.operation.Op.TheVariants as op
-use Rattle.bril_tree.specs.Edge.{Way, action_ways, item_ways, ways_from, ways_at, onward, jump, abort}
+use Rattle.bril_tree.specs.Edge.{Branch, action_branches, item_branches, branches_from, branches_at, onward, jump, abort}
 use Rattle.bril_tree.specs.Step.{point_of, is_label}
 use Rattle.bril_tree.specs.Walk.{IsWalk, end_of}
 
@@ -20,8 +20,8 @@ point_within l [] = omega arith
 point_within l (item ∷ items) = point_chosen (is_label l item) (point_of l items) (length items) (point_within l items)
 
 module _ (code : List Instr) where
-  abbrev Within : Way → Type 0
-  Within way = way.to ≤ length code
+  abbrev Within : Branch → Type 0
+  Within branch = branch.to ≤ length code
 
   jumps_within : (p : ℕ) (labels : List ℕ) → All Within (map (jump code p) labels)
   jumps_within p labels = All-map Within (jump code p) labels (λ k d h. point_within _ code)
@@ -29,23 +29,23 @@ module _ (code : List Instr) where
   aborts_within : (p : ℕ) (labels : List ℕ) → All Within (map (abort code p) labels)
   aborts_within p labels = All-map Within (abort code p) labels (λ k d h. point_within _ code)
 
-  action_within : (p : ℕ) → p < length code → (operation : Op) (labels : List ℕ) → All Within (action_ways code p operation labels)
+  action_within : (p : ℕ) → p < length code → (operation : Op) (labels : List ℕ) → All Within (action_branches code p operation labels)
   action_within p lt op.Jmp labels = jumps_within p labels
   action_within p lt op.Br labels = jumps_within p labels
   action_within p lt op.Ret labels = All-nil Within
   action_within p lt op.Guard labels = All-cons Within (onward p) (map (abort code p) labels) (omega arith) (aborts_within p labels)
   action_within p lt _ labels = All-cons Within (onward p) [] (omega arith) (All-nil Within)
 
-  item_within : (p : ℕ) → p < length code → (item : Instr) → All Within (item_ways code p item)
+  item_within : (p : ℕ) → p < length code → (item : Instr) → All Within (item_branches code p item)
   item_within p lt (Label l) = All-cons Within (onward p) [] (omega arith) (All-nil Within)
   item_within p lt (Const dest ty value) = All-cons Within (onward p) [] (omega arith) (All-nil Within)
   item_within p lt (Act dest ty operation args funcs labels) = action_within p lt operation labels
 
-  from_within : (p : ℕ) (o : Option Instr) → slice_get code p ≡ o → All Within (ways_from code p o)
+  from_within : (p : ℕ) (o : Option Instr) → slice_get code p ≡ o → All Within (branches_from code p o)
   from_within p None e = All-nil Within
   from_within p (Some item) e = item_within p (slice_get_within code p item e) item
 
-  pub ends_within : (walk : List Way) → IsWalk code walk → end_of walk ≤ length code
+  pub ends_within : (walk : List Branch) → IsWalk code walk → end_of walk ≤ length code
   ends_within [] is = omega arith
-  ends_within (way ∷ walk) is =
-      All-contains Within (ways_at code (end_of walk)) way (from_within (end_of walk) (slice_get code (end_of walk)) refl) is.0
+  ends_within (branch ∷ walk) is =
+      All-contains Within (branches_at code (end_of walk)) branch (from_within (end_of walk) (slice_get code (end_of walk)) refl) is.0

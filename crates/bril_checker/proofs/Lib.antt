@@ -2,10 +2,10 @@ pub mod Depth
 pub mod Ends
 pub mod Faultless
 pub mod FirstFaults
-pub mod Marks
+pub mod Marked
 pub mod Misshapen
 pub mod Once
-pub mod Places
+pub mod Positions
 pub mod Program
 pub mod Reached
 pub mod Stages

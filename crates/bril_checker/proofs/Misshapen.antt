@@ -11,7 +11,7 @@ use Rattle.bril_tree.specs.declared.program.Prog.{Prog}
 use Rattle.bril_tree.specs.Shape.{is_shaped, shape_fault_of}
 use Rattle.bril_tree.specs.Typing.{is_call_shaped}
 use Rattle.bril_checker.specs.Faults.{AreShaped, IsFirstMisshapen}
-use Rattle.bril_checker.proofs.Places.{all_pass, first_fails, item_of_front, All-front}
+use Rattle.bril_checker.proofs.Positions.{all_pass, first_fails, item_of_front, All-front}
 
 module _ (p : Prog) (f : Func) where
   abbrev misfit_of : List Instr → Option ℕ

@@ -16,7 +16,7 @@ use Rattle.flow_graph.specs.Graph.{IsLeastFailing}
 use Rattle.bril_checker.specs.Faults.{HasShape, IsTyped, IsFirstMisshapen, IsFirstMistyped, IsFirstOpen, LeavesOpen, HasFaultWithin}
 use Rattle.bril_checker.specs.declared.fault.CheckFault.{CheckFault}
 use Rattle.bril_checker.specs.declared.fault.CheckFault.TheVariants.{Types, Arity, MaybeUnassigned, Nest, SpecCall, NoReturn, MainType, PrintPtr, Memory}
-use Rattle.bril_checker.proofs.Places.{holds_before}
+use Rattle.bril_checker.proofs.Positions.{holds_before}
 use Rattle.bril_checker.proofs.Stages.{stage_of, same_stage, reads_unassigned}
 
 -- two least numbers with one property are equal

@@ -14,7 +14,7 @@ use Rattle.bril_tree.specs.declared.numbered_function.Func.{Func}
 use Rattle.bril_tree.specs.declared.program.Prog.{Prog}
 use Rattle.bril_tree.specs.declared.types.Ty.{Ty}
 use Rattle.bril_tree.proofs.First.{none_failing}
-use Rattle.bril_checker.proofs.Places.{holds_before, item_at}
+use Rattle.bril_checker.proofs.Positions.{holds_before, item_at}
 use Rattle.bril_checker.proofs.Stages.{accepted_passes}
 use Rattle.bril_checker.specs.Faults.{AreShaped, AreTyped, FirstFaultWithin, HasFaultWithin, TakesMemory}
 use Rattle.bril_checker.specs.declared.fault.CheckFault.{CheckFault}

@@ -7,7 +7,7 @@ use Rattle.std.proofs.lemmas.Option.{slice_get-get_or, same_Some}
 use Rattle.bril_tree.specs.declared.numbered.Instr.{Instr}
 use Rattle.bril_tree.specs.declared.numbered_function.Func.{Func}
 use Rattle.bril_tree.specs.Accepted.{leaves_frame}
-use Rattle.bril_tree.specs.Edge.{Way}
+use Rattle.bril_tree.specs.Edge.{Branch}
 use Rattle.bril_tree.specs.Sites.{AreSitesSound, sites_of}
 use Rattle.bril_tree.specs.Walk.{IsWalk, IsReached, end_of}
 use Rattle.flow_graph.specs.Graph.{GraphView, IsGraphOf}
@@ -26,7 +26,7 @@ module _ (code : List Instr) (graph : GraphView) (is_graph : IsGraphOf code grap
   has_sites point reached None e = absurd (is_graph.unreached point e reached)
   has_sites point reached (Some sites) e = (sites, e)
 
-  sites_at_end : (walk : List Way) → IsWalk code walk → (sites : List ℕ) × (slice_get graph.sites (end_of walk) ≡ Some (Some sites))
+  sites_at_end : (walk : List Branch) → IsWalk code walk → (sites : List ℕ) × (slice_get graph.sites (end_of walk) ≡ Some (Some sites))
   sites_at_end walk is =
       let within = ends_within code walk is in
       let points = is_graph.points in
@@ -34,14 +34,14 @@ module _ (code : List Instr) (graph : GraphView) (is_graph : IsGraphOf code grap
       has_sites (end_of walk) (record { walk = walk; is = is; ends = refl }) here.0 here.1
 
   -- the sites of a walk are those that the graph tells of its end
-  pub sites_of_walk : SoundWalksAgree → AreSitesSound code → (walk : List Way) → IsWalk code walk → slice_get graph.sites (end_of walk) ≡ Some (Some (sites_of code walk))
+  pub sites_of_walk : SoundWalksAgree → AreSitesSound code → (walk : List Branch) → IsWalk code walk → slice_get graph.sites (end_of walk) ≡ Some (Some (sites_of code walk))
   sites_of_walk agree sound walk is =
       let found = sites_at_end walk is in
       let same = agree code sound walk is found.0 (is_graph.reached (end_of walk) found.0 found.1) in
       found.1 ∙ ap (λ s. Some (Some s)) (sym same)
 
   -- a walk to a point for which the graph tells sites
-  pub walk_to : (point : ℕ) (sites : List ℕ) → slice_get graph.sites point ≡ Some (Some sites) → (walk : List Way) × IsWalk code walk × (end_of walk ≡ point) × (sites_of code walk ≡ sites)
+  pub walk_to : (point : ℕ) (sites : List ℕ) → slice_get graph.sites point ≡ Some (Some sites) → (walk : List Branch) × IsWalk code walk × (end_of walk ≡ point) × (sites_of code walk ≡ sites)
   walk_to point sites e =
       let first = is_graph.reached point sites e in
       (first.walk, first.first.is, first.first.ends, first.are)

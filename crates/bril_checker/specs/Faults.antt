@@ -2,7 +2,7 @@
 use Rattle.std.specs.Prelude.{◌≡◌, ℕ, ◌<◌, ◌⊎◌, List, [], All, take, length, Some, None, IsTrue, IsSome, is_some, slice_get}
 use Rattle.std.specs.Option.{IsSomeAnd}
 use Rattle.bril_tree.specs.Accepted.{IsAcceptedFunction, IsMainPlain, leaves_frame}
-use Rattle.bril_tree.specs.Edge.{Way}
+use Rattle.bril_tree.specs.Edge.{Branch}
 use Rattle.bril_tree.specs.Shape.{is_shaped}
 use Rattle.bril_tree.specs.Sites.{AreSitesSound, sites_of}
 use Rattle.bril_tree.specs.Typing.{is_call_shaped, type_fault, TypeFault, WrongType, PrintsPointer}
@@ -38,7 +38,7 @@ pub record IsFirstMistyped (p : Prog) (f : Func) (point : ℕ) (fault : TypeFaul
 
 -- a walk comes with open sites to an item that begins or ends a frame, or to the function's end
 pub record LeavesOpen (f : Func) (point : ℕ) : Type 0 where
-  pub walk : List Way
+  pub walk : List Branch
   pub is : IsWalk f.code walk
   pub ends : end_of walk ≡ point
   pub leaves : IsTrue (leaves_frame (slice_get f.code point))

@@ -16,8 +16,8 @@ use crate::fault::CheckFault;
 use crate::frames::frame_words;
 use crate::laws::accepted_or_fault;
 use crate::mistakes::{Mistake, first_misshapen, first_mistyped};
-use crate::operands::taken;
-use crate::walks::{first_open, runs_off};
+use crate::operands::parameters;
+use crate::walks::{first_open, falls_off_end};
 use bril_tree::numbered::VarInfo;
 use bril_tree::numbered_function::Func;
 use bril_tree::program::Prog;
@@ -86,7 +86,7 @@ fn check_function(alloc: Global, prog: &Prog, number: u32, func: &Func) -> Resul
     if let Some(item) = first_open(func, &graph) {
         return Err(CheckFault::SpecCall { func: number, item });
     }
-    if runs_off(func, &graph) {
+    if falls_off_end(func, &graph) {
         return Err(CheckFault::NoReturn {
             func: number,
             item: func.code.as_slice().len() as u32,
@@ -132,7 +132,7 @@ fn is_main_plain(prog: &Prog) -> bool
 {
     match prog.funcs.as_slice().get(prog.main as usize) {
         None => true,
-        Some(main) => main.ret.is_none() && are_plain(taken(main)),
+        Some(main) => main.ret.is_none() && are_plain(parameters(main)),
     }
 }
 

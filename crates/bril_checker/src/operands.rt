@@ -45,7 +45,7 @@ fn callee<'a>(prog: &'a Prog, funcs: &[u32]) -> Option<&'a Func>
 }
 
 // The variables that are a function's arguments.
-pub fn taken(func: &Func) -> &[VarInfo]
+pub fn parameters(func: &Func) -> &[VarInfo]
     ensures { result.now ≡ take func.now.args func.now.vars }
 {
     &func.vars.as_slice()[..func.args as usize]
@@ -68,15 +68,15 @@ fn binary(base: Base, to: Base, func: &Func, args: &[u32], ty: Option<Ty>) -> bo
 }
 
 // Whether there are as many arguments as the called function takes, each of the type at its place.
-fn are_typed(func: &Func, args: &[u32], taken: &[VarInfo]) -> bool
+fn are_typed(func: &Func, args: &[u32], parameters: &[VarInfo]) -> bool
     ensures { result
-        ≡ are_typed (map (variable_type func.now.vars) args.now) (map (λ v. v.ty) taken.now) }
+        ≡ are_typed (map (variable_type func.now.vars) args.now) (map (λ v. v.ty) parameters.now) }
 {
-    if args.len() != taken.len() {
+    if args.len() != parameters.len() {
         return false;
     }
     for (place, x) in args.iter().enumerate() {
-        if !have_same(variable_type(func, *x), taken[place].ty) {
+        if !have_same(variable_type(func, *x), parameters[place].ty) {
             return false;
         }
     }
@@ -90,7 +90,7 @@ fn is_call_typed(prog: &Prog, func: &Func, ty: Option<Ty>, args: &[u32], funcs: 
 {
     match callee(prog, funcs) {
         None => args.is_empty() && ty.is_none(),
-        Some(called) => are_typed(func, args, taken(called)) && same_result(ty, called.ret),
+        Some(called) => are_typed(func, args, parameters(called)) && same_result(ty, called.ret),
     }
 }
 
@@ -170,7 +170,7 @@ fn call_fits(prog: &Prog, func: &Func, dest: Option<u32>, args: &[u32], funcs: &
 {
     match callee(prog, funcs) {
         None => args.is_empty() && dest.is_none(),
-        Some(called) => args.len() == taken(called).len() && called.ret.is_some() == dest.is_some(),
+        Some(called) => args.len() == parameters(called).len() && called.ret.is_some() == dest.is_some(),
     }
 }
 

@@ -64,7 +64,7 @@ pub fn first_open(func: &Func, graph: &Graph) -> Option<u32>
 }
 
 // Whether a walk leads to the end of a function that returns a value.
-pub fn runs_off(func: &Func, graph: &Graph) -> bool
+pub fn falls_off_end(func: &Func, graph: &Graph) -> bool
     requires few { length func.now.code < 2 ^ 32 - 1 }
     requires graph { IsGraphOf func.now.code graph.now }
     ensures { IsTrue result

@@ -11,7 +11,7 @@ use Rattle.bril_tree.specs.declared.program.Prog.{Prog}
 use Rattle.bril_tree.specs.declared.types.Ty.{Ty}
 use Rattle.bril_tree.specs.declared.value.Lit.TheVariants as literal
 use Rattle.bril_tree.specs.FunctionForm.{variables_of}
-use Rattle.bril_cli.specs.Carries.{frame_words, variables_in}
+use Rattle.bril_cli.specs.Implements.{frame_words, variables_in}
 use Rattle.bril_cli.specs.Emitted.{item_words, code_words, program_words, word_bound, bound_of_function, bound_sum}
 use Rattle.bril_cli.specs.Straight.{IsStraightCode}
 use Rattle.bril_tree.proofs.Appearance.{known_below}

@@ -1,4 +1,4 @@
--- The image of a straight program carries it: each item's words do what the item does.
+-- The image of a straight program implements it: each item's words do what the item does.
 use Rattle.std.proofs.Common.{◌≡◌, ◌≢◌, ℕ, suc, ◌+◌, ◌%◌, ◌^◌, ◌<◌, ◌≤◌, false, refl, sym, ap, ◌∙◌, subst, arith, List, [], ◌∷◌, ◌++◌, length, Option, Some, None, ℤ, ◌+ℤ◌, append_assoc, length-append}
 use Rattle.std.specs.Prelude.{slice_get, FitsSigned}
 use Rattle.std.specs.Int.{w64, cast_unsigned, cast_signed, int_wrap}
@@ -7,7 +7,7 @@ use Rattle.std.specs.List.{AllByRecursion, flat_map}
 use Rattle.std.specs.Option.{option_map}
 use Rattle.std.proofs.lemmas.Int.{to_z-of_z, SFits-int_wrap}
 use Rattle.simulation.specs.System.{after, Agree}
-use Rattle.simulation.specs.Simulation.{LockStep}
+use Rattle.simulation.specs.Simulation.{Plus}
 use Rattle.simulation.proofs.After.{after-add}
 use Rattle.bril_tree.specs.declared.limits.End.{End}
 use Rattle.bril_tree.specs.declared.limits.End.TheVariants.{Ended}
@@ -31,7 +31,7 @@ use Rattle.rv64_machine.specs.declared.image.Image.{Image}
 use Rattle.rv64_machine.specs.Machine as machine
 use Rattle.rv64_machine.specs.Region.{Sizes}
 use Rattle.rv64_machine.specs.declared.word.Word.TheVariants.{Add}
-use Rattle.bril_cli.specs.Carries.{program_system, image_system}
+use Rattle.bril_cli.specs.Implements.{program_system, image_system}
 use Rattle.bril_cli.specs.Emitted.{code_words, store_words, load_words}
 use Rattle.bril_cli.specs.Straight.{IsStraightItem, IsStraightAction}
 use Rattle.bril_cli.proofs.MachineSteps.{HasAt, Ready, Decodes, constant_runs, load_runs, store_runs, print_runs, end_runs, one_write, free_5, free_7}
@@ -280,8 +280,8 @@ module _ (decodes : Decodes) (image : Image) (p : Prog) (limits : Limits) (f : F
   map_none None e = refl
   map_none (Some x) e = cc
 
-  pub lock_step : LockStep (program_system p limits) (image_system image limits) 12 Related
-  lock_step = record {
+  pub plus : Plus (program_system p limits) (image_system image limits) 12 Related
+  plus = record {
     agrees = related_agree;
     moves = λ s t r e. related_moves s t r (map_none s.ended e);
   }

@@ -78,8 +78,8 @@ held_not_lacking (Some map) path bytes held lacks = let e : Some bytes ≡ None 
 
 -- a fault of reading, and a file that is too long, are the only causes of no bytes but want of memory
 read_fails : (how : Status) (f g : FilesSeen) (path : List ℕ) → RefusesFile how f g path
-    → (how ≡ status.OutOfMemory) ⊎ (((how ≡ status.Unread) × MayFail f g path) ⊎ ((how ≡ status.FileTooBig) × IsLongFile f path))
-read_fails status.Unread f g path refuses = inr (inl (refl, refuses))
+    → (how ≡ status.OutOfMemory) ⊎ (((how ≡ status.CannotRead) × MayFail f g path) ⊎ ((how ≡ status.FileTooBig) × IsLongFile f path))
+read_fails status.CannotRead f g path refuses = inr (inl (refl, refuses))
 read_fails status.FileTooBig f g path refuses = inr (inr (refl, refuses))
 read_fails status.OutOfMemory f g path refuses = inl refl
 read_fails _ f g path refuses = absurd refuses
@@ -92,10 +92,10 @@ no_tree _ format bytes refuses = absurd refuses
 
 -- imports, a fault of a name and a fault of the checker are the only causes of no accepted program but want of memory
 no_program : (how : Status) (tree : Tree) → RefusesProgram how tree
-    → (how ≡ status.OutOfMemory) ⊎ (((tree.imports ≢ []) × (how ≡ status.Unformed))
+    → (how ≡ status.OutOfMemory) ⊎ (((tree.imports ≢ []) × (how ≡ status.Unsupported))
     ⊎ (((fault : NameFault) × (tree.imports ≡ []) × (how ≡ status.Misnamed fault) × IsOnlyNameFault tree fault)
     ⊎ ((p : Prog) × (fault : CheckFault) × (how ≡ status.Unaccepted p fault) × IsOnlyProgram tree p × HasOnlyCheckFault p fault)))
-no_program status.Unformed tree refuses = inr (inl (refuses, refl))
+no_program status.Unsupported tree refuses = inr (inl (refuses, refl))
 no_program (status.Misnamed fault) tree refuses = inr (inr (inl (fault, refuses.0, refl, refuses.1)))
 no_program (status.Unaccepted p fault) tree refuses = inr (inr (inr (p, fault, refl, refuses.0, refuses.1)))
 no_program status.OutOfMemory tree refuses = inl refl
@@ -145,7 +145,7 @@ asks_program _ how tree args s t needs does = absurd needs
 
 -- From asking for a program: memory was wanting, or the tree has imports, or a fault of a name, or a program with a fault of the checker, or its accepted program was dealt with.
 module _ (action : Action) (how : Status) (tree : Tree) (args : List (List ℕ)) (s t : SinkSeen) (asks : AsksProgram action how tree args s t) where
-  by_names : (A : Type 0) → (how ≡ status.OutOfMemory → A) → (tree.imports ≢ [] → how ≡ status.Unformed → A)
+  by_names : (A : Type 0) → (how ≡ status.OutOfMemory → A) → (tree.imports ≢ [] → how ≡ status.Unsupported → A)
       → (tree.imports ≡ [] → (fault : NameFault) → how ≡ status.Misnamed fault → IsOnlyNameFault tree fault → A)
       → ((p : Prog) (fault : CheckFault) → how ≡ status.Unaccepted p fault → IsOnlyProgram tree p → HasOnlyCheckFault p fault → A)
       → ((p : Prog) → IsAcceptedProgram tree p → DoesProgram action how p args s t → A) → A
@@ -161,7 +161,7 @@ runs_within c p status.Done runs within sound = inr (refl, record { output = run
 runs_within c p (status.CodeTooBig words) runs within sound = let w = within.code in let long = runs.0.0 in absurd (omega arith)
 runs_within c p (status.StackTooBig words) runs within sound = let w = within.stack in let long = runs.0.1 in absurd (omega arith)
 runs_within c p status.OutOfMemory runs within sound = inl refl
-runs_within c p status.Unwritten runs within sound = absurd (sound runs.1.rose)
+runs_within c p status.CannotWrite runs within sound = absurd (sound runs.1.rose)
 runs_within c p _ runs within sound = absurd runs
 
 -- a program that isn't is refused
@@ -170,14 +170,14 @@ refused_beyond p status.Done s t runs beyond = absurd (beyond runs.0)
 refused_beyond p (status.CodeTooBig words) s t runs beyond = inr refl
 refused_beyond p (status.StackTooBig words) s t runs beyond = inr refl
 refused_beyond p status.OutOfMemory s t runs beyond = inl refl
-refused_beyond p status.Unwritten s t runs beyond = absurd (beyond runs.0)
+refused_beyond p status.CannotWrite s t runs beyond = absurd (beyond runs.0)
 refused_beyond p _ s t runs beyond = absurd runs
 
 -- a fault of the arguments is the only cause of no values but want of memory
 args_fail : (how : Status) (p : Prog) (args : List (List ℕ)) → RefusesArgs how p args
     → (how ≡ status.OutOfMemory) ⊎ ((fault : ArgFault) × (how ≡ argument_status fault) × HasOnlyArgFault (main_types p) args fault)
-args_fail (status.Miscounted given wanted) p args refuses = inr (argument.Count given wanted, refl, refuses)
-args_fail (status.Misspelt place) p args refuses = inr (argument.Spelling place, refl, refuses)
+args_fail (status.ArgumentCount given wanted) p args refuses = inr (argument.Count given wanted, refl, refuses)
+args_fail (status.BadArgument place) p args refuses = inr (argument.Spelling place, refl, refuses)
 args_fail status.OutOfMemory p args refuses = inl refl
 args_fail _ p args refuses = absurd refuses
 
@@ -199,14 +199,14 @@ tells_run c path p limits values steps sound (status.Spent made) says goes =
     let here : Says c.err_before (spent_line steps) c.err_after = subst (λ n. Says c.err_before (spent_line n) c.err_after) goes.0 says in
     inr (subst (λ (e : Option End). TellsRun e steps 3 c) (sym goes.1.0) (refl, here), goes.1.1)
 tells_run c path p limits values steps sound status.OutOfMemory says goes = inl refl
-tells_run c path p limits values steps sound status.Unwritten says goes = absurd (sound goes.1)
+tells_run c path p limits values steps sound status.CannotWrite says goes = absurd (sound goes.1)
 tells_run c path p limits values steps sound _ says goes = absurd goes
 
 -- a text is put
 puts_text : (how : Status) (text : List ℕ) (s t : SinkSeen) → PutsText how text s t → ¬ Rose s.faults t.faults → UnlessMemory (status_number how) ((status_number how ≡ 0) × TookAll s text t)
 puts_text status.Done text s t puts sound = inr (refl, puts)
 puts_text status.OutOfMemory text s t puts sound = inl refl
-puts_text status.Unwritten text s t puts sound = absurd (sound puts.1)
+puts_text status.CannotWrite text s t puts sound = absurd (sound puts.1)
 puts_text _ text s t puts sound = absurd puts
 
 -- a tree has one program
@@ -301,10 +301,10 @@ module _ (c : Call) (action : Action) (path : List ℕ) (args : List (List ℕ))
       (λ sound does. absurd (sound.faultless fault has))
 
   -- the line of a form
-  form_said : (asks : Action) (bytes : List ℕ) (reads : ReadsWell c asks bytes) → how ≡ status.Unformed → (status_number how ≡ 65) × Says c.err_before (form_line reads.path) c.err_after
+  form_said : (asks : Action) (bytes : List ℕ) (reads : ReadsWell c asks bytes) → how ≡ status.Unsupported → (status_number how ≡ 65) × Says c.err_before (form_line reads.path) c.err_after
   form_said asks bytes reads e = (
     ap status_number e,
-    let here : Says c.err_before (form_line path) c.err_after = said c action path args how ends asks bytes reads status.Unformed e in
+    let here : Says c.err_before (form_line path) c.err_after = said c action path args how ends asks bytes reads status.Unsupported e in
         subst (λ p. Says c.err_before (form_line p) c.err_after) (sym (same_path c action path args how ends asks bytes reads)) here,
   )
 

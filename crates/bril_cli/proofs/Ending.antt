@@ -24,7 +24,7 @@ use Rattle.bril_tree.specs.Memory.{is_live_any}
 use Rattle.rv64_machine.specs.declared.image.Image.{Image}
 use Rattle.rv64_machine.specs.Machine as machine
 use Rattle.rv64_machine.specs.Region.{Sizes}
-use Rattle.bril_cli.specs.Carries.{image_system, Carries, frame_words, step_cost}
+use Rattle.bril_cli.specs.Implements.{image_system, Implements, frame_words, step_cost}
 use Rattle.bril_cli.specs.Emitted.{word_bound, bound_of_function, bound_sum, items_in}
 use Rattle.bril_cli.specs.Straight.{IsStraightCode, IsStraightItem, IsStraightAction}
 use Rattle.bril_cli.proofs.ImageSystem.{image_is_system}
@@ -141,14 +141,14 @@ pub machine_after-after : (words : List ℕ) (z : Sizes) (m : ℕ) (t : machine.
 machine_after-after words z zero t = refl
 machine_after-after words z (suc m) t = machine_after-after words z m (machine.machine_step words z t)
 
--- An image that carries a straight program has ended as the program does, and has printed the same, within a
+-- An image that implements a straight program has ended as the program does, and has printed the same, within a
 -- thousand million words.
-pub runs_to_end : (image : Image) (p : Prog) (limits : Limits) → IsStraightCode p → Carries image p limits → bound_sum p ≤ 250000 → limits.frames ≡ 8192 → limits.frames * frame_words p ≤ 8388608 → ((machine.machine_after image.words (machine.sizes_of image limits.cells) 1000000000 (machine.start [])).stopped ≡ Some (machine.Finished Ended)) × ((machine.machine_after image.words (machine.sizes_of image limits.cells) 1000000000 (machine.start [])).printed ≡ (state_after p limits [] (items_in p + 1)).printed)
-runs_to_end image p limits straight carries words frames_are stack =
+pub runs_to_end : (image : Image) (p : Prog) (limits : Limits) → IsStraightCode p → Implements image p limits → bound_sum p ≤ 250000 → limits.frames ≡ 8192 → limits.frames * frame_words p ≤ 8388608 → ((machine.machine_after image.words (machine.sizes_of image limits.cells) 1000000000 (machine.start [])).stopped ≡ Some (machine.Finished Ended)) × ((machine.machine_after image.words (machine.sizes_of image limits.cells) 1000000000 (machine.start [])).printed ≡ (state_after p limits [] (items_in p + 1)).printed)
+runs_to_end image p limits straight implements words frames_are stack =
     let f = straight.function in
     let types_are : types_of (slice_get p.funcs p.main) ≡ [] = ap (λ k. types_of (slice_get p.funcs k)) straight.first ∙ ap (λ fs. types_of (slice_get fs 0)) straight.alone ∙ ap (λ k. map (λ v. v.ty) (take k straight.function.vars)) straight.no_args in
     let fit : FitMain p [] = subst (λ types. AllZip Suits [] types) (sym types_are) tt in
-    let c = carries.carried [] fit in
+    let c = implements.carried [] fit in
     let n = items_in p + 1 in
     let m = c.count n in
     let counted : items_in p ≡ length f.code = ap (λ fs. sum_by (λ g. length g.code) fs) straight.alone ∙ omega arith in

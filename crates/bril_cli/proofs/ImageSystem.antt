@@ -14,7 +14,7 @@ use Rattle.rv64_machine.specs.declared.word.Word.TheVariants.{Lui, Addi, Ori, Sl
 use Rattle.rv64_machine.specs.Encoding.{decoded}
 use Rattle.rv64_machine.specs.Region.{Sizes, Place, InStack, InTable, InCells}
 use Rattle.rv64_machine.specs.Machine.{State, Stop, Finished, with_register, next, loaded, stored, called, ended, executed, decoded_step, fetched_step, fetched, running_step, sizes_of}
-use Rattle.bril_cli.specs.Carries.{program_system, image_system}
+use Rattle.bril_cli.specs.Implements.{program_system, image_system}
 
 same : {a b : List ℕ} → b ≡ a → IsPrefix a b
 same {a} {b} e = IsPrefix-equal a b (sym e)

@@ -2,7 +2,7 @@
 use Rattle.std.proofs.Common.{◌≡◌, ℕ, suc, ◌≤◌, false, List, Some, None, ◌++◌, refl, sym, ap, ◌∙◌, subst, arith, inr, ⊎_elim, append_assoc, true≢false}
 use Rattle.std.proofs.Math.Bridge.{le_prop}
 use Rattle.bril_interpreter.specs.declared.answer.StepAnswer.TheVariants as run
-use Rattle.bril_interpreter.specs.Call.{Ran, RunFailed, WantsMemory, reached_after}
+use Rattle.bril_interpreter.specs.StepAnswers.{Ran, RunFailed, WantsMemory, reached_after}
 use Rattle.bril_interpreter.specs.Interpreter.{InterpView, state_of}
 use Rattle.bril_outside.specs.Sink.{SinkSeen, Rose, TookAll, TookSome}
 use Rattle.bril_tree.proofs.Grows.{program_is_system}

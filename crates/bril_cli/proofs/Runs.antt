@@ -11,10 +11,10 @@ use Rattle.simulation.proofs.After.{after-grows_le}
 use Rattle.rv64_machine.specs.declared.answer.RunAnswer.TheVariants as run
 use Rattle.rv64_machine.specs.declared.image.Image.{Image}
 use Rattle.rv64_machine.specs.declared.machine.Machine.{Machine}
-use Rattle.rv64_machine.specs.Call.{Ran, RunFailed, reached_after}
+use Rattle.rv64_machine.specs.StepAnswers.{Ran, RunFailed, reached_after}
 use Rattle.rv64_machine.specs.Machine.{State, Finished, Trapped, machine_after, machine_step, sizes_of, start}
 use Rattle.rv64_machine.specs.MachineView.{state_of, words_in, sizes_in, has_failed}
-use Rattle.bril_cli.specs.Carries.{Carries, image_system}
+use Rattle.bril_cli.specs.Implements.{Implements, image_system}
 use Rattle.bril_cli.specs.Emitted.{items_in}
 use Rattle.bril_cli.specs.Source.{run_limits, EndsPrinting, IsWithin}
 use Rattle.bril_cli.specs.Straight.{IsStraightCode}
@@ -43,7 +43,7 @@ pub record IsFresh (m : Machine) (image : Image) : Type 0 where
 -- the image was made of the straight program
 pub record IsImageOf (image : Image) (p : Prog) : Type 0 where
   pub straight : IsStraightCode p
-  pub carries : Carries image p run_limits
+  pub implements : Implements image p run_limits
   pub within : IsWithin p
 
 -- what was printed after fewer words stands at the front of what was printed after more
@@ -63,10 +63,10 @@ module _ (image : Image) (p : Prog) (made : IsImageOf image p) (m : Machine) (fr
   at_end = reached steps ∙ ap (λ n. machine_after image.words (sizes_of image 1048576) n (start [])) enough
 
   pub stops : (reached_after m steps).stopped ≡ Some (Finished Ended)
-  stops = ap (λ t. t.stopped) at_end ∙ (runs_to_end image p run_limits made.straight made.carries made.within.code refl made.within.stack).0
+  stops = ap (λ t. t.stopped) at_end ∙ (runs_to_end image p run_limits made.straight made.implements made.within.code refl made.within.stack).0
 
   pub shows : (reached_after m steps).printed ≡ output_of p
-  shows = ap (λ t. t.printed) at_end ∙ (runs_to_end image p run_limits made.straight made.carries made.within.code refl made.within.stack).1
+  shows = ap (λ t. t.printed) at_end ∙ (runs_to_end image p run_limits made.straight made.implements made.within.code refl made.within.stack).1
 
   shown_before : (n : ℕ) → n ≤ steps → IsPrefix (reached_after m n).printed (output_of p)
   shown_before n h =

@@ -1,9 +1,9 @@
--- From the first states on, the image of a straight program carries it.
+-- From the first states on, the image of a straight program implements it.
 use Rattle.std.proofs.Common.{◌≡◌, ℕ, zero, suc, ◌+◌, ◌*◌, ◌≤◌, refl, sym, ap, ◌∙◌, subst, arith, List, [], ◌∷◌, ◌++◌, length, Some, pos, map, append_assoc, length-append}
 use Rattle.std.specs.Prelude.{slice_get, slice_index, take}
 use Rattle.std.specs.List.{AllZip}
 use Rattle.simulation.specs.Simulation.{Tracks}
-use Rattle.simulation.proofs.Tracks.{Tracks-from_lock_step}
+use Rattle.simulation.proofs.Tracks.{Tracks-from_plus}
 use Rattle.bril_tree.specs.declared.limits.Limits.{Limits}
 use Rattle.bril_tree.specs.declared.program.Prog.{Prog}
 use Rattle.bril_tree.specs.declared.value.Value.{Value}
@@ -13,10 +13,10 @@ use Rattle.rv64_machine.specs.declared.image.Image.{Image}
 use Rattle.rv64_machine.specs.declared.word.Word.{Word}
 use Rattle.rv64_machine.specs.Encoding.{encoded}
 use Rattle.rv64_machine.specs.Machine as machine
-use Rattle.bril_cli.specs.Carries.{program_system, image_system, Carried, Carries, frame_words, step_cost, variables_in}
+use Rattle.bril_cli.specs.Implements.{program_system, image_system, Carried, Implements, frame_words, step_cost, variables_in}
 use Rattle.bril_cli.specs.Emitted.{code_words, program_words}
 use Rattle.bril_cli.specs.Straight.{IsStraightCode}
-use Rattle.bril_cli.proofs.Carrying.{Related, run, Runs, lock_step}
+use Rattle.bril_cli.proofs.Carrying.{Related, run, Runs, plus}
 use Rattle.bril_cli.proofs.ImageSystem.{image_is_system, mapped_is_system}
 use Rattle.bril_cli.proofs.MachineSteps.{HasAt, Decodes}
 use Rattle.bril_cli.proofs.Relation.{HoldsWords}
@@ -97,7 +97,7 @@ module _ (decodes : Decodes) (image : Image) (p : Prog) (limits : Limits) (strai
 
   tracked : Tracks (program_system p limits) (image_system image limits) 12 (Related decodes image p limits straight.function straight.alone n room few) (first_state p limits []) (machine.start [])
   tracked =
-      Tracks-from_lock_step (program_system p limits) (image_system image limits) (Related decodes image p limits straight.function straight.alone n room few) (mapped_is_system p limits) (image_is_system image limits) 12 (lock_step decodes image p limits straight.function straight.alone n room few) (first_state p limits []) (machine.start []) 0 (omega arith) (run begin)
+      Tracks-from_plus (program_system p limits) (image_system image limits) (Related decodes image p limits straight.function straight.alone n room few) (mapped_is_system p limits) (image_is_system image limits) 12 (plus decodes image p limits straight.function straight.alone n room few) (first_state p limits []) (machine.start []) 0 (omega arith) (run begin)
 
   cheaper : (m : ℕ) → 12 * (m + 1) ≤ step_cost p * (m + 1)
   cheaper m = scaled (128 + 8 * (frame_words p + 1)) m (omega arith)
@@ -115,8 +115,8 @@ module _ (decodes : Decodes) (image : Image) (p : Prog) (limits : Limits) (strai
     prints_only = tracked.prints_only;
   }
 
-  -- The image whose words are those of the program carries it.
-  pub carries : Carries image p limits
-  carries = record {
+  -- The image whose words are those of the program implements it.
+  pub implements : Implements image p limits
+  implements = record {
     carried = λ args fit. subst (λ xs. Carried (program_system p limits) (image_system image limits) (step_cost p) (first_state p limits xs) (machine.start xs)) (sym (no_arguments args (fit_none args fit))) from_start;
   }

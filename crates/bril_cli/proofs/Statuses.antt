@@ -75,7 +75,7 @@ Answers-exhausted c action path args asked says silent = record {
 
 module _ (c : Call) (action : Action) (path : List ℕ) (args : List (List ℕ)) (asked : AsksFor c.words action path args) where
   Answers-read : (how : Status) → SaysStatus how path c.err_before c.err_after → FailsToRead how c.files_before c.files_after path c.out_before c.out_after → Answers (status_number how) c
-  Answers-read status.Unread says fails = record {
+  Answers-read status.CannotRead says fails = record {
     action = action;
     path = path;
     args = args;
@@ -130,7 +130,7 @@ module _ (c : Call) (action : Action) (path : List ℕ) (args : List (List ℕ))
     quiet = says;
   }
   Answers-put status.OutOfMemory says puts = Answers-exhausted c action path args asked says puts
-  Answers-put status.Unwritten says puts = record {
+  Answers-put status.CannotWrite says puts = record {
     action = action;
     path = path;
     args = args;
@@ -146,7 +146,7 @@ module _ (c : Call) (action : Action) (path : List ℕ) (args : List (List ℕ))
 -- ---- the tree's program was asked for
 
 module _ (c : Call) (action : Action) (path : List ℕ) (args : List (List ℕ)) (asked : AsksFor c.words action path args) (needs : NeedsProgram action) (bytes : List ℕ) (file : IsFile c.files_before path bytes) (tree : Tree) (only : IsOnlyTree (format_of path) bytes tree) where
-  Answers-formless : SaysStatus status.Unformed path c.err_before c.err_after → IsFormless action (format_of path) bytes → c.out_after ≡ c.out_before → Answers 65 c
+  Answers-formless : SaysStatus status.Unsupported path c.err_before c.err_after → IsFormless action (format_of path) bytes → c.out_after ≡ c.out_before → Answers 65 c
   Answers-formless says formless silent = record {
     action = action;
     path = path;
@@ -162,7 +162,7 @@ module _ (c : Call) (action : Action) (path : List ℕ) (args : List (List ℕ))
   }
 
   Answers-refused : (how : Status) → SaysStatus how path c.err_before c.err_after → RefusesProgram how tree → c.out_after ≡ c.out_before → Answers (status_number how) c
-  Answers-refused status.Unformed says refuses silent = Answers-formless says (inl (record { tree = tree; reads = only.reads; imports = refuses })) silent
+  Answers-refused status.Unsupported says refuses silent = Answers-formless says (inl (record { tree = tree; reads = only.reads; imports = refuses })) silent
   Answers-refused (status.Misnamed fault) says refuses silent = record {
     action = action;
     path = path;
@@ -203,9 +203,9 @@ module _ (c : Call) (path : List ℕ) (args : List (List ℕ)) (asked : AsksFor 
     source : IsOnlySource (format_of path) bytes p
     source = IsOnlySource-of (format_of path) bytes tree only p program.only
 
-    Answers-crooked : (how : Status) → SaysStatus how path c.err_before c.err_after → is_straight p ≡ false → how ≡ status.Unformed → c.out_after ≡ c.out_before → Answers (status_number how) c
+    Answers-crooked : (how : Status) → SaysStatus how path c.err_before c.err_after → is_straight p ≡ false → how ≡ status.Unsupported → c.out_after ≡ c.out_before → Answers (status_number how) c
     Answers-crooked how says bent is silent =
-        let here : SaysStatus status.Unformed path c.err_before c.err_after = subst (λ (h : Status). SaysStatus h path c.err_before c.err_after) is says in
+        let here : SaysStatus status.Unsupported path c.err_before c.err_after = subst (λ (h : Status). SaysStatus h path c.err_before c.err_after) is says in
         subst (λ (h : Status). Answers (status_number h) c) (sym is)
         (Answers-formless c Run path args asked tt bytes file tree only here (inr (refl, record { program = p; source = source.source; accepted = program.sound.accepted; crooked = bent })) silent)
 
@@ -273,7 +273,7 @@ module _ (c : Call) (path : List ℕ) (args : List (List ℕ)) (asked : AsksFor 
         );
       }
       Answers-program status.OutOfMemory says runs = Answers-exhausted c Run path args asked says runs
-      Answers-program status.Unwritten says runs = record {
+      Answers-program status.CannotWrite says runs = record {
         action = Run;
         path = path;
         args = args;
@@ -337,8 +337,8 @@ module _ (c : Call) (frames cells steps : ℕ) (path : List ℕ) (args : List (L
     }
 
     Answers-misargued : (how : Status) → SaysStatus how path c.err_before c.err_after → RefusesArgs how p args → c.out_after ≡ c.out_before → Answers (status_number how) c
-    Answers-misargued (status.Miscounted given wanted) says refuses silent = misargued (argument.Count given wanted) refuses says silent
-    Answers-misargued (status.Misspelt place) says refuses silent = misargued (argument.Spelling place) refuses says silent
+    Answers-misargued (status.ArgumentCount given wanted) says refuses silent = misargued (argument.Count given wanted) refuses says silent
+    Answers-misargued (status.BadArgument place) says refuses silent = misargued (argument.Spelling place) refuses says silent
     Answers-misargued status.OutOfMemory says refuses silent = Answers-exhausted c (Interpret frames cells steps) path args asked says silent
     Answers-misargued _ says refuses silent = absurd refuses
 
@@ -425,7 +425,7 @@ module _ (c : Call) (frames cells steps : ℕ) (path : List ℕ) (args : List (L
         leaves = ⊎_elim inl (λ short. inr (short.0, exhausts short.0 short.1, short.2)) goes;
         says = says;
       }
-      Answers-steps status.Unwritten says goes = record {
+      Answers-steps status.CannotWrite says goes = record {
         action = Interpret frames cells steps;
         path = path;
         args = args;

@@ -11,7 +11,7 @@ use Rattle.bril_tree.specs.Run.{main_types}
 use Rattle.bril_checker.specs.declared.fault.CheckFault.{CheckFault}
 use Rattle.bril_outside.specs.Files.{FilesSeen, MayHold, MayFail, LacksFile}
 use Rattle.bril_outside.specs.Sink.{SinkSeen, Rose, TookAll, TookSome}
-use Rattle.bril_cli.specs.Carries.{frame_words}
+use Rattle.bril_cli.specs.Implements.{frame_words}
 use Rattle.bril_cli.specs.CommandLine.{AsksFor, format_of, NeedsProgram}
 use Rattle.bril_cli.specs.Emitted.{bound_sum}
 use Rattle.bril_cli.specs.Refusal.{capped, PassesCode, PassesStack}
@@ -158,7 +158,7 @@ pub record MisreadFile (c : Call) (path : List ℕ) : Type 0 where
   pub only : IsOnlyFault (format_of path) bytes fault
   pub alone : SaysAlone c (misread_line path fault)
 
-pub record Unformed (c : Call) : Type 0 where
+pub record SourceRefused (c : Call) : Type 0 where
   pub action : Action
   pub path : List ℕ
   pub args : List (List ℕ)
@@ -166,7 +166,7 @@ pub record Unformed (c : Call) : Type 0 where
   pub because : FormlessFile c action path ⊎ (MisnamedFile c action path ⊎ (UnacceptedFile c action path ⊎ MisreadFile c path))
 
 -- 66: reading failed, or the files are told and lack the path.
-pub record Unread (c : Call) : Type 0 where
+pub record CannotRead (c : Call) : Type 0 where
   pub action : Action
   pub path : List ℕ
   pub args : List (List ℕ)
@@ -242,7 +242,7 @@ pub record Exhausted (c : Call) : Type 0 where
   pub says : Says c.err_before (codes "out of memory\n") c.err_after
 
 -- 74: a write to the output failed, which took the first of what the action puts there.
-pub record Unwritten (c : Call) : Type 0 where
+pub record CannotWrite (c : Call) : Type 0 where
   pub action : Action
   pub path : List ℕ
   pub args : List (List ℕ)
@@ -260,12 +260,12 @@ Answers status c =
     (MatchBool (status == 2) (Stopped c)
     (MatchBool (status == 3) (GoesOn c)
     (MatchBool (status == 64) (Misused c)
-    (MatchBool (status == 65) (Unformed c)
-    (MatchBool (status == 66) (Unread c)
+    (MatchBool (status == 65) (SourceRefused c)
+    (MatchBool (status == 66) (CannotRead c)
     (MatchBool (status == 68) (TooLarge c)
     (MatchBool (status == 69) (Misargued c)
     (MatchBool (status == 71) (Exhausted c)
-    (MatchBool (status == 74) (Unwritten c) ⊥)))))))))
+    (MatchBool (status == 74) (CannotWrite c) ⊥)))))))))
 
 -- ---- what is read of the files
 

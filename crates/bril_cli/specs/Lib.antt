@@ -1,5 +1,5 @@
 pub mod Answers
-pub mod Carries
+pub mod Implements
 pub mod CommandLine
 pub mod Emitted
 pub mod Refusal

@@ -4,7 +4,7 @@ use Rattle.bril_tree.specs.declared.limits.Limits.{Limits}
 use Rattle.bril_tree.specs.declared.program.Prog.{Prog}
 use Rattle.bril_cli.specs.declared.emission.EmitFault.{EmitFault}
 use Rattle.bril_cli.specs.declared.emission.EmitFault.TheVariants.{CodeTooBig, StackTooBig, Memory}
-use Rattle.bril_cli.specs.Carries.{frame_words}
+use Rattle.bril_cli.specs.Implements.{frame_words}
 use Rattle.bril_cli.specs.Emitted.{bound_sum}
 
 -- a number in 64 bits: the greatest of them where it is greater

@@ -15,7 +15,7 @@ use Rattle.bril_tree.specs.Run.{main_types, state_after}
 use Rattle.bril_tree.specs.Size.{item_count}
 use Rattle.bril_checker.specs.Faults as checker
 use Rattle.bril_checker.specs.declared.fault.CheckFault.{CheckFault}
-use Rattle.bril_interpreter.specs.Call.{WantsMemory}
+use Rattle.bril_interpreter.specs.StepAnswers.{WantsMemory}
 use Rattle.bril_outside.specs.Files.{FileMap, FilesSeen, MayHold}
 use Rattle.bril_json.specs.Canonical.{canonical_json}
 use Rattle.bril_json.specs.Reading as json
@@ -30,7 +30,7 @@ use Rattle.bril_report.specs.declared.status.SourceFault.TheVariants.{Text, Json
 use Rattle.bril_text.specs.Reading as text
 use Rattle.bril_words.specs.declared.request.Action.{Action}
 use Rattle.bril_words.specs.declared.request.Action.TheVariants.{Run}
-use Rattle.bril_cli.specs.Carries.{frame_words}
+use Rattle.bril_cli.specs.Implements.{frame_words}
 use Rattle.bril_cli.specs.CommandLine.{format_of}
 use Rattle.bril_cli.specs.Emitted.{bound_sum}
 use Rattle.bril_cli.specs.Straight.{is_straight}
@@ -145,13 +145,13 @@ pub record IsWithin (p : Prog) : Type 0 where
   pub code : bound_sum p ≤ 250000
   pub stack : 8192 * frame_words p ≤ 8388608
 
--- By its written meaning the program ends after some steps, without a fault, and has printed these bytes.
+-- By its semantics the program ends after some steps, without a fault, and has printed these bytes.
 pub record EndsPrinting (p : Prog) (output : List ℕ) : Type 0 where
   pub steps : ℕ
   pub ended : (state_after p run_limits [] steps).ended ≡ Some Ended
   pub prints : (state_after p run_limits [] steps).printed ≡ output
 
--- By its written meaning, and with the values that these words spell, the program under limits of so many frames and
+-- By its semantics, and with the values that these words spell, the program under limits of so many frames and
 -- cells has ended so within the steps, or runs on for None, and has printed these bytes.
 pub record Shows (p : Prog) (words : List (List ℕ)) (frames cells steps : ℕ) (ended : Option End) (output : List ℕ) : Type 0 where
   pub values : List Value
@@ -162,7 +162,7 @@ pub record Shows (p : Prog) (words : List (List ℕ)) (frames cells steps : ℕ)
   pub ends : (state_after p limits values steps).ended ≡ ended
   pub prints : (state_after p limits values steps).printed ≡ output
 
--- By its written meaning the program with these values stands after fewer than the steps at an item that takes memory and
+-- By its semantics the program with these values stands after fewer than the steps at an item that takes memory and
 -- doesn't end the run, and has printed these bytes.
 pub record StopsForMemory (p : Prog) (limits : Limits) (values : List Value) (steps : ℕ) (output : List ℕ) : Type 0 where
   pub made : ℕ

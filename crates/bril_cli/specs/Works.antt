@@ -34,7 +34,7 @@ use Rattle.bril_text.specs.declared.fault.TextFault.TheVariants as text
 use Rattle.bril_words.specs.declared.request.Action.{Action}
 use Rattle.bril_words.specs.declared.request.Action.TheVariants.{Run, Interpret, Check, WriteText, WriteJson}
 use Rattle.bril_cli.specs.declared.source.Format.{Format}
-use Rattle.bril_cli.specs.Carries.{frame_words}
+use Rattle.bril_cli.specs.Implements.{frame_words}
 use Rattle.bril_cli.specs.CommandLine.{format_of}
 use Rattle.bril_cli.specs.Emitted.{bound_sum}
 use Rattle.bril_cli.specs.Refusal.{capped, PassesCode, PassesStack}
@@ -49,7 +49,7 @@ pub record IsLongFile (files : FilesSeen) (path : List ℕ) : Type 0 where
 
 -- why a file was not read
 abbrev pub RefusesFile : Status → FilesSeen → FilesSeen → List ℕ → Type 0
-RefusesFile status.Unread f g path = MayFail f g path
+RefusesFile status.CannotRead f g path = MayFail f g path
 RefusesFile status.FileTooBig f g path = IsLongFile f path
 RefusesFile status.OutOfMemory f g path = Unit {0}
 RefusesFile _ f g path = ⊥
@@ -96,8 +96,8 @@ check_status p check.Memory = status.OutOfMemory
 
 -- the status of a fault of the arguments
 abbrev pub argument_status : ArgFault → Status
-argument_status (argument.Count given wanted) = status.Miscounted given wanted
-argument_status (argument.Spelling place) = status.Misspelt place
+argument_status (argument.Count given wanted) = status.ArgumentCount given wanted
+argument_status (argument.Spelling place) = status.BadArgument place
 argument_status argument.Memory = status.OutOfMemory
 
 -- why bytes were not read as a tree
@@ -137,7 +137,7 @@ RefusesCheck _ p = ⊥
 
 -- why a tree has no accepted program
 abbrev pub RefusesProgram : Status → Tree → Type 0
-RefusesProgram status.Unformed tree = tree.imports ≢ []
+RefusesProgram status.Unsupported tree = tree.imports ≢ []
 RefusesProgram (status.Misnamed fault) tree = (tree.imports ≡ []) × IsOnlyNameFault tree fault
 RefusesProgram (status.Unaccepted program fault) tree = IsOnlyProgram tree program × HasOnlyCheckFault program fault
 RefusesProgram status.OutOfMemory tree = Unit {0}
@@ -172,14 +172,14 @@ pub record RanPartly (p : Prog) (s t : SinkSeen) : Type 0 where
 -- what running an image of the program answers
 abbrev pub RunsImage : Status → Prog → SinkSeen → SinkSeen → Type 0
 RunsImage status.Done p s t = RanWhole p s t
-RunsImage status.Unwritten p s t = RanPartly p s t
+RunsImage status.CannotWrite p s t = RanPartly p s t
 RunsImage status.OutOfMemory p s t = t ≡ s
 RunsImage _ p s t = ⊥
 
 -- what running a program answers
 abbrev pub RunsProgram : Status → Prog → SinkSeen → SinkSeen → Type 0
 RunsProgram status.Done p s t = IsWithin p × RanWhole p s t
-RunsProgram status.Unwritten p s t = IsWithin p × RanPartly p s t
+RunsProgram status.CannotWrite p s t = IsWithin p × RanPartly p s t
 RunsProgram (status.CodeTooBig words) p s t = (PassesCode p × (words ≡ capped (bound_sum p))) × (t ≡ s)
 RunsProgram (status.StackTooBig words) p s t =
     ((bound_sum p ≤ 250000) × PassesStack 8192 p × (words ≡ capped (8192 * frame_words p))) × (t ≡ s)
@@ -189,7 +189,7 @@ RunsProgram _ p s t = ⊥
 -- what running an accepted program answers: one that isn't straight does not run
 abbrev pub RunsAccepted : Status → Prog → SinkSeen → SinkSeen → Type 0
 RunsAccepted how p s t =
-    ((is_straight p ≡ false) × (how ≡ status.Unformed) × (t ≡ s)) ⊎ ((is_straight p ≡ true) × RunsProgram how p s t)
+    ((is_straight p ≡ false) × (how ≡ status.Unsupported) × (t ≡ s)) ⊎ ((is_straight p ≡ true) × RunsProgram how p s t)
 
 -- The words spell these values as the arguments of `main`, and no others, and have no fault.
 pub record AreOnlyValues (p : Prog) (args : List (List ℕ)) (values : List Value) : Type 0 where
@@ -200,8 +200,8 @@ pub record AreOnlyValues (p : Prog) (args : List (List ℕ)) (values : List Valu
 -- why words are no arguments of `main`: memory is wanting only for values that they spell, or where no number of 32
 -- bits counts them
 abbrev pub RefusesArgs : Status → Prog → List (List ℕ) → Type 0
-RefusesArgs (status.Miscounted given wanted) p args = HasOnlyArgFault (main_types p) args (argument.Count given wanted)
-RefusesArgs (status.Misspelt place) p args = HasOnlyArgFault (main_types p) args (argument.Spelling place)
+RefusesArgs (status.ArgumentCount given wanted) p args = HasOnlyArgFault (main_types p) args (argument.Count given wanted)
+RefusesArgs (status.BadArgument place) p args = HasOnlyArgFault (main_types p) args (argument.Spelling place)
 RefusesArgs status.OutOfMemory p args = (2 ^ 32 ≤ length args) ⊎ IsFaultOf (main_types p) args argument.Memory
 RefusesArgs _ p args = ⊥
 
@@ -219,7 +219,7 @@ StepsTo status.Done p limits values steps s t = StandsAt (Some Ended) (state_aft
 StepsTo (status.Faulted fault) p limits values steps s t = StandsAt (Some (Faulted fault)) (state_after p limits values steps) s t
 StepsTo (status.Spent made) p limits values steps s t = (made ≡ steps) × StandsAt None (state_after p limits values steps) s t
 StepsTo status.OutOfMemory p limits values steps s t = StopsShort p limits values steps s t
-StepsTo status.Unwritten p limits values steps s t = TookSome s (state_after p limits values steps).printed t × Rose s.faults t.faults
+StepsTo status.CannotWrite p limits values steps s t = TookSome s (state_after p limits values steps).printed t × Rose s.faults t.faults
 StepsTo _ p limits values steps s t = ⊥
 
 -- what interpreting a program with the values that words spell answers
@@ -235,7 +235,7 @@ InterpretsWithin how p args frames cells steps s t =
 -- what a write of a text answers
 abbrev pub PutsText : Status → List ℕ → SinkSeen → SinkSeen → Type 0
 PutsText status.Done text s t = TookAll s text t
-PutsText status.Unwritten text s t = TookSome s text t × Rose s.faults t.faults
+PutsText status.CannotWrite text s t = TookSome s text t × Rose s.faults t.faults
 PutsText status.OutOfMemory text s t = t ≡ s
 PutsText _ text s t = ⊥
 

@@ -5,7 +5,7 @@ ghost use Rattle.std.specs.List.{AllByRecursion, flat_map, sum_by};
 ghost use Rattle.std.specs.Prelude.{pos, ◌≤ℤ◌, ◌<ℤ◌};
 ghost use Rattle.bril_tree.specs.FunctionForm.{variables_of, listed};
 ghost use Rattle.rv64_machine.specs.Encoding.{encoded};
-ghost use Rattle.bril_cli.specs.Carries.{Carries, frame_words, variables_in};
+ghost use Rattle.bril_cli.specs.Implements.{Implements, frame_words, variables_in};
 ghost use Rattle.bril_cli.specs.Emitted.{high_part, low_part, constant_words, reach_words, load_words, store_words, call_words, end_words, literal_words, sum_words, print_words, action_words, item_words, code_words, program_words, frame_offset, action_bound, word_bound, bound_of_function, bound_sum};
 ghost use Rattle.bril_cli.specs.Refusal.{EmitRefuses};
 ghost use Rattle.bril_cli.specs.Straight.{IsStraightCode};
@@ -348,7 +348,7 @@ fn stack_bound(program: &Prog, limits: Limits) -> u64
 /// only where both fit.
 pub fn emit(alloc: Global, prog: &Prog, limits: Limits) -> Result<Image, EmitFault>
     requires { IsStraightCode prog.now }
-    ensures carries { IfOk result (λ image. Carries image prog.now limits) }
+    ensures implements { IfOk result (λ image. Implements image prog.now limits) }
     ensures stack { IfOk result (λ image. image.stack ≡ limits.frames * frame_words prog.now) }
     ensures guards { IfOk result (λ image. image.guards ≡ []) }
     ensures length { IfOk result (λ image. length image.words ≤ 250000) }

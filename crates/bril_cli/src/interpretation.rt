@@ -55,8 +55,8 @@ fn argument_status(fault: ArgFault) -> Status
     ensures { result ≡ argument_status fault }
 {
     match fault {
-        ArgFault::Count { given, wanted } => Status::Miscounted { given, wanted },
-        ArgFault::Spelling { place } => Status::Misspelt { place },
+        ArgFault::Count { given, wanted } => Status::ArgumentCount { given, wanted },
+        ArgFault::Spelling { place } => Status::BadArgument { position: place },
         ArgFault::Memory => Status::OutOfMemory,
     }
 }
@@ -80,7 +80,7 @@ fn run_with<O: Sink>(
         StepAnswer::Go => Status::Spent { steps },
         StepAnswer::End(End::Ended) => Status::Done,
         StepAnswer::End(End::Faulted(fault)) => Status::Faulted { fault },
-        StepAnswer::WriteFault => Status::Unwritten,
+        StepAnswer::WriteFault => Status::CannotWrite,
         StepAnswer::Memory => Status::OutOfMemory,
     }
 }

@@ -20,7 +20,7 @@ ghost use Rattle.bril_report.specs.Lines.{form_line, misread_line, misnamed_line
 ghost use Rattle.bril_report.specs.Report.{Says};
 ghost use Rattle.bril_report.specs.declared.status.SourceFault.{SourceFault};
 ghost use Rattle.bril_words.specs.declared.request.Action.{Action};
-ghost use Rattle.bril_cli.specs.Answers.{call_of, Answers, Finished, Stopped, GoesOn, Unformed, Unread, TooLarge, Misargued, ReadsWell, AsksNone, Prints, TellsRun, UnlessMemory, argument_line};
+ghost use Rattle.bril_cli.specs.Answers.{call_of, Answers, Finished, Stopped, GoesOn, SourceRefused, CannotRead, TooLarge, Misargued, ReadsWell, AsksNone, Prints, TellsRun, UnlessMemory, argument_line};
 ghost use Rattle.bril_cli.specs.CommandLine.{AskNothing, format_of, NeedsProgram};
 ghost use Rattle.bril_cli.specs.Source.{most_bytes, json_line, accepted_line, ReadsAs, HasFault, HasNameFault, IsSource, IsFormless, IsWithin};
 ghost use Rattle.bril_cli.specs.Straight.{is_straight};
@@ -101,9 +101,9 @@ pub fn bril_top<F: Files, O: Sink, E: Sink>(
         (O.seen out.old) (O.seen out.new) (E.seen err.old) (E.seen err.new)) }
     ensures spent { result ≡ 3 → GoesOn (call_of words.now (F.seen files.old) (F.seen files.new)
         (O.seen out.old) (O.seen out.new) (E.seen err.old) (E.seen err.new)) }
-    ensures form { result ≡ 65 → Unformed (call_of words.now (F.seen files.old) (F.seen files.new)
+    ensures form { result ≡ 65 → SourceRefused (call_of words.now (F.seen files.old) (F.seen files.new)
         (O.seen out.old) (O.seen out.new) (E.seen err.old) (E.seen err.new)) }
-    ensures read { result ≡ 66 → Unread (call_of words.now (F.seen files.old) (F.seen files.new)
+    ensures read { result ≡ 66 → CannotRead (call_of words.now (F.seen files.old) (F.seen files.new)
         (O.seen out.old) (O.seen out.new) (E.seen err.old) (E.seen err.new)) }
     ensures size { result ≡ 68 → TooLarge (call_of words.now (F.seen files.old) (F.seen files.new)
         (O.seen out.old) (O.seen out.new) (E.seen err.old) (E.seen err.new)) }

@@ -3,7 +3,7 @@
 
 ghost use Rattle.std.specs.Prelude.{◌≡◌, ◌↔◌, ◌≤◌, ◌<◌, ◌*◌, ◌^◌, ◌-◌, [], All, IsTrue, length, IfOk, IfErr, MatchResult};
 ghost use Rattle.bril_tree.specs.Size.{IsCounted};
-ghost use Rattle.bril_cli.specs.Carries.{Carries, frame_words};
+ghost use Rattle.bril_cli.specs.Implements.{Implements, frame_words};
 ghost use Rattle.bril_cli.specs.Emitted.{bound_sum};
 ghost use Rattle.bril_cli.specs.Source.{json_line, accepted_line, run_limits, IsFile, IsWithin};
 ghost use Rattle.bril_cli.specs.Straight.{IsStraightCode};
@@ -82,7 +82,7 @@ fn read_file<F: Files>(alloc: Global, path: &Text, files: &mut F) -> Result<Byte
     match files.read(alloc, path, MOST_BYTES, &mut source) {
         Ok(true) => Ok(source),
         Ok(false) => Err(Status::FileTooBig),
-        Err(FileFault::Failed) => Err(Status::Unread),
+        Err(FileFault::Failed) => Err(Status::CannotRead),
         Err(FileFault::Memory) => Err(Status::OutOfMemory),
     }
 }
@@ -144,7 +144,7 @@ fn put_all<O: Sink>(text: &[u8], out: &mut O) -> Status
 {
     match out.put(text) {
         Ok(()) => Status::Done,
-        Err(Failed) => Status::Unwritten,
+        Err(Failed) => Status::CannotWrite,
     }
 }
 
@@ -208,7 +208,7 @@ fn accepted_program(alloc: Global, tree: &Tree) -> Result<Checked, Status>
     ensures err { IfErr result (λ status. RefusesProgram status tree.now) }
 {
     if !tree.imports.as_slice().is_empty() {
-        return Err(Status::Unformed);
+        return Err(Status::Unsupported);
     }
     named_program(alloc, tree)
 }
@@ -316,7 +316,7 @@ fn run_accepted<O: Sink>(alloc: Global, program: &Prog, out: &mut O) -> Status
     ensures { RunsAccepted result program.now (O.seen out.old) (O.seen out.new) }
 {
     if !is_straight(program) {
-        return Status::Unformed;
+        return Status::Unsupported;
     }
     run_program(alloc, program, out)
 }
@@ -345,7 +345,7 @@ fn run_program<O: Sink>(alloc: Global, program: &Prog, out: &mut O) -> Status
 // The image of the program.
 fn compile(alloc: Global, program: &Prog) -> Result<Image, Status>
     requires { IsStraightCode program.now }
-    ensures carries { IfOk result (λ image. Carries image program.now run_limits) }
+    ensures implements { IfOk result (λ image. Implements image program.now run_limits) }
     ensures stack { IfOk result (λ image. image.stack ≡ 8192 * frame_words program.now) }
     ensures words { IfOk result (λ image. length image.words ≤ 250000) }
     ensures within { IfOk result (λ _. IsWithin program.now) }
@@ -368,7 +368,7 @@ fn run_image<O: Sink>(
     out: &mut O,
 ) -> Status
     requires straight { IsStraightCode program.now }
-    requires carries { Carries image.now program.now run_limits }
+    requires implements { Implements image.now program.now run_limits }
     requires stack { image.now.stack ≡ 8192 * frame_words program.now }
     requires words { length image.now.words ≤ 250000 }
     requires within { IsWithin program.now }
@@ -380,7 +380,7 @@ fn run_image<O: Sink>(
     };
     match machine.run(steps, out) {
         RunAnswer::End(End::Ended) => Status::Done,
-        RunAnswer::WriteFault => Status::Unwritten,
+        RunAnswer::WriteFault => Status::CannotWrite,
         RunAnswer::End(End::Faulted(_)) => unreachable!(),
         RunAnswer::Spent => unreachable!(),
         RunAnswer::Trap(_) => unreachable!(),

@@ -1,4 +1,4 @@
--- Blocks as they are kept, and the blocks of the written meaning.
+-- Blocks as they are kept, and the blocks of the semantics.
 use Rattle.std.proofs.Common.{◌≡◌, ℕ, zero, suc, ◌+◌, ◌<◌, ◌≤◌, true, false, cond, List, [], ◌∷◌, map, length, set, get_or, Option, Some, None, slice_get, Ok, refl, sym, ◌∙◌, ap, arith, ℤ, pos, negsuc, nat_abs}
 use Rattle.std.specs.List.{count_by, sum_by}
 use Rattle.std.specs.Option.{option_map}

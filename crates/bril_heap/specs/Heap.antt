@@ -34,7 +34,7 @@ entries_of entries n = option_and_then (λ entry. entry) (slice_get entries n)
 abbrev pub block_seen : BlockView → Block
 block_seen b = record { size = length b.cells; is_live = b.is_live; cells = entries_of b.cells }
 
--- the blocks of the written meaning
+-- the blocks of the semantics
 abbrev pub blocks_of : CellsView → List Block
 blocks_of c = map block_seen c.blocks
 

@@ -10,7 +10,7 @@ block_view b = record { is_live = b.is_live; cells = b.cells.items }
 abbrev pub views : List StoredBlock → List BlockView
 views blocks = map block_view blocks
 
--- the blocks of the written meaning
+-- the blocks of the semantics
 abbrev pub seen : List StoredBlock → List Block
 seen blocks = map block_seen (views blocks)
 

@@ -1,4 +1,4 @@
--- Places as they are kept, and the places of the written meaning.
+-- Locations as they are kept, and the locations of the semantics.
 use Rattle.std.proofs.Common.{◌≡◌, ℕ, zero, suc, ◌+◌, ◌-◌, ◌<◌, ◌≤◌, true, false, eqb, List, [], ◌∷◌, ◌++◌, length, map, replicate, Option, Some, None, refl, sym, ap, ◌∙◌, arith}
 use Rattle.std.specs.List.{AllByRecursion}
 use Rattle.std.proofs.lemmas.Bool.{eq-eqb, ne_eqb, cond-true, cond-false}
@@ -10,27 +10,27 @@ use Rattle.bril_tree.specs.State.{Values, no_values, with_value}
 use Rattle.bril_tree.specs.Step.{assigned, shadowed, arguments_from, new_frame, dropped, saved, code_of}
 use Rattle.bril_heap.specs.Heap.{entries_of}
 use Rattle.bril_heap.proofs.Entries.{entries-set}
-use Rattle.bril_interpreter.specs.Frames.{PlacesView, places_of, frame_of, with_dest, with_shadow, without_newest, newest_or, HasPlace, ArePlaces, IsFrame, variable_count}
+use Rattle.bril_interpreter.specs.Frames.{LocalsView, locations_of, frame_of, with_dest, with_shadow, without_newest, newest_or, HasLocation, AreLocals, IsFrame, variable_count}
 
 -- ---- a value for a destination or a shadow
 
-pub with_dest-places : (dest : Option ℕ) (v : Value) (places : PlacesView) → HasPlace dest (length places.vars) → places_of (with_dest dest v places) ≡ assigned dest v (places_of places)
-with_dest-places None v places h = refl
-with_dest-places (Some x) v places h = ap (λ (values : Values). record (places_of places) { vars = values }) (entries-set places.vars x v h)
+pub with_dest-locations : (dest : Option ℕ) (v : Value) (locations : LocalsView) → HasLocation dest (length locations.vars) → locations_of (with_dest dest v locations) ≡ assigned dest v (locations_of locations)
+with_dest-locations None v locations h = refl
+with_dest-locations (Some x) v locations h = ap (λ (values : Values). record (locations_of locations) { vars = values }) (entries-set locations.vars x v h)
 
-pub with_shadow-places : (x : ℕ) (v : Value) (places : PlacesView) → x < length places.shadows → places_of (with_shadow x v places) ≡ shadowed x v (places_of places)
-with_shadow-places x v places h = ap (λ (values : Values). record (places_of places) { shadows = values }) (entries-set places.shadows x v h)
+pub with_shadow-locations : (x : ℕ) (v : Value) (locations : LocalsView) → x < length locations.shadows → locations_of (with_shadow x v locations) ≡ shadowed x v (locations_of locations)
+with_shadow-locations x v locations h = ap (λ (values : Values). record (locations_of locations) { shadows = values }) (entries-set locations.shadows x v h)
 
-pub HasPlace-more : (dest : Option ℕ) (n m : ℕ) → n ≤ m → HasPlace dest n → HasPlace dest m
-HasPlace-more None n m l h = tt
-HasPlace-more (Some x) n m l h = omega arith
+pub HasLocation-more : (dest : Option ℕ) (n m : ℕ) → n ≤ m → HasLocation dest n → HasLocation dest m
+HasLocation-more None n m l h = tt
+HasLocation-more (Some x) n m l h = omega arith
 
-pub with_dest-kept : (n : ℕ) (dest : Option ℕ) (v : Value) (places : PlacesView) → ArePlaces n places → ArePlaces n (with_dest dest v places)
-with_dest-kept n None v places h = h
-with_dest-kept n (Some x) v places h = record { vars = omega (arith, h.vars, length-set places.vars x (Some v)); shadows = h.shadows }
+pub with_dest-kept : (n : ℕ) (dest : Option ℕ) (v : Value) (locations : LocalsView) → AreLocals n locations → AreLocals n (with_dest dest v locations)
+with_dest-kept n None v locations h = h
+with_dest-kept n (Some x) v locations h = record { vars = omega (arith, h.vars, length-set locations.vars x (Some v)); shadows = h.shadows }
 
-pub with_shadow-kept : (n x : ℕ) (v : Value) (places : PlacesView) → ArePlaces n places → ArePlaces n (with_shadow x v places)
-with_shadow-kept n x v places h = record { vars = h.vars; shadows = omega (arith, h.shadows, length-set places.shadows x (Some v)) }
+pub with_shadow-kept : (n x : ℕ) (v : Value) (locations : LocalsView) → AreLocals n locations → AreLocals n (with_shadow x v locations)
+with_shadow-kept n x v locations h = record { vars = h.vars; shadows = omega (arith, h.shadows, length-set locations.shadows x (Some v)) }
 
 -- ---- a new frame
 
@@ -67,22 +67,22 @@ arguments_held p limits vs n =
     λ i y. at y i
 
 -- the frame of a call, or the first of all
-pub new_frame-held : (p : Prog) (limits : Limits) (function : ℕ) (vs : List Value) (n : ℕ) (places : PlacesView) → places.vars ≡ map Some vs ++ replicate (n - length vs) None → places.shadows ≡ replicate (n + 1) None
-    → frame_of (record { function = function; point = 0; places = places; saves = [] }) ≡ new_frame p limits function vs
-new_frame-held p limits function vs n places vars shadows =
-    let held : entries_of places.vars ≡ arguments_from p limits 0 vs no_values = ap entries_of vars ∙ arguments_held p limits vs (n - length vs) in
-    let none : entries_of places.shadows ≡ no_values = ap entries_of shadows ∙ no_entries (n + 1) in
-    λ i. record { function = function; point = 0; places = record { vars = held i; shadows = none i }; saves = [] }
+pub new_frame-held : (p : Prog) (limits : Limits) (function : ℕ) (vs : List Value) (n : ℕ) (locations : LocalsView) → locations.vars ≡ map Some vs ++ replicate (n - length vs) None → locations.shadows ≡ replicate (n + 1) None
+    → frame_of (record { function = function; point = 0; locations = locations; saves = [] }) ≡ new_frame p limits function vs
+new_frame-held p limits function vs n locations vars shadows =
+    let held : entries_of locations.vars ≡ arguments_from p limits 0 vs no_values = ap entries_of vars ∙ arguments_held p limits vs (n - length vs) in
+    let none : entries_of locations.shadows ≡ no_values = ap entries_of shadows ∙ no_entries (n + 1) in
+    λ i. record { function = function; point = 0; locations = record { vars = held i; shadows = none i }; saves = [] }
 
-pub new_frame-kept : (p : Prog) (function : ℕ) (vs : List Value) (places : PlacesView) → places.vars ≡ map Some vs ++ replicate (variable_count p function - length vs) None → places.shadows ≡ replicate (variable_count p function + 1) None
-    → length (code_of p function) < 4294967295 → IsFrame p (record { function = function; point = 0; places = places; saves = [] })
-new_frame-kept p function vs places vars shadows few =
+pub new_frame-kept : (p : Prog) (function : ℕ) (vs : List Value) (locations : LocalsView) → locations.vars ≡ map Some vs ++ replicate (variable_count p function - length vs) None → locations.shadows ≡ replicate (variable_count p function + 1) None
+    → length (code_of p function) < 4294967295 → IsFrame p (record { function = function; point = 0; locations = locations; saves = [] })
+new_frame-kept p function vs locations vars shadows few =
     let n : ℕ = variable_count p function in
     let none : Option Value = None in
-    let count : length places.vars ≡ length vs + (n - length vs) = ap length vars ∙ length-append (map Some vs) (replicate (n - length vs) none) ∙ (let a = length-map vs (λ (v : Value). Some v) in let b = length-replicate (n - length vs) none in omega arith) in
-    let more : length places.shadows ≡ n + 1 = ap length shadows ∙ length-replicate (n + 1) none in
+    let count : length locations.vars ≡ length vs + (n - length vs) = ap length vars ∙ length-append (map Some vs) (replicate (n - length vs) none) ∙ (let a = length-map vs (λ (v : Value). Some v) in let b = length-replicate (n - length vs) none in omega arith) in
+    let more : length locations.shadows ≡ n + 1 = ap length shadows ∙ length-replicate (n + 1) none in
     record {
-      places = record { vars = omega arith; shadows = omega arith };
+      locations = record { vars = omega arith; shadows = omega arith };
       saves = tt;
       few_saves = omega arith;
       few_items = few;
@@ -91,22 +91,22 @@ new_frame-kept p function vs places vars shadows few =
 
 -- ---- saves
 
-pub dropped-held : (p : Prog) (limits : Limits) (saves : List PlacesView) → map places_of (without_newest saves) ≡ dropped p limits (map places_of saves)
+pub dropped-held : (p : Prog) (limits : Limits) (saves : List LocalsView) → map locations_of (without_newest saves) ≡ dropped p limits (map locations_of saves)
 dropped-held p limits [] = refl
 dropped-held p limits (newest ∷ saves) = refl
 
-pub saved-held : (p : Prog) (limits : Limits) (saves : List PlacesView) (places : PlacesView) → places_of (newest_or saves places) ≡ saved p limits (map places_of saves) (places_of places)
-saved-held p limits [] places = refl
-saved-held p limits (newest ∷ saves) places = refl
+pub saved-held : (p : Prog) (limits : Limits) (saves : List LocalsView) (locations : LocalsView) → locations_of (newest_or saves locations) ≡ saved p limits (map locations_of saves) (locations_of locations)
+saved-held p limits [] locations = refl
+saved-held p limits (newest ∷ saves) locations = refl
 
-pub dropped-kept : (n : ℕ) (saves : List PlacesView) → AllByRecursion (ArePlaces n) saves → AllByRecursion (ArePlaces n) (without_newest saves)
+pub dropped-kept : (n : ℕ) (saves : List LocalsView) → AllByRecursion (AreLocals n) saves → AllByRecursion (AreLocals n) (without_newest saves)
 dropped-kept n [] h = tt
 dropped-kept n (newest ∷ saves) h = h.1
 
-pub dropped-few : (saves : List PlacesView) → length (without_newest saves) ≤ length saves
+pub dropped-few : (saves : List LocalsView) → length (without_newest saves) ≤ length saves
 dropped-few [] = omega arith
 dropped-few (newest ∷ saves) = omega arith
 
-pub saved-kept : (n : ℕ) (saves : List PlacesView) (places : PlacesView) → AllByRecursion (ArePlaces n) saves → ArePlaces n places → ArePlaces n (newest_or saves places)
-saved-kept n [] places h one = one
-saved-kept n (newest ∷ saves) places h one = h.0
+pub saved-kept : (n : ℕ) (saves : List LocalsView) (locations : LocalsView) → AllByRecursion (AreLocals n) saves → AreLocals n locations → AreLocals n (newest_or saves locations)
+saved-kept n [] locations h one = one
+saved-kept n (newest ∷ saves) locations h one = h.0

@@ -14,10 +14,10 @@ use Rattle.bril_tree.specs.declared.operation.Op.TheVariants as op
 use Rattle.bril_tree.specs.declared.program.Prog.{Prog}
 use Rattle.bril_tree.specs.declared.value.Value.{Value}
 use Rattle.bril_tree.specs.Memory.{live_block, is_freeable}
-use Rattle.bril_tree.specs.Outcome.{Outcome, Gives, Fails, Acts, argument, block_of, offset_of}
+use Rattle.bril_tree.specs.Outcome.{Outcome, Yields, FaultsWith, HasEffect, argument, block_of, offset_of}
 use Rattle.bril_tree.specs.State.{State, Frame, Block}
-use Rattle.bril_tree.specs.Step.{with_frames, faulted, returns, ends, prints, line_of, passes, allocates, stores, loads, loads_held, guards, acts, acts_at, by_outcome, item_step, frames_step, running_step, step, item_at}
-use Rattle.bril_interpreter.specs.Call.{unprinted}
+use Rattle.bril_tree.specs.Step.{with_frames, faulted, returns, ends, prints, line_of, advances, allocates, stores, loads, loads_held, guards, acts, acts_at, by_outcome, item_step, frames_step, running_step, step, item_at}
+use Rattle.bril_interpreter.specs.StepAnswers.{unprinted}
 
 -- the state with these bytes printed before
 abbrev pub in_front : List ℕ → State → State
@@ -36,7 +36,7 @@ module _ (p : Prog) (limits : Limits) (bytes : List ℕ) where
   front-returns v (caller ∷ older) s = refl
 
   front-prints : (vs : List Value) (f : Frame) (older : List Frame) (s : State) → prints p limits vs f older (in_front bytes s) ≡ in_front bytes (prints p limits vs f older s)
-  front-prints vs f older s = ap (λ w. record (passes p limits f older s) { printed = w }) (append_assoc bytes s.printed (line_of p limits vs))
+  front-prints vs f older s = ap (λ w. record (advances p limits f older s) { printed = w }) (append_assoc bytes s.printed (line_of p limits vs))
 
   front-allocates : (o : Option Fault) (count : ℤ) (dest : Option ℕ) (f : Frame) (older : List Frame) (s : State) → allocates p limits o count dest f older (in_front bytes s) ≡ in_front bytes (allocates p limits o count dest f older s)
   front-allocates None count dest f older s = refl
@@ -62,7 +62,7 @@ module _ (p : Prog) (limits : Limits) (bytes : List ℕ) where
   front-calls true g f older s = refl
   front-calls false g f older s = refl
 
-  front-frees : (b : Bool) (blocks : List Block) (f : Frame) (older : List Frame) (s : State) → cond b (passes p limits f older (record (in_front bytes s) { blocks = blocks })) (faulted fault.BadFree (in_front bytes s)) ≡ in_front bytes (cond b (passes p limits f older (record s { blocks = blocks })) (faulted fault.BadFree s))
+  front-frees : (b : Bool) (blocks : List Block) (f : Frame) (older : List Frame) (s : State) → cond b (advances p limits f older (record (in_front bytes s) { blocks = blocks })) (faulted fault.BadFree (in_front bytes s)) ≡ in_front bytes (cond b (advances p limits f older (record s { blocks = blocks })) (faulted fault.BadFree s))
   front-frees true blocks f older s = refl
   front-frees false blocks f older s = refl
 
@@ -72,7 +72,7 @@ module _ (p : Prog) (limits : Limits) (bytes : List ℕ) where
   front-acts op.Ret dest args funcs labels f older s = front-returns _ older s
   front-acts op.Alloc dest args funcs labels f older s = front-allocates _ _ dest f older s
   front-acts op.Free dest args funcs labels f older s =
-      let pointer : Value = argument f.places args 0 in
+      let pointer : Value = argument f.locations args 0 in
       front-frees (is_freeable (live_block s.blocks (block_of pointer)) (offset_of pointer)) _ f older s
   front-acts op.Store dest args funcs labels f older s = front-stores _ _ _ f older s
   front-acts op.Load dest args funcs labels f older s = front-loads _ _ dest f older s
@@ -85,9 +85,9 @@ module _ (p : Prog) (limits : Limits) (bytes : List ℕ) where
   front-acts_at (Act dest ty o args funcs labels) f older s = front-acts o dest args funcs labels f older s
 
   front-by_outcome : (o : Outcome) (item : Instr) (f : Frame) (older : List Frame) (s : State) → by_outcome p limits o item f older (in_front bytes s) ≡ in_front bytes (by_outcome p limits o item f older s)
-  front-by_outcome (Gives v) item f older s = refl
-  front-by_outcome (Fails kind) item f older s = refl
-  front-by_outcome Acts item f older s = front-acts_at item f older s
+  front-by_outcome (Yields v) item f older s = refl
+  front-by_outcome (FaultsWith kind) item f older s = refl
+  front-by_outcome HasEffect item f older s = front-acts_at item f older s
 
   front-item_step : (o : Option Instr) (f : Frame) (older : List Frame) (s : State) → item_step p limits o f older (in_front bytes s) ≡ in_front bytes (item_step p limits o f older s)
   front-item_step None f older s = front-returns _ older s

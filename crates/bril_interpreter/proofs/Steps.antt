@@ -9,13 +9,13 @@ use Rattle.bril_tree.specs.declared.program.Prog.{Prog}
 use Rattle.bril_tree.specs.declared.value.Value.{Value}
 use Rattle.bril_tree.specs.Memory.{held}
 use Rattle.bril_tree.specs.State.{Frame, Block, State}
-use Rattle.bril_tree.specs.Step.{with_frames, faulted, gives, passes, prints, advanced, with_places, with_failure, stores, loads, loads_held}
+use Rattle.bril_tree.specs.Step.{with_frames, faulted, gives, advances, prints, advanced, with_locations, with_failure, stores, loads, loads_held}
 use Rattle.bril_heap.specs.Heap.{load_answer, stored_or_fault, Stores}
-use Rattle.bril_interpreter.specs.Frames.{FrameView, frame_of, with_dest, HasPlace}
+use Rattle.bril_interpreter.specs.Frames.{FrameView, frame_of, with_dest, HasLocation}
 use Rattle.bril_interpreter.specs.Interpreter.{InterpView, count_at, state_of}
 use Rattle.bril_interpreter.specs.Line.{line}
-use Rattle.bril_interpreter.specs.Steps.{Did, Executed, Unwritten, newest_of, older_of}
-use Rattle.bril_interpreter.proofs.Held.{with_dest-places}
+use Rattle.bril_interpreter.specs.Steps.{Did, Executed, CannotWrite, newest_of, older_of}
+use Rattle.bril_interpreter.proofs.Held.{with_dest-locations}
 use Rattle.bril_interpreter.proofs.Lines.{line_is, line_of-some}
 
 -- what prints nothing is done with a sink that stays
@@ -30,7 +30,7 @@ Executed-quiet t old new s did =
 
 -- a print that was put
 pub Executed-print : (p : Prog) (limits : Limits) (vs : List Value) (old new : InterpView) (before after : SinkSeen) → TookAll before (line vs) after
-    → Did old (passes p limits (newest_of old) (older_of old) (state_of old)) new → Executed (prints p limits vs (newest_of old) (older_of old) (state_of old)) old new before after
+    → Did old (advances p limits (newest_of old) (older_of old) (state_of old)) new → Executed (prints p limits vs (newest_of old) (older_of old) (state_of old)) old new before after
 Executed-print p limits vs old new before after took did = record {
   took = subst (λ bytes. TookAll before bytes after) (line_is p limits vs) took;
   silent = λ e. absurd (line_of-some p limits vs e);
@@ -38,9 +38,9 @@ Executed-print p limits vs old new before after took did = record {
 }
 
 -- a print of which the first was put
-pub Unwritten-print : (p : Prog) (limits : Limits) (vs : List Value) (old : InterpView) (before after : SinkSeen) → TookSome before (line vs) after → Rose before.faults after.faults
-    → Unwritten (prints p limits vs (newest_of old) (older_of old) (state_of old)) old old before after
-Unwritten-print p limits vs old before after took rose = record {
+pub CannotWrite-print : (p : Prog) (limits : Limits) (vs : List Value) (old : InterpView) (before after : SinkSeen) → TookSome before (line vs) after → Rose before.faults after.faults
+    → CannotWrite (prints p limits vs (newest_of old) (older_of old) (state_of old)) old old before after
+CannotWrite-print p limits vs old before after took rose = record {
   same = refl;
   prints = line_of-some p limits vs;
   took = subst (λ bytes. TookSome before bytes after) (line_is p limits vs) took;
@@ -62,10 +62,10 @@ Did-newest old f g e = record {
 }
 
 -- a value for a destination
-pub gives-did : (old : InterpView) (dest : Option ℕ) (v : Value) → HasPlace dest (length old.newest.places.vars)
-    → Did old (gives old.checked.prog old.limits dest v (newest_of old) (older_of old) (state_of old)) (record old { newest = record old.newest { point = suc old.newest.point; places = with_dest dest v old.newest.places } })
+pub gives-did : (old : InterpView) (dest : Option ℕ) (v : Value) → HasLocation dest (length old.newest.locations.vars)
+    → Did old (gives old.checked.prog old.limits dest v (newest_of old) (older_of old) (state_of old)) (record old { newest = record old.newest { point = suc old.newest.point; locations = with_dest dest v old.newest.locations } })
 gives-did old dest v h =
-    Did-newest old _ _ (ap (λ places. advanced (with_places places (newest_of old))) (with_dest-places dest v old.newest.places h))
+    Did-newest old _ _ (ap (λ locations. advanced (with_locations locations (newest_of old))) (with_dest-locations dest v old.newest.locations h))
 
 -- a failure of the guard at which the newest frame stands
 pub failure-did : (old : InterpView) (rows : List (List ℕ)) → count_at rows ≡ (with_failure old.checked.prog old.limits (newest_of old) (state_of old)).failures

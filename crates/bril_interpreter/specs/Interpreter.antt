@@ -29,7 +29,7 @@ pub record InterpView : Type 0 where
 abbrev pub count_at : List (List ℕ) → ℕ → ℕ → ℕ
 count_at counts function item = slice_index (slice_index_or counts function []) item
 
--- The state of the written meaning without its printed bytes: an interpreter doesn't hold them.
+-- The state of the semantics without its printed bytes: an interpreter doesn't hold them.
 abbrev pub state_of : InterpView → State
 state_of i = record {
   frames = frame_of i.newest ∷ map frame_of i.older;
@@ -64,4 +64,4 @@ place_in f = record { func = f.function; item = f.point; depth = length f.saves 
 -- a variable of a frame
 abbrev pub value_in : ℕ → Option Frame → Option Value
 value_in x None = None
-value_in x (Some f) = f.places.vars x
+value_in x (Some f) = f.locations.vars x

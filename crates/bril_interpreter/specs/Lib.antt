@@ -1,4 +1,4 @@
-pub mod Call
+pub mod StepAnswers
 pub mod Frames
 pub mod Interpreter
 pub mod Line

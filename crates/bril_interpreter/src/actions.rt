@@ -18,7 +18,7 @@ impl<'a> Interp<'a> {
 
     // The point of the first label where the condition holds, else that of the second.
     pub(crate) fn branch(&mut self, args: &[u32], labels: &[u32])
-        ensures { Did self.old (jumps self.old.checked.prog self.old.limits (slice_index labels.now (if bool_of (argument (newest_of self.old).places args.now 0) then 0 else 1)) (newest_of self.old) (older_of self.old) (state_of self.old)) self.new }
+        ensures { Did self.old (jumps self.old.checked.prog self.old.limits (slice_index labels.now (if bool_of (argument (newest_of self.old).locations args.now 0) then 0 else 1)) (newest_of self.old) (older_of self.old) (state_of self.old)) self.new }
     {
         let taken = if bool_in(self.argument(args, 0)) {
             0
@@ -32,12 +32,12 @@ impl<'a> Interp<'a> {
     pub(crate) fn get(&mut self, dest: Option<u32>)
         requires item { IsAtItem self.old }
         requires dest { HasDest self.old dest }
-        ensures { Did self.old (by_outcome self.old.checked.prog self.old.limits (shadow_given (newest_of self.old).places dest) (Act dest None Get [] [] []) (newest_of self.old) (older_of self.old) (state_of self.old)) self.new }
+        ensures { Did self.old (by_outcome self.old.checked.prog self.old.limits (shadow_given (newest_of self.old).locations dest) (Act dest None Get [] [] []) (newest_of self.old) (older_of self.old) (state_of self.old)) self.new }
     {
         match dest {
-            None => self.pass(),
+            None => self.advance(),
             Some(x) => {
-                let value = self.newest.places().shadow(x);
+                let value = self.newest.locations().shadow(x);
                 self.give(dest, value);
             }
         }
@@ -47,12 +47,12 @@ impl<'a> Interp<'a> {
     pub(crate) fn calculate(&mut self, op: Op, dest: Option<u32>, ty: Option<Ty>, args: &[u32])
         requires item { IsAtItem self.old }
         requires dest { HasDest self.old dest }
-        ensures { Did self.old (by_outcome self.old.checked.prog self.old.limits (computed op ty (argument (newest_of self.old).places args.now 0) (argument (newest_of self.old).places args.now 1)) (Act dest None Nop [] [] []) (newest_of self.old) (older_of self.old) (state_of self.old)) self.new }
+        ensures { Did self.old (by_outcome self.old.checked.prog self.old.limits (computed op ty (argument (newest_of self.old).locations args.now 0) (argument (newest_of self.old).locations args.now 1)) (Act dest None Nop [] [] []) (newest_of self.old) (older_of self.old) (state_of self.old)) self.new }
     {
         match compute(op, ty, self.argument(args, 0), self.argument(args, 1)) {
-            Outcome::Gives(value) => self.give(dest, value),
-            Outcome::Fails(kind) => self.fault(kind),
-            Outcome::Acts => self.pass(),
+            Outcome::Yields(value) => self.give(dest, value),
+            Outcome::FaultsWith(kind) => self.fault(kind),
+            Outcome::HasEffect => self.advance(),
         }
     }
 }

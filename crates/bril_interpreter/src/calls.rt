@@ -8,7 +8,7 @@ ghost use Rattle.bril_heap.specs.Heap.{entries_of};
 use crate::frame::Frame;
 use crate::interp::Interp;
 use crate::lookup::variables_of;
-use crate::places::Places;
+use crate::locals::Locals;
 use bril_tree::limits::{End, Fault};
 use bril_tree::numbered::Instr;
 use bril_tree::value::Value;
@@ -16,12 +16,12 @@ use std::alloc::{AllocError, Global};
 use std::mem;
 
 // The values of variables.
-fn values_of(alloc: Global, places: &Places, args: &[u32]) -> Result<Vec<Value>, AllocError>
-    ensures { IfOk result (λ values. values.items ≡ map (read (entries_of places.now.vars)) args.now) }
+fn values_of(alloc: Global, locations: &Locals, args: &[u32]) -> Result<Vec<Value>, AllocError>
+    ensures { IfOk result (λ values. values.items ≡ map (read (entries_of locations.now.vars)) args.now) }
 {
     let mut values = Vec::with_capacity(alloc, args.len())?;
     for x in args {
-        values.push(places.variable(*x))?;
+        values.push(locations.variable(*x))?;
     }
     Ok(values)
 }
@@ -47,7 +47,7 @@ impl<'a> Interp<'a> {
     // A frame more, where the limit allows it. Memory is wanting only where it does, and then nothing changes.
     pub(crate) fn call(&mut self, callee: u32, args: &[u32]) -> Result<(), AllocError>
         requires { IsAtItem self.old }
-        ensures ok { OnOk result (Did self.old (calls self.old.checked.prog self.old.limits callee (map (read (newest_of self.old).places.vars) args.now) (newest_of self.old) (older_of self.old) (state_of self.old)) self.new) }
+        ensures ok { OnOk result (Did self.old (calls self.old.checked.prog self.old.limits callee (map (read (newest_of self.old).locations.vars) args.now) (newest_of self.old) (older_of self.old) (state_of self.old)) self.new) }
         ensures room { OnErr result (nat_lt (suc (length (older_of self.old))) self.old.limits.frames ≡ true) }
         ensures err { OnErr result (self.new ≡ self.old) }
     {
@@ -64,18 +64,18 @@ impl<'a> Interp<'a> {
 
     // The frame of a call, with the values of these variables.
     fn new_frame(&self, callee: u32, args: &[u32]) -> Result<Frame, AllocError>
-        ensures frame { IfOk result (λ frame. frame_of frame ≡ new_frame self.now.checked.prog self.now.limits callee (map (read (newest_of self.now).places.vars) args.now)) }
+        ensures frame { IfOk result (λ frame. frame_of frame ≡ new_frame self.now.checked.prog self.now.limits callee (map (read (newest_of self.now).locations.vars) args.now)) }
         ensures form { IfOk result (λ frame. IsFrame self.now.checked.prog frame) }
     {
         let alloc = *self.older.allocator();
         let variables = variables_of(self.checked.prog(), callee);
-        let values = values_of(alloc, self.newest.places(), args)?;
-        let places = Places::start(alloc, values.as_slice(), variables)?;
-        Ok(Frame::start(alloc, callee, places))
+        let values = values_of(alloc, self.newest.locations(), args)?;
+        let locations = Locals::start(alloc, values.as_slice(), variables)?;
+        Ok(Frame::start(alloc, callee, locations))
     }
 
     // The newest frame is popped, and its value goes to the call at which its caller stands.
-    pub(crate) fn give_back(&mut self, value: Value)
+    pub(crate) fn return_value(&mut self, value: Value)
         ensures { Did self.old (returns self.old.checked.prog self.old.limits value (older_of self.old) (state_of self.old)) self.new }
     {
         match self.older.pop() {

@@ -8,7 +8,7 @@ use crate::answer::Here;
 use crate::frame::Frame;
 use crate::lookup::{items_of, variables_of};
 use crate::operand::number_at;
-use crate::places::Places;
+use crate::locals::Locals;
 use crate::table::{Table, tables_of};
 use bril_checker::Checked;
 use bril_heap::Cells;
@@ -56,7 +56,7 @@ impl<'a> Interp<'a> {
     ghost use Rattle.bril_tree.specs.Outcome.{argument};
     ghost use Rattle.bril_interpreter.specs.Interpreter.{state_of, newest_frame, place_in, value_in};
     ghost use Rattle.bril_interpreter.specs.Steps.{newest_of, older_of, IsAtItem, HasDest, Did};
-    ghost use Rattle.bril_tree.specs.Step.{gives, passes, jumps, faulted};
+    ghost use Rattle.bril_tree.specs.Step.{gives, advances, jumps, faulted};
 
     /// A run of the program under the limits, at the first item of `main` with these arguments. It makes the counts of
     /// the guards. Fails only for want of memory.
@@ -74,11 +74,11 @@ impl<'a> Interp<'a> {
     {
         let program = prog.prog();
         let main = program.main;
-        let places = Places::start(alloc, args, variables_of(program, main))?;
+        let locations = Locals::start(alloc, args, variables_of(program, main))?;
         Ok(Interp {
             checked: prog,
             limits,
-            newest: Frame::start(alloc, main, places),
+            newest: Frame::start(alloc, main, locations),
             older: Vec::new(alloc),
             cells: Cells::new(alloc, limits.cells),
             ended: None,
@@ -127,7 +127,7 @@ impl<'a> Interp<'a> {
         if self.ended.is_some() {
             return None;
         }
-        self.newest.places().entry(var)
+        self.newest.locations().entry(var)
     }
 
     // The items of the newest frame's function.
@@ -159,15 +159,15 @@ impl<'a> Interp<'a> {
 
     // The argument at a place of an instruction of the newest frame.
     pub(crate) fn argument(&self, args: &[u32], place: usize) -> Value
-        ensures { result ≡ argument (newest_of self.now).places args.now place }
+        ensures { result ≡ argument (newest_of self.now).locations args.now place }
     {
-        self.newest.places().variable(number_at(args, place))
+        self.newest.locations().variable(number_at(args, place))
     }
 
     // The next point alone.
-    pub(crate) fn pass(&mut self)
+    pub(crate) fn advance(&mut self)
         requires { IsAtItem self.old }
-        ensures { Did self.old (passes self.old.checked.prog self.old.limits (newest_of self.old) (older_of self.old) (state_of self.old)) self.new }
+        ensures { Did self.old (advances self.old.checked.prog self.old.limits (newest_of self.old) (older_of self.old) (state_of self.old)) self.new }
     {
         self.newest.advance();
     }

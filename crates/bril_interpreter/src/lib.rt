@@ -1,4 +1,4 @@
-//! The interpreter: a program runs by its written meaning, step by step.
+//! The interpreter: a program runs by its semantics, step by step.
 #![tactic(auto)]
 
 mod actions;
@@ -9,7 +9,7 @@ mod interp;
 mod lookup;
 mod memory;
 mod operand;
-mod places;
+mod locals;
 mod printing;
 mod speculation;
 mod step;

@@ -40,7 +40,7 @@ impl<'a> Interp<'a> {
         ensures { Did self.old (frees self.old.checked.prog self.old.limits pointer (newest_of self.old) (older_of self.old) (state_of self.old)) self.new }
     {
         if self.cells.free(block_in(pointer), offset_in(pointer)) {
-            self.pass();
+            self.advance();
         } else {
             self.fault(Fault::BadFree);
         }
@@ -55,7 +55,7 @@ impl<'a> Interp<'a> {
             .cells
             .store(block_in(pointer), offset_in(pointer), value)
         {
-            Ok(()) => self.pass(),
+            Ok(()) => self.advance(),
             Err(kind) => self.fault(kind),
         }
     }

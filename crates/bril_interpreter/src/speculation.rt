@@ -7,7 +7,7 @@ use bril_tree::value::Value;
 use std::alloc::AllocError;
 
 impl<'a> Interp<'a> {
-    ghost use Rattle.bril_tree.specs.Step.{passes, with_places, shadowed, speculates, commits, guards, with_failure};
+    ghost use Rattle.bril_tree.specs.Step.{advances, with_locations, shadowed, speculates, commits, guards, with_failure};
     ghost use Rattle.bril_interpreter.specs.Interpreter.{state_of};
     ghost use Rattle.bril_interpreter.specs.Steps.{newest_of, older_of, IsAtItem, HasShadow, Did};
 
@@ -15,13 +15,13 @@ impl<'a> Interp<'a> {
     pub(crate) fn shade(&mut self, x: u32, value: Value)
         requires item { IsAtItem self.old }
         requires shadow { HasShadow self.old x }
-        ensures { Did self.old (passes self.old.checked.prog self.old.limits (with_places (shadowed x value (newest_of self.old).places) (newest_of self.old)) (older_of self.old) (state_of self.old)) self.new }
+        ensures { Did self.old (advances self.old.checked.prog self.old.limits (with_locations (shadowed x value (newest_of self.old).locations) (newest_of self.old)) (older_of self.old) (state_of self.old)) self.new }
     {
         self.newest.shade(x, value);
         self.newest.advance();
     }
 
-    // The places as they are become the newest save. Nothing changes where memory is wanting, or where there would be
+    // The locations as they are become the newest save. Nothing changes where memory is wanting, or where there would be
     // more saves than `u32::MAX`.
     pub(crate) fn speculate(&mut self) -> Result<(), AllocError>
         requires { IsAtItem self.old }
@@ -46,14 +46,14 @@ impl<'a> Interp<'a> {
         self.newest.advance();
     }
 
-    // Nothing where the condition holds. Else the failure is counted, the places become those of the newest save, which
+    // Nothing where the condition holds. Else the failure is counted, the locations become those of the newest save, which
     // is dropped, and the frame goes to the label.
     pub(crate) fn guard(&mut self, holds: bool, label: u32)
         requires { IsAtItem self.old }
         ensures { Did self.old (guards self.old.checked.prog self.old.limits holds label (newest_of self.old) (older_of self.old) (state_of self.old)) self.new }
     {
         if holds {
-            return self.pass();
+            return self.advance();
         }
         self.count_failure();
         self.newest.put_back();

@@ -6,23 +6,23 @@ use Rattle.std.proofs.lemmas.Str.{chars-nil, chars_past_char, encodes-chars}
 use Rattle.bril_tree.specs.declared.value.Lit.TheVariants.{Char}
 use Rattle.bril_json.specs.Form.{char_of}
 use Rattle.bril_json.specs.declared.fault.JsonFault.TheVariants.{Shape}
-use Rattle.bril_json.specs.declared.place.Place.{Place}
+use Rattle.bril_json.specs.declared.position.Position.{Position}
 
 -- an empty text
-pub no_char : (place : Place) (text : List ℕ) → length text ≡ 0 → char_of place (chars text) ≡ Err (Shape place.func place.item)
-no_char place [] e = ap (char_of place) chars-nil
-no_char place (b ∷ bs) e = absurd (omega arith)
+pub no_char : (position : Position) (text : List ℕ) → length text ≡ 0 → char_of position (chars text) ≡ Err (Shape position.func position.item)
+no_char position [] e = ap (char_of position) chars-nil
+no_char position (b ∷ bs) e = absurd (omega arith)
 
 -- a text of one scalar value
-pub one_char : (place : Place) (text rest : List ℕ) (c : ℕ) → IsUtf8 text → text ≡ encode_utf8 c ++ rest → length rest ≡ 0 → char_of place (chars text) ≡ Ok (Char c)
-one_char place text [] c utf8 is e = ap (char_of place) (chars_past_char text [] c utf8 is ∙ ap (λ cs. c ∷ cs) chars-nil)
-one_char place text (b ∷ bs) c utf8 is e = absurd (omega arith)
+pub one_char : (position : Position) (text rest : List ℕ) (c : ℕ) → IsUtf8 text → text ≡ encode_utf8 c ++ rest → length rest ≡ 0 → char_of position (chars text) ≡ Ok (Char c)
+one_char position text [] c utf8 is e = ap (char_of position) (chars_past_char text [] c utf8 is ∙ ap (λ cs. c ∷ cs) chars-nil)
+one_char position text (b ∷ bs) c utf8 is e = absurd (omega arith)
 
 -- a text of several scalar values
-pub more_chars : (place : Place) (text rest : List ℕ) (c : ℕ) → IsUtf8 text → text ≡ encode_utf8 c ++ rest → IsUtf8 rest → 0 < length rest →
-    char_of place (chars text) ≡ Err (Shape place.func place.item)
-more_chars place text rest c utf8 is rest_utf8 some = ap (char_of place) (chars_past_char text rest c utf8 is) ∙ by (chars rest) refl
+pub more_chars : (position : Position) (text rest : List ℕ) (c : ℕ) → IsUtf8 text → text ≡ encode_utf8 c ++ rest → IsUtf8 rest → 0 < length rest →
+    char_of position (chars text) ≡ Err (Shape position.func position.item)
+more_chars position text rest c utf8 is rest_utf8 some = ap (char_of position) (chars_past_char text rest c utf8 is) ∙ by (chars rest) refl
   where
-    by : (cs : List ℕ) → chars rest ≡ cs → char_of place (c ∷ cs) ≡ Err (Shape place.func place.item)
+    by : (cs : List ℕ) → chars rest ≡ cs → char_of position (c ∷ cs) ≡ Err (Shape position.func position.item)
     by [] none = let empty : length rest ≡ 0 = ap length (sym (encodes-chars rest rest_utf8) ∙ ap encode_utf8_all none) in absurd (omega arith)
     by (d ∷ ds) none = refl

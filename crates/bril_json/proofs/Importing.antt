@@ -10,7 +10,7 @@ use Rattle.bril_tree.specs.declared.import.Taken.{Taken}
 use Rattle.bril_json.specs.Form.{ImportPath, is_import_path, tested_path, path_text, path_of, taken_of, import_with, import_of}
 use Rattle.bril_json.specs.Steps.{◌>>=◌, file, required, list_at, each}
 use Rattle.bril_json.specs.declared.fault.JsonFault.{JsonFault}
-use Rattle.bril_json.specs.declared.place.Place.{Place}
+use Rattle.bril_json.specs.declared.position.Position.{Position}
 use Rattle.bril_json.proofs.Equal.{Import-equal}
 
 -- a path that passes the three tests
@@ -37,10 +37,10 @@ with_is p (first ∷ rest) i path taken = ap Ok (Import-equal _ i (sym path) (sy
 then : {A B : Type 0} (s : Result A JsonFault) (x : A) (next : A → Result B JsonFault) → s ≡ Ok x → s >>= next ≡ next x
 then s x next e = ap (λ r. r >>= next) e
 
-pub import_is : (place : Place) (d named : Data) (p : ImportPath) (functions : Items) (names : List Taken) (i : Import) →
-    place ≡ file → required place (codes "path") d ≡ Ok named → path_of named ≡ Ok p → list_at place (codes "functions") d ≡ Ok functions → each taken_of functions ≡ Ok names →
+pub import_is : (position : Position) (d named : Data) (p : ImportPath) (functions : Items) (names : List Taken) (i : Import) →
+    position ≡ file → required position (codes "path") d ≡ Ok named → path_of named ≡ Ok p → list_at position (codes "functions") d ≡ Ok functions → each taken_of functions ≡ Ok names →
     i.path ≡ p.bytes → i.names ≡ names → import_of d ≡ Ok i
-import_is place d named p functions names i at has_path is_path has_list taken path same =
+import_is position d named p functions names i at has_path is_path has_list taken path same =
     then _ _ _ (ap (λ q. required q (codes "path") d) (sym at) ∙ has_path)
     ∙ then _ _ _ is_path
     ∙ then _ _ _ (ap (λ q. list_at q (codes "functions") d) (sym at) ∙ has_list)

@@ -7,36 +7,36 @@ use Rattle.bril_tree.specs.declared.types.Ty.{Ty}
 use Rattle.bril_json.specs.Form.{base_of, type_parts, type_within}
 use Rattle.bril_json.specs.declared.fault.JsonFault.{JsonFault}
 use Rattle.bril_json.specs.declared.fault.JsonFault.TheVariants.{Shape, Deep}
-use Rattle.bril_json.specs.declared.place.Place.{Place}
+use Rattle.bril_json.specs.declared.position.Position.{Position}
 
-parts-are : (place : Place) (left : ℕ) (inner : Data → Result Ty JsonFault) (t u : Option (List ℕ)) (p q : Option Data) → t ≡ u → p ≡ q →
-    type_parts place left inner t p ≡ type_parts place left inner u q
-parts-are place left inner t u p q e f = ap (λ x. type_parts place left inner x p) e ∙ ap (type_parts place left inner u) f
+parts-are : (position : Position) (left : ℕ) (inner : Data → Result Ty JsonFault) (t u : Option (List ℕ)) (p q : Option Data) → t ≡ u → p ≡ q →
+    type_parts position left inner t p ≡ type_parts position left inner u q
+parts-are position left inner t u p q e f = ap (λ x. type_parts position left inner x p) e ∙ ap (type_parts position left inner u) f
 
 -- a text
-pub at_text : (place : Place) (left : ℕ) (d : Data) (text : List ℕ) → as_str d ≡ Some text → type_within place left d ≡ base_of place left text
+pub at_text : (position : Position) (left : ℕ) (d : Data) (text : List ℕ) → as_str d ≡ Some text → type_within position left d ≡ base_of position left text
 unfolding type_within
-at_text place zero d text e = parts-are place zero _ _ _ _ _ e refl
-at_text place (suc left) d text e = parts-are place (suc left) _ _ _ _ _ e refl
+at_text position zero d text e = parts-are position zero _ _ _ _ _ e refl
+at_text position (suc left) d text e = parts-are position (suc left) _ _ _ _ _ e refl
 
 -- neither a text nor a `ptr`
-pub at_none : (place : Place) (left : ℕ) (d : Data) → as_str d ≡ None → get (codes "ptr") d ≡ None → type_within place left d ≡ Err (Shape place.func place.item)
+pub at_none : (position : Position) (left : ℕ) (d : Data) → as_str d ≡ None → get (codes "ptr") d ≡ None → type_within position left d ≡ Err (Shape position.func position.item)
 unfolding type_within
-at_none place zero d e f = parts-are place zero _ _ _ _ _ e f
-at_none place (suc left) d e f = parts-are place (suc left) _ _ _ _ _ e f
+at_none position zero d e f = parts-are position zero _ _ _ _ _ e f
+at_none position (suc left) d e f = parts-are position (suc left) _ _ _ _ _ e f
 
 -- a `ptr` where none is left
-pub at_last : (place : Place) (left : ℕ) (d pointed : Data) → as_str d ≡ None → get (codes "ptr") d ≡ Some pointed → left ≡ 0 →
-    type_within place left d ≡ Err (Deep place.func place.item)
+pub at_last : (position : Position) (left : ℕ) (d pointed : Data) → as_str d ≡ None → get (codes "ptr") d ≡ Some pointed → left ≡ 0 →
+    type_within position left d ≡ Err (Deep position.func position.item)
 unfolding type_within
-at_last place zero d pointed e f none = parts-are place zero _ _ _ _ _ e f
-at_last place (suc left) d pointed e f none = absurd (omega arith)
+at_last position zero d pointed e f none = parts-are position zero _ _ _ _ _ e f
+at_last position (suc left) d pointed e f none = absurd (omega arith)
 
 -- a `ptr` where some are left
-pub at_pointer : (place : Place) (left : ℕ) (d pointed : Data) → as_str d ≡ None → get (codes "ptr") d ≡ Some pointed → 0 < left →
-    type_within place left d ≡ type_within place (left - 1) pointed
+pub at_pointer : (position : Position) (left : ℕ) (d pointed : Data) → as_str d ≡ None → get (codes "ptr") d ≡ Some pointed → 0 < left →
+    type_within position left d ≡ type_within position (left - 1) pointed
 unfolding type_within
-at_pointer place zero d pointed e f some = absurd (omega arith)
-at_pointer place (suc left) d pointed e f some =
+at_pointer position zero d pointed e f some = absurd (omega arith)
+at_pointer position (suc left) d pointed e f some =
     let one : left ≡ suc left - 1 = omega arith in
-    parts-are place (suc left) _ _ _ _ _ e f ∙ ap (λ n. type_within place n pointed) one
+    parts-are position (suc left) _ _ _ _ _ e f ∙ ap (λ n. type_within position n pointed) one

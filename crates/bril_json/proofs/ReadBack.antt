@@ -34,7 +34,7 @@ use Rattle.bril_json.specs.Form.{name_of, names_at, type_around, type_within, ty
 use Rattle.bril_json.specs.Steps.{file, in_function, in_item, list_or_none, each_from}
 use Rattle.bril_json.specs.declared.fault.JsonFault.{JsonFault}
 use Rattle.bril_json.specs.declared.instruction.Instruction.TheVariants.{Operation}
-use Rattle.bril_json.specs.declared.place.Place.{Place}
+use Rattle.bril_json.specs.declared.position.Position.{Position}
 use Rattle.bril_json.proofs.Equal.{Ty-equal, Import-equal, ImportPath-equal}
 
 -- ---- what stands at a key
@@ -64,9 +64,9 @@ or_none (Some d) = refl
 
 -- ---- lists
 
-list_read : (place : Place) (ds : Items) → list_or_none place (unless_empty ds) ≡ Ok ds
-list_read place no_items = refl
-list_read place (item d ds) = refl
+list_read : (position : Position) (ds : Items) → list_or_none position (unless_empty ds) ≡ Ok ds
+list_read position no_items = refl
+list_read position (item d ds) = refl
 
 each_read : {X : Type 0} (read : ℕ → Data → Result X JsonFault) (write : X → Data) (P : X → Type 0) → ((n : ℕ) (x : X) → P x → read n (write x) ≡ Ok x) → (n : ℕ) (xs : List X) → All P xs → each_from read n (listed write xs) ≡ Ok xs
 each_read read write P one n [] all = refl
@@ -74,32 +74,32 @@ each_read read write P one n (x ∷ xs) all = rw (one n x (All-head P x xs all),
 
 -- ---- names and types
 
-name_read : (place : Place) (name : List ℕ) → IsName name → name_of place (string name) ≡ Ok name
-name_read place name is = rw is refl
+name_read : (position : Position) (name : List ℕ) → IsName name → name_of position (string name) ≡ Ok name
+name_read position name is = rw is refl
 
-names_read : (place : Place) (key : List ℕ) (d : Data) (names : List (List ℕ)) → AreNames names → get key d ≡ unless_empty (listed string names) → names_at place key d ≡ Ok names
-names_read place key d names are at = rw (at, list_read place (listed string names)) (each_read (λ n. name_of place) string IsName (λ n x is. name_read place x is) 0 names are)
+names_read : (position : Position) (key : List ℕ) (d : Data) (names : List (List ℕ)) → AreNames names → get key d ≡ unless_empty (listed string names) → names_at position key d ≡ Ok names
+names_read position key d names are at = rw (at, list_read position (listed string names)) (each_read (λ n. name_of position) string IsName (λ n x is. name_read position x is) 0 names are)
 
-base_read : (place : Place) (left : ℕ) (b : Base) → type_within place left (string (base_text b)) ≡ Ok (type_around left b)
+base_read : (position : Position) (left : ℕ) (b : Base) → type_within position left (string (base_text b)) ≡ Ok (type_around left b)
 unfolding type_within
-base_read place zero base.Int = refl
-base_read place zero base.Bool = refl
-base_read place zero base.Char = refl
-base_read place (suc left) base.Int = refl
-base_read place (suc left) base.Bool = refl
-base_read place (suc left) base.Char = refl
+base_read position zero base.Int = refl
+base_read position zero base.Bool = refl
+base_read position zero base.Char = refl
+base_read position (suc left) base.Int = refl
+base_read position (suc left) base.Bool = refl
+base_read position (suc left) base.Char = refl
 
-pointers_read : (place : Place) (n total left : ℕ) (b : Base) → total ≡ n + left → type_within place total (in_pointers n (string (base_text b))) ≡ Ok (type_around left b)
+pointers_read : (position : Position) (n total left : ℕ) (b : Base) → total ≡ n + left → type_within position total (in_pointers n (string (base_text b))) ≡ Ok (type_around left b)
 unfolding type_within
-pointers_read place zero total left b e = let same : total ≡ left = omega arith in ap (λ t. type_within place t (string (base_text b))) same ∙ base_read place left b
-pointers_read place (suc n) zero left b e = absurd (omega arith)
-pointers_read place (suc n) (suc total) left b e = pointers_read place n total left b (omega arith)
+pointers_read position zero total left b e = let same : total ≡ left = omega arith in ap (λ t. type_within position t (string (base_text b))) same ∙ base_read position left b
+pointers_read position (suc n) zero left b e = absurd (omega arith)
+pointers_read position (suc n) (suc total) left b e = pointers_read position n total left b (omega arith)
 
-type_read : (place : Place) (ty : Ty) → type_of place (type_json ty) ≡ Ok ty
-type_read place ty =
+type_read : (position : Position) (ty : Ty) → type_of position (type_json ty) ≡ Ok ty
+type_read position ty =
     let below : ty.depth ≤ 32 = ty.nests in
     let left = 32 - ty.depth in
-    pointers_read place ty.depth 32 left ty.base (omega arith) ∙ ap Ok (Ty-equal (type_around left ty.base) ty (omega arith) refl)
+    pointers_read position ty.depth 32 left ty.base (omega arith) ∙ ap Ok (Ty-equal (type_around left ty.base) ty (omega arith) refl)
 
 -- ---- items
 
@@ -119,56 +119,56 @@ constant_read : (func i : ℕ) (d : Data) (dest : List ℕ) (ty : Ty) (value : L
     → constant_of func i d ≡ Ok (line.Const dest ty value)
 constant_read func i d dest ty value name is a b c = rw (a, b, c) (rw (name, type_read (in_item func i) ty, literal_read func i value is) refl)
 
-dest_read : (place : Place) (dest : Option Dest) → IfSome dest IsDest → dest_of place (option_map (λ (d : Dest). string d.name) dest) (option_map (λ (d : Dest). type_json d.ty) dest) ≡ Ok dest
-dest_read place None is = refl
-dest_read place (Some d) is = rw (is, type_read place d.ty) refl
+dest_read : (position : Position) (dest : Option Dest) → IfSome dest IsDest → dest_of position (option_map (λ (d : Dest). string d.name) dest) (option_map (λ (d : Dest). type_json d.ty) dest) ≡ Ok dest
+dest_read position None is = refl
+dest_read position (Some d) is = rw (is, type_read position d.ty) refl
 
-operation_read : (place : Place) (o : Op) → instruction_of place (string (operation_text o)) ≡ Ok (Operation o)
+operation_read : (position : Position) (o : Op) → instruction_of position (string (operation_text o)) ≡ Ok (Operation o)
 unfolding operation_of
-operation_read place op.Add = refl
-operation_read place op.Sub = refl
-operation_read place op.Mul = refl
-operation_read place op.Div = refl
-operation_read place op.Eq = refl
-operation_read place op.Lt = refl
-operation_read place op.Gt = refl
-operation_read place op.Le = refl
-operation_read place op.Ge = refl
-operation_read place op.Ceq = refl
-operation_read place op.Clt = refl
-operation_read place op.Cgt = refl
-operation_read place op.Cle = refl
-operation_read place op.Cge = refl
-operation_read place op.Not = refl
-operation_read place op.And = refl
-operation_read place op.Or = refl
-operation_read place op.Id = refl
-operation_read place op.Nop = refl
-operation_read place op.Jmp = refl
-operation_read place op.Br = refl
-operation_read place op.Call = refl
-operation_read place op.Ret = refl
-operation_read place op.Print = refl
-operation_read place op.Alloc = refl
-operation_read place op.Free = refl
-operation_read place op.Store = refl
-operation_read place op.Load = refl
-operation_read place op.PtrAdd = refl
-operation_read place op.CharToInt = refl
-operation_read place op.IntToChar = refl
-operation_read place op.Get = refl
-operation_read place op.Set = refl
-operation_read place op.Undef = refl
-operation_read place op.Speculate = refl
-operation_read place op.Commit = refl
-operation_read place op.Guard = refl
+operation_read position op.Add = refl
+operation_read position op.Sub = refl
+operation_read position op.Mul = refl
+operation_read position op.Div = refl
+operation_read position op.Eq = refl
+operation_read position op.Lt = refl
+operation_read position op.Gt = refl
+operation_read position op.Le = refl
+operation_read position op.Ge = refl
+operation_read position op.Ceq = refl
+operation_read position op.Clt = refl
+operation_read position op.Cgt = refl
+operation_read position op.Cle = refl
+operation_read position op.Cge = refl
+operation_read position op.Not = refl
+operation_read position op.And = refl
+operation_read position op.Or = refl
+operation_read position op.Id = refl
+operation_read position op.Nop = refl
+operation_read position op.Jmp = refl
+operation_read position op.Br = refl
+operation_read position op.Call = refl
+operation_read position op.Ret = refl
+operation_read position op.Print = refl
+operation_read position op.Alloc = refl
+operation_read position op.Free = refl
+operation_read position op.Store = refl
+operation_read position op.Load = refl
+operation_read position op.PtrAdd = refl
+operation_read position op.CharToInt = refl
+operation_read position op.IntToChar = refl
+operation_read position op.Get = refl
+operation_read position op.Set = refl
+operation_read position op.Undef = refl
+operation_read position op.Speculate = refl
+operation_read position op.Commit = refl
+operation_read position op.Guard = refl
 
-act_read : (place : Place) (d : Data) (dest : Option Dest) (o : Op) (args funcs labels : List (List ℕ)) → IsItem (line.Act dest o args funcs labels)
+act_read : (position : Position) (d : Data) (dest : Option Dest) (o : Op) (args funcs labels : List (List ℕ)) → IsItem (line.Act dest o args funcs labels)
     → get (codes "dest") d ≡ option_map (λ (x : Dest). string x.name) dest → get (codes "type") d ≡ option_map (λ (x : Dest). type_json x.ty) dest
     → get (codes "args") d ≡ unless_empty (listed string args) → get (codes "funcs") d ≡ unless_empty (listed string funcs) → get (codes "labels") d ≡ unless_empty (listed string labels)
-    → act_of place o d ≡ Ok (line.Act dest o args funcs labels)
-act_read place d dest o args funcs labels is named typed a f l =
-    rw (named, typed) (rw (dest_read place dest is.0) (rw (names_read place (codes "args") d args is.1 a, names_read place (codes "funcs") d funcs is.2 f, names_read place (codes "labels") d labels is.3 l) refl))
+    → act_of position o d ≡ Ok (line.Act dest o args funcs labels)
+act_read position d dest o args funcs labels is named typed a f l =
+    rw (named, typed) (rw (dest_read position dest is.0) (rw (names_read position (codes "args") d args is.1 a, names_read position (codes "funcs") d funcs is.2 f, names_read position (codes "labels") d labels is.3 l) refl))
 
 instruction_read : (func i : ℕ) (d : Data) (o : Op) (x : Item) → get (codes "label") d ≡ None → get (codes "op") d ≡ Some (string (operation_text o)) → act_of (in_item func i) o d ≡ Ok x → item_of func i d ≡ Ok x
 instruction_read func i d o x label named read = rw (label, named) (rw (operation_read (in_item func i) o) read)
@@ -184,19 +184,19 @@ item_read func i (line.Act dest o args funcs labels) is =
 
 -- ---- functions
 
-argument_read : (place : Place) (arg : Dest) → IsDest arg → argument_of place (argument_json arg) ≡ Ok arg
-argument_read place arg is = rw (is, type_read place arg.ty) refl
+argument_read : (position : Position) (arg : Dest) → IsDest arg → argument_of position (argument_json arg) ≡ Ok arg
+argument_read position arg is = rw (is, type_read position arg.ty) refl
 
-return_read : (place : Place) (ret : Option Ty) → return_of place (option_map type_json ret) ≡ Ok ret
-return_read place None = refl
-return_read place (Some ty) = rw (type_read place ty) refl
+return_read : (position : Position) (ret : Option Ty) → return_of position (option_map type_json ret) ≡ Ok ret
+return_read position None = refl
+return_read position (Some ty) = rw (type_read position ty) refl
 
 function_read_at : (func : ℕ) (d : Data) (f : FuncTree) → IsFunction f → get (codes "name") d ≡ Some (string f.name) → get (codes "args") d ≡ unless_empty (listed argument_json f.args)
     → get (codes "type") d ≡ option_map type_json f.ret → get (codes "instrs") d ≡ Some (array (listed item_json f.code)) → function_of func d ≡ Ok f
 function_read_at func d f is name args ret code =
-    let place = in_function func in
-    rw (name, args, ret, code) (rw (is.0, list_read place (listed argument_json f.args)) (rw (each_read (λ n. argument_of place) argument_json IsDest (λ n x i. argument_read place x i) 0 f.args is.1)
-    (rw (return_read place f.ret, each_read (item_of func) item_json IsItem (λ n x i. item_read func n x i) 0 f.code is.2) refl)))
+    let position = in_function func in
+    rw (name, args, ret, code) (rw (is.0, list_read position (listed argument_json f.args)) (rw (each_read (λ n. argument_of position) argument_json IsDest (λ n x i. argument_read position x i) 0 f.args is.1)
+    (rw (return_read position f.ret, each_read (item_of func) item_json IsItem (λ n x i. item_read func n x i) 0 f.code is.2) refl)))
 
 function_read : (func : ℕ) (f : FuncTree) → IsFunction f → function_of func (function_json f) ≡ Ok f
 function_read func f is =

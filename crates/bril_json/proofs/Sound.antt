@@ -18,7 +18,7 @@ use Rattle.bril_json.specs.declared.fault.JsonFault.{JsonFault}
 use Rattle.bril_json.specs.declared.fault.JsonFault.TheVariants.{Syntax, Shape, IntRange, Float, Deep, Memory}
 use Rattle.bril_json.specs.declared.instruction.Instruction.{Instruction}
 use Rattle.bril_json.specs.declared.instruction.Instruction.TheVariants.{Constant, Operation}
-use Rattle.bril_json.specs.declared.place.Place.{Place}
+use Rattle.bril_json.specs.declared.position.Position.{Position}
 
 -- a fault that the table names
 abbrev pub IsOfTable : JsonFault → Type 0
@@ -45,29 +45,29 @@ either_way : {A : Type 0} (b : Bool) (p q : Result A JsonFault) → Sound p → 
 either_way true p q sp sq = sp
 either_way false p q sp sq = sq
 
-there : {A : Type 0} (place : Place) (o : Option A) → Sound (ok_or o (Shape place.func place.item))
-there place None = record { is = tt }
-there place (Some x) = record { is = tt }
+there : {A : Type 0} (position : Position) (o : Option A) → Sound (ok_or o (Shape position.func position.item))
+there position None = record { is = tt }
+there position (Some x) = record { is = tt }
 
-name_text-sound : (place : Place) (text : Option (List ℕ)) → Sound (name_text place text)
-name_text-sound place None = record { is = tt }
-name_text-sound place (Some text) = either_way (is_identifier text) _ _ (record { is = tt }) (record { is = tt })
+name_text-sound : (position : Position) (text : Option (List ℕ)) → Sound (name_text position text)
+name_text-sound position None = record { is = tt }
+name_text-sound position (Some text) = either_way (is_identifier text) _ _ (record { is = tt }) (record { is = tt })
 
-name_of-sound : (place : Place) (d : Data) → Sound (name_of place d)
-name_of-sound place d = name_text-sound place (as_str d)
+name_of-sound : (position : Position) (d : Data) → Sound (name_of position d)
+name_of-sound position d = name_text-sound position (as_str d)
 
-required-sound : (place : Place) (key : List ℕ) (d : Data) → Sound (required place key d)
-required-sound place key d = there place (get key d)
+required-sound : (position : Position) (key : List ℕ) (d : Data) → Sound (required position key d)
+required-sound position key d = there position (get key d)
 
-list_of-sound : (place : Place) (d : Data) → Sound (list_of place d)
-list_of-sound place d = there place (as_array d)
+list_of-sound : (position : Position) (d : Data) → Sound (list_of position d)
+list_of-sound position d = there position (as_array d)
 
-list_at-sound : (place : Place) (key : List ℕ) (d : Data) → Sound (list_at place key d)
-list_at-sound place key d = then (required place key d) _ (required-sound place key d) (list_of-sound place)
+list_at-sound : (position : Position) (key : List ℕ) (d : Data) → Sound (list_at position key d)
+list_at-sound position key d = then (required position key d) _ (required-sound position key d) (list_of-sound position)
 
-list_or_none-sound : (place : Place) (o : Option Data) → Sound (list_or_none place o)
-list_or_none-sound place None = record { is = tt }
-list_or_none-sound place (Some d) = list_of-sound place d
+list_or_none-sound : (position : Position) (o : Option Data) → Sound (list_or_none position o)
+list_or_none-sound position None = record { is = tt }
+list_or_none-sound position (Some d) = list_of-sound position d
 
 each_from-sound : {A : Type 0} (read : ℕ → Data → Result A JsonFault) → ((n : ℕ) (d : Data) → Sound (read n d)) → (n : ℕ) (ds : Items) → Sound (each_from read n ds)
 each_from-sound read s n no_items = record { is = tt }
@@ -76,39 +76,39 @@ each_from-sound read s n (item d ds) = then (read n d) _ (s n d) (λ x. then (ea
 each-sound : {A : Type 0} (read : Data → Result A JsonFault) → ((d : Data) → Sound (read d)) → (ds : Items) → Sound (each read ds)
 each-sound read s ds = each_from-sound (λ n. read) (λ n. s) 0 ds
 
-name_at-sound : (place : Place) (key : List ℕ) (d : Data) → Sound (name_at place key d)
-name_at-sound place key d = then (required place key d) _ (required-sound place key d) (name_of-sound place)
+name_at-sound : (position : Position) (key : List ℕ) (d : Data) → Sound (name_at position key d)
+name_at-sound position key d = then (required position key d) _ (required-sound position key d) (name_of-sound position)
 
-names_at-sound : (place : Place) (key : List ℕ) (d : Data) → Sound (names_at place key d)
-names_at-sound place key d = then (list_or_none place (get key d)) _ (list_or_none-sound place (get key d)) (each-sound (name_of place) (name_of-sound place))
+names_at-sound : (position : Position) (key : List ℕ) (d : Data) → Sound (names_at position key d)
+names_at-sound position key d = then (list_or_none position (get key d)) _ (list_or_none-sound position (get key d)) (each-sound (name_of position) (name_of-sound position))
 
-base_of-sound : (place : Place) (left : ℕ) (text : List ℕ) → Sound (base_of place left text)
-base_of-sound place left text =
+base_of-sound : (position : Position) (left : ℕ) (text : List ℕ) → Sound (base_of position left text)
+base_of-sound position left text =
     either_way (bytes_eq text (base_text base.Int)) _ _ (record { is = tt })
     (either_way (bytes_eq text (base_text base.Bool)) _ _ (record { is = tt })
     (either_way (bytes_eq text (base_text base.Char)) _ _ (record { is = tt })
     (either_way (bytes_eq text (codes "float")) _ _ (record { is = tt }) (record { is = tt }))))
 
-type_parts-sound : (place : Place) (left : ℕ) (inner : Data → Result Ty JsonFault) → ((d : Data) → Sound (inner d)) → (text : Option (List ℕ)) (pointed : Option Data) → Sound (type_parts place left inner text pointed)
-type_parts-sound place left inner s (Some text) pointed = base_of-sound place left text
-type_parts-sound place left inner s None (Some pointed) = s pointed
-type_parts-sound place left inner s None None = record { is = tt }
+type_parts-sound : (position : Position) (left : ℕ) (inner : Data → Result Ty JsonFault) → ((d : Data) → Sound (inner d)) → (text : Option (List ℕ)) (pointed : Option Data) → Sound (type_parts position left inner text pointed)
+type_parts-sound position left inner s (Some text) pointed = base_of-sound position left text
+type_parts-sound position left inner s None (Some pointed) = s pointed
+type_parts-sound position left inner s None None = record { is = tt }
 
-type_within-sound : (place : Place) (left : ℕ) (d : Data) → Sound (type_within place left d)
+type_within-sound : (position : Position) (left : ℕ) (d : Data) → Sound (type_within position left d)
 unfolding type_within
-type_within-sound place zero d = type_parts-sound place zero _ (λ pointed. record { is = tt }) (as_str d) (get (codes "ptr") d)
-type_within-sound place (suc left) d = type_parts-sound place (suc left) (type_within place left) (type_within-sound place left) (as_str d) (get (codes "ptr") d)
+type_within-sound position zero d = type_parts-sound position zero _ (λ pointed. record { is = tt }) (as_str d) (get (codes "ptr") d)
+type_within-sound position (suc left) d = type_parts-sound position (suc left) (type_within position left) (type_within-sound position left) (as_str d) (get (codes "ptr") d)
 
-type_of-sound : (place : Place) (d : Data) → Sound (type_of place d)
-type_of-sound place d = type_within-sound place 32 d
+type_of-sound : (position : Position) (d : Data) → Sound (type_of position d)
+type_of-sound position d = type_within-sound position 32 d
 
-typed_name-sound : (place : Place) (named typed : Data) → Sound (typed_name place named typed)
-typed_name-sound place named typed = then (name_of place named) _ (name_of-sound place named) (λ name. then (type_of place typed) _ (type_of-sound place typed) (λ ty. record { is = tt }))
+typed_name-sound : (position : Position) (named typed : Data) → Sound (typed_name position named typed)
+typed_name-sound position named typed = then (name_of position named) _ (name_of-sound position named) (λ name. then (type_of position typed) _ (type_of-sound position typed) (λ ty. record { is = tt }))
 
-char_of-sound : (place : Place) (cs : List ℕ) → Sound (char_of place cs)
-char_of-sound place [] = record { is = tt }
-char_of-sound place (c ∷ []) = record { is = tt }
-char_of-sound place (c ∷ next ∷ rest) = record { is = tt }
+char_of-sound : (position : Position) (cs : List ℕ) → Sound (char_of position cs)
+char_of-sound position [] = record { is = tt }
+char_of-sound position (c ∷ []) = record { is = tt }
+char_of-sound position (c ∷ next ∷ rest) = record { is = tt }
 
 int_of-sound : (func i : ℕ) (n : Option ℤ) (m : Option ℕ) → Sound (int_of func i n m)
 int_of-sound func i (Some n) m = record { is = tt }
@@ -125,35 +125,35 @@ literal_of-sound func i (object ms) = record { is = tt }
 
 constant_of-sound : (func i : ℕ) (d : Data) → Sound (constant_of func i d)
 constant_of-sound func i d =
-    let place = in_item func i in
-    then (name_at place (codes "dest") d) _ (name_at-sound place (codes "dest") d)
-    (λ dest. then (required place (codes "type") d) _ (required-sound place (codes "type") d)
-    (λ typed. then (type_of place typed) _ (type_of-sound place typed)
-    (λ ty. then (required place (codes "value") d) _ (required-sound place (codes "value") d)
+    let position = in_item func i in
+    then (name_at position (codes "dest") d) _ (name_at-sound position (codes "dest") d)
+    (λ dest. then (required position (codes "type") d) _ (required-sound position (codes "type") d)
+    (λ typed. then (type_of position typed) _ (type_of-sound position typed)
+    (λ ty. then (required position (codes "value") d) _ (required-sound position (codes "value") d)
     (λ value. then (literal_of func i value) _ (literal_of-sound func i value) (λ lit. record { is = tt })))))
 
-dest_of-sound : (place : Place) (named typed : Option Data) → Sound (dest_of place named typed)
-dest_of-sound place None None = record { is = tt }
-dest_of-sound place None (Some typed) = record { is = tt }
-dest_of-sound place (Some named) None = record { is = tt }
-dest_of-sound place (Some named) (Some typed) = then (typed_name place named typed) _ (typed_name-sound place named typed) (λ dest. record { is = tt })
+dest_of-sound : (position : Position) (named typed : Option Data) → Sound (dest_of position named typed)
+dest_of-sound position None None = record { is = tt }
+dest_of-sound position None (Some typed) = record { is = tt }
+dest_of-sound position (Some named) None = record { is = tt }
+dest_of-sound position (Some named) (Some typed) = then (typed_name position named typed) _ (typed_name-sound position named typed) (λ dest. record { is = tt })
 
-act_of-sound : (place : Place) (op : Op) (d : Data) → Sound (act_of place op d)
-act_of-sound place op d =
-    then (dest_of place (get (codes "dest") d) (get (codes "type") d)) _ (dest_of-sound place (get (codes "dest") d) (get (codes "type") d))
-    (λ dest. then (names_at place (codes "args") d) _ (names_at-sound place (codes "args") d)
-    (λ args. then (names_at place (codes "funcs") d) _ (names_at-sound place (codes "funcs") d)
-    (λ funcs. then (names_at place (codes "labels") d) _ (names_at-sound place (codes "labels") d) (λ labels. record { is = tt }))))
+act_of-sound : (position : Position) (op : Op) (d : Data) → Sound (act_of position op d)
+act_of-sound position op d =
+    then (dest_of position (get (codes "dest") d) (get (codes "type") d)) _ (dest_of-sound position (get (codes "dest") d) (get (codes "type") d))
+    (λ dest. then (names_at position (codes "args") d) _ (names_at-sound position (codes "args") d)
+    (λ args. then (names_at position (codes "funcs") d) _ (names_at-sound position (codes "funcs") d)
+    (λ funcs. then (names_at position (codes "labels") d) _ (names_at-sound position (codes "labels") d) (λ labels. record { is = tt }))))
 
-operation_named-sound : (place : Place) (op : Option Op) → Sound (operation_named place op)
-operation_named-sound place None = record { is = tt }
-operation_named-sound place (Some op) = record { is = tt }
+operation_named-sound : (position : Position) (op : Option Op) → Sound (operation_named position op)
+operation_named-sound position None = record { is = tt }
+operation_named-sound position (Some op) = record { is = tt }
 
-instruction_text-sound : (place : Place) (text : Option (List ℕ)) → Sound (instruction_text place text)
-instruction_text-sound place None = record { is = tt }
-instruction_text-sound place (Some text) =
+instruction_text-sound : (position : Position) (text : Option (List ℕ)) → Sound (instruction_text position text)
+instruction_text-sound position None = record { is = tt }
+instruction_text-sound position (Some text) =
     either_way (bytes_eq text (codes "const")) _ _ (record { is = tt })
-    (either_way (list_any (bytes_eq text) float_operations) _ _ (record { is = tt }) (operation_named-sound place (operation_of text)))
+    (either_way (list_any (bytes_eq text) float_operations) _ _ (record { is = tt }) (operation_named-sound position (operation_of text)))
 
 operands_of-sound : (func i : ℕ) (instruction : Instruction) (d : Data) → Sound (operands_of func i instruction d)
 operands_of-sound func i Constant d = constant_of-sound func i d
@@ -169,24 +169,24 @@ item_by-sound func i (Some label) (Some named) d = record { is = tt }
 item_of-sound : (func i : ℕ) (d : Data) → Sound (item_of func i d)
 item_of-sound func i d = item_by-sound func i (get (codes "label") d) (get (codes "op") d) d
 
-argument_of-sound : (place : Place) (d : Data) → Sound (argument_of place d)
-argument_of-sound place d =
-    then (name_at place (codes "name") d) _ (name_at-sound place (codes "name") d)
-    (λ name. then (required place (codes "type") d) _ (required-sound place (codes "type") d)
-    (λ typed. then (type_of place typed) _ (type_of-sound place typed) (λ ty. record { is = tt })))
+argument_of-sound : (position : Position) (d : Data) → Sound (argument_of position d)
+argument_of-sound position d =
+    then (name_at position (codes "name") d) _ (name_at-sound position (codes "name") d)
+    (λ name. then (required position (codes "type") d) _ (required-sound position (codes "type") d)
+    (λ typed. then (type_of position typed) _ (type_of-sound position typed) (λ ty. record { is = tt })))
 
-return_of-sound : (place : Place) (o : Option Data) → Sound (return_of place o)
-return_of-sound place None = record { is = tt }
-return_of-sound place (Some d) = then (type_of place d) _ (type_of-sound place d) (λ ty. record { is = tt })
+return_of-sound : (position : Position) (o : Option Data) → Sound (return_of position o)
+return_of-sound position None = record { is = tt }
+return_of-sound position (Some d) = then (type_of position d) _ (type_of-sound position d) (λ ty. record { is = tt })
 
 function_of-sound : (func : ℕ) (d : Data) → Sound (function_of func d)
 function_of-sound func d =
-    let place = in_function func in
-    then (name_at place (codes "name") d) _ (name_at-sound place (codes "name") d)
-    (λ name. then (list_or_none place (get (codes "args") d)) _ (list_or_none-sound place (get (codes "args") d))
-    (λ listed. then (each (argument_of place) listed) _ (each-sound (argument_of place) (argument_of-sound place) listed)
-    (λ args. then (return_of place (get (codes "type") d)) _ (return_of-sound place (get (codes "type") d))
-    (λ ret. then (list_at place (codes "instrs") d) _ (list_at-sound place (codes "instrs") d)
+    let position = in_function func in
+    then (name_at position (codes "name") d) _ (name_at-sound position (codes "name") d)
+    (λ name. then (list_or_none position (get (codes "args") d)) _ (list_or_none-sound position (get (codes "args") d))
+    (λ listed. then (each (argument_of position) listed) _ (each-sound (argument_of position) (argument_of-sound position) listed)
+    (λ args. then (return_of position (get (codes "type") d)) _ (return_of-sound position (get (codes "type") d))
+    (λ ret. then (list_at position (codes "instrs") d) _ (list_at-sound position (codes "instrs") d)
     (λ items. then (each_from (item_of func) 0 items) _ (each_from-sound (item_of func) (item_of-sound func) 0 items) (λ code. record { is = tt }))))))
 
 tested_path-sound : (path : List ℕ) (some short spelled : Bool) (a : nat_lt 0 (length path) ≡ some) (b : nat_le (length path) 4096 ≡ short) (c : list_all is_path_byte path ≡ spelled) →

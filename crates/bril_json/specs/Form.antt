@@ -29,25 +29,25 @@ use Rattle.bril_json.specs.declared.fault.JsonFault.{JsonFault}
 use Rattle.bril_json.specs.declared.fault.JsonFault.TheVariants.{IntRange, Float, Deep}
 use Rattle.bril_json.specs.declared.instruction.Instruction.{Instruction}
 use Rattle.bril_json.specs.declared.instruction.Instruction.TheVariants.{Constant, Operation}
-use Rattle.bril_json.specs.declared.place.Place.{Place}
+use Rattle.bril_json.specs.declared.position.Position.{Position}
 
 -- ---- names
 
 -- a name: a text that is an identifier
-abbrev pub name_text : Place → Option (List ℕ) → Result (List ℕ) JsonFault
-name_text place None = misshapen place
-name_text place (Some text) = if is_identifier text then Ok text else misshapen place
+abbrev pub name_text : Position → Option (List ℕ) → Result (List ℕ) JsonFault
+name_text position None = misshapen position
+name_text position (Some text) = if is_identifier text then Ok text else misshapen position
 
-abbrev pub name_of : Place → Data → Result (List ℕ) JsonFault
-name_of place d = name_text place (as_str d)
+abbrev pub name_of : Position → Data → Result (List ℕ) JsonFault
+name_of position d = name_text position (as_str d)
 
 -- the name at a key that must be there
-abbrev pub name_at : Place → List ℕ → Data → Result (List ℕ) JsonFault
-name_at place key d = required place key d >>= name_of place
+abbrev pub name_at : Position → List ℕ → Data → Result (List ℕ) JsonFault
+name_at position key d = required position key d >>= name_of position
 
 -- the names of the list at a key, none where the key is missing
-abbrev pub names_at : Place → List ℕ → Data → Result (List (List ℕ)) JsonFault
-names_at place key d = list_or_none place (get key d) >>= each (name_of place)
+abbrev pub names_at : Position → List ℕ → Data → Result (List (List ℕ)) JsonFault
+names_at position key d = list_or_none position (get key d) >>= each (name_of position)
 
 -- ---- types
 
@@ -56,42 +56,42 @@ abbrev pub type_around : ℕ → Base → Ty
 type_around left b = record { depth = 32 - left; base = b; nests = sub-le 32 left }
 
 -- the base that a text names
-abbrev pub base_of : Place → ℕ → List ℕ → Result Ty JsonFault
-base_of place left text =
+abbrev pub base_of : Position → ℕ → List ℕ → Result Ty JsonFault
+base_of position left text =
     if bytes_eq text (base_text base.Int) then Ok (type_around left base.Int) else
     (if bytes_eq text (base_text base.Bool) then Ok (type_around left base.Bool) else
     (if bytes_eq text (base_text base.Char) then Ok (type_around left base.Char) else
-    (if bytes_eq text (codes "float") then Err (Float place.func place.item) else misshapen place)))
+    (if bytes_eq text (codes "float") then Err (Float position.func position.item) else misshapen position)))
 
 -- a text that names a base, or the value of the key `ptr`, which is read by `inner`
-abbrev pub type_parts : Place → ℕ → (Data → Result Ty JsonFault) → Option (List ℕ) → Option Data → Result Ty JsonFault
-type_parts place left inner (Some text) pointed = base_of place left text
-type_parts place left inner None (Some pointed) = inner pointed
-type_parts place left inner None None = misshapen place
+abbrev pub type_parts : Position → ℕ → (Data → Result Ty JsonFault) → Option (List ℕ) → Option Data → Result Ty JsonFault
+type_parts position left inner (Some text) pointed = base_of position left text
+type_parts position left inner None (Some pointed) = inner pointed
+type_parts position left inner None None = misshapen position
 
 -- a type inside of which this many `ptr` may still come
-unfoldable pub type_within : Place → ℕ → Data → Result Ty JsonFault
-type_within place zero d = type_parts place zero (λ pointed. Err (Deep place.func place.item)) (as_str d) (get (codes "ptr") d)
-type_within place (suc left) d = type_parts place (suc left) (type_within place left) (as_str d) (get (codes "ptr") d)
+unfoldable pub type_within : Position → ℕ → Data → Result Ty JsonFault
+type_within position zero d = type_parts position zero (λ pointed. Err (Deep position.func position.item)) (as_str d) (get (codes "ptr") d)
+type_within position (suc left) d = type_parts position (suc left) (type_within position left) (as_str d) (get (codes "ptr") d)
 
 -- a type: "int", "bool", "char", or an object whose key `ptr` is a type; the 33rd `ptr` from the outside is too deep
-abbrev pub type_of : Place → Data → Result Ty JsonFault
-type_of place d = type_within place 32 d
+abbrev pub type_of : Position → Data → Result Ty JsonFault
+type_of position d = type_within position 32 d
 
 -- a name with its type
-abbrev pub typed_name : Place → Data → Data → Result Dest JsonFault
-typed_name place named typed = do
-  name ← name_of place named
-  ty ← type_of place typed
+abbrev pub typed_name : Position → Data → Data → Result Dest JsonFault
+typed_name position named typed = do
+  name ← name_of position named
+  ty ← type_of position typed
   Ok (record { name = name; ty = ty })
 
 -- ---- items
 
 -- the one scalar value of a text
-abbrev pub char_of : Place → List ℕ → Result Lit JsonFault
-char_of place [] = misshapen place
-char_of place (c ∷ []) = Ok (literal.Char c)
-char_of place (c ∷ next ∷ rest) = misshapen place
+abbrev pub char_of : Position → List ℕ → Result Lit JsonFault
+char_of position [] = misshapen position
+char_of position (c ∷ []) = Ok (literal.Char c)
+char_of position (c ∷ next ∷ rest) = misshapen position
 
 -- a number that is an int, is a whole number above the greatest int, or is no whole number of 64 bits
 abbrev pub int_of : ℕ → ℕ → Option ℤ → Option ℕ → Result Lit JsonFault
@@ -119,36 +119,36 @@ constant_of func i d = do
   Ok (Const dest ty lit)
 
 -- the destination of an instruction and its type, both or neither
-abbrev pub dest_of : Place → Option Data → Option Data → Result (Option Dest) JsonFault
-dest_of place None None = Ok None
-dest_of place None (Some typed) = misshapen place
-dest_of place (Some named) None = misshapen place
-dest_of place (Some named) (Some typed) = typed_name place named typed >>= (λ dest. Ok (Some dest))
+abbrev pub dest_of : Position → Option Data → Option Data → Result (Option Dest) JsonFault
+dest_of position None None = Ok None
+dest_of position None (Some typed) = misshapen position
+dest_of position (Some named) None = misshapen position
+dest_of position (Some named) (Some typed) = typed_name position named typed >>= (λ dest. Ok (Some dest))
 
 -- an instruction other than a constant: its destination, then the names of its arguments, functions and labels
-abbrev pub act_of : Place → Op → Data → Result Item JsonFault
-act_of place op d = do
-  dest ← dest_of place (get (codes "dest") d) (get (codes "type") d)
-  args ← names_at place (codes "args") d
-  funcs ← names_at place (codes "funcs") d
-  labels ← names_at place (codes "labels") d
+abbrev pub act_of : Position → Op → Data → Result Item JsonFault
+act_of position op d = do
+  dest ← dest_of position (get (codes "dest") d) (get (codes "type") d)
+  args ← names_at position (codes "args") d
+  funcs ← names_at position (codes "funcs") d
+  labels ← names_at position (codes "labels") d
   Ok (Act dest op args funcs labels)
 
 -- an operation other than `const`
-abbrev pub operation_named : Place → Option Op → Result Instruction JsonFault
-operation_named place None = misshapen place
-operation_named place (Some op) = Ok (Operation op)
+abbrev pub operation_named : Position → Option Op → Result Instruction JsonFault
+operation_named position None = misshapen position
+operation_named position (Some op) = Ok (Operation op)
 
 -- `const`, an operation on floats, or another operation
-abbrev pub instruction_text : Place → Option (List ℕ) → Result Instruction JsonFault
-instruction_text place None = misshapen place
-instruction_text place (Some text) =
+abbrev pub instruction_text : Position → Option (List ℕ) → Result Instruction JsonFault
+instruction_text position None = misshapen position
+instruction_text position (Some text) =
     if bytes_eq text (codes "const") then Ok Constant else
-    (if list_any (bytes_eq text) float_operations then Err (Float place.func place.item) else
-    operation_named place (operation_of text))
+    (if list_any (bytes_eq text) float_operations then Err (Float position.func position.item) else
+    operation_named position (operation_of text))
 
-abbrev pub instruction_of : Place → Data → Result Instruction JsonFault
-instruction_of place d = instruction_text place (as_str d)
+abbrev pub instruction_of : Position → Data → Result Instruction JsonFault
+instruction_of position d = instruction_text position (as_str d)
 
 -- what an instruction's other keys are
 abbrev pub operands_of : ℕ → ℕ → Instruction → Data → Result Item JsonFault
@@ -169,17 +169,17 @@ item_of func i d = item_by func i (get (codes "label") d) (get (codes "op") d) d
 -- ---- functions
 
 -- an argument of a function: its name and its type
-abbrev pub argument_of : Place → Data → Result Dest JsonFault
-argument_of place d = do
-  name ← name_at place (codes "name") d
-  typed ← required place (codes "type") d
-  ty ← type_of place typed
+abbrev pub argument_of : Position → Data → Result Dest JsonFault
+argument_of position d = do
+  name ← name_at position (codes "name") d
+  typed ← required position (codes "type") d
+  ty ← type_of position typed
   Ok (record { name = name; ty = ty })
 
 -- the type that a function returns, where it returns one
-abbrev pub return_of : Place → Option Data → Result (Option Ty) JsonFault
-return_of place None = Ok None
-return_of place (Some d) = type_of place d >>= (λ ty. Ok (Some ty))
+abbrev pub return_of : Position → Option Data → Result (Option Ty) JsonFault
+return_of position None = Ok None
+return_of position (Some d) = type_of position d >>= (λ ty. Ok (Some ty))
 
 -- a function by its number: its name, its arguments, the type that it returns, and its items
 abbrev pub function_of : ℕ → Data → Result FuncTree JsonFault

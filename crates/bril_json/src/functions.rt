@@ -10,7 +10,7 @@ use crate::fault::JsonFault;
 use crate::items::items_of;
 use crate::keys::{list_at, list_or_none, number_of, required};
 use crate::names::name_at;
-use crate::place::Place;
+use crate::position::Position;
 use crate::types::type_of;
 use bril_tree::function_tree::{Dest, FuncTree};
 use bril_tree::sequence::Seq;
@@ -35,11 +35,11 @@ fn function_of(alloc: Global, func: u32, object: &Value) -> Result<FuncTree, Jso
     ensures ok { IfOk result (λ read. function_of func (view object.now) ≡ Ok read) }
     ensures err { IfErr result (λ fault. (fault ≡ Memory) ⊎ (function_of func (view object.now) ≡ Err fault)) }
 {
-    let place = Place::function(func);
-    let name = name_at(alloc, place, object, "name")?;
-    let args = arguments_of(alloc, place, list_or_none(place, object.get("args"))?)?;
-    let ret = return_of(place, object.get("type"))?;
-    let code = items_of(alloc, func, list_at(place, object, "instrs")?)?;
+    let position = Position::function(func);
+    let name = name_at(alloc, position, object, "name")?;
+    let args = arguments_of(alloc, position, list_or_none(position, object.get("args"))?)?;
+    let ret = return_of(position, object.get("type"))?;
+    let code = items_of(alloc, func, list_at(position, object, "instrs")?)?;
     Ok(FuncTree {
         name,
         args,
@@ -49,33 +49,33 @@ fn function_of(alloc: Global, func: u32, object: &Value) -> Result<FuncTree, Jso
 }
 
 // The arguments of a function, in order.
-fn arguments_of(alloc: Global, place: Place, list: &[Value]) -> Result<Seq<Dest>, JsonFault>
-    ensures ok { IfOk result (λ args. each (argument_of place) (items_view list.now) ≡ Ok args) }
-    ensures err { IfErr result (λ fault. (fault ≡ Memory) ⊎ (each (argument_of place) (items_view list.now) ≡ Err fault)) }
+fn arguments_of(alloc: Global, position: Position, list: &[Value]) -> Result<Seq<Dest>, JsonFault>
+    ensures ok { IfOk result (λ args. each (argument_of position) (items_view list.now) ≡ Ok args) }
+    ensures err { IfErr result (λ fault. (fault ≡ Memory) ⊎ (each (argument_of position) (items_view list.now) ≡ Err fault)) }
 {
     let mut args = Seq::new(alloc);
     'arguments: for value in list {
-        args.push(argument_of(alloc, place, value)?)?;
+        args.push(argument_of(alloc, position, value)?)?;
     }
     Ok(args)
 }
 
 // An argument of a function: its name and its type.
-fn argument_of(alloc: Global, place: Place, object: &Value) -> Result<Dest, JsonFault>
-    ensures ok { IfOk result (λ arg. argument_of place (view object.now) ≡ Ok arg) }
-    ensures err { IfErr result (λ fault. (fault ≡ Memory) ⊎ (argument_of place (view object.now) ≡ Err fault)) }
+fn argument_of(alloc: Global, position: Position, object: &Value) -> Result<Dest, JsonFault>
+    ensures ok { IfOk result (λ arg. argument_of position (view object.now) ≡ Ok arg) }
+    ensures err { IfErr result (λ fault. (fault ≡ Memory) ⊎ (argument_of position (view object.now) ≡ Err fault)) }
 {
-    let name = name_at(alloc, place, object, "name")?;
-    let ty = type_of(place, required(place, object, "type")?)?;
+    let name = name_at(alloc, position, object, "name")?;
+    let ty = type_of(position, required(position, object, "type")?)?;
     Ok(Dest { name, ty })
 }
 
 // The type that a function returns, where it returns one.
-fn return_of(place: Place, value: Option<&Value>) -> Result<Option<Ty>, JsonFault>
-    ensures { result ≡ return_of place (seen value.entry) }
+fn return_of(position: Position, value: Option<&Value>) -> Result<Option<Ty>, JsonFault>
+    ensures { result ≡ return_of position (seen value.entry) }
 {
     match value {
-        Some(value) => Ok(Some(type_of(place, value)?)),
+        Some(value) => Ok(Some(type_of(position, value)?)),
         None => Ok(None),
     }
 }

@@ -11,7 +11,7 @@ ghost use Rattle.bril_json.specs.declared.fault.JsonFault.TheVariants.{Memory};
 use crate::fault::JsonFault;
 use crate::keys::{list_at, required};
 use crate::names::{name_at, name_of};
-use crate::place::Place;
+use crate::position::Position;
 use bril_tree::import::{Import, Taken};
 use bril_tree::name::Name;
 use bril_tree::sequence::Seq;
@@ -36,11 +36,11 @@ fn import_of(alloc: Global, object: &Value) -> Result<Import, JsonFault>
     ensures ok { IfOk result (λ import. import_of (view object.now) ≡ Ok import) }
     ensures err { IfErr result (λ fault. (fault ≡ Memory) ⊎ (import_of (view object.now) ≡ Err fault)) }
 {
-    let place = Place::file();
-    let path = path_of(required(place, object, "path")?)?;
-    let names = all_taken(alloc, list_at(place, object, "functions")?)?;
+    let position = Position::file();
+    let path = path_of(required(position, object, "path")?)?;
+    let names = all_taken(alloc, list_at(position, object, "functions")?)?;
     if names.as_slice().is_empty() {
-        return Err(place.shape());
+        return Err(position.shape());
     }
     let path = Text::of(alloc, path)?;
     Ok(Import { path, names })
@@ -53,7 +53,7 @@ fn path_of(value: &Value) -> Result<&str, JsonFault>
 {
     match value.as_str() {
         Some(path) if is_path(path.as_bytes()) => Ok(path),
-        _ => Err(Place::file().shape()),
+        _ => Err(Position::file().shape()),
     }
 }
 
@@ -95,7 +95,7 @@ fn taken_of(alloc: Global, object: &Value) -> Result<Taken, JsonFault>
     ensures ok { IfOk result (λ taken. taken_of (view object.now) ≡ Ok taken) }
     ensures err { IfErr result (λ fault. (fault ≡ Memory) ⊎ (taken_of (view object.now) ≡ Err fault)) }
 {
-    let name = name_at(alloc, Place::file(), object, "name")?;
+    let name = name_at(alloc, Position::file(), object, "name")?;
     let alias = alias_of(alloc, object.get("alias"))?;
     Ok(Taken { name, alias })
 }
@@ -106,7 +106,7 @@ fn alias_of(alloc: Global, value: Option<&Value>) -> Result<Option<Name>, JsonFa
     ensures err { IfErr result (λ fault. (fault ≡ Memory) ⊎ (alias_of (seen value.entry) ≡ Err fault)) }
 {
     match value {
-        Some(value) => Ok(Some(name_of(alloc, Place::file(), value)?)),
+        Some(value) => Ok(Some(name_of(alloc, Position::file(), value)?)),
         None => Ok(None),
     }
 }

@@ -7,7 +7,7 @@ ghost use Rattle.bril_tree.specs.Spelling.{float_operations};
 ghost use Rattle.bril_json.specs.Form.{instruction_of, instruction_text};
 
 use crate::fault::JsonFault;
-use crate::place::Place;
+use crate::position::Position;
 use bril_tree::operation::Op;
 use serde_json::Value;
 
@@ -19,28 +19,28 @@ pub enum Instruction {
 }
 
 // The instruction that the value of `op` names.
-pub fn instruction_of(place: Place, value: &Value) -> Result<Instruction, JsonFault>
-    ensures { result ≡ instruction_of place (view value.now) }
+pub fn instruction_of(position: Position, value: &Value) -> Result<Instruction, JsonFault>
+    ensures { result ≡ instruction_of position (view value.now) }
 {
     match value.as_str() {
-        Some(text) => instruction_text(place, text),
-        None => Err(place.shape()),
+        Some(text) => instruction_text(position, text),
+        None => Err(position.shape()),
     }
 }
 
 // The instruction that a text names.
-fn instruction_text(place: Place, text: &str) -> Result<Instruction, JsonFault>
-    ensures { result ≡ instruction_text place (Some text.now) }
+fn instruction_text(position: Position, text: &str) -> Result<Instruction, JsonFault>
+    ensures { result ≡ instruction_text position (Some text.now) }
 {
     if text == "const" {
         return Ok(Instruction::Constant);
     }
     if is_float_operation(text) {
-        return Err(place.float());
+        return Err(position.float());
     }
     match Op::named(text) {
         Some(op) => Ok(Instruction::Operation(op)),
-        None => Err(place.shape()),
+        None => Err(position.shape()),
     }
 }
 

@@ -11,7 +11,7 @@ use crate::instruction::{Instruction, instruction_of};
 use crate::keys::{number_of, required};
 use crate::literal::literal_of;
 use crate::names::{name_at, name_of, names_at};
-use crate::place::Place;
+use crate::position::Position;
 use crate::types::type_of;
 use bril_tree::function_tree::{Dest, Item};
 use bril_tree::operation::Op;
@@ -36,14 +36,14 @@ fn item_of(alloc: Global, func: u32, item: u32, value: &Value) -> Result<Item, J
     ensures ok { IfOk result (λ read. item_of func item (view value.now) ≡ Ok read) }
     ensures err { IfErr result (λ fault. (fault ≡ Memory) ⊎ (item_of func item (view value.now) ≡ Err fault)) }
 {
-    let place = Place::item(func, item);
+    let position = Position::item(func, item);
     match (value.get("label"), value.get("op")) {
-        (Some(label), None) => Ok(Item::Label(name_of(alloc, place, label)?)),
-        (None, Some(named)) => match instruction_of(place, named)? {
+        (Some(label), None) => Ok(Item::Label(name_of(alloc, position, label)?)),
+        (None, Some(named)) => match instruction_of(position, named)? {
             Instruction::Constant => constant_of(alloc, func, item, value),
-            Instruction::Operation(op) => act_of(alloc, place, op, value),
+            Instruction::Operation(op) => act_of(alloc, position, op, value),
         },
-        _ => Err(place.shape()),
+        _ => Err(position.shape()),
     }
 }
 
@@ -52,22 +52,22 @@ fn constant_of(alloc: Global, func: u32, item: u32, object: &Value) -> Result<It
     ensures ok { IfOk result (λ read. constant_of func item (view object.now) ≡ Ok read) }
     ensures err { IfErr result (λ fault. (fault ≡ Memory) ⊎ (constant_of func item (view object.now) ≡ Err fault)) }
 {
-    let place = Place::item(func, item);
-    let dest = name_at(alloc, place, object, "dest")?;
-    let ty = type_of(place, required(place, object, "type")?)?;
-    let value = literal_of(func, item, required(place, object, "value")?)?;
+    let position = Position::item(func, item);
+    let dest = name_at(alloc, position, object, "dest")?;
+    let ty = type_of(position, required(position, object, "type")?)?;
+    let value = literal_of(func, item, required(position, object, "value")?)?;
     Ok(Item::Const { dest, ty, value })
 }
 
 // An instruction other than a constant: its destination, then the names of its arguments, functions and labels.
-fn act_of(alloc: Global, place: Place, op: Op, object: &Value) -> Result<Item, JsonFault>
-    ensures ok { IfOk result (λ read. act_of place op (view object.now) ≡ Ok read) }
-    ensures err { IfErr result (λ fault. (fault ≡ Memory) ⊎ (act_of place op (view object.now) ≡ Err fault)) }
+fn act_of(alloc: Global, position: Position, op: Op, object: &Value) -> Result<Item, JsonFault>
+    ensures ok { IfOk result (λ read. act_of position op (view object.now) ≡ Ok read) }
+    ensures err { IfErr result (λ fault. (fault ≡ Memory) ⊎ (act_of position op (view object.now) ≡ Err fault)) }
 {
-    let dest = dest_of(alloc, place, object.get("dest"), object.get("type"))?;
-    let args = names_at(alloc, place, object, "args")?;
-    let funcs = names_at(alloc, place, object, "funcs")?;
-    let labels = names_at(alloc, place, object, "labels")?;
+    let dest = dest_of(alloc, position, object.get("dest"), object.get("type"))?;
+    let args = names_at(alloc, position, object, "args")?;
+    let funcs = names_at(alloc, position, object, "funcs")?;
+    let labels = names_at(alloc, position, object, "labels")?;
     Ok(Item::Act {
         dest,
         op,
@@ -80,27 +80,27 @@ fn act_of(alloc: Global, place: Place, op: Op, object: &Value) -> Result<Item, J
 // The destination of an instruction and its type, both or neither.
 fn dest_of(
     alloc: Global,
-    place: Place,
+    position: Position,
     named: Option<&Value>,
     typed: Option<&Value>,
 ) -> Result<Option<Dest>, JsonFault>
-    ensures ok { IfOk result (λ dest. dest_of place (seen named.entry) (seen typed.entry) ≡ Ok dest) }
+    ensures ok { IfOk result (λ dest. dest_of position (seen named.entry) (seen typed.entry) ≡ Ok dest) }
     ensures err { IfErr result (λ fault. (fault ≡ Memory)
-        ⊎ (dest_of place (seen named.entry) (seen typed.entry) ≡ Err fault)) }
+        ⊎ (dest_of position (seen named.entry) (seen typed.entry) ≡ Err fault)) }
 {
     match (named, typed) {
         (None, None) => Ok(None),
-        (Some(named), Some(typed)) => Ok(Some(typed_name(alloc, place, named, typed)?)),
-        _ => Err(place.shape()),
+        (Some(named), Some(typed)) => Ok(Some(typed_name(alloc, position, named, typed)?)),
+        _ => Err(position.shape()),
     }
 }
 
 // A name with its type.
-fn typed_name(alloc: Global, place: Place, named: &Value, typed: &Value) -> Result<Dest, JsonFault>
-    ensures ok { IfOk result (λ dest. typed_name place (view named.now) (view typed.now) ≡ Ok dest) }
-    ensures err { IfErr result (λ fault. (fault ≡ Memory) ⊎ (typed_name place (view named.now) (view typed.now) ≡ Err fault)) }
+fn typed_name(alloc: Global, position: Position, named: &Value, typed: &Value) -> Result<Dest, JsonFault>
+    ensures ok { IfOk result (λ dest. typed_name position (view named.now) (view typed.now) ≡ Ok dest) }
+    ensures err { IfErr result (λ fault. (fault ≡ Memory) ⊎ (typed_name position (view named.now) (view typed.now) ≡ Err fault)) }
 {
-    let name = name_of(alloc, place, named)?;
-    let ty = type_of(place, typed)?;
+    let name = name_of(alloc, position, named)?;
+    let ty = type_of(position, typed)?;
     Ok(Dest { name, ty })
 }

@@ -10,7 +10,7 @@ mod keys;
 mod laws;
 mod literal;
 mod names;
-mod place;
+mod position;
 mod program;
 mod reading;
 mod types;

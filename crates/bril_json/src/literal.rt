@@ -7,7 +7,7 @@ ghost use Rattle.serde_json.specs.View.{view, number_view};
 ghost use Rattle.bril_json.specs.Form.{literal_of, int_of, char_of};
 
 use crate::fault::JsonFault;
-use crate::place::Place;
+use crate::position::Position;
 use bril_tree::value::Lit;
 use serde_json::{Number, Value};
 
@@ -18,8 +18,8 @@ pub fn literal_of(func: u32, item: u32, value: &Value) -> Result<Lit, JsonFault>
     match value {
         Value::Bool(value) => Ok(Lit::Bool(*value)),
         Value::Number(number) => int_of(func, item, number),
-        Value::String(text) => char_of(Place::item(func, item), text.as_str()),
-        _ => Err(Place::item(func, item).shape()),
+        Value::String(text) => char_of(Position::item(func, item), text.as_str()),
+        _ => Err(Position::item(func, item).shape()),
     }
 }
 
@@ -30,22 +30,22 @@ fn int_of(func: u32, item: u32, number: &Number) -> Result<Lit, JsonFault>
     match number.as_i64() {
         Some(value) => Ok(Lit::Int(value)),
         None if number.is_u64() => Err(JsonFault::IntRange { func, item }),
-        None => Err(Place::item(func, item).float()),
+        None => Err(Position::item(func, item).float()),
     }
 }
 
 // The one scalar value of a text.
-fn char_of(place: Place, text: &str) -> Result<Lit, JsonFault>
-    ensures { result ≡ char_of place (chars text.now) }
+fn char_of(position: Position, text: &str) -> Result<Lit, JsonFault>
+    ensures { result ≡ char_of position (chars text.now) }
 {
     let mut scalars = text.chars();
     match scalars.next() {
-        None => Err(place.shape()),
+        None => Err(position.shape()),
         Some(scalar) => {
             if scalars.as_str().is_empty() {
                 Ok(Lit::Char(scalar))
             } else {
-                Err(place.shape())
+                Err(position.shape())
             }
         }
     }

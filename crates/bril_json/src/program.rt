@@ -9,7 +9,7 @@ use crate::fault::JsonFault;
 use crate::functions::functions_of;
 use crate::imports::imports_of;
 use crate::keys::{list_at, list_or_none};
-use crate::place::Place;
+use crate::position::Position;
 use bril_tree::tree::Tree;
 use serde_json::Value;
 use std::alloc::Global;
@@ -19,8 +19,8 @@ pub fn tree_of(alloc: Global, object: &Value) -> Result<Tree, JsonFault>
     ensures ok { IfOk result (λ tree. tree_of (view object.now) ≡ Ok tree) }
     ensures err { IfErr result (λ fault. (fault ≡ Memory) ⊎ (tree_of (view object.now) ≡ Err fault)) }
 {
-    let functions = list_at(Place::file(), object, "functions")?;
-    let listed = list_or_none(Place::file(), object.get("imports"))?;
+    let functions = list_at(Position::file(), object, "functions")?;
+    let listed = list_or_none(Position::file(), object.get("imports"))?;
     let imports = imports_of(alloc, listed)?;
     let funcs = functions_of(alloc, functions)?;
     Ok(Tree { imports, funcs })

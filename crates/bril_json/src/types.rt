@@ -5,36 +5,36 @@ ghost use Rattle.serde_json.specs.View.{view};
 ghost use Rattle.bril_json.specs.Form.{type_around, base_of, type_within, type_of};
 
 use crate::fault::JsonFault;
-use crate::place::Place;
+use crate::position::Position;
 use bril_tree::types::{Base, Ty};
 use serde_json::Value;
 
 // A type, with at most 32 `ptr`.
-pub fn type_of(place: Place, value: &Value) -> Result<Ty, JsonFault>
-    ensures { result ≡ type_of place (view value.now) }
+pub fn type_of(position: Position, value: &Value) -> Result<Ty, JsonFault>
+    ensures { result ≡ type_of position (view value.now) }
 {
-    type_within(place, 32, value)
+    type_within(position, 32, value)
 }
 
 // A type inside of which this many `ptr` may still come.
-fn type_within(place: Place, left: u8, value: &Value) -> Result<Ty, JsonFault>
+fn type_within(position: Position, left: u8, value: &Value) -> Result<Ty, JsonFault>
     requires { left ≤ 32 }
-    ensures { result ≡ type_within place left (view value.now) }
+    ensures { result ≡ type_within position left (view value.now) }
 {
     match value.as_str() {
-        Some(text) => base_of(place, left, text),
+        Some(text) => base_of(position, left, text),
         None => match value.get("ptr") {
-            None => Err(place.shape()),
-            Some(_) if left == 0 => Err(place.deep()),
-            Some(pointed) => type_within(place, left - 1, pointed),
+            None => Err(position.shape()),
+            Some(_) if left == 0 => Err(position.deep()),
+            Some(pointed) => type_within(position, left - 1, pointed),
         },
     }
 }
 
 // The type around the base that a text names.
-fn base_of(place: Place, left: u8, text: &str) -> Result<Ty, JsonFault>
+fn base_of(position: Position, left: u8, text: &str) -> Result<Ty, JsonFault>
     requires { left ≤ 32 }
-    ensures { result ≡ base_of place left text.now }
+    ensures { result ≡ base_of position left text.now }
 {
     if text == Base::Int.name() {
         Ok(type_around(left, Base::Int))
@@ -43,9 +43,9 @@ fn base_of(place: Place, left: u8, text: &str) -> Result<Ty, JsonFault>
     } else if text == Base::Char.name() {
         Ok(type_around(left, Base::Char))
     } else if text == "float" {
-        Err(place.float())
+        Err(position.float())
     } else {
-        Err(place.shape())
+        Err(position.shape())
     }
 }
 

@@ -16,7 +16,7 @@ use Rattle.bril_names.specs.Faults.{Differ, AreAmong, IsKnown, IsSound, label_of
 use Rattle.bril_names.specs.declared.fault.NameFault.{NameFault}
 use Rattle.bril_names.specs.declared.fault.NameFault.TheVariants.{NoFunction, TwiceFunction, NoLabel, TwiceLabel, NoMain, TwiceArg, Memory}
 use Rattle.bril_names.proofs.Faultless.{IsSoundTree, unsound}
-use Rattle.bril_names.proofs.Places.{repeats_name, IsFirstLacking}
+use Rattle.bril_names.proofs.Positions.{repeats_name, IsFirstLacking}
 
 -- ---- names
 

@@ -8,7 +8,7 @@ use Rattle.bril_tree.specs.ProgramForm.{main_name}
 use Rattle.bril_names.specs.Faults.{Differ, IsSound, argument_names, labels_of, function_names, HasFaultWithin, FirstFaultWithin, HasFault, RepeatsName, RepeatsLabel, LacksFunction, LacksLabel}
 use Rattle.bril_names.specs.declared.fault.NameFault.{NameFault}
 use Rattle.bril_names.specs.declared.fault.NameFault.TheVariants.{NoFunction, TwiceFunction, NoLabel, TwiceLabel, NoMain, TwiceArg, Memory}
-use Rattle.bril_names.proofs.Places.{same_here, here_taken, at_here, one_place, repeats_name, repeats_label, one_repeated_name, one_repeated_label, lacks_function, lacks_label, first_lacking, lacking_function, lacking_label, lacking_apart}
+use Rattle.bril_names.proofs.Positions.{same_here, here_taken, at_here, one_place, repeats_name, repeats_label, one_repeated_name, one_repeated_label, lacks_function, lacks_label, first_lacking, lacking_function, lacking_label, lacking_apart}
 
 -- ---- within a function
 

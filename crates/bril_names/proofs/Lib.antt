@@ -10,7 +10,7 @@ pub mod Items
 pub mod Naming
 pub mod Numbers
 pub mod Outcomes
-pub mod Places
+pub mod Positions
 pub mod Programs
 pub mod Sound
 pub mod Steps

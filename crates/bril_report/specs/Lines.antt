@@ -17,7 +17,7 @@ use Rattle.bril_text.specs.declared.fault.TextFault.TheVariants as text
 use Rattle.bril_words.specs.declared.misuse.Misuse.{Misuse}
 use Rattle.bril_words.specs.declared.misuse.Misuse.TheVariants.{Words, Value}
 use Rattle.bril_words.specs.declared.misuse.Setting.TheVariants.{Frames, Cells, Steps}
-use Rattle.bril_report.specs.declared.report.Place.{Place}
+use Rattle.bril_report.specs.declared.report.Position.{Position}
 use Rattle.bril_report.specs.declared.status.SourceFault.{SourceFault}
 use Rattle.bril_report.specs.declared.status.SourceFault.TheVariants.{Text, Json}
 
@@ -34,30 +34,30 @@ text_front (text.Deep at) = codes ": text 5 at "
 text_front text.Memory = codes ": text 0 at "
 
 -- the byte at which it stands
-abbrev pub text_place : TextFault → ℕ
-text_place (text.Lex at) = at
-text_place (text.Grammar at) = at
-text_place (text.IntRange at) = at
-text_place (text.Float at) = at
-text_place (text.Deep at) = at
-text_place text.Memory = 0
+abbrev pub text_position : TextFault → ℕ
+text_position (text.Lex at) = at
+text_position (text.Grammar at) = at
+text_position (text.IntRange at) = at
+text_position (text.Float at) = at
+text_position (text.Deep at) = at
+text_position text.Memory = 0
 
 -- a function and an item by their numbers, where a fault stands in one
-abbrev pub place_of : Option ℕ → Option ℕ → Place
-place_of func item = record { func = func; item = item }
+abbrev pub position_of : Option ℕ → Option ℕ → Position
+position_of func item = record { func = func; item = item }
 
 -- a number, or `-` for none
 abbrev pub number_or_dash : Option ℕ → List ℕ
 number_or_dash None = codes "-"
 number_or_dash (Some n) = decimal n
 
--- a place, and what follows it on its line
-abbrev pub place_then : Place → List ℕ → List ℕ
-place_then place rest = number_or_dash place.func ++ codes " item " ++ (number_or_dash place.item ++ rest)
+-- a position, and what follows it on its line
+abbrev pub position_then : Position → List ℕ → List ℕ
+position_then position rest = number_or_dash position.func ++ codes " item " ++ (number_or_dash position.item ++ rest)
 
--- the end of a line that tells a place
-abbrev pub place_end : Place → List ℕ
-place_end place = place_then place (codes "\n")
+-- the end of a line that tells a position
+abbrev pub position_end : Position → List ℕ
+position_end position = position_then position (codes "\n")
 
 -- the kind of a fault of the JSON, by its number
 abbrev pub json_front : JsonFault → List ℕ
@@ -68,17 +68,17 @@ json_front (json.Float func item) = codes ": json 4 function "
 json_front (json.Deep func item) = codes ": json 5 function "
 json_front json.Memory = codes ": json 0 function "
 
-abbrev pub json_place : JsonFault → Place
-json_place json.Syntax = place_of None None
-json_place (json.Shape func item) = place_of func item
-json_place (json.IntRange func item) = place_of (Some func) (Some item)
-json_place (json.Float func item) = place_of func item
-json_place (json.Deep func item) = place_of func item
-json_place json.Memory = place_of None None
+abbrev pub json_position : JsonFault → Position
+json_position json.Syntax = position_of None None
+json_position (json.Shape func item) = position_of func item
+json_position (json.IntRange func item) = position_of (Some func) (Some item)
+json_position (json.Float func item) = position_of func item
+json_position (json.Deep func item) = position_of func item
+json_position json.Memory = position_of None None
 
 abbrev pub misread_line : List ℕ → SourceFault → List ℕ
-misread_line path (Text fault) = path ++ text_front fault ++ (decimal (text_place fault) ++ codes "\n")
-misread_line path (Json fault) = path ++ json_front fault ++ place_end (json_place fault)
+misread_line path (Text fault) = path ++ text_front fault ++ (decimal (text_position fault) ++ codes "\n")
+misread_line path (Json fault) = path ++ json_front fault ++ position_end (json_position fault)
 
 -- the kind of a fault of the names, by its number
 abbrev pub name_front : NameFault → List ℕ
@@ -90,17 +90,17 @@ name_front name.NoMain = codes "name 5 function "
 name_front (name.TwiceArg func) = codes "name 6 function "
 name_front name.Memory = codes "name 0 function "
 
-abbrev pub name_place : NameFault → Place
-name_place (name.NoFunction func item) = place_of (Some func) (Some item)
-name_place (name.TwiceFunction func) = place_of (Some func) None
-name_place (name.NoLabel func item) = place_of (Some func) (Some item)
-name_place (name.TwiceLabel func item) = place_of (Some func) (Some item)
-name_place name.NoMain = place_of None None
-name_place (name.TwiceArg func) = place_of (Some func) None
-name_place name.Memory = place_of None None
+abbrev pub name_position : NameFault → Position
+name_position (name.NoFunction func item) = position_of (Some func) (Some item)
+name_position (name.TwiceFunction func) = position_of (Some func) None
+name_position (name.NoLabel func item) = position_of (Some func) (Some item)
+name_position (name.TwiceLabel func item) = position_of (Some func) (Some item)
+name_position name.NoMain = position_of None None
+name_position (name.TwiceArg func) = position_of (Some func) None
+name_position name.Memory = position_of None None
 
 abbrev pub misnamed_line : NameFault → List ℕ
-misnamed_line fault = name_front fault ++ place_end (name_place fault)
+misnamed_line fault = name_front fault ++ position_end (name_position fault)
 
 -- ---- the line of a program that isn't accepted
 
@@ -118,14 +118,14 @@ variable_name p func variable = name_in (slice_get p.funcs func) variable
 
 -- the end of a line that tells a function and an item
 abbrev pub item_end : ℕ → ℕ → List ℕ
-item_end func item = place_end (place_of (Some func) (Some item))
+item_end func item = position_end (position_of (Some func) (Some item))
 
 -- the line of a variable of this name that may be unassigned
 abbrev pub unassigned_line : List ℕ → ℕ → ℕ → List ℕ
 unassigned_line name func item =
-    codes "check 3 function " ++ place_then (place_of (Some func) (Some item)) (codes " variable ") ++ (name ++ codes "\n")
+    codes "check 3 function " ++ position_then (position_of (Some func) (Some item)) (codes " variable ") ++ (name ++ codes "\n")
 
--- the kind of a fault of the checker, by its number, and its place
+-- the kind of a fault of the checker, by its number, and its position
 abbrev pub unaccepted_line : Prog → CheckFault → List ℕ
 unaccepted_line p (check.Types func item) = codes "check 1 function " ++ item_end func item
 unaccepted_line p (check.Arity func item) = codes "check 2 function " ++ item_end func item
@@ -133,7 +133,7 @@ unaccepted_line p (check.MaybeUnassigned func item variable) = unassigned_line (
 unaccepted_line p (check.Nest func item) = codes "check 4 function " ++ item_end func item
 unaccepted_line p (check.SpecCall func item) = codes "check 5 function " ++ item_end func item
 unaccepted_line p (check.NoReturn func item) = codes "check 6 function " ++ item_end func item
-unaccepted_line p check.MainType = codes "check 7 function " ++ place_end (place_of (Some p.main) None)
+unaccepted_line p check.MainType = codes "check 7 function " ++ position_end (position_of (Some p.main) None)
 unaccepted_line p (check.PrintPtr func item) = codes "check 8 function " ++ item_end func item
 unaccepted_line p check.Memory = codes "check 0 function - item -\n"
 
@@ -168,9 +168,9 @@ spent_line steps = codes "spent " ++ decimal steps ++ codes "\n"
 abbrev pub count_line : ℕ → ℕ → List ℕ
 count_line given wanted = (codes "arguments: " ++ decimal given) ++ (codes " given, " ++ decimal wanted ++ codes " wanted\n")
 
--- the place, from 1, of an argument that spells no value of its type
+-- the position, from 1, of an argument that spells no value of its type
 abbrev pub spelling_line : ℕ → List ℕ
-spelling_line place = codes "argument " ++ decimal place ++ codes "\n"
+spelling_line position = codes "argument " ++ decimal position ++ codes "\n"
 
 -- words that ask for nothing
 abbrev pub misuse_line : Misuse → List ℕ

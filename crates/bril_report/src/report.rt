@@ -2,7 +2,7 @@
 
 ghost use Rattle.std.specs.Prelude.{◌≡◌, ◌++◌, codes, None, Some};
 ghost use Rattle.std.specs.Fmt.{decimal};
-ghost use Rattle.bril_report.specs.Lines.{misread_line, misnamed_line, text_front, text_place, json_front, json_place, name_front, name_place, number_or_dash, place_then, place_end, place_of, variable_name, unassigned_line, unaccepted_line, fault_line, count_line, misuse_line};
+ghost use Rattle.bril_report.specs.Lines.{misread_line, misnamed_line, text_front, text_position, json_front, json_position, name_front, name_position, number_or_dash, position_then, position_end, position_of, variable_name, unassigned_line, unaccepted_line, fault_line, count_line, misuse_line};
 ghost use Rattle.bril_report.specs.Report.{Says, status_number, status_line, PutsLine, SaysStatus};
 
 use crate::status::{SourceFault, Status};
@@ -19,7 +19,7 @@ use itoa::Buffer;
 
 // A function and an item by their numbers, where a fault stands in one.
 #[derive(Clone, Copy, Drop)]
-struct Place {
+struct Position {
     func: Option<u32>,
     item: Option<u32>,
 }
@@ -32,15 +32,15 @@ pub fn status_number(status: &Status) -> u8
         Status::Done => 0,
         Status::Faulted { .. } => 2,
         Status::Spent { .. } => 3,
-        Status::Unformed
+        Status::Unsupported
         | Status::Misread { .. }
         | Status::Misnamed { .. }
         | Status::Unaccepted { .. } => 65,
-        Status::Unread => 66,
+        Status::CannotRead => 66,
         Status::FileTooBig | Status::CodeTooBig { .. } | Status::StackTooBig { .. } => 68,
-        Status::Miscounted { .. } | Status::Misspelt { .. } => 69,
+        Status::ArgumentCount { .. } | Status::BadArgument { .. } => 69,
         Status::OutOfMemory => 71,
-        Status::Unwritten => 74,
+        Status::CannotWrite => 74,
     }
 }
 
@@ -88,18 +88,18 @@ fn put_status<E: Sink>(err: &mut E, path: &Text, status: &Status) -> Result<(), 
         Status::Done => put_line(err, b""),
         Status::Faulted { fault } => put_line(err, fault_line(*fault)),
         Status::Spent { steps } => put_number(err, b"spent ", *steps),
-        Status::Unformed => put_two(err, path.as_bytes(), b": form\n"),
+        Status::Unsupported => put_two(err, path.as_bytes(), b": form\n"),
         Status::Misread { fault } => put_misread(err, path.as_bytes(), *fault),
         Status::Misnamed { fault } => put_misnamed(err, *fault),
         Status::Unaccepted { program, fault } => put_unaccepted(err, program, *fault),
-        Status::Unread => put_around(err, b"cannot read ", path.as_bytes()),
+        Status::CannotRead => put_around(err, b"cannot read ", path.as_bytes()),
         Status::FileTooBig => put_line(err, b"too large: bytes\n"),
         Status::CodeTooBig { words } => put_number(err, b"too large: code ", *words),
         Status::StackTooBig { words } => put_number(err, b"too large: stack ", *words),
-        Status::Miscounted { given, wanted } => put_counts(err, *given, *wanted),
-        Status::Misspelt { place } => put_number(err, b"argument ", u64::from(*place)),
+        Status::ArgumentCount { given, wanted } => put_counts(err, *given, *wanted),
+        Status::BadArgument { position } => put_number(err, b"argument ", u64::from(*position)),
         Status::OutOfMemory => put_line(err, b"out of memory\n"),
-        Status::Unwritten => put_line(err, b"cannot write\n"),
+        Status::CannotWrite => put_line(err, b"cannot write\n"),
     }
 }
 
@@ -156,7 +156,7 @@ fn put_misread<E: Sink>(err: &mut E, path: &[u8], fault: SourceFault) -> Result<
     match fault {
         SourceFault::Text(fault) => put_text_fault(err, path, fault),
         SourceFault::Json(fault) => {
-            put_placed(err, path, json_front(fault), json_place(fault), b"\n")
+            put_placed(err, path, json_front(fault), json_position(fault), b"\n")
         }
     }
 }
@@ -165,7 +165,7 @@ fn put_misread<E: Sink>(err: &mut E, path: &[u8], fault: SourceFault) -> Result<
 fn put_misnamed<E: Sink>(err: &mut E, fault: NameFault) -> Result<(), Failed>
     ensures { PutsLine result (E.seen err.old) (misnamed_line fault) (E.seen err.new) }
 {
-    put_placed(err, b"", name_front(fault), name_place(fault), b"\n")
+    put_placed(err, b"", name_front(fault), name_position(fault), b"\n")
 }
 
 // Puts the line of a fault of the checker, which the program has.
@@ -207,9 +207,9 @@ fn put_unaccepted<E: Sink>(err: &mut E, program: &Prog, fault: CheckFault) -> Re
 
 // Puts the line of a `main` that returns a value or takes a pointer.
 fn put_main<E: Sink>(err: &mut E, main: u32) -> Result<(), Failed>
-    ensures { PutsLine result (E.seen err.old) (codes "check 7 function " ++ place_end (place_of (Some main) None)) (E.seen err.new) }
+    ensures { PutsLine result (E.seen err.old) (codes "check 7 function " ++ position_end (position_of (Some main) None)) (E.seen err.new) }
 {
-    put_placed(err, b"", b"check 7 function ", function_place(main), b"\n")
+    put_placed(err, b"", b"check 7 function ", function_position(main), b"\n")
 }
 
 // Puts a piece, a function and an item, and what follows them.
@@ -220,9 +220,9 @@ fn put_item<E: Sink>(
     item: u32,
     rest: &[u8],
 ) -> Result<(), Failed>
-    ensures { PutsLine result (E.seen err.old) (front.now ++ place_then (place_of (Some func) (Some item)) rest.now) (E.seen err.new) }
+    ensures { PutsLine result (E.seen err.old) (front.now ++ position_then (position_of (Some func) (Some item)) rest.now) (E.seen err.new) }
 {
-    put_placed(err, b"", front, item_place(func, item), rest)
+    put_placed(err, b"", front, item_position(func, item), rest)
 }
 
 // Puts the line of a variable of this name that may be unassigned.
@@ -232,23 +232,23 @@ fn put_unassigned<E: Sink>(err: &mut E, name: &[u8], func: u32, item: u32) -> Re
     put_named(
         err,
         b"check 3 function ",
-        item_place(func, item),
+        item_position(func, item),
         b" variable ",
         name,
     )
 }
 
-// Puts a piece, a place and what follows it, a name, and LF.
+// Puts a piece, a position and what follows it, a name, and LF.
 fn put_named<E: Sink>(
     err: &mut E,
     front: &[u8],
-    place: Place,
+    position: Position,
     rest: &[u8],
     name: &[u8],
 ) -> Result<(), Failed>
-    ensures { PutsLine result (E.seen err.old) (front.now ++ place_then place rest.now ++ (name.now ++ codes "\n")) (E.seen err.new) }
+    ensures { PutsLine result (E.seen err.old) (front.now ++ position_then position rest.now ++ (name.now ++ codes "\n")) (E.seen err.new) }
 {
-    put_placed(err, b"", front, place, rest)?;
+    put_placed(err, b"", front, position, rest)?;
     match put_two(err, name, b"\n") {
         Ok(()) => Ok(()),
         Err(Failed) => Err(Failed),
@@ -277,68 +277,68 @@ fn put_text_fault<E: Sink>(err: &mut E, path: &[u8], fault: TextFault) -> Result
         err,
         path,
         text_front(fault),
-        buffer.format(text_place(fault)).as_bytes(),
+        buffer.format(text_position(fault)).as_bytes(),
         b"\n",
     )
 }
 
-// Puts two pieces, a place and what follows it.
+// Puts two pieces, a position and what follows it.
 fn put_placed<E: Sink>(
     err: &mut E,
     a: &[u8],
     b: &[u8],
-    place: Place,
+    position: Position,
     rest: &[u8],
 ) -> Result<(), Failed>
-    ensures { PutsLine result (E.seen err.old) (a.now ++ b.now ++ place_then place rest.now) (E.seen err.new) }
+    ensures { PutsLine result (E.seen err.old) (a.now ++ b.now ++ position_then position rest.now) (E.seen err.new) }
 {
     put_two(err, a, b)?;
-    match put_place(err, place, rest) {
+    match put_position(err, position, rest) {
         Ok(()) => Ok(()),
         Err(Failed) => Err(Failed),
     }
 }
 
-// Puts a place and what follows it.
-fn put_place<E: Sink>(err: &mut E, place: Place, rest: &[u8]) -> Result<(), Failed>
-    ensures { PutsLine result (E.seen err.old) (place_then place rest.now) (E.seen err.new) }
+// Puts a position and what follows it.
+fn put_position<E: Sink>(err: &mut E, position: Position, rest: &[u8]) -> Result<(), Failed>
+    ensures { PutsLine result (E.seen err.old) (position_then position rest.now) (E.seen err.new) }
 {
     let mut func = Buffer::new();
     let mut item = Buffer::new();
     put_four(
         err,
-        number_or_dash(&mut func, place.func),
+        number_or_dash(&mut func, position.func),
         b" item ",
-        number_or_dash(&mut item, place.item),
+        number_or_dash(&mut item, position.item),
         rest,
     )
 }
 
-// The place of an item.
-fn item_place(func: u32, item: u32) -> Place
-    ensures { result ≡ place_of (Some func) (Some item) }
+// The position of an item.
+fn item_position(func: u32, item: u32) -> Position
+    ensures { result ≡ position_of (Some func) (Some item) }
 {
-    Place {
+    Position {
         func: Some(func),
         item: Some(item),
     }
 }
 
-// The place of a function.
-fn function_place(func: u32) -> Place
-    ensures { result ≡ place_of (Some func) None }
+// The position of a function.
+fn function_position(func: u32) -> Position
+    ensures { result ≡ position_of (Some func) None }
 {
-    Place {
+    Position {
         func: Some(func),
         item: None,
     }
 }
 
-// The place of what stands in no function.
-fn no_place() -> Place
-    ensures { result ≡ place_of None None }
+// The position of what stands in no function.
+fn no_position() -> Position
+    ensures { result ≡ position_of None None }
 {
-    Place {
+    Position {
         func: None,
         item: None,
     }
@@ -368,16 +368,16 @@ fn json_front(fault: JsonFault) -> &'static [u8]
     }
 }
 
-// The place of a fault of the JSON.
-fn json_place(fault: JsonFault) -> Place
-    ensures { result ≡ json_place fault }
+// The position of a fault of the JSON.
+fn json_position(fault: JsonFault) -> Position
+    ensures { result ≡ json_position fault }
 {
     match fault {
         JsonFault::Shape { func, item }
         | JsonFault::Float { func, item }
-        | JsonFault::Deep { func, item } => Place { func, item },
-        JsonFault::IntRange { func, item } => item_place(func, item),
-        JsonFault::Syntax | JsonFault::Memory => no_place(),
+        | JsonFault::Deep { func, item } => Position { func, item },
+        JsonFault::IntRange { func, item } => item_position(func, item),
+        JsonFault::Syntax | JsonFault::Memory => no_position(),
     }
 }
 
@@ -396,16 +396,16 @@ fn name_front(fault: NameFault) -> &'static [u8]
     }
 }
 
-// The place of a fault of the names.
-fn name_place(fault: NameFault) -> Place
-    ensures { result ≡ name_place fault }
+// The position of a fault of the names.
+fn name_position(fault: NameFault) -> Position
+    ensures { result ≡ name_position fault }
 {
     match fault {
         NameFault::NoFunction { func, item }
         | NameFault::NoLabel { func, item }
-        | NameFault::TwiceLabel { func, item } => item_place(func, item),
-        NameFault::TwiceFunction { func } | NameFault::TwiceArg { func } => function_place(func),
-        NameFault::NoMain | NameFault::Memory => no_place(),
+        | NameFault::TwiceLabel { func, item } => item_position(func, item),
+        NameFault::TwiceFunction { func } | NameFault::TwiceArg { func } => function_position(func),
+        NameFault::NoMain | NameFault::Memory => no_position(),
     }
 }
 
@@ -424,8 +424,8 @@ fn text_front(fault: TextFault) -> &'static [u8]
 }
 
 // The byte at which it stands.
-fn text_place(fault: TextFault) -> u32
-    ensures { result ≡ text_place fault }
+fn text_position(fault: TextFault) -> u32
+    ensures { result ≡ text_position fault }
 {
     match fault {
         TextFault::Lex { at }

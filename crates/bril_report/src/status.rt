@@ -24,7 +24,7 @@ pub enum Status {
     /// The program still runs after so many steps.
     Spent { steps: u64 },
     /// The file has imports, or its accepted program can't run yet, since it isn't straight.
-    Unformed,
+    Unsupported,
     /// The file's bytes read as no tree.
     Misread { fault: SourceFault },
     /// The names of the file's tree can't become numbers.
@@ -32,7 +32,7 @@ pub enum Status {
     /// The program isn't accepted.
     Unaccepted { program: Prog, fault: CheckFault },
     /// The file could not be read.
-    Unread,
+    CannotRead,
     /// The file has too many bytes.
     FileTooBig,
     /// The program has too many words of code, by this bound of them.
@@ -40,11 +40,11 @@ pub enum Status {
     /// The program needs too many words of stack, this many.
     StackTooBig { words: u64 },
     /// So many arguments were given, and `main` takes so many.
-    Miscounted { given: u32, wanted: u32 },
-    /// The argument at this place, from 1, spells no value of its type.
-    Misspelt { place: u32 },
+    ArgumentCount { given: u32, wanted: u32 },
+    /// The argument at this position, from 1, spells no value of its type.
+    BadArgument { position: u32 },
     /// Memory was wanting.
     OutOfMemory,
     /// A write to the output failed.
-    Unwritten,
+    CannotWrite,
 }

@@ -13,9 +13,9 @@ fn tells_how_commands_end(rt: HostRuntime) -> Result<(), Fail> {
     let alloc = rt.alloc();
     let path = Text::of(alloc, "a.bril")?;
     let mut err = MemSink::new(alloc, 100, Seq::new(alloc))?;
-    say(&mut err, &path, &Status::Unread);
+    say(&mut err, &path, &Status::CannotRead);
     say(&mut err, &path, &Status::Done);
-    let counts = Status::Miscounted {
+    let counts = Status::ArgumentCount {
         given: 1,
         wanted: 2,
     };
@@ -26,6 +26,6 @@ fn tells_how_commands_end(rt: HostRuntime) -> Result<(), Fail> {
     say_misuse(&mut err, misuse);
     let lines = b"cannot read a.bril\narguments: 1 given, 2 wanted\nusage: --steps\n".as_slice();
     assert_eq!(rt; err.bytes(), lines);
-    assert_eq!(rt; status_number(&Status::Unread), 66);
+    assert_eq!(rt; status_number(&Status::CannotRead), 66);
     Ok(())
 }

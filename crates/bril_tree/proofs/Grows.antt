@@ -12,7 +12,7 @@ use Rattle.bril_tree.specs.declared.operation.Op.{Op}
 use Rattle.bril_tree.specs.declared.operation.Op.TheVariants as op
 use Rattle.bril_tree.specs.declared.program.Prog.{Prog}
 use Rattle.bril_tree.specs.declared.value.Value.{Value}
-use Rattle.bril_tree.specs.Outcome.{Outcome, Gives, Fails, Acts}
+use Rattle.bril_tree.specs.Outcome.{Outcome, Yields, FaultsWith, HasEffect}
 use Rattle.bril_tree.specs.Run.{program}
 use Rattle.bril_tree.specs.State.{State, Frame}
 use Rattle.bril_tree.specs.Step.{returns, ends, allocates, stores, loads, loads_held, guards, acts, acts_at, by_outcome, item_step, frames_step, running_step, item_at}
@@ -71,9 +71,9 @@ module _ (p : Prog) (limits : Limits) where
   acts_at_grows (Act dest ty o args funcs labels) f older s = acts_grows o dest args funcs labels f older s
 
   by_outcome_grows : (o : Outcome) (item : Instr) (f : Frame) (older : List Frame) (s : State) → IsPrefix s.printed (by_outcome p limits o item f older s).printed
-  by_outcome_grows (Gives v) item f older s = same refl
-  by_outcome_grows (Fails kind) item f older s = same refl
-  by_outcome_grows Acts item f older s = acts_at_grows item f older s
+  by_outcome_grows (Yields v) item f older s = same refl
+  by_outcome_grows (FaultsWith kind) item f older s = same refl
+  by_outcome_grows HasEffect item f older s = acts_at_grows item f older s
 
   item_step_grows : (o : Option Instr) (f : Frame) (older : List Frame) (s : State) → IsPrefix s.printed (item_step p limits o f older s).printed
   item_step_grows None f older s = returns_grows _ older s

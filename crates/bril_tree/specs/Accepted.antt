@@ -9,7 +9,7 @@ use Rattle.bril_tree.specs.declared.program.Prog.{Prog}
 use Rattle.bril_tree.specs.declared.types.Ty.{Ty}
 use Rattle.std.specs.Prelude.{is_some}
 use Rattle.bril_tree.specs.Assigned.{IsMaybeUnassigned}
-use Rattle.bril_tree.specs.Edge.{Way}
+use Rattle.bril_tree.specs.Edge.{Branch}
 use Rattle.bril_tree.specs.Operand.{Location, reads_of}
 use Rattle.bril_tree.specs.Run.{main_types}
 use Rattle.bril_tree.specs.Shape.{is_shaped}
@@ -34,12 +34,12 @@ pub record IsAcceptedFunction (p : Prog) (f : Func) : Type 0 where
   -- all walks to one point have one list of open sites, of eight at most, with one where it is needed
   pub sites : AreSitesSound f.code
   -- no speculation is open where a frame begins or ends
-  pub alone : (walk : List Way) → IsWalk f.code walk → IsTrue (leaves_frame (slice_get f.code (end_of walk))) → sites_of f.code walk ≡ []
+  pub alone : (walk : List Branch) → IsWalk f.code walk → IsTrue (leaves_frame (slice_get f.code (end_of walk))) → sites_of f.code walk ≡ []
   -- a function that returns a value doesn't run off its end
   pub returns : IsSome f.ret → ¬ IsReached f.code (length f.code)
-  -- each place that an item reads was assigned on each walk to it
-  pub assigned : (point : ℕ) (item : Instr) (place : Location) → slice_get f.code point ≡ Some item → Contains (reads_of item) place →
-      ¬ IsMaybeUnassigned f.code f.args place point
+  -- each location that an item reads was assigned on each walk to it
+  pub assigned : (point : ℕ) (item : Instr) (location : Location) → slice_get f.code point ≡ Some item → Contains (reads_of item) location →
+      ¬ IsMaybeUnassigned f.code f.args location point
 
 -- an int, a bool or a char
 abbrev pub IsPlainType : Option Ty → Type 0

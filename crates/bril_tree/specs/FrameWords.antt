@@ -6,7 +6,7 @@ use Rattle.bril_tree.specs.declared.numbered.Instr.TheVariants.{Label, Const, Ac
 use Rattle.bril_tree.specs.declared.numbered_function.Func.{Func}
 use Rattle.bril_tree.specs.declared.operation.Op.{Op}
 use Rattle.bril_tree.specs.declared.operation.Op.TheVariants as op
-use Rattle.bril_tree.specs.Edge.{Way}
+use Rattle.bril_tree.specs.Edge.{Branch}
 use Rattle.bril_tree.specs.Sites.{sites_of}
 use Rattle.bril_tree.specs.Walk.{IsWalk}
 
@@ -31,10 +31,10 @@ location_count f = length f.vars + count_by (λ x. list_any (names_shadow x) f.c
 
 -- The greatest number of sites that are open at the end of a walk.
 pub record IsDepth (code : List Instr) (depth : ℕ) : Type 0 where
-  pub deepest : List Way
+  pub deepest : List Branch
   pub is : IsWalk code deepest
   pub reaches : length (sites_of code deepest) ≡ depth
-  pub most : (walk : List Way) → IsWalk code walk → length (sites_of code walk) ≤ depth
+  pub most : (walk : List Branch) → IsWalk code walk → length (sites_of code walk) ≤ depth
 
 -- Two words, and one for each location as it is and as it was at each open site.
 pub record AreFrameWords (f : Func) (words : ℕ) : Type 0 where

@@ -1,4 +1,4 @@
--- Laws of the names of operations and of the written meaning.
+-- Laws of the names of operations and of the semantics.
 use Rattle.std.specs.Prelude.{◌≡◌, ◌↔◌, ℕ, ◌*◌, List, Some}
 use Rattle.simulation.specs.System.{IsSystem}
 use Rattle.bril_tree.specs.declared.limits.Limits.{Limits}

@@ -5,7 +5,7 @@ use Rattle.bril_tree.specs.declared.numbered.Instr.{Instr}
 use Rattle.bril_tree.specs.declared.numbered.Instr.TheVariants.{Label, Const, Act}
 use Rattle.bril_tree.specs.declared.operation.Op.{Op}
 use Rattle.bril_tree.specs.declared.operation.Op.TheVariants as op
-use Rattle.bril_tree.specs.Edge.{Way, ways_at}
+use Rattle.bril_tree.specs.Edge.{Branch, branches_at}
 use Rattle.bril_tree.specs.Walk.{IsFirstWalk}
 
 -- the most sites that may be open
@@ -40,26 +40,26 @@ item_change (Some (Const dest ty value)) aborts = Keeps
 item_change (Some (Act dest ty operation args funcs labels)) aborts = operation_change operation aborts
 
 -- A `speculate` opens a site; a `commit`, and the abort of a guard, close the newest.
-abbrev pub change_of : List Instr → Way → Change
-change_of code way = item_change (slice_get code way.from) way.aborts
+abbrev pub change_of : List Instr → Branch → Change
+change_of code branch = item_change (slice_get code branch.from) branch.aborts
 
 abbrev pub sites_changed : Change → ℕ → List ℕ → List ℕ
 sites_changed Opens site sites = site ∷ sites
 sites_changed Closes site sites = without_newest sites
 sites_changed Keeps site sites = sites
 
--- the open sites behind a way, from those before it
-abbrev pub sites_behind : List Instr → Way → List ℕ → List ℕ
-sites_behind code way sites = sites_changed (change_of code way) way.from sites
+-- the open sites behind a branch, from those before it
+abbrev pub sites_behind : List Instr → Branch → List ℕ → List ℕ
+sites_behind code branch sites = sites_changed (change_of code branch) branch.from sites
 
 -- the open sites of a walk
-abbrev pub sites_of : List Instr → List Way → List ℕ
+abbrev pub sites_of : List Instr → List Branch → List ℕ
 sites_of code [] = []
-sites_of code (way ∷ walk) = sites_behind code way (sites_of code walk)
+sites_of code (branch ∷ walk) = sites_behind code branch (sites_of code walk)
 
 -- the sites of the first walk to the point
 pub record AreFirstSites (code : List Instr) (point : ℕ) (sites : List ℕ) : Type 0 where
-  pub walk : List Way
+  pub walk : List Branch
   pub first : IsFirstWalk code point walk
   pub are : sites_of code walk ≡ sites
 
@@ -72,16 +72,16 @@ needs_site (Some (Act dest ty op.Commit args funcs labels)) = true
 needs_site (Some (Act dest ty op.Guard args funcs labels)) = true
 needs_site (Some (Act dest ty _ args funcs labels)) = false
 
--- A way brings another list to the point than its first walk.
+-- A branch brings another list to the point than its first walk.
 pub record BringsOthers (code : List Instr) (point : ℕ) : Type 0 where
-  pub way : Way
-  pub at : Contains (ways_at code way.from) way
-  pub to : way.to ≡ point
+  pub branch : Branch
+  pub at : Contains (branches_at code branch.from) branch
+  pub to : branch.to ≡ point
   pub before : List ℕ
   pub sites : List ℕ
-  pub first_before : AreFirstSites code way.from before
+  pub first_before : AreFirstSites code branch.from before
   pub first : AreFirstSites code point sites
-  pub other : sites_behind code way before ≢ sites
+  pub other : sites_behind code branch before ≢ sites
 
 pub record HasTooMany (code : List Instr) (point : ℕ) : Type 0 where
   pub sites : List ℕ

@@ -24,17 +24,17 @@ abbrev pub counted : ℕ → ℕ
 counted n = min (n + 1) (2 ^ 64 - 1)
 
 -- the variables and the shadows of a frame: a `speculate` saves both, and a failed `guard` puts both back
-pub record Places : Type 0 where
+pub record Locals : Type 0 where
   pub vars : Values
   pub shadows : Values
 
 -- a call that hasn't returned: its function, its point, which is the number of an item or, at the end, the
--- number of items, what its places hold, and what was saved, the newest save first
+-- number of items, what its locations hold, and what was saved, the newest save first
 pub record Frame : Type 0 where
   pub function : ℕ
   pub point : ℕ
-  pub places : Places
-  pub saves : List Places
+  pub locations : Locals
+  pub saves : List Locals
 
 -- a block of memory: its size in cells, whether it is live, and what was stored
 pub record Block : Type 0 where

@@ -14,10 +14,10 @@ use Rattle.bril_tree.specs.declared.operation.Op.TheVariants as op
 use Rattle.bril_tree.specs.declared.program.Prog.{Prog}
 use Rattle.bril_tree.specs.declared.value.Value.{Value}
 use Rattle.bril_tree.specs.declared.value.Value.TheVariants.{Ptr}
-use Rattle.bril_tree.specs.State.{Values, no_values, with_value, read, counted, Places, Frame, State}
+use Rattle.bril_tree.specs.State.{Values, no_values, with_value, read, counted, Locals, Frame, State}
 use Rattle.bril_tree.specs.Memory.{is_live_any, live_block, cell_at, held, changed_block, allocation_fault, cells_of, new_block, is_freeable}
 use Rattle.bril_tree.specs.Operand.{dest_of}
-use Rattle.bril_tree.specs.Outcome.{Outcome, Gives, Fails, Acts, outcome_of, argument, int_of, bool_of, block_of, offset_of}
+use Rattle.bril_tree.specs.Outcome.{Outcome, Yields, FaultsWith, HasEffect, outcome_of, argument, int_of, bool_of, block_of, offset_of}
 use Rattle.bril_tree.specs.Value.{shown}
 
 -- the items of a function; none where the program lacks it
@@ -51,16 +51,16 @@ at_point point f = record f { point = point }
 abbrev pub advanced : Frame → Frame
 advanced f = record f { point = suc f.point }
 
-abbrev pub with_places : Places → Frame → Frame
-with_places places f = record f { places = places }
+abbrev pub with_locations : Locals → Frame → Frame
+with_locations locations f = record f { locations = locations }
 
 -- the variable, where there is one, has the value
-abbrev pub assigned : Option ℕ → Value → Places → Places
-assigned None v places = places
-assigned (Some x) v places = record places { vars = with_value places.vars x v }
+abbrev pub assigned : Option ℕ → Value → Locals → Locals
+assigned None v locations = locations
+assigned (Some x) v locations = record locations { vars = with_value locations.vars x v }
 
-abbrev pub shadowed : ℕ → Value → Places → Places
-shadowed x v places = record places { shadows = with_value places.shadows x v }
+abbrev pub shadowed : ℕ → Value → Locals → Locals
+shadowed x v locations = record locations { shadows = with_value locations.shadows x v }
 
 -- ---- changes of the state
 
@@ -80,11 +80,11 @@ module _ (p : Prog) (limits : Limits) where
 
   -- a value for the destination, and the next point
   abbrev pub gives : Option ℕ → Value → Frame → List Frame → State → State
-  gives dest v f older s = goes_on (advanced (with_places (assigned dest v f.places) f)) older s
+  gives dest v f older s = goes_on (advanced (with_locations (assigned dest v f.locations) f)) older s
 
   -- the next point alone
-  abbrev pub passes : Frame → List Frame → State → State
-  passes f older s = goes_on (advanced f) older s
+  abbrev pub advances : Frame → List Frame → State → State
+  advances f older s = goes_on (advanced f) older s
 
   -- the point of a label of the frame's function
   abbrev pub jumps : ℕ → Frame → List Frame → State → State
@@ -114,7 +114,7 @@ module _ (p : Prog) (limits : Limits) where
   new_frame f args = record {
     function = f;
     point = 0;
-    places = record { vars = arguments_from 0 args no_values; shadows = no_values };
+    locations = record { vars = arguments_from 0 args no_values; shadows = no_values };
     saves = [];
   }
 
@@ -131,7 +131,7 @@ module _ (p : Prog) (limits : Limits) where
   line_of (v ∷ w ∷ vs) = shown v ++ 32 ∷ line_of (w ∷ vs)
 
   abbrev pub prints : List Value → Frame → List Frame → State → State
-  prints vs f older s = passes f older (record s { printed = s.printed ++ line_of vs })
+  prints vs f older s = advances f older (record s { printed = s.printed ++ line_of vs })
 
   -- a block of so many cells
   abbrev pub allocates : Option Fault → ℤ → Option ℕ → Frame → List Frame → State → State
@@ -142,13 +142,13 @@ module _ (p : Prog) (limits : Limits) where
   abbrev pub frees : Value → Frame → List Frame → State → State
   frees pointer f older s =
       if is_freeable (live_block s.blocks (block_of pointer)) (offset_of pointer) then
-      passes f older (record s { blocks = changed_block s.blocks (block_of pointer) (λ b. record b { is_live = false }) })
+      advances f older (record s { blocks = changed_block s.blocks (block_of pointer) (λ b. record b { is_live = false }) })
       else faulted fault.BadFree s
 
   abbrev pub stores : Option ℕ → Value → Value → Frame → List Frame → State → State
   stores None pointer v f older s = faulted fault.Access s
   stores (Some n) pointer v f older s =
-      passes f older (record s { blocks = changed_block s.blocks (block_of pointer) (λ b. record b { cells = with_value b.cells n v }) })
+      advances f older (record s { blocks = changed_block s.blocks (block_of pointer) (λ b. record b { cells = with_value b.cells n v }) })
 
   abbrev pub loads_held : Option Value → Option ℕ → Frame → List Frame → State → State
   loads_held None dest f older s = faulted fault.Uninit s
@@ -158,76 +158,76 @@ module _ (p : Prog) (limits : Limits) where
   loads None pointer dest f older s = faulted fault.Access s
   loads (Some n) pointer dest f older s = loads_held (held s.blocks pointer n) dest f older s
 
-  -- the places as they are become the newest save
+  -- the locations as they are become the newest save
   abbrev pub speculates : Frame → List Frame → State → State
-  speculates f older s = passes (record f { saves = f.places ∷ f.saves }) older s
+  speculates f older s = advances (record f { saves = f.locations ∷ f.saves }) older s
 
   -- the newest save is dropped
-  abbrev pub dropped : List Places → List Places
+  abbrev pub dropped : List Locals → List Locals
   dropped [] = []
   dropped (newest ∷ saves) = saves
 
   abbrev pub commits : Frame → List Frame → State → State
-  commits f older s = passes (record f { saves = dropped f.saves }) older s
+  commits f older s = advances (record f { saves = dropped f.saves }) older s
 
-  -- the places of the newest save
-  abbrev pub saved : List Places → Places → Places
-  saved [] places = places
-  saved (newest ∷ saves) places = newest
+  -- the locations of the newest save
+  abbrev pub saved : List Locals → Locals → Locals
+  saved [] locations = locations
+  saved (newest ∷ saves) locations = newest
 
   -- one failure more of the guard at which the frame stands
   abbrev pub with_failure : Frame → State → State
   with_failure f s =
       record s { failures = λ g i. if (g == f.function) && (i == f.point) then counted (s.failures g i) else s.failures g i }
 
-  -- Nothing where the condition holds. Else the places become those of the newest save, which is dropped, and
+  -- Nothing where the condition holds. Else the locations become those of the newest save, which is dropped, and
   -- the frame goes to the label; blocks and printed bytes stay.
   abbrev pub guards : Bool → ℕ → Frame → List Frame → State → State
-  guards true l f older s = passes f older s
+  guards true l f older s = advances f older s
   guards false l f older s =
-      jumps l (record f { places = saved f.saves f.places; saves = dropped f.saves }) older (with_failure f s)
+      jumps l (record f { locations = saved f.saves f.locations; saves = dropped f.saves }) older (with_failure f s)
 
   -- the operations that do more than compute
   abbrev pub acts : Op → Option ℕ → List ℕ → List ℕ → List ℕ → Frame → List Frame → State → State
   acts op.Jmp dest args funcs labels f older s = jumps (slice_index labels 0) f older s
   acts op.Br dest args funcs labels f older s =
-      jumps (slice_index labels (if bool_of (argument f.places args 0) then 0 else 1)) f older s
-  acts op.Call dest args funcs labels f older s = calls (slice_index funcs 0) (map (read f.places.vars) args) f older s
-  acts op.Ret dest args funcs labels f older s = returns (argument f.places args 0) older s
-  acts op.Print dest args funcs labels f older s = prints (map (read f.places.vars) args) f older s
+      jumps (slice_index labels (if bool_of (argument f.locations args 0) then 0 else 1)) f older s
+  acts op.Call dest args funcs labels f older s = calls (slice_index funcs 0) (map (read f.locations.vars) args) f older s
+  acts op.Ret dest args funcs labels f older s = returns (argument f.locations args 0) older s
+  acts op.Print dest args funcs labels f older s = prints (map (read f.locations.vars) args) f older s
   acts op.Alloc dest args funcs labels f older s =
-      let count = int_of (argument f.places args 0) in
+      let count = int_of (argument f.locations args 0) in
       allocates (allocation_fault limits.cells s.blocks count) count dest f older s
-  acts op.Free dest args funcs labels f older s = frees (argument f.places args 0) f older s
+  acts op.Free dest args funcs labels f older s = frees (argument f.locations args 0) f older s
   acts op.Store dest args funcs labels f older s =
-      let pointer = argument f.places args 0 in
-      stores (cell_at s.blocks pointer) pointer (argument f.places args 1) f older s
+      let pointer = argument f.locations args 0 in
+      stores (cell_at s.blocks pointer) pointer (argument f.locations args 1) f older s
   acts op.Load dest args funcs labels f older s =
-      let pointer = argument f.places args 0 in
+      let pointer = argument f.locations args 0 in
       loads (cell_at s.blocks pointer) pointer dest f older s
   acts op.Set dest args funcs labels f older s =
-      passes (with_places (shadowed (slice_index args 0) (argument f.places args 1) f.places) f) older s
+      advances (with_locations (shadowed (slice_index args 0) (argument f.locations args 1) f.locations) f) older s
   acts op.Speculate dest args funcs labels f older s = speculates f older s
   acts op.Commit dest args funcs labels f older s = commits f older s
   acts op.Guard dest args funcs labels f older s =
-      guards (bool_of (argument f.places args 0)) (slice_index labels 0) f older s
-  acts _ dest args funcs labels f older s = passes f older s
+      guards (bool_of (argument f.locations args 0)) (slice_index labels 0) f older s
+  acts _ dest args funcs labels f older s = advances f older s
 
   abbrev pub acts_at : Instr → Frame → List Frame → State → State
-  acts_at (Label l) f older s = passes f older s
-  acts_at (Const dest ty value) f older s = passes f older s
+  acts_at (Label l) f older s = advances f older s
+  acts_at (Const dest ty value) f older s = advances f older s
   acts_at (Act dest ty operation args funcs labels) f older s = acts operation dest args funcs labels f older s
 
   -- one row for all that computes: the destination gets the value, or the run faults
   abbrev pub by_outcome : Outcome → Instr → Frame → List Frame → State → State
-  by_outcome (Gives v) item f older s = gives (dest_of item) v f older s
-  by_outcome (Fails kind) item f older s = faulted kind s
-  by_outcome Acts item f older s = acts_at item f older s
+  by_outcome (Yields v) item f older s = gives (dest_of item) v f older s
+  by_outcome (FaultsWith kind) item f older s = faulted kind s
+  by_outcome HasEffect item f older s = acts_at item f older s
 
   -- the item of the newest frame; at the function's end it returns
   abbrev pub item_step : Option Instr → Frame → List Frame → State → State
   item_step None f older s = returns (read no_values 0) older s
-  item_step (Some item) f older s = by_outcome (outcome_of item f.places) item f older s
+  item_step (Some item) f older s = by_outcome (outcome_of item f.locations) item f older s
 
   abbrev pub frames_step : List Frame → State → State
   frames_step [] s = ends (is_live_any s.blocks) s

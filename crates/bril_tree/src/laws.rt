@@ -1,4 +1,4 @@
-// Laws of the names of operations and of the written meaning. Each function states one, and does nothing when it is
+// Laws of the names of operations and of the semantics. Each function states one, and does nothing when it is
 // called.
 
 ghost use Rattle.bril_tree.specs.Laws.{OperationsAreNamed, RunsAreSystems, RefinesItself, RefinesOn};

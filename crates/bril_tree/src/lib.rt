@@ -1,4 +1,4 @@
-// Bril programs as trees of names and as numbered programs, and their written meaning.
+// Bril programs as trees of names and as numbered programs, and their semantics.
 #![tactic(auto)]
 
 pub mod bytes;

@@ -3,9 +3,9 @@
 
 mod outcome;
 mod parts;
-mod shown;
+mod printed_value;
 #[cfg(test)]
 mod tests;
 
 pub use outcome::{Outcome, compute};
-pub use shown::Shown;
+pub use printed_value::PrintedValue;

@@ -21,71 +21,71 @@ fn computes(rt: HostRuntime) {
             Op::Add,
             Value::Int(i64::MAX),
             Value::Int(1),
-            Outcome::Gives(LEAST),
+            Outcome::Yields(LEAST),
         ),
         (
             Op::Sub,
             Value::Int(2),
             Value::Int(5),
-            Outcome::Gives(Value::Int(-3)),
+            Outcome::Yields(Value::Int(-3)),
         ),
-        (Op::Mul, LEAST, Value::Int(-1), Outcome::Gives(LEAST)),
-        (Op::Div, LEAST, Value::Int(-1), Outcome::Gives(LEAST)),
+        (Op::Mul, LEAST, Value::Int(-1), Outcome::Yields(LEAST)),
+        (Op::Div, LEAST, Value::Int(-1), Outcome::Yields(LEAST)),
         (
             Op::Div,
             Value::Int(-7),
             Value::Int(2),
-            Outcome::Gives(Value::Int(-3)),
+            Outcome::Yields(Value::Int(-3)),
         ),
         (
             Op::Div,
             Value::Int(7),
             Value::Int(0),
-            Outcome::Fails(Fault::DivZero),
+            Outcome::FaultsWith(Fault::DivZero),
         ),
-        (Op::Lt, Value::Int(-1), Value::Int(0), Outcome::Gives(yes)),
-        (Op::Ge, Value::Int(-1), Value::Int(0), Outcome::Gives(no)),
+        (Op::Lt, Value::Int(-1), Value::Int(0), Outcome::Yields(yes)),
+        (Op::Ge, Value::Int(-1), Value::Int(0), Outcome::Yields(no)),
         (
             Op::Clt,
             Value::Char('Z'),
             Value::Char('a'),
-            Outcome::Gives(yes),
+            Outcome::Yields(yes),
         ),
         (
             Op::Ceq,
             Value::Char('ß'),
             Value::Char('ß'),
-            Outcome::Gives(yes),
+            Outcome::Yields(yes),
         ),
-        (Op::And, yes, no, Outcome::Gives(no)),
-        (Op::Or, yes, no, Outcome::Gives(yes)),
-        (Op::Not, no, no, Outcome::Gives(yes)),
-        (Op::Id, BEHIND, no, Outcome::Gives(BEHIND)),
+        (Op::And, yes, no, Outcome::Yields(no)),
+        (Op::Or, yes, no, Outcome::Yields(yes)),
+        (Op::Not, no, no, Outcome::Yields(yes)),
+        (Op::Id, BEHIND, no, Outcome::Yields(BEHIND)),
         (
             Op::PtrAdd,
             BEHIND,
             Value::Int(1),
-            Outcome::Fails(Fault::PtrRange),
+            Outcome::FaultsWith(Fault::PtrRange),
         ),
         (
             Op::CharToInt,
             Value::Char('€'),
             no,
-            Outcome::Gives(Value::Int(0x20AC)),
+            Outcome::Yields(Value::Int(0x20AC)),
         ),
         (
             Op::IntToChar,
             Value::Int(0x1F600),
             no,
-            Outcome::Gives(Value::Char('😀')),
+            Outcome::Yields(Value::Char('😀')),
         ),
         (
             Op::IntToChar,
             Value::Int(0xD800),
             no,
-            Outcome::Fails(Fault::BadChar),
+            Outcome::FaultsWith(Fault::BadChar),
         ),
-        (Op::Print, yes, no, Outcome::Acts),
+        (Op::Print, yes, no, Outcome::HasEffect),
     ];
     for (op, first, second, want) in rows {
         assert_eq!(rt; compute(op, None, first, second), want, "{op:?}");
@@ -100,7 +100,7 @@ fn moves_pointers(rt: HostRuntime) {
     };
     assert_eq!(rt;
         compute(Op::PtrAdd, None, start, Value::Int(2_147_483_648)),
-        Outcome::Gives(BEHIND)
+        Outcome::Yields(BEHIND)
     );
     let least = Value::Ptr {
         block: 3,
@@ -108,11 +108,11 @@ fn moves_pointers(rt: HostRuntime) {
     };
     assert_eq!(rt;
         compute(Op::PtrAdd, None, start, Value::Int(-2_147_483_647)),
-        Outcome::Gives(least)
+        Outcome::Yields(least)
     );
     assert_eq!(rt;
         compute(Op::PtrAdd, None, start, LEAST),
-        Outcome::Fails(Fault::PtrRange)
+        Outcome::FaultsWith(Fault::PtrRange)
     );
 }
 
@@ -135,10 +135,10 @@ fn undefines(rt: HostRuntime) {
         let ty = Ty { depth, base };
         assert_eq!(rt;
             compute(Op::Undef, Some(ty), LEAST, LEAST),
-            Outcome::Gives(want)
+            Outcome::Yields(want)
         );
     }
-    assert_eq!(rt; compute(Op::Undef, None, LEAST, LEAST), Outcome::Acts);
+    assert_eq!(rt; compute(Op::Undef, None, LEAST, LEAST), Outcome::HasEffect);
 }
 
 #[test]
@@ -153,6 +153,6 @@ fn shows(rt: HostRuntime) {
         (BEHIND, b"\n"),
     ];
     for (value, want) in rows {
-        assert_eq!(rt; Shown::of(value, b'\n').as_bytes(), want, "{value:?}");
+        assert_eq!(rt; PrintedValue::of(value, b'\n').as_bytes(), want, "{value:?}");
     }
 }

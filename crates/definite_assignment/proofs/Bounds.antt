@@ -9,7 +9,7 @@ use Rattle.definite_assignment.specs.Leaving.{leaving_arc, leaving_arcs, turned}
 use Rattle.definite_assignment.specs.Reads.{read_at, reads_from, item_reads}
 use Rattle.definite_assignment.proofs.Edges.{IsEdgeAt, edge-back}
 use Rattle.definite_assignment.proofs.Walks.{sites-inside}
-use Rattle.definite_assignment.proofs.Ways.{way-is, way-inside}
+use Rattle.definite_assignment.proofs.Branches.{branch-is, branch-inside}
 use Rattle.flow_graph.specs.Graph.{GraphView, IsGraphOf, leave_of}
 use Rattle.flow_graph.specs.declared.edge.Edge.{Edge}
 use Rattle.graph_search.specs.Path.{IsBetween}
@@ -23,14 +23,14 @@ leave_inside n false from sites low inside = low
 edge_between : (code : List Instr) (graph : GraphView) → IsGraphOf code graph → (edge : Edge) → Contains graph.edges edge → IsBetween (length code + 1) (leaving_arc code edge)
 edge_between code graph g edge h =
     let at : IsEdgeAt code graph.sites 0 edge = edge-back code graph.sites 0 edge (subst (λ es. Contains es edge) g.edges h) in
-    let one = way-is code (0 + at.place) at.way at.leads in
-    let low : 0 + at.place < length code = way-inside code (0 + at.place) at.way at.leads in
-    let from : at.way.from < length code = subst (λ p. p < length code) (sym one.from) low in
-    let first = g.reached at.place at.sites at.there in
+    let one = branch-is code (0 + at.index) at.branch at.leads in
+    let low : 0 + at.index < length code = branch-inside code (0 + at.index) at.branch at.leads in
+    let from : at.branch.from < length code = subst (λ p. p < length code) (sym one.from) low in
+    let first = g.reached at.index at.sites at.there in
     let inside : (k site : ℕ) → slice_get at.sites k ≡ Some site → site < length code =
     λ k site e. sites-inside code first.walk first.first.is k site (ap (λ ss. slice_get ss k) first.are ∙ e) in
-    let leave : leave_of at.way.aborts at.way.from at.sites < length code = leave_inside (length code) at.way.aborts at.way.from at.sites from inside in
-    let to : at.way.to ≤ length code = one.to low in
+    let leave : leave_of at.branch.aborts at.branch.from at.sites < length code = leave_inside (length code) at.branch.aborts at.branch.from at.sites from inside in
+    let to : at.branch.to ≤ length code = one.to low in
     subst (λ e. IsBetween (length code + 1) (leaving_arc code e)) at.is (omega arith, omega arith)
 
 pub arcs-between : (code : List Instr) (graph : GraphView) → IsGraphOf code graph → All (IsBetween (length code + 1)) (leaving_arcs code graph.edges)

@@ -1,44 +1,44 @@
--- The edges of a flow graph are the ways on from the points that walks lead to.
+-- The edges of a flow graph are the branches from the points that walks lead to.
 use Rattle.std.proofs.Common.{◌≡◌, ℕ, suc, zero, ◌+◌, List, [], ◌∷◌, Option, Some, None, map, sym, subst, refl, ⊎_elim, arith}
 use Rattle.std.specs.Prelude.{slice_get}
 use Rattle.std.specs.List.{Contains}
 use Rattle.std.proofs.lemmas.List.Elements.{Contains-append_left, Contains-append_right, Contains-append_cases}
-use Rattle.bril_tree.specs.Edge.{Way, ways_at}
+use Rattle.bril_tree.specs.Edge.{Branch, branches_at}
 use Rattle.bril_tree.specs.declared.numbered.Instr.{Instr}
-use Rattle.definite_assignment.proofs.Places.{Contains-map, Contains-map_back}
+use Rattle.definite_assignment.proofs.Locations.{Contains-map, Contains-map_back}
 use Rattle.flow_graph.specs.Graph.{edge_of, edges_at, edges_from}
 use Rattle.flow_graph.specs.declared.edge.Edge.{Edge}
 
--- the edge is a way on from a point with these sites
+-- the edge is a branch from a point with these sites
 pub record IsEdgeAt (code : List Instr) (all : List (Option (List ℕ))) (first : ℕ) (edge : Edge) : Type 0 where
-  pub place : ℕ
+  pub index : ℕ
   pub sites : List ℕ
-  pub way : Way
-  pub there : slice_get all place ≡ Some (Some sites)
-  pub leads : Contains (ways_at code (first + place)) way
-  pub is : edge_of sites way ≡ edge
+  pub branch : Branch
+  pub there : slice_get all index ≡ Some (Some sites)
+  pub leads : Contains (branches_at code (first + index)) branch
+  pub is : edge_of sites branch ≡ edge
 
-pub edge-there : (code : List Instr) (all : List (Option (List ℕ))) (first k point : ℕ) (sites : List ℕ) (way : Way) → first + k ≡ point →
-    slice_get all k ≡ Some (Some sites) → Contains (ways_at code point) way → Contains (edges_from code first all) (edge_of sites way)
-edge-there code [] first k point sites way e h leads = cc
-edge-there code (None ∷ all) first zero point sites way e h leads = cc
-edge-there code (Some s ∷ all) first zero point sites way e h leads =
+pub edge-there : (code : List Instr) (all : List (Option (List ℕ))) (first k point : ℕ) (sites : List ℕ) (branch : Branch) → first + k ≡ point →
+    slice_get all k ≡ Some (Some sites) → Contains (branches_at code point) branch → Contains (edges_from code first all) (edge_of sites branch)
+edge-there code [] first k point sites branch e h leads = cc
+edge-there code (None ∷ all) first zero point sites branch e h leads = cc
+edge-there code (Some s ∷ all) first zero point sites branch e h leads =
     let same : s ≡ sites = cc in
     let here : first ≡ point = omega arith in
-    Contains-append_left (map (edge_of s) (ways_at code first)) (edges_from code (suc first) all) (edge_of sites way)
-    (subst (λ x. Contains (map (edge_of s) (ways_at code first)) (edge_of x way)) same
-    (Contains-map (edge_of s) (ways_at code first) way (subst (λ p. Contains (ways_at code p) way) (sym here) leads)))
-edge-there code (o ∷ all) first (suc k) point sites way e h leads =
-    Contains-append_right (edges_at code first o) (edges_from code (suc first) all) (edge_of sites way)
-    (edge-there code all (suc first) k point sites way (omega arith) h leads)
+    Contains-append_left (map (edge_of s) (branches_at code first)) (edges_from code (suc first) all) (edge_of sites branch)
+    (subst (λ x. Contains (map (edge_of s) (branches_at code first)) (edge_of x branch)) same
+    (Contains-map (edge_of s) (branches_at code first) branch (subst (λ p. Contains (branches_at code p) branch) (sym here) leads)))
+edge-there code (o ∷ all) first (suc k) point sites branch e h leads =
+    Contains-append_right (edges_at code first o) (edges_from code (suc first) all) (edge_of sites branch)
+    (edge-there code all (suc first) k point sites branch (omega arith) h leads)
 
 later : (code : List Instr) (o : Option (List ℕ)) (all : List (Option (List ℕ))) (first : ℕ) (edge : Edge) → IsEdgeAt code all (suc first) edge → IsEdgeAt code (o ∷ all) first edge
 later code o all first edge r = record {
-  place = suc r.place;
+  index = suc r.index;
   sites = r.sites;
-  way = r.way;
+  branch = r.branch;
   there = r.there;
-  leads = let same : suc first + r.place ≡ first + suc r.place = omega arith in subst (λ p. Contains (ways_at code p) r.way) same r.leads;
+  leads = let same : suc first + r.index ≡ first + suc r.index = omega arith in subst (λ p. Contains (branches_at code p) r.branch) same r.leads;
   is = r.is;
 }
 
@@ -48,15 +48,15 @@ edge-back code (None ∷ all) first edge h = later code None all first edge (edg
 edge-back code (Some s ∷ all) first edge h =
     ⊎_elim
     (λ here.
-    let back = Contains-map_back (edge_of s) (ways_at code first) edge here in
-    let way : Way = back.0 in
+    let back = Contains-map_back (edge_of s) (branches_at code first) edge here in
+    let branch : Branch = back.0 in
     record {
-      place = 0;
+      index = 0;
       sites = s;
-      way = way;
+      branch = branch;
       there = refl;
-      leads = let same : first ≡ first + 0 = omega arith in subst (λ p. Contains (ways_at code p) way) same back.1;
+      leads = let same : first ≡ first + 0 = omega arith in subst (λ p. Contains (branches_at code p) branch) same back.1;
       is = back.2;
     })
     (λ rest. later code (Some s) all first edge (edge-back code all (suc first) edge rest))
-    (Contains-append_cases (map (edge_of s) (ways_at code first)) (edges_from code (suc first) all) edge h)
+    (Contains-append_cases (map (edge_of s) (branches_at code first)) (edges_from code (suc first) all) edge h)

@@ -23,30 +23,30 @@ get_right (x ∷ xs) ys k zero e = absurd (omega arith)
 get_right (x ∷ xs) ys k (suc j) e = get_right xs ys k j (omega arith)
 
 -- the read of one item, and that none before it meets the condition
-pub record SplitsReads (f : Location → Read) (P : Read → Type 0) (places : List Location) (read : Read) : Type 0 where
+pub record SplitsReads (f : Location → Read) (P : Read → Type 0) (locations : List Location) (read : Read) : Type 0 where
   pub earlier : List Location
-  pub place : Location
+  pub location : Location
   pub later : List Location
-  pub splits : places ≡ earlier ++ place ∷ later
-  pub is : f place ≡ read
+  pub splits : locations ≡ earlier ++ location ∷ later
+  pub is : f location ≡ read
   pub others : All (λ other. ¬ P (f other)) earlier
 
-split_reads : (f : Location → Read) (P : Read → Type 0) (places : List Location) (k : ℕ) (read : Read) → slice_get (map f places) k ≡ Some read →
-    ((j : ℕ) (r : Read) → j < k → slice_get (map f places) j ≡ Some r → ¬ P r) → SplitsReads f P places read
+split_reads : (f : Location → Read) (P : Read → Type 0) (locations : List Location) (k : ℕ) (read : Read) → slice_get (map f locations) k ≡ Some read →
+    ((j : ℕ) (r : Read) → j < k → slice_get (map f locations) j ≡ Some r → ¬ P r) → SplitsReads f P locations read
 split_reads f P [] k read e before = cc
-split_reads f P (x ∷ places) zero read e before = record {
+split_reads f P (x ∷ locations) zero read e before = record {
   earlier = [];
-  place = x;
-  later = places;
+  location = x;
+  later = locations;
   splits = refl;
   is = cc;
   others = All-nil (λ other. ¬ P (f other));
 }
-split_reads f P (x ∷ places) (suc k) read e before =
-    let rest = split_reads f P places k read e (λ j r low h. before (suc j) r (omega arith) h) in
+split_reads f P (x ∷ locations) (suc k) read e before =
+    let rest = split_reads f P locations k read e (λ j r low h. before (suc j) r (omega arith) h) in
     record {
       earlier = x ∷ rest.earlier;
-      place = rest.place;
+      location = rest.location;
       later = rest.later;
       splits = ap (λ xs. x ∷ xs) rest.splits;
       is = rest.is;
@@ -60,7 +60,7 @@ pub record IsReadAt (first : ℕ) (code : List Instr) (P : Read → Type 0) (rea
   pub here : slice_get code at ≡ Some instr
   pub number : read.item ≡ first + at
   pub splits : SplitsReads (read_at (first + at)) P (reads_of instr) read
-  pub least : (before : ℕ) (other : Instr) → before < at → slice_get code before ≡ Some other → All (λ place. ¬ P (read_at (first + before) place)) (reads_of other)
+  pub least : (before : ℕ) (other : Instr) → before < at → slice_get code before ≡ Some other → All (λ location. ¬ P (read_at (first + before) location)) (reads_of other)
 
 read_in_first : (first : ℕ) (instr : Instr) (code : List Instr) (P : Read → Type 0) (k : ℕ) (read : Read) → k < length (item_reads first instr) →
     slice_get (reads_from first (instr ∷ code)) k ≡ Some read → ((j : ℕ) (r : Read) → j < k → slice_get (reads_from first (instr ∷ code)) j ≡ Some r → ¬ P r) →
@@ -95,22 +95,22 @@ read_in_later first instr code P k read past before r =
       least = later_least;
     }
   where
-    here_least : (other : Instr) → Some instr ≡ Some other → All (λ place. ¬ P (read_at (first + 0) place)) (reads_of other)
+    here_least : (other : Instr) → Some instr ≡ Some other → All (λ location. ¬ P (read_at (first + 0) location)) (reads_of other)
     here_least other h =
         let same : instr ≡ other = cc in
         let one : first ≡ first + 0 = omega arith in
-        subst (λ n. All (λ place. ¬ P (read_at n place)) (reads_of other)) one
-        (subst (λ i. All (λ place. ¬ P (read_at first place)) (reads_of i)) same
+        subst (λ n. All (λ location. ¬ P (read_at n location)) (reads_of other)) one
+        (subst (λ i. All (λ location. ¬ P (read_at first location)) (reads_of i)) same
         (λ j d low.
         let low' : j < length (item_reads first instr) = rw length-map low in
         before j (read_at first (get_or (reads_of instr) j d)) (omega arith)
         (get_left (item_reads first instr) (reads_from (suc first) code) j low' ∙ slice_get-map (read_at first) (reads_of instr) j ∙ ap (option_map (read_at first)) (slice_get-get_or (reads_of instr) j d low))))
 
-    later_least : (b : ℕ) (other : Instr) → b < suc r.at → slice_get (instr ∷ code) b ≡ Some other → All (λ place. ¬ P (read_at (first + b) place)) (reads_of other)
+    later_least : (b : ℕ) (other : Instr) → b < suc r.at → slice_get (instr ∷ code) b ≡ Some other → All (λ location. ¬ P (read_at (first + b) location)) (reads_of other)
     later_least zero other less h = here_least other h
     later_least (suc b) other less h =
         let one : suc first + b ≡ first + suc b = omega arith in
-        subst (λ n. All (λ place. ¬ P (read_at n place)) (reads_of other)) one (r.least b other (omega arith) h)
+        subst (λ n. All (λ location. ¬ P (read_at n location)) (reads_of other)) one (r.least b other (omega arith) h)
 
 pub read-is : (first : ℕ) (code : List Instr) (P : Read → Type 0) (k : ℕ) (read : Read) → slice_get (reads_from first code) k ≡ Some read →
     ((j : ℕ) (r : Read) → j < k → slice_get (reads_from first code) j ≡ Some r → ¬ P r) → IsReadAt first code P read
@@ -128,21 +128,21 @@ read-is first (instr ∷ code) P k read e before = ⊎_elim
     (cases_lt k (length (item_reads first instr)))
 
 -- each read of an item is in the list
-pub reads-there : (first : ℕ) (code : List Instr) (point : ℕ) (instr : Instr) (place : Location) → slice_get code point ≡ Some instr → Contains (reads_of instr) place →
-    (k : ℕ) × (slice_get (reads_from first code) k ≡ Some (read_at (first + point) place))
-reads-there first [] point instr place h c = cc
-reads-there first (item ∷ code) zero instr place h c =
+pub reads-there : (first : ℕ) (code : List Instr) (point : ℕ) (instr : Instr) (location : Location) → slice_get code point ≡ Some instr → Contains (reads_of instr) location →
+    (k : ℕ) × (slice_get (reads_from first code) k ≡ Some (read_at (first + point) location))
+reads-there first [] point instr location h c = cc
+reads-there first (item ∷ code) zero instr location h c =
     let same : item ≡ instr = cc in
     let one : first ≡ first + 0 = omega arith in
-    let c' : Contains (reads_of item) place = subst (λ i. Contains (reads_of i) place) (sym same) c in
+    let c' : Contains (reads_of item) location = subst (λ i. Contains (reads_of i) location) (sym same) c in
     let low : c'.0 < length (item_reads first item) = rw length-map c'.1 in (
       c'.0,
       get_left (item_reads first item) (reads_from (suc first) code) c'.0 low ∙ slice_get-map (read_at first) (reads_of item) c'.0
-          ∙ ap (option_map (read_at first)) (slice_get-get_or (reads_of item) c'.0 place c'.1 ∙ ap Some c'.2) ∙ ap (λ n. Some (read_at n place)) one,
+          ∙ ap (option_map (read_at first)) (slice_get-get_or (reads_of item) c'.0 location c'.1 ∙ ap Some c'.2) ∙ ap (λ n. Some (read_at n location)) one,
     )
-reads-there first (item ∷ code) (suc point) instr place h c =
-    let rest = reads-there (suc first) code point instr place h c in
+reads-there first (item ∷ code) (suc point) instr location h c =
+    let rest = reads-there (suc first) code point instr location h c in
     let one : suc first + point ≡ first + suc point = omega arith in (
       length (item_reads first item) + rest.0,
-      get_right (item_reads first item) (reads_from (suc first) code) rest.0 (length (item_reads first item) + rest.0) refl ∙ rest.1 ∙ ap (λ n. Some (read_at n place)) one,
+      get_right (item_reads first item) (reads_from (suc first) code) rest.0 (length (item_reads first item) + rest.0) refl ∙ rest.1 ∙ ap (λ n. Some (read_at n location)) one,
     )

@@ -1,25 +1,25 @@
--- A place may be unassigned at a point exactly where it is no argument and the search from the first item, over edges
+-- A location may be unassigned at a point exactly where it is no argument and the search from the first item, over edges
 -- from the points where they leave, past items that don't assign it, leads to the point.
 use Rattle.std.proofs.Common.{◌≡◌, ◌≢◌, ℕ, suc, zero, ◌+◌, ◌<◌, ◌↔◌, List, [], ◌∷◌, ◌++◌, Bool, true, false, Option, Some, None, length, sym, ap, ◌∙◌, subst, refl, ⊎_elim, arith}
 use Rattle.std.specs.Prelude.{slice_get}
 use Rattle.std.specs.List.{Contains}
 use Rattle.std.specs.Option.{option_map, option_to_list}
-use Rattle.std.proofs.lemmas.Bool.{cases_Bool, both_ways, false_from_ne_true}
+use Rattle.std.proofs.lemmas.Bool.{cases_Bool, both_branches, false_from_ne_true}
 use Rattle.std.proofs.lemmas.List.Elements.{Contains-append_left, Contains-append_right, Contains-append_cases}
 use Rattle.std.proofs.lemmas.Option.{slice_get_cases}
 use Rattle.bril_tree.specs.Assigned.{Assigned, IsMaybeUnassigned, assigned_of, assigned_behind, assigned_changed, assigns_at, newest_saved}
-use Rattle.bril_tree.specs.Edge.{Way, ways_at}
+use Rattle.bril_tree.specs.Edge.{Branch, branches_at}
 use Rattle.bril_tree.specs.Operand.{Location}
 use Rattle.bril_tree.specs.Sites.{AreSitesSound, NoSite, change_of, item_change, sites_of}
 use Rattle.bril_tree.specs.Walk.{IsWalk, end_of}
 use Rattle.bril_tree.specs.declared.numbered.Instr.{Instr}
 use Rattle.definite_assignment.specs.Leaving.{leaving_arc, leaving_arcs}
-use Rattle.definite_assignment.specs.Place.{number_of, is_argument, label_of, place_at}
+use Rattle.definite_assignment.specs.Location.{number_of, is_argument, label_of, location_at}
 use Rattle.definite_assignment.specs.Reads.{IsOpen, read_at}
 use Rattle.definite_assignment.proofs.Edges.{IsEdgeAt, edge-there, edge-back}
-use Rattle.definite_assignment.proofs.Places.{Contains-map, Contains-map_back, label-one, argument-is, argument-there}
+use Rattle.definite_assignment.proofs.Locations.{Contains-map, Contains-map_back, label-one, argument-is, argument-there}
 use Rattle.definite_assignment.proofs.Walks.{IsSaved, saved-back, same-length, open-sites, replay}
-use Rattle.definite_assignment.proofs.Ways.{IsAbort, way-is, way-inside, places-passed, opens-nothing}
+use Rattle.definite_assignment.proofs.Branches.{IsAbort, branch-is, branch-inside, locations-passed, opens-nothing}
 use Rattle.flow_graph.specs.Graph.{GraphView, IsGraphOf, edge_of, leave_of}
 use Rattle.flow_graph.specs.Laws.{SoundWalksAgree}
 use Rattle.flow_graph.specs.declared.edge.Edge.{Edge}
@@ -34,12 +34,12 @@ pub record IsSoundGraph (code : List Instr) (graph : GraphView) : Type 0 where
   pub agree : SoundWalksAgree
 
 -- the open sites of a walk are those that the graph has
-sites_known : (code : List Instr) (graph : GraphView) → IsSoundGraph code graph → (walk : List Way) → IsWalk code walk → (o : Option (List ℕ)) →
+sites_known : (code : List Instr) (graph : GraphView) → IsSoundGraph code graph → (walk : List Branch) → IsWalk code walk → (o : Option (List ℕ)) →
     slice_get graph.sites (end_of walk) ≡ Some o → o ≡ Some (sites_of code walk)
 sites_known code graph g walk is None e = absurd (g.is.unreached (end_of walk) e (record { walk = walk; is = is; ends = refl }))
 sites_known code graph g walk is (Some sites) e = ap Some (sym (g.agree code g.sound walk is sites (g.is.reached (end_of walk) sites e)))
 
-pub sites-there : (code : List Instr) (graph : GraphView) → IsSoundGraph code graph → (walk : List Way) → IsWalk code walk → end_of walk < length code →
+pub sites-there : (code : List Instr) (graph : GraphView) → IsSoundGraph code graph → (walk : List Branch) → IsWalk code walk → end_of walk < length code →
     slice_get graph.sites (end_of walk) ≡ Some (Some (sites_of code walk))
 sites-there code graph g walk is low = ⊎_elim
     (λ there. let o : Option (List ℕ) = there.0 in there.2 ∙ ap Some (sites_known code graph g walk is o there.2))
@@ -50,19 +50,19 @@ sites-there code graph g walk is low = ⊎_elim
 some_site : {X : Type 0} (code : List Instr) (graph : GraphView) → IsSoundGraph code graph → (p : ℕ) → IsAbort (slice_get code p) → slice_get graph.sites p ≡ Some (Some []) → X
 some_site code graph g p a e = absurd (g.sound p (NoSite (record { first = g.is.reached p [] e; needs = a.needs })))
 
-arc_there : (code : List Instr) (graph : GraphView) → IsSoundGraph code graph → (point : ℕ) (sites : List ℕ) (way : Way) →
-    slice_get graph.sites point ≡ Some (Some sites) → Contains (ways_at code point) way → Contains (leaving_arcs code graph.edges) (leaving_arc code (edge_of sites way))
-arc_there code graph g point sites way e leads =
-    Contains-map (leaving_arc code) graph.edges (edge_of sites way)
-    (subst (λ es. Contains es (edge_of sites way)) (sym g.is.edges) (edge-there code graph.sites 0 point point sites way (omega arith) e leads))
+arc_there : (code : List Instr) (graph : GraphView) → IsSoundGraph code graph → (point : ℕ) (sites : List ℕ) (branch : Branch) →
+    slice_get graph.sites point ≡ Some (Some sites) → Contains (branches_at code point) branch → Contains (leaving_arcs code graph.edges) (leaving_arc code (edge_of sites branch))
+arc_there code graph g point sites branch e leads =
+    Contains-map (leaving_arc code) graph.edges (edge_of sites branch)
+    (subst (λ es. Contains es (edge_of sites branch)) (sym g.is.edges) (edge-there code graph.sites 0 point point sites branch (omega arith) e leads))
 
--- an arc from the point where a way leaves, past an item that doesn't assign the place
-leads_on : (code : List Instr) (graph : GraphView) → IsSoundGraph code graph → (x : Location) (point leave : ℕ) (sites : List ℕ) (way : Way) →
-    slice_get graph.sites point ≡ Some (Some sites) → Contains (ways_at code point) way → leave_of way.aborts way.from sites ≡ leave →
-    label_of (slice_get code leave) ≢ Some (number_of x) → Leads (leaving_arcs code graph.edges) (number_of x) leave way.to
-leads_on code graph g x point leave sites way e leads same passes = record {
-  arc = leaving_arc code (edge_of sites way);
-  there = arc_there code graph g point sites way e leads;
+-- an arc from the point where a branch leaves, past an item that doesn't assign the location
+leads_on : (code : List Instr) (graph : GraphView) → IsSoundGraph code graph → (x : Location) (point leave : ℕ) (sites : List ℕ) (branch : Branch) →
+    slice_get graph.sites point ≡ Some (Some sites) → Contains (branches_at code point) branch → leave_of branch.aborts branch.from sites ≡ leave →
+    label_of (slice_get code leave) ≢ Some (number_of x) → Leads (leaving_arcs code graph.edges) (number_of x) leave branch.to
+leads_on code graph g x point leave sites branch e leads same passes = record {
+  arc = leaving_arc code (edge_of sites branch);
+  there = arc_there code graph g point sites branch e leads;
   leaves = same;
   enters = refl;
   passes = λ h. passes (ap (λ l. label_of (slice_get code l)) (sym same) ∙ h);
@@ -72,24 +72,24 @@ open_on : (arcs : List Arc) (args : ℕ) (x : Location) (l q : ℕ) → IsOpen a
 open_on arcs args x l q o leads = record { local = o.local; reached = reached_step arcs (0 ∷ []) (number_of x) l q o.reached leads }
 
 -- what a walk doesn't assign is open at its end, and what was saved without it makes it open at the site
-record Stands (code : List Instr) (args : ℕ) (arcs : List Arc) (x : Location) (walk : List Way) : Type 0 where
-  pub here : (¬ Contains (assigned_of code args walk).places x) → IsOpen arcs args (read_at (end_of walk) x)
+record Stands (code : List Instr) (args : ℕ) (arcs : List Arc) (x : Location) (walk : List Branch) : Type 0 where
+  pub here : (¬ Contains (assigned_of code args walk).locations x) → IsOpen arcs args (read_at (end_of walk) x)
   pub saved : (k site : ℕ) (set : List Location) → IsSaved (sites_of code walk) (assigned_of code args walk) k site set → (¬ Contains set x) → IsOpen arcs args (read_at site x)
   pub same : length (sites_of code walk) ≡ length (assigned_of code args walk).saved
 
--- what is assigned behind a way that is no abort
-places_on : (code : List Instr) (way : Way) (a : Assigned) → way.aborts ≡ false →
-    (assigned_behind code way a).places ≡ option_to_list (place_at (slice_get code way.from)) ++ a.places
-places_on code way a e =
-    let item = slice_get code way.from in
-    ap (λ b. (assigned_changed (item_change item b) (assigns_at item) b a).places) e ∙ places-passed item a
+-- what is assigned behind a branch that is no abort
+locations_on : (code : List Instr) (branch : Branch) (a : Assigned) → branch.aborts ≡ false →
+    (assigned_behind code branch a).locations ≡ option_to_list (location_at (slice_get code branch.from)) ++ a.locations
+locations_on code branch a e =
+    let item = slice_get code branch.from in
+    ap (λ b. (assigned_changed (item_change item b) (assigns_at item) b a).locations) e ∙ locations-passed item a
 
 -- what is assigned behind an abort
-places_back : (code : List Instr) (way : Way) (a : Assigned) → way.aborts ≡ true → IsAbort (slice_get code way.from) →
-    (assigned_behind code way a).places ≡ newest_saved a.places a.saved
-places_back code way a e abort =
-    let item = slice_get code way.from in
-    ap (λ b. (assigned_changed (item_change item b) (assigns_at item) b a).places) e ∙ ap (λ ch. (assigned_changed ch (assigns_at item) true a).places) abort.closes
+locations_back : (code : List Instr) (branch : Branch) (a : Assigned) → branch.aborts ≡ true → IsAbort (slice_get code branch.from) →
+    (assigned_behind code branch a).locations ≡ newest_saved a.locations a.saved
+locations_back code branch a e abort =
+    let item = slice_get code branch.from in
+    ap (λ b. (assigned_changed (item_change item b) (assigns_at item) b a).locations) e ∙ ap (λ ch. (assigned_changed ch (assigns_at item) true a).locations) abort.closes
 
 leave_on : (aborts : Bool) (from : ℕ) (sites : List ℕ) → aborts ≡ false → leave_of aborts from sites ≡ from
 leave_on true from sites e = cc
@@ -104,48 +104,48 @@ listed_back None x h = absurd (omega (arith, h.1))
 listed_back (Some y) x (zero, low, e) = ap Some e
 listed_back (Some y) x (suc k, low, e) = absurd (omega arith)
 
-stands_on : (code : List Instr) (args : ℕ) (graph : GraphView) → IsSoundGraph code graph → (x : Location) (way : Way) (walk : List Way) → IsWalk code walk →
-    Contains (ways_at code (end_of walk)) way → Stands code args (leaving_arcs code graph.edges) x walk → way.aborts ≡ false →
-    (¬ Contains (assigned_behind code way (assigned_of code args walk)).places x) → IsOpen (leaving_arcs code graph.edges) args (read_at way.to x)
-stands_on code args graph g x way walk is leads s e lacks =
+stands_on : (code : List Instr) (args : ℕ) (graph : GraphView) → IsSoundGraph code graph → (x : Location) (branch : Branch) (walk : List Branch) → IsWalk code walk →
+    Contains (branches_at code (end_of walk)) branch → Stands code args (leaving_arcs code graph.edges) x walk → branch.aborts ≡ false →
+    (¬ Contains (assigned_behind code branch (assigned_of code args walk)).locations x) → IsOpen (leaving_arcs code graph.edges) args (read_at branch.to x)
+stands_on code args graph g x branch walk is leads s e lacks =
     let a = assigned_of code args walk in
-    let item = slice_get code way.from in
+    let item = slice_get code branch.from in
     let arcs = leaving_arcs code graph.edges in
-    let from : way.from ≡ end_of walk = (way-is code (end_of walk) way leads).from in
-    let places : (assigned_behind code way a).places ≡ option_to_list (place_at item) ++ a.places = places_on code way a e in
+    let from : branch.from ≡ end_of walk = (branch-is code (end_of walk) branch leads).from in
+    let locations : (assigned_behind code branch a).locations ≡ option_to_list (location_at item) ++ a.locations = locations_on code branch a e in
     let before : IsOpen arcs args (read_at (end_of walk) x) =
-    s.here (λ h. lacks (subst (λ ps. Contains ps x) (sym places) (Contains-append_right (option_to_list (place_at item)) a.places x h))) in
+    s.here (λ h. lacks (subst (λ ps. Contains ps x) (sym locations) (Contains-append_right (option_to_list (location_at item)) a.locations x h))) in
     let passes : label_of item ≢ Some (number_of x) =
-    λ h. lacks (subst (λ ps. Contains ps x) (sym places) (Contains-append_left (option_to_list (place_at item)) a.places x (listed_one (place_at item) x (label-one (place_at item) x h)))) in
-    let there = sites-there code graph g walk is (way-inside code (end_of walk) way leads) in
-    open_on arcs args x way.from way.to (subst (λ p. IsOpen arcs args (read_at p x)) (sym from) before)
-    (leads_on code graph g x (end_of walk) way.from (sites_of code walk) way there leads (leave_on way.aborts way.from (sites_of code walk) e) passes)
+    λ h. lacks (subst (λ ps. Contains ps x) (sym locations) (Contains-append_left (option_to_list (location_at item)) a.locations x (listed_one (location_at item) x (label-one (location_at item) x h)))) in
+    let there = sites-there code graph g walk is (branch-inside code (end_of walk) branch leads) in
+    open_on arcs args x branch.from branch.to (subst (λ p. IsOpen arcs args (read_at p x)) (sym from) before)
+    (leads_on code graph g x (end_of walk) branch.from (sites_of code walk) branch there leads (leave_on branch.aborts branch.from (sites_of code walk) e) passes)
 
-stands_back : (code : List Instr) (args : ℕ) (graph : GraphView) → IsSoundGraph code graph → (x : Location) (way : Way) (walk : List Way) → IsWalk code walk →
-    Contains (ways_at code (end_of walk)) way → Stands code args (leaving_arcs code graph.edges) x walk → way.aborts ≡ true →
+stands_back : (code : List Instr) (args : ℕ) (graph : GraphView) → IsSoundGraph code graph → (x : Location) (branch : Branch) (walk : List Branch) → IsWalk code walk →
+    Contains (branches_at code (end_of walk)) branch → Stands code args (leaving_arcs code graph.edges) x walk → branch.aborts ≡ true →
     (sites : List ℕ) → sites_of code walk ≡ sites → (saved : List (List Location)) → (assigned_of code args walk).saved ≡ saved →
-    (¬ Contains (newest_saved (assigned_of code args walk).places saved) x) → IsOpen (leaving_arcs code graph.edges) args (read_at way.to x)
-stands_back code args graph g x way walk is leads s e [] is_sites saved is_saved lacks =
-    let there = sites-there code graph g walk is (way-inside code (end_of walk) way leads) in
-    some_site code graph g (end_of walk) ((way-is code (end_of walk) way leads).aborts e) (there ∙ ap (λ ss. Some (Some ss)) is_sites)
-stands_back code args graph g x way walk is leads s e (l ∷ rest) is_sites [] is_saved lacks =
+    (¬ Contains (newest_saved (assigned_of code args walk).locations saved) x) → IsOpen (leaving_arcs code graph.edges) args (read_at branch.to x)
+stands_back code args graph g x branch walk is leads s e [] is_sites saved is_saved lacks =
+    let there = sites-there code graph g walk is (branch-inside code (end_of walk) branch leads) in
+    some_site code graph g (end_of walk) ((branch-is code (end_of walk) branch leads).aborts e) (there ∙ ap (λ ss. Some (Some ss)) is_sites)
+stands_back code args graph g x branch walk is leads s e (l ∷ rest) is_sites [] is_saved lacks =
     let same = s.same in
     let one : length (sites_of code walk) ≡ suc (length rest) = ap length is_sites in
     let two : length (assigned_of code args walk).saved ≡ 0 = ap length is_saved in
     absurd (omega arith)
-stands_back code args graph g x way walk is leads s e (l ∷ rest) is_sites (set ∷ sets) is_saved lacks =
+stands_back code args graph g x branch walk is leads s e (l ∷ rest) is_sites (set ∷ sets) is_saved lacks =
     let arcs = leaving_arcs code graph.edges in
     let newest : slice_get (sites_of code walk) 0 ≡ Some l = ap (λ ss. slice_get ss 0) is_sites in
     let before : IsOpen arcs args (read_at l x) = s.saved 0 l set (record { site_there = newest; saved_there = ap (λ ss. slice_get ss 0) is_saved }) lacks in
     let there : slice_get graph.sites (end_of walk) ≡ Some (Some (l ∷ rest)) =
-    sites-there code graph g walk is (way-inside code (end_of walk) way leads) ∙ ap (λ ss. Some (Some ss)) is_sites in
+    sites-there code graph g walk is (branch-inside code (end_of walk) branch leads) ∙ ap (λ ss. Some (Some ss)) is_sites in
     let opens = open-sites code walk 0 l newest in
-    let nothing : place_at (slice_get code l) ≡ None = opens-nothing (slice_get code l) opens.0 opens.1 in
+    let nothing : location_at (slice_get code l) ≡ None = opens-nothing (slice_get code l) opens.0 opens.1 in
     let unlabelled : label_of (slice_get code l) ≡ None = ap (option_map number_of) nothing in
-    open_on arcs args x l way.to before
-    (leads_on code graph g x (end_of walk) l (l ∷ rest) way there leads (ap (λ b. leave_of b way.from (l ∷ rest)) e) (λ h. cc))
+    open_on arcs args x l branch.to before
+    (leads_on code graph g x (end_of walk) l (l ∷ rest) branch there leads (ap (λ b. leave_of b branch.from (l ∷ rest)) e) (λ h. cc))
 
-stands : (code : List Instr) (args : ℕ) (graph : GraphView) → IsSoundGraph code graph → (x : Location) (walk : List Way) → IsWalk code walk →
+stands : (code : List Instr) (args : ℕ) (graph : GraphView) → IsSoundGraph code graph → (x : Location) (walk : List Branch) → IsWalk code walk →
     Stands code args (leaving_arcs code graph.edges) x walk
 stands code args graph g x [] is = record {
   here = λ lacks. record {
@@ -155,70 +155,70 @@ stands code args graph g x [] is = record {
   saved = λ k site set s. let h = s.site_there in cc;
   same = refl;
 }
-stands code args graph g x (way ∷ walk) is =
+stands code args graph g x (branch ∷ walk) is =
     let arcs = leaving_arcs code graph.edges in
     let a = assigned_of code args walk in
     let before = stands code args graph g x walk is.1 in
-    let one = way-is code (end_of walk) way is.0 in
+    let one = branch-is code (end_of walk) branch is.0 in
     record {
       here = λ lacks. ⊎_elim
-          (λ e. stands_back code args graph g x way walk is.1 is.0 before e (sites_of code walk) refl a.saved refl
-          (subst (λ ps. ¬ Contains ps x) (places_back code way a e (subst (λ p. IsAbort (slice_get code p)) (sym one.from) (one.aborts e))) lacks))
-          (λ e. stands_on code args graph g x way walk is.1 is.0 before e lacks)
-          (cases_Bool way.aborts);
-      saved = saved-back (λ site set. (¬ Contains set x) → IsOpen arcs args (read_at site x)) (change_of code way) (assigns_at (slice_get code way.from)) way.aborts way.from (sites_of code walk) a
-          (subst (λ p. (¬ Contains a.places x) → IsOpen arcs args (read_at p x)) (sym one.from) before.here) before.saved;
-      same = same-length (change_of code way) (assigns_at (slice_get code way.from)) way.aborts way.from (sites_of code walk) a before.same;
+          (λ e. stands_back code args graph g x branch walk is.1 is.0 before e (sites_of code walk) refl a.saved refl
+          (subst (λ ps. ¬ Contains ps x) (locations_back code branch a e (subst (λ p. IsAbort (slice_get code p)) (sym one.from) (one.aborts e))) lacks))
+          (λ e. stands_on code args graph g x branch walk is.1 is.0 before e lacks)
+          (cases_Bool branch.aborts);
+      saved = saved-back (λ site set. (¬ Contains set x) → IsOpen arcs args (read_at site x)) (change_of code branch) (assigns_at (slice_get code branch.from)) branch.aborts branch.from (sites_of code walk) a
+          (subst (λ p. (¬ Contains a.locations x) → IsOpen arcs args (read_at p x)) (sym one.from) before.here) before.saved;
+      same = same-length (change_of code branch) (assigns_at (slice_get code branch.from)) branch.aborts branch.from (sites_of code walk) a before.same;
     }
 
--- a walk to the point where a way leaves gives a walk to where it goes
-lacks_on : (code : List Instr) (args : ℕ) (graph : GraphView) → IsSoundGraph code graph → (x : Location) (point : ℕ) (way : Way) → Contains (ways_at code point) way → way.aborts ≡ false →
-    label_of (slice_get code way.from) ≢ Some (number_of x) → IsMaybeUnassigned code args x way.from → IsMaybeUnassigned code args x way.to
-lacks_on code args graph g x point way leads e passes m =
-    let from : way.from ≡ point = (way-is code point way leads).from in
-    let item = slice_get code way.from in
+-- a walk to the point where a branch leaves gives a walk to where it goes
+lacks_on : (code : List Instr) (args : ℕ) (graph : GraphView) → IsSoundGraph code graph → (x : Location) (point : ℕ) (branch : Branch) → Contains (branches_at code point) branch → branch.aborts ≡ false →
+    label_of (slice_get code branch.from) ≢ Some (number_of x) → IsMaybeUnassigned code args x branch.from → IsMaybeUnassigned code args x branch.to
+lacks_on code args graph g x point branch leads e passes m =
+    let from : branch.from ≡ point = (branch-is code point branch leads).from in
+    let item = slice_get code branch.from in
     let a = assigned_of code args m.walk in
     record {
-      walk = way ∷ m.walk;
-      is = (subst (λ p. Contains (ways_at code p) way) (sym (m.ends ∙ from)) leads, m.is);
+      walk = branch ∷ m.walk;
+      is = (subst (λ p. Contains (branches_at code p) branch) (sym (m.ends ∙ from)) leads, m.is);
       ends = refl;
       lacks = λ h. ⊎_elim
-          (λ now. passes (ap (option_map number_of) (listed_back (place_at item) x now)))
+          (λ now. passes (ap (option_map number_of) (listed_back (location_at item) x now)))
           m.lacks
-          (Contains-append_cases (option_to_list (place_at item)) a.places x (subst (λ ps. Contains ps x) (places_on code way a e) h));
+          (Contains-append_cases (option_to_list (location_at item)) a.locations x (subst (λ ps. Contains ps x) (locations_on code branch a e) h));
     }
 
-newest_is : (places set : List Location) (saved : List (List Location)) → slice_get saved 0 ≡ Some set → newest_saved places saved ≡ set
-newest_is places set [] e = cc
-newest_is places set (s ∷ saved) e = cc
+newest_is : (locations set : List Location) (saved : List (List Location)) → slice_get saved 0 ≡ Some set → newest_saved locations saved ≡ set
+newest_is locations set [] e = cc
+newest_is locations set (s ∷ saved) e = cc
 
-lacks_back : (code : List Instr) (args : ℕ) (graph : GraphView) → IsSoundGraph code graph → (x : Location) (point : ℕ) (sites : List ℕ) (way : Way) →
-    slice_get graph.sites point ≡ Some (Some sites) → Contains (ways_at code point) way → way.aborts ≡ true →
-    IsMaybeUnassigned code args x (leave_of true way.from sites) → IsMaybeUnassigned code args x way.to
-lacks_back code args graph g x point [] way there leads e m = some_site code graph g point ((way-is code point way leads).aborts e) there
-lacks_back code args graph g x point (l ∷ rest) way there leads e m =
-    let one = way-is code point way leads in
+lacks_back : (code : List Instr) (args : ℕ) (graph : GraphView) → IsSoundGraph code graph → (x : Location) (point : ℕ) (sites : List ℕ) (branch : Branch) →
+    slice_get graph.sites point ≡ Some (Some sites) → Contains (branches_at code point) branch → branch.aborts ≡ true →
+    IsMaybeUnassigned code args x (leave_of true branch.from sites) → IsMaybeUnassigned code args x branch.to
+lacks_back code args graph g x point [] branch there leads e m = some_site code graph g point ((branch-is code point branch leads).aborts e) there
+lacks_back code args graph g x point (l ∷ rest) branch there leads e m =
+    let one = branch-is code point branch leads in
     let first = g.is.reached point (l ∷ rest) there in
     let newest : slice_get (sites_of code first.walk) 0 ≡ Some (end_of m.walk) = ap (λ ss. slice_get ss 0) first.are ∙ ap Some (sym m.ends) in
     let r = replay code args first.walk m.walk first.first.is m.is 0 newest in
     let a = assigned_of code args r.walk in
-    let places : (assigned_behind code way a).places ≡ (assigned_of code args m.walk).places =
-    places_back code way a e (subst (λ p. IsAbort (slice_get code p)) (sym one.from) (one.aborts e)) ∙ newest_is a.places (assigned_of code args m.walk).places a.saved r.saved in
+    let locations : (assigned_behind code branch a).locations ≡ (assigned_of code args m.walk).locations =
+    locations_back code branch a e (subst (λ p. IsAbort (slice_get code p)) (sym one.from) (one.aborts e)) ∙ newest_is a.locations (assigned_of code args m.walk).locations a.saved r.saved in
     record {
-      walk = way ∷ r.walk;
-      is = (subst (λ p. Contains (ways_at code p) way) (sym (r.ends ∙ first.first.ends)) leads, r.is);
+      walk = branch ∷ r.walk;
+      is = (subst (λ p. Contains (branches_at code p) branch) (sym (r.ends ∙ first.first.ends)) leads, r.is);
       ends = refl;
-      lacks = λ h. m.lacks (subst (λ ps. Contains ps x) places h);
+      lacks = λ h. m.lacks (subst (λ ps. Contains ps x) locations h);
     }
 
-lacks_way : (code : List Instr) (args : ℕ) (graph : GraphView) → IsSoundGraph code graph → (x : Location) (point : ℕ) (sites : List ℕ) (way : Way) →
-    slice_get graph.sites point ≡ Some (Some sites) → Contains (ways_at code point) way → label_of (slice_get code (leave_of way.aborts way.from sites)) ≢ Some (number_of x) →
-    IsMaybeUnassigned code args x (leave_of way.aborts way.from sites) → IsMaybeUnassigned code args x way.to
-lacks_way code args graph g x point sites way there leads passes m = ⊎_elim
-    (λ e. lacks_back code args graph g x point sites way there leads e (subst (λ b. IsMaybeUnassigned code args x (leave_of b way.from sites)) e m))
-    (λ e. let same = leave_on way.aborts way.from sites e in
-    lacks_on code args graph g x point way leads e (λ h. passes (ap (λ l. label_of (slice_get code l)) same ∙ h)) (subst (IsMaybeUnassigned code args x) same m))
-    (cases_Bool way.aborts)
+lacks_branch : (code : List Instr) (args : ℕ) (graph : GraphView) → IsSoundGraph code graph → (x : Location) (point : ℕ) (sites : List ℕ) (branch : Branch) →
+    slice_get graph.sites point ≡ Some (Some sites) → Contains (branches_at code point) branch → label_of (slice_get code (leave_of branch.aborts branch.from sites)) ≢ Some (number_of x) →
+    IsMaybeUnassigned code args x (leave_of branch.aborts branch.from sites) → IsMaybeUnassigned code args x branch.to
+lacks_branch code args graph g x point sites branch there leads passes m = ⊎_elim
+    (λ e. lacks_back code args graph g x point sites branch there leads e (subst (λ b. IsMaybeUnassigned code args x (leave_of b branch.from sites)) e m))
+    (λ e. let same = leave_on branch.aborts branch.from sites e in
+    lacks_on code args graph g x point branch leads e (λ h. passes (ap (λ l. label_of (slice_get code l)) same ∙ h)) (subst (IsMaybeUnassigned code args x) same m))
+    (cases_Bool branch.aborts)
 
 lacks_arc : (code : List Instr) (args : ℕ) (graph : GraphView) → IsSoundGraph code graph → (x : Location) (l q : ℕ) → IsMaybeUnassigned code args x l →
     Leads (leaving_arcs code graph.edges) (number_of x) l q → IsMaybeUnassigned code args x q
@@ -226,12 +226,12 @@ lacks_arc code args graph g x l q m leads =
     let back = Contains-map_back (leaving_arc code) graph.edges leads.arc leads.there in
     let edge : Edge = back.0 in
     let at : IsEdgeAt code graph.sites 0 edge = edge-back code graph.sites 0 edge (subst (λ es. Contains es edge) g.is.edges back.1) in
-    let arc : leaving_arc code (edge_of at.sites at.way) ≡ leads.arc = ap (leaving_arc code) at.is ∙ back.2 in
-    let leaves : leave_of at.way.aborts at.way.from at.sites ≡ l = ap (λ a. a.from) arc ∙ leads.leaves in
-    let enters : at.way.to ≡ q = ap (λ a. a.to) arc ∙ leads.enters in
-    let point : 0 + at.place ≡ at.place = omega arith in
+    let arc : leaving_arc code (edge_of at.sites at.branch) ≡ leads.arc = ap (leaving_arc code) at.is ∙ back.2 in
+    let leaves : leave_of at.branch.aborts at.branch.from at.sites ≡ l = ap (λ a. a.from) arc ∙ leads.leaves in
+    let enters : at.branch.to ≡ q = ap (λ a. a.to) arc ∙ leads.enters in
+    let point : 0 + at.index ≡ at.index = omega arith in
     subst (IsMaybeUnassigned code args x) enters
-    (lacks_way code args graph g x at.place at.sites at.way at.there (subst (λ p. Contains (ways_at code p) at.way) point at.leads)
+    (lacks_branch code args graph g x at.index at.sites at.branch at.there (subst (λ p. Contains (branches_at code p) at.branch) point at.leads)
     (λ h. leads.passes (ap (λ a. a.label) (sym arc) ∙ h)) (subst (IsMaybeUnassigned code args x) (sym leaves) m))
 
 -- the law
@@ -243,7 +243,7 @@ unassigned-iff code args graph g x point = (
         walk = [];
         is = tt;
         ends = refl;
-        lacks = λ there. both_ways (is_argument args (number_of x)) o.local (argument-is args x there);
+        lacks = λ there. both_branches (is_argument args (number_of x)) o.local (argument-is args x there);
       }))
       (lacks_arc code args graph g x) point o.reached,
   λ m. subst (λ p. IsOpen (leaving_arcs code graph.edges) args (read_at p x)) m.ends ((stands code args graph g x m.walk m.is).here m.lacks),

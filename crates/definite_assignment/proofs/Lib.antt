@@ -3,8 +3,8 @@ pub mod Edges
 pub mod FirstRead
 pub mod FirstUnassigned
 pub mod Law
-pub mod Places
+pub mod Locations
 pub mod ReadRows
 pub mod Turned
 pub mod Walks
-pub mod Ways
+pub mod Branches

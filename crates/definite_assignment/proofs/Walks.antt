@@ -1,36 +1,36 @@
--- Walks, with the open sites and the assigned places that they carry.
+-- Walks, with the open sites and the assigned locations that they carry.
 use Rattle.std.proofs.Common.{◌≡◌, ℕ, suc, zero, ◌<◌, List, [], ◌∷◌, Bool, Some, length, sym, ap, ◌∙◌, subst, refl, arith}
 use Rattle.std.specs.Prelude.{slice_get}
 use Rattle.std.specs.List.{Contains}
 use Rattle.bril_tree.specs.Assigned.{Assigned, assigned_of, assigned_behind, assigned_changed, assigns_at}
-use Rattle.bril_tree.specs.Edge.{Way, ways_at}
+use Rattle.bril_tree.specs.Edge.{Branch, branches_at}
 use Rattle.bril_tree.specs.Operand.{Location}
 use Rattle.bril_tree.specs.Sites.{Change, Opens, Closes, Keeps, change_of, item_change, sites_of, sites_changed, without_newest}
 use Rattle.bril_tree.specs.Walk.{IsWalk, end_of}
 use Rattle.bril_tree.specs.declared.numbered.Instr.{Instr}
-use Rattle.definite_assignment.proofs.Ways.{way-is, way-inside}
+use Rattle.definite_assignment.proofs.Branches.{branch-is, branch-inside}
 
 newest_dropped : {A : Type 0} (xs : List A) (k : ℕ) → slice_get (without_newest xs) k ≡ slice_get xs (suc k)
 newest_dropped [] k = refl
 newest_dropped (x ∷ xs) k = refl
 
 -- what was saved at an open site, behind a change
-pub record IsSaved (sites : List ℕ) (a : Assigned) (k site : ℕ) (places : List Location) : Type 0 where
+pub record IsSaved (sites : List ℕ) (a : Assigned) (k site : ℕ) (locations : List Location) : Type 0 where
   pub site_there : slice_get sites k ≡ Some site
-  pub saved_there : slice_get a.saved k ≡ Some places
+  pub saved_there : slice_get a.saved k ≡ Some locations
 
 -- what was saved at a site is either what is assigned at the `speculate` that just opened it, or was saved before
-pub saved-back : (R : ℕ → List Location → Type 0) (change : Change) (places : List Location) (aborts : Bool) (at : ℕ) (sites : List ℕ) (a : Assigned) →
-    R at a.places → ((k site : ℕ) (set : List Location) → IsSaved sites a k site set → R site set) →
-    (k site : ℕ) (set : List Location) → IsSaved (sites_changed change at sites) (assigned_changed change places aborts a) k site set → R site set
-saved-back R Opens places aborts at sites a here before zero site set s =
+pub saved-back : (R : ℕ → List Location → Type 0) (change : Change) (locations : List Location) (aborts : Bool) (at : ℕ) (sites : List ℕ) (a : Assigned) →
+    R at a.locations → ((k site : ℕ) (set : List Location) → IsSaved sites a k site set → R site set) →
+    (k site : ℕ) (set : List Location) → IsSaved (sites_changed change at sites) (assigned_changed change locations aborts a) k site set → R site set
+saved-back R Opens locations aborts at sites a here before zero site set s =
     let one : at ≡ site = let h = s.site_there in cc in
-    let two : a.places ≡ set = let h = s.saved_there in cc in
+    let two : a.locations ≡ set = let h = s.saved_there in cc in
     subst (λ x. R x set) one (subst (R at) two here)
-saved-back R Opens places aborts at sites a here before (suc k) site set s = before k site set (record { site_there = s.site_there; saved_there = s.saved_there })
-saved-back R Closes places aborts at sites a here before k site set s =
+saved-back R Opens locations aborts at sites a here before (suc k) site set s = before k site set (record { site_there = s.site_there; saved_there = s.saved_there })
+saved-back R Closes locations aborts at sites a here before k site set s =
     before (suc k) site set (record { site_there = sym (newest_dropped sites k) ∙ s.site_there; saved_there = sym (newest_dropped a.saved k) ∙ s.saved_there })
-saved-back R Keeps places aborts at sites a here before k site set s = before k site set (record { site_there = s.site_there; saved_there = s.saved_there })
+saved-back R Keeps locations aborts at sites a here before k site set s = before k site set (record { site_there = s.site_there; saved_there = s.saved_there })
 
 same_dropped : {A B : Type 0} (xs : List A) (ys : List B) → length xs ≡ length ys → length (without_newest xs) ≡ length (without_newest ys)
 same_dropped [] [] e = refl
@@ -38,11 +38,11 @@ same_dropped [] (y ∷ ys) e = absurd (omega arith)
 same_dropped (x ∷ xs) [] e = absurd (omega arith)
 same_dropped (x ∷ xs) (y ∷ ys) e = omega arith
 
-pub same-length : (change : Change) (places : List Location) (aborts : Bool) (at : ℕ) (sites : List ℕ) (a : Assigned) → length sites ≡ length a.saved →
-    length (sites_changed change at sites) ≡ length (assigned_changed change places aborts a).saved
-same-length Opens places aborts at sites a e = ap suc e
-same-length Closes places aborts at sites a e = same_dropped sites a.saved e
-same-length Keeps places aborts at sites a e = e
+pub same-length : (change : Change) (locations : List Location) (aborts : Bool) (at : ℕ) (sites : List ℕ) (a : Assigned) → length sites ≡ length a.saved →
+    length (sites_changed change at sites) ≡ length (assigned_changed change locations aborts a).saved
+same-length Opens locations aborts at sites a e = ap suc e
+same-length Closes locations aborts at sites a e = same_dropped sites a.saved e
+same-length Keeps locations aborts at sites a e = e
 
 -- an open site is an item that opens it
 opened : (code : List Instr) (change : Change) (at : ℕ) (aborts : Bool) (sites : List ℕ) → change ≡ item_change (slice_get code at) aborts →
@@ -55,68 +55,68 @@ opened code Opens at aborts sites e before (suc k) site h = before k site h
 opened code Closes at aborts sites e before k site h = before (suc k) site (sym (newest_dropped sites k) ∙ h)
 opened code Keeps at aborts sites e before k site h = before k site h
 
-pub open-sites : (code : List Instr) (walk : List Way) (k site : ℕ) → slice_get (sites_of code walk) k ≡ Some site → (b : Bool) × (item_change (slice_get code site) b ≡ Opens)
+pub open-sites : (code : List Instr) (walk : List Branch) (k site : ℕ) → slice_get (sites_of code walk) k ≡ Some site → (b : Bool) × (item_change (slice_get code site) b ≡ Opens)
 open-sites code [] k site h = cc
-open-sites code (way ∷ walk) k site h = opened code (change_of code way) way.from way.aborts (sites_of code walk) refl (open-sites code walk) k site h
+open-sites code (branch ∷ walk) k site h = opened code (change_of code branch) branch.from branch.aborts (sites_of code walk) refl (open-sites code walk) k site h
 
 -- A walk that goes on from another walk to an open site as the first did: what was assigned at the `speculate` is saved
 -- there.
-pub record Replays (code : List Instr) (args : ℕ) (end k : ℕ) (places : List Location) : Type 0 where
-  pub walk : List Way
+pub record Replays (code : List Instr) (args : ℕ) (end k : ℕ) (locations : List Location) : Type 0 where
+  pub walk : List Branch
   pub is : IsWalk code walk
   pub ends : end_of walk ≡ end
-  pub saved : slice_get (assigned_of code args walk).saved k ≡ Some places
+  pub saved : slice_get (assigned_of code args walk).saved k ≡ Some locations
 
--- the way, behind the walk that replays
-goes_on : (code : List Instr) (args : ℕ) (way : Way) (walk : List Way) (k : ℕ) (places : List Location) → Contains (ways_at code (end_of walk)) way →
-    (r : Replays code args (end_of walk) k places) → (m : ℕ) → slice_get (assigned_behind code way (assigned_of code args r.walk)).saved m ≡ Some places →
-    Replays code args way.to m places
-goes_on code args way walk k places leads r m saved = record {
-  walk = way ∷ r.walk;
-  is = (subst (λ p. Contains (ways_at code p) way) (sym r.ends) leads, r.is);
+-- the branch, behind the walk that replays
+goes_on : (code : List Instr) (args : ℕ) (branch : Branch) (walk : List Branch) (k : ℕ) (locations : List Location) → Contains (branches_at code (end_of walk)) branch →
+    (r : Replays code args (end_of walk) k locations) → (m : ℕ) → slice_get (assigned_behind code branch (assigned_of code args r.walk)).saved m ≡ Some locations →
+    Replays code args branch.to m locations
+goes_on code args branch walk k locations leads r m saved = record {
+  walk = branch ∷ r.walk;
+  is = (subst (λ p. Contains (branches_at code p) branch) (sym r.ends) leads, r.is);
   ends = refl;
   saved = saved;
 }
 
-replay_way : (code : List Instr) (args : ℕ) (way : Way) (walk other : List Way) (change : Change) → change ≡ change_of code way → Contains (ways_at code (end_of walk)) way →
-    IsWalk code other → ((k : ℕ) → slice_get (sites_of code walk) k ≡ Some (end_of other) → Replays code args (end_of walk) k (assigned_of code args other).places) →
-    (k : ℕ) → slice_get (sites_changed change way.from (sites_of code walk)) k ≡ Some (end_of other) →
-    Replays code args way.to k (assigned_of code args other).places
-replay_way code args way walk other Opens e leads is before zero h =
-    let same : way.from ≡ end_of other = cc in
-    let from : way.from ≡ end_of walk = (way-is code (end_of walk) way leads).from in
+replay_branch : (code : List Instr) (args : ℕ) (branch : Branch) (walk other : List Branch) (change : Change) → change ≡ change_of code branch → Contains (branches_at code (end_of walk)) branch →
+    IsWalk code other → ((k : ℕ) → slice_get (sites_of code walk) k ≡ Some (end_of other) → Replays code args (end_of walk) k (assigned_of code args other).locations) →
+    (k : ℕ) → slice_get (sites_changed change branch.from (sites_of code walk)) k ≡ Some (end_of other) →
+    Replays code args branch.to k (assigned_of code args other).locations
+replay_branch code args branch walk other Opens e leads is before zero h =
+    let same : branch.from ≡ end_of other = cc in
+    let from : branch.from ≡ end_of walk = (branch-is code (end_of walk) branch leads).from in
     record {
-      walk = way ∷ other;
-      is = (subst (λ p. Contains (ways_at code p) way) (sym from ∙ same) leads, is);
+      walk = branch ∷ other;
+      is = (subst (λ p. Contains (branches_at code p) branch) (sym from ∙ same) leads, is);
       ends = refl;
-      saved = subst (λ ch. slice_get (assigned_changed ch (assigns_at (slice_get code way.from)) way.aborts (assigned_of code args other)).saved 0 ≡ Some (assigned_of code args other).places) e refl;
+      saved = subst (λ ch. slice_get (assigned_changed ch (assigns_at (slice_get code branch.from)) branch.aborts (assigned_of code args other)).saved 0 ≡ Some (assigned_of code args other).locations) e refl;
     }
-replay_way code args way walk other Opens e leads is before (suc k) h =
+replay_branch code args branch walk other Opens e leads is before (suc k) h =
     let r = before k h in
-    goes_on code args way walk k (assigned_of code args other).places leads r (suc k)
-    (subst (λ ch. slice_get (assigned_changed ch (assigns_at (slice_get code way.from)) way.aborts (assigned_of code args r.walk)).saved (suc k) ≡ Some (assigned_of code args other).places) e r.saved)
-replay_way code args way walk other Closes e leads is before k h =
+    goes_on code args branch walk k (assigned_of code args other).locations leads r (suc k)
+    (subst (λ ch. slice_get (assigned_changed ch (assigns_at (slice_get code branch.from)) branch.aborts (assigned_of code args r.walk)).saved (suc k) ≡ Some (assigned_of code args other).locations) e r.saved)
+replay_branch code args branch walk other Closes e leads is before k h =
     let r = before (suc k) (sym (newest_dropped (sites_of code walk) k) ∙ h) in
-    goes_on code args way walk (suc k) (assigned_of code args other).places leads r k
-    (subst (λ ch. slice_get (assigned_changed ch (assigns_at (slice_get code way.from)) way.aborts (assigned_of code args r.walk)).saved k ≡ Some (assigned_of code args other).places) e
+    goes_on code args branch walk (suc k) (assigned_of code args other).locations leads r k
+    (subst (λ ch. slice_get (assigned_changed ch (assigns_at (slice_get code branch.from)) branch.aborts (assigned_of code args r.walk)).saved k ≡ Some (assigned_of code args other).locations) e
     (newest_dropped (assigned_of code args r.walk).saved k ∙ r.saved))
-replay_way code args way walk other Keeps e leads is before k h =
+replay_branch code args branch walk other Keeps e leads is before k h =
     let r = before k h in
-    goes_on code args way walk k (assigned_of code args other).places leads r k
-    (subst (λ ch. slice_get (assigned_changed ch (assigns_at (slice_get code way.from)) way.aborts (assigned_of code args r.walk)).saved k ≡ Some (assigned_of code args other).places) e r.saved)
+    goes_on code args branch walk k (assigned_of code args other).locations leads r k
+    (subst (λ ch. slice_get (assigned_changed ch (assigns_at (slice_get code branch.from)) branch.aborts (assigned_of code args r.walk)).saved k ≡ Some (assigned_of code args other).locations) e r.saved)
 
-pub replay : (code : List Instr) (args : ℕ) (walk other : List Way) → IsWalk code walk → IsWalk code other →
-    (k : ℕ) → slice_get (sites_of code walk) k ≡ Some (end_of other) → Replays code args (end_of walk) k (assigned_of code args other).places
+pub replay : (code : List Instr) (args : ℕ) (walk other : List Branch) → IsWalk code walk → IsWalk code other →
+    (k : ℕ) → slice_get (sites_of code walk) k ≡ Some (end_of other) → Replays code args (end_of walk) k (assigned_of code args other).locations
 replay code args [] other is is' k h = cc
-replay code args (way ∷ walk) other is is' k h =
-    replay_way code args way walk other (change_of code way) refl is.0 is' (replay code args walk other is.1 is') k h
+replay code args (branch ∷ walk) other is is' k h =
+    replay_branch code args branch walk other (change_of code branch) refl is.0 is' (replay code args walk other is.1 is') k h
 
 -- the sites of a walk are items
-pub sites-inside : (code : List Instr) (walk : List Way) → IsWalk code walk → (k site : ℕ) → slice_get (sites_of code walk) k ≡ Some site → site < length code
+pub sites-inside : (code : List Instr) (walk : List Branch) → IsWalk code walk → (k site : ℕ) → slice_get (sites_of code walk) k ≡ Some site → site < length code
 sites-inside code [] is k site h = cc
-sites-inside code (way ∷ walk) is k site h =
-    let low : way.from < length code = subst (λ p. p < length code) (sym (way-is code (end_of walk) way is.0).from) (way-inside code (end_of walk) way is.0) in
-    inside_changed (change_of code way) way.from (sites_of code walk) (length code) low (sites-inside code walk is.1) k site h
+sites-inside code (branch ∷ walk) is k site h =
+    let low : branch.from < length code = subst (λ p. p < length code) (sym (branch-is code (end_of walk) branch is.0).from) (branch-inside code (end_of walk) branch is.0) in
+    inside_changed (change_of code branch) branch.from (sites_of code walk) (length code) low (sites-inside code walk is.1) k site h
   where
     inside_changed : (change : Change) (at : ℕ) (sites : List ℕ) (n : ℕ) → at < n → ((k site : ℕ) → slice_get sites k ≡ Some site → site < n) →
         (k site : ℕ) → slice_get (sites_changed change at sites) k ≡ Some site → site < n

@@ -1,8 +1,8 @@
--- The arcs along which a place stays unassigned: an edge goes from the point where it leaves, labelled with the place
+-- The arcs along which a location stays unassigned: an edge goes from the point where it leaves, labelled with the location
 -- that the item there assigns.
 use Rattle.std.specs.Prelude.{List, map, slice_get}
 use Rattle.bril_tree.specs.declared.numbered.Instr.{Instr}
-use Rattle.definite_assignment.specs.Place.{label_of}
+use Rattle.definite_assignment.specs.Location.{label_of}
 use Rattle.flow_graph.specs.declared.edge.Edge.{Edge}
 use Rattle.graph_search.specs.declared.graph.Arc.{Arc}
 
@@ -12,6 +12,6 @@ leaving_arc code edge = record { from = edge.leave; to = edge.to; label = label_
 abbrev pub leaving_arcs : List Instr → List Edge → List Arc
 leaving_arcs code edges = map (leaving_arc code) edges
 
--- the same arc the other way
+-- the same arc backwards
 abbrev pub turned : Arc → Arc
 turned arc = record { from = arc.to; to = arc.from; label = arc.label }

@@ -1,4 +1,4 @@
 pub mod Leaving
-pub mod Place
+pub mod Location
 pub mod Reads
 pub mod Unassigned

@@ -1,4 +1,4 @@
-// The first item that reads a place which some walk to it doesn't assign.
+// The first item that reads a location which some walk to it doesn't assign.
 
 ghost use Rattle.std.specs.Prelude.{◌≡◌, ◌^◌, ◌-◌, ◌<◌, ℕ, None, length, is_some, IfOk, MatchOption};
 ghost use Rattle.bril_tree.specs.Shape.{shape_fault_of};
@@ -18,7 +18,7 @@ pub struct Unassigned {
     pub var: u32,
 }
 
-/// The first item that reads a place which some walk to it doesn't assign, with the variable of its first such place;
+/// The first item that reads a location which some walk to it doesn't assign, with the variable of its first such location;
 /// None exactly where there is no such item. `graph` is the flow graph of the function. An error means want of memory,
 /// which a function that reads or assigns a variable of a number from 2^31 on, or has 2^32 - 1 reads or edges or more,
 /// is taken to have.
@@ -44,6 +44,6 @@ pub fn first_unassigned(
     let read = flow.reads[first];
     Ok(Some(Unassigned {
         item: read.item,
-        var: read.place / 2,
+        var: read.location / 2,
     }))
 }

@@ -1,16 +1,16 @@
-// The arcs along which a place stays unassigned.
+// The arcs along which a location stays unassigned.
 
 ghost use Rattle.std.specs.Prelude.{◌≡◌, ℕ, map, slice_get, IfOk};
 ghost use Rattle.definite_assignment.specs.Leaving.{leaving_arc, leaving_arcs, turned};
-ghost use Rattle.definite_assignment.specs.Place.{label_of};
+ghost use Rattle.definite_assignment.specs.Location.{label_of};
 
-use crate::place::item_label;
+use crate::location::item_label;
 use bril_tree::numbered::Instr;
 use flow_graph::Edge;
 use graph_search::Arc;
 use std::alloc::{AllocError, Global};
 
-// The number of the place that the item at a point assigns on the way on.
+// The number of the location that the item at a point assigns as control goes on.
 fn label_at(code: &[Instr], point: u32) -> Result<Option<u32>, AllocError>
     ensures { IfOk result (λ label. label ≡ label_of (slice_get code.now point)) }
 {

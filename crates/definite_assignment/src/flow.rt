@@ -1,28 +1,28 @@
-// The reads of a function, and the arcs along which a place stays unassigned.
+// The reads of a function, and the arcs along which a location stays unassigned.
 
 ghost use Rattle.std.specs.Prelude.{◌≡◌, ◌≤◌, ◌<◌, ◌^◌, ℕ, map, IfOk};
 ghost use Rattle.std.specs.List.{All};
 ghost use Rattle.definite_assignment.specs.Leaving.{turned};
 
 use crate::arcs::{arcs_of, arcs_turned};
-use crate::place::is_argument_place;
-use crate::reads::{Read, all_reads, place_count};
+use crate::location::is_argument_location;
+use crate::reads::{Read, all_reads, location_count};
 use bril_tree::numbered_function::Func;
 use flow_graph::Graph;
-use graph_search::{ArcGraph, Marks, Rows};
+use graph_search::{ArcGraph, Reached, Adjacency};
 use std::alloc::{AllocError, Global};
 
-// The reads of a function with `args` arguments, their places in the list by what they read, and the arcs along which a
-// place stays unassigned, as they are and turned round.
+// The reads of a function with `args` arguments, their indices in the list by what they read, and the arcs along which a
+// location stays unassigned, as they are and turned round.
 #[derive(Drop)]
 pub(crate) struct Flow {
     pub args: u32,
     pub reads: Vec<Read>,
-    pub readers: Rows,
+    pub readers: Adjacency,
     pub forward: ArcGraph,
     pub backward: ArcGraph,
-    ghost keys: { readers.keys ≡ map (λ read. read.place) reads.items },
-    ghost places: { All (λ read. read.place < readers.count) reads.items },
+    ghost keys: { readers.keys ≡ map (λ read. read.location) reads.items },
+    ghost locations: { All (λ read. read.location < readers.count) reads.items },
     ghost few: { readers.count ≤ 2 ^ 32 },
     ghost items: { All (λ read. read.item < forward.nodes) reads.items },
     ghost turned: { backward.arcs ≡ map turned forward.arcs },
@@ -30,15 +30,15 @@ pub(crate) struct Flow {
     ghost start: { 0 < forward.nodes },
 }
 
-// The numbers of the places that are read.
-fn places_of(alloc: Global, reads: &[Read]) -> Result<Vec<u32>, AllocError>
-    ensures { IfOk result (λ places. places.items ≡ map (λ read. read.place) reads.now) }
+// The numbers of the locations that are read.
+fn locations_of(alloc: Global, reads: &[Read]) -> Result<Vec<u32>, AllocError>
+    ensures { IfOk result (λ locations. locations.items ≡ map (λ read. read.location) reads.now) }
 {
-    let mut places = Vec::new(alloc);
+    let mut locations = Vec::new(alloc);
     for read in reads {
-        places.push(read.place)?;
+        locations.push(read.location)?;
     }
-    Ok(places)
+    Ok(locations)
 }
 
 impl Flow {
@@ -64,10 +64,10 @@ impl Flow {
         if reads.len() >= u32::MAX as usize || arcs.len() >= u32::MAX as usize {
             return Err(AllocError);
         }
-        let readers = Rows::of(
+        let readers = Adjacency::of(
             alloc,
-            place_count(reads.as_slice()),
-            places_of(alloc, reads.as_slice())?,
+            location_count(reads.as_slice()),
+            locations_of(alloc, reads.as_slice())?,
         )?;
         let nodes = code.len() + 1;
         let backward = ArcGraph::of(alloc, nodes, arcs_turned(alloc, arcs.as_slice())?)?;
@@ -81,14 +81,14 @@ impl Flow {
         })
     }
 
-    // The items that read the place.
-    fn items_reading(&self, alloc: Global, place: u32) -> Result<Vec<u32>, AllocError>
-        requires { place < self.now.readers.count }
+    // The items that read the location.
+    fn items_reading(&self, alloc: Global, location: u32) -> Result<Vec<u32>, AllocError>
+        requires { location < self.now.readers.count }
         ensures nodes { IfOk result (λ items. All (λ item. item < self.now.forward.nodes) items.items) }
-        ensures all { IfOk result (λ items. (k : ℕ) (read : Read) → slice_get self.now.reads.items k ≡ Some read → read.place ≡ place → Contains items.items read.item) }
+        ensures all { IfOk result (λ items. (k : ℕ) (read : Read) → slice_get self.now.reads.items k ≡ Some read → read.location ≡ location → Contains items.items read.item) }
     {
         let mut items = Vec::new(alloc);
-        let mut end = self.readers.end(place);
+        let mut end = self.readers.end(location);
         while end > 0 {
             let k = end - 1;
             items.push(self.reads[k as usize].item)?;
@@ -97,85 +97,85 @@ impl Flow {
         Ok(items)
     }
 
-    // Whether some item that reads the place is led to from the start by arcs past items that don't assign it. This
-    // goes back from those items, and so sees only the points at which the place is live.
+    // Whether some item that reads the location is led to from the start by arcs past items that don't assign it. This
+    // goes back from those items, and so sees only the points at which the location is live.
     fn is_read_unassigned(
         &self,
         alloc: Global,
-        marks: &mut Marks,
-        place: u32,
+        reached: &mut Reached,
+        location: u32,
     ) -> Result<bool, AllocError>
-        requires place { place < self.now.readers.count }
-        requires nodes { marks.old.nodes ≡ self.now.forward.nodes }
-        ensures nodes { marks.new.nodes ≡ marks.old.nodes }
-        ensures none { IfOk result (λ b. b ≡ false → (k : ℕ) (read : Read) → slice_get self.now.reads.items k ≡ Some read → read.place ≡ place →
-            ¬ IsReached self.now.forward.arcs (0 ∷ []) place read.item) }
+        requires location { location < self.now.readers.count }
+        requires nodes { reached.old.nodes ≡ self.now.forward.nodes }
+        ensures nodes { reached.new.nodes ≡ reached.old.nodes }
+        ensures none { IfOk result (λ b. b ≡ false → (k : ℕ) (read : Read) → slice_get self.now.reads.items k ≡ Some read → read.location ≡ location →
+            ¬ IsReached self.now.forward.arcs (0 ∷ []) location read.item) }
     {
-        let items = self.items_reading(alloc, place)?;
-        marks.search(&self.backward, items.as_slice(), place)?;
-        Ok(marks.is_marked(0))
+        let items = self.items_reading(alloc, location)?;
+        reached.search(&self.backward, items.as_slice(), location)?;
+        Ok(reached.is_marked(0))
     }
 
     // The least of a number and `k`, where the item of the read at `k` is marked; else the number.
-    fn lower_at(&self, marks: &Marks, k: usize, least: usize) -> usize
+    fn lower_at(&self, reached: &Reached, k: usize, least: usize) -> usize
         requires k { k < length self.now.reads.items }
-        requires nodes { marks.now.nodes ≡ self.now.forward.nodes }
+        requires nodes { reached.now.nodes ≡ self.now.forward.nodes }
         ensures { (read : Read) → slice_get self.now.reads.items k ≡ Some read →
-            (Contains marks.now.found read.item × (result ≡ min least k)) ⊎ ((¬ Contains marks.now.found read.item) × (result ≡ least)) }
+            (Contains reached.now.found read.item × (result ≡ min least k)) ⊎ ((¬ Contains reached.now.found read.item) × (result ≡ least)) }
     {
-        if marks.is_marked(self.reads[k].item) {
+        if reached.is_marked(self.reads[k].item) {
             return least.min(k);
         }
         least
     }
 
-    // The least of a number and the places of reads of the place by marked items.
-    fn first_marked(&self, marks: &Marks, place: u32, first: usize) -> usize
-        requires place { place < self.now.readers.count }
-        requires nodes { marks.now.nodes ≡ self.now.forward.nodes }
-        ensures { Lowers self.now.reads.items (λ read. (read.place ≡ place) × Contains marks.now.found read.item) first result }
+    // The least of a number and the indices of reads of the location by marked items.
+    fn first_marked(&self, reached: &Reached, location: u32, first: usize) -> usize
+        requires location { location < self.now.readers.count }
+        requires nodes { reached.now.nodes ≡ self.now.forward.nodes }
+        ensures { Lowers self.now.reads.items (λ read. (read.location ≡ location) × Contains reached.now.found read.item) first result }
     {
         let mut least = first;
-        let mut end = self.readers.end(place);
+        let mut end = self.readers.end(location);
         while end > 0 {
             let k = end - 1;
-            least = self.lower_at(marks, k as usize, least);
+            least = self.lower_at(reached, k as usize, least);
             end = self.readers.before(k);
         }
         least
     }
 
-    // The least of a number and the places of reads of the place that are open.
+    // The least of a number and the indices of reads of the location that are open.
     fn lowered(
         &self,
         alloc: Global,
-        marks: &mut Marks,
-        place: u32,
+        reached: &mut Reached,
+        location: u32,
         first: usize,
     ) -> Result<usize, AllocError>
-        requires place { place < self.now.readers.count }
-        requires nodes { marks.old.nodes ≡ self.now.forward.nodes }
-        ensures nodes { marks.new.nodes ≡ marks.old.nodes }
-        ensures lowered { IfOk result (λ least. Lowers self.now.reads.items (λ read. (read.place ≡ place) × IsOpen self.now.forward.arcs self.now.args read) first least) }
+        requires location { location < self.now.readers.count }
+        requires nodes { reached.old.nodes ≡ self.now.forward.nodes }
+        ensures nodes { reached.new.nodes ≡ reached.old.nodes }
+        ensures lowered { IfOk result (λ least. Lowers self.now.reads.items (λ read. (read.location ≡ location) × IsOpen self.now.forward.arcs self.now.args read) first least) }
     {
-        if is_argument_place(self.args, place) {
+        if is_argument_location(self.args, location) {
             return Ok(first);
         }
-        if !self.is_read_unassigned(alloc, marks, place)? {
+        if !self.is_read_unassigned(alloc, reached, location)? {
             return Ok(first);
         }
-        marks.search(&self.forward, &[0], place)?;
-        Ok(self.first_marked(marks, place, first))
+        reached.search(&self.forward, &[0], location)?;
+        Ok(self.first_marked(reached, location, first))
     }
 
-    // The place in the list of the first read that is open, or the list's length where none is.
+    // The index in the list of the first read that is open, or the list's length where none is.
     pub fn first_open(&self, alloc: Global) -> Result<usize, AllocError>
         ensures { IfOk result (λ first. IsFirstOpen self.now.forward.arcs self.now.args self.now.reads.items first) }
     {
-        let mut marks = Marks::new(alloc, self.forward.nodes())?;
+        let mut reached = Reached::new(alloc, self.forward.nodes())?;
         let mut first = self.reads.len();
-        for place in 0..self.readers.count() {
-            first = self.lowered(alloc, &mut marks, place as u32, first)?;
+        for location in 0..self.readers.count() {
+            first = self.lowered(alloc, &mut reached, location as u32, first)?;
         }
         Ok(first)
     }

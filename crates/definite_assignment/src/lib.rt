@@ -1,10 +1,10 @@
-//! Definite assignment: whether each place that an item reads was assigned on each walk to it.
+//! Definite assignment: whether each location that an item reads was assigned on each walk to it.
 #![tactic(auto)]
 
 mod analysis;
 mod arcs;
 mod flow;
-mod place;
+mod location;
 mod reads;
 #[cfg(test)]
 mod tests;

@@ -5,16 +5,16 @@ ghost use Rattle.std.specs.List.{All};
 ghost use Rattle.bril_tree.specs.Operand.{Variable, locations_read, reading_of, shadow_of};
 ghost use Rattle.definite_assignment.specs.Reads.{read_at, item_reads, reads_from};
 
-use crate::place::{operand, shadow_number, variable_number};
+use crate::location::{operand, shadow_number, variable_number};
 use bril_tree::numbered::Instr;
 use bril_tree::operation::Op;
 use std::alloc::{AllocError, Global};
 
-// A read by an item: its number, and the number of the place.
+// A read by an item: its number, and the number of the location.
 #[derive(Clone, Copy, PartialEq, Eq, Debug, Drop)]
 pub(crate) struct Read {
     pub item: u32,
-    pub place: u32,
+    pub location: u32,
 }
 
 // Adds a read of each variable.
@@ -22,8 +22,8 @@ fn push_variables(reads: &mut Vec<Read>, item: u32, args: &[u32]) -> Result<(), 
     ensures { OnOk result (reads.new.items ≡ reads.old.items ++ map (read_at item) (map Variable args.now)) }
 {
     for x in args {
-        let place = variable_number(*x)?;
-        reads.push(Read { item, place })?;
+        let location = variable_number(*x)?;
+        reads.push(Read { item, location })?;
     }
     Ok(())
 }
@@ -41,8 +41,8 @@ fn push_operands(
     match op {
         Op::Get => push_shadow(reads, item, dest),
         Op::Set => {
-            let place = variable_number(operand(args, 1))?;
-            reads.push(Read { item, place })?;
+            let location = variable_number(operand(args, 1))?;
+            reads.push(Read { item, location })?;
             Ok(())
         }
         _ => push_variables(reads, item, args),
@@ -56,8 +56,8 @@ fn push_shadow(reads: &mut Vec<Read>, item: u32, dest: Option<u32>) -> Result<()
     match dest {
         None => Ok(()),
         Some(x) => {
-            let place = shadow_number(x)?;
-            reads.push(Read { item, place })?;
+            let location = shadow_number(x)?;
+            reads.push(Read { item, location })?;
             Ok(())
         }
     }
@@ -101,14 +101,14 @@ fn count_above(count: usize, number: u32) -> usize
     number as usize + 1
 }
 
-// A count above the numbers of all places that are read.
-pub(crate) fn place_count(reads: &[Read]) -> usize
-    ensures above { All (λ read. read.place < result) reads.now }
+// A count above the numbers of all locations that are read.
+pub(crate) fn location_count(reads: &[Read]) -> usize
+    ensures above { All (λ read. read.location < result) reads.now }
     ensures few { result ≤ 2 ^ 32 }
 {
     let mut count = 0;
     for read in reads {
-        count = count_above(count, read.place);
+        count = count_above(count, read.location);
     }
     count
 }

@@ -6,19 +6,19 @@ use Rattle.std.proofs.lemmas.Bool.{cases_lt, cases_order}
 use Rattle.std.proofs.lemmas.Option.{slice_get_within, slice_get-get_or}
 use Rattle.bril_tree.specs.declared.numbered.Instr.{Instr}
 use Rattle.bril_tree.specs.Edge as edge
-use Rattle.bril_tree.specs.Edge.{ways_at}
+use Rattle.bril_tree.specs.Edge.{branches_at}
 use Rattle.bril_tree.specs.Walk.{IsWalk}
 use Rattle.bril_tree.specs.Sites.{AreFirstSites, AreSitesSound, SitesFail, TooMany, NoSite, Others, sites_of, sites_behind}
 use Rattle.flow_graph.specs.Graph.{IsLeastFailing}
 use Rattle.flow_graph.specs.Faults.{IsLeastOf, lesser, Lacks, Brings, FailsAhead, FailsFrom, FailsAt, FailsBefore}
 use Rattle.flow_graph.specs.Visits.{Keep, IsVisited, AreVisits, visit_or_none, visit_at, visit_behind}
-use Rattle.flow_graph.specs.Ways.{way_of, ways_of, AreRows}
+use Rattle.flow_graph.specs.Branches.{branch_of, branches_of, AreBranchRows}
 use Rattle.flow_graph.specs.declared.visits.Visit.{Visit}
-use Rattle.flow_graph.specs.declared.ways.Ways.{Ways}
-use Rattle.flow_graph.specs.declared.ways.Ways.TheVariants.{Nowhere, Single, Either}
+use Rattle.flow_graph.specs.declared.branches.Branches.{Branches}
+use Rattle.flow_graph.specs.declared.branches.Branches.TheVariants.{Nowhere, Single, Either}
 use Rattle.flow_graph.proofs.Members.{In, in_contains, contains_in}
 use Rattle.flow_graph.proofs.OpenSites.{one_list}
-use Rattle.flow_graph.proofs.Order.{way_from}
+use Rattle.flow_graph.proofs.Order.{branch_from}
 use Rattle.flow_graph.proofs.Searching.{get_inside, keep_count, keep_behind}
 
 -- ---- the least of two
@@ -58,11 +58,11 @@ least_same P Q (Some x) to from h = (to x h.0, λ p q. h.1 p (from p q))
 
 -- ---- one point more
 
-fails_more : (code : List Instr) (rows : List Ways) (visits : List (Option Visit)) (i : ℕ) (row : Ways) → slice_get rows i ≡ Some row → (p : ℕ) → FailsBefore code rows visits i p ⊎ FailsAt code row visits i p → FailsBefore code rows visits (i + 1) p
+fails_more : (code : List Instr) (rows : List Branches) (visits : List (Option Visit)) (i : ℕ) (row : Branches) → slice_get rows i ≡ Some row → (p : ℕ) → FailsBefore code rows visits i p ⊎ FailsAt code row visits i p → FailsBefore code rows visits (i + 1) p
 fails_more code rows visits i row at p (inl f) = record { source = f.source; before = omega (arith, f.before); row = f.row; at = f.at; fails = f.fails }
 fails_more code rows visits i row at p (inr f) = record { source = i; before = omega arith; row = row; at = at; fails = f }
 
-fails_split : (code : List Instr) (rows : List Ways) (visits : List (Option Visit)) (i : ℕ) (row : Ways) → slice_get rows i ≡ Some row → (p : ℕ) (f : FailsBefore code rows visits (i + 1) p) → (f.source ≡ i) ⊎ ((f.source < i) ⊎ (i < f.source)) → FailsBefore code rows visits i p ⊎ FailsAt code row visits i p
+fails_split : (code : List Instr) (rows : List Branches) (visits : List (Option Visit)) (i : ℕ) (row : Branches) → slice_get rows i ≡ Some row → (p : ℕ) (f : FailsBefore code rows visits (i + 1) p) → (f.source ≡ i) ⊎ ((f.source < i) ⊎ (i < f.source)) → FailsBefore code rows visits i p ⊎ FailsAt code row visits i p
 fails_split code rows visits i row at p f (inl e) =
     let twice : Some f.row ≡ Some row = sym f.at ∙ ap (λ n. slice_get rows n) e ∙ at in
     let same : f.row ≡ row = cc in
@@ -70,7 +70,7 @@ fails_split code rows visits i row at p f (inl e) =
 fails_split code rows visits i row at p f (inr (inl l)) = inl record { source = f.source; before = l; row = f.row; at = f.at; fails = f.fails }
 fails_split code rows visits i row at p f (inr (inr l)) = absurd (omega (arith, f.before))
 
-pub least_more : (code : List Instr) (rows : List Ways) (visits : List (Option Visit)) (i : ℕ) (row : Ways) (a b : Option ℕ) → slice_get rows i ≡ Some row → IsLeastOf (FailsBefore code rows visits i) a → IsLeastOf (FailsAt code row visits i) b → IsLeastOf (FailsBefore code rows visits (i + 1)) (lesser a b)
+pub least_more : (code : List Instr) (rows : List Branches) (visits : List (Option Visit)) (i : ℕ) (row : Branches) (a b : Option ℕ) → slice_get rows i ≡ Some row → IsLeastOf (FailsBefore code rows visits i) a → IsLeastOf (FailsAt code row visits i) b → IsLeastOf (FailsBefore code rows visits (i + 1)) (lesser a b)
 least_more code rows visits i row a b at f g =
     least_same (λ p. FailsBefore code rows visits i p ⊎ FailsAt code row visits i p) (FailsBefore code rows visits (i + 1)) (lesser a b)
     (fails_more code rows visits i row at)
@@ -113,7 +113,7 @@ known code visits are p sites first =
 
 -- ---- where sites fail, it shows
 
-at_visit : (code : List Instr) (rows : List Ways) (visits : List (Option Visit)) → AreRows code rows → AreVisits code visits → (source p : ℕ) (visit : Visit) → slice_get visits source ≡ Some (Some visit) → ((row : Ways) → ways_of row ≡ ways_at code source → FailsFrom code row visits source (Some (Some visit)) p) → FailsBefore code rows visits (length rows) p
+at_visit : (code : List Instr) (rows : List Branches) (visits : List (Option Visit)) → AreBranchRows code rows → AreVisits code visits → (source p : ℕ) (visit : Visit) → slice_get visits source ≡ Some (Some visit) → ((row : Branches) → branches_of row ≡ branches_at code source → FailsFrom code row visits source (Some (Some visit)) p) → FailsBefore code rows visits (length rows) p
 at_visit code rows visits are_rows are source p visit at f =
     let inside = slice_get_within visits source (Some visit) at in
     let within : source < length rows = omega (arith, are.points, are_rows.points) in
@@ -126,15 +126,15 @@ at_visit code rows visits are_rows are source p visit at f =
       fails = subst (λ o. FailsFrom code row.0 visits source o p) (sym at) (f row.0 (are_rows.at source row.0 row.1));
     }
 
-brings_ahead : (code : List Instr) (visits : List (Option Visit)) (row : Ways) (way : edge.Way) (p : ℕ) → In way (ways_of row) → Brings code visits way p → FailsAhead code visits row p
-brings_ahead code visits Nowhere way p i b = i
-brings_ahead code visits (Single a) way p (inl e) b = subst (λ w. Brings code visits w p) e b
-brings_ahead code visits (Single a) way p (inr h) b = absurd h
-brings_ahead code visits (Either a c) way p (inl e) b = inl (subst (λ w. Brings code visits w p) e b)
-brings_ahead code visits (Either a c) way p (inr (inl e)) b = inr (subst (λ w. Brings code visits w p) e b)
-brings_ahead code visits (Either a c) way p (inr (inr h)) b = absurd h
+brings_ahead : (code : List Instr) (visits : List (Option Visit)) (row : Branches) (branch : edge.Branch) (p : ℕ) → In branch (branches_of row) → Brings code visits branch p → FailsAhead code visits row p
+brings_ahead code visits Nowhere branch p i b = i
+brings_ahead code visits (Single a) branch p (inl e) b = subst (λ w. Brings code visits w p) e b
+brings_ahead code visits (Single a) branch p (inr h) b = absurd h
+brings_ahead code visits (Either a c) branch p (inl e) b = inl (subst (λ w. Brings code visits w p) e b)
+brings_ahead code visits (Either a c) branch p (inr (inl e)) b = inr (subst (λ w. Brings code visits w p) e b)
+brings_ahead code visits (Either a c) branch p (inr (inr h)) b = absurd h
 
-pub failing_shows : (code : List Instr) (rows : List Ways) (visits : List (Option Visit)) → AreRows code rows → AreVisits code visits → (p : ℕ) → SitesFail code p → FailsBefore code rows visits (length rows) p
+pub failing_shows : (code : List Instr) (rows : List Branches) (visits : List (Option Visit)) → AreBranchRows code rows → AreVisits code visits → (p : ℕ) → SitesFail code p → FailsBefore code rows visits (length rows) p
 failing_shows code rows visits are_rows are p (TooMany h) =
     let k = known code visits are p h.sites h.first in
     at_visit code rows visits are_rows are p p k.visit k.at
@@ -143,45 +143,45 @@ failing_shows code rows visits are_rows are p (NoSite h) =
     let k = known code visits are p [] h.first in
     at_visit code rows visits are_rows are p p k.visit k.at (λ row is. inl (refl, inr (k.keep.0, h.needs)))
 failing_shows code rows visits are_rows are p (Others h) =
-    let q = known code visits are h.way.from h.before h.first_before in
+    let q = known code visits are h.branch.from h.before h.first_before in
     let k = known code visits are p h.sites h.first in
-    let behind = keep_behind code visits h.way q.visit h.before q.at q.keep in
-    let here : visit_at visits h.way.to ≡ k.visit = ap (λ n. visit_at visits n) h.to ∙ ap visit_or_none k.at in
-    at_visit code rows visits are_rows are h.way.from p q.visit q.at
-    (λ row is. inr (brings_ahead code visits row h.way p
-    (subst (λ ws. In h.way ws) (sym is) (in_contains h.way (ways_at code h.way.from) h.at))
-    (h.to, λ same. h.other (keep_same visits (visit_behind code visits h.way) k.visit (sites_behind code h.way h.before) h.sites behind k.keep (same ∙ ap (λ (x : Visit). x.newest) here)))))
+    let behind = keep_behind code visits h.branch q.visit h.before q.at q.keep in
+    let here : visit_at visits h.branch.to ≡ k.visit = ap (λ n. visit_at visits n) h.to ∙ ap visit_or_none k.at in
+    at_visit code rows visits are_rows are h.branch.from p q.visit q.at
+    (λ row is. inr (brings_ahead code visits row h.branch p
+    (subst (λ ws. In h.branch ws) (sym is) (in_contains h.branch (branches_at code h.branch.from) h.at))
+    (h.to, λ same. h.other (keep_same visits (visit_behind code visits h.branch) k.visit (sites_behind code h.branch h.before) h.sites behind k.keep (same ∙ ap (λ (x : Visit). x.newest) here)))))
 
 -- ---- what shows fails
 
-ahead_brings : (code : List Instr) (visits : List (Option Visit)) (row : Ways) (p : ℕ) → FailsAhead code visits row p → (way : edge.Way) × In way (ways_of row) × Brings code visits way p
+ahead_brings : (code : List Instr) (visits : List (Option Visit)) (row : Branches) (p : ℕ) → FailsAhead code visits row p → (branch : edge.Branch) × In branch (branches_of row) × Brings code visits branch p
 ahead_brings code visits Nowhere p h = absurd h
-ahead_brings code visits (Single a) p h = (way_of a, inl refl, h)
-ahead_brings code visits (Either a c) p (inl h) = (way_of a, inl refl, h)
-ahead_brings code visits (Either a c) p (inr h) = (way_of c, inr (inl refl), h)
+ahead_brings code visits (Single a) p h = (branch_of a, inl refl, h)
+ahead_brings code visits (Either a c) p (inl h) = (branch_of a, inl refl, h)
+ahead_brings code visits (Either a c) p (inr h) = (branch_of c, inr (inl refl), h)
 
-brought_others : (code : List Instr) (rows : List Ways) (visits : List (Option Visit)) → AreVisits code visits → (source : ℕ) (visit : Visit) → slice_get visits source ≡ Some (Some visit) → (way : edge.Way) (p : ℕ) → In way (ways_at code source) → Brings code visits way p → SitesFail code p
-brought_others code rows visits are source visit at way p i b =
+brought_others : (code : List Instr) (rows : List Branches) (visits : List (Option Visit)) → AreVisits code visits → (source : ℕ) (visit : Visit) → slice_get visits source ≡ Some (Some visit) → (branch : edge.Branch) (p : ℕ) → In branch (branches_at code source) → Brings code visits branch p → SitesFail code p
+brought_others code rows visits are source visit at branch p i b =
     let v = are.visited source visit at in
-    let from = way_from code source way i in
-    let here = contains_in way (ways_at code source) i in
-    let walks : IsWalk code (way ∷ v.walk) = (subst (λ n. Contains (ways_at code n) way) (sym v.first.ends) here, v.first.is) in
-    let r = are.reached way.to (record { walk = way ∷ v.walk; is = walks; ends = refl }) in
-    let w = are.visited way.to r.0 r.1 in
-    let behind = keep_behind code visits way visit (sites_of code v.walk) (ap (λ n. slice_get visits n) from ∙ at) v.kept in
+    let from = branch_from code source branch i in
+    let here = contains_in branch (branches_at code source) i in
+    let walks : IsWalk code (branch ∷ v.walk) = (subst (λ n. Contains (branches_at code n) branch) (sym v.first.ends) here, v.first.is) in
+    let r = are.reached branch.to (record { walk = branch ∷ v.walk; is = walks; ends = refl }) in
+    let w = are.visited branch.to r.0 r.1 in
+    let behind = keep_behind code visits branch visit (sites_of code v.walk) (ap (λ n. slice_get visits n) from ∙ at) v.kept in
     let first_before : AreFirstSites code source (sites_of code v.walk) = record { walk = v.walk; first = v.first; are = refl } in
-    let first : AreFirstSites code way.to (sites_of code w.walk) = record { walk = w.walk; first = w.first; are = refl } in
-    let kept_there : visit_at visits way.to ≡ r.0 = ap visit_or_none r.1 in
-    let fails : SitesFail code way.to = Others record {
-      way = way;
-      at = subst (λ n. Contains (ways_at code n) way) (sym from) here;
+    let first : AreFirstSites code branch.to (sites_of code w.walk) = record { walk = w.walk; first = w.first; are = refl } in
+    let kept_there : visit_at visits branch.to ≡ r.0 = ap visit_or_none r.1 in
+    let fails : SitesFail code branch.to = Others record {
+      branch = branch;
+      at = subst (λ n. Contains (branches_at code n) branch) (sym from) here;
       to = refl;
       before = sites_of code v.walk;
       sites = sites_of code w.walk;
       first_before = subst (λ n. AreFirstSites code n (sites_of code v.walk)) (sym from) first_before;
       first = first;
-      other = λ same. b.1 (keep_newest visits (visit_behind code visits way) r.0 (sites_of code w.walk)
-          (subst (λ s. Keep visits (visit_behind code visits way) s) same behind) w.kept ∙ sym (ap (λ (x : Visit). x.newest) kept_there));
+      other = λ same. b.1 (keep_newest visits (visit_behind code visits branch) r.0 (sites_of code w.walk)
+          (subst (λ s. Keep visits (visit_behind code visits branch) s) same behind) w.kept ∙ sym (ap (λ (x : Visit). x.newest) kept_there));
     } in
     subst (λ n. SitesFail code n) b.0 fails
 
@@ -198,7 +198,7 @@ lacking_fails code visits p visit v (inr h) =
       needs = h.1;
     }
 
-from_visit : (code : List Instr) (rows : List Ways) (visits : List (Option Visit)) → AreVisits code visits → (row : Ways) (source p : ℕ) → ways_of row ≡ ways_at code source → (kept : Option (Option Visit)) → slice_get visits source ≡ kept → FailsFrom code row visits source kept p → SitesFail code p
+from_visit : (code : List Instr) (rows : List Branches) (visits : List (Option Visit)) → AreVisits code visits → (row : Branches) (source p : ℕ) → branches_of row ≡ branches_at code source → (kept : Option (Option Visit)) → slice_get visits source ≡ kept → FailsFrom code row visits source kept p → SitesFail code p
 from_visit code rows visits are row source p is None at h = absurd h
 from_visit code rows visits are row source p is (Some None) at h = absurd h
 from_visit code rows visits are row source p is (Some (Some visit)) at (inl h) =
@@ -207,7 +207,7 @@ from_visit code rows visits are row source p is (Some (Some visit)) at (inr h) =
     let b = ahead_brings code visits row p h in
     brought_others code rows visits are source visit at b.0 p (subst (λ ws. In b.0 ws) is b.1) b.2
 
-pub shown_fails : (code : List Instr) (rows : List Ways) (visits : List (Option Visit)) → AreRows code rows → AreVisits code visits → (p end : ℕ) → FailsBefore code rows visits end p → SitesFail code p
+pub shown_fails : (code : List Instr) (rows : List Branches) (visits : List (Option Visit)) → AreBranchRows code rows → AreVisits code visits → (p end : ℕ) → FailsBefore code rows visits end p → SitesFail code p
 shown_fails code rows visits are_rows are p end f =
     from_visit code rows visits are f.row f.source p (are_rows.at f.source f.row f.at) (slice_get visits f.source) refl f.fails
 
@@ -215,14 +215,14 @@ at_least : (code : List Instr) (o : Option ℕ) → IsLeastOf (SitesFail code) o
 at_least code None h = h
 at_least code (Some x) h = record { fails = h.0; least = λ p l f. omega (arith, h.1 p f) }
 
-pub least_fails : (code : List Instr) (rows : List Ways) (visits : List (Option Visit)) → AreRows code rows → AreVisits code visits → (o : Option ℕ) → IsLeastOf (FailsBefore code rows visits (length rows)) o → MatchOption o (AreSitesSound code) (IsLeastFailing code)
+pub least_fails : (code : List Instr) (rows : List Branches) (visits : List (Option Visit)) → AreBranchRows code rows → AreVisits code visits → (o : Option ℕ) → IsLeastOf (FailsBefore code rows visits (length rows)) o → MatchOption o (AreSitesSound code) (IsLeastFailing code)
 least_fails code rows visits are_rows are o h =
     at_least code o (least_same (FailsBefore code rows visits (length rows)) (SitesFail code) o
     (λ p f. shown_fails code rows visits are_rows are p (length rows) f)
     (failing_shows code rows visits are_rows are) h)
 
 -- a turn of the loop over the points
-pub least_turn : (code : List Instr) (rows : List Ways) (visits : List (Option Visit)) (i : ℕ) (d : Ways) (e : Option Visit) (a b : Option ℕ) → i < length rows → i < length visits → IsLeastOf (FailsBefore code rows visits i) a → IsLeastOf (FailsFrom code (get_or rows i d) visits i (Some (get_or visits i e))) b → IsLeastOf (FailsBefore code rows visits (i + 1)) (lesser a b)
+pub least_turn : (code : List Instr) (rows : List Branches) (visits : List (Option Visit)) (i : ℕ) (d : Branches) (e : Option Visit) (a b : Option ℕ) → i < length rows → i < length visits → IsLeastOf (FailsBefore code rows visits i) a → IsLeastOf (FailsFrom code (get_or rows i d) visits i (Some (get_or visits i e))) b → IsLeastOf (FailsBefore code rows visits (i + 1)) (lesser a b)
 least_turn code rows visits i d e a b l m f g =
     let row = slice_get-get_or rows i d l in
     let here : slice_get visits i ≡ Some (get_or visits i e) = slice_get-get_or visits i e m in

@@ -2,7 +2,7 @@ pub mod Members
 pub mod Order
 pub mod FirstWalks
 pub mod OpenSites
-pub mod Rows
+pub mod BranchRows
 pub mod Searching
 pub mod Turns
 pub mod Failing

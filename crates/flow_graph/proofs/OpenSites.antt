@@ -4,12 +4,12 @@ use Rattle.std.specs.Prelude.{◌⊎◌}
 use Rattle.std.specs.List.{Contains}
 use Rattle.std.proofs.lemmas.Bool.{cases_eq}
 use Rattle.bril_tree.specs.declared.numbered.Instr.{Instr}
-use Rattle.bril_tree.specs.Edge.{Way, ways_at}
+use Rattle.bril_tree.specs.Edge.{Branch, branches_at}
 use Rattle.bril_tree.specs.Walk.{end_of}
 use Rattle.bril_tree.specs.Sites.{AreFirstSites, Others, sites_of, sites_behind}
 use Rattle.flow_graph.specs.Laws.{SoundWalksAgree}
 use Rattle.flow_graph.proofs.Members.{in_contains}
-use Rattle.flow_graph.proofs.Order.{NotAfter, way_from}
+use Rattle.flow_graph.proofs.Order.{NotAfter, branch_from}
 use Rattle.flow_graph.proofs.FirstWalks.{reached_have_first, first_walks_are_one}
 
 both_equal : (x y : ℕ) (xs ys : List ℕ) → (x ≡ y) ⊎ (x ≡ y → ⊥) → (xs ≡ ys) ⊎ (xs ≡ ys → ⊥) → (x ∷ xs ≡ y ∷ ys) ⊎ (x ∷ xs ≡ y ∷ ys → ⊥)
@@ -32,7 +32,7 @@ equal_if xs ys (inr differs) h = absurd (h differs)
 pub one_list : (code : List Instr) (p : ℕ) (s t : List ℕ) → AreFirstSites code p s → AreFirstSites code p t → s ≡ t
 one_list code p s t a b = sym a.are ∙ ap (λ w. sites_of code w) (first_walks_are_one code p a.walk b.walk a.first b.first) ∙ b.are
 
-none_earlier : (v : List Way) → NotAfter v [] → v ≡ []
+none_earlier : (v : List Branch) → NotAfter v [] → v ≡ []
 none_earlier v (inl e) = e
 none_earlier v (inr h) = absurd h
 
@@ -41,15 +41,15 @@ sound_walks_agree code sound [] is sites first =
     let empty = none_earlier first.walk (first.first.first [] tt refl) in
     sym (ap (λ w. sites_of code w) empty) ∙ first.are
 sound_walks_agree code sound (e ∷ v) is sites first =
-    let from = way_from code (end_of v) e (in_contains e (ways_at code (end_of v)) is.0) in
+    let from = branch_from code (end_of v) e (in_contains e (branches_at code (end_of v)) is.0) in
     let before = reached_have_first code (end_of v) (record { walk = v; is = is.1; ends = refl }) in
     let sites_before = sites_of code before.0 in
     let first_before : AreFirstSites code (end_of v) sites_before = record { walk = before.0; first = before.1; are = refl } in
     let same = sound_walks_agree code sound v is.1 sites_before first_before in
     ap (λ s. sites_behind code e s) same ∙ equal_if (sites_behind code e sites_before) sites (equal_or_not (sites_behind code e sites_before) sites)
     (λ other. sound e.to (Others record {
-      way = e;
-      at = subst (λ p. Contains (ways_at code p) e) (sym from) is.0;
+      branch = e;
+      at = subst (λ p. Contains (branches_at code p) e) (sym from) is.0;
       to = refl;
       before = sites_before;
       sites = sites;

@@ -8,25 +8,25 @@ use Rattle.bril_tree.specs.declared.numbered.Instr.{Instr}
 use Rattle.bril_tree.specs.declared.numbered.Instr.TheVariants.{Label, Const, Act}
 use Rattle.bril_tree.specs.declared.operation.Op.{Op}
 use Rattle.bril_tree.specs.declared.operation.Op.TheVariants as op
-use Rattle.bril_tree.specs.Edge.{Way, onward, jump, abort, ways_from, ways_at, action_ways, item_ways}
+use Rattle.bril_tree.specs.Edge.{Branch, onward, jump, abort, branches_from, branches_at, action_branches, item_branches}
 use Rattle.bril_tree.specs.Walk.{IsWalk, end_of, Sooner, Earlier}
 use Rattle.flow_graph.proofs.Members.{In, in_contains, in_map_source}
 
 -- the second walk isn't earlier than the first
-abbrev pub NotAfter : List Way → List Way → Type 0
+abbrev pub NotAfter : List Branch → List Branch → Type 0
 NotAfter v w = (v ≡ w) ⊎ Earlier v w
 
-sooner_trans : (a b c : Way) → Sooner a b → Sooner b c → Sooner a c
+sooner_trans : (a b c : Branch) → Sooner a b → Sooner b c → Sooner a c
 sooner_trans a b c (inl p) (inl q) = inl (omega arith)
 sooner_trans a b c (inl p) (inr q) = inl (omega (arith, q.0))
 sooner_trans a b c (inr p) (inl q) = inl (omega (arith, p.0))
 sooner_trans a b c (inr p) (inr q) = inr (p.0 ∙ q.0, p.1, q.2)
 
-sooner_not_itself : (a : Way) → Sooner a a → ⊥
+sooner_not_itself : (a : Branch) → Sooner a a → ⊥
 sooner_not_itself a (inl p) = omega arith
 sooner_not_itself a (inr p) = let e : true ≡ false = sym p.2 ∙ p.1 in cc
 
-pub earlier_trans : (u v w : List Way) → Earlier u v → Earlier v w → Earlier u w
+pub earlier_trans : (u v w : List Branch) → Earlier u v → Earlier v w → Earlier u w
 earlier_trans u v [] p q = absurd q
 earlier_trans u [] (g ∷ w) p q = absurd p
 earlier_trans [] (f ∷ v) (g ∷ w) p q = tt
@@ -35,167 +35,167 @@ earlier_trans (e ∷ u) (f ∷ v) (g ∷ w) (inl p) (inr q) = inl (subst (λ x. 
 earlier_trans (e ∷ u) (f ∷ v) (g ∷ w) (inr p) (inl q) = inl (subst (λ x. Earlier x w) (sym p.0) q)
 earlier_trans (e ∷ u) (f ∷ v) (g ∷ w) (inr p) (inr q) = inr (p.0 ∙ q.0, sooner_trans e f g p.1 q.1)
 
-pub earlier_not_itself : (w : List Way) → Earlier w w → ⊥
+pub earlier_not_itself : (w : List Branch) → Earlier w w → ⊥
 earlier_not_itself [] h = h
 earlier_not_itself (e ∷ w) (inl h) = earlier_not_itself w h
 earlier_not_itself (e ∷ w) (inr h) = sooner_not_itself e h.1
 
-pub shorter_earlier : (v w : List Way) → length v < length w → Earlier v w
+pub shorter_earlier : (v w : List Branch) → length v < length w → Earlier v w
 shorter_earlier v [] h = absurd (omega arith)
 shorter_earlier [] (f ∷ w) h = tt
 shorter_earlier (e ∷ v) (f ∷ w) h = inl (shorter_earlier v w (omega arith))
 
-pub not_after_trans : (u v w : List Way) → NotAfter u v → NotAfter v w → NotAfter u w
+pub not_after_trans : (u v w : List Branch) → NotAfter u v → NotAfter v w → NotAfter u w
 not_after_trans u v w (inl p) (inl q) = inl (p ∙ q)
 not_after_trans u v w (inl p) (inr q) = inr (subst (λ x. Earlier x w) (sym p) q)
 not_after_trans u v w (inr p) (inl q) = inr (subst (λ x. Earlier u x) q p)
 not_after_trans u v w (inr p) (inr q) = inr (earlier_trans u v w p q)
 
-pub not_after_both : (v w : List Way) → NotAfter v w → NotAfter w v → v ≡ w
+pub not_after_both : (v w : List Branch) → NotAfter v w → NotAfter w v → v ≡ w
 not_after_both v w (inl p) q = p
 not_after_both v w (inr p) (inl q) = sym q
 not_after_both v w (inr p) (inr q) = absurd (earlier_not_itself v (earlier_trans v w v p q))
 
--- one way more keeps the order
-pub not_after_more : (e : Way) (v w : List Way) → NotAfter v w → NotAfter (e ∷ v) (e ∷ w)
+-- one branch more keeps the order
+pub not_after_more : (e : Branch) (v w : List Branch) → NotAfter v w → NotAfter (e ∷ v) (e ∷ w)
 not_after_more e v w (inl p) = inl (ap (λ x. e ∷ x) p)
 not_after_more e v w (inr p) = inr (inl p)
 
--- ---- a way leaves from its point
+-- ---- a branch leaves from its point
 
-from_jumps : (code : List Instr) (p : ℕ) (e : Way) (labels : List ℕ) → In e (map (jump code p) labels) → e.from ≡ p
-from_jumps code p e labels h = let s = in_map_source (jump code p) e labels h in ap (λ (w : Way). w.from) s.2
+from_jumps : (code : List Instr) (p : ℕ) (e : Branch) (labels : List ℕ) → In e (map (jump code p) labels) → e.from ≡ p
+from_jumps code p e labels h = let s = in_map_source (jump code p) e labels h in ap (λ (w : Branch). w.from) s.2
 
-from_aborts : (code : List Instr) (p : ℕ) (e : Way) (labels : List ℕ) → In e (map (abort code p) labels) → e.from ≡ p
-from_aborts code p e labels h = let s = in_map_source (abort code p) e labels h in ap (λ (w : Way). w.from) s.2
+from_aborts : (code : List Instr) (p : ℕ) (e : Branch) (labels : List ℕ) → In e (map (abort code p) labels) → e.from ≡ p
+from_aborts code p e labels h = let s = in_map_source (abort code p) e labels h in ap (λ (w : Branch). w.from) s.2
 
-from_onward : (p : ℕ) (e : Way) → In e (onward p ∷ []) → e.from ≡ p
-from_onward p e (inl h) = ap (λ (w : Way). w.from) h
+from_onward : (p : ℕ) (e : Branch) → In e (onward p ∷ []) → e.from ≡ p
+from_onward p e (inl h) = ap (λ (w : Branch). w.from) h
 from_onward p e (inr h) = absurd h
 
-from_action : (code : List Instr) (p : ℕ) (operation : Op) (labels : List ℕ) (e : Way) → In e (action_ways code p operation labels) → e.from ≡ p
+from_action : (code : List Instr) (p : ℕ) (operation : Op) (labels : List ℕ) (e : Branch) → In e (action_branches code p operation labels) → e.from ≡ p
 from_action code p op.Jmp labels e h = from_jumps code p e labels h
 from_action code p op.Br labels e h = from_jumps code p e labels h
 from_action code p op.Ret labels e h = absurd h
-from_action code p op.Guard labels e (inl h) = ap (λ (w : Way). w.from) h
+from_action code p op.Guard labels e (inl h) = ap (λ (w : Branch). w.from) h
 from_action code p op.Guard labels e (inr h) = from_aborts code p e labels h
 from_action code p _ labels e h = from_onward p e h
 
-from_item : (code : List Instr) (p : ℕ) (item : Instr) (e : Way) → In e (item_ways code p item) → e.from ≡ p
+from_item : (code : List Instr) (p : ℕ) (item : Instr) (e : Branch) → In e (item_branches code p item) → e.from ≡ p
 from_item code p (Label l) e h = from_onward p e h
 from_item code p (Const dest ty value) e h = from_onward p e h
 from_item code p (Act dest ty operation args funcs labels) e h = from_action code p operation labels e h
 
-from_option : (code : List Instr) (p : ℕ) (item : Option Instr) (e : Way) → In e (ways_from code p item) → e.from ≡ p
+from_option : (code : List Instr) (p : ℕ) (item : Option Instr) (e : Branch) → In e (branches_from code p item) → e.from ≡ p
 from_option code p None e h = absurd h
 from_option code p (Some item) e h = from_item code p item e h
 
-pub way_from : (code : List Instr) (p : ℕ) (e : Way) → In e (ways_at code p) → e.from ≡ p
-way_from code p e h = from_option code p _ e h
+pub branch_from : (code : List Instr) (p : ℕ) (e : Branch) → In e (branches_at code p) → e.from ≡ p
+branch_from code p e h = from_option code p _ e h
 
--- ---- the first of the ways on from a point is no abort
+-- ---- the first of the branches from a point is no abort
 
-no_abort_of_jumps : (code : List Instr) (p : ℕ) (labels : List ℕ) (e : Way) (rest : List Way) → map (jump code p) labels ≡ e ∷ rest → e.aborts ≡ false
+no_abort_of_jumps : (code : List Instr) (p : ℕ) (labels : List ℕ) (e : Branch) (rest : List Branch) → map (jump code p) labels ≡ e ∷ rest → e.aborts ≡ false
 no_abort_of_jumps code p [] e rest h = absurd (let f : [] ≡ e ∷ rest = h in cc)
 no_abort_of_jumps code p (l ∷ labels) e rest h =
     let f : jump code p l ∷ map (jump code p) labels ≡ e ∷ rest = h in
     let same : jump code p l ≡ e = cc in
-    ap (λ (w : Way). w.aborts) (sym same)
+    ap (λ (w : Branch). w.aborts) (sym same)
 
-no_abort_of_onward : (p : ℕ) (ways : List Way) (e : Way) (rest : List Way) → onward p ∷ ways ≡ e ∷ rest → e.aborts ≡ false
-no_abort_of_onward p ways e rest h = let same : onward p ≡ e = cc in ap (λ (w : Way). w.aborts) (sym same)
+no_abort_of_onward : (p : ℕ) (branches : List Branch) (e : Branch) (rest : List Branch) → onward p ∷ branches ≡ e ∷ rest → e.aborts ≡ false
+no_abort_of_onward p branches e rest h = let same : onward p ≡ e = cc in ap (λ (w : Branch). w.aborts) (sym same)
 
-action_goes_on : (code : List Instr) (p : ℕ) (operation : Op) (labels : List ℕ) (e : Way) (rest : List Way) → action_ways code p operation labels ≡ e ∷ rest → e.aborts ≡ false
+action_goes_on : (code : List Instr) (p : ℕ) (operation : Op) (labels : List ℕ) (e : Branch) (rest : List Branch) → action_branches code p operation labels ≡ e ∷ rest → e.aborts ≡ false
 action_goes_on code p op.Jmp labels e rest h = no_abort_of_jumps code p labels e rest h
 action_goes_on code p op.Br labels e rest h = no_abort_of_jumps code p labels e rest h
 action_goes_on code p op.Ret labels e rest h = absurd (let f : [] ≡ e ∷ rest = h in cc)
 action_goes_on code p op.Guard labels e rest h = no_abort_of_onward p _ e rest h
 action_goes_on code p _ labels e rest h = no_abort_of_onward p [] e rest h
 
-option_goes_on : (code : List Instr) (p : ℕ) (item : Option Instr) (e : Way) (rest : List Way) → ways_from code p item ≡ e ∷ rest → e.aborts ≡ false
+option_goes_on : (code : List Instr) (p : ℕ) (item : Option Instr) (e : Branch) (rest : List Branch) → branches_from code p item ≡ e ∷ rest → e.aborts ≡ false
 option_goes_on code p None e rest h = absurd (let f : [] ≡ e ∷ rest = h in cc)
 option_goes_on code p (Some (Label l)) e rest h = no_abort_of_onward p [] e rest h
 option_goes_on code p (Some (Const dest ty value)) e rest h = no_abort_of_onward p [] e rest h
 option_goes_on code p (Some (Act dest ty operation args funcs labels)) e rest h = action_goes_on code p operation labels e rest h
 
-pub first_goes_on : (code : List Instr) (p : ℕ) (e : Way) (rest : List Way) → ways_at code p ≡ e ∷ rest → e.aborts ≡ false
+pub first_goes_on : (code : List Instr) (p : ℕ) (e : Branch) (rest : List Branch) → branches_at code p ≡ e ∷ rest → e.aborts ≡ false
 first_goes_on code p e rest h = option_goes_on code p _ e rest h
 
--- ---- a way leads to a point of the function
+-- ---- a branch leads to a point of the function
 
 label_inside : (l : ℕ) (code : List Instr) → point_of l code ≤ length code
 label_inside l [] = omega arith
 label_inside l (item ∷ items) = cond_both (is_label l item) 0 (suc (point_of l items)) (λ n. n ≤ suc (length items)) (λ e. omega arith) (λ e. omega (arith, label_inside l items))
 
-jumps_inside : (code : List Instr) (p : ℕ) (e : Way) (labels : List ℕ) → In e (map (jump code p) labels) → e.to ≤ length code
+jumps_inside : (code : List Instr) (p : ℕ) (e : Branch) (labels : List ℕ) → In e (map (jump code p) labels) → e.to ≤ length code
 jumps_inside code p e labels h =
     let s = in_map_source (jump code p) e labels h in
-    omega (arith, ap (λ (w : Way). w.to) s.2, label_inside s.0 code)
+    omega (arith, ap (λ (w : Branch). w.to) s.2, label_inside s.0 code)
 
-aborts_inside : (code : List Instr) (p : ℕ) (e : Way) (labels : List ℕ) → In e (map (abort code p) labels) → e.to ≤ length code
+aborts_inside : (code : List Instr) (p : ℕ) (e : Branch) (labels : List ℕ) → In e (map (abort code p) labels) → e.to ≤ length code
 aborts_inside code p e labels h =
     let s = in_map_source (abort code p) e labels h in
-    omega (arith, ap (λ (w : Way). w.to) s.2, label_inside s.0 code)
+    omega (arith, ap (λ (w : Branch). w.to) s.2, label_inside s.0 code)
 
-onward_inside : (code : List Instr) (p : ℕ) (e : Way) → p < length code → In e (onward p ∷ []) → e.to ≤ length code
-onward_inside code p e l (inl h) = omega (arith, ap (λ (w : Way). w.to) h)
+onward_inside : (code : List Instr) (p : ℕ) (e : Branch) → p < length code → In e (onward p ∷ []) → e.to ≤ length code
+onward_inside code p e l (inl h) = omega (arith, ap (λ (w : Branch). w.to) h)
 onward_inside code p e l (inr h) = absurd h
 
-action_inside : (code : List Instr) (p : ℕ) (operation : Op) (labels : List ℕ) (e : Way) → p < length code → In e (action_ways code p operation labels) → e.to ≤ length code
+action_inside : (code : List Instr) (p : ℕ) (operation : Op) (labels : List ℕ) (e : Branch) → p < length code → In e (action_branches code p operation labels) → e.to ≤ length code
 action_inside code p op.Jmp labels e l h = jumps_inside code p e labels h
 action_inside code p op.Br labels e l h = jumps_inside code p e labels h
 action_inside code p op.Ret labels e l h = absurd h
-action_inside code p op.Guard labels e l (inl h) = omega (arith, ap (λ (w : Way). w.to) h)
+action_inside code p op.Guard labels e l (inl h) = omega (arith, ap (λ (w : Branch). w.to) h)
 action_inside code p op.Guard labels e l (inr h) = aborts_inside code p e labels h
 action_inside code p _ labels e l h = onward_inside code p e l h
 
-option_inside : (code : List Instr) (p : ℕ) (item : Option Instr) (e : Way) → slice_get code p ≡ item → In e (ways_from code p item) → e.to ≤ length code
+option_inside : (code : List Instr) (p : ℕ) (item : Option Instr) (e : Branch) → slice_get code p ≡ item → In e (branches_from code p item) → e.to ≤ length code
 option_inside code p None e at h = absurd h
 option_inside code p (Some (Label l)) e at h = onward_inside code p e (slice_get_within code p _ at) h
 option_inside code p (Some (Const dest ty value)) e at h = onward_inside code p e (slice_get_within code p _ at) h
 option_inside code p (Some (Act dest ty operation args funcs labels)) e at h = action_inside code p operation labels e (slice_get_within code p _ at) h
 
-pub way_inside : (code : List Instr) (p : ℕ) (e : Way) → In e (ways_at code p) → e.to ≤ length code
-way_inside code p e h = option_inside code p (slice_get code p) e refl h
+pub branch_inside : (code : List Instr) (p : ℕ) (e : Branch) → In e (branches_at code p) → e.to ≤ length code
+branch_inside code p e h = option_inside code p (slice_get code p) e refl h
 
 -- ---- two walks of one length are equal, or one is earlier
 
-abbrev Ordered : List Way → List Way → Type 0
+abbrev Ordered : List Branch → List Branch → Type 0
 Ordered v w = (v ≡ w) ⊎ (Earlier v w ⊎ Earlier w v)
 
-abbrev way_of_parts : ℕ → ℕ → Bool → Way
-way_of_parts from to aborts = record { from = from; to = to; aborts = aborts }
+abbrev branch_of_parts : ℕ → ℕ → Bool → Branch
+branch_of_parts from to aborts = record { from = from; to = to; aborts = aborts }
 
-pub same_way : (e f : Way) → e.from ≡ f.from → e.to ≡ f.to → e.aborts ≡ f.aborts → e ≡ f
-same_way e f p q r =
-    let parts : way_of_parts e.from e.to e.aborts ≡ way_of_parts f.from f.to f.aborts = cc in parts
+pub same_branch : (e f : Branch) → e.from ≡ f.from → e.to ≡ f.to → e.aborts ≡ f.aborts → e ≡ f
+same_branch e f p q r =
+    let parts : branch_of_parts e.from e.to e.aborts ≡ branch_of_parts f.from f.to f.aborts = cc in parts
 
-by_aborts : (e f : Way) → e.from ≡ f.from → e.to ≡ f.to → (e.aborts ≡ true) ⊎ (e.aborts ≡ false) → (f.aborts ≡ true) ⊎ (f.aborts ≡ false) → (e ≡ f) ⊎ (Sooner e f ⊎ Sooner f e)
-by_aborts e f h t (inl a) (inl b) = inl (same_way e f h t (a ∙ sym b))
+by_aborts : (e f : Branch) → e.from ≡ f.from → e.to ≡ f.to → (e.aborts ≡ true) ⊎ (e.aborts ≡ false) → (f.aborts ≡ true) ⊎ (f.aborts ≡ false) → (e ≡ f) ⊎ (Sooner e f ⊎ Sooner f e)
+by_aborts e f h t (inl a) (inl b) = inl (same_branch e f h t (a ∙ sym b))
 by_aborts e f h t (inl a) (inr b) = inr (inr (inr (sym t, b, a)))
 by_aborts e f h t (inr a) (inl b) = inr (inl (inr (t, a, b)))
-by_aborts e f h t (inr a) (inr b) = inl (same_way e f h t (a ∙ sym b))
+by_aborts e f h t (inr a) (inr b) = inl (same_branch e f h t (a ∙ sym b))
 
-by_target : (e f : Way) → e.from ≡ f.from → (e.to ≡ f.to) ⊎ ((e.to < f.to) ⊎ (f.to < e.to)) → (e ≡ f) ⊎ (Sooner e f ⊎ Sooner f e)
+by_target : (e f : Branch) → e.from ≡ f.from → (e.to ≡ f.to) ⊎ ((e.to < f.to) ⊎ (f.to < e.to)) → (e ≡ f) ⊎ (Sooner e f ⊎ Sooner f e)
 by_target e f h (inl t) = by_aborts e f h t (cases_Bool e.aborts) (cases_Bool f.aborts)
 by_target e f h (inr (inl l)) = inr (inl (inl l))
 by_target e f h (inr (inr l)) = inr (inr (inl l))
 
-ordered_last : (e f : Way) (v w : List Way) → v ≡ w → (e ≡ f) ⊎ (Sooner e f ⊎ Sooner f e) → Ordered (e ∷ v) (f ∷ w)
+ordered_last : (e f : Branch) (v w : List Branch) → v ≡ w → (e ≡ f) ⊎ (Sooner e f ⊎ Sooner f e) → Ordered (e ∷ v) (f ∷ w)
 ordered_last e f v w p (inl q) = inl (cc)
 ordered_last e f v w p (inr (inl s)) = inr (inl (inr (p, s)))
 ordered_last e f v w p (inr (inr s)) = inr (inr (inr (sym p, s)))
 
-ordered_more : (code : List Instr) (e f : Way) (v w : List Way) → IsWalk code (e ∷ v) → IsWalk code (f ∷ w) → Ordered v w → Ordered (e ∷ v) (f ∷ w)
+ordered_more : (code : List Instr) (e f : Branch) (v w : List Branch) → IsWalk code (e ∷ v) → IsWalk code (f ∷ w) → Ordered v w → Ordered (e ∷ v) (f ∷ w)
 ordered_more code e f v w a b (inl p) =
-    let e_from = way_from code (end_of v) e (in_contains e (ways_at code (end_of v)) a.0) in
-    let f_from = way_from code (end_of w) f (in_contains f (ways_at code (end_of w)) b.0) in
+    let e_from = branch_from code (end_of v) e (in_contains e (branches_at code (end_of v)) a.0) in
+    let f_from = branch_from code (end_of w) f (in_contains f (branches_at code (end_of w)) b.0) in
     let same : e.from ≡ f.from = e_from ∙ ap end_of p ∙ sym f_from in
     ordered_last e f v w p (by_target e f same (cases_order e.to f.to))
 ordered_more code e f v w a b (inr (inl h)) = inr (inl (inl h))
 ordered_more code e f v w a b (inr (inr h)) = inr (inr (inl h))
 
-pub ordered : (code : List Instr) (v w : List Way) → IsWalk code v → IsWalk code w → length v ≡ length w → Ordered v w
+pub ordered : (code : List Instr) (v w : List Branch) → IsWalk code v → IsWalk code w → length v ≡ length w → Ordered v w
 ordered code [] [] a b l = inl refl
 ordered code [] (f ∷ w) a b l = absurd (omega arith)
 ordered code (e ∷ v) [] a b l = absurd (omega arith)

@@ -7,26 +7,26 @@ use Rattle.std.proofs.lemmas.List.{drop_more, take_more, length-replicate, get_o
 use Rattle.std.proofs.lemmas.List.Elements.{filter-append, All-nil, All-cons}
 use Rattle.std.proofs.lemmas.Option.{slice_get-get_or, get_or_from_slice_get}
 use Rattle.bril_tree.specs.declared.numbered.Instr.{Instr}
-use Rattle.bril_tree.specs.Edge.{ways_at}
+use Rattle.bril_tree.specs.Edge.{branches_at}
 use Rattle.flow_graph.specs.declared.edge.Edge.{Edge}
-use Rattle.flow_graph.specs.declared.ways.Ways.{Ways}
+use Rattle.flow_graph.specs.declared.branches.Branches.{Branches}
 use Rattle.flow_graph.specs.Graph.{ArePreds, edge_of, edges_at, edges_from, edges_to}
-use Rattle.flow_graph.specs.Ways.{ways_of, edges_on, AreRows}
+use Rattle.flow_graph.specs.Branches.{branches_of, edges_on, AreBranchRows}
 use Rattle.flow_graph.proofs.Members.{In, in_append_cases, in_map_source}
-use Rattle.flow_graph.proofs.Order.{way_inside}
+use Rattle.flow_graph.proofs.Order.{branch_inside}
 use Rattle.flow_graph.proofs.Searching.{get_set_same, get_set_other}
 
-at_point : (code : List Instr) (p : ℕ) (sites : Option (List ℕ)) → edges_on (ways_at code p) sites ≡ edges_at code p sites
+at_point : (code : List Instr) (p : ℕ) (sites : Option (List ℕ)) → edges_on (branches_at code p) sites ≡ edges_at code p sites
 at_point code p None = refl
 at_point code p (Some sites) = refl
 
 -- a turn of the loop over the points
-pub edges_turn : (code : List Instr) (rows : List Ways) (sites : List (Option (List ℕ))) (i : ℕ) (d : Ways) (here : Option (List ℕ)) (edges edges' whole : List Edge) → AreRows code rows → i < length rows → i < length sites → here ≡ get_or sites i here → edges' ≡ edges ++ edges_on (ways_of (get_or rows i d)) here → edges ++ edges_from code i (drop i sites) ≡ whole → edges' ++ edges_from code (i + 1) (drop (i + 1) sites) ≡ whole
+pub edges_turn : (code : List Instr) (rows : List Branches) (sites : List (Option (List ℕ))) (i : ℕ) (d : Branches) (here : Option (List ℕ)) (edges edges' whole : List Edge) → AreBranchRows code rows → i < length rows → i < length sites → here ≡ get_or sites i here → edges' ≡ edges ++ edges_on (branches_of (get_or rows i d)) here → edges ++ edges_from code i (drop i sites) ≡ whole → edges' ++ edges_from code (i + 1) (drop (i + 1) sites) ≡ whole
 edges_turn code rows sites i d here edges edges' whole are l m at pushed so_far =
-    let row : ways_of (get_or rows i d) ≡ ways_at code i = are.at i (get_or rows i d) (slice_get-get_or rows i d l) in
+    let row : branches_of (get_or rows i d) ≡ branches_at code i = are.at i (get_or rows i d) (slice_get-get_or rows i d l) in
     let next : suc i ≡ i + 1 = omega arith in
     let rest : drop i sites ≡ here ∷ drop (i + 1) sites = drop_more sites i here m ∙ ap (λ s. s ∷ drop (i + 1) sites) (sym at) in
-    let new = edges_on (ways_of (get_or rows i d)) here in
+    let new = edges_on (branches_of (get_or rows i d)) here in
     let later = edges_from code (i + 1) (drop (i + 1) sites) in
     let is_new : new ≡ edges_at code i here = ap (λ ws. edges_on ws here) row ∙ at_point code i here in
     ap (λ es. es ++ later) pushed
@@ -41,8 +41,8 @@ edges_turn code rows sites i d here edges edges' whole are l m at pushed so_far 
 inside_at : (code : List Instr) (p : ℕ) (sites : Option (List ℕ)) (e : Edge) → In e (edges_at code p sites) → e.to ≤ length code
 inside_at code p None e h = absurd h
 inside_at code p (Some sites) e h =
-    let s = in_map_source (edge_of sites) e (ways_at code p) h in
-    omega (arith, ap (λ (x : Edge). x.to) s.2, way_inside code p s.0 s.1)
+    let s = in_map_source (edge_of sites) e (branches_at code p) h in
+    omega (arith, ap (λ (x : Edge). x.to) s.2, branch_inside code p s.0 s.1)
 
 inside_either : (code : List Instr) (p : ℕ) (s : Option (List ℕ)) (sites : List (Option (List ℕ))) (e : Edge) → In e (edges_at code p s) ⊎ In e (edges_from code (suc p) sites) → (In e (edges_from code (suc p) sites) → e.to ≤ length code) → e.to ≤ length code
 inside_either code p s sites e (inl i) rest = inside_at code p s e i

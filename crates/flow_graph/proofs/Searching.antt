@@ -6,17 +6,17 @@ use Rattle.std.proofs.lemmas.List.{length-replicate}
 use Rattle.std.proofs.lemmas.Option.{slice_get_within}
 use Rattle.bril_tree.specs.declared.numbered.Instr.{Instr}
 use Rattle.bril_tree.specs.Edge as edge
-use Rattle.bril_tree.specs.Edge.{ways_at}
+use Rattle.bril_tree.specs.Edge.{branches_at}
 use Rattle.bril_tree.specs.Walk.{IsWalk, IsReached, end_of}
 use Rattle.bril_tree.specs.Sites.{Change, Opens, Closes, Keeps, change_of, sites_of, sites_behind, sites_changed, most_sites}
 use Rattle.flow_graph.specs.declared.visits.Visit.{Visit}
-use Rattle.flow_graph.specs.declared.ways.Way.{Way}
-use Rattle.flow_graph.specs.declared.ways.Ways.{Ways}
-use Rattle.flow_graph.specs.declared.ways.Ways.TheVariants.{Nowhere, Single, Either}
+use Rattle.flow_graph.specs.declared.branches.Branch.{Branch}
+use Rattle.flow_graph.specs.declared.branches.Branches.{Branches}
+use Rattle.flow_graph.specs.declared.branches.Branches.TheVariants.{Nowhere, Single, Either}
 use Rattle.flow_graph.specs.Visits.{Keep, IsVisited, AreVisits, none_open, visit_or_none, visit_at, closed, visit_changed, visit_behind}
-use Rattle.flow_graph.specs.Ways.{way_of, ways_of, lesser_first, visiting}
+use Rattle.flow_graph.specs.Branches.{branch_of, branches_of, lesser_first, visiting}
 use Rattle.flow_graph.proofs.Members.{In, in_contains, contains_in, in_append_left, in_append_right, in_append_cases, in_map, in_map_source}
-use Rattle.flow_graph.proofs.Order.{NotAfter, not_after_trans, not_after_more, shorter_earlier, same_way, way_from, first_goes_on}
+use Rattle.flow_graph.proofs.Order.{NotAfter, not_after_trans, not_after_more, shorter_earlier, same_branch, branch_from, first_goes_on}
 
 -- ---- lists with one element changed
 
@@ -73,75 +73,75 @@ keep_changed visits p visit [] at k Closes = subst (λ v. Keep visits v []) (sym
 keep_changed visits p visit (site ∷ sites) at k Closes = keep_closed visits visit site sites k
 keep_changed visits p visit sites at k Keeps = k
 
-pub keep_behind : (code : List Instr) (visits : List (Option Visit)) (way : edge.Way) (visit : Visit) (sites : List ℕ) → slice_get visits way.from ≡ Some (Some visit) → Keep visits visit sites → Keep visits (visit_behind code visits way) (sites_behind code way sites)
-keep_behind code visits way visit sites at k =
-    let here : visit_at visits way.from ≡ visit = ap visit_or_none at in
-    subst (λ v. Keep visits (visit_changed visits (change_of code way) way.from v) (sites_behind code way sites)) (sym here)
-    (keep_changed visits way.from visit sites at k (change_of code way))
+pub keep_behind : (code : List Instr) (visits : List (Option Visit)) (branch : edge.Branch) (visit : Visit) (sites : List ℕ) → slice_get visits branch.from ≡ Some (Some visit) → Keep visits visit sites → Keep visits (visit_behind code visits branch) (sites_behind code branch sites)
+keep_behind code visits branch visit sites at k =
+    let here : visit_at visits branch.from ≡ visit = ap visit_or_none at in
+    subst (λ v. Keep visits (visit_changed visits (change_of code branch) branch.from v) (sites_behind code branch sites)) (sym here)
+    (keep_changed visits branch.from visit sites at k (change_of code branch))
 
 -- ---- the state of a search
 
--- a way that waits, and the walk to the point that it leaves
+-- a branch that waits, and the walk to the point that it leaves
 pub record Pending : Type 0 where
-  pub way : Way
-  pub before : List edge.Way
+  pub branch : Branch
+  pub before : List edge.Branch
 
-abbrev pub candidate : Pending → List edge.Way
-candidate c = way_of c.way ∷ c.before
+abbrev pub candidate : Pending → List edge.Branch
+candidate c = branch_of c.branch ∷ c.before
 
-abbrev pub pend : List edge.Way → Way → Pending
-pend before way = record { way = way; before = before }
+abbrev pub pend : List edge.Branch → Branch → Pending
+pend before branch = record { branch = branch; before = before }
 
 abbrev pub Rising : List Pending → Type 0
 Rising [] = Unit {0}
 Rising (c ∷ cs) = ((d : Pending) → In d cs → NotAfter (candidate c) (candidate d)) × Rising cs
 
-pub record IsKept (code : List Instr) (visits : List (Option Visit)) (v : List edge.Way) : Type 0 where
+pub record IsKept (code : List Instr) (visits : List (Option Visit)) (v : List edge.Branch) : Type 0 where
   pub is : IsWalk code v
   pub visit : Visit
   pub at : slice_get visits (end_of v) ≡ Some (Some visit)
   pub keep : Keep visits visit (sites_of code v)
 
-pub record CameFrom (code : List Instr) (done : List (List edge.Way)) (c : Pending) : Type 0 where
+pub record CameFrom (code : List Instr) (done : List (List edge.Branch)) (c : Pending) : Type 0 where
   pub from : In c.before done
-  pub way : In (way_of c.way) (ways_at code (end_of c.before))
+  pub branch : In (branch_of c.branch) (branches_at code (end_of c.before))
 
-pub record LedBy (done : List (List edge.Way)) (v : List edge.Way) (e : edge.Way) : Type 0 where
-  pub walk : List edge.Way
+pub record LedBy (done : List (List edge.Branch)) (v : List edge.Branch) (e : edge.Branch) : Type 0 where
+  pub walk : List edge.Branch
   pub among : In walk done
   pub ends : end_of walk ≡ e.to
   pub before : NotAfter walk (e ∷ v)
 
-abbrev pub Followed : List (List edge.Way) → List Pending → List edge.Way → edge.Way → Type 0
+abbrev pub Followed : List (List edge.Branch) → List Pending → List edge.Branch → edge.Branch → Type 0
 Followed done wait v e = LedBy done v e ⊎ ((c : Pending) × In c wait × (candidate c ≡ e ∷ v))
 
-pub record Searching (code : List Instr) (visits : List (Option Visit)) (done : List (List edge.Way)) (wait : List Pending) : Type 0 where
+pub record Searching (code : List Instr) (visits : List (Option Visit)) (done : List (List edge.Branch)) (wait : List Pending) : Type 0 where
   pub long : length visits ≡ length code + 1
   pub start : In [] done
-  pub kept : (v : List edge.Way) → In v done → IsKept code visits v
-  pub only : (p : ℕ) (visit : Visit) → slice_get visits p ≡ Some (Some visit) → (v : List edge.Way) × In v done × (end_of v ≡ p)
-  pub one : (v w : List edge.Way) → In v done → In w done → end_of v ≡ end_of w → v ≡ w
+  pub kept : (v : List edge.Branch) → In v done → IsKept code visits v
+  pub only : (p : ℕ) (visit : Visit) → slice_get visits p ≡ Some (Some visit) → (v : List edge.Branch) × In v done × (end_of v ≡ p)
+  pub one : (v w : List edge.Branch) → In v done → In w done → end_of v ≡ end_of w → v ≡ w
   pub came : (c : Pending) → In c wait → CameFrom code done c
   pub rising : Rising wait
-  pub after : (v : List edge.Way) (c : Pending) → In v done → In c wait → NotAfter v (candidate c)
-  pub followed : (v : List edge.Way) (e : edge.Way) → In v done → In e (ways_at code (end_of v)) → Followed done wait v e
+  pub after : (v : List edge.Branch) (c : Pending) → In v done → In c wait → NotAfter v (candidate c)
+  pub followed : (v : List edge.Branch) (e : edge.Branch) → In v done → In e (branches_at code (end_of v)) → Followed done wait v e
 
--- ---- a way to a point that was visited
+-- ---- a branch to a point that was visited
 
-pass_followed : (code : List Instr) (visits : List (Option Visit)) (done : List (List edge.Way)) (c : Pending) (cs : List Pending) → Searching code visits done (c ∷ cs) → (w : List edge.Way) → In w done → end_of w ≡ c.way.to → (v : List edge.Way) (e : edge.Way) → Followed done (c ∷ cs) v e → Followed done cs v e
+pass_followed : (code : List Instr) (visits : List (Option Visit)) (done : List (List edge.Branch)) (c : Pending) (cs : List Pending) → Searching code visits done (c ∷ cs) → (w : List edge.Branch) → In w done → end_of w ≡ c.branch.to → (v : List edge.Branch) (e : edge.Branch) → Followed done (c ∷ cs) v e → Followed done cs v e
 pass_followed code visits done c cs s w i ends v e (inl led) = inl led
 pass_followed code visits done c cs s w i ends v e (inr (d, inl same, is)) =
     let whole : candidate c ≡ e ∷ v = ap candidate (sym same) ∙ is in
-    let last : way_of c.way ≡ e = cc in
+    let last : branch_of c.branch ≡ e = cc in
     inl record {
       walk = w;
       among = i;
-      ends = ends ∙ ap (λ (x : edge.Way). x.to) last;
+      ends = ends ∙ ap (λ (x : edge.Branch). x.to) last;
       before = subst (λ u. NotAfter w u) whole (s.after w c i (inl refl));
     }
 pass_followed code visits done c cs s w i ends v e (inr (d, inr j, is)) = inr (d, j, is)
 
-pub pass : (code : List Instr) (visits : List (Option Visit)) (done : List (List edge.Way)) (c : Pending) (cs : List Pending) → Searching code visits done (c ∷ cs) → (w : List edge.Way) → In w done → end_of w ≡ c.way.to → Searching code visits done cs
+pub pass : (code : List Instr) (visits : List (Option Visit)) (done : List (List edge.Branch)) (c : Pending) (cs : List Pending) → Searching code visits done (c ∷ cs) → (w : List edge.Branch) → In w done → end_of w ≡ c.branch.to → Searching code visits done cs
 pass code visits done c cs s w i ends = record {
   long = s.long;
   start = s.start;
@@ -154,23 +154,23 @@ pass code visits done c cs s w i ends = record {
   followed = λ v e j k. pass_followed code visits done c cs s w i ends v e (s.followed v e j k);
 }
 
--- ---- the order of the ways on from a point
+-- ---- the order of the branches from a point
 
-among_both : (w a b : Way) (swapped : Bool) → In w (lesser_first swapped a b) → In (way_of w) (ways_of (Either a b))
-among_both w a b true (inl e) = inr (inl (ap way_of e))
-among_both w a b true (inr (inl e)) = inl (ap way_of e)
+among_both : (w a b : Branch) (swapped : Bool) → In w (lesser_first swapped a b) → In (branch_of w) (branches_of (Either a b))
+among_both w a b true (inl e) = inr (inl (ap branch_of e))
+among_both w a b true (inr (inl e)) = inl (ap branch_of e)
 among_both w a b true (inr (inr h)) = absurd h
-among_both w a b false (inl e) = inl (ap way_of e)
-among_both w a b false (inr (inl e)) = inr (inl (ap way_of e))
+among_both w a b false (inl e) = inl (ap branch_of e)
+among_both w a b false (inr (inl e)) = inr (inl (ap branch_of e))
 among_both w a b false (inr (inr h)) = absurd h
 
-visiting_among : (w : Way) (row : Ways) → In w (visiting row) → In (way_of w) (ways_of row)
+visiting_among : (w : Branch) (row : Branches) → In w (visiting row) → In (branch_of w) (branches_of row)
 visiting_among w Nowhere h = h
-visiting_among w (Single a) (inl e) = inl (ap way_of e)
+visiting_among w (Single a) (inl e) = inl (ap branch_of e)
 visiting_among w (Single a) (inr h) = absurd h
 visiting_among w (Either a b) h = among_both w a b (ltb b.to a.to) h
 
-both_among : (e : edge.Way) (a b : Way) (swapped : Bool) → In e (ways_of (Either a b)) → (w : Way) × In w (lesser_first swapped a b) × (way_of w ≡ e)
+both_among : (e : edge.Branch) (a b : Branch) (swapped : Bool) → In e (branches_of (Either a b)) → (w : Branch) × In w (lesser_first swapped a b) × (branch_of w ≡ e)
 both_among e a b true (inl h) = (a, inr (inl refl), sym h)
 both_among e a b true (inr (inl h)) = (b, inl refl, sym h)
 both_among e a b true (inr (inr h)) = absurd h
@@ -178,51 +178,51 @@ both_among e a b false (inl h) = (a, inl refl, sym h)
 both_among e a b false (inr (inl h)) = (b, inr (inl refl), sym h)
 both_among e a b false (inr (inr h)) = absurd h
 
-among_visiting : (e : edge.Way) (row : Ways) → In e (ways_of row) → (w : Way) × In w (visiting row) × (way_of w ≡ e)
+among_visiting : (e : edge.Branch) (row : Branches) → In e (branches_of row) → (w : Branch) × In w (visiting row) × (branch_of w ≡ e)
 among_visiting e Nowhere h = absurd h
 among_visiting e (Single a) (inl h) = (a, inl refl, sym h)
 among_visiting e (Single a) (inr h) = absurd h
 among_visiting e (Either a b) h = both_among e a b (ltb b.to a.to) h
 
-few_both : (a b : Way) (swapped : Bool) → length (lesser_first swapped a b) ≤ 2
+few_both : (a b : Branch) (swapped : Bool) → length (lesser_first swapped a b) ≤ 2
 few_both a b true = omega arith
 few_both a b false = omega arith
 
-pub few_waiting : (row : Ways) → length (visiting row) ≤ 2
+pub few_waiting : (row : Branches) → length (visiting row) ≤ 2
 few_waiting Nowhere = omega arith
 few_waiting (Single a) = omega arith
 few_waiting (Either a b) = few_both a b (ltb b.to a.to)
 
--- of two ways on from a point the one that comes first in the order of the search isn't after the other
-second_after : (v : List edge.Way) (a b : Way) → a.from ≡ b.from → a.aborts ≡ false → (b.aborts ≡ true) ⊎ (b.aborts ≡ false) → a.to ≡ b.to → NotAfter (way_of a ∷ v) (way_of b ∷ v)
+-- of two branches from a point the one that comes first in the order of the search isn't after the other
+second_after : (v : List edge.Branch) (a b : Branch) → a.from ≡ b.from → a.aborts ≡ false → (b.aborts ≡ true) ⊎ (b.aborts ≡ false) → a.to ≡ b.to → NotAfter (branch_of a ∷ v) (branch_of b ∷ v)
 second_after v a b from goes (inl t) to = inr (inr (refl, inr (to, goes, t)))
-second_after v a b from goes (inr f) to = inl (ap (λ w. w ∷ v) (same_way (way_of a) (way_of b) from to (goes ∙ sym f)))
+second_after v a b from goes (inr f) to = inl (ap (λ w. w ∷ v) (same_branch (branch_of a) (branch_of b) from to (goes ∙ sym f)))
 
-by_points : (v : List edge.Way) (a b : Way) → a.from ≡ b.from → a.aborts ≡ false → (a.to ≡ b.to) ⊎ ((a.to < b.to) ⊎ (b.to < a.to)) → a.to ≤ b.to → NotAfter (way_of a ∷ v) (way_of b ∷ v)
+by_points : (v : List edge.Branch) (a b : Branch) → a.from ≡ b.from → a.aborts ≡ false → (a.to ≡ b.to) ⊎ ((a.to < b.to) ⊎ (b.to < a.to)) → a.to ≤ b.to → NotAfter (branch_of a ∷ v) (branch_of b ∷ v)
 by_points v a b from goes (inl e) l = second_after v a b from goes (cases_Bool b.aborts) e
 by_points v a b from goes (inr (inl h)) l = inr (inr (refl, inl h))
 by_points v a b from goes (inr (inr h)) l = absurd (omega arith)
 
-single_rising : (v : List edge.Way) (a : Way) → Rising (map (pend v) (a ∷ []))
+single_rising : (v : List edge.Branch) (a : Branch) → Rising (map (pend v) (a ∷ []))
 single_rising v a = ((λ d h. absurd h), tt)
 
-only_last : (v : List edge.Way) (a b : Way) → NotAfter (way_of a ∷ v) (way_of b ∷ v) → (d : Pending) → In d (pend v b ∷ []) → NotAfter (candidate (pend v a)) (candidate d)
-only_last v a b h d (inl e) = subst (λ x. NotAfter (way_of a ∷ v) (candidate x)) (sym e) h
+only_last : (v : List edge.Branch) (a b : Branch) → NotAfter (branch_of a ∷ v) (branch_of b ∷ v) → (d : Pending) → In d (pend v b ∷ []) → NotAfter (candidate (pend v a)) (candidate d)
+only_last v a b h d (inl e) = subst (λ x. NotAfter (branch_of a ∷ v) (candidate x)) (sym e) h
 only_last v a b h d (inr i) = absurd i
 
-both_rising : (v : List edge.Way) (a b : Way) → a.from ≡ b.from → a.aborts ≡ false → (swapped : Bool) → ltb b.to a.to ≡ swapped → Rising (map (pend v) (lesser_first swapped a b))
+both_rising : (v : List edge.Branch) (a b : Branch) → a.from ≡ b.from → a.aborts ≡ false → (swapped : Bool) → ltb b.to a.to ≡ swapped → Rising (map (pend v) (lesser_first swapped a b))
 both_rising v a b from goes true e = (only_last v b a (inr (inr (refl, inl (ltb-true b.to a.to e)))), single_rising v a)
 both_rising v a b from goes false e =
     (only_last v a b (by_points v a b from goes (cases_order a.to b.to) (ltb-false b.to a.to e)), single_rising v b)
 
-row_rising : (code : List Instr) (p : ℕ) (v : List edge.Way) (row : Ways) → ways_of row ≡ ways_at code p → Rising (map (pend v) (visiting row))
+row_rising : (code : List Instr) (p : ℕ) (v : List edge.Branch) (row : Branches) → branches_of row ≡ branches_at code p → Rising (map (pend v) (visiting row))
 row_rising code p v Nowhere is = tt
 row_rising code p v (Single a) is = single_rising v a
 row_rising code p v (Either a b) is =
-    let at : (e : edge.Way) → In e (ways_of (Either a b)) → In e (ways_at code p) = λ e h. subst (λ ws. In e ws) is h in
-    let a_from = way_from code p (way_of a) (at (way_of a) (inl refl)) in
-    let b_from = way_from code p (way_of b) (at (way_of b) (inr (inl refl))) in
-    both_rising v a b (a_from ∙ sym b_from) (first_goes_on code p (way_of a) (way_of b ∷ []) (sym is)) (ltb b.to a.to) refl
+    let at : (e : edge.Branch) → In e (branches_of (Either a b)) → In e (branches_at code p) = λ e h. subst (λ ws. In e ws) is h in
+    let a_from = branch_from code p (branch_of a) (at (branch_of a) (inl refl)) in
+    let b_from = branch_from code p (branch_of b) (at (branch_of b) (inr (inl refl))) in
+    both_rising v a b (a_from ∙ sym b_from) (first_goes_on code p (branch_of a) (branch_of b ∷ []) (sym is)) (ltb b.to a.to) refl
 
 rising_first : (x : Pending) (xs ys : List Pending) → Rising (x ∷ xs) → ((c d : Pending) → In c (x ∷ xs) → In d ys → NotAfter (candidate c) (candidate d)) → (d : Pending) → In d xs ⊎ In d ys → NotAfter (candidate x) (candidate d)
 rising_first x xs ys r h d (inl i) = r.0 d i
@@ -233,44 +233,44 @@ rising_append [] ys r t h = t
 rising_append (x ∷ xs) ys r t h =
     ((λ d i. rising_first x xs ys r h d (in_append_cases d xs ys i)), rising_append xs ys r.1 t (λ c d i j. h c d (inr i) j))
 
--- ---- a way to a new point
+-- ---- a branch to a new point
 
-pub record Entering (code : List Instr) (rows : List Ways) (visits : List (Option Visit)) (done : List (List edge.Way)) (c : Pending) (cs : List Pending) (row : Ways) : Type 0 where
+pub record Entering (code : List Instr) (rows : List Branches) (visits : List (Option Visit)) (done : List (List edge.Branch)) (c : Pending) (cs : List Pending) (row : Branches) : Type 0 where
   pub search : Searching code visits done (c ∷ cs)
-  pub new : slice_get visits c.way.to ≡ Some None
-  pub is : ways_of row ≡ ways_at code c.way.to
+  pub new : slice_get visits c.branch.to ≡ Some None
+  pub is : branches_of row ≡ branches_at code c.branch.to
 
 abbrev pub behind : List Instr → List (Option Visit) → Pending → List (Option Visit)
-behind code visits c = set visits c.way.to (Some (visit_behind code visits (way_of c.way)))
+behind code visits c = set visits c.branch.to (Some (visit_behind code visits (branch_of c.branch)))
 
-abbrev pub waiting_on : Pending → List Pending → Ways → List Pending
+abbrev pub waiting_on : Pending → List Pending → Branches → List Pending
 waiting_on c cs row = cs ++ map (pend (candidate c)) (visiting row)
 
 -- no walk that was found leads to the new point
-elsewhere : (code : List Instr) (rows : List Ways) (visits : List (Option Visit)) (done : List (List edge.Way)) (c : Pending) (cs : List Pending) (row : Ways) → Entering code rows visits done c cs row → (v : List edge.Way) → In v done → end_of v ≡ c.way.to → ⊥
+elsewhere : (code : List Instr) (rows : List Branches) (visits : List (Option Visit)) (done : List (List edge.Branch)) (c : Pending) (cs : List Pending) (row : Branches) → Entering code rows visits done c cs row → (v : List edge.Branch) → In v done → end_of v ≡ c.branch.to → ⊥
 elsewhere code rows visits done c cs row n v i e =
     let kept = n.search.kept v i in
-    none_is_not_some (slice_get visits c.way.to) kept.visit n.new (ap (λ p. slice_get visits p) (sym e) ∙ kept.at)
+    none_is_not_some (slice_get visits c.branch.to) kept.visit n.new (ap (λ p. slice_get visits p) (sym e) ∙ kept.at)
 
-enter_kept : (code : List Instr) (rows : List Ways) (visits : List (Option Visit)) (done : List (List edge.Way)) (c : Pending) (cs : List Pending) (row : Ways) → Entering code rows visits done c cs row → (v : List edge.Way) → In v (candidate c ∷ done) → IsKept code (behind code visits c) v
+enter_kept : (code : List Instr) (rows : List Branches) (visits : List (Option Visit)) (done : List (List edge.Branch)) (c : Pending) (cs : List Pending) (row : Branches) → Entering code rows visits done c cs row → (v : List edge.Branch) → In v (candidate c ∷ done) → IsKept code (behind code visits c) v
 enter_kept code rows visits done c cs row n v (inl e) =
     let s = n.search in
     let came = s.came c (inl refl) in
     let before = s.kept c.before came.from in
-    let from = way_from code (end_of c.before) (way_of c.way) came.way in
-    let grows = grows_set visits c.way.to (Some (visit_behind code visits (way_of c.way))) n.new in
-    let at_from : slice_get visits c.way.from ≡ Some (Some before.visit) = ap (λ p. slice_get visits p) from ∙ before.at in
+    let from = branch_from code (end_of c.before) (branch_of c.branch) came.branch in
+    let grows = grows_set visits c.branch.to (Some (visit_behind code visits (branch_of c.branch))) n.new in
+    let at_from : slice_get visits c.branch.from ≡ Some (Some before.visit) = ap (λ p. slice_get visits p) from ∙ before.at in
     let here : IsKept code (behind code visits c) (candidate c) = record {
-      is = (contains_in (way_of c.way) (ways_at code (end_of c.before)) came.way, before.is);
-      visit = visit_behind code visits (way_of c.way);
-      at = get_set_same visits c.way.to (Some (visit_behind code visits (way_of c.way))) (slice_get_within visits c.way.to None n.new);
-      keep = keep_grows visits (behind code visits c) grows (visit_behind code visits (way_of c.way)) (sites_of code (candidate c))
-          (keep_behind code visits (way_of c.way) before.visit (sites_of code c.before) at_from before.keep);
+      is = (contains_in (branch_of c.branch) (branches_at code (end_of c.before)) came.branch, before.is);
+      visit = visit_behind code visits (branch_of c.branch);
+      at = get_set_same visits c.branch.to (Some (visit_behind code visits (branch_of c.branch))) (slice_get_within visits c.branch.to None n.new);
+      keep = keep_grows visits (behind code visits c) grows (visit_behind code visits (branch_of c.branch)) (sites_of code (candidate c))
+          (keep_behind code visits (branch_of c.branch) before.visit (sites_of code c.before) at_from before.keep);
     } in
     subst (λ w. IsKept code (behind code visits c) w) (sym e) here
 enter_kept code rows visits done c cs row n v (inr i) =
     let kept = n.search.kept v i in
-    let grows = grows_set visits c.way.to (Some (visit_behind code visits (way_of c.way))) n.new in
+    let grows = grows_set visits c.branch.to (Some (visit_behind code visits (branch_of c.branch))) n.new in
     record {
       is = kept.is;
       visit = kept.visit;
@@ -278,65 +278,65 @@ enter_kept code rows visits done c cs row n v (inr i) =
       keep = keep_grows visits (behind code visits c) grows kept.visit (sites_of code v) kept.keep;
     }
 
-enter_only : (code : List Instr) (rows : List Ways) (visits : List (Option Visit)) (done : List (List edge.Way)) (c : Pending) (cs : List Pending) (row : Ways) → Entering code rows visits done c cs row → (p : ℕ) (visit : Visit) → slice_get (behind code visits c) p ≡ Some (Some visit) → (p ≡ c.way.to) ⊎ (p ≡ c.way.to → ⊥) → (v : List edge.Way) × In v (candidate c ∷ done) × (end_of v ≡ p)
+enter_only : (code : List Instr) (rows : List Branches) (visits : List (Option Visit)) (done : List (List edge.Branch)) (c : Pending) (cs : List Pending) (row : Branches) → Entering code rows visits done c cs row → (p : ℕ) (visit : Visit) → slice_get (behind code visits c) p ≡ Some (Some visit) → (p ≡ c.branch.to) ⊎ (p ≡ c.branch.to → ⊥) → (v : List edge.Branch) × In v (candidate c ∷ done) × (end_of v ≡ p)
 enter_only code rows visits done c cs row n p visit h (inl e) = (candidate c, inl refl, sym e)
 enter_only code rows visits done c cs row n p visit h (inr differs) =
-    let old = n.search.only p visit (sym (get_set_other visits c.way.to p (Some (visit_behind code visits (way_of c.way))) differs) ∙ h) in
+    let old = n.search.only p visit (sym (get_set_other visits c.branch.to p (Some (visit_behind code visits (branch_of c.branch))) differs) ∙ h) in
     (old.0, inr old.1, old.2)
 
-enter_one : (code : List Instr) (rows : List Ways) (visits : List (Option Visit)) (done : List (List edge.Way)) (c : Pending) (cs : List Pending) (row : Ways) → Entering code rows visits done c cs row → (v w : List edge.Way) → In v (candidate c ∷ done) → In w (candidate c ∷ done) → end_of v ≡ end_of w → v ≡ w
+enter_one : (code : List Instr) (rows : List Branches) (visits : List (Option Visit)) (done : List (List edge.Branch)) (c : Pending) (cs : List Pending) (row : Branches) → Entering code rows visits done c cs row → (v w : List edge.Branch) → In v (candidate c ∷ done) → In w (candidate c ∷ done) → end_of v ≡ end_of w → v ≡ w
 enter_one code rows visits done c cs row n v w (inl e) (inl f) ends = e ∙ sym f
 enter_one code rows visits done c cs row n v w (inl e) (inr j) ends = absurd (elsewhere code rows visits done c cs row n w j (sym ends ∙ ap end_of e))
 enter_one code rows visits done c cs row n v w (inr i) (inl f) ends = absurd (elsewhere code rows visits done c cs row n v i (ends ∙ ap end_of f))
 enter_one code rows visits done c cs row n v w (inr i) (inr j) ends = n.search.one v w i j ends
 
-came_more : (code : List Instr) (done : List (List edge.Way)) (v : List edge.Way) (c : Pending) → CameFrom code done c → CameFrom code (v ∷ done) c
-came_more code done v c came = record { from = inr came.from; way = came.way }
+came_more : (code : List Instr) (done : List (List edge.Branch)) (v : List edge.Branch) (c : Pending) → CameFrom code done c → CameFrom code (v ∷ done) c
+came_more code done v c came = record { from = inr came.from; branch = came.branch }
 
-enter_came : (code : List Instr) (rows : List Ways) (visits : List (Option Visit)) (done : List (List edge.Way)) (c : Pending) (cs : List Pending) (row : Ways) → Entering code rows visits done c cs row → (d : Pending) → In d cs ⊎ In d (map (pend (candidate c)) (visiting row)) → CameFrom code (candidate c ∷ done) d
+enter_came : (code : List Instr) (rows : List Branches) (visits : List (Option Visit)) (done : List (List edge.Branch)) (c : Pending) (cs : List Pending) (row : Branches) → Entering code rows visits done c cs row → (d : Pending) → In d cs ⊎ In d (map (pend (candidate c)) (visiting row)) → CameFrom code (candidate c ∷ done) d
 enter_came code rows visits done c cs row n d (inl i) = came_more code done (candidate c) d (n.search.came d (inr i))
 enter_came code rows visits done c cs row n d (inr i) =
     let source = in_map_source (pend (candidate c)) d (visiting row) i in
-    let way = subst (λ ws. In (way_of source.0) ws) n.is (visiting_among source.0 row source.1) in
-    let here : CameFrom code (candidate c ∷ done) (pend (candidate c) source.0) = record { from = inl refl; way = way } in
+    let branch = subst (λ ws. In (branch_of source.0) ws) n.is (visiting_among source.0 row source.1) in
+    let here : CameFrom code (candidate c ∷ done) (pend (candidate c) source.0) = record { from = inl refl; branch = branch } in
     subst (λ x. CameFrom code (candidate c ∷ done) x) (sym source.2) here
 
 -- the walks that wait aren't after the new ones
-not_after_new : (code : List Instr) (rows : List Ways) (visits : List (Option Visit)) (done : List (List edge.Way)) (c : Pending) (cs : List Pending) (row : Ways) → Entering code rows visits done c cs row → (d : Pending) (w : Way) → In d cs → NotAfter d.before (candidate c) → NotAfter (candidate d) (way_of w ∷ candidate c)
+not_after_new : (code : List Instr) (rows : List Branches) (visits : List (Option Visit)) (done : List (List edge.Branch)) (c : Pending) (cs : List Pending) (row : Branches) → Entering code rows visits done c cs row → (d : Pending) (w : Branch) → In d cs → NotAfter d.before (candidate c) → NotAfter (candidate d) (branch_of w ∷ candidate c)
 not_after_new code rows visits done c cs row n d w i (inl e) =
     absurd (elsewhere code rows visits done c cs row n d.before (n.search.came d (inr i)).from (ap end_of e))
 not_after_new code rows visits done c cs row n d w i (inr h) = inr (inl h)
 
-enter_across : (code : List Instr) (rows : List Ways) (visits : List (Option Visit)) (done : List (List edge.Way)) (c : Pending) (cs : List Pending) (row : Ways) → Entering code rows visits done c cs row → (d e : Pending) → In d cs → In e (map (pend (candidate c)) (visiting row)) → NotAfter (candidate d) (candidate e)
+enter_across : (code : List Instr) (rows : List Branches) (visits : List (Option Visit)) (done : List (List edge.Branch)) (c : Pending) (cs : List Pending) (row : Branches) → Entering code rows visits done c cs row → (d e : Pending) → In d cs → In e (map (pend (candidate c)) (visiting row)) → NotAfter (candidate d) (candidate e)
 enter_across code rows visits done c cs row n d e i j =
     let source = in_map_source (pend (candidate c)) e (visiting row) j in
     let came = n.search.came d (inr i) in
     subst (λ x. NotAfter (candidate d) (candidate x)) (sym source.2)
     (not_after_new code rows visits done c cs row n d source.0 i (n.search.after d.before c came.from (inl refl)))
 
-new_after : (c : Pending) (row : Ways) (e : Pending) → In e (map (pend (candidate c)) (visiting row)) → NotAfter (candidate c) (candidate e)
+new_after : (c : Pending) (row : Branches) (e : Pending) → In e (map (pend (candidate c)) (visiting row)) → NotAfter (candidate c) (candidate e)
 new_after c row e j =
     let source = in_map_source (pend (candidate c)) e (visiting row) j in
     subst (λ x. NotAfter (candidate c) (candidate x)) (sym source.2)
-    (inr (shorter_earlier (candidate c) (way_of source.0 ∷ candidate c) (omega arith)))
+    (inr (shorter_earlier (candidate c) (branch_of source.0 ∷ candidate c) (omega arith)))
 
-enter_after : (code : List Instr) (rows : List Ways) (visits : List (Option Visit)) (done : List (List edge.Way)) (c : Pending) (cs : List Pending) (row : Ways) → Entering code rows visits done c cs row → (v : List edge.Way) (d : Pending) → In v (candidate c ∷ done) → In d cs ⊎ In d (map (pend (candidate c)) (visiting row)) → NotAfter v (candidate d)
+enter_after : (code : List Instr) (rows : List Branches) (visits : List (Option Visit)) (done : List (List edge.Branch)) (c : Pending) (cs : List Pending) (row : Branches) → Entering code rows visits done c cs row → (v : List edge.Branch) (d : Pending) → In v (candidate c ∷ done) → In d cs ⊎ In d (map (pend (candidate c)) (visiting row)) → NotAfter v (candidate d)
 enter_after code rows visits done c cs row n v d (inl e) (inl i) = subst (λ w. NotAfter w (candidate d)) (sym e) (n.search.rising.0 d i)
 enter_after code rows visits done c cs row n v d (inl e) (inr i) = subst (λ w. NotAfter w (candidate d)) (sym e) (new_after c row d i)
 enter_after code rows visits done c cs row n v d (inr j) (inl i) = n.search.after v d j (inr i)
 enter_after code rows visits done c cs row n v d (inr j) (inr i) =
     not_after_trans v (candidate c) (candidate d) (n.search.after v c j (inl refl)) (new_after c row d i)
 
-still_followed : (code : List Instr) (done : List (List edge.Way)) (c : Pending) (cs : List Pending) (row : Ways) (v : List edge.Way) (e : edge.Way) → Followed done (c ∷ cs) v e → Followed (candidate c ∷ done) (waiting_on c cs row) v e
+still_followed : (code : List Instr) (done : List (List edge.Branch)) (c : Pending) (cs : List Pending) (row : Branches) (v : List edge.Branch) (e : edge.Branch) → Followed done (c ∷ cs) v e → Followed (candidate c ∷ done) (waiting_on c cs row) v e
 still_followed code done c cs row v e (inl led) = inl record { walk = led.walk; among = inr led.among; ends = led.ends; before = led.before }
 still_followed code done c cs row v e (inr (d, inl same, is)) =
     let whole : candidate c ≡ e ∷ v = ap candidate (sym same) ∙ is in
     inl record { walk = candidate c; among = inl refl; ends = ap end_of whole; before = inl whole }
 still_followed code done c cs row v e (inr (d, inr j, is)) = inr (d, in_append_left d cs (map (pend (candidate c)) (visiting row)) j, is)
 
-enter_followed : (code : List Instr) (rows : List Ways) (visits : List (Option Visit)) (done : List (List edge.Way)) (c : Pending) (cs : List Pending) (row : Ways) → Entering code rows visits done c cs row → (v : List edge.Way) (e : edge.Way) → In v (candidate c ∷ done) → In e (ways_at code (end_of v)) → Followed (candidate c ∷ done) (waiting_on c cs row) v e
+enter_followed : (code : List Instr) (rows : List Branches) (visits : List (Option Visit)) (done : List (List edge.Branch)) (c : Pending) (cs : List Pending) (row : Branches) → Entering code rows visits done c cs row → (v : List edge.Branch) (e : edge.Branch) → In v (candidate c ∷ done) → In e (branches_at code (end_of v)) → Followed (candidate c ∷ done) (waiting_on c cs row) v e
 enter_followed code rows visits done c cs row n v e (inl same) i =
-    let here : In e (ways_of row) = subst (λ ws. In e ws) (ap (λ w. ways_at code (end_of w)) same ∙ sym n.is) i in
+    let here : In e (branches_of row) = subst (λ ws. In e ws) (ap (λ w. branches_at code (end_of w)) same ∙ sym n.is) i in
     let found = among_visiting e row here in
     let news = map (pend (candidate c)) (visiting row) in
     inr (
@@ -346,17 +346,17 @@ enter_followed code rows visits done c cs row n v e (inl same) i =
     )
 enter_followed code rows visits done c cs row n v e (inr j) i = still_followed code done c cs row v e (n.search.followed v e j i)
 
-pub enter : (code : List Instr) (rows : List Ways) (visits : List (Option Visit)) (done : List (List edge.Way)) (c : Pending) (cs : List Pending) (row : Ways) → Entering code rows visits done c cs row → Searching code (behind code visits c) (candidate c ∷ done) (waiting_on c cs row)
+pub enter : (code : List Instr) (rows : List Branches) (visits : List (Option Visit)) (done : List (List edge.Branch)) (c : Pending) (cs : List Pending) (row : Branches) → Entering code rows visits done c cs row → Searching code (behind code visits c) (candidate c ∷ done) (waiting_on c cs row)
 enter code rows visits done c cs row n =
     let news = map (pend (candidate c)) (visiting row) in
     record {
-      long = length-set visits c.way.to (Some (visit_behind code visits (way_of c.way))) ∙ n.search.long;
+      long = length-set visits c.branch.to (Some (visit_behind code visits (branch_of c.branch))) ∙ n.search.long;
       start = inr n.search.start;
       kept = λ v i. enter_kept code rows visits done c cs row n v i;
-      only = λ p visit h. enter_only code rows visits done c cs row n p visit h (cases_eq p c.way.to);
+      only = λ p visit h. enter_only code rows visits done c cs row n p visit h (cases_eq p c.branch.to);
       one = λ v w i j e. enter_one code rows visits done c cs row n v w i j e;
       came = λ d i. enter_came code rows visits done c cs row n d (in_append_cases d cs news i);
-      rising = rising_append cs news n.search.rising.1 (row_rising code c.way.to (candidate c) row n.is) (enter_across code rows visits done c cs row n);
+      rising = rising_append cs news n.search.rising.1 (row_rising code c.branch.to (candidate c) row n.is) (enter_across code rows visits done c cs row n);
       after = λ v d i j. enter_after code rows visits done c cs row n v d i (in_append_cases d cs news j);
       followed = λ v e i j. enter_followed code rows visits done c cs row n v e i j;
     }
@@ -371,12 +371,12 @@ none_at (suc n) (suc p) visit h = none_at n p visit h
 abbrev pub at_start : List Instr → List (Option Visit)
 at_start code = set (replicate (length code + 1) None) 0 (Some none_open)
 
-start_only : (code : List Instr) (p : ℕ) (visit : Visit) → slice_get (at_start code) p ≡ Some (Some visit) → (p ≡ 0) ⊎ (p ≡ 0 → ⊥) → (v : List edge.Way) × In v ([] ∷ []) × (end_of v ≡ p)
+start_only : (code : List Instr) (p : ℕ) (visit : Visit) → slice_get (at_start code) p ≡ Some (Some visit) → (p ≡ 0) ⊎ (p ≡ 0 → ⊥) → (v : List edge.Branch) × In v ([] ∷ []) × (end_of v ≡ p)
 start_only code p visit h (inl e) = ([], inl refl, sym e)
 start_only code p visit h (inr differs) =
     absurd (none_at (length code + 1) p visit (sym (get_set_other (replicate (length code + 1) None) 0 p (Some none_open) differs) ∙ h))
 
-start_kept : (code : List Instr) (v : List edge.Way) → In v ([] ∷ []) → IsKept code (at_start code) v
+start_kept : (code : List Instr) (v : List edge.Branch) → In v ([] ∷ []) → IsKept code (at_start code) v
 start_kept code v (inl e) =
     let here : IsKept code (at_start code) [] = record {
       is = tt;
@@ -387,29 +387,29 @@ start_kept code v (inl e) =
     subst (λ w. IsKept code (at_start code) w) (sym e) here
 start_kept code v (inr h) = absurd h
 
-start_one : (v w : List edge.Way) → In v ([] ∷ []) → In w ([] ∷ []) → v ≡ w
+start_one : (v w : List edge.Branch) → In v ([] ∷ []) → In w ([] ∷ []) → v ≡ w
 start_one v w (inl e) (inl f) = e ∙ sym f
 start_one v w (inl e) (inr j) = absurd j
 start_one v w (inr i) j = absurd i
 
-start_came : (code : List Instr) (row : Ways) → ways_of row ≡ ways_at code 0 → (d : Pending) → In d (map (pend []) (visiting row)) → CameFrom code ([] ∷ []) d
+start_came : (code : List Instr) (row : Branches) → branches_of row ≡ branches_at code 0 → (d : Pending) → In d (map (pend []) (visiting row)) → CameFrom code ([] ∷ []) d
 start_came code row is d i =
     let source = in_map_source (pend []) d (visiting row) i in
-    let here : CameFrom code ([] ∷ []) (pend [] source.0) = record { from = inl refl; way = subst (λ ws. In (way_of source.0) ws) is (visiting_among source.0 row source.1) } in
+    let here : CameFrom code ([] ∷ []) (pend [] source.0) = record { from = inl refl; branch = subst (λ ws. In (branch_of source.0) ws) is (visiting_among source.0 row source.1) } in
     subst (λ x. CameFrom code ([] ∷ []) x) (sym source.2) here
 
-start_after : (v : List edge.Way) (c : Pending) → In v ([] ∷ []) → NotAfter v (candidate c)
+start_after : (v : List edge.Branch) (c : Pending) → In v ([] ∷ []) → NotAfter v (candidate c)
 start_after v c (inl e) = subst (λ w. NotAfter w (candidate c)) (sym e) (inr tt)
 start_after v c (inr h) = absurd h
 
-start_followed : (code : List Instr) (row : Ways) → ways_of row ≡ ways_at code 0 → (v : List edge.Way) (e : edge.Way) → In v ([] ∷ []) → In e (ways_at code (end_of v)) → Followed ([] ∷ []) (map (pend []) (visiting row)) v e
+start_followed : (code : List Instr) (row : Branches) → branches_of row ≡ branches_at code 0 → (v : List edge.Branch) (e : edge.Branch) → In v ([] ∷ []) → In e (branches_at code (end_of v)) → Followed ([] ∷ []) (map (pend []) (visiting row)) v e
 start_followed code row is v e (inl same) i =
-    let here : In e (ways_of row) = subst (λ ws. In e ws) (ap (λ w. ways_at code (end_of w)) same ∙ sym is) i in
+    let here : In e (branches_of row) = subst (λ ws. In e ws) (ap (λ w. branches_at code (end_of w)) same ∙ sym is) i in
     let found = among_visiting e row here in
     inr (pend [] found.0, in_map (pend []) found.0 (visiting row) found.1, ap (λ w. w ∷ []) found.2 ∙ ap (λ w. e ∷ w) (sym same))
 start_followed code row is v e (inr h) i = absurd h
 
-pub start : (code : List Instr) (row : Ways) → ways_of row ≡ ways_at code 0 → Searching code (at_start code) ([] ∷ []) (map (pend []) (visiting row))
+pub start : (code : List Instr) (row : Branches) → branches_of row ≡ branches_at code 0 → Searching code (at_start code) ([] ∷ []) (map (pend []) (visiting row))
 start code row is = record {
   long = length-set (replicate (length code + 1) None) 0 (Some none_open) ∙ length-replicate (length code + 1) None;
   start = inl refl;
@@ -422,20 +422,20 @@ start code row is = record {
   followed = start_followed code row is;
 }
 
--- ---- where no way waits, the walks are the first ones
+-- ---- where no branch waits, the walks are the first ones
 
-led : (code : List Instr) (visits : List (Option Visit)) (done : List (List edge.Way)) → Searching code visits done [] → (e : edge.Way) (u v : List edge.Way) → NotAfter v u → Followed done [] v e → (w : List edge.Way) × In w done × (end_of w ≡ e.to) × NotAfter w (e ∷ u)
+led : (code : List Instr) (visits : List (Option Visit)) (done : List (List edge.Branch)) → Searching code visits done [] → (e : edge.Branch) (u v : List edge.Branch) → NotAfter v u → Followed done [] v e → (w : List edge.Branch) × In w done × (end_of w ≡ e.to) × NotAfter w (e ∷ u)
 led code visits done s e u v h (inl l) = (l.walk, l.among, l.ends, not_after_trans l.walk (e ∷ v) (e ∷ u) l.before (not_after_more e v u h))
 led code visits done s e u v h (inr (c, i, is)) = absurd i
 
-leads : (code : List Instr) (visits : List (Option Visit)) (done : List (List edge.Way)) → Searching code visits done [] → (u : List edge.Way) → IsWalk code u → (w : List edge.Way) × In w done × (end_of w ≡ end_of u) × NotAfter w u
+leads : (code : List Instr) (visits : List (Option Visit)) (done : List (List edge.Branch)) → Searching code visits done [] → (u : List edge.Branch) → IsWalk code u → (w : List edge.Branch) × In w done × (end_of w ≡ end_of u) × NotAfter w u
 leads code visits done s [] is = ([], s.start, refl, inl refl)
 leads code visits done s (e ∷ u) is =
     let before = leads code visits done s u is.1 in
-    let here : In e (ways_at code (end_of before.0)) = subst (λ p. In e (ways_at code p)) (sym before.2) (in_contains e (ways_at code (end_of u)) is.0) in
+    let here : In e (branches_at code (end_of before.0)) = subst (λ p. In e (branches_at code p)) (sym before.2) (in_contains e (branches_at code (end_of u)) is.0) in
     led code visits done s e u before.0 before.3 (s.followed before.0 e before.1 here)
 
-are_visited : (code : List Instr) (visits : List (Option Visit)) (done : List (List edge.Way)) → Searching code visits done [] → (p : ℕ) (visit : Visit) → slice_get visits p ≡ Some (Some visit) → IsVisited code visits p visit
+are_visited : (code : List Instr) (visits : List (Option Visit)) (done : List (List edge.Branch)) → Searching code visits done [] → (p : ℕ) (visit : Visit) → slice_get visits p ≡ Some (Some visit) → IsVisited code visits p visit
 are_visited code visits done s p visit h =
     let own = s.only p visit h in
     let kept = s.kept own.0 own.1 in
@@ -452,11 +452,11 @@ are_visited code visits done s p visit h =
       kept = subst (λ v. Keep visits v (sites_of code own.0)) same kept.keep;
     }
 
-are_reached : (code : List Instr) (visits : List (Option Visit)) (done : List (List edge.Way)) → Searching code visits done [] → (p : ℕ) → IsReached code p → (visit : Visit) × (slice_get visits p ≡ Some (Some visit))
+are_reached : (code : List Instr) (visits : List (Option Visit)) (done : List (List edge.Branch)) → Searching code visits done [] → (p : ℕ) → IsReached code p → (visit : Visit) × (slice_get visits p ≡ Some (Some visit))
 are_reached code visits done s p r =
     let w = leads code visits done s r.walk r.is in
     let kept = s.kept w.0 w.1 in
     (kept.visit, ap (λ n. slice_get visits n) (sym (w.2 ∙ r.ends)) ∙ kept.at)
 
-pub searched : (code : List Instr) (visits : List (Option Visit)) (done : List (List edge.Way)) → Searching code visits done [] → AreVisits code visits
+pub searched : (code : List Instr) (visits : List (Option Visit)) (done : List (List edge.Branch)) → Searching code visits done [] → AreVisits code visits
 searched code visits done s = record { points = s.long; visited = are_visited code visits done s; reached = are_reached code visits done s }

@@ -2,24 +2,24 @@
 use Rattle.std.specs.Prelude.{◌≡◌, ℕ, suc, ◌+◌, ◌<◌, Bool, true, false, List, [], ◌∷◌, ◌++◌, ◌==◌, filter, length, map, Option, Some, None, slice_get}
 use Rattle.std.proofs.Props.{props}
 use Rattle.bril_tree.specs.declared.numbered.Instr.{Instr}
-use Rattle.bril_tree.specs.Edge.{Way, ways_at}
+use Rattle.bril_tree.specs.Edge.{Branch, branches_at}
 use Rattle.bril_tree.specs.Sites.{AreFirstSites, SitesFail}
 use Rattle.bril_tree.specs.Walk.{IsReached}
 use Rattle.flow_graph.specs.declared.edge.Edge.{Edge}
 
--- an abort leaves from the newest open site, every other way from its own item
+-- an abort leaves from the newest open site, every other branch from its own item
 abbrev pub leave_of : Bool → ℕ → List ℕ → ℕ
 leave_of true from [] = from
 leave_of true from (newest ∷ older) = newest
 leave_of false from sites = from
 
-abbrev pub edge_of : List ℕ → Way → Edge
-edge_of sites way = record { from = way.from; leave = leave_of way.aborts way.from sites; to = way.to }
+abbrev pub edge_of : List ℕ → Branch → Edge
+edge_of sites branch = record { from = branch.from; leave = leave_of branch.aborts branch.from sites; to = branch.to }
 
 -- the edges of a point, where walks lead to it with these open sites
 abbrev pub edges_at : List Instr → ℕ → Option (List ℕ) → List Edge
 edges_at code point None = []
-edges_at code point (Some sites) = map (edge_of sites) (ways_at code point)
+edges_at code point (Some sites) = map (edge_of sites) (branches_at code point)
 
 -- the edges of points from one on, in order
 abbrev pub edges_from : List Instr → ℕ → List (Option (List ℕ)) → List Edge

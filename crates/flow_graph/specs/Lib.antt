@@ -3,4 +3,4 @@ pub mod Graph
 pub mod Labels
 pub mod Laws
 pub mod Visits
-pub mod Ways
+pub mod Branches

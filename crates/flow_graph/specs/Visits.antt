@@ -2,7 +2,7 @@
 use Rattle.std.specs.Prelude.{◌≡◌, ℕ, zero, suc, ◌+◌, min, List, [], ◌∷◌, ◌++◌, length, Option, Some, None, slice_get}
 use Rattle.std.specs.Option.{option_to_list}
 use Rattle.bril_tree.specs.declared.numbered.Instr.{Instr}
-use Rattle.bril_tree.specs.Edge.{Way}
+use Rattle.bril_tree.specs.Edge.{Branch}
 use Rattle.bril_tree.specs.Walk.{IsFirstWalk, IsReached}
 use Rattle.bril_tree.specs.Sites.{Change, Opens, Closes, Keeps, change_of, sites_of, most_sites}
 use Rattle.flow_graph.specs.declared.visits.Visit.{Visit}
@@ -34,9 +34,9 @@ visit_changed visits Opens point visit = opened point visit
 visit_changed visits Closes point visit = closed visits visit.newest visit
 visit_changed visits Keeps point visit = visit
 
--- what a way brings to its point
-abbrev pub visit_behind : List Instr → List (Option Visit) → Way → Visit
-visit_behind code visits way = visit_changed visits (change_of code way) way.from (visit_at visits way.from)
+-- what a branch brings to its point
+abbrev pub visit_behind : List Instr → List (Option Visit) → Branch → Visit
+visit_behind code visits branch = visit_changed visits (change_of code branch) branch.from (visit_at visits branch.from)
 
 -- The sites are those that are kept: their newest, how many, and the rest of them at the newest.
 abbrev pub Keep : List (Option Visit) → Visit → List ℕ → Type 0
@@ -47,7 +47,7 @@ Keep visits visit (site ∷ sites) =
 
 -- some first walk leads to the point, and its open sites are kept
 pub record IsVisited (code : List Instr) (visits : List (Option Visit)) (point : ℕ) (visit : Visit) : Type 0 where
-  pub walk : List Way
+  pub walk : List Branch
   pub first : IsFirstWalk code point walk
   pub kept : Keep visits visit (sites_of code walk)
 

@@ -3,22 +3,22 @@
 ghost use Rattle.std.specs.Prelude.{◌≡◌, ◌<◌, ◌++◌, ◌∷◌, [], List, All, length, map, replicate, slice_index_or, slice_set, IfOk, OnOk};
 ghost use Rattle.bril_tree.specs.declared.numbered.Instr.{Instr};
 ghost use Rattle.flow_graph.specs.Graph.{ArePreds, edge_of, edges_from};
-ghost use Rattle.flow_graph.specs.Ways.{AreRows, edges_on, way_of, ways_of};
+ghost use Rattle.flow_graph.specs.Branches.{AreBranchRows, edges_on, branch_of, branches_of};
 
 use crate::edge::Edge;
-use crate::ways::{Way, Ways};
+use crate::branches::{Branch, Branches};
 use bril_tree::sequence::Seq;
 use std::alloc::{AllocError, Global};
 
-// The edges of the points to which walks lead, by rising `from`. `rows` are the ways on from each point, and `sites`
+// The edges of the points to which walks lead, by rising `from`. `rows` are the branches from each point, and `sites`
 // its open sites, None where no walk leads.
 pub fn all_edges(
     alloc: Global,
-    rows: &[Ways],
+    rows: &[Branches],
     sites: &[Option<Seq<u32>>],
 ) -> Result<Seq<Edge>, AllocError>
     requires { length sites.now ≡ length rows.now }
-    ensures { IfOk result (λ edges. (code : List Instr) → AreRows code rows.now → edges ≡ edges_from code 0 sites.now) }
+    ensures { IfOk result (λ edges. (code : List Instr) → AreBranchRows code rows.now → edges ≡ edges_from code 0 sites.now) }
 {
     let mut edges = Seq::new(alloc);
     for point in 0..rows.len() {
@@ -30,10 +30,10 @@ pub fn all_edges(
 // Adds the edges of a point, where walks lead to it with these open sites.
 fn push_edges_at(
     edges: &mut Seq<Edge>,
-    row: Ways,
+    row: Branches,
     sites: &Option<Seq<u32>>,
 ) -> Result<(), AllocError>
-    ensures { OnOk result (edges.new ≡ edges.old ++ edges_on (ways_of row) sites.now) }
+    ensures { OnOk result (edges.new ≡ edges.old ++ edges_on (branches_of row) sites.now) }
 {
     match sites {
         None => Ok(()),
@@ -41,17 +41,17 @@ fn push_edges_at(
     }
 }
 
-// Adds the edges of these ways.
-fn push_edges(edges: &mut Seq<Edge>, row: Ways, sites: &[u32]) -> Result<(), AllocError>
-    ensures { OnOk result (edges.new ≡ edges.old ++ map (edge_of sites.now) (ways_of row)) }
+// Adds the edges of these branches.
+fn push_edges(edges: &mut Seq<Edge>, row: Branches, sites: &[u32]) -> Result<(), AllocError>
+    ensures { OnOk result (edges.new ≡ edges.old ++ map (edge_of sites.now) (branches_of row)) }
 {
     match row {
-        Ways::Nowhere => Ok(()),
-        Ways::Single(way) => {
-            edges.push(edge_of(way, sites))?;
+        Branches::Nowhere => Ok(()),
+        Branches::Single(branch) => {
+            edges.push(edge_of(branch, sites))?;
             Ok(())
         }
-        Ways::Either(first, second) => {
+        Branches::Either(first, second) => {
             edges.push(edge_of(first, sites))?;
             edges.push(edge_of(second, sites))?;
             Ok(())
@@ -59,18 +59,18 @@ fn push_edges(edges: &mut Seq<Edge>, row: Ways, sites: &[u32]) -> Result<(), All
     }
 }
 
-// The edge of a way: an abort leaves from the newest open site, every other way from its own item.
-fn edge_of(way: Way, sites: &[u32]) -> Edge
-    ensures { result ≡ edge_of sites.now (way_of way) }
+// The edge of a branch: an abort leaves from the newest open site, every other branch from its own item.
+fn edge_of(branch: Branch, sites: &[u32]) -> Edge
+    ensures { result ≡ edge_of sites.now (branch_of branch) }
 {
     let leave = match sites.first() {
-        Some(newest) if way.aborts => *newest,
-        _ => way.from,
+        Some(newest) if branch.aborts => *newest,
+        _ => branch.from,
     };
     Edge {
-        from: way.from,
+        from: branch.from,
         leave,
-        to: way.to,
+        to: branch.to,
     }
 }
 

@@ -4,7 +4,7 @@ ghost use Rattle.std.specs.Prelude.{◌≡◌, ◌⊎◌, ◌≤◌, ◌<◌, �
 ghost use Rattle.bril_tree.specs.Shape.{shape_fault_of};
 ghost use Rattle.bril_tree.specs.Sites.{AreSitesSound};
 ghost use Rattle.flow_graph.specs.Graph.{ArePreds, ArePreds-prop, IsGraphOf, IsLeastFailing};
-ghost use Rattle.flow_graph.specs.Ways.{AreRows};
+ghost use Rattle.flow_graph.specs.Branches.{AreBranchRows};
 ghost use Rattle.flow_graph.specs.declared.graph.GraphFault.TheVariants.{Nest, Memory};
 
 use crate::edge::Edge;
@@ -13,7 +13,7 @@ use crate::labels::label_points;
 use crate::open_sites::all_sites;
 use crate::search::first_visits;
 use crate::sites::least_failing;
-use crate::ways::{Ways, all_ways};
+use crate::branches::{Branches, all_branches};
 use bril_tree::numbered::Instr;
 use bril_tree::numbered_function::Func;
 use bril_tree::sequence::Seq;
@@ -75,9 +75,9 @@ impl Graph {
         Graph::drawn(alloc, func.code.as_slice(), rows.as_slice())
     }
 
-    // The flow graph of these items, of which `rows` are the ways on from each point.
-    pub(crate) fn drawn(alloc: Global, code: &[Instr], rows: &[Ways]) -> Result<Graph, GraphFault>
-        requires rows { AreRows code.now rows.now }
+    // The flow graph of these items, of which `rows` are the branches from each point.
+    pub(crate) fn drawn(alloc: Global, code: &[Instr], rows: &[Branches]) -> Result<Graph, GraphFault>
+        requires rows { AreBranchRows code.now rows.now }
         requires few { length code.now < 2 ^ 32 - 1 }
         ensures found { IfOk result (λ graph. IsGraphOf code.now graph) }
         ensures sound { IfOk result (λ _. AreSitesSound code.now) }
@@ -135,13 +135,13 @@ impl Graph {
     }
 }
 
-// The ways on from each point of a function whose items have the shapes of their operations.
-fn rows_of(alloc: Global, func: &Func) -> Result<Vec<Ways>, AllocError>
+// The branches from each point of a function whose items have the shapes of their operations.
+fn rows_of(alloc: Global, func: &Func) -> Result<Vec<Branches>, AllocError>
     requires shaped { shape_fault_of (is_some func.now.ret) func.now.code ≡ None }
     requires few { length func.now.code < 2 ^ 32 - 1 }
-    ensures { IfOk result (λ rows. AreRows func.now.code rows.items) }
+    ensures { IfOk result (λ rows. AreBranchRows func.now.code rows.items) }
 {
     let code = func.code.as_slice();
     let points = label_points(alloc, code)?;
-    all_ways(alloc, code, points.as_slice())
+    all_branches(alloc, code, points.as_slice())
 }

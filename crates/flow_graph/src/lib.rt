@@ -12,7 +12,7 @@ mod sites;
 #[cfg(test)]
 mod tests;
 mod visits;
-mod ways;
+mod branches;
 
 pub use edge::Edge;
 pub use graph::{Graph, GraphFault};

@@ -2,24 +2,24 @@
 
 ghost use Rattle.std.specs.Prelude.{◌≡◌, ◌<◌, [], ◌∷◌, ◌++◌, None, Some, length, replicate, slice_get, slice_set, IfOk, OnOk};
 ghost use Rattle.flow_graph.specs.Visits.{AreVisits, none_open, visit_behind};
-ghost use Rattle.flow_graph.specs.Ways.{AreRows, way_of, visiting};
+ghost use Rattle.flow_graph.specs.Branches.{AreBranchRows, branch_of, visiting};
 ghost use Rattle.flow_graph.specs.declared.visits.Visit.{Visit};
-ghost use Rattle.flow_graph.specs.declared.ways.Ways.{Ways};
+ghost use Rattle.flow_graph.specs.declared.branches.Branches.{Branches};
 
 use crate::visits::{Visit, visit_behind};
-use crate::ways::{Way, Ways};
+use crate::branches::{Branch, Branches};
 use bril_tree::numbered::Instr;
 use std::alloc::{AllocError, Global};
 use std::collections::VecDeque;
 
-// What the first walk to each point brings. The ways wait in the order of their walks, so the first that leads to a
+// What the first walk to each point brings. The branches wait in the order of their walks, so the first that leads to a
 // point is the last of its first walk.
 pub fn first_visits(
     alloc: Global,
     code: &[Instr],
-    rows: &[Ways],
+    rows: &[Branches],
 ) -> Result<Vec<Option<Visit>>, AllocError>
-    requires { AreRows code.now rows.now }
+    requires { AreBranchRows code.now rows.now }
     ensures { IfOk result (λ visits. AreVisits code.now visits.items) }
 {
     let mut visits = unvisited(alloc, rows.len())?;
@@ -29,8 +29,8 @@ pub fn first_visits(
         count: 0,
     };
     enter(&mut visits, &mut waiting, rows, 0, start)?;
-    'ways: while let Some(way) = waiting.pop_front() {
-        take(&mut visits, &mut waiting, code, rows, way)?;
+    'branches: while let Some(branch) = waiting.pop_front() {
+        take(&mut visits, &mut waiting, code, rows, branch)?;
     }
     Ok(visits)
 }
@@ -46,59 +46,59 @@ fn unvisited(alloc: Global, points: usize) -> Result<Vec<Option<Visit>>, AllocEr
     Ok(visits)
 }
 
-// Keeps what the first walk to the point of a way brings, where the way is the last of that walk.
+// Keeps what the first walk to the point of a branch brings, where the branch is the last of that walk.
 fn take(
     visits: &mut Vec<Option<Visit>>,
-    waiting: &mut VecDeque<Way>,
+    waiting: &mut VecDeque<Branch>,
     code: &[Instr],
-    rows: &[Ways],
-    way: Way,
+    rows: &[Branches],
+    branch: Branch,
 ) -> Result<(), AllocError>
-    requires inside { way.to < length visits.old.items }
+    requires inside { branch.to < length visits.old.items }
     requires rows { length rows.now ≡ length visits.old.items }
-    ensures passed { OnOk result ((visit : Visit) → slice_get visits.old.items way.to ≡ Some (Some visit)
+    ensures passed { OnOk result ((visit : Visit) → slice_get visits.old.items branch.to ≡ Some (Some visit)
         → (visits.new.items ≡ visits.old.items) × (waiting.new.items ≡ waiting.old.items)) }
-    ensures entered { OnOk result ((row : Ways) → slice_get visits.old.items way.to ≡ Some None → slice_get rows.now way.to ≡ Some row
-        → (visits.new.items ≡ slice_set visits.old.items way.to (Some (visit_behind code.now visits.old.items (way_of way))))
+    ensures entered { OnOk result ((row : Branches) → slice_get visits.old.items branch.to ≡ Some None → slice_get rows.now branch.to ≡ Some row
+        → (visits.new.items ≡ slice_set visits.old.items branch.to (Some (visit_behind code.now visits.old.items (branch_of branch))))
         × (waiting.new.items ≡ waiting.old.items ++ visiting row)) }
 {
-    match visits[way.to as usize] {
+    match visits[branch.to as usize] {
         Some(_) => Ok(()),
         None => {
-            let visit = visit_behind(visits.as_slice(), code, way);
-            enter(visits, waiting, rows, way.to, visit)
+            let visit = visit_behind(visits.as_slice(), code, branch);
+            enter(visits, waiting, rows, branch.to, visit)
         }
     }
 }
 
-// Keeps what the first walk to a point brings; its ways on wait behind all others.
+// Keeps what the first walk to a point brings; its branches wait behind all others.
 fn enter(
     visits: &mut Vec<Option<Visit>>,
-    waiting: &mut VecDeque<Way>,
-    rows: &[Ways],
+    waiting: &mut VecDeque<Branch>,
+    rows: &[Branches],
     point: u32,
     visit: Visit,
 ) -> Result<(), AllocError>
     requires inside { point < length visits.old.items }
     requires rows { length rows.now ≡ length visits.old.items }
     ensures kept { OnOk result (visits.new.items ≡ slice_set visits.old.items point (Some visit)) }
-    ensures waits { OnOk result ((row : Ways) → slice_get rows.now point ≡ Some row → waiting.new.items ≡ waiting.old.items ++ visiting row) }
+    ensures waits { OnOk result ((row : Branches) → slice_get rows.now point ≡ Some row → waiting.new.items ≡ waiting.old.items ++ visiting row) }
 {
     visits[point as usize] = Some(visit);
     wait(waiting, rows[point as usize])
 }
 
-// Adds ways at the end, the one to the lesser point first.
-fn wait(waiting: &mut VecDeque<Way>, ways: Ways) -> Result<(), AllocError>
-    ensures { OnOk result (waiting.new.items ≡ waiting.old.items ++ visiting ways) }
+// Adds branches at the end, the one to the lesser point first.
+fn wait(waiting: &mut VecDeque<Branch>, branches: Branches) -> Result<(), AllocError>
+    ensures { OnOk result (waiting.new.items ≡ waiting.old.items ++ visiting branches) }
 {
-    match ways {
-        Ways::Nowhere => Ok(()),
-        Ways::Single(way) => {
-            waiting.push_back(way)?;
+    match branches {
+        Branches::Nowhere => Ok(()),
+        Branches::Single(branch) => {
+            waiting.push_back(branch)?;
             Ok(())
         }
-        Ways::Either(first, second) => {
+        Branches::Either(first, second) => {
             if second.to < first.to {
                 wait_both(waiting, second, first)
             } else {
@@ -108,8 +108,8 @@ fn wait(waiting: &mut VecDeque<Way>, ways: Ways) -> Result<(), AllocError>
     }
 }
 
-// Adds two ways at the end.
-fn wait_both(waiting: &mut VecDeque<Way>, first: Way, second: Way) -> Result<(), AllocError>
+// Adds two branches at the end.
+fn wait_both(waiting: &mut VecDeque<Branch>, first: Branch, second: Branch) -> Result<(), AllocError>
     ensures { OnOk result (waiting.new.items ≡ waiting.old.items ++ first ∷ second ∷ []) }
 {
     waiting.push_back(first)?;

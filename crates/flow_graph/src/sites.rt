@@ -5,17 +5,17 @@ ghost use Rattle.bril_tree.specs.Sites.{AreSitesSound, needs_site};
 ghost use Rattle.flow_graph.specs.Graph.{IsLeastFailing};
 ghost use Rattle.flow_graph.specs.Faults.{IsLeastOf, lesser, Lacks, Brings, FailsAhead, FailsFrom};
 ghost use Rattle.flow_graph.specs.Visits.{AreVisits};
-ghost use Rattle.flow_graph.specs.Ways.{AreRows, way_of};
+ghost use Rattle.flow_graph.specs.Branches.{AreBranchRows, branch_of};
 
 use crate::visits::{MOST_SITES, Visit, visit_at, visit_behind};
-use crate::ways::{Way, Ways};
+use crate::branches::{Branch, Branches};
 use bril_tree::numbered::Instr;
 use bril_tree::operation::Op;
 
-// The least point at which the open sites fail. `rows` are the ways on from each point, and `visits` what the first
+// The least point at which the open sites fail. `rows` are the branches from each point, and `visits` what the first
 // walk brings to each.
-pub fn least_failing(code: &[Instr], rows: &[Ways], visits: &[Option<Visit>]) -> Option<u32>
-    requires rows { AreRows code.now rows.now }
+pub fn least_failing(code: &[Instr], rows: &[Branches], visits: &[Option<Visit>]) -> Option<u32>
+    requires rows { AreBranchRows code.now rows.now }
     requires visits { AreVisits code.now visits.now }
     requires few { length code.now < 2 ^ 32 - 1 }
     ensures { MatchOption result (AreSitesSound code.now) (IsLeastFailing code.now) }
@@ -30,10 +30,10 @@ pub fn least_failing(code: &[Instr], rows: &[Ways], visits: &[Option<Visit>]) ->
     least
 }
 
-// The least of the failing points that show at a point: itself, or one that a way on from it brings other sites to.
+// The least of the failing points that show at a point: itself, or one that a branch from it brings other sites to.
 fn failing_at(
     code: &[Instr],
-    row: Ways,
+    row: Branches,
     visits: &[Option<Visit>],
     point: u32,
     kept: Option<Visit>,
@@ -60,30 +60,30 @@ fn lacking(code: &[Instr], visit: Visit, point: u32) -> Option<u32>
     }
 }
 
-// The least of the points to which these ways bring other sites.
-fn failing_ahead(code: &[Instr], row: Ways, visits: &[Option<Visit>]) -> Option<u32>
+// The least of the points to which these branches bring other sites.
+fn failing_ahead(code: &[Instr], row: Branches, visits: &[Option<Visit>]) -> Option<u32>
     ensures { IsLeastOf (FailsAhead code.now visits.now row) result }
 {
     match row {
-        Ways::Nowhere => None,
-        Ways::Single(way) => brought(code, way, visits),
-        Ways::Either(first, second) => lesser(
+        Branches::Nowhere => None,
+        Branches::Single(branch) => brought(code, branch, visits),
+        Branches::Either(first, second) => lesser(
             brought(code, first, visits),
             brought(code, second, visits),
         ),
     }
 }
 
-// The point of a way that brings other sites to it.
-fn brought(code: &[Instr], way: Way, visits: &[Option<Visit>]) -> Option<u32>
-    ensures { IsLeastOf (Brings code.now visits.now (way_of way)) result }
+// The point of a branch that brings other sites to it.
+fn brought(code: &[Instr], branch: Branch, visits: &[Option<Visit>]) -> Option<u32>
+    ensures { IsLeastOf (Brings code.now visits.now (branch_of branch)) result }
 {
-    let brings = visit_behind(visits, code, way).newest;
-    let first = visit_at(visits, way.to).newest;
+    let brings = visit_behind(visits, code, branch).newest;
+    let first = visit_at(visits, branch.to).newest;
     if is_same(brings, first) {
         None
     } else {
-        Some(way.to)
+        Some(branch.to)
     }
 }
 

@@ -5,12 +5,12 @@ ghost use Rattle.std.specs.List.{All};
 ghost use Rattle.bril_tree.specs.Step.{is_label, point_of};
 ghost use Rattle.flow_graph.specs.Graph.{IsGraphOf};
 ghost use Rattle.flow_graph.specs.Labels.{IsLabelTable};
-ghost use Rattle.flow_graph.specs.Ways.{HasLabels, label_count};
+ghost use Rattle.flow_graph.specs.Branches.{HasLabels, label_count};
 
 use crate::edge::Edge;
 use crate::graph::{Graph, GraphFault};
 use crate::labels::label_points;
-use crate::ways::all_ways;
+use crate::branches::all_branches;
 use bril_tree::numbered::Instr;
 use bril_tree::operation::Op;
 use bril_tree::sequence::Seq;
@@ -135,7 +135,7 @@ const GRAPHS: [Row; 5] = [
 
 // A function, and the least point at which its open sites fail.
 const FAULTS: [(&[Step], u32); 6] = [
-    // a guard whose label is the next item: its two ways bring other sites
+    // a guard whose label is the next item: its two branches bring other sites
     (
         &[Step::Speculate, Step::Guard(0), Step::Label(0), Step::Ret],
         2,
@@ -334,7 +334,7 @@ fn graph_of(alloc: Global, code: &[Instr]) -> Result<Option<Graph>, GraphFault>
     if !is_table(code, points.as_slice()) || !are_labelled(code, points.len()) {
         return Ok(None);
     }
-    let rows = all_ways(alloc, code, points.as_slice())?;
+    let rows = all_branches(alloc, code, points.as_slice())?;
     Ok(Some(Graph::drawn(alloc, code, rows.as_slice())?))
 }
 

@@ -3,9 +3,9 @@
 ghost use Rattle.std.specs.Prelude.{◌≡◌, ◌<◌, Some};
 ghost use Rattle.bril_tree.specs.Sites.{item_change};
 ghost use Rattle.flow_graph.specs.Visits.{visit_at, visit_behind, visit_changed, closed, opened};
-ghost use Rattle.flow_graph.specs.Ways.{way_of};
+ghost use Rattle.flow_graph.specs.Branches.{branch_of};
 
-use crate::ways::Way;
+use crate::branches::Branch;
 use bril_tree::numbered::Instr;
 use bril_tree::operation::Op;
 
@@ -33,29 +33,29 @@ pub fn visit_at(visits: &[Option<Visit>], point: u32) -> Visit
     }
 }
 
-// What a way brings to its point.
-pub fn visit_behind(visits: &[Option<Visit>], code: &[Instr], way: Way) -> Visit
-    ensures { result ≡ visit_behind code.now visits.now (way_of way) }
+// What a branch brings to its point.
+pub fn visit_behind(visits: &[Option<Visit>], code: &[Instr], branch: Branch) -> Visit
+    ensures { result ≡ visit_behind code.now visits.now (branch_of branch) }
 {
-    let visit = visit_at(visits, way.from);
-    match code.get(way.from as usize) {
+    let visit = visit_at(visits, branch.from);
+    match code.get(branch.from as usize) {
         None => visit,
-        Some(item) => visit_changed(visits, item, way, visit),
+        Some(item) => visit_changed(visits, item, branch, visit),
     }
 }
 
 // What is kept behind an item: a `speculate` opens a site; a `commit`, and the abort of a guard, close the newest.
-fn visit_changed(visits: &[Option<Visit>], item: &Instr, way: Way, visit: Visit) -> Visit
-    ensures { result ≡ visit_changed visits.now (item_change (Some item.now) way.aborts) way.from visit }
+fn visit_changed(visits: &[Option<Visit>], item: &Instr, branch: Branch, visit: Visit) -> Visit
+    ensures { result ≡ visit_changed visits.now (item_change (Some item.now) branch.aborts) branch.from visit }
 {
     match item {
         Instr::Act {
             op: Op::Speculate,
             ..
-        } => opened(way.from, visit),
+        } => opened(branch.from, visit),
         Instr::Act { op: Op::Commit, .. } => closed(visits, visit),
         Instr::Act { op: Op::Guard, .. } => {
-            if way.aborts {
+            if branch.aborts {
                 closed(visits, visit)
             } else {
                 visit

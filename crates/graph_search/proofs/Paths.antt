@@ -6,7 +6,7 @@ use Rattle.std.proofs.lemmas.List.{get_or_append_left, get_or_default, take_more
 use Rattle.std.proofs.lemmas.List.Elements.{Contains-get_or, Contains-push, Contains-push_cases, Contains-append_left}
 use Rattle.std.specs.List.{Contains}
 use Rattle.graph_search.specs.declared.graph.Arc.{Arc}
-use Rattle.graph_search.specs.Marks.{VisitsAll}
+use Rattle.graph_search.specs.Reached.{VisitsAll}
 use Rattle.graph_search.specs.Path.{IsPath, IsReached, Leads}
 use Rattle.graph_search.proofs.Visiting.{kept, came}
 

@@ -8,12 +8,12 @@ use Rattle.std.proofs.lemmas.List.{length_push, drop_all, take_all}
 use Rattle.std.proofs.lemmas.List.Elements.{All-push, All-set, All-weaker, All-nil, Contains-push, Contains-push_cases, Contains-append_left, Contains-get_or}
 use Rattle.std.proofs.lemmas.List.Quantifiers.{all_pairs_push}
 use Rattle.std.proofs.lemmas.List.Sums.{sum_by-set, sum_by-le}
-use Rattle.graph_search.specs.Marks.{AreMarks}
+use Rattle.graph_search.specs.Reached.{AreReached}
 
 -- one more node is found and gets the stamp
-pub AreMarks-push : (stamps found : List ℕ) (stamp node : ℕ) → AreMarks stamps stamp found → node < length stamps → slice_index stamps node ≢ stamp →
-    AreMarks (set stamps node stamp) stamp (found ++ node ∷ [])
-AreMarks-push stamps found stamp node m here other = record {
+pub AreReached-push : (stamps found : List ℕ) (stamp node : ℕ) → AreReached stamps stamp found → node < length stamps → slice_index stamps node ≢ stamp →
+    AreReached (set stamps node stamp) stamp (found ++ node ∷ [])
+AreReached-push stamps found stamp node m here other = record {
   nodes = rw length-set (All-push (λ n. n < length stamps) found node m.nodes here);
   past = All-set (λ s. s ≤ stamp) stamps node stamp (omega arith) m.past;
   marked = λ n h. ⊎_elim
@@ -38,8 +38,8 @@ AreMarks-push stamps found stamp node m here other = record {
 }
 
 -- no node has a stamp that is new
-pub AreMarks-none : (stamps : List ℕ) (stamp : ℕ) → All (λ s. s < stamp) stamps → AreMarks stamps stamp []
-AreMarks-none stamps stamp new = record {
+pub AreReached-none : (stamps : List ℕ) (stamp : ℕ) → All (λ s. s < stamp) stamps → AreReached stamps stamp []
+AreReached-none stamps stamp new = record {
   nodes = All-nil (λ n. n < length stamps);
   past = All-weaker (λ s. s < stamp) (λ s. s ≤ stamp) (λ s h. omega arith) stamps new;
   marked = λ n h. absurd (omega (arith, h.1));

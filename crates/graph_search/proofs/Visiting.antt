@@ -6,8 +6,8 @@ use Rattle.std.proofs.lemmas.Bool.{cases_lt, cases_eq}
 use Rattle.std.proofs.lemmas.List.{get_or-map, get_or_default}
 use Rattle.std.proofs.lemmas.List.Elements.{All-append, All-weaker, All-nil, All-cons, All-contains, Contains-append_left, Contains-append_cases, Contains-push}
 use Rattle.graph_search.specs.declared.graph.Arc.{Arc}
-use Rattle.graph_search.specs.Marks.{VisitsAll}
-use Rattle.graph_search.specs.Rows.{EndsRow}
+use Rattle.graph_search.specs.Reached.{VisitsAll}
+use Rattle.graph_search.specs.Adjacency.{EndsRow}
 
 pub VisitsAll-none : (P : ℕ → Type 0) (found : List ℕ) → ((n : ℕ) → P n → ⊥) → VisitsAll P found found
 VisitsAll-none P found never = record { rest = []; grew = sym (append-nil found); met = All-nil P; all = λ n h. absurd (never n h) }

@@ -4,7 +4,7 @@ ghost use Rattle.std.specs.Prelude.{◌≡◌, ◌<◌, ◌^◌, ◌-◌, vec_le
 ghost use Rattle.std.specs.List.{All};
 ghost use Rattle.graph_search.specs.Path.{IsBetween};
 
-use crate::rows::Rows;
+use crate::adjacency::Adjacency;
 use std::alloc::{AllocError, Global};
 use std::marker::Model;
 
@@ -16,10 +16,10 @@ pub struct Arc {
     pub label: Option<u32>,
 }
 
-/// A graph: its nodes, numbered from 0, and its arcs, in rows by the nodes from which they go.
+/// A graph: its nodes, numbered from 0, and its arcs, in adjacency by the nodes from which they go.
 #[derive(Drop)]
 pub struct ArcGraph {
-    pub(crate) rows: Rows,
+    pub(crate) adjacency: Adjacency,
     pub(crate) arcs: Vec<Arc>,
 }
 
@@ -30,9 +30,9 @@ impl Model for ArcGraph {
 
     ghost Value = { GraphView };
 
-    ghost view = { λ g. record { nodes = g.rows.count; arcs = g.arcs.items } };
+    ghost view = { λ g. record { nodes = g.adjacency.count; arcs = g.arcs.items } };
 
-    ghost invariant = { λ g. (g.rows.keys ≡ map (λ arc. arc.from) g.arcs.items) × All (λ arc. arc.to < g.rows.count) g.arcs.items };
+    ghost invariant = { λ g. (g.adjacency.keys ≡ map (λ arc. arc.from) g.arcs.items) × All (λ arc. arc.to < g.adjacency.count) g.arcs.items };
 }
 
 impl ArcGraph {
@@ -44,14 +44,14 @@ impl ArcGraph {
         ensures arcs { IfOk result (λ graph. graph.arcs ≡ arcs.items) }
     {
         let sources = arcs.iter().map(|arc| arc.from).collect(alloc)?;
-        let rows = Rows::of(alloc, nodes, sources)?;
-        Ok(ArcGraph { rows, arcs })
+        let adjacency = Adjacency::of(alloc, nodes, sources)?;
+        Ok(ArcGraph { adjacency, arcs })
     }
 
     /// The number of nodes. Takes no memory.
     pub fn nodes(&self) -> usize
         ensures { result ≡ self.now.nodes }
     {
-        self.rows.count()
+        self.adjacency.count()
     }
 }

@@ -8,11 +8,11 @@
 #![tactic(auto)]
 
 mod graph;
-mod marks;
-mod rows;
+mod reached;
+mod adjacency;
 #[cfg(test)]
 mod tests;
 
 pub use graph::{Arc, ArcGraph};
-pub use marks::Marks;
-pub use rows::Rows;
+pub use reached::Reached;
+pub use adjacency::Adjacency;

@@ -1,11 +1,11 @@
-// Searches of one small graph, with one table of marks.
+// Searches of one small graph, with one table of reached.
 
 ghost use Rattle.std.specs.Prelude.{◌≡◌, ◌<◌, ◌↔◌, IsTrue};
 ghost use Rattle.std.specs.List.{All};
 ghost use Rattle.graph_search.specs.Path.{IsBetween};
 
 use crate::graph::{Arc, ArcGraph};
-use crate::marks::Marks;
+use crate::reached::Reached;
 use std::process::Abort;
 use std::test::Fail;
 
@@ -60,19 +60,19 @@ fn are_nodes(count: u32, nodes: &[u32]) -> bool
 // Asserts what a search of the graph finds, in order: each row is read from its last arc to the first.
 fn assert_finds(
     rt: &impl Abort,
-    marks: &mut Marks,
+    reached: &mut Reached,
     graph: &ArcGraph,
     seeds: &[u32],
     barred: u32,
     found: &[u32],
 ) -> Result<(), Fail>
     requires graph { graph.now.nodes ≡ 7 }
-    requires marks { marks.old.nodes ≡ 7 }
-    ensures { marks.new.nodes ≡ 7 }
+    requires reached { reached.old.nodes ≡ 7 }
+    ensures { reached.new.nodes ≡ 7 }
 {
     assert!(rt; are_nodes(7, seeds));
-    marks.search(graph, seeds, barred)?;
-    assert_eq!(rt; marks.found(), found);
+    reached.search(graph, seeds, barred)?;
+    assert_eq!(rt; reached.found(), found);
     Ok(())
 }
 
@@ -81,12 +81,12 @@ fn searches_find_what_paths_reach(rt: HostRuntime) -> Result<(), Fail> {
     let arcs = Vec::from_slice(rt.alloc(), ARCS.as_slice())?;
     assert!(rt; are_between(7, arcs.as_slice()));
     let graph = ArcGraph::of(rt.alloc(), 7, arcs)?;
-    let mut marks = Marks::new(rt.alloc(), 7)?;
-    assert_finds(&rt, &mut marks, &graph, &[0], 9, &[0, 1, 3, 2, 4])?;
-    assert_finds(&rt, &mut marks, &graph, &[0], 1, &[0, 1, 3, 4])?;
-    assert_finds(&rt, &mut marks, &graph, &[0], 2, &[0, 1, 3, 2])?;
-    assert_finds(&rt, &mut marks, &graph, &[5, 1], 2, &[5, 6, 1, 3, 2, 0])?;
-    assert!(rt; marks.is_marked(6) && !marks.is_marked(4));
-    assert_finds(&rt, &mut marks, &graph, &[4, 4], 2, &[4])?;
-    assert_finds(&rt, &mut marks, &graph, &[], 2, &[])
+    let mut reached = Reached::new(rt.alloc(), 7)?;
+    assert_finds(&rt, &mut reached, &graph, &[0], 9, &[0, 1, 3, 2, 4])?;
+    assert_finds(&rt, &mut reached, &graph, &[0], 1, &[0, 1, 3, 4])?;
+    assert_finds(&rt, &mut reached, &graph, &[0], 2, &[0, 1, 3, 2])?;
+    assert_finds(&rt, &mut reached, &graph, &[5, 1], 2, &[5, 6, 1, 3, 2, 0])?;
+    assert!(rt; reached.is_marked(6) && !reached.is_marked(4));
+    assert_finds(&rt, &mut reached, &graph, &[4, 4], 2, &[4])?;
+    assert_finds(&rt, &mut reached, &graph, &[], 2, &[])
 }

@@ -114,14 +114,14 @@ module _ (P Q : Prog) (heads : SameHeads P Q) (f : ℕ) (F G : Func) (p : slice_
   start-covers (Shadow x) (Variable y) h i = absurd h
   start-covers (Shadow x) (Shadow y) h i = absurd (start-shadow F.args x i)
 
-  -- the walk without ways stands for itself
+  -- the walk without branches stands for itself
   pub start_matched : (N : NamePlan) → N.PointsMatch f 0 0 → MatchedWalk (plan P Q N) P Q f F.args G.args []
   start_matched N start = record {
     walk = [];
     matches = record {
       is = tt;
       points = start;
-      places = λ a b h i. start-covers a b (subst (λ o. SameLocation (variable_names F.vars) (names_in o) a b) q (subst (λ o. SameLocation (names_in o) (names_in (slice_get Q.funcs f)) a b) p h.0)) i;
+      locations = λ a b h i. start-covers a b (subst (λ o. SameLocation (variable_names F.vars) (names_in o) a b) q (subst (λ o. SameLocation (names_in o) (names_in (slice_get Q.funcs f)) a b) p h.0)) i;
       saved = tt;
     };
   }

@@ -1,4 +1,4 @@
--- A place that is read at a reached item has a destination left, or is an argument; so its variable keeps its type.
+-- A location that is read at a reached item has a destination left, or is an argument; so its variable keeps its type.
 use Rattle.std.proofs.Common.{◌≡◌, ◌⊎◌, ℕ, suc, ◌<◌, ◌≤◌, Bool, List, [], ◌∷◌, length, Option, Some, None, refl, sym, ap, subst, ◌∙◌, inl, inr, ⊎_elim, arith}
 use Rattle.std.specs.Prelude.{slice_get}
 use Rattle.std.proofs.lemmas.Bool.{cases_lt}
@@ -45,12 +45,12 @@ assigns-dest (Act (Some x) ty _ args fns ls) y i = ⊎_elim (λ e. cc) (λ n. ab
 
 -- what is read at a reached item was assigned
 pub read-left : (code : List Instr) (args : ℕ) (ret : Bool) → AreWalksAccepted code args ret → (j : ℕ) (b : Instr) → IsReached code j → slice_get code j ≡ Some b → (y : ℕ) → In (Variable y) (reads_of b) → (y < args) ⊎ IsDest code y
-read-left code args ret walks j b reached at y among = ⊎_elim from_assigned (λ n. absurd (lacks n)) (in_or_not (Variable y) (assigned_of code args reached.walk).places)
+read-left code args ret walks j b reached at y among = ⊎_elim from_assigned (λ n. absurd (lacks n)) (in_or_not (Variable y) (assigned_of code args reached.walk).locations)
   where
-    lacks : (In (Variable y) (assigned_of code args reached.walk).places → ⊥) → ⊥
-    lacks n = walks.assigned j b (Variable y) at (contains_in (Variable y) (reads_of b) among) (record { walk = reached.walk; is = reached.is; ends = reached.ends; lacks = λ c. n (in_contains (Variable y) (assigned_of code args reached.walk).places c) })
+    lacks : (In (Variable y) (assigned_of code args reached.walk).locations → ⊥) → ⊥
+    lacks n = walks.assigned j b (Variable y) at (contains_in (Variable y) (reads_of b) among) (record { walk = reached.walk; is = reached.is; ends = reached.ends; lacks = λ c. n (in_contains (Variable y) (assigned_of code args reached.walk).locations c) })
 
-    from_assigned : In (Variable y) (assigned_of code args reached.walk).places → (y < args) ⊎ IsDest code y
+    from_assigned : In (Variable y) (assigned_of code args reached.walk).locations → (y < args) ⊎ IsDest code y
     from_assigned i = ⊎_elim (λ s. inl (start-high args y s)) (λ d. inr (record { point = d.1; item = d.0; at = d.2; dest = assigns-dest d.0 y d.3 })) ((assigned-from code args reached.walk).0 (Variable y) i)
 
 -- an item has the variable as its destination, or none gives it a type

@@ -2,7 +2,7 @@
 //!
 //! An item of the result is one of the program, by its tree, or one that the pass made or rewrote. A variable that is an
 //! argument or still a destination keeps its type, and so each item that stays is typed as it was. The walks of the
-//! result are matched by walks of the program, so its sites are sound and each place that is read is assigned; a pass
+//! result are matched by walks of the program, so its sites are sound and each location that is read is assigned; a pass
 //! whose result opens sites of its own shows that its walks are accepted by `pass_walks`. What a pass proves for this
 //! is `Edits`, in `specs/`.
 #![tactic(auto)]

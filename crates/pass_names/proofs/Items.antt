@@ -42,11 +42,11 @@ zip-and R M [] (y ∷ ys) h k = absurd h
 zip-and R M (x ∷ xs) [] h k = absurd h
 zip-and R M (x ∷ xs) (y ∷ ys) h k = ((h.0, k x (inl refl)), zip-and R M xs ys h.1 (λ z i. k z (inr i)))
 
-zip-places : (V W : List (List ℕ)) (xs ys : List ℕ) → AllZip (SameName V W) xs ys → AllZip (SameLocation V W) (map Variable xs) (map Variable ys)
-zip-places V W [] [] h = tt
-zip-places V W [] (y ∷ ys) h = absurd h
-zip-places V W (x ∷ xs) [] h = absurd h
-zip-places V W (x ∷ xs) (y ∷ ys) h = (h.0, zip-places V W xs ys h.1)
+zip-locations : (V W : List (List ℕ)) (xs ys : List ℕ) → AllZip (SameName V W) xs ys → AllZip (SameLocation V W) (map Variable xs) (map Variable ys)
+zip-locations V W [] [] h = tt
+zip-locations V W [] (y ∷ ys) h = absurd h
+zip-locations V W (x ∷ xs) [] h = absurd h
+zip-locations V W (x ∷ xs) (y ∷ ys) h = (h.0, zip-locations V W xs ys h.1)
 
 pub zip-long : {X Y : Type 0} (R : X → Y → Type 0) (xs : List X) (ys : List Y) → AllZip R xs ys → length xs ≡ length ys
 zip-long R [] [] h = refl
@@ -106,14 +106,14 @@ module _ (fs V W lP lQ : List (List ℕ)) (differ : Differ fs) where
   reads-zip ret op.Set d e args result_args fns labels s h there zip =
       let two = (shape-parts (shape_of ret op.Set) (is_some d) (length args) fns labels s).args_are in
       (zip-at (SameName V W) args result_args 1 (omega (arith, two)) h, tt)
-  reads-zip ret _ d e args result_args fns labels s h there zip = zip-places V W args result_args h
+  reads-zip ret _ d e args result_args fns labels s h there zip = zip-locations V W args result_args h
 
   assigns-zip : (ret : Bool) (o : Op) (d e : Option ℕ) (args result_args : List ℕ) (fns labels : ℕ) → is_action_shaped ret o (is_some d) (length args) fns labels ≡ true → AllZip (SameName V W) args result_args → AllZip (SameName V W) (listed d) (listed e)
       → AllZip (SameLocation V W) (operation_assigns o d args) (operation_assigns o e result_args)
   assigns-zip ret op.Set d e args result_args fns labels s h zip =
       let two = (shape-parts (shape_of ret op.Set) (is_some d) (length args) fns labels s).args_are in
       (zip-at (SameName V W) args result_args 0 (omega (arith, two)) h, tt)
-  assigns-zip ret _ d e args result_args fns labels s h zip = zip-places V W (listed d) (listed e) zip
+  assigns-zip ret _ d e args result_args fns labels s h zip = zip-locations V W (listed d) (listed e) zip
 
   -- what two items of one tree share
   pub record Shares (M : Location → Type 0) (a b : Instr) : Type 0 where
@@ -155,7 +155,7 @@ module _ (fs V W lP lQ : List (List ℕ)) (differ : Differ fs) where
       → ((x : Location) → In x (reads_of a) → M x) → Shares M a b
   item-shares M ret (Label l) (Label k) shaped e ra rb matters =
       let n : named lP l ≡ named lQ k = cc in
-      record { same = tt; assigns = tt; targets = tt; labels = ((ra.places.0, rb.places.0, n), tt); dests = tt; operands = tt; types = refl }
+      record { same = tt; assigns = tt; targets = tt; labels = ((ra.locations.0, rb.locations.0, n), tt); dests = tt; operands = tt; types = refl }
   item-shares M ret (Label l) (Const y t w) shaped e ra rb matters = absurd cc
   item-shares M ret (Label l) (Act d t o result_args gns ms) shaped e ra rb matters = absurd cc
   item-shares M ret (Const x s v) (Label k) shaped e ra rb matters = absurd cc

@@ -19,7 +19,7 @@ use Rattle.bril_tree.specs.declared.program.Prog.{Prog}
 use Rattle.bril_tree.specs.declared.value.Value.{Value}
 use Rattle.bril_tree.specs.Accepted.{IsAccepted}
 use Rattle.bril_tree.specs.Assigned.{assigns_at}
-use Rattle.bril_tree.specs.Edge.{Way, ways_at, ways_from, item_ways, action_ways, onward, jump, abort}
+use Rattle.bril_tree.specs.Edge.{Branch, branches_at, branches_from, item_branches, action_branches, onward, jump, abort}
 use Rattle.bril_tree.specs.FunctionForm.{targets_of, callees_of}
 use Rattle.bril_tree.specs.Numbered.{named, variable_names, item_tree}
 use Rattle.bril_tree.specs.Operand.{Location, Variable, Shadow}
@@ -130,7 +130,7 @@ label_there X f i name at = by (item_at X f i) refl
       there = h.there;
       number = l;
       at = ap (λ o. slice_get (items_of o) i) (sym h.there) ∙ here;
-      within = h.range.places.0;
+      within = h.range.locations.0;
       is = (let n : named h.function.labels l ≡ name = cc in n);
     }
     by_item (Const d ty v) here h e = absurd cc
@@ -152,7 +152,7 @@ label_once X f i j name at bt =
     let number : a.number ≡ b.number = one_number F.labels F.formed.labels_differ a.number b.number within b.within (is ∙ sym b.is) in
     sym (label-at_point 0 (length F.labels) F.code F.formed.placed i a.number aa) ∙ ap (λ n. point_of n F.code) number ∙ label-at_point 0 (length F.labels) F.code F.formed.placed j b.number b.at
 
--- ---- ways of items of one tree
+-- ---- branches of items of one tree
 
 zip-map : {X Y : Type 0} (S : ℕ → ℕ → Type 0) (R : X → Y → Type 0) (f : ℕ → X) (g : ℕ → Y) (xs ys : List ℕ) → AllZip S xs ys → ((x y : ℕ) → S x y → In x xs → R (f x) (g y)) → AllZip R (map f xs) (map g ys)
 zip-map S R f g [] [] z h = tt
@@ -160,26 +160,26 @@ zip-map S R f g [] (y ∷ ys) z h = absurd z
 zip-map S R f g (x ∷ xs) [] z h = absurd z
 zip-map S R f g (x ∷ xs) (y ∷ ys) z h = (h x y z.0 (inl refl), zip-map S R f g xs ys z.1 (λ a b s i. h a b s (inr i)))
 
-module _ (S : ℕ → ℕ → Type 0) (R : Way → Way → Type 0) (code result_code : List Instr) (i j : ℕ) where
-  act-ways : (o : Op) (ls ms : List ℕ) → AllZip S ls ms → (In (onward i) (action_ways code i o ls) → R (onward i) (onward j)) → ((l m : ℕ) → S l m → In (jump code i l) (action_ways code i o ls) → R (jump code i l) (jump result_code j m))
-      → ((l m : ℕ) → S l m → In (abort code i l) (action_ways code i o ls) → R (abort code i l) (abort result_code j m)) → AllZip R (action_ways code i o ls) (action_ways result_code j o ms)
-  act-ways op.Jmp ls ms z on jm ab = zip-map S R (jump code i) (jump result_code j) ls ms z (λ l m s h. jm l m s (in_map (jump code i) l ls h))
-  act-ways op.Br ls ms z on jm ab = zip-map S R (jump code i) (jump result_code j) ls ms z (λ l m s h. jm l m s (in_map (jump code i) l ls h))
-  act-ways op.Ret ls ms z on jm ab = tt
-  act-ways op.Guard ls ms z on jm ab = (on (inl refl), zip-map S R (abort code i) (abort result_code j) ls ms z (λ l m s h. ab l m s (inr (in_map (abort code i) l ls h))))
-  act-ways _ ls ms z on jm ab = (on (inl refl), tt)
+module _ (S : ℕ → ℕ → Type 0) (R : Branch → Branch → Type 0) (code result_code : List Instr) (i j : ℕ) where
+  act-branches : (o : Op) (ls ms : List ℕ) → AllZip S ls ms → (In (onward i) (action_branches code i o ls) → R (onward i) (onward j)) → ((l m : ℕ) → S l m → In (jump code i l) (action_branches code i o ls) → R (jump code i l) (jump result_code j m))
+      → ((l m : ℕ) → S l m → In (abort code i l) (action_branches code i o ls) → R (abort code i l) (abort result_code j m)) → AllZip R (action_branches code i o ls) (action_branches result_code j o ms)
+  act-branches op.Jmp ls ms z on jm ab = zip-map S R (jump code i) (jump result_code j) ls ms z (λ l m s h. jm l m s (in_map (jump code i) l ls h))
+  act-branches op.Br ls ms z on jm ab = zip-map S R (jump code i) (jump result_code j) ls ms z (λ l m s h. jm l m s (in_map (jump code i) l ls h))
+  act-branches op.Ret ls ms z on jm ab = tt
+  act-branches op.Guard ls ms z on jm ab = (on (inl refl), zip-map S R (abort code i) (abort result_code j) ls ms z (λ l m s h. ab l m s (inr (in_map (abort code i) l ls h))))
+  act-branches _ ls ms z on jm ab = (on (inl refl), tt)
 
-  pub ways-zip : (A : Location → Location → Type 0) (a b : Instr) → ItemsMatch A a b → AllZip S (targets_of a) (targets_of b) → (In (onward i) (item_ways code i a) → R (onward i) (onward j)) → ((l m : ℕ) → S l m → In (jump code i l) (item_ways code i a) → R (jump code i l) (jump result_code j m))
-      → ((l m : ℕ) → S l m → In (abort code i l) (item_ways code i a) → R (abort code i l) (abort result_code j m)) → AllZip R (item_ways code i a) (item_ways result_code j b)
-  ways-zip A (Label l) (Label m) same z on jm ab = (on (inl refl), tt)
-  ways-zip A (Label l) (Const y t w) same z on jm ab = absurd same
-  ways-zip A (Label l) (Act e t u result_args gns ms) same z on jm ab = absurd same
-  ways-zip A (Const x s v) (Label m) same z on jm ab = absurd same
-  ways-zip A (Const x s v) (Const y t w) same z on jm ab = (on (inl refl), tt)
-  ways-zip A (Const x s v) (Act e t u result_args gns ms) same z on jm ab = absurd same
-  ways-zip A (Act d s o args fns ls) (Label m) same z on jm ab = absurd same
-  ways-zip A (Act d s o args fns ls) (Const y t w) same z on jm ab = absurd same
-  ways-zip A (Act d s o args fns ls) (Act e t u result_args gns ms) same z on jm ab = subst (λ x. AllZip R (action_ways code i o ls) (action_ways result_code j x ms)) same.operation (act-ways o ls ms z on jm ab)
+  pub branches-zip : (A : Location → Location → Type 0) (a b : Instr) → ItemsMatch A a b → AllZip S (targets_of a) (targets_of b) → (In (onward i) (item_branches code i a) → R (onward i) (onward j)) → ((l m : ℕ) → S l m → In (jump code i l) (item_branches code i a) → R (jump code i l) (jump result_code j m))
+      → ((l m : ℕ) → S l m → In (abort code i l) (item_branches code i a) → R (abort code i l) (abort result_code j m)) → AllZip R (item_branches code i a) (item_branches result_code j b)
+  branches-zip A (Label l) (Label m) same z on jm ab = (on (inl refl), tt)
+  branches-zip A (Label l) (Const y t w) same z on jm ab = absurd same
+  branches-zip A (Label l) (Act e t u result_args gns ms) same z on jm ab = absurd same
+  branches-zip A (Const x s v) (Label m) same z on jm ab = absurd same
+  branches-zip A (Const x s v) (Const y t w) same z on jm ab = (on (inl refl), tt)
+  branches-zip A (Const x s v) (Act e t u result_args gns ms) same z on jm ab = absurd same
+  branches-zip A (Act d s o args fns ls) (Label m) same z on jm ab = absurd same
+  branches-zip A (Act d s o args fns ls) (Const y t w) same z on jm ab = absurd same
+  branches-zip A (Act d s o args fns ls) (Act e t u result_args gns ms) same z on jm ab = subst (λ x. AllZip R (action_branches code i o ls) (action_branches result_code j x ms)) same.operation (act-branches o ls ms z on jm ab)
 
 -- ---- the record
 
@@ -207,58 +207,58 @@ module _ (P Q : Prog) (N : NamePlan) (accepted : IsAccepted P) (k : KeepsNames P
           let shaped = shaped_here P accepted f i a at in
           item-shares fs (names_in (slice_get P.funcs f)) (names_in (slice_get Q.funcs f)) fa.function.labels fb.function.labels (Differ-functions P) (N.Matters f i) shaped.ret a b shaped.shaped same fa.range range (λ x h. k.reads f i j a x reached points regular at h)
 
-      abbrev among : Way → Type 0
-      among w = In w (item_ways (code_of P f) i a)
+      abbrev among : Branch → Type 0
+      among w = In w (item_branches (code_of P f) i a)
 
-      at_way : (w : Way) → among w → In w (ways_at (code_of P f) i)
-      at_way w h = subst (λ o. In w (ways_from (code_of P f) i o)) (sym at) h
+      at_branch : (w : Branch) → among w → In w (branches_at (code_of P f) i)
+      at_branch w h = subst (λ o. In w (branches_from (code_of P f) i o)) (sym at) h
 
-      -- a way that is no abort
-      goes : (w v : Way) → w.aborts ≡ false → v.aborts ≡ false → among w → N.PointsMatch f w.to v.to → EdgesMatch M P Q f i j (Some a) (Some b) w v
+      -- a branch that is no abort
+      goes : (w v : Branch) → w.aborts ≡ false → v.aborts ≡ false → among w → N.PointsMatch f w.to v.to → EdgesMatch M P Q f i j (Some a) (Some b) w v
       goes w v wa va h there = record {
         aborts = wa ∙ sym va;
         points = there;
         kept = λ _ x y matches. kept-named (names_in (slice_get P.funcs f)) (names_in (slice_get Q.funcs f)) (Differ-in (slice_get P.funcs f)) (Differ-in (slice_get Q.funcs f)) (N.Matters f i) (assigns_at (Some a)) (assigns_at (Some b)) shares.assigns x y matches.0
-            (λ n. k.flows f i w x reached (at_way w h) wa matches.1 (subst (λ o. In x (assigns_at o) → ⊥) (sym at) n));
+            (λ n. k.flows f i w x reached (at_branch w h) wa matches.1 (subst (λ o. In x (assigns_at o) → ⊥) (sym at) n));
         back = λ wb. absurd (let e : false ≡ true = sym wa ∙ wb in cc);
-        learns = λ _ x v known. subst (λ o. IsLearned o (N.IsKnown f i) x v) at (k.known.learns f i j w x v reached points regular (at_way w h) wa known);
+        learns = λ _ x v known. subst (λ o. IsLearned o (N.IsKnown f i) x v) at (k.known.learns f i j w x v reached points regular (at_branch w h) wa known);
         remembers = λ wb. absurd (let e : false ≡ true = sym wa ∙ wb in cc);
       }
 
       -- the points of labels match
-      labelled : (l m : ℕ) (w : Way) → SameName fa.function.labels fb.function.labels l m → among w → w.to ≡ point_of l (code_of P f) → N.PointsMatch f (point_of l (code_of P f)) (point_of m (code_of Q f))
+      labelled : (l m : ℕ) (w : Branch) → SameName fa.function.labels fb.function.labels l m → among w → w.to ≡ point_of l (code_of P f) → N.PointsMatch f (point_of l (code_of P f)) (point_of m (code_of Q f))
       labelled l m w s h to =
           k.labels f (point_of l (code_of P f)) (point_of m (code_of Q f)) (named fa.function.labels l)
           (record {
             walk = w ∷ reached.walk;
-            is = (contains_in w (ways_at (code_of P f) (end_of reached.walk)) (subst (λ n. In w (ways_at (code_of P f) n)) (sym reached.ends) (at_way w h)), reached.is);
+            is = (contains_in w (branches_at (code_of P f) (end_of reached.walk)) (subst (λ n. In w (branches_at (code_of P f) n)) (sym reached.ends) (at_branch w h)), reached.is);
             ends = to;
           })
           (label_found P f fa.function l fa.there s.0)
           (label_found Q f fb.function m fb.there s.1 ∙ ap (λ n. Some (item.Label n)) (sym s.2))
 
-      aborts : (w v : Way) → w.aborts ≡ true → v.aborts ≡ true → among w → N.PointsMatch f w.to v.to → EdgesMatch M P Q f i j (Some a) (Some b) w v
+      aborts : (w v : Branch) → w.aborts ≡ true → v.aborts ≡ true → among w → N.PointsMatch f w.to v.to → EdgesMatch M P Q f i j (Some a) (Some b) w v
       aborts w v wa va h there = record {
         aborts = wa ∙ sym va;
         points = there;
         kept = λ wb. absurd (let e : true ≡ false = sym wa ∙ wb in cc);
         learns = λ wb. absurd (let e : true ≡ false = sym wa ∙ wb in cc);
-        remembers = λ _ walk is ends s sites e x v known. k.known.remembers f w x v walk is (subst (λ n. In w (ways_at (code_of P f) n)) (sym ends) (at_way w h)) wa s sites e known;
+        remembers = λ _ walk is ends s sites e x v known. k.known.remembers f w x v walk is (subst (λ n. In w (branches_at (code_of P f) n)) (sym ends) (at_branch w h)) wa s sites e known;
         back = λ _ walk is ends s t sites e bs rg x y matches.
-            (matches.0, k.back f w x walk is (subst (λ n. In w (ways_at (code_of P f) n)) (sym ends) (at_way w h)) wa s sites e matches.1);
+            (matches.0, k.back f w x walk is (subst (λ n. In w (branches_at (code_of P f) n)) (sym ends) (at_branch w h)) wa s sites e matches.1);
       }
 
       item_steps : StepsMatch M P Q f i j (Some a) (Some b)
       item_steps = record {
         same = shares.same;
-        ways = ways-zip (SameName fa.function.labels fb.function.labels) (EdgesMatch M P Q f i j (Some a) (Some b)) (code_of P f) (code_of Q f) i j (M.LocationsMatch f i j) a b shares.same shares.targets
-            (λ h. goes (onward i) (onward j) refl refl h (k.next f i j reached points regular (at_way (onward i) h)))
+        branches = branches-zip (SameName fa.function.labels fb.function.labels) (EdgesMatch M P Q f i j (Some a) (Some b)) (code_of P f) (code_of Q f) i j (M.LocationsMatch f i j) a b shares.same shares.targets
+            (λ h. goes (onward i) (onward j) refl refl h (k.next f i j reached points regular (at_branch (onward i) h)))
             (λ l m s h. goes (jump (code_of P f) i l) (jump (code_of Q f) j m) refl refl h (labelled l m (jump (code_of P f) i l) s h refl))
             (λ l m s h. aborts (abort (code_of P f) i l) (abort (code_of Q f) j m) refl refl h (labelled l m (abort (code_of P f) i l) s h refl));
       }
 
     point_steps : (o u : Option Instr) → item_at P f i ≡ o → item_at Q f j ≡ u → StepsMatch M P Q f i j o u
-    point_steps None None at bt = record { same = tt; ways = tt }
+    point_steps None None at bt = record { same = tt; branches = tt }
     point_steps None (Some b) at bt = absurd (let h = sym (nothing_found P f i at) ∙ k.same f i j reached points regular ∙ (found Q f j b bt).tree in cc)
     point_steps (Some a) None at bt = absurd (let h = sym (nothing_found Q f j bt) ∙ sym (k.same f i j reached points regular) ∙ (found P f i a at).tree in cc)
     point_steps (Some a) (Some b) at bt = item_steps a b at bt
@@ -303,50 +303,50 @@ module _ (P Q : Prog) (N : NamePlan) (accepted : IsAccepted P) (k : KeepsNames P
         ∙ get_or-take G.args (variable_names G.vars) x [] less'
 
     values : ℕ → Option Value
-    values = (new_frame P limits f vs).places.vars
+    values = (new_frame P limits f vs).locations.vars
 
-    variables_agree : (x y : ℕ) → SameName (variable_names F.vars) (variable_names G.vars) x y → (new_frame P limits f vs).places.vars x ≡ (new_frame P limits f vs).places.vars y
+    variables_agree : (x y : ℕ) → SameName (variable_names F.vars) (variable_names G.vars) x y → (new_frame P limits f vs).locations.vars x ≡ (new_frame P limits f vs).locations.vars y
     variables_agree x y h = ⊎_elim inside outside (cases_lt x F.args)
       where
-        inside : x < F.args → (new_frame P limits f vs).places.vars x ≡ (new_frame P limits f vs).places.vars y
+        inside : x < F.args → (new_frame P limits f vs).locations.vars x ≡ (new_frame P limits f vs).locations.vars y
         inside less =
             let few = G.formed.few_args in
             let both = (same_args f F G p q).count in
             let size = length-map G.vars (λ (v : VarInfo). v.name) in
-            ap (new_frame P limits f vs).places.vars (one_number (variable_names G.vars) (Differ-variables G) x y (omega arith) h.1 (sym (first_names x less) ∙ h.2))
+            ap (new_frame P limits f vs).locations.vars (one_number (variable_names G.vars) (Differ-variables G) x y (omega arith) h.1 (sym (first_names x less) ∙ h.2))
 
-        outside : F.args ≤ x → (new_frame P limits f vs).places.vars x ≡ (new_frame P limits f vs).places.vars y
+        outside : F.args ≤ x → (new_frame P limits f vs).locations.vars x ≡ (new_frame P limits f vs).locations.vars y
         outside less = ⊎_elim below above (cases_lt y F.args)
           where
-            below : y < F.args → (new_frame P limits f vs).places.vars x ≡ (new_frame P limits f vs).places.vars y
+            below : y < F.args → (new_frame P limits f vs).locations.vars x ≡ (new_frame P limits f vs).locations.vars y
             below yl =
                 let few = F.formed.few_args in
                 let size = length-map F.vars (λ (v : VarInfo). v.name) in
-                ap (new_frame P limits f vs).places.vars (one_number (variable_names F.vars) (Differ-variables F) x y h.0 (omega arith) (h.2 ∙ sym (first_names y yl)))
+                ap (new_frame P limits f vs).locations.vars (one_number (variable_names F.vars) (Differ-variables F) x y h.0 (omega arith) (h.2 ∙ sym (first_names y yl)))
 
-            above : F.args ≤ y → (new_frame P limits f vs).places.vars x ≡ (new_frame P limits f vs).places.vars y
+            above : F.args ≤ y → (new_frame P limits f vs).locations.vars x ≡ (new_frame P limits f vs).locations.vars y
             above yl = let m = many in arguments-past P limits 0 vs no_values x (omega arith) ∙ sym (arguments-past P limits 0 vs no_values y (omega arith))
 
-    places_agree : (a b : Location) → SameLocation (variable_names F.vars) (variable_names G.vars) a b → value_at (new_frame P limits f vs).places a ≡ value_at (new_frame P limits f vs).places b
-    places_agree (Variable x) (Variable y) h = ap (λ (o : Option Value). unwrap_or o (Int (pos 0))) (variables_agree x y h)
-    places_agree (Variable x) (Shadow y) h = absurd h
-    places_agree (Shadow x) (Variable y) h = absurd h
-    places_agree (Shadow x) (Shadow y) h = refl
+    locations_agree : (a b : Location) → SameLocation (variable_names F.vars) (variable_names G.vars) a b → value_at (new_frame P limits f vs).locations a ≡ value_at (new_frame P limits f vs).locations b
+    locations_agree (Variable x) (Variable y) h = ap (λ (o : Option Value). unwrap_or o (Int (pos 0))) (variables_agree x y h)
+    locations_agree (Variable x) (Shadow y) h = absurd h
+    locations_agree (Shadow x) (Variable y) h = absurd h
+    locations_agree (Shadow x) (Shadow y) h = refl
 
-  no_places : (a b : Location) (W : List (List ℕ)) → SameLocation [] W a b → ⊥
-  no_places (Variable x) (Variable y) W h = let l = h.0 in omega arith
-  no_places (Variable x) (Shadow y) W h = h
-  no_places (Shadow x) (Variable y) W h = h
-  no_places (Shadow x) (Shadow y) W h = let l = h.0 in omega arith
+  no_locations : (a b : Location) (W : List (List ℕ)) → SameLocation [] W a b → ⊥
+  no_locations (Variable x) (Variable y) W h = let l = h.0 in omega arith
+  no_locations (Variable x) (Shadow y) W h = h
+  no_locations (Shadow x) (Variable y) W h = h
+  no_locations (Shadow x) (Shadow y) W h = let l = h.0 in omega arith
 
-  fresh_agrees : (limits : Limits) (f : ℕ) (vs : List Value) → length vs ≡ length (types_of (slice_get P.funcs f)) → ValuesMatch (M.LocationsMatch f 0 0) (new_frame P limits f vs).places (new_frame P limits f vs).places
+  fresh_agrees : (limits : Limits) (f : ℕ) (vs : List Value) → length vs ≡ length (types_of (slice_get P.funcs f)) → ValuesMatch (M.LocationsMatch f 0 0) (new_frame P limits f vs).locations (new_frame P limits f vs).locations
   fresh_agrees limits f vs count a b h = by (slice_get P.funcs f) refl
     where
-      by : (o : Option Func) → slice_get P.funcs f ≡ o → value_at (new_frame P limits f vs).places a ≡ value_at (new_frame P limits f vs).places b
-      by None e = absurd (no_places a b (names_in (slice_get Q.funcs f)) (subst (λ o. SameLocation (names_in o) (names_in (slice_get Q.funcs f)) a b) e h.0))
+      by : (o : Option Func) → slice_get P.funcs f ≡ o → value_at (new_frame P limits f vs).locations a ≡ value_at (new_frame P limits f vs).locations b
+      by None e = absurd (no_locations a b (names_in (slice_get Q.funcs f)) (subst (λ o. SameLocation (names_in o) (names_in (slice_get Q.funcs f)) a b) e h.0))
       by (Some F) e =
           let g = partner P Q k.heads f F e in
-          places_agree limits f vs F g.0 e g.1 (subst (λ o. length vs ≡ length (types_of o)) e count) a b
+          locations_agree limits f vs F g.0 e g.1 (subst (λ o. length vs ≡ length (types_of o)) e count) a b
           (subst (λ o. SameLocation (variable_names F.vars) (names_in o) a b) g.1 (subst (λ o. SameLocation (names_in o) (names_in (slice_get Q.funcs f)) a b) e h.0))
 
   pub names_preserve : Preserves (plan P Q N) P Q

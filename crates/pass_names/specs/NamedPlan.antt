@@ -11,7 +11,7 @@ use Rattle.bril_tree.specs.declared.value.Value.{Value}
 use Rattle.bril_tree.specs.Run.{types_of}
 use Rattle.bril_tree.specs.Accepted.{IsAccepted}
 use Rattle.bril_tree.specs.Assigned.{assigns_at}
-use Rattle.bril_tree.specs.Edge.{Way, ways_at, onward}
+use Rattle.bril_tree.specs.Edge.{Branch, branches_at, onward}
 use Rattle.bril_tree.specs.Numbered.{variable_names, item_tree}
 use Rattle.bril_tree.specs.Operand.{Location, reads_of}
 use Rattle.bril_tree.specs.Sites.{sites_of}
@@ -63,9 +63,9 @@ module _ (P Q : Prog) (N : NamePlan) where
 
   -- What is known holds where a function begins and is kept along edges, from regular pairs of points on.
   pub record KeepsKnown : Type 0 where
-    pub start : (limits : Limits) (f : ℕ) (vs : List Value) → length vs ≡ length (types_of (slice_get P.funcs f)) → HoldsKnown (N.IsKnown f 0) (new_frame P limits f vs).places
-    pub learns : (f i j : ℕ) (w : Way) (a : Location) (v : Value) → IsReached (code_of P f) i → N.PointsMatch f i j → N.IsRegular f i j → In w (ways_at (code_of P f) i) → w.aborts ≡ false → N.IsKnown f w.to a v → IsLearned (item_at P f i) (N.IsKnown f i) a v
-    pub remembers : (f : ℕ) (w : Way) (a : Location) (v : Value) (walk : List Way) → IsWalk (code_of P f) walk → In w (ways_at (code_of P f) (end_of walk)) → w.aborts ≡ true → (s : ℕ) (sites : List ℕ) → sites_of (code_of P f) walk ≡ s ∷ sites → N.IsKnown f w.to a v → N.IsKnown f s a v
+    pub start : (limits : Limits) (f : ℕ) (vs : List Value) → length vs ≡ length (types_of (slice_get P.funcs f)) → HoldsKnown (N.IsKnown f 0) (new_frame P limits f vs).locations
+    pub learns : (f i j : ℕ) (w : Branch) (a : Location) (v : Value) → IsReached (code_of P f) i → N.PointsMatch f i j → N.IsRegular f i j → In w (branches_at (code_of P f) i) → w.aborts ≡ false → N.IsKnown f w.to a v → IsLearned (item_at P f i) (N.IsKnown f i) a v
+    pub remembers : (f : ℕ) (w : Branch) (a : Location) (v : Value) (walk : List Branch) → IsWalk (code_of P f) walk → In w (branches_at (code_of P f) (end_of walk)) → w.aborts ≡ true → (s : ℕ) (sites : List ℕ) → sites_of (code_of P f) walk ≡ s ∷ sites → N.IsKnown f w.to a v → N.IsKnown f s a v
 
   -- What a pass that keeps names proves.
   pub record KeepsNames : Type 0 where
@@ -73,13 +73,13 @@ module _ (P Q : Prog) (N : NamePlan) where
     -- points: the starts match, and the next points and the labels of one name after a regular pair
     pub start : (f : ℕ) → N.PointsMatch f 0 0
     pub same : (f i j : ℕ) → IsReached (code_of P f) i → N.PointsMatch f i j → N.IsRegular f i j → tree_at P f i ≡ tree_at Q f j
-    pub next : (f i j : ℕ) → IsReached (code_of P f) i → N.PointsMatch f i j → N.IsRegular f i j → In (onward i) (ways_at (code_of P f) i) → N.PointsMatch f (suc i) (suc j)
+    pub next : (f i j : ℕ) → IsReached (code_of P f) i → N.PointsMatch f i j → N.IsRegular f i j → In (onward i) (branches_at (code_of P f) i) → N.PointsMatch f (suc i) (suc j)
     pub labels : (f i j : ℕ) (name : List ℕ) → IsReached (code_of P f) i → tree_at P f i ≡ Some (item.Label name) → tree_at Q f j ≡ Some (item.Label name) → N.PointsMatch f i j
     -- locations: what an item reads matters, and what matters after an edge mattered before it or is assigned
     pub reads : (f i j : ℕ) (a : Instr) (x : Location) → IsReached (code_of P f) i → N.PointsMatch f i j → N.IsRegular f i j → item_at P f i ≡ Some a → In x (reads_of a) → N.Matters f i x
-    pub flows : (f i : ℕ) (w : Way) (x : Location) → IsReached (code_of P f) i → In w (ways_at (code_of P f) i) → w.aborts ≡ false → N.Matters f w.to x → (In x (assigns_at (item_at P f i)) → ⊥) → N.Matters f i x
+    pub flows : (f i : ℕ) (w : Branch) (x : Location) → IsReached (code_of P f) i → In w (branches_at (code_of P f) i) → w.aborts ≡ false → N.Matters f w.to x → (In x (assigns_at (item_at P f i)) → ⊥) → N.Matters f i x
     -- what matters after an abort mattered at the newest open site
-    pub back : (f : ℕ) (w : Way) (x : Location) (walk : List Way) → IsWalk (code_of P f) walk → In w (ways_at (code_of P f) (end_of walk)) → w.aborts ≡ true → (s : ℕ) (sites : List ℕ) → sites_of (code_of P f) walk ≡ s ∷ sites → N.Matters f w.to x → N.Matters f s x
+    pub back : (f : ℕ) (w : Branch) (x : Location) (walk : List Branch) → IsWalk (code_of P f) walk → In w (branches_at (code_of P f) (end_of walk)) → w.aborts ≡ true → (s : ℕ) (sites : List ℕ) → sites_of (code_of P f) walk ≡ s ∷ sites → N.Matters f w.to x → N.Matters f s x
     pub known : KeepsKnown
 
 -- A pass that keeps names has a plan that is preserved.

@@ -12,37 +12,37 @@ use Rattle.bril_tree.specs.declared.types.Ty.{Ty}
 use Rattle.bril_tree.specs.declared.value.Value.{Value}
 use Rattle.bril_tree.specs.declared.value.Lit.{Lit}
 use Rattle.bril_tree.specs.Assigned.{assigns_of}
-use Rattle.bril_tree.specs.Edge.{Way, item_ways, onward}
+use Rattle.bril_tree.specs.Edge.{Branch, item_branches, onward}
 use Rattle.bril_tree.specs.FunctionForm.{listed}
 use Rattle.bril_tree.specs.Operand.{Location, Variable, Shadow, dest_of, reads_of, shadow_of}
-use Rattle.bril_tree.specs.Outcome.{Outcome, Gives, Fails, Acts, outcome_of, action_outcome, computed, argument, shadow_given}
+use Rattle.bril_tree.specs.Outcome.{Outcome, Yields, FaultsWith, HasEffect, outcome_of, action_outcome, computed, argument, shadow_given}
 use Rattle.bril_tree.specs.Shape.{Shape, same, is_shaped, is_action_shaped, fits_shape, shape_of}
 use Rattle.bril_tree.specs.Sites.{Keeps, item_change}
-use Rattle.bril_tree.specs.State.{Places, Values, read}
+use Rattle.bril_tree.specs.State.{Locals, Values, read}
 use Rattle.pass_plan.specs.Plan.{value_at, ValuesMatch, ActionsMatch, ItemsMatch}
 use Rattle.pass_plan.proofs.Values.{read-agree, shadow-agree, read_at-agree}
 
 -- ---- items that give a value go on to the next point, and assign their destination
 
 pub record GoesOn (item : Instr) : Type 0 where
-  pub ways : (code : List Instr) (point : ℕ) → item_ways code point item ≡ onward point ∷ []
+  pub branches : (code : List Instr) (point : ℕ) → item_branches code point item ≡ onward point ∷ []
   pub keeps : (aborts : Bool) → item_change (Some item) aborts ≡ Keeps
   pub assigns : assigns_of item ≡ map Variable (listed (dest_of item))
 
-act-goes_on : (o : Op) (dest : Option ℕ) (ty : Option Ty) (args funcs labels : List ℕ) (places : Places) (v : Value) → action_outcome o dest ty args places ≡ Gives v → GoesOn (Act dest ty o args funcs labels)
-act-goes_on op.Jmp dest ty args funcs labels places v e = absurd (cc)
-act-goes_on op.Br dest ty args funcs labels places v e = absurd (cc)
-act-goes_on op.Ret dest ty args funcs labels places v e = absurd (cc)
-act-goes_on op.Guard dest ty args funcs labels places v e = absurd (cc)
-act-goes_on op.Set dest ty args funcs labels places v e = absurd (cc)
-act-goes_on op.Speculate dest ty args funcs labels places v e = absurd (cc)
-act-goes_on op.Commit dest ty args funcs labels places v e = absurd (cc)
-act-goes_on _ dest ty args funcs labels places v e = record { ways = λ code point. refl; keeps = λ b. refl; assigns = refl }
+act-goes_on : (o : Op) (dest : Option ℕ) (ty : Option Ty) (args funcs labels : List ℕ) (locations : Locals) (v : Value) → action_outcome o dest ty args locations ≡ Yields v → GoesOn (Act dest ty o args funcs labels)
+act-goes_on op.Jmp dest ty args funcs labels locations v e = absurd (cc)
+act-goes_on op.Br dest ty args funcs labels locations v e = absurd (cc)
+act-goes_on op.Ret dest ty args funcs labels locations v e = absurd (cc)
+act-goes_on op.Guard dest ty args funcs labels locations v e = absurd (cc)
+act-goes_on op.Set dest ty args funcs labels locations v e = absurd (cc)
+act-goes_on op.Speculate dest ty args funcs labels locations v e = absurd (cc)
+act-goes_on op.Commit dest ty args funcs labels locations v e = absurd (cc)
+act-goes_on _ dest ty args funcs labels locations v e = record { branches = λ code point. refl; keeps = λ b. refl; assigns = refl }
 
-pub giver-goes_on : (item : Instr) (places : Places) (v : Value) → outcome_of item places ≡ Gives v → GoesOn item
-giver-goes_on (Label l) places v e = absurd (cc)
-giver-goes_on (Const dest ty value) places v e = record { ways = λ code point. refl; keeps = λ b. refl; assigns = refl }
-giver-goes_on (Act dest ty o args funcs labels) places v e = act-goes_on o dest ty args funcs labels places v e
+pub giver-goes_on : (item : Instr) (locations : Locals) (v : Value) → outcome_of item locations ≡ Yields v → GoesOn item
+giver-goes_on (Label l) locations v e = absurd (cc)
+giver-goes_on (Const dest ty value) locations v e = record { branches = λ code point. refl; keeps = λ b. refl; assigns = refl }
+giver-goes_on (Act dest ty o args funcs labels) locations v e = act-goes_on o dest ty args funcs labels locations v e
 
 -- ---- shapes
 
@@ -98,12 +98,12 @@ computed-same returns op.Or ty dest n funcs labels a b x y s h = both op.Or ty n
 computed-same returns op.PtrAdd ty dest n funcs labels a b x y s h = both op.PtrAdd ty n a b x y h (shape-parts (shape_of returns op.PtrAdd) dest n funcs labels s).args_are
 computed-same returns _ ty dest n funcs labels a b x y s h = refl
 
-module _ (A : Location → Location → Type 0) (p q : Places) (agree : ValuesMatch A p q) where
+module _ (A : Location → Location → Type 0) (p q : Locals) (agree : ValuesMatch A p q) where
   given-same : (d e : Option ℕ) → is_some d ≡ is_some e → AllZip A (shadow_of d) (shadow_of e) → shadow_given p d ≡ shadow_given q e
   given-same None None s h = refl
   given-same None (Some y) s h = absurd (cc)
   given-same (Some x) None s h = absurd (cc)
-  given-same (Some x) (Some y) s h = ap Gives (shadow-agree A A p q agree x y h.0)
+  given-same (Some x) (Some y) s h = ap Yields (shadow-agree A A p q agree x y h.0)
 
   pub action-same : (returns : Bool) (o : Op) (d e : Option ℕ) (s t : Option Ty) (args result_args fs gs : List ℕ) (labels : ℕ) → is_action_shaped returns o (is_some d) (length args) (length fs) labels ≡ true → ActionsMatch A o o d e s t args result_args fs gs
       → action_outcome o d s args p ≡ action_outcome o e t result_args q

@@ -1,4 +1,4 @@
--- Places after an assignment.
+-- Locations after an assignment.
 use Rattle.std.proofs.Common.{◌≡◌, ◌⊎◌, ℕ, suc, Bool, true, false, List, [], ◌∷◌, ◌++◌, length, map, Option, Some, None, refl, sym, ap, subst, ◌∙◌, inl, inr, cond, arith, ◌<◌, zero, pos}
 use Rattle.std.specs.Prelude.{slice_get, slice_index, ◌==◌, is_some, unwrap_or}
 use Rattle.std.specs.List.{AllZip}
@@ -7,7 +7,7 @@ use Rattle.bril_tree.specs.declared.value.Value.{Value}
 use Rattle.bril_tree.specs.declared.value.Value.TheVariants.{Int}
 use Rattle.bril_tree.specs.FunctionForm.{listed}
 use Rattle.bril_tree.specs.Operand.{Location, Variable, Shadow}
-use Rattle.bril_tree.specs.State.{Places, Values, read, with_value}
+use Rattle.bril_tree.specs.State.{Locals, Values, read, with_value}
 use Rattle.bril_tree.specs.Step.{assigned, shadowed}
 use Rattle.flow_graph.proofs.Members.{In}
 use Rattle.pass_plan.specs.Plan.{value_at, ValuesMatch, HoldsKnown, StaysMatched}
@@ -26,19 +26,19 @@ with-other values x y v n = by_test (y == x) refl
     by_test true e = absurd (n (eqb-true y x e))
     by_test false e = ap (λ b. cond b (Some v) (values y)) e
 
-pub assigned-same : (x : ℕ) (v : Value) (p : Places) (a : Location) → a ≡ Variable x → value_at (assigned (Some x) v p) a ≡ v
+pub assigned-same : (x : ℕ) (v : Value) (p : Locals) (a : Location) → a ≡ Variable x → value_at (assigned (Some x) v p) a ≡ v
 assigned-same x v p (Variable y) e = let s : y ≡ x = cc in ap (λ (o : Option Value). unwrap_or o (Int (pos 0))) (ap (λ z. with_value p.vars x v z) s ∙ with-same p.vars x v)
 assigned-same x v p (Shadow y) e = absurd (cc)
 
-pub assigned-other : (x : ℕ) (v : Value) (p : Places) (a : Location) → (a ≡ Variable x → ⊥) → value_at (assigned (Some x) v p) a ≡ value_at p a
+pub assigned-other : (x : ℕ) (v : Value) (p : Locals) (a : Location) → (a ≡ Variable x → ⊥) → value_at (assigned (Some x) v p) a ≡ value_at p a
 assigned-other x v p (Variable y) n = ap (λ (o : Option Value). unwrap_or o (Int (pos 0))) (with-other p.vars x y v (λ e. n (ap Variable e)))
 assigned-other x v p (Shadow y) n = refl
 
-pub shadowed-same : (x : ℕ) (v : Value) (p : Places) (a : Location) → a ≡ Shadow x → value_at (shadowed x v p) a ≡ v
+pub shadowed-same : (x : ℕ) (v : Value) (p : Locals) (a : Location) → a ≡ Shadow x → value_at (shadowed x v p) a ≡ v
 shadowed-same x v p (Shadow y) e = let s : y ≡ x = cc in ap (λ (o : Option Value). unwrap_or o (Int (pos 0))) (ap (λ z. with_value p.shadows x v z) s ∙ with-same p.shadows x v)
 shadowed-same x v p (Variable y) e = absurd (cc)
 
-pub shadowed-other : (x : ℕ) (v : Value) (p : Places) (a : Location) → (a ≡ Shadow x → ⊥) → value_at (shadowed x v p) a ≡ value_at p a
+pub shadowed-other : (x : ℕ) (v : Value) (p : Locals) (a : Location) → (a ≡ Shadow x → ⊥) → value_at (shadowed x v p) a ≡ value_at p a
 shadowed-other x v p (Shadow y) n = ap (λ (o : Option Value). unwrap_or o (Int (pos 0))) (with-other p.shadows x y v (λ e. n (ap Shadow e)))
 shadowed-other x v p (Variable y) n = refl
 
@@ -46,7 +46,7 @@ only : {X : Type 0} (a b : X) → In a (b ∷ []) → a ≡ b
 only a b (inl e) = e
 only a b (inr h) = absurd h
 
-module _ (A B : Location → Location → Type 0) (p q : Places) (agree : ValuesMatch A p q) where
+module _ (A B : Location → Location → Type 0) (p q : Locals) (agree : ValuesMatch A p q) where
   -- nothing is assigned
   pub agree-none : ((a b : Location) → B a b → StaysMatched [] [] A a b) → ValuesMatch B p q
   agree-none kept a b h = by (kept a b h)
@@ -94,7 +94,7 @@ module _ (A B : Location → Location → Type 0) (p q : Places) (agree : Values
   read_at-agree (x ∷ xs) (y ∷ ys) (suc k) l h = read_at-agree xs ys k (omega arith) h.1
 
 -- what is known after an assignment
-module _ (K L : Location → Value → Type 0) (p : Places) (holds : HoldsKnown K p) where
+module _ (K L : Location → Value → Type 0) (p : Locals) (holds : HoldsKnown K p) where
   pub holds-assigned : (d : Option ℕ) (v : Value) → ((a : Location) (u : Value) → L a u → ((In a (map Variable (listed d)) → ⊥) × K a u) ⊎ (In a (map Variable (listed d)) × (v ≡ u))) → HoldsKnown L (assigned d v p)
   holds-assigned None v learned a u l = by (learned a u l)
     where

@@ -8,7 +8,7 @@ use Rattle.bril_tree.specs.declared.numbered.Instr.TheVariants.{Label, Const, Ac
 use Rattle.bril_tree.specs.declared.program.Prog.{Prog}
 use Rattle.bril_tree.specs.declared.value.Value.{Value}
 use Rattle.bril_tree.specs.Assigned.{assigns_at}
-use Rattle.bril_tree.specs.Edge.{Way, ways_at, ways_from}
+use Rattle.bril_tree.specs.Edge.{Branch, branches_at, branches_from}
 use Rattle.bril_tree.specs.Operand.{Location, reading_of, locations_read}
 use Rattle.bril_tree.specs.Run.{types_of}
 use Rattle.bril_tree.specs.Sites.{sites_of}
@@ -61,7 +61,7 @@ module _ (m : Plan) (X : (f i j : ℕ) → Location → Location → Type 0) whe
         let st = c.steps f i j reached points regular in
         record {
           same = same-wider (m.LocationsMatch f i j) ((wide m X).LocationsMatch f i j) (λ x y h. inl h) (item_at P f i) (item_at Q f j) st.same;
-          ways = zip-wider (EdgesMatch m P Q f i j (item_at P f i) (item_at Q f j)) (EdgesMatch (wide m X) P Q f i j (item_at P f i) (item_at Q f j)) (ways_at (code_of P f) i) (ways_at (code_of Q f) j) st.ways
+          branches = zip-wider (EdgesMatch m P Q f i j (item_at P f i) (item_at Q f j)) (EdgesMatch (wide m X) P Q f i j (item_at P f i) (item_at Q f j)) (branches_at (code_of P f) i) (branches_at (code_of Q f) j) st.branches
               (λ a b i' k' al. record {
                 aborts = al.aborts;
                 points = al.points;

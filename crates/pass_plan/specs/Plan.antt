@@ -11,12 +11,12 @@ use Rattle.bril_tree.specs.declared.program.Prog.{Prog}
 use Rattle.bril_tree.specs.declared.types.Ty.{Ty}
 use Rattle.bril_tree.specs.declared.value.Value.{Value}
 use Rattle.bril_tree.specs.Assigned.{assigns_at}
-use Rattle.bril_tree.specs.Edge.{Way, ways_from}
+use Rattle.bril_tree.specs.Edge.{Branch, branches_from}
 use Rattle.bril_tree.specs.Operand.{Location, Variable, Shadow, locations_read, reading_of}
-use Rattle.bril_tree.specs.Outcome.{Gives, outcome_of, argument}
+use Rattle.bril_tree.specs.Outcome.{Yields, outcome_of, argument}
 use Rattle.bril_tree.specs.Run.{types_of, main_types}
 use Rattle.bril_tree.specs.Sites.{sites_of}
-use Rattle.bril_tree.specs.State.{Places, Frame, State, read}
+use Rattle.bril_tree.specs.State.{Locals, Frame, State, read}
 use Rattle.bril_tree.specs.Step.{code_of, item_at, new_frame}
 use Rattle.bril_tree.specs.Walk.{IsWalk, IsReached, end_of}
 use Rattle.flow_graph.proofs.Members.{In}
@@ -35,27 +35,27 @@ pub record Plan : Type 1 where
 -- ---- what locations hold
 
 -- what is read of a location: one that was never assigned reads as the int 0
-abbrev pub value_at : Places → Location → Value
+abbrev pub value_at : Locals → Location → Value
 value_at p (Variable x) = read p.vars x
 value_at p (Shadow x) = read p.shadows x
 
 -- locations that match hold the same
-abbrev pub ValuesMatch : (Location → Location → Type 0) → Places → Places → Type 0
+abbrev pub ValuesMatch : (Location → Location → Type 0) → Locals → Locals → Type 0
 ValuesMatch A p q = (a b : Location) → A a b → value_at p a ≡ value_at q b
 
 -- what is known is so
-abbrev pub HoldsKnown : (Location → Value → Type 0) → Places → Type 0
+abbrev pub HoldsKnown : (Location → Value → Type 0) → Locals → Type 0
 HoldsKnown K p = (a : Location) (v : Value) → K a v → value_at p a ≡ v
 
 -- what an item writes to the location that it assigns
-abbrev pub Writes : Option Instr → Places → Value → Type 0
+abbrev pub Writes : Option Instr → Locals → Value → Type 0
 Writes None p v = ⊥
 Writes (Some (Act d ty op.Set args fns ls)) p v = argument p args 1 ≡ v
-Writes (Some item) p v = outcome_of item p ≡ Gives v
+Writes (Some item) p v = outcome_of item p ≡ Yields v
 
 -- the value was known before and the item doesn't assign the location, or the item writes it, as follows from what was known
 abbrev pub IsLearned : Option Instr → (Location → Value → Type 0) → Location → Value → Type 0
-IsLearned o K a v = ((In a (assigns_at o) → ⊥) × K a v) ⊎ (In a (assigns_at o) × ((p : Places) → HoldsKnown K p → Writes o p v))
+IsLearned o K a v = ((In a (assigns_at o) → ⊥) × K a v) ⊎ (In a (assigns_at o) × ((p : Locals) → HoldsKnown K p → Writes o p v))
 
 -- ---- items
 
@@ -96,19 +96,19 @@ StaysMatched ps qs A a b = (In a ps × In b qs) ⊎ ((In a ps → ⊥) × (In b 
 module _ (m : Plan) (P Q : Prog) where
   -- Two edges, from items o and u, lead to matching points. What matches there matched before, or is assigned on both
   -- sides. Along an abort it matched at the newest open site, where what is put back was saved.
-  pub record EdgesMatch (f i j : ℕ) (o u : Option Instr) (w v : Way) : Type 0 where
+  pub record EdgesMatch (f i j : ℕ) (o u : Option Instr) (w v : Branch) : Type 0 where
     pub aborts : w.aborts ≡ v.aborts
     pub points : m.PointsMatch f w.to v.to
     pub kept : w.aborts ≡ false → (a b : Location) → m.LocationsMatch f w.to v.to a b → StaysMatched (assigns_at o) (assigns_at u) (m.LocationsMatch f i j) a b
-    pub back : w.aborts ≡ true → (walk : List Way) → IsWalk (code_of P f) walk → end_of walk ≡ i → (s t : ℕ) (sites : List ℕ) → sites_of (code_of P f) walk ≡ s ∷ sites → m.PointsMatch f s t → m.IsRegular f s t →
+    pub back : w.aborts ≡ true → (walk : List Branch) → IsWalk (code_of P f) walk → end_of walk ≡ i → (s t : ℕ) (sites : List ℕ) → sites_of (code_of P f) walk ≡ s ∷ sites → m.PointsMatch f s t → m.IsRegular f s t →
         (a b : Location) → m.LocationsMatch f w.to v.to a b → m.LocationsMatch f s t a b
     -- what is known after the edge is learned from what was known before, or was known at the newest open site
     pub learns : w.aborts ≡ false → (a : Location) (v : Value) → m.IsKnown f w.to a v → IsLearned o (m.IsKnown f i) a v
-    pub remembers : w.aborts ≡ true → (walk : List Way) → IsWalk (code_of P f) walk → end_of walk ≡ i → (s : ℕ) (sites : List ℕ) → sites_of (code_of P f) walk ≡ s ∷ sites → (a : Location) (v : Value) → m.IsKnown f w.to a v → m.IsKnown f s a v
+    pub remembers : w.aborts ≡ true → (walk : List Branch) → IsWalk (code_of P f) walk → end_of walk ≡ i → (s : ℕ) (sites : List ℕ) → sites_of (code_of P f) walk ≡ s ∷ sites → (a : Location) (v : Value) → m.IsKnown f w.to a v → m.IsKnown f s a v
 
   pub record StepsMatch (f i j : ℕ) (o u : Option Instr) : Type 0 where
     pub same : PointItemsMatch (m.LocationsMatch f i j) o u
-    pub ways : AllZip (EdgesMatch f i j o u) (ways_from (code_of P f) i o) (ways_from (code_of Q f) j u)
+    pub branches : AllZip (EdgesMatch f i j o u) (branches_from (code_of P f) i o) (branches_from (code_of Q f) j u)
 
   -- What a pass proves of its plan.
   pub record Preserves : Type 0 where
@@ -116,14 +116,14 @@ module _ (m : Plan) (P Q : Prog) where
     pub types : main_types P ≡ main_types Q
     pub start : (f : ℕ) → m.PointsMatch f 0 0
     -- what matches where a function begins holds the same, whatever the arguments
-    pub fresh : (limits : Limits) (f : ℕ) (vs : List Value) → length vs ≡ length (types_of (slice_get P.funcs f)) → ValuesMatch (m.LocationsMatch f 0 0) (new_frame P limits f vs).places (new_frame P limits f vs).places
-    pub start_known : (limits : Limits) (f : ℕ) (vs : List Value) → length vs ≡ length (types_of (slice_get P.funcs f)) → HoldsKnown (m.IsKnown f 0) (new_frame P limits f vs).places
+    pub fresh : (limits : Limits) (f : ℕ) (vs : List Value) → length vs ≡ length (types_of (slice_get P.funcs f)) → ValuesMatch (m.LocationsMatch f 0 0) (new_frame P limits f vs).locations (new_frame P limits f vs).locations
+    pub start_known : (limits : Limits) (f : ℕ) (vs : List Value) → length vs ≡ length (types_of (slice_get P.funcs f)) → HoldsKnown (m.IsKnown f 0) (new_frame P limits f vs).locations
     pub steps : (f i j : ℕ) → IsReached (code_of P f) i → m.PointsMatch f i j → m.IsRegular f i j → StepsMatch f i j (item_at P f i) (item_at Q f j)
 
   -- ---- states
 
   -- the saves of two frames, each matched at its own site
-  abbrev pub SavesMatch : ℕ → List ℕ → List Places → List Places → Type 0
+  abbrev pub SavesMatch : ℕ → List ℕ → List Locals → List Locals → Type 0
   SavesMatch f [] [] [] = Unit {0}
   SavesMatch f [] [] (q ∷ qs) = ⊥
   SavesMatch f [] (p ∷ ps) qs = ⊥
@@ -132,18 +132,18 @@ module _ (m : Plan) (P Q : Prog) where
   SavesMatch f (s ∷ sites) (p ∷ ps) (q ∷ qs) = ((t : ℕ) × m.PointsMatch f s t × m.IsRegular f s t × ValuesMatch (m.LocationsMatch f s t) p q × HoldsKnown (m.IsKnown f s) p) × SavesMatch f sites ps qs
 
   -- what two frames of a function hold, at matching points, the first at the end of a walk
-  pub record ContentsMatch (f i j : ℕ) (p q : Places) (ps qs : List Places) : Type 0 where
-    pub walk : List Way
+  pub record ContentsMatch (f i j : ℕ) (p q : Locals) (ps qs : List Locals) : Type 0 where
+    pub walk : List Branch
     pub is : IsWalk (code_of P f) walk
     pub ends : end_of walk ≡ i
     pub points : m.PointsMatch f i j
-    pub places : ValuesMatch (m.LocationsMatch f i j) p q
+    pub locations : ValuesMatch (m.LocationsMatch f i j) p q
     pub known : HoldsKnown (m.IsKnown f i) p
     pub saves : SavesMatch f (sites_of (code_of P f) walk) ps qs
 
   pub record FramesMatch (f g : Frame) : Type 0 where
     pub function : f.function ≡ g.function
-    pub contents : ContentsMatch f.function f.point g.point f.places g.places f.saves g.saves
+    pub contents : ContentsMatch f.function f.point g.point f.locations g.locations f.saves g.saves
 
   -- the item is a call of the function
   pub record IsCallOf (callee : ℕ) (item : Option Instr) : Type 0 where

@@ -4,7 +4,7 @@ use Rattle.bril_tree.specs.declared.limits.Limits.{Limits}
 use Rattle.bril_tree.specs.declared.program.Prog.{Prog}
 use Rattle.bril_tree.specs.declared.value.Value.{Value}
 use Rattle.bril_tree.specs.Assigned.{assigns_at}
-use Rattle.bril_tree.specs.Edge.{Way, ways_at}
+use Rattle.bril_tree.specs.Edge.{Branch, branches_at}
 use Rattle.bril_tree.specs.Operand.{Location}
 use Rattle.bril_tree.specs.Run.{types_of}
 use Rattle.bril_tree.specs.Sites.{sites_of}
@@ -19,11 +19,11 @@ module _ (m : Plan) (X : (f i j : ℕ) → Location → Location → Type 0) whe
 
   -- what is asked of the locations that match besides
   pub record Widens (P Q : Prog) : Type 0 where
-    pub fresh : (limits : Limits) (f : ℕ) (vs : List Value) → length vs ≡ length (types_of (slice_get P.funcs f)) → ValuesMatch (X f 0 0) (new_frame P limits f vs).places (new_frame P limits f vs).places
-    pub kept : (f i j : ℕ) → IsReached (code_of P f) i → m.PointsMatch f i j → m.IsRegular f i j → (w v : Way) → In w (ways_at (code_of P f) i) → In v (ways_at (code_of Q f) j) → w.aborts ≡ false → (a b : Location) → X f w.to v.to a b
+    pub fresh : (limits : Limits) (f : ℕ) (vs : List Value) → length vs ≡ length (types_of (slice_get P.funcs f)) → ValuesMatch (X f 0 0) (new_frame P limits f vs).locations (new_frame P limits f vs).locations
+    pub kept : (f i j : ℕ) → IsReached (code_of P f) i → m.PointsMatch f i j → m.IsRegular f i j → (w v : Branch) → In w (branches_at (code_of P f) i) → In v (branches_at (code_of Q f) j) → w.aborts ≡ false → (a b : Location) → X f w.to v.to a b
         → StaysMatched (assigns_at (item_at P f i)) (assigns_at (item_at Q f j)) (wide.LocationsMatch f i j) a b
-    pub back : (f i j : ℕ) → IsReached (code_of P f) i → m.PointsMatch f i j → m.IsRegular f i j → (w v : Way) → In w (ways_at (code_of P f) i) → In v (ways_at (code_of Q f) j) → w.aborts ≡ true
-        → (walk : List Way) → IsWalk (code_of P f) walk → end_of walk ≡ i → (s t : ℕ) (sites : List ℕ) → sites_of (code_of P f) walk ≡ s ∷ sites → m.PointsMatch f s t → m.IsRegular f s t → (a b : Location) → X f w.to v.to a b → wide.LocationsMatch f s t a b
+    pub back : (f i j : ℕ) → IsReached (code_of P f) i → m.PointsMatch f i j → m.IsRegular f i j → (w v : Branch) → In w (branches_at (code_of P f) i) → In v (branches_at (code_of Q f) j) → w.aborts ≡ true
+        → (walk : List Branch) → IsWalk (code_of P f) walk → end_of walk ≡ i → (s t : ℕ) (sites : List ℕ) → sites_of (code_of P f) walk ≡ s ∷ sites → m.PointsMatch f s t → m.IsRegular f s t → (a b : Location) → X f w.to v.to a b → wide.LocationsMatch f s t a b
 
 -- A plan that is preserved is so with more matching locations, where they keep their values by themselves.
 abbrev pub WideningPreserves : (Prog → Prog → Plan) → (Prog → Prog → (f i j : ℕ) → Location → Location → Type 0) → Type 0

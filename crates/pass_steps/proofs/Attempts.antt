@@ -10,8 +10,8 @@ use Rattle.bril_tree.specs.declared.program.Prog.{Prog}
 use Rattle.bril_tree.specs.declared.value.Value.{Value}
 use Rattle.bril_tree.specs.Accepted.{IsAccepted}
 use Rattle.bril_tree.specs.Memory.{cell_at, held}
-use Rattle.bril_tree.specs.Outcome.{Outcome, Gives, Fails, Acts, outcome_of, argument}
-use Rattle.bril_tree.specs.State.{Places, Frame, State}
+use Rattle.bril_tree.specs.Outcome.{Outcome, Yields, FaultsWith, HasEffect, outcome_of, argument}
+use Rattle.bril_tree.specs.State.{Locals, Frame, State}
 use Rattle.bril_tree.specs.Step.{item_at, loads, loads_held, acts, by_outcome, item_step, frames_step, running_step, step}
 use Rattle.pass_plan.specs.Plan.{Plan, Preserves, StatesMatch}
 use Rattle.pass_steps.proofs.Steps.{regular_steps_match}
@@ -37,14 +37,14 @@ is_attempted (Const d ty v) = true
 is_attempted (Act d ty o args fns ls) = is_attempted_operation o
 
 -- the newest frame with other saves
-abbrev pub frames_with_saves : List Places → List Frame → List Frame
+abbrev pub frames_with_saves : List Locals → List Frame → List Frame
 frames_with_saves qs [] = []
 frames_with_saves qs (f ∷ fs) = record f { saves = qs } ∷ fs
 
-abbrev pub with_saves : List Places → State → State
+abbrev pub with_saves : List Locals → State → State
 with_saves qs t = record t { frames = frames_with_saves qs t.frames }
 
-module _ (Q : Prog) (limits : Limits) (qs : List Places) (G : Frame) (gs : List Frame) (t : State) where
+module _ (Q : Prog) (limits : Limits) (qs : List Locals) (G : Frame) (gs : List Frame) (t : State) where
   loaded : (o : Option Value) (d : Option ℕ) → loads_held Q limits o d (record G { saves = qs }) gs (with_saves qs t) ≡ with_saves qs (loads_held Q limits o d G gs t)
   loaded None d = refl
   loaded (Some v) d = refl
@@ -65,22 +65,22 @@ module _ (Q : Prog) (limits : Limits) (qs : List Places) (G : Frame) (gs : List 
   acting op.Guard d args fns ls e = absurd cc
   acting op.Jmp d args fns ls e = absurd cc
   acting op.Br d args fns ls e = absurd cc
-  acting op.Load d args fns ls e = loading (cell_at t.blocks (argument G.places args 0)) (argument G.places args 0) d
+  acting op.Load d args fns ls e = loading (cell_at t.blocks (argument G.locations args 0)) (argument G.locations args 0) d
   acting _ d args fns ls e = refl
 
   by : (o : Outcome) (b : Instr) → is_attempted b ≡ true → by_outcome Q limits o b (record G { saves = qs }) gs (with_saves qs t) ≡ with_saves qs (by_outcome Q limits o b G gs t)
-  by (Gives v) b e = refl
-  by (Fails kind) b e = refl
-  by Acts (Label l) e = refl
-  by Acts (Const d ty v) e = refl
-  by Acts (Act d ty o args fns ls) e = acting o d args fns ls e
+  by (Yields v) b e = refl
+  by (FaultsWith kind) b e = refl
+  by HasEffect (Label l) e = refl
+  by HasEffect (Const d ty v) e = refl
+  by HasEffect (Act d ty o args fns ls) e = acting o d args fns ls e
 
   pub attempted-step : (b : Instr) → is_attempted b ≡ true → item_step Q limits (Some b) (record G { saves = qs }) gs (with_saves qs t) ≡ with_saves qs (item_step Q limits (Some b) G gs t)
-  attempted-step b e = by (outcome_of b G.places) b e
+  attempted-step b e = by (outcome_of b G.locations) b e
 
 -- inside an attempt both programs make a laid step, with the snapshot left out of the relation
 module _ (m : Plan) (P Q : Prog) (limits : Limits) (accepted : IsAccepted P) (preserves : Preserves m P Q) where
-  pub attempted_steps_match : (s t : State) (qs : List Places) (G : Frame) (gs : List Frame) → t.frames ≡ G ∷ gs → t.ended ≡ None → (b : Instr) → item_at Q G.function G.point ≡ Some b → is_attempted b ≡ true → (r : StatesMatch m P Q s (with_saves qs t)) → s.ended ≡ None
+  pub attempted_steps_match : (s t : State) (qs : List Locals) (G : Frame) (gs : List Frame) → t.frames ≡ G ∷ gs → t.ended ≡ None → (b : Instr) → item_at Q G.function G.point ≡ Some b → is_attempted b ≡ true → (r : StatesMatch m P Q s (with_saves qs t)) → s.ended ≡ None
       → m.IsRegular r.frame.function r.frame.point r.result_frame.point → StatesMatch m P Q (step P limits s) (with_saves qs (step Q limits t))
   attempted_steps_match s t qs G gs framed runs b at laid r srun regular =
       let both = regular_steps_match m P Q limits accepted preserves s (with_saves qs t) r srun regular in

@@ -23,16 +23,16 @@ use Rattle.bril_tree.specs.declared.value.Value.{Value}
 use Rattle.bril_tree.specs.declared.value.Value.TheVariants.{Ptr}
 use Rattle.bril_tree.specs.Accepted.{IsAccepted, IsAcceptedFunction}
 use Rattle.bril_tree.specs.Assigned.{assigns_of, assigns_at}
-use Rattle.bril_tree.specs.Edge.{Way, ways_at, ways_from, item_ways, onward, jump, abort}
+use Rattle.bril_tree.specs.Edge.{Branch, branches_at, branches_from, item_branches, onward, jump, abort}
 use Rattle.bril_tree.specs.FunctionForm.{listed}
 use Rattle.bril_tree.specs.Memory.{is_live_any, cell_at, held, live_block, is_freeable, changed_block, allocation_fault, new_block, cells_of}
 use Rattle.bril_tree.specs.Operand.{Location, Variable, Shadow, dest_of, reads_of}
-use Rattle.bril_tree.specs.Outcome.{undefined, divided, char_from, moved, fits_32, is_scalar, shadow_given, Outcome, Gives, Fails, Acts, outcome_of, action_outcome, argument, block_of, offset_of, int_of, bool_of}
+use Rattle.bril_tree.specs.Outcome.{undefined, divided, char_from, moved, fits_32, is_scalar, shadow_given, Outcome, Yields, FaultsWith, HasEffect, outcome_of, action_outcome, argument, block_of, offset_of, int_of, bool_of}
 use Rattle.bril_tree.specs.Run.{types_of, first_state}
 use Rattle.bril_tree.specs.Shape.{Shape, same, is_shaped, is_action_shaped, fits_shape, shape_of}
 use Rattle.bril_tree.specs.Sites.{AreSitesSound, AreFirstSites, NoSite, needs_site, Keeps, item_change, sites_changed, sites_of, without_newest}
-use Rattle.bril_tree.specs.State.{Places, Frame, Block, State, Values, read, no_values, with_value}
-use Rattle.bril_tree.specs.Step.{items_of, code_of, item_at, point_of, at_point, advanced, with_places, assigned, shadowed, faulted, gives, passes, jumps, ends, awaited, returns, arguments_from, new_frame, calls, line_of, prints, allocates, frees, stores, loads, loads_held, speculates, commits, dropped, saved, guards, acts, acts_at, by_outcome, item_step, frames_step, running_step, step}
+use Rattle.bril_tree.specs.State.{Locals, Frame, Block, State, Values, read, no_values, with_value}
+use Rattle.bril_tree.specs.Step.{items_of, code_of, item_at, point_of, at_point, advanced, with_locations, assigned, shadowed, faulted, gives, advances, jumps, ends, awaited, returns, arguments_from, new_frame, calls, line_of, prints, allocates, frees, stores, loads, loads_held, speculates, commits, dropped, saved, guards, acts, acts_at, by_outcome, item_step, frames_step, running_step, step}
 use Rattle.bril_tree.specs.Typing.{return_type, is_call_shaped, call_fits, type_fault}
 use Rattle.bril_tree.specs.Value.{shown, literal_value}
 use Rattle.bril_tree.specs.Walk.{IsWalk, IsReached, end_of}
@@ -50,7 +50,7 @@ arguments-same P Q limits x [] values = refl
 arguments-same P Q limits x (v ∷ vs) values = arguments-same P Q limits (suc x) vs (with_value values x v)
 
 pub new-same : (P Q : Prog) (limits : Limits) (f : ℕ) (vs : List Value) → new_frame P limits f vs ≡ new_frame Q limits f vs
-new-same P Q limits f vs = ap (λ (values : Values). record { function = f; point = 0; places = record { vars = values; shadows = no_values }; saves = [] }) (arguments-same P Q limits 0 vs no_values)
+new-same P Q limits f vs = ap (λ (values : Values). record { function = f; point = 0; locations = record { vars = values; shadows = no_values }; saves = [] }) (arguments-same P Q limits 0 vs no_values)
 
 pub line-same : (P Q : Prog) (limits : Limits) (vs : List Value) → line_of P limits vs ≡ line_of Q limits vs
 line-same P Q limits [] = refl
@@ -112,29 +112,29 @@ shaped_here P accepted k i item at = by (slice_get P.funcs k) refl
 
 -- ---- operations that always give a value or a fault
 
-pub divided-gives : (b : Bool) (x y : ℤ) → divided b x y ≡ Acts → ⊥
+pub divided-gives : (b : Bool) (x y : ℤ) → divided b x y ≡ HasEffect → ⊥
 divided-gives true x y e = cc
 divided-gives false x y e = cc
 
-pub cond-gives : (b : Bool) (v : Value) (kind : Fault) → cond b (Gives v) (Fails kind) ≡ Acts → ⊥
+pub cond-gives : (b : Bool) (v : Value) (kind : Fault) → cond b (Yields v) (FaultsWith kind) ≡ HasEffect → ⊥
 cond-gives true v kind e = cc
 cond-gives false v kind e = cc
 
-pub char_from-gives : (z : ℤ) → char_from z ≡ Acts → ⊥
+pub char_from-gives : (z : ℤ) → char_from z ≡ HasEffect → ⊥
 char_from-gives (pos n) e = cond-gives (is_scalar n) _ _ e
 char_from-gives (negsuc n) e = cc
 
-pub get-gives : (p : Places) (d : Option ℕ) (args fs ls : ℕ) → fits_shape (shape_of true op.Get) (is_some d) args fs ls ≡ true → shadow_given p d ≡ Acts → ⊥
+pub get-gives : (p : Locals) (d : Option ℕ) (args fs ls : ℕ) → fits_shape (shape_of true op.Get) (is_some d) args fs ls ≡ true → shadow_given p d ≡ HasEffect → ⊥
 get-gives p None args fs ls s e = let h = (shape-parts (shape_of true op.Get) false args fs ls s).dest_is in cc
 get-gives p (Some x) args fs ls s e = cc
 
-pub undef-gives : (P : Prog) (f : Func) (d : Option ℕ) (ty : Option Ty) (args fns ls : List ℕ) → fits_shape (shape_of true op.Undef) (is_some d) (length args) (length fns) (length ls) ≡ true → type_fault P f (Act d ty op.Undef args fns ls) ≡ None → undefined ty ≡ Acts → ⊥
+pub undef-gives : (P : Prog) (f : Func) (d : Option ℕ) (ty : Option Ty) (args fns ls : List ℕ) → fits_shape (shape_of true op.Undef) (is_some d) (length args) (length fns) (length ls) ≡ true → type_fault P f (Act d ty op.Undef args fns ls) ≡ None → undefined ty ≡ HasEffect → ⊥
 undef-gives P f None ty args fns ls s t e = let h = (shape-parts (shape_of true op.Undef) false (length args) (length fns) (length ls) s).dest_is in cc
 undef-gives P f (Some x) None args fns ls s t e = cc
 undef-gives P f (Some x) (Some ty) args fns ls s t e = cc
 
 -- a guard and a commit have an open site
-pub some_site : (code : List Instr) (walk : List Way) (i : ℕ) → AreSitesSound code → IsWalk code walk → end_of walk ≡ i → IsTrue (needs_site (slice_get code i)) → sites_of code walk ≡ [] → ⊥
+pub some_site : (code : List Instr) (walk : List Branch) (i : ℕ) → AreSitesSound code → IsWalk code walk → end_of walk ≡ i → IsTrue (needs_site (slice_get code i)) → sites_of code walk ≡ [] → ⊥
 some_site code walk i sound is ends needs none =
     let first = reached_have_first code (end_of walk) (record { walk = walk; is = is; ends = refl }) in
     let are : AreFirstSites code (end_of walk) (sites_of code first.0) = record { walk = first.0; first = first.1; are = refl } in
@@ -145,7 +145,7 @@ some_site code walk i sound is ends needs none =
     }))
 
 -- what an item writes is what it gives
-pub writes-gives : (a : Instr) (p : Places) (v u : Value) → outcome_of a p ≡ Gives v → Writes (Some a) p u → v ≡ u
+pub writes-gives : (a : Instr) (p : Locals) (v u : Value) → outcome_of a p ≡ Yields v → Writes (Some a) p u → v ≡ u
 writes-gives (Label l) p v u e h = absurd (cc)
 writes-gives (Const d ty w) p v u e h = cc
 writes-gives (Act d ty op.Set args fns ls) p v u e h = absurd (cc)

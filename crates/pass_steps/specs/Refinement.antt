@@ -7,13 +7,13 @@ use Rattle.bril_tree.specs.declared.numbered.Instr.{Instr}
 use Rattle.bril_tree.specs.declared.program.Prog.{Prog}
 use Rattle.bril_tree.specs.Accepted.{IsAccepted}
 use Rattle.bril_tree.specs.Run.{program, Refines}
-use Rattle.bril_tree.specs.State.{Places, Frame, State}
+use Rattle.bril_tree.specs.State.{Locals, Frame, State}
 use Rattle.bril_tree.specs.Step.{step, item_step}
 use Rattle.pass_plan.specs.Plan.{Plan, Preserves, StatesMatch}
 
--- the item changes the places of the newest frame alone, and goes on to the next point
-abbrev pub ChangesPlaces : (X : Prog) (limits : Limits) → Instr → Frame → Places → Type 0
-ChangesPlaces X limits item frame places = (older : List Frame) (s : State) → item_step X limits (Some item) frame older s ≡ record s { frames = record frame { point = suc frame.point; places = places } ∷ older }
+-- the item changes the locations of the newest frame alone, and goes on to the next point
+abbrev pub ChangesPlaces : (X : Prog) (limits : Limits) → Instr → Frame → Locals → Type 0
+ChangesPlaces X limits item frame locations = (older : List Frame) (s : State) → item_step X limits (Some item) frame older s ≡ record s { frames = record frame { point = suc frame.point; locations = locations } ∷ older }
 
 -- two runs that ended alike
 pub record EndedAlike (s t : State) : Type 0 where

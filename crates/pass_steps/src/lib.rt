@@ -2,7 +2,7 @@
 //!
 //! At a regular pair of points matched states make steps to matched states, for each operation, calls, returns, saves
 //! and aborts among them. Elsewhere one side goes on alone, or both make some steps. Where matched states always go on
-//! in one of these ways, the result refines the program. What a pass proves for this is `Advances`, in `specs/`; the
+//! in one of these branches, the result refines the program. What a pass proves for this is `Advances`, in `specs/`; the
 //! lemmas that it takes for its special points are in `proofs/Moves.antt`, and `proofs/Attempts.antt` for items between
 //! a `speculate` and a `commit` that the program doesn't have.
 #![tactic(auto)]

@@ -14,7 +14,7 @@ use Rattle.bril_tree.specs.declared.types.Base.{Base}
 use Rattle.bril_tree.specs.declared.types.Base.TheVariants as base
 use Rattle.bril_tree.specs.declared.types.Ty.{Ty}
 use Rattle.bril_tree.specs.Assigned.{Assigned, assigned_of, assigned_changed, newest_saved, assigns_at, assigns_of}
-use Rattle.bril_tree.specs.Edge.{Way}
+use Rattle.bril_tree.specs.Edge.{Branch}
 use Rattle.bril_tree.specs.FunctionForm.{listed, dest_is_typed, type_assigned, typed_if}
 use Rattle.bril_tree.specs.Numbered.{named, dest_tree, item_tree}
 use Rattle.bril_tree.specs.Operand.{Location, dest_of}
@@ -67,17 +67,17 @@ module _ (code : List Instr) (start : List Location) where
   both-from : (xs ys : List Location) → All-from code start xs → All-from code start ys → All-from code start (xs ++ ys)
   both-from xs ys h k x i = ⊎_elim (h x) (k x) (in_append_cases x xs ys i)
 
-  changed-from : (c : Change) (places : List Location) (b : Bool) (a : Assigned) → All-from code start places → All-from code start a.places → Sets-from code start a.saved → All-from code start (assigned_changed c places b a).places × Sets-from code start (assigned_changed c places b a).saved
-  changed-from Opens places b a h k s = (k, (k, s))
-  changed-from Closes places true a h k s = (newest-from a.places a.saved k s, rest-from a.saved s)
-  changed-from Closes places false a h k s = (k, rest-from a.saved s)
-  changed-from Keeps places b a h k s = (both-from places a.places h k, s)
+  changed-from : (c : Change) (locations : List Location) (b : Bool) (a : Assigned) → All-from code start locations → All-from code start a.locations → Sets-from code start a.saved → All-from code start (assigned_changed c locations b a).locations × Sets-from code start (assigned_changed c locations b a).saved
+  changed-from Opens locations b a h k s = (k, (k, s))
+  changed-from Closes locations true a h k s = (newest-from a.locations a.saved k s, rest-from a.saved s)
+  changed-from Closes locations false a h k s = (k, rest-from a.saved s)
+  changed-from Keeps locations b a h k s = (both-from locations a.locations h k, s)
 
-pub assigned-from : (code : List Instr) (args : ℕ) (w : List Way) → All-from code (assigned_of code args []).places (assigned_of code args w).places × Sets-from code (assigned_of code args []).places (assigned_of code args w).saved
+pub assigned-from : (code : List Instr) (args : ℕ) (w : List Branch) → All-from code (assigned_of code args []).locations (assigned_of code args w).locations × Sets-from code (assigned_of code args []).locations (assigned_of code args w).saved
 assigned-from code args [] = ((λ x i. inl i), tt)
-assigned-from code args (way ∷ w) =
+assigned-from code args (branch ∷ w) =
     let r = assigned-from code args w in
-    changed-from code (assigned_of code args []).places (change_of code way) (assigns_at (slice_get code way.from)) way.aborts (assigned_of code args w) (here-from code (assigned_of code args []).places way.from (slice_get code way.from) refl) r.0 r.1
+    changed-from code (assigned_of code args []).locations (change_of code branch) (assigns_at (slice_get code branch.from)) branch.aborts (assigned_of code args w) (here-from code (assigned_of code args []).locations branch.from (slice_get code branch.from) refl) r.0 r.1
 
 -- ---- types are equal
 

@@ -13,14 +13,14 @@ use Rattle.bril_tree.specs.declared.types.Ty.{Ty}
 use Rattle.bril_tree.specs.declared.value.Lit.{Lit}
 use Rattle.bril_tree.specs.Accepted.{IsAccepted, leaves_frame}
 use Rattle.bril_tree.specs.Assigned.{Assigned, assigned_of, IsMaybeUnassigned}
-use Rattle.bril_tree.specs.Edge.{Way, ways_at}
+use Rattle.bril_tree.specs.Edge.{Branch, branches_at}
 use Rattle.bril_tree.specs.Operand.{Location, Variable, Shadow, reads_of, reading_of, locations_read}
 use Rattle.bril_tree.specs.Sites.{AreSitesSound, SitesFail, TooMany, NoSite, Others, HasTooMany, LacksSite, BringsOthers, AreFirstSites, sites_of, sites_behind, needs_site, most_sites}
 use Rattle.bril_tree.specs.Step.{code_of, item_at}
 use Rattle.bril_tree.specs.Walk.{IsWalk, IsReached, end_of}
 use Rattle.flow_graph.proofs.FirstWalks.{reached_have_first}
 use Rattle.flow_graph.proofs.OpenSites.{sound_walks_agree}
-use Rattle.flow_graph.proofs.Order.{way_inside}
+use Rattle.flow_graph.proofs.Order.{branch_inside}
 use Rattle.flow_graph.proofs.Members.{In, in_contains, contains_in}
 use Rattle.pass_plan.specs.Plan.{Plan, ItemsMatch, PointItemsMatch, Preserves}
 use Rattle.pass_walks.proofs.Deciding.{in_or_not}
@@ -94,24 +94,24 @@ none_past [] k e = omega arith
 none_past (x ∷ xs) zero e = absurd (cc)
 none_past (x ∷ xs) (suc k) e = let h = none_past xs k e in omega arith
 
-pub walk_within : (code : List Instr) (walk : List Way) → IsWalk code walk → end_of walk ≤ length code
+pub walk_within : (code : List Instr) (walk : List Branch) → IsWalk code walk → end_of walk ≤ length code
 walk_within code [] is = omega arith
-walk_within code (way ∷ walk) is = way_inside code (end_of walk) way (in_contains way (ways_at code (end_of walk)) is.0)
+walk_within code (branch ∷ walk) is = branch_inside code (end_of walk) branch (in_contains branch (branches_at code (end_of walk)) is.0)
 
 module _ (m : Plan) (P Q : Prog) (accepted : IsAccepted P) (preserves : Preserves m P Q) (f : ℕ) (args result_args : ℕ) (ret : Bool) (old : AreWalksAccepted (code_of P f) args ret) (matched_walks : MatchesWalks m P Q f args result_args)
     (decide : (a : Location) (list : List Location) → In a list ⊎ (In a list → ⊥)) where
   abbrev S : List ℕ → List ℕ → List (List Location) → List (List Location) → Type 0
   S = SavedSetsMatch m P Q f args result_args
 
-  L : List Way → Type 0
+  L : List Branch → Type 0
   L v = MatchedWalk m P Q f args result_args v
 
-  all_matched : (v : List Way) → IsWalk (code_of Q f) v → MatchedWalk m P Q f args result_args v
+  all_matched : (v : List Branch) → IsWalk (code_of Q f) v → MatchedWalk m P Q f args result_args v
   all_matched [] is = matched_walks.start
-  all_matched (b ∷ v) is = matched_walks.ways v b is.1 (all_matched v is.1) (in_contains b (ways_at (code_of Q f) (end_of v)) is.0)
+  all_matched (b ∷ v) is = matched_walks.branches v b is.1 (all_matched v is.1) (in_contains b (branches_at (code_of Q f) (end_of v)) is.0)
 
   -- a walk of P to the point that stands for a walk's end
-  drawn : (v : List Way) → IsWalk (code_of Q f) v → (l : MatchedWalk m P Q f args result_args v) × (end_of l.walk ≡ matched_walks.old (end_of v))
+  drawn : (v : List Branch) → IsWalk (code_of Q f) v → (l : MatchedWalk m P Q f args result_args v) × (end_of l.walk ≡ matched_walks.old (end_of v))
   drawn v is = matched_walks.drawn v (all_matched v is)
 
   same_length : (ss ts : List ℕ) (xs ys : List (List Location)) → S ss ts xs ys → length ss ≡ length ts
@@ -147,7 +147,7 @@ module _ (m : Plan) (P Q : Prog) (accepted : IsAccepted P) (preserves : Preserve
   one_list _ _ _ _ _ _ _ h k = absurd h
 
   -- all walks of P to one point have one list
-  old_agree : (w w' : List Way) → IsWalk (code_of P f) w → IsWalk (code_of P f) w' → end_of w ≡ end_of w' → sites_of (code_of P f) w ≡ sites_of (code_of P f) w'
+  old_agree : (w w' : List Branch) → IsWalk (code_of P f) w → IsWalk (code_of P f) w' → end_of w ≡ end_of w' → sites_of (code_of P f) w ≡ sites_of (code_of P f) w'
   old_agree w w' is is' e =
       let code = code_of P f in
       let first = reached_have_first code (end_of w') (record { walk = w'; is = is'; ends = refl }) in
@@ -156,7 +156,7 @@ module _ (m : Plan) (P Q : Prog) (accepted : IsAccepted P) (preserves : Preserve
       ∙ sym (sound_walks_agree code old.sites w' is' (sites_of code first.0) are)
 
   -- so have all walks of Q
-  new_agree : (v v' : List Way) → IsWalk (code_of Q f) v → IsWalk (code_of Q f) v' → end_of v ≡ end_of v' → sites_of (code_of Q f) v ≡ sites_of (code_of Q f) v'
+  new_agree : (v v' : List Branch) → IsWalk (code_of Q f) v → IsWalk (code_of Q f) v' → end_of v ≡ end_of v' → sites_of (code_of Q f) v ≡ sites_of (code_of Q f) v'
   new_agree v v' is is' e =
       let l = drawn v is in
       let l' = drawn v' is' in
@@ -165,7 +165,7 @@ module _ (m : Plan) (P Q : Prog) (accepted : IsAccepted P) (preserves : Preserve
       one_list (sites_of (code_of P f) l'.0.walk) (sites_of (code_of Q f) v) (sites_of (code_of Q f) v') _ _ _ _
       (subst (λ ss. S ss (sites_of (code_of Q f) v) (assigned_of (code_of P f) args l.0.walk).saved (assigned_of (code_of Q f) result_args v).saved) same l.0.matches.saved) l'.0.matches.saved
 
-  counted : (v : List Way) (is : IsWalk (code_of Q f) v) → length (sites_of (code_of P f) (drawn v is).0.walk) ≡ length (sites_of (code_of Q f) v)
+  counted : (v : List Branch) (is : IsWalk (code_of Q f) v) → length (sites_of (code_of P f) (drawn v is).0.walk) ≡ length (sites_of (code_of Q f) v)
   counted v is = same_length (sites_of (code_of P f) (drawn v is).0.walk) (sites_of (code_of Q f) v) _ _ (drawn v is).0.matches.saved
 
   nil_of : {X : Type 0} (xs : List X) → length xs ≡ 0 → xs ≡ []
@@ -173,7 +173,7 @@ module _ (m : Plan) (P Q : Prog) (accepted : IsAccepted P) (preserves : Preserve
   nil_of (x ∷ xs) e = absurd (omega arith)
 
   -- at most eight are open
-  old_few : (w : List Way) → IsWalk (code_of P f) w → most_sites < length (sites_of (code_of P f) w) → ⊥
+  old_few : (w : List Branch) → IsWalk (code_of P f) w → most_sites < length (sites_of (code_of P f) w) → ⊥
   old_few w is many =
       let code = code_of P f in
       let first = reached_have_first code (end_of w) (record { walk = w; is = is; ends = refl }) in
@@ -181,13 +181,13 @@ module _ (m : Plan) (P Q : Prog) (accepted : IsAccepted P) (preserves : Preserve
       old.sites (end_of w) (TooMany (record { sites = sites_of code first.0; first = record { walk = first.0; first = first.1; are = refl }; many = subst (λ l. most_sites < length l) same many }))
 
   -- where Q's item needs a site there is one
-  new_needs : (v : List Way) → IsWalk (code_of Q f) v → IsTrue (needs_site (slice_get (code_of Q f) (end_of v))) → sites_of (code_of Q f) v ≡ [] → ⊥
+  new_needs : (v : List Branch) → IsWalk (code_of Q f) v → IsTrue (needs_site (slice_get (code_of Q f) (end_of v))) → sites_of (code_of Q f) v ≡ [] → ⊥
   new_needs v is needs none = ⊎_elim regular harmless (matched_walks.settled v (drawn v is).0 (drawn v is).1)
     where
       l : MatchedWalk m P Q f args result_args v
       l = (drawn v is).0
 
-      harmless : IsHarmless (λ y. (x : Location) × m.LocationsMatch f (end_of (drawn v is).0.walk) (end_of v) x y × In x (assigned_of (code_of P f) args (drawn v is).0.walk).places) (slice_get (code_of Q f) (end_of v)) → ⊥
+      harmless : IsHarmless (λ y. (x : Location) × m.LocationsMatch f (end_of (drawn v is).0.walk) (end_of v) x y × In x (assigned_of (code_of P f) args (drawn v is).0.walk).locations) (slice_get (code_of Q f) (end_of v)) → ⊥
       harmless h = true≢false (sym needs ∙ h.closed)
 
       regular : m.IsRegular f (end_of (drawn v is).0.walk) (end_of v) → ⊥
@@ -208,14 +208,14 @@ module _ (m : Plan) (P Q : Prog) (accepted : IsAccepted P) (preserves : Preserve
   new_sound point (Others o) =
       let code = code_of Q f in
       let w = o.first_before.walk in
-      let at : Contains (ways_at code (end_of w)) o.way = subst (λ k. Contains (ways_at code k) o.way) (sym o.first_before.first.ends) o.at in
-      let same = new_agree (o.way ∷ w) o.first.walk (at, o.first_before.first.is) o.first.first.is (o.to ∙ sym o.first.first.ends) in
-      o.other (ap (sites_behind code o.way) (sym o.first_before.are) ∙ same ∙ o.first.are)
+      let at : Contains (branches_at code (end_of w)) o.branch = subst (λ k. Contains (branches_at code k) o.branch) (sym o.first_before.first.ends) o.at in
+      let same = new_agree (o.branch ∷ w) o.first.walk (at, o.first_before.first.is) o.first.first.is (o.to ∙ sym o.first.first.ends) in
+      o.other (ap (sites_behind code o.branch) (sym o.first_before.are) ∙ same ∙ o.first.are)
 
-  new_alone : (v : List Way) → IsWalk (code_of Q f) v → IsTrue (leaves_frame (slice_get (code_of Q f) (end_of v))) → sites_of (code_of Q f) v ≡ []
+  new_alone : (v : List Branch) → IsWalk (code_of Q f) v → IsTrue (leaves_frame (slice_get (code_of Q f) (end_of v))) → sites_of (code_of Q f) v ≡ []
   new_alone v is leaves = nil_of _ (sym (counted v is) ∙ ⊎_elim regular harmless (matched_walks.settled v (drawn v is).0 (drawn v is).1))
     where
-      harmless : IsHarmless (λ y. (x : Location) × m.LocationsMatch f (end_of (drawn v is).0.walk) (end_of v) x y × In x (assigned_of (code_of P f) args (drawn v is).0.walk).places) (slice_get (code_of Q f) (end_of v)) → length (sites_of (code_of P f) (drawn v is).0.walk) ≡ 0
+      harmless : IsHarmless (λ y. (x : Location) × m.LocationsMatch f (end_of (drawn v is).0.walk) (end_of v) x y × In x (assigned_of (code_of P f) args (drawn v is).0.walk).locations) (slice_get (code_of Q f) (end_of v)) → length (sites_of (code_of P f) (drawn v is).0.walk) ≡ 0
       harmless h = absurd (true≢false (sym leaves ∙ h.alone))
 
       regular : m.IsRegular f (end_of (drawn v is).0.walk) (end_of v) → length (sites_of (code_of P f) (drawn v is).0.walk) ≡ 0
@@ -224,20 +224,20 @@ module _ (m : Plan) (P Q : Prog) (accepted : IsAccepted P) (preserves : Preserve
           let steps = preserves.steps f (end_of w.walk) (end_of v) (record { walk = w.walk; is = w.matches.is; ends = refl }) w.matches.points r in
           ap length (old.alone w.walk w.matches.is (leaves_same _ _ _ steps.same ∙ leaves))
 
-  new_assigned : (point : ℕ) (item : Instr) (place : Location) → slice_get (code_of Q f) point ≡ Some item → Contains (reads_of item) place → ¬ IsMaybeUnassigned (code_of Q f) result_args place point
-  new_assigned point item place at among u =
+  new_assigned : (point : ℕ) (item : Instr) (location : Location) → slice_get (code_of Q f) point ≡ Some item → Contains (reads_of item) location → ¬ IsMaybeUnassigned (code_of Q f) result_args location point
+  new_assigned point item location at among u =
       let v = u.walk in
       let here : slice_get (code_of Q f) (end_of v) ≡ Some item = ap (slice_get (code_of Q f)) u.ends ∙ at in
-      ⊎_elim (regular v u.is u.lacks here) (λ h. let r = h.reads item here place (in_contains place (reads_of item) among) in u.lacks (contains_in place _ ((drawn v u.is).0.matches.places r.0 place r.1 r.2))) (matched_walks.settled v (drawn v u.is).0 (drawn v u.is).1)
+      ⊎_elim (regular v u.is u.lacks here) (λ h. let r = h.reads item here location (in_contains location (reads_of item) among) in u.lacks (contains_in location _ ((drawn v u.is).0.matches.locations r.0 location r.1 r.2))) (matched_walks.settled v (drawn v u.is).0 (drawn v u.is).1)
     where
-      regular : (v : List Way) (is : IsWalk (code_of Q f) v) → ¬ Contains (assigned_of (code_of Q f) result_args v).places place → slice_get (code_of Q f) (end_of v) ≡ Some item → m.IsRegular f (end_of (drawn v is).0.walk) (end_of v) → ⊥
+      regular : (v : List Branch) (is : IsWalk (code_of Q f) v) → ¬ Contains (assigned_of (code_of Q f) result_args v).locations location → slice_get (code_of Q f) (end_of v) ≡ Some item → m.IsRegular f (end_of (drawn v is).0.walk) (end_of v) → ⊥
       regular v is lacks here r =
           let w = (drawn v is).0 in
           let steps = preserves.steps f (end_of w.walk) (end_of v) (record { walk = w.walk; is = w.matches.is; ends = refl }) w.matches.points r in
-          let x = reads_same _ (item_at P f (end_of w.walk)) item place (subst (λ o. PointItemsMatch (m.LocationsMatch f (end_of w.walk) (end_of v)) (item_at P f (end_of w.walk)) o) here steps.same) (in_contains place (reads_of item) among) in
-          ⊎_elim (λ i. lacks (contains_in place _ (w.matches.places x.1 place x.4 i)))
+          let x = reads_same _ (item_at P f (end_of w.walk)) item location (subst (λ o. PointItemsMatch (m.LocationsMatch f (end_of w.walk) (end_of v)) (item_at P f (end_of w.walk)) o) here steps.same) (in_contains location (reads_of item) among) in
+          ⊎_elim (λ i. lacks (contains_in location _ (w.matches.locations x.1 location x.4 i)))
           (λ n. old.assigned (end_of w.walk) x.0 x.1 x.2 (contains_in x.1 (reads_of x.0) x.3) (record { walk = w.walk; is = w.matches.is; ends = refl; lacks = λ c. n (in_contains x.1 _ c) }))
-          (decide x.1 (assigned_of (code_of P f) args w.walk).places)
+          (decide x.1 (assigned_of (code_of P f) args w.walk).locations)
 
   new_returns : ret ≡ true → ¬ IsReached (code_of Q f) (length (code_of Q f))
   new_returns e reached =
@@ -245,7 +245,7 @@ module _ (m : Plan) (P Q : Prog) (accepted : IsAccepted P) (preserves : Preserve
       let none : slice_get (code_of Q f) (end_of v) ≡ None = ap (slice_get (code_of Q f)) reached.ends ∙ slice_get_past (code_of Q f) (length (code_of Q f)) (omega arith) in
       ⊎_elim (regular v reached.is none) (λ h. let t = h.there in absurd (let z : is_some (slice_get (code_of Q f) (end_of v)) ≡ false = ap is_some none in true≢false (sym t ∙ z))) (matched_walks.settled v (drawn v reached.is).0 (drawn v reached.is).1)
     where
-      regular : (v : List Way) (is : IsWalk (code_of Q f) v) → slice_get (code_of Q f) (end_of v) ≡ None → m.IsRegular f (end_of (drawn v is).0.walk) (end_of v) → ⊥
+      regular : (v : List Branch) (is : IsWalk (code_of Q f) v) → slice_get (code_of Q f) (end_of v) ≡ None → m.IsRegular f (end_of (drawn v is).0.walk) (end_of v) → ⊥
       regular v is none r =
           let w = (drawn v is).0 in
           let steps = preserves.steps f (end_of w.walk) (end_of v) (record { walk = w.walk; is = w.matches.is; ends = refl }) w.matches.points r in

@@ -9,7 +9,7 @@ use Rattle.bril_tree.specs.declared.numbered.Instr.{Instr}
 use Rattle.bril_tree.specs.declared.program.Prog.{Prog}
 use Rattle.bril_tree.specs.Accepted.{IsAccepted, leaves_frame}
 use Rattle.bril_tree.specs.Assigned.{Assigned, assigned_of, IsMaybeUnassigned}
-use Rattle.bril_tree.specs.Edge.{Way, ways_at}
+use Rattle.bril_tree.specs.Edge.{Branch, branches_at}
 use Rattle.bril_tree.specs.Operand.{Location, reads_of}
 use Rattle.bril_tree.specs.Sites.{AreSitesSound, SitesFail, TooMany, NoSite, Others, AreFirstSites, sites_of, sites_behind, needs_site, most_sites}
 use Rattle.bril_tree.specs.Step.{code_of, item_at}
@@ -24,15 +24,15 @@ use Rattle.pass_walks.proofs.Accepting.{leaves_same, needs_same, reads_same, non
 
 module _ (m : Plan) (P Q : Prog) (f args result_args : ℕ) (ret : Bool) where
   -- what acceptance asks at the end of a walk of Q
-  pub record Fine (v : List Way) : Type 0 where
+  pub record Fine (v : List Branch) : Type 0 where
     pub needs : IsTrue (needs_site (slice_get (code_of Q f) (end_of v))) → sites_of (code_of Q f) v ≡ [] → ⊥
     pub alone : IsTrue (leaves_frame (slice_get (code_of Q f) (end_of v))) → sites_of (code_of Q f) v ≡ []
-    pub reads : (item : Instr) (place : Location) → slice_get (code_of Q f) (end_of v) ≡ Some item → In place (reads_of item) → In place (assigned_of (code_of Q f) result_args v).places
+    pub reads : (item : Instr) (location : Location) → slice_get (code_of Q f) (end_of v) ≡ Some item → In location (reads_of item) → In location (assigned_of (code_of Q f) result_args v).locations
     pub returns : ret ≡ true → slice_get (code_of Q f) (end_of v) ≡ None → ⊥
 
   -- a walk of P whose sites are those of v but for v's own
-  pub record Based (v : List Way) : Type 0 where
-    pub base : List Way
+  pub record Based (v : List Branch) : Type 0 where
+    pub base : List Branch
     pub is : IsWalk (code_of P f) base
     pub own : List ℕ
     pub rest : List ℕ
@@ -54,7 +54,7 @@ module _ (m : Plan) (P Q : Prog) (f args result_args : ℕ) (ret : Bool) where
     nil_of (x ∷ xs) e = absurd (omega arith)
 
     -- all walks of P to one point have one list
-    pub old_agree : (w w' : List Way) → IsWalk (code_of P f) w → IsWalk (code_of P f) w' → end_of w ≡ end_of w' → sites_of (code_of P f) w ≡ sites_of (code_of P f) w'
+    pub old_agree : (w w' : List Branch) → IsWalk (code_of P f) w → IsWalk (code_of P f) w' → end_of w ≡ end_of w' → sites_of (code_of P f) w ≡ sites_of (code_of P f) w'
     old_agree w w' is is' e =
         let code = code_of P f in
         let first = reached_have_first code (end_of w') (record { walk = w'; is = is'; ends = refl }) in
@@ -62,7 +62,7 @@ module _ (m : Plan) (P Q : Prog) (f args result_args : ℕ) (ret : Bool) where
         sound_walks_agree code was.sites w is (sites_of code first.0) (subst (λ n. AreFirstSites code n (sites_of code first.0)) (sym e) are)
         ∙ sym (sound_walks_agree code was.sites w' is' (sites_of code first.0) are)
 
-    pub old_few : (w : List Way) → IsWalk (code_of P f) w → most_sites < length (sites_of (code_of P f) w) → ⊥
+    pub old_few : (w : List Branch) → IsWalk (code_of P f) w → most_sites < length (sites_of (code_of P f) w) → ⊥
     old_few w is many =
         let code = code_of P f in
         let first = reached_have_first code (end_of w) (record { walk = w; is = is; ends = refl }) in
@@ -70,7 +70,7 @@ module _ (m : Plan) (P Q : Prog) (f args result_args : ℕ) (ret : Bool) where
         was.sites (end_of w) (TooMany (record { sites = sites_of code first.0; first = record { walk = first.0; first = first.1; are = refl }; many = subst (λ l. most_sites < length l) same many }))
 
     -- at a regular pair all is as in P
-    pub regular-fine : IsAccepted P → Preserves m P Q → ((a : Location) (list : List Location) → In a list ⊎ (In a list → ⊥)) → (v : List Way) (l : MatchedWalk m P Q f args result_args v) → m.IsRegular f (end_of l.walk) (end_of v) → Fine v
+    pub regular-fine : IsAccepted P → Preserves m P Q → ((a : Location) (list : List Location) → In a list ⊎ (In a list → ⊥)) → (v : List Branch) (l : MatchedWalk m P Q f args result_args v) → m.IsRegular f (end_of l.walk) (end_of v) → Fine v
     regular-fine accepted preserves decide v l regular = record { needs = needs; alone = alone; reads = reads; returns = returns }
       where
         same : PointItemsMatch (m.LocationsMatch f (end_of l.walk) (end_of v)) (item_at P f (end_of l.walk)) (item_at Q f (end_of v))
@@ -85,12 +85,12 @@ module _ (m : Plan) (P Q : Prog) (f args result_args : ℕ) (ret : Bool) where
         alone : IsTrue (leaves_frame (slice_get (code_of Q f) (end_of v))) → sites_of (code_of Q f) v ≡ []
         alone h = nil_of _ (sym counted ∙ ap length (was.alone l.walk l.matches.is (leaves_same _ _ _ same ∙ h)))
 
-        reads : (item : Instr) (place : Location) → slice_get (code_of Q f) (end_of v) ≡ Some item → In place (reads_of item) → In place (assigned_of (code_of Q f) result_args v).places
-        reads item place at among =
-            let x = reads_same _ (item_at P f (end_of l.walk)) item place (subst (λ o. PointItemsMatch (m.LocationsMatch f (end_of l.walk) (end_of v)) (item_at P f (end_of l.walk)) o) at same) among in
-            ⊎_elim (λ i. l.matches.places x.1 place x.4 i)
+        reads : (item : Instr) (location : Location) → slice_get (code_of Q f) (end_of v) ≡ Some item → In location (reads_of item) → In location (assigned_of (code_of Q f) result_args v).locations
+        reads item location at among =
+            let x = reads_same _ (item_at P f (end_of l.walk)) item location (subst (λ o. PointItemsMatch (m.LocationsMatch f (end_of l.walk) (end_of v)) (item_at P f (end_of l.walk)) o) at same) among in
+            ⊎_elim (λ i. l.matches.locations x.1 location x.4 i)
             (λ n. absurd (was.assigned (end_of l.walk) x.0 x.1 x.2 (contains_in x.1 (reads_of x.0) x.3) (record { walk = l.walk; is = l.matches.is; ends = refl; lacks = λ c. n (in_contains x.1 _ c) })))
-            (decide x.1 (assigned_of (code_of P f) args l.walk).places)
+            (decide x.1 (assigned_of (code_of P f) args l.walk).locations)
 
         returns : ret ≡ true → slice_get (code_of Q f) (end_of v) ≡ None → ⊥
         returns e none =
@@ -99,8 +99,8 @@ module _ (m : Plan) (P Q : Prog) (f args result_args : ℕ) (ret : Bool) where
             let low = walk_within (code_of P f) l.walk l.matches.is in
             was.returns e (record { walk = l.walk; is = l.matches.is; ends = omega arith })
 
-    module _ (once : (s t u : ℕ) → m.PointsMatch f s t → m.IsRegular f s t → m.PointsMatch f s u → m.IsRegular f s u → t ≡ u) (all : (v : List Way) → IsWalk (code_of Q f) v → Based v)
-        (agree : (v v' : List Way) (is : IsWalk (code_of Q f) v) (is' : IsWalk (code_of Q f) v') → end_of v ≡ end_of v' → ((all v is).own ≡ (all v' is').own) × (end_of (all v is).base ≡ end_of (all v' is').base)) where
+    module _ (once : (s t u : ℕ) → m.PointsMatch f s t → m.IsRegular f s t → m.PointsMatch f s u → m.IsRegular f s u → t ≡ u) (all : (v : List Branch) → IsWalk (code_of Q f) v → Based v)
+        (agree : (v v' : List Branch) (is : IsWalk (code_of Q f) v) (is' : IsWalk (code_of Q f) v') → end_of v ≡ end_of v' → ((all v is).own ≡ (all v' is').own) × (end_of (all v is).base ≡ end_of (all v' is').base)) where
       none_matched : (us : List ℕ) (zs ws : List (List Location)) → SavedSetsMatch m P Q f args result_args [] us zs ws → [] ≡ us
       none_matched [] [] [] k = refl
       none_matched _ _ _ k = absurd k
@@ -128,7 +128,7 @@ module _ (m : Plan) (P Q : Prog) (f args result_args : ℕ) (ret : Bool) where
           (λ i. e i ∷ r i) ∙ sym c.is
       one_list _ _ _ _ _ _ _ h k = absurd h
 
-      new_agree : (v v' : List Way) → IsWalk (code_of Q f) v → IsWalk (code_of Q f) v' → end_of v ≡ end_of v' → sites_of (code_of Q f) v ≡ sites_of (code_of Q f) v'
+      new_agree : (v v' : List Branch) → IsWalk (code_of Q f) v → IsWalk (code_of Q f) v' → end_of v ≡ end_of v' → sites_of (code_of Q f) v ≡ sites_of (code_of Q f) v'
       new_agree v v' is is' e =
           let b = all v is in
           let b' = all v' is' in
@@ -152,13 +152,13 @@ module _ (m : Plan) (P Q : Prog) (f args result_args : ℕ) (ret : Bool) where
       new_sound point (Others o) =
           let code = code_of Q f in
           let w = o.first_before.walk in
-          let at : Contains (ways_at code (end_of w)) o.way = subst (λ k. Contains (ways_at code k) o.way) (sym o.first_before.first.ends) o.at in
-          let same = new_agree (o.way ∷ w) o.first.walk (at, o.first_before.first.is) o.first.first.is (o.to ∙ sym o.first.first.ends) in
-          o.other (ap (sites_behind code o.way) (sym o.first_before.are) ∙ same ∙ o.first.are)
+          let at : Contains (branches_at code (end_of w)) o.branch = subst (λ k. Contains (branches_at code k) o.branch) (sym o.first_before.first.ends) o.at in
+          let same = new_agree (o.branch ∷ w) o.first.walk (at, o.first_before.first.is) o.first.first.is (o.to ∙ sym o.first.first.ends) in
+          o.other (ap (sites_behind code o.branch) (sym o.first_before.are) ∙ same ∙ o.first.are)
 
-      new_assigned : (point : ℕ) (item : Instr) (place : Location) → slice_get (code_of Q f) point ≡ Some item → Contains (reads_of item) place → ¬ IsMaybeUnassigned (code_of Q f) result_args place point
-      new_assigned point item place at among u =
-          u.lacks (contains_in place _ ((all u.walk u.is).fine.reads item place (ap (slice_get (code_of Q f)) u.ends ∙ at) (in_contains place (reads_of item) among)))
+      new_assigned : (point : ℕ) (item : Instr) (location : Location) → slice_get (code_of Q f) point ≡ Some item → Contains (reads_of item) location → ¬ IsMaybeUnassigned (code_of Q f) result_args location point
+      new_assigned point item location at among u =
+          u.lacks (contains_in location _ ((all u.walk u.is).fine.reads item location (ap (slice_get (code_of Q f)) u.ends ∙ at) (in_contains location (reads_of item) among)))
 
       new_returns : ret ≡ true → ¬ IsReached (code_of Q f) (length (code_of Q f))
       new_returns e reached = (all reached.walk reached.is).fine.returns e (ap (slice_get (code_of Q f)) reached.ends ∙ slice_get_past (code_of Q f) (length (code_of Q f)) (omega arith))

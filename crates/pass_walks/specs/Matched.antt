@@ -5,7 +5,7 @@ use Rattle.bril_tree.specs.declared.numbered.Instr.{Instr}
 use Rattle.bril_tree.specs.declared.program.Prog.{Prog}
 use Rattle.bril_tree.specs.Assigned.{IsMaybeUnassigned, assigned_of}
 use Rattle.std.specs.List.{Contains}
-use Rattle.bril_tree.specs.Edge.{Way, ways_at}
+use Rattle.bril_tree.specs.Edge.{Branch, branches_at}
 use Rattle.bril_tree.specs.Operand.{Location, reads_of}
 use Rattle.bril_tree.specs.Sites.{AreSitesSound, sites_of, needs_site}
 use Rattle.bril_tree.specs.Step.{code_of, item_at}
@@ -24,25 +24,25 @@ module _ (m : Plan) (P Q : Prog) (f : ℕ) (args result_args : ℕ) where
   SavedSetsMatch (s ∷ ss) (t ∷ ts) (x ∷ xs) (y ∷ ys) = (m.PointsMatch f s t × m.IsRegular f s t × Covers (m.LocationsMatch f s t) x y) × SavedSetsMatch ss ts xs ys
   SavedSetsMatch _ _ _ _ = ⊥
 
-  pub record WalksMatch (w v : List Way) : Type 0 where
+  pub record WalksMatch (w v : List Branch) : Type 0 where
     pub is : IsWalk (code_of P f) w
     pub points : m.PointsMatch f (end_of w) (end_of v)
-    pub places : Covers (m.LocationsMatch f (end_of w) (end_of v)) (assigned_of (code_of P f) args w).places (assigned_of (code_of Q f) result_args v).places
+    pub locations : Covers (m.LocationsMatch f (end_of w) (end_of v)) (assigned_of (code_of P f) args w).locations (assigned_of (code_of Q f) result_args v).locations
     pub saved : SavedSetsMatch (sites_of (code_of P f) w) (sites_of (code_of Q f) v) (assigned_of (code_of P f) args w).saved (assigned_of (code_of Q f) result_args v).saved
 
   -- a walk of P that is matches
-  pub record MatchedWalk (v : List Way) : Type 0 where
-    pub walk : List Way
+  pub record MatchedWalk (v : List Branch) : Type 0 where
+    pub walk : List Branch
     pub matches : WalksMatch walk v
 
   -- What a pass proves points `Preserves`: a walk of P that comes points a point of Q can be drawn on to a regular pair,
-  -- or Q's next way is already followed.
-  pub record RegularWalk (v : List Way) : Type 0 where
-    pub walk : List Way
+  -- or Q's next branch is already followed.
+  pub record RegularWalk (v : List Branch) : Type 0 where
+    pub walk : List Branch
     pub matches : WalksMatch walk v
     pub regular : m.IsRegular f (end_of walk) (end_of v)
 
--- an item that needs nothing of the walks to it but that some places are assigned
+-- an item that needs nothing of the walks to it but that some locations are assigned
 pub record IsHarmless (Assured : Location → Type 0) (o : Option Instr) : Type 0 where
   pub there : IsSome o
   pub alone : leaves_frame o ≡ false
@@ -54,21 +54,21 @@ pub record MatchesWalks (m : Plan) (P Q : Prog) (f : ℕ) (args result_args : �
   -- the point of P that stands for one of Q
   pub old : ℕ → ℕ
   pub start : MatchedWalk m P Q f args result_args []
-  -- each way of Q is followed, by one of P, by some or by none
-  pub ways : (v : List Way) (b : Way) → IsWalk (code_of Q f) v → MatchedWalk m P Q f args result_args v → In b (ways_at (code_of Q f) (end_of v)) → MatchedWalk m P Q f args result_args (b ∷ v)
+  -- each branch of Q is followed, by one of P, by some or by none
+  pub branches : (v : List Branch) (b : Branch) → IsWalk (code_of Q f) v → MatchedWalk m P Q f args result_args v → In b (branches_at (code_of Q f) (end_of v)) → MatchedWalk m P Q f args result_args (b ∷ v)
   -- a walk of P can be drawn on to that point
-  pub drawn : (v : List Way) → MatchedWalk m P Q f args result_args v → (l : MatchedWalk m P Q f args result_args v) × (end_of l.walk ≡ old (end_of v))
+  pub drawn : (v : List Branch) → MatchedWalk m P Q f args result_args v → (l : MatchedWalk m P Q f args result_args v) × (end_of l.walk ≡ old (end_of v))
   -- and there the two make the same step, or Q's item needs nothing
-  pub settled : (v : List Way) → (l : MatchedWalk m P Q f args result_args v) → end_of l.walk ≡ old (end_of v) → m.IsRegular f (end_of l.walk) (end_of v) ⊎ IsHarmless (λ y. (x : Location) × m.LocationsMatch f (end_of l.walk) (end_of v) x y × In x (assigned_of (code_of P f) args l.walk).places) (slice_get (code_of Q f) (end_of v))
+  pub settled : (v : List Branch) → (l : MatchedWalk m P Q f args result_args v) → end_of l.walk ≡ old (end_of v) → m.IsRegular f (end_of l.walk) (end_of v) ⊎ IsHarmless (λ y. (x : Location) × m.LocationsMatch f (end_of l.walk) (end_of v) x y × In x (assigned_of (code_of P f) args l.walk).locations) (slice_get (code_of Q f) (end_of v))
   -- a regular pair has one point of Q
   pub once : (s t u : ℕ) → m.PointsMatch f s t → m.IsRegular f s t → m.PointsMatch f s u → m.IsRegular f s u → t ≡ u
 
 -- what is asked of the walks of a function that returns a value or doesn't
 pub record AreWalksAccepted (code : List Instr) (args : ℕ) (ret : Bool) : Type 0 where
   pub sites : AreSitesSound code
-  pub alone : (walk : List Way) → IsWalk code walk → IsTrue (leaves_frame (slice_get code (end_of walk))) → sites_of code walk ≡ []
+  pub alone : (walk : List Branch) → IsWalk code walk → IsTrue (leaves_frame (slice_get code (end_of walk))) → sites_of code walk ≡ []
   pub returns : ret ≡ true → ¬ IsReached code (length code)
-  pub assigned : (point : ℕ) (item : Instr) (place : Location) → slice_get code point ≡ Some item → Contains (reads_of item) place → ¬ IsMaybeUnassigned code args place point
+  pub assigned : (point : ℕ) (item : Instr) (location : Location) → slice_get code point ≡ Some item → Contains (reads_of item) location → ¬ IsMaybeUnassigned code args location point
 
 -- The walks of an accepted program's function being accepted, so are those of the result, by a plan.
 abbrev pub WalksAccepted : (Prog → Prog → Plan) → Type 0

@@ -6,7 +6,7 @@ use Rattle.rv64_machine.specs.declared.answer.MachAnswer.TheVariants as step
 use Rattle.rv64_machine.specs.declared.answer.RunAnswer.{RunAnswer}
 use Rattle.rv64_machine.specs.declared.answer.RunAnswer.TheVariants as run
 use Rattle.rv64_machine.specs.declared.machine.Machine.{Machine}
-use Rattle.rv64_machine.specs.Call.{StepsTo, RunsTo, Stepped, Ran, reached_after}
+use Rattle.rv64_machine.specs.StepAnswers.{StepsTo, RunsTo, Stepped, Ran, reached_after}
 use Rattle.rv64_machine.specs.Machine.{State, Stop, Finished, Trapped, machine_step}
 use Rattle.rv64_machine.specs.MachineView.{state_of, words_in, sizes_in}
 

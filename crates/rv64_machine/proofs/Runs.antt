@@ -7,7 +7,7 @@ use Rattle.bril_tree.specs.declared.limits.End.{End}
 use Rattle.rv64_machine.specs.declared.trap.Trap.TheVariants as trap
 use Rattle.rv64_machine.specs.declared.word.Word.{Word}
 use Rattle.rv64_machine.specs.declared.word.Word.TheVariants.{Lui, Addi, Ori, Slli, Add, Ld, Sd, Ecall}
-use Rattle.rv64_machine.specs.Call.{unprinted}
+use Rattle.rv64_machine.specs.StepAnswers.{unprinted}
 use Rattle.rv64_machine.specs.Encoding.{decoded}
 use Rattle.rv64_machine.specs.Machine.{State, Stop, trapped, with_register, with_printed, next, loaded, stored, read_place, end_of, ended, called, executed, decoded_step, fetched, fetched_step, running_step, machine_step, machine_after}
 use Rattle.rv64_machine.specs.Region.{Sizes, Place, InStack, InTable, InCells}

@@ -1,4 +1,4 @@
-pub mod Call
+pub mod StepAnswers
 pub mod Encoding
 pub mod Machine
 pub mod MachineView

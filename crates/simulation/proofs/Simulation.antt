@@ -3,7 +3,7 @@ use Rattle.std.proofs.Common.{◌≡◌, ℕ, zero, suc, ◌+◌, ◌-◌, ◌*�
 use Rattle.std.proofs.lemmas.Bool.{cases_lt}
 use Rattle.simulation.specs.System.{System, after, IsFinal, IsPrefix, IsSystem, Agree}
 use Rattle.simulation.specs.Refinement.{Follows}
-use Rattle.simulation.specs.Simulation.{Chunk, Simulation, LockStep, Drifting}
+use Rattle.simulation.specs.Simulation.{Chunk, Simulation, Plus, Star}
 use Rattle.simulation.proofs.Prefix.{IsPrefix-equal, IsPrefix-trans}
 use Rattle.simulation.proofs.After.{after-add, Agree-final, final_or_running, running-not_final, after-final_le, running-earlier, after-grows_le}
 
@@ -167,18 +167,18 @@ Follows-from_simulation P Q R soundP soundQ k sim s t r = record {
 }
 
 -- steps in lock step are chunks of one step of P
-pub Simulation-from_lock_step : {E S T : Type 0} (P : System E S) (Q : System E T) (R : S → T → Type 0) (c : ℕ) → LockStep P Q c R → Simulation P Q c R
-Simulation-from_lock_step P Q R c lock = record {
+pub Simulation-from_plus : {E S T : Type 0} (P : System E S) (Q : System E T) (R : S → T → Type 0) (c : ℕ) → Plus P Q c R → Simulation P Q c R
+Simulation-from_plus P Q R c lock = record {
   agrees = lock.agrees;
   chunk = λ s t r runs.
       let m = lock.moves s t r runs in
       record { early = 0; moves = m.0; within = let h = m.1 in omega arith; quiet = refl; running = runs; again = m.2 };
 }
 
-pub Follows-from_lock_step : {E S T : Type 0} (P : System E S) (Q : System E T) (R : S → T → Type 0) → IsSystem P → IsSystem Q → (c : ℕ) → LockStep P Q c R → (s : S) (t : T) → R s t → Follows P Q c s t
-Follows-from_lock_step P Q R soundP soundQ c lock = Follows-from_simulation P Q R soundP soundQ c (Simulation-from_lock_step P Q R c lock)
+pub Follows-from_plus : {E S T : Type 0} (P : System E S) (Q : System E T) (R : S → T → Type 0) → IsSystem P → IsSystem Q → (c : ℕ) → Plus P Q c R → (s : S) (t : T) → R s t → Follows P Q c s t
+Follows-from_plus P Q R soundP soundQ c lock = Follows-from_simulation P Q R soundP soundQ c (Simulation-from_plus P Q R c lock)
 
-module _ {E S T : Type 0} (P : System E S) (Q : System E T) (R : S → T → Type 0) (c : ℕ) (distance : S → ℕ) (drift : Drifting P Q c distance R) where
+module _ {E S T : Type 0} (P : System E S) (Q : System E T) (R : S → T → Type 0) (c : ℕ) (distance : S → ℕ) (drift : Star P Q c distance R) where
   goes_on : (s : S) (t : T) → R s t → R (P.step s) t → P.ending s ≡ None → P.ending (P.step s) ≡ None
   goes_on s t r r' runs = (drift.agrees (P.step s) t r').0 ∙ sym (drift.agrees s t r).0 ∙ runs
 
@@ -194,22 +194,22 @@ module _ {E S T : Type 0} (P : System E S) (Q : System E T) (R : S → T → Typ
   }
 
   -- the steps that P makes alone and the next one of both are a chunk
-  drifting_chunk : (fuel : ℕ) (s : S) (t : T) → distance s < fuel → R s t → P.ending s ≡ None → Chunk P Q c R s t
-  drifting_chunk zero s t enough r runs = absurd (omega arith)
-  drifting_chunk (suc fuel) s t enough r runs =
-      ⊎_elim (λ alone. longer s t r alone.1 (drifting_chunk fuel (P.step s) t (let h = alone.0 in omega arith) alone.1 (goes_on s t r alone.1 runs)))
+  star_chunk : (fuel : ℕ) (s : S) (t : T) → distance s < fuel → R s t → P.ending s ≡ None → Chunk P Q c R s t
+  star_chunk zero s t enough r runs = absurd (omega arith)
+  star_chunk (suc fuel) s t enough r runs =
+      ⊎_elim (λ alone. longer s t r alone.1 (star_chunk fuel (P.step s) t (let h = alone.0 in omega arith) alone.1 (goes_on s t r alone.1 runs)))
       (λ both. record { early = 0; moves = both.0; within = let h = both.1 in omega arith; quiet = refl; running = runs; again = both.2 })
       (drift.moves s t r runs)
 
 -- the steps that P makes alone end, since the distance falls
-pub Simulation-from_drifting : {E S T : Type 0} (P : System E S) (Q : System E T) (R : S → T → Type 0) (c : ℕ) (distance : S → ℕ) → Drifting P Q c distance R → Simulation P Q c R
-Simulation-from_drifting P Q R c distance drift = record {
+pub Simulation-from_star : {E S T : Type 0} (P : System E S) (Q : System E T) (R : S → T → Type 0) (c : ℕ) (distance : S → ℕ) → Star P Q c distance R → Simulation P Q c R
+Simulation-from_star P Q R c distance drift = record {
   agrees = drift.agrees;
-  chunk = λ s t r runs. drifting_chunk P Q R c distance drift (suc (distance s)) s t (omega arith) r runs;
+  chunk = λ s t r runs. star_chunk P Q R c distance drift (suc (distance s)) s t (omega arith) r runs;
 }
 
-pub Follows-from_drifting : {E S T : Type 0} (P : System E S) (Q : System E T) (R : S → T → Type 0) → IsSystem P → IsSystem Q → (c : ℕ) (distance : S → ℕ) → Drifting P Q c distance R → (s : S) (t : T) → R s t → Follows P Q c s t
-Follows-from_drifting P Q R soundP soundQ c distance drift = Follows-from_simulation P Q R soundP soundQ c (Simulation-from_drifting P Q R c distance drift)
+pub Follows-from_star : {E S T : Type 0} (P : System E S) (Q : System E T) (R : S → T → Type 0) → IsSystem P → IsSystem Q → (c : ℕ) (distance : S → ℕ) → Star P Q c distance R → (s : S) (t : T) → R s t → Follows P Q c s t
+Follows-from_star P Q R soundP soundQ c distance drift = Follows-from_simulation P Q R soundP soundQ c (Simulation-from_star P Q R c distance drift)
 
 -- a larger bound serves too
 pub Simulation-weaker : {E S T : Type 0} (P : System E S) (Q : System E T) (R : S → T → Type 0) (k j : ℕ) → k ≤ j → Simulation P Q k R → Simulation P Q j R
@@ -227,8 +227,8 @@ Simulation-weaker P Q R k j h sim = record {
       };
 }
 
-pub LockStep-weaker : {E S T : Type 0} (P : System E S) (Q : System E T) (R : S → T → Type 0) (c d : ℕ) → c ≤ d → LockStep P Q c R → LockStep P Q d R
-LockStep-weaker P Q R c d h lock = record {
+pub Plus-weaker : {E S T : Type 0} (P : System E S) (Q : System E T) (R : S → T → Type 0) (c d : ℕ) → c ≤ d → Plus P Q c R → Plus P Q d R
+Plus-weaker P Q R c d h lock = record {
   agrees = lock.agrees;
   moves = λ s t r runs. let m = lock.moves s t r runs in (m.0, le_trans m.1 h, m.2);
 }

@@ -3,9 +3,9 @@ use Rattle.std.proofs.Common.{◌≡◌, ℕ, zero, suc, ◌+◌, ◌-◌, ◌*�
 use Rattle.std.proofs.lemmas.Bool.{cases_lt}
 use Rattle.simulation.specs.System.{System, after, IsFinal, IsPrefix, IsSystem, Agree}
 use Rattle.simulation.specs.Refinement.{Follows}
-use Rattle.simulation.specs.Simulation.{LockStep, Tracks}
+use Rattle.simulation.specs.Simulation.{Plus, Tracks}
 use Rattle.simulation.proofs.After.{after-suc, after-sub, after-add, after-final_le, after-grows_le, final_or_running}
-use Rattle.simulation.proofs.Simulation.{Follows-from_lock_step}
+use Rattle.simulation.proofs.Simulation.{Follows-from_plus}
 
 -- a sequence that never falls by one step never falls
 pub rising_from_steps : (f : ℕ → ℕ) → ((n : ℕ) → f n ≤ f (suc n)) → (n m : ℕ) → n ≤ m → f n ≤ f m
@@ -26,7 +26,7 @@ record Next {E S T : Type 0} (P : System E S) (Q : System E T) (c : ℕ) (R : S 
   beside : Beside P Q c R s t (suc n)
   rises : m ≤ beside.count
 
-module _ {E S T : Type 0} (P : System E S) (Q : System E T) (R : S → T → Type 0) (soundP : IsSystem P) (c : ℕ) (lock : LockStep P Q c R) (s : S) (t : T) (lead : ℕ) (early : lead ≤ c) (start : R s (after Q.step lead t)) where
+module _ {E S T : Type 0} (P : System E S) (Q : System E T) (R : S → T → Type 0) (soundP : IsSystem P) (c : ℕ) (lock : Plus P Q c R) (s : S) (t : T) (lead : ℕ) (early : lead ≤ c) (start : R s (after Q.step lead t)) where
   next : (n : ℕ) (b : Beside P Q c R s t n) → Next P Q c R s t n b.count
   next n b = ⊎_elim resting moving (final_or_running (P.ending (after P.step n s)))
     where
@@ -68,7 +68,7 @@ module _ {E S T : Type 0} (P : System E S) (Q : System E T) (R : S → T → Typ
   ends_back soundQ m f = ⊎_elim in_lead past_lead (cases_lt m lead)
     where
       follows : Follows P Q c s (after Q.step lead t)
-      follows = Follows-from_lock_step P Q R soundP soundQ c lock s (after Q.step lead t) start
+      follows = Follows-from_plus P Q R soundP soundQ c lock s (after Q.step lead t) start
 
       in_lead : m < lead → (n : ℕ) × Agree P Q (after P.step n s) (after Q.step m t)
       in_lead h =
@@ -85,7 +85,7 @@ module _ {E S T : Type 0} (P : System E S) (Q : System E T) (R : S → T → Typ
   prints_back soundQ m = ⊎_elim in_lead past_lead (cases_lt m lead)
     where
       follows : Follows P Q c s (after Q.step lead t)
-      follows = Follows-from_lock_step P Q R soundP soundQ c lock s (after Q.step lead t) start
+      follows = Follows-from_plus P Q R soundP soundQ c lock s (after Q.step lead t) start
 
       in_lead : m < lead → (n : ℕ) × IsPrefix (Q.printed (after Q.step m t)) (P.printed (after P.step n s))
       in_lead h =
@@ -97,8 +97,8 @@ module _ {E S T : Type 0} (P : System E S) (Q : System E T) (R : S → T → Typ
           (a.0, subst (λ y. IsPrefix (Q.printed y) (P.printed (after P.step a.0 s))) (sym (after-sub Q.step lead m t h)) a.1)
 
 -- in lock step Q keeps track of P, from any state that comes to a related one within one step's bound
-pub Tracks-from_lock_step : {E S T : Type 0} (P : System E S) (Q : System E T) (R : S → T → Type 0) → IsSystem P → IsSystem Q → (c : ℕ) → LockStep P Q c R → (s : S) (t : T) (lead : ℕ) → lead ≤ c → R s (after Q.step lead t) → Tracks P Q c R s t
-Tracks-from_lock_step P Q R soundP soundQ c lock s t lead early start = record {
+pub Tracks-from_plus : {E S T : Type 0} (P : System E S) (Q : System E T) (R : S → T → Type 0) → IsSystem P → IsSystem Q → (c : ℕ) → Plus P Q c R → (s : S) (t : T) (lead : ℕ) → lead ≤ c → R s (after Q.step lead t) → Tracks P Q c R s t
+Tracks-from_plus P Q R soundP soundQ c lock s t lead early start = record {
   count = λ n. (besides P Q R soundP c lock s t lead early start n).count;
   bounded = λ n. (besides P Q R soundP c lock s t lead early start n).bounded;
   rising = rising_from_steps (λ n. (besides P Q R soundP c lock s t lead early start n).count) (count_rises P Q R soundP c lock s t lead early start);

@@ -2,7 +2,7 @@
 use Rattle.std.specs.Prelude.{ℕ, ◌*◌, ◌≤◌}
 use Rattle.simulation.specs.System.{System, IsSystem, after}
 use Rattle.simulation.specs.Refinement.{Follows}
-use Rattle.simulation.specs.Simulation.{Simulation, LockStep, Drifting, Tracks}
+use Rattle.simulation.specs.Simulation.{Simulation, Plus, Star, Tracks}
 
 -- each system follows itself, step by step
 abbrev pub FollowsItself : (E S : Type 0) → Type 0
@@ -26,19 +26,19 @@ SimulationFollows E {S} {T} R =
     (k : ℕ) → Simulation P Q k R → (s : S) (t : T) → R s t → Follows P Q k s t
 
 -- so does a simulation in lock step
-abbrev pub LockStepFollows : (E : Type 0) {S T : Type 0} → (S → T → Type 0) → Type 0
-LockStepFollows E {S} {T} R =
+abbrev pub PlusFollows : (E : Type 0) {S T : Type 0} → (S → T → Type 0) → Type 0
+PlusFollows E {S} {T} R =
     (P : System E S) (Q : System E T) → IsSystem P → IsSystem Q →
-    (c : ℕ) → LockStep P Q c R → (s : S) (t : T) → R s t → Follows P Q c s t
+    (c : ℕ) → Plus P Q c R → (s : S) (t : T) → R s t → Follows P Q c s t
 
--- so does a drifting one
-abbrev pub DriftingFollows : (E : Type 0) {S T : Type 0} → (S → T → Type 0) → Type 0
-DriftingFollows E {S} {T} R =
+-- so does a star one
+abbrev pub StarFollows : (E : Type 0) {S T : Type 0} → (S → T → Type 0) → Type 0
+StarFollows E {S} {T} R =
     (P : System E S) (Q : System E T) → IsSystem P → IsSystem Q →
-    (c : ℕ) (distance : S → ℕ) → Drifting P Q c distance R → (s : S) (t : T) → R s t → Follows P Q c s t
+    (c : ℕ) (distance : S → ℕ) → Star P Q c distance R → (s : S) (t : T) → R s t → Follows P Q c s t
 
 -- in lock step Q keeps track of P, from any state that leads to a related one within c steps
-abbrev pub LockStepTracks : (E : Type 0) {S T : Type 0} → (S → T → Type 0) → Type 0
-LockStepTracks E {S} {T} R =
+abbrev pub PlusTracks : (E : Type 0) {S T : Type 0} → (S → T → Type 0) → Type 0
+PlusTracks E {S} {T} R =
     (P : System E S) (Q : System E T) → IsSystem P → IsSystem Q →
-    (c : ℕ) → LockStep P Q c R → (s : S) (t : T) (lead : ℕ) → lead ≤ c → R s (after Q.step lead t) → Tracks P Q c R s t
+    (c : ℕ) → Plus P Q c R → (s : S) (t : T) (lead : ℕ) → lead ≤ c → R s (after Q.step lead t) → Tracks P Q c R s t

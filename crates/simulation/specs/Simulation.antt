@@ -20,12 +20,12 @@ pub record Simulation {E S T : Type 0} (P : System E S) (Q : System E T) (k : �
   pub chunk : (s : S) (t : T) → R s t → P.ending s ≡ None → Chunk P Q k R s t
 
 -- each step of P is at least one and at most c steps of Q
-pub record LockStep {E S T : Type 0} (P : System E S) (Q : System E T) (c : ℕ) (R : S → T → Type 0) : Type 0 where
+pub record Plus {E S T : Type 0} (P : System E S) (Q : System E T) (c : ℕ) (R : S → T → Type 0) : Type 0 where
   pub agrees : (s : S) (t : T) → R s t → Agree P Q s t
   pub moves : (s : S) (t : T) → R s t → P.ending s ≡ None → (m : ℕ) × (suc m ≤ c) × R (P.step s) (after Q.step (suc m) t)
 
 -- each step of P is at least one and at most c steps of Q, or P makes it alone, and then a distance falls
-pub record Drifting {E S T : Type 0} (P : System E S) (Q : System E T) (c : ℕ) (distance : S → ℕ) (R : S → T → Type 0) : Type 0 where
+pub record Star {E S T : Type 0} (P : System E S) (Q : System E T) (c : ℕ) (distance : S → ℕ) (R : S → T → Type 0) : Type 0 where
   pub agrees : (s : S) (t : T) → R s t → Agree P Q s t
   pub moves : (s : S) (t : T) → R s t → P.ending s ≡ None →
       ((distance (P.step s) < distance s) × R (P.step s) t) ⊎ ((m : ℕ) × (suc m ≤ c) × R (P.step s) (after Q.step (suc m) t))

@@ -8,11 +8,11 @@
 //! ended rests, and that a step takes back nothing of what was printed (`IsSystem`).
 //!
 //! The laws are those of forward simulation (N. Lynch and F. Vaandrager, "Forward and Backward
-//! Simulations", 1995), with bounds on the numbers of steps. `LockStep` and `Drifting` are the "plus"
+//! Simulations", 1995), with bounds on the numbers of steps. `Plus` and `Star` are the "plus"
 //! and the "star" diagram of the CompCert compiler's `Smallstep.v`.
 #![tactic(auto)]
 
-ghost use Rattle.simulation.specs.Laws.{FollowsItself, FollowsOn, FollowsSlower, SimulationFollows, LockStepFollows, DriftingFollows, LockStepTracks};
+ghost use Rattle.simulation.specs.Laws.{FollowsItself, FollowsOn, FollowsSlower, SimulationFollows, PlusFollows, StarFollows, PlusTracks};
 
 /// A relation between the states of one system, of the type `S`, and those of another, `T`.
 pub trait Relates<S, T> {
@@ -45,21 +45,21 @@ pub fn simulation_follows<E, S, T, R: Relates<S, T>>()
 {}
 
 /// The same where each step of the first system is at least one step of the second, and at most the factor.
-pub fn lock_step_follows<E, S, T, R: Relates<S, T>>()
-    ensures { LockStepFollows E R.related }
+pub fn plus_follows<E, S, T, R: Relates<S, T>>()
+    ensures { PlusFollows E R.related }
 {}
 
 /// The same where the first system may also make steps alone to related states, while a distance falls.
-pub fn drifting_follows<E, S, T, R: Relates<S, T>>()
-    ensures { DriftingFollows E R.related }
+pub fn star_follows<E, S, T, R: Relates<S, T>>()
+    ensures { StarFollows E R.related }
 {}
 
 /// Where each step of the first system is at least one step of the second and at most `c`, and the second
 /// comes to a related state within `c` steps, it has a state related to each state of the first: after at
 /// most `c` steps for each step of the first and `c` more, a number that never falls. The two states agree;
 /// where the second ends the first ends alike, and it prints nothing that the first doesn't.
-pub fn lock_step_tracks<E, S, T, R: Relates<S, T>>()
-    ensures { LockStepTracks E R.related }
+pub fn plus_tracks<E, S, T, R: Relates<S, T>>()
+    ensures { PlusTracks E R.related }
 {}
 
 #[cfg(test)]

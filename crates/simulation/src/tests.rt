@@ -15,7 +15,7 @@ fn each_law_is_called_at_a_relation_between_numbers() {
     follows_on::<bool, u8, u8, u8>();
     follows_slower::<bool, u8, u8>();
     simulation_follows::<bool, u8, u8, Equal>();
-    lock_step_follows::<bool, u8, u8, Equal>();
-    drifting_follows::<bool, u8, u8, Equal>();
-    lock_step_tracks::<bool, u8, u8, Equal>();
+    plus_follows::<bool, u8, u8, Equal>();
+    star_follows::<bool, u8, u8, Equal>();
+    plus_tracks::<bool, u8, u8, Equal>();
 }

@@ -74,10 +74,10 @@ in_range from (suc n) x (inl e) = omega arith
 in_range from (suc n) x (inr h) = let less = in_range (from + 1) n x h in omega arith
 
 module _ (p : Prog) (limits : Limits) (heap : List Cell) where
-  argument-held : (f : Func) (vs : List Value) (place : Location) → HaveTypes heap vs (types_of (Some f)) → In place (map Variable (range_with_len 0 f.args))
-      → Holds heap f (record { vars = arguments_from p limits 0 vs no_values; shadows = no_values }) place
-  argument-held f vs place h i =
-      let source = in_map_source Variable place (range_with_len 0 f.args) i in
+  argument-held : (f : Func) (vs : List Value) (location : Location) → HaveTypes heap vs (types_of (Some f)) → In location (map Variable (range_with_len 0 f.args))
+      → Holds heap f (record { vars = arguments_from p limits 0 vs no_values; shadows = no_values }) location
+  argument-held f vs location h i =
+      let source = in_map_source Variable location (range_with_len 0 f.args) i in
       let count = types-count heap f.args f.vars vs f.formed.few_args h in
       let inside : source.0 < length vs = (let less = in_range 0 f.args source.0 source.1 in omega arith) in
       let a = argument_at heap f.args f.vars vs source.0 h inside in
@@ -90,4 +90,4 @@ module _ (p : Prog) (limits : Limits) (heap : List Cell) where
 
   -- a new frame has its arguments
   pub new-sits : (g : ℕ) (f : Func) (vs : List Value) → slice_get p.funcs g ≡ Some f → HaveTypes heap vs (types_of (Some f)) → Sits p heap f (new_frame p limits g vs)
-  new-sits g f vs there h = record { there = there; walk = []; is = tt; ends = refl; places = λ place i. argument-held f vs place h i; saves = tt }
+  new-sits g f vs there h = record { there = there; walk = []; is = tt; ends = refl; locations = λ location i. argument-held f vs location h i; saves = tt }

@@ -14,7 +14,7 @@ use Rattle.bril_tree.specs.declared.value.Value.{Value}
 use Rattle.bril_tree.specs.Accepted.{IsAccepted}
 use Rattle.bril_tree.specs.Memory.{is_live_any}
 use Rattle.bril_tree.specs.Operand.{Variable}
-use Rattle.bril_tree.specs.State.{Places, Frame, State, read}
+use Rattle.bril_tree.specs.State.{Locals, Frame, State, read}
 use Rattle.bril_tree.specs.Step.{items_of, item_at, faulted, gives, ends, awaited, returns, new_frame, calls}
 use Rattle.bril_tree.specs.Typing.{variable_type, same_result, are_typed, is_call_typed}
 use Rattle.flow_graph.proofs.Members.{In, in_map, contains_in}
@@ -23,21 +23,21 @@ use Rattle.type_soundness.proofs.Callees.{callee_there, in_index}
 use Rattle.type_soundness.proofs.Frames.{Holds, Sits}
 use Rattle.type_soundness.proofs.Invariant.{Waits, Stands, Runs}
 use Rattle.type_soundness.proofs.Operands.{read-typed, dest-typed}
-use Rattle.type_soundness.proofs.Places.{IsTypedAct, act-typed}
+use Rattle.type_soundness.proofs.Locals.{IsTypedAct, act-typed}
 use Rattle.type_soundness.proofs.Standing.{accepted_function, shaped_at, typed_at, holds-read}
 use Rattle.type_soundness.proofs.Steps.{gives-stands}
 use Rattle.type_soundness.proofs.Typed.{Cell, HasType, HasType-both, HasType-back}
 
 -- ---- the values of the arguments
 
-called-values : (p : Prog) (heap : List Cell) (f : Func) (places : Places) (args : List ℕ) (ts : List (Option Ty)) → are_typed (map (variable_type f.vars) args) ts ≡ true → ((x : ℕ) → In x args → Holds heap f places (Variable x))
-    → HaveTypes heap (map (read places.vars) args) ts
-called-values p heap f places [] [] e h = tt
-called-values p heap f places [] (t ∷ ts) e h = absurd (cc)
-called-values p heap f places (x ∷ args) [] e h = absurd (cc)
-called-values p heap f places (x ∷ args) (t ∷ ts) e h =
+called-values : (p : Prog) (heap : List Cell) (f : Func) (locations : Locals) (args : List ℕ) (ts : List (Option Ty)) → are_typed (map (variable_type f.vars) args) ts ≡ true → ((x : ℕ) → In x args → Holds heap f locations (Variable x))
+    → HaveTypes heap (map (read locations.vars) args) ts
+called-values p heap f locations [] [] e h = tt
+called-values p heap f locations [] (t ∷ ts) e h = absurd (cc)
+called-values p heap f locations (x ∷ args) [] e h = absurd (cc)
+called-values p heap f locations (x ∷ args) (t ∷ ts) e h =
     let both = and_parts _ _ e in
-    (HasType-both heap (variable_type f.vars x) t (read places.vars x) both.0 (read-typed p heap f places x (h x (inl refl))), called-values p heap f places args ts both.1 (λ y i. h y (inr i)))
+    (HasType-both heap (variable_type f.vars x) t (read locations.vars x) both.0 (read-typed p heap f locations x (h x (inl refl))), called-values p heap f locations args ts both.1 (λ y i. h y (inr i)))
 
 -- ---- the returned value
 
@@ -62,7 +62,7 @@ module _ (p : Prog) (limits : Limits) (accepted : IsAccepted p) where
   returned-typed : (heap : List Cell) (number : ℕ) (above : Func) (caller : Frame) (w : Waits p heap number caller) (v : Value) → slice_get p.funcs number ≡ Some above → HasType heap above.ret v → (x : ℕ) → w.dest ≡ Some x → HasType heap (variable_type w.function.vars x) v
   returned-typed heap number above caller w v there h x d =
       let call = call-typed heap w.function above caller w.sits w.dest w.ty w.args w.funcs w.labels w.at (ap (slice_get p.funcs) w.callee ∙ there) in
-      dest-typed p heap w.function caller.places w.dest w.ty v x (act-here heap w.function caller w.sits w.dest w.ty w.args w.funcs w.labels w.at).dest_typed
+      dest-typed p heap w.function caller.locations w.dest w.ty v x (act-here heap w.function caller w.sits w.dest w.ty w.args w.funcs w.labels w.at).dest_typed
       (result-typed heap w.ty above.ret v (and_parts _ _ call).1 h) d
 
   -- ---- the states
@@ -90,13 +90,13 @@ module _ (p : Prog) (limits : Limits) (accepted : IsAccepted p) where
         frame = _;
         older = older;
         frames = refl;
-        stands = gives-stands p s.blocks caller older below item v w.at (record { way = λ code point. inl refl; keeps = refl; assigns = refl }) (returned-typed st.heap frame.function st.function caller w v st.sits.there h);
+        stands = gives-stands p s.blocks caller older below item v w.at (record { branch = λ code point. inl refl; keeps = refl; assigns = refl }) (returned-typed st.heap frame.function st.function caller w v st.sits.there h);
       } in
       subst (λ (o : Option Instr). Runs p (gives p limits (awaited p limits o) v caller older s)) (sym there) goes_on
 
   -- a new frame over the newest
   call-stands : (s : State) (frame : Frame) (older : List Frame) (st : Stands p s.blocks frame older) (dest : Option ℕ) (ty : Option Ty) (args funcs labels : List ℕ) → slice_get st.function.code frame.point ≡ Some (Act dest ty op.Call args funcs labels)
-      → Stands p s.blocks (new_frame p limits (slice_index funcs 0) (map (read frame.places.vars) args)) (frame ∷ older)
+      → Stands p s.blocks (new_frame p limits (slice_index funcs 0) (map (read frame.locations.vars) args)) (frame ∷ older)
   call-stands s frame older st dest ty args funcs labels at =
       let f = st.function in
       let item = Act dest ty op.Call args funcs labels in
@@ -109,12 +109,12 @@ module _ (p : Prog) (limits : Limits) (accepted : IsAccepted p) where
         heap = st.heap;
         memory = st.memory;
         function = callee.0;
-        sits = new-sits p limits st.heap (slice_index funcs 0) callee.0 (map (read frame.places.vars) args) callee.1 (called-values p st.heap f frame.places args _ (and_parts _ _ call).0 held);
+        sits = new-sits p limits st.heap (slice_index funcs 0) callee.0 (map (read frame.locations.vars) args) callee.1 (called-values p st.heap f frame.locations args _ (and_parts _ _ call).0 held);
         stack = (record { function = f; sits = st.sits; dest = dest; ty = ty; args = args; funcs = funcs; labels = labels; at = at; callee = refl }, st.stack);
       }
 
   pub calls-runs : (s : State) (frame : Frame) (older : List Frame) → s.frames ≡ frame ∷ older → (st : Stands p s.blocks frame older) (dest : Option ℕ) (ty : Option Ty) (args funcs labels : List ℕ) → slice_get st.function.code frame.point ≡ Some (Act dest ty op.Call args funcs labels)
-      → Runs p (calls p limits (slice_index funcs 0) (map (read frame.places.vars) args) frame older s)
+      → Runs p (calls p limits (slice_index funcs 0) (map (read frame.locations.vars) args) frame older s)
   calls-runs s frame older framed st dest ty args funcs labels at =
       cond-runs (nat_lt (suc (length older)) limits.frames) _ _
       (record { frame = _; older = frame ∷ older; frames = refl; stands = call-stands s frame older st dest ty args funcs labels at })

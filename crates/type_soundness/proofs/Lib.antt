@@ -1,6 +1,6 @@
 pub mod Typed
 pub mod Outcomes
-pub mod Places
+pub mod Locals
 pub mod Frames
 pub mod Standing
 pub mod Blocks

@@ -15,45 +15,45 @@ use Rattle.bril_tree.specs.declared.value.Lit.TheVariants as literal
 use Rattle.bril_tree.specs.declared.value.Value.{Value}
 use Rattle.bril_tree.specs.declared.value.Value.TheVariants.{Int, Bool as Boolean, Char}
 use Rattle.bril_tree.specs.Assigned.{assigns_of}
-use Rattle.bril_tree.specs.Edge.{item_ways, onward}
+use Rattle.bril_tree.specs.Edge.{item_branches, onward}
 use Rattle.bril_tree.specs.FunctionForm.{listed}
 use Rattle.bril_tree.specs.Operand.{Location, Variable, Shadow, dest_of, reads_of}
-use Rattle.bril_tree.specs.Outcome.{Gives, outcome_of, action_outcome, argument, shadow_given}
+use Rattle.bril_tree.specs.Outcome.{Yields, outcome_of, action_outcome, argument, shadow_given}
 use Rattle.bril_tree.specs.Shape.{is_shaped, is_action_shaped}
 use Rattle.bril_tree.specs.Sites.{Keeps, item_change}
-use Rattle.bril_tree.specs.State.{Places, Values, read}
+use Rattle.bril_tree.specs.State.{Locals, Values, read}
 use Rattle.bril_tree.specs.Typing.{variable_type, argument_type, is_dest_typed, is_literal_typed, type_fault}
 use Rattle.bril_tree.specs.Value.{IsInRange, literal_value}
 use Rattle.flow_graph.proofs.Members.{In, contains_in, in_map}
-use Rattle.type_soundness.specs.Standing.{IsLiteralInRange}
+use Rattle.type_soundness.specs.WellTyped.{IsLiteralInRange}
 use Rattle.type_soundness.proofs.Callees.{in_index}
 use Rattle.type_soundness.proofs.Frames.{Holds}
 use Rattle.type_soundness.proofs.Outcomes.{computed_typed, uses_first}
-use Rattle.type_soundness.proofs.Places.{IsTypedAct, act-typed, both-parts, counted}
+use Rattle.type_soundness.proofs.Locals.{IsTypedAct, act-typed, both-parts, counted}
 use Rattle.type_soundness.proofs.Typed.{Cell, HasType, HasType-both, HasType-plain}
 
 -- ---- items from which control goes on, and which assign their destination
 
 pub record GoesOn (item : Instr) : Type 0 where
-  pub way : (code : List Instr) (point : ℕ) → In (onward point) (item_ways code point item)
+  pub branch : (code : List Instr) (point : ℕ) → In (onward point) (item_branches code point item)
   pub keeps : item_change (Some item) false ≡ Keeps
   pub assigns : assigns_of item ≡ map Variable (listed (dest_of item))
 
-act-goes_on : (o : Op) (dest : Option ℕ) (ty : Option Ty) (args funcs labels : List ℕ) (places : Places) (v : Value) → action_outcome o dest ty args places ≡ Gives v → GoesOn (Act dest ty o args funcs labels)
-act-goes_on op.Jmp dest ty args funcs labels places v e = absurd (cc)
-act-goes_on op.Br dest ty args funcs labels places v e = absurd (cc)
-act-goes_on op.Ret dest ty args funcs labels places v e = absurd (cc)
-act-goes_on op.Guard dest ty args funcs labels places v e = absurd (cc)
-act-goes_on op.Set dest ty args funcs labels places v e = absurd (cc)
-act-goes_on op.Speculate dest ty args funcs labels places v e = absurd (cc)
-act-goes_on op.Commit dest ty args funcs labels places v e = absurd (cc)
-act-goes_on _ dest ty args funcs labels places v e = record { way = λ code point. inl refl; keeps = refl; assigns = refl }
+act-goes_on : (o : Op) (dest : Option ℕ) (ty : Option Ty) (args funcs labels : List ℕ) (locations : Locals) (v : Value) → action_outcome o dest ty args locations ≡ Yields v → GoesOn (Act dest ty o args funcs labels)
+act-goes_on op.Jmp dest ty args funcs labels locations v e = absurd (cc)
+act-goes_on op.Br dest ty args funcs labels locations v e = absurd (cc)
+act-goes_on op.Ret dest ty args funcs labels locations v e = absurd (cc)
+act-goes_on op.Guard dest ty args funcs labels locations v e = absurd (cc)
+act-goes_on op.Set dest ty args funcs labels locations v e = absurd (cc)
+act-goes_on op.Speculate dest ty args funcs labels locations v e = absurd (cc)
+act-goes_on op.Commit dest ty args funcs labels locations v e = absurd (cc)
+act-goes_on _ dest ty args funcs labels locations v e = record { branch = λ code point. inl refl; keeps = refl; assigns = refl }
 
 -- an item that gives a value
-pub giver-goes_on : (item : Instr) (places : Places) (v : Value) → outcome_of item places ≡ Gives v → GoesOn item
-giver-goes_on (Label l) places v e = absurd (cc)
-giver-goes_on (Const dest ty value) places v e = record { way = λ code point. inl refl; keeps = refl; assigns = refl }
-giver-goes_on (Act dest ty o args funcs labels) places v e = act-goes_on o dest ty args funcs labels places v e
+pub giver-goes_on : (item : Instr) (locations : Locals) (v : Value) → outcome_of item locations ≡ Yields v → GoesOn item
+giver-goes_on (Label l) locations v e = absurd (cc)
+giver-goes_on (Const dest ty value) locations v e = record { branch = λ code point. inl refl; keeps = refl; assigns = refl }
+giver-goes_on (Act dest ty o args funcs labels) locations v e = act-goes_on o dest ty args funcs labels locations v e
 
 -- ---- what is read
 
@@ -63,26 +63,26 @@ some m n e less = omega arith
 read-is : (values : Values) (x : ℕ) (v : Value) → values x ≡ Some v → read values x ≡ v
 read-is values x v e = ap (λ (o : Option Value). unwrap_or o (Int (pos 0))) e
 
-module _ (p : Prog) (heap : List Cell) (f : Func) (places : Places) where
-  -- each place that an item reads holds a value of its type
+module _ (p : Prog) (heap : List Cell) (f : Func) (locations : Locals) where
+  -- each location that an item reads holds a value of its type
   abbrev pub HoldsReads : Instr → Type 0
-  HoldsReads item = (place : Location) → Contains (reads_of item) place → Holds heap f places place
+  HoldsReads item = (location : Location) → Contains (reads_of item) location → Holds heap f locations location
 
-  pub read-typed : (x : ℕ) → Holds heap f places (Variable x) → HasType heap (variable_type f.vars x) (read places.vars x)
-  read-typed x h = subst (λ v. HasType heap (variable_type f.vars x) v) (sym (read-is places.vars x h.value h.is)) h.typed
+  pub read-typed : (x : ℕ) → Holds heap f locations (Variable x) → HasType heap (variable_type f.vars x) (read locations.vars x)
+  read-typed x h = subst (λ v. HasType heap (variable_type f.vars x) v) (sym (read-is locations.vars x h.value h.is)) h.typed
 
-  shadow-typed : (x : ℕ) → Holds heap f places (Shadow x) → HasType heap (variable_type f.vars x) (read places.shadows x)
-  shadow-typed x h = subst (λ v. HasType heap (variable_type f.vars x) v) (sym (read-is places.shadows x h.value h.is)) h.typed
+  shadow-typed : (x : ℕ) → Holds heap f locations (Shadow x) → HasType heap (variable_type f.vars x) (read locations.shadows x)
+  shadow-typed x h = subst (λ v. HasType heap (variable_type f.vars x) v) (sym (read-is locations.shadows x h.value h.is)) h.typed
 
   -- an argument of an operation that reads its arguments
-  pub argument-typed : (item : Instr) (args : List ℕ) (k : ℕ) → reads_of item ≡ map Variable args → HoldsReads item → k < length args → HasType heap (argument_type f.vars args k) (argument places args k)
+  pub argument-typed : (item : Instr) (args : List ℕ) (k : ℕ) → reads_of item ≡ map Variable args → HoldsReads item → k < length args → HasType heap (argument_type f.vars args k) (argument locations args k)
   argument-typed item args k e h less =
       let x = slice_index args k in
       read-typed x (h (Variable x) (subst (λ list. Contains list (Variable x)) (sym e) (contains_in (Variable x) (map Variable args) (in_map Variable x args (in_index args k less)))))
 
   -- the first argument, where an operation's outcome depends on its type
   first-typed : (o : Op) (dest : Option ℕ) (ty : Option Ty) (args funcs labels : List ℕ) → is_action_shaped (is_some f.ret) o (is_some dest) (length args) (length funcs) (length labels) ≡ true
-      → HoldsReads (Act dest ty o args funcs labels) → uses_first o ≡ true → HasType heap (argument_type f.vars args 0) (argument places args 0)
+      → HoldsReads (Act dest ty o args funcs labels) → uses_first o ≡ true → HasType heap (argument_type f.vars args 0) (argument locations args 0)
   first-typed op.Id dest ty args funcs labels shaped h u = argument-typed (Act dest ty op.Id args funcs labels) args 0 refl h (some (length args) 1 (counted p f op.Id dest args funcs labels shaped) (omega arith))
   first-typed op.PtrAdd dest ty args funcs labels shaped h u = argument-typed (Act dest ty op.PtrAdd args funcs labels) args 0 refl h (some (length args) 2 (counted p f op.PtrAdd dest args funcs labels shaped) (omega arith))
   first-typed op.CharToInt dest ty args funcs labels shaped h u = argument-typed (Act dest ty op.CharToInt args funcs labels) args 0 refl h (some (length args) 1 (counted p f op.CharToInt dest args funcs labels shaped) (omega arith))
@@ -90,10 +90,10 @@ module _ (p : Prog) (heap : List Cell) (f : Func) (places : Places) where
 
   -- ---- what is given
 
-  shadow_given-typed : (dest : Option ℕ) (ty : Option Ty) (args funcs labels : List ℕ) (v : Value) (x : ℕ) → HoldsReads (Act dest ty op.Get args funcs labels) → shadow_given places dest ≡ Gives v → dest ≡ Some x → HasType heap (variable_type f.vars x) v
+  shadow_given-typed : (dest : Option ℕ) (ty : Option Ty) (args funcs labels : List ℕ) (v : Value) (x : ℕ) → HoldsReads (Act dest ty op.Get args funcs labels) → shadow_given locations dest ≡ Yields v → dest ≡ Some x → HasType heap (variable_type f.vars x) v
   shadow_given-typed None ty args funcs labels v x h e d = absurd (cc)
   shadow_given-typed (Some y) ty args funcs labels v x h e d =
-      let same : read places.shadows y ≡ v = cc in
+      let same : read locations.shadows y ≡ v = cc in
       let here : y ≡ x = cc in
       subst (λ z. HasType heap (variable_type f.vars z) v) here (subst (λ w. HasType heap (variable_type f.vars y) w) same (shadow-typed y (h (Shadow y) (contains_in (Shadow y) (Shadow y ∷ []) (inl refl)))))
 
@@ -105,10 +105,10 @@ module _ (p : Prog) (heap : List Cell) (f : Func) (places : Places) where
       subst (λ z. HasType heap (variable_type f.vars z) v) same (HasType-both heap ty (variable_type f.vars y) v t h)
 
   act-given : (o : Op) (dest : Option ℕ) (ty : Option Ty) (args funcs labels : List ℕ) (v : Value) (x : ℕ) → is_action_shaped (is_some f.ret) o (is_some dest) (length args) (length funcs) (length labels) ≡ true
-      → IsTypedAct p f o dest ty args funcs → HoldsReads (Act dest ty o args funcs labels) → action_outcome o dest ty args places ≡ Gives v → dest ≡ Some x → HasType heap (variable_type f.vars x) v
+      → IsTypedAct p f o dest ty args funcs → HoldsReads (Act dest ty o args funcs labels) → action_outcome o dest ty args locations ≡ Yields v → dest ≡ Some x → HasType heap (variable_type f.vars x) v
   act-given op.Get dest ty args funcs labels v x shaped t h e d = shadow_given-typed dest ty args funcs labels v x h e d
   act-given o dest ty args funcs labels v x shaped t h e d =
-      dest-typed dest ty v x t.dest_typed (computed_typed heap p f o ty args funcs (argument places args 0) (argument places args 1) v t.operands_typed (first-typed o dest ty args funcs labels shaped h) e) d
+      dest-typed dest ty v x t.dest_typed (computed_typed heap p f o ty args funcs (argument locations args 0) (argument locations args 1) v t.operands_typed (first-typed o dest ty args funcs labels shaped h) e) d
 
   literal-typed : (value : Lit) (ty : Ty) → is_literal_typed value ty ≡ true → IsInRange (literal_value value) → HasType heap (Some ty) (literal_value value)
   literal-typed (literal.Int n) ty e r = HasType-plain heap base.Int (Some ty) (Int n) e r tt
@@ -116,7 +116,7 @@ module _ (p : Prog) (heap : List Cell) (f : Func) (places : Places) where
   literal-typed (literal.Char c) ty e r = HasType-plain heap base.Char (Some ty) (Char c) e r tt
 
   -- what an item gives is of its destination's type
-  pub given-typed : (item : Instr) (v : Value) (x : ℕ) → is_shaped (is_some f.ret) item ≡ true → type_fault p f item ≡ None → IsLiteralInRange item → HoldsReads item → outcome_of item places ≡ Gives v → dest_of item ≡ Some x
+  pub given-typed : (item : Instr) (v : Value) (x : ℕ) → is_shaped (is_some f.ret) item ≡ true → type_fault p f item ≡ None → IsLiteralInRange item → HoldsReads item → outcome_of item locations ≡ Yields v → dest_of item ≡ Some x
       → HasType heap (variable_type f.vars x) v
   given-typed (Label l) v x shaped t r h e d = absurd (cc)
   given-typed (Const dest ty value) v x shaped t r h e d =

@@ -16,7 +16,7 @@ use Rattle.bril_tree.specs.declared.types.Base.TheVariants as base
 use Rattle.bril_tree.specs.declared.types.Ty.{Ty}
 use Rattle.bril_tree.specs.declared.value.Value.{Value}
 use Rattle.bril_tree.specs.declared.value.Value.TheVariants.{Int, Bool as Boolean, Char, Ptr}
-use Rattle.bril_tree.specs.Outcome.{Gives, Fails, computed, divided, char_from, is_scalar, fits_32, moved, undefined, char_of, block_of, offset_of, int_of, int_same}
+use Rattle.bril_tree.specs.Outcome.{Yields, FaultsWith, computed, divided, char_from, is_scalar, fits_32, moved, undefined, char_of, block_of, offset_of, int_of, int_same}
 use Rattle.bril_tree.specs.Shape.{Shape, fits_shape, same}
 use Rattle.bril_tree.specs.Typing.{is_action_typed, argument_type, if_typed, is_plain, is_pointer}
 use Rattle.bril_tree.specs.Value.{IsInRange, zero_of, zero_at}
@@ -65,24 +65,24 @@ uses_first op.CharToInt = true
 uses_first _ = false
 
 module _ (heap : List Cell) where
-  int_given : (ty : Option Ty) (n : ℤ) (v : Value) → if_typed (is_plain base.Int) ty ≡ true → FitsSigned w64 n → Gives (Int n) ≡ Gives v → HasType heap ty v
+  int_given : (ty : Option Ty) (n : ℤ) (v : Value) → if_typed (is_plain base.Int) ty ≡ true → FitsSigned w64 n → Yields (Int n) ≡ Yields v → HasType heap ty v
   int_given ty n v t fits e = let same : Int n ≡ v = cc in subst (λ w. HasType heap ty w) same (HasType-plain heap base.Int ty (Int n) t fits tt)
 
-  bool_given : (ty : Option Ty) (b : Bool) (v : Value) → if_typed (is_plain base.Bool) ty ≡ true → Gives (Boolean b) ≡ Gives v → HasType heap ty v
+  bool_given : (ty : Option Ty) (b : Bool) (v : Value) → if_typed (is_plain base.Bool) ty ≡ true → Yields (Boolean b) ≡ Yields v → HasType heap ty v
   bool_given ty b v t e = let same : Boolean b ≡ v = cc in subst (λ w. HasType heap ty w) same (HasType-plain heap base.Bool ty (Boolean b) t tt tt)
 
-  char_given : (ty : Option Ty) (c : ℕ) (v : Value) → if_typed (is_plain base.Char) ty ≡ true → IsScalar c → Gives (Char c) ≡ Gives v → HasType heap ty v
+  char_given : (ty : Option Ty) (c : ℕ) (v : Value) → if_typed (is_plain base.Char) ty ≡ true → IsScalar c → Yields (Char c) ≡ Yields v → HasType heap ty v
   char_given ty c v t scalar e = let same : Char c ≡ v = cc in subst (λ w. HasType heap ty w) same (HasType-plain heap base.Char ty (Char c) t scalar tt)
 
-  divided_given : (zero_divisor : Bool) (ty : Option Ty) (a b : ℤ) (v : Value) → if_typed (is_plain base.Int) ty ≡ true → divided zero_divisor a b ≡ Gives v → HasType heap ty v
+  divided_given : (zero_divisor : Bool) (ty : Option Ty) (a b : ℤ) (v : Value) → if_typed (is_plain base.Int) ty ≡ true → divided zero_divisor a b ≡ Yields v → HasType heap ty v
   divided_given true ty a b v t e = absurd (cc)
   divided_given false ty a b v t e = int_given ty _ v t (SFits-int_wrap w64 _) e
 
-  char_by_test : (scalar : Bool) (ty : Option Ty) (n : ℕ) (v : Value) → if_typed (is_plain base.Char) ty ≡ true → is_scalar n ≡ scalar → cond scalar (Gives (Char n)) (Fails BadChar) ≡ Gives v → HasType heap ty v
+  char_by_test : (scalar : Bool) (ty : Option Ty) (n : ℕ) (v : Value) → if_typed (is_plain base.Char) ty ≡ true → is_scalar n ≡ scalar → cond scalar (Yields (Char n)) (FaultsWith BadChar) ≡ Yields v → HasType heap ty v
   char_by_test true ty n v t s e = char_given ty n v t (char-scalar n s) e
   char_by_test false ty n v t s e = absurd (cc)
 
-  char_from_given : (ty : Option Ty) (z : ℤ) (v : Value) → if_typed (is_plain base.Char) ty ≡ true → char_from z ≡ Gives v → HasType heap ty v
+  char_from_given : (ty : Option Ty) (z : ℤ) (v : Value) → if_typed (is_plain base.Char) ty ≡ true → char_from z ≡ Yields v → HasType heap ty v
   char_from_given ty (pos n) v t e = char_by_test (is_scalar n) ty n v t refl e
   char_from_given ty (negsuc n) v t e = absurd (cc)
 
@@ -92,7 +92,7 @@ module _ (heap : List Cell) where
   zero_typed zero base.Char = (refl, tt)
   zero_typed (suc depth) b = ((omega arith, record { sfits = omega arith }), inl refl)
 
-  undefined_given : (ty : Option Ty) (v : Value) → undefined ty ≡ Gives v → HasType heap ty v
+  undefined_given : (ty : Option Ty) (v : Value) → undefined ty ≡ Yields v → HasType heap ty v
   undefined_given None v e = absurd (cc)
   undefined_given (Some ty) v e = let same : zero_of ty ≡ v = cc in subst (λ w. HasType heap (Some ty) w) same (zero_typed ty.depth ty.base)
 
@@ -104,13 +104,13 @@ module _ (heap : List Cell) where
   moved_typed (suc depth) b (Char c) offset p fits h = absurd h.1
   moved_typed (suc depth) b (Ptr block o) offset p fits h = ((h.0.0, fits), h.1)
 
-  moved_by_test : (fits : Bool) (t : Ty) (a : Value) (offset : ℤ) (v : Value) → is_pointer t ≡ true → fits_32 offset ≡ fits → HasType heap (Some t) a → cond fits (Gives (Ptr (block_of a) offset)) (Fails PtrRange) ≡ Gives v → HasType heap (Some t) v
+  moved_by_test : (fits : Bool) (t : Ty) (a : Value) (offset : ℤ) (v : Value) → is_pointer t ≡ true → fits_32 offset ≡ fits → HasType heap (Some t) a → cond fits (Yields (Ptr (block_of a) offset)) (FaultsWith PtrRange) ≡ Yields v → HasType heap (Some t) v
   moved_by_test true t a offset v p fits h e =
       let same : Ptr (block_of a) offset ≡ v = cc in
       subst (λ w. HasType heap (Some t) w) same (moved_typed t.depth t.base a offset p (fits-32 offset fits) h)
   moved_by_test false t a offset v p fits h e = absurd (cc)
 
-  moved_given : (t : Option Ty) (a : Value) (offset : ℤ) (v : Value) → if_typed is_pointer t ≡ true → HasType heap t a → moved (block_of a) offset ≡ Gives v → HasType heap t v
+  moved_given : (t : Option Ty) (a : Value) (offset : ℤ) (v : Value) → if_typed is_pointer t ≡ true → HasType heap t a → moved (block_of a) offset ≡ Yields v → HasType heap t v
   moved_given None a offset v p h e = absurd (cc)
   moved_given (Some t) a offset v p h e = moved_by_test (fits_32 offset) t a offset v p refl h e
 
@@ -120,7 +120,7 @@ module _ (heap : List Cell) where
 
   -- an operation that computes gives a value of its type, from a first argument of its own type
   pub computed_typed : (p : Prog) (f : Func) (o : Op) (ty : Option Ty) (args funcs : List ℕ) (a b v : Value) → is_action_typed p f o ty args funcs ≡ true
-      → (uses_first o ≡ true → HasType heap (argument_type f.vars args 0) a) → computed o ty a b ≡ Gives v → HasType heap ty v
+      → (uses_first o ≡ true → HasType heap (argument_type f.vars args 0) a) → computed o ty a b ≡ Yields v → HasType heap ty v
   computed_typed p f op.Add ty args funcs a b v t first e = int_given ty _ v (and_parts _ _ t).1 (SFits-int_wrap w64 _) e
   computed_typed p f op.Sub ty args funcs a b v t first e = int_given ty _ v (and_parts _ _ t).1 (SFits-int_wrap w64 _) e
   computed_typed p f op.Mul ty args funcs a b v t first e = int_given ty _ v (and_parts _ _ t).1 (SFits-int_wrap w64 _) e

@@ -10,21 +10,21 @@ use Rattle.bril_tree.specs.declared.program.Prog.{Prog}
 use Rattle.bril_tree.specs.declared.value.Value.{Value}
 use Rattle.bril_tree.specs.Accepted.{IsAccepted, IsAcceptedFunction, leaves_frame}
 use Rattle.bril_tree.specs.Assigned.{Assigned, assigned_of, assigned_changed, assigns_at}
-use Rattle.bril_tree.specs.Edge.{Way, ways_at}
+use Rattle.bril_tree.specs.Edge.{Branch, branches_at}
 use Rattle.bril_tree.specs.Operand.{Location, Variable, Shadow, reads_of}
 use Rattle.bril_tree.specs.Run.{Suits}
 use Rattle.bril_tree.specs.Shape.{is_shaped}
 use Rattle.bril_tree.specs.Sites.{AreFirstSites, AreSitesSound, TooMany, NoSite, Change, Opens, Closes, Keeps, change_of, most_sites, needs_site, sites_of, sites_changed, without_newest}
-use Rattle.bril_tree.specs.State.{Places, Frame}
+use Rattle.bril_tree.specs.State.{Locals, Frame}
 use Rattle.bril_tree.specs.Typing.{type_fault}
 use Rattle.bril_tree.specs.Walk.{IsWalk, IsReached, end_of}
 use Rattle.flow_graph.proofs.FirstWalks.{reached_have_first}
 use Rattle.flow_graph.proofs.Members.{In, in_contains}
 use Rattle.flow_graph.proofs.OpenSites.{sound_walks_agree}
-use Rattle.flow_graph.proofs.Order.{way_inside}
-use Rattle.type_soundness.specs.Standing.{StandsWell, place_type, place_value}
+use Rattle.flow_graph.proofs.Order.{branch_inside}
+use Rattle.type_soundness.specs.WellTyped.{IsWellTyped, location_type, location_value}
 use Rattle.type_soundness.proofs.Typed.{Cell, HasType, HasType-suits}
-use Rattle.type_soundness.proofs.Places.{reads-there}
+use Rattle.type_soundness.proofs.Locals.{reads-there}
 use Rattle.type_soundness.proofs.Frames.{Holds, AllCover, Sits}
 
 -- ---- elements of lists
@@ -51,11 +51,11 @@ same-shadow : (x y : ℕ) → (x ≡ y) ⊎ (x ≡ y → ⊥) → (Shadow x ≡ 
 same-shadow x y (inl e) = inl (ap Shadow e)
 same-shadow x y (inr d) = inr (λ e. d (cc))
 
-same-place : (a b : Location) → (a ≡ b) ⊎ (a ≡ b → ⊥)
-same-place (Variable x) (Variable y) = same-variable x y (cases_eq x y)
-same-place (Variable x) (Shadow y) = inr (λ e. cc)
-same-place (Shadow x) (Variable y) = inr (λ e. cc)
-same-place (Shadow x) (Shadow y) = same-shadow x y (cases_eq x y)
+same-location : (a b : Location) → (a ≡ b) ⊎ (a ≡ b → ⊥)
+same-location (Variable x) (Variable y) = same-variable x y (cases_eq x y)
+same-location (Variable x) (Shadow y) = inr (λ e. cc)
+same-location (Shadow x) (Variable y) = inr (λ e. cc)
+same-location (Shadow x) (Shadow y) = same-shadow x y (cases_eq x y)
 
 in_or_more : (a b : Location) (list : List Location) → (a ≡ b) ⊎ (a ≡ b → ⊥) → In a list ⊎ (In a list → ⊥) → In a (b ∷ list) ⊎ (In a (b ∷ list) → ⊥)
 in_or_more a b list (inl e) i = inl (inl e)
@@ -68,13 +68,13 @@ in_or_more a b list (inr d) (inr n) = inr neither
 
 in_or_not : (a : Location) (list : List Location) → In a list ⊎ (In a list → ⊥)
 in_or_not a [] = inr (λ h. h)
-in_or_not a (b ∷ list) = in_or_more a b list (same-place a b) (in_or_not a list)
+in_or_not a (b ∷ list) = in_or_more a b list (same-location a b) (in_or_not a list)
 
 -- ---- walks
 
-pub walk_within : (code : List Instr) (walk : List Way) → IsWalk code walk → end_of walk ≤ length code
+pub walk_within : (code : List Instr) (walk : List Branch) → IsWalk code walk → end_of walk ≤ length code
 walk_within code [] is = omega arith
-walk_within code (way ∷ walk) is = way_inside code (end_of walk) way (in_contains way (ways_at code (end_of walk)) is.0)
+walk_within code (branch ∷ walk) is = branch_inside code (end_of walk) branch (in_contains branch (branches_at code (end_of walk)) is.0)
 
 -- as many sets are saved as sites are open
 shorter : {A B : Type 0} (xs : List A) (ys : List B) → length xs ≡ length ys → length (without_newest xs) ≡ length (without_newest ys)
@@ -83,17 +83,17 @@ shorter [] (y ∷ ys) e = absurd (omega arith)
 shorter (x ∷ xs) [] e = absurd (omega arith)
 shorter (x ∷ xs) (y ∷ ys) e = omega arith
 
-saved-behind : (c : Change) (places : List Location) (aborts : Bool) (site : ℕ) (sites : List ℕ) (a : Assigned) → length a.saved ≡ length sites → length (assigned_changed c places aborts a).saved ≡ length (sites_changed c site sites)
-saved-behind Opens places aborts site sites a e = omega arith
-saved-behind Closes places aborts site sites a e = shorter a.saved sites e
-saved-behind Keeps places aborts site sites a e = e
+saved-behind : (c : Change) (locations : List Location) (aborts : Bool) (site : ℕ) (sites : List ℕ) (a : Assigned) → length a.saved ≡ length sites → length (assigned_changed c locations aborts a).saved ≡ length (sites_changed c site sites)
+saved-behind Opens locations aborts site sites a e = omega arith
+saved-behind Closes locations aborts site sites a e = shorter a.saved sites e
+saved-behind Keeps locations aborts site sites a e = e
 
-saved-length : (code : List Instr) (args : ℕ) (walk : List Way) → length (assigned_of code args walk).saved ≡ length (sites_of code walk)
+saved-length : (code : List Instr) (args : ℕ) (walk : List Branch) → length (assigned_of code args walk).saved ≡ length (sites_of code walk)
 saved-length code args [] = refl
-saved-length code args (way ∷ walk) =
-    saved-behind (change_of code way) (assigns_at (slice_get code way.from)) way.aborts way.from (sites_of code walk) (assigned_of code args walk) (saved-length code args walk)
+saved-length code args (branch ∷ walk) =
+    saved-behind (change_of code branch) (assigns_at (slice_get code branch.from)) branch.aborts branch.from (sites_of code walk) (assigned_of code args walk) (saved-length code args walk)
 
-cover-length : (heap : List Cell) (f : Func) (saves : List Places) (saved : List (List Location)) → AllCover heap f saves saved → length saves ≡ length saved
+cover-length : (heap : List Cell) (f : Func) (saves : List Locals) (saved : List (List Location)) → AllCover heap f saves saved → length saves ≡ length saved
 cover-length heap f [] [] h = refl
 cover-length heap f [] (s ∷ saved) h = absurd h
 cover-length heap f (p ∷ saves) [] h = absurd h
@@ -104,7 +104,7 @@ nil_of [] e = refl
 nil_of (x ∷ xs) e = absurd (omega arith)
 
 -- the sites of a walk are those of the first walk to its end
-first-sites : (code : List Instr) (walk : List Way) → AreSitesSound code → IsWalk code walk → AreFirstSites code (end_of walk) (sites_of code walk)
+first-sites : (code : List Instr) (walk : List Branch) → AreSitesSound code → IsWalk code walk → AreFirstSites code (end_of walk) (sites_of code walk)
 first-sites code walk sound is =
     let w = reached_have_first code (end_of walk) (record { walk = walk; is = is; ends = refl }) in
     record {
@@ -150,28 +150,28 @@ module _ (p : Prog) (heap : List Cell) (f : Func) (frame : Frame) (accepted : Is
   pub before_end : IsSome f.ret → frame.point < length f.code
   before_end value = inside value (cases_lt frame.point (length f.code))
 
-  -- a place that the item reads was assigned
-  by_membership : (item : Instr) (place : Location) → slice_get f.code frame.point ≡ Some item → Contains (reads_of item) place
-      → In place (assigned_of f.code f.args s.walk).places ⊎ (In place (assigned_of f.code f.args s.walk).places → ⊥) → Holds heap f frame.places place
-  by_membership item place at c (inl i) = s.places place i
-  by_membership item place at c (inr none) = absurd (accepted.assigned frame.point item place at c (record {
+  -- a location that the item reads was assigned
+  by_membership : (item : Instr) (location : Location) → slice_get f.code frame.point ≡ Some item → Contains (reads_of item) location
+      → In location (assigned_of f.code f.args s.walk).locations ⊎ (In location (assigned_of f.code f.args s.walk).locations → ⊥) → Holds heap f frame.locations location
+  by_membership item location at c (inl i) = s.locations location i
+  by_membership item location at c (inr none) = absurd (accepted.assigned frame.point item location at c (record {
     walk = s.walk;
     is = s.is;
     ends = s.ends;
-    lacks = λ there. none (in_contains place (assigned_of f.code f.args s.walk).places there);
+    lacks = λ there. none (in_contains location (assigned_of f.code f.args s.walk).locations there);
   }))
 
-  pub holds-read : (item : Instr) (place : Location) → slice_get f.code frame.point ≡ Some item → Contains (reads_of item) place → Holds heap f frame.places place
-  holds-read item place at c = by_membership item place at c (in_or_not place (assigned_of f.code f.args s.walk).places)
+  pub holds-read : (item : Instr) (location : Location) → slice_get f.code frame.point ≡ Some item → Contains (reads_of item) location → Holds heap f frame.locations location
+  holds-read item location at c = by_membership item location at c (in_or_not location (assigned_of f.code f.args s.walk).locations)
 
-  suits-read : (item : Instr) (place : Location) → slice_get f.code frame.point ≡ Some item → Contains (reads_of item) place → (v : Value) × (place_value frame.places place ≡ Some v) × Suits v (place_type f place)
-  suits-read item place at c =
-      let h = holds-read item place at c in
-      let t = reads-there p f item place (shaped_at p f accepted frame.point item at) (typed_at p f accepted frame.point item at) c in
+  suits-read : (item : Instr) (location : Location) → slice_get f.code frame.point ≡ Some item → Contains (reads_of item) location → (v : Value) × (location_value frame.locations location ≡ Some v) × Suits v (location_type f location)
+  suits-read item location at c =
+      let h = holds-read item location at c in
+      let t = reads-there p f item location (shaped_at p f accepted frame.point item at) (typed_at p f accepted frame.point item at) c in
       (h.value, h.is, subst (λ o. Suits h.value o) (sym t.1) (HasType-suits heap t.0 h.value (subst (λ o. HasType heap o h.value) t.1 h.typed)))
 
-  pub stands-well : StandsWell p frame
-  stands-well = record {
+  pub well-typed : IsWellTyped p frame
+  well-typed = record {
     function = f;
     there = s.there;
     within = within;

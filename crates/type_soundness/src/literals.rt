@@ -1,7 +1,7 @@
 // The literals of a program in memory.
 
 ghost use Rattle.std.specs.Prelude.{All};
-ghost use Rattle.type_soundness.specs.Standing.{AreLiteralsInRange, IsLiteralInRange};
+ghost use Rattle.type_soundness.specs.WellTyped.{AreLiteralsInRange, IsLiteralInRange};
 
 use bril_tree::numbered::Instr;
 use bril_tree::numbered_function::Func;

@@ -17,7 +17,7 @@ use std::alloc::{AllocError, Global};
 
 /// Where an item stands: the number of its function, and its own.
 #[derive(Clone, Copy, Drop)]
-pub struct Place {
+pub struct Position {
     pub func: u32,
     pub item: u32,
 }
@@ -45,19 +45,19 @@ pub fn number_items<'t>(
         let Ok(number) = u32::try_from(k) else {
             return Err(NameFault::Memory);
         };
-        let place = Place { func, item: number };
-        code.push(number_item(alloc, functions, labels, vars, place, item)?)?;
+        let position = Position { func, item: number };
+        code.push(number_item(alloc, functions, labels, vars, position, item)?)?;
     }
     Ok(code)
 }
 
-// The item at a place: the functions and labels that it names are there, and its variables join the others.
+// The item at a position: the functions and labels that it names are there, and its variables join the others.
 fn number_item<'t>(
     alloc: Global,
     functions: &Names<'_>,
     labels: &Names<'_>,
     vars: &mut Variables<'t>,
-    place: Place,
+    position: Position,
     item: &'t Item,
 ) -> Result<Instr, NameFault>
     requires { HasLabel labels.now item.now }
@@ -65,9 +65,9 @@ fn number_item<'t>(
         IsNumbering functions.now labels.now vars.old.infos.items vars.new.infos.items (item.now ∷ []) (instr ∷ [])) }
     ensures known { IfOk result (λ _. IsKnown functions.now labels.now item.now) }
     ensures fault { IfErr result (λ fault.
-        IsLackOf functions.now labels.now place.func place.item item.now fault) }
+        IsLackOf functions.now labels.now position.func position.item item.now fault) }
 {
-    let Place { func, item: number } = place;
+    let Position { func, item: number } = position;
     match item {
         Item::Label(name) => match labels.find(name.as_bytes()) {
             Some(label) => Ok(Instr::Label(label)),

@@ -8,12 +8,12 @@ use Rattle.bril_arguments.proofs.arguments.read_args.Goals as goal
 
 pub returns-clause-ok : goal.returns-clause-ok
 returns-clause-ok c =
-    let types = c.taken_by_main.ensures.types ∙ ap main_types c.prog.ensures.value in
+    let types = c.parameters_by_main.ensures.types ∙ ap main_types c.prog.ensures.value in
     subst (λ ts. IfOk c.read_words.result (λ vs. AreSpelled ts c.args.words.now vs)) types c.read_words.ensures.ok
 
 pub returns-clause-fault : goal.returns-clause-fault
 returns-clause-fault c =
-    let types = c.taken_by_main.ensures.types ∙ ap main_types c.prog.ensures.value in
+    let types = c.parameters_by_main.ensures.types ∙ ap main_types c.prog.ensures.value in
     subst (λ ts. IfErr c.read_words.result (λ e. IsFaultOf ts c.args.words.now e)) types c.read_words.ensures.fault
 
 pub returns-clause-fits : goal.returns-clause-fits

@@ -7,23 +7,23 @@ use Rattle.bril_arguments.proofs.arguments.read_words.Goals.{then-is_err, else-i
 
 pub returns-in_default-clause-fault : goal.returns-in_default-clause-fault
 returns-in_default-clause-fault c =
-    let inside : c.loop-index.index < length c.args.taken.now = omega arith in (
-      omega (arith, length-map c.args.taken.now (λ (v : VarInfo). v.ty)),
-      misspelled c.args.taken.now c.args.words.now c.loop-index.index c.index-taken-index.result c.index-words-index.result inside c.loop-index-test.true c.index-words-index.is
+    let inside : c.loop-index.index < length c.args.parameters.now = omega arith in (
+      omega (arith, length-map c.args.parameters.now (λ (v : VarInfo). v.ty)),
+      misspelled c.args.parameters.now c.args.words.now c.loop-index.index c.index-parameters-index.result c.index-words-index.result inside c.loop-index-test.true c.index-words-index.is
           c.loop-index.invariant.read c.loop-index.invariant.spelled (λ value spelled. c.in_default.not-Some value (c.read_value.ensures.each value spelled)),
     )
 
 pub loop-index-preserved : goal.loop-index-preserved
 loop-index-preserved c =
-    let inside : c.loop-index.index < length c.args.taken.now = omega arith in
+    let inside : c.loop-index.index < length c.args.parameters.now = omega arith in
     elim c.if-is_err.branch [
       | then-is_err w ↦
-          subst (λ wanting. AreRead (types_of c.args.taken.now) c.args.words.now (c.loop-index.index + 1) wanting c.push.new.self) (sym w.wanting-is)
-          (AreRead-lost c.args.taken.now c.args.words.now c.loop-index.index c.index-taken-index.result c.index-words-index.result inside c.loop-index-test.true c.index-words-index.is
+          subst (λ wanting. AreRead (types_of c.args.parameters.now) c.args.words.now (c.loop-index.index + 1) wanting c.push.new.self) (sym w.wanting-is)
+          (AreRead-lost c.args.parameters.now c.args.words.now c.loop-index.index c.index-parameters-index.result c.index-words-index.result inside c.loop-index-test.true c.index-words-index.is
           c.loop-index.wanting c.loop-index.values c.push.new.self c.in-Some.value c.loop-index.invariant c.in-Some.ensures.found)
       | else-is_err w ↦
           let held : c.push.new.self ≡ c.loop-index.values ++ c.in-Some.value ∷ [] = on_ok c.push.result (sym c.is_err.ensures.value ∙ w.if-is_err.false) c.push.ensures.ok in
-          subst (λ wanting. AreRead (types_of c.args.taken.now) c.args.words.now (c.loop-index.index + 1) wanting c.push.new.self) (sym w.wanting-is)
-          (AreRead-held c.args.taken.now c.args.words.now c.loop-index.index c.index-taken-index.result c.index-words-index.result inside c.loop-index-test.true c.index-words-index.is
+          subst (λ wanting. AreRead (types_of c.args.parameters.now) c.args.words.now (c.loop-index.index + 1) wanting c.push.new.self) (sym w.wanting-is)
+          (AreRead-held c.args.parameters.now c.args.words.now c.loop-index.index c.index-parameters-index.result c.index-words-index.result inside c.loop-index-test.true c.index-words-index.is
           c.loop-index.wanting c.loop-index.values c.push.new.self c.in-Some.value c.loop-index.invariant c.in-Some.ensures.found held)
     ]

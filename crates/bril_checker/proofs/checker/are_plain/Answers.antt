@@ -1,6 +1,6 @@
 use Rattle.std.proofs.Common.{refl, sym, ◌∙◌}
 use Rattle.std.proofs.lemmas.Bool.{false≢true}
-use Rattle.bril_checker.proofs.Places.{All-next, All-whole}
+use Rattle.bril_checker.proofs.Positions.{All-next, All-whole}
 use Rattle.bril_tree.specs.Accepted.{IsPlainType}
 use Rattle.bril_checker.proofs.Program.{not_plain}
 use Rattle.bril_checker.proofs.checker.are_plain.Goals as goal

@@ -17,7 +17,7 @@ returns-in-Some-2-clause-fault c =
     inr (
       refl,
       ((c.in_ok-check_items.ensures, c.in_ok-graph.ensures.sound), c.in_default.ensures),
-      λ some reached. false≢true (sym c.if-runs_off.false ∙ c.runs_off.ensures.1 (some, reached)),
+      λ some reached. false≢true (sym c.if-falls_off_end.false ∙ c.falls_off_end.ensures.1 (some, reached)),
       MatchOption-at_some _ (λ u. IsFirstUnassigned c.args.func.now u.item u.var) c.in-Some-2.found c.in-Some-2.is c.in_ok-found.ensures,
     )
 
@@ -25,6 +25,6 @@ pub returns-clause-accepted : goal.returns-clause-accepted
 returns-clause-accepted c =
     passing_accepted c.args.prog.now c.args.func.now (
       ((c.in_ok-check_items.ensures, c.in_ok-graph.ensures.sound), c.in_default.ensures),
-      λ some reached. false≢true (sym c.if-runs_off.false ∙ c.runs_off.ensures.1 (some, reached)),
+      λ some reached. false≢true (sym c.if-falls_off_end.false ∙ c.falls_off_end.ensures.1 (some, reached)),
       MatchOption-at_none _ (λ u. IsFirstUnassigned c.args.func.now u.item u.var) c.in_default-2.is c.in_ok-found.ensures,
     )

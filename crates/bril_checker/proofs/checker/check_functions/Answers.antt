@@ -1,6 +1,6 @@
 use Rattle.std.proofs.lemmas.Result.{err_from_is_err_and}
 use Rattle.bril_tree.specs.Accepted.{IsAcceptedFunction}
-use Rattle.bril_checker.proofs.Places.{All-next}
+use Rattle.bril_checker.proofs.Positions.{All-next}
 use Rattle.bril_checker.proofs.Program.{fault_here, takes_memory}
 use Rattle.bril_checker.proofs.Stages.{accepted_passes}
 use Rattle.bril_checker.proofs.Words.{more_words}

@@ -1,7 +1,7 @@
 use Rattle.std.proofs.Common.{ℕ, ◌||◌, length, ap, ◌∙◌}
 use Rattle.std.specs.List.{list_any}
 use Rattle.bril_tree.specs.FrameWords.{names_shadow}
-use Rattle.bril_checker.proofs.Marks.{marks_counted}
+use Rattle.bril_checker.proofs.Marked.{marks_counted}
 use Rattle.bril_checker.proofs.frames.count_named.Goals as goal
 
 pub returns-clause-count : goal.returns-clause-count

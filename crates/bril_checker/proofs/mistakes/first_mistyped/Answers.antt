@@ -1,6 +1,6 @@
 use Rattle.std.proofs.Common.{sym}
 use Rattle.bril_checker.specs.Faults.{IsTyped}
-use Rattle.bril_checker.proofs.Places.{All-next, All-whole}
+use Rattle.bril_checker.proofs.Positions.{All-next, All-whole}
 use Rattle.bril_checker.proofs.mistakes.first_mistyped.Goals as goal
 
 pub loop-number-preserved : goal.loop-number-preserved

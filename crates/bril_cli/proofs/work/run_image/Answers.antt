@@ -6,7 +6,7 @@ use Rattle.bril_cli.proofs.work.run_image.Goals as goal
 use Rattle.bril_cli.proofs.work.run_image.Goals.{After-run}
 
 made : (g : Over) (c : After-run g) → IsImageOf c.args.image.now c.args.program.now
-made g c = record { straight = c.requires.straight; carries = c.requires.carries; within = c.requires.within }
+made g c = record { straight = c.requires.straight; implements = c.requires.implements; within = c.requires.within }
 
 fresh : (g : Over) (c : After-run g) → IsFresh c.in-Ok.machine c.args.image.now
 fresh g c = record {

@@ -9,7 +9,7 @@ use Rattle.bril_interpreter.proofs.printing.put_line.Goals as goal
 
 pub returns-in_err-put-clause-err : goal.returns-in_err-put-clause-err
 returns-in_err-put-clause-err g c =
-    let value : ℕ → Value = read (entries_of c.args.places.now.vars) in
+    let value : ℕ → Value = read (entries_of c.args.locations.now.vars) in
     let others = c.in-Some.others.now in
     let k = c.loop-x.x-index in
     let bytes = c.as_bytes.result.now in
@@ -24,7 +24,7 @@ returns-in_err-put-clause-err g c =
 
 pub loop-x-preserved : goal.loop-x-preserved
 loop-x-preserved g c =
-    let value : ℕ → Value = read (entries_of c.args.places.now.vars) in
+    let value : ℕ → Value = read (entries_of c.args.locations.now.vars) in
     let others = c.in-Some.others.now in
     let k = c.loop-x.x-index in
     let bytes = c.as_bytes.result.now in
@@ -34,7 +34,7 @@ loop-x-preserved g c =
 
 pub returns-clause-err : goal.returns-clause-err
 returns-clause-err g c =
-    let value : ℕ → Value = read (entries_of c.args.places.now.vars) in
+    let value : ℕ → Value = read (entries_of c.args.locations.now.vars) in
     let others = c.in-Some.others.now in
     let last = c.in-Some.last.now in
     let bytes = c.as_bytes-2.result.now in

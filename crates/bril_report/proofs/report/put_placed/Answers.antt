@@ -1,4 +1,4 @@
--- The first bytes of the place come after all of what stands before them.
+-- The first bytes of the position come after all of what stands before them.
 use Rattle.std.proofs.Common.{arith}
 use Rattle.bril_outside.proofs.SinkWrites.{TookSome-after}
 use Rattle.bril_report.proofs.report.put_placed.Goals as goal

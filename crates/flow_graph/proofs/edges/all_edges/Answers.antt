@@ -1,5 +1,5 @@
 use Rattle.std.proofs.Common.{arith}
-use Rattle.flow_graph.specs.declared.ways.Ways.TheVariants.{Nowhere}
+use Rattle.flow_graph.specs.declared.branches.Branches.TheVariants.{Nowhere}
 use Rattle.flow_graph.specs.Graph.{edges_from}
 use Rattle.flow_graph.proofs.PointEdges.{edges_turn}
 use Rattle.flow_graph.proofs.edges.all_edges.Goals as goal

@@ -2,20 +2,20 @@ use Rattle.std.proofs.Common.{◌≡◌, length, sym, ap, ◌∙◌, subst}
 use Rattle.std.specs.Prelude.{is_some}
 use Rattle.std.specs.List.{All}
 use Rattle.flow_graph.specs.Labels.{labels_from, IsLabelTable}
-use Rattle.flow_graph.specs.Ways.{HasLabels}
-use Rattle.flow_graph.proofs.Rows.{labels_are_placed, label_table, code_labelled}
+use Rattle.flow_graph.specs.Branches.{HasLabels}
+use Rattle.flow_graph.proofs.BranchRows.{labels_are_placed, label_table, code_labelled}
 use Rattle.flow_graph.proofs.graph.rows_of.Goals as goal
 
-pub all_ways-requires-clause-placed : goal.all_ways-requires-clause-placed
-all_ways-requires-clause-placed c =
+pub all_branches-requires-clause-placed : goal.all_branches-requires-clause-placed
+all_branches-requires-clause-placed c =
     let code = c.args.func.now.code in
     let same = c.as_slice-code.ensures in
     let points = c.as_slice.ensures.value ∙ c.in_ok-points.ensures ∙ ap (λ x. labels_from 0 x) same in
     subst (λ x. IsLabelTable x c.as_slice.result.now) (sym same)
     (subst (λ ps. IsLabelTable code ps) (sym points) (label_table code (length c.args.func.now.labels) c.args.func.now.formed.placed))
 
-pub all_ways-requires-clause-labelled : goal.all_ways-requires-clause-labelled
-all_ways-requires-clause-labelled c =
+pub all_branches-requires-clause-labelled : goal.all_branches-requires-clause-labelled
+all_branches-requires-clause-labelled c =
     let code = c.args.func.now.code in
     let same = c.as_slice-code.ensures in
     let points = c.as_slice.ensures.value ∙ c.in_ok-points.ensures ∙ ap (λ x. labels_from 0 x) same in

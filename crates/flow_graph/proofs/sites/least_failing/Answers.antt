@@ -1,6 +1,6 @@
 use Rattle.std.proofs.Common.{◌≡◌, ◌+◌, None, sym, subst, length, arith}
 use Rattle.flow_graph.specs.Faults.{IsLeastOf, FailsBefore}
-use Rattle.flow_graph.specs.declared.ways.Ways.TheVariants.{Nowhere}
+use Rattle.flow_graph.specs.declared.branches.Branches.TheVariants.{Nowhere}
 use Rattle.flow_graph.proofs.Failing.{least_turn, least_fails}
 use Rattle.flow_graph.proofs.sites.least_failing.Goals as goal
 

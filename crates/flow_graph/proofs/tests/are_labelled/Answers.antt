@@ -1,7 +1,7 @@
 use Rattle.std.proofs.Common.{sym, subst, refl, arith}
 use Rattle.std.proofs.lemmas.List.{take_all}
 use Rattle.std.proofs.lemmas.List.Elements.{All-more, All-same}
-use Rattle.flow_graph.specs.Ways.{HasLabels}
+use Rattle.flow_graph.specs.Branches.{HasLabels}
 use Rattle.flow_graph.proofs.tests.are_labelled.Goals as goal
 
 pub loop-item-preserved : goal.loop-item-preserved

@@ -1,6 +1,6 @@
 use Rattle.std.proofs.Common.{take}
 use Rattle.std.specs.List.{All}
-use Rattle.flow_graph.specs.Ways.{HasLabels}
+use Rattle.flow_graph.specs.Branches.{HasLabels}
 use Rattle.flow_graph.proofs.tests.are_labelled.Given as goal
 
 abbrev pub invariant-loop-item : goal.invariant-loop-item

@@ -1,6 +1,6 @@
 use Rattle.std.proofs.Common.{sym, subst, take, take_all}
 use Rattle.std.proofs.lemmas.List.Elements.{All-more, All-same}
-use Rattle.type_soundness.specs.Standing.{IsLiteralInRange}
+use Rattle.type_soundness.specs.WellTyped.{IsLiteralInRange}
 use Rattle.type_soundness.proofs.literals.items_are_in_range.Goals as goal
 
 pub loop-item-preserved : goal.loop-item-preserved

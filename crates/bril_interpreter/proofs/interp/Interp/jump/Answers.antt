@@ -7,7 +7,7 @@ invariant_of-self c =
     rw c.go_to.ensures
     (record {
       frame = record {
-        places = kept.frame.places;
+        locations = kept.frame.locations;
         saves = kept.frame.saves;
         few_saves = kept.frame.few_saves;
         few_items = kept.frame.few_items;

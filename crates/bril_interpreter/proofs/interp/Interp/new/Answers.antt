@@ -13,9 +13,9 @@ invariant_of-result c =
     let same : p ≡ c.args.prog.now.prog = c.prog-program.ensures.value in
     rw (c.start-2.ensures, c.new.ensures.items, c.in_ok-tables_of.ensures, c.as_slice.ensures, ← same)
     (record {
-      frame = new_frame-kept p p.main c.args.args.now c.in_ok-places.places
-          (rw c.variables_of.ensures at c.in_ok-places.ensures.vars)
-          (rw c.variables_of.ensures at c.in_ok-places.ensures.shadows)
+      frame = new_frame-kept p p.main c.args.args.now c.in_ok-locations.locations
+          (rw c.variables_of.ensures at c.in_ok-locations.ensures.vars)
+          (rw c.variables_of.ensures at c.in_ok-locations.ensures.shadows)
           (code_few p c.prog-program.ensures.counted p.main);
       callers = tt;
       functions = tables_are p.funcs;
@@ -29,4 +29,4 @@ returns-clause-state c =
     let failures_of : TableView → List ℕ = λ t. t.failures in
     rw (c.start-2.ensures, c.new.ensures.items, c.new-2.ensures.blocks, c.in_ok-tables_of.ensures, c.as_slice.ensures, no_counts p.funcs, ← same)
     (ap (λ (f : Frame). record (first_state p c.args.limits c.args.args.now) { frames = f ∷ [] })
-    (new_frame-held p c.args.limits p.main c.args.args.now c.variables_of.result c.in_ok-places.places c.in_ok-places.ensures.vars c.in_ok-places.ensures.shadows))
+    (new_frame-held p c.args.limits p.main c.args.args.now c.variables_of.result c.in_ok-locations.locations c.in_ok-locations.ensures.vars c.in_ok-locations.ensures.shadows))

@@ -1,6 +1,6 @@
 use Rattle.std.proofs.Common.{◌≡◌, map, sym, subst}
 use Rattle.std.specs.List.{Contains}
-use Rattle.std.proofs.lemmas.Bool.{both_ways}
+use Rattle.std.proofs.lemmas.Bool.{both_branches}
 use Rattle.definite_assignment.specs.Leaving.{turned}
 use Rattle.definite_assignment.proofs.Turned.{turned-reaches}
 use Rattle.graph_search.specs.Path.{IsReached}
@@ -10,12 +10,12 @@ use Rattle.definite_assignment.proofs.flow.Flow.is_read_unassigned.Goals as goal
 pub returns-clause-none : goal.returns-clause-none
 returns-clause-none c = λ no k read e is reached.
     let self = c.args.self.now in
-    let place = c.args.place in
+    let location = c.args.location in
     let items = c.in_ok-items.items.items in
     let seeds : c.as_slice.result.now ≡ items = c.as_slice.ensures.value in
     let back = map turned self.forward.arcs in
-    let there : IsReached back items place read.item = reached_seed back items place read.item (c.in_ok-items.ensures.all k read e is) in
-    let start : IsReached back items place 0 = turned-reaches self.forward.arcs items place read.item reached there in
+    let there : IsReached back items location read.item = reached_seed back items location read.item (c.in_ok-items.ensures.all k read e is) in
+    let start : IsReached back items location 0 = turned-reaches self.forward.arcs items location read.item reached there in
     let found : Contains c.search.new.self.found 0 =
-    (c.in_ok-search.ensures.found 0).1 (subst (λ arcs. IsReached arcs c.as_slice.result.now place 0) (sym self.turned) (subst (λ ss. IsReached back ss place 0) (sym seeds) start)) in
-    both_ways c.is_marked.result no (c.is_marked.ensures.1 found)
+    (c.in_ok-search.ensures.found 0).1 (subst (λ arcs. IsReached arcs c.as_slice.result.now location 0) (sym self.turned) (subst (λ ss. IsReached back ss location 0) (sym seeds) start)) in
+    both_branches c.is_marked.result no (c.is_marked.ensures.1 found)

@@ -11,9 +11,9 @@ use Rattle.definite_assignment.proofs.flow.Flow.of.Goals as goal
 pub of-requires-clause-below : goal.of-requires-clause-below
 of-requires-clause-below c =
     let reads = c.as_slice.result.now in
-    let places : c.in_ok-places_of.field-0.items ≡ map (λ read. read.place) reads =
-    c.in_ok-places_of.ensures ∙ ap (map (λ read. read.place)) (c.as_slice-2.ensures.value ∙ sym c.as_slice.ensures.value) in
-    subst (All (λ key. key < c.place_count.result)) (sym places) (All-map (λ key. key < c.place_count.result) (λ read. read.place) reads c.place_count.ensures.above)
+    let locations : c.in_ok-locations_of.field-0.items ≡ map (λ read. read.location) reads =
+    c.in_ok-locations_of.ensures ∙ ap (map (λ read. read.location)) (c.as_slice-2.ensures.value ∙ sym c.as_slice.ensures.value) in
+    subst (All (λ key. key < c.location_count.result)) (sym locations) (All-map (λ key. key < c.location_count.result) (λ read. read.location) reads c.location_count.ensures.above)
 
 pub of-requires-2-clause-between : goal.of-requires-2-clause-between
 of-requires-2-clause-between c =
@@ -38,11 +38,11 @@ invariant_of-result c =
     let reads = c.in_ok-reads.reads.items in
     let value : c.as_slice.result.now ≡ reads = c.as_slice.ensures.value in
     let nodes : c.in_ok-forward.forward.nodes ≡ length code + 1 = c.in_ok-forward.ensures.nodes in
-    let few = c.place_count.ensures.few in
+    let few = c.location_count.ensures.few in
     let count = c.in_ok-readers.ensures.count in
     record {
-      keys = c.in_ok-readers.ensures.keys ∙ c.in_ok-places_of.ensures ∙ ap (map (λ read. read.place)) c.as_slice-2.ensures.value;
-      places = subst (λ n. All (λ read. read.place < n) reads) (sym count) (subst (All (λ read. read.place < c.place_count.result)) value c.place_count.ensures.above);
+      keys = c.in_ok-readers.ensures.keys ∙ c.in_ok-locations_of.ensures ∙ ap (map (λ read. read.location)) c.as_slice-2.ensures.value;
+      locations = subst (λ n. All (λ read. read.location < n) reads) (sym count) (subst (All (λ read. read.location < c.location_count.result)) value c.location_count.ensures.above);
       few = omega arith;
       items = subst (λ rs. All (λ read. read.item < c.in_ok-forward.forward.nodes) rs) (sym c.in_ok-reads.ensures)
           (All-weaker (λ read. read.item < 0 + length code) (λ read. read.item < c.in_ok-forward.forward.nodes) (λ read low. omega arith) (reads_from 0 code) (reads-inside 0 code));

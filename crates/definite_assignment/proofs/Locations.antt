@@ -1,0 +1,47 @@
+-- Numbers of locations.
+use Rattle.std.proofs.Common.{◌≡◌, ℕ, ◌*◌, ◌<◌, List, [], ◌∷◌, true, Option, Some, None, map, get_or, sym, ap, ◌∙◌, subst, refl, arith, suc, zero}
+use Rattle.std.specs.List.{Contains, range_with_len}
+use Rattle.std.specs.Option.{option_map}
+use Rattle.std.proofs.lemmas.List.{get_or-map, length-map}
+use Rattle.std.proofs.lemmas.List.FromFn.{length-map-range_with_len, get_or-map-range_with_len}
+use Rattle.std.proofs.lemmas.Bool.Decides.{nat_tests}
+use Rattle.bril_tree.specs.Operand.{Location, Variable, Shadow}
+use Rattle.definite_assignment.specs.Location.{number_of, is_argument}
+
+pub number-one : (a b : Location) → number_of a ≡ number_of b → a ≡ b
+number-one (Variable x) (Variable y) e = let same : x ≡ y = omega arith in ap Variable same
+number-one (Variable x) (Shadow y) e = absurd (omega arith)
+number-one (Shadow x) (Variable y) e = absurd (omega arith)
+number-one (Shadow x) (Shadow y) e = let same : x ≡ y = omega arith in ap Shadow same
+
+pub label-one : (o : Option Location) (location : Location) → option_map number_of o ≡ Some (number_of location) → o ≡ Some location
+label-one None location e = cc
+label-one (Some other) location e = let same : number_of other ≡ number_of location = cc in ap Some (number-one other location same)
+
+pub Contains-map : {A B : Type 0} (f : A → B) (xs : List A) (x : A) → Contains xs x → Contains (map f xs) (f x)
+Contains-map f xs x h =
+    (h.0, rw length-map h.1, get_or-map f xs h.0 x (f x) h.1 ∙ ap f h.2)
+
+pub Contains-map_back : {A B : Type 0} (f : A → B) (xs : List A) (y : B) → Contains (map f xs) y → (x : A) × Contains xs x × (f x ≡ y)
+Contains-map_back f [] y h = absurd (omega (arith, h.1))
+Contains-map_back f (x ∷ xs) y (zero, low, e) = (x, (0, omega arith, refl), e)
+Contains-map_back f (x ∷ xs) y (suc k, low, e) =
+    let rest = Contains-map_back f xs y (k, omega arith, e) in
+    (rest.0, (suc rest.1.0, omega (arith, rest.1.1), rest.1.2), rest.2)
+
+-- the arguments, as locations
+pub argument-there : (args : ℕ) (location : Location) → is_argument args (number_of location) ≡ true → Contains (map Variable (range_with_len 0 args)) location
+argument-there args (Variable x) h =
+    let low : x < args = grind (arith, nat_tests) in
+    let at : get_or (map Variable (range_with_len 0 args)) x (Variable x) ≡ Variable x = get_or-map-range_with_len Variable 0 args x x (Variable x) low (omega arith) in
+    (x, rw length-map-range_with_len low, at)
+argument-there args (Shadow x) h = absurd (grind (arith, nat_tests))
+
+pub argument-is : (args : ℕ) (location : Location) → Contains (map Variable (range_with_len 0 args)) location → is_argument args (number_of location) ≡ true
+argument-is args location h =
+    let low : h.0 < args = rw length-map-range_with_len at h.1 in
+    let at : get_or (map Variable (range_with_len 0 args)) h.0 location ≡ Variable h.0 = get_or-map-range_with_len Variable 0 args h.0 h.0 location low (omega arith) in
+    subst (λ p. is_argument args (number_of p) ≡ true) (sym at ∙ h.2) (argument_below args h.0 low)
+  where
+    argument_below : (args x : ℕ) → x < args → is_argument args (2 * x) ≡ true
+    argument_below args x low = grind (arith, nat_tests)
