@@ -17,7 +17,7 @@ use crate::frames::frame_words;
 use crate::laws::accepted_or_fault;
 use crate::mistakes::{Mistake, first_misshapen, first_mistyped};
 use crate::operands::parameters;
-use crate::walks::{first_open, falls_off_end};
+use crate::walks::{falls_off_end, first_open};
 use bril_tree::numbered::VarInfo;
 use bril_tree::numbered_function::Func;
 use bril_tree::program::Prog;

@@ -170,7 +170,8 @@ fn call_fits(prog: &Prog, func: &Func, dest: Option<u32>, args: &[u32], funcs: &
 {
     match callee(prog, funcs) {
         None => args.is_empty() && dest.is_none(),
-        Some(called) => args.len() == parameters(called).len() && called.ret.is_some() == dest.is_some(),
+        Some(called) => args.len() == parameters(called).len()
+            && called.ret.is_some() == dest.is_some(),
     }
 }
 

@@ -7,8 +7,8 @@ ghost use Rattle.bril_heap.specs.Heap.{entries_of};
 
 use crate::frame::Frame;
 use crate::interp::Interp;
-use crate::lookup::variables_of;
 use crate::locals::Locals;
+use crate::lookup::variables_of;
 use bril_tree::limits::{End, Fault};
 use bril_tree::numbered::Instr;
 use bril_tree::value::Value;

@@ -6,9 +6,9 @@ ghost use Rattle.bril_tree.specs.Run.{FitMain, first_state};
 
 use crate::answer::Here;
 use crate::frame::Frame;
+use crate::locals::Locals;
 use crate::lookup::{items_of, variables_of};
 use crate::operand::number_at;
-use crate::locals::Locals;
 use crate::table::{Table, tables_of};
 use bril_checker::Checked;
 use bril_heap::Cells;

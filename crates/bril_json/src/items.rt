@@ -96,7 +96,12 @@ fn dest_of(
 }
 
 // A name with its type.
-fn typed_name(alloc: Global, position: Position, named: &Value, typed: &Value) -> Result<Dest, JsonFault>
+fn typed_name(
+    alloc: Global,
+    position: Position,
+    named: &Value,
+    typed: &Value,
+) -> Result<Dest, JsonFault>
     ensures ok { IfOk result (λ dest. typed_name position (view named.now) (view typed.now) ≡ Ok dest) }
     ensures err { IfErr result (λ fault. (fault ≡ Memory) ⊎ (typed_name position (view named.now) (view typed.now) ≡ Err fault)) }
 {

@@ -10,7 +10,11 @@ use crate::position::Position;
 use serde_json::Value;
 
 // The value of a key that must be there.
-pub fn required<'v>(position: Position, object: &'v Value, key: &str) -> Result<&'v Value, JsonFault>
+pub fn required<'v>(
+    position: Position,
+    object: &'v Value,
+    key: &str,
+) -> Result<&'v Value, JsonFault>
     ensures ok { IfOk result (λ value. required position key.now (view object.now) ≡ Ok (view value.now)) }
     ensures err { IfErr result (λ fault. required position key.now (view object.now) ≡ Err fault) }
 {
@@ -32,7 +36,11 @@ pub fn list_of(position: Position, value: &Value) -> Result<&[Value], JsonFault>
 }
 
 // The values of the list at a key that must be there.
-pub fn list_at<'v>(position: Position, object: &'v Value, key: &str) -> Result<&'v [Value], JsonFault>
+pub fn list_at<'v>(
+    position: Position,
+    object: &'v Value,
+    key: &str,
+) -> Result<&'v [Value], JsonFault>
     ensures ok { IfOk result (λ list. list_at position key.now (view object.now) ≡ Ok (items_view list.now)) }
     ensures err { IfErr result (λ fault. list_at position key.now (view object.now) ≡ Err fault) }
 {

@@ -38,7 +38,12 @@ fn name_text(alloc: Global, position: Position, text: &str) -> Result<Name, Json
 }
 
 // The name at a key that must be there.
-pub fn name_at(alloc: Global, position: Position, object: &Value, key: &str) -> Result<Name, JsonFault>
+pub fn name_at(
+    alloc: Global,
+    position: Position,
+    object: &Value,
+    key: &str,
+) -> Result<Name, JsonFault>
     ensures ok { IfOk result (λ name. name_at position key.now (view object.now) ≡ Ok name) }
     ensures err { IfErr result (λ fault. (fault ≡ Memory) ⊎ (name_at position key.now (view object.now) ≡ Err fault)) }
 {

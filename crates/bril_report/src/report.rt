@@ -209,7 +209,13 @@ fn put_unaccepted<E: Sink>(err: &mut E, program: &Prog, fault: CheckFault) -> Re
 fn put_main<E: Sink>(err: &mut E, main: u32) -> Result<(), Failed>
     ensures { PutsLine result (E.seen err.old) (codes "check 7 function " ++ position_end (position_of (Some main) None)) (E.seen err.new) }
 {
-    put_placed(err, b"", b"check 7 function ", function_position(main), b"\n")
+    put_placed(
+        err,
+        b"",
+        b"check 7 function ",
+        function_position(main),
+        b"\n",
+    )
 }
 
 // Puts a piece, a function and an item, and what follows them.

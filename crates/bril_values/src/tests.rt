@@ -153,6 +153,10 @@ fn shows(rt: HostRuntime) {
         (BEHIND, b"\n"),
     ];
     for (value, want) in rows {
-        assert_eq!(rt; PrintedValue::of(value, b'\n').as_bytes(), want, "{value:?}");
+        assert_eq!(rt;
+            PrintedValue::of(value, b'\n').as_bytes(),
+            want,
+            "{value:?}"
+        );
     }
 }

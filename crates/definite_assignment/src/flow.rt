@@ -9,7 +9,7 @@ use crate::location::is_argument_location;
 use crate::reads::{Read, all_reads, location_count};
 use bril_tree::numbered_function::Func;
 use flow_graph::Graph;
-use graph_search::{ArcGraph, Reached, Adjacency};
+use graph_search::{Adjacency, ArcGraph, Reached};
 use std::alloc::{AllocError, Global};
 
 // The reads of a function with `args` arguments, their indices in the list by what they read, and the arcs along which a

@@ -27,7 +27,11 @@ pub enum Branches {
 }
 
 // The branches from each point, the function's end last. `points` has the point of each label.
-pub fn all_branches(alloc: Global, code: &[Instr], points: &[u32]) -> Result<Vec<Branches>, AllocError>
+pub fn all_branches(
+    alloc: Global,
+    code: &[Instr],
+    points: &[u32],
+) -> Result<Vec<Branches>, AllocError>
     requires placed { IsLabelTable code.now points.now }
     requires labelled { All (HasLabels (length points.now)) code.now }
     requires few { length code.now < 2 ^ 32 - 1 }

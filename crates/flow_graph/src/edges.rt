@@ -5,8 +5,8 @@ ghost use Rattle.bril_tree.specs.declared.numbered.Instr.{Instr};
 ghost use Rattle.flow_graph.specs.Graph.{ArePreds, edge_of, edges_from};
 ghost use Rattle.flow_graph.specs.Branches.{AreBranchRows, edges_on, branch_of, branches_of};
 
-use crate::edge::Edge;
 use crate::branches::{Branch, Branches};
+use crate::edge::Edge;
 use bril_tree::sequence::Seq;
 use std::alloc::{AllocError, Global};
 

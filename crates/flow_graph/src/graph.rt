@@ -7,13 +7,13 @@ ghost use Rattle.flow_graph.specs.Graph.{ArePreds, ArePreds-prop, IsGraphOf, IsL
 ghost use Rattle.flow_graph.specs.Branches.{AreBranchRows};
 ghost use Rattle.flow_graph.specs.declared.graph.GraphFault.TheVariants.{Nest, Memory};
 
+use crate::branches::{Branches, all_branches};
 use crate::edge::Edge;
 use crate::edges::{all_edges, all_preds};
 use crate::labels::label_points;
 use crate::open_sites::all_sites;
 use crate::search::first_visits;
 use crate::sites::least_failing;
-use crate::branches::{Branches, all_branches};
 use bril_tree::numbered::Instr;
 use bril_tree::numbered_function::Func;
 use bril_tree::sequence::Seq;
@@ -76,7 +76,11 @@ impl Graph {
     }
 
     // The flow graph of these items, of which `rows` are the branches from each point.
-    pub(crate) fn drawn(alloc: Global, code: &[Instr], rows: &[Branches]) -> Result<Graph, GraphFault>
+    pub(crate) fn drawn(
+        alloc: Global,
+        code: &[Instr],
+        rows: &[Branches],
+    ) -> Result<Graph, GraphFault>
         requires rows { AreBranchRows code.now rows.now }
         requires few { length code.now < 2 ^ 32 - 1 }
         ensures found { IfOk result (λ graph. IsGraphOf code.now graph) }

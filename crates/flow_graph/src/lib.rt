@@ -1,6 +1,7 @@
 //! The flow graph of a function: its edges, the points to which walks lead, and their open speculation sites.
 #![tactic(auto)]
 
+mod branches;
 mod edge;
 mod edges;
 mod graph;
@@ -12,7 +13,6 @@ mod sites;
 #[cfg(test)]
 mod tests;
 mod visits;
-mod branches;
 
 pub use edge::Edge;
 pub use graph::{Graph, GraphFault};

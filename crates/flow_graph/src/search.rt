@@ -6,8 +6,8 @@ ghost use Rattle.flow_graph.specs.Branches.{AreBranchRows, branch_of, visiting};
 ghost use Rattle.flow_graph.specs.declared.visits.Visit.{Visit};
 ghost use Rattle.flow_graph.specs.declared.branches.Branches.{Branches};
 
-use crate::visits::{Visit, visit_behind};
 use crate::branches::{Branch, Branches};
+use crate::visits::{Visit, visit_behind};
 use bril_tree::numbered::Instr;
 use std::alloc::{AllocError, Global};
 use std::collections::VecDeque;
@@ -109,7 +109,11 @@ fn wait(waiting: &mut VecDeque<Branch>, branches: Branches) -> Result<(), AllocE
 }
 
 // Adds two branches at the end.
-fn wait_both(waiting: &mut VecDeque<Branch>, first: Branch, second: Branch) -> Result<(), AllocError>
+fn wait_both(
+    waiting: &mut VecDeque<Branch>,
+    first: Branch,
+    second: Branch,
+) -> Result<(), AllocError>
     ensures { OnOk result (waiting.new.items ≡ waiting.old.items ++ first ∷ second ∷ []) }
 {
     waiting.push_back(first)?;

@@ -7,8 +7,8 @@ ghost use Rattle.flow_graph.specs.Faults.{IsLeastOf, lesser, Lacks, Brings, Fail
 ghost use Rattle.flow_graph.specs.Visits.{AreVisits};
 ghost use Rattle.flow_graph.specs.Branches.{AreBranchRows, branch_of};
 
-use crate::visits::{MOST_SITES, Visit, visit_at, visit_behind};
 use crate::branches::{Branch, Branches};
+use crate::visits::{MOST_SITES, Visit, visit_at, visit_behind};
 use bril_tree::numbered::Instr;
 use bril_tree::operation::Op;
 

@@ -7,10 +7,10 @@ ghost use Rattle.flow_graph.specs.Graph.{IsGraphOf};
 ghost use Rattle.flow_graph.specs.Labels.{IsLabelTable};
 ghost use Rattle.flow_graph.specs.Branches.{HasLabels, label_count};
 
+use crate::branches::all_branches;
 use crate::edge::Edge;
 use crate::graph::{Graph, GraphFault};
 use crate::labels::label_points;
-use crate::branches::all_branches;
 use bril_tree::numbered::Instr;
 use bril_tree::operation::Op;
 use bril_tree::sequence::Seq;

@@ -7,12 +7,12 @@
 //! from the items that read the variable.
 #![tactic(auto)]
 
+mod adjacency;
 mod graph;
 mod reached;
-mod adjacency;
 #[cfg(test)]
 mod tests;
 
+pub use adjacency::Adjacency;
 pub use graph::{Arc, ArcGraph};
 pub use reached::Reached;
-pub use adjacency::Adjacency;
