@@ -79,7 +79,7 @@ module _ (p : Prog) (number : ℕ) (f : Func) (none : (why : CheckFault) → ¬ 
 
   assigned : (point : ℕ) → ¬ ReadsUnassigned f point
   assigned = no_least (ReadsUnassigned f) (λ n r least.
-      All-contains (λ place. ¬ IsMaybeUnassigned f.code f.args place n) (reads_of r.item) r.place
+      All-contains (λ place. ¬ IsMaybeUnassigned f.code f.args place n) (reads_of r.item) r.location
       (each (λ place. ¬ IsMaybeUnassigned f.code f.args place n) (reads_of r.item) (λ k place here before maybe.
       none (MaybeUnassigned number n (variable_of place)) (
         refl,
@@ -89,7 +89,7 @@ module _ (p : Prog) (number : ℕ) (f : Func) (none : (why : CheckFault) → ¬ 
           item = r.item;
           here = r.here;
           earlier = take k (reads_of r.item);
-          place = place;
+          location = place;
           later = drop (suc k) (reads_of r.item);
           reads = around (reads_of r.item) k place here;
           is = refl;

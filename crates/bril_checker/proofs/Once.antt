@@ -79,13 +79,13 @@ module _ (p : Prog) (f : Func) where
   same_place : (point : ℕ) (x y : ℕ) → IsFirstUnassigned f point x → IsFirstUnassigned f point y → x ≡ y
   same_place point x y h i =
       let item : h.item ≡ i.item = cc (h.here, i.here) in
-      let reads : reads_of h.item ≡ i.earlier ++ i.place ∷ i.later = ap reads_of item ∙ i.reads in
-      let no_later = not_before point h.earlier h.later i.earlier h.place (reads_of h.item) h.reads i.place i.later reads i.others h.maybe in
-      let no_sooner = not_before point i.earlier i.later h.earlier i.place (reads_of h.item) reads h.place h.later h.reads h.others i.maybe in
+      let reads : reads_of h.item ≡ i.earlier ++ i.location ∷ i.later = ap reads_of item ∙ i.reads in
+      let no_later = not_before point h.earlier h.later i.earlier h.location (reads_of h.item) h.reads i.location i.later reads i.others h.maybe in
+      let no_sooner = not_before point i.earlier i.later h.earlier i.location (reads_of h.item) reads h.location h.later h.reads h.others i.maybe in
       let places : length h.earlier ≡ length i.earlier = omega arith in
-      let place : h.place ≡ i.place =
-      sym (get_or-append_seam h.earlier h.place h.later h.place) ∙ ap (λ l. get_or l (length h.earlier) h.place) (sym h.reads ∙ reads)
-      ∙ ap (λ k. get_or (i.earlier ++ i.place ∷ i.later) k h.place) places ∙ get_or-append_seam i.earlier i.place i.later h.place in
+      let place : h.location ≡ i.location =
+      sym (get_or-append_seam h.earlier h.location h.later h.location) ∙ ap (λ l. get_or l (length h.earlier) h.location) (sym h.reads ∙ reads)
+      ∙ ap (λ k. get_or (i.earlier ++ i.location ∷ i.later) k h.location) places ∙ get_or-append_seam i.earlier i.location i.later h.location in
       sym h.is ∙ ap variable_of place ∙ i.is
 
   same_unassigned : (m n x y : ℕ) → IsFirstUnassigned f m x → IsFirstUnassigned f n y → (m ≡ n) × (x ≡ y)

@@ -44,8 +44,8 @@ pub reads_unassigned : (f : Func) (point variable : ℕ) → IsFirstUnassigned f
 reads_unassigned f point variable first = record {
   item = first.item;
   here = first.here;
-  place = first.place;
-  reads = subst (λ reads. Contains reads first.place) (sym first.reads) (middle first.earlier first.later first.place);
+  location = first.location;
+  reads = subst (λ reads. Contains reads first.location) (sym first.reads) (middle first.earlier first.later first.location);
   maybe = first.maybe;
 }
 
@@ -82,7 +82,7 @@ module _ (p : Prog) (f : Func) where
       let shaped : AreShaped p f = λ k d h. (a.shaped k d h, a.calls k d h) in
       let closed : (point : ℕ) → ¬ LeavesOpen f point =
       λ point o. o.opened (a.alone o.walk o.is (subst (λ q. leaves_frame (slice_get f.code q) ≡ true) (sym o.ends) o.leaves)) in
-      ((((shaped, a.typed), a.sites), closed), a.returns, λ point r. a.assigned point r.item r.place r.here r.reads r.maybe)
+      ((((shaped, a.typed), a.sites), closed), a.returns, λ point r. a.assigned point r.item r.location r.here r.reads r.maybe)
 
   pub passing_accepted : Passed 6 → IsAcceptedFunction p f
   passing_accepted h = record {
@@ -93,7 +93,7 @@ module _ (p : Prog) (f : Func) where
     alone = λ walk is leaves.
         empty (sites_of f.code walk) (λ some. h.0.1 (end_of walk) (record { walk = walk; is = is; ends = refl; leaves = leaves; opened = some }));
     returns = h.1;
-    assigned = λ point item place here reads maybe. h.2 point (record { item = item; here = here; place = place; reads = reads; maybe = maybe });
+    assigned = λ point item place here reads maybe. h.2 point (record { item = item; here = here; location = place; reads = reads; maybe = maybe });
   }
 
   module _ (number : ℕ) where

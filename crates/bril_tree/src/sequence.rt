@@ -29,6 +29,13 @@ impl<T> Seq<T> {
         }
     }
 
+    /// The items, first to last, to be taken one by one. Takes no memory.
+    pub fn into_items(self) -> Vec<T>
+        ensures { result.items ≡ self }
+    {
+        self.held
+    }
+
     /// The items, first to last. Takes no memory.
     pub fn as_slice(&self) -> &[T]
         ensures { result.now ≡ self.now }

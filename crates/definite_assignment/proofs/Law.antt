@@ -4,7 +4,7 @@ use Rattle.std.proofs.Common.{◌≡◌, ◌≢◌, ℕ, suc, zero, ◌+◌, ◌
 use Rattle.std.specs.Prelude.{slice_get}
 use Rattle.std.specs.List.{Contains}
 use Rattle.std.specs.Option.{option_map, option_to_list}
-use Rattle.std.proofs.lemmas.Bool.{cases_Bool, both_branches, false_from_ne_true}
+use Rattle.std.proofs.lemmas.Bool.{cases_Bool, both_ways, false_from_ne_true}
 use Rattle.std.proofs.lemmas.List.Elements.{Contains-append_left, Contains-append_right, Contains-append_cases}
 use Rattle.std.proofs.lemmas.Option.{slice_get_cases}
 use Rattle.bril_tree.specs.Assigned.{Assigned, IsMaybeUnassigned, assigned_of, assigned_behind, assigned_changed, assigns_at, newest_saved}
@@ -243,7 +243,7 @@ unassigned-iff code args graph g x point = (
         walk = [];
         is = tt;
         ends = refl;
-        lacks = λ there. both_branches (is_argument args (number_of x)) o.local (argument-is args x there);
+        lacks = λ there. both_ways (is_argument args (number_of x)) o.local (argument-is args x there);
       }))
       (lacks_arc code args graph g x) point o.reached,
   λ m. subst (λ p. IsOpen (leaving_arcs code graph.edges) args (read_at p x)) m.ends ((stands code args graph g x m.walk m.is).here m.lacks),

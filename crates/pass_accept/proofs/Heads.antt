@@ -1,5 +1,5 @@
 -- What follows from the same names, arguments and results of functions: the arguments stand for each other, and
--- where a function begins all walks are matches.
+-- where a function begins all walks match.
 use Rattle.std.proofs.Common.{◌≡◌, ℕ, zero, suc, ◌+◌, ◌<◌, ◌≤◌, List, [], ◌∷◌, length, map, take, Some, refl, sym, ap, subst, ◌∙◌, inl, inr, ⊎_elim, arith}
 use Rattle.std.specs.Prelude.{slice_get}
 use Rattle.std.specs.List.{range_with_len}

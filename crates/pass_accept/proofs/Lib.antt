@@ -1,7 +1,5 @@
-pub mod Alone
-pub mod Each
-pub mod Edited
 pub mod Heads
-pub mod Left
-pub mod Making
+pub mod Alone
 pub mod Reaching
+pub mod Left
+pub mod Edited

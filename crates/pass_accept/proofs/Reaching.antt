@@ -1,4 +1,4 @@
--- A reached point of the old function has a reached point of the new one points it.
+-- A reached point of the program's function is matched by a reached point of the result's.
 use Rattle.std.proofs.Common.{ℕ, List, [], ◌∷◌, refl, sym, subst, inl, inr}
 use Rattle.std.specs.List.{AllZip}
 use Rattle.bril_tree.specs.declared.numbered.Instr.{Instr}
@@ -28,7 +28,7 @@ pub reached-start : (code : List Instr) → IsReached code 0
 reached-start code = record { walk = []; is = tt; ends = refl }
 
 module _ (m : Plan) (P Q : Prog) (f : ℕ) where
-  -- a reached point of Q points a point of P
+  -- a reached point of Q that matches a point of P
   pub record ReachedBeside (i : ℕ) : Type 0 where
     pub j : ℕ
     pub points : m.PointsMatch f i j

@@ -1,2 +1,1 @@
-pub mod CanBeMade
 pub mod Edited

@@ -91,7 +91,7 @@ pub Differ-in : (o : Option Func) → Differ (names_in o)
 Differ-in None = λ i j d l within same. absurd (omega arith)
 Differ-in (Some F) = Differ-variables F
 
--- a function has one of the same number points it
+-- a function of P has one of the same number in Q
 pub partner : (P Q : Prog) → SameHeads P Q → (f : ℕ) (F : Func) → slice_get P.funcs f ≡ Some F → (G : Func) × (slice_get Q.funcs f ≡ Some G)
 partner P Q heads f F there = by (slice_get Q.funcs f) refl
   where
@@ -130,7 +130,7 @@ label_there X f i name at = by (item_at X f i) refl
       there = h.there;
       number = l;
       at = ap (λ o. slice_get (items_of o) i) (sym h.there) ∙ here;
-      within = h.range.locations.0;
+      within = h.range.places.0;
       is = (let n : named h.function.labels l ≡ name = cc in n);
     }
     by_item (Const d ty v) here h e = absurd cc

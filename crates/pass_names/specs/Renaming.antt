@@ -49,7 +49,7 @@ module _ (P Q : Prog) (names : ℕ → List (List ℕ)) (N : NamePlan) where
     pub labels : (f i j : ℕ) (name : List ℕ) → IsReached (code_of P f) i → tree_at P f i ≡ Some (item.Label name) → tree_at Q f j ≡ Some (item.Label name) → N.PointsMatch f i j
     pub reads : (f i j : ℕ) (a : Instr) (x : Location) → IsReached (code_of P f) i → N.PointsMatch f i j → N.IsRegular f i j → item_at P f i ≡ Some a → In x (reads_of a) → N.Matters f i x
     pub flows : (f i : ℕ) (w : Branch) (x : Location) → IsReached (code_of P f) i → In w (branches_at (code_of P f) i) → w.aborts ≡ false → N.Matters f w.to x → (In x (assigns_at (item_at P f i)) → ⊥) → N.Matters f i x
-    -- where an item assigns a variable, no other one of the same new name matters behind it
+    -- where an item assigns a variable, no other one of the same new name matters after it
     pub apart : (f i j : ℕ) (w : Branch) (x y : Location) → IsReached (code_of P f) i → N.PointsMatch f i j → N.IsRegular f i j → In w (branches_at (code_of P f) i) → w.aborts ≡ false → N.Matters f w.to x → SameLocation (names f) (names_in (slice_get Q.funcs f)) x y → In y (assigns_at (item_at Q f j)) → In x (assigns_at (item_at P f i))
     pub back : (f : ℕ) (w : Branch) (x : Location) (walk : List Branch) → IsWalk (code_of P f) walk → In w (branches_at (code_of P f) (end_of walk)) → w.aborts ≡ true → (s : ℕ) (sites : List ℕ) → sites_of (code_of P f) walk ≡ s ∷ sites → N.Matters f w.to x → N.Matters f s x
     pub known : KeepsKnown P Q N

@@ -3,7 +3,7 @@ use Rattle.std.proofs.Common.{◌≡◌, ◌⊎◌, ℕ, zero, suc, ◌+◌, ◌
 use Rattle.std.specs.Prelude.{slice_get}
 use Rattle.std.proofs.lemmas.List.{length-append}
 use Rattle.std.proofs.lemmas.Option.{slice_get_past, slice_get_within}
-use Rattle.pass_splice.specs.Spliced.{spliced, start_of, location_of, ItemsSpliced}
+use Rattle.pass_splice.specs.Spliced.{spliced, start_of, position_of, ItemsSpliced}
 
 pub get-right : {X : Type 0} (xs ys : List X) (n : ℕ) → slice_get (xs ++ ys) (length xs + n) ≡ slice_get ys n
 get-right [] ys n = let e : 0 + n ≡ n = omega arith in ap (slice_get ys) e
@@ -44,23 +44,23 @@ module _ {X : Type 0} (before after : ℕ → List X) where
       by : Split items i → Split items (suc i)
       by s = by_rest s.front s.rest s.is s.long s.from
 
-  -- a location in the list from item i on
+  -- a position in the list from item i on
   from_front : (items : List X) (i n : ℕ) (s : Split items i) → slice_get (spliced before after 0 items) (start_of before after i + n) ≡ slice_get (spliced before after i s.rest) n
   from_front items i n s =
       ap (λ m. slice_get (spliced before after 0 items) (m + n)) (sym s.long) ∙ ap (λ l. slice_get l (length s.front + n)) s.is ∙ get-right s.front (spliced before after i s.rest) n
 
-  pub item-location : (items : List X) (i : ℕ) → i ≤ length items → slice_get (spliced before after 0 items) (location_of before after i) ≡ slice_get items i
-  item-location items i h = by (split items i h)
+  pub item-position : (items : List X) (i : ℕ) → i ≤ length items → slice_get (spliced before after 0 items) (position_of before after i) ≡ slice_get items i
+  item-position items i h = by (split items i h)
     where
       here : (rest : List X) → slice_get (spliced before after i rest) (length (before i)) ≡ slice_get rest 0
       here [] = slice_get_past (before i) (length (before i)) (omega arith)
       here (a ∷ rest) = let e : length (before i) ≡ length (before i) + 0 = omega arith in ap (slice_get (before i ++ a ∷ (after i ++ spliced before after (suc i) rest))) e ∙ get-right (before i) (a ∷ (after i ++ spliced before after (suc i) rest)) 0
 
-      by : Split items i → slice_get (spliced before after 0 items) (location_of before after i) ≡ slice_get items i
+      by : Split items i → slice_get (spliced before after 0 items) (position_of before after i) ≡ slice_get items i
       by s = let e : i + 0 ≡ i = omega arith in from_front items i (length (before i)) s ∙ here s.rest ∙ sym (s.from 0) ∙ ap (slice_get items) e
 
-  pub before-location : (items : List X) (i n : ℕ) → i ≤ length items → n < length (before i) → slice_get (spliced before after 0 items) (start_of before after i + n) ≡ slice_get (before i) n
-  before-location items i n h less = by (split items i h)
+  pub before-position : (items : List X) (i n : ℕ) → i ≤ length items → n < length (before i) → slice_get (spliced before after 0 items) (start_of before after i + n) ≡ slice_get (before i) n
+  before-position items i n h less = by (split items i h)
     where
       here : (rest : List X) → slice_get (spliced before after i rest) n ≡ slice_get (before i) n
       here [] = refl
@@ -69,22 +69,22 @@ module _ {X : Type 0} (before after : ℕ → List X) where
       by : Split items i → slice_get (spliced before after 0 items) (start_of before after i + n) ≡ slice_get (before i) n
       by s = from_front items i n s ∙ here s.rest
 
-  pub after-location : (items : List X) (i n : ℕ) (a : X) → slice_get items i ≡ Some a → n < length (after i) → slice_get (spliced before after 0 items) (suc (location_of before after i) + n) ≡ slice_get (after i) n
-  after-location items i n a at less = by (split items i (let w = slice_get_within items i a at in omega arith))
+  pub after-position : (items : List X) (i n : ℕ) (a : X) → slice_get items i ≡ Some a → n < length (after i) → slice_get (spliced before after 0 items) (suc (position_of before after i) + n) ≡ slice_get (after i) n
+  after-position items i n a at less = by (split items i (let w = slice_get_within items i a at in omega arith))
     where
       here : (rest : List X) → slice_get rest 0 ≡ Some a → slice_get (spliced before after i rest) (length (before i) + suc n) ≡ slice_get (after i) n
       here [] e = absurd (let h : None ≡ Some a = e in cc)
       here (b ∷ rest) e = get-right (before i) (b ∷ (after i ++ spliced before after (suc i) rest)) (suc n) ∙ get-left (after i) (spliced before after (suc i) rest) n less
 
-      by : Split items i → slice_get (spliced before after 0 items) (suc (location_of before after i) + n) ≡ slice_get (after i) n
+      by : Split items i → slice_get (spliced before after 0 items) (suc (position_of before after i) + n) ≡ slice_get (after i) n
       by s =
-          let e : suc (location_of before after i) + n ≡ start_of before after i + (length (before i) + suc n) = omega arith in
+          let e : suc (position_of before after i) + n ≡ start_of before after i + (length (before i) + suc n) = omega arith in
           let z : i ≡ i + 0 = omega arith in
           ap (slice_get (spliced before after 0 items)) e ∙ from_front items i (length (before i) + suc n) s ∙ here s.rest (sym (s.from 0) ∙ ap (slice_get items) (sym z) ∙ at)
 
 pub items_spliced : (X : Type 0) → ItemsSpliced X
 items_spliced X = record {
-  there = λ before after items i h. item-location before after items i h;
-  in_front = λ before after items i n h less. before-location before after items i n h less;
-  next_to = λ before after items i n a at less. after-location before after items i n a at less;
+  there = λ before after items i h. item-position before after items i h;
+  in_front = λ before after items i n h less. before-position before after items i n h less;
+  next_to = λ before after items i n a at less. after-position before after items i n a at less;
 }

@@ -13,11 +13,11 @@ module _ {X : Type 0} (before after : ℕ → List X) where
   start_of (suc k) = start_of k + length (before k) + suc (length (after k))
 
   -- where item k stands
-  abbrev pub location_of : ℕ → ℕ
-  location_of k = start_of k + length (before k)
+  abbrev pub position_of : ℕ → ℕ
+  position_of k = start_of k + length (before k)
 
 -- where the items of a spliced list stand: those that were there, and those put in before and after them
 pub record ItemsSpliced (X : Type 0) : Type 0 where
-  pub there : (before after : ℕ → List X) (items : List X) (i : ℕ) → i ≤ length items → slice_get (spliced before after 0 items) (location_of before after i) ≡ slice_get items i
+  pub there : (before after : ℕ → List X) (items : List X) (i : ℕ) → i ≤ length items → slice_get (spliced before after 0 items) (position_of before after i) ≡ slice_get items i
   pub in_front : (before after : ℕ → List X) (items : List X) (i n : ℕ) → i ≤ length items → n < length (before i) → slice_get (spliced before after 0 items) (start_of before after i + n) ≡ slice_get (before i) n
-  pub next_to : (before after : ℕ → List X) (items : List X) (i n : ℕ) (a : X) → slice_get items i ≡ Some a → n < length (after i) → slice_get (spliced before after 0 items) (suc (location_of before after i) + n) ≡ slice_get (after i) n
+  pub next_to : (before after : ℕ → List X) (items : List X) (i n : ℕ) (a : X) → slice_get items i ≡ Some a → n < length (after i) → slice_get (spliced before after 0 items) (suc (position_of before after i) + n) ≡ slice_get (after i) n

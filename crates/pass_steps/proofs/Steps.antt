@@ -1,4 +1,4 @@
--- At a regular pair of points related states make steps to related states.
+-- At a regular pair of points matched states make steps to matched states.
 use Rattle.std.proofs.Common.{◌≡◌, ◌⊎◌, ℕ, zero, suc, ◌<◌, Bool, true, false, List, [], ◌∷◌, ◌++◌, length, map, Option, Some, None, ℤ, pos, negsuc, refl, sym, ap, subst, ◌∙◌, inl, inr, ⊎_elim, cond, arith, All}
 use Rattle.std.specs.Prelude.{slice_get, slice_index, ◌==◌, is_some, unwrap_or, nat_lt, IsTrue}
 use Rattle.std.specs.List.{AllZip}
@@ -626,7 +626,7 @@ module _ (m : Plan) (P Q : Prog) (limits : Limits) (accepted : IsAccepted P) (pr
     frame-alike : R (item_step P limits (item_at P k i) F' fs S1) (item_step Q limits (item_at Q k j) H' gs T1)
     frame-alike = item-alike _ _ refl (preserves.steps k i j (record { walk = contents.walk; is = contents.is; ends = contents.ends }) contents.points regular)
 
-  -- Related states that run, whose newest frames are at a regular pair of points, make a step to related states.
+  -- Matched states that run, whose newest frames are at a regular pair of points, make a step to matched states.
   pub regular_steps_match : (s t : State) → (r : R s t) → s.ended ≡ None → m.IsRegular r.frame.function r.frame.point r.result_frame.point → R (step P limits s) (step Q limits t)
   regular_steps_match s t r runs regular =
       let F = r.frame in

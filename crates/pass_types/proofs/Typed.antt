@@ -1,4 +1,4 @@
--- Items whose operands have the same types are typed matches, and types that stay.
+-- Items whose operands have the same types are typed alike, and types that stay.
 use Rattle.std.proofs.Common.{◌≡◌, ◌⊎◌, ℕ, zero, suc, ◌<◌, Bool, true, false, List, [], ◌∷◌, length, map, Option, Some, None, refl, sym, ap, ◌∙◌, inl, inr, ⊎_elim, cond, arith}
 use Rattle.std.specs.Prelude.{slice_get, slice_index, is_some, ◌&&◌}
 use Rattle.bril_tree.specs.declared.numbered.Instr.{Instr}

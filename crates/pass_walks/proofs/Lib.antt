@@ -1,4 +1,5 @@
 pub mod Deciding
-pub mod Accepting
-pub mod Based
 pub mod Walks
+pub mod Accepting
+pub mod Under
+pub mod Based

@@ -1,4 +1,4 @@
--- Walks of the new function have walks of the old one points them.
+-- Walks of the result go on with the walks of the program that match them.
 use Rattle.std.proofs.Common.{◌≡◌, ◌⊎◌, ℕ, zero, suc, ◌<◌, ◌≤◌, Bool, true, false, List, [], ◌∷◌, ◌++◌, length, map, Option, Some, None, refl, sym, ap, subst, ◌∙◌, inl, inr, ⊎_elim, cond, arith}
 use Rattle.std.specs.Prelude.{slice_get, is_some, IsTrue}
 use Rattle.std.specs.List.{AllZip}
@@ -186,7 +186,7 @@ module _ (m : Plan) (P Q : Prog) (f : ℕ) (args result_args : ℕ) (accepted : 
               (subst (λ l. S (sites_changed (item_change o a.aborts) (end_of w) (sites_of code w)) l (assigned_changed (item_change o a.aborts) (assigns_at o) a.aborts before).saved (assigned_changed (item_change o a.aborts) (assigns_at u) a.aborts behind).saved) sb parts.1)));
         }
 
-  -- from a regular pair each branch of Q has one of P points it
+  -- from a regular pair each branch of Q is matched by one of P
   pub regular_branch_matched : Preserves m P Q → (v : List Branch) (b : Branch) → RegularWalk m P Q f args result_args v → In b (branches_at (code_of Q f) (end_of v)) → MatchedWalk m P Q f args result_args (b ∷ v)
   regular_branch_matched preserves v b s among =
       let w = s.walk in

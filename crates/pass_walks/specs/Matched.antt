@@ -13,12 +13,12 @@ use Rattle.bril_tree.specs.Walk.{IsWalk, IsReached, end_of}
 use Rattle.flow_graph.proofs.Members.{In}
 use Rattle.pass_plan.specs.Plan.{Plan, Preserves}
 
--- what is matches and in the first set is in the second
+-- what matches a location of the first set is in the second
 abbrev pub Covers : (Location → Location → Type 0) → List Location → List Location → Type 0
 Covers A xs ys = (a b : Location) → A a b → In a xs → In b ys
 
 module _ (m : Plan) (P Q : Prog) (f : ℕ) (args result_args : ℕ) where
-  -- the open sites stand points each other at regular pairs, and so does what was saved there
+  -- the open sites match at regular pairs of points, and so do the sets that were saved there
   abbrev pub SavedSetsMatch : List ℕ → List ℕ → List (List Location) → List (List Location) → Type 0
   SavedSetsMatch [] [] [] [] = Unit {0}
   SavedSetsMatch (s ∷ ss) (t ∷ ts) (x ∷ xs) (y ∷ ys) = (m.PointsMatch f s t × m.IsRegular f s t × Covers (m.LocationsMatch f s t) x y) × SavedSetsMatch ss ts xs ys
@@ -30,13 +30,12 @@ module _ (m : Plan) (P Q : Prog) (f : ℕ) (args result_args : ℕ) where
     pub locations : Covers (m.LocationsMatch f (end_of w) (end_of v)) (assigned_of (code_of P f) args w).locations (assigned_of (code_of Q f) result_args v).locations
     pub saved : SavedSetsMatch (sites_of (code_of P f) w) (sites_of (code_of Q f) v) (assigned_of (code_of P f) args w).saved (assigned_of (code_of Q f) result_args v).saved
 
-  -- a walk of P that is matches
+  -- a walk of P that matches one of Q
   pub record MatchedWalk (v : List Branch) : Type 0 where
     pub walk : List Branch
     pub matches : WalksMatch walk v
 
-  -- What a pass proves points `Preserves`: a walk of P that comes points a point of Q can be drawn on to a regular pair,
-  -- or Q's next branch is already followed.
+  -- the same, where the two walks end at a regular pair of points
   pub record RegularWalk (v : List Branch) : Type 0 where
     pub walk : List Branch
     pub matches : WalksMatch walk v
@@ -49,7 +48,7 @@ pub record IsHarmless (Assured : Location → Type 0) (o : Option Instr) : Type 
   pub closed : needs_site o ≡ false
   pub reads : (item : Instr) → o ≡ Some item → (y : Location) → In y (reads_of item) → Assured y
 
--- What a pass proves of the walks of its result, points `Preserves`.
+-- What a pass proves of the walks of its result, beside `Preserves`.
 pub record MatchesWalks (m : Plan) (P Q : Prog) (f : ℕ) (args result_args : ℕ) : Type 0 where
   -- the point of P that stands for one of Q
   pub old : ℕ → ℕ

@@ -1,6 +1,6 @@
 use Rattle.std.proofs.Common.{◌≡◌, map, sym, subst}
 use Rattle.std.specs.List.{Contains}
-use Rattle.std.proofs.lemmas.Bool.{both_branches}
+use Rattle.std.proofs.lemmas.Bool.{both_ways}
 use Rattle.definite_assignment.specs.Leaving.{turned}
 use Rattle.definite_assignment.proofs.Turned.{turned-reaches}
 use Rattle.graph_search.specs.Path.{IsReached}
@@ -18,4 +18,4 @@ returns-clause-none c = λ no k read e is reached.
     let start : IsReached back items location 0 = turned-reaches self.forward.arcs items location read.item reached there in
     let found : Contains c.search.new.self.found 0 =
     (c.in_ok-search.ensures.found 0).1 (subst (λ arcs. IsReached arcs c.as_slice.result.now location 0) (sym self.turned) (subst (λ ss. IsReached back ss location 0) (sym seeds) start)) in
-    both_branches c.is_marked.result no (c.is_marked.ensures.1 found)
+    both_ways c.is_marked.result no (c.is_marked.ensures.1 found)

@@ -27,7 +27,7 @@ use Rattle.pass_names.specs.Trees.{tree_of, SameHead, CanBeNumbered}
 use Rattle.pass_names.proofs.Preserving.{found, nothing_found}
 use Rattle.pass_names.proofs.Trees.{tree_of-numbered}
 use Rattle.std.proofs.lemmas.Option.{same_Some}
-use Rattle.pass_accept.specs.CanBeMade.{tree_size, items_in, nop_item, nop}
+use Rattle.pass_make.specs.CanBeMade.{tree_size, items_in, nop_item, nop}
 
 -- ---- items
 

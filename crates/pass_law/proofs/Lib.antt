@@ -1,0 +1,5 @@
+pub mod Sizes
+pub mod Same
+pub mod Growing
+pub mod Running
+pub mod Chaining
