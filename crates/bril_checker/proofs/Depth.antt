@@ -8,9 +8,9 @@ use Rattle.bril_tree.specs.FrameWords.{IsDepth}
 use Rattle.bril_tree.specs.Sites.{AreSitesSound, TooMany, sites_of}
 use Rattle.bril_tree.specs.Walk.{IsWalk, end_of}
 use Rattle.flow_graph.specs.Graph.{GraphView, IsGraphOf}
-use Rattle.flow_graph.specs.Laws.{SoundWalksAgree}
-use Rattle.bril_checker.proofs.Ends.{ends_within}
-use Rattle.bril_checker.proofs.Reached.{at_place, walk_to, sites_of_walk}
+use Rattle.bril_tree.proofs.Branches.{walk_within}
+use Rattle.bril_tree.proofs.Elements.{get_inside}
+use Rattle.flow_graph.proofs.Told.{walk_to, sites_of_walk}
 
 module _ (code : List Instr) (graph : GraphView) where
   -- a walk has so many open sites
@@ -32,7 +32,7 @@ module _ (code : List Instr) (graph : GraphView) where
 
       deeper : (depth : ℕ) → (depth < n) ⊎ (n ≤ depth) → point < length graph.sites → HasDepth depth → HasDepth (max depth n)
       deeper depth (inl lt) inside has =
-          let here = at_place graph.sites point inside in
+          let here = get_inside graph.sites point inside in
           let m : n ≡ max depth n = omega arith in
           subst HasDepth m (open_walk (omega arith) here.0 here.1)
       deeper depth (inr le) inside has =
@@ -52,15 +52,15 @@ module _ (code : List Instr) (graph : GraphView) where
         λ k sites lt told. subst (λ d. length sites ≤ d) (sym e) (still_none depth k sites (cases_lt k point) lt none told),
       )
 
-    module _ (agree : SoundWalksAgree) (sound : AreSitesSound code) (depth : ℕ) (has : HasDepth depth) where
+    module _ (sound : AreSitesSound code) (depth : ℕ) (has : HasDepth depth) where
       pub is_depth : (point : ℕ) → length code < point → NoneDeeper point depth → IsDepth code depth
       is_depth point past none = record {
         deepest = has.0;
         is = has.1;
         reaches = has.2;
         most = λ walk is.
-            let within = ends_within code walk is in
-            none (end_of walk) (sites_of code walk) (omega arith) (sites_of_walk code graph is_graph agree sound walk is);
+            let within = walk_within code walk is in
+            none (end_of walk) (sites_of code walk) (omega arith) (sites_of_walk code graph is_graph sound walk is);
       }
 
       few : (8 < depth) ⊎ (depth ≤ 8) → depth ≤ 8
@@ -68,7 +68,7 @@ module _ (code : List Instr) (graph : GraphView) where
       few (inl lt) =
           absurd (sound (end_of has.0) (TooMany record {
             sites = sites_of code has.0;
-            first = is_graph.reached (end_of has.0) (sites_of code has.0) (sites_of_walk code graph is_graph agree sound has.0 has.1);
+            first = is_graph.reached (end_of has.0) (sites_of code has.0) (sites_of_walk code graph is_graph sound has.0 has.1);
             many = omega (arith, has.2);
           }))
 

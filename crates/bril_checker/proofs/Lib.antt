@@ -1,5 +1,4 @@
 pub mod Depth
-pub mod Ends
 pub mod Faultless
 pub mod FirstFaults
 pub mod Marked

@@ -10,7 +10,7 @@ use crate::walks::open_sites;
 use bril_tree::numbered::{Instr, VarInfo};
 use bril_tree::numbered_function::Func;
 use bril_tree::operation::Op;
-use flow_graph::{Graph, walks_agree};
+use flow_graph::Graph;
 use std::alloc::{AllocError, Global};
 
 // The variable whose shadow a `get` or a `set` names; a `set` without arguments, whose shape is wrong, has variable 0.
@@ -93,7 +93,6 @@ fn depth(func: &Func, graph: &Graph) -> usize
     ensures depth { IsDepth func.now.code result }
     ensures few { result ≤ 8 }
 {
-    walks_agree();
     let end = func.code.as_slice().len() as u32;
     let mut depth: usize = 0;
     for point in 0..end + 1 {

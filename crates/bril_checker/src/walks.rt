@@ -11,7 +11,7 @@ ghost use Rattle.bril_checker.specs.Faults.{IsFirstOpen, LeavesOpen};
 use bril_tree::numbered::Instr;
 use bril_tree::numbered_function::Func;
 use bril_tree::operation::Op;
-use flow_graph::{Graph, walks_agree};
+use flow_graph::Graph;
 
 // Whether the item at a point, or the function's end, begins or ends a frame.
 fn leaves_frame(code: &[Instr], point: u32) -> bool
@@ -43,7 +43,6 @@ fn leaves_open(func: &Func, graph: &Graph, point: u32) -> bool
     requires point { point < length graph.now.sites }
     ensures { IsTrue result ↔ LeavesOpen func.now point }
 {
-    walks_agree();
     leaves_frame(func.code.as_slice(), point) && open_sites(graph, point) > 0
 }
 

@@ -43,34 +43,34 @@ pub no_entries : (n : ℕ) → entries_of (replicate n None) ≡ no_values
 no_entries n = λ i y. none_held n y i
 
 -- an argument doesn't change what stands before it
-before : (p : Prog) (limits : Limits) (vs : List Value) (x y : ℕ) (values : Values) → y < x → arguments_from p limits x vs values y ≡ values y
+before : (p : Prog) (limits : Limits) (vs : List Value) (x y : ℕ) (values : Values) → y < x → arguments_from x vs values y ≡ values y
 before p limits [] x y values h = refl
 before p limits (v ∷ vs) x y values h =
     let other : eqb y x ≡ false = ne_eqb y x (λ e. omega arith) in
     before p limits vs (suc x) y (with_value values x v) (omega arith) ∙ cond-false (eqb y x) (Some v) (values y) other
 
 -- what the arguments and empty entries behind them hold
-argument_held : (p : Prog) (limits : Limits) (vs : List Value) (n x y : ℕ) (values : Values) → ((z : ℕ) → x ≤ z → values z ≡ None) → arguments_from p limits x vs values (x + y) ≡ entries_of (map Some vs ++ replicate n None) y
+argument_held : (p : Prog) (limits : Limits) (vs : List Value) (n x y : ℕ) (values : Values) → ((z : ℕ) → x ≤ z → values z ≡ None) → arguments_from x vs values (x + y) ≡ entries_of (map Some vs ++ replicate n None) y
 argument_held p limits [] n x y values none = none (x + y) (omega arith) ∙ sym (none_held n y)
 argument_held p limits (v ∷ vs) n x zero values none =
     let here : eqb (x + 0) x ≡ true = eq-eqb (x + 0) x (omega arith) in
     before p limits vs (suc x) (x + 0) (with_value values x v) (omega arith) ∙ cond-true (eqb (x + 0) x) (Some v) (values (x + 0)) here
 argument_held p limits (v ∷ vs) n x (suc y) values none =
     let moved : x + suc y ≡ suc x + y = omega arith in
-    ap (arguments_from p limits (suc x) vs (with_value values x v)) moved
+    ap (arguments_from (suc x) vs (with_value values x v)) moved
     ∙ argument_held p limits vs n (suc x) y (with_value values x v) (λ z h. cond-false (eqb z x) (Some v) (values z) (ne_eqb z x (λ e. omega arith)) ∙ none z (omega arith))
 
-pub arguments_held : (p : Prog) (limits : Limits) (vs : List Value) (n : ℕ) → entries_of (map Some vs ++ replicate n None) ≡ arguments_from p limits 0 vs no_values
+pub arguments_held : (p : Prog) (limits : Limits) (vs : List Value) (n : ℕ) → entries_of (map Some vs ++ replicate n None) ≡ arguments_from 0 vs no_values
 arguments_held p limits vs n =
-    let at : (y : ℕ) → entries_of (map Some vs ++ replicate n None) y ≡ arguments_from p limits 0 vs no_values y =
-    λ y. sym (argument_held p limits vs n 0 y no_values (λ z h. refl)) ∙ ap (arguments_from p limits 0 vs no_values) (omega arith) in
+    let at : (y : ℕ) → entries_of (map Some vs ++ replicate n None) y ≡ arguments_from 0 vs no_values y =
+    λ y. sym (argument_held p limits vs n 0 y no_values (λ z h. refl)) ∙ ap (arguments_from 0 vs no_values) (omega arith) in
     λ i y. at y i
 
 -- the frame of a call, or the first of all
 pub new_frame-held : (p : Prog) (limits : Limits) (function : ℕ) (vs : List Value) (n : ℕ) (locations : LocalsView) → locations.vars ≡ map Some vs ++ replicate (n - length vs) None → locations.shadows ≡ replicate (n + 1) None
-    → frame_of (record { function = function; point = 0; locations = locations; saves = [] }) ≡ new_frame p limits function vs
+    → frame_of (record { function = function; point = 0; locations = locations; saves = [] }) ≡ new_frame function vs
 new_frame-held p limits function vs n locations vars shadows =
-    let held : entries_of locations.vars ≡ arguments_from p limits 0 vs no_values = ap entries_of vars ∙ arguments_held p limits vs (n - length vs) in
+    let held : entries_of locations.vars ≡ arguments_from 0 vs no_values = ap entries_of vars ∙ arguments_held p limits vs (n - length vs) in
     let none : entries_of locations.shadows ≡ no_values = ap entries_of shadows ∙ no_entries (n + 1) in
     λ i. record { function = function; point = 0; locations = record { vars = held i; shadows = none i }; saves = [] }
 
@@ -91,11 +91,11 @@ new_frame-kept p function vs locations vars shadows few =
 
 -- ---- saves
 
-pub dropped-held : (p : Prog) (limits : Limits) (saves : List LocalsView) → map locations_of (without_newest saves) ≡ dropped p limits (map locations_of saves)
+pub dropped-held : (p : Prog) (limits : Limits) (saves : List LocalsView) → map locations_of (without_newest saves) ≡ dropped (map locations_of saves)
 dropped-held p limits [] = refl
 dropped-held p limits (newest ∷ saves) = refl
 
-pub saved-held : (p : Prog) (limits : Limits) (saves : List LocalsView) (locations : LocalsView) → locations_of (newest_or saves locations) ≡ saved p limits (map locations_of saves) (locations_of locations)
+pub saved-held : (p : Prog) (limits : Limits) (saves : List LocalsView) (locations : LocalsView) → locations_of (newest_or saves locations) ≡ saved (map locations_of saves) (locations_of locations)
 saved-held p limits [] locations = refl
 saved-held p limits (newest ∷ saves) locations = refl
 

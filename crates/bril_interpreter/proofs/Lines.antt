@@ -10,7 +10,7 @@ use Rattle.bril_tree.specs.Step.{line_of}
 use Rattle.bril_tree.specs.Value.{shown}
 use Rattle.bril_interpreter.specs.Line.{line}
 
-pub line_is : (p : Prog) (limits : Limits) (vs : List Value) → line vs ≡ line_of p limits vs
+pub line_is : (p : Prog) (limits : Limits) (vs : List Value) → line vs ≡ line_of vs
 line_is p limits [] = refl
 line_is p limits (v ∷ []) = refl
 line_is p limits (v ∷ w ∷ vs) = ap (λ bytes. shown v ++ 32 ∷ bytes) (line_is p limits (w ∷ vs))
@@ -20,10 +20,10 @@ some_behind [] ys x e = let f : x ∷ ys ≡ [] = e in cc
 some_behind (z ∷ xs) ys x e = let f : z ∷ (xs ++ x ∷ ys) ≡ [] = e in cc
 
 -- a print prints something
-pub line_of-some : (p : Prog) (limits : Limits) (vs : List Value) → line_of p limits vs ≢ []
+pub line_of-some : (p : Prog) (limits : Limits) (vs : List Value) → line_of vs ≢ []
 line_of-some p limits [] = some_behind [] [] 10
 line_of-some p limits (v ∷ []) = some_behind (shown v) [] 10
-line_of-some p limits (v ∷ w ∷ vs) = some_behind (shown v) (line_of p limits (w ∷ vs)) 32
+line_of-some p limits (v ∷ w ∷ vs) = some_behind (shown v) (line_of (w ∷ vs)) 32
 
 -- the piece of a value, and the byte behind it
 pub piece_is : (bytes : List ℕ) (v w : Value) (end : ℕ) → bytes ≡ shown v ++ end ∷ [] → v ≡ w → bytes ≡ shown w ++ end ∷ []

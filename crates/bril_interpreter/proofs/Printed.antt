@@ -36,7 +36,7 @@ module _ (p : Prog) (limits : Limits) (bytes : List ℕ) where
   front-returns v (caller ∷ older) s = refl
 
   front-prints : (vs : List Value) (f : Frame) (older : List Frame) (s : State) → prints p limits vs f older (in_front bytes s) ≡ in_front bytes (prints p limits vs f older s)
-  front-prints vs f older s = ap (λ w. record (advances p limits f older s) { printed = w }) (append_assoc bytes s.printed (line_of p limits vs))
+  front-prints vs f older s = ap (λ w. record (advances p limits f older s) { printed = w }) (append_assoc bytes s.printed (line_of vs))
 
   front-allocates : (o : Option Fault) (count : ℤ) (dest : Option ℕ) (f : Frame) (older : List Frame) (s : State) → allocates p limits o count dest f older (in_front bytes s) ≡ in_front bytes (allocates p limits o count dest f older s)
   front-allocates None count dest f older s = refl

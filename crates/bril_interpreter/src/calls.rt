@@ -64,7 +64,7 @@ impl<'a> Interp<'a> {
 
     // The frame of a call, with the values of these variables.
     fn new_frame(&self, callee: u32, args: &[u32]) -> Result<Frame, AllocError>
-        ensures frame { IfOk result (λ frame. frame_of frame ≡ new_frame self.now.checked.prog self.now.limits callee (map (read (newest_of self.now).locations.vars) args.now)) }
+        ensures frame { IfOk result (λ frame. frame_of frame ≡ new_frame callee (map (read (newest_of self.now).locations.vars) args.now)) }
         ensures form { IfOk result (λ frame. IsFrame self.now.checked.prog frame) }
     {
         let alloc = *self.older.allocator();

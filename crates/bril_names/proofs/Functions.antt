@@ -12,7 +12,7 @@ use Rattle.bril_tree.specs.declared.numbered_function.Func.{Func}
 use Rattle.bril_tree.specs.declared.program.Prog.{Prog}
 use Rattle.bril_tree.specs.declared.types.Ty.{Ty}
 use Rattle.bril_tree.specs.FunctionForm.{known_after, IsFunctionForm, IsFunctionForm-prop, variables_of, callees_of, targets_of, first_type}
-use Rattle.bril_tree.specs.Numbered.{named, variable_names, item_tree, function_tree}
+use Rattle.bril_tree.specs.Numbered.{named, variable_names, names_of_functions, item_tree, function_tree}
 use Rattle.bril_tree.specs.ProgramForm.{IsProgramForm, IsProgramForm-prop, main_name}
 use Rattle.bril_names.specs.Faults.{Differ, labels_of}
 use Rattle.bril_names.specs.Range.{AreBelow, AreInRange}
@@ -171,9 +171,6 @@ same_functions fs differ (f ∷ xs) (g ∷ ys) called called' same =
     let one = same_function fs differ f g (AreBelow-tested (length fs) (flat_map callees_of f.code) c.0) (AreBelow-tested (length fs) (flat_map callees_of g.code) c'.0) head in
     let rest = same_functions fs differ xs ys c.1 c'.1 tail in
     λ i. one i ∷ rest i
-
-abbrev pub names_of_functions : List Func → List (List ℕ)
-names_of_functions funcs = map (λ (f : Func). f.name) funcs
 
 -- the number of `main` in a list of names
 pub record IsMain (names : List (List ℕ)) (main : ℕ) : Type 0 where

@@ -1,5 +1,6 @@
 pub mod Appearance
 pub mod Decisions
+pub mod Edits
 pub mod Entering
 pub mod FaultPlaces
 pub mod Faultless

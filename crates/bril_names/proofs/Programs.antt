@@ -14,13 +14,13 @@ use Rattle.bril_tree.specs.declared.numbered_function.Func.{Func}
 use Rattle.bril_tree.specs.declared.program.Prog.{Prog}
 use Rattle.bril_tree.specs.declared.tree.Tree.{Tree}
 use Rattle.bril_tree.specs.FunctionForm.{IsFunctionForm, variables_of, label_at, targets_of, callees_of, first_type, known_after}
-use Rattle.bril_tree.specs.Numbered.{Numbered, variable_names, item_tree, argument_tree, function_tree}
+use Rattle.bril_tree.specs.Numbered.{Numbered, variable_names, item_tree, argument_tree, function_tree, names_of_functions}
 use Rattle.bril_tree.specs.ProgramForm.{IsProgramForm, main_name}
 use Rattle.bril_names.specs.Faults.{Differ, AreAmong, IsSound, labels_of, argument_names, function_names}
 use Rattle.bril_names.specs.Range.{AreBelow}
 use Rattle.bril_names.proofs.Appearance.{known_after-below}
 use Rattle.bril_names.proofs.Faultless.{IsSoundTree}
-use Rattle.bril_names.proofs.Functions.{names_of_functions, AreAllCalled}
+use Rattle.bril_names.proofs.Functions.{AreAllCalled}
 use Rattle.bril_names.proofs.Items.{names_of, names_of_code, labels_of_code, all_named}
 use Rattle.bril_names.proofs.Numbers.{Appears, appears, MakesAll, make_all}
 use Rattle.bril_names.proofs.Naming.{same_numbers, named_apart, test_of_AreBelow, AreBelow-range, AreAmong-named}

@@ -11,12 +11,12 @@ use Rattle.bril_tree.specs.declared.numbered_function.Func.{Func}
 use Rattle.bril_tree.specs.declared.program.Prog.{Prog}
 use Rattle.bril_tree.specs.declared.tree.Tree.{Tree}
 use Rattle.bril_tree.specs.FunctionForm.{callees_of}
-use Rattle.bril_tree.specs.Numbered.{Numbered, variable_names, item_tree, function_tree}
+use Rattle.bril_tree.specs.Numbered.{Numbered, variable_names, item_tree, function_tree, names_of_functions}
 use Rattle.bril_tree.specs.ProgramForm.{main_name}
 use Rattle.bril_names.specs.Faults.{Differ, IsSound, IsKnown, labels_of, function_names}
 use Rattle.bril_names.specs.Range.{IsInRange, AreInRange}
 use Rattle.bril_names.proofs.Faultless.{IsSoundTree}
-use Rattle.bril_names.proofs.Functions.{AreCalled, AreAllCalled, in_range, Differ-variables, Differ-functions, names_of_functions, all_called, IsMain, is_main}
+use Rattle.bril_names.proofs.Functions.{AreCalled, AreAllCalled, in_range, Differ-variables, Differ-functions, all_called, IsMain, is_main}
 use Rattle.bril_names.proofs.Items.{AreInRange-first, AreInRange-rest, labels_of_tree}
 use Rattle.bril_names.proofs.Naming.{AreBelow-tested, AreAmong-named, Differ-take, AreAmong-none}
 use Rattle.bril_names.proofs.Variables.{argument_names_taken}

@@ -57,6 +57,19 @@ pub record IsSound (functions : List (List ℕ)) (f : FuncTree) : Type 0 where
   pub labels : Differ (labels_of f.code)
   pub known : All (IsKnown functions (labels_of f.code)) f.code
 
+-- the functions have the same name, arguments and type of result
+pub record SameHead (f g : FuncTree) : Type 0 where
+  pub name : f.name ≡ g.name
+  pub args : f.args ≡ g.args
+  pub ret : f.ret ≡ g.ret
+
+-- The second function is an edit of the first whose labels differ, and which names only functions and labels that are
+-- there, where these are the functions of its program.
+pub record IsSoundEdit (functions : List (List ℕ)) (f g : FuncTree) : Type 0 where
+  pub head : SameHead f g
+  pub labels : Differ (labels_of g.code)
+  pub known : All (IsKnown functions (labels_of g.code)) g.code
+
 -- ---- the faults
 
 -- the first place at which a name stands that stands before it, too

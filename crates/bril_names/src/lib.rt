@@ -7,9 +7,9 @@ mod numbering;
 mod unnumbering;
 
 pub use fault::NameFault;
-pub use laws::{numbering_is_one_to_one, program_or_fault};
+pub use laws::{numbering_is_one_to_one, program_or_fault, sound_edits_have_no_fault};
 pub use numbering::number;
-pub use unnumbering::unnumber;
+pub use unnumbering::{function_of, unnumber};
 
 #[cfg(test)]
 mod tests;

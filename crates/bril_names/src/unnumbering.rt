@@ -1,8 +1,8 @@
 // From numbers to names.
 
-ghost use Rattle.std.specs.Prelude.{◌≡◌, IfOk, length, map, take};
+ghost use Rattle.std.specs.Prelude.{◌≡◌, ◌<◌, Some, IfOk, length, map, slice_get, take};
 ghost use Rattle.std.specs.List.{filter_map};
-ghost use Rattle.bril_tree.specs.Numbered.{Numbered, argument_tree, function_tree};
+ghost use Rattle.bril_tree.specs.Numbered.{Numbered, argument_tree, function_tree, tree_of};
 ghost use Rattle.bril_tree.specs.declared.program.Prog.{Prog};
 ghost use Rattle.bril_tree.specs.declared.tree.Tree.{Tree};
 ghost use Rattle.bril_names.specs.Range.{AreInRange};
@@ -29,7 +29,7 @@ pub fn unnumber(alloc: Global, prog: &Prog) -> Result<Tree, AllocError>
 {
     let mut funcs = Seq::new(alloc);
     for f in prog.funcs.as_slice() {
-        funcs.push(function_of(alloc, prog.funcs.as_slice(), f)?)?;
+        funcs.push(named_function(alloc, prog.funcs.as_slice(), f)?)?;
     }
     Ok(Tree {
         imports: Seq::new(alloc),
@@ -37,8 +37,18 @@ pub fn unnumber(alloc: Global, prog: &Prog) -> Result<Tree, AllocError>
     })
 }
 
+/// The tree of the function of a number, which is below how many functions the program has. An error means that there is
+/// no memory.
+pub fn function_of(alloc: Global, prog: &Prog, number: u32) -> Result<FuncTree, AllocError>
+    requires { number < length prog.now.funcs }
+    ensures { IfOk result (λ tree. slice_get (tree_of prog.now).funcs number ≡ Some tree) }
+{
+    let funcs = prog.funcs.as_slice();
+    named_function(alloc, funcs, &funcs[number as usize])
+}
+
 // The function of names, which is one of these.
-fn function_of(alloc: Global, funcs: &[Func], f: &Func) -> Result<FuncTree, AllocError>
+fn named_function(alloc: Global, funcs: &[Func], f: &Func) -> Result<FuncTree, AllocError>
     requires { AreInRange (length funcs.now) (length f.now.vars) (length f.now.labels) f.now.code }
     ensures { IfOk result (λ tree. tree ≡ function_tree (map (λ g. g.name) funcs.now) f.now) }
 {

@@ -41,6 +41,14 @@ pub record IsAcceptedFunction (p : Prog) (f : Func) : Type 0 where
   pub assigned : (point : ℕ) (item : Instr) (location : Location) → slice_get f.code point ≡ Some item → Contains (reads_of item) location →
       ¬ IsMaybeUnassigned f.code f.args location point
 
+-- What acceptance says of a function's walks, where it has so many arguments and returns a value or doesn't.
+pub record AreWalksAccepted (code : List Instr) (args : ℕ) (returns_value : Bool) : Type 0 where
+  pub sites : AreSitesSound code
+  pub alone : (walk : List Branch) → IsWalk code walk → IsTrue (leaves_frame (slice_get code (end_of walk))) → sites_of code walk ≡ []
+  pub returns : IsTrue returns_value → ¬ IsReached code (length code)
+  pub assigned : (point : ℕ) (item : Instr) (location : Location) → slice_get code point ≡ Some item → Contains (reads_of item) location →
+      ¬ IsMaybeUnassigned code args location point
+
 -- an int, a bool or a char
 abbrev pub IsPlainType : Option Ty → Type 0
 IsPlainType None = ⊥

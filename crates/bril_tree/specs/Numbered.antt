@@ -1,6 +1,7 @@
--- Which numbered program stands for a tree of names.
-use Rattle.std.specs.Prelude.{◌≡◌, ℕ, List, [], map, Option, Some, None, slice_index_or, take}
-use Rattle.std.specs.List.{filter_map}
+-- Which numbered program stands for a tree of names, and which tree for a program.
+use Rattle.std.specs.Prelude.{◌≡◌, ℕ, List, [], length, map, Option, Some, None, slice_get, slice_index_or, take}
+use Rattle.std.specs.List.{filter_map, sum_by}
+use Rattle.std.specs.Option.{option_map}
 use Rattle.bril_tree.specs.declared.function_tree.Dest.{Dest}
 use Rattle.bril_tree.specs.declared.function_tree.FuncTree.{FuncTree}
 use Rattle.bril_tree.specs.declared.function_tree.Item.{Item}
@@ -9,6 +10,7 @@ use Rattle.bril_tree.specs.declared.numbered.Instr.{Instr}
 use Rattle.bril_tree.specs.declared.numbered.Instr.TheVariants.{Label, Const, Act}
 use Rattle.bril_tree.specs.declared.numbered.VarInfo.{VarInfo}
 use Rattle.bril_tree.specs.declared.numbered_function.Func.{Func}
+use Rattle.bril_tree.specs.declared.operation.Op.TheVariants as op
 use Rattle.bril_tree.specs.declared.program.Prog.{Prog}
 use Rattle.bril_tree.specs.declared.tree.Tree.{Tree}
 use Rattle.bril_tree.specs.declared.types.Ty.{Ty}
@@ -43,6 +45,7 @@ item_tree funcs vars labels (Const dest ty value) = item.Const (named vars dest)
 item_tree funcs vars labels (Act dest ty op args callees targets) =
     item.Act (dest_tree vars dest ty) op (map (named vars) args) (map (named funcs) callees) (map (named labels) targets)
 
+-- a function with the names of its numbers, where the program's functions have these names
 abbrev pub function_tree : List (List ℕ) → Func → FuncTree
 function_tree funcs f = record {
   name = f.name;
@@ -57,3 +60,41 @@ function_tree funcs f = record {
 pub record Numbered (tree : Tree) (p : Prog) : Type 0 where
   pub alone : tree.imports ≡ []
   pub functions : tree.funcs ≡ map (function_tree (map (λ f. f.name) p.funcs)) p.funcs
+
+-- ---- the tree of a program
+
+abbrev pub names_of_functions : List Func → List (List ℕ)
+names_of_functions funcs = map (λ f. f.name) funcs
+
+-- The tree of which a program is the numbering: there is no other.
+abbrev pub tree_of : Prog → Tree
+tree_of p = record { imports = []; funcs = map (function_tree (names_of_functions p.funcs)) p.funcs }
+
+-- the names of a function's variables; none where the program lacks it
+abbrev pub names_in : Option Func → List (List ℕ)
+names_in None = []
+names_in (Some f) = variable_names f.vars
+
+-- the item at a point of a function, with names
+abbrev pub point_tree : List (List ℕ) → Option Func → ℕ → Option Item
+point_tree funcs None point = None
+point_tree funcs (Some f) point = option_map (item_tree funcs (variable_names f.vars) f.labels) (slice_get f.code point)
+
+abbrev pub tree_at : Prog → ℕ → ℕ → Option Item
+tree_at p f point = point_tree (names_of_functions p.funcs) (slice_get p.funcs f) point
+
+-- the items of a function of names; none where there is none
+abbrev pub items_in : Option FuncTree → List Item
+items_in None = []
+items_in (Some f) = f.code
+
+-- the number of items of all functions
+abbrev pub tree_size : Tree → ℕ
+tree_size tree = sum_by (λ f. length f.code) tree.funcs
+
+-- the item that does nothing, by names and by numbers
+abbrev pub nop_item : Item
+nop_item = item.Act None op.Nop [] [] []
+
+abbrev pub nop : Instr
+nop = Act None None op.Nop [] [] []

@@ -33,7 +33,7 @@ FitMain p args = AllZip Suits args (main_types p)
 -- the first state: one frame of `main`, at its first item, with the arguments
 abbrev pub first_state : Prog → Limits → List Value → State
 first_state p limits args = record {
-  frames = new_frame p limits p.main args ∷ [];
+  frames = new_frame p.main args ∷ [];
   blocks = [];
   printed = [];
   ended = None;

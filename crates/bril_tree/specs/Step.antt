@@ -71,6 +71,37 @@ with_frames frames s = record s { frames = frames }
 abbrev pub faulted : Fault → State → State
 faulted kind s = record s { ended = Some (Faulted kind) }
 
+-- ---- calls, lines and saves
+
+-- the arguments of a call as the variables of the new frame
+abbrev pub arguments_from : ℕ → List Value → Values → Values
+arguments_from x [] values = values
+arguments_from x (v ∷ vs) values = arguments_from (suc x) vs (with_value values x v)
+
+abbrev pub new_frame : ℕ → List Value → Frame
+new_frame f args = record {
+  function = f;
+  point = 0;
+  locations = record { vars = arguments_from 0 args no_values; shadows = no_values };
+  saves = [];
+}
+
+-- the values of arguments, with one space between two, and LF
+abbrev pub line_of : List Value → List ℕ
+line_of [] = 10 ∷ []
+line_of (v ∷ []) = shown v ++ 10 ∷ []
+line_of (v ∷ w ∷ vs) = shown v ++ 32 ∷ line_of (w ∷ vs)
+
+-- the locations of the newest save
+abbrev pub saved : List Locals → Locals → Locals
+saved [] locations = locations
+saved (newest ∷ saves) locations = newest
+
+-- the newest save is dropped
+abbrev pub dropped : List Locals → List Locals
+dropped [] = []
+dropped (newest ∷ saves) = saves
+
 -- ---- one step
 
 module _ (p : Prog) (limits : Limits) where
@@ -105,30 +136,11 @@ module _ (p : Prog) (limits : Limits) where
   returns v [] s = ends (is_live_any s.blocks) s
   returns v (caller ∷ older) s = gives (awaited (item_at p caller.function caller.point)) v caller older s
 
-  -- the arguments of a call as the variables of the new frame
-  abbrev pub arguments_from : ℕ → List Value → Values → Values
-  arguments_from x [] values = values
-  arguments_from x (v ∷ vs) values = arguments_from (suc x) vs (with_value values x v)
-
-  abbrev pub new_frame : ℕ → List Value → Frame
-  new_frame f args = record {
-    function = f;
-    point = 0;
-    locations = record { vars = arguments_from 0 args no_values; shadows = no_values };
-    saves = [];
-  }
-
   -- a frame more, where the limit allows it; the caller stays at its call
   abbrev pub calls : ℕ → List Value → Frame → List Frame → State → State
   calls g args f older s =
       if nat_lt (suc (length older)) limits.frames then with_frames (new_frame g args ∷ f ∷ older) s
       else faulted fault.Frames s
-
-  -- the values of arguments, with one space between two, and LF
-  abbrev pub line_of : List Value → List ℕ
-  line_of [] = 10 ∷ []
-  line_of (v ∷ []) = shown v ++ 10 ∷ []
-  line_of (v ∷ w ∷ vs) = shown v ++ 32 ∷ line_of (w ∷ vs)
 
   abbrev pub prints : List Value → Frame → List Frame → State → State
   prints vs f older s = advances f older (record s { printed = s.printed ++ line_of vs })
@@ -162,18 +174,8 @@ module _ (p : Prog) (limits : Limits) where
   abbrev pub speculates : Frame → List Frame → State → State
   speculates f older s = advances (record f { saves = f.locations ∷ f.saves }) older s
 
-  -- the newest save is dropped
-  abbrev pub dropped : List Locals → List Locals
-  dropped [] = []
-  dropped (newest ∷ saves) = saves
-
   abbrev pub commits : Frame → List Frame → State → State
   commits f older s = advances (record f { saves = dropped f.saves }) older s
-
-  -- the locations of the newest save
-  abbrev pub saved : List Locals → Locals → Locals
-  saved [] locations = locations
-  saved (newest ∷ saves) locations = newest
 
   -- one failure more of the guard at which the frame stands
   abbrev pub with_failure : Frame → State → State

@@ -1,7 +1,7 @@
-// Laws of the names of operations and of the semantics. Each function states one, and does nothing when it is
-// called.
+// Laws of the names of operations, of the semantics, of the trees of programs, of live locations and of numbers. Each
+// function states some, and does nothing when it is called.
 
-ghost use Rattle.bril_tree.specs.Laws.{OperationsAreNamed, RunsAreSystems, RefinesItself, RefinesOn};
+ghost use Rattle.bril_tree.specs.Laws.{OperationsAreNamed, RunsAreSystems, RefinesItself, RefinesOn, ProgramsHaveTrees, TreesAreOne, NumberingKeepsCounts, NumberingKeepsBounds, CountedHaveSize, LiveAreAssigned, FrameWordsAreOne, EntryCountsAreOne, EntryWidthsAreOne, CostsAreOne};
 
 /// Each operation is found by its own name, and by no other.
 pub fn operations_are_named()
@@ -22,4 +22,31 @@ pub fn refines_itself()
 /// factors on the numbers of steps multiply.
 pub fn refines_on()
     ensures { RefinesOn }
+{}
+
+/// A program is the numbering of its tree and of no other. Numbering keeps how many functions and items there are, and
+/// each bound on the items of a function.
+pub fn programs_have_one_tree()
+    ensures tree { ProgramsHaveTrees }
+    ensures one { TreesAreOne }
+    ensures counts { NumberingKeepsCounts }
+    ensures bounds { NumberingKeepsBounds }
+{}
+
+/// A program whose functions and points have numbers of 32 bits has fewer than 2^64 items.
+pub fn counted_programs_have_a_size()
+    ensures { CountedHaveSize }
+{}
+
+/// Each walk to a point of an accepted function has assigned what is live there, an argument at the start.
+pub fn live_locations_are_assigned()
+    ensures { LiveAreAssigned }
+{}
+
+/// A function has one number of frame words, one of entries and one width of them, and a program one cost.
+pub fn numbers_are_one()
+    ensures words { FrameWordsAreOne }
+    ensures entries { EntryCountsAreOne }
+    ensures width { EntryWidthsAreOne }
+    ensures cost { CostsAreOne }
 {}

@@ -2,10 +2,13 @@
 #![tactic(auto)]
 
 pub mod bytes;
+pub mod edge;
 pub mod function_tree;
 pub mod import;
+mod labels;
 pub mod laws;
 pub mod limits;
+pub mod literals;
 pub mod name;
 pub mod numbered;
 pub mod numbered_function;

@@ -7,11 +7,12 @@ use Rattle.bril_tree.specs.Operand.{reads_of}
 use Rattle.bril_tree.specs.declared.numbered.Instr.{Instr}
 use Rattle.definite_assignment.specs.Leaving.{leaving_arc, leaving_arcs, turned}
 use Rattle.definite_assignment.specs.Reads.{read_at, reads_from, item_reads}
-use Rattle.definite_assignment.proofs.Edges.{IsEdgeAt, edge-back}
-use Rattle.definite_assignment.proofs.Walks.{sites-inside}
+use Rattle.flow_graph.proofs.GraphEdges.{IsEdgeAt, edge-back}
+use Rattle.bril_tree.proofs.Replays.{sites-inside}
 use Rattle.definite_assignment.proofs.Branches.{branch-is, branch-inside}
-use Rattle.flow_graph.specs.Graph.{GraphView, IsGraphOf, leave_of}
-use Rattle.flow_graph.specs.declared.edge.Edge.{Edge}
+use Rattle.bril_tree.specs.Leaving.{leave_of}
+use Rattle.flow_graph.specs.Graph.{GraphView, IsGraphOf}
+use Rattle.bril_tree.specs.declared.edge.Edge.{Edge}
 use Rattle.graph_search.specs.Path.{IsBetween}
 use Rattle.graph_search.specs.declared.graph.Arc.{Arc}
 

@@ -1,12 +1,11 @@
 -- A location may be unassigned at a point exactly where it is no argument and the search from the first item, over edges
 -- from the points where they leave, past items that don't assign it, leads to the point.
-use Rattle.std.proofs.Common.{◌≡◌, ◌≢◌, ℕ, suc, zero, ◌+◌, ◌<◌, ◌↔◌, List, [], ◌∷◌, ◌++◌, Bool, true, false, Option, Some, None, length, sym, ap, ◌∙◌, subst, refl, ⊎_elim, arith}
+use Rattle.std.proofs.Common.{◌≡◌, ◌≢◌, ℕ, suc, zero, ◌+◌, ◌↔◌, List, [], ◌∷◌, ◌++◌, Bool, true, false, Option, Some, None, length, sym, ap, ◌∙◌, subst, refl, ⊎_elim, arith}
 use Rattle.std.specs.Prelude.{slice_get}
 use Rattle.std.specs.List.{Contains}
 use Rattle.std.specs.Option.{option_map, option_to_list}
 use Rattle.std.proofs.lemmas.Bool.{cases_Bool, both_ways, false_from_ne_true}
 use Rattle.std.proofs.lemmas.List.Elements.{Contains-append_left, Contains-append_right, Contains-append_cases}
-use Rattle.std.proofs.lemmas.Option.{slice_get_cases}
 use Rattle.bril_tree.specs.Assigned.{Assigned, IsMaybeUnassigned, assigned_of, assigned_behind, assigned_changed, assigns_at, newest_saved}
 use Rattle.bril_tree.specs.Edge.{Branch, branches_at}
 use Rattle.bril_tree.specs.Operand.{Location}
@@ -16,13 +15,15 @@ use Rattle.bril_tree.specs.declared.numbered.Instr.{Instr}
 use Rattle.definite_assignment.specs.Leaving.{leaving_arc, leaving_arcs}
 use Rattle.definite_assignment.specs.Location.{number_of, is_argument, label_of, location_at}
 use Rattle.definite_assignment.specs.Reads.{IsOpen, read_at}
-use Rattle.definite_assignment.proofs.Edges.{IsEdgeAt, edge-there, edge-back}
-use Rattle.definite_assignment.proofs.Locations.{Contains-map, Contains-map_back, label-one, argument-is, argument-there}
-use Rattle.definite_assignment.proofs.Walks.{IsSaved, saved-back, same-length, open-sites, replay}
-use Rattle.definite_assignment.proofs.Branches.{IsAbort, branch-is, branch-inside, locations-passed, opens-nothing}
-use Rattle.flow_graph.specs.Graph.{GraphView, IsGraphOf, edge_of, leave_of}
-use Rattle.flow_graph.specs.Laws.{SoundWalksAgree}
-use Rattle.flow_graph.specs.declared.edge.Edge.{Edge}
+use Rattle.flow_graph.proofs.GraphEdges.{IsEdgeAt, edge-there, edge-back}
+use Rattle.bril_tree.proofs.Members.{Contains-map, Contains-map_back}
+use Rattle.definite_assignment.proofs.Locations.{label-one, argument-is, argument-there}
+use Rattle.bril_tree.proofs.Replays.{IsSaved, saved-back, same-length, open-sites, replay}
+use Rattle.definite_assignment.proofs.Branches.{IsAbort, branch-is, locations-passed, opens-nothing}
+use Rattle.bril_tree.specs.Leaving.{edge_of, leave_of}
+use Rattle.flow_graph.specs.Graph.{GraphView, IsGraphOf}
+use Rattle.bril_tree.specs.declared.edge.Edge.{Edge}
+use Rattle.flow_graph.proofs.Told.{sites_of_walk}
 use Rattle.graph_search.specs.Path.{Leads}
 use Rattle.graph_search.specs.declared.graph.Arc.{Arc}
 use Rattle.graph_search.proofs.Paths.{reached_seed, reached_step, reached_all}
@@ -31,20 +32,6 @@ use Rattle.graph_search.proofs.Paths.{reached_seed, reached_step, reached_all}
 pub record IsSoundGraph (code : List Instr) (graph : GraphView) : Type 0 where
   pub is : IsGraphOf code graph
   pub sound : AreSitesSound code
-  pub agree : SoundWalksAgree
-
--- the open sites of a walk are those that the graph has
-sites_known : (code : List Instr) (graph : GraphView) → IsSoundGraph code graph → (walk : List Branch) → IsWalk code walk → (o : Option (List ℕ)) →
-    slice_get graph.sites (end_of walk) ≡ Some o → o ≡ Some (sites_of code walk)
-sites_known code graph g walk is None e = absurd (g.is.unreached (end_of walk) e (record { walk = walk; is = is; ends = refl }))
-sites_known code graph g walk is (Some sites) e = ap Some (sym (g.agree code g.sound walk is sites (g.is.reached (end_of walk) sites e)))
-
-pub sites-there : (code : List Instr) (graph : GraphView) → IsSoundGraph code graph → (walk : List Branch) → IsWalk code walk → end_of walk < length code →
-    slice_get graph.sites (end_of walk) ≡ Some (Some (sites_of code walk))
-sites-there code graph g walk is low = ⊎_elim
-    (λ there. let o : Option (List ℕ) = there.0 in there.2 ∙ ap Some (sites_known code graph g walk is o there.2))
-    (λ past. absurd (omega (arith, g.is.points, past.0)))
-    (slice_get_cases graph.sites (end_of walk)).1
 
 -- where an abort is, a site is open
 some_site : {X : Type 0} (code : List Instr) (graph : GraphView) → IsSoundGraph code graph → (p : ℕ) → IsAbort (slice_get code p) → slice_get graph.sites p ≡ Some (Some []) → X
@@ -117,7 +104,7 @@ stands_on code args graph g x branch walk is leads s e lacks =
     s.here (λ h. lacks (subst (λ ps. Contains ps x) (sym locations) (Contains-append_right (option_to_list (location_at item)) a.locations x h))) in
     let passes : label_of item ≢ Some (number_of x) =
     λ h. lacks (subst (λ ps. Contains ps x) (sym locations) (Contains-append_left (option_to_list (location_at item)) a.locations x (listed_one (location_at item) x (label-one (location_at item) x h)))) in
-    let there = sites-there code graph g walk is (branch-inside code (end_of walk) branch leads) in
+    let there = sites_of_walk code graph g.is g.sound walk is in
     open_on arcs args x branch.from branch.to (subst (λ p. IsOpen arcs args (read_at p x)) (sym from) before)
     (leads_on code graph g x (end_of walk) branch.from (sites_of code walk) branch there leads (leave_on branch.aborts branch.from (sites_of code walk) e) passes)
 
@@ -126,7 +113,7 @@ stands_back : (code : List Instr) (args : ℕ) (graph : GraphView) → IsSoundGr
     (sites : List ℕ) → sites_of code walk ≡ sites → (saved : List (List Location)) → (assigned_of code args walk).saved ≡ saved →
     (¬ Contains (newest_saved (assigned_of code args walk).locations saved) x) → IsOpen (leaving_arcs code graph.edges) args (read_at branch.to x)
 stands_back code args graph g x branch walk is leads s e [] is_sites saved is_saved lacks =
-    let there = sites-there code graph g walk is (branch-inside code (end_of walk) branch leads) in
+    let there = sites_of_walk code graph g.is g.sound walk is in
     some_site code graph g (end_of walk) ((branch-is code (end_of walk) branch leads).aborts e) (there ∙ ap (λ ss. Some (Some ss)) is_sites)
 stands_back code args graph g x branch walk is leads s e (l ∷ rest) is_sites [] is_saved lacks =
     let same = s.same in
@@ -138,7 +125,7 @@ stands_back code args graph g x branch walk is leads s e (l ∷ rest) is_sites (
     let newest : slice_get (sites_of code walk) 0 ≡ Some l = ap (λ ss. slice_get ss 0) is_sites in
     let before : IsOpen arcs args (read_at l x) = s.saved 0 l set (record { site_there = newest; saved_there = ap (λ ss. slice_get ss 0) is_saved }) lacks in
     let there : slice_get graph.sites (end_of walk) ≡ Some (Some (l ∷ rest)) =
-    sites-there code graph g walk is (branch-inside code (end_of walk) branch leads) ∙ ap (λ ss. Some (Some ss)) is_sites in
+    sites_of_walk code graph g.is g.sound walk is ∙ ap (λ ss. Some (Some ss)) is_sites in
     let opens = open-sites code walk 0 l newest in
     let nothing : location_at (slice_get code l) ≡ None = opens-nothing (slice_get code l) opens.0 opens.1 in
     let unlabelled : label_of (slice_get code l) ≡ None = ap (option_map number_of) nothing in

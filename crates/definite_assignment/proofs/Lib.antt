@@ -1,10 +1,8 @@
 pub mod Bounds
-pub mod Edges
 pub mod FirstRead
 pub mod FirstUnassigned
 pub mod Law
 pub mod Locations
 pub mod ReadRows
 pub mod Turned
-pub mod Walks
 pub mod Branches

@@ -1,8 +1,7 @@
 -- Numbers of locations.
-use Rattle.std.proofs.Common.{◌≡◌, ℕ, ◌*◌, ◌<◌, List, [], ◌∷◌, true, Option, Some, None, map, get_or, sym, ap, ◌∙◌, subst, refl, arith, suc, zero}
+use Rattle.std.proofs.Common.{◌≡◌, ℕ, ◌*◌, ◌<◌, true, Option, Some, None, map, get_or, sym, ap, ◌∙◌, subst, arith}
 use Rattle.std.specs.List.{Contains, range_with_len}
 use Rattle.std.specs.Option.{option_map}
-use Rattle.std.proofs.lemmas.List.{get_or-map, length-map}
 use Rattle.std.proofs.lemmas.List.FromFn.{length-map-range_with_len, get_or-map-range_with_len}
 use Rattle.std.proofs.lemmas.Bool.Decides.{nat_tests}
 use Rattle.bril_tree.specs.Operand.{Location, Variable, Shadow}
@@ -17,17 +16,6 @@ number-one (Shadow x) (Shadow y) e = let same : x ≡ y = omega arith in ap Shad
 pub label-one : (o : Option Location) (location : Location) → option_map number_of o ≡ Some (number_of location) → o ≡ Some location
 label-one None location e = cc
 label-one (Some other) location e = let same : number_of other ≡ number_of location = cc in ap Some (number-one other location same)
-
-pub Contains-map : {A B : Type 0} (f : A → B) (xs : List A) (x : A) → Contains xs x → Contains (map f xs) (f x)
-Contains-map f xs x h =
-    (h.0, rw length-map h.1, get_or-map f xs h.0 x (f x) h.1 ∙ ap f h.2)
-
-pub Contains-map_back : {A B : Type 0} (f : A → B) (xs : List A) (y : B) → Contains (map f xs) y → (x : A) × Contains xs x × (f x ≡ y)
-Contains-map_back f [] y h = absurd (omega (arith, h.1))
-Contains-map_back f (x ∷ xs) y (zero, low, e) = (x, (0, omega arith, refl), e)
-Contains-map_back f (x ∷ xs) y (suc k, low, e) =
-    let rest = Contains-map_back f xs y (k, omega arith, e) in
-    (rest.0, (suc rest.1.0, omega (arith, rest.1.1), rest.1.2), rest.2)
 
 -- the arguments, as locations
 pub argument-there : (args : ℕ) (location : Location) → is_argument args (number_of location) ≡ true → Contains (map Variable (range_with_len 0 args)) location

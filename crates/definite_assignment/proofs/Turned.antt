@@ -2,7 +2,7 @@
 use Rattle.std.proofs.Common.{ℕ, suc, zero, List, [], ◌∷◌, map, sym, subst, arith}
 use Rattle.std.specs.List.{Contains}
 use Rattle.definite_assignment.specs.Leaving.{turned}
-use Rattle.definite_assignment.proofs.Locations.{Contains-map}
+use Rattle.bril_tree.proofs.Members.{Contains-map}
 use Rattle.graph_search.proofs.Paths.{reached_step, reached_all}
 use Rattle.graph_search.specs.Path.{IsReached, Leads}
 use Rattle.graph_search.specs.declared.graph.Arc.{Arc}

@@ -3,7 +3,7 @@
 use Rattle.std.specs.Prelude.{List, map, slice_get}
 use Rattle.bril_tree.specs.declared.numbered.Instr.{Instr}
 use Rattle.definite_assignment.specs.Location.{label_of}
-use Rattle.flow_graph.specs.declared.edge.Edge.{Edge}
+use Rattle.bril_tree.specs.declared.edge.Edge.{Edge}
 use Rattle.graph_search.specs.declared.graph.Arc.{Arc}
 
 abbrev pub leaving_arc : List Instr → Edge → Arc

@@ -8,7 +8,7 @@ ghost use Rattle.definite_assignment.specs.Unassigned.{ReadsUnassigned, IsFirstU
 
 use crate::flow::Flow;
 use bril_tree::numbered_function::Func;
-use flow_graph::{Graph, walks_agree};
+use flow_graph::Graph;
 use std::alloc::{AllocError, Global};
 
 /// An item that reads a variable or its shadow, which some walk to it doesn't assign.
@@ -35,7 +35,6 @@ pub fn first_unassigned(
         ((point : ℕ) → ¬ ReadsUnassigned func.now point)
         (λ u. IsFirstUnassigned func.now u.item u.var)) }
 {
-    walks_agree();
     let flow = Flow::of(alloc, func, graph)?;
     let first = flow.first_open(alloc)?;
     if first == flow.reads.len() {

@@ -1,8 +1,8 @@
 -- The rows of branches, the table of labels, and what the shapes and the form of a function say of its labels.
 use Rattle.std.proofs.Common.{◌≡◌, ℕ, zero, suc, ◌+◌, ◌<◌, ◌≤◌, Bool, true, false, cond, eqb, ltb, ◌&&◌, not, List, [], ◌∷◌, ◌++◌, length, map, Some, None, refl, sym, ap, ◌∙◌, subst, inl, inr, arith, add-zero}
 use Rattle.std.specs.Prelude.{◌⊎◌, slice_get, option_map, is_some}
-use Rattle.std.specs.List.{All, flat_map, list_all, range_with_len, prefix_len, position_or_len}
-use Rattle.std.proofs.lemmas.Bool.{and_parts, and_from, cond-true, cond-false, eqb-true, eq-eqb, ne_eqb, ltb-true, ltb-false, cases_Bool}
+use Rattle.std.specs.List.{All, flat_map, list_all, prefix_len, position_or_len}
+use Rattle.std.proofs.lemmas.Bool.{and_parts, and_from, cond-true, eqb-true, ltb-true, ltb-false, cases_Bool}
 use Rattle.std.proofs.lemmas.List.{length-map}
 use Rattle.std.proofs.lemmas.List.Elements.{All-nil, All-cons}
 use Rattle.std.proofs.lemmas.Option.{slice_get-map, slice_get_within, same_Some}
@@ -11,11 +11,9 @@ use Rattle.bril_tree.specs.declared.numbered.Instr.TheVariants.{Label, Const, Ac
 use Rattle.bril_tree.specs.declared.operation.Op.{Op}
 use Rattle.bril_tree.specs.declared.operation.Op.TheVariants as op
 use Rattle.bril_tree.specs.Edge.{branches_at, branches_from, item_branches}
-use Rattle.bril_tree.specs.FunctionForm.{label_at, targets_of}
+use Rattle.bril_tree.specs.FunctionForm.{targets_of}
 use Rattle.bril_tree.specs.Shape.{is_action_shaped, is_shaped, shape_fault_of}
-use Rattle.bril_tree.specs.Step.{point_of}
 use Rattle.flow_graph.specs.declared.branches.Branches.{Branches}
-use Rattle.flow_graph.specs.Labels.{labels_from, IsLabelTable}
 use Rattle.flow_graph.specs.Branches.{branches_of, label_count, HasLabels, branches_from_on, AreBranchRows}
 
 -- ---- rows
@@ -43,52 +41,6 @@ rows_are code rows e =
           ∙ row_at code 0 code p (omega arith)
           ∙ ap (λ n. Some (branches_from code n (slice_get code p))) (let z : 0 + p ≡ p = omega arith in z));
     }
-
--- ---- the table of labels
-
--- where the labels are numbered from one on as they stand, each point in the table is its label's
-label_point : (k i : ℕ) (items : List Instr) (m : ℕ) → flat_map label_at items ≡ range_with_len k m → (j : ℕ) → j < m → slice_get (labels_from i items) j ≡ Some (i + point_of (k + j) items)
-label_point k i [] zero e j l = absurd (omega arith)
-label_point k i [] (suc m) e j l = absurd (let f : [] ≡ k ∷ range_with_len (k + 1) m = e in cc)
-label_point k i (Label x ∷ items) zero e j l = absurd (omega arith)
-label_point k i (Label x ∷ items) (suc m) e zero l =
-    let both : x ∷ flat_map label_at items ≡ k ∷ range_with_len (k + 1) m = e in
-    let same : x ≡ k = cc in
-    let here : eqb x (k + 0) ≡ true = eq-eqb x (k + 0) (omega arith) in
-    ap (λ n. Some n) (sym (ap (λ n. i + n) (cond-true (eqb x (k + 0)) 0 (suc (point_of (k + 0) items)) here) ∙ add-zero i))
-label_point k i (Label x ∷ items) (suc m) e (suc j) l =
-    let both : x ∷ flat_map label_at items ≡ k ∷ range_with_len (k + 1) m = e in
-    let same : x ≡ k = cc in
-    let rest : flat_map label_at items ≡ range_with_len (k + 1) m = cc in
-    let other : eqb x (k + suc j) ≡ false = ne_eqb x (k + suc j) (λ h. omega arith) in
-    let moved : (k + 1) + j ≡ k + suc j = omega arith in
-    let counted : suc i + point_of (k + suc j) items ≡ i + suc (point_of (k + suc j) items) = omega arith in
-    label_point (k + 1) (suc i) items m rest j (omega arith)
-    ∙ ap (λ n. Some (suc i + point_of n items)) moved
-    ∙ ap (λ n. Some n) (counted ∙ sym (ap (λ n. i + n) (cond-false (eqb x (k + suc j)) 0 (suc (point_of (k + suc j) items)) other)))
-label_point k i (Const dest ty value ∷ items) m e j l = label_point k (suc i) items m e j l ∙ ap Some (let s : suc i + point_of (k + j) items ≡ i + suc (point_of (k + j) items) = omega arith in s)
-label_point k i (Act dest ty operation args funcs labels ∷ items) m e j l = label_point k (suc i) items m e j l ∙ ap Some (let s : suc i + point_of (k + j) items ≡ i + suc (point_of (k + j) items) = omega arith in s)
-
-length-labels_from : (k i : ℕ) (items : List Instr) (m : ℕ) → flat_map label_at items ≡ range_with_len k m → length (labels_from i items) ≡ m
-length-labels_from k i [] zero e = refl
-length-labels_from k i [] (suc m) e = absurd (let f : [] ≡ k ∷ range_with_len (k + 1) m = e in cc)
-length-labels_from k i (Label x ∷ items) zero e = absurd (let f : x ∷ flat_map label_at items ≡ [] = e in cc)
-length-labels_from k i (Label x ∷ items) (suc m) e =
-    let both : x ∷ flat_map label_at items ≡ k ∷ range_with_len (k + 1) m = e in
-    ap suc (length-labels_from (k + 1) (suc i) items m (cc))
-length-labels_from k i (Const dest ty value ∷ items) m e = length-labels_from k (suc i) items m e
-length-labels_from k i (Act dest ty operation args funcs labels ∷ items) m e = length-labels_from k (suc i) items m e
-
-pub labels_are_placed : (code : List Instr) (m : ℕ) → flat_map label_at code ≡ range_with_len 0 m → length (labels_from 0 code) ≡ m
-labels_are_placed code m e = length-labels_from 0 0 code m e
-
-pub label_table : (code : List Instr) (m : ℕ) → flat_map label_at code ≡ range_with_len 0 m → IsLabelTable code (labels_from 0 code)
-label_table code m e = record {
-  at = λ l h.
-      let many = length-labels_from 0 0 code m e in
-      let zeros : (n : ℕ) → 0 + n ≡ n = λ n. omega arith in
-      label_point 0 0 code m e l (omega arith) ∙ ap (λ n. Some n) (zeros (point_of (0 + l) code) ∙ ap (λ n. point_of n code) (zeros l));
-}
 
 -- ---- labels of items
 

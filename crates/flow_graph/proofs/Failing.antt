@@ -16,9 +16,10 @@ use Rattle.flow_graph.specs.Branches.{branch_of, branches_of, AreBranchRows}
 use Rattle.flow_graph.specs.declared.visits.Visit.{Visit}
 use Rattle.flow_graph.specs.declared.branches.Branches.{Branches}
 use Rattle.flow_graph.specs.declared.branches.Branches.TheVariants.{Nowhere, Single, Either}
-use Rattle.flow_graph.proofs.Members.{In, in_contains, contains_in}
+use Rattle.bril_tree.specs.Membership.{In}
+use Rattle.bril_tree.proofs.Members.{in_contains, contains_in}
 use Rattle.flow_graph.proofs.OpenSites.{one_list}
-use Rattle.flow_graph.proofs.Order.{branch_from}
+use Rattle.bril_tree.proofs.Branches.{branch_from}
 use Rattle.flow_graph.proofs.Searching.{get_inside, keep_count, keep_behind}
 
 -- ---- the least of two

@@ -7,7 +7,8 @@ use Rattle.bril_tree.specs.declared.numbered.Instr.{Instr}
 use Rattle.bril_tree.specs.Edge.{Branch, branches_at}
 use Rattle.bril_tree.specs.Walk.{IsWalk, IsReached, IsFirstWalk, end_of, Earlier}
 use Rattle.flow_graph.specs.Laws.{ReachedHaveFirstWalk, FirstWalksAreOne}
-use Rattle.flow_graph.proofs.Members.{In, in_contains, contains_in, in_map, in_map_source, in_flat_map, in_flat_map_source}
+use Rattle.bril_tree.specs.Membership.{In}
+use Rattle.bril_tree.proofs.Members.{in_contains, contains_in, in_map, in_map_source, in_flat_map, in_flat_map_source}
 use Rattle.flow_graph.proofs.Order.{NotAfter, not_after_trans, not_after_both, shorter_earlier, ordered}
 
 -- ---- all walks of a length

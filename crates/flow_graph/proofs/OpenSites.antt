@@ -8,8 +8,9 @@ use Rattle.bril_tree.specs.Edge.{Branch, branches_at}
 use Rattle.bril_tree.specs.Walk.{end_of}
 use Rattle.bril_tree.specs.Sites.{AreFirstSites, Others, sites_of, sites_behind}
 use Rattle.flow_graph.specs.Laws.{SoundWalksAgree}
-use Rattle.flow_graph.proofs.Members.{in_contains}
-use Rattle.flow_graph.proofs.Order.{NotAfter, branch_from}
+use Rattle.bril_tree.proofs.Members.{in_contains}
+use Rattle.bril_tree.proofs.Branches.{branch_from}
+use Rattle.flow_graph.proofs.Order.{NotAfter}
 use Rattle.flow_graph.proofs.FirstWalks.{reached_have_first, first_walks_are_one}
 
 both_equal : (x y : ℕ) (xs ys : List ℕ) → (x ≡ y) ⊎ (x ≡ y → ⊥) → (xs ≡ ys) ⊎ (xs ≡ ys → ⊥) → (x ∷ xs ≡ y ∷ ys) ⊎ (x ∷ xs ≡ y ∷ ys → ⊥)

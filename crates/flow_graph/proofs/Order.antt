@@ -1,16 +1,15 @@
 -- The order of walks.
-use Rattle.std.proofs.Common.{◌≡◌, ℕ, suc, ◌<◌, ◌≤◌, Bool, true, false, List, [], ◌∷◌, length, Option, Some, None, map, refl, sym, ap, ◌∙◌, subst, inl, inr, arith}
-use Rattle.std.specs.Prelude.{◌⊎◌, slice_get}
-use Rattle.std.proofs.lemmas.Bool.{cond_both, cases_order, cases_Bool}
-use Rattle.std.proofs.lemmas.Option.{slice_get_within}
-use Rattle.bril_tree.specs.Step.{point_of, is_label}
+use Rattle.std.proofs.Common.{◌≡◌, ℕ, ◌<◌, true, false, List, [], ◌∷◌, length, Option, Some, None, map, refl, sym, ap, ◌∙◌, subst, inl, inr, arith}
+use Rattle.std.specs.Prelude.{◌⊎◌}
+use Rattle.std.proofs.lemmas.Bool.{cases_order, cases_Bool}
 use Rattle.bril_tree.specs.declared.numbered.Instr.{Instr}
 use Rattle.bril_tree.specs.declared.numbered.Instr.TheVariants.{Label, Const, Act}
 use Rattle.bril_tree.specs.declared.operation.Op.{Op}
 use Rattle.bril_tree.specs.declared.operation.Op.TheVariants as op
-use Rattle.bril_tree.specs.Edge.{Branch, onward, jump, abort, branches_from, branches_at, action_branches, item_branches}
+use Rattle.bril_tree.specs.Edge.{Branch, onward, jump, branches_from, branches_at, action_branches}
 use Rattle.bril_tree.specs.Walk.{IsWalk, end_of, Sooner, Earlier}
-use Rattle.flow_graph.proofs.Members.{In, in_contains, in_map_source}
+use Rattle.bril_tree.proofs.Branches.{same_branch, branch_from}
+use Rattle.bril_tree.proofs.Members.{in_contains}
 
 -- the second walk isn't earlier than the first
 abbrev pub NotAfter : List Branch → List Branch → Type 0
@@ -61,38 +60,6 @@ pub not_after_more : (e : Branch) (v w : List Branch) → NotAfter v w → NotAf
 not_after_more e v w (inl p) = inl (ap (λ x. e ∷ x) p)
 not_after_more e v w (inr p) = inr (inl p)
 
--- ---- a branch leaves from its point
-
-from_jumps : (code : List Instr) (p : ℕ) (e : Branch) (labels : List ℕ) → In e (map (jump code p) labels) → e.from ≡ p
-from_jumps code p e labels h = let s = in_map_source (jump code p) e labels h in ap (λ (w : Branch). w.from) s.2
-
-from_aborts : (code : List Instr) (p : ℕ) (e : Branch) (labels : List ℕ) → In e (map (abort code p) labels) → e.from ≡ p
-from_aborts code p e labels h = let s = in_map_source (abort code p) e labels h in ap (λ (w : Branch). w.from) s.2
-
-from_onward : (p : ℕ) (e : Branch) → In e (onward p ∷ []) → e.from ≡ p
-from_onward p e (inl h) = ap (λ (w : Branch). w.from) h
-from_onward p e (inr h) = absurd h
-
-from_action : (code : List Instr) (p : ℕ) (operation : Op) (labels : List ℕ) (e : Branch) → In e (action_branches code p operation labels) → e.from ≡ p
-from_action code p op.Jmp labels e h = from_jumps code p e labels h
-from_action code p op.Br labels e h = from_jumps code p e labels h
-from_action code p op.Ret labels e h = absurd h
-from_action code p op.Guard labels e (inl h) = ap (λ (w : Branch). w.from) h
-from_action code p op.Guard labels e (inr h) = from_aborts code p e labels h
-from_action code p _ labels e h = from_onward p e h
-
-from_item : (code : List Instr) (p : ℕ) (item : Instr) (e : Branch) → In e (item_branches code p item) → e.from ≡ p
-from_item code p (Label l) e h = from_onward p e h
-from_item code p (Const dest ty value) e h = from_onward p e h
-from_item code p (Act dest ty operation args funcs labels) e h = from_action code p operation labels e h
-
-from_option : (code : List Instr) (p : ℕ) (item : Option Instr) (e : Branch) → In e (branches_from code p item) → e.from ≡ p
-from_option code p None e h = absurd h
-from_option code p (Some item) e h = from_item code p item e h
-
-pub branch_from : (code : List Instr) (p : ℕ) (e : Branch) → In e (branches_at code p) → e.from ≡ p
-branch_from code p e h = from_option code p _ e h
-
 -- ---- the first of the branches from a point is no abort
 
 no_abort_of_jumps : (code : List Instr) (p : ℕ) (labels : List ℕ) (e : Branch) (rest : List Branch) → map (jump code p) labels ≡ e ∷ rest → e.aborts ≡ false
@@ -121,54 +88,10 @@ option_goes_on code p (Some (Act dest ty operation args funcs labels)) e rest h 
 pub first_goes_on : (code : List Instr) (p : ℕ) (e : Branch) (rest : List Branch) → branches_at code p ≡ e ∷ rest → e.aborts ≡ false
 first_goes_on code p e rest h = option_goes_on code p _ e rest h
 
--- ---- a branch leads to a point of the function
-
-label_inside : (l : ℕ) (code : List Instr) → point_of l code ≤ length code
-label_inside l [] = omega arith
-label_inside l (item ∷ items) = cond_both (is_label l item) 0 (suc (point_of l items)) (λ n. n ≤ suc (length items)) (λ e. omega arith) (λ e. omega (arith, label_inside l items))
-
-jumps_inside : (code : List Instr) (p : ℕ) (e : Branch) (labels : List ℕ) → In e (map (jump code p) labels) → e.to ≤ length code
-jumps_inside code p e labels h =
-    let s = in_map_source (jump code p) e labels h in
-    omega (arith, ap (λ (w : Branch). w.to) s.2, label_inside s.0 code)
-
-aborts_inside : (code : List Instr) (p : ℕ) (e : Branch) (labels : List ℕ) → In e (map (abort code p) labels) → e.to ≤ length code
-aborts_inside code p e labels h =
-    let s = in_map_source (abort code p) e labels h in
-    omega (arith, ap (λ (w : Branch). w.to) s.2, label_inside s.0 code)
-
-onward_inside : (code : List Instr) (p : ℕ) (e : Branch) → p < length code → In e (onward p ∷ []) → e.to ≤ length code
-onward_inside code p e l (inl h) = omega (arith, ap (λ (w : Branch). w.to) h)
-onward_inside code p e l (inr h) = absurd h
-
-action_inside : (code : List Instr) (p : ℕ) (operation : Op) (labels : List ℕ) (e : Branch) → p < length code → In e (action_branches code p operation labels) → e.to ≤ length code
-action_inside code p op.Jmp labels e l h = jumps_inside code p e labels h
-action_inside code p op.Br labels e l h = jumps_inside code p e labels h
-action_inside code p op.Ret labels e l h = absurd h
-action_inside code p op.Guard labels e l (inl h) = omega (arith, ap (λ (w : Branch). w.to) h)
-action_inside code p op.Guard labels e l (inr h) = aborts_inside code p e labels h
-action_inside code p _ labels e l h = onward_inside code p e l h
-
-option_inside : (code : List Instr) (p : ℕ) (item : Option Instr) (e : Branch) → slice_get code p ≡ item → In e (branches_from code p item) → e.to ≤ length code
-option_inside code p None e at h = absurd h
-option_inside code p (Some (Label l)) e at h = onward_inside code p e (slice_get_within code p _ at) h
-option_inside code p (Some (Const dest ty value)) e at h = onward_inside code p e (slice_get_within code p _ at) h
-option_inside code p (Some (Act dest ty operation args funcs labels)) e at h = action_inside code p operation labels e (slice_get_within code p _ at) h
-
-pub branch_inside : (code : List Instr) (p : ℕ) (e : Branch) → In e (branches_at code p) → e.to ≤ length code
-branch_inside code p e h = option_inside code p (slice_get code p) e refl h
-
 -- ---- two walks of one length are equal, or one is earlier
 
 abbrev Ordered : List Branch → List Branch → Type 0
 Ordered v w = (v ≡ w) ⊎ (Earlier v w ⊎ Earlier w v)
-
-abbrev branch_of_parts : ℕ → ℕ → Bool → Branch
-branch_of_parts from to aborts = record { from = from; to = to; aborts = aborts }
-
-pub same_branch : (e f : Branch) → e.from ≡ f.from → e.to ≡ f.to → e.aborts ≡ f.aborts → e ≡ f
-same_branch e f p q r =
-    let parts : branch_of_parts e.from e.to e.aborts ≡ branch_of_parts f.from f.to f.aborts = cc in parts
 
 by_aborts : (e f : Branch) → e.from ≡ f.from → e.to ≡ f.to → (e.aborts ≡ true) ⊎ (e.aborts ≡ false) → (f.aborts ≡ true) ⊎ (f.aborts ≡ false) → (e ≡ f) ⊎ (Sooner e f ⊎ Sooner f e)
 by_aborts e f h t (inl a) (inl b) = inl (same_branch e f h t (a ∙ sym b))

@@ -8,12 +8,14 @@ use Rattle.std.proofs.lemmas.List.Elements.{filter-append, All-nil, All-cons}
 use Rattle.std.proofs.lemmas.Option.{slice_get-get_or, get_or_from_slice_get}
 use Rattle.bril_tree.specs.declared.numbered.Instr.{Instr}
 use Rattle.bril_tree.specs.Edge.{branches_at}
-use Rattle.flow_graph.specs.declared.edge.Edge.{Edge}
+use Rattle.bril_tree.specs.declared.edge.Edge.{Edge}
 use Rattle.flow_graph.specs.declared.branches.Branches.{Branches}
-use Rattle.flow_graph.specs.Graph.{ArePreds, edge_of, edges_at, edges_from, edges_to}
+use Rattle.bril_tree.specs.Leaving.{edge_of}
+use Rattle.flow_graph.specs.Graph.{ArePreds, edges_at, edges_from, edges_to}
 use Rattle.flow_graph.specs.Branches.{branches_of, edges_on, AreBranchRows}
-use Rattle.flow_graph.proofs.Members.{In, in_append_cases, in_map_source}
-use Rattle.flow_graph.proofs.Order.{branch_inside}
+use Rattle.bril_tree.specs.Membership.{In}
+use Rattle.bril_tree.proofs.Members.{in_append_cases, in_map_source}
+use Rattle.bril_tree.proofs.Branches.{branch_inside}
 use Rattle.flow_graph.proofs.Searching.{get_set_same, get_set_other}
 
 at_point : (code : List Instr) (p : ℕ) (sites : Option (List ℕ)) → edges_on (branches_at code p) sites ≡ edges_at code p sites

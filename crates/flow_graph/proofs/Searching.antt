@@ -15,8 +15,10 @@ use Rattle.flow_graph.specs.declared.branches.Branches.{Branches}
 use Rattle.flow_graph.specs.declared.branches.Branches.TheVariants.{Nowhere, Single, Either}
 use Rattle.flow_graph.specs.Visits.{Keep, IsVisited, AreVisits, none_open, visit_or_none, visit_at, closed, visit_changed, visit_behind}
 use Rattle.flow_graph.specs.Branches.{branch_of, branches_of, lesser_first, visiting}
-use Rattle.flow_graph.proofs.Members.{In, in_contains, contains_in, in_append_left, in_append_right, in_append_cases, in_map, in_map_source}
-use Rattle.flow_graph.proofs.Order.{NotAfter, not_after_trans, not_after_more, shorter_earlier, same_branch, branch_from, first_goes_on}
+use Rattle.bril_tree.specs.Membership.{In}
+use Rattle.bril_tree.proofs.Members.{in_contains, contains_in, in_append_left, in_append_right, in_append_cases, in_map, in_map_source}
+use Rattle.bril_tree.proofs.Branches.{same_branch, branch_from}
+use Rattle.flow_graph.proofs.Order.{NotAfter, not_after_trans, not_after_more, shorter_earlier, first_goes_on}
 
 -- ---- lists with one element changed
 

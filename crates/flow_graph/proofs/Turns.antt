@@ -11,7 +11,7 @@ use Rattle.flow_graph.specs.declared.branches.Branch.{Branch}
 use Rattle.flow_graph.specs.declared.branches.Branches.{Branches}
 use Rattle.flow_graph.specs.Visits.{AreVisits, none_open, visit_behind}
 use Rattle.flow_graph.specs.Branches.{branch_of, branches_of, visiting, AreBranchRows}
-use Rattle.flow_graph.proofs.Order.{branch_inside}
+use Rattle.bril_tree.proofs.Branches.{branch_inside}
 use Rattle.flow_graph.proofs.Searching.{Pending, Searching, Entering, candidate, pend, at_start, get_inside, pass, enter, start, searched, few_waiting}
 
 -- the branches wait in a search

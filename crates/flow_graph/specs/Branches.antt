@@ -6,9 +6,9 @@ use Rattle.bril_tree.specs.declared.operation.Op.{Op}
 use Rattle.bril_tree.specs.declared.operation.Op.TheVariants as op
 use Rattle.bril_tree.specs.Edge as edge
 use Rattle.bril_tree.specs.Edge.{branches_at, item_branches}
-use Rattle.flow_graph.specs.declared.edge.Edge.{Edge}
+use Rattle.bril_tree.specs.declared.edge.Edge.{Edge}
 use Rattle.flow_graph.specs.declared.branches.Branch.{Branch}
-use Rattle.flow_graph.specs.Graph.{edge_of}
+use Rattle.bril_tree.specs.Leaving.{edge_of}
 use Rattle.flow_graph.specs.declared.branches.Branches.{Branches}
 use Rattle.flow_graph.specs.declared.branches.Branches.TheVariants.{Nowhere, Single, Either}
 

@@ -1,20 +1,12 @@
 -- The flow graph of a function.
-use Rattle.std.specs.Prelude.{◌≡◌, ℕ, suc, ◌+◌, ◌<◌, Bool, true, false, List, [], ◌∷◌, ◌++◌, ◌==◌, filter, length, map, Option, Some, None, slice_get}
+use Rattle.std.specs.Prelude.{◌≡◌, ℕ, suc, ◌+◌, ◌<◌, List, [], ◌∷◌, ◌++◌, ◌==◌, filter, length, map, Option, Some, None, slice_get}
 use Rattle.std.proofs.Props.{props}
 use Rattle.bril_tree.specs.declared.numbered.Instr.{Instr}
-use Rattle.bril_tree.specs.Edge.{Branch, branches_at}
+use Rattle.bril_tree.specs.Edge.{branches_at}
+use Rattle.bril_tree.specs.Leaving.{edge_of}
 use Rattle.bril_tree.specs.Sites.{AreFirstSites, SitesFail}
 use Rattle.bril_tree.specs.Walk.{IsReached}
-use Rattle.flow_graph.specs.declared.edge.Edge.{Edge}
-
--- an abort leaves from the newest open site, every other branch from its own item
-abbrev pub leave_of : Bool → ℕ → List ℕ → ℕ
-leave_of true from [] = from
-leave_of true from (newest ∷ older) = newest
-leave_of false from sites = from
-
-abbrev pub edge_of : List ℕ → Branch → Edge
-edge_of sites branch = record { from = branch.from; leave = leave_of branch.aborts branch.from sites; to = branch.to }
+use Rattle.bril_tree.specs.declared.edge.Edge.{Edge}
 
 -- the edges of a point, where walks lead to it with these open sites
 abbrev pub edges_at : List Instr → ℕ → Option (List ℕ) → List Edge

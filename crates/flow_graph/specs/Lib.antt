@@ -1,6 +1,5 @@
 pub mod Faults
 pub mod Graph
-pub mod Labels
 pub mod Laws
 pub mod Visits
 pub mod Branches

@@ -3,7 +3,7 @@
 ghost use Rattle.std.specs.Prelude.{◌≡◌, ◌<◌, ◌+◌, ◌^◌, ◌-◌, List, All, length, map, IfOk};
 ghost use Rattle.bril_tree.specs.declared.numbered.Instr.{Instr};
 ghost use Rattle.bril_tree.specs.Edge.{jump, abort, onward, action_branches, item_branches};
-ghost use Rattle.flow_graph.specs.Labels.{IsLabelTable};
+ghost use Rattle.bril_tree.specs.Labels.{IsLabelTable};
 ghost use Rattle.flow_graph.specs.Branches.{branch_of, branches_of, visiting, label_count, HasLabels, AreBranchRows};
 
 use bril_tree::numbered::Instr;

@@ -2,11 +2,12 @@
 
 ghost use Rattle.std.specs.Prelude.{◌≡◌, ◌<◌, ◌++◌, ◌∷◌, [], List, All, length, map, replicate, slice_index_or, slice_set, IfOk, OnOk};
 ghost use Rattle.bril_tree.specs.declared.numbered.Instr.{Instr};
-ghost use Rattle.flow_graph.specs.Graph.{ArePreds, edge_of, edges_from};
+ghost use Rattle.bril_tree.specs.Leaving.{edge_of};
+ghost use Rattle.flow_graph.specs.Graph.{ArePreds, edges_from};
 ghost use Rattle.flow_graph.specs.Branches.{AreBranchRows, edges_on, branch_of, branches_of};
 
 use crate::branches::{Branch, Branches};
-use crate::edge::Edge;
+use bril_tree::edge::Edge;
 use bril_tree::sequence::Seq;
 use std::alloc::{AllocError, Global};
 

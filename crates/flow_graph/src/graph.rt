@@ -8,12 +8,11 @@ ghost use Rattle.flow_graph.specs.Branches.{AreBranchRows};
 ghost use Rattle.flow_graph.specs.declared.graph.GraphFault.TheVariants.{Nest, Memory};
 
 use crate::branches::{Branches, all_branches};
-use crate::edge::Edge;
 use crate::edges::{all_edges, all_preds};
-use crate::labels::label_points;
 use crate::open_sites::all_sites;
 use crate::search::first_visits;
 use crate::sites::least_failing;
+use bril_tree::edge::Edge;
 use bril_tree::numbered::Instr;
 use bril_tree::numbered_function::Func;
 use bril_tree::sequence::Seq;
@@ -145,7 +144,6 @@ fn rows_of(alloc: Global, func: &Func) -> Result<Vec<Branches>, AllocError>
     requires few { length func.now.code < 2 ^ 32 - 1 }
     ensures { IfOk result (λ rows. AreBranchRows func.now.code rows.items) }
 {
-    let code = func.code.as_slice();
-    let points = label_points(alloc, code)?;
-    all_branches(alloc, code, points.as_slice())
+    let points = func.label_points(alloc)?;
+    all_branches(alloc, func.code.as_slice(), points.as_slice())
 }

@@ -2,10 +2,8 @@
 #![tactic(auto)]
 
 mod branches;
-mod edge;
 mod edges;
 mod graph;
-mod labels;
 mod laws;
 mod open_sites;
 mod search;
@@ -14,6 +12,6 @@ mod sites;
 mod tests;
 mod visits;
 
-pub use edge::Edge;
+pub use bril_tree::edge::Edge;
 pub use graph::{Graph, GraphFault};
-pub use laws::walks_agree;
+pub use laws::{edges_leave, walks_agree};

@@ -4,7 +4,7 @@ ghost use Rattle.std.specs.Prelude.{◌≡◌, ◌<◌, ◌≤◌, ◌^◌, IsTr
 ghost use Rattle.std.specs.List.{All};
 ghost use Rattle.bril_tree.specs.Step.{is_label, point_of};
 ghost use Rattle.flow_graph.specs.Graph.{IsGraphOf};
-ghost use Rattle.flow_graph.specs.Labels.{IsLabelTable};
+ghost use Rattle.bril_tree.specs.Labels.{IsLabelTable};
 ghost use Rattle.flow_graph.specs.Branches.{HasLabels, label_count};
 
 use crate::branches::all_branches;

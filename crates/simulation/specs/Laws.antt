@@ -42,3 +42,9 @@ abbrev pub PlusTracks : (E : Type 0) {S T : Type 0} → (S → T → Type 0) →
 PlusTracks E {S} {T} R =
     (P : System E S) (Q : System E T) → IsSystem P → IsSystem Q →
     (c : ℕ) → Plus P Q c R → (s : S) (t : T) (lead : ℕ) → lead ≤ c → R s (after Q.step lead t) → Tracks P Q c R s t
+
+-- so it does in a star one
+abbrev pub StarTracks : (E : Type 0) {S T : Type 0} → (S → T → Type 0) → Type 0
+StarTracks E {S} {T} R =
+    (P : System E S) (Q : System E T) → IsSystem P → IsSystem Q →
+    (c : ℕ) (distance : S → ℕ) → Star P Q c distance R → (s : S) (t : T) (lead : ℕ) → lead ≤ c → R s (after Q.step lead t) → Tracks P Q c R s t

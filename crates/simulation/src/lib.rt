@@ -12,7 +12,7 @@
 //! and the "star" diagram of the CompCert compiler's `Smallstep.v`.
 #![tactic(auto)]
 
-ghost use Rattle.simulation.specs.Laws.{FollowsItself, FollowsOn, FollowsSlower, SimulationFollows, PlusFollows, StarFollows, PlusTracks};
+ghost use Rattle.simulation.specs.Laws.{FollowsItself, FollowsOn, FollowsSlower, SimulationFollows, PlusFollows, StarFollows, PlusTracks, StarTracks};
 
 /// A relation between the states of one system, of the type `S`, and those of another, `T`.
 pub trait Relates<S, T> {
@@ -60,6 +60,11 @@ pub fn star_follows<E, S, T, R: Relates<S, T>>()
 /// where the second ends the first ends alike, and it prints nothing that the first doesn't.
 pub fn plus_tracks<E, S, T, R: Relates<S, T>>()
     ensures { PlusTracks E R.related }
+{}
+
+/// The same where the first system may also make steps alone to related states, while a distance falls.
+pub fn star_tracks<E, S, T, R: Relates<S, T>>()
+    ensures { StarTracks E R.related }
 {}
 
 #[cfg(test)]

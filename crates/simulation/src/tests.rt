@@ -18,4 +18,5 @@ fn each_law_is_called_at_a_relation_between_numbers() {
     plus_follows::<bool, u8, u8, Equal>();
     star_follows::<bool, u8, u8, Equal>();
     plus_tracks::<bool, u8, u8, Equal>();
+    star_tracks::<bool, u8, u8, Equal>();
 }

@@ -19,38 +19,26 @@ use Rattle.bril_tree.specs.FunctionForm.{listed}
 use Rattle.bril_tree.specs.Memory.{allocation_fault, held, live_block, is_freeable, changed_block, new_block, cells_of}
 use Rattle.bril_tree.specs.Operand.{Variable, reads_of, dest_of}
 use Rattle.bril_tree.specs.Outcome.{Yields, FaultsWith, HasEffect, outcome_of, action_outcome, argument, block_of, offset_of, int_of, bool_of, divided, char_from, undefined, shadow_given, is_scalar}
-use Rattle.bril_tree.specs.Shape.{Shape, same, is_action_shaped, fits_shape, shape_of}
+use Rattle.bril_tree.specs.Shape.{is_action_shaped, fits_shape, shape_of}
 use Rattle.bril_tree.specs.State.{Frame, Block, State, with_value}
 use Rattle.bril_tree.specs.Sites.{Keeps, item_change}
 use Rattle.bril_tree.specs.Assigned.{assigns_of}
 use Rattle.bril_tree.specs.Step.{items_of, code_of, point_of, at_point, advanced, with_locations, assigned, faulted, gives, advances, jumps, guards, dropped, saved, allocates, frees, stores, loads, loads_held, acts, acts_at}
 use Rattle.bril_tree.specs.Typing.{variable_type, argument_type, both_typed, points_to, same_type, is_set_typed, is_pointer, if_typed, is_return_typed, is_dest_typed}
-use Rattle.flow_graph.proofs.Members.{In, in_map, contains_in}
+use Rattle.bril_tree.specs.Membership.{In}
+use Rattle.bril_tree.proofs.Members.{in_map, contains_in}
+use Rattle.bril_tree.proofs.Elements.{in_index}
+use Rattle.bril_tree.proofs.Shapes.{shape-parts, no_dest, dest_none, dest_there}
 use Rattle.type_soundness.proofs.Blocks.{Remembers, Remembers-push, Remembers-changed, pushed-type, block-fits, stored-keeps, stored-typed, held-typed}
-use Rattle.type_soundness.proofs.Callees.{in_index}
 use Rattle.type_soundness.proofs.Calls.{fault-runs, cond-runs, returns-runs, calls-runs}
 use Rattle.type_soundness.proofs.Frames.{Sits-more, before}
 use Rattle.type_soundness.proofs.Invariant.{Stack-more, Stands, Runs}
 use Rattle.type_soundness.proofs.Operands.{HoldsReads, GoesOn, argument-typed, dest-typed, read-typed}
-use Rattle.type_soundness.proofs.Outcomes.{shape-parts}
-use Rattle.type_soundness.proofs.Locals.{IsTypedAct, act-typed, no_dest, counted}
-use Rattle.type_soundness.proofs.Standing.{accepted_function, shaped_at, typed_at, holds-read}
+use Rattle.type_soundness.proofs.Locals.{IsTypedAct, act-typed, counted}
+use Rattle.bril_tree.proofs.Acceptance.{accepted_function, shaped_at, typed_at}
+use Rattle.type_soundness.proofs.Standing.{holds-read}
 use Rattle.type_soundness.proofs.Steps.{gives-stands, advances-stands, jumps-stands, speculates-stands, commits-stands, aborts-stands, sets-stands, dropped-cover, saved-cover}
 use Rattle.type_soundness.proofs.Typed.{Cell, cell_type, IsTyped, HasType, HasType-back, Extends-push}
-
--- ---- destinations
-
-dest_none : (shape : Shape) (dest : Option ℕ) (args funcs labels : ℕ) → shape.dest ≡ false → fits_shape shape (is_some dest) args funcs labels ≡ true → dest ≡ None
-dest_none shape dest args funcs labels none e =
-    no_dest dest (not-true (is_some dest) (ap (λ b. same b (is_some dest)) (sym none) ∙ (shape-parts shape (is_some dest) args funcs labels e).dest_is))
-
-some_dest : (o : Option ℕ) → is_some o ≡ true → (x : ℕ) × (o ≡ Some x)
-some_dest None e = absurd (cc)
-some_dest (Some x) e = (x, refl)
-
-dest_some : (shape : Shape) (dest : Option ℕ) (args funcs labels : ℕ) → shape.dest ≡ true → fits_shape shape (is_some dest) args funcs labels ≡ true → (x : ℕ) × (dest ≡ Some x)
-dest_some shape dest args funcs labels there e =
-    some_dest dest (ap (λ b. same b (is_some dest)) (sym there) ∙ (shape-parts shape (is_some dest) args funcs labels e).dest_is)
 
 -- ---- typed operands
 
@@ -180,8 +168,8 @@ module _ (p : Prog) (limits : Limits) where
         let l = slice_index labels 0 in
         let one : length labels ≡ 1 = labels_of op.Guard dest args funcs labels shaped in
         let now = before p st.heap st.function frame st.sits in
-        let locations = saved p limits frame.saves frame.locations in
-        let saves = dropped p limits frame.saves in
+        let locations = saved frame.saves frame.locations in
+        let saves = dropped frame.saves in
         let code : code_of p frame.function ≡ st.function.code = ap items_of st.sits.there in
         let covers = saved-cover p limits st.heap st.function frame.saves now.saved frame.locations now.locations st.sits.saves st.sits.locations in
         let all = dropped-cover p limits st.heap st.function frame.saves now.saved st.sits.saves in
@@ -286,12 +274,12 @@ module _ (p : Prog) (limits : Limits) where
 
     gets-row : (ty : Option Ty) (dest : Option ℕ) (args funcs labels : List ℕ) → IsShaped op.Get dest args funcs labels → shadow_given frame.locations dest ≡ HasEffect → ⊥
     gets-row ty None args funcs labels shaped e =
-        let there = dest_some (shape_of (is_some st.function.ret) op.Get) None (length args) (length funcs) (length labels) refl shaped in absurd (cc (there.1))
+        let there = dest_there (shape_of (is_some st.function.ret) op.Get) None (length args) (length funcs) (length labels) refl shaped in absurd (cc (there.1))
     gets-row ty (Some x) args funcs labels shaped e = cc
 
     undefines-row : (ty : Option Ty) (dest : Option ℕ) (args funcs labels : List ℕ) → IsShaped op.Undef dest args funcs labels → IsTypedAct p st.function op.Undef dest ty args funcs → undefined ty ≡ HasEffect → ⊥
     undefines-row None dest args funcs labels shaped t e =
-        let there = dest_some (shape_of (is_some st.function.ret) op.Undef) dest (length args) (length funcs) (length labels) refl shaped in
+        let there = dest_there (shape_of (is_some st.function.ret) op.Undef) dest (length args) (length funcs) (length labels) refl shaped in
         let typed : is_dest_typed p st.function (Some there.0) None ≡ true = ap (λ d. is_dest_typed p st.function d None) (sym there.1) ∙ t.dest_typed in
         absurd (cc)
     undefines-row (Some t) dest args funcs labels shaped u e = cc
@@ -327,7 +315,7 @@ module _ (p : Prog) (limits : Limits) where
           frame = _;
           older = older;
           frames = refl;
-          stands = commits-stands p s.blocks frame older st dest ty args funcs labels (dropped p limits frame.saves) at (dropped-cover p limits st.heap st.function frame.saves now.saved st.sits.saves);
+          stands = commits-stands p s.blocks frame older st dest ty args funcs labels (dropped frame.saves) at (dropped-cover p limits st.heap st.function frame.saves now.saved st.sits.saves);
         }
     row op.Guard dest ty args funcs labels at shaped t e = guards-row (bool_of (argument frame.locations args 0)) dest ty args funcs labels at shaped
     row op.Get dest ty args funcs labels at shaped t e = absurd (gets-row ty dest args funcs labels shaped e)

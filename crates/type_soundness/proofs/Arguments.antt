@@ -1,8 +1,7 @@
 -- The frame of a call, from the values of its arguments.
-use Rattle.std.proofs.Common.{◌≡◌, ℕ, zero, suc, ◌+◌, ◌<◌, ◌≤◌, List, [], ◌∷◌, length, map, Option, Some, refl, sym, ap, subst, ◌∙◌, inl, inr, arith, cond}
+use Rattle.std.proofs.Common.{◌≡◌, ℕ, zero, suc, ◌+◌, ◌<◌, ◌≤◌, List, [], ◌∷◌, length, map, Option, Some, refl, sym, ap, subst, ◌∙◌, inl, inr, arith}
 use Rattle.std.specs.Prelude.{slice_get, take}
 use Rattle.std.specs.List.{AllZip, range_with_len}
-use Rattle.std.proofs.lemmas.Bool.{eq-eqb, ne_eqb}
 use Rattle.bril_tree.specs.declared.limits.Limits.{Limits}
 use Rattle.bril_tree.specs.declared.numbered.VarInfo.{VarInfo}
 use Rattle.bril_tree.specs.declared.numbered_function.Func.{Func}
@@ -11,38 +10,18 @@ use Rattle.bril_tree.specs.declared.types.Ty.{Ty}
 use Rattle.bril_tree.specs.declared.value.Value.{Value}
 use Rattle.bril_tree.specs.Operand.{Location, Variable}
 use Rattle.bril_tree.specs.Run.{types_of}
-use Rattle.bril_tree.specs.State.{Values, with_value, no_values}
+use Rattle.bril_tree.specs.State.{no_values}
 use Rattle.bril_tree.specs.Step.{arguments_from, new_frame}
 use Rattle.bril_tree.specs.Typing.{variable_type}
-use Rattle.flow_graph.proofs.Members.{In, in_map_source}
+use Rattle.bril_tree.specs.Membership.{In}
+use Rattle.bril_tree.proofs.Members.{in_map_source}
+use Rattle.bril_tree.proofs.HeldValues.{arguments-at}
 use Rattle.type_soundness.proofs.Typed.{Cell, HasType}
 use Rattle.type_soundness.proofs.Frames.{Holds, Sits}
 
 -- the values have the types
 abbrev pub HaveTypes : List Cell → List Value → List (Option Ty) → Type 0
 HaveTypes heap vs ts = AllZip (λ v t. HasType heap t v) vs ts
-
--- ---- what the variables hold
-
-module _ (p : Prog) (limits : Limits) where
-  written : (j k : ℕ) (v : Value) (values : Values) → j < k → with_value values k v j ≡ values j
-  written j k v values less = ap (λ b. cond b (Some v) (values j)) (ne_eqb j k (λ e. omega arith))
-
-  written_here : (k : ℕ) (v : Value) (values : Values) → with_value values k v k ≡ Some v
-  written_here k v values = ap (λ b. cond b (Some v) (values k)) (eq-eqb k k refl)
-
-  arguments-before : (k j : ℕ) (vs : List Value) (values : Values) → j < k → arguments_from p limits k vs values j ≡ values j
-  arguments-before k j [] values less = refl
-  arguments-before k j (v ∷ vs) values less = arguments-before (suc k) j vs (with_value values k v) (omega arith) ∙ written j k v values less
-
-  arguments-at : (k x : ℕ) (vs : List Value) (values : Values) → x < length vs → arguments_from p limits k vs values (k + x) ≡ slice_get vs x
-  arguments-at k x [] values less = absurd (omega arith)
-  arguments-at k zero (v ∷ vs) values less =
-      let same : k + zero ≡ k = omega arith in
-      ap (arguments_from p limits (suc k) vs (with_value values k v)) same ∙ arguments-before (suc k) k vs (with_value values k v) (omega arith) ∙ written_here k v values
-  arguments-at k (suc x) (v ∷ vs) values less =
-      let same : k + suc x ≡ suc k + x = omega arith in
-      ap (arguments_from p limits (suc k) vs (with_value values k v)) same ∙ arguments-at (suc k) x vs (with_value values k v) (omega arith)
 
 -- ---- their types
 
@@ -75,19 +54,19 @@ in_range from (suc n) x (inr h) = let less = in_range (from + 1) n x h in omega 
 
 module _ (p : Prog) (limits : Limits) (heap : List Cell) where
   argument-held : (f : Func) (vs : List Value) (location : Location) → HaveTypes heap vs (types_of (Some f)) → In location (map Variable (range_with_len 0 f.args))
-      → Holds heap f (record { vars = arguments_from p limits 0 vs no_values; shadows = no_values }) location
+      → Holds heap f (record { vars = arguments_from 0 vs no_values; shadows = no_values }) location
   argument-held f vs location h i =
       let source = in_map_source Variable location (range_with_len 0 f.args) i in
       let count = types-count heap f.args f.vars vs f.formed.few_args h in
       let inside : source.0 < length vs = (let less = in_range 0 f.args source.0 source.1 in omega arith) in
       let a = argument_at heap f.args f.vars vs source.0 h inside in
-      let held : Holds heap f (record { vars = arguments_from p limits 0 vs no_values; shadows = no_values }) (Variable source.0) = record {
+      let held : Holds heap f (record { vars = arguments_from 0 vs no_values; shadows = no_values }) (Variable source.0) = record {
         value = a.value;
-        is = ap (arguments_from p limits 0 vs no_values) (omega arith) ∙ arguments-at p limits 0 source.0 vs no_values inside ∙ a.is;
+        is = ap (arguments_from 0 vs no_values) (omega arith) ∙ arguments-at 0 source.0 vs no_values inside ∙ a.is;
         typed = a.typed;
       } in
-      subst (λ l. Holds heap f (record { vars = arguments_from p limits 0 vs no_values; shadows = no_values }) l) (sym source.2) held
+      subst (λ l. Holds heap f (record { vars = arguments_from 0 vs no_values; shadows = no_values }) l) (sym source.2) held
 
   -- a new frame has its arguments
-  pub new-sits : (g : ℕ) (f : Func) (vs : List Value) → slice_get p.funcs g ≡ Some f → HaveTypes heap vs (types_of (Some f)) → Sits p heap f (new_frame p limits g vs)
+  pub new-sits : (g : ℕ) (f : Func) (vs : List Value) → slice_get p.funcs g ≡ Some f → HaveTypes heap vs (types_of (Some f)) → Sits p heap f (new_frame g vs)
   new-sits g f vs there h = record { there = there; walk = []; is = tt; ends = refl; locations = λ location i. argument-held f vs location h i; saves = tt }

@@ -17,14 +17,17 @@ use Rattle.bril_tree.specs.Operand.{Variable}
 use Rattle.bril_tree.specs.State.{Locals, Frame, State, read}
 use Rattle.bril_tree.specs.Step.{items_of, item_at, faulted, gives, ends, awaited, returns, new_frame, calls}
 use Rattle.bril_tree.specs.Typing.{variable_type, same_result, are_typed, is_call_typed}
-use Rattle.flow_graph.proofs.Members.{In, in_map, contains_in}
+use Rattle.bril_tree.specs.Membership.{In}
+use Rattle.bril_tree.proofs.Members.{in_map, contains_in}
+use Rattle.bril_tree.proofs.Elements.{in_index}
+use Rattle.bril_tree.proofs.Formed.{callee_there}
 use Rattle.type_soundness.proofs.Arguments.{HaveTypes, new-sits}
-use Rattle.type_soundness.proofs.Callees.{callee_there, in_index}
 use Rattle.type_soundness.proofs.Frames.{Holds, Sits}
 use Rattle.type_soundness.proofs.Invariant.{Waits, Stands, Runs}
 use Rattle.type_soundness.proofs.Operands.{read-typed, dest-typed}
 use Rattle.type_soundness.proofs.Locals.{IsTypedAct, act-typed}
-use Rattle.type_soundness.proofs.Standing.{accepted_function, shaped_at, typed_at, holds-read}
+use Rattle.bril_tree.proofs.Acceptance.{accepted_function, shaped_at, typed_at}
+use Rattle.type_soundness.proofs.Standing.{holds-read}
 use Rattle.type_soundness.proofs.Steps.{gives-stands}
 use Rattle.type_soundness.proofs.Typed.{Cell, HasType, HasType-both, HasType-back}
 
@@ -96,7 +99,7 @@ module _ (p : Prog) (limits : Limits) (accepted : IsAccepted p) where
 
   -- a new frame over the newest
   call-stands : (s : State) (frame : Frame) (older : List Frame) (st : Stands p s.blocks frame older) (dest : Option ℕ) (ty : Option Ty) (args funcs labels : List ℕ) → slice_get st.function.code frame.point ≡ Some (Act dest ty op.Call args funcs labels)
-      → Stands p s.blocks (new_frame p limits (slice_index funcs 0) (map (read frame.locations.vars) args)) (frame ∷ older)
+      → Stands p s.blocks (new_frame (slice_index funcs 0) (map (read frame.locations.vars) args)) (frame ∷ older)
   call-stands s frame older st dest ty args funcs labels at =
       let f = st.function in
       let item = Act dest ty op.Call args funcs labels in

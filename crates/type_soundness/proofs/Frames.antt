@@ -1,8 +1,7 @@
 -- Frames whose locations hold what their walks assigned.
-use Rattle.std.proofs.Common.{◌≡◌, ◌⊎◌, ℕ, suc, Bool, true, false, List, [], ◌∷◌, ◌++◌, map, Option, Some, None, refl, sym, ap, subst, ◌∙◌, inl, inr, cond}
-use Rattle.std.specs.Prelude.{slice_get, ◌==◌}
+use Rattle.std.proofs.Common.{◌≡◌, ◌⊎◌, ℕ, suc, false, List, [], ◌∷◌, ◌++◌, map, Option, Some, None, refl, sym, ap, subst, ◌∙◌, inl, inr, ⊎_elim}
+use Rattle.std.specs.Prelude.{slice_get}
 use Rattle.std.specs.List.{AllZip}
-use Rattle.std.proofs.lemmas.Bool.{eqb-true, eqb-false}
 use Rattle.bril_tree.specs.declared.numbered.Instr.{Instr}
 use Rattle.bril_tree.specs.declared.numbered_function.Func.{Func}
 use Rattle.bril_tree.specs.declared.program.Prog.{Prog}
@@ -16,8 +15,11 @@ use Rattle.bril_tree.specs.State.{Locals, Frame}
 use Rattle.bril_tree.specs.Step.{assigned, shadowed}
 use Rattle.bril_tree.specs.Typing.{variable_type}
 use Rattle.bril_tree.specs.Walk.{IsWalk, end_of}
-use Rattle.flow_graph.proofs.Members.{In, contains_in}
-use Rattle.type_soundness.specs.WellTyped.{location_type, location_value}
+use Rattle.bril_tree.specs.Membership.{In}
+use Rattle.bril_tree.proofs.Members.{contains_in}
+use Rattle.bril_tree.specs.Locals.{location_type, location_value}
+use Rattle.bril_tree.proofs.Assignments.{same_location}
+use Rattle.bril_tree.proofs.HeldValues.{assigned-same, assigned-other, shadowed-same, shadowed-other}
 use Rattle.type_soundness.proofs.Typed.{Cell, HasType, HasType-more, Extends}
 
 -- a location holds a value of its type
@@ -51,48 +53,23 @@ AllCover-more heap more f (p ∷ saves) (s ∷ saved) x h = (Covers-more heap mo
 -- ---- assignments
 
 module _ (heap : List Cell) (f : Func) where
-  -- a variable behind the assignment of one
-  variable-by_test : (same : Bool) (x y : ℕ) (v : Value) (locations : Locals) → (y == x) ≡ same → HasType heap (variable_type f.vars x) v → (Variable y ≡ Variable x) ⊎ Holds heap f locations (Variable y)
-      → Holds heap f (assigned (Some x) v locations) (Variable y)
-  variable-by_test true x y v locations test t h =
-      let same : y ≡ x = eqb-true y x test in
-      record {
-        value = v;
-        is = ap (λ b. cond b (Some v) (locations.vars y)) test;
-        typed = subst (λ z. HasType heap (variable_type f.vars z) v) (sym same) t;
-      }
-  variable-by_test false x y v locations test t (inl e) = absurd (eqb-false y x test (cc))
-  variable-by_test false x y v locations test t (inr h) = record {
-    value = h.value;
-    is = ap (λ b. cond b (Some v) (locations.vars y)) test ∙ h.is;
-    typed = h.typed;
-  }
-
   after-assigned : (location : Location) (x : ℕ) (v : Value) (locations : Locals) → HasType heap (variable_type f.vars x) v → (location ≡ Variable x) ⊎ Holds heap f locations location → Holds heap f (assigned (Some x) v locations) location
-  after-assigned (Variable y) x v locations t h = variable-by_test (y == x) x y v locations refl t h
-  after-assigned (Shadow y) x v locations t (inl e) = absurd (cc)
-  after-assigned (Shadow y) x v locations t (inr h) = record { value = h.value; is = h.is; typed = h.typed }
+  after-assigned location x v locations t h = ⊎_elim same other (same_location location (Variable x))
+    where
+      same : location ≡ Variable x → Holds heap f (assigned (Some x) v locations) location
+      same e = record { value = v; is = assigned-same x v locations location e; typed = subst (λ l. HasType heap (location_type f l) v) (sym e) t }
 
-  shadow-by_test : (same : Bool) (x y : ℕ) (v : Value) (locations : Locals) → (y == x) ≡ same → HasType heap (variable_type f.vars x) v → (Shadow y ≡ Shadow x) ⊎ Holds heap f locations (Shadow y)
-      → Holds heap f (shadowed x v locations) (Shadow y)
-  shadow-by_test true x y v locations test t h =
-      let same : y ≡ x = eqb-true y x test in
-      record {
-        value = v;
-        is = ap (λ b. cond b (Some v) (locations.shadows y)) test;
-        typed = subst (λ z. HasType heap (variable_type f.vars z) v) (sym same) t;
-      }
-  shadow-by_test false x y v locations test t (inl e) = absurd (eqb-false y x test (cc))
-  shadow-by_test false x y v locations test t (inr h) = record {
-    value = h.value;
-    is = ap (λ b. cond b (Some v) (locations.shadows y)) test ∙ h.is;
-    typed = h.typed;
-  }
+      other : (location ≡ Variable x → ⊥) → Holds heap f (assigned (Some x) v locations) location
+      other n = ⊎_elim (λ e. absurd (n e)) (λ k. record { value = k.value; is = assigned-other x v locations location n ∙ k.is; typed = k.typed }) h
 
   after-shadowed : (location : Location) (x : ℕ) (v : Value) (locations : Locals) → HasType heap (variable_type f.vars x) v → (location ≡ Shadow x) ⊎ Holds heap f locations location → Holds heap f (shadowed x v locations) location
-  after-shadowed (Shadow y) x v locations t h = shadow-by_test (y == x) x y v locations refl t h
-  after-shadowed (Variable y) x v locations t (inl e) = absurd (cc)
-  after-shadowed (Variable y) x v locations t (inr h) = record { value = h.value; is = h.is; typed = h.typed }
+  after-shadowed location x v locations t h = ⊎_elim same other (same_location location (Shadow x))
+    where
+      same : location ≡ Shadow x → Holds heap f (shadowed x v locations) location
+      same e = record { value = v; is = shadowed-same x v locations location e; typed = subst (λ l. HasType heap (location_type f l) v) (sym e) t }
+
+      other : (location ≡ Shadow x → ⊥) → Holds heap f (shadowed x v locations) location
+      other n = ⊎_elim (λ e. absurd (n e)) (λ k. record { value = k.value; is = shadowed-other x v locations location n ∙ k.is; typed = k.typed }) h
 
   -- what the first of a list or the others give
   either-holds : (location first : Location) (list : List Location) (locations : Locals) → Covers heap f locations list → In location (first ∷ list) → (location ≡ first) ⊎ Holds heap f locations location

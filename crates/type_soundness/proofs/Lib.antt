@@ -5,7 +5,6 @@ pub mod Frames
 pub mod Standing
 pub mod Blocks
 pub mod Arguments
-pub mod Callees
 pub mod Invariant
 pub mod Operands
 pub mod Steps

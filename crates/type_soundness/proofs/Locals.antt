@@ -16,9 +16,10 @@ use Rattle.bril_tree.specs.declared.types.Ty.{Ty}
 use Rattle.bril_tree.specs.Operand.{Location, Variable, Shadow, reads_of, locations_read, ReadsArguments, reading_of, shadow_of}
 use Rattle.bril_tree.specs.Shape.{shape_of, fits_shape, is_action_shaped, is_shaped}
 use Rattle.bril_tree.specs.Typing.{is_action_typed, is_dest_typed, argument_type, variable_type, if_typed, is_pointer, points_to, unary, binary, both_typed, same_type, are_typed, print_fault, action_type_fault, type_fault, wrong_unless, is_set_typed, is_return_typed, PrintsPointer}
-use Rattle.flow_graph.proofs.Members.{In, in_contains, in_map_source}
-use Rattle.type_soundness.specs.WellTyped.{location_type}
-use Rattle.type_soundness.proofs.Outcomes.{shape-parts}
+use Rattle.bril_tree.specs.Membership.{In}
+use Rattle.bril_tree.proofs.Members.{in_contains, in_map_source}
+use Rattle.bril_tree.specs.Locals.{location_type}
+use Rattle.bril_tree.proofs.Shapes.{shape-parts, no_dest}
 
 -- ---- that there is a type
 
@@ -47,10 +48,6 @@ set-there s (Some t) e = (t, refl)
 wrong-none : (b : Bool) → wrong_unless b ≡ None → b ≡ true
 wrong-none true e = refl
 wrong-none false e = absurd (cc)
-
-pub no_dest : (o : Option ℕ) → is_some o ≡ false → o ≡ None
-no_dest None e = refl
-no_dest (Some x) e = absurd (cc)
 
 -- the destination and the operands are of the types of their row
 pub record IsTypedAct (p : Prog) (f : Func) (o : Op) (dest : Option ℕ) (ty : Option Ty) (args funcs : List ℕ) : Type 0 where

@@ -24,9 +24,11 @@ use Rattle.bril_tree.specs.Sites.{Keeps, item_change}
 use Rattle.bril_tree.specs.State.{Locals, Values, read}
 use Rattle.bril_tree.specs.Typing.{variable_type, argument_type, is_dest_typed, is_literal_typed, type_fault}
 use Rattle.bril_tree.specs.Value.{IsInRange, literal_value}
-use Rattle.flow_graph.proofs.Members.{In, contains_in, in_map}
-use Rattle.type_soundness.specs.WellTyped.{IsLiteralInRange}
-use Rattle.type_soundness.proofs.Callees.{in_index}
+use Rattle.bril_tree.specs.Membership.{In}
+use Rattle.bril_tree.proofs.Members.{contains_in, in_map}
+use Rattle.bril_tree.specs.Literals.{IsLiteralInRange}
+use Rattle.bril_tree.proofs.Elements.{in_index}
+use Rattle.bril_tree.proofs.Outcomes as outcomes
 use Rattle.type_soundness.proofs.Frames.{Holds}
 use Rattle.type_soundness.proofs.Outcomes.{computed_typed, uses_first}
 use Rattle.type_soundness.proofs.Locals.{IsTypedAct, act-typed, both-parts, counted}
@@ -39,21 +41,11 @@ pub record GoesOn (item : Instr) : Type 0 where
   pub keeps : item_change (Some item) false ≡ Keeps
   pub assigns : assigns_of item ≡ map Variable (listed (dest_of item))
 
-act-goes_on : (o : Op) (dest : Option ℕ) (ty : Option Ty) (args funcs labels : List ℕ) (locations : Locals) (v : Value) → action_outcome o dest ty args locations ≡ Yields v → GoesOn (Act dest ty o args funcs labels)
-act-goes_on op.Jmp dest ty args funcs labels locations v e = absurd (cc)
-act-goes_on op.Br dest ty args funcs labels locations v e = absurd (cc)
-act-goes_on op.Ret dest ty args funcs labels locations v e = absurd (cc)
-act-goes_on op.Guard dest ty args funcs labels locations v e = absurd (cc)
-act-goes_on op.Set dest ty args funcs labels locations v e = absurd (cc)
-act-goes_on op.Speculate dest ty args funcs labels locations v e = absurd (cc)
-act-goes_on op.Commit dest ty args funcs labels locations v e = absurd (cc)
-act-goes_on _ dest ty args funcs labels locations v e = record { branch = λ code point. inl refl; keeps = refl; assigns = refl }
-
 -- an item that gives a value
 pub giver-goes_on : (item : Instr) (locations : Locals) (v : Value) → outcome_of item locations ≡ Yields v → GoesOn item
-giver-goes_on (Label l) locations v e = absurd (cc)
-giver-goes_on (Const dest ty value) locations v e = record { branch = λ code point. inl refl; keeps = refl; assigns = refl }
-giver-goes_on (Act dest ty o args funcs labels) locations v e = act-goes_on o dest ty args funcs labels locations v e
+giver-goes_on item locations v e =
+    let on = outcomes.giver-goes_on item locations v e in
+    record { branch = λ code point. subst (In (onward point)) (sym (on.branches code point)) (inl refl); keeps = on.keeps false; assigns = on.assigns }
 
 -- ---- what is read
 

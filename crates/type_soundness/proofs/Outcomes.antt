@@ -3,7 +3,7 @@ use Rattle.std.proofs.Common.{◌≡◌, ℕ, zero, suc, Bool, true, false, cond
 use Rattle.std.specs.Prelude.{nat_lt, ◌+ℤ◌}
 use Rattle.std.specs.Char.{IsScalar}
 use Rattle.std.specs.Int.{w32, w64}
-use Rattle.std.proofs.lemmas.Bool.{and_parts, eqb-true}
+use Rattle.std.proofs.lemmas.Bool.{and_parts}
 use Rattle.std.proofs.lemmas.Bool.Decides.{nat_tests}
 use Rattle.std.proofs.lemmas.Int.{SFits-int_wrap}
 use Rattle.bril_tree.specs.declared.limits.Fault.TheVariants.{BadChar, PtrRange}
@@ -17,25 +17,9 @@ use Rattle.bril_tree.specs.declared.types.Ty.{Ty}
 use Rattle.bril_tree.specs.declared.value.Value.{Value}
 use Rattle.bril_tree.specs.declared.value.Value.TheVariants.{Int, Bool as Boolean, Char, Ptr}
 use Rattle.bril_tree.specs.Outcome.{Yields, FaultsWith, computed, divided, char_from, is_scalar, fits_32, moved, undefined, char_of, block_of, offset_of, int_of, int_same}
-use Rattle.bril_tree.specs.Shape.{Shape, fits_shape, same}
 use Rattle.bril_tree.specs.Typing.{is_action_typed, argument_type, if_typed, is_plain, is_pointer}
 use Rattle.bril_tree.specs.Value.{IsInRange, zero_of, zero_at}
 use Rattle.type_soundness.proofs.Typed.{Cell, HasType, IsTyped, HasType-plain, HasType-suits, HasType-both}
-
--- ---- shapes
-
--- the numbers of an operation's operands are those of its shape
-pub record HasShape (shape : Shape) (dest : Bool) (args funcs labels : ℕ) : Type 0 where
-  pub dest_is : same shape.dest dest ≡ true
-  pub args_are : args ≡ shape.args
-  pub labels_are : labels ≡ shape.labels
-
-pub shape-parts : (shape : Shape) (dest : Bool) (args funcs labels : ℕ) → fits_shape shape dest args funcs labels ≡ true → HasShape shape dest args funcs labels
-shape-parts shape dest args funcs labels e =
-    let a = and_parts _ _ e in
-    let b = and_parts _ _ a.0 in
-    let c = and_parts _ _ b.0 in
-    record { dest_is = c.0; args_are = eqb-true args shape.args c.1; labels_are = eqb-true labels shape.labels a.1 }
 
 -- ---- ranges
 

@@ -1,5 +1,5 @@
 -- Each run of an accepted program stands well.
-use Rattle.std.proofs.Common.{◌≡◌, ℕ, zero, suc, ◌<◌, List, [], ◌∷◌, length, Option, Some, None, refl, sym, ap, subst, ◌∙◌, arith, All}
+use Rattle.std.proofs.Common.{◌≡◌, ℕ, zero, suc, List, [], ◌∷◌, length, Option, Some, None, refl, sym, ap, subst, ◌∙◌, arith, All}
 use Rattle.std.specs.Prelude.{slice_get, slice_index, IsSome, IsTrue}
 use Rattle.std.specs.List.{AllZip}
 use Rattle.std.specs.Option.{option_map}
@@ -25,14 +25,17 @@ use Rattle.bril_tree.specs.State.{Frame, State, read, no_values}
 use Rattle.bril_tree.specs.Step.{items_of, item_at, by_outcome, item_step, frames_step, running_step, step, new_frame}
 use Rattle.bril_tree.specs.Typing.{argument_type, points_to}
 use Rattle.bril_tree.specs.Value.{IsInRange, IsOfDepth}
-use Rattle.type_soundness.specs.WellTyped.{RunsAreWellTyped, LoadsAreWellTyped, OlderAreWellTyped, calls_function, AreLiteralsInRange, IsLiteralInRange}
+use Rattle.bril_tree.specs.Literals.{AreLiteralsInRange, IsLiteralInRange}
+use Rattle.type_soundness.specs.WellTyped.{RunsAreWellTyped, LoadsAreWellTyped, OlderAreWellTyped, calls_function}
 use Rattle.type_soundness.proofs.Actions.{acts-runs, gives-runs, loaded}
 use Rattle.type_soundness.proofs.Arguments.{HaveTypes, new-sits}
 use Rattle.type_soundness.proofs.Calls.{fault-runs, returns-runs}
 use Rattle.type_soundness.proofs.Invariant.{Stack, Stands, Runs}
 use Rattle.type_soundness.proofs.Operands.{giver-goes_on, given-typed, argument-typed}
 use Rattle.type_soundness.proofs.Locals.{IsThere, both_typed-right, act-typed, counted}
-use Rattle.type_soundness.proofs.Standing.{All-at, accepted_function, shaped_at, typed_at, holds-read, before_end, well-typed}
+use Rattle.bril_tree.proofs.Acceptance.{accepted_function, shaped_at, typed_at}
+use Rattle.bril_tree.proofs.Elements.{All-at, none_past}
+use Rattle.type_soundness.proofs.Standing.{holds-read, before_end, well-typed}
 use Rattle.type_soundness.proofs.Typed.{Cell, IsTyped, HasType, HasType-suits}
 
 -- ---- the first state
@@ -55,11 +58,6 @@ main-there : (o : Option Func) → option_map (λ (f : Func). f.name) o ≡ Some
 main-there None e = absurd (cc)
 main-there (Some f) e = (f, refl)
 
-none_past : {A : Type 0} (xs : List A) (k : ℕ) → k < length xs → slice_get xs k ≡ None → ⊥
-none_past [] k less e = omega arith
-none_past (x ∷ xs) zero less e = cc
-none_past (x ∷ xs) (suc k) less e = none_past xs k (omega arith) e
-
 module _ (p : Prog) (limits : Limits) (accepted : IsAccepted p) (literals : AreLiteralsInRange p) where
   first-runs : (args : List Value) → FitMain p args → Runs p (first_state p limits args)
   first-runs args fit =
@@ -67,7 +65,7 @@ module _ (p : Prog) (limits : Limits) (accepted : IsAccepted p) (literals : AreL
       let have : HaveTypes [] args (types_of (Some main.0)) =
       subst (λ (o : Option Func). HaveTypes [] args (types_of o)) main.1 (plain-values args (types_of (slice_get p.funcs p.main)) accepted.main.takes_plain fit) in
       record {
-        frame = new_frame p limits p.main args;
+        frame = new_frame p.main args;
         older = [];
         frames = refl;
         stands = record { heap = []; memory = tt; function = main.0; sits = new-sits p limits [] p.main main.0 args main.1 have; stack = tt };

@@ -17,7 +17,8 @@ use Rattle.bril_tree.specs.Sites.{Keeps, item_change, without_newest}
 use Rattle.bril_tree.specs.State.{Locals, Frame, Block}
 use Rattle.bril_tree.specs.Step.{point_of, at_point, advanced, with_locations, assigned, shadowed, dropped, saved}
 use Rattle.bril_tree.specs.Typing.{variable_type}
-use Rattle.flow_graph.proofs.Members.{In, in_map}
+use Rattle.bril_tree.specs.Membership.{In}
+use Rattle.bril_tree.proofs.Members.{in_map}
 use Rattle.type_soundness.proofs.Frames.{Covers, AllCover, Covers-assigned, Covers-shadowed, Sits, before, goes, goes-onward}
 use Rattle.type_soundness.proofs.Invariant.{Stack, Stands}
 use Rattle.type_soundness.proofs.Operands.{GoesOn}
@@ -89,13 +90,13 @@ module _ (p : Prog) (blocks : List Block) (frame : Frame) (older : List Frame) (
 -- ---- saves
 
 module _ (p : Prog) (limits : Limits) (heap : List Cell) (f : Func) where
-  pub dropped-cover : (saves : List Locals) (list : List (List Location)) → AllCover heap f saves list → AllCover heap f (dropped p limits saves) (without_newest list)
+  pub dropped-cover : (saves : List Locals) (list : List (List Location)) → AllCover heap f saves list → AllCover heap f (dropped saves) (without_newest list)
   dropped-cover [] [] h = tt
   dropped-cover [] (x ∷ list) h = absurd h
   dropped-cover (s ∷ saves) [] h = absurd h
   dropped-cover (s ∷ saves) (x ∷ list) h = h.1
 
-  pub saved-cover : (saves : List Locals) (list : List (List Location)) (locations : Locals) (now : List Location) → AllCover heap f saves list → Covers heap f locations now → Covers heap f (saved p limits saves locations) (newest_saved now list)
+  pub saved-cover : (saves : List Locals) (list : List (List Location)) (locations : Locals) (now : List Location) → AllCover heap f saves list → Covers heap f locations now → Covers heap f (saved saves locations) (newest_saved now list)
   saved-cover [] [] locations now h covers = covers
   saved-cover [] (x ∷ list) locations now h covers = absurd h
   saved-cover (s ∷ saves) [] locations now h covers = absurd h

@@ -3,10 +3,11 @@
 ghost use Rattle.type_soundness.specs.WellTyped.{RunsAreWellTyped, LoadsAreWellTyped};
 
 /// A run of an accepted program, with arguments that fit, has a newest frame after every number of steps, and its
-/// frames stand well. Each location that a frame's item reads holds a value of the location's type, in its range. A
-/// `commit` or a `guard` has a save, there are never more than eight, and none is left where a frame begins or ends.
-/// A function that returns a value doesn't run off its end, and each older frame stands at a call of the function of
-/// the frame above it.
+/// frames are well typed. Each location that a frame's item reads, and each typed one that is live there, holds a value
+/// of the location's type, in its range. A frame stands at the end of a walk and has as many saves as sites are open
+/// there: a `commit` or a `guard` has one, there are never more than eight, and none is left where a frame begins or
+/// ends. A function that returns a value doesn't run off its end, and each older frame stands at a call of the function
+/// of the frame above it.
 pub fn accepted_runs_are_well_typed()
     ensures { RunsAreWellTyped }
 {}

@@ -4,11 +4,9 @@
 //! as the zero of the type that an operation wants, and an abort where nothing was saved puts nothing back. A program
 //! is accepted by its text alone: by its types, by the locations that its walks assign and by their open sites. The laws
 //! here tie the two: no run of an accepted program comes to such a location. They ask that the literals of the program
-//! are in their range, as they are in each program that is held in memory (`literals_are_in_range`).
+//! are in their range, as they are in each program that is held in memory (`bril_tree::literals::literals_are_in_range`).
 #![tactic(auto)]
 
 mod laws;
-mod literals;
 
 pub use laws::{accepted_loads_are_well_typed, accepted_runs_are_well_typed};
-pub use literals::literals_are_in_range;

@@ -14,9 +14,9 @@ pub returns-clause-depth : goal.returns-clause-depth
 returns-clause-depth c =
     let code = c.args.func.now.code in
     let same : length c.as_slice.result.now ≡ length code = ap length c.as_slice.ensures in
-    is_depth code c.args.graph.now c.requires.graph c.walks_agree.ensures.agree c.requires.sound c.loop-point.depth c.loop-point.invariant.0
+    is_depth code c.args.graph.now c.requires.graph c.requires.sound c.loop-point.depth c.loop-point.invariant.0
     c.loop-point.point (omega arith) c.loop-point.invariant.1
 
 pub returns-clause-few : goal.returns-clause-few
 returns-clause-few c =
-    depth_few c.args.func.now.code c.args.graph.now c.requires.graph c.walks_agree.ensures.agree c.requires.sound c.loop-point.depth c.loop-point.invariant.0
+    depth_few c.args.func.now.code c.args.graph.now c.requires.graph c.requires.sound c.loop-point.depth c.loop-point.invariant.0

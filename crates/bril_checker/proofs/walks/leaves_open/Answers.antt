@@ -10,5 +10,5 @@ returns-then-leaves_frame c =
     let leaves : leaves_frame (slice_get f.code c.args.point) ≡ true =
     ap (λ items. leaves_frame (slice_get items c.args.point)) (sym c.as_slice.ensures) ∙ sym c.leaves_frame.ensures ∙ c.if-leaves_frame.true in (
       leaves_if f c.args.graph.now c.requires.graph c.args.point c.open_sites.result c.open_sites.ensures.reached c.open_sites.ensures.unreached leaves c.requires.point,
-      open_if f c.args.graph.now c.requires.graph c.args.point c.open_sites.result c.open_sites.ensures.reached c.open_sites.ensures.unreached c.walks_agree.ensures.agree c.requires.sound,
+      open_if f c.args.graph.now c.requires.graph c.args.point c.open_sites.result c.open_sites.ensures.reached c.open_sites.ensures.unreached c.requires.sound,
     )

@@ -1,13 +1,13 @@
 use Rattle.std.proofs.Common.{◌≡◌, ◌<◌, ◌≤◌, ◌∷◌, ◌++◌, [], length, map, take, get_or, sym, ap, ◌∙◌, subst}
 use Rattle.std.proofs.lemmas.List.{map_more, take_all}
-use Rattle.bril_tree.specs.Numbered.{Numbered, function_tree}
+use Rattle.bril_tree.specs.Numbered.{Numbered, function_tree, names_of_functions}
 use Rattle.bril_names.specs.Range.{AreInRange}
-use Rattle.bril_names.proofs.Functions.{names_of_functions, program_in_range}
+use Rattle.bril_names.proofs.Functions.{program_in_range}
 use Rattle.bril_names.proofs.Uniqueness.{one_program}
 use Rattle.bril_names.proofs.unnumbering.unnumber.Goals as goal
 
-pub function_of-requires : goal.function_of-requires
-function_of-requires c =
+pub named_function-requires : goal.named_function-requires
+named_function-requires c =
     let f = c.f-item.result in
     let at = c.loop-f.f-index in
     let within = subst (λ fs. at < length fs) c.as_slice-f-items.ensures c.loop-f-test.true in
@@ -21,10 +21,10 @@ loop-f-preserved c =
     let at = c.loop-f.f-index in
     let within = subst (λ fs. at < length fs) c.as_slice-f-items.ensures c.loop-f-test.true in
     let is = subst (λ fs. f ≡ get_or fs at f) c.as_slice-f-items.ensures c.f-item.is in
-    let tree_of = function_tree (names_of_functions funcs) in
-    let tree : c.in_ok-function_of.field-0 ≡ tree_of f = c.in_ok-function_of.ensures ∙ ap (λ fs. function_tree (names_of_functions fs) f) c.as_slice.ensures in
-    c.in_ok-push.ensures.ok ∙ (λ i. c.loop-f.invariant i ++ tree i ∷ []) ∙ ap (λ g. map tree_of (take at funcs) ++ tree_of g ∷ []) is
-    ∙ sym (map_more tree_of funcs at f within)
+    let tree_from = function_tree (names_of_functions funcs) in
+    let tree : c.in_ok-named_function.field-0 ≡ tree_from f = c.in_ok-named_function.ensures ∙ ap (λ fs. function_tree (names_of_functions fs) f) c.as_slice.ensures in
+    c.in_ok-push.ensures.ok ∙ (λ i. c.loop-f.invariant i ++ tree i ∷ []) ∙ ap (λ g. map tree_from (take at funcs) ++ tree_from g ∷ []) is
+    ∙ sym (map_more tree_from funcs at f within)
 
 pub returns-clause-back : goal.returns-clause-back
 returns-clause-back c =

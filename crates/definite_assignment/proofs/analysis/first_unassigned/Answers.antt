@@ -12,7 +12,7 @@ returns-then-first-len c =
     let f = c.args.func.now in
     let graph = c.args.graph.now in
     let flow = c.in_ok-flow.flow in
-    let g : IsSoundGraph f.code graph = record { is = c.requires.graph; sound = c.requires.sound; agree = c.walks_agree.ensures.agree } in
+    let g : IsSoundGraph f.code graph = record { is = c.requires.graph; sound = c.requires.sound } in
     let one : IsFirstOpen flow.forward.arcs f.args flow.reads.items c.in_ok-first.first = subst (λ n. IsFirstOpen flow.forward.arcs n flow.reads.items c.in_ok-first.first) c.in_ok-flow.ensures.args c.in_ok-first.ensures in
     let two : IsFirstOpen (leaving_arcs f.code graph.edges) f.args flow.reads.items c.in_ok-first.first = subst (λ arcs. IsFirstOpen arcs f.args flow.reads.items c.in_ok-first.first) c.in_ok-flow.ensures.arcs one in
     let is : IsFirstOpen (leaving_arcs f.code graph.edges) f.args (reads_from 0 f.code) c.in_ok-first.first =
@@ -25,7 +25,7 @@ returns c =
     let f = c.args.func.now in
     let graph = c.args.graph.now in
     let flow = c.in_ok-flow.flow in
-    let g : IsSoundGraph f.code graph = record { is = c.requires.graph; sound = c.requires.sound; agree = c.walks_agree.ensures.agree } in
+    let g : IsSoundGraph f.code graph = record { is = c.requires.graph; sound = c.requires.sound } in
     let one : IsFirstOpen flow.forward.arcs f.args flow.reads.items c.in_ok-first.first = subst (λ n. IsFirstOpen flow.forward.arcs n flow.reads.items c.in_ok-first.first) c.in_ok-flow.ensures.args c.in_ok-first.ensures in
     let two : IsFirstOpen (leaving_arcs f.code graph.edges) f.args flow.reads.items c.in_ok-first.first = subst (λ arcs. IsFirstOpen arcs f.args flow.reads.items c.in_ok-first.first) c.in_ok-flow.ensures.arcs one in
     let is : IsFirstOpen (leaving_arcs f.code graph.edges) f.args (reads_from 0 f.code) c.in_ok-first.first =

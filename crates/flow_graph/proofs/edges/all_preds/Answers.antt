@@ -1,5 +1,5 @@
 use Rattle.std.proofs.Common.{arith}
-use Rattle.flow_graph.specs.declared.edge.Edge.{Edge}
+use Rattle.bril_tree.specs.declared.edge.Edge.{Edge}
 use Rattle.flow_graph.proofs.PointEdges.{preds_turn}
 use Rattle.flow_graph.proofs.edges.all_preds.Goals as goal
 

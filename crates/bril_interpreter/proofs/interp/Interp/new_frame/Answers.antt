@@ -17,7 +17,7 @@ returns-clause-frame c =
     c.as_slice.ensures.value ∙ c.in_ok-values.ensures ∙ ap (λ (locations : LocalsView). map (read (entries_of locations.vars)) c.args.args.now) locations in
     ap frame_of c.start-2.ensures
     ∙ new_frame-held p limits c.args.callee c.as_slice.result.now c.variables_of-variables.result c.in_ok-locations.locations c.in_ok-locations.ensures.vars c.in_ok-locations.ensures.shadows
-    ∙ ap (new_frame p limits c.args.callee) values
+    ∙ ap (new_frame c.args.callee) values
 
 pub returns-clause-form : goal.returns-clause-form
 returns-clause-form c =

@@ -1,6 +1,6 @@
 use Rattle.std.proofs.Common.{◌<◌, length, map, sym, ap, ◌∙◌, subst, inl}
 use Rattle.std.specs.List.{All}
-use Rattle.flow_graph.specs.declared.edge.Edge.{Edge}
+use Rattle.bril_tree.specs.declared.edge.Edge.{Edge}
 use Rattle.flow_graph.specs.Graph.{edges_from}
 use Rattle.flow_graph.specs.Visits.{sites_shown}
 use Rattle.flow_graph.specs.Branches.{AreBranchRows}
