@@ -4,20 +4,20 @@ use Rattle.std.specs.Prelude.{slice_get, is_some}
 use Rattle.bril_tree.specs.declared.numbered.Instr.{Instr}
 use Rattle.bril_tree.specs.declared.numbered_function.Func.{Func}
 use Rattle.bril_tree.specs.declared.program.Prog.{Prog}
-use Rattle.bril_tree.specs.Accepted.{IsAccepted, IsAcceptedFunction}
+use Rattle.bril_tree.specs.Accepted.{IsAccepted, IsAcceptedFunction, AreWalksAccepted}
 use Rattle.bril_tree.specs.FunctionForm.{listed}
-use Rattle.bril_tree.specs.Numbered.{variable_names}
+use Rattle.bril_tree.specs.Numbered.{variable_names, names_in, tree_at}
 use Rattle.bril_tree.specs.Operand.{Variable, dest_of, reads_of}
 use Rattle.bril_tree.specs.Step.{items_of, code_of, item_at}
 use Rattle.bril_tree.specs.Typing.{variable_type}
 use Rattle.bril_tree.specs.Walk.{IsReached}
-use Rattle.flow_graph.proofs.Members.{In}
+use Rattle.bril_tree.specs.Membership.{In}
 use Rattle.pass_plan.specs.Plan.{Plan, Preserves}
-use Rattle.pass_walks.specs.Matched.{MatchesWalks, AreWalksAccepted}
+use Rattle.pass_walks.specs.Matched.{MatchesWalks}
 use Rattle.pass_steps.proofs.Shapes.{All-at}
 use Rattle.pass_walks.proofs.Accepting.{walks_accepted}
 use Rattle.pass_names.specs.Named.{SameName}
-use Rattle.pass_names.specs.NamedPlan.{names_in, tree_at, SameHeads}
+use Rattle.pass_names.specs.NamedPlan.{SameHeads}
 use Rattle.pass_types.specs.Stays.{HasTypeOfDest, Stays}
 use Rattle.pass_types.proofs.Staying.{dest_of_tree}
 use Rattle.pass_types.proofs.Accepted.{program_accepted}

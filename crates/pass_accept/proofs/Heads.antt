@@ -8,18 +8,19 @@ use Rattle.std.proofs.lemmas.List.{length-map, get_or-take, take-map}
 use Rattle.bril_tree.specs.declared.numbered.VarInfo.{VarInfo}
 use Rattle.bril_tree.specs.declared.numbered_function.Func.{Func}
 use Rattle.bril_tree.specs.declared.program.Prog.{Prog}
-use Rattle.bril_tree.specs.Numbered.{named, variable_names}
+use Rattle.bril_tree.specs.Numbered.{named, variable_names, names_of_functions, names_in}
 use Rattle.bril_tree.specs.Operand.{Location, Variable, Shadow}
 use Rattle.bril_tree.specs.ProgramForm.{main_name}
 use Rattle.bril_tree.specs.Run.{types_of}
 use Rattle.bril_tree.specs.Typing.{variable_type}
-use Rattle.flow_graph.proofs.Members.{In, in_map, in_map_source}
-use Rattle.bril_names.proofs.Functions.{names_of_functions, Differ-functions, Differ-variables, is_main}
+use Rattle.bril_tree.specs.Membership.{In}
+use Rattle.bril_tree.proofs.Members.{in_map, in_map_source}
+use Rattle.bril_names.proofs.Functions.{Differ-functions, Differ-variables, is_main}
 use Rattle.bril_names.proofs.Naming.{one_number}
 use Rattle.bril_names.proofs.Variables.{SameArguments, same_arguments}
 use Rattle.pass_walks.specs.Matched.{MatchedWalk}
 use Rattle.pass_names.specs.Named.{SameName, SameLocation}
-use Rattle.pass_names.specs.NamedPlan.{NamePlan, names_in, SameHeads, plan}
+use Rattle.pass_names.specs.NamedPlan.{NamePlan, SameHeads, plan}
 use Rattle.pass_types.proofs.Staying.{get_inside, variable-has}
 
 pub main_same : (P Q : Prog) → SameHeads P Q → P.main ≡ Q.main

@@ -10,20 +10,19 @@ use Rattle.bril_tree.specs.declared.numbered.VarInfo.{VarInfo}
 use Rattle.bril_tree.specs.declared.numbered_function.Func.{Func}
 use Rattle.bril_tree.specs.declared.operation.Op.TheVariants as op
 use Rattle.bril_tree.specs.declared.program.Prog.{Prog}
-use Rattle.bril_tree.specs.Accepted.{IsAccepted}
+use Rattle.bril_tree.specs.Accepted.{IsAccepted, AreWalksAccepted}
 use Rattle.bril_tree.specs.Assigned.{assigned_of, assigns_of}
 use Rattle.bril_tree.specs.FunctionForm.{first_of_two, first_type, type_assigned}
-use Rattle.bril_tree.specs.Numbered.{item_tree, variable_names}
+use Rattle.bril_tree.specs.Numbered.{item_tree, variable_names, names_of_functions, names_in, tree_at}
 use Rattle.bril_tree.specs.Operand.{Variable, dest_of, reads_of}
 use Rattle.bril_tree.specs.Step.{items_of, item_at}
 use Rattle.bril_tree.specs.Typing.{variable_type}
 use Rattle.bril_tree.specs.Walk.{IsReached}
-use Rattle.flow_graph.proofs.Members.{In, in_contains, contains_in}
+use Rattle.bril_tree.specs.Membership.{In}
+use Rattle.bril_tree.proofs.Members.{in_contains, contains_in}
 use Rattle.bril_names.specs.Range.{IsInRange}
-use Rattle.bril_names.proofs.Functions.{names_of_functions}
-use Rattle.pass_walks.specs.Matched.{AreWalksAccepted}
 use Rattle.pass_names.specs.Named.{SameName}
-use Rattle.pass_names.specs.NamedPlan.{names_in, tree_at, SameHeads}
+use Rattle.pass_names.specs.NamedPlan.{SameHeads}
 use Rattle.bril_names.proofs.Naming.{one_number}
 use Rattle.pass_names.proofs.Preserving.{found, nothing_found, Differ-in}
 use Rattle.pass_names.proofs.Items.{type_of}

@@ -6,7 +6,8 @@ use Rattle.bril_tree.specs.declared.program.Prog.{Prog}
 use Rattle.bril_tree.specs.Edge.{Branch, branches_at}
 use Rattle.bril_tree.specs.Step.{code_of, item_at}
 use Rattle.bril_tree.specs.Walk.{IsWalk, IsReached, end_of}
-use Rattle.flow_graph.proofs.Members.{In, in_contains, contains_in}
+use Rattle.bril_tree.specs.Membership.{In}
+use Rattle.bril_tree.proofs.Members.{in_contains, contains_in}
 use Rattle.pass_plan.specs.Plan.{Plan, Preserves, EdgesMatch}
 
 pub zip-partner : {X Y : Type 0} (R : X → Y → Type 0) (xs : List X) (ys : List Y) (x : X) → AllZip R xs ys → In x xs → (y : Y) × In y ys × R x y

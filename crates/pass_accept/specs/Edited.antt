@@ -3,17 +3,17 @@ use Rattle.std.specs.Prelude.{◌≡◌, ◌⊎◌, ℕ, ◌<◌, List, Some, sl
 use Rattle.bril_tree.specs.declared.numbered.Instr.{Instr}
 use Rattle.bril_tree.specs.declared.numbered_function.Func.{Func}
 use Rattle.bril_tree.specs.declared.program.Prog.{Prog}
-use Rattle.bril_tree.specs.Accepted.{IsAccepted}
-use Rattle.bril_tree.specs.Numbered.{variable_names}
+use Rattle.bril_tree.specs.Accepted.{IsAccepted, AreWalksAccepted}
+use Rattle.bril_tree.specs.Numbered.{variable_names, tree_at}
 use Rattle.bril_tree.specs.Operand.{Variable, dest_of, reads_of}
 use Rattle.bril_tree.specs.Step.{code_of, item_at}
 use Rattle.bril_tree.specs.Typing.{variable_type}
 use Rattle.bril_tree.specs.Walk.{IsReached}
-use Rattle.flow_graph.proofs.Members.{In}
+use Rattle.bril_tree.specs.Membership.{In}
 use Rattle.pass_plan.specs.Plan.{Plan, Preserves}
-use Rattle.pass_walks.specs.Matched.{MatchesWalks, AreWalksAccepted}
+use Rattle.pass_walks.specs.Matched.{MatchesWalks}
 use Rattle.pass_names.specs.Named.{SameName}
-use Rattle.pass_names.specs.NamedPlan.{tree_at, SameHeads}
+use Rattle.pass_names.specs.NamedPlan.{SameHeads}
 use Rattle.pass_types.specs.Stays.{HasTypeOfDest, FitsByItself}
 
 -- an item of the code has the variable as its destination

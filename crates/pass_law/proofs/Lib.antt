@@ -1,4 +1,3 @@
-pub mod Sizes
 pub mod Same
 pub mod Growing
 pub mod Running

@@ -6,7 +6,7 @@ use Rattle.std.specs.Option.{option_map}
 use Rattle.std.proofs.lemmas.List.{length-map}
 use Rattle.std.proofs.lemmas.List.Elements.{All-nil, All-cons, All-head, All-tail}
 use Rattle.std.proofs.lemmas.List.Sums.{sum_by-cons}
-use Rattle.std.proofs.lemmas.Option.{slice_get-map}
+use Rattle.std.proofs.lemmas.Option.{slice_get-map, same_Some}
 use Rattle.bril_tree.specs.declared.function_tree.FuncTree.{FuncTree}
 use Rattle.bril_tree.specs.declared.numbered.Instr.{Instr}
 use Rattle.bril_tree.specs.declared.numbered.Instr.TheVariants.{Label, Const, Act}
@@ -16,18 +16,13 @@ use Rattle.bril_tree.specs.declared.program.Prog.{Prog}
 use Rattle.bril_tree.specs.declared.tree.Tree.{Tree}
 use Rattle.bril_tree.specs.declared.types.Ty.{Ty}
 use Rattle.bril_tree.specs.FunctionForm.{dest_is_typed}
-use Rattle.bril_tree.specs.Numbered.{named, dest_tree, item_tree, function_tree, variable_names}
+use Rattle.bril_tree.specs.Numbered.{named, dest_tree, item_tree, function_tree, variable_names, names_of_functions, point_tree, tree_at, tree_of, tree_size, items_in, nop_item, nop}
 use Rattle.bril_tree.specs.Size.{item_count}
 use Rattle.bril_tree.specs.Step.{item_at}
-use Rattle.bril_names.specs.Faults.{IsSound, function_names}
-use Rattle.bril_names.proofs.Functions.{names_of_functions}
+use Rattle.bril_names.specs.Faults.{IsSound, function_names, SameHead, IsSoundEdit}
 use Rattle.bril_names.proofs.Sound.{sound_tree}
-use Rattle.pass_names.specs.NamedPlan.{point_tree, tree_at}
-use Rattle.pass_names.specs.Trees.{tree_of, SameHead, CanBeNumbered}
 use Rattle.pass_names.proofs.Preserving.{found, nothing_found}
 use Rattle.pass_names.proofs.Trees.{tree_of-numbered}
-use Rattle.std.proofs.lemmas.Option.{same_Some}
-use Rattle.pass_make.specs.CanBeMade.{tree_size, items_in, nop_item, nop}
 
 -- ---- items
 
@@ -76,14 +71,14 @@ nop-at P f i at = by (item_at P f i) refl
 -- ---- functions
 
 -- each function is sound, so an edit of sound functions can be numbered
-zip-edited : (names : List (List ℕ)) (edit : FuncTree → FuncTree) (xs : List FuncTree) → All (IsSound names) xs → ((f : FuncTree) → IsSound names f → CanBeNumbered names f (edit f)) → AllZip (CanBeNumbered names) xs (map edit xs)
+zip-edited : (names : List (List ℕ)) (edit : FuncTree → FuncTree) (xs : List FuncTree) → All (IsSound names) xs → ((f : FuncTree) → IsSound names f → IsSoundEdit names f (edit f)) → AllZip (IsSoundEdit names) xs (map edit xs)
 zip-edited names edit [] s h = tt
 zip-edited names edit (x ∷ xs) s h = (h x (All-head (IsSound names) x xs s), zip-edited names edit xs (All-tail (IsSound names) x xs s) h)
 
-pub names-edited : (P : Prog) (edit : FuncTree → FuncTree) → ((f : FuncTree) → IsSound (function_names (tree_of P)) f → CanBeNumbered (function_names (tree_of P)) f (edit f)) → AllZip (CanBeNumbered (function_names (tree_of P))) (tree_of P).funcs (map edit (tree_of P).funcs)
+pub names-edited : (P : Prog) (edit : FuncTree → FuncTree) → ((f : FuncTree) → IsSound (function_names (tree_of P)) f → IsSoundEdit (function_names (tree_of P)) f (edit f)) → AllZip (IsSoundEdit (function_names (tree_of P))) (tree_of P).funcs (map edit (tree_of P).funcs)
 names-edited P edit h = zip-edited (function_names (tree_of P)) edit (tree_of P).funcs (sound_tree (tree_of P) P (tree_of-numbered P)).sound h
 
-pub heads-zip : (names : List (List ℕ)) (xs ys : List FuncTree) → AllZip (CanBeNumbered names) xs ys → AllZip SameHead xs ys
+pub heads-zip : (names : List (List ℕ)) (xs ys : List FuncTree) → AllZip (IsSoundEdit names) xs ys → AllZip SameHead xs ys
 heads-zip names [] [] z = tt
 heads-zip names [] (y ∷ ys) z = absurd z
 heads-zip names (x ∷ xs) [] z = absurd z

@@ -10,29 +10,12 @@ use Rattle.bril_tree.specs.declared.operation.Op.TheVariants as op
 use Rattle.bril_tree.specs.declared.program.Prog.{Prog}
 use Rattle.bril_tree.specs.declared.tree.Tree.{Tree}
 use Rattle.bril_tree.specs.Accepted.{IsAccepted}
-use Rattle.bril_tree.specs.Numbered.{Numbered}
-use Rattle.bril_names.specs.Faults.{function_names}
-use Rattle.pass_names.specs.Trees.{tree_of, CanBeNumbered}
-
--- the number of items
-abbrev pub tree_size : Tree → ℕ
-tree_size t = sum_by (λ f. length f.code) t.funcs
-
--- the items of a function; none where there is none
-abbrev pub items_in : Option FuncTree → List Item
-items_in None = []
-items_in (Some f) = f.code
-
--- the item that does nothing, by names and by numbers
-abbrev pub nop_item : Item
-nop_item = item.Act None op.Nop [] [] []
-
-abbrev pub nop : Instr
-nop = Act None None op.Nop [] [] []
+use Rattle.bril_tree.specs.Numbered.{Numbered, tree_of}
+use Rattle.bril_names.specs.Faults.{function_names, IsSoundEdit}
 
 -- the tree can be numbered, and what is numbered so is accepted
 pub record CanBeMade (P : Prog) (tree : Tree) : Type 0 where
   pub imports : tree.imports ≡ []
-  pub names : AllZip (CanBeNumbered (function_names (tree_of P))) (tree_of P).funcs tree.funcs
+  pub names : AllZip (IsSoundEdit (function_names (tree_of P))) (tree_of P).funcs tree.funcs
   pub accepted : (Q : Prog) → Numbered tree Q → IsAccepted Q
   pub items : All (λ f. length f.code < 4294967295) tree.funcs

@@ -8,9 +8,9 @@
 
 ghost use Rattle.std.specs.Prelude.{◌≡◌, IfOk};
 ghost use Rattle.bril_tree.specs.Accepted.{IsAccepted};
-ghost use Rattle.bril_tree.specs.Numbered.{Numbered};
+ghost use Rattle.bril_tree.specs.Numbered.{Numbered, tree_size};
 ghost use Rattle.bril_tree.specs.Size.{IsCounted, item_count};
-ghost use Rattle.pass_make.specs.CanBeMade.{CanBeMade, tree_size};
+ghost use Rattle.pass_make.specs.CanBeMade.{CanBeMade};
 
 use bril_checker::{CheckFault, Checked, check};
 use bril_names::{NameFault, number, program_or_fault};

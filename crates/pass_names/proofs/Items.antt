@@ -14,7 +14,7 @@ use Rattle.bril_tree.specs.FunctionForm.{listed, both_or_neither, targets_of, la
 use Rattle.bril_tree.specs.Numbered.{named, typed_name, dest_tree, item_tree}
 use Rattle.bril_tree.specs.Operand.{dest_of, Location, Variable, locations_read, reading_of, reads_of, shadow_of}
 use Rattle.bril_tree.specs.Shape.{is_shaped, is_action_shaped, shape_of}
-use Rattle.flow_graph.proofs.Members.{In}
+use Rattle.bril_tree.specs.Membership.{In}
 use Rattle.bril_names.specs.Faults.{Differ}
 use Rattle.bril_names.specs.Range.{AreBelow, IsInRange}
 use Rattle.bril_names.proofs.Naming.{AreBelow-append, same_numbers}

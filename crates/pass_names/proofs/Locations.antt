@@ -13,7 +13,7 @@ use Rattle.bril_tree.specs.FunctionForm.{label_at}
 use Rattle.bril_tree.specs.Operand.{Location, Variable, Shadow}
 use Rattle.bril_tree.specs.State.{Values, with_value}
 use Rattle.bril_tree.specs.Step.{point_of, arguments_from}
-use Rattle.flow_graph.proofs.Members.{In}
+use Rattle.bril_tree.specs.Membership.{In}
 use Rattle.bril_names.specs.Faults.{Differ}
 use Rattle.bril_names.proofs.Naming.{one_number}
 use Rattle.pass_plan.specs.Plan.{StaysMatched}
@@ -125,6 +125,6 @@ label-at_point k n (Act d ty o args fns ls ∷ items) placed (suc j) m e = ap su
 
 -- ---- arguments
 
-pub arguments-past : (P : Prog) (limits : Limits) (k : ℕ) (vs : List Value) (values : Values) (x : ℕ) → k + length vs ≤ x → arguments_from P limits k vs values x ≡ values x
-arguments-past P limits k [] values x h = refl
-arguments-past P limits k (v ∷ vs) values x h = arguments-past P limits (suc k) vs (with_value values k v) x (omega arith) ∙ with-other values k x v (λ e. omega arith)
+pub arguments-past : (k : ℕ) (vs : List Value) (values : Values) (x : ℕ) → k + length vs ≤ x → arguments_from k vs values x ≡ values x
+arguments-past k [] values x h = refl
+arguments-past k (v ∷ vs) values x h = arguments-past (suc k) vs (with_value values k v) x (omega arith) ∙ with-other values k x v (λ e. omega arith)

@@ -8,7 +8,6 @@ use Rattle.std.proofs.lemmas.Bool.{cases_lt}
 use Rattle.std.proofs.lemmas.List.{length-map, length-take, get_or-take, take-map}
 use Rattle.std.proofs.lemmas.Option.{slice_get-map, get_or_from_slice_get, slice_get_within, same_Some}
 use Rattle.bril_tree.specs.declared.function_tree.Item.TheVariants as item
-use Rattle.bril_tree.specs.declared.limits.Limits.{Limits}
 use Rattle.bril_tree.specs.declared.numbered.Instr.{Instr}
 use Rattle.bril_tree.specs.declared.numbered.Instr.TheVariants.{Label, Const, Act}
 use Rattle.bril_tree.specs.declared.numbered.VarInfo.{VarInfo}
@@ -21,24 +20,26 @@ use Rattle.bril_tree.specs.Accepted.{IsAccepted}
 use Rattle.bril_tree.specs.Assigned.{assigns_at}
 use Rattle.bril_tree.specs.Edge.{Branch, branches_at, branches_from, item_branches, action_branches, onward, jump, abort}
 use Rattle.bril_tree.specs.FunctionForm.{targets_of, callees_of}
-use Rattle.bril_tree.specs.Numbered.{named, variable_names, item_tree}
+use Rattle.bril_tree.specs.Numbered.{named, variable_names, item_tree, names_of_functions, names_in, point_tree, tree_at}
 use Rattle.bril_tree.specs.Operand.{Location, Variable, Shadow}
 use Rattle.bril_tree.specs.ProgramForm.{main_name}
 use Rattle.bril_tree.specs.Run.{types_of, main_types}
 use Rattle.bril_tree.specs.State.{no_values}
 use Rattle.bril_tree.specs.Step.{items_of, code_of, item_at, point_of, new_frame}
 use Rattle.bril_tree.specs.Walk.{IsReached, end_of}
-use Rattle.flow_graph.proofs.Members.{In, in_map, contains_in}
+use Rattle.bril_tree.specs.Membership.{In}
+use Rattle.bril_tree.proofs.Members.{in_map, contains_in}
 use Rattle.bril_names.specs.Faults.{Differ}
 use Rattle.bril_names.specs.Range.{AreBelow, IsInRange, AreInRange}
-use Rattle.bril_names.proofs.Functions.{names_of_functions, program_in_range, in_range, Differ-functions, Differ-variables, is_main}
+use Rattle.bril_names.proofs.Functions.{program_in_range, in_range, Differ-functions, Differ-variables, is_main}
 use Rattle.bril_names.proofs.Items.{AreInRange-at}
 use Rattle.bril_names.proofs.Naming.{one_number}
 use Rattle.bril_names.proofs.Variables.{SameArguments, same_arguments}
-use Rattle.pass_plan.specs.Plan.{Plan, IsLearned, value_at, ValuesMatch, ItemsMatch, EdgesMatch, StepsMatch, Preserves}
+use Rattle.pass_plan.specs.Plan.{Plan, IsLearned, ValuesMatch, ItemsMatch, EdgesMatch, StepsMatch, Preserves}
+use Rattle.bril_tree.specs.Locals.{value_at}
 use Rattle.pass_steps.proofs.Shapes.{shaped_here}
 use Rattle.pass_names.specs.Named.{SameName, SameLocation}
-use Rattle.pass_names.specs.NamedPlan.{NamePlan, NamesPreserve, KeepsKnown, names_in, point_tree, tree_at, SameHeads, plan, KeepsNames}
+use Rattle.pass_names.specs.NamedPlan.{NamePlan, NamesPreserve, KeepsKnown, SameHeads, plan, KeepsNames}
 use Rattle.pass_names.proofs.Items.{Shares, item-shares}
 use Rattle.pass_names.proofs.Locations.{kept-named, label-point, label-at_point, arguments-past}
 
@@ -287,7 +288,7 @@ module _ (P Q : Prog) (N : NamePlan) (accepted : IsAccepted P) (k : KeepsNames P
           ap types_of e ∙ types_same P.main F g.0 e g.1 ∙ sym (ap types_of g.1) ∙ ap (λ n. types_of (slice_get Q.funcs n)) main_same
 
   -- variables of one name hold the same where a function begins
-  module _ (limits : Limits) (f : ℕ) (vs : List Value) (F G : Func) (p : slice_get P.funcs f ≡ Some F) (q : slice_get Q.funcs f ≡ Some G) (count : length vs ≡ length (types_of (Some F))) where
+  module _ (f : ℕ) (vs : List Value) (F G : Func) (p : slice_get P.funcs f ≡ Some F) (q : slice_get Q.funcs f ≡ Some G) (count : length vs ≡ length (types_of (Some F))) where
     pub many : length vs ≡ F.args
     many = count ∙ length-map (take F.args F.vars) (λ (v : VarInfo). v.ty) ∙ taken F.args (length F.vars) (length (take F.args F.vars)) (length-take F.args F.vars) F.formed.few_args
       where
@@ -303,31 +304,31 @@ module _ (P Q : Prog) (N : NamePlan) (accepted : IsAccepted P) (k : KeepsNames P
         ∙ get_or-take G.args (variable_names G.vars) x [] less'
 
     values : ℕ → Option Value
-    values = (new_frame P limits f vs).locations.vars
+    values = (new_frame f vs).locations.vars
 
-    variables_agree : (x y : ℕ) → SameName (variable_names F.vars) (variable_names G.vars) x y → (new_frame P limits f vs).locations.vars x ≡ (new_frame P limits f vs).locations.vars y
+    variables_agree : (x y : ℕ) → SameName (variable_names F.vars) (variable_names G.vars) x y → (new_frame f vs).locations.vars x ≡ (new_frame f vs).locations.vars y
     variables_agree x y h = ⊎_elim inside outside (cases_lt x F.args)
       where
-        inside : x < F.args → (new_frame P limits f vs).locations.vars x ≡ (new_frame P limits f vs).locations.vars y
+        inside : x < F.args → (new_frame f vs).locations.vars x ≡ (new_frame f vs).locations.vars y
         inside less =
             let few = G.formed.few_args in
             let both = (same_args f F G p q).count in
             let size = length-map G.vars (λ (v : VarInfo). v.name) in
-            ap (new_frame P limits f vs).locations.vars (one_number (variable_names G.vars) (Differ-variables G) x y (omega arith) h.1 (sym (first_names x less) ∙ h.2))
+            ap (new_frame f vs).locations.vars (one_number (variable_names G.vars) (Differ-variables G) x y (omega arith) h.1 (sym (first_names x less) ∙ h.2))
 
-        outside : F.args ≤ x → (new_frame P limits f vs).locations.vars x ≡ (new_frame P limits f vs).locations.vars y
+        outside : F.args ≤ x → (new_frame f vs).locations.vars x ≡ (new_frame f vs).locations.vars y
         outside less = ⊎_elim below above (cases_lt y F.args)
           where
-            below : y < F.args → (new_frame P limits f vs).locations.vars x ≡ (new_frame P limits f vs).locations.vars y
+            below : y < F.args → (new_frame f vs).locations.vars x ≡ (new_frame f vs).locations.vars y
             below yl =
                 let few = F.formed.few_args in
                 let size = length-map F.vars (λ (v : VarInfo). v.name) in
-                ap (new_frame P limits f vs).locations.vars (one_number (variable_names F.vars) (Differ-variables F) x y h.0 (omega arith) (h.2 ∙ sym (first_names y yl)))
+                ap (new_frame f vs).locations.vars (one_number (variable_names F.vars) (Differ-variables F) x y h.0 (omega arith) (h.2 ∙ sym (first_names y yl)))
 
-            above : F.args ≤ y → (new_frame P limits f vs).locations.vars x ≡ (new_frame P limits f vs).locations.vars y
-            above yl = let m = many in arguments-past P limits 0 vs no_values x (omega arith) ∙ sym (arguments-past P limits 0 vs no_values y (omega arith))
+            above : F.args ≤ y → (new_frame f vs).locations.vars x ≡ (new_frame f vs).locations.vars y
+            above yl = let m = many in arguments-past 0 vs no_values x (omega arith) ∙ sym (arguments-past 0 vs no_values y (omega arith))
 
-    locations_agree : (a b : Location) → SameLocation (variable_names F.vars) (variable_names G.vars) a b → value_at (new_frame P limits f vs).locations a ≡ value_at (new_frame P limits f vs).locations b
+    locations_agree : (a b : Location) → SameLocation (variable_names F.vars) (variable_names G.vars) a b → value_at (new_frame f vs).locations a ≡ value_at (new_frame f vs).locations b
     locations_agree (Variable x) (Variable y) h = ap (λ (o : Option Value). unwrap_or o (Int (pos 0))) (variables_agree x y h)
     locations_agree (Variable x) (Shadow y) h = absurd h
     locations_agree (Shadow x) (Variable y) h = absurd h
@@ -339,14 +340,14 @@ module _ (P Q : Prog) (N : NamePlan) (accepted : IsAccepted P) (k : KeepsNames P
   no_locations (Shadow x) (Variable y) W h = h
   no_locations (Shadow x) (Shadow y) W h = let l = h.0 in omega arith
 
-  fresh_agrees : (limits : Limits) (f : ℕ) (vs : List Value) → length vs ≡ length (types_of (slice_get P.funcs f)) → ValuesMatch (M.LocationsMatch f 0 0) (new_frame P limits f vs).locations (new_frame P limits f vs).locations
-  fresh_agrees limits f vs count a b h = by (slice_get P.funcs f) refl
+  fresh_agrees : (f : ℕ) (vs : List Value) → length vs ≡ length (types_of (slice_get P.funcs f)) → ValuesMatch (M.LocationsMatch f 0 0) (new_frame f vs).locations (new_frame f vs).locations
+  fresh_agrees f vs count a b h = by (slice_get P.funcs f) refl
     where
-      by : (o : Option Func) → slice_get P.funcs f ≡ o → value_at (new_frame P limits f vs).locations a ≡ value_at (new_frame P limits f vs).locations b
+      by : (o : Option Func) → slice_get P.funcs f ≡ o → value_at (new_frame f vs).locations a ≡ value_at (new_frame f vs).locations b
       by None e = absurd (no_locations a b (names_in (slice_get Q.funcs f)) (subst (λ o. SameLocation (names_in o) (names_in (slice_get Q.funcs f)) a b) e h.0))
       by (Some F) e =
           let g = partner P Q k.heads f F e in
-          locations_agree limits f vs F g.0 e g.1 (subst (λ o. length vs ≡ length (types_of o)) e count) a b
+          locations_agree f vs F g.0 e g.1 (subst (λ o. length vs ≡ length (types_of o)) e count) a b
           (subst (λ o. SameLocation (variable_names F.vars) (names_in o) a b) g.1 (subst (λ o. SameLocation (names_in o) (names_in (slice_get Q.funcs f)) a b) e h.0))
 
   pub names_preserve : Preserves (plan P Q N) P Q
@@ -362,7 +363,7 @@ module _ (P Q : Prog) (N : NamePlan) (accepted : IsAccepted P) (k : KeepsNames P
 -- a pass that knows nothing keeps what it knows
 pub knows_nothing : (P Q : Prog) (N : NamePlan) → ((f i : ℕ) (a : Location) (v : Value) → N.IsKnown f i a v → ⊥) → KeepsKnown P Q N
 knows_nothing P Q N none = record {
-  start = λ limits f vs count a v known. absurd (none f 0 a v known);
+  start = λ f vs count a v known. absurd (none f 0 a v known);
   learns = λ f i j w a v reached points regular among e known. absurd (none f w.to a v known);
   remembers = λ f w a v walk is among e s sites same known. absurd (none f w.to a v known);
 }

@@ -10,17 +10,18 @@ use Rattle.bril_tree.specs.declared.program.Prog.{Prog}
 use Rattle.bril_tree.specs.Accepted.{IsAccepted}
 use Rattle.bril_tree.specs.Assigned.{assigns_at}
 use Rattle.bril_tree.specs.Edge.{Branch, branches_at, branches_from, item_branches, onward, jump, abort}
-use Rattle.bril_tree.specs.Numbered.{named, item_tree}
+use Rattle.bril_tree.specs.Numbered.{named, item_tree, names_of_functions, names_in, tree_at}
 use Rattle.bril_tree.specs.Operand.{Location}
 use Rattle.bril_tree.specs.Step.{items_of, code_of, item_at, point_of}
 use Rattle.bril_tree.specs.Walk.{IsReached, end_of}
-use Rattle.flow_graph.proofs.Members.{In, contains_in}
+use Rattle.bril_tree.specs.Membership.{In}
+use Rattle.bril_tree.proofs.Members.{contains_in}
 use Rattle.bril_names.specs.Range.{IsInRange}
-use Rattle.bril_names.proofs.Functions.{names_of_functions, Differ-functions}
+use Rattle.bril_names.proofs.Functions.{Differ-functions}
 use Rattle.pass_plan.specs.Plan.{Plan, IsLearned, EdgesMatch, StepsMatch, Preserves}
 use Rattle.pass_steps.proofs.Shapes.{shaped_here}
 use Rattle.pass_names.specs.Named.{SameName}
-use Rattle.pass_names.specs.NamedPlan.{NamePlan, names_in, tree_at}
+use Rattle.pass_names.specs.NamedPlan.{NamePlan}
 use Rattle.pass_names.proofs.Items.{Shares, item-shares}
 use Rattle.pass_names.proofs.Locations.{kept-apart}
 use Rattle.pass_names.specs.Renaming.{renamed_tree, renaming, Renames, RenamingPreserves}

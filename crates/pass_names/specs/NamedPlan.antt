@@ -5,35 +5,21 @@ use Rattle.bril_tree.specs.declared.function_tree.Item.{Item}
 use Rattle.bril_tree.specs.declared.function_tree.Item.TheVariants as item
 use Rattle.bril_tree.specs.declared.numbered.Instr.{Instr}
 use Rattle.bril_tree.specs.declared.numbered_function.Func.{Func}
-use Rattle.bril_tree.specs.declared.limits.Limits.{Limits}
 use Rattle.bril_tree.specs.declared.program.Prog.{Prog}
 use Rattle.bril_tree.specs.declared.value.Value.{Value}
 use Rattle.bril_tree.specs.Run.{types_of}
 use Rattle.bril_tree.specs.Accepted.{IsAccepted}
 use Rattle.bril_tree.specs.Assigned.{assigns_at}
 use Rattle.bril_tree.specs.Edge.{Branch, branches_at, onward}
-use Rattle.bril_tree.specs.Numbered.{variable_names, item_tree}
+use Rattle.bril_tree.specs.Numbered.{tree_at, names_in, variable_names, item_tree, names_of_functions}
 use Rattle.bril_tree.specs.Operand.{Location, reads_of}
 use Rattle.bril_tree.specs.Sites.{sites_of}
 use Rattle.bril_tree.specs.Step.{code_of, item_at, new_frame}
 use Rattle.bril_tree.specs.Walk.{IsWalk, IsReached, end_of}
-use Rattle.flow_graph.proofs.Members.{In}
-use Rattle.bril_names.proofs.Functions.{names_of_functions}
+use Rattle.bril_tree.specs.Membership.{In}
 use Rattle.bril_names.proofs.Variables.{arguments_of}
 use Rattle.pass_plan.specs.Plan.{Plan, HoldsKnown, IsLearned, Preserves}
 use Rattle.pass_names.specs.Named.{SameLocation}
-
-abbrev pub names_in : Option Func → List (List ℕ)
-names_in None = []
-names_in (Some f) = variable_names f.vars
-
--- the item at a point of a function, with names
-abbrev pub point_tree : List (List ℕ) → Option Func → ℕ → Option Item
-point_tree fs None i = None
-point_tree fs (Some f) i = option_map (item_tree fs (variable_names f.vars) f.labels) (slice_get f.code i)
-
-abbrev pub tree_at : Prog → ℕ → ℕ → Option Item
-tree_at p f i = point_tree (names_of_functions p.funcs) (slice_get p.funcs f) i
 
 -- names, arguments and results of functions stay
 pub record SameHeads (P Q : Prog) : Type 0 where
@@ -63,7 +49,7 @@ module _ (P Q : Prog) (N : NamePlan) where
 
   -- What is known holds where a function begins and is kept along edges, from regular pairs of points on.
   pub record KeepsKnown : Type 0 where
-    pub start : (limits : Limits) (f : ℕ) (vs : List Value) → length vs ≡ length (types_of (slice_get P.funcs f)) → HoldsKnown (N.IsKnown f 0) (new_frame P limits f vs).locations
+    pub start : (f : ℕ) (vs : List Value) → length vs ≡ length (types_of (slice_get P.funcs f)) → HoldsKnown (N.IsKnown f 0) (new_frame f vs).locations
     pub learns : (f i j : ℕ) (w : Branch) (a : Location) (v : Value) → IsReached (code_of P f) i → N.PointsMatch f i j → N.IsRegular f i j → In w (branches_at (code_of P f) i) → w.aborts ≡ false → N.IsKnown f w.to a v → IsLearned (item_at P f i) (N.IsKnown f i) a v
     pub remembers : (f : ℕ) (w : Branch) (a : Location) (v : Value) (walk : List Branch) → IsWalk (code_of P f) walk → In w (branches_at (code_of P f) (end_of walk)) → w.aborts ≡ true → (s : ℕ) (sites : List ℕ) → sites_of (code_of P f) walk ≡ s ∷ sites → N.IsKnown f w.to a v → N.IsKnown f s a v
 

@@ -8,20 +8,18 @@ use Rattle.bril_tree.specs.declared.numbered_function.Func.{Func}
 use Rattle.bril_tree.specs.declared.program.Prog.{Prog}
 use Rattle.bril_tree.specs.Assigned.{assigns_at}
 use Rattle.bril_tree.specs.Edge.{Branch, branches_at, onward}
-use Rattle.bril_tree.specs.Numbered.{item_tree}
+use Rattle.bril_tree.specs.Numbered.{item_tree, names_of_functions, names_in, tree_at}
 use Rattle.bril_tree.specs.Operand.{Location, reads_of}
-use Rattle.bril_tree.specs.declared.limits.Limits.{Limits}
 use Rattle.bril_tree.specs.declared.value.Value.{Value}
 use Rattle.bril_tree.specs.Run.{types_of, main_types}
 use Rattle.bril_tree.specs.Sites.{sites_of}
 use Rattle.bril_tree.specs.Step.{code_of, item_at, new_frame}
 use Rattle.bril_tree.specs.Walk.{IsWalk, IsReached, end_of}
-use Rattle.flow_graph.proofs.Members.{In}
-use Rattle.bril_names.proofs.Functions.{names_of_functions}
+use Rattle.bril_tree.specs.Membership.{In}
 use Rattle.bril_tree.specs.Accepted.{IsAccepted}
 use Rattle.pass_plan.specs.Plan.{Plan, ValuesMatch, Preserves}
 use Rattle.pass_names.specs.Named.{SameLocation}
-use Rattle.pass_names.specs.NamedPlan.{NamePlan, names_in, tree_at, SameHeads, KeepsKnown}
+use Rattle.pass_names.specs.NamedPlan.{NamePlan, SameHeads, KeepsKnown}
 
 -- the item at a point, with the new names
 abbrev pub renamed_tree : List (List ℕ) → List (List ℕ) → Option Func → ℕ → Option Item
@@ -43,7 +41,7 @@ module _ (P Q : Prog) (names : ℕ → List (List ℕ)) (N : NamePlan) where
     pub types : main_types P ≡ main_types Q
     pub sized : (f : ℕ) → length (names f) ≡ length (names_in (slice_get P.funcs f))
     pub start : (f : ℕ) → N.PointsMatch f 0 0
-    pub fresh : (limits : Limits) (f : ℕ) (vs : List Value) → length vs ≡ length (types_of (slice_get P.funcs f)) → ValuesMatch (λ a b. SameLocation (names f) (names_in (slice_get Q.funcs f)) a b × N.Matters f 0 a) (new_frame P limits f vs).locations (new_frame P limits f vs).locations
+    pub fresh : (f : ℕ) (vs : List Value) → length vs ≡ length (types_of (slice_get P.funcs f)) → ValuesMatch (λ a b. SameLocation (names f) (names_in (slice_get Q.funcs f)) a b × N.Matters f 0 a) (new_frame f vs).locations (new_frame f vs).locations
     pub same : (f i j : ℕ) → IsReached (code_of P f) i → N.PointsMatch f i j → N.IsRegular f i j → renamed_tree (names_of_functions P.funcs) (names f) (slice_get P.funcs f) i ≡ tree_at Q f j
     pub next : (f i j : ℕ) → IsReached (code_of P f) i → N.PointsMatch f i j → N.IsRegular f i j → In (onward i) (branches_at (code_of P f) i) → N.PointsMatch f (suc i) (suc j)
     pub labels : (f i j : ℕ) (name : List ℕ) → IsReached (code_of P f) i → tree_at P f i ≡ Some (item.Label name) → tree_at Q f j ≡ Some (item.Label name) → N.PointsMatch f i j

@@ -3,8 +3,7 @@
 //! Variables, labels and functions have numbers in a program, and the numbers change where an item is put in or dropped.
 //! Here a pass says its matching by names alone: which points match, which locations matter there, and that the items of
 //! regular points are equal as trees. `specs/Renaming.antt` is the same for a pass that gives variables other names, not
-//! necessarily one name to each. `specs/Trees.antt` has the tree of a program, and what makes an edited tree one that
-//! can be numbered.
+//! necessarily one name to each. `proofs/Trees.antt` goes from edited trees to programs.
 #![tactic(auto)]
 
 ghost use Rattle.std.specs.Prelude.{ℕ, List};

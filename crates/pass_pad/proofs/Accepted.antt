@@ -1,5 +1,5 @@
 -- A padded program is accepted.
-use Rattle.std.proofs.Common.{◌≡◌, ◌⊎◌, ℕ, zero, suc, pred, List, ◌∷◌, Some, refl, sym, ap, subst, ◌∙◌, inl, inr, ⊎_elim}
+use Rattle.std.proofs.Common.{◌≡◌, ◌⊎◌, ℕ, zero, suc, pred, List, ◌∷◌, Some, None, refl, sym, ap, subst, ◌∙◌, inl, inr, ⊎_elim}
 use Rattle.std.specs.Prelude.{slice_get}
 use Rattle.std.proofs.lemmas.Option.{same_Some}
 use Rattle.bril_tree.specs.declared.numbered.Instr.{Instr}
@@ -10,19 +10,19 @@ use Rattle.bril_tree.specs.Edge.{Branch, branches_at, branches_from, onward}
 use Rattle.bril_tree.specs.Operand.{Location, dest_of, reads_of}
 use Rattle.bril_tree.specs.Step.{code_of, item_at}
 use Rattle.bril_tree.specs.Walk.{IsWalk, end_of}
-use Rattle.flow_graph.proofs.Members.{In}
+use Rattle.bril_tree.specs.Membership.{In}
 use Rattle.pass_accept.specs.Edited.{IsNew, IsOld, Edits}
 use Rattle.pass_accept.proofs.Heads.{start_matched}
 use Rattle.pass_accept.proofs.Alone.{went_on, result_alone}
 use Rattle.pass_accept.proofs.Edited.{edit_accepted}
-use Rattle.pass_make.specs.CanBeMade.{nop}
+use Rattle.bril_tree.specs.Numbered.{nop}
 use Rattle.pass_pad.specs.Padded.{PaddedAt}
 use Rattle.pass_pad.specs.Plan.{padding, pad_plan}
 use Rattle.pass_pad.proofs.Refines.{preserves}
 use Rattle.pass_plan.specs.Plan.{Plan}
 use Rattle.pass_types.specs.Stays.{FitsByItself}
 use Rattle.pass_walks.specs.Matched.{WalksMatch, MatchedWalk, IsHarmless, MatchesWalks}
-use Rattle.pass_walks.proofs.Walks.{regular_way_matched}
+use Rattle.pass_walks.proofs.Walks.{regular_branch_matched}
 
 module _ (P Q : Prog) (accepted : IsAccepted P) (t : PaddedAt P Q) (f : ℕ) (F G : Func) (p : slice_get P.funcs f ≡ Some F) (q : slice_get Q.funcs f ≡ Some G) where
   abbrev Matched : List Branch → Type 0
@@ -46,7 +46,7 @@ module _ (P Q : Prog) (accepted : IsAccepted P) (t : PaddedAt P Q) (f : ℕ) (F 
   goes_on v b is l among = ⊎_elim later first l.matches.points
     where
       later : end_of v ≡ suc (end_of l.walk) → Matched (b ∷ v)
-      later e = regular_way_matched (pad_plan P Q) P Q f F.args G.args accepted (preserves P Q t accepted) v b (record { walk = l.walk; matches = l.matches; regular = inl e }) among
+      later e = regular_branch_matched (pad_plan P Q) P Q f F.args G.args accepted (preserves P Q t accepted) v b (record { walk = l.walk; matches = l.matches; regular = inl e }) among
 
       first : (end_of l.walk ≡ 0) × (end_of v ≡ 0) → Matched (b ∷ v)
       first z =

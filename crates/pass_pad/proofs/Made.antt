@@ -12,18 +12,16 @@ use Rattle.bril_tree.specs.declared.numbered_function.Func.{Func}
 use Rattle.bril_tree.specs.declared.program.Prog.{Prog}
 use Rattle.bril_tree.specs.declared.tree.Tree.{Tree}
 use Rattle.bril_tree.specs.Accepted.{IsAccepted}
-use Rattle.bril_tree.specs.Numbered.{Numbered, function_tree}
+use Rattle.bril_tree.specs.Numbered.{Numbered, function_tree, names_of_functions, tree_at, tree_of, tree_size, items_in, nop_item}
 use Rattle.bril_tree.specs.Size.{item_count, IsCounted}
-use Rattle.bril_names.specs.Faults.{IsKnown, IsSound, labels_of, function_names}
-use Rattle.bril_names.proofs.Functions.{names_of_functions, is_main}
+use Rattle.bril_names.specs.Faults.{IsKnown, IsSound, labels_of, function_names, SameHead, IsSoundEdit}
+use Rattle.bril_names.proofs.Functions.{is_main}
 use Rattle.bril_names.proofs.Naming.{AreAmong-none}
-use Rattle.pass_names.specs.NamedPlan.{tree_at}
-use Rattle.pass_names.specs.Trees.{tree_of, SameHead, CanBeNumbered}
 use Rattle.pass_names.proofs.Trees.{numbered-tree_of, heads-of_trees}
 use Rattle.pass_law.specs.Bounds.{IsTooLarge}
 use Rattle.pass_law.specs.Meaning.{Link}
 use Rattle.bril_profile.specs.declared.profile.Profile.{Profile}
-use Rattle.pass_make.specs.CanBeMade.{tree_size, items_in, nop_item, CanBeMade}
+use Rattle.pass_make.specs.CanBeMade.{CanBeMade}
 use Rattle.pass_make.proofs.Making.{tree_at-items, tree_at-edited, nop-at, names-edited, heads-zip, size-tree_of, each-within}
 use Rattle.pass_make.proofs.Bounds.{sum-counted}
 use Rattle.pass_pad.specs.Pad.{pad_meaning}
@@ -32,14 +30,14 @@ use Rattle.pass_pad.proofs.Accepted.{padded-accepted}
 use Rattle.pass_pad.proofs.Refines.{padded-refines}
 
 -- a padded function can be numbered
-can_be_numbered : (names : List (List ℕ)) (f : FuncTree) → IsSound names f → CanBeNumbered names f (padded_function f)
+can_be_numbered : (names : List (List ℕ)) (f : FuncTree) → IsSound names f → IsSoundEdit names f (padded_function f)
 can_be_numbered names f s = record {
   head = record { name = refl; args = refl; ret = refl };
   labels = s.labels;
   known = All-cons (IsKnown names (labels_of f.code)) nop_item f.code (AreAmong-none names, AreAmong-none (labels_of f.code)) s.known;
 }
 
-names : (P : Prog) → AllZip (CanBeNumbered (function_names (tree_of P))) (tree_of P).funcs (padded_tree (tree_of P)).funcs
+names : (P : Prog) → AllZip (IsSoundEdit (function_names (tree_of P))) (tree_of P).funcs (padded_tree (tree_of P)).funcs
 names P = names-edited P padded_function (can_be_numbered (function_names (tree_of P)))
 
 -- so its points are those of the old function, one further

@@ -1,7 +1,7 @@
 -- A padded program refines the one that it is made from, with the factor 2: the plan, and where the result catches up.
 use Rattle.std.proofs.Common.{◌≡◌, ◌⊎◌, ℕ, suc, Option, Some, None, refl, sym, ap, subst, ◌∙◌, inl, inr, ⊎_elim, arith}
 use Rattle.std.specs.Prelude.{slice_get}
-use Rattle.bril_names.proofs.Functions.{names_of_functions}
+use Rattle.bril_tree.specs.Numbered.{names_of_functions, nop, point_tree, tree_at}
 use Rattle.bril_tree.specs.declared.limits.Limits.{Limits}
 use Rattle.bril_tree.specs.declared.numbered_function.Func.{Func}
 use Rattle.bril_tree.specs.declared.program.Prog.{Prog}
@@ -10,9 +10,8 @@ use Rattle.bril_tree.specs.Edge.{branches_from, onward}
 use Rattle.bril_tree.specs.Run.{Refines}
 use Rattle.bril_tree.specs.State.{Frame, State}
 use Rattle.bril_tree.specs.Step.{items_of, code_of, item_at}
-use Rattle.flow_graph.proofs.Members.{In}
-use Rattle.pass_make.specs.CanBeMade.{nop}
-use Rattle.pass_names.specs.NamedPlan.{NamePlan, point_tree, tree_at, plan, KeepsNames}
+use Rattle.bril_tree.specs.Membership.{In}
+use Rattle.pass_names.specs.NamedPlan.{NamePlan, plan, KeepsNames}
 use Rattle.pass_names.proofs.Preserving.{names_preserve, label_once, no_partner, knows_nothing}
 use Rattle.pass_pad.specs.Padded.{PaddedAt}
 use Rattle.pass_pad.specs.Plan.{padding, pad_plan}

@@ -6,9 +6,8 @@ use Rattle.bril_tree.specs.declared.program.Prog.{Prog}
 use Rattle.bril_tree.specs.declared.tree.Tree.{Tree}
 use Rattle.bril_tree.specs.Size.{item_count}
 use Rattle.bril_tree.specs.Step.{item_at}
-use Rattle.pass_make.specs.CanBeMade.{nop_item, nop}
-use Rattle.pass_names.specs.NamedPlan.{SameHeads, tree_at}
-use Rattle.pass_names.specs.Trees.{tree_of}
+use Rattle.bril_tree.specs.Numbered.{nop_item, nop, tree_at, tree_of}
+use Rattle.pass_names.specs.NamedPlan.{SameHeads}
 
 -- ---- by trees
 

@@ -1,7 +1,7 @@
 // The edit of the tree.
 
 ghost use Rattle.std.specs.Prelude.{◌≡◌, IfOk};
-ghost use Rattle.pass_make.specs.CanBeMade.{nop_item};
+ghost use Rattle.bril_tree.specs.Numbered.{nop_item};
 ghost use Rattle.pass_pad.specs.Padded.{padded_function, padded_tree};
 
 use bril_tree::function_tree::{FuncTree, Item};

@@ -19,7 +19,8 @@ use Rattle.bril_tree.specs.Outcome.{Outcome, Yields, FaultsWith, HasEffect, outc
 use Rattle.bril_tree.specs.Shape.{Shape, same, is_shaped, is_action_shaped, fits_shape, shape_of}
 use Rattle.bril_tree.specs.Sites.{Keeps, item_change}
 use Rattle.bril_tree.specs.State.{Locals, Values, read}
-use Rattle.pass_plan.specs.Plan.{value_at, ValuesMatch, ActionsMatch, ItemsMatch}
+use Rattle.bril_tree.specs.Locals.{value_at}
+use Rattle.pass_plan.specs.Plan.{ValuesMatch, ActionsMatch, ItemsMatch}
 use Rattle.pass_plan.proofs.Values.{read-agree, shadow-agree, read_at-agree}
 
 -- ---- items that give a value go on to the next point, and assign their destination

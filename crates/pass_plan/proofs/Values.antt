@@ -9,8 +9,9 @@ use Rattle.bril_tree.specs.FunctionForm.{listed}
 use Rattle.bril_tree.specs.Operand.{Location, Variable, Shadow}
 use Rattle.bril_tree.specs.State.{Locals, Values, read, with_value}
 use Rattle.bril_tree.specs.Step.{assigned, shadowed}
-use Rattle.flow_graph.proofs.Members.{In}
-use Rattle.pass_plan.specs.Plan.{value_at, ValuesMatch, HoldsKnown, StaysMatched}
+use Rattle.bril_tree.specs.Membership.{In}
+use Rattle.bril_tree.specs.Locals.{value_at}
+use Rattle.pass_plan.specs.Plan.{ValuesMatch, HoldsKnown, StaysMatched}
 
 pub with-same : (values : Values) (x : ℕ) (v : Value) → with_value values x v x ≡ Some v
 with-same values x v = by_test (x == x) refl

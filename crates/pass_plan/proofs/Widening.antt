@@ -2,7 +2,6 @@
 use Rattle.std.proofs.Common.{◌≡◌, ◌⊎◌, ℕ, zero, suc, Bool, true, false, List, [], ◌∷◌, length, map, Option, Some, None, refl, sym, ap, subst, ◌∙◌, inl, inr, ⊎_elim}
 use Rattle.std.specs.Prelude.{slice_get}
 use Rattle.std.specs.List.{AllZip}
-use Rattle.bril_tree.specs.declared.limits.Limits.{Limits}
 use Rattle.bril_tree.specs.declared.numbered.Instr.{Instr}
 use Rattle.bril_tree.specs.declared.numbered.Instr.TheVariants.{Label, Const, Act}
 use Rattle.bril_tree.specs.declared.program.Prog.{Prog}
@@ -14,8 +13,9 @@ use Rattle.bril_tree.specs.Run.{types_of}
 use Rattle.bril_tree.specs.Sites.{sites_of}
 use Rattle.bril_tree.specs.Step.{code_of, item_at, new_frame}
 use Rattle.bril_tree.specs.Walk.{IsWalk, IsReached, end_of}
-use Rattle.flow_graph.proofs.Members.{In}
-use Rattle.pass_plan.specs.Plan.{Plan, value_at, ValuesMatch, StaysMatched, ActionsMatch, ItemsMatch, PointItemsMatch, EdgesMatch, StepsMatch, Preserves}
+use Rattle.bril_tree.specs.Membership.{In}
+use Rattle.pass_plan.specs.Plan.{Plan, ValuesMatch, StaysMatched, ActionsMatch, ItemsMatch, PointItemsMatch, EdgesMatch, StepsMatch, Preserves}
+use Rattle.bril_tree.specs.Locals.{value_at}
 use Rattle.pass_plan.specs.Widening.{wide, Widens, WideningPreserves}
 
 pub zip-wider : {X Y : Type 0} (R S : X → Y → Type 0) (xs : List X) (ys : List Y) → AllZip R xs ys → ((x : X) (y : Y) → In x xs → In y ys → R x y → S x y) → AllZip S xs ys
@@ -56,7 +56,7 @@ module _ (m : Plan) (X : (f i j : ℕ) → Location → Location → Type 0) whe
     types = c.types;
     start = c.start;
     start_known = c.start_known;
-    fresh = λ limits f vs count a b h. ⊎_elim (c.fresh limits f vs count a b) (w.fresh limits f vs count a b) h;
+    fresh = λ f vs count a b h. ⊎_elim (c.fresh f vs count a b) (w.fresh f vs count a b) h;
     steps = λ f i j reached points regular.
         let st = c.steps f i j reached points regular in
         record {

@@ -1,8 +1,8 @@
 -- How the points, the locations and the states of a program match those of what a pass made of it, and what a pass
 -- proves of this matching. P is the given program and Q the result. A function of Q has the number that it has in P.
+use Rattle.bril_tree.specs.Locals.{value_at}
 use Rattle.std.specs.Prelude.{◌≡◌, ℕ, suc, ◌⊎◌, Bool, true, false, List, [], ◌∷◌, length, Option, Some, None, is_some, slice_get, slice_index}
 use Rattle.std.specs.List.{AllZip}
-use Rattle.bril_tree.specs.declared.limits.Limits.{Limits}
 use Rattle.bril_tree.specs.declared.numbered.Instr.{Instr}
 use Rattle.bril_tree.specs.declared.numbered.Instr.TheVariants.{Label, Const, Act}
 use Rattle.bril_tree.specs.declared.operation.Op.{Op}
@@ -19,7 +19,7 @@ use Rattle.bril_tree.specs.Sites.{sites_of}
 use Rattle.bril_tree.specs.State.{Locals, Frame, State, read}
 use Rattle.bril_tree.specs.Step.{code_of, item_at, new_frame}
 use Rattle.bril_tree.specs.Walk.{IsWalk, IsReached, end_of}
-use Rattle.flow_graph.proofs.Members.{In}
+use Rattle.bril_tree.specs.Membership.{In}
 
 -- The plan of a pass, for a function f, a point i of it in P and a point j of it in Q.
 pub record Plan : Type 1 where
@@ -33,11 +33,6 @@ pub record Plan : Type 1 where
   pub IsKnown : (f i : ℕ) → Location → Value → Type 0
 
 -- ---- what locations hold
-
--- what is read of a location: one that was never assigned reads as the int 0
-abbrev pub value_at : Locals → Location → Value
-value_at p (Variable x) = read p.vars x
-value_at p (Shadow x) = read p.shadows x
 
 -- locations that match hold the same
 abbrev pub ValuesMatch : (Location → Location → Type 0) → Locals → Locals → Type 0
@@ -116,8 +111,8 @@ module _ (m : Plan) (P Q : Prog) where
     pub types : main_types P ≡ main_types Q
     pub start : (f : ℕ) → m.PointsMatch f 0 0
     -- what matches where a function begins holds the same, whatever the arguments
-    pub fresh : (limits : Limits) (f : ℕ) (vs : List Value) → length vs ≡ length (types_of (slice_get P.funcs f)) → ValuesMatch (m.LocationsMatch f 0 0) (new_frame P limits f vs).locations (new_frame P limits f vs).locations
-    pub start_known : (limits : Limits) (f : ℕ) (vs : List Value) → length vs ≡ length (types_of (slice_get P.funcs f)) → HoldsKnown (m.IsKnown f 0) (new_frame P limits f vs).locations
+    pub fresh : (f : ℕ) (vs : List Value) → length vs ≡ length (types_of (slice_get P.funcs f)) → ValuesMatch (m.LocationsMatch f 0 0) (new_frame f vs).locations (new_frame f vs).locations
+    pub start_known : (f : ℕ) (vs : List Value) → length vs ≡ length (types_of (slice_get P.funcs f)) → HoldsKnown (m.IsKnown f 0) (new_frame f vs).locations
     pub steps : (f i j : ℕ) → IsReached (code_of P f) i → m.PointsMatch f i j → m.IsRegular f i j → StepsMatch f i j (item_at P f i) (item_at Q f j)
 
   -- ---- states

@@ -38,24 +38,12 @@ use Rattle.bril_tree.specs.Value.{shown, literal_value}
 use Rattle.bril_tree.specs.Walk.{IsWalk, IsReached, end_of}
 use Rattle.flow_graph.proofs.FirstWalks.{reached_have_first}
 use Rattle.flow_graph.proofs.OpenSites.{sound_walks_agree}
-use Rattle.flow_graph.proofs.Members.{In, in_map, contains_in}
-use Rattle.pass_plan.specs.Plan.{Plan, value_at, ValuesMatch, HoldsKnown, Writes, IsLearned, StaysMatched, ActionsMatch, ItemsMatch, PointItemsMatch, EdgesMatch, StepsMatch, Preserves, SavesMatch, ContentsMatch, FramesMatch, IsCallOf, CallersMatch, StacksMatch, StatesMatch}
+use Rattle.bril_tree.specs.Membership.{In}
+use Rattle.bril_tree.proofs.Members.{in_map, contains_in}
+use Rattle.pass_plan.specs.Plan.{Plan, ValuesMatch, HoldsKnown, Writes, IsLearned, StaysMatched, ActionsMatch, ItemsMatch, PointItemsMatch, EdgesMatch, StepsMatch, Preserves, SavesMatch, ContentsMatch, FramesMatch, IsCallOf, CallersMatch, StacksMatch, StatesMatch}
+use Rattle.bril_tree.specs.Locals.{value_at}
 use Rattle.pass_plan.proofs.Values.{holds-assigned, holds-shadowed, read-agree, agree-none, agree-assigned, agree-shadowed, reads-agree, read_at-agree}
 use Rattle.pass_plan.proofs.Outcomes.{HasShape, Alike2, GoesOn, giver-goes_on, shape-parts, action-same}
-
--- ---- definitions that don't depend on the program
-
-pub arguments-same : (P Q : Prog) (limits : Limits) (x : ℕ) (vs : List Value) (values : Values) → arguments_from P limits x vs values ≡ arguments_from Q limits x vs values
-arguments-same P Q limits x [] values = refl
-arguments-same P Q limits x (v ∷ vs) values = arguments-same P Q limits (suc x) vs (with_value values x v)
-
-pub new-same : (P Q : Prog) (limits : Limits) (f : ℕ) (vs : List Value) → new_frame P limits f vs ≡ new_frame Q limits f vs
-new-same P Q limits f vs = ap (λ (values : Values). record { function = f; point = 0; locations = record { vars = values; shadows = no_values }; saves = [] }) (arguments-same P Q limits 0 vs no_values)
-
-pub line-same : (P Q : Prog) (limits : Limits) (vs : List Value) → line_of P limits vs ≡ line_of Q limits vs
-line-same P Q limits [] = refl
-line-same P Q limits (v ∷ []) = refl
-line-same P Q limits (v ∷ w ∷ vs) = ap (λ l. shown v ++ 32 ∷ l) (line-same P Q limits (w ∷ vs))
 
 -- ---- lists
 

@@ -38,11 +38,13 @@ use Rattle.bril_tree.specs.Value.{shown, literal_value}
 use Rattle.bril_tree.specs.Walk.{IsWalk, IsReached, end_of}
 use Rattle.flow_graph.proofs.FirstWalks.{reached_have_first}
 use Rattle.flow_graph.proofs.OpenSites.{sound_walks_agree}
-use Rattle.flow_graph.proofs.Members.{In, in_map, contains_in}
-use Rattle.pass_plan.specs.Plan.{Plan, value_at, ValuesMatch, HoldsKnown, Writes, IsLearned, StaysMatched, ActionsMatch, ItemsMatch, PointItemsMatch, EdgesMatch, StepsMatch, Preserves, SavesMatch, ContentsMatch, FramesMatch, IsCallOf, CallersMatch, StacksMatch, StatesMatch}
+use Rattle.bril_tree.specs.Membership.{In}
+use Rattle.bril_tree.proofs.Members.{in_map, contains_in}
+use Rattle.pass_plan.specs.Plan.{Plan, ValuesMatch, HoldsKnown, Writes, IsLearned, StaysMatched, ActionsMatch, ItemsMatch, PointItemsMatch, EdgesMatch, StepsMatch, Preserves, SavesMatch, ContentsMatch, FramesMatch, IsCallOf, CallersMatch, StacksMatch, StatesMatch}
+use Rattle.bril_tree.specs.Locals.{value_at}
 use Rattle.pass_plan.proofs.Values.{holds-assigned, holds-shadowed, read-agree, agree-none, agree-assigned, agree-shadowed, reads-agree, read_at-agree}
 use Rattle.pass_plan.proofs.Outcomes.{HasShape, Alike2, GoesOn, giver-goes_on, shape-parts, action-same}
-use Rattle.pass_steps.proofs.Shapes.{new-same, line-same, in_index, zip_map-at, no_dest, dest_none, Shaped, shaped_here, divided-gives, cond-gives, char_from-gives, get-gives, undef-gives, some_site, writes-gives}
+use Rattle.pass_steps.proofs.Shapes.{in_index, zip_map-at, no_dest, dest_none, Shaped, shaped_here, divided-gives, cond-gives, char_from-gives, get-gives, undef-gives, some_site, writes-gives}
 
 -- ---- frames and states
 
@@ -76,7 +78,7 @@ module _ (m : Plan) (P Q : Prog) (limits : Limits) (accepted : IsAccepted P) (pr
   cond-alike false s t u v h k = k
 
   -- saves without the newest
-  dropped-alike : (k : ℕ) (sites : List ℕ) (ps qs : List Locals) → SavesMatch m P Q k sites ps qs → SavesMatch m P Q k (without_newest sites) (dropped P limits ps) (dropped Q limits qs)
+  dropped-alike : (k : ℕ) (sites : List ℕ) (ps qs : List Locals) → SavesMatch m P Q k sites ps qs → SavesMatch m P Q k (without_newest sites) (dropped ps) (dropped qs)
   dropped-alike k [] [] [] h = tt
   dropped-alike k [] [] (q ∷ qs) h = absurd h
   dropped-alike k [] (p ∷ ps) qs h = absurd h
@@ -150,7 +152,7 @@ module _ (m : Plan) (P Q : Prog) (limits : Limits) (accepted : IsAccepted P) (pr
 
     -- the newest save is put back
     aborts-locations : (o u : Option Instr) (w v : Branch) → w.aborts ≡ true → EdgesMatch m P Q k i j o u w v → (ts : List ℕ) (rs zs : List Locals) → sites_of (code_of P k) contents.walk ≡ ts → SavesMatch m P Q k ts rs zs → (ts ≡ [] → ⊥)
-        → ValuesMatch (m.LocationsMatch k w.to v.to) (saved P limits rs p) (saved Q limits zs q)
+        → ValuesMatch (m.LocationsMatch k w.to v.to) (saved rs p) (saved zs q)
     aborts-locations o u w v aborts branches [] [] [] e h some = absurd (some refl)
     aborts-locations o u w v aborts branches [] [] (z ∷ zs) e h some = absurd h
     aborts-locations o u w v aborts branches [] (r ∷ rs) zs e h some = absurd h
@@ -159,7 +161,7 @@ module _ (m : Plan) (P Q : Prog) (limits : Limits) (accepted : IsAccepted P) (pr
     aborts-locations o u w v aborts branches (t ∷ ts) (r ∷ rs) (z ∷ zs) e h some = λ x y a. h.0.3 x y (branches.back aborts contents.walk contents.is contents.ends t h.0.0 ts e h.0.1 h.0.2 x y a)
 
     aborts-known : (o u : Option Instr) (w v : Branch) → w.aborts ≡ true → EdgesMatch m P Q k i j o u w v → (ts : List ℕ) (rs zs : List Locals) → sites_of (code_of P k) contents.walk ≡ ts → SavesMatch m P Q k ts rs zs → (ts ≡ [] → ⊥)
-        → HoldsKnown (m.IsKnown k w.to) (saved P limits rs p)
+        → HoldsKnown (m.IsKnown k w.to) (saved rs p)
     aborts-known o u w v aborts branches [] [] [] e h some = absurd (some refl)
     aborts-known o u w v aborts branches [] [] (z ∷ zs) e h some = absurd h
     aborts-known o u w v aborts branches [] (r ∷ rs) zs e h some = absurd h
@@ -245,9 +247,9 @@ module _ (m : Plan) (P Q : Prog) (limits : Limits) (accepted : IsAccepted P) (pr
         row-print r =
             let vs = reads-agree (m.LocationsMatch k i j) (m.LocationsMatch k i j) p q contents.locations args result_args r.act.reads in
             let none = no_dest d (not-true _ (and_parts _ _ (and_parts _ _ r.shaped.shaped).0).0) in
-            let line : line_of P limits (map (read p.vars) args) ≡ line_of Q limits (map (read q.vars) result_args) = line-same P Q limits (map (read p.vars) args) ∙ ap (line_of Q limits) vs in
+            let line : line_of (map (read p.vars) args) ≡ line_of (map (read q.vars) result_args) = ap line_of vs in
             subst (λ l. R (acts P limits op.Print d args fns ls F fs S) (advances Q limits G gs (record T { printed = printed ++ l }))) line
-            (onwards op.Print r (λ c n. refl) (λ c n. refl) (λ b. refl) refl refl none blocks (printed ++ line_of P limits (map (read p.vars) args)))
+            (onwards op.Print r (λ c n. refl) (λ c n. refl) (λ b. refl) refl refl none blocks (printed ++ line_of (map (read p.vars) args)))
 
         row-free : Row op.Free → R (acts P limits op.Free d args fns ls F fs S) (acts Q limits op.Free e result_args gns ms G gs T)
         row-free r =
@@ -371,7 +373,7 @@ module _ (m : Plan) (P Q : Prog) (limits : Limits) (accepted : IsAccepted P) (pr
         row-commit : Row op.Commit → R (acts P limits op.Commit d args fns ls F fs S) (acts Q limits op.Commit e result_args gns ms G gs T)
         row-commit r =
             let none = none_in op.Commit r refl r.shaped.shaped in
-            on op.Commit r (inl refl) r.steps.branches.0 (ap (λ z. map Variable (listed z)) none) (e_none op.Commit r none) (dropped P limits ps) (dropped Q limits qs) (dropped-alike k (sites_of (code_of P k) contents.walk) ps qs contents.saves)
+            on op.Commit r (inl refl) r.steps.branches.0 (ap (λ z. map Variable (listed z)) none) (e_none op.Commit r none) (dropped ps) (dropped qs) (dropped-alike k (sites_of (code_of P k) contents.walk) ps qs contents.saves)
 
         guarded : (b : Bool) → Row op.Guard → R (guards P limits b (slice_index ls 0) F fs S) (guards Q limits b (slice_index ms 0) G gs T)
         guarded true r =
@@ -384,9 +386,9 @@ module _ (m : Plan) (P Q : Prog) (limits : Limits) (accepted : IsAccepted P) (pr
             let one = (parts op.Guard r r.shaped.shaped).labels_are in
             let branch = zip_map-at (EdgesMatch m P Q k i j (Some (A op.Guard)) (Some (B op.Guard))) (abort code i) (abort (code_of Q k) j) ls ms 0 (omega (arith, one)) r.steps.branches.1 in
             let here : IsTrue (needs_site (slice_get code i)) = subst (λ o. IsTrue (needs_site o)) (sym r.at) refl in
-            lands (point_of l code) (point_of l' (code_of Q k)) (saved P limits ps p) (saved Q limits qs q) (dropped P limits ps) (dropped Q limits qs) blocks printed _ _
+            lands (point_of l code) (point_of l' (code_of Q k)) (saved ps p) (saved qs q) (dropped ps) (dropped qs) blocks printed _ _
             (go (Some (A op.Guard)) (Some (B op.Guard)) r.at (abort code i l) (abort (code_of Q k) j l') refl (inr (in_map (abort code i) l ls (in_index ls 0 (omega (arith, one))))) branch
-            (saved P limits ps p) (saved Q limits qs q) (dropped P limits ps) (dropped Q limits qs)
+            (saved ps p) (saved qs q) (dropped ps) (dropped qs)
             (aborts-locations (Some (A op.Guard)) (Some (B op.Guard)) (abort code i l) (abort (code_of Q k) j l') refl branch (sites_of code contents.walk) ps qs refl contents.saves
             (some_site code contents.walk i r.shaped.sound contents.is contents.ends here))
             (aborts-known (Some (A op.Guard)) (Some (B op.Guard)) (abort code i l) (abort (code_of Q k) j l') refl branch (sites_of code contents.walk) ps qs refl contents.saves
@@ -486,7 +488,7 @@ module _ (m : Plan) (P Q : Prog) (limits : Limits) (accepted : IsAccepted P) (pr
 
   -- ---- calls
 
-  fresh-sits : (g : ℕ) (vs : List Value) → length vs ≡ length (types_of (slice_get P.funcs g)) → FramesMatch m P Q (new_frame P limits g vs) (new_frame Q limits g vs)
+  fresh-sits : (g : ℕ) (vs : List Value) → length vs ≡ length (types_of (slice_get P.funcs g)) → FramesMatch m P Q (new_frame g vs) (new_frame g vs)
   fresh-sits g vs count = record {
     function = refl;
     contents = record {
@@ -494,23 +496,23 @@ module _ (m : Plan) (P Q : Prog) (limits : Limits) (accepted : IsAccepted P) (pr
       is = tt;
       ends = refl;
       points = preserves.start g;
-      locations = subst (λ (h : Frame). ValuesMatch (m.LocationsMatch g 0 0) (new_frame P limits g vs).locations h.locations) (new-same P Q limits g vs) (preserves.fresh limits g vs count);
-      known = preserves.start_known limits g vs count;
+      locations = preserves.fresh g vs count;
+      known = preserves.start_known g vs count;
       saves = tt;
     };
   }
 
   pub first_states_match : (args : List Value) → length args ≡ length (types_of (slice_get P.funcs P.main)) → R (first_state P limits args) (first_state Q limits args)
   first_states_match args count =
-      subst (λ n. R (first_state P limits args) (state (new_frame Q limits n args ∷ []) [] [] None (λ f i. 0))) preserves.main
-      (matches (new_frame P limits P.main args) (new_frame Q limits P.main args) [] [] [] [] None (λ f i. 0) (λ f i. 0) (fresh-sits P.main args count) tt)
+      subst (λ n. R (first_state P limits args) (state (new_frame n args ∷ []) [] [] None (λ f i. 0))) preserves.main
+      (matches (new_frame P.main args) (new_frame P.main args) [] [] [] [] None (λ f i. 0) (λ f i. 0) (fresh-sits P.main args count) tt)
 
   called : (k : ℕ) (F G : Frame) → FramesMatch m P Q F G → (fs gs : List Frame) → StacksMatch m P Q F.function fs gs → (blocks : List Block) (printed : List ℕ) (x y : ℕ → ℕ → ℕ) (g : ℕ) (vs : List Value)
       → CallersMatch m P Q g F G → length vs ≡ length (types_of (slice_get P.funcs g)) → R (calls P limits g vs F fs (state (F ∷ fs) blocks printed None x)) (calls Q limits g vs G gs (state (G ∷ gs) blocks printed None y))
   called k F G here fs gs callers blocks printed x y g vs waits count =
-      subst (λ n. R (calls P limits g vs F fs (state (F ∷ fs) blocks printed None x)) (cond (nat_lt (suc n) limits.frames) (state (new_frame Q limits g vs ∷ G ∷ gs) blocks printed None y) (faulted fault.Frames (state (G ∷ gs) blocks printed None y)))) (waiting-length F.function fs gs callers)
+      subst (λ n. R (calls P limits g vs F fs (state (F ∷ fs) blocks printed None x)) (cond (nat_lt (suc n) limits.frames) (state (new_frame g vs ∷ G ∷ gs) blocks printed None y) (faulted fault.Frames (state (G ∷ gs) blocks printed None y)))) (waiting-length F.function fs gs callers)
       (cond-alike (nat_lt (suc (length fs)) limits.frames) _ _ _ _
-      (matches (new_frame P limits g vs) (new_frame Q limits g vs) (F ∷ fs) (G ∷ gs) blocks printed None x y (fresh-sits g vs count) (waits, callers))
+      (matches (new_frame g vs) (new_frame g vs) (F ∷ fs) (G ∷ gs) blocks printed None x y (fresh-sits g vs count) (waits, callers))
       (matches F G fs gs blocks printed (Some (Faulted fault.Frames)) x y here callers))
 
   -- ---- all operations

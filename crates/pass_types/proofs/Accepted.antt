@@ -5,21 +5,20 @@ use Rattle.std.proofs.lemmas.Option.{slice_get-get_or, same_Some}
 use Rattle.bril_tree.specs.declared.numbered.Instr.{Instr}
 use Rattle.bril_tree.specs.declared.numbered_function.Func.{Func}
 use Rattle.bril_tree.specs.declared.program.Prog.{Prog}
-use Rattle.bril_tree.specs.Accepted.{IsAccepted, IsAcceptedFunction, IsPlainType}
+use Rattle.bril_tree.specs.Accepted.{IsAccepted, IsAcceptedFunction, IsPlainType, AreWalksAccepted}
 use Rattle.bril_tree.specs.FunctionForm.{listed}
-use Rattle.bril_tree.specs.Numbered.{item_tree, variable_names}
+use Rattle.bril_tree.specs.Numbered.{item_tree, variable_names, names_of_functions, names_in, tree_at}
 use Rattle.bril_tree.specs.Operand.{Variable, dest_of, reads_of}
 use Rattle.bril_tree.specs.Run.{types_of}
 use Rattle.bril_tree.specs.Shape.{is_shaped}
 use Rattle.bril_tree.specs.Step.{items_of, code_of, item_at}
 use Rattle.bril_tree.specs.Typing.{variable_type, type_fault, return_type, is_call_shaped}
-use Rattle.flow_graph.proofs.Members.{In}
+use Rattle.bril_tree.specs.Membership.{In}
 use Rattle.bril_names.specs.Range.{IsInRange}
-use Rattle.bril_names.proofs.Functions.{names_of_functions, Differ-functions}
-use Rattle.pass_walks.specs.Matched.{AreWalksAccepted}
+use Rattle.bril_names.proofs.Functions.{Differ-functions}
 use Rattle.pass_steps.proofs.Shapes.{All-at}
 use Rattle.pass_names.specs.Named.{SameName}
-use Rattle.pass_names.specs.NamedPlan.{names_in, tree_at, SameHeads}
+use Rattle.pass_names.specs.NamedPlan.{SameHeads}
 use Rattle.pass_names.proofs.Preserving.{found, nothing_found, partner}
 use Rattle.pass_names.proofs.Items.{item-shares, args_of}
 use Rattle.pass_types.proofs.Fitting.{shape-same, call-same, typed-kept}

@@ -17,7 +17,8 @@ use Rattle.bril_tree.specs.Run.{types_of}
 use Rattle.bril_tree.specs.Shape.{is_shaped, is_action_shaped, same, shape_of}
 use Rattle.bril_tree.specs.Typing.{variable_type, type_fault, action_type_fault, is_dest_typed, is_literal_typed, both_typed, same_type, return_type, is_call_shaped, action_call_fits, wrong_unless, is_set_typed, argument_type}
 use Rattle.bril_names.specs.Faults.{Differ}
-use Rattle.flow_graph.proofs.Members.{In, in_map}
+use Rattle.bril_tree.specs.Membership.{In}
+use Rattle.bril_tree.proofs.Members.{in_map}
 use Rattle.pass_names.specs.Named.{SameName}
 use Rattle.pass_names.proofs.Items.{Shares, args_of, zip-long, zip-at}
 use Rattle.pass_plan.proofs.Outcomes.{shape-parts}

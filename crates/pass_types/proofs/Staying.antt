@@ -16,20 +16,20 @@ use Rattle.bril_tree.specs.declared.types.Ty.{Ty}
 use Rattle.bril_tree.specs.Assigned.{Assigned, assigned_of, assigned_changed, newest_saved, assigns_at, assigns_of}
 use Rattle.bril_tree.specs.Edge.{Branch}
 use Rattle.bril_tree.specs.FunctionForm.{listed, dest_is_typed, type_assigned, typed_if}
-use Rattle.bril_tree.specs.Numbered.{named, dest_tree, item_tree}
+use Rattle.bril_tree.specs.Numbered.{named, dest_tree, item_tree, names_of_functions, names_in, tree_at}
 use Rattle.bril_tree.specs.Operand.{Location, dest_of}
 use Rattle.bril_tree.specs.Shape.{is_shaped}
 use Rattle.bril_tree.specs.Sites.{without_newest, Change, Opens, Closes, Keeps, change_of}
 use Rattle.bril_tree.specs.Typing.{variable_type, same_type, same_base, both_typed, is_dest_typed, is_action_typed, is_literal_typed, type_fault, wrong_unless}
-use Rattle.flow_graph.proofs.Members.{In, in_append_cases}
+use Rattle.bril_tree.specs.Membership.{In}
+use Rattle.bril_tree.proofs.Members.{in_append_cases}
 use Rattle.bril_names.specs.Range.{IsInRange}
 use Rattle.bril_names.proofs.Naming.{AreBelow-append, one_number}
 use Rattle.bril_tree.specs.Accepted.{IsAccepted, IsAcceptedFunction}
 use Rattle.bril_tree.specs.Step.{items_of, code_of, item_at}
 use Rattle.std.proofs.lemmas.List.{length-map}
-use Rattle.bril_names.proofs.Functions.{names_of_functions}
 use Rattle.pass_steps.proofs.Shapes.{no_dest, All-at}
-use Rattle.pass_names.specs.NamedPlan.{names_in, tree_at, SameHeads}
+use Rattle.pass_names.specs.NamedPlan.{SameHeads}
 use Rattle.pass_names.proofs.Preserving.{found, nothing_found, Differ-in}
 use Rattle.pass_names.specs.Named.{SameName}
 use Rattle.pass_types.specs.Stays.{HasTypeOfDest}

@@ -11,7 +11,7 @@ use Rattle.bril_tree.specs.FunctionForm.{type_assigned, first_of_two, first_type
 use Rattle.bril_tree.specs.Run.{types_of}
 use Rattle.bril_tree.specs.Shape.{is_action_shaped, shape_of}
 use Rattle.bril_tree.specs.Typing.{variable_type, argument_type, is_action_typed, is_dest_typed, action_type_fault, print_fault, wrong_unless, is_return_typed, return_type, are_typed, same_result}
-use Rattle.flow_graph.proofs.Members.{In}
+use Rattle.bril_tree.specs.Membership.{In}
 use Rattle.pass_plan.proofs.Outcomes.{shape-parts}
 
 type-at : (V W : ℕ → Option Ty) (xs ys : List ℕ) (k : ℕ) → map V xs ≡ map W ys → k < length xs → V (slice_index xs k) ≡ W (slice_index ys k)

@@ -4,18 +4,17 @@ use Rattle.bril_tree.specs.declared.numbered.Instr.{Instr}
 use Rattle.bril_tree.specs.declared.numbered_function.Func.{Func}
 use Rattle.bril_tree.specs.declared.program.Prog.{Prog}
 use Rattle.bril_tree.specs.FunctionForm.{listed}
-use Rattle.bril_tree.specs.Numbered.{variable_names}
+use Rattle.bril_tree.specs.Numbered.{variable_names, tree_at}
 use Rattle.bril_tree.specs.Operand.{Variable, dest_of, reads_of}
 use Rattle.bril_tree.specs.Shape.{is_shaped}
 use Rattle.bril_tree.specs.Step.{code_of, item_at}
 use Rattle.bril_tree.specs.Typing.{variable_type, type_fault, is_call_shaped}
-use Rattle.flow_graph.proofs.Members.{In}
+use Rattle.bril_tree.specs.Membership.{In}
 use Rattle.pass_names.proofs.Items.{args_of, type_of}
 use Rattle.pass_names.specs.Named.{SameName}
-use Rattle.bril_tree.specs.Accepted.{IsAccepted}
+use Rattle.bril_tree.specs.Accepted.{IsAccepted, AreWalksAccepted}
 use Rattle.bril_tree.specs.Run.{types_of}
-use Rattle.pass_names.specs.NamedPlan.{tree_at, SameHeads}
-use Rattle.pass_walks.specs.Matched.{AreWalksAccepted}
+use Rattle.pass_names.specs.NamedPlan.{SameHeads}
 
 -- the item gives its destination the type with which an item of P assigns the variable x
 pub record HasTypeOfDest (P : Prog) (f x : ℕ) (b : Instr) : Type 0 where

@@ -11,7 +11,7 @@ use Rattle.bril_tree.specs.declared.operation.Op.TheVariants as op
 use Rattle.bril_tree.specs.declared.program.Prog.{Prog}
 use Rattle.bril_tree.specs.declared.types.Ty.{Ty}
 use Rattle.bril_tree.specs.declared.value.Lit.{Lit}
-use Rattle.bril_tree.specs.Accepted.{IsAccepted, leaves_frame}
+use Rattle.bril_tree.specs.Accepted.{IsAccepted, leaves_frame, AreWalksAccepted}
 use Rattle.bril_tree.specs.Assigned.{Assigned, assigned_of, IsMaybeUnassigned}
 use Rattle.bril_tree.specs.Edge.{Branch, branches_at}
 use Rattle.bril_tree.specs.Operand.{Location, Variable, Shadow, reads_of, reading_of, locations_read}
@@ -20,11 +20,12 @@ use Rattle.bril_tree.specs.Step.{code_of, item_at}
 use Rattle.bril_tree.specs.Walk.{IsWalk, IsReached, end_of}
 use Rattle.flow_graph.proofs.FirstWalks.{reached_have_first}
 use Rattle.flow_graph.proofs.OpenSites.{sound_walks_agree}
-use Rattle.flow_graph.proofs.Order.{branch_inside}
-use Rattle.flow_graph.proofs.Members.{In, in_contains, contains_in}
+use Rattle.bril_tree.proofs.Branches.{branch_inside}
+use Rattle.bril_tree.specs.Membership.{In}
+use Rattle.bril_tree.proofs.Members.{in_contains, contains_in}
 use Rattle.pass_plan.specs.Plan.{Plan, ItemsMatch, PointItemsMatch, Preserves}
 use Rattle.pass_walks.proofs.Deciding.{in_or_not}
-use Rattle.pass_walks.specs.Matched.{WalksAccepted, Covers, SavedSetsMatch, WalksMatch, MatchedWalk, IsHarmless, MatchesWalks, AreWalksAccepted}
+use Rattle.pass_walks.specs.Matched.{WalksAccepted, Covers, SavedSetsMatch, WalksMatch, MatchedWalk, IsHarmless, MatchesWalks}
 use Rattle.pass_walks.proofs.Walks.{zip-find}
 use Rattle.pass_steps.proofs.Shapes.{some_site}
 

@@ -7,7 +7,7 @@ use Rattle.std.proofs.lemmas.List.{length-append}
 use Rattle.std.proofs.lemmas.Option.{slice_get_past}
 use Rattle.bril_tree.specs.declared.numbered.Instr.{Instr}
 use Rattle.bril_tree.specs.declared.program.Prog.{Prog}
-use Rattle.bril_tree.specs.Accepted.{IsAccepted, leaves_frame}
+use Rattle.bril_tree.specs.Accepted.{IsAccepted, leaves_frame, AreWalksAccepted}
 use Rattle.bril_tree.specs.Assigned.{Assigned, assigned_of, IsMaybeUnassigned}
 use Rattle.bril_tree.specs.Edge.{Branch, branches_at}
 use Rattle.bril_tree.specs.Operand.{Location, reads_of}
@@ -16,9 +16,10 @@ use Rattle.bril_tree.specs.Step.{code_of, item_at}
 use Rattle.bril_tree.specs.Walk.{IsWalk, IsReached, end_of}
 use Rattle.flow_graph.proofs.FirstWalks.{reached_have_first}
 use Rattle.flow_graph.proofs.OpenSites.{sound_walks_agree}
-use Rattle.flow_graph.proofs.Members.{In, in_contains, contains_in}
+use Rattle.bril_tree.specs.Membership.{In}
+use Rattle.bril_tree.proofs.Members.{in_contains, contains_in}
 use Rattle.pass_plan.specs.Plan.{Plan, PointItemsMatch, Preserves}
-use Rattle.pass_walks.specs.Matched.{Covers, SavedSetsMatch, WalksMatch, MatchedWalk, AreWalksAccepted}
+use Rattle.pass_walks.specs.Matched.{Covers, SavedSetsMatch, WalksMatch, MatchedWalk}
 use Rattle.pass_steps.proofs.Shapes.{some_site}
 use Rattle.pass_walks.proofs.Accepting.{leaves_same, needs_same, reads_same, none_same, none_past, walk_within}
 

@@ -2,7 +2,7 @@
 use Rattle.std.proofs.Common.{◌≡◌, ◌⊎◌, ℕ, List, [], ◌∷◌, ap, inl, inr, ⊎_elim}
 use Rattle.std.proofs.lemmas.Bool.{cases_eq}
 use Rattle.bril_tree.specs.Operand.{Location, Variable, Shadow}
-use Rattle.flow_graph.proofs.Members.{In}
+use Rattle.bril_tree.specs.Membership.{In}
 
 same-location : (a b : Location) → (a ≡ b) ⊎ (a ≡ b → ⊥)
 same-location (Variable x) (Variable y) = ⊎_elim (λ e. inl (ap Variable e)) (λ n. inr (λ e. n (cc))) (cases_eq x y)

@@ -10,7 +10,8 @@ use Rattle.bril_tree.specs.Operand.{Location}
 use Rattle.bril_tree.specs.Sites.{Keeps, item_change, sites_of, sites_changed}
 use Rattle.bril_tree.specs.Step.{code_of}
 use Rattle.bril_tree.specs.Walk.{IsWalk, end_of}
-use Rattle.flow_graph.proofs.Members.{In, contains_in, in_append_right}
+use Rattle.bril_tree.specs.Membership.{In}
+use Rattle.bril_tree.proofs.Members.{contains_in, in_append_right}
 use Rattle.pass_plan.specs.Plan.{Plan}
 use Rattle.pass_walks.specs.Matched.{Covers, SavedSetsMatch}
 

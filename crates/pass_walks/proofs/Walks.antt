@@ -18,7 +18,8 @@ use Rattle.bril_tree.specs.Shape.{is_shaped, shape_of}
 use Rattle.bril_tree.specs.Sites.{Change, Opens, Closes, Keeps, change_of, item_change, operation_change, guard_change, sites_of, sites_changed, without_newest, needs_site}
 use Rattle.bril_tree.specs.Step.{code_of, item_at}
 use Rattle.bril_tree.specs.Walk.{IsWalk, IsReached, end_of}
-use Rattle.flow_graph.proofs.Members.{In, in_contains, contains_in, in_append_left, in_append_right, in_append_cases, in_map_source}
+use Rattle.bril_tree.specs.Membership.{In}
+use Rattle.bril_tree.proofs.Members.{in_contains, contains_in, in_append_left, in_append_right, in_append_cases, in_map_source}
 use Rattle.pass_plan.specs.Plan.{Plan, StaysMatched, ItemsMatch, PointItemsMatch, EdgesMatch, StepsMatch, Preserves}
 use Rattle.pass_walks.specs.Matched.{Covers, SavedSetsMatch, WalksMatch, MatchedWalk, RegularWalk}
 use Rattle.pass_steps.proofs.Shapes.{Shaped, shaped_here, some_site, dest_none}

@@ -1,6 +1,6 @@
 -- A walk of the new function, and one of the old that assigns as much.
 use Rattle.std.specs.Prelude.{◌≡◌, ◌⊎◌, ℕ, Bool, true, false, List, length, IsTrue, [], ◌∷◌, Option, Some, IsSome, slice_get}
-use Rattle.bril_tree.specs.Accepted.{IsAccepted, leaves_frame}
+use Rattle.bril_tree.specs.Accepted.{AreWalksAccepted, IsAccepted, leaves_frame}
 use Rattle.bril_tree.specs.declared.numbered.Instr.{Instr}
 use Rattle.bril_tree.specs.declared.program.Prog.{Prog}
 use Rattle.bril_tree.specs.Assigned.{IsMaybeUnassigned, assigned_of}
@@ -10,7 +10,7 @@ use Rattle.bril_tree.specs.Operand.{Location, reads_of}
 use Rattle.bril_tree.specs.Sites.{AreSitesSound, sites_of, needs_site}
 use Rattle.bril_tree.specs.Step.{code_of, item_at}
 use Rattle.bril_tree.specs.Walk.{IsWalk, IsReached, end_of}
-use Rattle.flow_graph.proofs.Members.{In}
+use Rattle.bril_tree.specs.Membership.{In}
 use Rattle.pass_plan.specs.Plan.{Plan, Preserves}
 
 -- what matches a location of the first set is in the second
@@ -61,13 +61,6 @@ pub record MatchesWalks (m : Plan) (P Q : Prog) (f : ℕ) (args result_args : �
   pub settled : (v : List Branch) → (l : MatchedWalk m P Q f args result_args v) → end_of l.walk ≡ old (end_of v) → m.IsRegular f (end_of l.walk) (end_of v) ⊎ IsHarmless (λ y. (x : Location) × m.LocationsMatch f (end_of l.walk) (end_of v) x y × In x (assigned_of (code_of P f) args l.walk).locations) (slice_get (code_of Q f) (end_of v))
   -- a regular pair has one point of Q
   pub once : (s t u : ℕ) → m.PointsMatch f s t → m.IsRegular f s t → m.PointsMatch f s u → m.IsRegular f s u → t ≡ u
-
--- what is asked of the walks of a function that returns a value or doesn't
-pub record AreWalksAccepted (code : List Instr) (args : ℕ) (ret : Bool) : Type 0 where
-  pub sites : AreSitesSound code
-  pub alone : (walk : List Branch) → IsWalk code walk → IsTrue (leaves_frame (slice_get code (end_of walk))) → sites_of code walk ≡ []
-  pub returns : ret ≡ true → ¬ IsReached code (length code)
-  pub assigned : (point : ℕ) (item : Instr) (location : Location) → slice_get code point ≡ Some item → Contains (reads_of item) location → ¬ IsMaybeUnassigned code args location point
 
 -- The walks of an accepted program's function being accepted, so are those of the result, by a plan.
 abbrev pub WalksAccepted : (Prog → Prog → Plan) → Type 0

@@ -1,4 +1,4 @@
-use Rattle.pass_law.proofs.Sizes.{counted-size}
+use Rattle.bril_tree.proofs.Sizes.{counted-size}
 use Rattle.pass_law.proofs.bounds.room.Goals as goal
 
 pub size-requires : goal.size-requires

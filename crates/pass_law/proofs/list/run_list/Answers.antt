@@ -25,7 +25,7 @@ pub returns-in-Err-TooLarge-clause-stopped : goal.returns-in-Err-TooLarge-clause
 returns-in-Err-TooLarge-clause-stopped g c =
     (
       (known-slice (λ p. (goal.Pass-dyn g (p.vtable, p.value)).meaning p.value) c.args.passes.now c.args.profile.now c.as_slice.result.now c.args.names.now None c.as_slice.ensures (c.in_default.ensures c.args.profile.now)),
-      stopped-at (λ p. (goal.Pass-dyn g (p.vtable, p.value)).meaning p.value) c.args.passes.now c.args.profile.now (λ p. (goal.Pass-dyn g (p.vtable, p.value)).counts p.value) c.args.names.now c.loop-i.i c.as_bytes.result.now c.args.prog.prog c.loop-i.prog.prog c.loop-i.passes c.run_named.new.passes c.in-Err-TooLarge.bound _ _ (cc (c.in-Err-TooLarge.bound-is)) (omega arith) (name-at c.as_slice-name-items.result.now c.args.names.now c.loop-i.i c.name-item.result c.as_bytes.result.now c.as_slice-name-items.ensures (omega arith) c.name-item.is c.as_bytes.ensures.value)
+      stopped-at (λ p. (goal.Pass-dyn g (p.vtable, p.value)).meaning p.value) c.args.passes.now c.args.profile.now (λ p. (goal.Pass-dyn g (p.vtable, p.value)).counts p.value) c.args.names.now c.loop-i.i c.as_bytes.result.now c.args.prog.prog c.loop-i.prog.prog c.loop-i.passes c.run_named.new.passes c.in-Err-TooLarge.field-0 _ _ _ c.in-Err-TooLarge.field-0-is (cc (c.in-Err-TooLarge.bound-is)) (omega arith) (name-at c.as_slice-name-items.result.now c.args.names.now c.loop-i.i c.name-item.result c.as_bytes.result.now c.as_slice-name-items.ensures (omega arith) c.name-item.is c.as_bytes.ensures.value)
         c.loop-i.invariant.same c.loop-i.invariant.ran c.in-Err-TooLarge.ensures.refused c.in-Err-TooLarge.ensures.uncounted,
     )
 

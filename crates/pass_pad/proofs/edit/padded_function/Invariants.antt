@@ -1,5 +1,5 @@
 use Rattle.std.proofs.Common.{◌≡◌, ◌∷◌}
-use Rattle.pass_make.specs.CanBeMade.{nop_item}
+use Rattle.bril_tree.specs.Numbered.{nop_item}
 use Rattle.pass_pad.proofs.edit.padded_function.Given as goal
 
 abbrev pub invariant-loop-item : goal.invariant-loop-item

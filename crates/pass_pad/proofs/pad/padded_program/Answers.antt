@@ -3,7 +3,7 @@ use Rattle.bril_tree.specs.Size.{item_count}
 use Rattle.bril_tree.specs.declared.program.Prog.{Prog}
 use Rattle.pass_law.specs.Bounds.{IsTooLarge}
 use Rattle.pass_law.specs.Meaning.{Link, IsRefused}
-use Rattle.pass_make.proofs.Bounds.{counted-size}
+use Rattle.bril_tree.proofs.Sizes.{counted-size}
 use Rattle.pass_pad.specs.Pad.{pad_meaning}
 use Rattle.pass_pad.specs.Padded.{padded_size}
 use Rattle.pass_pad.proofs.Made.{size-fits, can_be_made, linked}
