@@ -6,8 +6,8 @@ ghost use Rattle.pass_law.specs.Bounds.{IsTooLarge};
 ghost use Rattle.pass_law.specs.Meaning.{IsRefused};
 ghost use Rattle.pass_law.specs.declared.fault.PassFault.TheVariants.{Memory};
 
-use bril_tree::program::Prog;
 use crate::fault::PassFault;
+use bril_tree::program::Prog;
 
 /// Refuses a bound on items that passes 1,000,000 and the number of items of the program: `TooLarge` comes exactly there
 /// and carries the bound, and no other error comes. Takes no memory.

@@ -30,7 +30,10 @@ impl From<AllocError> for PassFault {
 #[derive(Drop)]
 pub enum ListFault {
     /// No pass answers to the name at the place, the first such. No pass ran, and the program is handed back.
-    Unknown { place: u32, prog: Checked },
+    Unknown {
+        place: u32,
+        prog: Checked,
+    },
     /// The pass of the name at the place answered `TooLarge` with the bound. `prog` is the program that it was given.
     TooLarge {
         place: u32,

@@ -7,12 +7,12 @@ ghost use Rattle.pass_law.specs.Meaning.{Link, IsRefused, SameMeaning};
 ghost use Rattle.pass_law.specs.Stops.{IsRefusedBy, IsStopped};
 ghost use Rattle.pass_law.specs.Tallies.{grown};
 
+use crate::fault::{ListFault, PassFault};
+use crate::pass::Pass;
 use bril_checker::Checked;
 use bril_profile::Profile;
 use bril_tree::sequence::Seq;
 use bril_tree::text::Text;
-use crate::fault::{ListFault, PassFault};
-use crate::pass::Pass;
 use std::alloc::Global;
 
 /// Runs a list of passes: each name is given to the first pass that answers to it, and each pass gets the program that

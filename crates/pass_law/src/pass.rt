@@ -6,10 +6,10 @@ ghost use Rattle.pass_law.specs.Meaning.{Meaning, Link, IsRefused, SameMeaning};
 ghost use Rattle.pass_law.specs.Tallies.{grown};
 ghost use Rattle.pass_law.specs.declared.tally.Tally.{Tally};
 
-use bril_checker::Checked;
-use bril_profile::Profile;
 use crate::fault::PassFault;
 use crate::tally::Tally;
+use bril_checker::Checked;
+use bril_profile::Profile;
 use std::alloc::Global;
 
 /// A pass over programs.
@@ -32,7 +32,12 @@ pub trait Pass: Drop {
     /// pass's factor, has at most its bound of items, and is what its relation says; the tally grows by one run with
     /// the sizes of both. An error is `TooLarge`, exactly where the bound passes 1,000,000 and the given size, or
     /// `Memory`, and leaves the tally as it was. What the pass means never changes.
-    fn run(&mut self, alloc: Global, prog: &Checked, profile: &Profile) -> Result<Checked, PassFault>
+    fn run(
+        &mut self,
+        alloc: Global,
+        prog: &Checked,
+        profile: &Profile,
+    ) -> Result<Checked, PassFault>
         ensures link { IfOk result (λ made. Link (meaning self.old) profile.now prog.now.prog made.prog) }
         ensures counted { IfOk result (λ made. counts self.new ≡ grown (counts self.old) (item_count prog.now.prog) (item_count made.prog)) }
         ensures refused { IfErr result (λ fault. IsRefused ((meaning self.old).bound prog.now.prog profile.now) (item_count prog.now.prog) fault) }

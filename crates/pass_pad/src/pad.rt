@@ -9,10 +9,10 @@ ghost use Rattle.pass_pad.specs.Pad.{pad_meaning};
 ghost use Rattle.pass_pad.specs.Padded.{padded_size};
 ghost use Rattle.pass_pad.specs.Plan.{padding, pad_plan};
 
+use crate::edit::padded;
 use bril_checker::Checked;
 use bril_names::unnumber;
 use bril_profile::Profile;
-use crate::edit::padded;
 use pass_law::{Pass, PassFault, Tally, room};
 use pass_make::finish;
 use pass_names::PlannedByNames;
@@ -67,7 +67,12 @@ impl Pass for Pad {
         self.tally
     }
 
-    fn run(&mut self, alloc: Global, prog: &Checked, _profile: &Profile) -> Result<Checked, PassFault> {
+    fn run(
+        &mut self,
+        alloc: Global,
+        prog: &Checked,
+        _profile: &Profile,
+    ) -> Result<Checked, PassFault> {
         let made = padded_program(alloc, prog);
         if let Ok(made) = &made {
             self.tally.grow(prog.prog().size(), made.prog().size());
