@@ -1,0 +1,8 @@
+//! Profiles: which way a run went at its branches, from some of its labels on.
+#![tactic(auto)]
+
+mod profile;
+#[cfg(test)]
+mod tests;
+
+pub use profile::{Entry, Profile};

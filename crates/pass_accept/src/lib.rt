@@ -1,0 +1,18 @@
+//! The result of a pass is accepted, by the pass's plan and the edit that it made of each function.
+//!
+//! An item of the result is one of the program, by its tree, or one that the pass made or rewrote. A variable that is an
+//! argument or still a destination keeps its type, and so each item that stays is typed as it was. The walks of the
+//! result are matched by walks of the program, so its sites are sound and each location that is read is assigned; a pass
+//! whose result opens sites of its own shows that its walks are accepted by `pass_walks`. What a pass proves for this
+//! is `Edits`, in `specs/`.
+#![tactic(auto)]
+
+ghost use Rattle.pass_accept.specs.Edited.{EditAccepted};
+
+use pass_plan::Planned;
+
+/// Where a plan is preserved, functions keep their names, arguments and results, and each function is edited as `Edits`
+/// says, the result of an accepted program is accepted.
+pub fn edit_accepted<M: Planned>()
+    ensures { EditAccepted M.plan }
+{}

@@ -1,0 +1,5 @@
+pub mod Bounds
+pub mod Tallies
+pub mod Meaning
+pub mod Chains
+pub mod Stops

@@ -1,0 +1,3 @@
+pub mod Refines
+pub mod Accepted
+pub mod Made

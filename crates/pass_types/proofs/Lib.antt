@@ -1,0 +1,4 @@
+pub mod Accepted
+pub mod Fitting
+pub mod Staying
+pub mod Typed

@@ -1,0 +1,5 @@
+pub mod Deciding
+pub mod Walks
+pub mod Accepting
+pub mod Under
+pub mod Based
