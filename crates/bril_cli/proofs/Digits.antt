@@ -3,8 +3,8 @@ use Rattle.std.proofs.Common.{◌≡◌, ℕ, ◌+◌, ◌-◌, ◌*◌, ◌/◌
 use Rattle.std.specs.Int.{w64, cast_unsigned}
 use Rattle.std.proofs.lemmas.Bool.Decides.{nat_tests}
 use Rattle.std.proofs.lemmas.Int.{ints}
-use Rattle.rv64_machine.specs.Encoding.{IsImmediate}
-use Rattle.rv64_machine.specs.Machine.{extended_32}
+use Rattle.rv64_words.specs.Fields.{IsImmediate}
+use Rattle.rv64_words.specs.Arithmetic.{extended_32}
 use Rattle.bril_cli.specs.Emitted.{high_part, low_part}
 
 -- a digit as a signed number is an immediate

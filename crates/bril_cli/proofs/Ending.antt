@@ -21,9 +21,10 @@ use Rattle.bril_tree.specs.Run.{FitMain, first_state, state_after, types_of, Sui
 use Rattle.bril_tree.specs.State as bril
 use Rattle.bril_tree.specs.Step.{step, running_step, frames_step, item_step, item_at, items_of, ends}
 use Rattle.bril_tree.specs.Memory.{is_live_any}
-use Rattle.rv64_machine.specs.declared.image.Image.{Image}
-use Rattle.rv64_machine.specs.Machine as machine
-use Rattle.rv64_machine.specs.Region.{Sizes}
+use Rattle.rv64_words.specs.declared.image.Image.{Image}
+use Rattle.rv64_words.specs.Machine as machine
+use Rattle.rv64_words.specs.State as rv64
+use Rattle.rv64_words.specs.Region.{Sizes, sizes_of}
 use Rattle.bril_cli.specs.Implements.{image_system, Implements, frame_words, step_cost}
 use Rattle.bril_cli.specs.Emitted.{word_bound, bound_of_function, bound_sum, items_in}
 use Rattle.bril_cli.specs.Straight.{IsStraightCode, IsStraightItem, IsStraightAction}
@@ -137,13 +138,13 @@ product_below a b ha hb =
     let second : 8336 * b ≤ 8336 * 20836 = mul-le-mul_left 8336 hb in
     omega arith
 
-pub machine_after-after : (words : List ℕ) (z : Sizes) (m : ℕ) (t : machine.State) → machine.machine_after words z m t ≡ after (machine.machine_step words z) m t
-machine_after-after words z zero t = refl
-machine_after-after words z (suc m) t = machine_after-after words z m (machine.machine_step words z t)
+pub machine_after-after : (image : Image) (z : Sizes) (m : ℕ) (t : rv64.State) → machine.machine_after image z m t ≡ after (machine.machine_step image z) m t
+machine_after-after image z zero t = refl
+machine_after-after image z (suc m) t = machine_after-after image z m (machine.machine_step image z t)
 
 -- An image that implements a straight program has ended as the program does, and has printed the same, within a
 -- thousand million words.
-pub runs_to_end : (image : Image) (p : Prog) (limits : Limits) → IsStraightCode p → Implements image p limits → bound_sum p ≤ 250000 → limits.frames ≡ 8192 → limits.frames * frame_words p ≤ 8388608 → ((machine.machine_after image.words (machine.sizes_of image limits.cells) 1000000000 (machine.start [])).stopped ≡ Some (machine.Finished Ended)) × ((machine.machine_after image.words (machine.sizes_of image limits.cells) 1000000000 (machine.start [])).printed ≡ (state_after p limits [] (items_in p + 1)).printed)
+pub runs_to_end : (image : Image) (p : Prog) (limits : Limits) → IsStraightCode p → Implements image p limits → bound_sum p ≤ 250000 → limits.frames ≡ 8192 → limits.frames * frame_words p ≤ 8388608 → ((machine.machine_after image (sizes_of image limits.cells) 1000000000 (rv64.start [])).stopped ≡ Some (rv64.Finished Ended)) × ((machine.machine_after image (sizes_of image limits.cells) 1000000000 (rv64.start [])).printed ≡ (state_after p limits [] (items_in p + 1)).printed)
 runs_to_end image p limits straight implements words frames_are stack =
     let f = straight.function in
     let types_are : types_of (slice_get p.funcs p.main) ≡ [] = ap (λ k. types_of (slice_get p.funcs k)) straight.first ∙ ap (λ fs. types_of (slice_get fs 0)) straight.alone ∙ ap (λ k. map (λ v. v.ty) (take k straight.function.vars)) straight.no_args in
@@ -161,8 +162,8 @@ runs_to_end image p limits straight implements words frames_are stack =
     let product : step_cost p * (n + 1) ≤ 1000000000 = product_below (step_cost p) (n + 1) cheap few in
     let in_time : m ≤ 1000000000 = omega arith in
     let Q = image_system image limits in
-    let stopped : (after Q.step m (machine.start [])).stopped ≡ Some (machine.Finished Ended) = sym (c.agrees n).0 ∙ ap (option_map machine.Finished) (straight_ends p limits straight) in
-    let final : IsSome (after Q.step m (machine.start [])).stopped = ap (λ o. is_some o) stopped in
-    let rests = after-final_le Q (image_is_system image limits) m 1000000000 (machine.start []) in_time final in
-    let same = machine_after-after image.words (machine.sizes_of image limits.cells) 1000000000 (machine.start []) ∙ rests in
+    let stopped : (after Q.step m (rv64.start [])).stopped ≡ Some (rv64.Finished Ended) = sym (c.agrees n).0 ∙ ap (option_map rv64.Finished) (straight_ends p limits straight) in
+    let final : IsSome (after Q.step m (rv64.start [])).stopped = ap (λ o. is_some o) stopped in
+    let rests = after-final_le Q (image_is_system image limits) m 1000000000 (rv64.start []) in_time final in
+    let same = machine_after-after image (sizes_of image limits.cells) 1000000000 (rv64.start []) ∙ rests in
     (ap (λ t. t.stopped) same ∙ stopped, ap (λ t. t.printed) same ∙ sym (c.agrees n).1)

@@ -9,11 +9,13 @@ use Rattle.bril_outside.specs.Sink.{SinkSeen, TookAll, TookSome}
 use Rattle.simulation.specs.System.{after, IsPrefix}
 use Rattle.simulation.proofs.After.{after-grows_le}
 use Rattle.rv64_machine.specs.declared.answer.RunAnswer.TheVariants as run
-use Rattle.rv64_machine.specs.declared.image.Image.{Image}
+use Rattle.rv64_words.specs.declared.image.Image.{Image}
 use Rattle.rv64_machine.specs.declared.machine.Machine.{Machine}
 use Rattle.rv64_machine.specs.StepAnswers.{Ran, RunFailed, reached_after}
-use Rattle.rv64_machine.specs.Machine.{State, Finished, Trapped, machine_after, machine_step, sizes_of, start}
-use Rattle.rv64_machine.specs.MachineView.{state_of, words_in, sizes_in, has_failed}
+use Rattle.rv64_words.specs.Machine.{machine_after, machine_step}
+use Rattle.rv64_words.specs.Region.{sizes_of}
+use Rattle.rv64_words.specs.State.{State, Finished, Trapped, start}
+use Rattle.rv64_machine.specs.MachineView.{state_of, image_in, sizes_in, has_failed}
 use Rattle.bril_cli.specs.Implements.{Implements, image_system}
 use Rattle.bril_cli.specs.Emitted.{items_in}
 use Rattle.bril_cli.specs.commands.Run.{run_limits, EndsPrinting, IsWithin, RanWhole, RanPartly}
@@ -35,7 +37,7 @@ TookSome-prefix {s} {t} a b more some = subst (λ bytes. TookSome s bytes t) (sy
 -- the machine was made for the image and has executed nothing
 pub record IsFresh (m : Machine) (image : Image) : Type 0 where
   pub state : state_of m ≡ start []
-  pub words : words_in m ≡ image.words
+  pub holds : image_in m ≡ image
   pub sizes : sizes_in m ≡ sizes_of image 1048576
   pub sound : has_failed m ≡ false
 
@@ -46,20 +48,20 @@ pub record IsImageOf (image : Image) (p : Prog) : Type 0 where
   pub within : IsWithin p
 
 -- what was printed after fewer words stands at the front of what was printed after more
-printed_before : (image : Image) (n m : ℕ) → n ≤ m → IsPrefix (machine_after image.words (sizes_of image 1048576) n (start [])).printed (machine_after image.words (sizes_of image 1048576) m (start [])).printed
+printed_before : (image : Image) (n m : ℕ) → n ≤ m → IsPrefix (machine_after image (sizes_of image 1048576) n (start [])).printed (machine_after image (sizes_of image 1048576) m (start [])).printed
 printed_before image n m h =
-    let at = λ (k : ℕ). ap (λ (t : State). t.printed) (machine_after-after image.words (sizes_of image 1048576) k (start [])) in
-    subst (λ xs. IsPrefix xs (machine_after image.words (sizes_of image 1048576) m (start [])).printed) (sym (at n))
-    (subst (λ ys. IsPrefix (after (machine_step image.words (sizes_of image 1048576)) n (start [])).printed ys) (sym (at m))
+    let at = λ (k : ℕ). ap (λ (t : State). t.printed) (machine_after-after image (sizes_of image 1048576) k (start [])) in
+    subst (λ xs. IsPrefix xs (machine_after image (sizes_of image 1048576) m (start [])).printed) (sym (at n))
+    (subst (λ ys. IsPrefix (after (machine_step image (sizes_of image 1048576)) n (start [])).printed ys) (sym (at m))
     (after-grows_le (image_system image run_limits) (image_is_system image run_limits) n m (start []) h))
 
 module _ (image : Image) (p : Prog) (made : IsImageOf image p) (m : Machine) (fresh : IsFresh m image) (steps : ℕ) (enough : steps ≡ 1000000000) where
-  reached : (n : ℕ) → reached_after m n ≡ machine_after image.words (sizes_of image 1048576) n (start [])
-  reached n = λ i. machine_after (fresh.words i) (fresh.sizes i) n (fresh.state i)
+  reached : (n : ℕ) → reached_after m n ≡ machine_after image (sizes_of image 1048576) n (start [])
+  reached n = λ i. machine_after (fresh.holds i) (fresh.sizes i) n (fresh.state i)
 
   -- the state after the steps
-  at_end : reached_after m steps ≡ machine_after image.words (sizes_of image 1048576) 1000000000 (start [])
-  at_end = reached steps ∙ ap (λ n. machine_after image.words (sizes_of image 1048576) n (start [])) enough
+  at_end : reached_after m steps ≡ machine_after image (sizes_of image 1048576) 1000000000 (start [])
+  at_end = reached steps ∙ ap (λ n. machine_after image (sizes_of image 1048576) n (start [])) enough
 
   pub stops : (reached_after m steps).stopped ≡ Some (Finished Ended)
   stops = ap (λ t. t.stopped) at_end ∙ (runs_to_end image p run_limits made.straight made.implements made.within.code refl made.within.stack).0
@@ -70,14 +72,14 @@ module _ (image : Image) (p : Prog) (made : IsImageOf image p) (m : Machine) (fr
   shown_before : (n : ℕ) → n ≤ steps → IsPrefix (reached_after m n).printed (output_of p)
   shown_before n h =
       subst (λ ys. IsPrefix (reached_after m n).printed ys) (sym (ap (λ t. t.printed) (reached steps)) ∙ shows)
-      (subst (λ t. IsPrefix t.printed (machine_after image.words (sizes_of image 1048576) steps (start [])).printed) (sym (reached n)) (printed_before image n steps h))
+      (subst (λ t. IsPrefix t.printed (machine_after image (sizes_of image 1048576) steps (start [])).printed) (sym (reached n)) (printed_before image n steps h))
 
   module _ (m' : Machine) (s t : SinkSeen) where
     pub whole : (e : End) → Ran (run.End e) steps m m' s t → RanWhole p s t
     whole e ran = record {
       output = output_of p;
       prints = EndsPrinting-straight p made.straight;
-      took = subst (λ bytes. TookAll s bytes t) shows ran.1.took;
+      took = subst (λ bytes. TookAll s bytes t) shows ran.1.printed.took;
     }
 
     pub no_fault : (f : _) → Ran (run.End (Faulted f)) steps m m' s t → ⊥

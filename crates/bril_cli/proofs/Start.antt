@@ -9,10 +9,11 @@ use Rattle.bril_tree.specs.declared.program.Prog.{Prog}
 use Rattle.bril_tree.specs.declared.value.Value.{Value}
 use Rattle.bril_tree.specs.Run.{FitMain, first_state, types_of, Suits}
 use Rattle.bril_tree.specs.State as bril
-use Rattle.rv64_machine.specs.declared.image.Image.{Image}
-use Rattle.rv64_machine.specs.declared.word.Word.{Word}
-use Rattle.rv64_machine.specs.Encoding.{encoded}
-use Rattle.rv64_machine.specs.Machine as machine
+use Rattle.rv64_words.specs.declared.image.Image.{Image}
+use Rattle.rv64_words.specs.declared.word.Word.{Word}
+use Rattle.rv64_words.specs.Encoding.{encoded}
+use Rattle.rv64_words.specs.Machine as machine
+use Rattle.rv64_words.specs.State as rv64
 use Rattle.bril_cli.specs.Implements.{program_system, image_system, Carried, Implements, frame_words, step_cost, variables_in}
 use Rattle.bril_cli.specs.Emitted.{code_words, program_words}
 use Rattle.bril_cli.specs.Straight.{IsStraightCode}
@@ -41,7 +42,7 @@ no_arguments [] fit = refl
 no_arguments (v ∷ args) fit = absurd fit
 
 -- the stack is 0 past its two first words
-empty_stack : (x : ℕ) → machine.words_of (0 ∷ 0 ∷ []) (2 + x) ≡ 0
+empty_stack : (x : ℕ) → rv64.words_of (0 ∷ 0 ∷ []) (2 + x) ≡ 0
 empty_stack x = ap (slice_index (0 ∷ 0 ∷ [])) (shifted x)
   where
     shifted : (x : ℕ) → 2 + x ≡ suc (suc x)
@@ -51,7 +52,7 @@ once : (k m : ℕ) → 1 ≤ k → m ≤ k * m
 once zero m h = absurd (omega arith)
 once (suc k) m h = grind arith
 
-module _ (decodes : Decodes) (image : Image) (p : Prog) (limits : Limits) (straight : IsStraightCode p) (words_are : image.words ≡ map encoded (program_words p.funcs)) (stack_is : image.stack ≡ limits.frames * frame_words p) (few : image.stack ≤ 8388608) where
+module _ (decodes : Decodes) (image : Image) (p : Prog) (limits : Limits) (straight : IsStraightCode p) (words_are : image.words ≡ map encoded (program_words p.funcs)) (stack_is : image.stack ≡ limits.frames * frame_words p) (few : image.stack ≤ 8388608) (no_guards : image.guards ≡ []) where
   -- how many variables there are
   abbrev n : ℕ
   n = length straight.function.vars
@@ -70,10 +71,10 @@ module _ (decodes : Decodes) (image : Image) (p : Prog) (limits : Limits) (strai
       let types_are : types_of (slice_get p.funcs p.main) ≡ [] = ap (λ k. types_of (slice_get p.funcs k)) straight.first ∙ ap (λ fs. types_of (slice_get fs 0)) straight.alone ∙ ap (λ k. map (λ v. v.ty) (take k straight.function.vars)) straight.no_args in
       subst (λ types. AllZip Suits args types) types_are fit
 
-  zero_words : HoldsWords n bril.no_values (machine.start []).stack
+  zero_words : HoldsWords n bril.no_values (rv64.start []).stack
   zero_words x lt = record { number = pos 0; value = refl; fits = record { sfits = omega arith }; word = empty_stack x }
 
-  begin : Runs decodes image p limits straight.function straight.alone n room few (first_state p limits []) (machine.start [])
+  begin : Runs decodes image p limits straight.function straight.alone n room few no_guards (first_state p limits []) (rv64.start [])
   begin =
       let words_here : map encoded (code_words straight.function.code) ≡ image.words = sym (words_are ∙ ap (λ fs. map encoded (program_words fs)) straight.alone) in
       record {
@@ -90,14 +91,14 @@ module _ (decodes : Decodes) (image : Image) (p : Prog) (limits : Limits) (strai
         straight = straight.items;
         below = known_below straight.function.args _ n straight.function.formed.appear;
         has = subst (λ bits. HasAt bits 0 (code_words straight.function.code)) words_here (words_at [] (code_words straight.function.code));
-        ready = record { running = refl; at = refl; base = refl; zero_is = refl };
+        ready = record { running = refl; at = refl; base = refl; zero_is = refl; no_blocks = refl };
         words = zero_words;
         printed = refl;
       }
 
-  tracked : Tracks (program_system p limits) (image_system image limits) 12 (Related decodes image p limits straight.function straight.alone n room few) (first_state p limits []) (machine.start [])
+  tracked : Tracks (program_system p limits) (image_system image limits) 12 (Related decodes image p limits straight.function straight.alone n room few no_guards) (first_state p limits []) (rv64.start [])
   tracked =
-      Tracks-from_plus (program_system p limits) (image_system image limits) (Related decodes image p limits straight.function straight.alone n room few) (mapped_is_system p limits) (image_is_system image limits) 12 (plus decodes image p limits straight.function straight.alone n room few) (first_state p limits []) (machine.start []) 0 (omega arith) (run begin)
+      Tracks-from_plus (program_system p limits) (image_system image limits) (Related decodes image p limits straight.function straight.alone n room few no_guards) (mapped_is_system p limits) (image_is_system image limits) 12 (plus decodes image p limits straight.function straight.alone n room few no_guards) (first_state p limits []) (rv64.start []) 0 (omega arith) (run begin)
 
   cheaper : (m : ℕ) → 12 * (m + 1) ≤ step_cost p * (m + 1)
   cheaper m = scaled (128 + 8 * (frame_words p + 1)) m (omega arith)
@@ -105,7 +106,7 @@ module _ (decodes : Decodes) (image : Image) (p : Prog) (limits : Limits) (strai
       scaled : (c m : ℕ) → 12 ≤ c → 12 * (m + 1) ≤ c * (m + 1)
       scaled c m le = grind arith
 
-  from_start : Carried (program_system p limits) (image_system image limits) (step_cost p) (first_state p limits []) (machine.start [])
+  from_start : Carried (program_system p limits) (image_system image limits) (step_cost p) (first_state p limits []) (rv64.start [])
   from_start = record {
     count = tracked.count;
     bounded = λ m. let first = tracked.bounded m in let second = cheaper m in omega arith;
@@ -118,5 +119,5 @@ module _ (decodes : Decodes) (image : Image) (p : Prog) (limits : Limits) (strai
   -- The image whose words are those of the program implements it.
   pub implements : Implements image p limits
   implements = record {
-    carried = λ args fit. subst (λ xs. Carried (program_system p limits) (image_system image limits) (step_cost p) (first_state p limits xs) (machine.start xs)) (sym (no_arguments args (fit_none args fit))) from_start;
+    carried = λ args fit. subst (λ xs. Carried (program_system p limits) (image_system image limits) (step_cost p) (first_state p limits xs) (rv64.start xs)) (sym (no_arguments args (fit_none args fit))) from_start;
   }

@@ -10,9 +10,10 @@ use Rattle.bril_tree.specs.declared.numbered_function.Func.{Func}
 use Rattle.bril_tree.specs.declared.program.Prog.{Prog}
 use Rattle.bril_tree.specs.declared.value.Lit.{Lit}
 use Rattle.bril_tree.specs.declared.value.Lit.TheVariants as literal
-use Rattle.rv64_machine.specs.declared.word.Word.{Word}
-use Rattle.rv64_machine.specs.declared.word.Word.TheVariants.{Lui, Addi, Slli, Add, Ld, Sd, Ecall}
-use Rattle.rv64_machine.specs.Encoding.{signed_12}
+use Rattle.rv64_words.specs.declared.word.Word.{Word}
+use Rattle.rv64_words.specs.declared.word.Word.TheVariants.{Lui, Ld, Sd, Ecall}
+use Rattle.rv64_words.specs.Fields.{signed_12}
+use Rattle.rv64_words.specs.Mnemonics.{add, addi, slli}
 
 -- a number is its high part times 4,096 plus its low part, which is signed
 abbrev pub high_part : ℕ → ℕ
@@ -27,10 +28,10 @@ constant_words rd n =
     let second = high_part n in
     let third = high_part second in
     let fourth = high_part third in
-    Lui rd (high_part fourth) ∷ Addi rd rd (low_part fourth) ∷
-    Slli rd rd 12 ∷ Addi rd rd (low_part third) ∷
-    Slli rd rd 12 ∷ Addi rd rd (low_part second) ∷
-    Slli rd rd 12 ∷ Addi rd rd (low_part n) ∷ []
+    Lui rd (high_part fourth) ∷ addi rd rd (low_part fourth) ∷
+    slli rd rd 12 ∷ addi rd rd (low_part third) ∷
+    slli rd rd 12 ∷ addi rd rd (low_part second) ∷
+    slli rd rd 12 ∷ addi rd rd (low_part n) ∷ []
 
 -- the byte offset of a variable's word in the frame, to which register 2 points
 abbrev pub frame_offset : ℕ → ℕ
@@ -38,7 +39,7 @@ frame_offset x = 8 * (2 + x)
 
 -- register 6 holds the frame's base plus the high part of the offset
 abbrev pub reach_words : ℕ → List Word
-reach_words x = Lui 6 (high_part (frame_offset x)) ∷ Add 6 6 2 ∷ []
+reach_words x = Lui 6 (high_part (frame_offset x)) ∷ add 6 6 2 ∷ []
 
 -- a variable's word into a register, and a register into a variable's word
 abbrev pub load_words : ℕ → ℕ → List Word
@@ -49,7 +50,7 @@ store_words x rs = reach_words x ++ Sd 6 rs (low_part (frame_offset x)) ∷ []
 
 -- an environment call
 abbrev pub call_words : ℕ → List Word
-call_words number = Addi 17 0 (pos number) ∷ Ecall ∷ []
+call_words number = addi 17 0 (pos number) ∷ Ecall ∷ []
 
 abbrev pub literal_words : Lit → List Word
 literal_words (literal.Int n) = constant_words 5 (cast_unsigned w64 n)
@@ -60,7 +61,7 @@ abbrev pub sum_words : Option ℕ → List ℕ → List Word
 sum_words None args = []
 sum_words (Some x) [] = []
 sum_words (Some x) (a ∷ []) = []
-sum_words (Some x) (a ∷ b ∷ []) = load_words 5 a ++ load_words 7 b ++ Add 5 5 7 ∷ [] ++ store_words x 5
+sum_words (Some x) (a ∷ b ∷ []) = load_words 5 a ++ load_words 7 b ++ add 5 5 7 ∷ [] ++ store_words x 5
 sum_words (Some x) (a ∷ b ∷ c ∷ args) = []
 
 abbrev pub print_words : List ℕ → List Word
@@ -80,7 +81,7 @@ item_words (Act dest ty operation args funcs labels) = action_words operation de
 
 -- the end of `main`
 abbrev pub end_words : List Word
-end_words = Addi 10 0 (pos 0) ∷ call_words 8
+end_words = addi 10 0 (pos 0) ∷ call_words 8
 
 abbrev pub code_words : List Instr → List Word
 code_words code = flat_map item_words code ++ end_words

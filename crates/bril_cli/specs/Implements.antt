@@ -10,21 +10,23 @@ use Rattle.bril_tree.specs.declared.value.Value.{Value}
 use Rattle.bril_tree.specs.State as bril
 use Rattle.bril_tree.specs.Step.{step}
 use Rattle.bril_tree.specs.Run.{FitMain, first_state}
-use Rattle.rv64_machine.specs.declared.image.Image.{Image}
-use Rattle.rv64_machine.specs.Machine as machine
+use Rattle.rv64_words.specs.declared.image.Image.{Image}
+use Rattle.rv64_words.specs.Machine as machine
+use Rattle.rv64_words.specs.Region.{sizes_of}
+use Rattle.rv64_words.specs.State as rv64
 
 -- a program as a system whose ends are those of the machine
-abbrev pub program_system : Prog → Limits → System machine.Stop bril.State
+abbrev pub program_system : Prog → Limits → System rv64.Stop bril.State
 program_system p limits = record {
   step = step p limits;
-  ending = λ s. option_map machine.Finished s.ended;
+  ending = λ s. option_map rv64.Finished s.ended;
   printed = λ s. s.printed;
 }
 
 -- an image on the machine, under a limit of cells
-abbrev pub image_system : Image → Limits → System machine.Stop machine.State
+abbrev pub image_system : Image → Limits → System rv64.Stop rv64.State
 image_system image limits = record {
-  step = machine.machine_step image.words (machine.sizes_of image limits.cells);
+  step = machine.machine_step image (sizes_of image limits.cells);
   ending = λ t. t.stopped;
   printed = λ t. t.printed;
 }
@@ -59,4 +61,4 @@ pub record Carried {E S T : Type 0} (P : System E S) (Q : System E T) (c : ℕ) 
 -- way, and so it never traps.
 pub record Implements (image : Image) (p : Prog) (limits : Limits) : Type 0 where
   pub carried : (args : List Value) → FitMain p args →
-      Carried (program_system p limits) (image_system image limits) (step_cost p) (first_state p limits args) (machine.start args)
+      Carried (program_system p limits) (image_system image limits) (step_cost p) (first_state p limits args) (rv64.start args)

@@ -4,7 +4,8 @@ ghost use Rattle.std.specs.Prelude.{◌≡◌, ◌+◌, ◌-◌, ◌*◌, ◌^�
 ghost use Rattle.std.specs.List.{AllByRecursion, flat_map, sum_by};
 ghost use Rattle.std.specs.Prelude.{pos, ◌≤ℤ◌, ◌<ℤ◌};
 ghost use Rattle.bril_tree.specs.FunctionForm.{variables_of, listed};
-ghost use Rattle.rv64_machine.specs.Encoding.{encoded};
+ghost use Rattle.rv64_words.specs.Encoding.{encoded};
+ghost use Rattle.rv64_words.specs.Mnemonics.{add, addi, slli};
 ghost use Rattle.bril_cli.specs.Implements.{Implements, frame_words, variables_in};
 ghost use Rattle.bril_cli.specs.Emitted.{high_part, low_part, constant_words, reach_words, load_words, store_words, call_words, end_words, literal_words, sum_words, print_words, action_words, item_words, code_words, program_words, frame_offset, action_bound, word_bound, bound_of_function, bound_sum};
 ghost use Rattle.bril_cli.specs.Refusal.{EmitRefuses};
@@ -18,10 +19,10 @@ use bril_tree::operation::Op;
 use bril_tree::program::Prog;
 use bril_tree::sequence::Seq;
 use bril_tree::value::Lit;
-use rv64_machine::encoding::encode;
-use rv64_machine::field::{Immediate, Register, Shift, Upper};
-use rv64_machine::image::Image;
-use rv64_machine::word::Word;
+use rv64_words::encoding::encode;
+use rv64_words::field::{Immediate, Register, Shift, Upper};
+use rv64_words::image::Image;
+use rv64_words::word::{ImmediateOperation, RegisterOperation, ShiftOperation, Word};
 use std::alloc::{AllocError, Global};
 use thiserror::Error;
 
@@ -82,30 +83,54 @@ fn constant(rd: Register, n: u64) -> [Word; 8]
     let second = high_digits(n);
     let third = high_digits(second);
     let fourth = high_digits(third);
-    let shift = Shift::of(12);
     [
         Word::Lui {
             rd,
             upper: Upper::of(high_digits(fourth) as u32),
         },
         add_digit(rd, fourth),
-        Word::Slli { rd, rs1: rd, shift },
+        shifted_up(rd),
         add_digit(rd, third),
-        Word::Slli { rd, rs1: rd, shift },
+        shifted_up(rd),
         add_digit(rd, second),
-        Word::Slli { rd, rs1: rd, shift },
+        shifted_up(rd),
         add_digit(rd, n),
     ]
 }
 
 // The lowest digit of a number is added to a register.
 fn add_digit(rd: Register, n: u64) -> Word
-    ensures { result ≡ Word.Addi rd rd (low_part n) }
+    ensures { result ≡ addi rd rd (low_part n) }
 {
-    Word::Addi {
+    Word::OpImm {
+        operation: ImmediateOperation::Addi,
         rd,
         rs1: rd,
         immediate: low_digit(n),
+    }
+}
+
+// A register, shifted up by a digit.
+fn shifted_up(rd: Register) -> Word
+    ensures { result ≡ slli rd rd 12 }
+{
+    Word::ShiftImm {
+        operation: ShiftOperation::Slli,
+        rd,
+        rs1: rd,
+        shift: Shift::of(12),
+    }
+}
+
+// The sum of two registers into a third.
+fn sum(rd: Register, rs1: Register, rs2: Register) -> Word
+    ensures { result ≡ add rd rs1 rs2 }
+{
+    Word::Op {
+        operation: RegisterOperation::Add,
+        rd,
+        rs1,
+        rs2,
     }
 }
 
@@ -129,14 +154,10 @@ fn reach_high(variable: u32) -> Word
 
 // The frame's base is added to register 6.
 fn reach_base() -> Word
-    ensures { result ≡ Word.Add 6 6 2 }
+    ensures { result ≡ add 6 6 2 }
 {
     let rd = Register::of(6);
-    Word::Add {
-        rd,
-        rs1: rd,
-        rs2: Register::of(2),
-    }
+    sum(rd, rd, Register::of(2))
 }
 
 // A variable's word into a register.
@@ -175,10 +196,11 @@ fn store(variable: u32, rs2: Register) -> [Word; 3]
 fn call(number: i16) -> [Word; 2]
     requires low { pos 0 ≤ℤ number }
     requires high { number <ℤ pos 2048 }
-    ensures { result ≡ Word.Addi 17 0 number ∷ Word.Ecall ∷ [] }
+    ensures { result ≡ addi 17 0 number ∷ Word.Ecall ∷ [] }
 {
     [
-        Word::Addi {
+        Word::OpImm {
+        operation: ImmediateOperation::Addi,
             rd: Register::of(17),
             rs1: Register::of(0),
             immediate: Immediate::of(number),
@@ -220,7 +242,7 @@ fn put_sum_of(code: &mut Seq<u32>, dest: u32, first: u32, second: u32) -> Result
     let rs2 = Register::of(7);
     put(code, &load(rd, first))?;
     put(code, &load(rs2, second))?;
-    put(code, &[Word::Add { rd, rs1: rd, rs2 }])?;
+    put(code, &[sum(rd, rd, rs2)])?;
     put(code, &store(dest, rd))
 }
 
@@ -281,7 +303,8 @@ fn put_function(code: &mut Seq<u32>, items: &[Instr]) -> Result<(), AllocError>
 fn put_end(code: &mut Seq<u32>) -> Result<(), AllocError>
     ensures { OnOk result (code.new ≡ code.old ++ map encoded end_words) }
 {
-    let end = Word::Addi {
+    let end = Word::OpImm {
+        operation: ImmediateOperation::Addi,
         rd: Register::of(10),
         rs1: Register::of(0),
         immediate: Immediate::of(0),

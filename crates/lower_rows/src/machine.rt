@@ -8,9 +8,10 @@ use bril_tree::limits::Limits;
 use bril_tree::sequence::Seq;
 use bril_tree::value::Value;
 use row_text::{LineFault, add_lines};
-use rv64_machine::encoding::{decode, encode};
-use rv64_machine::image::Image;
 use rv64_machine::machine::Machine;
+use rv64_words::decoding::decode;
+use rv64_words::encoding::encode;
+use rv64_words::image::Image;
 use std::alloc::{AllocError, Global};
 
 // The stack of an image, in words.

@@ -63,9 +63,9 @@ module _ {B : Type 0} (meaning : B → Meaning) (passes : List B) (profile : Pro
     pub Ran-tallies : (names : List (List ℕ)) (P Q : Prog) (now after : List B) → Ran meaning passes profile counts names P Q now → map counts after ≡ map counts now → Ran meaning passes profile counts names P Q after
     Ran-tallies names P Q now after ran e = record { programs = ran.programs; chain = ran.chain; tallies = e ∙ ran.tallies }
 
-    pub stopped-at : (names : List (List ℕ)) (i : ℕ) (name : List ℕ) (P Q : Prog) (now after : List B) (fault : PassFault) (bound told location : ℕ) → fault ≡ TooLarge bound → bound ≡ told → location ≡ suc i → slice_get names i ≡ Some name → AllSame meaning passes now → Ran meaning passes profile counts (take i names) P Q now
-        → IsRefusedBy meaning now profile name Q fault → map counts after ≡ map counts now → StoppedAt meaning passes profile counts names P location told Q after
-    stopped-at names i name P Q now after fault bound told location fault-is told-is is at same ran refused e =
+    pub stopped-at : (names : List (List ℕ)) (i : ℕ) (name : List ℕ) (P Q : Prog) (now after : List B) (fault : PassFault) (bound told place : ℕ) → fault ≡ TooLarge bound → bound ≡ told → place ≡ suc i → slice_get names i ≡ Some name → AllSame meaning passes now → Ran meaning passes profile counts (take i names) P Q now
+        → IsRefusedBy meaning now profile name Q fault → map counts after ≡ map counts now → StoppedAt meaning passes profile counts names P place told Q after
+    stopped-at names i name P Q now after fault bound told place fault-is told-is is at same ran refused e =
         let b = answered-before meaning passes now name refused.pass same refused.first in
         let why = IsRefused-same (meaning b.pass) (meaning refused.pass) b.same profile Q (item_count Q) (TooLarge bound) (subst (IsRefused ((meaning refused.pass).bound Q profile) (item_count Q)) fault-is refused.refused) in
         record {

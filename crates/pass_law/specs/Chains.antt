@@ -22,12 +22,12 @@ abbrev pub grown_if : Bool → (seen made : ℕ) → Tally → (rest changed : L
 grown_if true seen made t rest changed = grown t seen made ∷ rest
 grown_if false seen made t rest changed = t ∷ changed
 
--- a location one further, where there is one
+-- a place one further, where there is one
 abbrev pub further : Option ℕ → Option ℕ
 further None = None
 further (Some n) = Some (suc n)
 
--- the first location, where there is nothing; else one further than in the rest
+-- the first place, where there is nothing; else one further than in the rest
 abbrev pub unknown_from : {X : Type 0} → Option X → Option ℕ → Option ℕ
 unknown_from None rest = Some 1
 unknown_from (Some x) rest = further rest
@@ -75,7 +75,7 @@ module _ {B : Type 0} (meaning : B → Meaning) where
     tallies_after (name ∷ names) P [] ts = ts
     tallies_after (name ∷ names) P (R ∷ Rs) ts = tallies_after names R Rs (tallied passes name (item_count P) (item_count R) ts)
 
-    -- from 1, the location of the first name to which no pass answers
+    -- from 1, the place of the first name to which no pass answers
     abbrev pub first_unknown : List (List ℕ) → Option ℕ
     first_unknown [] = None
     first_unknown (name ∷ names) = unknown_from (first_answering passes name) (first_unknown names)
@@ -87,10 +87,10 @@ module _ {B : Type 0} (meaning : B → Meaning) where
         pub chain : Chain names P programs Q
         pub tallies : map counts after ≡ tallies_after names P programs (map counts passes)
 
-      -- the names before a location ran, and the pass of that location refuses the program that they made
-      pub record StoppedAt (names : List (List ℕ)) (P : Prog) (location bound : ℕ) (Q : Prog) (after : List B) : Type 0 where
+      -- the names before a place ran, and the pass of that place refuses the program that they made
+      pub record StoppedAt (names : List (List ℕ)) (P : Prog) (place bound : ℕ) (Q : Prog) (after : List B) : Type 0 where
         pub before : ℕ
-        pub is : location ≡ suc before
+        pub is : place ≡ suc before
         pub ran : Ran (take before names) P Q after
         pub name : List ℕ
         pub here : slice_get names before ≡ Some name

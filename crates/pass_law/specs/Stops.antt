@@ -19,6 +19,6 @@ module _ {B : Type 0} (meaning : B → Meaning) (passes : List B) (profile : Pro
 
   -- the list of names stopped so, with the passes as they are `after`
   abbrev pub IsStopped : (B → Tally) → List (List ℕ) → Prog → List B → ListFault → Type 0
-  IsStopped counts names P after (Unknown location prog) = (first_unknown meaning passes profile names ≡ Some location) × (prog.prog ≡ P) × (map counts after ≡ map counts passes)
-  IsStopped counts names P after (TooLarge location bound prog) = (first_unknown meaning passes profile names ≡ None) × StoppedAt meaning passes profile counts names P location bound prog.prog after
+  IsStopped counts names P after (Unknown place prog) = (first_unknown meaning passes profile names ≡ Some place) × (prog.prog ≡ P) × (map counts after ≡ map counts passes)
+  IsStopped counts names P after (TooLarge place bound prog) = (first_unknown meaning passes profile names ≡ None) × StoppedAt meaning passes profile counts names P place bound prog.prog after
   IsStopped counts names P after Memory = (first_unknown meaning passes profile names ≡ None) × CutOff meaning passes profile counts names P after

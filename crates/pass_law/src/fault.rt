@@ -29,14 +29,14 @@ impl From<AllocError> for PassFault {
 /// Why a list of passes stopped. Locals of names count from 1.
 #[derive(Drop)]
 pub enum ListFault {
-    /// No pass answers to the name at the location, the first such. No pass ran, and the program is handed back.
+    /// No pass answers to the name at the place, the first such. No pass ran, and the program is handed back.
     Unknown {
-        location: u32,
+        place: u32,
         prog: Checked,
     },
-    /// The pass of the name at the location answered `TooLarge` with the bound. `prog` is the program that it was given.
+    /// The pass of the name at the place answered `TooLarge` with the bound. `prog` is the program that it was given.
     TooLarge {
-        location: u32,
+        place: u32,
         bound: u64,
         prog: Checked,
     },

@@ -33,16 +33,16 @@ pub fn run_list(
     ensures stopped { IfErr result (IsStopped (λ p. meaning p) passes.old profile.now (λ p. counts p) names.now prog.prog passes.new) }
     ensures same { AllSame (λ p. meaning p) passes.old passes.new }
 {
-    if let Some(location) = unknown_location(passes, names.as_slice()) {
-        return Err(ListFault::Unknown { location, prog });
+    if let Some(place) = unknown_place(passes, names.as_slice()) {
+        return Err(ListFault::Unknown { place, prog });
     }
     let mut prog = prog;
     for (i, name) in names.as_slice().iter().enumerate() {
         match run_named(alloc, passes, name.as_bytes(), &prog, profile) {
             Ok(made) => prog = made,
             Err(PassFault::TooLarge { bound }) => {
-                let location = i as u32 + 1;
-                return Err(ListFault::TooLarge { location, bound, prog });
+                let place = i as u32 + 1;
+                return Err(ListFault::TooLarge { place, bound, prog });
             }
             Err(PassFault::Memory) => return Err(ListFault::Memory),
         }
@@ -50,8 +50,8 @@ pub fn run_list(
     Ok(prog)
 }
 
-// The location, from 1, of the first name that no pass answers to.
-fn unknown_location(passes: &[Box<dyn Pass>], names: &[Text]) -> Option<u32>
+// The place, from 1, of the first name that no pass answers to.
+fn unknown_place(passes: &[Box<dyn Pass>], names: &[Text]) -> Option<u32>
     requires { length names.now < 2 ^ 32 }
     ensures { (profile : _) → result ≡ first_unknown (λ p. meaning p) passes.now profile names.now }
 {

@@ -155,7 +155,7 @@ module _ (fs V W lP lQ : List (List ℕ)) (differ : Differ fs) where
       → ((x : Location) → In x (reads_of a) → M x) → Shares M a b
   item-shares M ret (Label l) (Label k) shaped e ra rb matters =
       let n : named lP l ≡ named lQ k = cc in
-      record { same = tt; assigns = tt; targets = tt; labels = ((ra.locations.0, rb.locations.0, n), tt); dests = tt; operands = tt; types = refl }
+      record { same = tt; assigns = tt; targets = tt; labels = ((ra.places.0, rb.places.0, n), tt); dests = tt; operands = tt; types = refl }
   item-shares M ret (Label l) (Const y t w) shaped e ra rb matters = absurd cc
   item-shares M ret (Label l) (Act d t o result_args gns ms) shaped e ra rb matters = absurd cc
   item-shares M ret (Const x s v) (Label k) shaped e ra rb matters = absurd cc

@@ -131,7 +131,7 @@ label_there X f i name at = by (item_at X f i) refl
       there = h.there;
       number = l;
       at = ap (λ o. slice_get (items_of o) i) (sym h.there) ∙ here;
-      within = h.range.locations.0;
+      within = h.range.places.0;
       is = (let n : named h.function.labels l ≡ name = cc in n);
     }
     by_item (Const d ty v) here h e = absurd cc

@@ -1,7 +1,5 @@
-mod Calls
-pub mod Encodings
-mod Fields
+pub mod Arrivals
+pub mod Calls
+pub mod LiveBlocks
 pub mod RunAnswers
-pub mod Runs
-mod Starts
-pub mod Words
+pub mod Starts

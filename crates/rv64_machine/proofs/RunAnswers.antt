@@ -7,8 +7,9 @@ use Rattle.rv64_machine.specs.declared.answer.RunAnswer.{RunAnswer}
 use Rattle.rv64_machine.specs.declared.answer.RunAnswer.TheVariants as run
 use Rattle.rv64_machine.specs.declared.machine.Machine.{Machine}
 use Rattle.rv64_machine.specs.StepAnswers.{StepsTo, RunsTo, Stepped, Ran, reached_after}
-use Rattle.rv64_machine.specs.Machine.{State, Stop, Finished, Trapped, machine_step}
-use Rattle.rv64_machine.specs.MachineView.{state_of, words_in, sizes_in}
+use Rattle.rv64_words.specs.Machine.{machine_step}
+use Rattle.rv64_words.specs.State.{State, Stop, Finished, Trapped}
+use Rattle.rv64_machine.specs.MachineView.{state_of, image_in, sizes_in}
 
 -- the answer of a step behind which the machine is stopped so
 abbrev pub step_answer : Option Stop → MachAnswer
@@ -35,7 +36,7 @@ RunsTo-answer run.WriteFault t steps old new before after r = inl refl
 RunsTo-answer (run.Trap trap) t steps old new before after r = inr (sym (ap run_answer r.0))
 
 pub Stepped-answer : (answer : MachAnswer) (old new : Machine) (before after : SinkSeen) → Stepped answer old new before after
-    → (answer ≡ step.WriteFault) ⊎ (answer ≡ step_answer (machine_step (words_in old) (sizes_in old) (state_of old)).stopped)
+    → (answer ≡ step.WriteFault) ⊎ (answer ≡ step_answer (machine_step (image_in old) (sizes_in old) (state_of old)).stopped)
 Stepped-answer answer old new before after r = StepsTo-answer answer _ old new before after r
 
 pub Ran-answer : (answer : RunAnswer) (steps : ℕ) (old new : Machine) (before after : SinkSeen) → Ran answer steps old new before after

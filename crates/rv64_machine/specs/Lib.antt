@@ -1,5 +1,2 @@
-pub mod StepAnswers
-pub mod Encoding
-pub mod Machine
 pub mod MachineView
-pub mod Region
+pub mod StepAnswers

@@ -1,7 +1,7 @@
 // What a call that runs a machine answers.
 
-use crate::trap::Trap;
 use bril_tree::limits::End;
+use rv64_words::trap::Trap;
 
 /// What one step of a machine answers.
 #[derive(Clone, Copy, PartialEq, Eq, Debug, Drop)]

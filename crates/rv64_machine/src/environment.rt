@@ -1,45 +1,79 @@
-// What the environment calls do outside the machine.
+// What the environment calls print and name.
 
-ghost use Rattle.std.specs.Prelude.{◌≡◌, ◌≢◌, [], OnOk, OnErr};
+ghost use Rattle.std.specs.Prelude.{◌≡◌, ◌≢◌, ◌-◌, [], ◌∷◌, true, false, OnOk, OnErr, MatchOption, suc, encode_utf8};
 ghost use Rattle.std.specs.Int.{w64, cast_signed};
 ghost use Rattle.std.specs.Fmt.{signed_decimal};
-ghost use Rattle.bril_outside.specs.Sink.{Rose, TookAll, TookSome};
-ghost use Rattle.rv64_machine.specs.Machine.{end_of};
+ghost use Rattle.bril_outside.specs.Sink.{TookBy};
+ghost use Rattle.rv64_words.specs.Environment.{truth_text, fault_of};
+ghost use Rattle.rv64_machine.specs.StepAnswers.{Written, NotWritten};
+ghost use lib.Utf8.{scalar};
 
 use bril_nums::put_int;
 use bril_outside::sink::{Failed, Sink};
-use bril_tree::limits::{End, Fault};
+use bril_tree::limits::Fault;
 
-// Prints the number as a signed decimal, one byte or more, by one `put`.
+/// Prints the number as a signed decimal, by one `put`.
 pub fn print_number<S: Sink>(number: u64, out: &mut S) -> Result<(), Failed>
-    ensures some { signed_decimal (cast_signed w64 number) ≢ [] }
-    ensures ok { OnOk result (TookAll (S.seen out.old) (signed_decimal (cast_signed w64 number)) (S.seen out.new)) }
-    ensures err { OnErr result (TookSome (S.seen out.old) (signed_decimal (cast_signed w64 number)) (S.seen out.new)
-        × Rose (S.seen out.old).faults (S.seen out.new).faults) }
+    ensures ok { OnOk result (Written (signed_decimal (cast_signed w64 number)) (S.seen out.old) (S.seen out.new)) }
+    ensures err { OnErr result (NotWritten (signed_decimal (cast_signed w64 number)) (S.seen out.old) (S.seen out.new)) }
 {
     let mut text = [0; 20];
     let count = put_int(number.cast_signed(), &mut text);
     out.put(&text[..count])
 }
 
-// The end that this number names: 0 the end of the program, 1 to 11 a fault.
-pub fn end_numbered(number: u64) -> Option<End>
-    ensures { result ≡ end_of number }
+/// Prints `false` for 0, else `true`, by one `put`.
+pub fn print_truth<S: Sink>(number: u64, out: &mut S) -> Result<(), Failed>
+    ensures ok { OnOk result (Written (truth_text number) (S.seen out.old) (S.seen out.new)) }
+    ensures err { OnErr result (NotWritten (truth_text number) (S.seen out.old) (S.seen out.new)) }
 {
-    let fault = match number {
-        0 => return Some(End::Ended),
-        1 => Fault::DivZero,
-        2 => Fault::BadChar,
-        3 => Fault::BadAlloc,
-        4 => Fault::BadFree,
-        5 => Fault::Access,
-        6 => Fault::Uninit,
-        7 => Fault::Leak,
-        8 => Fault::Frames,
-        9 => Fault::Cells,
-        10 => Fault::PtrRange,
-        11 => Fault::Allocs,
-        _ => return None,
-    };
-    Some(End::Faulted(fault))
+    if number == 0 { out.put(b"false") } else { out.put(b"true") }
+}
+
+/// Prints one byte, by one `put`.
+pub fn print_byte<S: Sink>(byte: u8, out: &mut S) -> Result<(), Failed>
+    ensures ok { OnOk result (Written (byte ∷ []) (S.seen out.old) (S.seen out.new)) }
+    ensures err { OnErr result (NotWritten (byte ∷ []) (S.seen out.old) (S.seen out.new)) }
+{
+    out.put(&[byte])
+}
+
+/// Prints the char in UTF-8, by one `put`.
+pub fn print_char<S: Sink>(letter: char, out: &mut S) -> Result<(), Failed>
+    ensures ok { OnOk result (Written (encode_utf8 letter) (S.seen out.old) (S.seen out.new)) }
+    ensures err { OnErr result (NotWritten (encode_utf8 letter) (S.seen out.old) (S.seen out.new)) }
+{
+    let mut units = [0; 4];
+    out.put(letter.encode_utf8(&mut units).as_bytes())
+}
+
+/// The char of a scalar value; `None` where the number is none.
+pub fn char_numbered(number: u64) -> Option<char>
+    ensures { MatchOption result (scalar number ≡ false) (λ c. (scalar number ≡ true) × (c ≡ number)) }
+{
+    if number > 0x10FFFF {
+        return None;
+    }
+    char::from_u32(number as u32)
+}
+
+/// The fault of a number, counted from 1.
+pub fn fault_numbered(number: u64) -> Option<Fault>
+    requires { number ≢ 0 }
+    ensures { result ≡ fault_of (number - 1) }
+{
+    match number {
+        1 => Some(Fault::DivZero),
+        2 => Some(Fault::BadChar),
+        3 => Some(Fault::BadAlloc),
+        4 => Some(Fault::BadFree),
+        5 => Some(Fault::Access),
+        6 => Some(Fault::Uninit),
+        7 => Some(Fault::Leak),
+        8 => Some(Fault::Frames),
+        9 => Some(Fault::Cells),
+        10 => Some(Fault::PtrRange),
+        11 => Some(Fault::Allocs),
+        _ => None,
+    }
 }

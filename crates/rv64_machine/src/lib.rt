@@ -1,12 +1,8 @@
-// A machine for RV64I words: their encoding, their meaning, and a machine that runs them.
+// A machine that runs images of RISC-V words.
 #![tactic(auto)]
 
 pub mod answer;
-pub mod encoding;
 mod environment;
-pub mod field;
-pub mod image;
 pub mod machine;
-mod region;
-pub mod trap;
-pub mod word;
+mod memory;
+mod operation;

@@ -16,8 +16,8 @@ use bril_tree::limits::{End, Limits};
 use bril_tree::program::Prog;
 use bril_words::{CELLS, FRAMES, STEPS};
 use rv64_machine::answer::RunAnswer;
-use rv64_machine::image::Image;
 use rv64_machine::machine::Machine;
+use rv64_words::image::Image;
 use std::alloc::Global;
 
 /// Runs an accepted program on the machine: what it prints goes to `out`.

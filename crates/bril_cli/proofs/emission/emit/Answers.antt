@@ -1,7 +1,7 @@
 use Rattle.std.proofs.Common.{◌≡◌, ◌*◌, ◌≤◌, ap, ◌∙◌, arith, length}
 use Rattle.std.proofs.lemmas.List.{length-map}
-use Rattle.rv64_machine.specs.Encoding.{encoded}
-use Rattle.rv64_machine.proofs.Encodings.{decoded-encoded}
+use Rattle.rv64_words.specs.Encoding.{encoded}
+use Rattle.rv64_words.proofs.Encodings.{decoded-encoded}
 use Rattle.bril_cli.specs.Implements.{frame_words}
 use Rattle.bril_cli.specs.Emitted.{program_words, bound_sum}
 use Rattle.bril_cli.proofs.Bounds.{words_bounded}
@@ -13,7 +13,7 @@ returns-clause-implements c =
     let image = c.in_ok-image_of.field-0 in
     let stack_is : image.stack ≡ c.args.limits.frames * frame_words c.args.prog.now = omega (arith, c.in_ok-image_of.ensures.stack) in
     let few : image.stack ≤ 8388608 = omega (arith, c.in_ok-image_of.ensures.stack) in
-    implements (record { again = decoded-encoded }) image c.args.prog.now c.args.limits c.requires c.in_ok-image_of.ensures.words stack_is few
+    implements (record { again = decoded-encoded }) image c.args.prog.now c.args.limits c.requires c.in_ok-image_of.ensures.words stack_is few c.in_ok-image_of.ensures.guards
 
 pub returns-clause-length : goal.returns-clause-length
 returns-clause-length c =

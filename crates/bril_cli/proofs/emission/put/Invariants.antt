@@ -1,5 +1,5 @@
 use Rattle.std.proofs.Common.{◌≡◌, ◌++◌, map, take}
-use Rattle.rv64_machine.specs.Encoding.{encoded}
+use Rattle.rv64_words.specs.Encoding.{encoded}
 use Rattle.bril_cli.proofs.emission.put.Given as goal
 
 abbrev pub invariant-loop-word : goal.invariant-loop-word

@@ -1,6 +1,6 @@
 use Rattle.std.proofs.Common.{◌≡◌, ◌++◌, map, take}
 use Rattle.std.specs.List.{flat_map}
-use Rattle.rv64_machine.specs.Encoding.{encoded}
+use Rattle.rv64_words.specs.Encoding.{encoded}
 use Rattle.bril_cli.specs.Emitted.{item_words}
 use Rattle.bril_cli.proofs.emission.put_function.Given as goal
 

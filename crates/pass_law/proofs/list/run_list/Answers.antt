@@ -5,7 +5,7 @@ use Rattle.pass_law.proofs.list.run_list.Goals as goal
 
 pub returns-in-Some-clause-stopped : goal.returns-in-Some-clause-stopped
 returns-in-Some-clause-stopped g c =
-    (known-slice (λ p. (goal.Pass-dyn g (p.vtable, p.value)).meaning p.value) c.args.passes.now c.args.profile.now c.as_slice.result.now c.args.names.now (Some c.in-Some.location) c.as_slice.ensures (c.in-Some.ensures c.args.profile.now), refl, refl)
+    (known-slice (λ p. (goal.Pass-dyn g (p.vtable, p.value)).meaning p.value) c.args.passes.now c.args.profile.now c.as_slice.result.now c.args.names.now (Some c.in-Some.place) c.as_slice.ensures (c.in-Some.ensures c.args.profile.now), refl, refl)
 
 pub returns-in-Some-clause-same : goal.returns-in-Some-clause-same
 returns-in-Some-clause-same g c = AllSame-refl (λ p. (goal.Pass-dyn g (p.vtable, p.value)).meaning p.value) c.args.passes.now

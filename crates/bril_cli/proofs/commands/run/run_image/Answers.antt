@@ -11,7 +11,7 @@ made g c = record { straight = c.requires.straight; implements = c.requires.impl
 fresh : (g : Over) (c : After-run g) → IsFresh c.in-Ok.machine c.args.image.now
 fresh g c = record {
   state = c.in-Ok.ensures.state;
-  words = c.in-Ok.ensures.words;
+  holds = c.in-Ok.ensures.image;
   sizes = search rules;
   sound = c.in-Ok.ensures.sound;
 }
