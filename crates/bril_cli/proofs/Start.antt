@@ -12,7 +12,6 @@ use Rattle.bril_tree.specs.State as bril
 use Rattle.rv64_words.specs.declared.image.Image.{Image}
 use Rattle.rv64_words.specs.declared.word.Word.{Word}
 use Rattle.rv64_words.specs.Encoding.{encoded}
-use Rattle.rv64_words.specs.Machine as machine
 use Rattle.rv64_words.specs.State as rv64
 use Rattle.bril_cli.specs.Implements.{program_system, image_system, Carried, Implements, frame_words, step_cost, variables_in}
 use Rattle.bril_cli.specs.Emitted.{code_words, program_words}

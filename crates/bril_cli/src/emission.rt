@@ -200,7 +200,7 @@ fn call(number: i16) -> [Word; 2]
 {
     [
         Word::OpImm {
-        operation: ImmediateOperation::Addi,
+            operation: ImmediateOperation::Addi,
             rd: Register::of(17),
             rs1: Register::of(0),
             immediate: Immediate::of(number),

@@ -1,8 +1,8 @@
 -- Whether a block is live, from the last one down.
-use Rattle.std.proofs.Common.{◌≡◌, ℕ, zero, suc, ◌+◌, ◌-◌, ◌*◌, ◌<◌, Bool, true, false, eqb, not, refl, ap, sym, subst, ◌∙◌, arith}
+use Rattle.std.proofs.Common.{◌≡◌, ℕ, zero, suc, ◌+◌, ◌*◌, ◌<◌, true, not, ap, subst, ◌∙◌, arith}
 use Rattle.std.specs.Prelude.{◌||◌}
 use Rattle.std.proofs.lemmas.Bool.{eq-eqb, ne_eqb}
-use Rattle.rv64_words.specs.Environment.{block_size, is_live_any}
+use Rattle.rv64_words.specs.Environment.{is_live_any}
 
 pub live_here : (table : ℕ → ℕ) (n : ℕ) → 0 < n → (table (2 * n + 1) ≡ 0 → ⊥) → is_live_any table n ≡ true
 live_here table zero some live = absurd (omega arith)

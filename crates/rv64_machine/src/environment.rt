@@ -27,7 +27,11 @@ pub fn print_truth<S: Sink>(number: u64, out: &mut S) -> Result<(), Failed>
     ensures ok { OnOk result (Written (truth_text number) (S.seen out.old) (S.seen out.new)) }
     ensures err { OnErr result (NotWritten (truth_text number) (S.seen out.old) (S.seen out.new)) }
 {
-    if number == 0 { out.put(b"false") } else { out.put(b"true") }
+    if number == 0 {
+        out.put(b"false")
+    } else {
+        out.put(b"true")
+    }
 }
 
 /// Prints one byte, by one `put`.

@@ -22,6 +22,7 @@ const LIMITS: Limits = Limits {
 
 // The words of the stack, and the most words that are executed.
 const STACK: u32 = 65536;
+
 const STEPS: u64 = 1_000_000_000_000;
 
 fn main(rt: HostRuntime) -> anyhow::Result<()> {
