@@ -13,7 +13,7 @@ use Rattle.rv64_words.specs.declared.word.Word.{Word}
 use Rattle.rv64_words.specs.declared.word.Word.TheVariants.{Lui, Ld, Sd, Ecall}
 use Rattle.rv64_words.specs.Encoding.{encoded, decoded, IsWord}
 use Rattle.rv64_words.specs.Fields.{IsImmediate}
-use Rattle.rv64_words.specs.Region.{Sizes, InStack, place_at, stack_base}
+use Rattle.rv64_words.specs.Region.{Sizes, InStack, address_at, stack_base}
 use Rattle.rv64_words.specs.declared.image.Image.{Image}
 use Rattle.rv64_words.specs.Arithmetic.{extended_32, moved_by}
 use Rattle.rv64_words.specs.Environment.{called, ended, end_of, is_live_any}
@@ -204,7 +204,7 @@ module _ (decodes : Decodes) (image : Image) (no_guards : image.guards ≡ []) (
 
   -- ---- the frame's words
 
-  within_stack : (x : ℕ) → 2 + x < z.stack → z.stack ≤ 8388608 → place_at z (stack_base + frame_offset x) ≡ Some (InStack (2 + x))
+  within_stack : (x : ℕ) → 2 + x < z.stack → z.stack ≤ 8388608 → address_at z (stack_base + frame_offset x) ≡ Some (InStack (2 + x))
   within_stack x lt few = grind (arith, nat_tests)
 
   -- register 6 comes to the frame's base plus the high part of a variable's offset
@@ -248,7 +248,7 @@ module _ (decodes : Decodes) (image : Image) (no_guards : image.guards ≡ []) (
       let at = moved_by (t1.registers 6) (low_part (frame_offset x)) in
       let at_is : at ≡ stack_base + frame_offset x = ap (λ y. (y + cast_unsigned w64 (low_part (frame_offset x))) % 2 ^ 64) b.1.holds ∙ address_is x below in
       let six : 6 < 32 = omega arith in
-      let place : place_at z at ≡ Some (InStack (2 + x)) = ap (place_at z) at_is ∙ within_stack x lt few in
+      let place : address_at z at ≡ Some (InStack (2 + x)) = ap (address_at z) at_is ∙ within_stack x lt few in
       let runs : executed z (Ld r 6 (low_part (frame_offset x))) t1 ≡ next (with_register t1 r (t1.stack (2 + x))) = ap (loaded t1 r at) place in
       let l = one_write (Ld r 6 (low_part (frame_offset x))) (free.in_range, six, low_part_fits (frame_offset x)) t1 (k + 1 + 1) r (t1.stack (2 + x)) b.1.ready has.1.1.0 free runs in
       let t2 = next (with_register t1 r (t1.stack (2 + x))) in
@@ -272,7 +272,7 @@ module _ (decodes : Decodes) (image : Image) (no_guards : image.guards ≡ []) (
       let at = moved_by (t1.registers 6) (low_part (frame_offset x)) in
       let at_is : at ≡ stack_base + frame_offset x = ap (λ y. (y + cast_unsigned w64 (low_part (frame_offset x))) % 2 ^ 64) b.1.holds ∙ address_is x below in
       let six : 6 < 32 = omega arith in
-      let place : place_at z at ≡ Some (InStack (2 + x)) = ap (place_at z) at_is ∙ within_stack x lt few in
+      let place : address_at z at ≡ Some (InStack (2 + x)) = ap (address_at z) at_is ∙ within_stack x lt few in
       let t2 : State = next (record t1 { stack = assigned t1.stack (2 + x) (t1.registers r) }) in
       let runs : executed z (Sd 6 r (low_part (frame_offset x))) t1 ≡ t2 = ap (stored t1 (t1.registers r) at) place in
       let one = step_executes (Sd 6 r (low_part (frame_offset x))) (six, free.in_range, low_part_fits (frame_offset x)) t1 (k + 1 + 1) b.1.ready.running b.1.ready.at has.1.1.0 ∙ runs in

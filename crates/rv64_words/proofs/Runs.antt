@@ -15,8 +15,8 @@ use Rattle.rv64_words.specs.declared.word.Word.TheVariants.{Lui, Jal, Jalr, Bran
 use Rattle.rv64_words.specs.Arithmetic.{moved_by, holds}
 use Rattle.rv64_words.specs.Encoding.{decoded}
 use Rattle.rv64_words.specs.Environment.{truth_text, char_printed, allocation_fault, allocated_or_fault, is_freeable, freed, end_of, ended, called}
-use Rattle.rv64_words.specs.Machine.{branched, read_place, loaded, stored, executed, fetched, decoded_step, fetched_step, is_guard_word, counted_unless, arrived_if, running_step, machine_step, machine_after}
-use Rattle.rv64_words.specs.Region.{Sizes, Place, InStack, InTable, InCells}
+use Rattle.rv64_words.specs.Machine.{branched, read_address, loaded, stored, executed, fetched, decoded_step, fetched_step, is_guard_word, counted_unless, arrived_if, running_step, machine_step, machine_after}
+use Rattle.rv64_words.specs.Region.{Sizes, Address, InStack, InTable, InCells}
 use Rattle.rv64_words.specs.State.{State, Stop, Finished, Trapped, assigned, with_register, with_printed, next, finished, trapped}
 
 -- the state with these bytes printed before
@@ -41,16 +41,16 @@ front-branched : (p : List ℕ) (s : State) (b : Bool) (d : ℤ) → branched b 
 front-branched p s true d = refl
 front-branched p s false d = refl
 
-front-read_place : (p : List ℕ) (s : State) (place : Place) → read_place (in_front p s) place ≡ read_place s place
-front-read_place p s (InStack k) = refl
-front-read_place p s (InTable k) = refl
-front-read_place p s (InCells k) = refl
+front-read_address : (p : List ℕ) (s : State) (address : Address) → read_address (in_front p s) address ≡ read_address s address
+front-read_address p s (InStack k) = refl
+front-read_address p s (InTable k) = refl
+front-read_address p s (InCells k) = refl
 
-front-loaded : (p : List ℕ) (s : State) (rd at : ℕ) (o : Option Place) → loaded (in_front p s) rd at o ≡ in_front p (loaded s rd at o)
+front-loaded : (p : List ℕ) (s : State) (rd at : ℕ) (o : Option Address) → loaded (in_front p s) rd at o ≡ in_front p (loaded s rd at o)
 front-loaded p s rd at None = refl
-front-loaded p s rd at (Some place) = ap (λ v. next (with_register (in_front p s) rd v)) (front-read_place p s place) ∙ front-next p s rd (read_place s place)
+front-loaded p s rd at (Some address) = ap (λ v. next (with_register (in_front p s) rd v)) (front-read_address p s address) ∙ front-next p s rd (read_address s address)
 
-front-stored : (p : List ℕ) (s : State) (v at : ℕ) (o : Option Place) → stored (in_front p s) v at o ≡ in_front p (stored s v at o)
+front-stored : (p : List ℕ) (s : State) (v at : ℕ) (o : Option Address) → stored (in_front p s) v at o ≡ in_front p (stored s v at o)
 front-stored p s v at None = refl
 front-stored p s v at (Some (InStack k)) = refl
 front-stored p s v at (Some (InTable k)) = refl

@@ -1,4 +1,4 @@
--- Lists of words as functions of the place.
+-- Lists of words as functions of the index.
 use Rattle.std.proofs.Common.{ap, map, take, ◌≡◌, ℕ, zero, suc, ◌+◌, ◌<◌, cond, eqb, List, [], ◌∷◌, ◌++◌, length, get_or, set, replicate, refl, sym, ◌∙◌, ⊎_elim, arith, get_or-set_same, get_or-set_other}
 use Rattle.std.proofs.lemmas.Bool.{cases_eq, eq-eqb, ne_eqb, cases_lt}
 use Rattle.std.proofs.lemmas.List.{get_or-replicate, get_or_past, get_or_append_left, get_or_push, length-map, length-take-le, map_more, length-replicate, length_push}

@@ -29,18 +29,18 @@ abbrev pub sizes_of : Image → ℕ → Sizes
 sizes_of image cells = record { stack = image.stack; cells = 2 * cells }
 
 -- a word of memory, by its region and its number there
-pub data Place : Type 0 where
-  InStack : (k : ℕ) → Place
-  InTable : (k : ℕ) → Place
-  InCells : (k : ℕ) → Place
+pub data Address : Type 0 where
+  InStack : (k : ℕ) → Address
+  InTable : (k : ℕ) → Address
+  InCells : (k : ℕ) → Address
 
 -- the address lies in a region of this base and size
 abbrev pub is_within : ℕ → ℕ → ℕ → Bool
 is_within base words at = nat_le base at && nat_lt at (base + 8 * words)
 
 -- the word at an address, which is a multiple of 8 inside a region
-abbrev pub place_at : Sizes → ℕ → Option Place
-place_at z at =
+abbrev pub address_at : Sizes → ℕ → Option Address
+address_at z at =
     if at % 8 == 0 then
     (if is_within stack_base z.stack at then Some (InStack ((at - stack_base) / 8))
     else (if is_within table_base table_words at then Some (InTable ((at - table_base) / 8))

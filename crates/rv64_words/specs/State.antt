@@ -32,7 +32,7 @@ pub record State : Type 0 where
 abbrev pub assigned : (ℕ → ℕ) → ℕ → ℕ → (ℕ → ℕ)
 assigned f x v y = if y == x then v else f y
 
--- a list as a function of the place, 0 past its end
+-- a list as a function of the index, 0 past its end
 abbrev pub words_of : List ℕ → (ℕ → ℕ)
 words_of xs k = slice_index xs k
 
