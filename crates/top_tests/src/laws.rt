@@ -4,7 +4,7 @@ ghost use Rattle.std.specs.Prelude.{◌≡◌};
 
 use simulation::{
     Relates, follows_itself, follows_on, follows_slower, plus_follows, plus_tracks,
-    simulation_follows, star_follows,
+    simulation_follows, star_follows, star_tracks,
 };
 
 struct Equal;
