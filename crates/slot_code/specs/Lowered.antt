@@ -1,6 +1,6 @@
 -- The code over slots of a program.
 use Rattle.std.specs.Prelude.{◌≡◌, ℕ, List, length, map, Option, Some, None, slice_get, slice_index, unwrap_or}
-use Rattle.std.specs.List.{AllZip}
+use Rattle.std.specs.List.{AllZip, range_with_len}
 use Rattle.bril_tree.specs.declared.numbered.Instr.{Instr}
 use Rattle.bril_tree.specs.declared.numbered.Instr.TheVariants.{Label, Const, Act}
 use Rattle.bril_tree.specs.declared.numbered.VarInfo.{VarInfo}
@@ -11,7 +11,7 @@ use Rattle.bril_tree.specs.declared.program.Prog.{Prog}
 use Rattle.bril_tree.specs.declared.types.Base.{Base}
 use Rattle.bril_tree.specs.declared.types.Base.TheVariants as base
 use Rattle.bril_tree.specs.declared.types.Ty.{Ty}
-use Rattle.bril_tree.specs.FrameWords.{AreFrameWords}
+use Rattle.bril_tree.specs.FrameWords.{AreFrameWords, location_count}
 use Rattle.bril_tree.specs.Step.{point_of}
 use Rattle.bril_tree.specs.Typing.{variable_type}
 use Rattle.bril_tree.specs.Value.{literal_value, zero_of}
@@ -26,6 +26,7 @@ use Rattle.slot_code.specs.declared.item.UnaryOp.{UnaryOp}
 use Rattle.slot_code.specs.declared.item.UnaryOp.TheVariants as unary
 use Rattle.slot_code.specs.declared.slots.SlotFunction.{SlotFunction}
 use Rattle.slot_code.specs.declared.slots.Slots.{Slots}
+use Rattle.slot_code.specs.Numbering.{is_used, shadow_number, slots_in}
 
 -- ---- items
 
@@ -150,6 +151,9 @@ pub record AreDepths (code : List Instr) (depths : List ℕ) : Type 0 where
 pub record IsLoweredFunction (f : Func) (g : SlotFunction) : Type 0 where
   pub args : g.args ≡ f.args
   pub variables : g.variables ≡ length f.vars
+  pub slots : g.slots ≡ slots_in g.variables (is_used g.code)
+  pub shadow_numbers : g.shadow_numbers ≡ map (shadow_number g.variables (is_used g.code)) (range_with_len 0 g.variables)
+  pub count : length g.slots ≡ location_count f
   pub depths : AreDepths f.code g.depths
   pub words : AreFrameWords f g.words
   pub code : g.code ≡ map (lowered_item f) f.code

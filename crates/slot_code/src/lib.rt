@@ -6,11 +6,14 @@ mod effects;
 mod item;
 mod items;
 mod kinds;
+mod laws;
+mod numbering;
 mod numbers;
 mod operations;
 mod program;
 mod slots;
 
 pub use item::{BinaryOp, Printed, Slot, SlotItem, UnaryOp};
+pub use laws::{slots_have_numbers, steps_read_no_program};
 pub use program::lower;
 pub use slots::{SlotFunction, Slots};

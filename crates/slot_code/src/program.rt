@@ -14,6 +14,7 @@ ghost use Rattle.slot_code.specs.Meaning.{slot_step, slot_state_after};
 
 use crate::depths::depths_of;
 use crate::items::lower_items;
+use crate::numbering::{all_slots, shadow_numbers, used_shadows};
 use crate::slots::{SlotFunction, Slots};
 use bril_checker::Checked;
 use bril_tree::numbered_function::Func;
@@ -55,11 +56,16 @@ fn lower_function(alloc: Global, func: &Func, words: u64) -> Result<SlotFunction
     ensures { IfOk result (IsLoweredFunction func.now) }
 {
     let points = func.label_points(alloc)?;
+    let code = lower_items(alloc, func, points.as_slice())?;
+    let variables = func.vars.as_slice().len();
+    let used = used_shadows(alloc, variables, code.as_slice())?;
     Ok(SlotFunction {
         args: func.args,
-        variables: func.vars.as_slice().len(),
+        variables,
+        slots: all_slots(alloc, used.as_slice())?,
+        shadow_numbers: shadow_numbers(alloc, used.as_slice())?,
         depths: depths_of(alloc, func)?,
         words,
-        code: lower_items(alloc, func, points.as_slice())?,
+        code,
     })
 }
