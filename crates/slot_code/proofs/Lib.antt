@@ -1,0 +1,6 @@
+pub mod Counting
+pub mod Functions
+pub mod Places
+pub mod Points
+pub mod Listing
+pub mod Steps

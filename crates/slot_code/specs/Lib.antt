@@ -1,0 +1,4 @@
+pub mod Laws
+pub mod Lowered
+pub mod Meaning
+pub mod Numbering

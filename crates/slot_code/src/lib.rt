@@ -1,0 +1,19 @@
+//! Code over the slots of a frame, with resolved jumps: what a program does, in the form from which machine words are made.
+#![tactic(auto)]
+
+mod depths;
+mod effects;
+mod item;
+mod items;
+mod kinds;
+mod laws;
+mod numbering;
+mod numbers;
+mod operations;
+mod program;
+mod slots;
+
+pub use item::{BinaryOp, Printed, Slot, SlotItem, UnaryOp};
+pub use laws::{slots_have_numbers, steps_read_no_program};
+pub use program::lower;
+pub use slots::{SlotFunction, Slots};
