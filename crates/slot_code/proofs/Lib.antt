@@ -4,3 +4,4 @@ pub mod Places
 pub mod Points
 pub mod Listing
 pub mod Steps
+pub mod Uses

@@ -1,11 +1,15 @@
 -- Laws of code over slots.
-use Rattle.std.specs.Prelude.{◌≡◌, ◌<◌, Some, IsTrue, slice_get}
+use Rattle.std.specs.Prelude.{◌≡◌, ℕ, ◌<◌, List, [], ◌∷◌, ◌++◌, All, map, Some, IsTrue, slice_get}
 use Rattle.bril_tree.specs.declared.limits.Limits.{Limits}
 use Rattle.bril_tree.specs.declared.numbered_function.Func.{Func}
 use Rattle.bril_tree.specs.declared.program.Prog.{Prog}
+use Rattle.bril_tree.specs.Accepted.{IsAccepted}
+use Rattle.bril_tree.specs.FunctionForm.{listed}
 use Rattle.bril_tree.specs.State.{State}
 use Rattle.slot_code.specs.declared.item.Slot.{Slot}
 use Rattle.slot_code.specs.declared.item.Slot.TheVariants.{Variable, Shadow}
+use Rattle.slot_code.specs.declared.item.SlotItem.{SlotItem}
+use Rattle.slot_code.specs.declared.item.SlotItem.TheVariants.{Pass, Constant, Copy, Unary, Binary, Jump, Branch, Call, Return, Print, Alloc, Free, Store, Load, Speculate, Commit, Guard}
 use Rattle.slot_code.specs.declared.slots.SlotFunction.{SlotFunction}
 use Rattle.slot_code.specs.declared.slots.Slots.{Slots}
 use Rattle.slot_code.specs.Lowered.{IsLoweredFunction}
@@ -21,6 +25,31 @@ IsSlotOf g (Shadow x) = (x < g.variables) × IsTrue (is_used g.code x)
 abbrev pub SlotsHaveNumbers : Type 0
 SlotsHaveNumbers = (f : Func) (g : SlotFunction) → IsLoweredFunction f g → (slot : Slot) → IsSlotOf g slot →
     slice_get g.slots (slot_number g.shadow_numbers slot) ≡ Some slot
+
+-- the slots that an item reads or writes
+abbrev pub slots_used : SlotItem → List Slot
+slots_used Pass = []
+slots_used (Constant dest value) = Variable dest ∷ []
+slots_used (Copy dest from) = dest ∷ from ∷ []
+slots_used (Unary operation dest operand) = Variable dest ∷ Variable operand ∷ []
+slots_used (Binary operation dest first second) = Variable dest ∷ Variable first ∷ Variable second ∷ []
+slots_used (Jump to) = []
+slots_used (Branch condition then_to else_to) = Variable condition ∷ []
+slots_used (Call dest function args) = map Variable (listed dest ++ args)
+slots_used (Return value) = map Variable (listed value)
+slots_used (Print args) = map (λ a. Variable a.variable) args
+slots_used (Alloc dest count) = Variable dest ∷ Variable count ∷ []
+slots_used (Free pointer) = Variable pointer ∷ []
+slots_used (Store pointer value) = Variable pointer ∷ Variable value ∷ []
+slots_used (Load dest pointer) = Variable dest ∷ Variable pointer ∷ []
+slots_used Speculate = []
+slots_used Commit = []
+slots_used (Guard condition abort_to) = Variable condition ∷ []
+
+-- what an item of an accepted program reads or writes is a slot of its function
+abbrev pub ItemsUseSlots : Type 0
+ItemsUseSlots = (p : Prog) (k : ℕ) (f : Func) (g : SlotFunction) → IsAccepted p → slice_get p.funcs k ≡ Some f → IsLoweredFunction f g →
+    (point : ℕ) (item : SlotItem) → slice_get g.code point ≡ Some item → All (IsSlotOf g) (slots_used item)
 
 -- the step of code over slots depends on no program
 abbrev pub StepsReadNoProgram : Type 0

@@ -14,6 +14,6 @@ mod program;
 mod slots;
 
 pub use item::{BinaryOp, Printed, Slot, SlotItem, UnaryOp};
-pub use laws::{slots_have_numbers, steps_read_no_program};
+pub use laws::{items_use_slots, slots_have_numbers, steps_read_no_program};
 pub use program::lower;
 pub use slots::{SlotFunction, Slots};
