@@ -1,5 +1,5 @@
 -- The words of operations with two operands.
-use Rattle.std.proofs.Common.{◌≡◌, ℕ, ◌+◌, ◌-◌, ◌*◌, ◌%◌, ◌^◌, ◌<◌, ◌≤◌, Bool, true, false, not, eqb, ltb, leb, refl, sym, ap, ◌∙◌, subst, arith, List, [], ◌∷◌, ◌++◌, length, Some, None, ℤ, pos, ◌+ℤ◌}
+use Rattle.std.proofs.Common.{◌≡◌, ℕ, ◌+◌, ◌-◌, ◌*◌, ◌%◌, ◌^◌, ◌<◌, ◌≤◌, Bool, true, false, not, ◌&&◌, ◌||◌, eqb, ltb, leb, refl, sym, ap, ◌∙◌, subst, arith, List, [], ◌∷◌, ◌++◌, length, Some, None, ℤ, pos, ◌+ℤ◌}
 use Rattle.std.specs.Prelude.{FitsSigned, ◌-ℤ◌, ◌*ℤ◌, int_lt, int_le, int_div, bit_and, bit_or}
 use Rattle.std.specs.Int.{w64, cast_unsigned, int_wrap, from_bool}
 use Rattle.bril_tree.specs.declared.limits.End.TheVariants.{Faulted}
@@ -13,7 +13,7 @@ use Rattle.bril_tree.specs.Value.{word_of}
 use Rattle.rv64_words.specs.declared.image.Image.{Image}
 use Rattle.rv64_words.specs.declared.word.Word.{Word}
 use Rattle.rv64_words.specs.Arithmetic.{less_signed, divided}
-use Rattle.rv64_words.specs.Mnemonics.{div}
+use Rattle.rv64_words.specs.Mnemonics.{add, sub, mul, and, or, div}
 use Rattle.rv64_words.specs.Region.{Sizes}
 use Rattle.rv64_runs.specs.Core.{Core, written, Keeps}
 use Rattle.rv64_runs.specs.Runs.{HasAt, AreComputing, effects}
@@ -84,9 +84,9 @@ module _ (image : Image) (z : Sizes) (k : ℕ) (c : Core) (a b : Value) where
       subst (λ x. EndsSo image z k c 5 (Faulted x)) (faulted fault.DivZero kind is) (faults_by image z 5 0 fault.DivZero (omega arith) (omega arith) (keeps_itself c) r.null refl g1)
 
 pub binary_gives : BinaryWordsGive
-binary_gives image z k c binary.Add a b v r is = row image z k c _ _ v r.has (tt, tt) (one_kept c _) (two (λ x y. (x + y) % 2 ^ 64) (r.first ∙ int_word a r.suits.0) (r.second ∙ int_word b r.suits.1) ∙ add_word (int_of a) (int_of b) (int_fits a r.suits.0) (int_fits b r.suits.1)) is
-binary_gives image z k c binary.Sub a b v r is = row image z k c _ _ v r.has (tt, tt) (one_kept c _) (two (λ x y. (x + (2 ^ 64 - y)) % 2 ^ 64) (r.first ∙ int_word a r.suits.0) (r.second ∙ int_word b r.suits.1) ∙ sub_word (int_of a) (int_of b) (int_fits a r.suits.0) (int_fits b r.suits.1)) is
-binary_gives image z k c binary.Mul a b v r is = row image z k c _ _ v r.has (tt, tt) (one_kept c _) (two (λ x y. x * y % 2 ^ 64) (r.first ∙ int_word a r.suits.0) (r.second ∙ int_word b r.suits.1) ∙ mul_word (int_of a) (int_of b) (int_fits a r.suits.0) (int_fits b r.suits.1)) is
+binary_gives image z k c binary.Add a b v r is = row image z k c (add 5 5 7 ∷ []) (Int (int_wrap w64 (int_of a +ℤ int_of b))) v r.has (tt, tt) (one_kept c _) (two (λ x y. (x + y) % 2 ^ 64) (r.first ∙ int_word a r.suits.0) (r.second ∙ int_word b r.suits.1) ∙ add_word (int_of a) (int_of b) (int_fits a r.suits.0) (int_fits b r.suits.1)) is
+binary_gives image z k c binary.Sub a b v r is = row image z k c (sub 5 5 7 ∷ []) (Int (int_wrap w64 (int_of a -ℤ int_of b))) v r.has (tt, tt) (one_kept c _) (two (λ x y. (x + (2 ^ 64 - y)) % 2 ^ 64) (r.first ∙ int_word a r.suits.0) (r.second ∙ int_word b r.suits.1) ∙ sub_word (int_of a) (int_of b) (int_fits a r.suits.0) (int_fits b r.suits.1)) is
+binary_gives image z k c binary.Mul a b v r is = row image z k c (mul 5 5 7 ∷ []) (Int (int_wrap w64 (int_of a *ℤ int_of b))) v r.has (tt, tt) (one_kept c _) (two (λ x y. x * y % 2 ^ 64) (r.first ∙ int_word a r.suits.0) (r.second ∙ int_word b r.suits.1) ∙ mul_word (int_of a) (int_of b) (int_fits a r.suits.0) (int_fits b r.suits.1)) is
 binary_gives image z k c binary.Div a b v r is = div_gives image z k c a b r (int_same (int_of b) (pos 0)) refl v is
 binary_gives image z k c binary.Eq a b v r is = row image z k c same_words (Boolean (int_same (int_of a) (int_of b))) v r.has (tt, (tt, tt)) (two_kept c _ _) (same_is _ _ _ _ (r.first ∙ int_word a r.suits.0) (r.second ∙ int_word b r.suits.1) _ (same_word (int_of a) (int_of b) (int_fits a r.suits.0) (int_fits b r.suits.1))) is
 binary_gives image z k c binary.Lt a b v r is = row image z k c less_words (Boolean (int_lt (int_of a) (int_of b))) v r.has (tt, tt) (one_kept c _) (less_is _ _ _ _ (r.first ∙ int_word a r.suits.0) (r.second ∙ int_word b r.suits.1) _ (less_word (int_of a) (int_of b) (int_fits a r.suits.0) (int_fits b r.suits.1))) is
@@ -98,8 +98,8 @@ binary_gives image z k c binary.Clt a b v r is = row image z k c less_words (Boo
 binary_gives image z k c binary.Cgt a b v r is = row image z k c greater_words (Boolean (ltb (char_of b) (char_of a))) v r.has (tt, tt) (one_kept c _) (less_is _ _ _ _ (r.second ∙ char_word b r.suits.1) (r.first ∙ char_word a r.suits.0) _ (less_chars (char_of b) (char_of a) (char_below b r.suits.1) (char_below a r.suits.0))) is
 binary_gives image z k c binary.Cle a b v r is = row image z k c not_greater_words (Boolean (leb (char_of a) (char_of b))) v r.has (tt, (tt, tt)) (two_kept c _ _) (not_less_is _ _ _ _ (r.second ∙ char_word b r.suits.1) (r.first ∙ char_word a r.suits.0) _ _ (less_chars (char_of b) (char_of a) (char_below b r.suits.1) (char_below a r.suits.0)) (not_less_nat (char_of a) (char_of b))) is
 binary_gives image z k c binary.Cge a b v r is = row image z k c not_less_words (Boolean (leb (char_of b) (char_of a))) v r.has (tt, (tt, tt)) (two_kept c _ _) (not_less_is _ _ _ _ (r.first ∙ char_word a r.suits.0) (r.second ∙ char_word b r.suits.1) _ _ (less_chars (char_of a) (char_of b) (char_below a r.suits.0) (char_below b r.suits.1)) (not_less_nat (char_of b) (char_of a))) is
-binary_gives image z k c binary.And a b v r is = row image z k c _ _ v r.has (tt, tt) (one_kept c _) (two bit_and (r.first ∙ bool_word a r.suits.0) (r.second ∙ bool_word b r.suits.1) ∙ and_word (bool_of a) (bool_of b)) is
-binary_gives image z k c binary.Or a b v r is = row image z k c _ _ v r.has (tt, tt) (one_kept c _) (two bit_or (r.first ∙ bool_word a r.suits.0) (r.second ∙ bool_word b r.suits.1) ∙ or_word (bool_of a) (bool_of b)) is
+binary_gives image z k c binary.And a b v r is = row image z k c (and 5 5 7 ∷ []) (Boolean (bool_of a && bool_of b)) v r.has (tt, tt) (one_kept c _) (two bit_and (r.first ∙ bool_word a r.suits.0) (r.second ∙ bool_word b r.suits.1) ∙ and_word (bool_of a) (bool_of b)) is
+binary_gives image z k c binary.Or a b v r is = row image z k c (or 5 5 7 ∷ []) (Boolean (bool_of a || bool_of b)) v r.has (tt, tt) (one_kept c _) (two bit_or (r.first ∙ bool_word a r.suits.0) (r.second ∙ bool_word b r.suits.1) ∙ or_word (bool_of a) (bool_of b)) is
 binary_gives image z k c binary.PtrAdd a b v r is = pointer_gives image z k c a b v r is
 
 pub binary_faults : BinaryWordsFault
