@@ -1,5 +1,5 @@
 -- Environment calls: the prints, the blocks of memory and the ends.
-use Rattle.std.proofs.Common.{◌≡◌, ℕ, zero, suc, ◌+◌, ◌*◌, ◌/◌, ◌%◌, ◌^◌, ◌<◌, ◌≤◌, Bool, true, false, cond, refl, sym, ap, ◌∙◌, arith, List, [], ◌∷◌, ◌++◌, Option, Some, None}
+use Rattle.std.proofs.Common.{◌≡◌, ℕ, zero, suc, ◌+◌, ◌/◌, ◌^◌, Bool, true, false, cond, refl, ap, ◌∙◌, List, [], ◌∷◌, Option, Some, None}
 use Rattle.std.specs.Prelude.{encode_utf8, if◌then◌else◌}
 use Rattle.std.specs.Option.{option_map}
 use lib.Utf8.{scalar}
@@ -16,12 +16,12 @@ use Rattle.rv64_words.specs.declared.image.Image.{Image}
 use Rattle.rv64_words.specs.declared.trap.Trap.TheVariants as trap
 use Rattle.rv64_words.specs.declared.word.Word.{Word}
 use Rattle.rv64_words.specs.declared.word.Word.TheVariants.{Ecall}
-use Rattle.rv64_words.specs.Environment.{truth_text, char_printed, allocation_fault, allocated_or_fault, is_freeable, freed, is_live_any, program_end, fault_of, end_of, ended, called}
-use Rattle.rv64_words.specs.Machine.{executed, machine_step}
+use Rattle.rv64_words.specs.Environment.{truth_text, allocation_fault, allocated_or_fault, is_freeable, is_live_any, fault_of, end_of, ended, called}
+use Rattle.rv64_words.specs.Machine.{machine_step}
 use Rattle.rv64_words.specs.Region.{Sizes}
-use Rattle.rv64_words.specs.State.{State, with_printed, next, finished, trapped}
+use Rattle.rv64_words.specs.State.{with_printed, next, finished, trapped}
 use Rattle.rv64_runs.specs.Core.{Core, machine, said, with_block, without_block}
-use Rattle.rv64_runs.specs.Runs.{Runs, Ends}
+use Rattle.rv64_runs.specs.Runs.{Ends}
 use Rattle.rv64_runs.proofs.Steps.{step_is, goes_next, followed_by}
 use Rattle.rv64_runs.proofs.Going.{Going}
 
@@ -55,7 +55,7 @@ module _ (image : Image) (z : Sizes) where
     at = j;
     done = g.runs.done;
     steps = λ d. after-add (machine_step image z) n 1 (machine k c d) ∙ (ap (after (machine_step image z) 1) (g.runs.steps d)
-    ∙ (step_is image z j Ecall e (g.runs.done d) g.has.0 ∙ (ap (λ v. called z v (e.registers 10) (machine j e (g.runs.done d))) is ∙ does (g.runs.done d))));
+        ∙ (step_is image z j Ecall e (g.runs.done d) g.has.0 ∙ (ap (λ v. called z v (e.registers 10) (machine j e (g.runs.done d))) is ∙ does (g.runs.done d))));
   }
 
   -- ---- the prints

@@ -1,6 +1,5 @@
 -- A stretch so far, and what comes of it by each kind of word.
-use Rattle.std.proofs.Common.{◌≡◌, ℕ, zero, suc, ◌+◌, ◌-◌, ◌*◌, ◌/◌, ◌%◌, ◌^◌, ◌<◌, ◌≤◌, Bool, true, false, refl, sym, ap, ◌∙◌, subst, arith, List, [], ◌∷◌, ◌++◌, length, Option, Some, None, ℤ, pos}
-use Rattle.std.specs.Int.{w64, cast_unsigned}
+use Rattle.std.proofs.Common.{◌≡◌, ℕ, suc, ◌+◌, ◌*◌, ◌/◌, ◌%◌, ◌^◌, ◌<◌, ◌≤◌, true, false, refl, ap, ◌∙◌, subst, arith, List, [], ◌∷◌, ◌++◌, length, Some, ℤ, pos}
 use Rattle.simulation.specs.System.{after}
 use Rattle.simulation.proofs.After.{after-add}
 use Rattle.bril_tree.specs.State.{counted}
@@ -12,7 +11,7 @@ use Rattle.rv64_words.specs.declared.word.Word.TheVariants.{Jal, Jalr, Branch, L
 use Rattle.rv64_words.specs.Arithmetic.{moved_by, holds}
 use Rattle.rv64_words.specs.Machine.{branched, read_address, loaded, stored, executed, machine_step}
 use Rattle.rv64_words.specs.Region.{Sizes, Address, InStack, InTable, InCells, stack_base, table_base, cells_base, table_words, address_at}
-use Rattle.rv64_words.specs.State.{State, assigned, with_register, next, goes_to}
+use Rattle.rv64_words.specs.State.{State, with_register, next}
 use Rattle.rv64_runs.specs.Core.{Core, at_pc, machine, written, put, put_cell, arrived}
 use Rattle.rv64_runs.specs.Runs.{WordAt, HasAt, IsComputing, AreComputing, effect, effects, Runs, Ends}
 use Rattle.rv64_runs.proofs.Steps.{step_is, guard_step_is, goes_next, register_written, computing_is, stays, followed_by, stack_address, table_address, cells_address}
@@ -94,14 +93,14 @@ module _ (image : Image) (z : Sizes) where
   pub store : {k : ℕ} {c : Core} {n j : ℕ} {e : Core} {rs1 rs2 : ℕ} {i : ℤ} {ws : List Word} → (at : ℕ) → moved_by (e.registers rs1) i ≡ stack_base + 8 * at → at < z.stack → Going k c n j e (Sd rs1 rs2 i ∷ ws) → Going k c (n + 1) (j + 1) (put e at (e.registers rs2)) ws
   store {j = j} {e = e} {rs1 = rs1} {rs2 = rs2} {i = i} at is lt g = record {
     runs = one_step (Sd rs1 rs2 i) (j + 1) (put e at (e.registers rs2)) g
-      (λ d. ap (λ a. stored (machine j e d) (e.registers rs2) a (address_at z a)) is ∙ (ap (stored (machine j e d) (e.registers rs2) (stack_base + 8 * at)) (stack_address z at lt) ∙ goes_next j (put e at (e.registers rs2)) d));
+        (λ d. ap (λ a. stored (machine j e d) (e.registers rs2) a (address_at z a)) is ∙ (ap (stored (machine j e d) (e.registers rs2) (stack_base + 8 * at)) (stack_address z at lt) ∙ goes_next j (put e at (e.registers rs2)) d));
     has = g.has.1;
   }
 
   pub store_cell : {k : ℕ} {c : Core} {n j : ℕ} {e : Core} {rs1 rs2 : ℕ} {i : ℤ} {ws : List Word} → (at : ℕ) → moved_by (e.registers rs1) i ≡ cells_base + 8 * at → z.stack ≤ 8388608 → at < z.cells → Going k c n j e (Sd rs1 rs2 i ∷ ws) → Going k c (n + 1) (j + 1) (put_cell e at (e.registers rs2)) ws
   store_cell {j = j} {e = e} {rs1 = rs1} {rs2 = rs2} {i = i} at is few lt g = record {
     runs = one_step (Sd rs1 rs2 i) (j + 1) (put_cell e at (e.registers rs2)) g
-      (λ d. ap (λ a. stored (machine j e d) (e.registers rs2) a (address_at z a)) is ∙ (ap (stored (machine j e d) (e.registers rs2) (cells_base + 8 * at)) (cells_address z at few lt) ∙ goes_next j (put_cell e at (e.registers rs2)) d));
+        (λ d. ap (λ a. stored (machine j e d) (e.registers rs2) a (address_at z a)) is ∙ (ap (stored (machine j e d) (e.registers rs2) (cells_base + 8 * at)) (cells_address z at few lt) ∙ goes_next j (put_cell e at (e.registers rs2)) d));
     has = g.has.1;
   }
 
@@ -135,7 +134,7 @@ module _ (image : Image) (z : Sizes) where
       → Going k c n j e (Branch o r s (pos (4 * suc (length skipped))) ∷ (skipped ++ ws)) → Going k c (n + 1) (j + 1 + length skipped) e ws
   taken {j = j} {e = e} {o = o} {r = r} {s = s} skipped ws lj few is g = record {
     runs = one_step (Branch o r s (pos (4 * suc (length skipped)))) (j + 1 + length skipped) e g
-      (λ d. ap (λ b. branched b (pos (4 * suc (length skipped))) (machine j e d)) is ∙ ap (λ pc. at_pc pc e (counted d)) (over_words j (length skipped) lj few));
+        (λ d. ap (λ b. branched b (pos (4 * suc (length skipped))) (machine j e d)) is ∙ ap (λ pc. at_pc pc e (counted d)) (over_words j (length skipped) lj few));
     has = HasAt-rest image (j + 1) skipped ws g.has.1;
   }
 

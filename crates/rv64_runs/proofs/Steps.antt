@@ -1,7 +1,6 @@
 -- One step of a running machine, by the word that stands at its pc.
-use Rattle.std.proofs.Common.{◌≡◌, ℕ, zero, suc, ◌+◌, ◌*◌, ◌/◌, ◌%◌, ◌^◌, ◌<◌, ◌≤◌, Bool, true, false, cond, eqb, refl, sym, ap, ◌∙◌, arith, List, Option, Some, None, ℤ, pos}
+use Rattle.std.proofs.Common.{◌≡◌, ℕ, zero, suc, ◌+◌, ◌*◌, ◌/◌, ◌%◌, ◌<◌, ◌≤◌, Bool, true, false, cond, eqb, refl, ap, ◌∙◌, arith, List, Some, None}
 use Rattle.std.specs.Prelude.{slice_get}
-use Rattle.std.specs.Int.{w64, cast_unsigned}
 use Rattle.std.proofs.lemmas.Bool.Decides.{nat_tests}
 use Rattle.simulation.specs.System.{after}
 use Rattle.simulation.proofs.After.{after-add}
@@ -9,13 +8,12 @@ use Rattle.bril_tree.specs.State.{counted}
 use Rattle.rv64_words.specs.declared.image.Image.{Image}
 use Rattle.rv64_words.specs.declared.word.Word.{Word}
 use Rattle.rv64_words.specs.declared.word.Word.TheVariants.{Lui, Jal, Jalr, Branch, Ld, Sd, OpImm, ShiftImm, Op, Ecall}
-use Rattle.rv64_words.specs.Arithmetic.{moved_by, holds}
-use Rattle.rv64_words.specs.Encoding.{IsWord, encoded, decoded}
-use Rattle.rv64_words.specs.Machine.{branched, read_address, loaded, stored, executed, fetched, decoded_step, fetched_step, is_guard_word, counted_unless, arrived_if, machine_step}
+use Rattle.rv64_words.specs.Encoding.{encoded, decoded}
+use Rattle.rv64_words.specs.Machine.{executed, fetched, decoded_step, fetched_step, is_guard_word, arrived_if, machine_step}
 use Rattle.rv64_words.specs.Region.{Sizes, stack_base, table_base, cells_base, table_words, address_at, InStack, InTable, InCells}
-use Rattle.rv64_words.specs.State.{State, assigned, with_register, next, goes_to}
+use Rattle.rv64_words.specs.State.{with_register, next}
 use Rattle.rv64_words.proofs.Encodings.{decoded-encoded}
-use Rattle.rv64_runs.specs.Core.{Core, at_pc, machine, written, put, put_cell, arrived}
+use Rattle.rv64_runs.specs.Core.{Core, at_pc, machine, written, arrived}
 use Rattle.rv64_runs.specs.Runs.{WordAt, IsComputing, effect, Runs}
 
 fetched_at : (words : List ℕ) (k : ℕ) → fetched words (4 * k) ≡ slice_get words k

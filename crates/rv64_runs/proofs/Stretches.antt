@@ -1,14 +1,12 @@
 -- Whole stretches: those that the crate's laws speak of.
-use Rattle.std.proofs.Common.{◌≡◌, ℕ, ◌+◌, ◌*◌, ◌<◌, ◌++◌, true, false, ap, refl, sym, ◌∙◌, subst, arith, List, [], ◌∷◌, length, ℤ, append-nil}
+use Rattle.std.proofs.Common.{◌≡◌, ℕ, ◌+◌, ◌++◌, sym, subst, arith, [], ◌∷◌, append-nil}
 use Rattle.rv64_words.specs.declared.image.Image.{Image}
-use Rattle.rv64_words.specs.declared.word.Word.{Word}
-use Rattle.rv64_words.specs.declared.word.Word.TheVariants.{Jal, Ld, Sd}
-use Rattle.rv64_words.specs.Arithmetic.{moved_by}
-use Rattle.rv64_words.specs.Region.{Sizes, stack_base}
+use Rattle.rv64_words.specs.declared.word.Word.TheVariants.{Ld, Sd}
+use Rattle.rv64_words.specs.Region.{Sizes}
 use Rattle.rv64_runs.specs.Core.{Core, arrived}
 use Rattle.rv64_runs.specs.Laws.{ComputingWordsRun, StackLoadsRun, StackStoresRun, GuardJumpsRun}
 use Rattle.rv64_runs.specs.Runs.{HasAt, Runs}
-use Rattle.rv64_runs.proofs.Going.{Going, begin, plains, load, store, guard_jump}
+use Rattle.rv64_runs.proofs.Going.{begin, plains, load, store, guard_jump}
 
 -- a stretch that began with no steps
 from_zero : (image : Image) (z : Sizes) (k : ℕ) (c : Core) (m j : ℕ) (e : Core) → Runs image z k c (0 + m) j e → Runs image z k c m j e

@@ -1,9 +1,8 @@
 -- What words do, as laws.
-use Rattle.std.specs.Prelude.{◌≡◌, ℕ, ◌+◌, ◌*◌, ◌<◌, false, true, List, [], ◌∷◌, length, ℤ, Some}
-use Rattle.bril_tree.specs.declared.limits.End.{End}
+use Rattle.std.specs.Prelude.{◌≡◌, ℕ, ◌+◌, ◌*◌, ◌<◌, false, true, List, length, ℤ}
 use Rattle.rv64_words.specs.declared.image.Image.{Image}
 use Rattle.rv64_words.specs.declared.word.Word.{Word}
-use Rattle.rv64_words.specs.declared.word.Word.TheVariants.{Jal, Ld, Sd, Ecall}
+use Rattle.rv64_words.specs.declared.word.Word.TheVariants.{Jal, Ld, Sd}
 use Rattle.rv64_words.specs.Arithmetic.{moved_by}
 use Rattle.rv64_words.specs.Region.{Sizes, stack_base}
 use Rattle.rv64_runs.specs.Core.{Core, written, put, arrived}

@@ -1,16 +1,16 @@
 -- Words in an image, and the stretches of a run through them.
-use Rattle.std.specs.Prelude.{◌≡◌, ℕ, ◌+◌, ◌*◌, ◌%◌, ◌^◌, Bool, true, false, List, [], ◌∷◌, Option, Some, None, slice_get}
+use Rattle.std.specs.Prelude.{◌≡◌, ℕ, ◌+◌, ◌*◌, Bool, false, List, [], ◌∷◌, Some, slice_get}
 use Rattle.std.specs.Int.{w64, cast_unsigned}
 use Rattle.simulation.specs.System.{after}
 use Rattle.bril_tree.specs.declared.limits.End.{End}
 use Rattle.rv64_words.specs.declared.image.Image.{Image}
 use Rattle.rv64_words.specs.declared.word.Word.{Word}
-use Rattle.rv64_words.specs.declared.word.Word.TheVariants.{Lui, Jal, Jalr, Branch, Ld, Sd, OpImm, ShiftImm, Op, Ecall}
+use Rattle.rv64_words.specs.declared.word.Word.TheVariants.{Lui, OpImm, ShiftImm, Op}
 use Rattle.rv64_words.specs.Arithmetic.{extended_32, with_immediate, shifted, computed}
 use Rattle.rv64_words.specs.Encoding.{IsWord, encoded}
 use Rattle.rv64_words.specs.Machine.{is_guard_word, machine_step}
 use Rattle.rv64_words.specs.Region.{Sizes}
-use Rattle.rv64_words.specs.State.{State, finished}
+use Rattle.rv64_words.specs.State.{finished}
 use Rattle.rv64_runs.specs.Core.{Core, machine, written}
 
 -- Word k of the image has the bits of w, and it is a guard's word or none.

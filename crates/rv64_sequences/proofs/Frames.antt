@@ -1,6 +1,5 @@
 -- The words of a frame: loads and stores near its base and far from it, and the frame above.
-use Rattle.std.proofs.Common.{◌≡◌, ◌≢◌, ℕ, ◌+◌, ◌-◌, ◌*◌, ◌/◌, ◌%◌, ◌^◌, ◌<◌, ◌≤◌, Bool, true, false, cond, ltb, refl, sym, ap, ◌∙◌, subst, arith, List, [], ◌∷◌, ◌++◌, pos}
-use Rattle.std.proofs.lemmas.Bool.Decides.{nat_tests}
+use Rattle.std.proofs.Common.{◌≡◌, ◌≢◌, ℕ, ◌+◌, ◌*◌, ◌%◌, ◌^◌, ◌<◌, ◌≤◌, Bool, true, false, cond, ltb, sym, ap, ◌∙◌, arith, List, [], ◌∷◌, ◌++◌, pos}
 use Rattle.rv64_words.specs.declared.image.Image.{Image}
 use Rattle.rv64_words.specs.declared.word.Word.{Word}
 use Rattle.rv64_words.specs.declared.word.Word.TheVariants.{Lui, Ld, Sd}
@@ -8,7 +7,6 @@ use Rattle.rv64_words.specs.Arithmetic.{extended_32, moved_by}
 use Rattle.rv64_words.specs.Mnemonics.{addi, add}
 use Rattle.rv64_words.specs.Region.{Sizes, stack_base}
 use Rattle.rv64_runs.specs.Core.{Core, written, put}
-use Rattle.rv64_runs.specs.Runs.{effect}
 use Rattle.rv64_runs.proofs.Cores.{written_twice, written_same, written_other}
 use Rattle.rv64_runs.proofs.Going.{Going, plain, load, store, is_core, is_place}
 use Rattle.rv64_sequences.specs.Frames.{Reaches, far_address, addressed}

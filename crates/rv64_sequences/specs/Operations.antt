@@ -1,6 +1,6 @@
 -- The words of the operations that compute, from registers 5 and 7 to register 5, and those of the memory extension.
 -- Registers 6 and 7 may change; a fault ends the run.
-use Rattle.std.specs.Prelude.{ℕ, ℤ, pos, negsuc, List, [], ◌∷◌, ◌++◌}
+use Rattle.std.specs.Prelude.{ℕ, pos, negsuc, List, [], ◌∷◌, ◌++◌}
 use Rattle.rv64_words.specs.declared.word.Word.{Word}
 use Rattle.rv64_words.specs.declared.word.Word.TheVariants.{Lui, Ld, Sd, Ecall}
 use Rattle.rv64_words.specs.Mnemonics.{addi, sltiu, slli, srli, srai, add, sub, slt, or, and, mul, div, beq, bne, bgeu, bltu}

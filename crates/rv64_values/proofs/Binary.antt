@@ -1,14 +1,13 @@
 -- The words of operations with two operands.
-use Rattle.std.proofs.Common.{◌≡◌, ℕ, ◌+◌, ◌-◌, ◌*◌, ◌%◌, ◌^◌, ◌<◌, ◌≤◌, Bool, true, false, not, ◌&&◌, ◌||◌, eqb, ltb, leb, refl, sym, ap, ◌∙◌, subst, arith, List, [], ◌∷◌, ◌++◌, length, Some, None, ℤ, pos, ◌+ℤ◌}
-use Rattle.std.specs.Prelude.{FitsSigned, ◌-ℤ◌, ◌*ℤ◌, int_lt, int_le, int_div, bit_and, bit_or}
+use Rattle.std.proofs.Common.{◌≡◌, ℕ, ◌+◌, ◌-◌, ◌*◌, ◌%◌, ◌^◌, ◌<◌, Bool, true, false, not, ◌&&◌, ◌||◌, eqb, ltb, leb, refl, ap, ◌∙◌, subst, arith, List, [], ◌∷◌, length, pos, ◌+ℤ◌}
+use Rattle.std.specs.Prelude.{◌-ℤ◌, ◌*ℤ◌, int_lt, int_le, int_div, bit_and, bit_or}
 use Rattle.std.specs.Int.{w64, cast_unsigned, int_wrap, from_bool}
 use Rattle.bril_tree.specs.declared.limits.End.TheVariants.{Faulted}
 use Rattle.bril_tree.specs.declared.limits.Fault.{Fault}
 use Rattle.bril_tree.specs.declared.limits.Fault.TheVariants as fault
-use Rattle.bril_tree.specs.declared.operation.Op.TheVariants as op
 use Rattle.bril_tree.specs.declared.value.Value.{Value}
 use Rattle.bril_tree.specs.declared.value.Value.TheVariants.{Int, Bool as Boolean}
-use Rattle.bril_tree.specs.Outcome.{Yields, FaultsWith, computed, divided as quotient_of, int_of, bool_of, char_of, int_same}
+use Rattle.bril_tree.specs.Outcome.{Yields, FaultsWith, divided as quotient_of, int_of, bool_of, char_of, int_same}
 use Rattle.bril_tree.specs.Value.{word_of}
 use Rattle.rv64_words.specs.declared.image.Image.{Image}
 use Rattle.rv64_words.specs.declared.word.Word.{Word}
@@ -17,14 +16,12 @@ use Rattle.rv64_words.specs.Mnemonics.{add, sub, mul, and, or, div}
 use Rattle.rv64_words.specs.Region.{Sizes}
 use Rattle.rv64_runs.specs.Core.{Core, written, Keeps}
 use Rattle.rv64_runs.specs.Runs.{HasAt, AreComputing, effects}
-use Rattle.rv64_runs.proofs.Going.{Going, begin, plain, taken, not_taken}
-use Rattle.rv64_sequences.specs.Operations.{same_words, less_words, greater_words, not_greater_words, not_less_words, division_words, binary_words, binary_size}
+use Rattle.rv64_runs.proofs.Going.{begin, plain, taken, not_taken}
+use Rattle.rv64_sequences.specs.Operations.{same_words, less_words, greater_words, not_greater_words, not_less_words, division_words}
 use Rattle.rv64_sequences.specs.Sequences.{fault_words}
-use Rattle.slot_code.specs.declared.item.BinaryOp.{BinaryOp}
 use Rattle.slot_code.specs.declared.item.BinaryOp.TheVariants as binary
-use Rattle.slot_code.specs.Meaning.{binary_operation}
 use Rattle.rv64_values.specs.Laws.{BinaryReady, BinaryWordsGive, BinaryWordsFault}
-use Rattle.rv64_values.specs.Operands.{IsInt, IsBool, IsChar, IsPtr, Gives, EndsSo}
+use Rattle.rv64_values.specs.Operands.{IsInt, Gives, EndsSo}
 use Rattle.rv64_values.proofs.Kept.{keeps_itself, keeps_five, gives_by, gives_plain, faults_by}
 use Rattle.rv64_values.proofs.Operands.{int_word, int_fits, bool_word, char_word, char_below, two, yielded, faulted, no_fault, no_value}
 use Rattle.rv64_values.proofs.Pointers.{pointer_gives, pointer_faults}

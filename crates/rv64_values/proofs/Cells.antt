@@ -1,5 +1,5 @@
 -- The words that find a cell, and those that load and store it.
-use Rattle.std.proofs.Common.{◌≡◌, ℕ, zero, suc, ◌+◌, ◌-◌, ◌*◌, ◌/◌, ◌%◌, ◌^◌, ◌<◌, ◌≤◌, Bool, true, false, not, cond, eqb, ltb, refl, sym, ap, ◌∙◌, subst, arith, List, [], ◌∷◌, ◌++◌, length, Some, None, ℤ, pos, negsuc}
+use Rattle.std.proofs.Common.{◌≡◌, ℕ, ◌+◌, ◌*◌, ◌/◌, ◌%◌, ◌^◌, ◌<◌, ◌≤◌, Bool, true, false, not, eqb, ltb, refl, ap, ◌∙◌, arith, List, [], ◌∷◌, ◌++◌, ℤ, pos, negsuc}
 use Rattle.std.specs.Prelude.{FitsSigned}
 use Rattle.std.specs.Int.{w32, w64, cast_unsigned}
 use Rattle.std.proofs.lemmas.Bool.Decides.{nat_tests}
@@ -9,7 +9,7 @@ use Rattle.rv64_words.specs.declared.image.Image.{Image}
 use Rattle.rv64_words.specs.declared.word.Word.{Word}
 use Rattle.rv64_words.specs.declared.word.Word.TheVariants.{Lui, Ld, Sd}
 use Rattle.rv64_words.specs.Arithmetic.{moved_by}
-use Rattle.rv64_words.specs.Mnemonics.{addi, add, slli, srli, srai, bltu, bne}
+use Rattle.rv64_words.specs.Mnemonics.{add, slli, srli, srai, bltu, bne}
 use Rattle.rv64_words.specs.Region.{Sizes, table_base, cells_base, table_words, most_blocks}
 use Rattle.rv64_runs.specs.Core.{Core, written, put_cell, Keeps}
 use Rattle.rv64_runs.specs.Runs.{HasAt, effects, Runs}
@@ -17,7 +17,7 @@ use Rattle.rv64_runs.proofs.Going.{Going, begin, plain, plains, load_table, load
 use Rattle.rv64_sequences.specs.Operations.{cell_words, load_cell_words, mark_cell_words}
 use Rattle.rv64_sequences.specs.Sequences.{fault_words}
 use Rattle.rv64_values.specs.Operands.{Gives, EndsSo}
-use Rattle.rv64_values.proofs.Kept.{keeps_itself, keeps_on, keeps_five, keeps_six, keeps_seven, gives_by, faults_by}
+use Rattle.rv64_values.proofs.Kept.{keeps_itself, keeps_five, keeps_six, keeps_seven, gives_by, faults_by}
 use Rattle.rv64_values.proofs.Operands.{two}
 use Rattle.rv64_values.proofs.Pointers.{sign_extended, offset_part, block_part}
 

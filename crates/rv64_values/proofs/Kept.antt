@@ -1,7 +1,6 @@
 -- Stretches that keep what other code relies on.
-use Rattle.std.proofs.Common.{◌≡◌, ℕ, suc, ◌+◌, ◌<◌, ◌≤◌, ◌%◌, ◌^◌, refl, sym, ap, ◌∙◌, subst, arith, List, [], ◌∷◌, ◌++◌, length, Some, append-nil}
+use Rattle.std.proofs.Common.{◌≡◌, ℕ, suc, ◌+◌, ◌<◌, ◌≤◌, ◌^◌, refl, sym, ap, ◌∙◌, subst, arith, List, [], ◌++◌, length, Some, append-nil}
 use Rattle.std.specs.Option.{option_map}
-use Rattle.bril_tree.specs.declared.limits.End.{End}
 use Rattle.bril_tree.specs.declared.limits.End.TheVariants.{Faulted}
 use Rattle.bril_tree.specs.declared.limits.Fault.{Fault}
 use Rattle.rv64_words.specs.declared.image.Image.{Image}
@@ -9,7 +8,7 @@ use Rattle.rv64_words.specs.declared.word.Word.{Word}
 use Rattle.rv64_words.specs.Environment.{fault_of}
 use Rattle.rv64_words.specs.Region.{Sizes}
 use Rattle.rv64_runs.specs.Core.{Core, written, Keeps}
-use Rattle.rv64_runs.specs.Runs.{HasAt, AreComputing, effects, Runs, Ends}
+use Rattle.rv64_runs.specs.Runs.{HasAt, AreComputing, effects, Runs}
 use Rattle.rv64_runs.proofs.Going.{Going, begin, plains}
 use Rattle.rv64_sequences.specs.Sequences.{fault_words}
 use Rattle.rv64_sequences.proofs.Ends.{called_off, finishes}

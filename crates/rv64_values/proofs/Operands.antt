@@ -1,11 +1,11 @@
 -- The words of operands.
-use Rattle.std.proofs.Common.{◌≡◌, ℕ, ◌+◌, ◌*◌, ◌^◌, ◌<◌, ◌≤◌, ◌⊎◌, inl, inr, ⊎_elim, Bool, true, refl, sym, ap, ◌∙◌, arith, ℤ, pos}
+use Rattle.std.proofs.Common.{◌≡◌, ℕ, ◌+◌, ◌*◌, ◌^◌, ◌<◌, refl, ap, ◌∙◌, arith}
 use Rattle.std.specs.Prelude.{FitsSigned}
 use Rattle.std.specs.Int.{w32, w64, cast_unsigned, from_bool}
 use Rattle.std.proofs.Math.Utf8.{scalar_fits}
 use Rattle.bril_tree.specs.declared.value.Value.{Value}
 use Rattle.bril_tree.specs.declared.value.Value.TheVariants.{Int, Bool as Boolean, Char, Ptr}
-use Rattle.bril_tree.specs.Outcome.{Outcome, Yields, FaultsWith, int_of, bool_of, char_of, block_of, offset_of}
+use Rattle.bril_tree.specs.Outcome.{Yields, FaultsWith, int_of, bool_of, char_of, block_of, offset_of}
 use Rattle.bril_tree.specs.declared.limits.Fault.{Fault}
 use Rattle.bril_tree.specs.Value.{word_of}
 use Rattle.rv64_values.specs.Operands.{IsInt, IsBool, IsChar, IsPtr}

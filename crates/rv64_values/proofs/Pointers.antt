@@ -1,5 +1,5 @@
 -- The words that move a pointer by a number of cells.
-use Rattle.std.proofs.Common.{◌≡◌, ◌≢◌, ℕ, zero, suc, ◌+◌, ◌-◌, ◌*◌, ◌/◌, ◌%◌, ◌^◌, ◌<◌, ◌≤◌, Bool, true, false, cond, eqb, ltb, refl, sym, ap, ◌∙◌, subst, arith, List, [], ◌∷◌, ◌++◌, length, Some, None, ℤ, pos, negsuc, ◌+ℤ◌}
+use Rattle.std.proofs.Common.{◌≡◌, ◌≢◌, ℕ, suc, ◌+◌, ◌-◌, ◌*◌, ◌/◌, ◌%◌, ◌^◌, ◌<◌, ◌≤◌, Bool, true, false, cond, eqb, ltb, refl, sym, ap, ◌∙◌, subst, arith, [], ◌∷◌, ◌++◌, None, ℤ, pos, negsuc, ◌+ℤ◌}
 use Rattle.std.specs.Prelude.{FitsSigned}
 use Rattle.std.specs.Int.{w32, w64, cast_unsigned}
 use Rattle.std.proofs.lemmas.Bool.Decides.{nat_tests}
@@ -11,15 +11,15 @@ use Rattle.bril_tree.specs.declared.limits.Fault.TheVariants as fault
 use Rattle.bril_tree.specs.declared.operation.Op.TheVariants as op
 use Rattle.bril_tree.specs.declared.value.Value.{Value}
 use Rattle.bril_tree.specs.declared.value.Value.TheVariants.{Ptr}
-use Rattle.bril_tree.specs.Outcome.{Yields, FaultsWith, computed, fits_32, moved, int_of, block_of, offset_of}
+use Rattle.bril_tree.specs.Outcome.{Yields, FaultsWith, computed, fits_32, int_of, block_of, offset_of}
 use Rattle.bril_tree.specs.Value.{word_of}
 use Rattle.rv64_words.specs.declared.image.Image.{Image}
-use Rattle.rv64_words.specs.Arithmetic.{shifted_left, shifted_right, shifted_right_signed}
+use Rattle.rv64_words.specs.Arithmetic.{shifted_left, shifted_right_signed}
 use Rattle.rv64_words.specs.Mnemonics.{add, beq, slli, srai, srli}
 use Rattle.rv64_words.specs.Region.{Sizes}
-use Rattle.rv64_runs.specs.Core.{Core, written, Keeps}
-use Rattle.rv64_runs.specs.Runs.{HasAt, effects}
-use Rattle.rv64_runs.proofs.Going.{Going, begin, plain, plains, taken, not_taken}
+use Rattle.rv64_runs.specs.Core.{Core, Keeps}
+use Rattle.rv64_runs.specs.Runs.{effects}
+use Rattle.rv64_runs.proofs.Going.{Going, begin, plains, taken, not_taken}
 use Rattle.rv64_sequences.specs.Operations.{pointer_words}
 use Rattle.rv64_sequences.specs.Sequences.{fault_words}
 use Rattle.slot_code.specs.declared.item.BinaryOp.TheVariants as binary

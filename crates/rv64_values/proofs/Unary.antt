@@ -1,5 +1,5 @@
 -- The words of operations with one operand.
-use Rattle.std.proofs.Common.{◌≡◌, ℕ, suc, ◌+◌, ◌-◌, ◌*◌, ◌/◌, ◌%◌, ◌^◌, ◌<◌, ◌≤◌, ◌⊎◌, inl, inr, ⊎_elim, Bool, true, false, not, ◌&&◌, ◌||◌, cond, eqb, ltb, leb, refl, sym, ap, ◌∙◌, subst, arith, List, [], ◌∷◌, ◌++◌, length, Some, None, ℤ, pos, negsuc}
+use Rattle.std.proofs.Common.{◌≡◌, ℕ, suc, ◌+◌, ◌-◌, ◌/◌, ◌%◌, ◌^◌, ◌<◌, Bool, true, false, not, ◌&&◌, cond, eqb, ltb, refl, ap, ◌∙◌, subst, arith, [], ◌∷◌, ℤ, pos, negsuc}
 use Rattle.std.specs.Prelude.{FitsSigned}
 use Rattle.std.specs.Int.{w64, cast_unsigned, from_bool}
 use Rattle.std.proofs.lemmas.Bool.Decides.{nat_tests}
@@ -16,11 +16,10 @@ use Rattle.rv64_words.specs.Region.{Sizes}
 use Rattle.rv64_runs.specs.Core.{Core, written, Keeps}
 use Rattle.rv64_runs.specs.Runs.{HasAt}
 use Rattle.rv64_runs.proofs.Going.{Going, begin, plain, taken, not_taken}
-use Rattle.rv64_sequences.specs.Operations.{int_to_char_words, unary_words, unary_size}
+use Rattle.rv64_sequences.specs.Operations.{int_to_char_words, unary_words}
 use Rattle.rv64_sequences.specs.Sequences.{fault_words}
-use Rattle.slot_code.specs.declared.item.UnaryOp.{UnaryOp}
 use Rattle.slot_code.specs.declared.item.UnaryOp.TheVariants as unary
-use Rattle.rv64_values.specs.Laws.{UnaryReady, UnaryWordsGive, UnaryWordsFault}
+use Rattle.rv64_values.specs.Laws.{UnaryWordsGive, UnaryWordsFault}
 use Rattle.rv64_values.specs.Operands.{Gives, EndsSo}
 use Rattle.rv64_values.proofs.Kept.{keeps_itself, keeps_five, keeps_six, gives_by, gives_plain, faults_by}
 use Rattle.rv64_values.proofs.Operands.{int_word, int_fits, bool_word, char_word, yielded, faulted, no_fault, no_value}

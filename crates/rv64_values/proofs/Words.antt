@@ -1,9 +1,9 @@
 -- What words compute of the words of values.
-use Rattle.std.proofs.Common.{◌≡◌, ◌≢◌, ℕ, zero, suc, ◌+◌, ◌-◌, ◌*◌, ◌/◌, ◌%◌, ◌^◌, ◌<◌, ◌≤◌, Bool, true, false, not, ◌&&◌, ◌||◌, cond, eqb, ltb, leb, refl, sym, ap, ◌∙◌, arith, ℤ, pos, negsuc, ◌+ℤ◌, Option, Some, None}
+use Rattle.std.proofs.Common.{◌≡◌, ℕ, zero, suc, ◌+◌, ◌-◌, ◌*◌, ◌%◌, ◌^◌, ◌<◌, Bool, true, false, not, ◌&&◌, ◌||◌, eqb, ltb, leb, refl, sym, ap, ◌∙◌, arith, ℤ, pos, negsuc, ◌+ℤ◌, Some}
 use Rattle.std.specs.Prelude.{FitsSigned, ◌-ℤ◌, ◌*ℤ◌, int_lt, int_le, int_div, bit_and, bit_or}
 use Rattle.std.specs.Int.{w64, cast_unsigned, cast_signed, int_wrap, from_bool}
 use Rattle.std.proofs.lemmas.Bool.Decides.{nat_tests}
-use Rattle.std.proofs.lemmas.Int.{ints, to_z-of_z, of_z-to_z, to_z_pos, wrapping_add_is, wrapping_sub_is, wrapping_mul_is}
+use Rattle.std.proofs.lemmas.Int.{to_z-of_z, of_z-to_z, to_z_pos, wrapping_add_is, wrapping_sub_is, wrapping_mul_is}
 use Rattle.bril_nums.specs.Arith.{quotient}
 use Rattle.bril_tree.specs.Outcome.{int_same}
 use Rattle.rv64_words.specs.Arithmetic.{less_signed, quotient_word, divided}

@@ -1,15 +1,14 @@
 -- What the operands of an operation are in an accepted program, and what its words come to.
-use Rattle.std.specs.Prelude.{◌≡◌, ℕ, ◌+◌, ◌^◌, ◌<◌, ◌≤◌, List, FitsSigned}
+use Rattle.std.specs.Prelude.{◌≡◌, ℕ, ◌+◌, ◌^◌, ◌<◌, ◌≤◌, FitsSigned}
 use Rattle.std.specs.Char.{IsScalar}
 use Rattle.std.specs.Int.{w32, w64}
 use Rattle.bril_tree.specs.declared.limits.End.{End}
 use Rattle.bril_tree.specs.declared.value.Value.{Value}
 use Rattle.bril_tree.specs.declared.value.Value.TheVariants.{Int, Bool as Boolean, Char, Ptr}
 use Rattle.rv64_words.specs.declared.image.Image.{Image}
-use Rattle.rv64_words.specs.declared.word.Word.{Word}
 use Rattle.rv64_words.specs.Region.{Sizes}
 use Rattle.rv64_runs.specs.Core.{Core, Keeps}
-use Rattle.rv64_runs.specs.Runs.{HasAt, Runs, Ends}
+use Rattle.rv64_runs.specs.Runs.{Runs, Ends}
 use Rattle.slot_code.specs.declared.item.BinaryOp.{BinaryOp}
 use Rattle.slot_code.specs.declared.item.BinaryOp.TheVariants as binary
 use Rattle.slot_code.specs.declared.item.UnaryOp.{UnaryOp}
