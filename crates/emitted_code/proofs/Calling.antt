@@ -10,15 +10,14 @@ use Rattle.bril_tree.specs.State as bril
 use Rattle.bril_tree.specs.Step.{faulted, new_frame, step, with_frames}
 use Rattle.rv64_layout.specs.Image.{entry_at, start_at}
 use Rattle.rv64_layout.specs.Items.{before_call, call_words, pass_size, pass_words, result_words, return_word}
-use Rattle.rv64_runs.specs.Core.{Core, put, written}
+use Rattle.rv64_runs.specs.Core.{Core, Keeps, put, written}
 use Rattle.rv64_runs.proofs.Cores.{assigned_here, assigned_other}
 use Rattle.rv64_runs.proofs.Going.{Going, begin, not_taken, onward, plain, store, taken}
 use Rattle.rv64_sequences.specs.Frames.{Reaches}
 use Rattle.rv64_sequences.specs.Sequences.{fault_words, frame_up_size, frame_up_words, jump_offset}
-use Rattle.rv64_sequences.proofs.Ends.{finishes}
+use Rattle.rv64_sequences.proofs.Ends.{called_off, finishes}
 use Rattle.rv64_sequences.proofs.Frames.{frame_up, framed_up}
 use Rattle.rv64_sequences.proofs.Jumps.{call_to}
-use Rattle.rv64_values.proofs.Kept.{keeps_itself}
 use Rattle.rv64_words.specs.declared.word.Word.TheVariants.{Jal, Sd}
 use Rattle.rv64_words.specs.Mnemonics.{addi, bne}
 use Rattle.rv64_words.specs.Region.{stack_base}
@@ -37,7 +36,7 @@ use Rattle.emitted_code.proofs.Ready.{CallFinds, slot_value}
 use Rattle.emitted_code.proofs.Relation.{FramesHold, HasWord, OlderHold, RunsAlike, SlotsHold, Waits}
 use Rattle.emitted_code.proofs.Setting.{Setting, sizes, widest}
 use Rattle.emitted_code.proofs.Sources.{SourceAt, source_at}
-use Rattle.emitted_code.proofs.Stretches.{landed}
+use Rattle.emitted_code.proofs.Stretches.{ends_in, landed}
 
 frame_up_most : (wide : ℕ) → frame_up_size wide ≤ 5
 frame_up_most wide = by_test (ltb wide 255)
@@ -64,7 +63,11 @@ module _ (S : Setting) (s : bril.State) (t : State) (r : RunsAlike S s t) (dest 
       let low : 8 < 2 ^ 64 = omega arith in
       let ends = finishes S.image (sizes S) 8 (Faulted fault.Frames) low zero_is refl (not_taken S.image (sizes S) none g0) in
       let is : step S.p S.limits s ≡ faulted fault.Frames s = step_at S s t r (Some (Call dest function args)) item ∙ ap (λ b. cond b (with_frames (new_frame function values ∷ r.frame ∷ r.older) s) (faulted fault.Frames s)) full in
-      faults_moves S s t r fault.Frames _ 4 is (keeps_itself r.core) ends (omega arith) (omega arith)
+      let count : 0 + 1 + 1 + 1 + 1 ≡ 4 = refl in
+      let keeps : Keeps r.core (called_off 8 r.core) = record {
+        zero_register = refl; frame_register = refl; frames_left = refl; stack = refl; table = refl; cells = refl; blocks = refl; given = refl; printed = refl; arrivals = refl;
+      } in
+      faults_moves S s t r fault.Frames (called_off 8 r.core) 4 is keeps (ends_in 4 count ends) (omega arith) (omega arith)
 
   -- ---- the new frame
 
@@ -97,9 +100,9 @@ module _ (S : Setting) (s : bril.State) (t : State) (r : RunsAlike S s t) (dest 
         function = func; there = h.there; dest = dest; args = args; here = item; takes = finds.takes; alone = finds.alone; below = h.base; ends = refl; deep = h.deep;
         way = ap (λ m. m n) stack ∙ assigned_here (assigned e.stack (n + 1) (stack_base + 8 * h.base)) n (4 * return_word func (here S s t r) args);
         old = ap (λ m. m (n + 1)) stack ∙ top_next e.stack n (stack_base + 8 * h.base) (4 * return_word func (here S s t r) args);
-        slots = slots_kept (length s.blocks) origin.function func origin.is h.base 2 r.frame.locations r.core.stack last.stack (λ k low high. under k (omega arith)) h.slots;
+        slots = slots_kept (length s.blocks) origin.function func origin.is h.base 2 r.frame.locations r.core.stack last.stack (λ k low high. under k (omega (arith, fit))) h.slots;
       },
-      older_kept S (length s.blocks) r.frame.function h.base r.older r.core.stack last.stack (λ k low. under k (omega arith)) h.older_hold);
+      older_kept S (length s.blocks) r.frame.function h.base r.older r.core.stack last.stack (λ k low. under k (omega (arith, fit))) h.older_hold);
   }
     where
       h : FramesHold S (length s.blocks) r.frame r.older r.core
@@ -113,6 +116,9 @@ module _ (S : Setting) (s : bril.State) (t : State) (r : RunsAlike S s t) (dest 
 
       origin : SourceAt S.p r.frame.function r.holds.function
       origin = source S (length s.blocks) r.frame r.older r.core r.holds
+
+      fit : 2 + length r.holds.function.slots ≤ r.holds.function.words
+      fit = slots_fit origin.function r.holds.function origin.is
 
       under : (k : ℕ) → k < n → last.stack k ≡ r.core.stack k
       under k lt =
@@ -184,10 +190,10 @@ module _ (S : Setting) (s : bril.State) (t : State) (r : RunsAlike S s t) (dest 
       let small_jump : k + before_call func args < 2 ^ 20 = omega arith in
       let small_start : start_at S.slots function < 2 ^ 20 = omega arith in
       let runs4 = call_to S.image (sizes S) (k + before_call func args) (start_at S.slots function) at_jump small_jump small_start g3 in
-      let g5 = onward S.image (sizes S) runs4 (S.laid.begins function callee finds.there) in
+      let g5 = onward S.image (sizes S) {ws = Sd 2 1 (pos 0) ∷ []} runs4 (S.laid.begins function callee finds.there) in
       let at_base : (stack_base + 8 * n + 0) % 2 ^ 64 ≡ stack_base + 8 * n = omega arith in
       let in_n : n < S.image.stack = omega arith in
-      let g6 = store S.image (sizes S) n at_base in_n g5 in
+      let g6 = store S.image (sizes S) {ws = []} n at_base in_n g5 in
       let link = 4 * (k + 1 + length (fault_words 8) + 1 + pass_size func 0 args + frame_up_size func.words + 1) in
       let last = put (written up 1 link) n link in
       let link_is : link ≡ 4 * return_word func k args = (let same_word : k + 1 + length (fault_words 8) + 1 + pass_size func 0 args + frame_up_size func.words + 1 ≡ return_word func k args = omega arith in ap (λ x. 4 * x) same_word) in

@@ -29,6 +29,7 @@ use Rattle.rv64_runs.proofs.Going.{begin, onward, plain, store}
 use Rattle.rv64_sequences.specs.Sequences.{high_part, low_part}
 use Rattle.rv64_sequences.proofs.Digits.{small_again}
 use Rattle.rv64_sequences.proofs.Jumps.{call_to}
+use Rattle.rv64_words.specs.declared.word.Word.TheVariants.{Sd}
 use Rattle.rv64_words.specs.Arithmetic.{extended_32, moved_by}
 use Rattle.rv64_words.specs.Machine.{machine_step}
 use Rattle.rv64_words.specs.Region.{stack_base}
@@ -76,7 +77,7 @@ argument_word args x v e = (let two : 2 + x ≡ suc (suc x) = omega arith in ap 
     by_list (u ∷ args) zero e = let same : u ≡ v = cc in ap word_of same
     by_list (u ∷ args) (suc x) e = by_list args x e
 
-main_there : (o : Option Func) → option_map (λ (f : Func). f.name) o ≡ Some main_name → (f : Func) × (o ≡ Some f)
+pub main_there : (o : Option Func) → option_map (λ (f : Func). f.name) o ≡ Some main_name → (f : Func) × (o ≡ Some f)
 main_there None e = absurd cc
 main_there (Some f) e = (f, refl)
 
@@ -163,6 +164,9 @@ module _ (S : Setting) where
     table = table; cells = cells; blocks = blocks; given = given; arrivals = arrivals; printed = printed;
   }
 
+  to_main : {n : ℕ} {e : Core} → Runs S.image (sizes S) 0 first_core n (start_at S.slots S.slots.main) e → Runs S.image (sizes S) 0 first_core n (start_at S.slots S.p.main) e
+  to_main {n} {e} r = subst (λ m. Runs S.image (sizes S) 0 first_core n (start_at S.slots m) e) main_is r
+
   begun : Begun
   begun =
       let some = S.limits.some_frames in
@@ -177,14 +181,14 @@ module _ (S : Setting) where
       let start_small : start_at S.slots S.slots.main < 2 ^ 20 = omega arith in
       let at_2 : 0 + 1 + 1 ≡ 2 = refl in
       let r3 = call_to S.image (sizes S) 2 (start_at S.slots S.slots.main) at_2 two_small start_small g2 in
-      let r3_main = subst (λ m. Runs S.image (sizes S) 0 first_core _ (start_at S.slots m) _) main_is r3 in
-      let g4 = onward S.image (sizes S) r3_main (S.laid.begins S.p.main main_function.function main_function.there) in
+      let r3_main = to_main r3 in
+      let g4 = onward S.image (sizes S) {ws = Sd 2 1 (pos 0) ∷ []} r3_main (S.laid.begins S.p.main main_function.function main_function.there) in
       let wide = S.laid.frames S.p.main main_function.function main_function.there in
       let room = stack_room S in
       let none_deep : 0 ≤ 0 * widest S = omega arith in
       let one_frame : suc 0 ≤ S.limits.frames = omega arith in
       let in_0 : 0 < S.image.stack = (let fit = slots_fit _ main_function.function main_function.is in let h : 0 + 0 < S.image.stack = inside 0 0 main_function.function.words (widest S) 0 S.limits.frames S.image.stack none_deep wide (omega arith) one_frame room in omega arith) in
-      let g5 = store S.image (sizes S) 0 refl in_0 g4 in
+      let g5 = store S.image (sizes S) {ws = []} 0 refl in_0 g4 in
       let r = landed 4 (entry_at S.slots S.p.main 0) refl (sym (S.laid.first S.p.main main_function.function main_function.there)) g5 in
       begun_from r refl refl eight refl refl refl refl refl refl refl
 
