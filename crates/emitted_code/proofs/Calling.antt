@@ -146,6 +146,35 @@ module _ (S : Setting) (s : bril.State) (t : State) (r : RunsAlike S s t) (dest 
       new_slot (Variable x) v in_g held = argument x v (arguments_hold values 0 bril.no_values x v held)
       new_slot (Shadow x) v in_g held = absurd (none_some held)
 
+  -- the core when the frame was made, and the way back kept in its first word
+  abbrev made_core : Core → ℕ → Core
+  made_core e link = put (written (framed_up S.image (sizes S) e r.holds.base r.holds.function.words) 1 link) (r.holds.base + r.holds.function.words) link
+
+  made_stack : (e : Core) (link way : ℕ) → e.registers 2 ≡ stack_base + 8 * r.holds.base → link ≡ 4 * way →
+      (made_core e link).stack ≡ topped e.stack (r.holds.base + r.holds.function.words) (stack_base + 8 * r.holds.base) (4 * way)
+  made_stack e link way two is =
+      let n = r.holds.base + r.holds.function.words in
+      ap (λ x. topped e.stack n x link) two ∙ ap (topped e.stack n (stack_base + 8 * r.holds.base)) is
+
+  made_left : (d e : Core) (link : ℕ) → d.registers 8 ≡ (r.core.registers 8 + (2 ^ 64 - 1)) % 2 ^ 64 → e.registers 8 ≡ d.registers 8 → 1 ≤ r.core.registers 8 → (made_core e link).registers 8 + suc (suc (length r.older)) ≡ S.limits.frames
+  made_left d e link first same some =
+      let few : S.limits.frames ≤ 65536 = S.limits.few_frames in
+      let left : r.core.registers 8 + suc (length r.older) ≡ S.limits.frames = r.holds.left in
+      let now : e.registers 8 ≡ (r.core.registers 8 + (2 ^ 64 - 1)) % 2 ^ 64 = same ∙ first in
+      omega arith
+
+  made_step : ltb (suc (length r.older)) S.limits.frames ≡ true → step S.p S.limits s ≡ with_frames (new_frame function values ∷ r.frame ∷ r.older) s
+  made_step room =
+      step_at S s t r (Some (Call dest function args)) item
+      ∙ ap (λ b. cond b (with_frames (new_frame function values ∷ r.frame ∷ r.older) s) (faulted fault.Frames s)) room
+
+  -- the jump of the call is where its words before it end, and the next word is the way back
+  at_jump : here S s t r + 1 + length (fault_words 8) + 1 + pass_size r.holds.function 0 args + frame_up_size r.holds.function.words ≡ here S s t r + before_call r.holds.function args
+  at_jump = omega arith
+
+  at_back : 4 * (here S s t r + 1 + length (fault_words 8) + 1 + pass_size r.holds.function 0 args + frame_up_size r.holds.function.words + 1) ≡ 4 * return_word r.holds.function (here S s t r) args
+  at_back = omega arith
+
   -- a frame is made
   framed : CallFinds S.p S.slots r.frame dest function args → AllByRecursion (λ a. IsSlotOf r.holds.function (Variable a)) args → not (eqb (r.core.registers 8) (r.core.registers 0)) ≡ true → Moves S s t
   framed finds used some =
@@ -185,8 +214,6 @@ module _ (S : Setting) (s : bril.State) (t : State) (r : RunsAlike S s t) (dest 
       let e = q.core in
       let reach : Reaches (sizes S) e 2 h.base (func.words + 1) = record { base = q.passed.same.frame_register ∙ h.at; inside = omega arith; few = few } in
       let g3 = frame_up S.image (sizes S) h.base func.words reach q.going in
-      let up = framed_up S.image (sizes S) e h.base func.words in
-      let at_jump : k + 1 + length (fault_words 8) + 1 + pass_size func 0 args + frame_up_size func.words ≡ k + before_call func args = omega arith in
       let small_jump : k + before_call func args < 2 ^ 20 = omega arith in
       let small_start : start_at S.slots function < 2 ^ 20 = omega arith in
       let runs4 = call_to S.image (sizes S) (k + before_call func args) (start_at S.slots function) at_jump small_jump small_start g3 in
@@ -195,17 +222,13 @@ module _ (S : Setting) (s : bril.State) (t : State) (r : RunsAlike S s t) (dest 
       let in_n : n < S.image.stack = omega arith in
       let g6 = store S.image (sizes S) {ws = []} n at_base in_n g5 in
       let link = 4 * (k + 1 + length (fault_words 8) + 1 + pass_size func 0 args + frame_up_size func.words + 1) in
-      let last = put (written up 1 link) n link in
-      let link_is : link ≡ 4 * return_word func k args = (let same_word : k + 1 + length (fault_words 8) + 1 + pass_size func 0 args + frame_up_size func.words + 1 ≡ return_word func k args = omega arith in ap (λ x. 4 * x) same_word) in
+      let last = made_core e link in
       let two_is : e.registers 2 ≡ stack_base + 8 * h.base = q.passed.same.frame_register ∙ h.at in
-      let stack_is : last.stack ≡ topped e.stack n (stack_base + 8 * h.base) (4 * return_word func k args) = ap (λ x. topped e.stack n x link) two_is ∙ ap (topped e.stack n (stack_base + 8 * h.base)) link_is in
-      let eight_is : last.registers 8 + suc (suc (length r.older)) ≡ S.limits.frames = (let y : e.registers 8 ≡ (r.core.registers 8 + (2 ^ 64 - 1)) % 2 ^ 64 = q.passed.same.frames_left in omega arith) in
-      let holds = new_holds callee finds.there finds d e last q.passed refl stack_is refl (q.passed.same.zero_register ∙ zero_is) eight_is in
+      let holds = new_holds callee finds.there finds d e last q.passed (refl {a = r.core.stack}) (made_stack e link (return_word func k args) two_is at_back) (refl {a = stack_base + 8 * n}) (q.passed.same.zero_register ∙ zero_is) (made_left d e link refl q.passed.same.frames_left one_left) in
       let most = pass_most func 0 args in
       let up_size = frame_up_most func.words in
       let count : 0 + 1 + 1 + pass_size func 0 args + frame_up_size func.words + 1 + 1 ≡ suc (pass_size func 0 args + frame_up_size func.words + 3) = omega arith in
-      let is : step S.p S.limits s ≡ with_frames (new_frame function values ∷ r.frame ∷ r.older) s = step_at S s t r (Some (Call dest function args)) item ∙ ap (λ b. cond b (with_frames (new_frame function values ∷ r.frame ∷ r.older) s) (faulted fault.Frames s)) room in
-      arrive S s t r (with_frames (new_frame function values ∷ r.frame ∷ r.older) s) (new_frame function values) (r.frame ∷ r.older) last (pass_size func 0 args + frame_up_size func.words + 3) is refl r.running (r.printed ∙ sym q.passed.printed) holds
+      arrive S s t r (with_frames (new_frame function values ∷ r.frame ∷ r.older) s) (new_frame function values) (r.frame ∷ r.older) last (pass_size func 0 args + frame_up_size func.words + 3) (made_step room) refl r.running (r.printed ∙ sym q.passed.printed) holds
       (memory_by S s.blocks r.core last q.passed.table q.passed.cells q.passed.blocks q.passed.given r.memory) (λ g guard there. ap (λ m. m guard.word) q.passed.arrivals ∙ r.guards g guard there)
       (landed (suc (pass_size func 0 args + frame_up_size func.words + 3)) (entry_at S.slots function 0) count (sym (S.laid.first function callee finds.there)) g6) (omega arith)
 

@@ -25,9 +25,6 @@ module _ (f : Func) where
   action_emitted op.Free dest ty args funcs labels h = absurd (false≢true h)
   action_emitted op.Store dest ty args funcs labels h = absurd (false≢true h)
   action_emitted op.Load dest ty args funcs labels h = absurd (false≢true h)
-  action_emitted op.Speculate dest ty args funcs labels h = absurd (false≢true h)
-  action_emitted op.Commit dest ty args funcs labels h = absurd (false≢true h)
-  action_emitted op.Guard dest ty args funcs labels h = absurd (false≢true h)
   action_emitted op.Undef (Some x) None args funcs labels h = tt
   action_emitted op.Undef (Some x) (Some type) args funcs labels h = tt
   action_emitted _ None ty args funcs labels h = tt

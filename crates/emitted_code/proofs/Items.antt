@@ -23,12 +23,14 @@ use Rattle.slot_code.specs.Laws.{IsSlotOf, slots_used}
 use Rattle.emitted_code.proofs.Arriving.{Moves, distance}
 use Rattle.emitted_code.proofs.Calling.{call_moves}
 use Rattle.emitted_code.proofs.Filling.{binary_moves, constant_moves, copy_moves, unary_moves}
+use Rattle.emitted_code.proofs.Guarding.{guard_moves}
 use Rattle.emitted_code.proofs.Jumping.{branch_moves, jump_moves, pass_moves}
 use Rattle.emitted_code.proofs.Printing.{print_moves}
 use Rattle.emitted_code.proofs.Ready.{Finds}
 use Rattle.emitted_code.proofs.Relation.{RunsAlike, Related, run, over}
 use Rattle.emitted_code.proofs.Returning.{end_moves, return_moves}
 use Rattle.emitted_code.proofs.Setting.{Setting}
+use Rattle.emitted_code.proofs.Speculating.{commit_moves, speculate_moves}
 use Rattle.emitted_code.proofs.Standing.{ListFits, Stands, AtItem, AtEnd, stands, well_typed}
 
 -- the items of programs that are emitted so far
@@ -37,9 +39,6 @@ IsEmitted (Alloc dest count) = ⊥
 IsEmitted (Free pointer) = ⊥
 IsEmitted (Store pointer value) = ⊥
 IsEmitted (Load dest pointer) = ⊥
-IsEmitted Speculate = ⊥
-IsEmitted Commit = ⊥
-IsEmitted (Guard condition abort_to) = ⊥
 IsEmitted _ = Unit {0}
 
 -- ---- slots of lists
@@ -100,9 +99,10 @@ module _ (S : Setting) where
     item_moves (Free pointer) here finds used fits emitted = absurd emitted
     item_moves (Store pointer value) here finds used fits emitted = absurd emitted
     item_moves (Load dest pointer) here finds used fits emitted = absurd emitted
-    item_moves Speculate here finds used fits emitted = absurd emitted
-    item_moves Commit here finds used fits emitted = absurd emitted
-    item_moves (Guard condition abort_to) here finds used fits emitted = absurd emitted
+    item_moves Speculate here finds used fits emitted = speculate_moves S s t r here
+    item_moves Commit here finds used fits emitted = commit_moves S s t r here finds dear
+    item_moves (Guard condition abort_to) here finds used fits emitted =
+        guard_moves S s t r condition abort_to here finds.0 finds.1 (All-at (IsSlotOf r.holds.function) (slots_used (Guard condition abort_to)) 0 (Variable condition) used refl)
 
     run_moves : AreEmitted S → Stands S r.frame r.holds.function → Moves S s t
     run_moves emitted (AtItem item here finds used fits) = item_moves item here finds used fits (emitted r.frame.function r.holds.function r.frame.point item r.holds.there here)

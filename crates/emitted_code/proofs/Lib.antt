@@ -1,10 +1,13 @@
 pub mod Arriving
 pub mod Blocks
 pub mod Calling
+pub mod Depths
 pub mod Emitted
 pub mod Filling
 pub mod Finding
 pub mod Frames
+pub mod GuardList
+pub mod Guarding
 pub mod Held
 pub mod Holding
 pub mod Items
@@ -19,6 +22,7 @@ pub mod Relation
 pub mod Returning
 pub mod Setting
 pub mod Sources
+pub mod Speculating
 pub mod Standing
 pub mod Starting
 pub mod Stretches

@@ -75,7 +75,7 @@ module _ (S : Setting) (f : Frame) (g : SlotFunction) (there : slice_get S.slots
   same_function : source.function ≡ w.function
   same_function = same_Some source.function w.function (sym source.there ∙ w.there)
 
-  is_lowered : IsLoweredFunction w.function g
+  pub is_lowered : IsLoweredFunction w.function g
   is_lowered = subst (λ func. IsLoweredFunction func g) same_function source.is
 
   made : slice_get g.code f.point ≡ option_map (lowered_item w.function) (slice_get w.function.code f.point)

@@ -46,5 +46,8 @@ load_some o = by_test (is_near o)
 pub in_steps : {image : Image} {z : Sizes} {k : ℕ} {c : Core} {n j : ℕ} {e : Core} → (m : ℕ) → n ≡ m → Runs image z k c n j e → Runs image z k c m j e
 in_steps {image} {z} {k} {c} {n} {j} {e} m same r = subst (λ x. Runs image z k c x j e) same r
 
+pub at_place : {image : Image} {z : Sizes} {k : ℕ} {c : Core} {n j : ℕ} {e : Core} → (i : ℕ) → j ≡ i → Runs image z k c n j e → Runs image z k c n i e
+at_place {image} {z} {k} {c} {n} {j} {e} i same r = subst (λ x. Runs image z k c n x e) same r
+
 pub ends_in : {image : Image} {z : Sizes} {k : ℕ} {c : Core} {n : ℕ} {how : End} {e : Core} → (m : ℕ) → n ≡ m → Ends image z k c n how e → Ends image z k c m how e
 ends_in {image} {z} {k} {c} {n} {how} {e} m same r = subst (λ x. Ends image z k c x how e) same r
