@@ -10,6 +10,7 @@ use Rattle.bril_tree.specs.State as bril
 use Rattle.bril_tree.specs.Step.{faulted, new_frame, step, with_frames}
 use Rattle.rv64_layout.specs.Image.{entry_at, start_at}
 use Rattle.rv64_layout.specs.Items.{before_call, call_words, pass_size, pass_words, result_words, return_word}
+use Rattle.rv64_layout.proofs.Bounding.{frame_up_most, pass_most}
 use Rattle.rv64_runs.specs.Core.{Core, Keeps, put, written}
 use Rattle.rv64_runs.proofs.Cores.{assigned_here, assigned_other}
 use Rattle.rv64_runs.proofs.Going.{Going, begin, not_taken, onward, plain, store, taken}
@@ -31,19 +32,12 @@ use Rattle.slot_code.specs.Numbering.{slot_number}
 use Rattle.emitted_code.proofs.Arriving.{Moves, arrive, faults_moves, here, memory_by, step_at}
 use Rattle.emitted_code.proofs.Frames.{arguments_hold, deeper, older_kept, slots_fit, slots_kept, variables_fit}
 use Rattle.emitted_code.proofs.Holding.{source, stack_few, stack_room}
-use Rattle.emitted_code.proofs.Passing.{Passed, arguments_passed, pass_most}
+use Rattle.emitted_code.proofs.Passing.{Passed, arguments_passed}
 use Rattle.emitted_code.proofs.Ready.{CallFinds, slot_value}
 use Rattle.emitted_code.proofs.Relation.{FramesHold, HasWord, OlderHold, RunsAlike, SlotsHold, Waits}
 use Rattle.emitted_code.proofs.Setting.{Setting, sizes, widest}
 use Rattle.emitted_code.proofs.Sources.{SourceAt, source_at}
 use Rattle.emitted_code.proofs.Stretches.{ends_in, landed}
-
-frame_up_most : (wide : ℕ) → frame_up_size wide ≤ 5
-frame_up_most wide = by_test (ltb wide 255)
-  where
-    by_test : (t : Bool) → cond t 2 5 ≤ 5
-    by_test true = omega arith
-    by_test false = omega arith
 
 module _ (S : Setting) (s : bril.State) (t : State) (r : RunsAlike S s t) (dest : Option ℕ) (function : ℕ) (args : List ℕ)
     (item : slice_get r.holds.function.code r.frame.point ≡ Some (Call dest function args)) (dear : 128 + 8 * length args ≤ S.cost) where

@@ -17,7 +17,7 @@ use Rattle.bril_tree.specs.Value.{bool_text, shown, word_of}
 use Rattle.bril_tree.proofs.Elements.{All-at}
 use Rattle.rv64_layout.specs.Image.{entry_at}
 use Rattle.rv64_layout.specs.Items.{environment_words, print_call, print_size, print_words, spaced_size, spaced_words, value_words}
-use Rattle.rv64_layout.proofs.Bounding.{load_most}
+use Rattle.rv64_layout.proofs.Bounding.{print_most}
 use Rattle.rv64_runs.specs.Core.{Core, Keeps, said, written}
 use Rattle.rv64_runs.proofs.Calls.{print_bool, print_char, print_int, print_line_end, print_space}
 use Rattle.rv64_runs.proofs.Going.{Going, begin, is_place, plain}
@@ -74,10 +74,6 @@ says_more c e f text more h same stack table cells blocks given arrivals printed
   stack = stack ∙ h.stack; table = table ∙ h.table; cells = cells ∙ h.cells; blocks = blocks ∙ h.blocks; given = given ∙ h.given; arrivals = arrivals ∙ h.arrivals;
   printed = printed ∙ (ap (λ l. l ++ more) h.printed ∙ append_assoc c.printed text more);
 }
-
-spaced_most : (args : List Printed) → spaced_size args ≤ 7 * length args
-spaced_most [] = omega arith
-spaced_most (a ∷ args) = let rest = spaced_most args in let one = load_most (2 + a.variable) in omega arith
 
 module _ (S : Setting) (s : bril.State) (t : State) (r : RunsAlike S s t) where
   -- so far the machine said a text, by so many words
@@ -185,9 +181,9 @@ module _ (S : Setting) (s : bril.State) (t : State) (r : RunsAlike S s t) where
         going = is_place S.image (sizes S) (print_size (a ∷ args)) (here S s t r + print_size (a ∷ args)) (omega arith) (omega arith) q3.going;
       }
 
-  print_some : (args : List Printed) → (2 ≤ print_size args) × (print_size args ≤ 2 + 7 * length args)
-  print_some [] = (omega arith, omega arith)
-  print_some (a ∷ args) = let rest = spaced_most args in let one = load_most (2 + a.variable) in (omega arith, omega arith)
+  print_some : (args : List Printed) → 2 ≤ print_size args
+  print_some [] = omega arith
+  print_some (a ∷ args) = omega arith
 
   pub print_moves : (args : List Printed) → slice_get r.holds.function.code r.frame.point ≡ Some (Print args) → AllByRecursion (λ a. HoldsKind r.frame.locations a.kind a.variable) args →
       AllByRecursion (λ a. IsSlotOf r.holds.function (Variable a.variable)) args → 128 + 8 * length args ≤ S.cost → Moves S s t
@@ -198,7 +194,7 @@ module _ (S : Setting) (s : bril.State) (t : State) (r : RunsAlike S s t) where
       let q = line_said args held used (record { core = r.core; says = says_nothing r.core; going = begin S.image (sizes S) k r.core (print_words args) has }) in
       let there = S.laid.next r.frame.function h.function r.frame.point (Print args) h.there item in
       let some = print_some args in
-      let count : print_size args ≡ suc (print_size args - 1) = (let h = some.0 in omega arith) in
+      let count : print_size args ≡ suc (print_size args - 1) = omega arith in
       let at : k + print_size args ≡ entry_at S.slots r.frame.function (suc r.frame.point) = omega arith in
       let vs = map (read_printed r.frame.locations) args in
       arrive S s t r (prints S.p S.limits vs r.frame r.older s) (advanced r.frame) r.older q.core (print_size args - 1) (step_at S s t r (Some (Print args)) item) refl r.running
@@ -206,4 +202,4 @@ module _ (S : Setting) (s : bril.State) (t : State) (r : RunsAlike S s t) where
       (moved_holds S (length s.blocks) r.frame r.older r.core h (suc r.frame.point) q.core q.says.stack q.says.same)
       (memory_by S s.blocks r.core q.core q.says.table q.says.cells q.says.blocks q.says.given r.memory)
       (λ g guard there. ap (λ m. m guard.word) q.says.arrivals ∙ r.guards g guard there)
-      (landed (suc (print_size args - 1)) (entry_at S.slots r.frame.function (suc r.frame.point)) count at q.going) (let most = some.1 in omega arith)
+      (landed (suc (print_size args - 1)) (entry_at S.slots r.frame.function (suc r.frame.point)) count at q.going) (let most = print_most args in omega arith)

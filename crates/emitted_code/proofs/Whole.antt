@@ -29,7 +29,7 @@ use Rattle.emitted_code.specs.Homes.{home_in, homes_of}
 use Rattle.emitted_code.proofs.Arriving.{distance}
 use Rattle.emitted_code.proofs.Holding.{frame_reaches, source}
 use Rattle.emitted_code.proofs.Frames.{slot_fits}
-use Rattle.emitted_code.proofs.Items.{AreEmitted, simulation}
+use Rattle.emitted_code.proofs.Items.{simulation}
 use Rattle.emitted_code.proofs.Living.{live_slot, slot_of}
 use Rattle.emitted_code.proofs.Ready.{slot_value}
 use Rattle.emitted_code.proofs.Relation.{Related, RunsAlike, run, over}
@@ -78,22 +78,21 @@ module _ (S : Setting) where
   counts s t (run r) = λ g guard there. ap (λ x. x.arrivals guard.word) r.state ∙ r.guards g guard there
   counts s t (over r) = r.guards
 
-  module _ (emitted : AreEmitted S) where
-    tracks : Tracks (program_system S.p S.limits) (image_system S.image S.limits) S.cost (Related S) (first_state S.p S.limits S.args) (start S.args)
-    tracks = Tracks-from_star (program_system S.p S.limits) (image_system S.image S.limits) (Related S) (mapped_is_system S.p S.limits) (image_is_system S.image S.limits) S.cost (distance S) (simulation S emitted)
-        (first_state S.p S.limits S.args) (start S.args) 4 (let e = S.is_cost.is in omega arith) (start_related S)
+  tracks : Tracks (program_system S.p S.limits) (image_system S.image S.limits) S.cost (Related S) (first_state S.p S.limits S.args) (start S.args)
+  tracks = Tracks-from_star (program_system S.p S.limits) (image_system S.image S.limits) (Related S) (mapped_is_system S.p S.limits) (image_is_system S.image S.limits) S.cost (distance S) (simulation S)
+      (first_state S.p S.limits S.args) (start S.args) 4 (let e = S.is_cost.is in omega arith) (start_related S)
 
-    pub implements_run : ImplementsRun (homes_of S.slots) S.image S.p S.limits S.args
-    implements_run = record {
-      room = main_room S;
-      count = tracks.count;
-      cost = S.cost;
-      is_cost = S.is_cost;
-      bounded = tracks.bounded;
-      rising = tracks.rising;
-      agrees = tracks.agrees;
-      shows = λ n. shows (state_after S.p S.limits S.args n) (image_after S.image S.limits S.args (tracks.count n)) (tracks.related n);
-      fails = λ n. counts (state_after S.p S.limits S.args n) (image_after S.image S.limits S.args (tracks.count n)) (tracks.related n);
-      ends_only = tracks.ends_only;
-      prints_only = tracks.prints_only;
-    }
+  pub implements_run : ImplementsRun (homes_of S.slots) S.image S.p S.limits S.args
+  implements_run = record {
+    room = main_room S;
+    count = tracks.count;
+    cost = S.cost;
+    is_cost = S.is_cost;
+    bounded = tracks.bounded;
+    rising = tracks.rising;
+    agrees = tracks.agrees;
+    shows = λ n. shows (state_after S.p S.limits S.args n) (image_after S.image S.limits S.args (tracks.count n)) (tracks.related n);
+    fails = λ n. counts (state_after S.p S.limits S.args n) (image_after S.image S.limits S.args (tracks.count n)) (tracks.related n);
+    ends_only = tracks.ends_only;
+    prints_only = tracks.prints_only;
+  }
