@@ -1,9 +1,8 @@
 -- Loads and stores find the cells that the program's find.
-use Rattle.std.proofs.Common.{◌≡◌, ℕ, ◌+◌, ◌*◌, ◌<◌, ◌≤◌, Bool, true, false, ltb, refl, sym, ap, ◌∙◌, subst, arith, List, length, Some, None, ℤ, pos}
+use Rattle.std.proofs.Common.{◌≡◌, ℕ, ◌+◌, ◌*◌, false, ltb, sym, ap, ◌∙◌, arith, List, ℤ}
 use Rattle.std.proofs.lemmas.Bool.Decides.{nat_tests}
-use Rattle.bril_tree.specs.declared.value.Value.{Value}
 use Rattle.bril_tree.specs.State.{Block}
-use Rattle.rv64_words.specs.Region.{Sizes, cells_base}
+use Rattle.rv64_words.specs.Region.{Sizes}
 use Rattle.rv64_runs.specs.Core.{Core}
 use Rattle.rv64_values.proofs.Cells.{is_inside}
 use Rattle.rv64_blocks.specs.Laws.{CoreHolds, FindsCell, AccessesAreAlike, LoadsAreAlike, StoresAreAlike}
@@ -27,10 +26,13 @@ module _ (z : Sizes) (blocks : List Block) (c : Core) (h : CoreHolds z blocks c)
 
 pub loads : LoadsAreAlike
 loads z blocks c block n offset h le there =
-    let f = cell_found z blocks c.table c.cells c.blocks c.given h block n offset le there in
-    (h.first block + n, f.offset_is, finds z blocks c h block n offset f,
-     λ v e. value_found z blocks c.table c.cells c.blocks c.given h block n offset v f e,
-     λ e. fresh_found z blocks c.table c.cells c.blocks c.given h block n offset f e)
+    let f = cell_found z blocks c.table c.cells c.blocks c.given h block n offset le there in (
+      h.first block + n,
+      f.offset_is,
+      finds z blocks c h block n offset f,
+      λ v e. value_found z blocks c.table c.cells c.blocks c.given h block n offset v f e,
+      λ e. fresh_found z blocks c.table c.cells c.blocks c.given h block n offset f e,
+    )
 
 pub stores : StoresAreAlike
 stores z blocks c block n w offset v h le there word =

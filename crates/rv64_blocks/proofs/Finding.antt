@@ -1,5 +1,5 @@
 -- What the machine finds in its memory of a block and of a cell.
-use Rattle.std.proofs.Common.{◌≡◌, ◌≢◌, ℕ, zero, suc, ◌+◌, ◌*◌, ◌<◌, ◌≤◌, ◌⊎◌, inl, inr, Bool, true, false, cond, ltb, refl, sym, ap, ◌∙◌, subst, arith, List, [], ◌∷◌, length, Option, Some, None, ℤ, pos, negsuc}
+use Rattle.std.proofs.Common.{◌≡◌, ℕ, zero, suc, ◌+◌, ◌*◌, ◌<◌, ◌≤◌, Bool, true, false, cond, ltb, refl, sym, ap, ◌∙◌, subst, arith, List, length, Option, Some, None, ℤ, pos, negsuc}
 use Rattle.std.specs.Prelude.{slice_get}
 use Rattle.std.proofs.lemmas.Bool.{ltb-true}
 use Rattle.std.proofs.lemmas.Bool.Decides.{nat_tests}
@@ -9,7 +9,7 @@ use Rattle.bril_tree.specs.State.{Block}
 use Rattle.bril_tree.proofs.Elements.{get_inside}
 use Rattle.rv64_words.specs.Region.{Sizes, cells_base}
 use Rattle.rv64_values.proofs.Cells.{is_inside}
-use Rattle.rv64_blocks.specs.Memory.{HasWord, BlockHolds, LiesIn, MemoryHolds}
+use Rattle.rv64_blocks.specs.Memory.{HasWord, MemoryHolds}
 
 -- how many cells a live block has
 abbrev pub live_size : Option Block → ℕ

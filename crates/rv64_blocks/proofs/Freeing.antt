@@ -1,6 +1,6 @@
 -- A block that is freed.
-use Rattle.std.proofs.Common.{◌≡◌, ◌≢◌, ℕ, zero, suc, ◌+◌, ◌-◌, ◌*◌, ◌/◌, ◌%◌, ◌^◌, ◌<◌, ◌≤◌, ◌⊎◌, inl, inr, Bool, true, false, not, ◌&&◌, cond, eqb, ltb, refl, sym, ap, ◌∙◌, subst, arith, List, [], ◌∷◌, length, Option, Some, None, ℤ, pos, negsuc}
-use Rattle.std.specs.Prelude.{FitsSigned, slice_get}
+use Rattle.std.proofs.Common.{◌≡◌, ◌≢◌, ℕ, suc, ◌+◌, ◌-◌, ◌*◌, ◌%◌, ◌^◌, ◌<◌, ◌≤◌, ◌⊎◌, inl, inr, Bool, true, false, not, ◌&&◌, eqb, ltb, refl, sym, ap, ◌∙◌, subst, arith, List, length, Option, Some, None, ℤ, pos, negsuc}
+use Rattle.std.specs.Prelude.{FitsSigned}
 use Rattle.std.specs.Int.{w32, cast_unsigned}
 use Rattle.std.proofs.lemmas.Bool.Decides.{nat_tests}
 use Rattle.std.proofs.lemmas.Option.{slice_get_within}
@@ -14,7 +14,7 @@ use Rattle.rv64_runs.proofs.Cores.{assigned_here, assigned_other}
 use Rattle.rv64_values.proofs.Pointers.{block_part}
 use Rattle.rv64_blocks.specs.Memory.{BlockHolds, LiesIn, MemoryHolds}
 use Rattle.rv64_blocks.specs.Laws.{CoreHolds}
-use Rattle.rv64_blocks.proofs.Finding.{IsLive, live_is, live_size, size_found}
+use Rattle.rv64_blocks.proofs.Finding.{live_is, live_size, size_found}
 use Rattle.rv64_blocks.proofs.Lists.{IsChanged, IsOther, changed_length, changed_at, changed_given}
 
 -- ---- the test

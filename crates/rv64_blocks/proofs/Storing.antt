@@ -1,5 +1,5 @@
 -- A cell that is stored.
-use Rattle.std.proofs.Common.{◌≡◌, ◌≢◌, ℕ, zero, suc, ◌+◌, ◌*◌, ◌<◌, ◌≤◌, ◌⊎◌, inl, inr, Bool, true, false, cond, eqb, refl, sym, ap, ◌∙◌, subst, arith, List, length, Option, Some, None, ℤ}
+use Rattle.std.proofs.Common.{◌≡◌, ◌≢◌, ℕ, suc, ◌+◌, ◌*◌, ◌<◌, ◌≤◌, ◌⊎◌, inl, inr, Bool, true, false, cond, eqb, refl, sym, ap, ◌∙◌, subst, arith, List, length, Some, None, ℤ}
 use Rattle.std.specs.Prelude.{slice_get}
 use Rattle.std.proofs.lemmas.Bool.Decides.{nat_tests}
 use Rattle.std.proofs.lemmas.Bool.{eqb-true}
@@ -11,7 +11,7 @@ use Rattle.rv64_words.specs.Region.{Sizes}
 use Rattle.rv64_words.specs.State.{assigned}
 use Rattle.rv64_runs.proofs.Cores.{assigned_here, assigned_other}
 use Rattle.rv64_blocks.specs.Memory.{HasWord, BlockHolds, LiesIn, MemoryHolds}
-use Rattle.rv64_blocks.proofs.Finding.{IsLive, CellFound}
+use Rattle.rv64_blocks.proofs.Finding.{CellFound}
 use Rattle.rv64_blocks.proofs.Lists.{IsChanged, IsOther, changed_length, changed_at, changed_given}
 
 abbrev pub holding : ℕ → Value → Block → Block
@@ -55,10 +55,11 @@ module _ (z : Sizes) (blocks : List Block) (table cells : ℕ → ℕ) (made giv
           → (stored_cells cells (h.first (suc k) + n) w (2 * (h.first (suc k) + m)) ≡ 1) × HasWord (length blocks) u (stored_cells cells (h.first (suc k) + n) w (2 * (h.first (suc k) + m) + 1))
       by_stored l m u lt true same e =
           let at : h.first (suc k) + m ≡ h.first (suc k) + n = ap (λ x. h.first (suc k) + x) (eqb-true m n same) in
-          let is : v ≡ u = same_Some v u e in
-          (ap (λ x. stored_cells cells (h.first (suc k) + n) w (2 * x)) at ∙ flag_here cells (h.first (suc k) + n) w,
-           subst (λ x. HasWord (length blocks) u (stored_cells cells (h.first (suc k) + n) w (2 * x + 1))) (sym at)
-           (subst (HasWord (length blocks) u) (sym (value_here cells (h.first (suc k) + n) w)) (subst (λ x. HasWord (length blocks) x w) is word)))
+          let is : v ≡ u = same_Some v u e in (
+            ap (λ x. stored_cells cells (h.first (suc k) + n) w (2 * x)) at ∙ flag_here cells (h.first (suc k) + n) w,
+            subst (λ x. HasWord (length blocks) u (stored_cells cells (h.first (suc k) + n) w (2 * x + 1))) (sym at)
+                (subst (HasWord (length blocks) u) (sym (value_here cells (h.first (suc k) + n) w)) (subst (λ x. HasWord (length blocks) x w) is word)),
+          )
       by_stored l m u lt false differ e =
           let ne : h.first (suc k) + m ≢ h.first (suc k) + n = (λ x. (let same : m ≡ n = omega arith in absurd (clash same differ))) in
           let old = (h.each k owner here).stored l m u lt e in
