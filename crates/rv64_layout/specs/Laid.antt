@@ -1,5 +1,5 @@
 -- What is known of an image of code over slots: which words are where, and that they are few.
-use Rattle.std.specs.Prelude.{◌≡◌, ℕ, suc, ◌+◌, ◌*◌, ◌≤◌, true, [], ◌∷◌, Option, Some, None, slice_get, pos}
+use Rattle.std.specs.Prelude.{◌≡◌, ℕ, suc, ◌+◌, ◌*◌, ◌≤◌, true, [], ◌∷◌, Some, None, slice_get, pos}
 use Rattle.bril_tree.specs.declared.limits.Limits.{Limits}
 use Rattle.bril_tree.specs.declared.program.Prog.{Prog}
 use Rattle.bril_tree.specs.Accepted.{IsAccepted}
@@ -25,7 +25,7 @@ abbrev pub ItemAt : Image → Slots → ℕ → SlotFunction → ℕ → SlotIte
 ItemAt image slots f g point (Guard condition abort_to) =
     HasAt image (entry_at slots f point) (guard_front g (depth_at g point) condition)
     × WordAt image true (entry_at slots f point + guard_front_size g (depth_at g point) condition)
-      (abort_word (start_at slots) (entry_at slots f) g (depth_at g point) (entry_at slots f point) condition abort_to)
+    (abort_word (start_at slots) (entry_at slots f) g (depth_at g point) (entry_at slots f point) condition abort_to)
 ItemAt image slots f g point item =
     HasAt image (entry_at slots f point) (item_words (start_at slots) (entry_at slots f) g (depth_at g point) (entry_at slots f point) item)
 
