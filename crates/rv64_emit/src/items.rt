@@ -6,18 +6,18 @@ ghost use Rattle.bril_tree.specs.FunctionForm.{listed};
 ghost use Rattle.bril_tree.specs.Value as values;
 ghost use Rattle.rv64_layout.specs.Items as items;
 ghost use Rattle.rv64_sequences.specs.Operations.{unary_words, binary_words, alloc_words, free_words, cell_words, load_cell_words, mark_cell_words, store_cell_words};
-ghost use Rattle.rv64_sequences.specs.Sequences.{constant_words, load_words, store_words, copy_words, jump_offset, load_size, copy_size};
+ghost use Rattle.rv64_sequences.specs.Sequences.{constant_words, load_words, store_words, copy_words, jump_offset, load_size};
 ghost use Rattle.rv64_words.specs.Encoding.{encoded};
 ghost use Rattle.rv64_words.specs.Mnemonics as mnemonics;
 
 use crate::assembly::{addi, branch, jalr, ld, sd};
 use crate::frame::{argument_word, level_word, next_level_word, slot_count, slot_word, variable_word, word_of};
 use crate::operations::{put_binary, put_cell, put_load_cell, put_mark_cell, put_unary};
-use crate::sequences::{copy_size_of, environment_call, fault, jump, number, put, put_constant, put_copies, put_frame_up, put_load, put_store};
+use crate::sequences::{environment_call, fault, jump, number, put, put_constant, put_copies, put_frame_up, put_load, put_store};
 use bril_tree::sequence::Seq;
 use bril_tree::types::Base;
 use bril_tree::value::Value;
-use crate::sizes::{before_call_size, load_variable_size};
+use crate::sizes::{before_call_size, guard_front_size, load_variable_size, restore_size};
 use rv64_words::field::Immediate;
 use rv64_words::word::{Condition, Word};
 use slot_code::{BinaryOp, Printed, Slot, SlotFunction, UnaryOp};
@@ -102,7 +102,7 @@ fn ways(at: u32, then_to: u32, else_to: u32) -> [Word; 3]
 /// A jump to one item where a variable holds true, else to another.
 #[tactic(auto, using(crate::proofs::Appending::put_then))]
 pub fn put_branch(code: &mut Seq<u32>, condition: u32, then_to: u32, else_to: u32) -> Result<(), AllocError>
-    requires here { length code.old + 6 ≤ 250000 }
+    requires here { length code.old + (load_size (2 + condition) + 3) ≤ 250000 }
     requires condition { 2 + condition < 2 ^ 26 }
     requires then_to { then_to ≤ 250000 }
     requires else_to { else_to ≤ 250000 }
@@ -327,24 +327,6 @@ pub fn put_commit(code: &mut Seq<u32>) -> Result<(), AllocError>
     ensures { OnOk result (code.new ≡ code.old ++ map encoded (items.nop_word ∷ [])) }
 {
     put(code, &[nop()])
-}
-
-/// How many words of a guard come before its last.
-pub fn guard_front_size(func: &SlotFunction, depth: usize, condition: u32) -> u32
-    requires levels { length func.now.slots * (depth + 2) < 2 ^ 26 }
-    requires few { items.guard_front_size func.now depth condition ≤ 250000 }
-    ensures { result ≡ items.guard_front_size func.now depth condition }
-{
-    load_variable_size(condition) + 2 + restore_size(func, depth)
-}
-
-// How many words put the slots of a level back.
-fn restore_size(func: &SlotFunction, depth: usize) -> u32
-    requires levels { length func.now.slots * (depth + 2) < 2 ^ 26 }
-    requires few { copy_size (items.level_word func.now depth) 2 (length func.now.slots) ≤ 250000 }
-    ensures { result ≡ copy_size (items.level_word func.now depth) 2 (length func.now.slots) }
-{
-    copy_size_of(level_word(func, depth), 2, slot_count(func))
 }
 
 // Over the rest of a guard where register 5 isn't 0.

@@ -3,7 +3,9 @@
 
 mod assembly;
 mod frame;
+mod item;
 mod items;
 mod operations;
+mod places;
 mod sequences;
 mod sizes;

@@ -1,6 +1,6 @@
 // The words of the operations that compute, from registers 5 and 7 to register 5, and those of cells.
 
-ghost use Rattle.std.specs.Prelude.{◌≡◌, ◌∷◌, [], ◌++◌, map, pos, OnOk};
+ghost use Rattle.std.specs.Prelude.{◌≡◌, ◌∷◌, [], ◌++◌, ◌≤◌, map, pos, OnOk};
 ghost use Rattle.rv64_sequences.specs.Operations.{unary_words, binary_words, unary_size, binary_size, int_to_char_words, division_words, pointer_words, same_words, not_greater_words, not_less_words, cell_words, load_cell_words, mark_cell_words};
 ghost use Rattle.rv64_words.specs.Encoding.{encoded};
 ghost use Rattle.rv64_words.specs.Mnemonics as mnemonics;
@@ -17,7 +17,8 @@ use std::alloc::AllocError;
 
 /// How many words compute from one operand.
 pub fn unary_size_of(operation: UnaryOp) -> u32
-    ensures { result ≡ unary_size operation }
+    ensures value { result ≡ unary_size operation }
+    ensures few { result ≤ 8 }
 {
     match operation {
         UnaryOp::Not => 1,
@@ -28,7 +29,8 @@ pub fn unary_size_of(operation: UnaryOp) -> u32
 
 /// How many words compute from two operands.
 pub fn binary_size_of(operation: BinaryOp) -> u32
-    ensures { result ≡ binary_size operation }
+    ensures value { result ≡ binary_size operation }
+    ensures few { result ≤ 14 }
 {
     match operation {
         BinaryOp::Add | BinaryOp::Sub | BinaryOp::Mul => 1,

@@ -69,7 +69,8 @@ fn is_of_32_bits(n: u64) -> bool
 
 /// How many words put the number into a register.
 pub fn constant_size_of(n: u64) -> u32
-    ensures { result ≡ constant_size n }
+    ensures value { result ≡ constant_size n }
+    ensures few { result ≤ 8 }
 {
     if is_of_12_bits(n) {
         return 1;
