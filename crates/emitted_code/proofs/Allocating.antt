@@ -1,26 +1,22 @@
 -- The item that makes a block.
-use Rattle.std.proofs.Common.{◌≡◌, ◌≢◌, ℕ, zero, suc, ◌+◌, ◌*◌, ◌%◌, ◌^◌, ◌≤◌, refl, sym, ap, ◌∙◌, subst, arith, List, [], ◌∷◌, ◌++◌, length, Option, Some, None, ℤ, pos}
+use Rattle.std.proofs.Common.{◌≡◌, ◌≢◌, ℕ, suc, ◌+◌, ◌*◌, ◌%◌, ◌^◌, ◌≤◌, refl, sym, ap, ◌∙◌, subst, arith, List, [], ◌∷◌, ◌++◌, length, Option, Some, None, pos}
 use Rattle.std.specs.Prelude.{slice_get}
 use Rattle.std.specs.Int.{w64, cast_unsigned}
-use Rattle.bril_tree.specs.declared.limits.End.TheVariants.{Faulted}
 use Rattle.bril_tree.specs.declared.limits.Fault.{Fault}
-use Rattle.bril_tree.specs.declared.value.Value.{Value}
 use Rattle.bril_tree.specs.declared.value.Value.TheVariants.{Int, Ptr}
 use Rattle.bril_tree.specs.Memory.{allocation_fault, cells_of, new_block}
 use Rattle.bril_tree.specs.Outcome.{int_of}
 use Rattle.bril_tree.specs.State as bril
 use Rattle.bril_tree.specs.Step.{step, allocates}
-use Rattle.bril_tree.specs.Value.{word_of}
 use Rattle.rv64_blocks.specs.Laws.{CoreHolds}
 use Rattle.rv64_blocks.proofs.Allocating.{faults_alike, allocation_keeps}
 use Rattle.rv64_blocks.proofs.Lists.{pushed_length}
-use Rattle.rv64_layout.specs.Image.{entry_at}
 use Rattle.rv64_layout.proofs.Bounding.{load_most}
 use Rattle.rv64_runs.specs.Core.{Core, Keeps, written, with_block}
 use Rattle.rv64_runs.proofs.Calls.{block_fault, allocate, allocate_faults}
 use Rattle.rv64_runs.proofs.Going.{Going, begin, plain}
 use Rattle.rv64_sequences.specs.Operations.{alloc_words}
-use Rattle.rv64_sequences.specs.Sequences.{load_size, load_words, store_size, store_words}
+use Rattle.rv64_sequences.specs.Sequences.{load_size, load_words, store_words}
 use Rattle.rv64_values.proofs.Kept.{keeps_itself}
 use Rattle.rv64_words.specs.declared.word.Word.TheVariants.{Ecall}
 use Rattle.rv64_words.specs.State.{State}
@@ -33,7 +29,7 @@ use Rattle.emitted_code.proofs.Ready.{HoldsInt}
 use Rattle.emitted_code.proofs.Relation.{HasWord, RunsAlike}
 use Rattle.emitted_code.proofs.Remembering.{KeepsFrames, fills_moves}
 use Rattle.emitted_code.proofs.Setting.{Setting, sizes}
-use Rattle.emitted_code.proofs.Stretches.{keeps_written, load_some}
+use Rattle.emitted_code.proofs.Stretches.{keeps_written}
 
 ten_not_six : ◌≢◌ {A = ℕ} 10 6
 ten_not_six = λ e. absurd (omega arith)

@@ -1,14 +1,12 @@
 -- How many speculations are open in a frame, and that its words are enough for them.
-use Rattle.std.proofs.Common.{◌≡◌, ℕ, suc, ◌+◌, ◌*◌, ◌<◌, ◌≤◌, List, ◌∷◌, length, map, mul-le-mul_left, Option, Some, None, refl, sym, ap, ◌∙◌, subst, arith}
-use Rattle.std.specs.Prelude.{option_map, slice_get, slice_index}
-use Rattle.std.proofs.lemmas.Option.{get_or_from_slice_get, same_Some, slice_get-map}
+use Rattle.std.proofs.Common.{◌≡◌, ℕ, suc, ◌+◌, ◌*◌, ◌<◌, ◌≤◌, List, ◌∷◌, length, mul-le-mul_left, Option, Some, None, sym, ap, ◌∙◌, subst, arith}
+use Rattle.std.specs.Prelude.{option_map, slice_get}
+use Rattle.std.proofs.lemmas.Option.{get_or_from_slice_get, slice_get-map}
 use Rattle.simulation.proofs.After.{after-suc}
-use Rattle.bril_tree.specs.declared.numbered_function.Func.{Func}
-use Rattle.bril_tree.specs.Run.{first_state, state_after}
+use Rattle.bril_tree.specs.Run.{first_state}
 use Rattle.bril_tree.specs.Sites.{AreFirstSites, sites_of}
 use Rattle.bril_tree.specs.State as bril
 use Rattle.bril_tree.specs.Step.{step}
-use Rattle.bril_tree.specs.Walk.{IsReached}
 use Rattle.bril_tree.proofs.Acceptance.{accepted_function}
 use Rattle.bril_tree.proofs.Elements.{get_in, get_inside}
 use Rattle.bril_tree.proofs.Members.{contains_in}
@@ -21,7 +19,7 @@ use Rattle.slot_code.specs.Lowered.{IsLoweredFunction, open_count}
 use Rattle.type_soundness.specs.WellTyped.{IsWellTyped}
 use Rattle.emitted_code.proofs.Relation.{RunsAlike}
 use Rattle.emitted_code.proofs.Setting.{Setting}
-use Rattle.emitted_code.proofs.Standing.{is_lowered, well_typed}
+use Rattle.emitted_code.proofs.Points.{is_lowered, well_typed}
 
 module _ (S : Setting) (f : bril.Frame) (g : SlotFunction) (there : slice_get S.slots.funcs f.function ≡ Some g) (w : IsWellTyped S.p f) where
   lowered : IsLoweredFunction w.function g

@@ -1,9 +1,7 @@
 -- The item that frees a block.
-use Rattle.std.proofs.Common.{◌≡◌, ℕ, zero, suc, ◌+◌, ◌*◌, ◌/◌, ◌%◌, ◌^◌, ◌≤◌, Bool, true, false, cond, refl, sym, ap, ◌∙◌, subst, arith, List, [], ◌∷◌, ◌++◌, length, Some, ℤ}
+use Rattle.std.proofs.Common.{◌≡◌, ℕ, suc, ◌+◌, ◌/◌, ◌%◌, ◌^◌, ◌≤◌, Bool, true, false, cond, refl, sym, ap, ◌∙◌, subst, arith, [], ◌∷◌, ◌++◌, length, Some}
 use Rattle.std.specs.Prelude.{slice_get}
-use Rattle.std.specs.Int.{w32, cast_unsigned}
 use Rattle.bril_tree.specs.declared.limits.Fault.TheVariants as fault
-use Rattle.bril_tree.specs.declared.value.Value.{Value}
 use Rattle.bril_tree.specs.declared.value.Value.TheVariants.{Ptr}
 use Rattle.bril_tree.specs.Memory.{live_block, changed_block, is_freeable}
 use Rattle.bril_tree.specs.State as bril
@@ -24,12 +22,12 @@ use Rattle.rv64_words.specs.State.{State}
 use Rattle.slot_code.specs.declared.item.Slot.TheVariants.{Variable}
 use Rattle.slot_code.specs.declared.item.SlotItem.TheVariants.{Free}
 use Rattle.slot_code.specs.Laws.{IsSlotOf}
-use Rattle.emitted_code.proofs.Arriving.{Moves, arrive, faults_moves, here, memory_kept, step_at}
+use Rattle.emitted_code.proofs.Arriving.{Moves, arrive, faults_moves, guards_by, here, memory_kept, step_at}
 use Rattle.emitted_code.proofs.Holding.{moved_holds}
 use Rattle.emitted_code.proofs.Operands.{loaded, loaded_keeps, loads, read_is, word_held}
 use Rattle.emitted_code.proofs.Ready.{HoldsPointer}
 use Rattle.emitted_code.proofs.Relation.{FramesHold, HasWord, RunsAlike}
-use Rattle.emitted_code.proofs.Remembering.{arrivals_kept, same_made}
+use Rattle.emitted_code.proofs.Remembering.{same_made}
 use Rattle.emitted_code.proofs.Setting.{Setting, sizes}
 use Rattle.emitted_code.proofs.Stretches.{keeps_written, landed}
 
@@ -90,4 +88,4 @@ module _ (S : Setting) (s : bril.State) (t : State) (r : RunsAlike S s t) (dear 
           let count : 0 + load_size (2 + pointer) + 1 + 1 ≡ suc (load_size (2 + pointer) + 1) = omega arith in
           let at : here S s t r + load_size (2 + pointer) + 1 + 1 ≡ entry_at S.slots r.frame.function (suc r.frame.point) = omega arith in
           arrive S s t r (advances S.p S.limits r.frame r.older (record s { blocks = changed_block s.blocks held.block dead })) (at_point (suc r.frame.point) r.frame) r.older last (load_size (2 + pointer) + 1) (step_by true e) refl r.running (r.printed ∙ sym k.printed)
-          holds (freed S s t r pointer held in_pointer e) (arrivals_kept S s t r last k.arrivals) (landed (suc (load_size (2 + pointer) + 1)) (entry_at S.slots r.frame.function (suc r.frame.point)) count at g) (omega arith)
+          holds (freed S s t r pointer held in_pointer e) (guards_by S s t r last k.arrivals) (landed (suc (load_size (2 + pointer) + 1)) (entry_at S.slots r.frame.function (suc r.frame.point)) count at g) (omega arith)

@@ -1,5 +1,5 @@
 -- The item that takes a speculation back where its condition doesn't hold.
-use Rattle.std.proofs.Common.{◌≡◌, ◌≢◌, ℕ, zero, suc, ◌+◌, ◌-◌, ◌*◌, ◌^◌, ◌<◌, ◌≤◌, Bool, true, false, ◌&&◌, cond, eqb, leb, inl, inr, refl, sym, ap, ◌∙◌, subst, arith, List, [], ◌∷◌, ◌++◌, length, Some, pos, negsuc}
+use Rattle.std.proofs.Common.{◌≡◌, ◌≢◌, ℕ, suc, ◌+◌, ◌-◌, ◌*◌, ◌^◌, ◌<◌, ◌≤◌, Bool, true, false, ◌&&◌, cond, eqb, leb, inr, refl, sym, ap, ◌∙◌, subst, arith, List, [], ◌∷◌, length, Some, pos, negsuc}
 use Rattle.std.specs.Prelude.{slice_get}
 use Rattle.std.proofs.lemmas.Bool.{and_parts, eqb-true}
 use Rattle.std.proofs.lemmas.Bool.Decides.{nat_tests}
@@ -10,29 +10,27 @@ use Rattle.bril_tree.specs.State as bril
 use Rattle.bril_tree.specs.State.{counted}
 use Rattle.bril_tree.specs.Step.{advances, at_point, dropped, saved, step, with_failure}
 use Rattle.bril_tree.specs.Value.{word_of}
-use Rattle.rv64_layout.specs.Image.{depth_at, entry_at, start_at}
-use Rattle.rv64_layout.specs.Items.{abort_word, guard_front, guard_front_size, level_word}
+use Rattle.rv64_layout.specs.Image.{depth_at, entry_at}
+use Rattle.rv64_layout.specs.Items.{guard_front, guard_front_size, level_word}
 use Rattle.rv64_layout.specs.Laid.{IsGuardAt}
 use Rattle.rv64_layout.proofs.Bounding.{copy_most, load_most}
 use Rattle.rv64_runs.specs.Core.{Core, Keeps, arrived}
-use Rattle.rv64_runs.specs.Runs.{HasAt, WordAt}
-use Rattle.rv64_runs.proofs.Cores.{assigned_here, assigned_other}
+use Rattle.rv64_runs.specs.Runs.{Runs}
 use Rattle.rv64_runs.proofs.Going.{Going, begin, is_place, jump, not_taken, taken}
-use Rattle.rv64_sequences.specs.Sequences.{copy_size, copy_words, jump_offset, load_size, load_words}
+use Rattle.rv64_sequences.specs.Frames.{Copied}
+use Rattle.rv64_sequences.specs.Sequences.{copy_size, copy_words, jump_offset, load_size}
 use Rattle.rv64_sequences.proofs.Copies.{words_copied}
-use Rattle.rv64_sequences.proofs.Jumps.{guard_jump_to, moved_to}
+use Rattle.rv64_sequences.proofs.Jumps.{guard_jump_to}
 use Rattle.rv64_values.proofs.Kept.{keeps_itself}
 use Rattle.rv64_words.specs.declared.image.GuardAt.{GuardAt}
-use Rattle.rv64_words.specs.declared.word.Word.{Word}
 use Rattle.rv64_words.specs.declared.word.Word.TheVariants.{Jal}
 use Rattle.rv64_words.specs.Arithmetic.{moved_by}
 use Rattle.rv64_words.specs.Mnemonics.{beq}
-use Rattle.rv64_words.specs.State.{State, assigned}
+use Rattle.rv64_words.specs.State.{State}
 use Rattle.slot_code.specs.declared.item.Slot.TheVariants.{Variable}
 use Rattle.slot_code.specs.declared.item.SlotItem.TheVariants.{Guard}
-use Rattle.slot_code.specs.declared.slots.SlotFunction.{SlotFunction}
 use Rattle.slot_code.specs.Laws.{IsSlotOf}
-use Rattle.slot_code.specs.Meaning.{goes_to, slot_guards}
+use Rattle.slot_code.specs.Meaning.{slot_guards}
 use Rattle.emitted_code.proofs.Arriving.{Moves, arrive, goes_moves, here, memory_by, step_at}
 use Rattle.emitted_code.proofs.Depths.{frame_dear, now_typed, saves_are, saves_fit}
 use Rattle.emitted_code.proofs.Holding.{SameFrame, stack_few}
@@ -157,7 +155,24 @@ module _ (S : Setting) (s : bril.State) (t : State) (r : RunsAlike S s t) (condi
       (guard_step held held.truth held.is ∙ ap (λ b. slot_guards S.p S.slots S.limits b abort_to r.frame r.older s) truth) refl r.running refl refl refl
       (at_place (entry_at S.slots r.frame.function (suc r.frame.point)) at (in_steps (suc (load_size o + 1)) count runs)) (omega arith) condition_keeps
 
-  -- it doesn't: the slots become those of the newest speculation, and the guard's word leads to its abort
+  -- the slots became those of the newest speculation, and the guard's word led to its abort
+  restored_moves : (newest : bril.Locals) (rest : List bril.Locals) → r.frame.saves ≡ newest ∷ rest → (e : Core) (n : ℕ) →
+      Copied (loaded S s t r r.core 5 (2 + condition)) e r.holds.base (level_word r.holds.function (suc (length rest))) 2 (length r.holds.function.slots) →
+      step S.p S.limits s ≡ slot_guards S.p S.slots S.limits false abort_to r.frame r.older s →
+      Runs S.image (sizes S) (here S s t r) r.core (suc n) (entry_at S.slots r.frame.function abort_to) (arrived (here S s t r + front) e) → suc n ≤ S.cost → Moves S s t
+  restored_moves newest rest saves_is e n copied stepped runs cheap =
+      let f : bril.Frame = at_point abort_to (record r.frame { locations = newest; saves = rest }) in
+      let u = slot_guards S.p S.slots S.limits false abort_to r.frame r.older s in
+      let frame_is : at_point abort_to (record r.frame { locations = saved r.frame.saves r.frame.locations; saves = dropped r.frame.saves }) ≡ f =
+      ap (λ xs. at_point abort_to (record r.frame { locations = saved xs r.frame.locations; saves = dropped xs })) saves_is in
+      let same : SameFrame r.core (loaded S s t r r.core 5 (2 + condition)) = record { zero_register = condition_keeps.zero_register; frame_register = condition_keeps.frame_register; frames_left = condition_keeps.frames_left } in
+      let holds =
+      restored_holds S (length s.blocks) r.frame r.older r.core r.holds newest rest saves_is abort_to (loaded S s t r r.core 5 (2 + condition)) e (arrived (here S s t r + front) e) condition_keeps.stack same copied refl
+      (record { zero_register = refl; frame_register = refl; frames_left = refl }) in
+      arrive S s t r u f r.older (arrived (here S s t r + front) e) n stepped (ap (λ x. x ∷ r.older) frame_is) r.running (r.printed ∙ sym copied.printed) holds
+      (memory_by S s.blocks r.core e copied.table copied.cells copied.blocks copied.given r.memory) (counts_held e copied.arrivals) runs cheap
+
+  -- the condition doesn't hold
   aborts : (held : HoldsBool r.frame.locations condition) → IsSlotOf r.holds.function (Variable condition) → held.truth ≡ false → (newest : bril.Locals) (rest : List bril.Locals) → r.frame.saves ≡ newest ∷ rest → Moves S s t
   aborts held in_g truth newest rest saves_is =
       let h = r.holds in
@@ -199,15 +214,8 @@ module _ (S : Setting) (s : bril.State) (t : State) (r : RunsAlike S s t) (condi
       let runs = guard_jump_to S.image (sizes S) (k + front) (entry_at S.slots r.frame.function abort_to) refl (omega arith) (omega arith) has.1 g4 in
       let size = copy_most from 2 n in
       let count : load_size o + 1 + cs + 1 ≡ suc (load_size o + 1 + cs) = omega arith in
-      let f : bril.Frame = at_point abort_to (record r.frame { locations = newest; saves = rest }) in
-      let u = slot_guards S.p S.slots S.limits false abort_to r.frame r.older s in
-      let frame_is : at_point abort_to (record r.frame { locations = saved r.frame.saves r.frame.locations; saves = dropped r.frame.saves }) ≡ f =
-      ap (λ xs. at_point abort_to (record r.frame { locations = saved xs r.frame.locations; saves = dropped xs })) saves_is in
-      let same_frame : SameFrame r.core e = record { zero_register = condition_keeps.zero_register; frame_register = condition_keeps.frame_register; frames_left = condition_keeps.frames_left } in
-      arrive S s t r u f r.older (arrived (k + front) q.core) (load_size o + 1 + cs) (guard_step held held.truth held.is ∙ ap (λ b. slot_guards S.p S.slots S.limits b abort_to r.frame r.older s) truth)
-      (ap (λ x. x ∷ r.older) frame_is) r.running (r.printed ∙ sym q.copied.printed)
-      (restored_holds S (length s.blocks) r.frame r.older r.core h newest rest saves_is abort_to e q.core (arrived (k + front) q.core) condition_keeps.stack same_frame q.copied refl (record { zero_register = refl; frame_register = refl; frames_left = refl }))
-      (memory_by S s.blocks r.core q.core q.copied.table q.copied.cells q.copied.blocks q.copied.given r.memory) (counts_held q.core q.copied.arrivals) (in_steps (suc (load_size o + 1 + cs)) count runs) (omega arith)
+      restored_moves newest rest saves_is q.core (load_size o + 1 + cs) q.copied (guard_step held held.truth held.is ∙ ap (λ b. slot_guards S.p S.slots S.limits b abort_to r.frame r.older s) truth)
+      (in_steps (suc (load_size o + 1 + cs)) count runs) (omega arith)
 
   pub guard_moves : HoldsBool r.frame.locations condition → r.frame.saves ≢ [] → IsSlotOf r.holds.function (Variable condition) → Moves S s t
   guard_moves held some in_g = by_truth held.truth refl

@@ -1,5 +1,5 @@
 -- Each item leads to related states again.
-use Rattle.std.proofs.Common.{◌≡◌, ℕ, zero, suc, ◌+◌, ◌*◌, ◌≤◌, Bool, true, false, List, [], ◌∷◌, ◌++◌, length, map, Option, Some, None, refl, sym, ap, ◌∙◌, subst, arith}
+use Rattle.std.proofs.Common.{◌≡◌, ℕ, ◌+◌, ◌*◌, ◌≤◌, List, [], ◌∷◌, ◌++◌, length, map, Option, Some, None, refl, sym, ap, ◌∙◌, arith}
 use Rattle.std.specs.Prelude.{All, slice_get}
 use Rattle.std.specs.List.{AllByRecursion}
 use Rattle.std.specs.Option.{option_map}
@@ -14,7 +14,6 @@ use Rattle.bril_tree.proofs.Elements.{All-at}
 use Rattle.rv64_implements.specs.Implements.{image_system, program_system}
 use Rattle.rv64_words.specs.State.{State, Finished}
 use Rattle.slot_code.specs.declared.item.Printed.{Printed}
-use Rattle.slot_code.specs.declared.item.Slot.{Slot}
 use Rattle.slot_code.specs.declared.item.Slot.TheVariants.{Variable}
 use Rattle.slot_code.specs.declared.item.SlotItem.{SlotItem}
 use Rattle.slot_code.specs.declared.item.SlotItem.TheVariants.{Pass, Constant, Copy, Unary, Binary, Jump, Branch, Call, Return, Print, Alloc, Free, Store, Load, Speculate, Commit, Guard}
@@ -34,7 +33,7 @@ use Rattle.emitted_code.proofs.Relation.{RunsAlike, Related, run, over}
 use Rattle.emitted_code.proofs.Returning.{end_moves, return_moves}
 use Rattle.emitted_code.proofs.Setting.{Setting}
 use Rattle.emitted_code.proofs.Speculating.{commit_moves, speculate_moves}
-use Rattle.emitted_code.proofs.Standing.{ListFits, Stands, AtItem, AtEnd, stands, well_typed}
+use Rattle.emitted_code.proofs.Points.{ListFits, FrameAt, AtItem, AtEnd, frame_at, well_typed}
 use Rattle.emitted_code.proofs.Storing.{store_moves}
 
 -- ---- slots of lists
@@ -104,14 +103,14 @@ module _ (S : Setting) where
     item_moves (Guard condition abort_to) here finds used fits =
         guard_moves S s t r condition abort_to here finds.0 finds.1 (All-at (IsSlotOf r.holds.function) (slots_used (Guard condition abort_to)) 0 (Variable condition) used refl)
 
-    run_moves : Stands S r.frame r.holds.function → Moves S s t
+    run_moves : FrameAt S r.frame r.holds.function → Moves S s t
     run_moves (AtItem item here finds used fits) = item_moves item here finds used fits
     run_moves (AtEnd none gives) = end_moves S s t r dear none gives
 
   related_moves : (s : bril.State) (t : State) → Related S s t → s.ended ≡ None → Moves S s t
   related_moves s t (run r) none =
       let w = well_typed S r.steps r.frame r.older (ap (λ x. x.frames) (sym r.is) ∙ r.frames) in
-      run_moves s t r (stands S r.frame r.holds.function r.holds.there w)
+      run_moves s t r (frame_at S r.frame r.holds.function r.holds.there w)
   related_moves s t (over r) none = absurd (never r.how (sym r.ended ∙ none))
     where
       never : (how : End) → Some how ≡ None → ⊥

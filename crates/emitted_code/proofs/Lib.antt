@@ -19,6 +19,7 @@ pub mod Operands
 pub mod Outcomes
 pub mod Passing
 pub mod Pointing
+pub mod Points
 pub mod Printing
 pub mod Ready
 pub mod Relation
@@ -27,7 +28,6 @@ pub mod Returning
 pub mod Setting
 pub mod Sources
 pub mod Speculating
-pub mod Standing
 pub mod Starting
 pub mod Storing
 pub mod Stretches

@@ -1,19 +1,17 @@
 -- The arguments of a call come into the slots of the new frame.
-use Rattle.std.proofs.Common.{◌≡◌, ◌≢◌, ℕ, zero, suc, ◌+◌, ◌*◌, ◌<◌, ◌≤◌, Bool, true, false, cond, refl, sym, ap, ◌∙◌, subst, arith, List, [], ◌∷◌, ◌++◌, append_assoc, length, map, Option, Some, None}
+use Rattle.std.proofs.Common.{◌≡◌, ◌≢◌, ℕ, zero, suc, ◌+◌, ◌<◌, ◌≤◌, refl, sym, ap, ◌∙◌, subst, arith, List, [], ◌∷◌, ◌++◌, append_assoc, length, map, Some, None}
 use Rattle.std.specs.Prelude.{slice_get}
 use Rattle.std.specs.List.{AllByRecursion}
 use Rattle.bril_tree.specs.declared.value.Value.{Value}
 use Rattle.bril_tree.specs.State as bril
-use Rattle.rv64_layout.specs.Image.{entry_at}
 use Rattle.rv64_layout.specs.Items.{argument_word, pass_size, pass_words}
 use Rattle.rv64_runs.specs.Core.{Core, put}
 use Rattle.rv64_runs.proofs.Cores.{assigned_here, assigned_other}
 use Rattle.rv64_runs.proofs.Going.{Going, is_place}
 use Rattle.rv64_sequences.specs.Frames.{Reaches, addressed}
-use Rattle.rv64_sequences.specs.Sequences.{load_size, load_words, store_size, store_words}
+use Rattle.rv64_sequences.specs.Sequences.{load_words, store_words}
 use Rattle.rv64_sequences.proofs.Frames.{frame_store}
 use Rattle.rv64_words.specs.declared.word.Word.{Word}
-use Rattle.rv64_words.specs.Region.{stack_base}
 use Rattle.rv64_words.specs.State.{State, assigned}
 use Rattle.slot_code.specs.declared.item.Slot.TheVariants.{Variable}
 use Rattle.slot_code.specs.Laws.{IsSlotOf}
@@ -82,7 +80,14 @@ module _ (S : Setting) (s : bril.State) (t : State) (r : RunsAlike S s t) (wide 
     core = d;
     passed = record {
       same = record { zero_register = refl; frame_register = refl; frames_left = refl };
-      table = refl; cells = refl; blocks = refl; given = refl; arrivals = refl; printed = refl; below = λ k lt. refl; holds = λ x v e. absurd (none_some e);
+      table = refl;
+      cells = refl;
+      blocks = refl;
+      given = refl;
+      arrivals = refl;
+      printed = refl;
+      below = λ k lt. refl;
+      holds = λ x v e. absurd (none_some e);
     };
     going = is_place S.image (sizes S) (n + 0) (i + 0) (omega arith) (omega arith) g;
   }

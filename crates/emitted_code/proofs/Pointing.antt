@@ -1,16 +1,13 @@
 -- The words of an item that find the cell of a pointer.
-use Rattle.std.proofs.Common.{◌≡◌, ℕ, suc, ◌+◌, ◌*◌, ◌^◌, ◌<◌, ◌≤◌, refl, sym, ap, ◌∙◌, subst, arith, List, [], ◌∷◌, ◌++◌, length, Some, None, ℤ}
-use Rattle.std.specs.Prelude.{slice_get}
+use Rattle.std.proofs.Common.{◌≡◌, ℕ, ◌+◌, ◌*◌, ◌^◌, ◌<◌, ◌≤◌, refl, arith, List, ◌++◌, length, Some, None}
 use Rattle.bril_tree.specs.declared.limits.Fault.TheVariants as fault
 use Rattle.bril_tree.specs.declared.value.Value.TheVariants.{Ptr}
 use Rattle.bril_tree.specs.Memory.{cell_at}
 use Rattle.bril_tree.specs.State as bril
 use Rattle.bril_tree.specs.Step.{step, faulted}
 use Rattle.rv64_blocks.proofs.Finding.{CellFound, cell_found, cell_missing, size_few}
-use Rattle.rv64_layout.specs.Image.{entry_at}
 use Rattle.rv64_layout.proofs.Bounding.{load_most}
 use Rattle.rv64_runs.specs.Core.{Core, Keeps}
-use Rattle.rv64_runs.specs.Runs.{Runs}
 use Rattle.rv64_runs.proofs.Going.{Going, across, ends_after, has_front}
 use Rattle.rv64_sequences.specs.Operations.{cell_words}
 use Rattle.rv64_sequences.specs.Sequences.{load_size}

@@ -1,5 +1,5 @@
 -- The relation between the states of a program and those of the machine that runs its image.
-use Rattle.std.proofs.Common.{◌≡◌, ◌≢◌, ℕ, zero, suc, ◌+◌, ◌-◌, ◌*◌, ◌^◌, ◌<◌, ◌≤◌, ◌⊎◌, Bool, true, false, cond, List, [], ◌∷◌, length, Option, Some, None}
+use Rattle.std.proofs.Common.{◌≡◌, ℕ, suc, ◌+◌, ◌*◌, ◌≤◌, true, List, [], ◌∷◌, length, Option, Some, None}
 use Rattle.std.specs.Prelude.{slice_get}
 use Rattle.bril_tree.specs.declared.limits.End.{End}
 use Rattle.bril_tree.specs.declared.value.Value.{Value}

@@ -1,30 +1,29 @@
 -- The items that open and close a speculation.
-use Rattle.std.proofs.Common.{◌≡◌, ◌≢◌, ℕ, zero, suc, ◌+◌, ◌*◌, ◌<◌, ◌≤◌, inl, inr, refl, sym, ap, ◌∙◌, subst, arith, le_trans, List, [], ◌∷◌, ◌++◌, length, mul-le-mul_right, Some, pos}
+use Rattle.std.proofs.Common.{◌≡◌, ◌≢◌, ℕ, suc, ◌+◌, ◌*◌, ◌≤◌, inl, refl, sym, ap, ◌∙◌, subst, arith, le_trans, List, [], ◌∷◌, ◌++◌, length, mul-le-mul_right, Some}
 use Rattle.std.specs.Prelude.{slice_get}
 use Rattle.bril_tree.specs.declared.value.Value.{Value}
 use Rattle.bril_tree.specs.State as bril
 use Rattle.bril_tree.specs.Step.{advanced, at_point, commits, dropped, speculates, step}
-use Rattle.rv64_layout.specs.Image.{depth_at, entry_at}
+use Rattle.rv64_layout.specs.Image.{entry_at}
 use Rattle.rv64_layout.specs.Items.{level_word, nop_word}
 use Rattle.rv64_layout.proofs.Bounding.{copy_most}
 use Rattle.rv64_runs.specs.Core.{Core}
 use Rattle.rv64_runs.specs.Runs.{HasAt}
-use Rattle.rv64_runs.proofs.Going.{begin, plain}
+use Rattle.rv64_runs.proofs.Going.{Going, begin, plain}
 use Rattle.rv64_sequences.specs.Frames.{Copied}
 use Rattle.rv64_sequences.specs.Sequences.{copy_size, copy_words}
 use Rattle.rv64_sequences.proofs.Copies.{words_copied}
 use Rattle.rv64_words.specs.State.{State}
 use Rattle.slot_code.specs.declared.item.Slot.{Slot}
 use Rattle.slot_code.specs.declared.item.SlotItem.TheVariants.{Commit, Speculate}
-use Rattle.slot_code.specs.declared.slots.SlotFunction.{SlotFunction}
 use Rattle.slot_code.specs.Laws.{IsSlotOf}
 use Rattle.slot_code.specs.Numbering.{slot_number}
-use Rattle.emitted_code.proofs.Arriving.{Moves, arrive, here, memory_by, step_at}
+use Rattle.emitted_code.proofs.Arriving.{Moves, arrive, guards_by, here, memory_by, step_at}
 use Rattle.emitted_code.proofs.Depths.{frame_dear, next_typed, now_typed, saves_are, saves_fit}
 use Rattle.emitted_code.proofs.Frames.{deeper, number_inside, older_kept, saves_kept, slots_kept}
 use Rattle.emitted_code.proofs.Holding.{SameFrame, source, stack_few, stack_room}
 use Rattle.emitted_code.proofs.Ready.{slot_value}
-use Rattle.emitted_code.proofs.Relation.{FramesHold, HasWord, RunsAlike, SavesHold, SlotsHold}
+use Rattle.emitted_code.proofs.Relation.{FramesHold, HasWord, RunsAlike, SavesHold}
 use Rattle.emitted_code.proofs.Setting.{Setting, sizes, widest}
 use Rattle.emitted_code.proofs.Stretches.{landed}
 
@@ -111,7 +110,15 @@ module _ (S : Setting) (made : ℕ) (f : bril.Frame) (older : List bril.Frame) (
   -- the newest level is dropped
   dropped_holds : (newest : bril.Locals) (rest : List bril.Locals) → f.saves ≡ newest ∷ rest → FramesHold S made (advanced (record f { saves = dropped f.saves })) older c
   dropped_holds newest rest are = record {
-    function = h.function; there = h.there; base = h.base; at = h.at; zero_is = h.zero_is; left = h.left; deep = h.deep; slots = h.slots; older_hold = h.older_hold;
+    function = h.function;
+    there = h.there;
+    base = h.base;
+    at = h.at;
+    zero_is = h.zero_is;
+    left = h.left;
+    deep = h.deep;
+    slots = h.slots;
+    older_hold = h.older_hold;
     saves = subst (λ xs. SavesHold made h.function h.base (dropped xs) c.stack) (sym are) all.1;
   }
     where
@@ -119,6 +126,15 @@ module _ (S : Setting) (made : ℕ) (f : bril.Frame) (older : List bril.Frame) (
       all = subst (λ xs. SavesHold made h.function h.base xs c.stack) are h.saves
 
 module _ (S : Setting) (s : bril.State) (t : State) (r : RunsAlike S s t) where
+  -- the slots were copied to the next level
+  saved_moves : (e : Core) (n j : ℕ) → Copied r.core e r.holds.base 2 (level_word r.holds.function (suc (length r.frame.saves))) (length r.holds.function.slots) →
+      step S.p S.limits s ≡ speculates S.p S.limits r.frame r.older s → Going S.image (sizes S) (here S s t r) r.core n j e (nop_word ∷ []) → j + 1 ≡ entry_at S.slots r.frame.function (suc r.frame.point) → n + 1 ≤ S.cost → Moves S s t
+  saved_moves e n j copied stepped g there cheap =
+      let count : n + 1 ≡ suc n = omega arith in
+      arrive S s t r (speculates S.p S.limits r.frame r.older s) (advanced (record r.frame { saves = r.frame.locations ∷ r.frame.saves })) r.older e n stepped refl r.running (r.printed ∙ sym copied.printed)
+      (saved_holds S (length s.blocks) r.frame r.older r.core r.holds e copied) (memory_by S s.blocks r.core e copied.table copied.cells copied.blocks copied.given r.memory) (guards_by S s t r e copied.arrivals)
+      (landed (suc n) (entry_at S.slots r.frame.function (suc r.frame.point)) count there (plain S.image (sizes S) tt g)) (omega arith)
+
   pub speculate_moves : slice_get r.holds.function.code r.frame.point ≡ Some Speculate → Moves S s t
   speculate_moves item =
       let h = r.holds in
@@ -126,7 +142,6 @@ module _ (S : Setting) (s : bril.State) (t : State) (r : RunsAlike S s t) where
       let k = here S s t r in
       let n = length g.slots in
       let l = length r.frame.saves in
-      let u = speculates S.p S.limits r.frame r.older s in
       let f : bril.Frame = advanced (record r.frame { saves = r.frame.locations ∷ r.frame.saves }) in
       let stepped = step_at S s t r (Some Speculate) item in
       let now = now_typed S s t r in
@@ -142,14 +157,10 @@ module _ (S : Setting) (s : bril.State) (t : State) (r : RunsAlike S s t) where
       let from_most : h.base + (2 + n) ≤ S.image.stack = omega arith in
       let to_most : h.base + (level_word g (suc l) + n) ≤ S.image.stack = omega arith in
       let q = words_copied S.image (sizes S) (stack_few S) h.base 2 (level_word g (suc l)) n r.core (nop_word ∷ []) (inl (omega arith)) h.at from_most to_most g0 in
-      let g1 = plain S.image (sizes S) tt q.going in
       let size = copy_most 2 (level_word g (suc l)) n in
-      let count : 0 + copy_size 2 (level_word g (suc l)) n + 1 ≡ suc (copy_size 2 (level_word g (suc l)) n) = omega arith in
       let there = S.laid.next r.frame.function g r.frame.point Speculate h.there item in
       let at : k + copy_size 2 (level_word g (suc l)) n + 1 ≡ entry_at S.slots r.frame.function (suc r.frame.point) = (let same = ap (λ m. copy_size 2 (level_word g (suc m)) n) depth in omega arith) in
-      arrive S s t r u f r.older q.core (copy_size 2 (level_word g (suc l)) n) stepped refl r.running (r.printed ∙ sym q.copied.printed) (saved_holds S (length s.blocks) r.frame r.older r.core h q.core q.copied)
-      (memory_by S s.blocks r.core q.core q.copied.table q.copied.cells q.copied.blocks q.copied.given r.memory) (λ i guard listed. ap (λ m. m guard.word) q.copied.arrivals ∙ r.guards i guard listed)
-      (landed (suc (copy_size 2 (level_word g (suc l)) n)) (entry_at S.slots r.frame.function (suc r.frame.point)) count at g1) (omega arith)
+      saved_moves q.core (0 + copy_size 2 (level_word g (suc l)) n) (k + copy_size 2 (level_word g (suc l)) n) q.copied stepped q.going at (omega arith)
 
   -- a list that isn't empty
   pub newest_of : (saves : List bril.Locals) → saves ≢ [] → (newest : bril.Locals) × (rest : List bril.Locals) × (saves ≡ newest ∷ rest)

@@ -1,5 +1,5 @@
 -- Stretches of words: what they keep, and how they are joined.
-use Rattle.std.proofs.Common.{◌≡◌, ◌≢◌, ℕ, zero, suc, ◌+◌, ◌<◌, ◌≤◌, Bool, true, false, cond, eqb, refl, sym, ap, ◌∙◌, subst, arith, List, [], ◌++◌, append-nil}
+use Rattle.std.proofs.Common.{◌≡◌, ◌≢◌, ℕ, suc, ◌≤◌, Bool, true, false, cond, eqb, sym, ap, ◌∙◌, subst, arith, List, [], ◌++◌, append-nil}
 use Rattle.bril_tree.specs.declared.limits.End.{End}
 use Rattle.rv64_runs.specs.Core.{Core, Keeps, written}
 use Rattle.rv64_runs.specs.Runs.{Runs, Ends}
@@ -15,7 +15,13 @@ keeps_written c e r v zero_other two_other eight_other k = record {
   zero_register = ap (λ b. cond b v (e.registers 0)) zero_other ∙ k.zero_register;
   frame_register = ap (λ b. cond b v (e.registers 2)) two_other ∙ k.frame_register;
   frames_left = ap (λ b. cond b v (e.registers 8)) eight_other ∙ k.frames_left;
-  stack = k.stack; table = k.table; cells = k.cells; blocks = k.blocks; given = k.given; printed = k.printed; arrivals = k.arrivals;
+  stack = k.stack;
+  table = k.table;
+  cells = k.cells;
+  blocks = k.blocks;
+  given = k.given;
+  printed = k.printed;
+  arrivals = k.arrivals;
 }
 
 -- words that stand alone are followed by none

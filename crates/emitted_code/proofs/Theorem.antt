@@ -27,8 +27,18 @@ module _ (p : Prog) (slots : Slots) (limits : Limits) (image : Image) (accepted 
 
   abbrev setting : (args : List Value) → FitMain p args → Setting
   setting args fit = record {
-    p = p; slots = slots; image = image; limits = limits; args = args; cost = 128 + 8 * (within.size.frame + longest_arguments p); accepted = accepted; literals = literals; lowered = lowered;
-    laid = is_laid; fit = fit; is_cost = record { frame = within.size.frame; largest = within.size.largest; is = refl };
+    p = p;
+    slots = slots;
+    image = image;
+    limits = limits;
+    args = args;
+    cost = 128 + 8 * (within.size.frame + longest_arguments p);
+    accepted = accepted;
+    literals = literals;
+    lowered = lowered;
+    laid = is_laid;
+    fit = fit;
+    is_cost = record { frame = within.size.frame; largest = within.size.largest; is = refl };
   }
 
   pub implements_at : ImplementsAt (homes_of slots) image p limits

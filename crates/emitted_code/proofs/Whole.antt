@@ -1,20 +1,17 @@
 -- The image of an accepted program, laid out as it is, implements the program.
-use Rattle.std.proofs.Common.{◌≡◌, ℕ, ◌+◌, ◌*◌, ◌<◌, ◌≤◌, Bool, true, false, List, ◌∷◌, length, Option, Some, None, refl, sym, ap, ◌∙◌, subst, arith}
+use Rattle.std.proofs.Common.{◌≡◌, ◌+◌, ◌*◌, List, ◌∷◌, length, Some, None, refl, sym, ap, ◌∙◌, subst, arith}
 use Rattle.std.specs.Prelude.{slice_get}
 use Rattle.std.proofs.lemmas.Option.{same_Some}
 use Rattle.simulation.specs.Simulation.{Tracks}
-use Rattle.simulation.specs.System.{after}
 use Rattle.simulation.proofs.Tracks.{Tracks-from_star}
 use Rattle.bril_tree.specs.declared.limits.End.{End}
-use Rattle.bril_tree.specs.declared.numbered_function.Func.{Func}
-use Rattle.bril_tree.specs.declared.value.Value.{Value}
 use Rattle.bril_tree.specs.Live.{IsLive}
 use Rattle.bril_tree.specs.Locals.{location_value}
 use Rattle.bril_tree.specs.Operand.{Location, Variable, Shadow}
 use Rattle.bril_tree.specs.Run.{first_state, state_after}
 use Rattle.bril_tree.specs.State as bril
 use Rattle.bril_tree.specs.Value.{word_of}
-use Rattle.rv64_implements.specs.Home.{Home, InFrame, IsAt}
+use Rattle.rv64_implements.specs.Home.{InFrame, IsAt}
 use Rattle.rv64_implements.specs.Implements.{CountsFailures, ImplementsRun, ShowsLive, image_after, image_system, program_system}
 use Rattle.rv64_implements.proofs.Systems.{image_is_system, mapped_is_system}
 use Rattle.rv64_layout.specs.Image.{entry_at}
@@ -32,7 +29,7 @@ use Rattle.emitted_code.proofs.Frames.{slot_fits}
 use Rattle.emitted_code.proofs.Items.{simulation}
 use Rattle.emitted_code.proofs.Living.{live_slot, slot_of}
 use Rattle.emitted_code.proofs.Ready.{slot_value}
-use Rattle.emitted_code.proofs.Relation.{Related, RunsAlike, run, over}
+use Rattle.emitted_code.proofs.Relation.{Related, run, over}
 use Rattle.emitted_code.proofs.Setting.{Setting, sizes}
 use Rattle.emitted_code.proofs.Starting.{main_room, start_related}
 
