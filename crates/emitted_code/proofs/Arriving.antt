@@ -1,5 +1,5 @@
 -- From a step of the program and a stretch of the machine's words to related states again.
-use Rattle.std.proofs.Common.{◌≡◌, ◌≢◌, ℕ, zero, suc, ◌+◌, ◌-◌, ◌*◌, ◌<◌, ◌≤◌, ◌⊎◌, inl, inr, Bool, true, false, cond, eqb, refl, sym, ap, ◌∙◌, subst, arith, List, [], ◌∷◌, ◌++◌, append-nil, length, Option, Some, None}
+use Rattle.std.proofs.Common.{◌≡◌, ◌≢◌, ℕ, suc, ◌+◌, ◌-◌, ◌<◌, ◌≤◌, ◌⊎◌, inr, refl, sym, ap, ◌∙◌, subst, arith, List, [], ◌∷◌, length, Option, Some, None}
 use Rattle.std.specs.Prelude.{slice_get}
 use Rattle.simulation.specs.System.{after}
 use Rattle.simulation.proofs.After.{after-suc}
@@ -78,8 +78,17 @@ module _ (S : Setting) where
         let next : RunsAlike S u (machine at e (runs.done r.done)) = record {
           steps = suc r.steps;
           is = sym stepped ∙ ap (step S.p S.limits) r.is ∙ sym (after-suc (step S.p S.limits) r.steps (first_state S.p S.limits S.args));
-          frame = f; older = older; frames = frames; running = running; core = e; done = runs.done r.done;
-          state = refl; holds = holds; memory = memory; guards = guards; printed = printed;
+          frame = f;
+          older = older;
+          frames = frames;
+          running = running;
+          core = e;
+          done = runs.done r.done;
+          state = refl;
+          holds = holds;
+          memory = memory;
+          guards = guards;
+          printed = printed;
         } in
         let steps : after (machine_step S.image (sizes S)) (suc n) t ≡ machine at e (runs.done r.done) = ap (after (machine_step S.image (sizes S)) (suc n)) r.state ∙ runs.steps r.done in
         inr (n, cheap, subst (λ x. Related S x (after (machine_step S.image (sizes S)) (suc n) t)) (sym stepped) (subst (Related S u) (sym steps) (run next)))
@@ -93,8 +102,11 @@ module _ (S : Setting) where
         let steps : after (machine_step S.image (sizes S)) (suc n) t ≡ stop = ap (after (machine_step S.image (sizes S)) (suc n)) r.state ∙ ends.steps r.done in
         inr (n, cheap, subst (λ x. Related S x (after (machine_step S.image (sizes S)) (suc n) t)) (sym stepped) (subst (Related S u) (sym steps) (over last)))
 
+    pub guards_by : (e : Core) → e.arrivals ≡ r.core.arrivals → GuardsHold S.image.guards s.failures e.arrivals
+    guards_by e same k guard there = ap (λ m. m guard.word) same ∙ r.guards k guard there
+
     pub guards_kept : (e : Core) → Keeps r.core e → GuardsHold S.image.guards s.failures e.arrivals
-    guards_kept e keeps k guard there = ap (λ m. m guard.word) keeps.arrivals ∙ r.guards k guard there
+    guards_kept e keeps = guards_by e keeps.arrivals
 
     -- the run ended with a fault, and so did the machine
     pub faults_moves : (kind : Fault) (e : Core) (n : ℕ) → step S.p S.limits s ≡ faulted kind s → Keeps r.core e → Ends S.image (sizes S) here r.core n (Faulted kind) e → 1 ≤ n → n ≤ S.cost → Moves s t

@@ -1,6 +1,5 @@
 -- A block is live in the machine's memory exactly where one is in the program's.
-use Rattle.std.proofs.Common.{◌≡◌, ℕ, zero, suc, ◌+◌, ◌*◌, ◌<◌, ◌≤◌, Bool, true, false, ◌||◌, cond, eqb, refl, sym, ap, ◌∙◌, subst, arith, List, length, take, not, Some}
-use Rattle.std.specs.Prelude.{slice_get}
+use Rattle.std.proofs.Common.{◌≡◌, ℕ, zero, suc, ◌+◌, ◌*◌, ◌<◌, ◌≤◌, Bool, true, false, ◌||◌, cond, eqb, refl, sym, ap, ◌∙◌, arith, List, length, take, not}
 use Rattle.std.specs.List.{list_any}
 use Rattle.std.proofs.Math.Bool.{or_comm}
 use Rattle.std.proofs.Math.Seq.{take-length}

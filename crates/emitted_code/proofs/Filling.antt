@@ -1,19 +1,14 @@
 -- The items that give a slot a value: constants, copies, and the operations that compute.
-use Rattle.std.proofs.Common.{◌≡◌, ◌≢◌, ℕ, zero, suc, ◌+◌, ◌*◌, ◌^◌, ◌<◌, ◌≤◌, Bool, true, false, cond, refl, sym, ap, ◌∙◌, subst, arith, List, [], ◌∷◌, ◌++◌, length, None, Some, ℤ, pos, negsuc}
-use Rattle.std.specs.Prelude.{All, slice_get}
-use Rattle.std.specs.Int.{w64, w32}
-use Rattle.std.proofs.lemmas.Int.{ints}
-use Rattle.std.proofs.lemmas.Bool.Decides.{nat_tests}
+use Rattle.std.proofs.Common.{◌≡◌, ◌≢◌, ℕ, suc, ◌+◌, ◌≤◌, refl, sym, ap, ◌∙◌, subst, arith, List, ◌++◌, length, None, Some}
+use Rattle.std.specs.Prelude.{slice_get}
 use Rattle.bril_tree.specs.declared.limits.End.TheVariants.{Faulted}
 use Rattle.bril_tree.specs.declared.limits.Fault.{Fault}
 use Rattle.bril_tree.specs.declared.value.Value.{Value}
-use Rattle.bril_tree.specs.declared.value.Value.TheVariants.{Int, Bool as Boolean, Char, Ptr}
 use Rattle.bril_tree.specs.Outcome.{Outcome, Yields, FaultsWith, HasEffect, computed, block_of}
 use Rattle.bril_tree.specs.State as bril
 use Rattle.bril_tree.specs.Step.{step}
 use Rattle.bril_tree.specs.Value.{IsInRange, word_of}
-use Rattle.bril_tree.proofs.Elements.{All-at}
-use Rattle.rv64_layout.specs.Image.{depth_at, entry_at}
+use Rattle.rv64_layout.specs.Image.{entry_at}
 use Rattle.rv64_layout.specs.Items.{slot_word}
 use Rattle.rv64_layout.proofs.Bounding.{constant_most, load_most}
 use Rattle.rv64_layout.proofs.Lengths.{binary_length, unary_length}
@@ -24,25 +19,23 @@ use Rattle.rv64_sequences.specs.Operations.{binary_size, binary_words, unary_siz
 use Rattle.rv64_sequences.specs.Sequences.{constant_size, constant_words, load_size, load_words, store_size, store_words}
 use Rattle.rv64_sequences.proofs.Constants.{constant}
 use Rattle.rv64_values.specs.Laws.{BinaryReady, UnaryReady}
-use Rattle.rv64_values.specs.Operands.{BinarySuits, UnarySuits, Gives, EndsSo}
+use Rattle.rv64_values.specs.Operands.{Gives, EndsSo}
 use Rattle.rv64_values.proofs.Binary.{binary_gives, binary_faults}
 use Rattle.rv64_values.proofs.Kept.{keeps_itself, keeps_on}
 use Rattle.rv64_values.proofs.Unary.{unary_gives, unary_faults}
 use Rattle.rv64_words.specs.declared.word.Word.{Word}
 use Rattle.rv64_words.specs.State.{State}
 use Rattle.slot_code.specs.declared.item.BinaryOp.{BinaryOp}
-use Rattle.slot_code.specs.declared.item.BinaryOp.TheVariants as binary
 use Rattle.slot_code.specs.declared.item.Slot.{Slot}
-use Rattle.slot_code.specs.declared.item.Slot.TheVariants.{Variable, Shadow}
+use Rattle.slot_code.specs.declared.item.Slot.TheVariants.{Variable}
 use Rattle.slot_code.specs.declared.item.SlotItem.TheVariants.{Constant, Copy, Unary, Binary}
 use Rattle.slot_code.specs.declared.item.UnaryOp.{UnaryOp}
-use Rattle.slot_code.specs.declared.item.UnaryOp.TheVariants as unary
-use Rattle.slot_code.specs.Laws.{IsSlotOf, slots_used}
+use Rattle.slot_code.specs.Laws.{IsSlotOf}
 use Rattle.slot_code.specs.Meaning.{binary_operation, unary_operation, computes, fills, read_slot}
 use Rattle.emitted_code.proofs.Arriving.{Moves, faults_moves, here, step_at, stores_moves}
 use Rattle.emitted_code.proofs.Operands.{loaded, loaded_keeps, loads, read_is, word_held}
 use Rattle.emitted_code.proofs.Outcomes.{binary_block, binary_computes, binary_most, binary_operands, unary_block, unary_computes, unary_most, unary_operand, word_small}
-use Rattle.emitted_code.proofs.Ready.{BinaryFinds, HoldsValue, UnaryFinds, slot_value}
+use Rattle.emitted_code.proofs.Ready.{BinaryFinds, HoldsValue, UnaryFinds}
 use Rattle.emitted_code.proofs.Relation.{HasWord, RunsAlike}
 use Rattle.emitted_code.proofs.Setting.{Setting, sizes}
 use Rattle.emitted_code.proofs.Stretches.{keeps_written, load_some}

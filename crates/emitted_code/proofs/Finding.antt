@@ -1,9 +1,8 @@
 -- An item of an accepted program finds what it needs: one row for each operation.
-use Rattle.std.proofs.Common.{◌≡◌, ℕ, zero, suc, ◌+◌, ◌<◌, ◌≤◌, Bool, true, false, ◌&&◌, cond, eqb, List, [], ◌∷◌, length, map, Option, Some, None, refl, sym, ap, ◌∙◌, subst, arith, inl, inr, length-take, min}
-use Rattle.std.specs.Prelude.{All, IsTrue, is_some, option_map, slice_get, slice_index, take}
-use Rattle.std.specs.List.{AllByRecursion, Contains}
+use Rattle.std.proofs.Common.{◌≡◌, ℕ, ◌<◌, Bool, true, false, cond, List, [], ◌∷◌, length, map, Option, Some, None, refl, sym, ap, ◌∙◌, subst, arith, inl, length-take}
+use Rattle.std.specs.Prelude.{All, is_some, slice_get, slice_index, take}
+use Rattle.std.specs.List.{Contains}
 use Rattle.std.proofs.lemmas.Bool.{and_parts, eqb-true, false≢true}
-use Rattle.std.proofs.lemmas.Bool.Decides.{nat_tests}
 use Rattle.std.proofs.lemmas.List.{length-map}
 use Rattle.bril_tree.specs.declared.numbered.Instr.{Instr}
 use Rattle.bril_tree.specs.declared.numbered.Instr.TheVariants.{Label, Const, Act}
@@ -21,21 +20,19 @@ use Rattle.bril_tree.specs.Run.{types_of}
 use Rattle.bril_tree.specs.Shape.{is_action_shaped, same}
 use Rattle.bril_tree.specs.Sites.{needs_site}
 use Rattle.bril_tree.specs.State.{Frame}
-use Rattle.bril_tree.specs.Typing.{return_type, if_typed, is_plain, is_pointer, unary, binary, argument_type, action_type_fault, call_fits, print_fault, variable_type}
+use Rattle.bril_tree.specs.Typing.{return_type, if_typed, is_plain, is_pointer, binary, argument_type, action_type_fault}
 use Rattle.bril_tree.specs.Membership.{In}
 use Rattle.bril_tree.proofs.Acceptance.{accepted_function, call_at, shaped_at, typed_at}
 use Rattle.bril_tree.proofs.Elements.{All-at, in_index}
 use Rattle.bril_tree.proofs.Formed.{callee_there}
 use Rattle.bril_tree.proofs.Members.{contains_in, in_map}
-use Rattle.slot_code.specs.declared.item.Slot.TheVariants as slot
-use Rattle.slot_code.specs.declared.slots.SlotFunction.{SlotFunction}
 use Rattle.slot_code.specs.declared.slots.Slots.{Slots}
-use Rattle.slot_code.specs.Lowered.{IsLowered, IsLoweredFunction, lowered_action, lowered_item}
+use Rattle.slot_code.specs.Lowered.{IsLowered, lowered_action, lowered_item}
 use Rattle.type_soundness.specs.WellTyped.{IsWellTyped}
 use Rattle.type_soundness.proofs.Locals.{IsTypedAct, act-typed, counted}
-use Rattle.emitted_code.proofs.Sources.{LoweredAt, lowered_at}
+use Rattle.emitted_code.proofs.Sources.{lowered_at}
 use Rattle.emitted_code.proofs.Held.{Held, literal_block, plain, pointer, points_is_pointer, prints, value, values, zero_found}
-use Rattle.emitted_code.proofs.Ready.{HoldsKind, HoldsPointer, HoldsValue, gives_back, CallFinds, ReturnFinds, Finds}
+use Rattle.emitted_code.proofs.Ready.{HoldsKind, HoldsPointer, gives_back, CallFinds, ReturnFinds, Finds}
 
 module _ (p : Prog) (slots : Slots) (accepted : IsAccepted p) (literals : AreLiteralsInRange p) (lowered : IsLowered p slots) (f : Frame) (w : IsWellTyped p f) where
   abbrev func : Func
@@ -60,9 +57,10 @@ module _ (p : Prog) (slots : Slots) (accepted : IsAccepted p) (literals : AreLit
   two_plain : (b to : Base) (item : Instr) (ty : Option Ty) (args : List ℕ) → IsHere item → reads_of item ≡ map Variable args → length args ≡ 2 → binary b to func.vars args ty ≡ true →
       HoldsKind f.locations b (slice_index args 0) × HoldsKind f.locations b (slice_index args 1)
   two_plain b to item ty args here e long t =
-      let operands = and_parts _ _ (and_parts _ _ t).0 in
-      (plain func.vars f.locations b (slice_index args 0) operands.0 (at item args 0 2 here e long (omega arith)),
-       plain func.vars f.locations b (slice_index args 1) operands.1 (at item args 1 2 here e long (omega arith)))
+      let operands = and_parts _ _ (and_parts _ _ t).0 in (
+        plain func.vars f.locations b (slice_index args 0) operands.0 (at item args 0 2 here e long (omega arith)),
+        plain func.vars f.locations b (slice_index args 1) operands.1 (at item args 1 2 here e long (omega arith)),
+      )
 
   one_plain : (b : Base) (item : Instr) (args : List ℕ) → IsHere item → reads_of item ≡ map Variable args → length args ≡ 1 → if_typed (is_plain b) (argument_type func.vars args 0) ≡ true → HoldsKind f.locations b (slice_index args 0)
   one_plain b item args here e long t = plain func.vars f.locations b (slice_index args 0) t (at item args 0 1 here e long (omega arith))
@@ -165,22 +163,24 @@ module _ (p : Prog) (slots : Slots) (accepted : IsAccepted p) (literals : AreLit
   action_finds op.Alloc None ty args funcs labels here h e t = absurd (false≢true h)
   action_finds op.Free None ty args funcs labels here h e t = one_pointer (Act None ty op.Free args funcs labels) args 1 here refl (counted p func op.Free None args funcs labels h) (omega arith) t.operands_typed
   action_finds op.Free (Some x) ty args funcs labels here h e t = absurd (false≢true h)
-  action_finds op.Store None ty args funcs labels here h e t = 
-      (one_pointer (Act None ty op.Store args funcs labels) args 2 here refl (counted p func op.Store None args funcs labels h) (omega arith) (points_is_pointer (argument_type func.vars args 0) (argument_type func.vars args 1) t.operands_typed),
-       value func.vars f.locations (slice_index args 1) (at (Act None ty op.Store args funcs labels) args 1 2 here refl (counted p func op.Store None args funcs labels h) (omega arith)))
+  action_finds op.Store None ty args funcs labels here h e t = (
+    one_pointer (Act None ty op.Store args funcs labels) args 2 here refl (counted p func op.Store None args funcs labels h) (omega arith) (points_is_pointer (argument_type func.vars args 0) (argument_type func.vars args 1) t.operands_typed),
+    value func.vars f.locations (slice_index args 1) (at (Act None ty op.Store args funcs labels) args 1 2 here refl (counted p func op.Store None args funcs labels h) (omega arith)),
+  )
   action_finds op.Store (Some x) ty args funcs labels here h e t = absurd (false≢true h)
   action_finds op.Load (Some x) ty args funcs labels here h e t = one_pointer (Act (Some x) ty op.Load args funcs labels) args 1 here refl (counted p func op.Load (Some x) args funcs labels h) (omega arith) (points_is_pointer (argument_type func.vars args 0) ty t.operands_typed)
   action_finds op.Load None ty args funcs labels here h e t = absurd (false≢true h)
-  action_finds op.PtrAdd (Some x) ty args funcs labels here h e t = 
-      let operands = and_parts _ _ (and_parts _ _ t.operands_typed).0 in
-      (one_pointer (Act (Some x) ty op.PtrAdd args funcs labels) args 2 here refl (counted p func op.PtrAdd (Some x) args funcs labels h) (omega arith) operands.0,
-       plain func.vars f.locations base.Int (slice_index args 1) operands.1 (at (Act (Some x) ty op.PtrAdd args funcs labels) args 1 2 here refl (counted p func op.PtrAdd (Some x) args funcs labels h) (omega arith)))
+  action_finds op.PtrAdd (Some x) ty args funcs labels here h e t =
+      let operands = and_parts _ _ (and_parts _ _ t.operands_typed).0 in (
+        one_pointer (Act (Some x) ty op.PtrAdd args funcs labels) args 2 here refl (counted p func op.PtrAdd (Some x) args funcs labels h) (omega arith) operands.0,
+        plain func.vars f.locations base.Int (slice_index args 1) operands.1 (at (Act (Some x) ty op.PtrAdd args funcs labels) args 1 2 here refl (counted p func op.PtrAdd (Some x) args funcs labels h) (omega arith)),
+      )
   action_finds op.PtrAdd None ty args funcs labels here h e t = absurd (false≢true h)
-  action_finds op.Get (Some x) ty args funcs labels here h e t = 
+  action_finds op.Get (Some x) ty args funcs labels here h e t =
       let r = w.reads (Act (Some x) ty op.Get args funcs labels) (Shadow x) here (0, omega arith, refl) in
       record { value = r.0; is = r.1 }
   action_finds op.Get None ty args funcs labels here h e t = absurd (false≢true h)
-  action_finds op.Set None ty args funcs labels here h e t = 
+  action_finds op.Set None ty args funcs labels here h e t =
       let r = w.reads (Act None ty op.Set args funcs labels) (Variable (slice_index args 1)) here (0, omega arith, refl) in
       record { value = r.0; is = r.1 }
   action_finds op.Set (Some x) ty args funcs labels here h e t = absurd (false≢true h)

@@ -1,15 +1,13 @@
 -- The frames of a program on the machine's stack.
-use Rattle.std.proofs.Common.{◌≡◌, ◌≢◌, ℕ, zero, suc, ◌+◌, ◌*◌, ◌<◌, ◌≤◌, ◌⊎◌, inl, inr, ⊎_elim, Bool, true, false, cond, eqb, refl, sym, ap, ◌∙◌, subst, arith, List, [], ◌∷◌, length, Option, Some, None, mul-le-mul_right, le_trans}
+use Rattle.std.proofs.Common.{◌≡◌, ◌≢◌, ℕ, zero, suc, ◌+◌, ◌*◌, ◌<◌, ◌≤◌, ◌⊎◌, inl, inr, ⊎_elim, Bool, true, false, cond, eqb, refl, sym, ap, ◌∙◌, subst, arith, List, [], ◌∷◌, length, Some, mul-le-mul_right}
 use Rattle.std.specs.Prelude.{slice_get}
 use Rattle.std.proofs.lemmas.Bool.{eqb-true}
 use Rattle.std.proofs.lemmas.Bool.Decides.{nat_tests}
 use Rattle.std.proofs.lemmas.Option.{same_Some, slice_get_within}
 use Rattle.bril_tree.specs.declared.numbered_function.Func.{Func}
 use Rattle.bril_tree.specs.declared.value.Value.{Value}
-use Rattle.bril_tree.specs.Outcome.{block_of}
-use Rattle.bril_tree.specs.State.{Locals, Frame, Values, with_value, no_values}
+use Rattle.bril_tree.specs.State.{Locals, Frame, Values, with_value}
 use Rattle.bril_tree.specs.Step.{arguments_from}
-use Rattle.bril_tree.specs.Value.{word_of}
 use Rattle.rv64_layout.specs.Items.{level_word}
 use Rattle.rv64_runs.proofs.Cores.{assigned_here, assigned_other}
 use Rattle.rv64_words.specs.State.{assigned}
@@ -22,9 +20,9 @@ use Rattle.slot_code.specs.Meaning.{with_slot}
 use Rattle.slot_code.specs.Numbering.{slot_number}
 use Rattle.slot_code.proofs.Places.{slot_place}
 use Rattle.emitted_code.proofs.Ready.{slot_value}
-use Rattle.emitted_code.proofs.Relation.{HasWord, SlotsHold, SavesHold, Waits, OlderHold}
+use Rattle.emitted_code.proofs.Relation.{HasWord, SlotsHold, SavesHold, OlderHold}
 use Rattle.emitted_code.proofs.Setting.{Setting}
-use Rattle.emitted_code.proofs.Sources.{SourceAt, source_at}
+use Rattle.emitted_code.proofs.Sources.{source_at}
 
 -- ---- slots and their numbers
 
@@ -114,7 +112,7 @@ slots_kept made f g is base first locations s t same h = record { at = at }
         let high : base + (first + slot_number g.shadow_numbers slot) < base + (first + length g.slots) = omega arith in
         subst (HasWord made v) (sym (same (base + (first + slot_number g.shadow_numbers slot)) low high)) (h.at slot v in_g held)
 
-level_next : (n l : ℕ) → 2 + n * suc l ≡ (2 + n * l) + n
+pub level_next : (n l : ℕ) → 2 + n * suc l ≡ (2 + n * l) + n
 level_next n l = let split : n * suc l ≡ n * l + n = grind arith in omega arith
 
 -- words below the first level, and beyond the levels of the saves, don't matter to these
@@ -123,9 +121,10 @@ pub saves_kept : (made : ℕ) (f : Func) (g : SlotFunction) → IsLoweredFunctio
 saves_kept made f g is base [] s t same h = tt
 saves_kept made f g is base (save ∷ older) s t same h =
     let top = level_next (length g.slots) (suc (length older)) in
-    let next = level_next (length g.slots) (length older) in
-    (slots_kept made f g is base (level_word g (suc (length older))) save s t (λ k low high. same k (omega arith) (omega arith)) h.0,
-     saves_kept made f g is base older s t (λ k low high. same k low (omega arith)) h.1)
+    let next = level_next (length g.slots) (length older) in (
+      slots_kept made f g is base (level_word g (suc (length older))) save s t (λ k low high. same k (omega arith) (omega arith)) h.0,
+      saves_kept made f g is base older s t (λ k low high. same k low (omega arith)) h.1,
+    )
 
 -- words above the first two of a frame don't matter to those that wait
 pub older_kept : (S : Setting) (made above base : ℕ) (older : List Frame) (s t : ℕ → ℕ) → ((k : ℕ) → k < base + 2 → t k ≡ s k) → OlderHold S made above base older s → OlderHold S made above base older t
@@ -136,14 +135,24 @@ older_kept S made above base (f ∷ older) s t same h =
     let fit = slots_fit source.function w.function source.is in
     let ends : w.below + w.function.words ≡ base = w.ends in
     let lt : base < base + 2 = omega arith in
-    let lt1 : base + 1 < base + 2 = omega arith in
-    (record {
-       function = w.function; there = w.there; dest = w.dest; args = w.args; here = w.here; takes = w.takes; alone = w.alone; below = w.below; ends = w.ends; deep = w.deep;
-       way = same base lt ∙ w.way;
-       old = same (base + 1) lt1 ∙ w.old;
-       slots = slots_kept made source.function w.function source.is w.below 2 f.locations s t (λ k low high. same k (omega arith)) w.slots;
-     },
-     older_kept S made f.function w.below older s t (λ k less. same k (omega arith)) h.1)
+    let lt1 : base + 1 < base + 2 = omega arith in (
+      record {
+        function = w.function;
+        there = w.there;
+        dest = w.dest;
+        args = w.args;
+        here = w.here;
+        takes = w.takes;
+        alone = w.alone;
+        below = w.below;
+        ends = w.ends;
+        deep = w.deep;
+        way = same base lt ∙ w.way;
+        old = same (base + 1) lt1 ∙ w.old;
+        slots = slots_kept made source.function w.function source.is w.below 2 f.locations s t (λ k low high. same k (omega arith)) w.slots;
+      },
+      older_kept S made f.function w.below older s t (λ k less. same k (omega arith)) h.1,
+    )
 
 -- ---- the places of frames
 

@@ -1,17 +1,9 @@
 -- An item of an accepted program finds what it needs.
-use Rattle.std.proofs.Common.{◌≡◌, ℕ, zero, suc, ◌+◌, ◌<◌, ◌≤◌, Bool, true, false, ◌&&◌, eqb, List, [], ◌∷◌, length, map, Option, Some, None, ℤ, pos, refl, sym, ap, ◌∙◌, subst, arith, not, cond, inl, inr}
-use Rattle.std.specs.Prelude.{All, IsSome, IsTrue, is_some, nat_lt, slice_get, slice_index, take, option_map}
-use Rattle.std.specs.List.{AllByRecursion, Contains}
-use Rattle.std.proofs.lemmas.Bool.{and_parts, eqb-true, false≢true}
+use Rattle.std.proofs.Common.{◌≡◌, ℕ, zero, suc, ◌+◌, ◌<◌, Bool, true, false, ◌&&◌, eqb, List, [], ◌∷◌, map, Option, Some, None, refl, sym, ap, ◌∙◌, subst, arith, cond, inl, inr}
+use Rattle.std.specs.List.{AllByRecursion}
+use Rattle.std.proofs.lemmas.Bool.{and_parts, eqb-true}
 use Rattle.std.proofs.lemmas.Bool.Decides.{nat_tests}
-use Rattle.std.proofs.lemmas.Option.{slice_get-map}
-use Rattle.bril_tree.specs.declared.numbered.Instr.{Instr}
-use Rattle.bril_tree.specs.declared.numbered.Instr.TheVariants.{Label, Const, Act}
 use Rattle.bril_tree.specs.declared.numbered.VarInfo.{VarInfo}
-use Rattle.bril_tree.specs.declared.numbered_function.Func.{Func}
-use Rattle.bril_tree.specs.declared.operation.Op.{Op}
-use Rattle.bril_tree.specs.declared.operation.Op.TheVariants as op
-use Rattle.bril_tree.specs.declared.program.Prog.{Prog}
 use Rattle.bril_tree.specs.declared.types.Base.{Base}
 use Rattle.bril_tree.specs.declared.types.Base.TheVariants as base
 use Rattle.bril_tree.specs.declared.types.Ty.{Ty}
@@ -19,32 +11,16 @@ use Rattle.bril_tree.specs.declared.value.Lit.{Lit}
 use Rattle.bril_tree.specs.declared.value.Lit.TheVariants as literal
 use Rattle.bril_tree.specs.declared.value.Value.{Value}
 use Rattle.bril_tree.specs.declared.value.Value.TheVariants.{Int, Bool as Boolean, Char, Ptr}
-use Rattle.bril_tree.specs.Accepted.{IsAccepted, IsAcceptedFunction}
-use Rattle.bril_tree.specs.Literals.{AreLiteralsInRange, IsLiteralInRange}
-use Rattle.bril_tree.specs.Locals.{location_type, location_value}
-use Rattle.bril_tree.specs.Operand.{Variable, Shadow, reads_of}
 use Rattle.bril_tree.specs.Outcome.{block_of}
-use Rattle.bril_tree.specs.Run.{Suits, types_of}
-use Rattle.bril_tree.specs.Shape.{is_action_shaped, is_shaped}
-use Rattle.bril_tree.specs.State.{Locals, Frame}
-use Rattle.bril_tree.specs.Step.{item_at, items_of}
-use Rattle.bril_tree.specs.Typing.{variable_type, return_type, if_typed, both_typed, points_to, is_plain, is_pointer, unary, binary, argument_type, print_fault, same_base, PrintsPointer, call_fits, action_type_fault, is_call_shaped, type_fault}
+use Rattle.bril_tree.specs.Run.{Suits}
+use Rattle.bril_tree.specs.State.{Locals}
+use Rattle.bril_tree.specs.Typing.{variable_type, if_typed, both_typed, points_to, is_plain, is_pointer, print_fault, same_base, PrintsPointer}
 use Rattle.bril_tree.specs.Value.{IsInRange, IsOfBase, IsOfDepth, IsPointer, zero_at, literal_value}
 use Rattle.bril_tree.specs.Membership.{In}
-use Rattle.bril_tree.proofs.Acceptance.{accepted_function, call_at, shaped_at, typed_at}
-use Rattle.bril_tree.proofs.Elements.{All-at, in_index, zip-get, zip-long, get_inside}
-use Rattle.bril_tree.proofs.Formed.{callee_there}
-use Rattle.bril_tree.proofs.Members.{contains_in, in_map}
-use Rattle.bril_tree.proofs.Shapes.{no_dest}
-use Rattle.slot_code.specs.declared.item.Printed.{Printed}
 use Rattle.slot_code.specs.declared.item.Slot.TheVariants as slot
-use Rattle.slot_code.specs.declared.item.SlotItem.{SlotItem}
-use Rattle.slot_code.specs.declared.slots.SlotFunction.{SlotFunction}
-use Rattle.slot_code.specs.declared.slots.Slots.{Slots}
-use Rattle.slot_code.specs.Lowered.{IsLowered, IsLoweredFunction, kind_of, lowered_action, lowered_item, printed_as}
-use Rattle.type_soundness.specs.WellTyped.{IsWellTyped}
+use Rattle.slot_code.specs.Lowered.{kind_of, printed_as}
 use Rattle.type_soundness.proofs.Typed.{same_base-true}
-use Rattle.emitted_code.proofs.Ready.{HoldsInt, HoldsBool, HoldsChar, HoldsPointer, HoldsValue, HoldsKind, gives_back, CallFinds, Finds}
+use Rattle.emitted_code.proofs.Ready.{HoldsInt, HoldsBool, HoldsChar, HoldsPointer, HoldsValue, HoldsKind}
 
 -- ---- values of a type
 

@@ -1,9 +1,8 @@
 -- The items that go to another point: those without words, jumps and branches.
-use Rattle.std.proofs.Common.{◌≡◌, ℕ, zero, suc, ◌+◌, ◌-◌, ◌*◌, ◌^◌, ◌<◌, ◌≤◌, Bool, true, false, cond, eqb, inl, refl, sym, ap, ◌∙◌, subst, arith, List, [], ◌∷◌, ◌++◌, length, Some, pos}
+use Rattle.std.proofs.Common.{◌≡◌, ℕ, suc, ◌+◌, ◌-◌, ◌^◌, ◌<◌, ◌≤◌, Bool, true, false, cond, eqb, inl, refl, sym, ap, ◌∙◌, subst, arith, [], ◌∷◌, ◌++◌, length, Some, pos}
 use Rattle.std.specs.Prelude.{slice_get}
 use Rattle.std.proofs.lemmas.Option.{slice_get_within}
 use Rattle.simulation.proofs.After.{after-suc}
-use Rattle.bril_tree.specs.declared.value.Value.{Value}
 use Rattle.bril_tree.specs.declared.value.Value.TheVariants.{Bool as Boolean}
 use Rattle.bril_tree.specs.Outcome.{bool_of}
 use Rattle.bril_tree.specs.Run.{first_state}
@@ -11,9 +10,8 @@ use Rattle.bril_tree.specs.State as bril
 use Rattle.bril_tree.specs.Step.{step, advances, advanced}
 use Rattle.bril_tree.specs.Value.{word_of}
 use Rattle.rv64_layout.specs.Image.{entry_at}
-use Rattle.rv64_layout.specs.Items.{slot_word}
 use Rattle.rv64_layout.proofs.Bounding.{load_most}
-use Rattle.rv64_runs.specs.Core.{Core, machine}
+use Rattle.rv64_runs.specs.Core.{machine}
 use Rattle.rv64_runs.proofs.Going.{begin, not_taken, taken}
 use Rattle.rv64_sequences.specs.Sequences.{jump_offset, load_size, load_words}
 use Rattle.rv64_sequences.proofs.Jumps.{jump_to}
@@ -57,10 +55,17 @@ module _ (S : Setting) (s : bril.State) (t : State) (r : RunsAlike S s t) where
       next = record {
         steps = suc r.steps;
         is = sym stepped ∙ (ap (step S.p S.limits) r.is ∙ sym (after-suc (step S.p S.limits) r.steps (first_state S.p S.limits S.args)));
-        frame = advanced r.frame; older = r.older; frames = refl; running = r.running; core = r.core; done = r.done;
+        frame = advanced r.frame;
+        older = r.older;
+        frames = refl;
+        running = r.running;
+        core = r.core;
+        done = r.done;
         state = r.state ∙ ap (λ k. machine k r.core r.done) same_entry;
         holds = moved_holds S (length s.blocks) r.frame r.older r.core r.holds (suc r.frame.point) r.core refl (record { zero_register = refl; frame_register = refl; frames_left = refl });
-        memory = r.memory; guards = r.guards; printed = r.printed;
+        memory = r.memory;
+        guards = r.guards;
+        printed = r.printed;
       }
 
   small : (f point : ℕ) → entry_at S.slots f point < 2 ^ 20
@@ -99,17 +104,17 @@ module _ (S : Setting) (s : bril.State) (t : State) (r : RunsAlike S s t) where
       ∙ ap (λ v. goes_to S.p S.slots S.limits (cond (bool_of v) then_to else_to) r.frame r.older s) (read_is r.frame.locations (Variable condition) (Boolean held.truth) held.is) in
       by_value held.truth
       (λ b. let differ : eqb (r.core.stack (h.base + o)) (r.core.registers 0) ≡ false = ap (λ y. eqb y (r.core.registers 0)) (word.is ∙ ap (λ y. word_of (Boolean y)) b) ∙ ap (eqb 1) h.zero_is in
-          let g2 = not_taken S.image (sizes S) differ g1 in
-          let runs = jump_to S.image (sizes S) (at + 1) (entry_at S.slots f then_to) refl (omega arith) (small f then_to) g2 in
-          let count : 0 + load_size o + 1 + 1 ≡ suc (load_size o + 1) = omega arith in
-          goes_moves S s t r (goes_to S.p S.slots S.limits then_to r.frame r.older s) then_to e (load_size o + 1) (is ∙ ap (λ y. goes_to S.p S.slots S.limits (cond y then_to else_to) r.frame r.older s) b) refl r.running refl refl refl
-          (in_steps (suc (load_size o + 1)) count runs) (omega arith) keeps)
+      let g2 = not_taken S.image (sizes S) differ g1 in
+      let runs = jump_to S.image (sizes S) (at + 1) (entry_at S.slots f then_to) refl (omega arith) (small f then_to) g2 in
+      let count : 0 + load_size o + 1 + 1 ≡ suc (load_size o + 1) = omega arith in
+      goes_moves S s t r (goes_to S.p S.slots S.limits then_to r.frame r.older s) then_to e (load_size o + 1) (is ∙ ap (λ y. goes_to S.p S.slots S.limits (cond y then_to else_to) r.frame r.older s) b) refl r.running refl refl refl
+      (in_steps (suc (load_size o + 1)) count runs) (omega arith) keeps)
       (λ b. let same : eqb (r.core.stack (h.base + o)) (r.core.registers 0) ≡ true = ap (λ y. eqb y (r.core.registers 0)) (word.is ∙ ap (λ y. word_of (Boolean y)) b) ∙ ap (eqb 0) h.zero_is in
-          let g2 = taken S.image (sizes S) (first ∷ []) (second ∷ []) place (omega arith) same g1 in
-          let runs = jump_to S.image (sizes S) (at + 2) (entry_at S.slots f else_to) two (omega arith) (small f else_to) g2 in
-          let count : 0 + load_size o + 1 + 1 ≡ suc (load_size o + 1) = omega arith in
-          goes_moves S s t r (goes_to S.p S.slots S.limits else_to r.frame r.older s) else_to e (load_size o + 1) (is ∙ ap (λ y. goes_to S.p S.slots S.limits (cond y then_to else_to) r.frame r.older s) b) refl r.running refl refl refl
-          (in_steps (suc (load_size o + 1)) count runs) (omega arith) keeps)
+      let g2 = taken S.image (sizes S) (first ∷ []) (second ∷ []) place (omega arith) same g1 in
+      let runs = jump_to S.image (sizes S) (at + 2) (entry_at S.slots f else_to) two (omega arith) (small f else_to) g2 in
+      let count : 0 + load_size o + 1 + 1 ≡ suc (load_size o + 1) = omega arith in
+      goes_moves S s t r (goes_to S.p S.slots S.limits else_to r.frame r.older s) else_to e (load_size o + 1) (is ∙ ap (λ y. goes_to S.p S.slots S.limits (cond y then_to else_to) r.frame r.older s) b) refl r.running refl refl refl
+      (in_steps (suc (load_size o + 1)) count runs) (omega arith) keeps)
     where
       by_value : {A : Type 0} → (b : Bool) → (b ≡ true → A) → (b ≡ false → A) → A
       by_value true f g = f refl

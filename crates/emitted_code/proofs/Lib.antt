@@ -1,12 +1,15 @@
 pub mod Allocating
 pub mod Arriving
+pub mod Asking
 pub mod Blocks
 pub mod Calling
-pub mod Emitted
+pub mod Depths
 pub mod Filling
 pub mod Finding
 pub mod Frames
 pub mod Freeing
+pub mod GuardList
+pub mod Guarding
 pub mod Held
 pub mod Holding
 pub mod Items
@@ -17,6 +20,7 @@ pub mod Operands
 pub mod Outcomes
 pub mod Passing
 pub mod Pointing
+pub mod Points
 pub mod Printing
 pub mod Ready
 pub mod Relation
@@ -24,7 +28,7 @@ pub mod Remembering
 pub mod Returning
 pub mod Setting
 pub mod Sources
-pub mod Standing
+pub mod Speculating
 pub mod Starting
 pub mod Storing
 pub mod Stretches

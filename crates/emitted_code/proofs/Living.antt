@@ -1,5 +1,5 @@
 -- A location that is live somewhere is a slot of its function.
-use Rattle.std.proofs.Common.{◌≡◌, ℕ, ◌+◌, ◌<◌, Bool, true, false, List, [], ◌∷◌, ◌++◌, length, map, Option, Some, None, refl, sym, ap, ◌∙◌, subst, arith, inl, inr}
+use Rattle.std.proofs.Common.{◌≡◌, ℕ, ◌<◌, true, List, [], ◌∷◌, length, map, Option, Some, None, refl, sym, ap, ◌∙◌, subst, arith, inl, inr}
 use Rattle.std.specs.Prelude.{All, is_some, option_map, slice_get, slice_index}
 use Rattle.std.specs.List.{Contains}
 use Rattle.std.proofs.lemmas.Bool.{false≢true}
@@ -11,12 +11,12 @@ use Rattle.bril_tree.specs.declared.operation.Op.{Op}
 use Rattle.bril_tree.specs.declared.operation.Op.TheVariants as op
 use Rattle.bril_tree.specs.declared.program.Prog.{Prog}
 use Rattle.bril_tree.specs.declared.types.Ty.{Ty}
-use Rattle.bril_tree.specs.Accepted.{IsAccepted, IsAcceptedFunction}
-use Rattle.bril_tree.specs.FunctionForm.{listed, variables_of}
+use Rattle.bril_tree.specs.Accepted.{IsAccepted}
+use Rattle.bril_tree.specs.FunctionForm.{listed}
 use Rattle.bril_tree.specs.Live.{IsLive, Here, Later}
 use Rattle.bril_tree.specs.Membership.{In}
 use Rattle.bril_tree.specs.Operand.{Location, Variable, Shadow, reads_of}
-use Rattle.bril_tree.specs.Shape.{is_action_shaped, is_shaped}
+use Rattle.bril_tree.specs.Shape.{is_action_shaped}
 use Rattle.bril_tree.proofs.Acceptance.{accepted_function, shaped_at}
 use Rattle.bril_tree.proofs.Elements.{All-at, in_index}
 use Rattle.bril_tree.proofs.Formed.{variable_below}
@@ -25,7 +25,7 @@ use Rattle.slot_code.specs.declared.item.Slot.{Slot}
 use Rattle.slot_code.specs.declared.item.Slot.TheVariants as slot
 use Rattle.slot_code.specs.declared.slots.SlotFunction.{SlotFunction}
 use Rattle.slot_code.specs.Laws.{IsSlotOf, slots_used}
-use Rattle.slot_code.specs.Lowered.{IsLoweredFunction, lowered_action, lowered_item}
+use Rattle.slot_code.specs.Lowered.{IsLoweredFunction, lowered_item}
 use Rattle.slot_code.proofs.Uses.{items_use_slots}
 use Rattle.type_soundness.proofs.Locals.{counted}
 

@@ -1,5 +1,5 @@
 -- The item that loads a cell.
-use Rattle.std.proofs.Common.{◌≡◌, ◌≢◌, ℕ, zero, suc, ◌+◌, ◌*◌, ◌^◌, ◌<◌, ◌≤◌, refl, sym, ap, ◌∙◌, subst, arith, List, [], ◌∷◌, ◌++◌, length, Option, Some, None}
+use Rattle.std.proofs.Common.{◌≡◌, ◌≢◌, ℕ, ◌+◌, ◌*◌, ◌≤◌, refl, sym, ap, ◌∙◌, subst, arith, ◌++◌, length, Option, Some, None}
 use Rattle.std.specs.Prelude.{slice_get}
 use Rattle.bril_tree.specs.declared.limits.Fault.TheVariants as fault
 use Rattle.bril_tree.specs.declared.value.Value.{Value}
@@ -9,13 +9,12 @@ use Rattle.bril_tree.specs.State as bril
 use Rattle.bril_tree.specs.Step.{step, loads_held}
 use Rattle.bril_tree.specs.Step as steps
 use Rattle.rv64_blocks.proofs.Finding.{value_found, fresh_found}
-use Rattle.rv64_layout.specs.Image.{entry_at}
 use Rattle.rv64_layout.proofs.Bounding.{load_most}
-use Rattle.rv64_runs.specs.Core.{Core, Keeps}
-use Rattle.rv64_runs.proofs.Going.{Going, across, begin, ends_after, has_front}
+use Rattle.rv64_runs.proofs.Going.{across, begin, ends_after, has_front}
 use Rattle.rv64_sequences.specs.Operations.{cell_words, load_cell_words}
-use Rattle.rv64_sequences.specs.Sequences.{load_size, load_words, store_size, store_words}
-use Rattle.rv64_values.proofs.Cells.{CellReady, loads_stored, loads_fresh}
+use Rattle.rv64_sequences.specs.Sequences.{load_size, load_words, store_words}
+use Rattle.rv64_values.specs.Cells.{CellReady}
+use Rattle.rv64_values.proofs.Cells.{loads_stored, loads_fresh}
 use Rattle.rv64_values.proofs.Kept.{keeps_on}
 use Rattle.rv64_words.specs.State.{State}
 use Rattle.slot_code.specs.declared.item.Slot.TheVariants.{Variable}
@@ -33,7 +32,7 @@ five_not_six : ◌≢◌ {A = ℕ} 5 6
 five_not_six = λ e. absurd (omega arith)
 
 module _ (S : Setting) (s : bril.State) (t : State) (r : RunsAlike S s t) (dear : 128 ≤ S.cost) (dest pointer : ℕ) (item : slice_get r.holds.function.code r.frame.point ≡ Some (Load dest pointer)) (points : HoldsPointer r.frame.locations pointer)
-  (in_dest : IsSlotOf r.holds.function (Variable dest)) (in_pointer : IsSlotOf r.holds.function (Variable pointer)) where
+    (in_dest : IsSlotOf r.holds.function (Variable dest)) (in_pointer : IsSlotOf r.holds.function (Variable pointer)) where
   stepped : (o : Option ℕ) → cell_at s.blocks (Ptr points.block points.offset) ≡ o → step S.p S.limits s ≡ steps.loads S.p S.limits o (Ptr points.block points.offset) (Some dest) r.frame r.older s
   stepped o e =
       step_at S s t r (Some (Load dest pointer)) item

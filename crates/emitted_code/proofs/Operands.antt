@@ -1,10 +1,9 @@
 -- What the machine has of the slots that an item reads.
-use Rattle.std.proofs.Common.{◌≡◌, ℕ, suc, ◌+◌, ◌<◌, ◌≤◌, false, eqb, refl, sym, ap, ◌∙◌, subst, arith, List, ◌∷◌, ◌++◌, length, Some, pos}
-use Rattle.std.specs.Prelude.{slice_get, unwrap_or}
+use Rattle.std.proofs.Common.{◌≡◌, ℕ, suc, ◌+◌, false, eqb, refl, sym, ap, subst, List, ◌++◌, length, Some, pos}
+use Rattle.std.specs.Prelude.{unwrap_or}
 use Rattle.bril_tree.specs.declared.value.Value.{Value}
 use Rattle.bril_tree.specs.declared.value.Value.TheVariants.{Int}
 use Rattle.bril_tree.specs.State as bril
-use Rattle.rv64_layout.specs.Image.{entry_at}
 use Rattle.rv64_layout.specs.Items.{slot_word}
 use Rattle.rv64_runs.specs.Core.{Core, Keeps, written}
 use Rattle.rv64_runs.proofs.Going.{Going}

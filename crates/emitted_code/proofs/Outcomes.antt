@@ -1,12 +1,11 @@
 -- What the operations compute, of operands that suit them.
-use Rattle.std.proofs.Common.{◌≡◌, ℕ, zero, suc, ◌+◌, ◌*◌, ◌^◌, ◌<◌, ◌≤◌, Bool, true, false, cond, refl, sym, ap, ◌∙◌, subst, arith, None, Some, ℤ, pos, negsuc, ◌+ℤ◌}
+use Rattle.std.proofs.Common.{◌≡◌, ℕ, ◌^◌, ◌<◌, ◌≤◌, Bool, true, false, cond, refl, sym, ap, ◌∙◌, arith, None, Some, ℤ, pos, negsuc, ◌+ℤ◌}
 use Rattle.std.proofs.Math.Utf8.{scalar_fits}
 use Rattle.std.proofs.lemmas.Int.{ints}
-use Rattle.std.proofs.lemmas.Bool.Decides.{nat_tests}
 use Rattle.bril_tree.specs.declared.limits.Fault.TheVariants as fault
 use Rattle.bril_tree.specs.declared.value.Value.{Value}
 use Rattle.bril_tree.specs.declared.value.Value.TheVariants.{Int, Bool as Boolean, Char, Ptr}
-use Rattle.bril_tree.specs.Outcome.{Outcome, Yields, FaultsWith, HasEffect, block_of, char_from, computed, divided, fits_32, int_of, is_scalar, moved, offset_of}
+use Rattle.bril_tree.specs.Outcome.{Yields, FaultsWith, HasEffect, block_of, char_from, computed, divided, fits_32, int_of, is_scalar, moved, offset_of}
 use Rattle.bril_tree.specs.State.{Locals}
 use Rattle.bril_tree.specs.Value.{IsInRange, word_of}
 use Rattle.bril_tree.proofs.Outcomes.{char_from-yields, divided-yields, moved-yields}
@@ -17,7 +16,7 @@ use Rattle.slot_code.specs.declared.item.BinaryOp.TheVariants as binary
 use Rattle.slot_code.specs.declared.item.UnaryOp.{UnaryOp}
 use Rattle.slot_code.specs.declared.item.UnaryOp.TheVariants as unary
 use Rattle.slot_code.specs.Meaning.{binary_operation, unary_operation}
-use Rattle.emitted_code.proofs.Ready.{BinaryFinds, HoldsBool, HoldsChar, HoldsInt, HoldsPointer, UnaryFinds}
+use Rattle.emitted_code.proofs.Ready.{BinaryFinds, UnaryFinds}
 
 -- the word of a value in its range has 64 bits
 pub word_small : (v : Value) → IsInRange v → word_of v < 2 ^ 64

@@ -1,23 +1,19 @@
 -- The arguments of a call come into the slots of the new frame.
-use Rattle.std.proofs.Common.{◌≡◌, ◌≢◌, ℕ, zero, suc, ◌+◌, ◌*◌, ◌<◌, ◌≤◌, Bool, true, false, cond, refl, sym, ap, ◌∙◌, subst, arith, List, [], ◌∷◌, ◌++◌, append_assoc, length, map, Option, Some, None}
+use Rattle.std.proofs.Common.{◌≡◌, ◌≢◌, ℕ, zero, suc, ◌+◌, ◌<◌, ◌≤◌, refl, sym, ap, ◌∙◌, subst, arith, List, [], ◌∷◌, ◌++◌, append_assoc, length, map, Some, None}
 use Rattle.std.specs.Prelude.{slice_get}
 use Rattle.std.specs.List.{AllByRecursion}
 use Rattle.bril_tree.specs.declared.value.Value.{Value}
 use Rattle.bril_tree.specs.State as bril
-use Rattle.rv64_layout.specs.Image.{entry_at}
 use Rattle.rv64_layout.specs.Items.{argument_word, pass_size, pass_words}
-use Rattle.rv64_layout.proofs.Bounding.{load_most, store_most}
 use Rattle.rv64_runs.specs.Core.{Core, put}
 use Rattle.rv64_runs.proofs.Cores.{assigned_here, assigned_other}
 use Rattle.rv64_runs.proofs.Going.{Going, is_place}
 use Rattle.rv64_sequences.specs.Frames.{Reaches, addressed}
-use Rattle.rv64_sequences.specs.Sequences.{load_size, load_words, store_size, store_words}
+use Rattle.rv64_sequences.specs.Sequences.{load_words, store_words}
 use Rattle.rv64_sequences.proofs.Frames.{frame_store}
 use Rattle.rv64_words.specs.declared.word.Word.{Word}
-use Rattle.rv64_words.specs.Region.{stack_base}
 use Rattle.rv64_words.specs.State.{State, assigned}
 use Rattle.slot_code.specs.declared.item.Slot.TheVariants.{Variable}
-use Rattle.slot_code.specs.declared.slots.SlotFunction.{SlotFunction}
 use Rattle.slot_code.specs.Laws.{IsSlotOf}
 use Rattle.emitted_code.proofs.Arriving.{here}
 use Rattle.emitted_code.proofs.Holding.{SameFrame, source}
@@ -30,10 +26,6 @@ use Rattle.emitted_code.proofs.Stretches.{two_not_six}
 
 five_not_six : ◌≢◌ {A = ℕ} 5 6
 five_not_six = λ e. absurd (omega arith)
-
-pub pass_most : (g : SlotFunction) (k : ℕ) (args : List ℕ) → pass_size g k args ≤ 6 * length args
-pass_most g k [] = omega arith
-pass_most g k (a ∷ args) = let rest = pass_most g (suc k) args in let one = load_most (2 + a) in let two = store_most (argument_word g k) in omega arith
 
 -- The values from argument j on are in the new frame, at word n, and what is below them stayed.
 pub record Passed (made : ℕ) (d e : Core) (n j : ℕ) (vals : List Value) : Type 0 where
@@ -88,7 +80,14 @@ module _ (S : Setting) (s : bril.State) (t : State) (r : RunsAlike S s t) (wide 
     core = d;
     passed = record {
       same = record { zero_register = refl; frame_register = refl; frames_left = refl };
-      table = refl; cells = refl; blocks = refl; given = refl; arrivals = refl; printed = refl; below = λ k lt. refl; holds = λ x v e. absurd (none_some e);
+      table = refl;
+      cells = refl;
+      blocks = refl;
+      given = refl;
+      arrivals = refl;
+      printed = refl;
+      below = λ k lt. refl;
+      holds = λ x v e. absurd (none_some e);
     };
     going = is_place S.image (sizes S) (n + 0) (i + 0) (omega arith) (omega arith) g;
   }

@@ -1,19 +1,17 @@
 -- The words of an item that find the cell of a pointer.
-use Rattle.std.proofs.Common.{◌≡◌, ℕ, suc, ◌+◌, ◌*◌, ◌^◌, ◌<◌, ◌≤◌, refl, sym, ap, ◌∙◌, subst, arith, List, [], ◌∷◌, ◌++◌, length, Some, None, ℤ}
-use Rattle.std.specs.Prelude.{slice_get}
+use Rattle.std.proofs.Common.{◌≡◌, ℕ, ◌+◌, ◌*◌, ◌^◌, ◌<◌, ◌≤◌, refl, arith, List, ◌++◌, length, Some, None}
 use Rattle.bril_tree.specs.declared.limits.Fault.TheVariants as fault
 use Rattle.bril_tree.specs.declared.value.Value.TheVariants.{Ptr}
 use Rattle.bril_tree.specs.Memory.{cell_at}
 use Rattle.bril_tree.specs.State as bril
 use Rattle.bril_tree.specs.Step.{step, faulted}
 use Rattle.rv64_blocks.proofs.Finding.{CellFound, cell_found, cell_missing, size_few}
-use Rattle.rv64_layout.specs.Image.{entry_at}
 use Rattle.rv64_layout.proofs.Bounding.{load_most}
 use Rattle.rv64_runs.specs.Core.{Core, Keeps}
-use Rattle.rv64_runs.specs.Runs.{Runs}
 use Rattle.rv64_runs.proofs.Going.{Going, across, ends_after, has_front}
 use Rattle.rv64_sequences.specs.Operations.{cell_words}
 use Rattle.rv64_sequences.specs.Sequences.{load_size}
+use Rattle.rv64_values.specs.Cells.{PointerReady}
 use Rattle.rv64_values.proofs.Cells as words
 use Rattle.rv64_values.proofs.Kept.{keeps_itself, keeps_on}
 use Rattle.rv64_words.specs.declared.word.Word.{Word}
@@ -47,7 +45,7 @@ module _ (S : Setting) (s : bril.State) (t : State) (r : RunsAlike S s t) (point
       let few : S.limits.cells ≤ 4194304 = S.limits.few_cells in
       omega arith
 
-  ready : (ws : List Word) → Pointed (cell_words ++ ws) → words.PointerReady S.image (sizes S) (here S s t r + load_size (2 + pointer)) (loaded S s t r r.core 5 (2 + pointer)) cell_words points.block points.offset
+  ready : (ws : List Word) → Pointed (cell_words ++ ws) → PointerReady S.image (sizes S) (here S s t r + load_size (2 + pointer)) (loaded S s t r r.core 5 (2 + pointer)) cell_words points.block points.offset
   ready ws g =
       let low = S.laid.few_entries r.frame.function r.frame.point in
       let size = load_most (2 + pointer) in

@@ -1,24 +1,22 @@
 -- The item that prints.
-use Rattle.std.proofs.Common.{◌≡◌, ℕ, zero, suc, ◌+◌, ◌-◌, ◌*◌, ◌%◌, ◌^◌, ◌<◌, ◌≤◌, Bool, true, false, cond, refl, sym, ap, ◌∙◌, subst, arith, List, [], ◌∷◌, ◌++◌, append_assoc, append-nil, length, map, Some, ℤ, pos}
+use Rattle.std.proofs.Common.{◌≡◌, ℕ, suc, ◌+◌, ◌-◌, ◌*◌, ◌%◌, ◌^◌, ◌≤◌, Bool, true, false, refl, sym, ap, ◌∙◌, subst, arith, List, [], ◌∷◌, ◌++◌, append_assoc, append-nil, length, map, Some}
 use Rattle.std.specs.Prelude.{encode_utf8, slice_get}
 use lib.Utf8.{scalar}
 use Rattle.std.specs.Fmt.{signed_decimal}
-use Rattle.std.specs.Int.{w64, cast_signed, cast_unsigned, from_bool}
+use Rattle.std.specs.Int.{w64, cast_signed, from_bool}
 use Rattle.std.specs.List.{AllByRecursion}
 use Rattle.std.proofs.lemmas.Int.{to_z-of_z}
 use Rattle.bril_tree.specs.declared.types.Base.{Base}
 use Rattle.bril_tree.specs.declared.types.Base.TheVariants as base
 use Rattle.bril_tree.specs.declared.value.Value.{Value}
 use Rattle.bril_tree.specs.declared.value.Value.TheVariants.{Int, Bool as Boolean, Char}
-use Rattle.bril_tree.specs.Cost.{longest_arguments}
 use Rattle.bril_tree.specs.State as bril
-use Rattle.bril_tree.specs.Step.{advanced, line_of, prints, step}
-use Rattle.bril_tree.specs.Value.{bool_text, shown, word_of}
-use Rattle.bril_tree.proofs.Elements.{All-at}
+use Rattle.bril_tree.specs.Step.{advanced, line_of, prints}
+use Rattle.bril_tree.specs.Value.{bool_text, shown}
 use Rattle.rv64_layout.specs.Image.{entry_at}
 use Rattle.rv64_layout.specs.Items.{environment_words, print_call, print_size, print_words, spaced_size, spaced_words, value_words}
-use Rattle.rv64_layout.proofs.Bounding.{load_most}
-use Rattle.rv64_runs.specs.Core.{Core, Keeps, said, written}
+use Rattle.rv64_layout.proofs.Bounding.{print_most}
+use Rattle.rv64_runs.specs.Core.{Core, said, written}
 use Rattle.rv64_runs.proofs.Calls.{print_bool, print_char, print_int, print_line_end, print_space}
 use Rattle.rv64_runs.proofs.Going.{Going, begin, is_place, plain}
 use Rattle.rv64_sequences.specs.Sequences.{load_size, load_words}
@@ -30,11 +28,11 @@ use Rattle.slot_code.specs.declared.item.Slot.TheVariants.{Variable}
 use Rattle.slot_code.specs.declared.item.SlotItem.TheVariants.{Print}
 use Rattle.slot_code.specs.Laws.{IsSlotOf}
 use Rattle.slot_code.specs.Meaning.{read_printed}
-use Rattle.emitted_code.proofs.Arriving.{Moves, arrive, here, memory_by, step_at}
+use Rattle.emitted_code.proofs.Arriving.{Moves, arrive, guards_by, here, memory_by, step_at}
 use Rattle.emitted_code.proofs.Holding.{SameFrame, moved_holds}
 use Rattle.emitted_code.proofs.Operands.{loaded, loads, read_is, word_held}
 use Rattle.emitted_code.proofs.Ready.{HoldsKind}
-use Rattle.emitted_code.proofs.Relation.{GuardsHold, MemoryHolds, RunsAlike}
+use Rattle.emitted_code.proofs.Relation.{RunsAlike}
 use Rattle.emitted_code.proofs.Setting.{Setting, sizes}
 use Rattle.emitted_code.proofs.Stretches.{landed, with_end}
 
@@ -71,13 +69,14 @@ says_nothing c = record { same = record { zero_register = refl; frame_register =
 says_more : (c e f : Core) (text more : List ℕ) → Says c e text → SameFrame e f → f.stack ≡ e.stack → f.table ≡ e.table → f.cells ≡ e.cells → f.blocks ≡ e.blocks → f.given ≡ e.given → f.arrivals ≡ e.arrivals → f.printed ≡ e.printed ++ more → Says c f (text ++ more)
 says_more c e f text more h same stack table cells blocks given arrivals printed = record {
   same = record { zero_register = same.zero_register ∙ h.same.zero_register; frame_register = same.frame_register ∙ h.same.frame_register; frames_left = same.frames_left ∙ h.same.frames_left };
-  stack = stack ∙ h.stack; table = table ∙ h.table; cells = cells ∙ h.cells; blocks = blocks ∙ h.blocks; given = given ∙ h.given; arrivals = arrivals ∙ h.arrivals;
+  stack = stack ∙ h.stack;
+  table = table ∙ h.table;
+  cells = cells ∙ h.cells;
+  blocks = blocks ∙ h.blocks;
+  given = given ∙ h.given;
+  arrivals = arrivals ∙ h.arrivals;
   printed = printed ∙ (ap (λ l. l ++ more) h.printed ∙ append_assoc c.printed text more);
 }
-
-spaced_most : (args : List Printed) → spaced_size args ≤ 7 * length args
-spaced_most [] = omega arith
-spaced_most (a ∷ args) = let rest = spaced_most args in let one = load_most (2 + a.variable) in omega arith
 
 module _ (S : Setting) (s : bril.State) (t : State) (r : RunsAlike S s t) where
   -- so far the machine said a text, by so many words
@@ -121,7 +120,7 @@ module _ (S : Setting) (s : bril.State) (t : State) (r : RunsAlike S s t) where
       saying value number more same is g = record {
         core = said (written (loaded S s t r q.core 10 (2 + a.variable)) 17 number) more;
         says = subst (λ l. Says r.core (said (written (loaded S s t r q.core 10 (2 + a.variable)) 17 number) more) (text ++ l)) (same ∙ ap shown (sym (read_is r.frame.locations (Variable a.variable) value is)))
-          (says_more r.core q.core _ text more q.says (record { zero_register = refl; frame_register = refl; frames_left = refl }) refl refl refl refl refl refl refl);
+            (says_more r.core q.core _ text more q.says (record { zero_register = refl; frame_register = refl; frames_left = refl }) refl refl refl refl refl refl refl);
         going = is_place S.image (sizes S) (n + (load_size (2 + a.variable) + 2)) (j + (load_size (2 + a.variable) + 2)) (omega arith) (omega arith) g;
       }
 
@@ -185,9 +184,9 @@ module _ (S : Setting) (s : bril.State) (t : State) (r : RunsAlike S s t) where
         going = is_place S.image (sizes S) (print_size (a ∷ args)) (here S s t r + print_size (a ∷ args)) (omega arith) (omega arith) q3.going;
       }
 
-  print_some : (args : List Printed) → (2 ≤ print_size args) × (print_size args ≤ 2 + 7 * length args)
-  print_some [] = (omega arith, omega arith)
-  print_some (a ∷ args) = let rest = spaced_most args in let one = load_most (2 + a.variable) in (omega arith, omega arith)
+  print_some : (args : List Printed) → 2 ≤ print_size args
+  print_some [] = omega arith
+  print_some (a ∷ args) = omega arith
 
   pub print_moves : (args : List Printed) → slice_get r.holds.function.code r.frame.point ≡ Some (Print args) → AllByRecursion (λ a. HoldsKind r.frame.locations a.kind a.variable) args →
       AllByRecursion (λ a. IsSlotOf r.holds.function (Variable a.variable)) args → 128 + 8 * length args ≤ S.cost → Moves S s t
@@ -198,12 +197,12 @@ module _ (S : Setting) (s : bril.State) (t : State) (r : RunsAlike S s t) where
       let q = line_said args held used (record { core = r.core; says = says_nothing r.core; going = begin S.image (sizes S) k r.core (print_words args) has }) in
       let there = S.laid.next r.frame.function h.function r.frame.point (Print args) h.there item in
       let some = print_some args in
-      let count : print_size args ≡ suc (print_size args - 1) = (let h = some.0 in omega arith) in
+      let count : print_size args ≡ suc (print_size args - 1) = omega arith in
       let at : k + print_size args ≡ entry_at S.slots r.frame.function (suc r.frame.point) = omega arith in
       let vs = map (read_printed r.frame.locations) args in
       arrive S s t r (prints S.p S.limits vs r.frame r.older s) (advanced r.frame) r.older q.core (print_size args - 1) (step_at S s t r (Some (Print args)) item) refl r.running
       (ap (λ l. l ++ line_of vs) r.printed ∙ sym q.says.printed)
       (moved_holds S (length s.blocks) r.frame r.older r.core h (suc r.frame.point) q.core q.says.stack q.says.same)
       (memory_by S s.blocks r.core q.core q.says.table q.says.cells q.says.blocks q.says.given r.memory)
-      (λ g guard there. ap (λ m. m guard.word) q.says.arrivals ∙ r.guards g guard there)
-      (landed (suc (print_size args - 1)) (entry_at S.slots r.frame.function (suc r.frame.point)) count at q.going) (let most = some.1 in omega arith)
+      (guards_by S s t r q.core q.says.arrivals)
+      (landed (suc (print_size args - 1)) (entry_at S.slots r.frame.function (suc r.frame.point)) count at q.going) (let most = print_most args in omega arith)

@@ -15,7 +15,6 @@ use Rattle.bril_tree.specs.Typing.{return_type}
 use Rattle.bril_tree.specs.Value.{IsInRange}
 use Rattle.slot_code.specs.declared.item.BinaryOp.{BinaryOp}
 use Rattle.slot_code.specs.declared.item.BinaryOp.TheVariants as binary
-use Rattle.slot_code.specs.declared.item.Printed.{Printed}
 use Rattle.slot_code.specs.declared.item.Slot.{Slot}
 use Rattle.slot_code.specs.declared.item.Slot.TheVariants.{Variable, Shadow}
 use Rattle.slot_code.specs.declared.item.SlotItem.{SlotItem}

@@ -1,20 +1,17 @@
 -- The relation between the states of a program and those of the machine that runs its image.
-use Rattle.std.proofs.Common.{◌≡◌, ◌≢◌, ℕ, zero, suc, ◌+◌, ◌-◌, ◌*◌, ◌^◌, ◌<◌, ◌≤◌, ◌⊎◌, Bool, true, false, cond, List, [], ◌∷◌, length, Option, Some, None}
+use Rattle.std.proofs.Common.{◌≡◌, ℕ, suc, ◌+◌, ◌*◌, ◌≤◌, true, List, [], ◌∷◌, length, Option, Some, None}
 use Rattle.std.specs.Prelude.{slice_get}
 use Rattle.bril_tree.specs.declared.limits.End.{End}
 use Rattle.bril_tree.specs.declared.value.Value.{Value}
-use Rattle.bril_tree.specs.Memory.{cells_given, most_blocks}
-use Rattle.bril_tree.specs.Outcome.{block_of}
 use Rattle.bril_tree.specs.Run.{state_after}
 use Rattle.bril_tree.specs.State as bril
-use Rattle.bril_tree.specs.Value.{word_of}
+pub use Rattle.rv64_blocks.specs.Memory.{HasWord, BlockHolds, LiesIn, MemoryHolds}
 use Rattle.rv64_layout.specs.Image.{end_start, entry_at}
 use Rattle.rv64_layout.specs.Items.{level_word, return_word}
 use Rattle.rv64_runs.specs.Core.{Core, machine}
 use Rattle.rv64_words.specs.declared.image.GuardAt.{GuardAt}
-use Rattle.rv64_words.specs.Region.{Sizes, cells_base, stack_base}
+use Rattle.rv64_words.specs.Region.{stack_base}
 use Rattle.rv64_words.specs.State.{State, Finished}
-pub use Rattle.rv64_blocks.specs.Memory.{HasWord, BlockHolds, LiesIn, MemoryHolds}
 use Rattle.slot_code.specs.declared.item.Slot.{Slot}
 use Rattle.slot_code.specs.declared.item.SlotItem.TheVariants.{Call}
 use Rattle.slot_code.specs.declared.slots.SlotFunction.{SlotFunction}
@@ -22,8 +19,6 @@ use Rattle.slot_code.specs.Laws.{IsSlotOf}
 use Rattle.slot_code.specs.Numbering.{slot_number}
 use Rattle.emitted_code.proofs.Ready.{gives_back, slot_value}
 use Rattle.emitted_code.proofs.Setting.{Setting, sizes, widest}
-
--- ---- slots
 
 -- Each slot of the function that holds a value has its word: slot j the one `first + j` words above the frame's base. The slots
 -- as they are begin at word 2.

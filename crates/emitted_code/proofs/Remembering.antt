@@ -1,6 +1,5 @@
 -- What the machine holds of the frames when memory changes.
-use Rattle.std.proofs.Common.{◌≡◌, ◌≢◌, ℕ, zero, suc, ◌+◌, ◌-◌, ◌*◌, ◌≤◌, refl, sym, ap, ◌∙◌, subst, arith, List, [], ◌∷◌, length, Some}
-use Rattle.std.specs.Prelude.{slice_get}
+use Rattle.std.proofs.Common.{◌≡◌, ◌≢◌, ℕ, zero, suc, ◌+◌, ◌-◌, ◌≤◌, refl, sym, ap, ◌∙◌, arith, List, [], ◌∷◌, length}
 use Rattle.bril_tree.specs.declared.value.Value.{Value}
 use Rattle.bril_tree.specs.Memory.{changed_block}
 use Rattle.bril_tree.specs.State as bril
@@ -22,9 +21,9 @@ use Rattle.slot_code.specs.declared.slots.SlotFunction.{SlotFunction}
 use Rattle.slot_code.specs.Laws.{IsSlotOf}
 use Rattle.slot_code.specs.Meaning.{fills, with_slot}
 use Rattle.slot_code.specs.Numbering.{slot_number}
-use Rattle.emitted_code.proofs.Arriving.{Moves, arrive, here}
+use Rattle.emitted_code.proofs.Arriving.{Moves, arrive, guards_by, here}
 use Rattle.emitted_code.proofs.Holding.{SameFrame, filled_holds, slot_reaches}
-use Rattle.emitted_code.proofs.Relation.{HasWord, SlotsHold, SavesHold, Waits, OlderHold, FramesHold, GuardsHold, RunsAlike}
+use Rattle.emitted_code.proofs.Relation.{HasWord, SlotsHold, SavesHold, Waits, OlderHold, FramesHold, RunsAlike}
 use Rattle.emitted_code.proofs.Setting.{Setting, sizes}
 use Rattle.emitted_code.proofs.Stretches.{landed, store_some, two_not_six, with_end}
 
@@ -40,7 +39,18 @@ module _ (made more : ℕ) (le : made ≤ more) where
 
   waits_more : (S : Setting) (above base depth : ℕ) (f : bril.Frame) (stack : ℕ → ℕ) → Waits S made above base depth f stack → Waits S more above base depth f stack
   waits_more S above base depth f stack w = record {
-    function = w.function; there = w.there; dest = w.dest; args = w.args; here = w.here; takes = w.takes; alone = w.alone; below = w.below; ends = w.ends; deep = w.deep; way = w.way; old = w.old;
+    function = w.function;
+    there = w.there;
+    dest = w.dest;
+    args = w.args;
+    here = w.here;
+    takes = w.takes;
+    alone = w.alone;
+    below = w.below;
+    ends = w.ends;
+    deep = w.deep;
+    way = w.way;
+    old = w.old;
     slots = slots_more w.function w.below 2 f.locations stack w.slots;
   }
 
@@ -52,7 +62,13 @@ module _ (made more : ℕ) (le : made ≤ more) where
   -- the frames are held as before
   abbrev pub frames_more : (S : Setting) (f : bril.Frame) (older : List bril.Frame) (c : Core) → FramesHold S made f older c → FramesHold S more f older c
   frames_more S f older c h = record {
-    function = h.function; there = h.there; base = h.base; at = h.at; zero_is = h.zero_is; left = h.left; deep = h.deep;
+    function = h.function;
+    there = h.there;
+    base = h.base;
+    at = h.at;
+    zero_is = h.zero_is;
+    left = h.left;
+    deep = h.deep;
     slots = slots_more h.function h.base 2 f.locations c.stack h.slots;
     saves = saves_more h.function h.base f.saves c.stack h.saves;
     older_hold = older_more S f.function h.base older c.stack h.older_hold;
@@ -73,9 +89,6 @@ module _ (S : Setting) (s : bril.State) (t : State) (r : RunsAlike S s t) where
     pub printed : e.printed ≡ r.core.printed
     pub arrivals : e.arrivals ≡ r.core.arrivals
 
-  pub arrivals_kept : (e : Core) → e.arrivals ≡ r.core.arrivals → GuardsHold S.image.guards s.failures e.arrivals
-  arrivals_kept e same k guard there = ap (λ m. m guard.word) same ∙ r.guards k guard there
-
   pub fills_moves : (blocks : List bril.Block) (dest : Slot) (v : Value) (rs : ℕ) (e : Core) (n j : ℕ) → length s.blocks ≤ length blocks → IsSlotOf r.holds.function dest → rs ≢ 6 → HasWord (length blocks) v (e.registers rs) → KeepsFrames e →
       CoreHolds (sizes S) blocks e → step S.p S.limits s ≡ fills S.p S.slots S.limits dest v r.frame r.older (record s { blocks = blocks }) →
       Going S.image (sizes S) (here S s t r) r.core n j e (store_words rs (slot_word r.holds.function dest)) → j + store_size (slot_word r.holds.function dest) ≡ entry_at S.slots r.frame.function (suc r.frame.point) →
@@ -94,4 +107,4 @@ module _ (S : Setting) (s : bril.State) (t : State) (r : RunsAlike S s t) where
       let three = store_most o in
       let count : n + store_size o ≡ suc (n + store_size o - 1) = omega arith in
       arrive S s t r (fills S.p S.slots S.limits dest v r.frame r.older (record s { blocks = blocks })) f r.older last (n + store_size o - 1) stepped refl r.running (r.printed ∙ sym keeps.printed) holds
-      memory (arrivals_kept e keeps.arrivals) (landed (suc (n + store_size o - 1)) (entry_at S.slots r.frame.function (suc r.frame.point)) count there stored) (omega arith)
+      memory (guards_by S s t r e keeps.arrivals) (landed (suc (n + store_size o - 1)) (entry_at S.slots r.frame.function (suc r.frame.point)) count there stored) (omega arith)

@@ -1,5 +1,5 @@
 -- The items that leave a frame: a return, and the end of a function.
-use Rattle.std.proofs.Common.{◌≡◌, ◌≢◌, ℕ, zero, suc, ◌+◌, ◌-◌, ◌*◌, ◌%◌, ◌^◌, ◌<◌, ◌≤◌, Bool, true, false, cond, refl, sym, ap, ◌∙◌, subst, arith, List, [], ◌∷◌, ◌++◌, length, Option, None, Some, pos}
+use Rattle.std.proofs.Common.{◌≡◌, ◌≢◌, ℕ, suc, ◌+◌, ◌*◌, ◌%◌, ◌^◌, ◌<◌, ◌≤◌, Bool, true, false, cond, refl, sym, ap, ◌∙◌, subst, arith, List, [], ◌∷◌, ◌++◌, length, Option, None, Some, pos}
 use Rattle.std.specs.Prelude.{slice_get}
 use Rattle.bril_tree.specs.declared.limits.End.TheVariants.{Ended, Faulted}
 use Rattle.bril_tree.specs.declared.limits.Fault.TheVariants as fault
@@ -9,14 +9,14 @@ use Rattle.bril_tree.specs.State as bril
 use Rattle.bril_tree.specs.Step.{advanced, ends, faulted, gives, step, with_locations}
 use Rattle.bril_tree.proofs.Elements.{All-at}
 use Rattle.rv64_layout.specs.Image.{entry_at, end_start, start_at}
-use Rattle.rv64_layout.specs.Items.{before_call, leave_words, pass_words, result_size, result_words, return_word, returned_words, room_words}
+use Rattle.rv64_layout.specs.Items.{before_call, leave_words, pass_words, result_size, result_words, return_word, room_words}
 use Rattle.rv64_layout.proofs.Bounding.{load_most, store_most}
 use Rattle.rv64_layout.proofs.Lengths.{frame_up_length, pass_length}
 use Rattle.rv64_runs.specs.Core.{Core, Keeps, put, written}
 use Rattle.rv64_runs.specs.Runs.{HasAt, Runs, effect}
 use Rattle.rv64_runs.proofs.Going.{Going, HasAt-rest, begin, jump_back, load, onward, plain}
-use Rattle.rv64_sequences.specs.Sequences.{fault_words, frame_up_size, frame_up_words, jump_offset, load_size, load_words, store_size, store_words}
-use Rattle.rv64_sequences.proofs.Ends.{called_off, finishes}
+use Rattle.rv64_sequences.specs.Sequences.{fault_words, frame_up_words, jump_offset, load_words, store_size, store_words}
+use Rattle.rv64_sequences.proofs.Ends.{finishes}
 use Rattle.rv64_sequences.specs.Frames.{addressed}
 use Rattle.rv64_sequences.proofs.Frames.{frame_store}
 use Rattle.rv64_values.proofs.Kept.{keeps_itself}
@@ -24,10 +24,9 @@ use Rattle.rv64_words.specs.declared.word.Word.TheVariants.{Jal}
 use Rattle.rv64_words.specs.Environment as rv64
 use Rattle.rv64_words.specs.Mnemonics.{addi}
 use Rattle.rv64_words.specs.Region.{stack_base}
-use Rattle.rv64_words.specs.State.{State, assigned}
+use Rattle.rv64_words.specs.State.{State}
 use Rattle.slot_code.specs.declared.item.Slot.TheVariants.{Variable}
 use Rattle.slot_code.specs.declared.item.SlotItem.TheVariants.{Call, Return}
-use Rattle.slot_code.specs.declared.slots.SlotFunction.{SlotFunction}
 use Rattle.slot_code.specs.Laws.{IsSlotOf, slots_used}
 use Rattle.slot_code.specs.Meaning.{read_returned, slot_awaited, slot_item_at, slot_items_of, slot_returns}
 use Rattle.slot_code.proofs.Uses.{items_use_slots}
@@ -35,10 +34,10 @@ use Rattle.emitted_code.proofs.Arriving.{Moves, arrive, arrive_ended, guards_kep
 use Rattle.emitted_code.proofs.Blocks.{live_alike}
 use Rattle.emitted_code.proofs.Holding.{SameFrame, filled_holds, frame_reaches, moved_holds, slot_reaches, stack_few}
 use Rattle.emitted_code.proofs.Frames.{slots_fit}
-use Rattle.emitted_code.proofs.Operands.{loaded, loaded_keeps, loads, read_is, word_held}
-use Rattle.emitted_code.proofs.Ready.{HoldsValue, ReturnFinds, gives_back}
+use Rattle.emitted_code.proofs.Operands.{loaded_keeps, loads, read_is, word_held}
+use Rattle.emitted_code.proofs.Ready.{ReturnFinds, gives_back}
 use Rattle.emitted_code.proofs.Relation.{FramesHold, HasWord, OlderHold, RunsAlike, SavesHold, SlotsHold, Waits}
-use Rattle.emitted_code.proofs.Setting.{Setting, sizes, widest}
+use Rattle.emitted_code.proofs.Setting.{Setting, sizes}
 use Rattle.emitted_code.proofs.Sources.{source_at}
 use Rattle.emitted_code.proofs.Stretches.{ends_in, landed, store_some, two_not_six, with_end}
 

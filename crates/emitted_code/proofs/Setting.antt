@@ -1,5 +1,5 @@
 -- A program, its code over slots and its image, with arguments for a run: what all proofs here are about.
-use Rattle.std.proofs.Common.{◌≡◌, ℕ, ◌+◌, ◌*◌, List, length}
+use Rattle.std.proofs.Common.{ℕ, List}
 use Rattle.bril_tree.specs.declared.limits.Limits.{Limits}
 use Rattle.bril_tree.specs.declared.program.Prog.{Prog}
 use Rattle.bril_tree.specs.declared.value.Value.{Value}

@@ -1,10 +1,11 @@
 -- A function of a program and its code over slots.
-use Rattle.std.proofs.Common.{◌≡◌, ℕ, ◌<◌, length, Some, sym, subst}
+use Rattle.std.proofs.Common.{◌≡◌, ℕ, ◌<◌, length, Some, subst}
 use Rattle.std.specs.Prelude.{slice_get}
 use Rattle.std.proofs.lemmas.Option.{slice_get_within}
 use Rattle.bril_tree.specs.declared.numbered_function.Func.{Func}
 use Rattle.bril_tree.specs.declared.program.Prog.{Prog}
 use Rattle.bril_tree.proofs.Elements.{get_inside, zip-get, zip-long}
+use Rattle.rv64_layout.proofs.Bounding.{function_made}
 use Rattle.slot_code.specs.declared.slots.SlotFunction.{SlotFunction}
 use Rattle.slot_code.specs.declared.slots.Slots.{Slots}
 use Rattle.slot_code.specs.Lowered.{IsLowered, IsLoweredFunction}
@@ -31,6 +32,4 @@ module _ (p : Prog) (slots : Slots) (lowered : IsLowered p slots) where
       record { function = g.0; there = g.1; is = zip-get IsLoweredFunction p.funcs slots.funcs k f g.0 lowered.funcs there g.1 }
 
   pub source_at : (k : ℕ) (g : SlotFunction) → slice_get slots.funcs k ≡ Some g → SourceAt p k g
-  source_at k g there =
-      let f = get_inside p.funcs k (subst (λ n. k < n) (sym as_many) (slice_get_within slots.funcs k g there)) in
-      record { function = f.0; there = f.1; is = zip-get IsLoweredFunction p.funcs slots.funcs k f.0 g lowered.funcs f.1 there }
+  source_at k g there = let made = function_made p slots lowered k g there in record { function = made.0; there = made.1; is = made.2 }

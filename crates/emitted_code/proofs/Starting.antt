@@ -1,9 +1,8 @@
 -- The first words of an image lead to the first item of `main`, which its program starts at.
-use Rattle.std.proofs.Common.{◌≡◌, ◌≢◌, ℕ, zero, suc, ◌+◌, ◌-◌, ◌*◌, ◌%◌, ◌^◌, ◌<◌, ◌≤◌, ◌⊎◌, inl, inr, Bool, true, false, cond, eqb, refl, sym, ap, ◌∙◌, subst, arith, List, [], ◌∷◌, length, map, length-take, min, mul-le-mul_right, Option, Some, None, pos}
+use Rattle.std.proofs.Common.{◌≡◌, ◌≢◌, ℕ, zero, suc, ◌+◌, ◌-◌, ◌*◌, ◌^◌, ◌<◌, ◌≤◌, ◌⊎◌, inl, inr, refl, sym, ap, ◌∙◌, subst, arith, List, [], ◌∷◌, length, map, length-take, mul-le-mul_right, Option, Some, None, pos}
 use Rattle.std.specs.Prelude.{All, slice_get, slice_index, take}
 use Rattle.std.specs.List.{AllZip}
 use Rattle.std.specs.Option.{option_map}
-use Rattle.std.proofs.lemmas.Bool.Decides.{nat_tests}
 use Rattle.std.proofs.lemmas.List.{length-map}
 use Rattle.std.proofs.lemmas.List.Elements.{All-head, All-tail}
 use Rattle.simulation.specs.System.{after}
@@ -22,9 +21,9 @@ use Rattle.bril_tree.specs.Step.{new_frame}
 use Rattle.bril_tree.specs.Value.{IsOfDepth, word_of}
 use Rattle.bril_tree.proofs.Elements.{zip-long}
 use Rattle.rv64_layout.specs.Image.{entry_at, head_words, start_at}
-use Rattle.rv64_runs.specs.Core.{Core, machine, put, written}
+use Rattle.rv64_runs.specs.Core.{Core, machine}
 use Rattle.rv64_runs.specs.Runs.{Runs}
-use Rattle.rv64_runs.proofs.Cores.{assigned_here, assigned_other}
+use Rattle.rv64_runs.proofs.Cores.{assigned_other}
 use Rattle.rv64_runs.proofs.Going.{begin, onward, plain, store}
 use Rattle.rv64_sequences.specs.Sequences.{high_part, low_part}
 use Rattle.rv64_sequences.proofs.Digits.{small_again}
@@ -33,14 +32,13 @@ use Rattle.rv64_words.specs.declared.word.Word.TheVariants.{Sd}
 use Rattle.rv64_words.specs.Arithmetic.{extended_32, moved_by}
 use Rattle.rv64_words.specs.Machine.{machine_step}
 use Rattle.rv64_words.specs.Region.{stack_base}
-use Rattle.rv64_words.specs.State.{State, assigned, start, words_of}
+use Rattle.rv64_words.specs.State.{assigned, start, words_of}
 use Rattle.slot_code.specs.declared.item.Slot.{Slot}
 use Rattle.slot_code.specs.declared.item.Slot.TheVariants.{Variable, Shadow}
-use Rattle.slot_code.specs.declared.slots.SlotFunction.{SlotFunction}
 use Rattle.slot_code.specs.Laws.{IsSlotOf}
 use Rattle.slot_code.specs.Numbering.{slot_number}
 use Rattle.emitted_code.proofs.Frames.{arguments_hold, inside, slots_fit, variables_fit}
-use Rattle.emitted_code.proofs.Holding.{stack_few, stack_room}
+use Rattle.emitted_code.proofs.Holding.{stack_room}
 use Rattle.emitted_code.proofs.Ready.{slot_value}
 use Rattle.emitted_code.proofs.Relation.{FramesHold, HasWord, MemoryHolds, Related, run}
 use Rattle.emitted_code.proofs.Setting.{Setting, sizes, widest}
@@ -86,7 +84,12 @@ module _ (S : Setting) where
   first_core = record {
     registers = assigned (λ _. 0) 2 stack_base;
     stack = words_of (0 ∷ 0 ∷ map word_of S.args);
-    table = λ _. 0; cells = λ _. 0; blocks = 0; given = 0; printed = []; arrivals = λ _. 0;
+    table = λ _. 0;
+    cells = λ _. 0;
+    blocks = 0;
+    given = 0;
+    printed = [];
+    arrivals = λ _. 0;
   }
 
   main_is : S.slots.main ≡ S.p.main
@@ -160,8 +163,16 @@ module _ (S : Setting) where
   begun_from : {e : Core} → Runs S.image (sizes S) 0 first_core 4 (entry_at S.slots S.p.main 0) e → e.registers 2 ≡ stack_base → e.registers 0 ≡ 0 → e.registers 8 ≡ S.limits.frames - 1 →
       e.stack ≡ assigned (words_of (0 ∷ 0 ∷ map word_of S.args)) 0 12 → e.table ≡ (λ _. 0) → e.cells ≡ (λ _. 0) → e.blocks ≡ 0 → e.given ≡ 0 → e.arrivals ≡ (λ _. 0) → e.printed ≡ [] → Begun
   begun_from {e} r two zero_is eight stack table cells blocks given arrivals printed = record {
-    core = e; done = r.done 0; steps = r.steps 0; holds = first_holds e two zero_is eight stack;
-    table = table; cells = cells; blocks = blocks; given = given; arrivals = arrivals; printed = printed;
+    core = e;
+    done = r.done 0;
+    steps = r.steps 0;
+    holds = first_holds e two zero_is eight stack;
+    table = table;
+    cells = cells;
+    blocks = blocks;
+    given = given;
+    arrivals = arrivals;
+    printed = printed;
   }
 
   to_main : {n : ℕ} {e : Core} → Runs S.image (sizes S) 0 first_core n (start_at S.slots S.slots.main) e → Runs S.image (sizes S) 0 first_core n (start_at S.slots S.p.main) e
@@ -214,8 +225,18 @@ module _ (S : Setting) where
   -- four words lead to the program's first state
   pub start_related : Related S (first_state S.p S.limits S.args) (after (machine_step S.image (sizes S)) 4 (start S.args))
   start_related = subst (Related S (first_state S.p S.limits S.args)) (sym begun.steps) (run (record {
-    steps = 0; is = refl; frame = new_frame S.p.main S.args; older = []; frames = refl; running = refl; core = begun.core; done = begun.done; state = refl; holds = begun.holds;
+    steps = 0;
+    is = refl;
+    frame = new_frame S.p.main S.args;
+    older = [];
+    frames = refl;
+    running = refl;
+    core = begun.core;
+    done = begun.done;
+    state = refl;
+    holds = begun.holds;
     memory = subst (λ m. MemoryHolds (sizes S) [] begun.core.table begun.core.cells m begun.core.given) (sym begun.blocks)
-    (subst (MemoryHolds (sizes S) [] begun.core.table begun.core.cells 0) (sym begun.given) (no_block begun.core.table begun.core.cells begun.table begun.cells));
-    guards = λ k guard there. ap (λ m. m guard.word) begun.arrivals; printed = sym begun.printed;
+        (subst (MemoryHolds (sizes S) [] begun.core.table begun.core.cells 0) (sym begun.given) (no_block begun.core.table begun.core.cells begun.table begun.cells));
+    guards = λ k guard there. ap (λ m. m guard.word) begun.arrivals;
+    printed = sym begun.printed;
   }))

@@ -1,8 +1,6 @@
 -- The item that stores a cell.
-use Rattle.std.proofs.Common.{◌≡◌, ℕ, zero, suc, ◌+◌, ◌*◌, ◌^◌, ◌<◌, ◌≤◌, refl, sym, ap, ◌∙◌, subst, arith, List, [], ◌∷◌, ◌++◌, length, Option, Some, None}
+use Rattle.std.proofs.Common.{◌≡◌, ℕ, suc, ◌+◌, ◌*◌, ◌≤◌, refl, sym, ap, ◌∙◌, subst, arith, List, [], ◌++◌, length, Option, Some, None}
 use Rattle.std.specs.Prelude.{slice_get}
-use Rattle.bril_tree.specs.declared.limits.Fault.TheVariants as fault
-use Rattle.bril_tree.specs.declared.value.Value.{Value}
 use Rattle.bril_tree.specs.declared.value.Value.TheVariants.{Ptr}
 use Rattle.bril_tree.specs.Memory.{cell_at, changed_block}
 use Rattle.bril_tree.specs.State as bril
@@ -11,7 +9,7 @@ use Rattle.rv64_blocks.specs.Laws.{CoreHolds}
 use Rattle.rv64_blocks.proofs.Storing.{holding, store_keeps, stored_cells}
 use Rattle.rv64_layout.specs.Image.{entry_at}
 use Rattle.rv64_layout.proofs.Bounding.{load_most}
-use Rattle.rv64_runs.specs.Core.{Core, Keeps, written, put_cell}
+use Rattle.rv64_runs.specs.Core.{Core, written, put_cell}
 use Rattle.rv64_runs.proofs.Going.{Going, begin}
 use Rattle.rv64_sequences.specs.Operations.{cell_words, mark_cell_words, store_cell_words}
 use Rattle.rv64_sequences.specs.Sequences.{load_size, load_words}
@@ -22,18 +20,18 @@ use Rattle.slot_code.specs.declared.item.Slot.TheVariants.{Variable}
 use Rattle.slot_code.specs.declared.item.SlotItem.TheVariants.{Store}
 use Rattle.slot_code.specs.Laws.{IsSlotOf}
 use Rattle.slot_code.specs.Meaning.{read_slot}
-use Rattle.emitted_code.proofs.Arriving.{Moves, arrive, here, memory_by, step_at}
+use Rattle.emitted_code.proofs.Arriving.{Moves, arrive, guards_by, here, memory_by, step_at}
 use Rattle.emitted_code.proofs.Holding.{moved_holds, stack_few}
 use Rattle.emitted_code.proofs.Operands.{loaded, loads, read_is, word_held}
 use Rattle.emitted_code.proofs.Pointing.{Pointed, AtCell, access_moves, at_cell}
 use Rattle.emitted_code.proofs.Ready.{HoldsPointer, HoldsValue}
 use Rattle.emitted_code.proofs.Relation.{FramesHold, HasWord, RunsAlike}
-use Rattle.emitted_code.proofs.Remembering.{arrivals_kept, same_made}
+use Rattle.emitted_code.proofs.Remembering.{same_made}
 use Rattle.emitted_code.proofs.Setting.{Setting, sizes}
 use Rattle.emitted_code.proofs.Stretches.{landed}
 
 module _ (S : Setting) (s : bril.State) (t : State) (r : RunsAlike S s t) (dear : 128 ≤ S.cost) (pointer value : ℕ) (item : slice_get r.holds.function.code r.frame.point ≡ Some (Store pointer value)) (points : HoldsPointer r.frame.locations pointer)
-  (holds : HoldsValue r.frame.locations (Variable value)) (in_pointer : IsSlotOf r.holds.function (Variable pointer)) (in_value : IsSlotOf r.holds.function (Variable value)) where
+    (holds : HoldsValue r.frame.locations (Variable value)) (in_pointer : IsSlotOf r.holds.function (Variable pointer)) (in_value : IsSlotOf r.holds.function (Variable value)) where
   abbrev rest : List Word
   rest = mark_cell_words ++ (load_words 5 (2 + value) ++ store_cell_words)
 
@@ -79,7 +77,7 @@ module _ (S : Setting) (s : bril.State) (t : State) (r : RunsAlike S s t) (dear 
         (store_keeps (sizes S) s.blocks r.core.table r.core.cells r.core.blocks r.core.given r.memory points.block n word points.offset holds.value a.cell is_word)
 
     going : Going S.image (sizes S) (here S s t r) r.core (a.steps + 1 + 1 + load_size (2 + value) + 1) (here S s t r + load_size (2 + pointer) + 14 + 1 + 1 + load_size (2 + value) + 1)
-      (put_cell (loaded S s t r (put_cell (written a.core 5 1) (2 * (r.memory.first points.block + n)) 1) 5 (2 + value)) (2 * (r.memory.first points.block + n) + 1) (a.core.stack (r.holds.base + (2 + value)))) []
+        (put_cell (loaded S s t r (put_cell (written a.core 5 1) (2 * (r.memory.first points.block + n)) 1) 5 (2 + value)) (2 * (r.memory.first points.block + n) + 1) (a.core.stack (r.holds.base + (2 + value)))) []
     going =
         let g1 = cell_marked S.image (sizes S) at (stack_few S) (a.keeps.zero_register ∙ r.holds.zero_is) a.address a.inside a.small a.going in
         let g2 = loads S s t r (Variable value) 5 a.keeps.frame_register in_value g1 in
@@ -97,7 +95,7 @@ module _ (S : Setting) (s : bril.State) (t : State) (r : RunsAlike S s t) (dear 
         let count : a.steps + 1 + 1 + load_size (2 + value) + 1 ≡ suc (a.steps + 1 + 1 + load_size (2 + value)) = omega arith in
         let place : here S s t r + load_size (2 + pointer) + 14 + 1 + 1 + load_size (2 + value) + 1 ≡ entry_at S.slots r.frame.function (suc r.frame.point) = omega arith in
         arrive S s t r (advances S.p S.limits r.frame r.older (record s { blocks = changed_block s.blocks points.block (holding n holds.value) })) (at_point (suc r.frame.point) r.frame) r.older last (a.steps + 1 + 1 + load_size (2 + value))
-        (stepped (Some n) there) refl r.running (r.printed ∙ sym k.printed) frames memory (arrivals_kept S s t r last k.arrivals)
+        (stepped (Some n) there) refl r.running (r.printed ∙ sym k.printed) frames memory (guards_by S s t r last k.arrivals)
         (landed (suc (a.steps + 1 + 1 + load_size (2 + value))) (entry_at S.slots r.frame.function (suc r.frame.point)) count place going) (omega arith)
 
   by_cell : (o : Option ℕ) → cell_at s.blocks (Ptr points.block points.offset) ≡ o → Moves S s t

@@ -1,22 +1,14 @@
 -- Stretches of words: what they keep, and how they are joined.
-use Rattle.std.proofs.Common.{◌≡◌, ◌≢◌, ℕ, zero, suc, ◌+◌, ◌<◌, ◌≤◌, Bool, true, false, cond, eqb, refl, sym, ap, ◌∙◌, subst, arith, List, [], ◌++◌, append-nil}
+use Rattle.std.proofs.Common.{◌≡◌, ◌≢◌, ℕ, suc, ◌≤◌, Bool, true, false, cond, eqb, sym, ap, ◌∙◌, subst, arith, List, [], ◌++◌, append-nil}
 use Rattle.bril_tree.specs.declared.limits.End.{End}
 use Rattle.rv64_runs.specs.Core.{Core, Keeps, written}
 use Rattle.rv64_runs.specs.Runs.{Runs, Ends}
 use Rattle.rv64_runs.proofs.Going.{Going}
 use Rattle.rv64_sequences.specs.Sequences.{is_near, load_size, store_size}
+pub use Rattle.rv64_values.proofs.Kept.{keeps_written}
 use Rattle.rv64_words.specs.declared.image.Image.{Image}
 use Rattle.rv64_words.specs.declared.word.Word.{Word}
 use Rattle.rv64_words.specs.Region.{Sizes}
-
--- a register of which no frame knows gets a value
-pub keeps_written : (c e : Core) (r v : ℕ) → eqb 0 (suc r) ≡ false → eqb 2 (suc r) ≡ false → eqb 8 (suc r) ≡ false → Keeps c e → Keeps c (written e (suc r) v)
-keeps_written c e r v zero_other two_other eight_other k = record {
-  zero_register = ap (λ b. cond b v (e.registers 0)) zero_other ∙ k.zero_register;
-  frame_register = ap (λ b. cond b v (e.registers 2)) two_other ∙ k.frame_register;
-  frames_left = ap (λ b. cond b v (e.registers 8)) eight_other ∙ k.frames_left;
-  stack = k.stack; table = k.table; cells = k.cells; blocks = k.blocks; given = k.given; printed = k.printed; arrivals = k.arrivals;
-}
 
 -- words that stand alone are followed by none
 pub with_end : {image : Image} {z : Sizes} {k : ℕ} {c : Core} {n j : ℕ} {e : Core} → (ws : List Word) → Going image z k c n j e ws → Going image z k c n j e (ws ++ [])
@@ -45,6 +37,9 @@ load_some o = by_test (is_near o)
 
 pub in_steps : {image : Image} {z : Sizes} {k : ℕ} {c : Core} {n j : ℕ} {e : Core} → (m : ℕ) → n ≡ m → Runs image z k c n j e → Runs image z k c m j e
 in_steps {image} {z} {k} {c} {n} {j} {e} m same r = subst (λ x. Runs image z k c x j e) same r
+
+pub at_place : {image : Image} {z : Sizes} {k : ℕ} {c : Core} {n j : ℕ} {e : Core} → (i : ℕ) → j ≡ i → Runs image z k c n j e → Runs image z k c n i e
+at_place {image} {z} {k} {c} {n} {j} {e} i same r = subst (λ x. Runs image z k c n x e) same r
 
 pub ends_in : {image : Image} {z : Sizes} {k : ℕ} {c : Core} {n : ℕ} {how : End} {e : Core} → (m : ℕ) → n ≡ m → Ends image z k c n how e → Ends image z k c m how e
 ends_in {image} {z} {k} {c} {n} {how} {e} m same r = subst (λ x. Ends image z k c x how e) same r

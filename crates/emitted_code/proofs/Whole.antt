@@ -1,20 +1,17 @@
 -- The image of an accepted program, laid out as it is, implements the program.
-use Rattle.std.proofs.Common.{◌≡◌, ℕ, ◌+◌, ◌*◌, ◌<◌, ◌≤◌, Bool, true, false, List, ◌∷◌, length, Option, Some, None, refl, sym, ap, ◌∙◌, subst, arith}
+use Rattle.std.proofs.Common.{◌≡◌, ◌+◌, ◌*◌, List, ◌∷◌, length, Some, None, refl, sym, ap, ◌∙◌, subst, arith}
 use Rattle.std.specs.Prelude.{slice_get}
 use Rattle.std.proofs.lemmas.Option.{same_Some}
 use Rattle.simulation.specs.Simulation.{Tracks}
-use Rattle.simulation.specs.System.{after}
 use Rattle.simulation.proofs.Tracks.{Tracks-from_star}
 use Rattle.bril_tree.specs.declared.limits.End.{End}
-use Rattle.bril_tree.specs.declared.numbered_function.Func.{Func}
-use Rattle.bril_tree.specs.declared.value.Value.{Value}
 use Rattle.bril_tree.specs.Live.{IsLive}
 use Rattle.bril_tree.specs.Locals.{location_value}
 use Rattle.bril_tree.specs.Operand.{Location, Variable, Shadow}
 use Rattle.bril_tree.specs.Run.{first_state, state_after}
 use Rattle.bril_tree.specs.State as bril
 use Rattle.bril_tree.specs.Value.{word_of}
-use Rattle.rv64_implements.specs.Home.{Home, InFrame, IsAt}
+use Rattle.rv64_implements.specs.Home.{InFrame, IsAt}
 use Rattle.rv64_implements.specs.Implements.{CountsFailures, ImplementsRun, ShowsLive, image_after, image_system, program_system}
 use Rattle.rv64_implements.proofs.Systems.{image_is_system, mapped_is_system}
 use Rattle.rv64_layout.specs.Image.{entry_at}
@@ -29,10 +26,10 @@ use Rattle.emitted_code.specs.Homes.{home_in, homes_of}
 use Rattle.emitted_code.proofs.Arriving.{distance}
 use Rattle.emitted_code.proofs.Holding.{frame_reaches, source}
 use Rattle.emitted_code.proofs.Frames.{slot_fits}
-use Rattle.emitted_code.proofs.Items.{AreEmitted, simulation}
+use Rattle.emitted_code.proofs.Items.{simulation}
 use Rattle.emitted_code.proofs.Living.{live_slot, slot_of}
 use Rattle.emitted_code.proofs.Ready.{slot_value}
-use Rattle.emitted_code.proofs.Relation.{Related, RunsAlike, run, over}
+use Rattle.emitted_code.proofs.Relation.{Related, run, over}
 use Rattle.emitted_code.proofs.Setting.{Setting, sizes}
 use Rattle.emitted_code.proofs.Starting.{main_room, start_related}
 
@@ -78,22 +75,21 @@ module _ (S : Setting) where
   counts s t (run r) = λ g guard there. ap (λ x. x.arrivals guard.word) r.state ∙ r.guards g guard there
   counts s t (over r) = r.guards
 
-  module _ (emitted : AreEmitted S) where
-    tracks : Tracks (program_system S.p S.limits) (image_system S.image S.limits) S.cost (Related S) (first_state S.p S.limits S.args) (start S.args)
-    tracks = Tracks-from_star (program_system S.p S.limits) (image_system S.image S.limits) (Related S) (mapped_is_system S.p S.limits) (image_is_system S.image S.limits) S.cost (distance S) (simulation S emitted)
-        (first_state S.p S.limits S.args) (start S.args) 4 (let e = S.is_cost.is in omega arith) (start_related S)
+  tracks : Tracks (program_system S.p S.limits) (image_system S.image S.limits) S.cost (Related S) (first_state S.p S.limits S.args) (start S.args)
+  tracks = Tracks-from_star (program_system S.p S.limits) (image_system S.image S.limits) (Related S) (mapped_is_system S.p S.limits) (image_is_system S.image S.limits) S.cost (distance S) (simulation S)
+      (first_state S.p S.limits S.args) (start S.args) 4 (let e = S.is_cost.is in omega arith) (start_related S)
 
-    pub implements_run : ImplementsRun (homes_of S.slots) S.image S.p S.limits S.args
-    implements_run = record {
-      room = main_room S;
-      count = tracks.count;
-      cost = S.cost;
-      is_cost = S.is_cost;
-      bounded = tracks.bounded;
-      rising = tracks.rising;
-      agrees = tracks.agrees;
-      shows = λ n. shows (state_after S.p S.limits S.args n) (image_after S.image S.limits S.args (tracks.count n)) (tracks.related n);
-      fails = λ n. counts (state_after S.p S.limits S.args n) (image_after S.image S.limits S.args (tracks.count n)) (tracks.related n);
-      ends_only = tracks.ends_only;
-      prints_only = tracks.prints_only;
-    }
+  pub implements_run : ImplementsRun (homes_of S.slots) S.image S.p S.limits S.args
+  implements_run = record {
+    room = main_room S;
+    count = tracks.count;
+    cost = S.cost;
+    is_cost = S.is_cost;
+    bounded = tracks.bounded;
+    rising = tracks.rising;
+    agrees = tracks.agrees;
+    shows = λ n. shows (state_after S.p S.limits S.args n) (image_after S.image S.limits S.args (tracks.count n)) (tracks.related n);
+    fails = λ n. counts (state_after S.p S.limits S.args n) (image_after S.image S.limits S.args (tracks.count n)) (tracks.related n);
+    ends_only = tracks.ends_only;
+    prints_only = tracks.prints_only;
+  }

@@ -3,7 +3,6 @@ use Rattle.bril_tree.specs.declared.limits.Limits.{Limits}
 use Rattle.bril_tree.specs.declared.program.Prog.{Prog}
 use Rattle.bril_tree.specs.Accepted.{IsAccepted}
 use Rattle.bril_tree.specs.Literals.{AreLiteralsInRange}
-use Rattle.rv64_implements.specs.Emittable.{IsEmittable}
 use Rattle.rv64_implements.specs.Implements.{ImplementsAt}
 use Rattle.rv64_implements.specs.WordBounds.{IsWithin}
 use Rattle.rv64_layout.specs.Image.{IsImageOf}
@@ -16,4 +15,4 @@ use Rattle.emitted_code.specs.Homes.{homes_of}
 -- arguments that fit. The home of each location is the word of its slot in the frame.
 abbrev pub ImagesImplementPrograms : Type 0
 ImagesImplementPrograms = (p : Prog) (slots : Slots) (limits : Limits) (image : Image) → IsAccepted p → AreLiteralsInRange p → IsLowered p slots → IsWithin p limits →
-    IsImageOf slots limits image → IsEmittable p → ImplementsAt (homes_of slots) image p limits
+    IsImageOf slots limits image → ImplementsAt (homes_of slots) image p limits

@@ -2,9 +2,9 @@
 
 ghost use Rattle.emitted_code.specs.Laws.{ImagesImplementPrograms};
 
-/// The image of an accepted program, within the bounds of words and of the stack, does what the program does, with all
-/// arguments that fit: it prints the same, ends alike, at most the cost of a step for each of the program's steps later, and
-/// never traps; locations that are live are at their homes, and each guard's word is executed as often as the guard fails.
+/// The image of an accepted program, within the bounds of words and of the stack, does what the program does, with all arguments
+/// that fit. It prints the same and ends alike, within the cost of a step for each step of the program and one more, and it never
+/// traps. While it runs, live locations are at their homes, and each guard's word was executed as often as the guard failed.
 pub fn images_implement_programs()
     ensures { ImagesImplementPrograms }
 {}

@@ -47,18 +47,18 @@ pub copy_most : (from to n : ℕ) → copy_size from to n ≤ 6 * n
 copy_most from to zero = omega arith
 copy_most from to (suc n) = omega (arith, load_most from, store_most to, copy_most (suc from) (suc to) n)
 
-frame_up_most : (wide : ℕ) → frame_up_size wide ≤ 5
+pub frame_up_most : (wide : ℕ) → frame_up_size wide ≤ 5
 frame_up_most wide = of_two _ 2 5 5 (omega arith) (omega arith)
 
-pass_most : (g : SlotFunction) (k : ℕ) (args : List ℕ) → pass_size g k args ≤ 6 * length args
+pub pass_most : (g : SlotFunction) (k : ℕ) (args : List ℕ) → pass_size g k args ≤ 6 * length args
 pass_most g k [] = omega arith
 pass_most g k (a ∷ args) = omega (arith, load_most (2 + a), store_most (argument_word g k), pass_most g (suc k) args)
 
-result_most : (dest : Option ℕ) → result_size dest ≤ 3
+pub result_most : (dest : Option ℕ) → result_size dest ≤ 3
 result_most None = omega arith
 result_most (Some x) = store_most (2 + x)
 
-returned_most : (value : Option ℕ) → returned_size value ≤ 3
+pub returned_most : (value : Option ℕ) → returned_size value ≤ 3
 returned_most None = omega arith
 returned_most (Some x) = load_most (2 + x)
 
@@ -66,7 +66,7 @@ spaced_most : (args : List Printed) → spaced_size args ≤ 7 * length args
 spaced_most [] = omega arith
 spaced_most (a ∷ args) = omega (arith, load_most (2 + a.variable), spaced_most args)
 
-print_most : (args : List Printed) → print_size args ≤ 2 + 7 * length args
+pub print_most : (args : List Printed) → print_size args ≤ 2 + 7 * length args
 print_most [] = omega arith
 print_most (a ∷ args) = omega (arith, load_most (2 + a.variable), spaced_most args)
 

@@ -1,8 +1,8 @@
--- Where the newest frame of a running program stands, and what its item finds there.
-use Rattle.std.proofs.Common.{◌≡◌, ℕ, zero, suc, ◌+◌, ◌<◌, ◌≤◌, Bool, true, false, List, [], ◌∷◌, length, map, Option, Some, None, refl, sym, ap, ◌∙◌, subst, arith}
-use Rattle.std.specs.Prelude.{All, IsSome, is_some, option_map, slice_get, slice_index}
+-- Where the newest frame of a running program is, and what its item finds there.
+use Rattle.std.proofs.Common.{◌≡◌, ℕ, zero, suc, ◌<◌, ◌≤◌, false, List, [], ◌∷◌, length, map, Option, Some, None, refl, sym, ap, ◌∙◌, subst, arith}
+use Rattle.std.specs.Prelude.{All, IsSome, is_some, option_map, slice_get}
 use Rattle.std.proofs.lemmas.List.{length-map}
-use Rattle.std.proofs.lemmas.Option.{same_Some, slice_get-map, slice_get_within}
+use Rattle.std.proofs.lemmas.Option.{same_Some, slice_get-map}
 use Rattle.bril_tree.specs.declared.numbered.Instr.{Instr}
 use Rattle.bril_tree.specs.declared.numbered.Instr.TheVariants.{Label, Const, Act}
 use Rattle.bril_tree.specs.declared.numbered_function.Func.{Func}
@@ -25,7 +25,6 @@ use Rattle.type_soundness.specs.WellTyped.{IsWellTyped}
 use Rattle.type_soundness.proofs.Soundness.{runs_are_well_typed}
 use Rattle.emitted_code.proofs.Finding.{item_finds}
 use Rattle.emitted_code.proofs.Ready.{Finds, gives_back}
-use Rattle.emitted_code.proofs.Relation.{RunsAlike}
 use Rattle.emitted_code.proofs.Setting.{Setting}
 use Rattle.emitted_code.proofs.Sources.{SourceAt, source_at}
 
@@ -62,11 +61,11 @@ list_fits p k f point item there here =
     let all = greatest_in (map longest_in p.funcs) k (longest_in f) (slice_get-map longest_in p.funcs k ∙ ap (option_map longest_in) there) in
     item_fits f (longest_arguments p) item (omega arith)
 
--- ---- where a frame stands
+-- ---- where a frame is
 
-pub data Stands (S : Setting) (f : Frame) (g : SlotFunction) : Type 0 where
-  AtItem : (item : SlotItem) → slice_get g.code f.point ≡ Some item → Finds S.p S.slots f item → All (IsSlotOf g) (slots_used item) → ListFits (longest_arguments S.p) item → Stands S f g
-  AtEnd : slice_get g.code f.point ≡ None → gives_back S.p f.function ≡ false → Stands S f g
+pub data FrameAt (S : Setting) (f : Frame) (g : SlotFunction) : Type 0 where
+  AtItem : (item : SlotItem) → slice_get g.code f.point ≡ Some item → Finds S.p S.slots f item → All (IsSlotOf g) (slots_used item) → ListFits (longest_arguments S.p) item → FrameAt S f g
+  AtEnd : slice_get g.code f.point ≡ None → gives_back S.p f.function ≡ false → FrameAt S f g
 
 module _ (S : Setting) (f : Frame) (g : SlotFunction) (there : slice_get S.slots.funcs f.function ≡ Some g) (w : IsWellTyped S.p f) where
   source : SourceAt S.p f.function g
@@ -75,14 +74,14 @@ module _ (S : Setting) (f : Frame) (g : SlotFunction) (there : slice_get S.slots
   same_function : source.function ≡ w.function
   same_function = same_Some source.function w.function (sym source.there ∙ w.there)
 
-  is_lowered : IsLoweredFunction w.function g
+  pub is_lowered : IsLoweredFunction w.function g
   is_lowered = subst (λ func. IsLoweredFunction func g) same_function source.is
 
   made : slice_get g.code f.point ≡ option_map (lowered_item w.function) (slice_get w.function.code f.point)
   made = ap (λ code. slice_get code f.point) is_lowered.code ∙ slice_get-map (lowered_item w.function) w.function.code f.point
 
-  pub stands : Stands S f g
-  stands = by (slice_get w.function.code f.point) refl
+  pub frame_at : FrameAt S f g
+  frame_at = by (slice_get w.function.code f.point) refl
     where
       past : (xs : List Instr) (i : ℕ) → slice_get xs i ≡ None → i < length xs → ⊥
       past [] i e lt = absurd (omega arith)
@@ -93,7 +92,7 @@ module _ (S : Setting) (f : Frame) (g : SlotFunction) (there : slice_get S.slots
       by_type None before none = refl
       by_type (Some ty) before none = absurd (past w.function.code f.point none (before refl))
 
-      by : (o : Option Instr) → slice_get w.function.code f.point ≡ o → Stands S f g
+      by : (o : Option Instr) → slice_get w.function.code f.point ≡ o → FrameAt S f g
       by None e = AtEnd (made ∙ ap (option_map (lowered_item w.function)) e) (ap (λ o. is_some (return_type o)) w.there ∙ by_type w.function.ret w.returns e)
       by (Some item) e =
           let here = made ∙ ap (option_map (lowered_item w.function)) e in

@@ -1,0 +1,192 @@
+-- The guards that an image lists are those of the program.
+use Rattle.std.proofs.Common.{◌≡◌, ℕ, zero, suc, ◌+◌, ◌-◌, ◌<◌, ◌≤◌, ◌⊎◌, inl, inr, Bool, true, false, ◌||◌, eqb, List, [], ◌∷◌, ◌++◌, length, Option, Some, None, refl, sym, ap, ◌∙◌, arith}
+use Rattle.std.specs.Prelude.{IsTrue, option_map, slice_get}
+use Rattle.std.proofs.lemmas.Bool.{eqb-true, false≢true}
+use Rattle.std.proofs.lemmas.Option.{same_Some, slice_get-map}
+use Rattle.bril_tree.specs.declared.numbered.Instr.{Instr}
+use Rattle.bril_tree.specs.declared.numbered.Instr.TheVariants.{Label, Const, Act}
+use Rattle.bril_tree.specs.declared.numbered_function.Func.{Func}
+use Rattle.bril_tree.specs.declared.operation.Op.{Op}
+use Rattle.bril_tree.specs.declared.operation.Op.TheVariants as op
+use Rattle.bril_tree.specs.declared.program.Prog.{Prog}
+use Rattle.bril_tree.specs.declared.types.Ty.{Ty}
+use Rattle.bril_tree.specs.Step.{item_at, items_of}
+use Rattle.rv64_implements.specs.Implements.{ListsGuards, is_guard}
+use Rattle.rv64_layout.specs.Image.{depth_at, entry_at, function_guards_at, function_guards_or_none, guard_at, guard_or_none, image_guards, joined}
+use Rattle.rv64_layout.specs.Items.{guard_front_size}
+use Rattle.rv64_layout.specs.Laid.{IsGuardAt, IsLaid}
+use Rattle.rv64_layout.proofs.Bounding.{instruction_at}
+use Rattle.rv64_words.specs.declared.image.GuardAt.{GuardAt}
+use Rattle.rv64_words.specs.declared.image.Image.{Image}
+use Rattle.rv64_words.specs.Machine.{is_guard_word}
+use Rattle.bril_tree.specs.declared.limits.Limits.{Limits}
+use Rattle.slot_code.specs.declared.item.SlotItem.{SlotItem}
+use Rattle.slot_code.specs.declared.item.SlotItem.TheVariants.{Guard}
+use Rattle.slot_code.specs.declared.slots.SlotFunction.{SlotFunction}
+use Rattle.slot_code.specs.declared.slots.Slots.{Slots}
+use Rattle.slot_code.specs.Lowered.{IsLowered, lowered_action, lowered_item}
+use Rattle.emitted_code.proofs.Sources.{lowered_at, source_at}
+
+-- ---- joined lists have each thing once
+
+module _ {X : Type 0} where
+  -- an element of two lists is in the first or in the second
+  parted : (xs ys : List X) (k : ℕ) (x : X) → slice_get (xs ++ ys) k ≡ Some x → ((k < length xs) × (slice_get xs k ≡ Some x)) ⊎ ((length xs ≤ k) × (slice_get ys (k - length xs) ≡ Some x))
+  parted [] ys k x e = let none : k ≡ k - 0 = omega arith in inr (omega arith, ap (slice_get ys) (sym none) ∙ e)
+  parted (z ∷ xs) ys zero x e = inl (omega arith, e)
+  parted (z ∷ xs) ys (suc k) x e = by (parted xs ys k x e)
+    where
+      by : ((k < length xs) × (slice_get xs k ≡ Some x)) ⊎ ((length xs ≤ k) × (slice_get ys (k - length xs) ≡ Some x)) →
+          ((suc k < length (z ∷ xs)) × (slice_get (z ∷ xs) (suc k) ≡ Some x)) ⊎ ((length (z ∷ xs) ≤ suc k) × (slice_get ys (suc k - length (z ∷ xs)) ≡ Some x))
+      by (inl h) = let lt : k < length xs = h.0 in inl (omega arith, h.1)
+      by (inr h) = let le : length xs ≤ k = h.0 in let same : suc k - suc (length xs) ≡ k - length xs = omega arith in inr (omega arith, ap (slice_get ys) same ∙ h.1)
+
+  -- the elements of list k have the key k, and no two of one list are alike
+  module _ (key : X → ℕ) (Alike : X → X → Type 0) (keys : (a b : X) → Alike a b → key a ≡ key b) (lists : ℕ → List X) (keyed : (k i : ℕ) (x : X) → slice_get (lists k) i ≡ Some x → key x ≡ k)
+      (alone : (k i j : ℕ) (a b : X) → slice_get (lists k) i ≡ Some a → slice_get (lists k) j ≡ Some b → Alike a b → i ≡ j) where
+    key_below : (n i : ℕ) (x : X) → slice_get (joined lists n) i ≡ Some x → key x < n
+    key_below zero i x e = cc
+    key_below (suc n) i x e = by (key_below n i x) (parted (joined lists n) (lists n) i x e)
+      where
+        by : (slice_get (joined lists n) i ≡ Some x → key x < n) → ((i < length (joined lists n)) × (slice_get (joined lists n) i ≡ Some x)) ⊎ ((length (joined lists n) ≤ i) × (slice_get (lists n) (i - length (joined lists n)) ≡ Some x)) → key x < suc n
+        by earlier (inl h) = let before = earlier h.1 in omega arith
+        by earlier (inr h) = let here = keyed n (i - length (joined lists n)) x h.1 in omega arith
+
+    pub joined_once : (n i j : ℕ) (a b : X) → slice_get (joined lists n) i ≡ Some a → slice_get (joined lists n) j ≡ Some b → Alike a b → i ≡ j
+    joined_once zero i j a b at_a at_b alike = cc
+    joined_once (suc n) i j a b at_a at_b alike = by (λ first second. joined_once n i j a b first second alike) (parted (joined lists n) (lists n) i a at_a) (parted (joined lists n) (lists n) j b at_b)
+      where
+        by : (slice_get (joined lists n) i ≡ Some a → slice_get (joined lists n) j ≡ Some b → i ≡ j) →
+            ((i < length (joined lists n)) × (slice_get (joined lists n) i ≡ Some a)) ⊎ ((length (joined lists n) ≤ i) × (slice_get (lists n) (i - length (joined lists n)) ≡ Some a)) →
+            ((j < length (joined lists n)) × (slice_get (joined lists n) j ≡ Some b)) ⊎ ((length (joined lists n) ≤ j) × (slice_get (lists n) (j - length (joined lists n)) ≡ Some b)) → i ≡ j
+        by earlier (inl h) (inl l) = earlier h.1 l.1
+        by earlier (inl h) (inr l) = let same = keys a b alike in let low = key_below n i a h.1 in let here = keyed n (j - length (joined lists n)) b l.1 in absurd (omega arith)
+        by earlier (inr h) (inl l) = let same = keys a b alike in let low = key_below n j b l.1 in let here = keyed n (i - length (joined lists n)) a h.1 in absurd (omega arith)
+        by earlier (inr h) (inr l) =
+            let high_i : length (joined lists n) ≤ i = h.0 in
+            let high_j : length (joined lists n) ≤ j = l.0 in
+            let same : i - length (joined lists n) ≡ j - length (joined lists n) = alone n (i - length (joined lists n)) (j - length (joined lists n)) a b h.1 l.1 alike in
+            omega arith
+
+-- ---- the guards of an image
+
+-- two entries are of one guard
+abbrev OfOneGuard : GuardAt → GuardAt → Type 0
+OfOneGuard a b = (a.func ≡ b.func) × (a.item ≡ b.item)
+
+-- an empty list has no guard
+nowhere : (i : ℕ) (a : GuardAt) → slice_get [] i ≡ Some a → ⊥
+nowhere i a e = let none : None ≡ Some a = e in cc
+
+-- a list of one has one place
+one_place : (x : GuardAt) (i : ℕ) (a : GuardAt) → slice_get (x ∷ []) i ≡ Some a → (i ≡ 0) × (x ≡ a)
+one_place x zero a e = (refl, same_Some x a e)
+one_place x (suc i) a e = absurd (nowhere i a e)
+
+module _ (slots : Slots) where
+  module _ (f : ℕ) (g : SlotFunction) where
+    -- at a point there is one guard at most, with its function and item
+    point_guard : (point : ℕ) (o : Option SlotItem) (i : ℕ) (a : GuardAt) → slice_get (guard_or_none slots f g point o) i ≡ Some a → (i ≡ 0) × (a.func ≡ f) × (a.item ≡ point)
+    point_guard point (Some (Guard condition abort_to)) i a e =
+        let h = one_place (record { word = entry_at slots f point + guard_front_size g (depth_at g point) condition; func = f; item = point }) i a e in
+        (h.0, ap (λ x. x.func) (sym h.1), ap (λ x. x.item) (sym h.1))
+    point_guard point None i a e = absurd (nowhere i a e)
+    point_guard point (Some _) i a e = absurd (nowhere i a e)
+
+    at_point : (point i : ℕ) (a : GuardAt) → slice_get (guard_at slots f g point) i ≡ Some a → (i ≡ 0) × (a.func ≡ f) × (a.item ≡ point)
+    at_point point i a e = point_guard point (slice_get g.code point) i a e
+
+    functions_are : (n i : ℕ) (a : GuardAt) → slice_get (joined (guard_at slots f g) n) i ≡ Some a → a.func ≡ f
+    functions_are zero i a e = cc
+    functions_are (suc n) i a e = by (functions_are n i a) (parted (joined (guard_at slots f g) n) (guard_at slots f g n) i a e)
+      where
+        by : (slice_get (joined (guard_at slots f g) n) i ≡ Some a → a.func ≡ f) → ((i < length (joined (guard_at slots f g) n)) × (slice_get (joined (guard_at slots f g) n) i ≡ Some a)) ⊎ ((length (joined (guard_at slots f g) n) ≤ i) × (slice_get (guard_at slots f g n) (i - length (joined (guard_at slots f g) n)) ≡ Some a)) → a.func ≡ f
+        by earlier (inl h) = earlier h.1
+        by earlier (inr h) = (at_point n (i - length (joined (guard_at slots f g) n)) a h.1).1
+
+    function_once : (n i j : ℕ) (a b : GuardAt) → slice_get (joined (guard_at slots f g) n) i ≡ Some a → slice_get (joined (guard_at slots f g) n) j ≡ Some b → OfOneGuard a b → i ≡ j
+    function_once = joined_once (λ x. x.item) OfOneGuard (λ a b alike. alike.1) (guard_at slots f g) (λ k i x e. (at_point k i x e).2) (λ k i j a b at_a at_b alike. (at_point k i a at_a).0 ∙ sym (at_point k j b at_b).0)
+
+  in_function : (f : ℕ) (o : Option SlotFunction) (i : ℕ) (a : GuardAt) → slice_get (function_guards_or_none slots f o) i ≡ Some a → a.func ≡ f
+  in_function f None i a e = absurd (nowhere i a e)
+  in_function f (Some g) i a e = functions_are f g (length g.code) i a e
+
+  once_in_function : (f : ℕ) (o : Option SlotFunction) (i j : ℕ) (a b : GuardAt) → slice_get (function_guards_or_none slots f o) i ≡ Some a → slice_get (function_guards_or_none slots f o) j ≡ Some b → OfOneGuard a b → i ≡ j
+  once_in_function f None i j a b at_a at_b alike = absurd (nowhere i a at_a)
+  once_in_function f (Some g) i j a b at_a at_b alike = function_once f g (length g.code) i j a b at_a at_b alike
+
+  guards_once : (i j : ℕ) (a b : GuardAt) → slice_get (image_guards slots) i ≡ Some a → slice_get (image_guards slots) j ≡ Some b → OfOneGuard a b → i ≡ j
+  guards_once = joined_once (λ x. x.func) OfOneGuard (λ a b alike. alike.0) (function_guards_at slots) (λ k i x e. in_function k (slice_get slots.funcs k) i x e)
+      (λ k i j a b at_a at_b alike. once_in_function k (slice_get slots.funcs k) i j a b at_a at_b alike) (length slots.funcs)
+
+-- ---- the guards of a program
+
+abbrev is_slot_guard : SlotItem → Bool
+is_slot_guard (Guard condition abort_to) = true
+is_slot_guard _ = false
+
+module _ (f : Func) where
+  action_guard : (o : Op) (dest : Option ℕ) (ty : Option Ty) (args funcs labels : List ℕ) → is_slot_guard (lowered_action f o dest ty args funcs labels) ≡ is_guard (Some (Act dest ty o args funcs labels))
+  action_guard op.Guard dest ty args funcs labels = refl
+  action_guard op.Undef (Some x) None args funcs labels = refl
+  action_guard op.Undef (Some x) (Some type) args funcs labels = refl
+  action_guard _ None ty args funcs labels = refl
+  action_guard _ (Some x) ty args funcs labels = refl
+
+  item_guard : (item : Instr) → is_slot_guard (lowered_item f item) ≡ is_guard (Some item)
+  item_guard (Label l) = refl
+  item_guard (Const dest ty value) = refl
+  item_guard (Act dest ty o args funcs labels) = action_guard o dest ty args funcs labels
+
+-- an item over slots that is a guard
+slot_guard : (item : SlotItem) → is_slot_guard item ≡ true → (condition : ℕ) × (abort_to : ℕ) × (item ≡ Guard condition abort_to)
+slot_guard (Guard condition abort_to) e = (condition, abort_to, refl)
+slot_guard _ e = absurd (false≢true e)
+
+-- a word that is a guard's is that of an entry
+marked_entry : (guards : List GuardAt) (word : ℕ) → is_guard_word guards word ≡ true → (k : ℕ) × (guard : GuardAt) × (slice_get guards k ≡ Some guard) × (guard.word ≡ word)
+marked_entry [] word e = absurd (false≢true e)
+marked_entry (g ∷ guards) word e = by (marked_entry guards word) (eqb g.word word) refl
+  where
+    by : (is_guard_word guards word ≡ true → (k : ℕ) × (guard : GuardAt) × (slice_get guards k ≡ Some guard) × (guard.word ≡ word)) → (b : Bool) → eqb g.word word ≡ b → (k : ℕ) × (guard : GuardAt) × (slice_get (g ∷ guards) k ≡ Some guard) × (guard.word ≡ word)
+    by earlier true same = (0, g, refl, eqb-true g.word word same)
+    by earlier false other =
+        let rest = earlier (sym (ap (λ b. b || is_guard_word guards word) other) ∙ e) in
+        (suc rest.0, rest.1, rest.2, rest.3)
+
+module _ (p : Prog) (slots : Slots) (limits : Limits) (image : Image) (lowered : IsLowered p slots) (laid : IsLaid slots limits image) where
+  are_guards : (k : ℕ) (guard : GuardAt) → slice_get image.guards k ≡ Some guard → IsTrue (is_guard (item_at p guard.func guard.item))
+  are_guards k guard there =
+      let g = laid.guards k guard there in
+      let source = source_at p slots lowered guard.func g.function g.is_function in
+      let instr = instruction_at source.function g.function source.is guard.item (Guard g.condition g.abort_to) g.is_item in
+      ap (λ o. is_guard (slice_get (items_of o) guard.item)) source.there
+      ∙ (ap is_guard instr.1 ∙ (sym (item_guard source.function instr.0) ∙ ap is_slot_guard (sym instr.2)))
+
+  each_guard : (f i : ℕ) → IsTrue (is_guard (item_at p f i)) → (k : ℕ) × (guard : GuardAt) × (slice_get image.guards k ≡ Some guard) × (guard.func ≡ f) × (guard.item ≡ i)
+  each_guard f i e = by_function (slice_get p.funcs f) refl
+    where
+      by_item : (func : Func) → slice_get p.funcs f ≡ Some func → (o : Option Instr) → slice_get func.code i ≡ o → (k : ℕ) × (guard : GuardAt) × (slice_get image.guards k ≡ Some guard) × (guard.func ≡ f) × (guard.item ≡ i)
+      by_item func there None here = absurd (false≢true (sym (ap (λ x. is_guard (slice_get (items_of x) i)) there ∙ ap is_guard here) ∙ e))
+      by_item func there (Some item) here =
+          let g = lowered_at p slots lowered f func there in
+          let at : slice_get g.function.code i ≡ Some (lowered_item func item) = ap (λ code. slice_get code i) g.is.code ∙ (slice_get-map (lowered_item func) func.code i ∙ ap (option_map (lowered_item func)) here) in
+          let guarding = slot_guard (lowered_item func item) (item_guard func item ∙ (sym (ap (λ x. is_guard (slice_get (items_of x) i)) there ∙ ap is_guard here) ∙ e)) in
+          let is_item : slice_get g.function.code i ≡ Some (Guard guarding.0 guarding.1) = at ∙ ap Some guarding.2 in
+          let word = entry_at slots f i + guard_front_size g.function (depth_at g.function i) guarding.0 in
+          let own : GuardAt = record { word = word; func = f; item = i } in
+          let own_is : IsGuardAt slots own = record { function = g.function; condition = guarding.0; abort_to = guarding.1; is_function = g.there; is_item = is_item; is_word = refl } in
+          let found = marked_entry image.guards word (laid.items f g.function i (Guard guarding.0 guarding.1) g.there is_item).1.is_guard in
+          let same : found.1 ≡ own = laid.apart found.1 own (laid.guards found.0 found.1 found.2) own_is found.3 in
+          (found.0, found.1, found.2, ap (λ x. x.func) same, ap (λ x. x.item) same)
+
+      by_function : (o : Option Func) → slice_get p.funcs f ≡ o → (k : ℕ) × (guard : GuardAt) × (slice_get image.guards k ≡ Some guard) × (guard.func ≡ f) × (guard.item ≡ i)
+      by_function None there = absurd (false≢true (sym (ap (λ x. is_guard (slice_get (items_of x) i)) there) ∙ e))
+      by_function (Some func) there = by_item func there (slice_get func.code i) refl
+
+  pub lists_guards : ListsGuards image.guards p
+  lists_guards = record {
+    are = are_guards;
+    each = each_guard;
+    once = λ g h a b at_a at_b func item. guards_once slots g h a b (ap (λ xs. slice_get xs g) (sym laid.is.guards) ∙ at_a) (ap (λ xs. slice_get xs h) (sym laid.is.guards) ∙ at_b) (func, item);
+  }
