@@ -1,5 +1,5 @@
 -- The item that makes a block.
-use Rattle.std.proofs.Common.{◌≡◌, ◌≢◌, ℕ, suc, ◌+◌, ◌*◌, ◌%◌, ◌^◌, ◌≤◌, refl, sym, ap, ◌∙◌, subst, arith, List, [], ◌∷◌, ◌++◌, length, Option, Some, None, pos}
+use Rattle.std.proofs.Common.{◌≡◌, ◌≢◌, ℕ, suc, ◌+◌, ◌*◌, ◌^◌, ◌≤◌, refl, sym, ap, ◌∙◌, subst, arith, List, [], ◌∷◌, ◌++◌, length, Option, Some, None, pos}
 use Rattle.std.specs.Prelude.{slice_get}
 use Rattle.std.specs.Int.{w64, cast_unsigned}
 use Rattle.bril_tree.specs.declared.limits.Fault.{Fault}
@@ -12,25 +12,22 @@ use Rattle.rv64_blocks.specs.Laws.{CoreHolds}
 use Rattle.rv64_blocks.proofs.Allocating.{faults_alike, allocation_keeps}
 use Rattle.rv64_blocks.proofs.Lists.{pushed_length}
 use Rattle.rv64_layout.proofs.Bounding.{load_most}
-use Rattle.rv64_runs.specs.Core.{Core, Keeps, written, with_block}
+use Rattle.rv64_runs.specs.Core.{Core, with_block}
 use Rattle.rv64_runs.proofs.Calls.{block_fault, allocate, allocate_faults}
-use Rattle.rv64_runs.proofs.Going.{Going, begin, plain}
-use Rattle.rv64_sequences.specs.Operations.{alloc_words}
-use Rattle.rv64_sequences.specs.Sequences.{load_size, load_words, store_words}
-use Rattle.rv64_values.proofs.Kept.{keeps_itself}
+use Rattle.rv64_runs.proofs.Going.{Going}
+use Rattle.rv64_sequences.specs.Sequences.{load_size, store_words}
 use Rattle.rv64_words.specs.declared.word.Word.TheVariants.{Ecall}
 use Rattle.rv64_words.specs.State.{State}
 use Rattle.slot_code.specs.declared.item.Slot.TheVariants.{Variable}
 use Rattle.slot_code.specs.declared.item.SlotItem.TheVariants.{Alloc}
 use Rattle.slot_code.specs.Laws.{IsSlotOf}
-use Rattle.emitted_code.proofs.Arriving.{Moves, faults_moves, here, memory_kept, step_at}
+use Rattle.emitted_code.proofs.Arriving.{Moves, faults_moves, here, step_at}
 use Rattle.emitted_code.proofs.Asking.{asked, asked_keeps, asked_memory, asked_value, asked_word, asks, number_is}
 use Rattle.emitted_code.proofs.Operands.{read_is}
 use Rattle.emitted_code.proofs.Ready.{HoldsInt}
 use Rattle.emitted_code.proofs.Relation.{HasWord, RunsAlike}
 use Rattle.emitted_code.proofs.Remembering.{KeepsFrames, fills_moves}
 use Rattle.emitted_code.proofs.Setting.{Setting, sizes}
-use Rattle.emitted_code.proofs.Stretches.{keeps_written}
 
 ten_not_six : ◌≢◌ {A = ℕ} 10 6
 ten_not_six = λ e. absurd (omega arith)

@@ -1,5 +1,5 @@
 -- An environment call with the word of a slot as its argument.
-use Rattle.std.proofs.Common.{◌≡◌, ℕ, ◌+◌, ◌*◌, ◌%◌, ◌^◌, ◌<◌, refl, sym, ap, ◌∙◌, subst, arith, List, ◌∷◌, ◌++◌, length, Some, pos}
+use Rattle.std.proofs.Common.{◌≡◌, ℕ, ◌+◌, ◌%◌, ◌^◌, ◌<◌, refl, ap, ◌∙◌, arith, List, ◌∷◌, ◌++◌, length, Some, pos}
 use Rattle.bril_tree.specs.declared.value.Value.{Value}
 use Rattle.bril_tree.specs.State as bril
 use Rattle.rv64_blocks.specs.Laws.{CoreHolds}

@@ -1,5 +1,5 @@
 -- The item that frees a block.
-use Rattle.std.proofs.Common.{◌≡◌, ℕ, suc, ◌+◌, ◌/◌, ◌%◌, ◌^◌, ◌≤◌, Bool, true, false, cond, refl, sym, ap, ◌∙◌, subst, arith, [], ◌∷◌, ◌++◌, length, Some}
+use Rattle.std.proofs.Common.{◌≡◌, ℕ, suc, ◌+◌, ◌/◌, ◌^◌, ◌≤◌, Bool, true, false, cond, refl, sym, ap, ◌∙◌, subst, arith, [], ◌∷◌, length, Some}
 use Rattle.std.specs.Prelude.{slice_get}
 use Rattle.bril_tree.specs.declared.limits.Fault.TheVariants as fault
 use Rattle.bril_tree.specs.declared.value.Value.TheVariants.{Ptr}
@@ -10,19 +10,17 @@ use Rattle.rv64_blocks.specs.Laws.{CoreHolds}
 use Rattle.rv64_blocks.proofs.Freeing.{dead, frees_alike, free_keeps}
 use Rattle.rv64_layout.specs.Image.{entry_at}
 use Rattle.rv64_layout.proofs.Bounding.{load_most}
-use Rattle.rv64_runs.specs.Core.{Core, Keeps, written, without_block}
+use Rattle.rv64_runs.specs.Core.{Core, without_block}
 use Rattle.rv64_runs.proofs.Calls.{frees_block, free, free_faults}
-use Rattle.rv64_runs.proofs.Going.{Going, begin, plain}
-use Rattle.rv64_sequences.specs.Operations.{free_words}
-use Rattle.rv64_sequences.specs.Sequences.{load_size, load_words}
-use Rattle.rv64_values.proofs.Kept.{keeps_itself}
+use Rattle.rv64_runs.proofs.Going.{Going}
+use Rattle.rv64_sequences.specs.Sequences.{load_size}
 use Rattle.rv64_values.proofs.Pointers.{block_part}
 use Rattle.rv64_words.specs.declared.word.Word.TheVariants.{Ecall}
 use Rattle.rv64_words.specs.State.{State}
 use Rattle.slot_code.specs.declared.item.Slot.TheVariants.{Variable}
 use Rattle.slot_code.specs.declared.item.SlotItem.TheVariants.{Free}
 use Rattle.slot_code.specs.Laws.{IsSlotOf}
-use Rattle.emitted_code.proofs.Arriving.{Moves, arrive, faults_moves, guards_by, here, memory_kept, step_at}
+use Rattle.emitted_code.proofs.Arriving.{Moves, arrive, faults_moves, guards_by, here, step_at}
 use Rattle.emitted_code.proofs.Holding.{moved_holds}
 use Rattle.emitted_code.proofs.Asking.{asked, asked_keeps, asked_memory, asked_value, asked_word, asks, number_is}
 use Rattle.emitted_code.proofs.Operands.{read_is}
@@ -30,7 +28,7 @@ use Rattle.emitted_code.proofs.Ready.{HoldsPointer}
 use Rattle.emitted_code.proofs.Relation.{FramesHold, HasWord, RunsAlike}
 use Rattle.emitted_code.proofs.Remembering.{same_made}
 use Rattle.emitted_code.proofs.Setting.{Setting, sizes}
-use Rattle.emitted_code.proofs.Stretches.{keeps_written, landed}
+use Rattle.emitted_code.proofs.Stretches.{landed}
 
 module _ (S : Setting) (s : bril.State) (t : State) (r : RunsAlike S s t) (dear : 128 ≤ S.cost) (pointer : ℕ) (item : slice_get r.holds.function.code r.frame.point ≡ Some (Free pointer)) (points : HoldsPointer r.frame.locations pointer) (in_pointer : IsSlotOf r.holds.function (Variable pointer)) where
   word : HasWord (length s.blocks) (Ptr points.block points.offset) (asked_word S s t r 7 pointer)

@@ -11,7 +11,7 @@ use Rattle.bril_tree.specs.declared.operation.Op.TheVariants as op
 use Rattle.bril_tree.specs.declared.program.Prog.{Prog}
 use Rattle.bril_tree.specs.declared.types.Ty.{Ty}
 use Rattle.bril_tree.specs.Step.{item_at, items_of}
-use Rattle.rv64_implements.specs.Implements.{ListsGuards, is_guard}
+use Rattle.rv64_implements.specs.Implements.{IsBefore, ListsGuards, is_guard}
 use Rattle.rv64_layout.specs.Image.{depth_at, entry_at, function_guards_at, function_guards_or_none, guard_at, guard_or_none, image_guards, joined}
 use Rattle.rv64_layout.specs.Items.{guard_front_size}
 use Rattle.rv64_layout.specs.Laid.{IsGuardAt, IsLaid}
@@ -27,52 +27,53 @@ use Rattle.slot_code.specs.declared.slots.Slots.{Slots}
 use Rattle.slot_code.specs.Lowered.{IsLowered, lowered_action, lowered_item}
 use Rattle.emitted_code.proofs.Sources.{lowered_at, source_at}
 
--- ---- joined lists have each thing once
+-- ---- joined lists are in order
 
 module _ {X : Type 0} where
   -- an element of two lists is in the first or in the second
-  parted : (xs ys : List X) (k : ℕ) (x : X) → slice_get (xs ++ ys) k ≡ Some x → ((k < length xs) × (slice_get xs k ≡ Some x)) ⊎ ((length xs ≤ k) × (slice_get ys (k - length xs) ≡ Some x))
-  parted [] ys k x e = let none : k ≡ k - 0 = omega arith in inr (omega arith, ap (slice_get ys) (sym none) ∙ e)
-  parted (z ∷ xs) ys zero x e = inl (omega arith, e)
+  pub data IsParted (xs ys : List X) (k : ℕ) (x : X) : Type 0 where
+    InFirst : k < length xs → slice_get xs k ≡ Some x → IsParted xs ys k x
+    InSecond : length xs ≤ k → slice_get ys (k - length xs) ≡ Some x → IsParted xs ys k x
+
+  parted : (xs ys : List X) (k : ℕ) (x : X) → slice_get (xs ++ ys) k ≡ Some x → IsParted xs ys k x
+  parted [] ys k x e = let none : k ≡ k - 0 = omega arith in InSecond (omega arith) (ap (slice_get ys) (sym none) ∙ e)
+  parted (z ∷ xs) ys zero x e = InFirst (omega arith) e
   parted (z ∷ xs) ys (suc k) x e = by (parted xs ys k x e)
     where
-      by : ((k < length xs) × (slice_get xs k ≡ Some x)) ⊎ ((length xs ≤ k) × (slice_get ys (k - length xs) ≡ Some x)) →
-          ((suc k < length (z ∷ xs)) × (slice_get (z ∷ xs) (suc k) ≡ Some x)) ⊎ ((length (z ∷ xs) ≤ suc k) × (slice_get ys (suc k - length (z ∷ xs)) ≡ Some x))
-      by (inl h) = let lt : k < length xs = h.0 in inl (omega arith, h.1)
-      by (inr h) = let le : length xs ≤ k = h.0 in let same : suc k - suc (length xs) ≡ k - length xs = omega arith in inr (omega arith, ap (slice_get ys) same ∙ h.1)
+      by : IsParted xs ys k x → IsParted (z ∷ xs) ys (suc k) x
+      by (InFirst less here) = InFirst (omega arith) here
+      by (InSecond more here) = let same : suc k - suc (length xs) ≡ k - length xs = omega arith in InSecond (omega arith) (ap (slice_get ys) same ∙ here)
 
-  -- the elements of list k have the key k, and no two of one list are alike
-  module _ (key : X → ℕ) (Alike : X → X → Type 0) (keys : (a b : X) → Alike a b → key a ≡ key b) (lists : ℕ → List X) (keyed : (k i : ℕ) (x : X) → slice_get (lists k) i ≡ Some x → key x ≡ k)
-      (alone : (k i j : ℕ) (a b : X) → slice_get (lists k) i ≡ Some a → slice_get (lists k) j ≡ Some b → Alike a b → i ≡ j) where
+  -- the elements of list k have the key k, and those of one list are in an order
+  module _ (key : X → ℕ) (Before : X → X → Type 0) (lists : ℕ → List X) (keyed : (k i : ℕ) (x : X) → slice_get (lists k) i ≡ Some x → key x ≡ k)
+      (ordered : (k i j : ℕ) (a b : X) → i < j → slice_get (lists k) i ≡ Some a → slice_get (lists k) j ≡ Some b → Before a b) where
     key_below : (n i : ℕ) (x : X) → slice_get (joined lists n) i ≡ Some x → key x < n
     key_below zero i x e = cc
     key_below (suc n) i x e = by (key_below n i x) (parted (joined lists n) (lists n) i x e)
       where
-        by : (slice_get (joined lists n) i ≡ Some x → key x < n) → ((i < length (joined lists n)) × (slice_get (joined lists n) i ≡ Some x)) ⊎ ((length (joined lists n) ≤ i) × (slice_get (lists n) (i - length (joined lists n)) ≡ Some x)) → key x < suc n
-        by earlier (inl h) = let before = earlier h.1 in omega arith
-        by earlier (inr h) = let here = keyed n (i - length (joined lists n)) x h.1 in omega arith
+        by : (slice_get (joined lists n) i ≡ Some x → key x < n) → IsParted (joined lists n) (lists n) i x → key x < suc n
+        by earlier (InFirst less here) = let before = earlier here in omega arith
+        by earlier (InSecond more here) = let at = keyed n (i - length (joined lists n)) x here in omega arith
 
-    pub joined_once : (n i j : ℕ) (a b : X) → slice_get (joined lists n) i ≡ Some a → slice_get (joined lists n) j ≡ Some b → Alike a b → i ≡ j
-    joined_once zero i j a b at_a at_b alike = cc
-    joined_once (suc n) i j a b at_a at_b alike = by (λ first second. joined_once n i j a b first second alike) (parted (joined lists n) (lists n) i a at_a) (parted (joined lists n) (lists n) j b at_b)
+    pub joined_in_order : (n i j : ℕ) (a b : X) → i < j → slice_get (joined lists n) i ≡ Some a → slice_get (joined lists n) j ≡ Some b → (key a < key b) ⊎ ((key a ≡ key b) × Before a b)
+    joined_in_order zero i j a b less at_a at_b = cc
+    joined_in_order (suc n) i j a b less at_a at_b =
+        by (joined_in_order n i j a b less) (parted (joined lists n) (lists n) i a at_a) (parted (joined lists n) (lists n) j b at_b)
       where
-        by : (slice_get (joined lists n) i ≡ Some a → slice_get (joined lists n) j ≡ Some b → i ≡ j) →
-            ((i < length (joined lists n)) × (slice_get (joined lists n) i ≡ Some a)) ⊎ ((length (joined lists n) ≤ i) × (slice_get (lists n) (i - length (joined lists n)) ≡ Some a)) →
-            ((j < length (joined lists n)) × (slice_get (joined lists n) j ≡ Some b)) ⊎ ((length (joined lists n) ≤ j) × (slice_get (lists n) (j - length (joined lists n)) ≡ Some b)) → i ≡ j
-        by earlier (inl h) (inl l) = earlier h.1 l.1
-        by earlier (inl h) (inr l) = let same = keys a b alike in let low = key_below n i a h.1 in let here = keyed n (j - length (joined lists n)) b l.1 in absurd (omega arith)
-        by earlier (inr h) (inl l) = let same = keys a b alike in let low = key_below n j b l.1 in let here = keyed n (i - length (joined lists n)) a h.1 in absurd (omega arith)
-        by earlier (inr h) (inr l) =
-            let high_i : length (joined lists n) ≤ i = h.0 in
-            let high_j : length (joined lists n) ≤ j = l.0 in
-            let same : i - length (joined lists n) ≡ j - length (joined lists n) = alone n (i - length (joined lists n)) (j - length (joined lists n)) a b h.1 l.1 alike in
-            omega arith
+        by : (slice_get (joined lists n) i ≡ Some a → slice_get (joined lists n) j ≡ Some b → (key a < key b) ⊎ ((key a ≡ key b) × Before a b)) →
+            IsParted (joined lists n) (lists n) i a → IsParted (joined lists n) (lists n) j b → (key a < key b) ⊎ ((key a ≡ key b) × Before a b)
+        by earlier (InFirst low first) (InFirst high second) = earlier first second
+        by earlier (InFirst low first) (InSecond high second) =
+            let below = key_below n i a first in
+            let at = keyed n (j - length (joined lists n)) b second in
+            inl (omega arith)
+        by earlier (InSecond low first) (InFirst high second) = absurd (omega arith)
+        by earlier (InSecond low first) (InSecond high second) =
+            let at_first = keyed n (i - length (joined lists n)) a first in
+            let at_second = keyed n (j - length (joined lists n)) b second in
+            inr (omega arith, ordered n (i - length (joined lists n)) (j - length (joined lists n)) a b (omega arith) first second)
 
 -- ---- the guards of an image
-
--- two entries are of one guard
-abbrev OfOneGuard : GuardAt → GuardAt → Type 0
-OfOneGuard a b = (a.func ≡ b.func) × (a.item ≡ b.item)
 
 -- an empty list has no guard
 nowhere : (i : ℕ) (a : GuardAt) → slice_get [] i ≡ Some a → ⊥
@@ -100,24 +101,37 @@ module _ (slots : Slots) where
     functions_are zero i a e = cc
     functions_are (suc n) i a e = by (functions_are n i a) (parted (joined (guard_at slots f g) n) (guard_at slots f g n) i a e)
       where
-        by : (slice_get (joined (guard_at slots f g) n) i ≡ Some a → a.func ≡ f) → ((i < length (joined (guard_at slots f g) n)) × (slice_get (joined (guard_at slots f g) n) i ≡ Some a)) ⊎ ((length (joined (guard_at slots f g) n) ≤ i) × (slice_get (guard_at slots f g n) (i - length (joined (guard_at slots f g) n)) ≡ Some a)) → a.func ≡ f
-        by earlier (inl h) = earlier h.1
-        by earlier (inr h) = (at_point n (i - length (joined (guard_at slots f g) n)) a h.1).1
+        by : (slice_get (joined (guard_at slots f g) n) i ≡ Some a → a.func ≡ f) → IsParted (joined (guard_at slots f g) n) (guard_at slots f g n) i a → a.func ≡ f
+        by earlier (InFirst less here) = earlier here
+        by earlier (InSecond more here) = (at_point n (i - length (joined (guard_at slots f g) n)) a here).1
 
-    function_once : (n i j : ℕ) (a b : GuardAt) → slice_get (joined (guard_at slots f g) n) i ≡ Some a → slice_get (joined (guard_at slots f g) n) j ≡ Some b → OfOneGuard a b → i ≡ j
-    function_once = joined_once (λ x. x.item) OfOneGuard (λ a b alike. alike.1) (guard_at slots f g) (λ k i x e. (at_point k i x e).2) (λ k i j a b at_a at_b alike. (at_point k i a at_a).0 ∙ sym (at_point k j b at_b).0)
+    -- two guards of a function are at different items
+    items_in_order : (n i j : ℕ) (a b : GuardAt) → i < j → slice_get (joined (guard_at slots f g) n) i ≡ Some a → slice_get (joined (guard_at slots f g) n) j ≡ Some b → a.item < b.item
+    items_in_order n i j a b less at_a at_b =
+        by (joined_in_order (λ x. x.item) (λ x y. ⊥) (guard_at slots f g) (λ k i x e. (at_point k i x e).2) alone n i j a b less at_a at_b)
+      where
+        alone : (k i j : ℕ) (a b : GuardAt) → i < j → slice_get (guard_at slots f g k) i ≡ Some a → slice_get (guard_at slots f g k) j ≡ Some b → ⊥
+        alone k i j a b less at_a at_b =
+            let first = (at_point k i a at_a).0 in
+            let second = (at_point k j b at_b).0 in
+            absurd (omega arith)
+
+        by : (a.item < b.item) ⊎ ((a.item ≡ b.item) × ⊥) → a.item < b.item
+        by (inl h) = h
+        by (inr h) = absurd h.1
 
   in_function : (f : ℕ) (o : Option SlotFunction) (i : ℕ) (a : GuardAt) → slice_get (function_guards_or_none slots f o) i ≡ Some a → a.func ≡ f
   in_function f None i a e = absurd (nowhere i a e)
   in_function f (Some g) i a e = functions_are f g (length g.code) i a e
 
-  once_in_function : (f : ℕ) (o : Option SlotFunction) (i j : ℕ) (a b : GuardAt) → slice_get (function_guards_or_none slots f o) i ≡ Some a → slice_get (function_guards_or_none slots f o) j ≡ Some b → OfOneGuard a b → i ≡ j
-  once_in_function f None i j a b at_a at_b alike = absurd (nowhere i a at_a)
-  once_in_function f (Some g) i j a b at_a at_b alike = function_once f g (length g.code) i j a b at_a at_b alike
+  order_in_function : (f : ℕ) (o : Option SlotFunction) (i j : ℕ) (a b : GuardAt) → i < j → slice_get (function_guards_or_none slots f o) i ≡ Some a → slice_get (function_guards_or_none slots f o) j ≡ Some b → a.item < b.item
+  order_in_function f None i j a b less at_a at_b = absurd (nowhere i a at_a)
+  order_in_function f (Some g) i j a b less at_a at_b = items_in_order f g (length g.code) i j a b less at_a at_b
 
-  guards_once : (i j : ℕ) (a b : GuardAt) → slice_get (image_guards slots) i ≡ Some a → slice_get (image_guards slots) j ≡ Some b → OfOneGuard a b → i ≡ j
-  guards_once = joined_once (λ x. x.func) OfOneGuard (λ a b alike. alike.0) (function_guards_at slots) (λ k i x e. in_function k (slice_get slots.funcs k) i x e)
-      (λ k i j a b at_a at_b alike. once_in_function k (slice_get slots.funcs k) i j a b at_a at_b alike) (length slots.funcs)
+  guards_in_order : (i j : ℕ) (a b : GuardAt) → i < j → slice_get (image_guards slots) i ≡ Some a → slice_get (image_guards slots) j ≡ Some b → IsBefore a b
+  guards_in_order =
+      joined_in_order (λ x. x.func) (λ x y. x.item < y.item) (function_guards_at slots) (λ k i x e. in_function k (slice_get slots.funcs k) i x e)
+      (λ k i j a b less at_a at_b. order_in_function k (slice_get slots.funcs k) i j a b less at_a at_b) (length slots.funcs)
 
 -- ---- the guards of a program
 
@@ -188,5 +202,5 @@ module _ (p : Prog) (slots : Slots) (limits : Limits) (image : Image) (lowered :
   lists_guards = record {
     are = are_guards;
     each = each_guard;
-    once = λ g h a b at_a at_b func item. guards_once slots g h a b (ap (λ xs. slice_get xs g) (sym laid.is.guards) ∙ at_a) (ap (λ xs. slice_get xs h) (sym laid.is.guards) ∙ at_b) (func, item);
+    in_order = λ g h a b less at_a at_b. guards_in_order slots g h a b less (ap (λ xs. slice_get xs g) (sym laid.is.guards) ∙ at_a) (ap (λ xs. slice_get xs h) (sym laid.is.guards) ∙ at_b);
   }

@@ -8,8 +8,8 @@ use Rattle.rv64_layout.specs.Image.{entry_at}
 use Rattle.rv64_layout.specs.Items.{level_word, nop_word}
 use Rattle.rv64_layout.proofs.Bounding.{copy_most}
 use Rattle.rv64_runs.specs.Core.{Core}
-use Rattle.rv64_runs.specs.Runs.{HasAt, Runs}
-use Rattle.rv64_runs.proofs.Going.{begin, plain}
+use Rattle.rv64_runs.specs.Runs.{HasAt}
+use Rattle.rv64_runs.proofs.Going.{Going, begin, plain}
 use Rattle.rv64_sequences.specs.Frames.{Copied}
 use Rattle.rv64_sequences.specs.Sequences.{copy_size, copy_words}
 use Rattle.rv64_sequences.proofs.Copies.{words_copied}
@@ -124,11 +124,13 @@ module _ (S : Setting) (made : ℕ) (f : bril.Frame) (older : List bril.Frame) (
 
 module _ (S : Setting) (s : bril.State) (t : State) (r : RunsAlike S s t) where
   -- the slots were copied to the next level
-  saved_moves : (e : Core) (n : ℕ) → Copied r.core e r.holds.base 2 (level_word r.holds.function (suc (length r.frame.saves))) (length r.holds.function.slots) →
-      step S.p S.limits s ≡ speculates S.p S.limits r.frame r.older s → Runs S.image (sizes S) (here S s t r) r.core (suc n) (entry_at S.slots r.frame.function (suc r.frame.point)) e → suc n ≤ S.cost → Moves S s t
-  saved_moves e n copied stepped runs cheap =
+  saved_moves : (e : Core) (n j : ℕ) → Copied r.core e r.holds.base 2 (level_word r.holds.function (suc (length r.frame.saves))) (length r.holds.function.slots) →
+      step S.p S.limits s ≡ speculates S.p S.limits r.frame r.older s → Going S.image (sizes S) (here S s t r) r.core n j e (nop_word ∷ []) → j + 1 ≡ entry_at S.slots r.frame.function (suc r.frame.point) → n + 1 ≤ S.cost → Moves S s t
+  saved_moves e n j copied stepped g there cheap =
+      let count : n + 1 ≡ suc n = omega arith in
       arrive S s t r (speculates S.p S.limits r.frame r.older s) (advanced (record r.frame { saves = r.frame.locations ∷ r.frame.saves })) r.older e n stepped refl r.running (r.printed ∙ sym copied.printed)
-      (saved_holds S (length s.blocks) r.frame r.older r.core r.holds e copied) (memory_by S s.blocks r.core e copied.table copied.cells copied.blocks copied.given r.memory) (guards_by S s t r e copied.arrivals) runs cheap
+      (saved_holds S (length s.blocks) r.frame r.older r.core r.holds e copied) (memory_by S s.blocks r.core e copied.table copied.cells copied.blocks copied.given r.memory) (guards_by S s t r e copied.arrivals)
+      (landed (suc n) (entry_at S.slots r.frame.function (suc r.frame.point)) count there (plain S.image (sizes S) tt g)) (omega arith)
 
   pub speculate_moves : slice_get r.holds.function.code r.frame.point ≡ Some Speculate → Moves S s t
   speculate_moves item =
@@ -153,10 +155,9 @@ module _ (S : Setting) (s : bril.State) (t : State) (r : RunsAlike S s t) where
       let to_most : h.base + (level_word g (suc l) + n) ≤ S.image.stack = omega arith in
       let q = words_copied S.image (sizes S) (stack_few S) h.base 2 (level_word g (suc l)) n r.core (nop_word ∷ []) (inl (omega arith)) h.at from_most to_most g0 in
       let size = copy_most 2 (level_word g (suc l)) n in
-      let count : 0 + copy_size 2 (level_word g (suc l)) n + 1 ≡ suc (copy_size 2 (level_word g (suc l)) n) = omega arith in
       let there = S.laid.next r.frame.function g r.frame.point Speculate h.there item in
       let at : k + copy_size 2 (level_word g (suc l)) n + 1 ≡ entry_at S.slots r.frame.function (suc r.frame.point) = (let same = ap (λ m. copy_size 2 (level_word g (suc m)) n) depth in omega arith) in
-      saved_moves q.core (copy_size 2 (level_word g (suc l)) n) q.copied stepped (landed (suc (copy_size 2 (level_word g (suc l)) n)) (entry_at S.slots r.frame.function (suc r.frame.point)) count at (plain S.image (sizes S) tt q.going)) (omega arith)
+      saved_moves q.core (0 + copy_size 2 (level_word g (suc l)) n) (k + copy_size 2 (level_word g (suc l)) n) q.copied stepped q.going at (omega arith)
 
   -- a list that isn't empty
   pub newest_of : (saves : List bril.Locals) → saves ≢ [] → (newest : bril.Locals) × (rest : List bril.Locals) × (saves ≡ newest ∷ rest)

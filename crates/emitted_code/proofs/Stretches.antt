@@ -1,7 +1,7 @@
 -- Stretches of words: what they keep, and how they are joined.
-use Rattle.std.proofs.Common.{◌≡◌, ◌≢◌, ℕ, suc, ◌≤◌, Bool, true, false, cond, eqb, sym, ap, ◌∙◌, subst, arith, List, [], ◌++◌, append-nil}
+use Rattle.std.proofs.Common.{◌≡◌, ◌≢◌, ℕ, ◌≤◌, Bool, true, false, cond, sym, subst, arith, List, [], ◌++◌, append-nil}
 use Rattle.bril_tree.specs.declared.limits.End.{End}
-use Rattle.rv64_runs.specs.Core.{Core, Keeps, written}
+use Rattle.rv64_runs.specs.Core.{Core}
 use Rattle.rv64_runs.specs.Runs.{Runs, Ends}
 use Rattle.rv64_runs.proofs.Going.{Going}
 use Rattle.rv64_sequences.specs.Sequences.{is_near, load_size, store_size}

@@ -1,5 +1,5 @@
 -- The words that find a cell, and those that load and store it.
-use Rattle.std.proofs.Common.{◌≡◌, ℕ, ◌+◌, ◌*◌, ◌/◌, ◌%◌, ◌^◌, ◌<◌, ◌≤◌, Bool, true, false, not, eqb, ltb, refl, ap, ◌∙◌, arith, List, [], ◌∷◌, ◌++◌, ℤ, pos, negsuc}
+use Rattle.std.proofs.Common.{◌≡◌, ℕ, ◌+◌, ◌*◌, ◌/◌, ◌%◌, ◌^◌, ◌<◌, ◌≤◌, true, false, not, eqb, ltb, refl, ap, ◌∙◌, arith, List, [], ◌∷◌, ◌++◌, ℤ, pos, negsuc}
 use Rattle.std.specs.Prelude.{FitsSigned}
 use Rattle.std.specs.Int.{w32, w64, cast_unsigned}
 use Rattle.std.proofs.lemmas.Bool.Decides.{nat_tests}
@@ -12,7 +12,7 @@ use Rattle.rv64_words.specs.Arithmetic.{moved_by}
 use Rattle.rv64_words.specs.Mnemonics.{add, slli, srli, srai, bltu, bne}
 use Rattle.rv64_words.specs.Region.{Sizes, table_base, cells_base, table_words, most_blocks}
 use Rattle.rv64_runs.specs.Core.{Core, written, put_cell, Keeps}
-use Rattle.rv64_runs.specs.Runs.{HasAt, effects, Runs}
+use Rattle.rv64_runs.specs.Runs.{effects}
 use Rattle.rv64_runs.proofs.Going.{Going, begin, plain, plains, load_table, load_cell, store_cell, taken, not_taken, is_core, is_place}
 use Rattle.rv64_sequences.specs.Operations.{cell_words, load_cell_words, mark_cell_words, store_cell_words}
 use Rattle.rv64_sequences.specs.Sequences.{fault_words}

@@ -1,5 +1,5 @@
 -- What the words of memory find and do, in any image in which they stand.
-use Rattle.std.specs.Prelude.{◌≡◌, ℕ, ◌+◌, ◌*◌, ◌^◌, ◌<◌, ◌≤◌, Bool, false, nat_lt, List, [], ℤ, pos, negsuc, FitsSigned}
+use Rattle.std.specs.Prelude.{◌≡◌, ℕ, ◌+◌, ◌*◌, ◌^◌, ◌<◌, ◌≤◌, Bool, false, nat_lt, List, ℤ, pos, negsuc, FitsSigned}
 use Rattle.std.specs.Int.{w32, cast_unsigned}
 use Rattle.bril_tree.specs.declared.limits.End.TheVariants.{Faulted}
 use Rattle.bril_tree.specs.declared.limits.Fault.TheVariants as fault
