@@ -112,7 +112,7 @@ slots_kept made f g is base first locations s t same h = record { at = at }
         let high : base + (first + slot_number g.shadow_numbers slot) < base + (first + length g.slots) = omega arith in
         subst (HasWord made v) (sym (same (base + (first + slot_number g.shadow_numbers slot)) low high)) (h.at slot v in_g held)
 
-level_next : (n l : ℕ) → 2 + n * suc l ≡ (2 + n * l) + n
+pub level_next : (n l : ℕ) → 2 + n * suc l ≡ (2 + n * l) + n
 level_next n l = let split : n * suc l ≡ n * l + n = grind arith in omega arith
 
 -- words below the first level, and beyond the levels of the saves, don't matter to these

@@ -75,14 +75,14 @@ module _ {X : Type 0} where
 
 -- ---- the guards of an image
 
+-- an empty list has no guard
+nowhere : (i : ℕ) (a : GuardAt) → slice_get [] i ≡ Some a → ⊥
+nowhere i a e = let none : None ≡ Some a = e in cc
+
 -- a list of one has one place
 one_place : (x : GuardAt) (i : ℕ) (a : GuardAt) → slice_get (x ∷ []) i ≡ Some a → (i ≡ 0) × (x ≡ a)
 one_place x zero a e = (refl, same_Some x a e)
-one_place x (suc i) a e = absurd (none_there i e)
-  where
-    none_there : (i : ℕ) → slice_get [] i ≡ Some a → ⊥
-    none_there zero e = cc
-    none_there (suc i) e = cc
+one_place x (suc i) a e = absurd (nowhere i a e)
 
 module _ (slots : Slots) where
   module _ (f : ℕ) (g : SlotFunction) where
@@ -91,16 +91,8 @@ module _ (slots : Slots) where
     point_guard point (Some (Guard condition abort_to)) i a e =
         let h = one_place (record { word = entry_at slots f point + guard_front_size g (depth_at g point) condition; func = f; item = point }) i a e in
         (h.0, ap (λ x. x.func) (sym h.1), ap (λ x. x.item) (sym h.1))
-    point_guard point None i a e = absurd (nowhere i e)
-      where
-        nowhere : (i : ℕ) → slice_get [] i ≡ Some a → ⊥
-        nowhere zero e = cc
-        nowhere (suc i) e = cc
-    point_guard point (Some _) i a e = absurd (nowhere i e)
-      where
-        nowhere : (i : ℕ) → slice_get [] i ≡ Some a → ⊥
-        nowhere zero e = cc
-        nowhere (suc i) e = cc
+    point_guard point None i a e = absurd (nowhere i a e)
+    point_guard point (Some _) i a e = absurd (nowhere i a e)
 
     at_point : (point i : ℕ) (a : GuardAt) → slice_get (guard_at slots f g point) i ≡ Some a → (i ≡ 0) × (a.func ≡ f) × (a.item ≡ point)
     at_point point i a e = point_guard point (slice_get g.code point) i a e
@@ -129,19 +121,11 @@ module _ (slots : Slots) where
         by (inr h) = absurd h.1
 
   in_function : (f : ℕ) (o : Option SlotFunction) (i : ℕ) (a : GuardAt) → slice_get (function_guards_or_none slots f o) i ≡ Some a → a.func ≡ f
-  in_function f None i a e = absurd (nowhere i e)
-    where
-      nowhere : (i : ℕ) → slice_get [] i ≡ Some a → ⊥
-      nowhere zero e = cc
-      nowhere (suc i) e = cc
+  in_function f None i a e = absurd (nowhere i a e)
   in_function f (Some g) i a e = functions_are f g (length g.code) i a e
 
   order_in_function : (f : ℕ) (o : Option SlotFunction) (i j : ℕ) (a b : GuardAt) → i < j → slice_get (function_guards_or_none slots f o) i ≡ Some a → slice_get (function_guards_or_none slots f o) j ≡ Some b → a.item < b.item
-  order_in_function f None i j a b less at_a at_b = absurd (nowhere i at_a)
-    where
-      nowhere : (i : ℕ) → slice_get [] i ≡ Some a → ⊥
-      nowhere zero e = cc
-      nowhere (suc i) e = cc
+  order_in_function f None i j a b less at_a at_b = absurd (nowhere i a at_a)
   order_in_function f (Some g) i j a b less at_a at_b = items_in_order f g (length g.code) i j a b less at_a at_b
 
   guards_in_order : (i j : ℕ) (a b : GuardAt) → i < j → slice_get (image_guards slots) i ≡ Some a → slice_get (image_guards slots) j ≡ Some b → IsBefore a b

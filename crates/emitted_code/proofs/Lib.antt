@@ -1,5 +1,6 @@
 pub mod Allocating
 pub mod Arriving
+pub mod Asking
 pub mod Blocks
 pub mod Calling
 pub mod Depths

@@ -13,7 +13,8 @@ use Rattle.rv64_layout.proofs.Bounding.{load_most}
 use Rattle.rv64_runs.proofs.Going.{across, begin, ends_after, has_front}
 use Rattle.rv64_sequences.specs.Operations.{cell_words, load_cell_words}
 use Rattle.rv64_sequences.specs.Sequences.{load_size, load_words, store_words}
-use Rattle.rv64_values.proofs.Cells.{CellReady, loads_stored, loads_fresh}
+use Rattle.rv64_values.specs.Cells.{CellReady}
+use Rattle.rv64_values.proofs.Cells.{loads_stored, loads_fresh}
 use Rattle.rv64_values.proofs.Kept.{keeps_on}
 use Rattle.rv64_words.specs.State.{State}
 use Rattle.slot_code.specs.declared.item.Slot.TheVariants.{Variable}

@@ -11,6 +11,7 @@ use Rattle.rv64_runs.specs.Core.{Core, Keeps}
 use Rattle.rv64_runs.proofs.Going.{Going, across, ends_after, has_front}
 use Rattle.rv64_sequences.specs.Operations.{cell_words}
 use Rattle.rv64_sequences.specs.Sequences.{load_size}
+use Rattle.rv64_values.specs.Cells.{PointerReady}
 use Rattle.rv64_values.proofs.Cells as words
 use Rattle.rv64_values.proofs.Kept.{keeps_itself, keeps_on}
 use Rattle.rv64_words.specs.declared.word.Word.{Word}
@@ -44,7 +45,7 @@ module _ (S : Setting) (s : bril.State) (t : State) (r : RunsAlike S s t) (point
       let few : S.limits.cells ≤ 4194304 = S.limits.few_cells in
       omega arith
 
-  ready : (ws : List Word) → Pointed (cell_words ++ ws) → words.PointerReady S.image (sizes S) (here S s t r + load_size (2 + pointer)) (loaded S s t r r.core 5 (2 + pointer)) cell_words points.block points.offset
+  ready : (ws : List Word) → Pointed (cell_words ++ ws) → PointerReady S.image (sizes S) (here S s t r + load_size (2 + pointer)) (loaded S s t r r.core 5 (2 + pointer)) cell_words points.block points.offset
   ready ws g =
       let low = S.laid.few_entries r.frame.function r.frame.point in
       let size = load_most (2 + pointer) in

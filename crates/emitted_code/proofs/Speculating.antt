@@ -20,7 +20,7 @@ use Rattle.slot_code.specs.Laws.{IsSlotOf}
 use Rattle.slot_code.specs.Numbering.{slot_number}
 use Rattle.emitted_code.proofs.Arriving.{Moves, arrive, guards_by, here, memory_by, step_at}
 use Rattle.emitted_code.proofs.Depths.{frame_dear, next_typed, now_typed, saves_are, saves_fit}
-use Rattle.emitted_code.proofs.Frames.{deeper, number_inside, older_kept, saves_kept, slots_kept}
+use Rattle.emitted_code.proofs.Frames.{deeper, level_next, number_inside, older_kept, saves_kept, slots_kept}
 use Rattle.emitted_code.proofs.Holding.{SameFrame, source, stack_few, stack_room}
 use Rattle.emitted_code.proofs.Ready.{slot_value}
 use Rattle.emitted_code.proofs.Relation.{FramesHold, HasWord, RunsAlike, SavesHold}
@@ -28,9 +28,6 @@ use Rattle.emitted_code.proofs.Setting.{Setting, sizes, widest}
 use Rattle.emitted_code.proofs.Stretches.{landed}
 
 -- ---- levels
-
-level_after : (n l : ℕ) → 2 + n * suc l ≡ (2 + n * l) + n
-level_after n l = let split : n * suc l ≡ n * l + n = grind arith in omega arith
 
 -- registers 0, 2 and 8 aren't those of a copy
 pub copied_same : (d e : Core) (b from to n : ℕ) → Copied d e b from to n → SameFrame d e
@@ -54,7 +51,7 @@ module _ (S : Setting) (made : ℕ) (f : bril.Frame) (older : List bril.Frame) (
       let origin = source S made f older c h in
       let g = h.function in
       let same = copied_same c e h.base 2 (level_word g (suc (length f.saves))) (length g.slots) copied in
-      let up : 2 + length g.slots * suc (length f.saves) ≡ (2 + length g.slots * length f.saves) + length g.slots = level_after (length g.slots) (length f.saves) in
+      let up : 2 + length g.slots * suc (length f.saves) ≡ (2 + length g.slots * length f.saves) + length g.slots = level_next (length g.slots) (length f.saves) in
       record {
         function = g;
         there = h.there;

@@ -1,28 +1,14 @@
 -- Stretches of words: what they keep, and how they are joined.
-use Rattle.std.proofs.Common.{◌≡◌, ◌≢◌, ℕ, suc, ◌≤◌, Bool, true, false, cond, eqb, sym, ap, ◌∙◌, subst, arith, List, [], ◌++◌, append-nil}
+use Rattle.std.proofs.Common.{◌≡◌, ◌≢◌, ℕ, ◌≤◌, Bool, true, false, cond, sym, subst, arith, List, [], ◌++◌, append-nil}
 use Rattle.bril_tree.specs.declared.limits.End.{End}
-use Rattle.rv64_runs.specs.Core.{Core, Keeps, written}
+use Rattle.rv64_runs.specs.Core.{Core}
 use Rattle.rv64_runs.specs.Runs.{Runs, Ends}
 use Rattle.rv64_runs.proofs.Going.{Going}
 use Rattle.rv64_sequences.specs.Sequences.{is_near, load_size, store_size}
+pub use Rattle.rv64_values.proofs.Kept.{keeps_written}
 use Rattle.rv64_words.specs.declared.image.Image.{Image}
 use Rattle.rv64_words.specs.declared.word.Word.{Word}
 use Rattle.rv64_words.specs.Region.{Sizes}
-
--- a register of which no frame knows gets a value
-pub keeps_written : (c e : Core) (r v : ℕ) → eqb 0 (suc r) ≡ false → eqb 2 (suc r) ≡ false → eqb 8 (suc r) ≡ false → Keeps c e → Keeps c (written e (suc r) v)
-keeps_written c e r v zero_other two_other eight_other k = record {
-  zero_register = ap (λ b. cond b v (e.registers 0)) zero_other ∙ k.zero_register;
-  frame_register = ap (λ b. cond b v (e.registers 2)) two_other ∙ k.frame_register;
-  frames_left = ap (λ b. cond b v (e.registers 8)) eight_other ∙ k.frames_left;
-  stack = k.stack;
-  table = k.table;
-  cells = k.cells;
-  blocks = k.blocks;
-  given = k.given;
-  printed = k.printed;
-  arrivals = k.arrivals;
-}
 
 -- words that stand alone are followed by none
 pub with_end : {image : Image} {z : Sizes} {k : ℕ} {c : Core} {n j : ℕ} {e : Core} → (ws : List Word) → Going image z k c n j e ws → Going image z k c n j e (ws ++ [])

@@ -8,7 +8,7 @@ use Rattle.bril_tree.specs.Memory.{if_live, live_block, cell_inside, cell_of}
 use Rattle.bril_tree.specs.State.{Block}
 use Rattle.bril_tree.proofs.Elements.{get_inside}
 use Rattle.rv64_words.specs.Region.{Sizes, cells_base}
-use Rattle.rv64_values.proofs.Cells.{is_inside}
+use Rattle.rv64_values.specs.Cells.{is_inside}
 use Rattle.rv64_blocks.specs.Memory.{HasWord, MemoryHolds}
 
 -- how many cells a live block has

@@ -3,13 +3,11 @@ use Rattle.std.proofs.Common.{◌≡◌, ◌≢◌, ℕ, zero, suc, Bool, true, 
 use Rattle.std.proofs.lemmas.Bool.{eq-eqb, ne_eqb}
 use Rattle.std.proofs.lemmas.Bool.Decides.{nat_tests}
 use Rattle.rv64_words.specs.State.{assigned}
+use Rattle.rv64_words.proofs.Words.{same_words}
 use Rattle.rv64_runs.specs.Core.{Core, written}
 
-pub fun_ext : {A B : Type 0} {f g : A → B} → ((x : A) → f x ≡ g x) → f ≡ g
-fun_ext h = λ i. λ x. h x i
-
 pub assigned_twice : (f : ℕ → ℕ) (r a b : ℕ) → assigned (assigned f r a) r b ≡ assigned f r b
-assigned_twice f r a b = fun_ext (λ y. by_test (eqb y r) y)
+assigned_twice f r a b = same_words _ _ (λ y. by_test (eqb y r) y)
   where
     by_test : (t : Bool) (y : ℕ) → cond t b (cond t a (f y)) ≡ cond t b (f y)
     by_test true y = refl
@@ -17,7 +15,7 @@ assigned_twice f r a b = fun_ext (λ y. by_test (eqb y r) y)
 
 -- what is there already changes nothing
 pub assigned_same : (f : ℕ → ℕ) (r : ℕ) → assigned f r (f r) ≡ f
-assigned_same f r = fun_ext (λ y. by_test (eqb y r) y refl)
+assigned_same f r = same_words _ _ (λ y. by_test (eqb y r) y refl)
   where
     by_test : (t : Bool) (y : ℕ) → eqb y r ≡ t → cond t (f r) (f y) ≡ f y
     by_test true y e = grind (arith, nat_tests)

@@ -1,5 +1,5 @@
 -- The words that find a cell, and those that load and store it.
-use Rattle.std.proofs.Common.{◌≡◌, ℕ, ◌+◌, ◌*◌, ◌/◌, ◌%◌, ◌^◌, ◌<◌, ◌≤◌, Bool, true, false, not, eqb, ltb, refl, ap, ◌∙◌, arith, List, [], ◌∷◌, ◌++◌, ℤ, pos, negsuc}
+use Rattle.std.proofs.Common.{◌≡◌, ℕ, ◌+◌, ◌*◌, ◌/◌, ◌%◌, ◌^◌, ◌<◌, ◌≤◌, true, false, not, eqb, ltb, refl, ap, ◌∙◌, arith, List, [], ◌∷◌, ◌++◌, ℤ, pos, negsuc}
 use Rattle.std.specs.Prelude.{FitsSigned}
 use Rattle.std.specs.Int.{w32, w64, cast_unsigned}
 use Rattle.std.proofs.lemmas.Bool.Decides.{nat_tests}
@@ -12,19 +12,16 @@ use Rattle.rv64_words.specs.Arithmetic.{moved_by}
 use Rattle.rv64_words.specs.Mnemonics.{add, slli, srli, srai, bltu, bne}
 use Rattle.rv64_words.specs.Region.{Sizes, table_base, cells_base, table_words, most_blocks}
 use Rattle.rv64_runs.specs.Core.{Core, written, put_cell, Keeps}
-use Rattle.rv64_runs.specs.Runs.{HasAt, effects, Runs}
+use Rattle.rv64_runs.specs.Runs.{effects}
 use Rattle.rv64_runs.proofs.Going.{Going, begin, plain, plains, load_table, load_cell, store_cell, taken, not_taken, is_core, is_place}
-use Rattle.rv64_sequences.specs.Operations.{cell_words, load_cell_words, mark_cell_words}
+use Rattle.rv64_sequences.specs.Operations.{cell_words, load_cell_words, mark_cell_words, store_cell_words}
 use Rattle.rv64_sequences.specs.Sequences.{fault_words}
+use Rattle.rv64_values.specs.Cells.{is_inside, PointerReady, FindsCell, CellReady}
+use Rattle.rv64_values.specs.Cells.{CellWordsFind, CellWordsFault, LoadWordsGive, LoadWordsFault, MarkWordsRun, StoreWordsRun}
 use Rattle.rv64_values.specs.Operands.{Gives, EndsSo}
 use Rattle.rv64_values.proofs.Kept.{keeps_itself, keeps_five, keeps_six, keeps_seven, gives_by, faults_by}
 use Rattle.rv64_values.proofs.Operands.{two}
 use Rattle.rv64_values.proofs.Pointers.{sign_extended, offset_part, block_part}
-
--- the offset of a pointer is inside a block of so many cells
-abbrev pub is_inside : ℤ → ℕ → Bool
-is_inside (pos n) size = ltb n size
-is_inside (negsuc n) size = false
 
 -- as the words compare
 inside_word : (offset : ℤ) (size : ℕ) → FitsSigned w32 offset → size < 2 ^ 63 → ltb (cast_unsigned w64 offset) size ≡ is_inside offset size
@@ -52,26 +49,6 @@ value_word : (at : ℕ) → at < 2 ^ 58 → moved_by (cells_base + 16 * at) (pos
 value_word at few = omega arith
 
 -- ---- the cell of a pointer
-
--- The words stand at word k, and register 5 has a pointer to one of the blocks of the table.
-pub record PointerReady (image : Image) (z : Sizes) (k : ℕ) (c : Core) (ws : List Word) (block : ℕ) (offset : ℤ) : Type 0 where
-  pub has : HasAt image k ws
-  pub low : k < 2 ^ 19
-  pub few : z.stack ≤ 8388608
-  pub null : c.registers 0 ≡ 0
-  pub pointer : c.registers 5 ≡ block * 2 ^ 32 + cast_unsigned w32 offset
-  pub fits : FitsSigned w32 offset
-  pub known : block ≤ most_blocks
-  pub limited : c.table (2 * block + 1) < 2 ^ 63
-
--- Register 7 has the address of this cell, and the rest is kept.
-pub record FindsCell (image : Image) (z : Sizes) (k : ℕ) (c : Core) (size at : ℕ) : Type 0 where
-  pub steps : ℕ
-  pub within : steps ≤ size
-  pub core : Core
-  pub keeps : Keeps c core
-  pub result : core.registers 7 ≡ cells_base + 16 * at
-  pub runs : Runs image z k c steps (k + size) core
 
 abbrev front_words : List Word
 front_words = srli 6 5 32 ∷ slli 6 6 4 ∷ Lui 7 0x20000 ∷ add 6 6 7 ∷ slli 5 5 32 ∷ srai 5 5 32 ∷ []
@@ -134,16 +111,6 @@ module _ (image : Image) (z : Sizes) (k : ℕ) (c : Core) (block : ℕ) (offset 
 
 -- ---- loads and stores
 
--- register 7 has the address of a cell of the region
-pub record CellReady (image : Image) (z : Sizes) (k : ℕ) (c : Core) (ws : List Word) (at : ℕ) : Type 0 where
-  pub has : HasAt image k ws
-  pub low : k < 2 ^ 19
-  pub few : z.stack ≤ 8388608
-  pub null : c.registers 0 ≡ 0
-  pub address : c.registers 7 ≡ cells_base + 16 * at
-  pub inside : 2 * at + 1 < z.cells
-  pub small : at < 2 ^ 58
-
 module _ (image : Image) (z : Sizes) (k : ℕ) (c : Core) (at : ℕ) where
   flag_inside : 2 * at + 1 < z.cells → 2 * at < z.cells
   flag_inside h = omega arith
@@ -181,3 +148,27 @@ module _ (image : Image) (z : Sizes) where
   pub cell_stored : {k : ℕ} {c : Core} {n j : ℕ} {e : Core} {ws : List Word} → (at : ℕ) → z.stack ≤ 8388608 → e.registers 7 ≡ cells_base + 16 * at → 2 * at + 1 < z.cells → at < 2 ^ 58
       → Going image z k c n j e (Sd 7 5 (pos 8) ∷ ws) → Going image z k c (n + 1) (j + 1) (put_cell e (2 * at + 1) (e.registers 5)) ws
   cell_stored at few address inside small g = store_cell image z (2 * at + 1) (ap (λ x. moved_by x (pos 8)) address ∙ value_word at small) few inside g
+
+-- ---- the laws
+
+pub cell_words_find : CellWordsFind
+cell_words_find image z k c block n first offset r is lt address few = cell_found image z k c block offset r n first is lt address few
+
+pub cell_words_fault : CellWordsFault
+cell_words_fault image z k c block offset r out = cell_faults image z k c block offset r out
+
+pub load_words_give : LoadWordsGive
+load_words_give image z k c at r one = loads_stored image z k c at r one
+
+pub load_words_fault : LoadWordsFault
+load_words_fault image z k c at r none = loads_fresh image z k c at r none
+
+pub mark_words_run : MarkWordsRun
+mark_words_run image z k c at r =
+    let g = cell_marked image z at r.few r.null r.address r.inside r.small (begin image z k c mark_cell_words r.has) in
+    (is_place image z 2 (k + 2) (omega arith) (omega arith) g).runs
+
+pub store_words_run : StoreWordsRun
+store_words_run image z k c at r =
+    let g = cell_stored image z at r.few r.address r.inside r.small (begin image z k c store_cell_words r.has) in
+    (is_place image z 1 (k + 1) (omega arith) refl g).runs

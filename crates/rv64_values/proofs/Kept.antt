@@ -1,5 +1,5 @@
 -- Stretches that keep what other code relies on.
-use Rattle.std.proofs.Common.{◌≡◌, ℕ, suc, ◌+◌, ◌<◌, ◌≤◌, ◌^◌, refl, sym, ap, ◌∙◌, subst, arith, List, [], ◌++◌, length, Some, append-nil}
+use Rattle.std.proofs.Common.{cond, eqb, false, ◌≡◌, ℕ, suc, ◌+◌, ◌<◌, ◌≤◌, ◌^◌, refl, sym, ap, ◌∙◌, subst, arith, List, [], ◌++◌, length, Some, append-nil}
 use Rattle.std.specs.Option.{option_map}
 use Rattle.bril_tree.specs.declared.limits.End.TheVariants.{Faulted}
 use Rattle.bril_tree.specs.declared.limits.Fault.{Fault}
@@ -31,15 +31,30 @@ keeps_on c e f a b = record {
   arrivals = b.arrivals ∙ a.arrivals;
 }
 
--- writes of the registers that operations use
+-- a register that no other code relies on gets a value
+pub keeps_written : (c e : Core) (r v : ℕ) → eqb 0 (suc r) ≡ false → eqb 2 (suc r) ≡ false → eqb 8 (suc r) ≡ false → Keeps c e → Keeps c (written e (suc r) v)
+keeps_written c e r v zero_other two_other eight_other k = record {
+  zero_register = ap (λ b. cond b v (e.registers 0)) zero_other ∙ k.zero_register;
+  frame_register = ap (λ b. cond b v (e.registers 2)) two_other ∙ k.frame_register;
+  frames_left = ap (λ b. cond b v (e.registers 8)) eight_other ∙ k.frames_left;
+  stack = k.stack;
+  table = k.table;
+  cells = k.cells;
+  blocks = k.blocks;
+  given = k.given;
+  printed = k.printed;
+  arrivals = k.arrivals;
+}
+
+-- the registers that operations use
 pub keeps_five : (c e : Core) (v : ℕ) → Keeps c e → Keeps c (written e 5 v)
-keeps_five c e v h = record { zero_register = h.zero_register; frame_register = h.frame_register; frames_left = h.frames_left; stack = h.stack; table = h.table; cells = h.cells; blocks = h.blocks; given = h.given; printed = h.printed; arrivals = h.arrivals }
+keeps_five c e v k = keeps_written c e 4 v refl refl refl k
 
 pub keeps_six : (c e : Core) (v : ℕ) → Keeps c e → Keeps c (written e 6 v)
-keeps_six c e v h = record { zero_register = h.zero_register; frame_register = h.frame_register; frames_left = h.frames_left; stack = h.stack; table = h.table; cells = h.cells; blocks = h.blocks; given = h.given; printed = h.printed; arrivals = h.arrivals }
+keeps_six c e v k = keeps_written c e 5 v refl refl refl k
 
 pub keeps_seven : (c e : Core) (v : ℕ) → Keeps c e → Keeps c (written e 7 v)
-keeps_seven c e v h = record { zero_register = h.zero_register; frame_register = h.frame_register; frames_left = h.frames_left; stack = h.stack; table = h.table; cells = h.cells; blocks = h.blocks; given = h.given; printed = h.printed; arrivals = h.arrivals }
+keeps_seven c e v k = keeps_written c e 6 v refl refl refl k
 
 fault_named : (number : ℕ) (kind : Fault) → fault_of number ≡ Some kind → option_map Faulted (fault_of number) ≡ Some (Faulted kind)
 fault_named number kind is = ap (option_map Faulted) is

@@ -6,6 +6,7 @@
 //! run ends with that fault and no other. Each function states a law, and does nothing when it is called.
 #![tactic(auto)]
 
+ghost use Rattle.rv64_values.specs.Cells.{CellWordsFind, CellWordsFault, LoadWordsGive, LoadWordsFault, MarkWordsRun, StoreWordsRun};
 ghost use Rattle.rv64_values.specs.Laws.{UnaryWordsGive, UnaryWordsFault, BinaryWordsGive, BinaryWordsFault};
 
 /// `not` and the casts between ints and chars.
@@ -18,4 +19,15 @@ pub fn unary_words_compute()
 pub fn binary_words_compute()
     ensures gives { BinaryWordsGive }
     ensures faults { BinaryWordsFault }
+{}
+
+/// The words that find a pointer's cell by the block table, or end with the fault Access, those that load a cell, or end with
+/// the fault Uninit, and those that store one.
+pub fn cell_words_compute()
+    ensures finds { CellWordsFind }
+    ensures access { CellWordsFault }
+    ensures loads { LoadWordsGive }
+    ensures uninit { LoadWordsFault }
+    ensures marks { MarkWordsRun }
+    ensures stores { StoreWordsRun }
 {}
