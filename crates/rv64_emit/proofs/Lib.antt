@@ -1,3 +1,5 @@
 pub mod Appending
 pub mod Arguments
 pub mod Frames
+pub mod Placed
+pub mod Within

@@ -3,7 +3,9 @@
 ghost use Rattle.std.specs.Prelude.{◌≡◌, ◌≢◌, ◌+◌, ◌*◌, ◌≤◌, ◌<◌, ℕ, List, Some, IsTrue, IfOk, IfErr, length, slice_get};
 ghost use Rattle.bril_tree.specs.declared.numbered_function.Func.{Func};
 ghost use Rattle.bril_tree.specs.ProgramNumbers.{IsLargestFrame};
-ghost use Rattle.rv64_emit.specs.Bounds.{AreLocationsKnown, bound_with, locations_at};
+ghost use Rattle.std.specs.List.{list_all};
+ghost use Rattle.rv64_emit.specs.Bounds as bounds;
+ghost use Rattle.rv64_emit.specs.Bounds.{is_told_item, AreLocationsKnown, bound_with, locations_at};
 ghost use Rattle.rv64_emit.specs.Refusal.{capped, EmitRefuses};
 ghost use Rattle.rv64_implements.specs.WordBounds.{operation_bound, word_bound, word_bounds, IsStackSize, IsWithin};
 
@@ -96,6 +98,35 @@ fn program_bound(prog: &Prog, funcs: &[SlotFunction]) -> u64
     bound
 }
 
+// ---- what is told without memory
+
+// Whether the bound of an item doesn't depend on the number of locations.
+fn is_item_told(item: &Instr) -> bool
+    ensures { result ≡ is_told_item item.now }
+{
+    match item {
+        Instr::Act { op, .. } => match op {
+            Op::Speculate | Op::Guard => false,
+            _ => true,
+        },
+        _ => true,
+    }
+}
+
+// Whether no bound of a function's items does.
+fn is_function_told(func: &Func) -> bool
+    ensures { result ≡ list_all is_told_item func.now.code }
+{
+    func.code.as_slice().iter().all(|item| is_item_told(item))
+}
+
+/// Whether no bound of a program's items depends on the numbers of locations.
+pub fn is_told(prog: &Prog) -> bool
+    ensures { result ≡ bounds.is_told prog.now }
+{
+    prog.funcs.as_slice().iter().all(|func| is_function_told(func))
+}
+
 // ---- the stack
 
 // The words of the largest frame.
@@ -107,4 +138,23 @@ fn largest_frame(checked: &Checked) -> u64
         most = most.max(checked.frame_words(number as u32));
     }
     most
+}
+
+/// The words of the program's stack, if its words and its stack are within their bounds. The code over slots tells the numbers
+/// of locations, where bounds depend on them. Takes no memory.
+pub fn stack_within(checked: &Checked, funcs: &[SlotFunction], limits: Limits) -> Result<u32, EmitFault>
+    requires { AreLocationsKnown checked.now.prog funcs.now }
+    ensures within { IfOk result (λ _. IsWithin checked.now.prog limits) }
+    ensures stack { IfOk result (IsStackSize checked.now.prog limits) }
+    ensures fault { IfErr result (EmitRefuses checked.now.prog limits) }
+{
+    let words = program_bound(checked.prog(), funcs);
+    if words > MOST_WORDS {
+        return Err(EmitFault::CodeTooBig { words });
+    }
+    let words = (limits.frames as u64).saturating_mul(largest_frame(checked));
+    if words > MOST_STACK {
+        return Err(EmitFault::StackTooBig { words });
+    }
+    Ok(words as u32)
 }

@@ -78,7 +78,8 @@ fn put_function(
 {
     put(code, &[sd(2, 1, immediate(0))])?;
     put_items(code, slots, number, starts, entries)?;
-    put(code, &leave())
+    put(code, &leave())?;
+    Ok(())
 }
 
 // ---- guards

@@ -36,7 +36,7 @@ use Rattle.rv64_layout.proofs.Placing.{entry_is, words_next, words_pass, words_a
 -- ---- lengths
 
 module _ (slots : Slots) where
-  item_words_length : (f : ℕ) (g : SlotFunction) (point : ℕ) → length (item_words_at slots f g point) ≡ size_at g point
+  pub item_words_length : (f : ℕ) (g : SlotFunction) (point : ℕ) → length (item_words_at slots f g point) ≡ size_at g point
   item_words_length f g point = by (slice_get g.code point) refl
     where
       by : (o : Option SlotItem) → slice_get g.code point ≡ o → length (item_words_or_none slots f g point (slice_get g.code point)) ≡ size_at g point
@@ -46,17 +46,17 @@ module _ (slots : Slots) where
           ∙ sym (ap (λ o. size_or_none g point o) e)
 
   -- the words of the first so many items
-  items_length : (f : ℕ) (g : SlotFunction) (n : ℕ) → length (joined (item_words_at slots f g) n) ≡ sum_below (size_at g) n
+  pub items_length : (f : ℕ) (g : SlotFunction) (n : ℕ) → length (joined (item_words_at slots f g) n) ≡ sum_below (size_at g) n
   items_length f g n = joined-length (item_words_at slots f g) (size_at g) (item_words_length f g) n
 
-  function_length : (f : ℕ) → length (function_words_at slots f) ≡ function_size_or_none (slice_get slots.funcs f)
+  pub function_length : (f : ℕ) → length (function_words_at slots f) ≡ function_size_or_none (slice_get slots.funcs f)
   function_length f = by (slice_get slots.funcs f)
     where
       by : (o : Option SlotFunction) → length (function_words_or_none slots f o) ≡ function_size_or_none o
       by None = refl
       by (Some g) = omega (arith, length-append (joined (item_words_at slots f g) (length g.code)) leave_words, items_length f g (length g.code))
 
-  functions_length : (n : ℕ) → length (joined (function_words_at slots) n) ≡ sum_below (λ k. function_size_or_none (slice_get slots.funcs k)) n
+  pub functions_length : (n : ℕ) → length (joined (function_words_at slots) n) ≡ sum_below (λ k. function_size_or_none (slice_get slots.funcs k)) n
   functions_length n = joined-length (function_words_at slots) (λ k. function_size_or_none (slice_get slots.funcs k)) function_length n
 
 -- ---- places in the list of words

@@ -1,0 +1,1 @@
+use Rattle.rv64_emit.proofs.bounds.stack_within.Goals as goal
