@@ -15,13 +15,14 @@ use Rattle.bril_tree.specs.declared.types.Base.{Base}
 use Rattle.bril_tree.specs.declared.types.Base.TheVariants as base
 use Rattle.bril_tree.specs.declared.types.Ty.{Ty}
 use Rattle.bril_tree.specs.Accepted.{IsAccepted}
-use Rattle.bril_tree.specs.FrameWords.{location_count}
+use Rattle.bril_tree.specs.FrameWords.{AreFrameWords, location_count}
 use Rattle.bril_tree.specs.Literals.{AreLiteralsInRange, IsLiteralInRange}
-use Rattle.bril_tree.specs.ProgramNumbers.{greatest}
+use Rattle.bril_tree.specs.ProgramNumbers.{greatest, IsLargestFrame}
 use Rattle.bril_tree.specs.Sites.{sites_of}
 use Rattle.bril_tree.specs.Value.{IsInRange, zero_at, zero_of_base}
-use Rattle.bril_tree.proofs.Elements.{All-at, get_in}
-use Rattle.bril_tree.proofs.Members.{contains_in}
+use Rattle.bril_tree.proofs.Elements.{All-at, get_in, get_inside, in_get, zip-get, zip-long}
+use Rattle.bril_tree.proofs.Measures.{AreFrameWords-one, IsGreatest-one}
+use Rattle.bril_tree.proofs.Members.{contains_in, in_contains}
 use Rattle.flow_graph.specs.Graph.{GraphView}
 use Rattle.rv64_implements.specs.WordBounds.{operation_bound, word_bound, function_bound, IsWithin}
 use Rattle.slot_code.specs.declared.item.Slot.{Slot}
@@ -179,6 +180,19 @@ module _ (p : Prog) (slots : Slots) (limits : Limits) (accepted : IsAccepted p) 
   largest_has [] k g e = cc
   largest_has (h ∷ funcs) zero g e = let same : h ≡ g = cc in omega (arith, ap (λ x. x.words) same)
   largest_has (h ∷ funcs) (suc k) g e = omega (arith, largest_has funcs k g e)
+
+  -- the largest frame of the code over slots is the program's
+  pub largest_is : (words : ℕ) → IsLargestFrame p words → largest_frame slots ≡ words
+  largest_is words largest =
+      let same : words ≡ frame = IsGreatest-one AreFrameWords p words frame largest within.size.largest in
+      let most = largest_most slots.funcs frame frame_most in
+      let place = in_get largest.func p.funcs (in_contains largest.func p.funcs largest.is) in
+      let inside : place.0 < length slots.funcs = omega (arith, slice_get_within p.funcs place.0 largest.func place.1, zip-long IsLoweredFunction p.funcs slots.funcs is.funcs) in
+      let g = get_inside slots.funcs place.0 inside in
+      let lowered = zip-get IsLoweredFunction p.funcs slots.funcs place.0 largest.func g.0 is.funcs place.1 g.1 in
+      let one : g.0.words ≡ words = AreFrameWords-one largest.func g.0.words words lowered.words largest.has in
+      let has = largest_has slots.funcs place.0 g.0 g.1 in
+      omega arith
 
   pub largest_few : limits.frames * largest_frame slots ≤ 8388608
   largest_few =
