@@ -1,16 +1,18 @@
 -- When each status comes.
-use Rattle.std.proofs.Common.{◌≡◌, ℕ, ◌<◌, ◌≤◌, ◌⊎◌, true, List, [], length, Option, Some, None, Result, Ok, Err, refl, sym, ap, ◌∙◌, subst, arith, inl, inr, ⊎_elim, true≢false}
+use Rattle.std.proofs.Common.{◌≡◌, ℕ, ◌+◌, ◌*◌, ◌<◌, false, ◌≤◌, ◌⊎◌, true, List, [], length, Option, Some, None, Result, Ok, Err, refl, sym, ap, ◌∙◌, subst, arith, inl, inr, ⊎_elim, true≢false}
 use Rattle.std.specs.Prelude.{◌≢◌}
 use Rattle.bril_arguments.specs.Faults.{IsFaultOf}
 use Rattle.bril_arguments.specs.Spelled.{AreSpelled}
 use Rattle.bril_arguments.specs.declared.fault.ArgFault.{ArgFault}
 use Rattle.bril_arguments.specs.declared.fault.ArgFault.TheVariants as argument
 use Rattle.bril_tree.specs.Accepted.{IsAccepted}
+use Rattle.bril_tree.specs.Cost.{IsCost}
 use Rattle.bril_tree.specs.declared.limits.End.{End}
+use Rattle.bril_tree.specs.declared.limits.End.TheVariants.{Ended, Faulted}
 use Rattle.bril_tree.specs.declared.limits.Limits.{Limits}
 use Rattle.bril_tree.specs.declared.program.Prog.{Prog}
 use Rattle.bril_tree.specs.declared.value.Value.{Value}
-use Rattle.bril_tree.specs.Run.{main_types, state_after}
+use Rattle.bril_tree.specs.Run.{FitMain, main_types, state_after}
 use Rattle.bril_checker.specs.Faults as checker
 use Rattle.bril_checker.specs.declared.fault.CheckFault.{CheckFault}
 use Rattle.bril_tree.specs.declared.tree.Tree.{Tree}
@@ -27,19 +29,26 @@ use Rattle.bril_text.specs.Canonical.{canonical_text}
 use Rattle.bril_words.specs.Request.{Asked}
 use Rattle.bril_words.specs.declared.misuse.Misuse.{Misuse}
 use Rattle.bril_words.specs.declared.request.Action.{Action}
-use Rattle.bril_words.specs.declared.request.Action.TheVariants.{Run, Interpret, Check, WriteText, WriteJson}
+use Rattle.bril_words.specs.declared.request.Action.TheVariants.{Run, Interpret, Emit, Check, WriteText, WriteJson}
 use Rattle.bril_cli.specs.declared.source.Format.{Format}
-use Rattle.bril_cli.specs.Call.{Call, ReadsWell, AsksNone, UnlessMemory}
+use Rattle.bril_cli.specs.Arguments.{argument_line, HasOnlyArgFault, AreOnlyValues, RefusesArgs}
+use Rattle.bril_cli.specs.Call.{Call, ReadsWell, AsksNone, UnlessMemory, TellsRun}
+use Rattle.bril_cli.specs.Images.{IsUnemitted, RefusesImage}
 use Rattle.bril_cli.specs.Driver.{IsFormless, DoesProgram, AsksProgram, DoesTree}
 use Rattle.bril_cli.specs.Source.{most_bytes, HoldsFile, ReadsAs, HasFault, HasNameFault, HasOnlyCheckFault, HasImports, IsOnlyTree, IsOnlyFault, IsSource, IsLongFile}
 use Rattle.bril_cli.specs.Stages.{RefusesFile, RefusesTree, RefusesProgram, IsOnlyNameFault, IsOnlyProgram, IsAcceptedProgram, IsFaultless, PutsText}
 use Rattle.bril_cli.specs.commands.Check.{accepted_line}
-use Rattle.bril_cli.specs.commands.Interp.{TellsRun, argument_line, HasOnlyArgFault, RefusesArgs, StepsTo}
+use Rattle.bril_cli.specs.commands.Emit.{ListsImage, EmitsImage, PutsListing, CanEmit}
+use Rattle.bril_cli.specs.commands.Interp.{StepsTo}
 use Rattle.bril_cli.specs.commands.Json.{json_line}
-use Rattle.bril_cli.specs.commands.Run.{Prints, IsCrooked, IsWithin, RunsProgram}
+use Rattle.bril_cli.specs.commands.Run.{RanWhole, RunsImage, RunsValues, CanRun}
 use Rattle.bril_report.specs.StageFaults.{argument_status}
-use Rattle.bril_cli.specs.CommandLine.{AsksFor, format_of, NeedsProgram}
-use Rattle.bril_cli.specs.Straight.{is_straight}
+use Rattle.bril_cli.specs.CommandLine.{AsksFor, format_of, NeedsProgram, NeedsWords, GivesArguments}
+use Rattle.rv64_implements.specs.Emittable.{is_emittable}
+use Rattle.rv64_implements.specs.WordBounds.{IsWithin}
+use Rattle.rv64_implements.proofs.Sizes.{within_not_beyond}
+use Rattle.bril_arguments.proofs.Spelled.{AreSpelled-fit}
+use Rattle.bril_cli.proofs.Runs.{same_end, same_output}
 use Rattle.bril_cli.proofs.Interpreting.{Limits-same}
 use Rattle.bril_cli.proofs.Statuses.{Ends, Numbered-source, has_in}
 
@@ -148,10 +157,17 @@ module _ (c : Call) (action : Action) (path : List ℕ) (args : List (List ℕ))
 
 -- an action that needs a program asks for it
 asks_program : (action : Action) (how : Status) (tree : Tree) (args : List (List ℕ)) (s t : SinkSeen) → NeedsProgram action → DoesTree action how tree args s t → AsksProgram action how tree args s t
-asks_program Run how tree args s t needs does = does
+asks_program (Run frames cells steps) how tree args s t needs does = does
 asks_program (Interpret frames cells steps) how tree args s t needs does = does
+asks_program (Emit frames) how tree args s t needs does = does
 asks_program Check how tree args s t needs does = does
 asks_program _ how tree args s t needs does = absurd needs
+
+-- an action that gives a program arguments asks for it
+needs_program : (action : Action) → GivesArguments action → NeedsProgram action
+needs_program (Run frames cells steps) gives = tt
+needs_program (Interpret frames cells steps) gives = tt
+needs_program _ gives = absurd gives
 
 -- From asking for a program: memory ran out, or the tree has imports, or a fault of a name, or a program with a fault of the checker, or its accepted program was dealt with.
 module _ (action : Action) (how : Status) (tree : Tree) (args : List (List ℕ)) (s t : SinkSeen) (asks : AsksProgram action how tree args s t) where
@@ -164,24 +180,63 @@ module _ (action : Action) (how : Status) (tree : Tree) (args : List (List ℕ))
       (λ program. goes program.0 program.1 program.2)
       asks
 
--- a program that is within the bounds runs to its end
-runs_within : (c : Call) (p : Prog) (how : Status) → RunsProgram how p c.out_before c.out_after → IsWithin p → ¬ Rose c.out_before.faults c.out_after.faults
-    → UnlessMemory (status_number how) ((status_number how ≡ 0) × Prints c p)
-runs_within c p status.Done runs within sound = inr (refl, record { output = runs.1.output; prints = runs.1.prints; took = runs.1.took })
-runs_within c p (status.CodeTooBig words) runs within sound = let w = within.code in let long = runs.0.0 in absurd (omega arith)
-runs_within c p (status.StackTooBig words) runs within sound = let w = within.stack in let long = runs.0.1 in absurd (omega arith)
-runs_within c p status.OutOfMemory runs within sound = inl refl
-runs_within c p status.CannotWrite runs within sound = absurd (sound runs.1.rose)
-runs_within c p _ runs within sound = absurd runs
+-- a program within the bounds is refused for want of memory alone
+refused_within : (how : Status) (p : Prog) (limits : Limits) → RefusesImage how p limits → IsWithin p limits → how ≡ status.OutOfMemory
+refused_within (status.CodeTooBig words) p limits refuses within = let w = within.code in let long = refuses.0 in absurd (omega arith)
+refused_within (status.StackTooBig words) p limits refuses within = absurd (within_not_beyond p limits refuses.1.0 within refuses.1.1 refuses.1.2)
+refused_within status.OutOfMemory p limits refuses within = refl
+refused_within _ p limits refuses within = absurd refuses
 
--- a program that isn't is refused
-refused_beyond : (p : Prog) (how : Status) (s t : SinkSeen) → RunsProgram how p s t → ¬ IsWithin p → UnlessMemory (status_number how) (status_number how ≡ 68)
-refused_beyond p status.Done s t runs beyond = absurd (beyond runs.0)
-refused_beyond p (status.CodeTooBig words) s t runs beyond = inr refl
-refused_beyond p (status.StackTooBig words) s t runs beyond = inr refl
-refused_beyond p status.OutOfMemory s t runs beyond = inl refl
-refused_beyond p status.CannotWrite s t runs beyond = absurd (beyond runs.0)
-refused_beyond p _ s t runs beyond = absurd runs
+-- a program that gets no image is too large, or memory ran out
+refused_large : (how : Status) (p : Prog) (limits : Limits) → RefusesImage how p limits → UnlessMemory (status_number how) (status_number how ≡ 68)
+refused_large (status.CodeTooBig words) p limits refuses = inr refl
+refused_large (status.StackTooBig words) p limits refuses = inr refl
+refused_large status.OutOfMemory p limits refuses = inl refl
+refused_large _ p limits refuses = absurd refuses
+
+-- a run of an image is told by how the machine ended
+tells_image : (c : Call) (path : List ℕ) (p : Prog) (limits : Limits) (values : List Value) (words : ℕ) → ¬ Rose c.out_before.faults c.out_after.faults → (how : Status) → SaysStatus how path c.err_before c.err_after → RunsImage how p limits values words c.out_before c.out_after
+    → UnlessMemory (status_number how) ((ended : Option End) × TellsRun ended words (status_number how) c × RanWhole p limits values words ended c.out_before c.out_after)
+tells_image c path p limits values words sound status.Done says ran = inr (Some Ended, (refl, says), ran)
+tells_image c path p limits values words sound (status.Faulted fault) says ran = inr (Some (Faulted fault), (refl, says), ran)
+tells_image c path p limits values words sound (status.Spent made) says ran =
+    let here : Says c.err_before (spent_line words) c.err_after = subst (λ n. Says c.err_before (spent_line n) c.err_after) ran.0 says in
+    inr (None, (refl, here), ran.1)
+tells_image c path p limits values words sound status.OutOfMemory says ran = inl refl
+tells_image c path p limits values words sound status.CannotWrite says ran = absurd (sound ran.rose)
+tells_image c path p limits values words sound _ says ran = absurd ran
+
+-- and by the program's end, where the words are enough for it
+tells_end : (c : Call) (p : Prog) (limits : Limits) (values : List Value) (words number : ℕ) → FitMain p values → (n cost : ℕ) (end : End) → IsCost p cost → cost * (n + 1) ≤ words → (state_after p limits values n).ended ≡ Some end
+    → ((ended : Option End) × TellsRun ended words number c × RanWhole p limits values words ended c.out_before c.out_after)
+    → TellsRun (Some end) words number c × TookAll c.out_before (state_after p limits values n).printed c.out_after
+tells_end c p limits values words number fits n cost end is_cost enough ends (ended, tells, ran) = (
+  subst (λ (e : Option End). TellsRun e words number c) (same_end p limits values words ended ran.output ran.shows.machine fits n cost end is_cost enough ends) tells,
+  subst (λ bytes. TookAll c.out_before bytes c.out_after) (same_output p limits values words ended ran.output ran.shows.machine fits n cost end is_cost enough ends) ran.took,
+)
+
+-- an image is listed
+lists_image : (how : Status) (p : Prog) (limits : Limits) (output : List ℕ) (s t : SinkSeen) → ListsImage p limits output → PutsListing how output s t → ¬ Rose s.faults t.faults
+    → UnlessMemory (status_number how) ((status_number how ≡ 0) × ((text : List ℕ) × ListsImage p limits text × TookAll s text t))
+lists_image status.Done p limits output s t lists puts sound = inr (refl, (output, lists, puts))
+lists_image status.CannotWrite p limits output s t lists puts sound = absurd (sound puts.1)
+lists_image _ p limits output s t lists puts sound = absurd puts
+
+-- a program that can't be made into machine words yet has its status
+unemitted : (asks : Action) (how : Status) (p : Prog) (args : List (List ℕ)) (s t : SinkSeen) → NeedsWords asks → is_emittable p ≡ false → DoesProgram asks how p args s t → how ≡ status.Unsupported
+unemitted (Run frames cells steps) how p args s t makes not does = ⊎_elim (λ form. form.1) (λ emits. absurd (true≢false (sym emits.0 ∙ not))) does.3
+unemitted (Emit frames) how p args s t makes not does = ⊎_elim (λ form. form.1) (λ emits. absurd (true≢false (sym emits.0 ∙ not))) does.3
+unemitted _ how p args s t makes not does = absurd makes
+
+-- the arguments are refused, or spell values
+given : (asks : Action) (how : Status) (p : Prog) (args : List (List ℕ)) (s t : SinkSeen) → GivesArguments asks → (NeedsWords asks → is_emittable p ≡ true) → DoesProgram asks how p args s t
+    → RefusesArgs how p args ⊎ ((values : List Value) × AreOnlyValues p args values)
+given (Run frames cells steps) how p args s t gives emittable does =
+    ⊎_elim (λ form. absurd (true≢false (sym (emittable tt) ∙ form.0)))
+    (λ emits. ⊎_elim (λ refused. inl refused.0) (λ goes. inr (goes.0, goes.1)) emits.1)
+    does.3
+given (Interpret frames cells steps) how p args s t gives emittable does = ⊎_elim (λ refused. inl refused.0) (λ goes. inr (goes.0, goes.1)) does.3
+given _ how p args s t gives emittable does = absurd gives
 
 -- a fault of the arguments is the only cause of no values but want of memory
 args_fail : (how : Status) (p : Prog) (args : List (List ℕ)) → RefusesArgs how p args
@@ -246,19 +301,73 @@ module _ (c : Call) (action : Action) (path : List ℕ) (args : List (List ℕ))
       let same : q ≡ p = one_program tree p q numbered program.only in
       goes (subst IsFaultless same program.sound) (subst (λ r. DoesProgram asks how r args c.out_before c.out_after) same done)))
 
-  pub runs_where : (bytes : List ℕ) (p : Prog) (reads : ReadsWell c Run bytes) → length bytes ≤ most_bytes → IsSource (format_of reads.path) bytes p → IsAccepted p → is_straight p ≡ true → IsWithin p
-      → ¬ Rose c.out_before.faults c.out_after.faults → UnlessMemory (status_number how) ((status_number how ≡ 0) × Prints c p)
-  runs_where bytes p reads short source accepted straight within sound =
-      with_program Run tt _ bytes p reads short source (exhausted how _)
-      (λ fault e has. absurd (has.unaccepted accepted))
-      (λ faultless does. ⊎_elim (λ bent. absurd (true≢false (sym straight ∙ bent.0))) (λ goes. runs_within c p how goes.1 within sound) does)
+  -- a program that can be run is refused for its size, or is within the bounds and run, or memory ran out
+  by_run : (A : Type 0) (frames cells words : ℕ) (bytes : List ℕ) (reads : ReadsWell c (Run frames cells words) bytes) (p : Prog) (values : List Value) (limits : Limits) → CanRun c frames cells words bytes reads p values limits
+      → (how ≡ status.OutOfMemory → A) → (RefusesImage how p limits → A) → (IsWithin p limits → RunsImage how p limits values words c.out_before c.out_after → A) → A
+  by_run A frames cells words bytes reads p values limits can memory large runs =
+      let here : AreSpelled (main_types p) args values = subst (λ a. AreSpelled (main_types p) a values) (same_args c action path args how ends (Run frames cells words) bytes reads) can.spelled in
+      with_program (Run frames cells words) tt A bytes p reads can.short can.source memory
+      (λ fault e has. absurd (has.unaccepted can.accepted))
+      (λ faultless does.
+      let same : does.0 ≡ limits = Limits-same does.0 limits (does.1 ∙ sym can.frames_are) (does.2 ∙ sym can.cells_are) in
+      ⊎_elim (λ form. absurd (true≢false (sym can.emittable ∙ form.0)))
+      (λ emits. ⊎_elim (λ refused. ⊎_elim memory (λ has. absurd (has.2.unspelled values here)) (args_fail how p args refused.0))
+      (λ goes.
+      let run : RunsValues how p limits values words c.out_before c.out_after =
+      subst (λ (l : Limits). RunsValues how p l values words c.out_before c.out_after) same
+      (subst (λ (vs : List Value). RunsValues how p does.0 vs words c.out_before c.out_after) (goes.1.only values here) goes.2)
+      in
+      ⊎_elim (λ long. large long.0) (λ ran. runs ran.0 ran.1) run)
+      emits.1)
+      does.3)
 
-  pub refused_where : (bytes : List ℕ) (p : Prog) (reads : ReadsWell c Run bytes) → length bytes ≤ most_bytes → IsSource (format_of reads.path) bytes p → IsAccepted p → is_straight p ≡ true → ¬ IsWithin p
-      → UnlessMemory (status_number how) (status_number how ≡ 68)
-  refused_where bytes p reads short source accepted straight beyond =
-      with_program Run tt _ bytes p reads short source (exhausted how _)
-      (λ fault e has. absurd (has.unaccepted accepted))
-      (λ faultless does. ⊎_elim (λ bent. absurd (true≢false (sym straight ∙ bent.0))) (λ goes. refused_beyond p how c.out_before c.out_after goes.1 beyond) does)
+  pub runs_where : (frames cells words : ℕ) (bytes : List ℕ) (reads : ReadsWell c (Run frames cells words) bytes) (p : Prog) (values : List Value) (limits : Limits) → CanRun c frames cells words bytes reads p values limits
+      → IsWithin p limits → ¬ Rose c.out_before.faults c.out_after.faults
+      → UnlessMemory (status_number how) ((ended : Option End) × TellsRun ended words (status_number how) c × RanWhole p limits values words ended c.out_before c.out_after)
+  runs_where frames cells words bytes reads p values limits can within sound =
+      by_run _ frames cells words bytes reads p values limits can (exhausted how _)
+      (λ refuses. exhausted how _ (refused_within how p limits refuses within))
+      (λ few ran. tells_image c path p limits values words sound how ends.says ran)
+
+  pub ends_where : (frames cells words : ℕ) (bytes : List ℕ) (reads : ReadsWell c (Run frames cells words) bytes) (p : Prog) (values : List Value) (limits : Limits) → CanRun c frames cells words bytes reads p values limits
+      → IsWithin p limits → ¬ Rose c.out_before.faults c.out_after.faults
+      → (n cost : ℕ) (end : End) → IsCost p cost → cost * (n + 1) ≤ words → (state_after p limits values n).ended ≡ Some end
+      → UnlessMemory (status_number how) (TellsRun (Some end) words (status_number how) c × TookAll c.out_before (state_after p limits values n).printed c.out_after)
+  ends_where frames cells words bytes reads p values limits can within sound n cost end is_cost enough ended =
+      ⊎_elim inl
+      (λ told. inr (tells_end c p limits values words (status_number how) (AreSpelled-fit (main_types p) reads.args values can.spelled) n cost end is_cost enough ended told))
+      (runs_where frames cells words bytes reads p values limits can within sound)
+
+  pub long_run_where : (frames cells words : ℕ) (bytes : List ℕ) (reads : ReadsWell c (Run frames cells words) bytes) (p : Prog) (values : List Value) (limits : Limits) → CanRun c frames cells words bytes reads p values limits
+      → ¬ IsWithin p limits → UnlessMemory (status_number how) (status_number how ≡ 68)
+  long_run_where frames cells words bytes reads p values limits can beyond =
+      by_run _ frames cells words bytes reads p values limits can (exhausted how _) (refused_large how p limits) (λ few ran. absurd (beyond few))
+
+  -- a program that can be emitted is refused for its size, or is within the bounds and its image is listed, or memory ran out
+  by_emit : (A : Type 0) (frames : ℕ) (bytes : List ℕ) (reads : ReadsWell c (Emit frames) bytes) (p : Prog) (limits : Limits) → CanEmit c frames bytes reads p limits
+      → (how ≡ status.OutOfMemory → A) → (RefusesImage how p limits → A)
+      → (IsWithin p limits → (output : List ℕ) → ListsImage p limits output → PutsListing how output c.out_before c.out_after → A) → A
+  by_emit A frames bytes reads p limits can memory large lists =
+      with_program (Emit frames) tt A bytes p reads can.short can.source memory
+      (λ fault e has. absurd (has.unaccepted can.accepted))
+      (λ faultless does.
+      let same : does.0 ≡ limits = Limits-same does.0 limits (does.1 ∙ sym can.frames_are) (does.2 ∙ sym can.cells_are) in
+      ⊎_elim (λ form. absurd (true≢false (sym can.emittable ∙ form.0)))
+      (λ emits.
+      let image : EmitsImage how p limits c.out_before c.out_after = subst (λ (l : Limits). EmitsImage how p l c.out_before c.out_after) same emits.1 in
+      ⊎_elim (λ long. large long.0) (λ goes. lists goes.0 goes.1.0 goes.1.1 goes.1.2) image)
+      does.3)
+
+  pub emits_where : (frames : ℕ) (bytes : List ℕ) (reads : ReadsWell c (Emit frames) bytes) (p : Prog) (limits : Limits) → CanEmit c frames bytes reads p limits → IsWithin p limits → ¬ Rose c.out_before.faults c.out_after.faults
+      → UnlessMemory (status_number how) ((status_number how ≡ 0) × ((output : List ℕ) × ListsImage p limits output × TookAll c.out_before output c.out_after))
+  emits_where frames bytes reads p limits can within sound =
+      by_emit _ frames bytes reads p limits can (exhausted how _)
+      (λ refuses. exhausted how _ (refused_within how p limits refuses within))
+      (λ few output lists puts. lists_image how p limits output c.out_before c.out_after lists puts sound)
+
+  pub long_emit_where : (frames : ℕ) (bytes : List ℕ) (reads : ReadsWell c (Emit frames) bytes) (p : Prog) (limits : Limits) → CanEmit c frames bytes reads p limits → ¬ IsWithin p limits → UnlessMemory (status_number how) (status_number how ≡ 68)
+  long_emit_where frames bytes reads p limits can beyond =
+      by_emit _ frames bytes reads p limits can (exhausted how _) (refused_large how p limits) (λ few output lists puts. absurd (beyond few))
 
   pub interprets_where : (frames cells steps : ℕ) (bytes : List ℕ) (p : Prog) (values : List Value) (limits : Limits) (reads : ReadsWell c (Interpret frames cells steps) bytes) → length bytes ≤ most_bytes → IsSource (format_of reads.path) bytes p → IsAccepted p
       → AreSpelled (main_types p) reads.args values → limits.frames ≡ frames → limits.cells ≡ cells → ¬ Rose c.out_before.faults c.out_after.faults
@@ -276,21 +385,22 @@ module _ (c : Call) (action : Action) (path : List ℕ) (args : List (List ℕ))
       (subst (λ (vs : List Value). StepsTo how p does.0 vs steps c.out_before c.out_after) (goes.1.only values here) goes.2)))
       does.3)
 
-  pub misargued_where : (frames cells steps : ℕ) (bytes : List ℕ) (p : Prog) (fault : ArgFault) (reads : ReadsWell c (Interpret frames cells steps) bytes) → length bytes ≤ most_bytes → IsSource (format_of reads.path) bytes p → IsAccepted p
-      → fault ≢ argument.Memory → IsFaultOf (main_types p) reads.args fault → UnlessMemory (status_number how) ((status_number how ≡ 69) × Says c.err_before (argument_line fault) c.err_after)
-  misargued_where frames cells steps bytes p fault reads short source accepted ample is =
-      let here : IsFaultOf (main_types p) args fault = subst (λ a. IsFaultOf (main_types p) a fault) (same_args c action path args how ends (Interpret frames cells steps) bytes reads) is in
-      with_program (Interpret frames cells steps) tt _ bytes p reads short source (exhausted how _)
+  pub misargued_where : (asks : Action) → GivesArguments asks → (bytes : List ℕ) (p : Prog) (fault : ArgFault) (reads : ReadsWell c asks bytes) → length bytes ≤ most_bytes → IsSource (format_of reads.path) bytes p → IsAccepted p
+      → (NeedsWords asks → is_emittable p ≡ true) → fault ≢ argument.Memory → IsFaultOf (main_types p) reads.args fault
+      → UnlessMemory (status_number how) ((status_number how ≡ 69) × Says c.err_before (argument_line fault) c.err_after)
+  misargued_where asks gives bytes p fault reads short source accepted emittable ample is =
+      let here : IsFaultOf (main_types p) args fault = subst (λ a. IsFaultOf (main_types p) a fault) (same_args c action path args how ends asks bytes reads) is in
+      with_program asks (needs_program asks gives) _ bytes p reads short source (exhausted how _)
       (λ other e has. absurd (has.unaccepted accepted))
       (λ faultless does.
       ⊎_elim (λ refused. ⊎_elim (exhausted how _)
       (λ has.
       let same : how ≡ argument_status fault = has.1 ∙ ap argument_status (has.2.only fault (ample, here)) in
       inr (subst (λ (h : Status). (status_number h ≡ 69) × Says c.err_before (argument_line fault) c.err_after) (sym same)
-      (argument_said fault path c.err_before c.err_after ample (said c action path args how ends (Interpret frames cells steps) bytes reads (argument_status fault) same))))
-      (args_fail how p args refused.0))
+      (argument_said fault path c.err_before c.err_after ample (said c action path args how ends asks bytes reads (argument_status fault) same))))
+      (args_fail how p args refused))
       (λ goes. absurd (goes.1.faultless fault (ample, here)))
-      does.3)
+      (given asks how p args c.out_before c.out_after gives emittable does))
 
   pub checks_where : (bytes : List ℕ) (p : Prog) (reads : ReadsWell c Check bytes) → length bytes ≤ most_bytes → IsSource (format_of reads.path) bytes p → IsAccepted p
       → ¬ Rose c.out_before.faults c.out_after.faults → UnlessMemory (status_number how) ((status_number how ≡ 0) × TookAll c.out_before (accepted_line p) c.out_after)
@@ -333,19 +443,17 @@ module _ (c : Call) (action : Action) (path : List ℕ) (args : List (List ℕ))
       (λ q fault e program other. absurd (some program.numbered.alone))
       (λ q program done. absurd (some program.only.numbered.alone)))
 
-  crooked_where : (asks : Action) → NeedsProgram asks → (bytes : List ℕ) (reads : ReadsWell c asks bytes) → length bytes ≤ most_bytes → asks ≡ Run → IsCrooked (format_of reads.path) bytes
+  unemitted_where : (asks : Action) → NeedsProgram asks → (bytes : List ℕ) (reads : ReadsWell c asks bytes) → length bytes ≤ most_bytes → NeedsWords asks → IsUnemitted (format_of reads.path) bytes
       → UnlessMemory (status_number how) ((status_number how ≡ 65) × Says c.err_before (form_line reads.path) c.err_after)
-  crooked_where asks needs bytes reads short runs bent =
-      with_program asks needs _ bytes bent.program reads short bent.source (exhausted how _)
-      (λ fault e has. absurd (has.unaccepted bent.accepted))
-      (λ faultless does.
-      let here : DoesProgram Run how bent.program args c.out_before c.out_after = subst (λ (a : Action). DoesProgram a how bent.program args c.out_before c.out_after) runs does in
-      ⊎_elim (λ crooked. inr (form_said asks bytes reads crooked.1)) (λ line. absurd (true≢false (sym line.0 ∙ bent.crooked))) here)
+  unemitted_where asks needs bytes reads short makes out =
+      with_program asks needs _ bytes out.program reads short out.source (exhausted how _)
+      (λ fault e has. absurd (has.unaccepted out.accepted))
+      (λ faultless does. inr (form_said asks bytes reads (unemitted asks how out.program args c.out_before c.out_after makes out.not does)))
 
   pub formless_where : (asks : Action) → NeedsProgram asks → (bytes : List ℕ) (reads : ReadsWell c asks bytes) → length bytes ≤ most_bytes → IsFormless asks (format_of reads.path) bytes
       → UnlessMemory (status_number how) ((status_number how ≡ 65) × Says c.err_before (form_line reads.path) c.err_after)
   formless_where asks needs bytes reads short =
-      ⊎_elim (imports_where asks needs bytes reads short) (λ bent. crooked_where asks needs bytes reads short bent.0 bent.1)
+      ⊎_elim (imports_where asks needs bytes reads short) (λ out. unemitted_where asks needs bytes reads short out.0 out.1)
 
   pub misnamed_where : (asks : Action) → NeedsProgram asks → (bytes : List ℕ) (fault : NameFault) (reads : ReadsWell c asks bytes) → length bytes ≤ most_bytes → HasNameFault (format_of reads.path) bytes fault
       → UnlessMemory (status_number how) ((status_number how ≡ 65) × Says c.err_before (misnamed_line fault) c.err_after)

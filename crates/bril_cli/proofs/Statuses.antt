@@ -1,5 +1,5 @@
 -- What each status says of the call.
-use Rattle.std.proofs.Common.{◌≡◌, ℕ, true, false, List, Option, Some, refl, sym, subst, inl, inr, ⊎_elim, None}
+use Rattle.std.proofs.Common.{◌≡◌, ◌⊎◌, ℕ, true, false, List, Option, Some, refl, sym, subst, inl, inr, ⊎_elim, None}
 use Rattle.std.specs.Prelude.{[]}
 use Rattle.bril_arguments.specs.declared.fault.ArgFault.{ArgFault}
 use Rattle.bril_arguments.specs.declared.fault.ArgFault.TheVariants as argument
@@ -19,7 +19,7 @@ use Rattle.bril_report.specs.Report.{Says, status_number, SaysStatus}
 use Rattle.bril_report.specs.declared.status.Status.{Status}
 use Rattle.bril_report.specs.declared.status.Status.TheVariants as status
 use Rattle.bril_words.specs.declared.request.Action.{Action}
-use Rattle.bril_words.specs.declared.request.Action.TheVariants.{Run, Interpret, Check, WriteText, WriteJson}
+use Rattle.bril_words.specs.declared.request.Action.TheVariants.{Run, Interpret, Emit, Check, WriteText, WriteJson}
 use Rattle.bril_cli.specs.declared.source.Format.{Format}
 use Rattle.bril_cli.specs.Answers.{Answers}
 use Rattle.bril_cli.specs.Call.{Call}
@@ -27,11 +27,16 @@ use Rattle.bril_cli.specs.Driver.{Produces, Puts, Leaves, IsFormless, AsksProgra
 use Rattle.bril_cli.specs.Source.{IsFile, HasNameFault, HasOnlyNameFault, IsOnlyTree, IsSource, IsOnlySource}
 use Rattle.bril_cli.specs.Stages.{IsOnlyNameFault, IsOnlyProgram, IsAcceptedProgram, RefusesProgram, PutsText}
 use Rattle.bril_cli.specs.commands.Check.{accepted_line}
-use Rattle.bril_cli.specs.commands.Interp.{argument_line, HasOnlyArgFault, StopsForMemory, Interprets, Exhausts, AreOnlyValues, RefusesArgs, StepsTo, InterpretsProgram}
+use Rattle.bril_cli.specs.commands.Emit.{ListsImage, Emits, EmitsImage, PutsListing}
+use Rattle.bril_cli.specs.commands.Interp.{StopsForMemory, Interprets, Exhausts, StepsTo, InterpretsProgram}
 use Rattle.bril_cli.specs.commands.Json.{json_line}
-use Rattle.bril_cli.specs.commands.Run.{IsStraightFile, IsWithin, EndsPrinting, Runs, RunsProgram}
-use Rattle.bril_cli.specs.CommandLine.{AsksFor, format_of, NeedsProgram}
-use Rattle.bril_cli.specs.Straight.{is_straight}
+use Rattle.bril_cli.specs.commands.Run.{ShowsRun, Runs, RunsImage, RunsEmitted}
+use Rattle.bril_cli.specs.Arguments.{argument_line, HasOnlyArgFault, AreOnlyValues, RefusesArgs}
+use Rattle.bril_cli.specs.CommandLine.{AsksFor, format_of, NeedsProgram, NeedsWords, GivesArguments}
+use Rattle.bril_cli.specs.Images.{IsEmittedFile, MakesImage, HasLongCode, HasLongStack, RefusesImage}
+use Rattle.bril_words.specs.Defaults.{default_cells}
+use Rattle.rv64_implements.specs.Emittable.{is_emittable}
+use Rattle.rv64_implements.specs.WordBounds.{IsWithin}
 
 -- ---- the program and the name fault of bytes are those of their tree
 
@@ -120,6 +125,7 @@ module _ (c : Call) (action : Action) (path : List ℕ) (args : List (List ℕ))
 
 -- what is produced is put
 puts_produced : (action : Action) (c : Call) (path : List ℕ) (args : List (List ℕ)) (output : List ℕ) → Produces action c.files_before path args output → Puts action c.files_before path args output
+puts_produced (Run frames cells steps) c path args output produces = (Some end.Ended, produces)
 puts_produced (Interpret frames cells steps) c path args output produces = (Some end.Ended, produces)
 puts_produced _ c path args output produces = produces
 
@@ -202,88 +208,207 @@ module _ (c : Call) (action : Action) (path : List ℕ) (args : List (List ℕ))
   Answers-refused status.OutOfMemory says refuses silent = Answers-exhausted c action path args asked says silent
   Answers-refused _ says refuses silent = absurd refuses
 
--- ---- a tree was to run
-
-module _ (c : Call) (path : List ℕ) (args : List (List ℕ)) (asked : AsksFor c.words Run path args) (bytes : List ℕ) (file : IsFile c.files_before path bytes) (tree : Tree) (only : IsOnlyTree (format_of path) bytes tree) where
   module _ (p : Prog) (program : IsAcceptedProgram tree p) where
-    source : IsOnlySource (format_of path) bytes p
-    source = IsOnlySource-of (format_of path) bytes tree only p program.only
+    source_of : IsOnlySource (format_of path) bytes p
+    source_of = IsOnlySource-of (format_of path) bytes tree only p program.only
 
-    Answers-crooked : (how : Status) → SaysStatus how path c.err_before c.err_after → is_straight p ≡ false → how ≡ status.Unsupported → c.out_after ≡ c.out_before → Answers (status_number how) c
-    Answers-crooked how says bent is silent =
+    -- ---- the program was to be made into machine words
+
+    -- it can't be yet
+    Answers-unemitted : NeedsWords action → (how : Status) → SaysStatus how path c.err_before c.err_after → is_emittable p ≡ false → how ≡ status.Unsupported → c.out_after ≡ c.out_before → Answers (status_number how) c
+    Answers-unemitted makes how says not is silent =
         let here : SaysStatus status.Unsupported path c.err_before c.err_after = subst (λ (h : Status). SaysStatus h path c.err_before c.err_after) is says in
         subst (λ (h : Status). Answers (status_number h) c) (sym is)
-        (Answers-formless c Run path args asked tt bytes file tree only here (inr (refl, record { program = p; source = source.source; accepted = program.sound.accepted; crooked = bent })) silent)
+        (Answers-formless here (inr (makes, record { program = p; source = source_of.source; accepted = program.sound.accepted; not = not })) silent)
 
-    module _ (straight : is_straight p ≡ true) where
-      straight_file : IsStraightFile c.files_before path p
-      straight_file = record { bytes = bytes; file = file; source = source; accepted = program.sound.accepted; straight = straight }
+    module _ (emittable : is_emittable p ≡ true) where
+      emitted_file : IsEmittedFile c.files_before path p
+      emitted_file = record { bytes = bytes; file = file; source = source_of; accepted = program.sound.accepted; emittable = emittable }
 
-      runs_file : IsWithin p → (output : List ℕ) → EndsPrinting p output → Runs c.files_before path output
-      runs_file within output prints = record { program = p; is = straight_file; within = within; prints = prints }
+      -- it is too large
+      module _ (limits : Limits) (makes : MakesImage action limits) where
+        long_program : HasLongCode c p ⊎ HasLongStack c p limits → Answers 68 c
+        long_program passes = record {
+          action = action;
+          path = path;
+          args = args;
+          asked = asked;
+          passes = inr (record { limits = limits; makes = makes; program = p; is = emitted_file; passes = passes });
+        }
 
-      Answers-program : (how : Status) → SaysStatus how path c.err_before c.err_after → RunsProgram how p c.out_before c.out_after → Answers (status_number how) c
-      Answers-program status.Done says runs = record {
-        action = Run;
+        Answers-long : (how : Status) → SaysStatus how path c.err_before c.err_after → RefusesImage how p limits → c.out_after ≡ c.out_before → Answers (status_number how) c
+        Answers-long (status.CodeTooBig words) says refuses silent =
+            long_program (inl (record {
+              long = refuses.0;
+              alone = record { silent = silent; says = subst (λ n. Says c.err_before (code_line n) c.err_after) refuses.1 says };
+            }))
+        Answers-long (status.StackTooBig words) says refuses silent =
+            long_program (inr (record {
+              short_code = refuses.0;
+              stack = refuses.1.0;
+              size = refuses.1.1;
+              long = refuses.1.2;
+              alone = record { silent = silent; says = subst (λ n. Says c.err_before (stack_line n) c.err_after) refuses.1.3 says };
+            }))
+        Answers-long status.OutOfMemory says refuses silent = Answers-exhausted c action path args asked says silent
+        Answers-long _ says refuses silent = absurd refuses
+
+    -- ---- the program was given arguments, which don't fit it
+
+    module _ (gives : GivesArguments action) (emittable : NeedsWords action → is_emittable p ≡ true) where
+      misargued : (fault : ArgFault) → HasOnlyArgFault (main_types p) args fault → Says c.err_before (argument_line fault) c.err_after → c.out_after ≡ c.out_before → Answers 69 c
+      misargued fault has says silent = record {
+        action = action;
+        gives = gives;
         path = path;
         args = args;
         asked = asked;
-        output = runs.1.output;
-        produces = runs_file runs.0 runs.1.output runs.1.prints;
-        took = runs.1.took;
+        bytes = bytes;
+        file = file;
+        program = p;
+        source = source_of;
+        accepted = program.sound.accepted;
+        emittable = emittable;
+        fault = fault;
+        only = has;
+        alone = record { silent = silent; says = says };
+      }
+
+      Answers-misargued : (how : Status) → SaysStatus how path c.err_before c.err_after → RefusesArgs how p args → c.out_after ≡ c.out_before → Answers (status_number how) c
+      Answers-misargued (status.ArgumentCount given wanted) says refuses silent = misargued (argument.Count given wanted) refuses says silent
+      Answers-misargued (status.BadArgument place) says refuses silent = misargued (argument.Spelling place) refuses says silent
+      Answers-misargued status.OutOfMemory says refuses silent = Answers-exhausted c action path args asked says silent
+      Answers-misargued _ says refuses silent = absurd refuses
+
+-- ---- a tree was to run
+
+module _ (c : Call) (frames cells steps : ℕ) (path : List ℕ) (args : List (List ℕ)) (asked : AsksFor c.words (Run frames cells steps) path args) (bytes : List ℕ) (file : IsFile c.files_before path bytes) (tree : Tree) (only : IsOnlyTree (format_of path) bytes tree) where
+  module _ (p : Prog) (program : IsAcceptedProgram tree p) (emittable : is_emittable p ≡ true) (limits : Limits) (frames_are : limits.frames ≡ frames) (cells_are : limits.cells ≡ cells) where
+    module _ (values : List Value) (are : AreOnlyValues p args values) (within : IsWithin p limits) where
+      runs : (ended : Option End) (output : List ℕ) → ShowsRun p limits values steps ended output → Runs c.files_before path args frames cells steps ended output
+      runs ended output shows = record {
+        program = p;
+        is = emitted_file c (Run frames cells steps) path args asked tt bytes file tree only p program emittable;
+        values = values;
+        spelled = are.spelled;
+        limits = limits;
+        frames_are = frames_are;
+        cells_are = cells_are;
+        within = within;
+        shows = shows;
+      }
+
+      Answers-ran : (how : Status) → SaysStatus how path c.err_before c.err_after → RunsImage how p limits values steps c.out_before c.out_after → Answers (status_number how) c
+      Answers-ran status.Done says ran = record {
+        action = Run frames cells steps;
+        path = path;
+        args = args;
+        asked = asked;
+        output = ran.output;
+        produces = runs (Some end.Ended) ran.output ran.shows;
+        took = ran.took;
         quiet = says;
       }
-      Answers-program (status.CodeTooBig words) says runs = record {
-        action = Run;
+      Answers-ran (status.Faulted fault) says ran = record {
+        action = Run frames cells steps;
         path = path;
         args = args;
         asked = asked;
-        passes = inr (
-          refl,
-          inl (record {
-            program = p;
-            is = straight_file;
-            long = runs.0.0;
-            alone = record { silent = runs.1; says = subst (λ n. Says c.err_before (code_line n) c.err_after) runs.0.1 says };
-          }),
-        );
-      }
-      Answers-program (status.StackTooBig words) says runs = record {
-        action = Run;
-        path = path;
-        args = args;
-        asked = asked;
-        passes = inr (
-          refl,
-          inr (record {
-            program = p;
-            is = straight_file;
-            short_code = runs.0.0;
-            long = runs.0.1;
-            alone = record { silent = runs.1; says = subst (λ n. Says c.err_before (stack_line n) c.err_after) runs.0.2 says };
-          }),
-        );
-      }
-      Answers-program status.OutOfMemory says runs = Answers-exhausted c Run path args asked says runs
-      Answers-program status.CannotWrite says runs = record {
-        action = Run;
-        path = path;
-        args = args;
-        asked = asked;
-        output = runs.1.output;
-        puts = runs_file runs.0 runs.1.output runs.1.prints;
-        took = runs.1.took;
-        rose = runs.1.rose;
+        fault = fault;
+        output = ran.output;
+        prints = runs (Some (end.Faulted fault)) ran.output ran.shows;
+        took = ran.took;
         says = says;
       }
-      Answers-program _ says runs = absurd runs
+      Answers-ran (status.Spent made) says ran = record {
+        action = Run frames cells steps;
+        path = path;
+        args = args;
+        asked = asked;
+        output = ran.1.output;
+        prints = runs None ran.1.output ran.1.shows;
+        took = ran.1.took;
+        says = subst (λ n. Says c.err_before (spent_line n) c.err_after) ran.0 says;
+      }
+      Answers-ran status.OutOfMemory says ran = Answers-exhausted c (Run frames cells steps) path args asked says ran
+      Answers-ran status.CannotWrite says ran = record {
+        action = Run frames cells steps;
+        path = path;
+        args = args;
+        asked = asked;
+        output = ran.output;
+        puts = (ran.ended, runs ran.ended ran.output ran.shows);
+        took = ran.took;
+        rose = ran.rose;
+        says = says;
+      }
+      Answers-ran _ says ran = absurd ran
 
-  Answers-run : (how : Status) → SaysStatus how path c.err_before c.err_after → AsksProgram Run how tree args c.out_before c.out_after → Answers (status_number how) c
+    Answers-emitted : (how : Status) → SaysStatus how path c.err_before c.err_after → RunsEmitted how p args limits steps c.out_before c.out_after → Answers (status_number how) c
+    Answers-emitted how says =
+        ⊎_elim (λ refused. Answers-misargued c (Run frames cells steps) path args asked tt bytes file tree only p program tt (λ needs. emittable) how says refused.0 refused.1)
+        (λ goes. ⊎_elim (λ long. Answers-long c (Run frames cells steps) path args asked tt bytes file tree only p program emittable limits (frames_are, cells_are) how says long.0 long.1)
+        (λ ran. Answers-ran goes.0 goes.1 ran.0 how says ran.1)
+        goes.2)
+
+  Answers-run : (how : Status) → SaysStatus how path c.err_before c.err_after → AsksProgram (Run frames cells steps) how tree args c.out_before c.out_after → Answers (status_number how) c
   Answers-run how says =
-      ⊎_elim (λ refused. Answers-refused c Run path args asked tt bytes file tree only how says refused.0 refused.1)
-      (λ runs. ⊎_elim (λ form. Answers-crooked runs.0 runs.1 how says form.0 form.1 form.2)
-      (λ goes. Answers-program runs.0 runs.1 goes.0 how says goes.1)
-      runs.2)
+      ⊎_elim (λ refused. Answers-refused c (Run frames cells steps) path args asked tt bytes file tree only how says refused.0 refused.1)
+      (λ goes. ⊎_elim (λ form. Answers-unemitted c (Run frames cells steps) path args asked tt bytes file tree only goes.0 goes.1 tt how says form.0 form.1 form.2)
+      (λ emits. Answers-emitted goes.0 goes.1 emits.0 goes.2.0 goes.2.1 goes.2.2 how says emits.1)
+      goes.2.3)
+
+-- ---- a tree's words were to be written
+
+module _ (c : Call) (frames : ℕ) (path : List ℕ) (args : List (List ℕ)) (asked : AsksFor c.words (Emit frames) path args) (bytes : List ℕ) (file : IsFile c.files_before path bytes) (tree : Tree) (only : IsOnlyTree (format_of path) bytes tree) where
+  module _ (p : Prog) (program : IsAcceptedProgram tree p) (emittable : is_emittable p ≡ true) (limits : Limits) (frames_are : limits.frames ≡ frames) (cells_are : limits.cells ≡ default_cells) where
+    module _ (within : IsWithin p limits) (output : List ℕ) (lists : ListsImage p limits output) where
+      emits : Emits c.files_before path frames output
+      emits = record {
+        program = p;
+        is = emitted_file c (Emit frames) path args asked tt bytes file tree only p program emittable;
+        limits = limits;
+        frames_are = frames_are;
+        cells_are = cells_are;
+        within = within;
+        image = lists;
+      }
+
+      Answers-listed : (how : Status) → SaysStatus how path c.err_before c.err_after → PutsListing how output c.out_before c.out_after → Answers (status_number how) c
+      Answers-listed status.Done says puts = record {
+        action = Emit frames;
+        path = path;
+        args = args;
+        asked = asked;
+        output = output;
+        produces = emits;
+        took = puts;
+        quiet = says;
+      }
+      Answers-listed status.CannotWrite says puts = record {
+        action = Emit frames;
+        path = path;
+        args = args;
+        asked = asked;
+        output = output;
+        puts = emits;
+        took = puts.0;
+        rose = puts.1;
+        says = says;
+      }
+      Answers-listed _ says puts = absurd puts
+
+    Answers-image : (how : Status) → SaysStatus how path c.err_before c.err_after → EmitsImage how p limits c.out_before c.out_after → Answers (status_number how) c
+    Answers-image how says =
+        ⊎_elim (λ long. Answers-long c (Emit frames) path args asked tt bytes file tree only p program emittable limits (frames_are, cells_are) how says long.0 long.1)
+        (λ goes. Answers-listed goes.0 goes.1.0 goes.1.1 how says goes.1.2)
+
+  Answers-emit : (how : Status) → SaysStatus how path c.err_before c.err_after → AsksProgram (Emit frames) how tree args c.out_before c.out_after → Answers (status_number how) c
+  Answers-emit how says =
+      ⊎_elim (λ refused. Answers-refused c (Emit frames) path args asked tt bytes file tree only how says refused.0 refused.1)
+      (λ goes. ⊎_elim (λ form. Answers-unemitted c (Emit frames) path args asked tt bytes file tree only goes.0 goes.1 tt how says form.0 form.1 form.2)
+      (λ emits. Answers-image goes.0 goes.1 emits.0 goes.2.0 goes.2.1 goes.2.2 how says emits.1)
+      goes.2.3)
 
 -- ---- a tree was to be checked
 
@@ -307,33 +432,6 @@ module _ (c : Call) (path : List ℕ) (args : List (List ℕ)) (asked : AsksFor 
 
 module _ (c : Call) (frames cells steps : ℕ) (path : List ℕ) (args : List (List ℕ)) (asked : AsksFor c.words (Interpret frames cells steps) path args) (bytes : List ℕ) (file : IsFile c.files_before path bytes) (tree : Tree) (only : IsOnlyTree (format_of path) bytes tree) where
   module _ (p : Prog) (program : IsAcceptedProgram tree p) where
-    source_of : IsOnlySource (format_of path) bytes p
-    source_of = IsOnlySource-of (format_of path) bytes tree only p program.only
-
-    misargued : (fault : ArgFault) → HasOnlyArgFault (main_types p) args fault → Says c.err_before (argument_line fault) c.err_after → c.out_after ≡ c.out_before → Answers 69 c
-    misargued fault has says silent = record {
-      frames = frames;
-      cells = cells;
-      steps = steps;
-      path = path;
-      args = args;
-      asked = asked;
-      bytes = bytes;
-      file = file;
-      program = p;
-      source = source_of;
-      accepted = program.sound.accepted;
-      fault = fault;
-      only = has;
-      alone = record { silent = silent; says = says };
-    }
-
-    Answers-misargued : (how : Status) → SaysStatus how path c.err_before c.err_after → RefusesArgs how p args → c.out_after ≡ c.out_before → Answers (status_number how) c
-    Answers-misargued (status.ArgumentCount given wanted) says refuses silent = misargued (argument.Count given wanted) refuses says silent
-    Answers-misargued (status.BadArgument place) says refuses silent = misargued (argument.Spelling place) refuses says silent
-    Answers-misargued status.OutOfMemory says refuses silent = Answers-exhausted c (Interpret frames cells steps) path args asked says silent
-    Answers-misargued _ says refuses silent = absurd refuses
-
     module _ (limits : Limits) (frames_are : limits.frames ≡ frames) (cells_are : limits.cells ≡ cells) (values : List Value) (are : AreOnlyValues p args values) where
       printed : List ℕ
       printed = (state_after p limits values steps).printed
@@ -344,7 +442,7 @@ module _ (c : Call) (frames cells steps : ℕ) (path : List ℕ) (args : List (L
         bytes = bytes;
         file = file;
         program = p;
-        source = source_of;
+        source = IsOnlySource-of (format_of path) bytes tree only p program.only;
         accepted = program.sound.accepted;
         shows = record {
           values = values;
@@ -362,7 +460,7 @@ module _ (c : Call) (frames cells steps : ℕ) (path : List ℕ) (args : List (L
         bytes = bytes;
         file = file;
         program = p;
-        source = source_of;
+        source = IsOnlySource-of (format_of path) bytes tree only p program.only;
         accepted = program.sound.accepted;
         values = values;
         spelled = are.spelled;
@@ -385,27 +483,23 @@ module _ (c : Call) (frames cells steps : ℕ) (path : List ℕ) (args : List (L
         quiet = says;
       }
       Answers-steps (status.Faulted fault) says goes = record {
-        frames = frames;
-        cells = cells;
-        steps = steps;
+        action = Interpret frames cells steps;
         path = path;
         args = args;
         asked = asked;
         fault = fault;
         output = printed;
-        interprets = interprets (Some (end.Faulted fault)) goes.0;
+        prints = interprets (Some (end.Faulted fault)) goes.0;
         took = goes.1;
         says = says;
       }
       Answers-steps (status.Spent made) says goes = record {
-        frames = frames;
-        cells = cells;
-        steps = steps;
+        action = Interpret frames cells steps;
         path = path;
         args = args;
         asked = asked;
         output = printed;
-        interprets = interprets None goes.1.0;
+        prints = interprets None goes.1.0;
         took = goes.1.1;
         says = subst (λ n. Says c.err_before (spent_line n) c.err_after) goes.0 says;
       }
@@ -432,7 +526,7 @@ module _ (c : Call) (frames cells steps : ℕ) (path : List ℕ) (args : List (L
 
     Answers-interpreted : (how : Status) (limits : Limits) → limits.frames ≡ frames → limits.cells ≡ cells → SaysStatus how path c.err_before c.err_after → InterpretsProgram how p args limits steps c.out_before c.out_after → Answers (status_number how) c
     Answers-interpreted how limits frames_are cells_are says =
-        ⊎_elim (λ refused. Answers-misargued how says refused.0 refused.1)
+        ⊎_elim (λ refused. Answers-misargued c (Interpret frames cells steps) path args asked tt bytes file tree only p program tt (λ needs. absurd needs) how says refused.0 refused.1)
         (λ goes. Answers-steps limits frames_are cells_are goes.0 goes.1 how says goes.2)
 
   Answers-interpret : (how : Status) → SaysStatus how path c.err_before c.err_after → AsksProgram (Interpret frames cells steps) how tree args c.out_before c.out_after → Answers (status_number how) c
@@ -443,8 +537,9 @@ module _ (c : Call) (frames cells steps : ℕ) (path : List ℕ) (args : List (L
 -- ---- a tree was dealt with
 
 Answers-tree : (c : Call) (action : Action) (path : List ℕ) (args : List (List ℕ)) (how : Status) → AsksFor c.words action path args → SaysStatus how path c.err_before c.err_after → DealsWithTree action how c.files_before path args c.out_before c.out_after → Answers (status_number how) c
-Answers-tree c Run path args how asked says deals = Answers-run c path args asked deals.bytes deals.file deals.tree deals.only how says deals.does
+Answers-tree c (Run frames cells steps) path args how asked says deals = Answers-run c frames cells steps path args asked deals.bytes deals.file deals.tree deals.only how says deals.does
 Answers-tree c (Interpret frames cells steps) path args how asked says deals = Answers-interpret c frames cells steps path args asked deals.bytes deals.file deals.tree deals.only how says deals.does
+Answers-tree c (Emit frames) path args how asked says deals = Answers-emit c frames path args asked deals.bytes deals.file deals.tree deals.only how says deals.does
 Answers-tree c Check path args how asked says deals = Answers-check c path args asked deals.bytes deals.file deals.tree deals.only how says deals.does
 Answers-tree c WriteText path args how asked says deals =
     Answers-put c WriteText path args asked (canonical_text deals.tree) (record { bytes = deals.bytes; file = deals.file; tree = deals.tree; reads = deals.only.reads; text = refl }) how says deals.does

@@ -8,22 +8,25 @@ use Rattle.bril_tree.specs.declared.limits.End.TheVariants.{Ended}
 use Rattle.bril_tree.specs.declared.limits.End.{End}
 use Rattle.bril_tree.specs.declared.program.Prog.{Prog}
 use Rattle.bril_tree.specs.declared.tree.Tree.{Tree}
-use Rattle.bril_words.specs.declared.request.Action.TheVariants.{Run, Interpret, Check, WriteText, WriteJson}
+use Rattle.bril_words.specs.declared.request.Action.TheVariants.{Run, Interpret, Emit, Check, WriteText, WriteJson}
 use Rattle.bril_words.specs.declared.request.Action.{Action}
 use Rattle.bril_cli.specs.Call.{Call}
-use Rattle.bril_cli.specs.CommandLine.{format_of}
+use Rattle.bril_cli.specs.CommandLine.{format_of, NeedsWords}
+use Rattle.bril_cli.specs.Images.{IsUnemitted}
 use Rattle.bril_cli.specs.Source.{IsOnlyTree, HasImports, IsFile, Writes}
 use Rattle.bril_cli.specs.Stages.{RefusesFile, RefusesTree, RefusesProgram, IsAcceptedProgram, PutsText}
 use Rattle.bril_cli.specs.commands.Check.{accepted_line, Checks}
+use Rattle.bril_cli.specs.commands.Emit.{Emits, EmitsWithin}
 use Rattle.bril_cli.specs.commands.Interp.{Interprets, Exhausts, InterpretsWithin}
 use Rattle.bril_cli.specs.commands.Json.{json_line}
-use Rattle.bril_cli.specs.commands.Run.{IsCrooked, Runs, RunsAccepted}
+use Rattle.bril_cli.specs.commands.Run.{Runs, RunsWithin}
 use Rattle.bril_cli.specs.declared.source.Format.{Format}
 
 -- what an action on an accepted program, with these arguments, answers
 abbrev pub DoesProgram : Action → Status → Prog → List (List ℕ) → SinkSeen → SinkSeen → Type 0
-DoesProgram Run how p args s t = RunsAccepted how p s t
+DoesProgram (Run frames cells steps) how p args s t = RunsWithin how p args frames cells steps s t
 DoesProgram (Interpret frames cells steps) how p args s t = InterpretsWithin how p args frames cells steps s t
+DoesProgram (Emit frames) how p args s t = EmitsWithin how p frames s t
 DoesProgram Check how p args s t = PutsText how (accepted_line p) s t
 DoesProgram WriteText how p args s t = ⊥
 DoesProgram WriteJson how p args s t = ⊥
@@ -34,8 +37,9 @@ AsksProgram action how tree args s t =
     (RefusesProgram how tree × (t ≡ s)) ⊎ ((p : Prog) × IsAcceptedProgram tree p × DoesProgram action how p args s t)
 
 abbrev pub DoesTree : Action → Status → Tree → List (List ℕ) → SinkSeen → SinkSeen → Type 0
-DoesTree Run how tree args s t = AsksProgram Run how tree args s t
+DoesTree (Run frames cells steps) how tree args s t = AsksProgram (Run frames cells steps) how tree args s t
 DoesTree (Interpret frames cells steps) how tree args s t = AsksProgram (Interpret frames cells steps) how tree args s t
+DoesTree (Emit frames) how tree args s t = AsksProgram (Emit frames) how tree args s t
 DoesTree Check how tree args s t = AsksProgram Check how tree args s t
 DoesTree WriteText how tree args s t = PutsText how (canonical_text tree) s t
 DoesTree WriteJson how tree args s t = PutsText how (json_line tree) s t
@@ -65,23 +69,33 @@ abbrev pub DoesFile : Action → Status → FilesSeen → FilesSeen → List ℕ
 DoesFile action how f g path args s t =
     FailsToRead how f g path s t ⊎ (FindsNoTree how f path s t ⊎ DealsWithTree action how f path args s t)
 
--- The bytes read as a tree whose program isn't built yet, or to run can't run yet.
+-- The bytes read as a tree whose program isn't built yet, or one that can't be made into machine words yet, where the action
+-- makes these.
 abbrev pub IsFormless : Action → Format → List ℕ → Type 0
-IsFormless action format bytes = HasImports format bytes ⊎ ((action ≡ Run) × IsCrooked format bytes)
+IsFormless action format bytes = HasImports format bytes ⊎ (NeedsWords action × IsUnemitted format bytes)
 
--- What an action produces of the file at a path: `run` and `interp` what its program prints, `check` the line of its
--- accepted program, `text` its canonical text, and `json` its canonical JSON.
+-- What an action comes to that runs the program of the file at a path: it has ended so within the steps, or goes on for None, and
+-- has printed this.
+abbrev pub Prints : Action → FilesSeen → List ℕ → List (List ℕ) → Option End → List ℕ → Type 0
+Prints (Run frames cells steps) files path args ended output = Runs files path args frames cells steps ended output
+Prints (Interpret frames cells steps) files path args ended output = Interprets files path args frames cells steps ended output
+Prints _ files path args ended output = ⊥
+
+-- What an action produces of the file at a path: `run` and `interp` what its program prints, `emit` the words of its image,
+-- `check` the line of its accepted program, `text` its canonical text, and `json` its canonical JSON.
 abbrev pub Produces : Action → FilesSeen → List ℕ → List (List ℕ) → List ℕ → Type 0
-Produces Run files path args output = Runs files path output
+Produces (Run frames cells steps) files path args output = Runs files path args frames cells steps (Some Ended) output
 Produces (Interpret frames cells steps) files path args output = Interprets files path args frames cells steps (Some Ended) output
+Produces (Emit frames) files path args output = Emits files path frames output
 Produces Check files path args output = Checks files path output
 Produces WriteText files path args output = Writes canonical_text files path output
 Produces WriteJson files path args output = Writes json_line files path output
 
--- What an action puts on the output at most: what it produces, and `interp` what the program prints within the steps.
+-- What an action puts on the output at most: what it produces, and `run` and `interp` what the program prints within the steps.
 abbrev pub Puts : Action → FilesSeen → List ℕ → List (List ℕ) → List ℕ → Type 0
-Puts Run files path args output = Produces Run files path args output
+Puts (Run frames cells steps) files path args output = (ended : Option End) × Runs files path args frames cells steps ended output
 Puts (Interpret frames cells steps) files path args output = (ended : Option End) × Interprets files path args frames cells steps ended output
+Puts (Emit frames) files path args output = Produces (Emit frames) files path args output
 Puts Check files path args output = Produces Check files path args output
 Puts WriteText files path args output = Produces WriteText files path args output
 Puts WriteJson files path args output = Produces WriteJson files path args output

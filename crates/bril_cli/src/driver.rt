@@ -7,6 +7,7 @@ ghost use Rattle.bril_report.specs.StageFaults.{status_of};
 ghost use Rattle.bril_words.specs.Request.{IsActionInRange};
 
 use crate::commands::check::put_counts;
+use crate::commands::emit::put_image;
 use crate::commands::interp::interpret;
 use crate::commands::json::put_json;
 use crate::commands::run::run;
@@ -18,7 +19,7 @@ use bril_outside::sink::Sink;
 use bril_report::Status;
 use bril_tree::limits::Limits;
 use bril_tree::tree::Tree;
-use bril_words::{Action, Request};
+use bril_words::{Action, CELLS, Request};
 use std::alloc::Global;
 
 /// Does what a request asks of its file: what the action produces goes to `out`.
@@ -41,7 +42,7 @@ pub fn drive<F: Files, O: Sink>(
     do_command(alloc, request, &tree, out)
 }
 
-// Does what a request asks of its file's tree. To check, interpret or run it, the tree has an accepted program.
+// Does what a request asks of its file's tree. To check, interpret, emit or run it, the tree has an accepted program.
 fn do_command<O: Sink>(
     alloc: Global,
     request: Request,
@@ -52,9 +53,14 @@ fn do_command<O: Sink>(
     ensures { DoesTree request.entry.action (status_of result) tree.now request.entry.args.now (O.seen out.old) (O.seen out.new) }
 {
     match request.action {
-        Action::Run => {
+        Action::Run {
+            frames,
+            cells,
+            steps,
+        } => {
+            let limits = Limits { frames, cells };
             let program = accepted_program(alloc, tree)?;
-            run(alloc, &program, out)
+            run(alloc, &program, request.args, limits, steps, out)
         }
         Action::Interpret {
             frames,
@@ -64,6 +70,14 @@ fn do_command<O: Sink>(
             let limits = Limits { frames, cells };
             let program = accepted_program(alloc, tree)?;
             interpret(alloc, &program, request.args, limits, steps, out)
+        }
+        Action::Emit { frames } => {
+            let limits = Limits {
+                frames,
+                cells: CELLS,
+            };
+            let program = accepted_program(alloc, tree)?;
+            put_image(alloc, &program, limits, out)
         }
         Action::Check => {
             let program = accepted_program(alloc, tree)?;

@@ -6,7 +6,7 @@ use Rattle.bril_words.specs.declared.misuse.Misuse.TheVariants.{Words, Value}
 use Rattle.bril_words.specs.declared.misuse.Setting.{Setting}
 use Rattle.bril_words.specs.declared.misuse.Setting.TheVariants.{Frames, Cells, Steps}
 use Rattle.bril_words.specs.declared.request.Action.{Action}
-use Rattle.bril_words.specs.declared.request.Action.TheVariants.{Run, Interpret, Check, WriteText, WriteJson}
+use Rattle.bril_words.specs.declared.request.Action.TheVariants.{Run, Interpret, Emit, Check, WriteText, WriteJson}
 use Rattle.bril_words.specs.Defaults.{default_frames, default_cells, default_steps}
 use Rattle.bril_words.specs.Request.{Asked}
 
@@ -75,23 +75,57 @@ abbrev pub value_of : ℕ → ℕ → Option (List ℕ) → Option ℕ
 value_of most default None = Some default
 value_of most default (Some text) = in_range most (int_of text)
 
+-- the numbers of a run, and the arguments of its program
+pub record Numbers : Type 0 where
+  pub frames : ℕ
+  pub cells : ℕ
+  pub steps : ℕ
+  pub args : List (List ℕ)
+
+-- the first value that is none is the misuse
+abbrev pub numbers_with : List (List ℕ) → Option ℕ → Option ℕ → Option ℕ → Result Numbers Misuse
+numbers_with args None cells steps = Err (Value Frames)
+numbers_with args (Some frames) None steps = Err (Value Cells)
+numbers_with args (Some frames) (Some cells) None = Err (Value Steps)
+numbers_with args (Some frames) (Some cells) (Some steps) = Ok (record { frames = frames; cells = cells; steps = steps; args = args })
+
+abbrev pub numbers_of : Option Tail → Result Numbers Misuse
+numbers_of None = Err Words
+numbers_of (Some tail) =
+    numbers_with tail.args (value_of 65536 default_frames tail.written.frames) (value_of 4194304 default_cells tail.written.cells)
+    (value_of 1000000000000 default_steps tail.written.steps)
+
+-- the only option of `emit`, as it stands, where nothing else does
+abbrev pub frames_written : List (List ℕ) → Option (Option (List ℕ))
+frames_written [] = Some None
+frames_written (word ∷ []) = None
+frames_written (word ∷ value ∷ []) = if bytes_eq word (codes "--frames") then Some (Some value) else None
+frames_written (word ∷ value ∷ next ∷ rest) = None
+
+abbrev pub frames_with : Option ℕ → Result ℕ Misuse
+frames_with None = Err (Value Frames)
+frames_with (Some frames) = Ok frames
+
+abbrev pub frames_of : Option (Option (List ℕ)) → Result ℕ Misuse
+frames_of None = Err Words
+frames_of (Some written) = frames_with (value_of 65536 default_frames written)
+
 -- ---- commands
 
 abbrev pub asked : Action → List ℕ → List (List ℕ) → Result Asked Misuse
 asked action path args = Ok (record { action = action; path = path; args = args })
 
--- the first value that is none is the misuse
-abbrev pub interpret_with : List ℕ → List (List ℕ) → Option ℕ → Option ℕ → Option ℕ → Result Asked Misuse
-interpret_with path args None cells steps = Err (Value Frames)
-interpret_with path args (Some frames) None steps = Err (Value Cells)
-interpret_with path args (Some frames) (Some cells) None = Err (Value Steps)
-interpret_with path args (Some frames) (Some cells) (Some steps) = asked (Interpret frames cells steps) path args
+abbrev pub run_asked : List ℕ → Result Numbers Misuse → Result Asked Misuse
+run_asked path (Ok n) = asked (Run n.frames n.cells n.steps) path n.args
+run_asked path (Err misuse) = Err misuse
 
-abbrev pub interp_asked : List ℕ → Option Tail → Result Asked Misuse
-interp_asked path None = Err Words
-interp_asked path (Some tail) =
-    interpret_with path tail.args (value_of 65536 default_frames tail.written.frames) (value_of 4194304 default_cells tail.written.cells)
-    (value_of 1000000000000 default_steps tail.written.steps)
+abbrev pub interp_asked : List ℕ → Result Numbers Misuse → Result Asked Misuse
+interp_asked path (Ok n) = asked (Interpret n.frames n.cells n.steps) path n.args
+interp_asked path (Err misuse) = Err misuse
+
+abbrev pub emit_asked : List ℕ → Result ℕ Misuse → Result Asked Misuse
+emit_asked path (Ok frames) = asked (Emit frames) path []
+emit_asked path (Err misuse) = Err misuse
 
 -- a command without options, with nothing after its path
 abbrev pub plain_asked : Action → List ℕ → List (List ℕ) → Result Asked Misuse
@@ -100,11 +134,12 @@ plain_asked action path (word ∷ words) = Err Words
 
 abbrev pub command_asked : List ℕ → List ℕ → List (List ℕ) → Result Asked Misuse
 command_asked name path rest =
-    if bytes_eq name (codes "run") then plain_asked Run path rest
-    else (if bytes_eq name (codes "interp") then interp_asked path (tail_from nothing_written rest)
+    if bytes_eq name (codes "run") then run_asked path (numbers_of (tail_from nothing_written rest))
+    else (if bytes_eq name (codes "interp") then interp_asked path (numbers_of (tail_from nothing_written rest))
+    else (if bytes_eq name (codes "emit") then emit_asked path (frames_of (frames_written rest))
     else (if bytes_eq name (codes "check") then plain_asked Check path rest
     else (if bytes_eq name (codes "text") then plain_asked WriteText path rest
-    else (if bytes_eq name (codes "json") then plain_asked WriteJson path rest else Err Words))))
+    else (if bytes_eq name (codes "json") then plain_asked WriteJson path rest else Err Words)))))
 
 -- What the words ask for: NAME COMMAND PATH and what comes after it, where NAME is the program's name.
 abbrev pub words_read : List (List ℕ) → Result Asked Misuse

@@ -1,4 +1,4 @@
-// The options of `interp`.
+// The options of commands that run a program.
 
 ghost use Rattle.std.specs.Prelude.{◌≡◌, ◌≤◌, IfSome};
 ghost use Rattle.std.specs.Option.{option_map};
