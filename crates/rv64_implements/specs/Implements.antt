@@ -1,5 +1,5 @@
 -- When an image does what a program does.
-use Rattle.std.specs.Prelude.{◌≡◌, ℕ, ◌+◌, ◌*◌, ◌≤◌, Bool, true, false, List, ◌∷◌, length, Option, Some, None, IsTrue, slice_get}
+use Rattle.std.specs.Prelude.{◌≡◌, ◌⊎◌, ℕ, ◌+◌, ◌*◌, ◌<◌, ◌≤◌, Bool, true, false, List, ◌∷◌, length, Option, Some, None, IsTrue, slice_get}
 use Rattle.std.specs.Option.{option_map}
 use Rattle.simulation.specs.System.{System, after, IsFinal, IsPrefix, Agree}
 use Rattle.bril_tree.specs.declared.limits.Limits.{Limits}
@@ -59,11 +59,16 @@ is_guard (Some (Label l)) = false
 is_guard (Some (Const dest ty value)) = false
 is_guard (Some (Act dest ty operation args funcs labels)) = is_guard_operation operation
 
--- Each entry of the list is that of a guard of the program, and each guard, also one that no walk reaches, has one entry.
+-- the place of a guard is before that of another: in an earlier function, or in one function at an earlier item
+abbrev pub IsBefore : GuardAt → GuardAt → Type 0
+IsBefore a b = (a.func < b.func) ⊎ ((a.func ≡ b.func) × (a.item < b.item))
+
+-- Each entry of the list is that of a guard of the program, and each guard, also one that no walk reaches, has an entry. They are
+-- in the order of their functions and items, so no guard has two.
 pub record ListsGuards (guards : List GuardAt) (p : Prog) : Type 0 where
   pub are : (g : ℕ) (guard : GuardAt) → slice_get guards g ≡ Some guard → IsTrue (is_guard (item_at p guard.func guard.item))
   pub each : (f i : ℕ) → IsTrue (is_guard (item_at p f i)) → (g : ℕ) × (guard : GuardAt) × (slice_get guards g ≡ Some guard) × (guard.func ≡ f) × (guard.item ≡ i)
-  pub once : (g h : ℕ) (a b : GuardAt) → slice_get guards g ≡ Some a → slice_get guards h ≡ Some b → a.func ≡ b.func → a.item ≡ b.item → g ≡ h
+  pub in_order : (g h : ℕ) (a b : GuardAt) → g < h → slice_get guards g ≡ Some a → slice_get guards h ≡ Some b → IsBefore a b
 
 -- The arrivals at each guard's word are the guard's failures.
 abbrev pub CountsFailures : List GuardAt → bril.State → rv64.State → Type 0
