@@ -5,3 +5,4 @@ pub mod Outcomes
 pub mod Promises
 pub mod Runs
 pub mod Statuses
+pub mod Telling

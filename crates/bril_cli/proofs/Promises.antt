@@ -104,8 +104,8 @@ module _ (c : Call) (misuse : Misuse) (unasked : words_read c.words ≡ Err misu
     write = λ e. absurd (omega arith);
     silent = λ low high. alone.silent;
     misused = (λ e. (misuse, unasked), λ none. refl);
-    runs = λ frames cells words bytes reads p values limits can within sound. not_read (Run frames cells words) bytes reads;
-    ends = λ frames cells words bytes reads p values limits can within sound n cost end is_cost enough ended. not_read (Run frames cells words) bytes reads;
+    runs = λ frames cells words stats bytes reads p values limits can within sound. not_read (Run frames cells words stats) bytes reads;
+    ends = λ frames cells words stats bytes reads p values limits can within sound n cost end is_cost enough ended. not_read (Run frames cells words stats) bytes reads;
     emits = λ frames bytes reads p limits can within sound. not_read (Emit frames) bytes reads;
     interprets = λ frames cells steps bytes p values limits reads short source accepted spelled frames_are cells_are sound. not_read (Interpret frames cells steps) bytes reads;
     misargued = λ action gives bytes p fault reads short source accepted emittable ample is. not_read action bytes reads;
@@ -118,6 +118,6 @@ module _ (c : Call) (misuse : Misuse) (unasked : words_read c.words ≡ Err misu
     formless = λ action needs bytes reads short formless. not_read action bytes reads;
     lacking = λ asks. not_asked asks.action asks.path asks.args asks.asked;
     long_file = λ action bytes reads long. not_read action bytes reads;
-    long_run = λ frames cells words bytes reads p values limits can beyond. not_read (Run frames cells words) bytes reads;
+    long_run = λ frames cells words stats bytes reads p values limits can beyond. not_read (Run frames cells words stats) bytes reads;
     long_emit = λ frames bytes reads p limits can beyond. not_read (Emit frames) bytes reads;
   }

@@ -1,5 +1,5 @@
 -- What the top call answers: its status, and what it does to the files and its two outputs.
-use Rattle.std.specs.Prelude.{ℕ, ◌≡◌, ◌≢◌, ◌⊎◌, ◌<◌, ◌≤◌, true, List, length, Some, None, codes, ◌==◌, Err, MatchBool, ◌↔◌}
+use Rattle.std.specs.Prelude.{ℕ, ◌≡◌, ◌≢◌, ◌⊎◌, ◌<◌, ◌≤◌, true, List, [], ◌++◌, length, Some, None, codes, ◌==◌, Err, MatchBool, ◌↔◌}
 use Rattle.bril_arguments.specs.Faults.{IsFaultOf}
 use Rattle.bril_arguments.specs.declared.fault.ArgFault.TheVariants.{Memory}
 use Rattle.bril_arguments.specs.declared.fault.ArgFault.{ArgFault}
@@ -33,16 +33,18 @@ use Rattle.bril_cli.specs.commands.Json.{WritesJsonWhere}
 use Rattle.bril_cli.specs.commands.Run.{RunsWhere, EndsWhere, LongRunWhere}
 use Rattle.bril_cli.specs.commands.Text.{WritesTextWhere}
 
--- 0: all was done, and the output took all that the action produces of the file.
+-- 0: all was done, and the output took all that the action produces of the file; the error output what `run` tells of the run.
 pub record Finished (c : Call) : Type 0 where
   pub action : Action
   pub path : List ℕ
   pub args : List (List ℕ)
   pub asked : AsksFor c.words action path args
+  pub told : List ℕ
   pub output : List ℕ
-  pub produces : Produces action c.files_before path args output
+  pub produces : Produces action c.files_before path args told output
   pub took : TookAll c.out_before output c.out_after
-  pub quiet : c.err_after ≡ c.err_before
+  pub says : Says c.err_before told c.err_after
+  pub quiet : told ≡ [] → c.err_after ≡ c.err_before
 
 -- 2: the program was run or interpreted and stopped with a fault, and the output took all that it printed.
 pub record Stopped (c : Call) : Type 0 where
@@ -51,10 +53,11 @@ pub record Stopped (c : Call) : Type 0 where
   pub args : List (List ℕ)
   pub asked : AsksFor c.words action path args
   pub fault : Fault
+  pub told : List ℕ
   pub output : List ℕ
-  pub prints : Prints action c.files_before path args (Some (Faulted fault)) output
+  pub prints : Prints action c.files_before path args (Some (Faulted fault)) told output
   pub took : TookAll c.out_before output c.out_after
-  pub says : Says c.err_before (fault_line fault) c.err_after
+  pub says : Says c.err_before (told ++ fault_line fault) c.err_after
 
 -- 3: the program was interpreted and goes on after the steps, or was run and the machine goes on after as many words, and the
 -- output took all that was printed.
@@ -63,10 +66,11 @@ pub record GoesOn (c : Call) : Type 0 where
   pub path : List ℕ
   pub args : List (List ℕ)
   pub asked : AsksFor c.words action path args
+  pub told : List ℕ
   pub output : List ℕ
-  pub prints : Prints action c.files_before path args None output
+  pub prints : Prints action c.files_before path args None told output
   pub took : TookAll c.out_before output c.out_after
-  pub says : Says c.err_before (spent_line (steps_of action)) c.err_after
+  pub says : Says c.err_before (told ++ spent_line (steps_of action)) c.err_after
 
 -- 64: the words are not those of a command. No file was read.
 pub record Misused (c : Call) : Type 0 where

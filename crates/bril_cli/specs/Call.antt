@@ -1,5 +1,5 @@
 -- What is seen of a call of the top call, and what it reads of its file.
-use Rattle.std.specs.Prelude.{ℕ, ◌≡◌, ◌⊎◌, List, Option, Some, None}
+use Rattle.std.specs.Prelude.{ℕ, ◌≡◌, ◌⊎◌, List, [], ◌++◌, Option, Some, None}
 use Rattle.bril_outside.specs.Files.{FilesSeen, LacksFile}
 use Rattle.bril_outside.specs.Sink.{SinkSeen, Rose}
 use Rattle.bril_report.specs.Lines.{fault_line, spent_line}
@@ -56,8 +56,8 @@ pub record AsksNone (c : Call) : Type 0 where
 abbrev pub UnlessMemory : ℕ → Type 0 → Type 0
 UnlessMemory status answer = (status ≡ 71) ⊎ answer
 
--- what is told of a run of so many steps, or words of the machine, that has ended so, None where it goes on
-abbrev pub TellsRun : Option End → ℕ → ℕ → Call → Type 0
-TellsRun None steps number c = (number ≡ 3) × Says c.err_before (spent_line steps) c.err_after
-TellsRun (Some Ended) steps number c = (number ≡ 0) × (c.err_after ≡ c.err_before)
-TellsRun (Some (Faulted fault)) steps number c = (number ≡ 2) × Says c.err_before (fault_line fault) c.err_after
+-- what is said of a run of so many steps, or words of the machine, that has ended so, None where it goes on, after what is told
+abbrev pub TellsRun : Option End → ℕ → List ℕ → ℕ → Call → Type 0
+TellsRun None steps told number c = (number ≡ 3) × Says c.err_before (told ++ spent_line steps) c.err_after
+TellsRun (Some Ended) steps told number c = (number ≡ 0) × Says c.err_before told c.err_after × (told ≡ [] → c.err_after ≡ c.err_before)
+TellsRun (Some (Faulted fault)) steps told number c = (number ≡ 2) × Says c.err_before (told ++ fault_line fault) c.err_after

@@ -18,7 +18,7 @@ AskNothing words = (misuse : Misuse) × (words_read words ≡ Err misuse)
 
 -- the action is on the file's program, and not on its tree alone
 abbrev pub NeedsProgram : Action → Type 0
-NeedsProgram (Run frames cells steps) = Unit {0}
+NeedsProgram (Run frames cells steps stats) = Unit {0}
 NeedsProgram (Interpret frames cells steps) = Unit {0}
 NeedsProgram (Emit frames) = Unit {0}
 NeedsProgram Check = Unit {0}
@@ -27,7 +27,7 @@ NeedsProgram WriteJson = ⊥
 
 -- the action makes machine words of the file's program
 abbrev pub NeedsWords : Action → Type 0
-NeedsWords (Run frames cells steps) = Unit {0}
+NeedsWords (Run frames cells steps stats) = Unit {0}
 NeedsWords (Interpret frames cells steps) = ⊥
 NeedsWords (Emit frames) = Unit {0}
 NeedsWords Check = ⊥
@@ -36,7 +36,7 @@ NeedsWords WriteJson = ⊥
 
 -- the action gives the file's program arguments
 abbrev pub GivesArguments : Action → Type 0
-GivesArguments (Run frames cells steps) = Unit {0}
+GivesArguments (Run frames cells steps stats) = Unit {0}
 GivesArguments (Interpret frames cells steps) = Unit {0}
 GivesArguments (Emit frames) = ⊥
 GivesArguments Check = ⊥
@@ -45,7 +45,7 @@ GivesArguments WriteJson = ⊥
 
 -- how many steps, or words of the machine, the action makes at most
 abbrev pub steps_of : Action → ℕ
-steps_of (Run frames cells steps) = steps
+steps_of (Run frames cells steps stats) = steps
 steps_of (Interpret frames cells steps) = steps
 steps_of (Emit frames) = 0
 steps_of Check = 0

@@ -43,7 +43,7 @@ pub record IsEmittedFile (files : FilesSeen) (path : List ℕ) (p : Prog) : Type
 
 -- the action makes an image of a program, under these limits
 abbrev pub MakesImage : Action → Limits → Type 0
-MakesImage (Run frames cells steps) limits = (limits.frames ≡ frames) × (limits.cells ≡ cells)
+MakesImage (Run frames cells steps stats) limits = (limits.frames ≡ frames) × (limits.cells ≡ cells)
 MakesImage (Emit frames) limits = (limits.frames ≡ frames) × (limits.cells ≡ default_cells)
 MakesImage _ limits = ⊥
 

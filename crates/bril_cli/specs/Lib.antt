@@ -6,4 +6,5 @@ pub mod Driver
 pub mod Images
 pub mod Source
 pub mod Stages
+pub mod Stats
 pub mod commands

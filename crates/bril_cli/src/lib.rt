@@ -7,4 +7,5 @@ mod driver;
 mod image;
 mod program;
 mod source;
+mod stats;
 pub mod top;

@@ -23,7 +23,7 @@ pub record AreFrames (frames : ℕ) : Type 0 where
   pub few : frames ≤ 65536
 
 abbrev pub IsActionInRange : Action → Type 0
-IsActionInRange (Run frames cells steps) = AreLimits frames cells steps
+IsActionInRange (Run frames cells steps stats) = AreLimits frames cells steps
 IsActionInRange (Interpret frames cells steps) = AreLimits frames cells steps
 IsActionInRange (Emit frames) = AreFrames frames
 IsActionInRange Check = Unit {0}

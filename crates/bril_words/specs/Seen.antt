@@ -15,7 +15,7 @@ abbrev pub text_seen : Option (Bor (List ℕ)) → Option (List ℕ)
 text_seen = option_map (λ t. t.now)
 
 abbrev pub values_seen : Values → Written
-values_seen v = record { frames = text_seen v.frames; cells = text_seen v.cells; steps = text_seen v.steps }
+values_seen v = record { frames = text_seen v.frames; cells = text_seen v.cells; steps = text_seen v.steps; stats = v.stats }
 
 abbrev pub numbers_seen : NumbersRead → Numbers
-numbers_seen n = record { frames = n.frames; cells = n.cells; steps = n.steps; args = n.args.now }
+numbers_seen n = record { frames = n.frames; cells = n.cells; steps = n.steps; stats = n.stats; args = n.args.now }

@@ -1,6 +1,6 @@
 // The words of the command line.
 
-ghost use Rattle.std.specs.Prelude.{◌≡◌, IfOk};
+ghost use Rattle.std.specs.Prelude.{◌≡◌, true, false, None, IfOk};
 ghost use Rattle.std.specs.Result.{result_map_both};
 ghost use Rattle.bril_words.specs.CommandLine.{words_read, is_operand, tail_from, nothing_written, numbers_of, frames_written, frames_of, command_asked, run_asked, interp_asked, emit_asked, plain_asked};
 ghost use Rattle.bril_words.specs.Request.{AreLimits, AreFrames, IsActionInRange};
@@ -32,8 +32,8 @@ pub const STEPS: u64 = 1_000_000_000;
 ///
 /// The words are the program's name, a command, and the path of a file: one byte or more, of which the first is no
 /// `-`. The commands are `check`, `text` and `json`, with nothing after the path, `run` and `interp`, with options
-/// after the path, each at most once and as two words, `--frames N`, `--cells N` and `--steps N`, and then perhaps
-/// `--` and the arguments of the program, and `emit`, with perhaps `--frames N` after the path. Where an option
+/// after the path, each at most once and as two words, `--frames N`, `--cells N` and `--steps N`, and for `run` the flag
+/// `--stats`, and then perhaps `--` and the arguments of the program, and `emit`, with perhaps `--frames N` after the path. Where an option
 /// isn't given it is 8,192 frames, 1,048,576 cells and 1,000,000,000 steps.
 ///
 /// `Words`: the words are any others. `Value`: they are these, and this is the first of frames, cells and steps whose
@@ -82,25 +82,27 @@ fn read_plain<'a>(action: Action, path: &'a Text, rest: &'a [Text]) -> Result<Re
     }
 }
 
-// The numbers of a run, and the arguments of its program.
+// The numbers of a run, whether its counts are told, and the arguments of its program.
 #[derive(Clone, Copy, Drop)]
 struct Numbers<'a> {
     frames: u32,
     cells: u32,
     steps: u64,
+    stats: bool,
     args: &'a [Text],
 }
 
 // The command `run`.
 fn read_run<'a>(path: &'a Text, rest: &'a [Text]) -> Result<Request<'a>, Misuse>
-    ensures read { result_map_both request_seen (λ e. e) result ≡ run_asked path.now (numbers_of (tail_from nothing_written rest.now)) }
+    ensures read { result_map_both request_seen (λ e. e) result ≡ run_asked path.now (numbers_of (tail_from true nothing_written None rest.now)) }
     ensures range { IfOk result (λ request. IsActionInRange request.action) }
 {
-    let numbers = read_numbers(rest)?;
+    let numbers = read_numbers(true, rest)?;
     let action = Action::Run {
         frames: numbers.frames,
         cells: numbers.cells,
         steps: numbers.steps,
+        stats: numbers.stats,
     };
     Ok(Request {
         action,
@@ -111,10 +113,10 @@ fn read_run<'a>(path: &'a Text, rest: &'a [Text]) -> Result<Request<'a>, Misuse>
 
 // The command `interp`.
 fn read_interp<'a>(path: &'a Text, rest: &'a [Text]) -> Result<Request<'a>, Misuse>
-    ensures read { result_map_both request_seen (λ e. e) result ≡ interp_asked path.now (numbers_of (tail_from nothing_written rest.now)) }
+    ensures read { result_map_both request_seen (λ e. e) result ≡ interp_asked path.now (numbers_of (tail_from false nothing_written None rest.now)) }
     ensures range { IfOk result (λ request. IsActionInRange request.action) }
 {
-    let numbers = read_numbers(rest)?;
+    let numbers = read_numbers(false, rest)?;
     let action = Action::Interpret {
         frames: numbers.frames,
         cells: numbers.cells,
@@ -127,12 +129,12 @@ fn read_interp<'a>(path: &'a Text, rest: &'a [Text]) -> Result<Request<'a>, Misu
     })
 }
 
-// The numbers that the options give, and the arguments after them.
-fn read_numbers<'a>(rest: &'a [Text]) -> Result<Numbers<'a>, Misuse>
-    ensures read { result_map_both numbers_seen (λ e. e) result ≡ numbers_of (tail_from nothing_written rest.now) }
+// The numbers that the options give, whether the flag stands where it is taken, and the arguments after them.
+fn read_numbers<'a>(takes_stats: bool, rest: &'a [Text]) -> Result<Numbers<'a>, Misuse>
+    ensures read { result_map_both numbers_seen (λ e. e) result ≡ numbers_of (tail_from takes_stats nothing_written None rest.now) }
     ensures range { IfOk result (λ numbers. AreLimits numbers.frames numbers.cells numbers.steps) }
 {
-    let (values, args) = tail_of(rest).ok_or(Misuse::Words)?;
+    let (values, args) = tail_of(takes_stats, rest).ok_or(Misuse::Words)?;
     let frames = value_of(MOST_FRAMES, FRAMES as u64, values.frames).ok_or(Misuse::Value {
         setting: Setting::Frames,
     })?;
@@ -146,6 +148,7 @@ fn read_numbers<'a>(rest: &'a [Text]) -> Result<Numbers<'a>, Misuse>
         frames: frames as u32,
         cells: cells as u32,
         steps,
+        stats: values.stats,
         args,
     })
 }
