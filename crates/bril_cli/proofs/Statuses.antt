@@ -1,5 +1,5 @@
 -- What each status says of the call.
-use Rattle.std.proofs.Common.{◌≡◌, ◌⊎◌, ℕ, Bool, true, false, append-nil, true≢false, ◌++◌, List, Option, Some, refl, sym, subst, inl, inr, ⊎_elim, None}
+use Rattle.std.proofs.Common.{◌≡◌, ◌⊎◌, ℕ, Bool, false, append-nil, ◌++◌, List, Option, Some, refl, sym, subst, inl, inr, ⊎_elim, None}
 use Rattle.std.specs.Prelude.{[]}
 use Rattle.bril_arguments.specs.declared.fault.ArgFault.{ArgFault}
 use Rattle.bril_arguments.specs.declared.fault.ArgFault.TheVariants as argument
@@ -23,20 +23,19 @@ use Rattle.bril_words.specs.declared.request.Action.TheVariants.{Run, Interpret,
 use Rattle.bril_cli.specs.declared.source.Format.{Format}
 use Rattle.bril_cli.specs.Answers.{Answers}
 use Rattle.bril_cli.specs.Call.{Call}
-use Rattle.bril_cli.specs.Driver.{Produces, Puts, Leaves, IsFormless, Untold, AsksProgram, DoesTree, DoesFile, FailsToRead, FindsNoTree, DealsWithTree}
-use Rattle.bril_cli.specs.Source.{IsFile, Writes, HasNameFault, HasOnlyNameFault, IsOnlyTree, IsSource, IsOnlySource}
+use Rattle.bril_cli.specs.Driver.{Produces, Puts, Leaves, Untold, AsksProgram, DoesTree, DoesFile, FailsToRead, FindsNoTree, DealsWithTree}
+use Rattle.bril_cli.specs.Source.{IsFile, Writes, HasNameFault, HasOnlyNameFault, IsOnlyTree, IsSource, IsOnlySource, HasImports}
 use Rattle.bril_cli.specs.Stages.{IsOnlyNameFault, IsOnlyProgram, IsAcceptedProgram, RefusesProgram, PutsText}
 use Rattle.bril_cli.specs.Stats.{SaysTold}
 use Rattle.bril_cli.specs.commands.Check.{accepted_line, Checks}
-use Rattle.bril_cli.specs.commands.Emit.{ListsImage, Emits, EmitsImage, PutsListing}
+use Rattle.bril_cli.specs.commands.Emit.{ListsImage, Emits, EmitsProgram, PutsListing}
 use Rattle.bril_cli.specs.commands.Interp.{StopsForMemory, Interprets, Exhausts, StepsTo, InterpretsProgram}
 use Rattle.bril_cli.specs.commands.Json.{json_line}
-use Rattle.bril_cli.specs.commands.Run.{ShowsRun, Runs, RunsAndTells, RanWhole, RunsImage, RunsEmitted}
+use Rattle.bril_cli.specs.commands.Run.{ShowsRun, Runs, RunsAndTells, RanWhole, RunsImage, RunsProgram}
 use Rattle.bril_cli.specs.Arguments.{argument_line, HasOnlyArgFault, AreOnlyValues, RefusesArgs}
-use Rattle.bril_cli.specs.CommandLine.{AsksFor, format_of, NeedsProgram, NeedsWords, GivesArguments}
-use Rattle.bril_cli.specs.Images.{IsEmittedFile, MakesImage, HasLongCode, HasLongStack, RefusesImage}
+use Rattle.bril_cli.specs.CommandLine.{AsksFor, format_of, NeedsProgram, GivesArguments}
+use Rattle.bril_cli.specs.Images.{IsProgramFile, MakesImage, HasLongCode, HasLongStack, RefusesImage}
 use Rattle.bril_words.specs.Defaults.{default_cells}
-use Rattle.rv64_implements.specs.Emittable.{is_emittable}
 use Rattle.rv64_implements.specs.WordBounds.{IsWithin}
 use Rattle.bril_cli.proofs.Telling.{says_nothing, says_told, untold}
 
@@ -157,8 +156,8 @@ module _ (c : Call) (action : Action) (path : List ℕ) (args : List (List ℕ))
 -- ---- the tree's program was asked for
 
 module _ (c : Call) (action : Action) (path : List ℕ) (args : List (List ℕ)) (asked : AsksFor c.words action path args) (needs : NeedsProgram action) (bytes : List ℕ) (file : IsFile c.files_before path bytes) (tree : Tree) (only : IsOnlyTree (format_of path) bytes tree) where
-  Answers-formless : SaysStatus status.Unsupported path c.err_before c.err_after → IsFormless action (format_of path) bytes → c.out_after ≡ c.out_before → Answers 65 c
-  Answers-formless says formless silent = record {
+  Answers-formless : SaysStatus status.Unsupported path c.err_before c.err_after → HasImports (format_of path) bytes → c.out_after ≡ c.out_before → Answers 65 c
+  Answers-formless says imports silent = record {
     action = action;
     path = path;
     args = args;
@@ -167,13 +166,13 @@ module _ (c : Call) (action : Action) (path : List ℕ) (args : List (List ℕ))
       needs = needs;
       bytes = bytes;
       file = file;
-      formless = formless;
+      imports = imports;
       alone = record { silent = silent; says = says };
     });
   }
 
   Answers-refused : (how : Status) → SaysStatus how path c.err_before c.err_after → RefusesProgram how tree → c.out_after ≡ c.out_before → Answers (status_number how) c
-  Answers-refused status.Unsupported says refuses silent = Answers-formless says (inl (record { tree = tree; reads = only.reads; imports = refuses })) silent
+  Answers-refused status.Unsupported says refuses silent = Answers-formless says (record { tree = tree; reads = only.reads; imports = refuses }) silent
   Answers-refused (status.Misnamed fault) says refuses silent = record {
     action = action;
     path = path;
@@ -211,50 +210,40 @@ module _ (c : Call) (action : Action) (path : List ℕ) (args : List (List ℕ))
     source_of : IsOnlySource (format_of path) bytes p
     source_of = IsOnlySource-of (format_of path) bytes tree only p program.only
 
-    -- ---- the program was to be made into machine words
+    program_file : IsProgramFile c.files_before path p
+    program_file = record { bytes = bytes; file = file; source = source_of; accepted = program.sound.accepted }
 
-    -- it can't be yet
-    Answers-unemitted : NeedsWords action → (how : Status) → SaysStatus how path c.err_before c.err_after → is_emittable p ≡ false → how ≡ status.Unsupported → c.out_after ≡ c.out_before → Answers (status_number how) c
-    Answers-unemitted makes how says not is silent =
-        let here : SaysStatus status.Unsupported path c.err_before c.err_after = subst (λ (h : Status). SaysStatus h path c.err_before c.err_after) is says in
-        subst (λ (h : Status). Answers (status_number h) c) (sym is)
-        (Answers-formless here (inr (makes, record { program = p; source = source_of.source; accepted = program.sound.accepted; not = not })) silent)
+    -- ---- an image was to be made of the program, and it is too large
+    module _ (limits : Limits) (makes : MakesImage action limits) where
+      long_program : HasLongCode c p ⊎ HasLongStack c p limits → Answers 68 c
+      long_program passes = record {
+        action = action;
+        path = path;
+        args = args;
+        asked = asked;
+        passes = inr (record { limits = limits; makes = makes; program = p; is = program_file; passes = passes });
+      }
 
-    module _ (emittable : is_emittable p ≡ true) where
-      emitted_file : IsEmittedFile c.files_before path p
-      emitted_file = record { bytes = bytes; file = file; source = source_of; accepted = program.sound.accepted; emittable = emittable }
-
-      -- it is too large
-      module _ (limits : Limits) (makes : MakesImage action limits) where
-        long_program : HasLongCode c p ⊎ HasLongStack c p limits → Answers 68 c
-        long_program passes = record {
-          action = action;
-          path = path;
-          args = args;
-          asked = asked;
-          passes = inr (record { limits = limits; makes = makes; program = p; is = emitted_file; passes = passes });
-        }
-
-        Answers-long : (how : Status) → SaysStatus how path c.err_before c.err_after → RefusesImage how p limits → c.out_after ≡ c.out_before → Answers (status_number how) c
-        Answers-long (status.CodeTooBig words) says refuses silent =
-            long_program (inl (record {
-              long = refuses.0;
-              alone = record { silent = silent; says = subst (λ n. Says c.err_before (code_line n) c.err_after) refuses.1 says };
-            }))
-        Answers-long (status.StackTooBig words) says refuses silent =
-            long_program (inr (record {
-              short_code = refuses.0;
-              stack = refuses.1.0;
-              size = refuses.1.1;
-              long = refuses.1.2;
-              alone = record { silent = silent; says = subst (λ n. Says c.err_before (stack_line n) c.err_after) refuses.1.3 says };
-            }))
-        Answers-long status.OutOfMemory says refuses silent = Answers-exhausted c action path args asked says silent
-        Answers-long _ says refuses silent = absurd refuses
+      Answers-long : (how : Status) → SaysStatus how path c.err_before c.err_after → RefusesImage how p limits → c.out_after ≡ c.out_before → Answers (status_number how) c
+      Answers-long (status.CodeTooBig words) says refuses silent =
+          long_program (inl (record {
+            long = refuses.0;
+            alone = record { silent = silent; says = subst (λ n. Says c.err_before (code_line n) c.err_after) refuses.1 says };
+          }))
+      Answers-long (status.StackTooBig words) says refuses silent =
+          long_program (inr (record {
+            short_code = refuses.0;
+            stack = refuses.1.0;
+            size = refuses.1.1;
+            long = refuses.1.2;
+            alone = record { silent = silent; says = subst (λ n. Says c.err_before (stack_line n) c.err_after) refuses.1.3 says };
+          }))
+      Answers-long status.OutOfMemory says refuses silent = Answers-exhausted c action path args asked says silent
+      Answers-long _ says refuses silent = absurd refuses
 
     -- ---- the program was given arguments, which don't fit it
 
-    module _ (gives : GivesArguments action) (emittable : NeedsWords action → is_emittable p ≡ true) where
+    module _ (gives : GivesArguments action) where
       misargued : (fault : ArgFault) → HasOnlyArgFault (main_types p) args fault → Says c.err_before (argument_line fault) c.err_after → c.out_after ≡ c.out_before → Answers 69 c
       misargued fault has says silent = record {
         action = action;
@@ -267,7 +256,6 @@ module _ (c : Call) (action : Action) (path : List ℕ) (args : List (List ℕ))
         program = p;
         source = source_of;
         accepted = program.sound.accepted;
-        emittable = emittable;
         fault = fault;
         only = has;
         alone = record { silent = silent; says = says };
@@ -282,12 +270,12 @@ module _ (c : Call) (action : Action) (path : List ℕ) (args : List (List ℕ))
 -- ---- a tree was to run
 
 module _ (c : Call) (frames cells steps : ℕ) (stats : Bool) (path : List ℕ) (args : List (List ℕ)) (asked : AsksFor c.words (Run frames cells steps stats) path args) (bytes : List ℕ) (file : IsFile c.files_before path bytes) (tree : Tree) (only : IsOnlyTree (format_of path) bytes tree) where
-  module _ (p : Prog) (program : IsAcceptedProgram tree p) (emittable : is_emittable p ≡ true) (limits : Limits) (frames_are : limits.frames ≡ frames) (cells_are : limits.cells ≡ cells) where
+  module _ (p : Prog) (program : IsAcceptedProgram tree p) (limits : Limits) (frames_are : limits.frames ≡ frames) (cells_are : limits.cells ≡ cells) where
     module _ (values : List Value) (are : AreOnlyValues p args values) (within : IsWithin p limits) where
       runs : (ended : Option End) (output : List ℕ) → ShowsRun p limits values steps ended output → Runs c.files_before path args frames cells steps ended output
       runs ended output shows = record {
         program = p;
-        is = emitted_file c (Run frames cells steps stats) path args asked tt bytes file tree only p program emittable;
+        is = program_file c (Run frames cells steps stats) path args asked tt bytes file tree only p program;
         values = values;
         spelled = are.spelled;
         limits = limits;
@@ -352,29 +340,27 @@ module _ (c : Call) (frames cells steps : ℕ) (stats : Bool) (path : List ℕ) 
         }
         Answers-ran _ says ran = absurd ran
 
-    Answers-emitted : (how : Status) (told : List ℕ) → SaysTold told how path c.err_before c.err_after → RunsEmitted how p args limits steps stats told c.out_before c.out_after → Answers (status_number how) c
-    Answers-emitted how told says =
-        ⊎_elim (λ refused. Answers-misargued c (Run frames cells steps stats) path args asked tt bytes file tree only p program tt (λ needs. emittable) how (says.plain refused.1) refused.0 refused.2)
-        (λ goes. ⊎_elim (λ long. Answers-long c (Run frames cells steps stats) path args asked tt bytes file tree only p program emittable limits (frames_are, cells_are) how (says.plain long.1) long.0 long.2)
+    Answers-program : (how : Status) (told : List ℕ) → SaysTold told how path c.err_before c.err_after → RunsProgram how p args limits steps stats told c.out_before c.out_after → Answers (status_number how) c
+    Answers-program how told says =
+        ⊎_elim (λ refused. Answers-misargued c (Run frames cells steps stats) path args asked tt bytes file tree only p program tt how (says.plain refused.1) refused.0 refused.2)
+        (λ goes. ⊎_elim (λ long. Answers-long c (Run frames cells steps stats) path args asked tt bytes file tree only p program limits (frames_are, cells_are) how (says.plain long.1) long.0 long.2)
         (λ ran. Answers-ran goes.0 goes.1 ran.0 told how says ran.1)
         goes.2)
 
   Answers-run : (how : Status) (told : List ℕ) → SaysTold told how path c.err_before c.err_after → AsksProgram (Run frames cells steps stats) how tree args told c.out_before c.out_after → Answers (status_number how) c
   Answers-run how told says =
       ⊎_elim (λ refused. Answers-refused c (Run frames cells steps stats) path args asked tt bytes file tree only how (says.plain refused.1) refused.0 refused.2)
-      (λ goes. ⊎_elim (λ form. Answers-unemitted c (Run frames cells steps stats) path args asked tt bytes file tree only goes.0 goes.1 tt how (says.plain form.2) form.0 form.1 form.3)
-      (λ emits. Answers-emitted goes.0 goes.1 emits.0 goes.2.0 goes.2.1 goes.2.2 how told says emits.1)
-      goes.2.3)
+      (λ goes. Answers-program goes.0 goes.1 goes.2.0 goes.2.1 goes.2.2 how told says goes.2.3)
 
 -- ---- a tree's words were to be written
 
 module _ (c : Call) (frames : ℕ) (path : List ℕ) (args : List (List ℕ)) (asked : AsksFor c.words (Emit frames) path args) (bytes : List ℕ) (file : IsFile c.files_before path bytes) (tree : Tree) (only : IsOnlyTree (format_of path) bytes tree) where
-  module _ (p : Prog) (program : IsAcceptedProgram tree p) (emittable : is_emittable p ≡ true) (limits : Limits) (frames_are : limits.frames ≡ frames) (cells_are : limits.cells ≡ default_cells) where
+  module _ (p : Prog) (program : IsAcceptedProgram tree p) (limits : Limits) (frames_are : limits.frames ≡ frames) (cells_are : limits.cells ≡ default_cells) where
     module _ (within : IsWithin p limits) (output : List ℕ) (lists : ListsImage p limits output) where
       emits : Emits c.files_before path frames output
       emits = record {
         program = p;
-        is = emitted_file c (Emit frames) path args asked tt bytes file tree only p program emittable;
+        is = program_file c (Emit frames) path args asked tt bytes file tree only p program;
         limits = limits;
         frames_are = frames_are;
         cells_are = cells_are;
@@ -408,17 +394,15 @@ module _ (c : Call) (frames : ℕ) (path : List ℕ) (args : List (List ℕ)) (a
       }
       Answers-listed _ says puts = absurd puts
 
-    Answers-image : (how : Status) → SaysStatus how path c.err_before c.err_after → EmitsImage how p limits c.out_before c.out_after → Answers (status_number how) c
+    Answers-image : (how : Status) → SaysStatus how path c.err_before c.err_after → EmitsProgram how p limits c.out_before c.out_after → Answers (status_number how) c
     Answers-image how says =
-        ⊎_elim (λ long. Answers-long c (Emit frames) path args asked tt bytes file tree only p program emittable limits (frames_are, cells_are) how says long.0 long.1)
+        ⊎_elim (λ long. Answers-long c (Emit frames) path args asked tt bytes file tree only p program limits (frames_are, cells_are) how says long.0 long.1)
         (λ goes. Answers-listed goes.0 goes.1.0 goes.1.1 how says goes.1.2)
 
   Answers-emit : (how : Status) → SaysStatus how path c.err_before c.err_after → AsksProgram (Emit frames) how tree args [] c.out_before c.out_after → Answers (status_number how) c
   Answers-emit how says =
       ⊎_elim (λ refused. Answers-refused c (Emit frames) path args asked tt bytes file tree only how says refused.0 refused.2)
-      (λ goes. ⊎_elim (λ form. Answers-unemitted c (Emit frames) path args asked tt bytes file tree only goes.0 goes.1 tt how says form.0 form.1 form.2)
-      (λ emits. Answers-image goes.0 goes.1 emits.0 goes.2.0 goes.2.1 goes.2.2 how says emits.1)
-      goes.2.3)
+      (λ goes. Answers-image goes.0 goes.1 goes.2.0 goes.2.1 goes.2.2 how says goes.2.3)
 
 -- ---- a tree was to be checked
 
@@ -542,7 +526,7 @@ module _ (c : Call) (frames cells steps : ℕ) (path : List ℕ) (args : List (L
 
     Answers-interpreted : (how : Status) (limits : Limits) → limits.frames ≡ frames → limits.cells ≡ cells → SaysStatus how path c.err_before c.err_after → InterpretsProgram how p args limits steps c.out_before c.out_after → Answers (status_number how) c
     Answers-interpreted how limits frames_are cells_are says =
-        ⊎_elim (λ refused. Answers-misargued c (Interpret frames cells steps) path args asked tt bytes file tree only p program tt (λ needs. absurd needs) how says refused.0 refused.1)
+        ⊎_elim (λ refused. Answers-misargued c (Interpret frames cells steps) path args asked tt bytes file tree only p program tt how says refused.0 refused.1)
         (λ goes. Answers-steps limits frames_are cells_are goes.0 goes.1 how says goes.2)
 
   Answers-interpret : (how : Status) → SaysStatus how path c.err_before c.err_after → AsksProgram (Interpret frames cells steps) how tree args [] c.out_before c.out_after → Answers (status_number how) c

@@ -1,5 +1,5 @@
--- The image of an accepted program: which programs have one, and why one has none.
-use Rattle.std.specs.Prelude.{ℕ, ◌≡◌, ◌≤◌, ◌<◌, ◌⊎◌, true, false, List, Option}
+-- The image of an accepted program, or why it has none.
+use Rattle.std.specs.Prelude.{ℕ, ◌≡◌, ◌≤◌, ◌<◌, ◌⊎◌, List, Option}
 use Rattle.std.specs.Option.{option_map}
 use Rattle.bril_outside.specs.Files.{FilesSeen}
 use Rattle.bril_report.specs.Lines.{code_line, stack_line}
@@ -16,30 +16,20 @@ use Rattle.bril_words.specs.declared.request.Action.{Action}
 use Rattle.rv64_emit.specs.declared.EmitFault.{EmitFault}
 use Rattle.rv64_emit.specs.declared.EmitFault.TheVariants as fault
 use Rattle.rv64_emit.specs.Refusal.{capped}
-use Rattle.rv64_implements.specs.Emittable.{is_emittable}
 use Rattle.rv64_implements.specs.Implements.{Implements, image_after}
 use Rattle.rv64_implements.specs.WordBounds.{word_bounds, most_words, most_stack, IsStackSize}
 use Rattle.rv64_words.specs.State.{Finished}
 use Rattle.rv64_words.specs.declared.image.Image.{Image}
 use Rattle.bril_cli.specs.Call.{Call, SaysAlone}
 use Rattle.bril_cli.specs.CommandLine.{format_of}
-use Rattle.bril_cli.specs.Source.{IsSource, IsOnlySource, IsFile}
-use Rattle.bril_cli.specs.declared.source.Format.{Format}
+use Rattle.bril_cli.specs.Source.{IsOnlySource, IsFile}
 
--- The bytes read as an accepted program that can't be made into machine words yet.
-pub record IsUnemitted (format : Format) (bytes : List ℕ) : Type 0 where
-  pub program : Prog
-  pub source : IsSource format bytes program
-  pub accepted : IsAccepted program
-  pub not : is_emittable program ≡ false
-
--- The file at the path reads as this program, which is accepted and can be made into machine words.
-pub record IsEmittedFile (files : FilesSeen) (path : List ℕ) (p : Prog) : Type 0 where
+-- The file at the path reads as this program, which is accepted.
+pub record IsProgramFile (files : FilesSeen) (path : List ℕ) (p : Prog) : Type 0 where
   pub bytes : List ℕ
   pub file : IsFile files path bytes
   pub source : IsOnlySource (format_of path) bytes p
   pub accepted : IsAccepted p
-  pub emittable : is_emittable p ≡ true
 
 -- the action makes an image of a program, under these limits
 abbrev pub MakesImage : Action → Limits → Type 0
@@ -63,7 +53,7 @@ pub record IsLongProgram (c : Call) (action : Action) (path : List ℕ) : Type 0
   pub limits : Limits
   pub makes : MakesImage action limits
   pub program : Prog
-  pub is : IsEmittedFile c.files_before path program
+  pub is : IsProgramFile c.files_before path program
   pub passes : HasLongCode c program ⊎ HasLongStack c program limits
 
 -- why no image was made of a program

@@ -1,6 +1,6 @@
 -- `run`: an accepted program is made into machine words, which the machine executes with the arguments that the words of the
 -- command line spell.
-use Rattle.std.specs.Prelude.{ℕ, ◌≡◌, ◌⊎◌, ◌+◌, ◌*◌, ◌≤◌, Bool, true, false, List, [], length, Option, Some, None}
+use Rattle.std.specs.Prelude.{ℕ, ◌≡◌, ◌⊎◌, ◌+◌, ◌*◌, ◌≤◌, Bool, false, List, [], length, Option, Some, None}
 use Rattle.bril_arguments.specs.Spelled.{AreSpelled}
 use Rattle.bril_outside.specs.Files.{FilesSeen}
 use Rattle.bril_outside.specs.Sink.{SinkSeen, Rose, TookAll, TookSome}
@@ -15,13 +15,12 @@ use Rattle.bril_tree.specs.declared.limits.Limits.{Limits}
 use Rattle.bril_tree.specs.declared.program.Prog.{Prog}
 use Rattle.bril_tree.specs.declared.value.Value.{Value}
 use Rattle.bril_words.specs.declared.request.Action.TheVariants.{Run}
-use Rattle.rv64_implements.specs.Emittable.{is_emittable}
 use Rattle.rv64_implements.specs.Shown.{ProgramShows}
 use Rattle.rv64_implements.specs.WordBounds.{IsWithin}
 use Rattle.bril_cli.specs.Arguments.{AreOnlyValues, RefusesArgs}
 use Rattle.bril_cli.specs.Call.{Call, ReadsWell, UnlessMemory, TellsRun}
 use Rattle.bril_cli.specs.CommandLine.{format_of}
-use Rattle.bril_cli.specs.Images.{IsEmittedFile, MachineShows, RefusesImage}
+use Rattle.bril_cli.specs.Images.{IsProgramFile, MachineShows, RefusesImage}
 use Rattle.bril_cli.specs.Source.{most_bytes, IsSource}
 use Rattle.bril_cli.specs.Stats.{TellsStats}
 
@@ -32,11 +31,10 @@ pub record ShowsRun (p : Prog) (limits : Limits) (values : List Value) (words : 
   pub machine : MachineShows p limits values words ended output
   pub program : ProgramShows p limits values words ended output
 
--- The file at the path reads as an accepted program that can be made into machine words and is within the bounds, and this is
--- what so many words come to with these arguments and under these limits.
+-- The file at the path reads as an accepted program that is within the bounds, and this is what so many words come to with these arguments and under these limits.
 pub record Runs (files : FilesSeen) (path : List ℕ) (args : List (List ℕ)) (frames cells words : ℕ) (ended : Option End) (output : List ℕ) : Type 0 where
   pub program : Prog
-  pub is : IsEmittedFile files path program
+  pub is : IsProgramFile files path program
   pub values : List Value
   pub spelled : AreSpelled (main_types program) args values
   pub limits : Limits
@@ -80,15 +78,10 @@ abbrev pub RunsValues : Status → Prog → Limits → List Value → ℕ → Bo
 RunsValues how p limits values words stats told s t =
     (RefusesImage how p limits × (told ≡ []) × (t ≡ s)) ⊎ (IsWithin p limits × RunsImage how p limits values words stats told s t)
 
--- what running a program that can be made into machine words answers, with the values that words spell
-abbrev pub RunsEmitted : Status → Prog → List (List ℕ) → Limits → ℕ → Bool → List ℕ → SinkSeen → SinkSeen → Type 0
-RunsEmitted how p args limits words stats told s t =
-    (RefusesArgs how p args × (told ≡ []) × (t ≡ s)) ⊎ ((values : List Value) × AreOnlyValues p args values × RunsValues how p limits values words stats told s t)
-
--- what running an accepted program answers
+-- what running an accepted program with the values that words spell answers
 abbrev pub RunsProgram : Status → Prog → List (List ℕ) → Limits → ℕ → Bool → List ℕ → SinkSeen → SinkSeen → Type 0
 RunsProgram how p args limits words stats told s t =
-    ((is_emittable p ≡ false) × (how ≡ status.Unsupported) × (told ≡ []) × (t ≡ s)) ⊎ ((is_emittable p ≡ true) × RunsEmitted how p args limits words stats told s t)
+    (RefusesArgs how p args × (told ≡ []) × (t ≡ s)) ⊎ ((values : List Value) × AreOnlyValues p args values × RunsValues how p limits values words stats told s t)
 
 -- what running it under limits of so many frames and cells answers
 abbrev pub RunsWithin : Status → Prog → List (List ℕ) → ℕ → ℕ → ℕ → Bool → List ℕ → SinkSeen → SinkSeen → Type 0
@@ -97,13 +90,11 @@ RunsWithin how p args frames cells words stats told s t =
 
 -- ---- when `run` answers what
 
--- the file that is read and the words of the command line have this program, these values and these limits, and the program can
--- be run
+-- the file that is read and the words of the command line have this program, which is accepted, these values and these limits
 pub record CanRun (c : Call) (frames cells words : ℕ) (stats : Bool) (bytes : List ℕ) (reads : ReadsWell c (Run frames cells words stats) bytes) (program : Prog) (values : List Value) (limits : Limits) : Type 0 where
   pub short : length bytes ≤ most_bytes
   pub source : IsSource (format_of reads.path) bytes program
   pub accepted : IsAccepted program
-  pub emittable : is_emittable program ≡ true
   pub spelled : AreSpelled (main_types program) reads.args values
   pub frames_are : limits.frames ≡ frames
   pub cells_are : limits.cells ≡ cells

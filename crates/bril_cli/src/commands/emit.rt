@@ -9,13 +9,12 @@ use bril_checker::Checked;
 use bril_outside::sink::Sink;
 use bril_report::Status;
 use bril_tree::limits::Limits;
-use rv64_implements::is_emittable;
 use std::alloc::Global;
 
 /// Puts the words of the program's image under the limits on the output, each in eight hexadecimal digits and LF by one put.
 ///
-/// `Unsupported`: the program can't be made into machine words yet. `CodeTooBig`, `StackTooBig`: it may have more than 250,000
-/// words, or needs more than 8,388,608 words of stack. With these, and out of memory, nothing is put. `CannotWrite`: a write failed.
+/// `CodeTooBig`, `StackTooBig`: it may have more than 250,000 words, or needs more than 8,388,608 words of stack. With these, and
+/// out of memory, nothing is put. `CannotWrite`: a write failed.
 pub fn put_image<O: Sink>(
     alloc: Global,
     checked: &Checked,
@@ -24,9 +23,6 @@ pub fn put_image<O: Sink>(
 ) -> Result<(), Status>
     ensures { EmitsProgram (status_of result) checked.now.prog limits (O.seen out.old) (O.seen out.new) }
 {
-    if !is_emittable(checked.prog()) {
-        return Err(Status::Unsupported);
-    }
     let image = image_of(alloc, checked, limits)?;
     put_words(image.words.as_slice(), out)
 }

@@ -5,7 +5,6 @@ ghost use Rattle.bril_cli.specs.Stats.{Telling};
 ghost use Rattle.bril_cli.specs.commands.Run.{RunsImage, RunsValues, RunsProgram};
 ghost use Rattle.bril_report.specs.StageFaults.{status_of};
 ghost use Rattle.bril_tree.specs.Run.{FitMain};
-ghost use Rattle.rv64_implements.specs.Emittable.{IsEmittable};
 ghost use Rattle.rv64_implements.specs.Implements.{Implements};
 
 use crate::arguments::values_of;
@@ -18,7 +17,6 @@ use bril_tree::limits::{End, Limits};
 use bril_tree::program::Prog;
 use bril_tree::text::Text;
 use bril_tree::value::Value;
-use rv64_implements::is_emittable;
 use rv64_machine::answer::RunAnswer;
 use rv64_machine::machine::Machine;
 use rv64_words::image::Image;
@@ -36,8 +34,7 @@ pub struct RunSettings {
 /// spell as the arguments of its `main`: what it prints goes to `out`. After the run its counts are told on `err`, where that is
 /// asked for; `silenced` becomes true where a put of them failed.
 ///
-/// `Unsupported`: the program can't be made into machine words yet. `ArgumentCount`, `BadArgument`: the words of the command line
-/// spell no such values. `CodeTooBig`, `StackTooBig`: it may have more than 250,000 words, or needs more than 8,388,608 words of
+/// `ArgumentCount`, `BadArgument`: the words of the command line spell no such values. `CodeTooBig`, `StackTooBig`: it may have more than 250,000 words, or needs more than 8,388,608 words of
 /// stack. With these, and out of memory, nothing is put. `Faulted`, `Spent`: the program stopped with a fault, or the machine goes
 /// on after so many words. `CannotWrite`: a write failed, and nothing is told.
 pub fn run<O: Sink, E: Sink>(
@@ -52,11 +49,7 @@ pub fn run<O: Sink, E: Sink>(
     requires { silenced.old ≡ false }
     ensures { Telling (λ told. RunsProgram (status_of result) checked.now.prog words.now settings.limits settings.steps settings.stats told (O.seen out.old) (O.seen out.new)) silenced.new (E.seen err.old) (E.seen err.new) }
 {
-    let program = checked.prog();
-    if !is_emittable(program) {
-        return Err(Status::Unsupported);
-    }
-    let values = values_of(alloc, program, words)?;
+    let values = values_of(alloc, checked.prog(), words)?;
     run_with(
         alloc,
         checked,
@@ -78,7 +71,6 @@ fn run_with<O: Sink, E: Sink>(
     err: &mut E,
     silenced: &mut bool,
 ) -> Result<(), Status>
-    requires emittable { IsEmittable checked.now.prog }
     requires fits { FitMain checked.now.prog values.now }
     requires sound { silenced.old ≡ false }
     ensures { Telling (λ told. RunsValues (status_of result) checked.now.prog settings.limits values.now settings.steps settings.stats told (O.seen out.old) (O.seen out.new)) silenced.new (E.seen err.old) (E.seen err.new) }
