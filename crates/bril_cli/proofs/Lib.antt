@@ -1,15 +1,8 @@
-pub mod Bounds
-pub mod Carrying
 pub mod Causes
-pub mod Digits
-pub mod Ending
-pub mod ImageSystem
 pub mod Interpreting
-pub mod MachineSteps
+pub mod Listings
 pub mod Outcomes
 pub mod Promises
-pub mod Relation
 pub mod Runs
-pub mod Start
 pub mod Statuses
-pub mod Straightness
+pub mod Telling

@@ -7,18 +7,18 @@ use Rattle.bril_report.specs.declared.status.Status.TheVariants as status
 use Rattle.bril_words.specs.CommandLine.{words_read}
 use Rattle.bril_words.specs.declared.misuse.Misuse.{Misuse}
 use Rattle.bril_words.specs.declared.request.Action.{Action}
-use Rattle.bril_words.specs.declared.request.Action.TheVariants.{Run, Interpret, Check, WriteText, WriteJson}
+use Rattle.bril_words.specs.declared.request.Action.TheVariants.{Run, Interpret, Emit, Check, WriteText, WriteJson}
 use Rattle.bril_cli.specs.Answers.{Answers, CannotWrite, Misused, Promises, SourceRefused, TooLarge}
 use Rattle.bril_cli.specs.Call.{Call, ReadsWell, SaysAlone}
 use Rattle.bril_cli.specs.CommandLine.{AsksFor, AskNothing}
-use Rattle.bril_cli.proofs.Causes.{Ok_not_Err, request_of, runs_where, interprets_where, misargued_where, refused_where, checks_where, unchecked_where, formless_where, misnamed_where, writes_where, writes_json_where, misread_where, long_where, lacking_where}
+use Rattle.bril_cli.proofs.Causes.{Ok_not_Err, request_of, runs_where, ends_where, long_run_where, emits_where, long_emit_where, interprets_where, misargued_where, checks_where, unchecked_where, formless_where, misnamed_where, writes_where, writes_json_where, misread_where, long_where, lacking_where}
 use Rattle.bril_cli.proofs.Statuses.{Ends, Answers-of}
 
 refused_silent : (c : Call) → SourceRefused c → c.out_after ≡ c.out_before
 refused_silent c says = ⊎_elim (λ form. form.alone.silent) (⊎_elim (λ name. name.alone.silent) (⊎_elim (λ program. program.alone.silent) (λ bytes. bytes.alone.silent))) says.because
 
 large_silent : (c : Call) → TooLarge c → c.out_after ≡ c.out_before
-large_silent c says = ⊎_elim (λ file. file.alone.silent) (λ program. ⊎_elim (λ code. code.alone.silent) (λ stack. stack.alone.silent) program.1) says.passes
+large_silent c says = ⊎_elim (λ file. file.alone.silent) (λ program. ⊎_elim (λ code. code.alone.silent) (λ stack. stack.alone.silent) program.passes) says.passes
 
 -- from 64 to 70 nothing is put on the output
 silent_at : (how : Status) (c : Call) → Answers (status_number how) c → 64 ≤ status_number how → status_number how ≤ 70 → c.out_after ≡ c.out_before
@@ -66,6 +66,8 @@ module _ (c : Call) (action : Action) (path : List ℕ) (args : List (List ℕ))
     silent = silent_at how c told;
     misused = (λ e. ((usage e).misuse, (usage e).unasked), asked_something);
     runs = runs_where c action path args how ends;
+    ends = ends_where c action path args how ends;
+    emits = emits_where c action path args how ends;
     interprets = interprets_where c action path args how ends;
     misargued = misargued_where c action path args how ends;
     checks = checks_where c action path args how ends;
@@ -77,7 +79,8 @@ module _ (c : Call) (action : Action) (path : List ℕ) (args : List (List ℕ))
     formless = formless_where c action path args how ends;
     lacking = lacking_where c action path args how ends;
     long_file = long_where c action path args how ends;
-    long_program = refused_where c action path args how ends;
+    long_run = long_run_where c action path args how ends;
+    long_emit = long_emit_where c action path args how ends;
   }
 
 -- of words that ask for nothing
@@ -101,17 +104,20 @@ module _ (c : Call) (misuse : Misuse) (unasked : words_read c.words ≡ Err misu
     write = λ e. absurd (omega arith);
     silent = λ low high. alone.silent;
     misused = (λ e. (misuse, unasked), λ none. refl);
-    runs = λ bytes p reads short source accepted straight within sound. not_read Run bytes reads;
+    runs = λ frames cells words stats bytes reads p values limits can within sound. not_read (Run frames cells words stats) bytes reads;
+    ends = λ frames cells words stats bytes reads p values limits can within sound n cost end is_cost enough ended. not_read (Run frames cells words stats) bytes reads;
+    emits = λ frames bytes reads p limits can within sound. not_read (Emit frames) bytes reads;
     interprets = λ frames cells steps bytes p values limits reads short source accepted spelled frames_are cells_are sound. not_read (Interpret frames cells steps) bytes reads;
-    misargued = λ frames cells steps bytes p fault reads short source accepted ample is. not_read (Interpret frames cells steps) bytes reads;
+    misargued = λ action gives bytes p fault reads short source accepted ample is. not_read action bytes reads;
     checks = λ bytes p reads short source accepted sound. not_read Check bytes reads;
     writes = λ bytes tree reads short spelled sound. not_read WriteText bytes reads;
     writes_json = λ bytes tree reads short read sound. not_read WriteJson bytes reads;
     misread = λ action bytes fault reads short has. not_read action bytes reads;
     misnamed = λ action needs bytes fault reads short has. not_read action bytes reads;
     unchecked = λ action needs bytes p fault reads short source has. not_read action bytes reads;
-    formless = λ action needs bytes reads short formless. not_read action bytes reads;
+    formless = λ action needs bytes reads short imports. not_read action bytes reads;
     lacking = λ asks. not_asked asks.action asks.path asks.args asks.asked;
     long_file = λ action bytes reads long. not_read action bytes reads;
-    long_program = λ bytes p reads short source accepted straight beyond. not_read Run bytes reads;
+    long_run = λ frames cells words stats bytes reads p values limits can beyond. not_read (Run frames cells words stats) bytes reads;
+    long_emit = λ frames bytes reads p limits can beyond. not_read (Emit frames) bytes reads;
   }

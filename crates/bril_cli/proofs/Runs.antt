@@ -1,105 +1,135 @@
 -- What a run of an image leaves.
-use Rattle.std.proofs.Common.{◌≡◌, ℕ, suc, ◌+◌, ◌≤◌, false, List, [], Some, None, refl, sym, ap, ◌∙◌, subst, arith, ⊎_elim, true≢false}
-use Rattle.bril_tree.specs.declared.limits.End.{End}
-use Rattle.bril_tree.specs.declared.limits.End.TheVariants.{Ended, Faulted}
-use Rattle.bril_tree.specs.declared.program.Prog.{Prog}
-use Rattle.bril_tree.specs.Run.{state_after}
+use Rattle.std.proofs.Common.{◌≡◌, ℕ, suc, ◌+◌, ◌*◌, ◌≤◌, Bool, true, false, List, Option, Some, None, refl, sym, ap, ◌∙◌, subst, arith, ⊎_elim, true≢false}
+use Rattle.std.specs.Option.{option_map}
 use Rattle.bril_outside.proofs.SinkWrites.{TookSome-longer}
 use Rattle.bril_outside.specs.Sink.{SinkSeen, TookAll, TookSome}
-use Rattle.simulation.specs.System.{after, IsPrefix}
-use Rattle.simulation.proofs.After.{after-grows_le}
+use Rattle.bril_tree.specs.Cost.{IsCost}
+use Rattle.bril_tree.specs.Run.{FitMain, state_after}
+use Rattle.bril_tree.specs.declared.limits.End.{End}
+use Rattle.bril_tree.specs.declared.limits.Limits.{Limits}
+use Rattle.bril_tree.specs.declared.program.Prog.{Prog}
+use Rattle.bril_tree.specs.declared.value.Value.{Value}
+use Rattle.rv64_implements.proofs.Endings.{shown, stopped_in_time, printed_in_time, failures_counted}
+use Rattle.rv64_implements.proofs.Systems.{image_is_system, machine_after-after}
+use Rattle.rv64_implements.specs.Implements.{Implements, ImplementsRun, image_system, image_after}
+use Rattle.rv64_implements.specs.Shown.{ProgramShows}
+use Rattle.rv64_machine.specs.MachineView.{state_of, image_in, sizes_in, has_failed}
+use Rattle.rv64_machine.specs.StepAnswers.{Ran, RunFailed, Reached, puts_by, reached_after, unprinted}
 use Rattle.rv64_machine.specs.declared.answer.RunAnswer.TheVariants as run
-use Rattle.rv64_words.specs.declared.image.Image.{Image}
 use Rattle.rv64_machine.specs.declared.machine.Machine.{Machine}
-use Rattle.rv64_machine.specs.StepAnswers.{Ran, RunFailed, reached_after}
-use Rattle.rv64_words.specs.Machine.{machine_after, machine_step}
+use Rattle.rv64_words.specs.Machine.{machine_after}
 use Rattle.rv64_words.specs.Region.{sizes_of}
 use Rattle.rv64_words.specs.State.{State, Finished, Trapped, start}
-use Rattle.rv64_machine.specs.MachineView.{state_of, image_in, sizes_in, has_failed}
-use Rattle.bril_cli.specs.Implements.{Implements, image_system}
-use Rattle.bril_cli.specs.Emitted.{items_in}
-use Rattle.bril_cli.specs.commands.Run.{run_limits, EndsPrinting, IsWithin, RanWhole, RanPartly}
-use Rattle.bril_cli.specs.Straight.{IsStraightCode}
-use Rattle.bril_cli.proofs.Ending.{straight_ends, runs_to_end, machine_after-after}
-use Rattle.bril_cli.proofs.ImageSystem.{image_is_system}
-
--- what a straight program prints
-abbrev pub output_of : Prog → List ℕ
-output_of p = (state_after p run_limits [] (items_in p + 1)).printed
-
-pub EndsPrinting-straight : (p : Prog) → IsStraightCode p → EndsPrinting p (output_of p)
-EndsPrinting-straight p straight = record { steps = items_in p + 1; ended = straight_ends p run_limits straight; prints = refl }
+use Rattle.rv64_words.specs.declared.image.GuardAt.{GuardAt}
+use Rattle.rv64_words.specs.declared.image.Image.{Image}
+use Rattle.simulation.proofs.After.{after-grows_le}
+use Rattle.simulation.specs.System.{IsPrefix}
+use Rattle.bril_cli.specs.Images.{MachineShows}
+use Rattle.bril_cli.specs.Stats.{stats_told}
+use Rattle.bril_cli.specs.commands.Run.{ShowsRun, RanWhole, RanPartly}
 
 -- the first of some bytes are the first of those with more after them
 pub TookSome-prefix : {s t : SinkSeen} (a b : List ℕ) → IsPrefix a b → TookSome s a t → TookSome s b t
 TookSome-prefix {s} {t} a b more some = subst (λ bytes. TookSome s bytes t) (sym more.1) (TookSome-longer more.0 some)
 
--- the machine was made for the image and has executed nothing
-pub record IsFresh (m : Machine) (image : Image) : Type 0 where
-  pub state : state_of m ≡ start []
+-- an end of the machine is one of the program's
+finished_one : (a b : Option End) → option_map Finished a ≡ option_map Finished b → a ≡ b
+finished_one None None e = refl
+finished_one None (Some y) e = cc
+finished_one (Some x) None e = cc
+finished_one (Some x) (Some y) e = cc
+
+no_trapped : (ended : Option End) (trap : _) → Some (Trapped trap) ≡ option_map Finished ended → ⊥
+no_trapped None trap e = cc
+no_trapped (Some end) trap e = cc
+
+-- what was printed isn't told
+told_unprinted : (stats : Bool) (p : Prog) (guards : List GuardAt) (t : State) → stats_told stats p guards (unprinted t) ≡ stats_told stats p guards t
+told_unprinted true p guards t = refl
+told_unprinted false p guards t = refl
+
+-- the machine was made for the image, the limits and the values, and has executed nothing
+pub record IsFresh (m : Machine) (image : Image) (limits : Limits) (values : List Value) : Type 0 where
+  pub state : state_of m ≡ start values
   pub holds : image_in m ≡ image
-  pub sizes : sizes_in m ≡ sizes_of image 1048576
+  pub sizes : sizes_in m ≡ sizes_of image limits.cells
   pub sound : has_failed m ≡ false
 
--- the image was made of the straight program
-pub record IsImageOf (image : Image) (p : Prog) : Type 0 where
-  pub straight : IsStraightCode p
-  pub implements : Implements image p run_limits
-  pub within : IsWithin p
+module _ (image : Image) (p : Prog) (limits : Limits) (values : List Value) (implements : Implements image p limits) (fits : FitMain p values) (words : ℕ) where
+  run_of : ImplementsRun implements.homes image p limits values
+  run_of = implements.implements.runs values fits
 
--- what was printed after fewer words stands at the front of what was printed after more
-printed_before : (image : Image) (n m : ℕ) → n ≤ m → IsPrefix (machine_after image (sizes_of image 1048576) n (start [])).printed (machine_after image (sizes_of image 1048576) m (start [])).printed
-printed_before image n m h =
-    let at = λ (k : ℕ). ap (λ (t : State). t.printed) (machine_after-after image (sizes_of image 1048576) k (start [])) in
-    subst (λ xs. IsPrefix xs (machine_after image (sizes_of image 1048576) m (start [])).printed) (sym (at n))
-    (subst (λ ys. IsPrefix (after (machine_step image (sizes_of image 1048576)) n (start [])).printed ys) (sym (at m))
-    (after-grows_le (image_system image run_limits) (image_is_system image run_limits) n m (start []) h))
+  printed : List ℕ
+  printed = (image_after image limits values words).printed
 
-module _ (image : Image) (p : Prog) (made : IsImageOf image p) (m : Machine) (fresh : IsFresh m image) (steps : ℕ) (enough : steps ≡ 1000000000) where
-  reached : (n : ℕ) → reached_after m n ≡ machine_after image (sizes_of image 1048576) n (start [])
-  reached n = λ i. machine_after (fresh.holds i) (fresh.sizes i) n (fresh.state i)
+  -- what the machine shows holds of the program
+  shows_at : (ended : Option End) → (image_after image limits values words).stopped ≡ option_map Finished ended → ShowsRun p limits values words ended printed
+  unfolding printed
+  shows_at ended ends =
+      let there = shown implements.homes image p limits values run_of words in
+      let same : there.0 ≡ ended = finished_one there.0 ended (sym there.1 ∙ ends) in
+      record {
+        machine = record { image = image; implements = implements; ends = ends; prints = refl };
+        program = subst (λ (e : Option End). ProgramShows p limits values words e (image_after image limits values words).printed) same there.2;
+      }
 
-  -- the state after the steps
-  at_end : reached_after m steps ≡ machine_after image (sizes_of image 1048576) 1000000000 (start [])
-  at_end = reached steps ∙ ap (λ n. machine_after image (sizes_of image 1048576) n (start [])) enough
+  module _ (m : Machine) (fresh : IsFresh m image limits values) where
+    reached : (n : ℕ) → reached_after m n ≡ image_after image limits values n
+    reached n = (λ i. machine_after (fresh.holds i) (fresh.sizes i) n (fresh.state i)) ∙ machine_after-after image (sizes_of image limits.cells) n (start values)
 
-  pub stops : (reached_after m steps).stopped ≡ Some (Finished Ended)
-  stops = ap (λ t. t.stopped) at_end ∙ (runs_to_end image p run_limits made.straight made.implements made.within.code refl made.within.stack).0
+    -- what was printed before stands at the front of what was printed after all words
+    printed_before : (n : ℕ) → n ≤ words → IsPrefix (reached_after m n).printed printed
+    unfolding printed
+    printed_before n h =
+        subst (λ (t : State). IsPrefix t.printed (image_after image limits values words).printed) (sym (reached n))
+        (after-grows_le (image_system image limits) (image_is_system image limits) n words (start values) h)
 
-  pub shows : (reached_after m steps).printed ≡ output_of p
-  shows = ap (λ t. t.printed) at_end ∙ (runs_to_end image p run_limits made.straight made.implements made.within.code refl made.within.stack).1
+    module _ (m' : Machine) (s t : SinkSeen) where
+      -- the machine ended so, or goes on, and its counts were told
+      pub whole : (ended : Option End) → (reached_after m words).stopped ≡ option_map Finished ended → Reached (reached_after m words) (puts_by m words) m m' s t
+          → (stats : Bool) → RanWhole p limits values words stats ended (stats_told stats p image.guards (state_of m')) s t
+      unfolding printed shows_at
+      whole ended ends ran stats =
+          let here : (image_after image limits values words).stopped ≡ option_map Finished ended = ap (λ (u : State). u.stopped) (sym (reached words)) ∙ ends in
+          record {
+            output = printed;
+            shows = shows_at ended here;
+            tells = record {
+              lines = ap (stats_told stats p image.guards) ran.became.state ∙ told_unprinted stats p image.guards (reached_after m words)
+                  ∙ ap (stats_told stats p image.guards) (reached words);
+              guards = implements.implements.guards;
+              counts = λ n end is final. failures_counted implements.homes image p limits values run_of n words end (Finished end) final (here ∙ ap (option_map Finished) is);
+            };
+            took = subst (λ (u : State). TookAll s u.printed t) (reached words) ran.printed.took;
+          }
 
-  shown_before : (n : ℕ) → n ≤ steps → IsPrefix (reached_after m n).printed (output_of p)
-  shown_before n h =
-      subst (λ ys. IsPrefix (reached_after m n).printed ys) (sym (ap (λ t. t.printed) (reached steps)) ∙ shows)
-      (subst (λ t. IsPrefix t.printed (machine_after image (sizes_of image 1048576) steps (start [])).printed) (sym (reached n)) (printed_before image n steps h))
+      pub no_trap : (trap : _) → Ran (run.Trap trap) words m m' s t → ⊥
+      no_trap trap ran =
+          let there = shown implements.homes image p limits values run_of words in
+          no_trapped there.0 trap (sym ran.0 ∙ (ap (λ (u : State). u.stopped) (reached words) ∙ there.1))
 
-  module _ (m' : Machine) (s t : SinkSeen) where
-    pub whole : (e : End) → Ran (run.End e) steps m m' s t → RanWhole p s t
-    whole e ran = record {
-      output = output_of p;
-      prints = EndsPrinting-straight p made.straight;
-      took = subst (λ bytes. TookAll s bytes t) shows ran.1.printed.took;
-    }
+      by_print : RunFailed words m m' s t → RanPartly p limits values words s t
+      unfolding printed
+      by_print failed =
+          let there = shown implements.homes image p limits values run_of words in
+          record {
+            ended = there.0;
+            output = printed;
+            shows = shows_at there.0 there.1;
+            took = TookSome-prefix (reached_after m (suc failed.executed)).printed printed
+                (printed_before (suc failed.executed) (let h = failed.within in omega arith))
+                failed.print.took;
+            rose = failed.print.rose;
+          }
 
-    pub no_fault : (f : _) → Ran (run.End (Faulted f)) steps m m' s t → ⊥
-    no_fault f ran = let e : Some (Finished (Faulted f)) ≡ Some (Finished Ended) = sym ran.0 ∙ stops in cc
+      pub partly : Ran run.WriteFault words m m' s t → RanPartly p limits values words s t
+      partly ran = ⊎_elim (λ failed. absurd (true≢false (sym failed.failed_before ∙ fresh.sound))) by_print ran
 
-    pub no_trap : (trap : _) → Ran (run.Trap trap) steps m m' s t → ⊥
-    no_trap trap ran = let e : Some (Trapped trap) ≡ Some (Finished Ended) = sym ran.0 ∙ stops in cc
+-- ---- a machine that shows a run has the program's end in time
 
-    pub not_spent : Ran run.Spent steps m m' s t → ⊥
-    not_spent ran = let e : None ≡ Some (Finished Ended) = sym ran.0 ∙ stops in cc
+module _ (p : Prog) (limits : Limits) (values : List Value) (words : ℕ) (ended : Option End) (output : List ℕ) (shows : MachineShows p limits values words ended output) (fits : FitMain p values) (n cost : ℕ) (end : End) (is_cost : IsCost p cost) (enough : cost * (n + 1) ≤ words) (ends : (state_after p limits values n).ended ≡ Some end) where
+  pub same_end : ended ≡ Some end
+  same_end = finished_one ended (Some end) (sym shows.ends ∙ stopped_in_time shows.implements.homes shows.image p limits values (shows.implements.implements.runs values fits) n cost words end is_cost enough ends)
 
-    pub partly : Ran run.WriteFault steps m m' s t → RanPartly p s t
-    partly ran = ⊎_elim (λ failed. absurd (true≢false (sym failed.failed_before ∙ fresh.sound))) by_print ran
-      where
-        by_print : RunFailed steps m m' s t → RanPartly p s t
-        by_print failed = record {
-          output = output_of p;
-          prints = EndsPrinting-straight p made.straight;
-          took = TookSome-prefix (reached_after m (suc failed.executed)).printed (output_of p)
-              (shown_before (suc failed.executed) (let h = failed.within in omega arith))
-              failed.print.took;
-          rose = failed.print.rose;
-        }
+  pub same_output : output ≡ (state_after p limits values n).printed
+  same_output = sym shows.prints ∙ printed_in_time shows.implements.homes shows.image p limits values (shows.implements.implements.runs values fits) n cost words end is_cost enough ends

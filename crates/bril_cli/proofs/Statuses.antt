@@ -1,5 +1,5 @@
 -- What each status says of the call.
-use Rattle.std.proofs.Common.{◌≡◌, ℕ, true, false, List, Option, Some, refl, sym, subst, inl, inr, ⊎_elim, None}
+use Rattle.std.proofs.Common.{◌≡◌, ◌⊎◌, ℕ, Bool, false, append-nil, ◌++◌, List, Option, Some, refl, sym, subst, inl, inr, ⊎_elim, None}
 use Rattle.std.specs.Prelude.{[]}
 use Rattle.bril_arguments.specs.declared.fault.ArgFault.{ArgFault}
 use Rattle.bril_arguments.specs.declared.fault.ArgFault.TheVariants as argument
@@ -19,19 +19,25 @@ use Rattle.bril_report.specs.Report.{Says, status_number, SaysStatus}
 use Rattle.bril_report.specs.declared.status.Status.{Status}
 use Rattle.bril_report.specs.declared.status.Status.TheVariants as status
 use Rattle.bril_words.specs.declared.request.Action.{Action}
-use Rattle.bril_words.specs.declared.request.Action.TheVariants.{Run, Interpret, Check, WriteText, WriteJson}
+use Rattle.bril_words.specs.declared.request.Action.TheVariants.{Run, Interpret, Emit, Check, WriteText, WriteJson}
 use Rattle.bril_cli.specs.declared.source.Format.{Format}
 use Rattle.bril_cli.specs.Answers.{Answers}
 use Rattle.bril_cli.specs.Call.{Call}
-use Rattle.bril_cli.specs.Driver.{Produces, Puts, Leaves, IsFormless, AsksProgram, DoesFile, FailsToRead, FindsNoTree, DealsWithTree}
-use Rattle.bril_cli.specs.Source.{IsFile, HasNameFault, HasOnlyNameFault, IsOnlyTree, IsSource, IsOnlySource}
+use Rattle.bril_cli.specs.Driver.{Produces, Puts, Leaves, Untold, AsksProgram, DoesTree, DoesFile, FailsToRead, FindsNoTree, DealsWithTree}
+use Rattle.bril_cli.specs.Source.{IsFile, Writes, HasNameFault, HasOnlyNameFault, IsOnlyTree, IsSource, IsOnlySource, HasImports}
 use Rattle.bril_cli.specs.Stages.{IsOnlyNameFault, IsOnlyProgram, IsAcceptedProgram, RefusesProgram, PutsText}
-use Rattle.bril_cli.specs.commands.Check.{accepted_line}
-use Rattle.bril_cli.specs.commands.Interp.{argument_line, HasOnlyArgFault, StopsForMemory, Interprets, Exhausts, AreOnlyValues, RefusesArgs, StepsTo, InterpretsProgram}
+use Rattle.bril_cli.specs.Stats.{SaysTold}
+use Rattle.bril_cli.specs.commands.Check.{accepted_line, Checks}
+use Rattle.bril_cli.specs.commands.Emit.{ListsImage, Emits, EmitsProgram, PutsListing}
+use Rattle.bril_cli.specs.commands.Interp.{StopsForMemory, Interprets, Exhausts, StepsTo, InterpretsProgram}
 use Rattle.bril_cli.specs.commands.Json.{json_line}
-use Rattle.bril_cli.specs.commands.Run.{IsStraightFile, IsWithin, EndsPrinting, Runs, RunsProgram}
-use Rattle.bril_cli.specs.CommandLine.{AsksFor, format_of, NeedsProgram}
-use Rattle.bril_cli.specs.Straight.{is_straight}
+use Rattle.bril_cli.specs.commands.Run.{ShowsRun, Runs, RunsAndTells, RanWhole, RunsImage, RunsProgram}
+use Rattle.bril_cli.specs.Arguments.{argument_line, HasOnlyArgFault, AreOnlyValues, RefusesArgs}
+use Rattle.bril_cli.specs.CommandLine.{AsksFor, format_of, NeedsProgram, GivesArguments}
+use Rattle.bril_cli.specs.Images.{IsProgramFile, MakesImage, HasLongCode, HasLongStack, RefusesImage}
+use Rattle.bril_words.specs.Defaults.{default_cells}
+use Rattle.rv64_implements.specs.WordBounds.{IsWithin}
+use Rattle.bril_cli.proofs.Telling.{says_nothing, says_told, untold}
 
 -- ---- the program and the name fault of bytes are those of their tree
 
@@ -55,11 +61,12 @@ module _ (format : Format) (bytes : List ℕ) (tree : Tree) (only : IsOnlyTree f
     unnumbered = λ p source. has.unnumbered p (Numbered-source p source);
   }
 
--- The words of a call ask for the action and the path, the status is what doing it answered, and it was said.
+-- The words of a call ask for the action and the path, the status is what doing it answered, and it was said after what is told.
 pub record Ends (c : Call) (action : Action) (path : List ℕ) (args : List (List ℕ)) (how : Status) : Type 0 where
   pub asked : AsksFor c.words action path args
-  pub does : DoesFile action how c.files_before c.files_after path args c.out_before c.out_after
-  pub says : SaysStatus how path c.err_before c.err_after
+  pub told : List ℕ
+  pub does : DoesFile action how c.files_before c.files_after path args told c.out_before c.out_after
+  pub says : SaysTold told how path c.err_before c.err_after
 
 -- ---- memory ran out, and nothing was put
 
@@ -80,8 +87,8 @@ Answers-exhausted c action path args asked says silent = record {
 -- ---- no tree was read
 
 module _ (c : Call) (action : Action) (path : List ℕ) (args : List (List ℕ)) (asked : AsksFor c.words action path args) where
-  Answers-read : (how : Status) → SaysStatus how path c.err_before c.err_after → FailsToRead how c.files_before c.files_after path c.out_before c.out_after → Answers (status_number how) c
-  Answers-read status.CannotRead says fails = record {
+  Answers-read : (how : Status) (told : List ℕ) → SaysStatus how path c.err_before c.err_after → FailsToRead how c.files_before c.files_after path told c.out_before c.out_after → Answers (status_number how) c
+  Answers-read status.CannotRead told says fails = record {
     action = action;
     path = path;
     args = args;
@@ -89,18 +96,18 @@ module _ (c : Call) (action : Action) (path : List ℕ) (args : List (List ℕ))
     fails = fails.refuses;
     alone = record { silent = fails.silent; says = says };
   }
-  Answers-read status.FileTooBig says fails = record {
+  Answers-read status.FileTooBig told says fails = record {
     action = action;
     path = path;
     args = args;
     asked = asked;
     passes = inl (record { bytes = fails.refuses.bytes; held = fails.refuses.held; long = fails.refuses.long; alone = record { silent = fails.silent; says = says } });
   }
-  Answers-read status.OutOfMemory says fails = Answers-exhausted c action path args asked says fails.silent
-  Answers-read _ says fails = absurd fails.refuses
+  Answers-read status.OutOfMemory told says fails = Answers-exhausted c action path args asked says fails.silent
+  Answers-read _ told says fails = absurd fails.refuses
 
-  Answers-none : (how : Status) → SaysStatus how path c.err_before c.err_after → FindsNoTree how c.files_before path c.out_before c.out_after → Answers (status_number how) c
-  Answers-none (status.Misread fault) says finds = record {
+  Answers-none : (how : Status) (told : List ℕ) → SaysStatus how path c.err_before c.err_after → FindsNoTree how c.files_before path told c.out_before c.out_after → Answers (status_number how) c
+  Answers-none (status.Misread fault) told says finds = record {
     action = action;
     path = path;
     args = args;
@@ -113,27 +120,24 @@ module _ (c : Call) (action : Action) (path : List ℕ) (args : List (List ℕ))
       alone = record { silent = finds.silent; says = says };
     })));
   }
-  Answers-none status.OutOfMemory says finds = Answers-exhausted c action path args asked says finds.silent
-  Answers-none _ says finds = absurd finds.refuses
+  Answers-none status.OutOfMemory told says finds = Answers-exhausted c action path args asked says finds.silent
+  Answers-none _ told says finds = absurd finds.refuses
 
 -- ---- a text was to be put
 
--- what is produced is put
-puts_produced : (action : Action) (c : Call) (path : List ℕ) (args : List (List ℕ)) (output : List ℕ) → Produces action c.files_before path args output → Puts action c.files_before path args output
-puts_produced (Interpret frames cells steps) c path args output produces = (Some end.Ended, produces)
-puts_produced _ c path args output produces = produces
-
-module _ (c : Call) (action : Action) (path : List ℕ) (args : List (List ℕ)) (asked : AsksFor c.words action path args) (text : List ℕ) (produces : Produces action c.files_before path args text) where
+module _ (c : Call) (action : Action) (path : List ℕ) (args : List (List ℕ)) (asked : AsksFor c.words action path args) (text : List ℕ) (produces : Produces action c.files_before path args [] text) (may : Puts action c.files_before path args text) where
   Answers-put : (how : Status) → SaysStatus how path c.err_before c.err_after → PutsText how text c.out_before c.out_after → Answers (status_number how) c
   Answers-put status.Done says puts = record {
     action = action;
     path = path;
     args = args;
     asked = asked;
+    told = [];
     output = text;
     produces = produces;
     took = puts;
-    quiet = says;
+    says = says_nothing says;
+    quiet = λ none. says;
   }
   Answers-put status.OutOfMemory says puts = Answers-exhausted c action path args asked says puts
   Answers-put status.CannotWrite says puts = record {
@@ -142,7 +146,7 @@ module _ (c : Call) (action : Action) (path : List ℕ) (args : List (List ℕ))
     args = args;
     asked = asked;
     output = text;
-    puts = puts_produced action c path args text produces;
+    puts = may;
     took = puts.0;
     rose = puts.1;
     says = says;
@@ -152,8 +156,8 @@ module _ (c : Call) (action : Action) (path : List ℕ) (args : List (List ℕ))
 -- ---- the tree's program was asked for
 
 module _ (c : Call) (action : Action) (path : List ℕ) (args : List (List ℕ)) (asked : AsksFor c.words action path args) (needs : NeedsProgram action) (bytes : List ℕ) (file : IsFile c.files_before path bytes) (tree : Tree) (only : IsOnlyTree (format_of path) bytes tree) where
-  Answers-formless : SaysStatus status.Unsupported path c.err_before c.err_after → IsFormless action (format_of path) bytes → c.out_after ≡ c.out_before → Answers 65 c
-  Answers-formless says formless silent = record {
+  Answers-formless : SaysStatus status.Unsupported path c.err_before c.err_after → HasImports (format_of path) bytes → c.out_after ≡ c.out_before → Answers 65 c
+  Answers-formless says imports silent = record {
     action = action;
     path = path;
     args = args;
@@ -162,13 +166,13 @@ module _ (c : Call) (action : Action) (path : List ℕ) (args : List (List ℕ))
       needs = needs;
       bytes = bytes;
       file = file;
-      formless = formless;
+      imports = imports;
       alone = record { silent = silent; says = says };
     });
   }
 
   Answers-refused : (how : Status) → SaysStatus how path c.err_before c.err_after → RefusesProgram how tree → c.out_after ≡ c.out_before → Answers (status_number how) c
-  Answers-refused status.Unsupported says refuses silent = Answers-formless says (inl (record { tree = tree; reads = only.reads; imports = refuses })) silent
+  Answers-refused status.Unsupported says refuses silent = Answers-formless says (record { tree = tree; reads = only.reads; imports = refuses }) silent
   Answers-refused (status.Misnamed fault) says refuses silent = record {
     action = action;
     path = path;
@@ -202,138 +206,228 @@ module _ (c : Call) (action : Action) (path : List ℕ) (args : List (List ℕ))
   Answers-refused status.OutOfMemory says refuses silent = Answers-exhausted c action path args asked says silent
   Answers-refused _ says refuses silent = absurd refuses
 
+  module _ (p : Prog) (program : IsAcceptedProgram tree p) where
+    source_of : IsOnlySource (format_of path) bytes p
+    source_of = IsOnlySource-of (format_of path) bytes tree only p program.only
+
+    program_file : IsProgramFile c.files_before path p
+    program_file = record { bytes = bytes; file = file; source = source_of; accepted = program.sound.accepted }
+
+    -- ---- an image was to be made of the program, and it is too large
+    module _ (limits : Limits) (makes : MakesImage action limits) where
+      long_program : HasLongCode c p ⊎ HasLongStack c p limits → Answers 68 c
+      long_program passes = record {
+        action = action;
+        path = path;
+        args = args;
+        asked = asked;
+        passes = inr (record { limits = limits; makes = makes; program = p; is = program_file; passes = passes });
+      }
+
+      Answers-long : (how : Status) → SaysStatus how path c.err_before c.err_after → RefusesImage how p limits → c.out_after ≡ c.out_before → Answers (status_number how) c
+      Answers-long (status.CodeTooBig words) says refuses silent =
+          long_program (inl (record {
+            long = refuses.0;
+            alone = record { silent = silent; says = subst (λ n. Says c.err_before (code_line n) c.err_after) refuses.1 says };
+          }))
+      Answers-long (status.StackTooBig words) says refuses silent =
+          long_program (inr (record {
+            short_code = refuses.0;
+            stack = refuses.1.0;
+            size = refuses.1.1;
+            long = refuses.1.2;
+            alone = record { silent = silent; says = subst (λ n. Says c.err_before (stack_line n) c.err_after) refuses.1.3 says };
+          }))
+      Answers-long status.OutOfMemory says refuses silent = Answers-exhausted c action path args asked says silent
+      Answers-long _ says refuses silent = absurd refuses
+
+    -- ---- the program was given arguments, which don't fit it
+
+    module _ (gives : GivesArguments action) where
+      misargued : (fault : ArgFault) → HasOnlyArgFault (main_types p) args fault → Says c.err_before (argument_line fault) c.err_after → c.out_after ≡ c.out_before → Answers 69 c
+      misargued fault has says silent = record {
+        action = action;
+        gives = gives;
+        path = path;
+        args = args;
+        asked = asked;
+        bytes = bytes;
+        file = file;
+        program = p;
+        source = source_of;
+        accepted = program.sound.accepted;
+        fault = fault;
+        only = has;
+        alone = record { silent = silent; says = says };
+      }
+
+      Answers-misargued : (how : Status) → SaysStatus how path c.err_before c.err_after → RefusesArgs how p args → c.out_after ≡ c.out_before → Answers (status_number how) c
+      Answers-misargued (status.ArgumentCount given wanted) says refuses silent = misargued (argument.Count given wanted) refuses says silent
+      Answers-misargued (status.BadArgument place) says refuses silent = misargued (argument.Spelling place) refuses says silent
+      Answers-misargued status.OutOfMemory says refuses silent = Answers-exhausted c action path args asked says silent
+      Answers-misargued _ says refuses silent = absurd refuses
+
 -- ---- a tree was to run
 
-module _ (c : Call) (path : List ℕ) (args : List (List ℕ)) (asked : AsksFor c.words Run path args) (bytes : List ℕ) (file : IsFile c.files_before path bytes) (tree : Tree) (only : IsOnlyTree (format_of path) bytes tree) where
-  module _ (p : Prog) (program : IsAcceptedProgram tree p) where
-    source : IsOnlySource (format_of path) bytes p
-    source = IsOnlySource-of (format_of path) bytes tree only p program.only
-
-    Answers-crooked : (how : Status) → SaysStatus how path c.err_before c.err_after → is_straight p ≡ false → how ≡ status.Unsupported → c.out_after ≡ c.out_before → Answers (status_number how) c
-    Answers-crooked how says bent is silent =
-        let here : SaysStatus status.Unsupported path c.err_before c.err_after = subst (λ (h : Status). SaysStatus h path c.err_before c.err_after) is says in
-        subst (λ (h : Status). Answers (status_number h) c) (sym is)
-        (Answers-formless c Run path args asked tt bytes file tree only here (inr (refl, record { program = p; source = source.source; accepted = program.sound.accepted; crooked = bent })) silent)
-
-    module _ (straight : is_straight p ≡ true) where
-      straight_file : IsStraightFile c.files_before path p
-      straight_file = record { bytes = bytes; file = file; source = source; accepted = program.sound.accepted; straight = straight }
-
-      runs_file : IsWithin p → (output : List ℕ) → EndsPrinting p output → Runs c.files_before path output
-      runs_file within output prints = record { program = p; is = straight_file; within = within; prints = prints }
-
-      Answers-program : (how : Status) → SaysStatus how path c.err_before c.err_after → RunsProgram how p c.out_before c.out_after → Answers (status_number how) c
-      Answers-program status.Done says runs = record {
-        action = Run;
-        path = path;
-        args = args;
-        asked = asked;
-        output = runs.1.output;
-        produces = runs_file runs.0 runs.1.output runs.1.prints;
-        took = runs.1.took;
-        quiet = says;
+module _ (c : Call) (frames cells steps : ℕ) (stats : Bool) (path : List ℕ) (args : List (List ℕ)) (asked : AsksFor c.words (Run frames cells steps stats) path args) (bytes : List ℕ) (file : IsFile c.files_before path bytes) (tree : Tree) (only : IsOnlyTree (format_of path) bytes tree) where
+  module _ (p : Prog) (program : IsAcceptedProgram tree p) (limits : Limits) (frames_are : limits.frames ≡ frames) (cells_are : limits.cells ≡ cells) where
+    module _ (values : List Value) (are : AreOnlyValues p args values) (within : IsWithin p limits) where
+      runs : (ended : Option End) (output : List ℕ) → ShowsRun p limits values steps ended output → Runs c.files_before path args frames cells steps ended output
+      runs ended output shows = record {
+        program = p;
+        is = program_file c (Run frames cells steps stats) path args asked tt bytes file tree only p program;
+        values = values;
+        spelled = are.spelled;
+        limits = limits;
+        frames_are = frames_are;
+        cells_are = cells_are;
+        within = within;
+        shows = shows;
       }
-      Answers-program (status.CodeTooBig words) says runs = record {
-        action = Run;
-        path = path;
-        args = args;
-        asked = asked;
-        passes = inr (
-          refl,
-          inl (record {
-            program = p;
-            is = straight_file;
-            long = runs.0.0;
-            alone = record { silent = runs.1; says = subst (λ n. Says c.err_before (code_line n) c.err_after) runs.0.1 says };
-          }),
-        );
+
+      module _ (told : List ℕ) where
+        tells_too : (ended : Option End) (ran : RanWhole p limits values steps stats ended told c.out_before c.out_after) → RunsAndTells c.files_before path args frames cells steps stats ended told ran.output
+        unfolding runs
+        tells_too ended ran = record { runs = runs ended ran.output ran.shows; tells = ran.tells }
+
+        Answers-ran : (how : Status) → SaysTold told how path c.err_before c.err_after → RunsImage how p limits values steps stats told c.out_before c.out_after → Answers (status_number how) c
+        Answers-ran status.Done says ran = record {
+          action = Run frames cells steps stats;
+          path = path;
+          args = args;
+          asked = asked;
+          told = told;
+          output = ran.output;
+          produces = tells_too (Some end.Ended) ran;
+          took = ran.took;
+          says = subst (λ bytes. Says c.err_before bytes c.err_after) (append-nil told) says.all;
+          quiet = says.plain;
+        }
+        Answers-ran (status.Faulted fault) says ran = record {
+          action = Run frames cells steps stats;
+          path = path;
+          args = args;
+          asked = asked;
+          fault = fault;
+          told = told;
+          output = ran.output;
+          prints = tells_too (Some (end.Faulted fault)) ran;
+          took = ran.took;
+          says = says.all;
+        }
+        Answers-ran (status.Spent made) says ran = record {
+          action = Run frames cells steps stats;
+          path = path;
+          args = args;
+          asked = asked;
+          told = told;
+          output = ran.1.output;
+          prints = tells_too None ran.1;
+          took = ran.1.took;
+          says = subst (λ n. Says c.err_before (told ++ spent_line n) c.err_after) ran.0 says.all;
+        }
+        Answers-ran status.OutOfMemory says ran = Answers-exhausted c (Run frames cells steps stats) path args asked (says.plain ran.0) ran.1
+        Answers-ran status.CannotWrite says ran = record {
+          action = Run frames cells steps stats;
+          path = path;
+          args = args;
+          asked = asked;
+          output = ran.1.output;
+          puts = (ran.1.ended, runs ran.1.ended ran.1.output ran.1.shows);
+          took = ran.1.took;
+          rose = ran.1.rose;
+          says = says.plain ran.0;
+        }
+        Answers-ran _ says ran = absurd ran
+
+    Answers-program : (how : Status) (told : List ℕ) → SaysTold told how path c.err_before c.err_after → RunsProgram how p args limits steps stats told c.out_before c.out_after → Answers (status_number how) c
+    Answers-program how told says =
+        ⊎_elim (λ refused. Answers-misargued c (Run frames cells steps stats) path args asked tt bytes file tree only p program tt how (says.plain refused.1) refused.0 refused.2)
+        (λ goes. ⊎_elim (λ long. Answers-long c (Run frames cells steps stats) path args asked tt bytes file tree only p program limits (frames_are, cells_are) how (says.plain long.1) long.0 long.2)
+        (λ ran. Answers-ran goes.0 goes.1 ran.0 told how says ran.1)
+        goes.2)
+
+  Answers-run : (how : Status) (told : List ℕ) → SaysTold told how path c.err_before c.err_after → AsksProgram (Run frames cells steps stats) how tree args told c.out_before c.out_after → Answers (status_number how) c
+  Answers-run how told says =
+      ⊎_elim (λ refused. Answers-refused c (Run frames cells steps stats) path args asked tt bytes file tree only how (says.plain refused.1) refused.0 refused.2)
+      (λ goes. Answers-program goes.0 goes.1 goes.2.0 goes.2.1 goes.2.2 how told says goes.2.3)
+
+-- ---- a tree's words were to be written
+
+module _ (c : Call) (frames : ℕ) (path : List ℕ) (args : List (List ℕ)) (asked : AsksFor c.words (Emit frames) path args) (bytes : List ℕ) (file : IsFile c.files_before path bytes) (tree : Tree) (only : IsOnlyTree (format_of path) bytes tree) where
+  module _ (p : Prog) (program : IsAcceptedProgram tree p) (limits : Limits) (frames_are : limits.frames ≡ frames) (cells_are : limits.cells ≡ default_cells) where
+    module _ (within : IsWithin p limits) (output : List ℕ) (lists : ListsImage p limits output) where
+      emits : Emits c.files_before path frames output
+      emits = record {
+        program = p;
+        is = program_file c (Emit frames) path args asked tt bytes file tree only p program;
+        limits = limits;
+        frames_are = frames_are;
+        cells_are = cells_are;
+        within = within;
+        image = lists;
       }
-      Answers-program (status.StackTooBig words) says runs = record {
-        action = Run;
+
+      Answers-listed : (how : Status) → SaysStatus how path c.err_before c.err_after → PutsListing how output c.out_before c.out_after → Answers (status_number how) c
+      Answers-listed status.Done says puts = record {
+        action = Emit frames;
         path = path;
         args = args;
         asked = asked;
-        passes = inr (
-          refl,
-          inr (record {
-            program = p;
-            is = straight_file;
-            short_code = runs.0.0;
-            long = runs.0.1;
-            alone = record { silent = runs.1; says = subst (λ n. Says c.err_before (stack_line n) c.err_after) runs.0.2 says };
-          }),
-        );
+        told = [];
+        output = output;
+        produces = (refl, emits);
+        took = puts;
+        says = says_nothing says;
+        quiet = λ none. says;
       }
-      Answers-program status.OutOfMemory says runs = Answers-exhausted c Run path args asked says runs
-      Answers-program status.CannotWrite says runs = record {
-        action = Run;
+      Answers-listed status.CannotWrite says puts = record {
+        action = Emit frames;
         path = path;
         args = args;
         asked = asked;
-        output = runs.1.output;
-        puts = runs_file runs.0 runs.1.output runs.1.prints;
-        took = runs.1.took;
-        rose = runs.1.rose;
+        output = output;
+        puts = emits;
+        took = puts.0;
+        rose = puts.1;
         says = says;
       }
-      Answers-program _ says runs = absurd runs
+      Answers-listed _ says puts = absurd puts
 
-  Answers-run : (how : Status) → SaysStatus how path c.err_before c.err_after → AsksProgram Run how tree args c.out_before c.out_after → Answers (status_number how) c
-  Answers-run how says =
-      ⊎_elim (λ refused. Answers-refused c Run path args asked tt bytes file tree only how says refused.0 refused.1)
-      (λ runs. ⊎_elim (λ form. Answers-crooked runs.0 runs.1 how says form.0 form.1 form.2)
-      (λ goes. Answers-program runs.0 runs.1 goes.0 how says goes.1)
-      runs.2)
+    Answers-image : (how : Status) → SaysStatus how path c.err_before c.err_after → EmitsProgram how p limits c.out_before c.out_after → Answers (status_number how) c
+    Answers-image how says =
+        ⊎_elim (λ long. Answers-long c (Emit frames) path args asked tt bytes file tree only p program limits (frames_are, cells_are) how says long.0 long.1)
+        (λ goes. Answers-listed goes.0 goes.1.0 goes.1.1 how says goes.1.2)
+
+  Answers-emit : (how : Status) → SaysStatus how path c.err_before c.err_after → AsksProgram (Emit frames) how tree args [] c.out_before c.out_after → Answers (status_number how) c
+  Answers-emit how says =
+      ⊎_elim (λ refused. Answers-refused c (Emit frames) path args asked tt bytes file tree only how says refused.0 refused.2)
+      (λ goes. Answers-image goes.0 goes.1 goes.2.0 goes.2.1 goes.2.2 how says goes.2.3)
 
 -- ---- a tree was to be checked
 
 module _ (c : Call) (path : List ℕ) (args : List (List ℕ)) (asked : AsksFor c.words Check path args) (bytes : List ℕ) (file : IsFile c.files_before path bytes) (tree : Tree) (only : IsOnlyTree (format_of path) bytes tree) where
   Answers-checked : (how : Status) → SaysStatus how path c.err_before c.err_after → (p : Prog) → IsAcceptedProgram tree p → PutsText how (accepted_line p) c.out_before c.out_after → Answers (status_number how) c
-  Answers-checked how says p program puts = Answers-put c Check path args asked (accepted_line p) (record {
-    bytes = bytes;
-    file = file;
-    program = p;
-    source = IsOnlySource-of (format_of path) bytes tree only p program.only;
-    accepted = program.sound.accepted;
-    text = refl;
-  }) how says puts
+  Answers-checked how says p program puts =
+      let checks : Checks c.files_before path (accepted_line p) = record {
+        bytes = bytes;
+        file = file;
+        program = p;
+        source = IsOnlySource-of (format_of path) bytes tree only p program.only;
+        accepted = program.sound.accepted;
+        text = refl;
+      } in
+      Answers-put c Check path args asked (accepted_line p) (refl, checks) checks how says puts
 
-  Answers-check : (how : Status) → SaysStatus how path c.err_before c.err_after → AsksProgram Check how tree args c.out_before c.out_after → Answers (status_number how) c
+  Answers-check : (how : Status) → SaysStatus how path c.err_before c.err_after → AsksProgram Check how tree args [] c.out_before c.out_after → Answers (status_number how) c
   Answers-check how says =
-      ⊎_elim (λ refused. Answers-refused c Check path args asked tt bytes file tree only how says refused.0 refused.1)
+      ⊎_elim (λ refused. Answers-refused c Check path args asked tt bytes file tree only how says refused.0 refused.2)
       (λ puts. Answers-checked how says puts.0 puts.1 puts.2)
 
 -- ---- a tree was to be interpreted
 
 module _ (c : Call) (frames cells steps : ℕ) (path : List ℕ) (args : List (List ℕ)) (asked : AsksFor c.words (Interpret frames cells steps) path args) (bytes : List ℕ) (file : IsFile c.files_before path bytes) (tree : Tree) (only : IsOnlyTree (format_of path) bytes tree) where
   module _ (p : Prog) (program : IsAcceptedProgram tree p) where
-    source_of : IsOnlySource (format_of path) bytes p
-    source_of = IsOnlySource-of (format_of path) bytes tree only p program.only
-
-    misargued : (fault : ArgFault) → HasOnlyArgFault (main_types p) args fault → Says c.err_before (argument_line fault) c.err_after → c.out_after ≡ c.out_before → Answers 69 c
-    misargued fault has says silent = record {
-      frames = frames;
-      cells = cells;
-      steps = steps;
-      path = path;
-      args = args;
-      asked = asked;
-      bytes = bytes;
-      file = file;
-      program = p;
-      source = source_of;
-      accepted = program.sound.accepted;
-      fault = fault;
-      only = has;
-      alone = record { silent = silent; says = says };
-    }
-
-    Answers-misargued : (how : Status) → SaysStatus how path c.err_before c.err_after → RefusesArgs how p args → c.out_after ≡ c.out_before → Answers (status_number how) c
-    Answers-misargued (status.ArgumentCount given wanted) says refuses silent = misargued (argument.Count given wanted) refuses says silent
-    Answers-misargued (status.BadArgument place) says refuses silent = misargued (argument.Spelling place) refuses says silent
-    Answers-misargued status.OutOfMemory says refuses silent = Answers-exhausted c (Interpret frames cells steps) path args asked says silent
-    Answers-misargued _ says refuses silent = absurd refuses
-
     module _ (limits : Limits) (frames_are : limits.frames ≡ frames) (cells_are : limits.cells ≡ cells) (values : List Value) (are : AreOnlyValues p args values) where
       printed : List ℕ
       printed = (state_after p limits values steps).printed
@@ -344,7 +438,7 @@ module _ (c : Call) (frames cells steps : ℕ) (path : List ℕ) (args : List (L
         bytes = bytes;
         file = file;
         program = p;
-        source = source_of;
+        source = IsOnlySource-of (format_of path) bytes tree only p program.only;
         accepted = program.sound.accepted;
         shows = record {
           values = values;
@@ -362,7 +456,7 @@ module _ (c : Call) (frames cells steps : ℕ) (path : List ℕ) (args : List (L
         bytes = bytes;
         file = file;
         program = p;
-        source = source_of;
+        source = IsOnlySource-of (format_of path) bytes tree only p program.only;
         accepted = program.sound.accepted;
         values = values;
         spelled = are.spelled;
@@ -379,33 +473,33 @@ module _ (c : Call) (frames cells steps : ℕ) (path : List ℕ) (args : List (L
         path = path;
         args = args;
         asked = asked;
+        told = [];
         output = printed;
-        produces = interprets (Some end.Ended) goes.0;
+        produces = (refl, interprets (Some end.Ended) goes.0);
         took = goes.1;
-        quiet = says;
+        says = says_nothing says;
+        quiet = λ none. says;
       }
       Answers-steps (status.Faulted fault) says goes = record {
-        frames = frames;
-        cells = cells;
-        steps = steps;
+        action = Interpret frames cells steps;
         path = path;
         args = args;
         asked = asked;
         fault = fault;
+        told = [];
         output = printed;
-        interprets = interprets (Some (end.Faulted fault)) goes.0;
+        prints = (refl, interprets (Some (end.Faulted fault)) goes.0);
         took = goes.1;
         says = says;
       }
       Answers-steps (status.Spent made) says goes = record {
-        frames = frames;
-        cells = cells;
-        steps = steps;
+        action = Interpret frames cells steps;
         path = path;
         args = args;
         asked = asked;
+        told = [];
         output = printed;
-        interprets = interprets None goes.1.0;
+        prints = (refl, interprets None goes.1.0);
         took = goes.1.1;
         says = subst (λ n. Says c.err_before (spent_line n) c.err_after) goes.0 says;
       }
@@ -432,28 +526,50 @@ module _ (c : Call) (frames cells steps : ℕ) (path : List ℕ) (args : List (L
 
     Answers-interpreted : (how : Status) (limits : Limits) → limits.frames ≡ frames → limits.cells ≡ cells → SaysStatus how path c.err_before c.err_after → InterpretsProgram how p args limits steps c.out_before c.out_after → Answers (status_number how) c
     Answers-interpreted how limits frames_are cells_are says =
-        ⊎_elim (λ refused. Answers-misargued how says refused.0 refused.1)
+        ⊎_elim (λ refused. Answers-misargued c (Interpret frames cells steps) path args asked tt bytes file tree only p program tt how says refused.0 refused.1)
         (λ goes. Answers-steps limits frames_are cells_are goes.0 goes.1 how says goes.2)
 
-  Answers-interpret : (how : Status) → SaysStatus how path c.err_before c.err_after → AsksProgram (Interpret frames cells steps) how tree args c.out_before c.out_after → Answers (status_number how) c
+  Answers-interpret : (how : Status) → SaysStatus how path c.err_before c.err_after → AsksProgram (Interpret frames cells steps) how tree args [] c.out_before c.out_after → Answers (status_number how) c
   Answers-interpret how says =
-      ⊎_elim (λ refused. Answers-refused c (Interpret frames cells steps) path args asked tt bytes file tree only how says refused.0 refused.1)
+      ⊎_elim (λ refused. Answers-refused c (Interpret frames cells steps) path args asked tt bytes file tree only how says refused.0 refused.2)
       (λ goes. Answers-interpreted goes.0 goes.1 how goes.2.0 goes.2.1 goes.2.2 says goes.2.3)
 
 -- ---- a tree was dealt with
 
-Answers-tree : (c : Call) (action : Action) (path : List ℕ) (args : List (List ℕ)) (how : Status) → AsksFor c.words action path args → SaysStatus how path c.err_before c.err_after → DealsWithTree action how c.files_before path args c.out_before c.out_after → Answers (status_number how) c
-Answers-tree c Run path args how asked says deals = Answers-run c path args asked deals.bytes deals.file deals.tree deals.only how says deals.does
-Answers-tree c (Interpret frames cells steps) path args how asked says deals = Answers-interpret c frames cells steps path args asked deals.bytes deals.file deals.tree deals.only how says deals.does
-Answers-tree c Check path args how asked says deals = Answers-check c path args asked deals.bytes deals.file deals.tree deals.only how says deals.does
-Answers-tree c WriteText path args how asked says deals =
-    Answers-put c WriteText path args asked (canonical_text deals.tree) (record { bytes = deals.bytes; file = deals.file; tree = deals.tree; reads = deals.only.reads; text = refl }) how says deals.does
-Answers-tree c WriteJson path args how asked says deals =
-    Answers-put c WriteJson path args asked (json_line deals.tree) (record { bytes = deals.bytes; file = deals.file; tree = deals.tree; reads = deals.only.reads; text = refl }) how says deals.does
+module _ (c : Call) (path : List ℕ) (args : List (List ℕ)) (how : Status) where
+  -- `run` alone tells something
+  Answers-untold : (action : Action) → AsksFor c.words action path args → SaysStatus how path c.err_before c.err_after → (bytes : List ℕ) → IsFile c.files_before path bytes → (tree : Tree) → IsOnlyTree (format_of path) bytes tree → Untold action [] → DoesTree action how tree args [] c.out_before c.out_after → Answers (status_number how) c
+  Answers-untold (Run frames cells steps stats) asked says bytes file tree only free does = Answers-run c frames cells steps stats path args asked bytes file tree only how [] (plainly says) does
+    where
+      plainly : SaysStatus how path c.err_before c.err_after → SaysTold [] how path c.err_before c.err_after
+      plainly said = says_told [] how path c.err_before c.err_before c.err_after false (untold false c.err_before refl) said
+  Answers-untold (Interpret frames cells steps) asked says bytes file tree only untold does = Answers-interpret c frames cells steps path args asked bytes file tree only how says does
+  Answers-untold (Emit frames) asked says bytes file tree only untold does = Answers-emit c frames path args asked bytes file tree only how says does
+  Answers-untold Check asked says bytes file tree only untold does = Answers-check c path args asked bytes file tree only how says does
+  Answers-untold WriteText asked says bytes file tree only untold does =
+      let writes : Writes canonical_text c.files_before path (canonical_text tree) = record { bytes = bytes; file = file; tree = tree; reads = only.reads; text = refl } in
+      Answers-put c WriteText path args asked (canonical_text tree) (refl, writes) writes how says does
+  Answers-untold WriteJson asked says bytes file tree only untold does =
+      let writes : Writes json_line c.files_before path (json_line tree) = record { bytes = bytes; file = file; tree = tree; reads = only.reads; text = refl } in
+      Answers-put c WriteJson path args asked (json_line tree) (refl, writes) writes how says does
+
+  quietly : (action : Action) (told : List ℕ) → AsksFor c.words action path args → SaysTold told how path c.err_before c.err_after → DealsWithTree action how c.files_before path args told c.out_before c.out_after → told ≡ [] → Answers (status_number how) c
+  quietly action told asked says deals none =
+      let deals' : DealsWithTree action how c.files_before path args [] c.out_before c.out_after = subst (λ bytes. DealsWithTree action how c.files_before path args bytes c.out_before c.out_after) none deals in
+      Answers-untold action asked (says.plain none) deals'.bytes deals'.file deals'.tree deals'.only deals'.untold deals'.does
+
+  Answers-tree : (action : Action) (told : List ℕ) → AsksFor c.words action path args → SaysTold told how path c.err_before c.err_after → DealsWithTree action how c.files_before path args told c.out_before c.out_after → Answers (status_number how) c
+  Answers-tree (Run frames cells steps stats) told asked says deals = Answers-run c frames cells steps stats path args asked deals.bytes deals.file deals.tree deals.only how told says deals.does
+  Answers-tree (Interpret frames cells steps) told asked says deals = quietly (Interpret frames cells steps) told asked says deals deals.untold
+  Answers-tree (Emit frames) told asked says deals = quietly (Emit frames) told asked says deals deals.untold
+  Answers-tree Check told asked says deals = quietly Check told asked says deals deals.untold
+  Answers-tree WriteText told asked says deals = quietly WriteText told asked says deals deals.untold
+  Answers-tree WriteJson told asked says deals = quietly WriteJson told asked says deals deals.untold
 
 -- what each status says
 pub Answers-of : (c : Call) (action : Action) (path : List ℕ) (args : List (List ℕ)) (how : Status) → Ends c action path args how → Answers (status_number how) c
 Answers-of c action path args how ends =
-    ⊎_elim (Answers-read c action path args ends.asked how ends.says)
-    (⊎_elim (Answers-none c action path args ends.asked how ends.says) (Answers-tree c action path args how ends.asked ends.says))
+    ⊎_elim (λ fails. Answers-read c action path args ends.asked how ends.told (ends.says.plain fails.untold) fails)
+    (⊎_elim (λ finds. Answers-none c action path args ends.asked how ends.told (ends.says.plain finds.untold) finds)
+    (λ deals. Answers-tree c path args how action ends.told ends.asked ends.says deals))
     ends.does

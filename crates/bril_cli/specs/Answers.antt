@@ -1,5 +1,7 @@
 -- What the top call answers: its status, and what it does to the files and its two outputs.
-use Rattle.std.specs.Prelude.{ℕ, ◌≡◌, ◌⊎◌, ◌<◌, ◌≤◌, List, length, Some, None, codes, ◌==◌, Err, MatchBool, ◌↔◌}
+use Rattle.std.specs.Prelude.{ℕ, ◌≡◌, ◌≢◌, ◌⊎◌, ◌<◌, ◌≤◌, List, [], ◌++◌, length, Some, None, codes, ◌==◌, Err, MatchBool, ◌↔◌}
+use Rattle.bril_arguments.specs.Faults.{IsFaultOf}
+use Rattle.bril_arguments.specs.declared.fault.ArgFault.TheVariants.{Memory}
 use Rattle.bril_arguments.specs.declared.fault.ArgFault.{ArgFault}
 use Rattle.bril_checker.specs.Faults as checker
 use Rattle.bril_checker.specs.declared.fault.CheckFault.{CheckFault}
@@ -16,55 +18,58 @@ use Rattle.bril_tree.specs.declared.limits.Fault.{Fault}
 use Rattle.bril_tree.specs.declared.program.Prog.{Prog}
 use Rattle.bril_words.specs.CommandLine.{words_read}
 use Rattle.bril_words.specs.declared.misuse.Misuse.{Misuse}
-use Rattle.bril_words.specs.declared.request.Action.TheVariants.{Run, Interpret}
 use Rattle.bril_words.specs.declared.request.Action.{Action}
+use Rattle.bril_cli.specs.Arguments.{HasOnlyArgFault, argument_line}
 use Rattle.bril_cli.specs.Call.{Call, SaysAlone, ReadsWell, AsksNone, UnlessMemory}
-use Rattle.bril_cli.specs.CommandLine.{format_of, AsksFor, NeedsProgram, AskNothing}
-use Rattle.bril_cli.specs.Driver.{IsFormless, Produces, Puts, Leaves}
-use Rattle.bril_cli.specs.Source.{most_bytes, HasFault, IsOnlyFault, IsSource, IsOnlySource, HasNameFault, HasOnlyNameFault, HasOnlyCheckFault, IsFile}
+use Rattle.bril_cli.specs.CommandLine.{format_of, steps_of, AsksFor, NeedsProgram, GivesArguments, AskNothing}
+use Rattle.bril_cli.specs.Driver.{Produces, Prints, Puts, Leaves}
+use Rattle.bril_cli.specs.Images.{IsLongProgram}
+use Rattle.bril_cli.specs.Source.{most_bytes, HasFault, IsOnlyFault, IsSource, IsOnlySource, HasNameFault, HasOnlyNameFault, HasOnlyCheckFault, HasImports, IsFile}
 use Rattle.bril_cli.specs.commands.Check.{ChecksWhere}
-use Rattle.bril_cli.specs.commands.Interp.{HasOnlyArgFault, Interprets, argument_line, InterpretsWhere, MisarguedWhere}
+use Rattle.bril_cli.specs.commands.Emit.{EmitsWhere, LongEmitWhere}
+use Rattle.bril_cli.specs.commands.Interp.{InterpretsWhere}
 use Rattle.bril_cli.specs.commands.Json.{WritesJsonWhere}
-use Rattle.bril_cli.specs.commands.Run.{LongCode, LongStack, RunsWhere, LongProgramWhere}
+use Rattle.bril_cli.specs.commands.Run.{RunsWhere, EndsWhere, LongRunWhere}
 use Rattle.bril_cli.specs.commands.Text.{WritesTextWhere}
 
--- 0: all was done, and the output took all that the action produces of the file.
+-- 0: all was done, and the output took all that the action produces of the file; the error output what `run` tells of the run.
 pub record Finished (c : Call) : Type 0 where
   pub action : Action
   pub path : List ℕ
   pub args : List (List ℕ)
   pub asked : AsksFor c.words action path args
+  pub told : List ℕ
   pub output : List ℕ
-  pub produces : Produces action c.files_before path args output
+  pub produces : Produces action c.files_before path args told output
   pub took : TookAll c.out_before output c.out_after
-  pub quiet : c.err_after ≡ c.err_before
+  pub says : Says c.err_before told c.err_after
+  pub quiet : told ≡ [] → c.err_after ≡ c.err_before
 
--- 2: the program was interpreted and stopped with a fault, and the output took all that it printed.
+-- 2: the program was run or interpreted and stopped with a fault, and the output took all that it printed.
 pub record Stopped (c : Call) : Type 0 where
-  pub frames : ℕ
-  pub cells : ℕ
-  pub steps : ℕ
+  pub action : Action
   pub path : List ℕ
   pub args : List (List ℕ)
-  pub asked : AsksFor c.words (Interpret frames cells steps) path args
+  pub asked : AsksFor c.words action path args
   pub fault : Fault
+  pub told : List ℕ
   pub output : List ℕ
-  pub interprets : Interprets c.files_before path args frames cells steps (Some (Faulted fault)) output
+  pub prints : Prints action c.files_before path args (Some (Faulted fault)) told output
   pub took : TookAll c.out_before output c.out_after
-  pub says : Says c.err_before (fault_line fault) c.err_after
+  pub says : Says c.err_before (told ++ fault_line fault) c.err_after
 
--- 3: the program was interpreted and goes on after the steps, and the output took all that it printed.
+-- 3: the program was interpreted and goes on after the steps, or was run and the machine goes on after as many words, and the
+-- output took all that was printed.
 pub record GoesOn (c : Call) : Type 0 where
-  pub frames : ℕ
-  pub cells : ℕ
-  pub steps : ℕ
+  pub action : Action
   pub path : List ℕ
   pub args : List (List ℕ)
-  pub asked : AsksFor c.words (Interpret frames cells steps) path args
+  pub asked : AsksFor c.words action path args
+  pub told : List ℕ
   pub output : List ℕ
-  pub interprets : Interprets c.files_before path args frames cells steps None output
+  pub prints : Prints action c.files_before path args None told output
   pub took : TookAll c.out_before output c.out_after
-  pub says : Says c.err_before (spent_line steps) c.err_after
+  pub says : Says c.err_before (told ++ spent_line (steps_of action)) c.err_after
 
 -- 64: the words are not those of a command. No file was read.
 pub record Misused (c : Call) : Type 0 where
@@ -74,12 +79,12 @@ pub record Misused (c : Call) : Type 0 where
   pub alone : SaysAlone c (misuse_line misuse)
 
 -- 65: the file's bytes read as no tree; or the action needs a program, and the tree has imports, or a fault of a
--- name, or a program that isn't accepted; or it is to run one that can't run yet.
+-- name, or a program that isn't accepted.
 pub record FormlessFile (c : Call) (action : Action) (path : List ℕ) : Type 0 where
   pub needs : NeedsProgram action
   pub bytes : List ℕ
   pub file : IsFile c.files_before path bytes
-  pub formless : IsFormless action (format_of path) bytes
+  pub imports : HasImports (format_of path) bytes
   pub alone : SaysAlone c (form_line path)
 
 pub record MisnamedFile (c : Call) (action : Action) (path : List ℕ) : Type 0 where
@@ -123,7 +128,7 @@ pub record CannotRead (c : Call) : Type 0 where
   pub fails : MayFail c.files_before c.files_after path
   pub alone : SaysAlone c (unread_line path)
 
--- 68: the file has too many bytes, or `run` is to run a program of too many words of code or of stack.
+-- 68: the file has too many bytes, or the program that is to be run or emitted has too many words of code or of stack.
 pub record LongFile (c : Call) (path : List ℕ) : Type 0 where
   pub bytes : List ℕ
   pub held : MayHold c.files_before.holds path bytes
@@ -135,16 +140,15 @@ pub record TooLarge (c : Call) : Type 0 where
   pub path : List ℕ
   pub args : List (List ℕ)
   pub asked : AsksFor c.words action path args
-  pub passes : LongFile c path ⊎ ((action ≡ Run) × (LongCode c path ⊎ LongStack c path))
+  pub passes : LongFile c path ⊎ IsLongProgram c action path
 
 -- 69: the file reads as an accepted program, and the arguments don't fit it.
 pub record Misargued (c : Call) : Type 0 where
-  pub frames : ℕ
-  pub cells : ℕ
-  pub steps : ℕ
+  pub action : Action
+  pub gives : GivesArguments action
   pub path : List ℕ
   pub args : List (List ℕ)
-  pub asked : AsksFor c.words (Interpret frames cells steps) path args
+  pub asked : AsksFor c.words action path args
   pub bytes : List ℕ
   pub file : IsFile c.files_before path bytes
   pub program : Prog
@@ -154,7 +158,7 @@ pub record Misargued (c : Call) : Type 0 where
   pub only : HasOnlyArgFault (main_types program) args fault
   pub alone : SaysAlone c (argument_line fault)
 
--- 71: memory ran out, for `run` before the program began to run.
+-- 71: memory ran out, for `run` before the first word was executed, and for `emit` before the first was written.
 pub record Exhausted (c : Call) : Type 0 where
   pub action : Action
   pub path : List ℕ
@@ -209,11 +213,18 @@ UncheckedWhere number c =
     (action : Action) → NeedsProgram action → (bytes : List ℕ) (program : Prog) (fault : CheckFault) (reads : ReadsWell c action bytes) → length bytes ≤ most_bytes → IsSource (format_of reads.path) bytes program →
     checker.HasFault program fault → UnlessMemory number ((number ≡ 65) × Says c.err_before (unaccepted_line program fault) c.err_after)
 
--- A file whose program isn't built, or can't run yet, is told.
+-- A file with imports, whose program isn't built yet, is told.
 abbrev pub FormlessWhere : ℕ → Call → Type 0
 FormlessWhere number c =
-    (action : Action) → NeedsProgram action → (bytes : List ℕ) (reads : ReadsWell c action bytes) → length bytes ≤ most_bytes → IsFormless action (format_of reads.path) bytes →
+    (action : Action) → NeedsProgram action → (bytes : List ℕ) (reads : ReadsWell c action bytes) → length bytes ≤ most_bytes → HasImports (format_of reads.path) bytes →
     UnlessMemory number ((number ≡ 65) × Says c.err_before (form_line reads.path) c.err_after)
+
+-- Arguments that don't fit an accepted program are told.
+abbrev pub MisarguedWhere : ℕ → Call → Type 0
+MisarguedWhere number c =
+    (action : Action) → GivesArguments action → (bytes : List ℕ) (program : Prog) (fault : ArgFault) (reads : ReadsWell c action bytes) → length bytes ≤ most_bytes →
+    IsSource (format_of reads.path) bytes program → IsAccepted program → fault ≢ Memory → IsFaultOf (main_types program) reads.args fault →
+    UnlessMemory number ((number ≡ 69) × Says c.err_before (argument_line fault) c.err_after)
 
 -- No file is at the path.
 abbrev pub LackingWhere : ℕ → Call → Type 0
@@ -239,6 +250,8 @@ pub record Promises (status : ℕ) (c : Call) : Type 0 where
   -- when each status comes; out of memory, 71 comes in place of all but 64
   pub misused : (status ≡ 64) ↔ AskNothing c.words
   pub runs : RunsWhere status c
+  pub ends : EndsWhere status c
+  pub emits : EmitsWhere status c
   pub interprets : InterpretsWhere status c
   pub misargued : MisarguedWhere status c
   pub checks : ChecksWhere status c
@@ -250,4 +263,5 @@ pub record Promises (status : ℕ) (c : Call) : Type 0 where
   pub formless : FormlessWhere status c
   pub lacking : LackingWhere status c
   pub long_file : LongFileWhere status c
-  pub long_program : LongProgramWhere status c
+  pub long_run : LongRunWhere status c
+  pub long_emit : LongEmitWhere status c

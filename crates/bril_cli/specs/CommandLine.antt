@@ -4,7 +4,7 @@ use Rattle.std.specs.List.{ends_with}
 use Rattle.bril_words.specs.CommandLine.{words_read, asked}
 use Rattle.bril_words.specs.declared.misuse.Misuse.{Misuse}
 use Rattle.bril_words.specs.declared.request.Action.{Action}
-use Rattle.bril_words.specs.declared.request.Action.TheVariants.{Run, Interpret, Check, WriteText, WriteJson}
+use Rattle.bril_words.specs.declared.request.Action.TheVariants.{Run, Interpret, Emit, Check, WriteText, WriteJson}
 use Rattle.bril_cli.specs.declared.source.Format.{Format}
 use Rattle.bril_cli.specs.declared.source.Format.TheVariants.{InText, InJson}
 
@@ -18,11 +18,30 @@ AskNothing words = (misuse : Misuse) × (words_read words ≡ Err misuse)
 
 -- the action is on the file's program, and not on its tree alone
 abbrev pub NeedsProgram : Action → Type 0
-NeedsProgram Run = Unit {0}
+NeedsProgram (Run frames cells steps stats) = Unit {0}
 NeedsProgram (Interpret frames cells steps) = Unit {0}
+NeedsProgram (Emit frames) = Unit {0}
 NeedsProgram Check = Unit {0}
 NeedsProgram WriteText = ⊥
 NeedsProgram WriteJson = ⊥
+
+-- the action gives the file's program arguments
+abbrev pub GivesArguments : Action → Type 0
+GivesArguments (Run frames cells steps stats) = Unit {0}
+GivesArguments (Interpret frames cells steps) = Unit {0}
+GivesArguments (Emit frames) = ⊥
+GivesArguments Check = ⊥
+GivesArguments WriteText = ⊥
+GivesArguments WriteJson = ⊥
+
+-- how many steps, or words of the machine, the action makes at most
+abbrev pub steps_of : Action → ℕ
+steps_of (Run frames cells steps stats) = steps
+steps_of (Interpret frames cells steps) = steps
+steps_of (Emit frames) = 0
+steps_of Check = 0
+steps_of WriteText = 0
+steps_of WriteJson = 0
 
 -- the path is that of a file in JSON
 abbrev pub is_json : List ℕ → Bool

@@ -1,5 +1,5 @@
 -- What each action does with its file, stage by stage.
-use Rattle.std.specs.Prelude.{ℕ, ◌≡◌, ◌⊎◌, List, Option, Some}
+use Rattle.std.specs.Prelude.{ℕ, ◌≡◌, ◌⊎◌, List, [], Option, Some}
 use Rattle.bril_outside.specs.Files.{FilesSeen}
 use Rattle.bril_outside.specs.Sink.{SinkSeen, TookAll}
 use Rattle.bril_report.specs.declared.status.Status.{Status}
@@ -8,83 +8,98 @@ use Rattle.bril_tree.specs.declared.limits.End.TheVariants.{Ended}
 use Rattle.bril_tree.specs.declared.limits.End.{End}
 use Rattle.bril_tree.specs.declared.program.Prog.{Prog}
 use Rattle.bril_tree.specs.declared.tree.Tree.{Tree}
-use Rattle.bril_words.specs.declared.request.Action.TheVariants.{Run, Interpret, Check, WriteText, WriteJson}
+use Rattle.bril_words.specs.declared.request.Action.TheVariants.{Run, Interpret, Emit, Check, WriteText, WriteJson}
 use Rattle.bril_words.specs.declared.request.Action.{Action}
 use Rattle.bril_cli.specs.Call.{Call}
 use Rattle.bril_cli.specs.CommandLine.{format_of}
-use Rattle.bril_cli.specs.Source.{IsOnlyTree, HasImports, IsFile, Writes}
+use Rattle.bril_cli.specs.Source.{IsOnlyTree, IsFile, Writes}
 use Rattle.bril_cli.specs.Stages.{RefusesFile, RefusesTree, RefusesProgram, IsAcceptedProgram, PutsText}
 use Rattle.bril_cli.specs.commands.Check.{accepted_line, Checks}
+use Rattle.bril_cli.specs.commands.Emit.{Emits, EmitsWithin}
 use Rattle.bril_cli.specs.commands.Interp.{Interprets, Exhausts, InterpretsWithin}
 use Rattle.bril_cli.specs.commands.Json.{json_line}
-use Rattle.bril_cli.specs.commands.Run.{IsCrooked, Runs, RunsAccepted}
-use Rattle.bril_cli.specs.declared.source.Format.{Format}
+use Rattle.bril_cli.specs.commands.Run.{Runs, RunsAndTells, RunsWithin}
 
 -- what an action on an accepted program, with these arguments, answers
-abbrev pub DoesProgram : Action → Status → Prog → List (List ℕ) → SinkSeen → SinkSeen → Type 0
-DoesProgram Run how p args s t = RunsAccepted how p s t
-DoesProgram (Interpret frames cells steps) how p args s t = InterpretsWithin how p args frames cells steps s t
-DoesProgram Check how p args s t = PutsText how (accepted_line p) s t
-DoesProgram WriteText how p args s t = ⊥
-DoesProgram WriteJson how p args s t = ⊥
+abbrev pub DoesProgram : Action → Status → Prog → List (List ℕ) → List ℕ → SinkSeen → SinkSeen → Type 0
+DoesProgram (Run frames cells steps stats) how p args told s t = RunsWithin how p args frames cells steps stats told s t
+DoesProgram (Interpret frames cells steps) how p args told s t = InterpretsWithin how p args frames cells steps s t
+DoesProgram (Emit frames) how p args told s t = EmitsWithin how p frames s t
+DoesProgram Check how p args told s t = PutsText how (accepted_line p) s t
+DoesProgram WriteText how p args told s t = ⊥
+DoesProgram WriteJson how p args told s t = ⊥
 
--- what an action on the program of a tree answers
-abbrev pub AsksProgram : Action → Status → Tree → List (List ℕ) → SinkSeen → SinkSeen → Type 0
-AsksProgram action how tree args s t =
-    (RefusesProgram how tree × (t ≡ s)) ⊎ ((p : Prog) × IsAcceptedProgram tree p × DoesProgram action how p args s t)
+-- `run` alone may tell something of its run
+abbrev pub Untold : Action → List ℕ → Type 0
+Untold (Run frames cells steps stats) told = Unit {0}
+Untold _ told = told ≡ []
 
-abbrev pub DoesTree : Action → Status → Tree → List (List ℕ) → SinkSeen → SinkSeen → Type 0
-DoesTree Run how tree args s t = AsksProgram Run how tree args s t
-DoesTree (Interpret frames cells steps) how tree args s t = AsksProgram (Interpret frames cells steps) how tree args s t
-DoesTree Check how tree args s t = AsksProgram Check how tree args s t
-DoesTree WriteText how tree args s t = PutsText how (canonical_text tree) s t
-DoesTree WriteJson how tree args s t = PutsText how (json_line tree) s t
+-- what an action on the program of a tree answers, and what it tells of a run
+abbrev pub AsksProgram : Action → Status → Tree → List (List ℕ) → List ℕ → SinkSeen → SinkSeen → Type 0
+AsksProgram action how tree args told s t =
+    (RefusesProgram how tree × (told ≡ []) × (t ≡ s)) ⊎ ((p : Prog) × IsAcceptedProgram tree p × DoesProgram action how p args told s t)
+
+abbrev pub DoesTree : Action → Status → Tree → List (List ℕ) → List ℕ → SinkSeen → SinkSeen → Type 0
+DoesTree (Run frames cells steps stats) how tree args told s t = AsksProgram (Run frames cells steps stats) how tree args told s t
+DoesTree (Interpret frames cells steps) how tree args told s t = AsksProgram (Interpret frames cells steps) how tree args told s t
+DoesTree (Emit frames) how tree args told s t = AsksProgram (Emit frames) how tree args told s t
+DoesTree Check how tree args told s t = AsksProgram Check how tree args told s t
+DoesTree WriteText how tree args told s t = PutsText how (canonical_text tree) s t
+DoesTree WriteJson how tree args told s t = PutsText how (json_line tree) s t
 
 -- the file was not read
-pub record FailsToRead (how : Status) (f g : FilesSeen) (path : List ℕ) (s t : SinkSeen) : Type 0 where
+pub record FailsToRead (how : Status) (f g : FilesSeen) (path told : List ℕ) (s t : SinkSeen) : Type 0 where
   pub refuses : RefusesFile how f g path
+  pub untold : told ≡ []
   pub silent : t ≡ s
 
 -- the file's bytes were not read as a tree
-pub record FindsNoTree (how : Status) (f : FilesSeen) (path : List ℕ) (s t : SinkSeen) : Type 0 where
+pub record FindsNoTree (how : Status) (f : FilesSeen) (path told : List ℕ) (s t : SinkSeen) : Type 0 where
   pub bytes : List ℕ
   pub file : IsFile f path bytes
   pub refuses : RefusesTree how (format_of path) bytes
+  pub untold : told ≡ []
   pub silent : t ≡ s
 
 -- the file's tree was dealt with
-pub record DealsWithTree (action : Action) (how : Status) (f : FilesSeen) (path : List ℕ) (args : List (List ℕ)) (s t : SinkSeen) : Type 0 where
+pub record DealsWithTree (action : Action) (how : Status) (f : FilesSeen) (path : List ℕ) (args : List (List ℕ)) (told : List ℕ) (s t : SinkSeen) : Type 0 where
   pub bytes : List ℕ
   pub file : IsFile f path bytes
   pub tree : Tree
   pub only : IsOnlyTree (format_of path) bytes tree
-  pub does : DoesTree action how tree args s t
+  pub untold : Untold action told
+  pub does : DoesTree action how tree args told s t
 
--- what an action on a file answers
-abbrev pub DoesFile : Action → Status → FilesSeen → FilesSeen → List ℕ → List (List ℕ) → SinkSeen → SinkSeen → Type 0
-DoesFile action how f g path args s t =
-    FailsToRead how f g path s t ⊎ (FindsNoTree how f path s t ⊎ DealsWithTree action how f path args s t)
+-- what an action on a file answers, and what it tells of a run
+abbrev pub DoesFile : Action → Status → FilesSeen → FilesSeen → List ℕ → List (List ℕ) → List ℕ → SinkSeen → SinkSeen → Type 0
+DoesFile action how f g path args told s t =
+    FailsToRead how f g path told s t ⊎ (FindsNoTree how f path told s t ⊎ DealsWithTree action how f path args told s t)
 
--- The bytes read as a tree whose program isn't built yet, or to run can't run yet.
-abbrev pub IsFormless : Action → Format → List ℕ → Type 0
-IsFormless action format bytes = HasImports format bytes ⊎ ((action ≡ Run) × IsCrooked format bytes)
+-- What an action comes to that runs the program of the file at a path: it has ended so within the steps, or goes on for None, and
+-- has printed this; `run` tells something of it, where that is asked for.
+abbrev pub Prints : Action → FilesSeen → List ℕ → List (List ℕ) → Option End → List ℕ → List ℕ → Type 0
+Prints (Run frames cells steps stats) files path args ended told output = RunsAndTells files path args frames cells steps stats ended told output
+Prints (Interpret frames cells steps) files path args ended told output = (told ≡ []) × Interprets files path args frames cells steps ended output
+Prints _ files path args ended told output = ⊥
 
--- What an action produces of the file at a path: `run` and `interp` what its program prints, `check` the line of its
--- accepted program, `text` its canonical text, and `json` its canonical JSON.
-abbrev pub Produces : Action → FilesSeen → List ℕ → List (List ℕ) → List ℕ → Type 0
-Produces Run files path args output = Runs files path output
-Produces (Interpret frames cells steps) files path args output = Interprets files path args frames cells steps (Some Ended) output
-Produces Check files path args output = Checks files path output
-Produces WriteText files path args output = Writes canonical_text files path output
-Produces WriteJson files path args output = Writes json_line files path output
+-- What an action produces of the file at a path: `run` and `interp` what its program prints, `emit` the words of its image,
+-- `check` the line of its accepted program, `text` its canonical text, and `json` its canonical JSON; and what it tells of a run.
+abbrev pub Produces : Action → FilesSeen → List ℕ → List (List ℕ) → List ℕ → List ℕ → Type 0
+Produces (Run frames cells steps stats) files path args told output = RunsAndTells files path args frames cells steps stats (Some Ended) told output
+Produces (Interpret frames cells steps) files path args told output = (told ≡ []) × Interprets files path args frames cells steps (Some Ended) output
+Produces (Emit frames) files path args told output = (told ≡ []) × Emits files path frames output
+Produces Check files path args told output = (told ≡ []) × Checks files path output
+Produces WriteText files path args told output = (told ≡ []) × Writes canonical_text files path output
+Produces WriteJson files path args told output = (told ≡ []) × Writes json_line files path output
 
--- What an action puts on the output at most: what it produces, and `interp` what the program prints within the steps.
+-- What an action puts on the output at most: what it produces, and `run` and `interp` what the program prints within the steps.
 abbrev pub Puts : Action → FilesSeen → List ℕ → List (List ℕ) → List ℕ → Type 0
-Puts Run files path args output = Produces Run files path args output
+Puts (Run frames cells steps stats) files path args output = (ended : Option End) × Runs files path args frames cells steps ended output
 Puts (Interpret frames cells steps) files path args output = (ended : Option End) × Interprets files path args frames cells steps ended output
-Puts Check files path args output = Produces Check files path args output
-Puts WriteText files path args output = Produces WriteText files path args output
-Puts WriteJson files path args output = Produces WriteJson files path args output
+Puts (Emit frames) files path args output = Emits files path frames output
+Puts Check files path args output = Checks files path output
+Puts WriteText files path args output = Writes canonical_text files path output
+Puts WriteJson files path args output = Writes json_line files path output
 
 -- What an action leaves on the output where memory ran out: nothing, or for `interp` what the program prints up to an
 -- item that takes memory.

@@ -1,11 +1,10 @@
 pub mod Answers
+pub mod Arguments
 pub mod Call
-pub mod Implements
 pub mod CommandLine
 pub mod Driver
-pub mod Emitted
-pub mod Refusal
+pub mod Images
 pub mod Source
 pub mod Stages
-pub mod Straight
+pub mod Stats
 pub mod commands

@@ -1,5 +1,6 @@
 -- What each command does.
 pub mod Check
+pub mod Emit
 pub mod Interp
 pub mod Json
 pub mod Run

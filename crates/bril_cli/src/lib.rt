@@ -1,10 +1,11 @@
 //! The command line of Roolvist: what its words ask for is done, and the exit status says how it ended.
 #![tactic(auto)]
 
+mod arguments;
 mod commands;
 mod driver;
-mod emission;
+mod image;
 mod program;
 mod source;
-mod straight;
+mod stats;
 pub mod top;

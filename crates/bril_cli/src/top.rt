@@ -3,6 +3,7 @@
 ghost use Rattle.std.specs.Prelude.{◌≡◌, ◌≤◌};
 ghost use Rattle.bril_cli.specs.Answers.{Promises};
 ghost use Rattle.bril_cli.specs.Call.{call_of};
+ghost use Rattle.bril_cli.specs.Stats.{SaysUnless};
 
 use crate::driver::drive;
 use bril_outside::files::Files;
@@ -15,30 +16,35 @@ use std::alloc::Global;
 /// Does what the words ask for, and answers the exit status.
 ///
 /// The words are the program's name, a command, and the path of a file: one byte or more, of which the first
-/// is no `-`. The commands are `run`, which runs the file's program, `interp`, which interprets it, `check`, which writes
-/// how many functions and items its accepted program has, and `text` and `json`, which write the file in canonical text,
-/// and in canonical JSON and LF. After the path of `interp` there may be options, each with its number as the next word,
-/// `--frames` (from 1 to 65,536; 8,192 where it isn't given), `--cells` (to 4,194,304; 1,048,576) and `--steps` (to
-/// 1,000,000,000,000; 1,000,000,000), and then `--` and the arguments of `@main`. A file whose path ends in `.json` is in
-/// the JSON form of the Bril documentation, and any other in its text form. To be checked, interpreted or run it has to be
-/// without imports. To be run its program has to be straight: one function `@main` of constants, sums and prints of ints,
-/// each variable assigned before it is read. It is made into words of RV64I, which a machine runs; what that prints and
-/// how it ends is what the clauses tell.
+/// is no `-`. The commands are `run`, which makes the file's program into machine words and runs these, `interp`, which
+/// interprets it, `emit`, which writes its machine words, `check`, which writes how many functions and items its accepted
+/// program has, and `text` and `json`, which write the file in canonical text, and in canonical JSON and LF. After the path of
+/// `run` and `interp` there may be options, each with its number as the next word, `--frames` (from 1 to 65,536; 8,192 where it
+/// isn't given), `--cells` (to 4,194,304; 1,048,576) and `--steps` (to 1,000,000,000,000; 1,000,000,000), and then `--` and the
+/// arguments of `@main`; for `run` also `--stats`; after that of `emit` there may be `--frames`. A file whose path ends in `.json` is in the JSON form of
+/// the Bril documentation, and any other in its text form. To be checked, interpreted, emitted or run it has to be without
+/// imports.
+///
+/// `run` makes the program into words of RV64I with multiplication and division, and a machine executes `--steps` of them at most.
+/// What they print is what the program prints by its semantics, and the machine ends as the program does: where the program ends
+/// after n steps, `run` has its end if `--steps` is at least the cost of n + 1 steps (`bril_tree/specs/Cost.antt`). With `--stats`,
+/// after a run that ended, stopped with a fault or goes on, `err` gets the line `words W`, W being the words that were executed, and
+/// for each guard of the program, in the order of functions and items, the line `guard @F I fails K`: its function, its item from 0,
+/// and how often it failed; then the line of the status.
 ///
 /// | Status | Comes | Line on `err` |
 /// |---|---|---|
-/// | 0 | all was done: `out` took all that the program prints up to its end, or `ok FUNCTIONS ITEMS` and LF, or the canonical text or JSON | none |
-/// | 2 | the program was interpreted and stopped with a fault; `out` took all that it printed | `fault K NAME` |
-/// | 3 | the program was interpreted and goes on after so many steps; `out` took all that it printed | `spent STEPS` |
+/// | 0 | all was done: `out` took all that the program prints up to its end, or its machine words, each in eight hexadecimal digits and LF, or `ok FUNCTIONS ITEMS` and LF, or the canonical text or JSON | none |
+/// | 2 | the program was run or interpreted and stopped with a fault; `out` took all that it printed | `fault K NAME` |
+/// | 3 | the program was interpreted and goes on after so many steps, or the machine after so many words; `out` took all that was printed | `spent STEPS` |
 /// | 64 | the words are any others | `usage`, or `usage: OPTION` for an option's number |
 /// | 65 | the file is no program in its form | `PATH: text K at AT`, `PATH: json K function F item I` |
-/// | 65 | the file is to be checked, interpreted or run and has imports | `PATH: form` |
-/// | 65 | the file is to be checked, interpreted or run, and a name in it stands twice or for nothing | `name K function F item I` |
-/// | 65 | the file is to be checked, interpreted or run, and its program isn't accepted | `check K function F item I`, for K = 3 with ` variable NAME` after it |
-/// | 65 | the file is to be run, and its accepted program isn't straight | `PATH: form` |
+/// | 65 | the file is to be checked, interpreted, emitted or run and has imports | `PATH: form` |
+/// | 65 | the file is to be checked, interpreted, emitted or run, and a name in it stands twice or for nothing | `name K function F item I` |
+/// | 65 | the file is to be checked, interpreted, emitted or run, and its program isn't accepted | `check K function F item I`, for K = 3 with ` variable NAME` after it |
 /// | 66 | the file is not there, or reading it failed | `cannot read PATH` |
-/// | 68 | the file has more than 16,777,216 bytes, or the program's words may be more than 250,000, or its 8,192 frames need more than 8,388,608 words | `too large: bytes`, `too large: code WORDS`, `too large: stack WORDS` |
-/// | 69 | the program is to be interpreted, and the arguments are not as many as `@main` takes, or one spells no value of its type, the first of them at this place from 1 | `arguments: GIVEN given, WANTED wanted`, `argument PLACE` |
+/// | 68 | the file has more than 16,777,216 bytes, or the program's machine words may be more than 250,000, or its frames need more than 8,388,608 words | `too large: bytes`, `too large: code WORDS`, `too large: stack WORDS` |
+/// | 69 | the program is to be run or interpreted, and the arguments are not as many as `@main` takes, or one spells no value of its type, the first of them at this place from 1 | `arguments: GIVEN given, WANTED wanted`, `argument PLACE` |
 /// | 71 | memory ran out before anything was put on `out` or, for `interp`, at an item that takes memory, up to which `out` took what the program prints | `out of memory` |
 /// | 74 | a write to `out` failed, which took the first of what goes there | `cannot write` |
 ///
@@ -76,7 +82,17 @@ pub fn bril_top<F: Files, O: Sink, E: Sink>(
             return status_number(&Status::Misused { misuse });
         }
     };
-    let status = Status::from(drive(alloc, request, files, out));
-    say(err, request.path, &status);
+    let mut silenced = false;
+    let status = Status::from(drive(alloc, request, files, out, err, &mut silenced));
+    say_unless(silenced, err, request.path, &status);
     status_number(&status)
+}
+
+// Puts the line of a status, unless a put before it failed.
+fn say_unless<E: Sink>(silenced: bool, err: &mut E, path: &Text, status: &Status)
+    ensures { SaysUnless silenced status.now path.now (E.seen err.old) (E.seen err.new) }
+{
+    if !silenced {
+        say(err, path, status);
+    }
 }

@@ -435,7 +435,7 @@ fn put_four<E: Sink>(err: &mut E, a: &[u8], b: &[u8], c: &[u8], d: &[u8]) -> Res
 }
 
 // Puts five pieces.
-fn put_five<E: Sink>(
+pub(crate) fn put_five<E: Sink>(
     err: &mut E,
     a: &[u8],
     b: &[u8],
@@ -467,7 +467,7 @@ fn put_around<E: Sink>(err: &mut E, front: &[u8], back: &[u8]) -> Result<(), Fai
 }
 
 // Puts a line that ends with a number.
-fn put_number<E: Sink>(err: &mut E, front: &[u8], number: u64) -> Result<(), Failed>
+pub(crate) fn put_number<E: Sink>(err: &mut E, front: &[u8], number: u64) -> Result<(), Failed>
     ensures { PutsPieces result (E.seen err.old) (number_pieces front.now number) (E.seen err.new) }
 {
     let mut buffer = Buffer::new();

@@ -22,11 +22,11 @@ pub enum Status {
     Done,
     /// The program stopped with this fault.
     Faulted { fault: Fault },
-    /// The program still runs after so many steps.
+    /// The program still runs after so many steps, or the machine after so many words.
     Spent { steps: u64 },
     /// The words ask for nothing.
     Misused { misuse: Misuse },
-    /// The file has imports, or its accepted program can't run yet, since it isn't straight.
+    /// The file has imports.
     Unsupported,
     /// The file's bytes read as no tree.
     Misread { fault: SourceFault },

@@ -1,4 +1,4 @@
--- What the options of `interp` are where they aren't given. `run` has the same limits.
+-- What the options are where they aren't given.
 use Rattle.std.specs.Prelude.{ℕ}
 
 abbrev pub default_frames : ℕ

@@ -1,7 +1,7 @@
 -- What words ask for.
 use Rattle.std.specs.Prelude.{ℕ, ◌≤◌, List}
 use Rattle.bril_words.specs.declared.request.Action.{Action}
-use Rattle.bril_words.specs.declared.request.Action.TheVariants.{Run, Interpret, Check, WriteText, WriteJson}
+use Rattle.bril_words.specs.declared.request.Action.TheVariants.{Run, Interpret, Emit, Check, WriteText, WriteJson}
 
 -- an action, the path of its file, and the arguments of the file's program
 pub record Asked : Type 0 where
@@ -18,9 +18,14 @@ pub record AreLimits (frames cells steps : ℕ) : Type 0 where
   pub some_steps : 1 ≤ steps
   pub few_steps : steps ≤ 1000000000000
 
+pub record AreFrames (frames : ℕ) : Type 0 where
+  pub some : 1 ≤ frames
+  pub few : frames ≤ 65536
+
 abbrev pub IsActionInRange : Action → Type 0
-IsActionInRange Run = Unit {0}
+IsActionInRange (Run frames cells steps stats) = AreLimits frames cells steps
 IsActionInRange (Interpret frames cells steps) = AreLimits frames cells steps
+IsActionInRange (Emit frames) = AreFrames frames
 IsActionInRange Check = Unit {0}
 IsActionInRange WriteText = Unit {0}
 IsActionInRange WriteJson = Unit {0}

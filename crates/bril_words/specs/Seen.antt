@@ -4,7 +4,8 @@ use Rattle.std.specs.Prelude.{ℕ, List, Option}
 use Rattle.std.specs.Option.{option_map}
 use Rattle.bril_words.specs.declared.options.Values.{Values}
 use Rattle.bril_words.specs.declared.request.Request.{Request}
-use Rattle.bril_words.specs.CommandLine.{Written}
+use Rattle.bril_words.specs.declared.words.Numbers.{Numbers as NumbersRead}
+use Rattle.bril_words.specs.CommandLine.{Written, Numbers}
 use Rattle.bril_words.specs.Request.{Asked}
 
 abbrev pub request_seen : Request → Asked
@@ -14,4 +15,7 @@ abbrev pub text_seen : Option (Bor (List ℕ)) → Option (List ℕ)
 text_seen = option_map (λ t. t.now)
 
 abbrev pub values_seen : Values → Written
-values_seen v = record { frames = text_seen v.frames; cells = text_seen v.cells; steps = text_seen v.steps }
+values_seen v = record { frames = text_seen v.frames; cells = text_seen v.cells; steps = text_seen v.steps; stats = v.stats }
+
+abbrev pub numbers_seen : NumbersRead → Numbers
+numbers_seen n = record { frames = n.frames; cells = n.cells; steps = n.steps; stats = n.stats; args = n.args.now }

@@ -1,13 +1,13 @@
 // Why words ask for nothing.
 
-/// An option of `interp`.
+/// An option of `run`, `interp` or `emit`.
 #[derive(Clone, Copy, PartialEq, Eq, Debug, Drop)]
 pub enum Setting {
     /// `--frames`: the most frames at once, 1 to 65,536.
     Frames,
     /// `--cells`: the most cells that are given out, 1 to 4,194,304.
     Cells,
-    /// `--steps`: the most steps that are made, 1 to 1,000,000,000,000.
+    /// `--steps`: the most steps, or words of the machine, that are made, 1 to 1,000,000,000,000.
     Steps,
 }
 

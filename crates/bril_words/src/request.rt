@@ -5,10 +5,24 @@ use bril_tree::text::Text;
 /// What a command does with its file.
 #[derive(Clone, Copy, PartialEq, Eq, Debug, Drop)]
 pub enum Action {
-    /// Runs its program.
-    Run,
+    /// Runs its program on the machine, with so many frames and cells at most and so many words, and tells the counts of
+    /// the run or doesn't.
+    Run {
+        frames: u32,
+        cells: u32,
+        steps: u64,
+        stats: bool,
+    },
     /// Interprets its program, with so many frames and cells at most and so many steps.
-    Interpret { frames: u32, cells: u32, steps: u64 },
+    Interpret {
+        frames: u32,
+        cells: u32,
+        steps: u64,
+    },
+    /// Writes the machine words of its program, with so many frames at most.
+    Emit {
+        frames: u32,
+    },
     /// Writes how many functions and items its program has, where it is accepted.
     Check,
     /// Writes its canonical text.

@@ -1,10 +1,11 @@
 // The words of the command line.
 
-ghost use Rattle.std.specs.Prelude.{◌≡◌, IfOk};
+ghost use Rattle.std.specs.Prelude.{◌≡◌, true, false, None, IfOk};
 ghost use Rattle.std.specs.Result.{result_map_both};
-ghost use Rattle.bril_words.specs.CommandLine.{words_read, is_operand, tail_from, nothing_written, command_asked, interp_asked, plain_asked};
-ghost use Rattle.bril_words.specs.Request.{IsActionInRange};
-ghost use Rattle.bril_words.specs.Seen.{request_seen};
+ghost use Rattle.bril_words.specs.CommandLine.{words_read, is_operand, tail_from, nothing_written, numbers_of, frames_written, frames_of, command_asked, run_asked, interp_asked, emit_asked, plain_asked};
+ghost use Rattle.bril_words.specs.Request.{AreLimits, AreFrames, IsActionInRange};
+ghost use Rattle.bril_words.specs.Seen.{request_seen, numbers_seen, text_seen};
+ghost use Rattle.std.specs.Option.{option_map};
 
 use crate::misuse::{Misuse, Setting};
 use crate::options::{tail_of, value_of};
@@ -30,10 +31,10 @@ pub const STEPS: u64 = 1_000_000_000;
 /// What the words ask for. Takes no memory.
 ///
 /// The words are the program's name, a command, and the path of a file: one byte or more, of which the first is no
-/// `-`. The commands are `run`, `check`, `text` and `json`, with nothing after the path, and `interp`, with options
-/// after the path, each at most once and as two words, `--frames N`, `--cells N` and `--steps N`, and then perhaps
-/// `--` and the arguments of the program. Where an option doesn't stand it is 8,192 frames, 1,048,576 cells and
-/// 1,000,000,000 steps.
+/// `-`. The commands are `check`, `text` and `json`, with nothing after the path, `run` and `interp`, with options
+/// after the path, each at most once and as two words, `--frames N`, `--cells N` and `--steps N`, and for `run` the flag
+/// `--stats`, and then perhaps `--` and the arguments of the program, and `emit`, with perhaps `--frames N` after the path. Where an option
+/// isn't given it is 8,192 frames, 1,048,576 cells and 1,000,000,000 steps.
 ///
 /// `Words`: the words are any others. `Value`: they are these, and this is the first of frames, cells and steps whose
 /// value is no number as `bril_nums::read_int` reads it, or is out of its range.
@@ -55,8 +56,9 @@ fn read_command<'a>(name: &str, path: &'a Text, rest: &'a [Text]) -> Result<Requ
     ensures range { IfOk result (λ request. IsActionInRange request.action) }
 {
     match name {
-        "run" => read_plain(Action::Run, path, rest),
+        "run" => read_run(path, rest),
         "interp" => read_interp(path, rest),
+        "emit" => read_emit(path, rest),
         "check" => read_plain(Action::Check, path, rest),
         "text" => read_plain(Action::WriteText, path, rest),
         "json" => read_plain(Action::WriteJson, path, rest),
@@ -80,12 +82,59 @@ fn read_plain<'a>(action: Action, path: &'a Text, rest: &'a [Text]) -> Result<Re
     }
 }
 
-// The command `interp`.
-fn read_interp<'a>(path: &'a Text, rest: &'a [Text]) -> Result<Request<'a>, Misuse>
-    ensures read { result_map_both request_seen (λ e. e) result ≡ interp_asked path.now (tail_from nothing_written rest.now) }
+// The numbers of a run, whether its counts are told, and the arguments of its program.
+#[derive(Clone, Copy, Drop)]
+struct Numbers<'a> {
+    frames: u32,
+    cells: u32,
+    steps: u64,
+    stats: bool,
+    args: &'a [Text],
+}
+
+// The command `run`.
+fn read_run<'a>(path: &'a Text, rest: &'a [Text]) -> Result<Request<'a>, Misuse>
+    ensures read { result_map_both request_seen (λ e. e) result ≡ run_asked path.now (numbers_of (tail_from true nothing_written None rest.now)) }
     ensures range { IfOk result (λ request. IsActionInRange request.action) }
 {
-    let (values, args) = tail_of(rest).ok_or(Misuse::Words)?;
+    let numbers = read_numbers(true, rest)?;
+    let action = Action::Run {
+        frames: numbers.frames,
+        cells: numbers.cells,
+        steps: numbers.steps,
+        stats: numbers.stats,
+    };
+    Ok(Request {
+        action,
+        path,
+        args: numbers.args,
+    })
+}
+
+// The command `interp`.
+fn read_interp<'a>(path: &'a Text, rest: &'a [Text]) -> Result<Request<'a>, Misuse>
+    ensures read { result_map_both request_seen (λ e. e) result ≡ interp_asked path.now (numbers_of (tail_from false nothing_written None rest.now)) }
+    ensures range { IfOk result (λ request. IsActionInRange request.action) }
+{
+    let numbers = read_numbers(false, rest)?;
+    let action = Action::Interpret {
+        frames: numbers.frames,
+        cells: numbers.cells,
+        steps: numbers.steps,
+    };
+    Ok(Request {
+        action,
+        path,
+        args: numbers.args,
+    })
+}
+
+// The numbers that the options give, whether the flag stands where it is taken, and the arguments after them.
+fn read_numbers<'a>(takes_stats: bool, rest: &'a [Text]) -> Result<Numbers<'a>, Misuse>
+    ensures read { result_map_both numbers_seen (λ e. e) result ≡ numbers_of (tail_from takes_stats nothing_written None rest.now) }
+    ensures range { IfOk result (λ numbers. AreLimits numbers.frames numbers.cells numbers.steps) }
+{
+    let (values, args) = tail_of(takes_stats, rest).ok_or(Misuse::Words)?;
     let frames = value_of(MOST_FRAMES, FRAMES as u64, values.frames).ok_or(Misuse::Value {
         setting: Setting::Frames,
     })?;
@@ -95,12 +144,49 @@ fn read_interp<'a>(path: &'a Text, rest: &'a [Text]) -> Result<Request<'a>, Misu
     let steps = value_of(MOST_STEPS, STEPS, values.steps).ok_or(Misuse::Value {
         setting: Setting::Steps,
     })?;
-    let action = Action::Interpret {
+    Ok(Numbers {
         frames: frames as u32,
         cells: cells as u32,
         steps,
-    };
-    Ok(Request { action, path, args })
+        stats: values.stats,
+        args,
+    })
+}
+
+// The command `emit`.
+fn read_emit<'a>(path: &'a Text, rest: &'a [Text]) -> Result<Request<'a>, Misuse>
+    ensures read { result_map_both request_seen (λ e. e) result ≡ emit_asked path.now (frames_of (frames_written rest.now)) }
+    ensures range { IfOk result (λ request. IsActionInRange request.action) }
+{
+    let frames = read_frames(rest)?;
+    Ok(Request {
+        action: Action::Emit { frames },
+        path,
+        args: &[],
+    })
+}
+
+// The number of frames, the only option of `emit`.
+fn read_frames(rest: &[Text]) -> Result<u32, Misuse>
+    ensures read { result ≡ frames_of (frames_written rest.now) }
+    ensures range { IfOk result AreFrames }
+{
+    let written = frames_written(rest).ok_or(Misuse::Words)?;
+    let frames = value_of(MOST_FRAMES, FRAMES as u64, written).ok_or(Misuse::Value {
+        setting: Setting::Frames,
+    })?;
+    Ok(frames as u32)
+}
+
+// The value of the option as it stands, where nothing else does.
+fn frames_written<'a>(rest: &'a [Text]) -> Option<Option<&'a Text>>
+    ensures { option_map text_seen result ≡ frames_written rest.now }
+{
+    match rest {
+        [] => Some(None),
+        [word, value] if word.as_str() == "--frames" => Some(Some(value)),
+        _ => None,
+    }
 }
 
 // Whether a word is an operand.

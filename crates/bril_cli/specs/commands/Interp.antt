@@ -1,15 +1,9 @@
 -- `interp`: an accepted program is interpreted with the arguments that the words spell.
-use Rattle.std.specs.Prelude.{ℕ, ◌≡◌, ◌≢◌, ◌⊎◌, ◌<◌, ◌≤◌, List, length, Option, Some, None, codes, ◌^◌}
-use Rattle.bril_arguments.specs.Faults.{IsFaultOf}
+use Rattle.std.specs.Prelude.{ℕ, ◌≡◌, ◌⊎◌, ◌<◌, ◌≤◌, List, [], length, Option, Some, None}
 use Rattle.bril_arguments.specs.Spelled.{AreSpelled}
-use Rattle.bril_arguments.specs.declared.fault.ArgFault.TheVariants as argument
-use Rattle.bril_arguments.specs.declared.fault.ArgFault.TheVariants.{Memory, Count, Spelling}
-use Rattle.bril_arguments.specs.declared.fault.ArgFault.{ArgFault}
 use Rattle.bril_interpreter.specs.StepAnswers.{WantsMemory}
 use Rattle.bril_outside.specs.Files.{FilesSeen}
 use Rattle.bril_outside.specs.Sink.{SinkSeen, Rose, TookAll, TookSome}
-use Rattle.bril_report.specs.Lines.{fault_line, spent_line, count_line, spelling_line}
-use Rattle.bril_report.specs.Report.{Says}
 use Rattle.bril_report.specs.declared.status.Status.TheVariants as status
 use Rattle.bril_report.specs.declared.status.Status.{Status}
 use Rattle.bril_tree.specs.Accepted.{IsAccepted}
@@ -19,22 +13,12 @@ use Rattle.bril_tree.specs.declared.limits.End.TheVariants.{Ended, Faulted}
 use Rattle.bril_tree.specs.declared.limits.End.{End}
 use Rattle.bril_tree.specs.declared.limits.Limits.{Limits}
 use Rattle.bril_tree.specs.declared.program.Prog.{Prog}
-use Rattle.bril_tree.specs.declared.types.Ty.{Ty}
 use Rattle.bril_tree.specs.declared.value.Value.{Value}
 use Rattle.bril_words.specs.declared.request.Action.TheVariants.{Interpret}
-use Rattle.bril_cli.specs.Call.{Call, ReadsWell, UnlessMemory}
+use Rattle.bril_cli.specs.Arguments.{AreOnlyValues, RefusesArgs}
+use Rattle.bril_cli.specs.Call.{Call, ReadsWell, UnlessMemory, TellsRun}
 use Rattle.bril_cli.specs.CommandLine.{format_of}
 use Rattle.bril_cli.specs.Source.{most_bytes, IsSource, IsOnlySource, IsFile}
-
--- The words have this fault as arguments of these types, which is no want of memory.
-abbrev pub HasArgFault : List (Option Ty) → List (List ℕ) → ArgFault → Type 0
-HasArgFault types words fault = (fault ≢ Memory) × IsFaultOf types words fault
-
--- The words have this fault as arguments of these types and no other, and spell no values.
-pub record HasOnlyArgFault (types : List (Option Ty)) (words : List (List ℕ)) (fault : ArgFault) : Type 0 where
-  pub has : HasArgFault types words fault
-  pub only : (other : ArgFault) → HasArgFault types words other → fault ≡ other
-  pub unspelled : (values : List Value) → AreSpelled types words values → ⊥
 
 -- By its semantics, and with the values that these words spell, the program under limits of so many frames and
 -- cells has ended so within the steps, or runs on for None, and has printed these bytes.
@@ -80,20 +64,6 @@ pub record Exhausts (files : FilesSeen) (path : List ℕ) (args : List (List ℕ
   pub cells_are : limits.cells ≡ cells
   pub stops : StopsForMemory program limits values steps output
 
--- The words spell these values as the arguments of `main`, and no others, and have no fault.
-pub record AreOnlyValues (p : Prog) (args : List (List ℕ)) (values : List Value) : Type 0 where
-  pub spelled : AreSpelled (main_types p) args values
-  pub only : (other : List Value) → AreSpelled (main_types p) args other → values ≡ other
-  pub faultless : (fault : ArgFault) → HasArgFault (main_types p) args fault → ⊥
-
--- why words are no arguments of `main`: memory runs out only for values that they spell, or where no number of 32
--- bits counts them
-abbrev pub RefusesArgs : Status → Prog → List (List ℕ) → Type 0
-RefusesArgs (status.ArgumentCount given wanted) p args = HasOnlyArgFault (main_types p) args (argument.Count given wanted)
-RefusesArgs (status.BadArgument place) p args = HasOnlyArgFault (main_types p) args (argument.Spelling place)
-RefusesArgs status.OutOfMemory p args = (2 ^ 32 ≤ length args) ⊎ IsFaultOf (main_types p) args argument.Memory
-RefusesArgs _ p args = ⊥
-
 -- the state has ended so, or runs on for None, and the sink took all that was printed
 abbrev pub StandsAt : Option End → State → SinkSeen → SinkSeen → Type 0
 StandsAt ended u s t = (u.ended ≡ ended) × TookAll s u.printed t
@@ -121,18 +91,6 @@ abbrev pub InterpretsWithin : Status → Prog → List (List ℕ) → ℕ → �
 InterpretsWithin how p args frames cells steps s t =
     (limits : Limits) × (limits.frames ≡ frames) × (limits.cells ≡ cells) × InterpretsProgram how p args limits steps s t
 
--- the line of a fault of the arguments
-abbrev pub argument_line : ArgFault → List ℕ
-argument_line (Count given wanted) = count_line given wanted
-argument_line (Spelling place) = spelling_line place
-argument_line Memory = codes "out of memory\n"
-
--- what is told of a run that was interpreted for so many steps and has ended so, None where it goes on
-abbrev pub TellsRun : Option End → ℕ → ℕ → Call → Type 0
-TellsRun None steps number c = (number ≡ 3) × Says c.err_before (spent_line steps) c.err_after
-TellsRun (Some Ended) steps number c = (number ≡ 0) × (c.err_after ≡ c.err_before)
-TellsRun (Some (Faulted fault)) steps number c = (number ≡ 2) × Says c.err_before (fault_line fault) c.err_after
-
 -- ---- when `interp` answers what
 
 -- An accepted program whose arguments are spelled is interpreted for the steps.
@@ -141,11 +99,4 @@ InterpretsWhere number c =
     (frames cells steps : ℕ) (bytes : List ℕ) (program : Prog) (values : List Value) (limits : Limits) (reads : ReadsWell c (Interpret frames cells steps) bytes) →
     length bytes ≤ most_bytes → IsSource (format_of reads.path) bytes program → IsAccepted program → AreSpelled (main_types program) reads.args values →
     limits.frames ≡ frames → limits.cells ≡ cells → ¬ Rose c.out_before.faults c.out_after.faults → let state = state_after program limits values steps in
-    UnlessMemory number (TellsRun state.ended steps number c × TookAll c.out_before state.printed c.out_after)
-
--- Arguments that don't fit an accepted program are told.
-abbrev pub MisarguedWhere : ℕ → Call → Type 0
-MisarguedWhere number c =
-    (frames cells steps : ℕ) (bytes : List ℕ) (program : Prog) (fault : ArgFault) (reads : ReadsWell c (Interpret frames cells steps) bytes) →
-    length bytes ≤ most_bytes → IsSource (format_of reads.path) bytes program → IsAccepted program → fault ≢ Memory → IsFaultOf (main_types program) reads.args fault →
-    UnlessMemory number ((number ≡ 69) × Says c.err_before (argument_line fault) c.err_after)
+    UnlessMemory number (TellsRun state.ended steps [] number c × TookAll c.out_before state.printed c.out_after)

@@ -1,152 +1,124 @@
--- `run`: an accepted program that is straight is made into an image, which the machine runs to its end.
-use Rattle.std.proofs.Common.{lit≤}
-use Rattle.std.specs.Prelude.{ℕ, ◌≡◌, ◌⊎◌, ◌*◌, ◌≤◌, true, false, List, [], length, Some}
+-- `run`: an accepted program is made into machine words, which the machine executes with the arguments that the words of the
+-- command line spell.
+use Rattle.std.specs.Prelude.{ℕ, ◌≡◌, ◌⊎◌, ◌+◌, ◌*◌, ◌≤◌, Bool, false, List, [], length, Option, Some, None}
+use Rattle.bril_arguments.specs.Spelled.{AreSpelled}
 use Rattle.bril_outside.specs.Files.{FilesSeen}
 use Rattle.bril_outside.specs.Sink.{SinkSeen, Rose, TookAll, TookSome}
-use Rattle.bril_report.specs.Lines.{code_line, stack_line}
 use Rattle.bril_report.specs.declared.status.Status.TheVariants as status
 use Rattle.bril_report.specs.declared.status.Status.{Status}
 use Rattle.bril_tree.specs.Accepted.{IsAccepted}
-use Rattle.bril_tree.specs.Run.{state_after}
-use Rattle.bril_tree.specs.declared.limits.End.TheVariants.{Ended}
+use Rattle.bril_tree.specs.Cost.{IsCost}
+use Rattle.bril_tree.specs.Run.{main_types, state_after}
+use Rattle.bril_tree.specs.declared.limits.End.TheVariants.{Ended, Faulted}
+use Rattle.bril_tree.specs.declared.limits.End.{End}
 use Rattle.bril_tree.specs.declared.limits.Limits.{Limits}
 use Rattle.bril_tree.specs.declared.program.Prog.{Prog}
-use Rattle.bril_words.specs.Defaults.{default_frames, default_cells}
+use Rattle.bril_tree.specs.declared.value.Value.{Value}
 use Rattle.bril_words.specs.declared.request.Action.TheVariants.{Run}
-use Rattle.bril_cli.specs.declared.emission.EmitFault.{EmitFault}
-use Rattle.bril_cli.specs.declared.emission.EmitFault.TheVariants as fault
-use Rattle.bril_cli.specs.Call.{Call, SaysAlone, ReadsWell, UnlessMemory}
-use Rattle.bril_cli.specs.Implements.{frame_words}
+use Rattle.rv64_implements.specs.Shown.{ProgramShows}
+use Rattle.rv64_implements.specs.WordBounds.{IsWithin}
+use Rattle.bril_cli.specs.Arguments.{AreOnlyValues, RefusesArgs}
+use Rattle.bril_cli.specs.Call.{Call, ReadsWell, UnlessMemory, TellsRun}
 use Rattle.bril_cli.specs.CommandLine.{format_of}
-use Rattle.bril_cli.specs.Emitted.{bound_sum}
-use Rattle.bril_cli.specs.Refusal.{capped, PassesCode, PassesStack}
-use Rattle.bril_cli.specs.Source.{most_bytes, IsSource, IsOnlySource, IsFile}
-use Rattle.bril_cli.specs.Straight.{is_straight}
-use Rattle.bril_cli.specs.declared.source.Format.{Format}
+use Rattle.bril_cli.specs.Images.{IsProgramFile, MachineShows, RefusesImage}
+use Rattle.bril_cli.specs.Source.{most_bytes, IsSource}
+use Rattle.bril_cli.specs.Stats.{TellsStats}
 
--- the limits of a run
-abbrev pub run_limits : Limits
-run_limits = record {
-  frames = default_frames;
-  cells = default_cells;
-  some_frames = lit≤ tt;
-  few_frames = lit≤ tt;
-  some_cells = lit≤ tt;
-  few_cells = lit≤ tt;
-}
+-- What so many words of the machine come to, with these values as the arguments of `main`: the machine has ended so, or runs on
+-- for None, and has printed this, and so the program ends alike and prints the same, or it has not ended in as many steps and
+-- begins to print so.
+pub record ShowsRun (p : Prog) (limits : Limits) (values : List Value) (words : ℕ) (ended : Option End) (output : List ℕ) : Type 0 where
+  pub machine : MachineShows p limits values words ended output
+  pub program : ProgramShows p limits values words ended output
 
--- The bytes read as an accepted program that is not straight.
-pub record IsCrooked (format : Format) (bytes : List ℕ) : Type 0 where
+-- The file at the path reads as an accepted program that is within the bounds, and this is what so many words come to with these arguments and under these limits.
+pub record Runs (files : FilesSeen) (path : List ℕ) (args : List (List ℕ)) (frames cells words : ℕ) (ended : Option End) (output : List ℕ) : Type 0 where
   pub program : Prog
-  pub source : IsSource format bytes program
-  pub accepted : IsAccepted program
-  pub crooked : is_straight program ≡ false
+  pub is : IsProgramFile files path program
+  pub values : List Value
+  pub spelled : AreSpelled (main_types program) args values
+  pub limits : Limits
+  pub frames_are : limits.frames ≡ frames
+  pub cells_are : limits.cells ≡ cells
+  pub within : IsWithin program limits
+  pub shows : ShowsRun program limits values words ended output
 
--- the program has no more words than an image has, and needs no more than a stack has
-pub record IsWithin (p : Prog) : Type 0 where
-  pub code : bound_sum p ≤ 250000
-  pub stack : default_frames * frame_words p ≤ 8388608
+-- The same, and this is told of the counts of the machine, where that is asked for.
+pub record RunsAndTells (files : FilesSeen) (path : List ℕ) (args : List (List ℕ)) (frames cells words : ℕ) (stats : Bool) (ended : Option End) (told output : List ℕ) : Type 0 where
+  pub runs : Runs files path args frames cells words ended output
+  pub tells : TellsStats stats runs.shows.machine.image runs.program runs.limits runs.values words ended told
 
--- By its semantics the program ends after some steps, without a fault, and has printed these bytes.
-pub record EndsPrinting (p : Prog) (output : List ℕ) : Type 0 where
-  pub steps : ℕ
-  pub ended : (state_after p run_limits [] steps).ended ≡ Some Ended
-  pub prints : (state_after p run_limits [] steps).printed ≡ output
-
--- The file at the path reads as this program, which is accepted and straight.
-pub record IsStraightFile (files : FilesSeen) (path : List ℕ) (p : Prog) : Type 0 where
-  pub bytes : List ℕ
-  pub file : IsFile files path bytes
-  pub source : IsOnlySource (format_of path) bytes p
-  pub accepted : IsAccepted p
-  pub straight : is_straight p ≡ true
-
--- The program is within the bounds, and prints this output.
-pub record Runs (files : FilesSeen) (path output : List ℕ) : Type 0 where
-  pub program : Prog
-  pub is : IsStraightFile files path program
-  pub within : IsWithin program
-  pub prints : EndsPrinting program output
-
--- The program has too many words of code, or it has few enough and needs too many words of stack.
-pub record LongCode (c : Call) (path : List ℕ) : Type 0 where
-  pub program : Prog
-  pub is : IsStraightFile c.files_before path program
-  pub long : PassesCode program
-  pub alone : SaysAlone c (code_line (capped (bound_sum program)))
-
-pub record LongStack (c : Call) (path : List ℕ) : Type 0 where
-  pub program : Prog
-  pub is : IsStraightFile c.files_before path program
-  pub short_code : bound_sum program ≤ 250000
-  pub long : PassesStack default_frames program
-  pub alone : SaysAlone c (stack_line (capped (default_frames * frame_words program)))
-
--- The output took all that the program prints up to its end.
-pub record Prints (c : Call) (p : Prog) : Type 0 where
+-- The machine ended so, or ran on for None, the sink took all that it printed, and this is told of it.
+pub record RanWhole (p : Prog) (limits : Limits) (values : List Value) (words : ℕ) (stats : Bool) (ended : Option End) (told : List ℕ) (s t : SinkSeen) : Type 0 where
   pub output : List ℕ
-  pub prints : EndsPrinting p output
-  pub took : TookAll c.out_before output c.out_after
-
--- The program ran to its end, and the sink took all that it printed.
-pub record RanWhole (p : Prog) (s t : SinkSeen) : Type 0 where
-  pub output : List ℕ
-  pub prints : EndsPrinting p output
+  pub shows : ShowsRun p limits values words ended output
+  pub tells : TellsStats stats shows.machine.image p limits values words ended told
   pub took : TookAll s output t
 
--- A write failed, and the sink took the first of what the program prints.
-pub record RanPartly (p : Prog) (s t : SinkSeen) : Type 0 where
+-- A write failed, and the sink took the first of what the words print.
+pub record RanPartly (p : Prog) (limits : Limits) (values : List Value) (words : ℕ) (s t : SinkSeen) : Type 0 where
+  pub ended : Option End
   pub output : List ℕ
-  pub prints : EndsPrinting p output
+  pub shows : ShowsRun p limits values words ended output
   pub took : TookSome s output t
   pub rose : Rose s.faults t.faults
 
--- the status of a program that gets no image
-abbrev pub emit_status : EmitFault → Status
-emit_status (fault.CodeTooBig words) = status.CodeTooBig words
-emit_status (fault.StackTooBig words) = status.StackTooBig words
-emit_status fault.Memory = status.OutOfMemory
+-- what executing so many words of the program's image with these values answers; memory runs out only before the first, and
+-- where a write failed nothing is told
+abbrev pub RunsImage : Status → Prog → Limits → List Value → ℕ → Bool → List ℕ → SinkSeen → SinkSeen → Type 0
+RunsImage status.Done p limits values words stats told s t = RanWhole p limits values words stats (Some Ended) told s t
+RunsImage (status.Faulted fault) p limits values words stats told s t = RanWhole p limits values words stats (Some (Faulted fault)) told s t
+RunsImage (status.Spent made) p limits values words stats told s t = (made ≡ words) × RanWhole p limits values words stats None told s t
+RunsImage status.CannotWrite p limits values words stats told s t = (told ≡ []) × RanPartly p limits values words s t
+RunsImage status.OutOfMemory p limits values words stats told s t = (told ≡ []) × (t ≡ s)
+RunsImage _ p limits values words stats told s t = ⊥
 
--- why no image was made of a program
-abbrev pub RefusesImage : Status → Prog → Type 0
-RefusesImage (status.CodeTooBig words) p = PassesCode p × (words ≡ capped (bound_sum p))
-RefusesImage (status.StackTooBig words) p =
-    (bound_sum p ≤ 250000) × PassesStack default_frames p × (words ≡ capped (default_frames * frame_words p))
-RefusesImage status.OutOfMemory p = Unit {0}
-RefusesImage _ p = ⊥
+-- what running a program with these values answers
+abbrev pub RunsValues : Status → Prog → Limits → List Value → ℕ → Bool → List ℕ → SinkSeen → SinkSeen → Type 0
+RunsValues how p limits values words stats told s t =
+    (RefusesImage how p limits × (told ≡ []) × (t ≡ s)) ⊎ (IsWithin p limits × RunsImage how p limits values words stats told s t)
 
--- what running an image of the program answers
-abbrev pub RunsImage : Status → Prog → SinkSeen → SinkSeen → Type 0
-RunsImage status.Done p s t = RanWhole p s t
-RunsImage status.CannotWrite p s t = RanPartly p s t
-RunsImage status.OutOfMemory p s t = t ≡ s
-RunsImage _ p s t = ⊥
+-- what running an accepted program with the values that words spell answers
+abbrev pub RunsProgram : Status → Prog → List (List ℕ) → Limits → ℕ → Bool → List ℕ → SinkSeen → SinkSeen → Type 0
+RunsProgram how p args limits words stats told s t =
+    (RefusesArgs how p args × (told ≡ []) × (t ≡ s)) ⊎ ((values : List Value) × AreOnlyValues p args values × RunsValues how p limits values words stats told s t)
 
--- what running a program answers
-abbrev pub RunsProgram : Status → Prog → SinkSeen → SinkSeen → Type 0
-RunsProgram status.Done p s t = IsWithin p × RanWhole p s t
-RunsProgram status.CannotWrite p s t = IsWithin p × RanPartly p s t
-RunsProgram (status.CodeTooBig words) p s t = (PassesCode p × (words ≡ capped (bound_sum p))) × (t ≡ s)
-RunsProgram (status.StackTooBig words) p s t =
-    ((bound_sum p ≤ 250000) × PassesStack default_frames p × (words ≡ capped (default_frames * frame_words p))) × (t ≡ s)
-RunsProgram status.OutOfMemory p s t = t ≡ s
-RunsProgram _ p s t = ⊥
-
--- what running an accepted program answers: one that isn't straight does not run
-abbrev pub RunsAccepted : Status → Prog → SinkSeen → SinkSeen → Type 0
-RunsAccepted how p s t =
-    ((is_straight p ≡ false) × (how ≡ status.Unsupported) × (t ≡ s)) ⊎ ((is_straight p ≡ true) × RunsProgram how p s t)
+-- what running it under limits of so many frames and cells answers
+abbrev pub RunsWithin : Status → Prog → List (List ℕ) → ℕ → ℕ → ℕ → Bool → List ℕ → SinkSeen → SinkSeen → Type 0
+RunsWithin how p args frames cells words stats told s t =
+    (limits : Limits) × (limits.frames ≡ frames) × (limits.cells ≡ cells) × RunsProgram how p args limits words stats told s t
 
 -- ---- when `run` answers what
 
--- An accepted straight program within the bounds is run to its end.
+-- the file that is read and the words of the command line have this program, which is accepted, these values and these limits
+pub record CanRun (c : Call) (frames cells words : ℕ) (stats : Bool) (bytes : List ℕ) (reads : ReadsWell c (Run frames cells words stats) bytes) (program : Prog) (values : List Value) (limits : Limits) : Type 0 where
+  pub short : length bytes ≤ most_bytes
+  pub source : IsSource (format_of reads.path) bytes program
+  pub accepted : IsAccepted program
+  pub spelled : AreSpelled (main_types program) reads.args values
+  pub frames_are : limits.frames ≡ frames
+  pub cells_are : limits.cells ≡ cells
+
+-- One within the bounds is executed for the words: its end is said, or that it runs on, after what is told of it, and the output
+-- took all that was printed.
 abbrev pub RunsWhere : ℕ → Call → Type 0
 RunsWhere number c =
-    (bytes : List ℕ) (program : Prog) (reads : ReadsWell c Run bytes) → length bytes ≤ most_bytes → IsSource (format_of reads.path) bytes program →
-    IsAccepted program → is_straight program ≡ true → IsWithin program → ¬ Rose c.out_before.faults c.out_after.faults → UnlessMemory number ((number ≡ 0) × Prints c program)
+    (frames cells words : ℕ) (stats : Bool) (bytes : List ℕ) (reads : ReadsWell c (Run frames cells words stats) bytes) (program : Prog) (values : List Value) (limits : Limits) →
+    CanRun c frames cells words stats bytes reads program values limits → IsWithin program limits → ¬ Rose c.out_before.faults c.out_after.faults →
+    UnlessMemory number ((ended : Option End) × (told : List ℕ) × TellsRun ended words told number c × RanWhole program limits values words stats ended told c.out_before c.out_after)
 
--- One that isn't within them is too large.
-abbrev pub LongProgramWhere : ℕ → Call → Type 0
-LongProgramWhere number c =
-    (bytes : List ℕ) (program : Prog) (reads : ReadsWell c Run bytes) → length bytes ≤ most_bytes → IsSource (format_of reads.path) bytes program →
-    IsAccepted program → is_straight program ≡ true → ¬ IsWithin program → UnlessMemory number (number ≡ 68)
+-- Where the program has ended after n steps, and the words are at least the cost of n + 1 steps, this end is said, and the output
+-- took just what the program printed. Nothing else is told where that isn't asked for.
+abbrev pub EndsWhere : ℕ → Call → Type 0
+EndsWhere number c =
+    (frames cells words : ℕ) (stats : Bool) (bytes : List ℕ) (reads : ReadsWell c (Run frames cells words stats) bytes) (program : Prog) (values : List Value) (limits : Limits) →
+    CanRun c frames cells words stats bytes reads program values limits → IsWithin program limits → ¬ Rose c.out_before.faults c.out_after.faults →
+    (n cost : ℕ) (end : End) → IsCost program cost → cost * (n + 1) ≤ words → (state_after program limits values n).ended ≡ Some end →
+    UnlessMemory number ((told : List ℕ) × TellsRun (Some end) words told number c × TookAll c.out_before (state_after program limits values n).printed c.out_after
+    × (stats ≡ false → told ≡ []))
+
+-- One that isn't within the bounds is too large.
+abbrev pub LongRunWhere : ℕ → Call → Type 0
+LongRunWhere number c =
+    (frames cells words : ℕ) (stats : Bool) (bytes : List ℕ) (reads : ReadsWell c (Run frames cells words stats) bytes) (program : Prog) (values : List Value) (limits : Limits) →
+    CanRun c frames cells words stats bytes reads program values limits → ¬ IsWithin program limits → UnlessMemory number (number ≡ 68)

@@ -1,18 +1,15 @@
 // `interp`: an accepted program is interpreted with the arguments that the words spell.
 
-ghost use Rattle.std.specs.Prelude.{IfOk, IfErr};
-ghost use Rattle.bril_cli.specs.commands.Interp.{AreOnlyValues, RefusesArgs, StepsTo, InterpretsProgram};
+ghost use Rattle.bril_cli.specs.commands.Interp.{StepsTo, InterpretsProgram};
 ghost use Rattle.bril_report.specs.StageFaults.{status_of};
 ghost use Rattle.bril_tree.specs.Run.{FitMain};
 
-use bril_arguments::read_args;
+use crate::arguments::values_of;
 use bril_checker::Checked;
 use bril_interpreter::{Interp, StepAnswer};
 use bril_outside::sink::Sink;
 use bril_report::Status;
 use bril_tree::limits::{End, Limits};
-use bril_tree::program::Prog;
-use bril_tree::sequence::Seq;
 use bril_tree::text::Text;
 use bril_tree::value::Value;
 use std::alloc::Global;
@@ -35,19 +32,6 @@ pub fn interpret<O: Sink>(
 {
     let values = values_of(alloc, checked.prog(), words)?;
     run_with(alloc, checked, values.as_slice(), limits, steps, out)
-}
-
-// The values that the words spell as the arguments of `main`.
-fn values_of(alloc: Global, program: &Prog, words: &[Text]) -> Result<Seq<Value>, Status>
-    ensures ok { IfOk result (λ values. AreOnlyValues program.now words.now values) }
-    ensures fits { IfOk result (λ values. FitMain program.now values) }
-    ensures err { IfErr result (λ status. RefusesArgs status program.now words.now) }
-{
-    // No command line has as many words.
-    if words.len() > 4294967295 {
-        return Err(Status::OutOfMemory);
-    }
-    Ok(read_args(alloc, program, words)?)
 }
 
 // Interprets the program with these values.

@@ -1,106 +1,135 @@
-// `run`: an accepted program that is straight is made into an image, which the machine runs to its end.
+// `run`: an accepted program is made into machine words, which the machine executes.
 
-ghost use Rattle.std.specs.Prelude.{◌≡◌, ◌≤◌, ◌*◌, length, IfOk, IfErr};
-ghost use Rattle.bril_cli.specs.Implements.{Implements, frame_words};
-ghost use Rattle.bril_cli.specs.Straight.{IsStraightCode};
-ghost use Rattle.bril_cli.specs.commands.Run.{run_limits, emit_status, IsWithin, RefusesImage, RunsImage, RunsProgram, RunsAccepted};
-ghost use Rattle.bril_words.specs.Defaults.{default_frames, default_steps};
+ghost use Rattle.std.specs.Prelude.{◌≡◌, ◌≤◌, false, length};
+ghost use Rattle.bril_cli.specs.Stats.{Telling};
+ghost use Rattle.bril_cli.specs.commands.Run.{RunsImage, RunsValues, RunsProgram};
 ghost use Rattle.bril_report.specs.StageFaults.{status_of};
+ghost use Rattle.bril_tree.specs.Run.{FitMain};
+ghost use Rattle.rv64_implements.specs.Implements.{Implements};
 
-use crate::emission::{EmitFault, emit};
-use crate::straight::is_straight;
+use crate::arguments::values_of;
+use crate::image::image_of;
+use crate::stats::tell_stats;
 use bril_checker::Checked;
 use bril_outside::sink::Sink;
 use bril_report::Status;
 use bril_tree::limits::{End, Limits};
 use bril_tree::program::Prog;
-use bril_words::{CELLS, FRAMES, STEPS};
+use bril_tree::text::Text;
+use bril_tree::value::Value;
 use rv64_machine::answer::RunAnswer;
 use rv64_machine::machine::Machine;
 use rv64_words::image::Image;
 use std::alloc::Global;
 
-/// Runs an accepted program on the machine: what it prints goes to `out`.
+/// How a program is run: under these limits, for so many words, and whether its counts are told.
+#[derive(Clone, Copy, Drop)]
+pub struct RunSettings {
+    pub limits: Limits,
+    pub steps: u64,
+    pub stats: bool,
+}
+
+/// Runs the program on the machine under the limits, for so many words of it, with the values that the words of the command line
+/// spell as the arguments of its `main`: what it prints goes to `out`. After the run its counts are told on `err`, where that is
+/// asked for; `silenced` becomes true where a put of them failed.
 ///
-/// `Unsupported`: the program isn't straight. `CodeTooBig`, `StackTooBig`: it may have more than 250,000 words, or needs more
-/// than 8,388,608 words of stack. With these, and out of memory, nothing is put. `CannotWrite`: a write failed.
-pub fn run<O: Sink>(alloc: Global, checked: &Checked, out: &mut O) -> Result<(), Status>
-    ensures { RunsAccepted (status_of result) checked.now.prog (O.seen out.old) (O.seen out.new) }
+/// `ArgumentCount`, `BadArgument`: the words of the command line spell no such values. `CodeTooBig`, `StackTooBig`: it may have more than 250,000 words, or needs more than 8,388,608 words of
+/// stack. With these, and out of memory, nothing is put. `Faulted`, `Spent`: the program stopped with a fault, or the machine goes
+/// on after so many words. `CannotWrite`: a write failed, and nothing is told.
+pub fn run<O: Sink, E: Sink>(
+    alloc: Global,
+    checked: &Checked,
+    words: &[Text],
+    settings: RunSettings,
+    out: &mut O,
+    err: &mut E,
+    silenced: &mut bool,
+) -> Result<(), Status>
+    requires { silenced.old ≡ false }
+    ensures { Telling (λ told. RunsProgram (status_of result) checked.now.prog words.now settings.limits settings.steps settings.stats told (O.seen out.old) (O.seen out.new)) silenced.new (E.seen err.old) (E.seen err.new) }
 {
-    let program = checked.prog();
-    if !is_straight(program) {
-        return Err(Status::Unsupported);
-    }
-    run_program(alloc, program, out)
+    let values = values_of(alloc, checked.prog(), words)?;
+    run_with(
+        alloc,
+        checked,
+        values.as_slice(),
+        settings,
+        out,
+        err,
+        silenced,
+    )
 }
 
-// Makes the program's image and runs it. No straight program comes near so many steps.
-fn run_program<O: Sink>(alloc: Global, program: &Prog, out: &mut O) -> Result<(), Status>
-    requires { IsStraightCode program.now }
-    ensures { RunsProgram (status_of result) program.now (O.seen out.old) (O.seen out.new) }
+// Makes the program's image and runs it with these values.
+fn run_with<O: Sink, E: Sink>(
+    alloc: Global,
+    checked: &Checked,
+    values: &[Value],
+    settings: RunSettings,
+    out: &mut O,
+    err: &mut E,
+    silenced: &mut bool,
+) -> Result<(), Status>
+    requires fits { FitMain checked.now.prog values.now }
+    requires sound { silenced.old ≡ false }
+    ensures { Telling (λ told. RunsValues (status_of result) checked.now.prog settings.limits values.now settings.steps settings.stats told (O.seen out.old) (O.seen out.new)) silenced.new (E.seen err.old) (E.seen err.new) }
 {
-    let image = compile(alloc, program)?;
-    run_image(alloc, &image, program, STEPS, out)
+    let image = image_of(alloc, checked, settings.limits)?;
+    run_image(
+        alloc,
+        &image,
+        checked.prog(),
+        values,
+        settings,
+        out,
+        err,
+        silenced,
+    )
 }
 
-// The limits of a run.
-fn run_limits() -> Limits
-    ensures { result ≡ run_limits }
-{
-    Limits {
-        frames: FRAMES,
-        cells: CELLS,
-    }
-}
-
-// The image of the program.
-fn compile(alloc: Global, program: &Prog) -> Result<Image, Status>
-    requires { IsStraightCode program.now }
-    ensures implements { IfOk result (λ image. Implements image program.now run_limits) }
-    ensures stack { IfOk result (λ image. image.stack ≡ default_frames * frame_words program.now) }
-    ensures words { IfOk result (λ image. length image.words ≤ 250000) }
-    ensures within { IfOk result (λ _. IsWithin program.now) }
-    ensures err { IfErr result (λ status. RefusesImage status program.now) }
-{
-    Ok(emit(alloc, program, run_limits())?)
-}
-
-impl From<EmitFault> for Status {
-    ghost from_gives = { λ fault status. status ≡ emit_status fault };
-
-    fn from(fault: EmitFault) -> Status {
-        match fault {
-            EmitFault::CodeTooBig { words } => Status::CodeTooBig { words },
-            EmitFault::StackTooBig { words } => Status::StackTooBig { words },
-            EmitFault::Memory => Status::OutOfMemory,
-        }
-    }
-}
-
-// Runs an image of the straight program on the machine, for so many steps, in which it ends.
-fn run_image<O: Sink>(
+// Runs an image that implements the program.
+fn run_image<O: Sink, E: Sink>(
     alloc: Global,
     image: &Image,
     program: &Prog,
-    steps: u64,
+    values: &[Value],
+    settings: RunSettings,
     out: &mut O,
+    err: &mut E,
+    silenced: &mut bool,
 ) -> Result<(), Status>
-    requires straight { IsStraightCode program.now }
-    requires implements { Implements image.now program.now run_limits }
-    requires stack { image.now.stack ≡ default_frames * frame_words program.now }
+    requires implements { Implements image.now program.now settings.limits }
+    requires fits { FitMain program.now values.now }
     requires words { length image.now.words ≤ 250000 }
-    requires within { IsWithin program.now }
-    requires enough { steps ≡ default_steps }
-    ensures { RunsImage (status_of result) program.now (O.seen out.old) (O.seen out.new) }
+    requires stack { image.now.stack ≤ 8388608 }
+    requires sound { silenced.old ≡ false }
+    ensures { Telling (λ told. RunsImage (status_of result) program.now settings.limits values.now settings.steps settings.stats told (O.seen out.old) (O.seen out.new)) silenced.new (E.seen err.old) (E.seen err.new) }
 {
-    let Ok(mut machine) = Machine::new(alloc, image, &[], run_limits()) else {
+    let guards = image.guards.as_slice();
+    // No image has as many guards.
+    if guards.len() > 4294967295 {
+        return Err(Status::OutOfMemory);
+    }
+    let Ok(mut machine) = Machine::new(alloc, image, values, settings.limits) else {
         return Err(Status::OutOfMemory);
     };
-    match machine.run(steps, out) {
-        RunAnswer::End(End::Ended) => Ok(()),
+    match machine.run(settings.steps, out) {
+        RunAnswer::End(End::Ended) => {
+            tell_stats(settings.stats, program, guards, &machine, err, silenced);
+            Ok(())
+        }
+        RunAnswer::End(End::Faulted(fault)) => {
+            tell_stats(settings.stats, program, guards, &machine, err, silenced);
+            Err(Status::Faulted { fault })
+        }
+        RunAnswer::Spent => {
+            tell_stats(settings.stats, program, guards, &machine, err, silenced);
+            Err(Status::Spent {
+                steps: settings.steps,
+            })
+        }
         RunAnswer::WriteFault => Err(Status::CannotWrite),
-        RunAnswer::End(End::Faulted(_)) => unreachable!(),
-        RunAnswer::Spent => unreachable!(),
         RunAnswer::Trap(_) => unreachable!(),
     }
 }

@@ -1,5 +1,10 @@
--- A straight program has straight code.
+-- The arguments spell no values.
+use Rattle.std.proofs.Common.{[], refl, inl}
+use Rattle.std.proofs.lemmas.Result.{err_from_is_err_and}
+use Rattle.bril_cli.proofs.Telling.{untold}
 use Rattle.bril_cli.proofs.commands.run.run.Goals as goal
 
-pub run_program-requires : goal.run_program-requires
-run_program-requires g c = c.is_straight.ensures.code c.if-not-is_straight.false
+pub returns-in_err-values : goal.returns-in_err-values
+returns-in_err-values g c =
+    let e = err_from_is_err_and c.from_residual.result c.from_residual.ensures.1 in
+    rw (e.1, e.2) ([], inl (rw c.prog.ensures.value at c.in_err-values.ensures.err, refl, refl), untold c.args.silenced.now _ c.requires)

@@ -1,6 +1,0 @@
-use Rattle.std.proofs.Common.{◌≡◌, ◌++◌, map, take}
-use Rattle.rv64_words.specs.Encoding.{encoded}
-use Rattle.bril_cli.proofs.emission.put.Given as goal
-
-abbrev pub invariant-loop-word : goal.invariant-loop-word
-invariant-loop-word l = l.code ≡ l.initial.code ++ map encoded (take l.word-index l.words)

@@ -1,0 +1,67 @@
+// `emit`: the machine words of an accepted program are written.
+
+ghost use Rattle.std.specs.Prelude.{◌≡◌, ◌%◌, ◌<◌};
+ghost use Rattle.bril_cli.specs.commands.Emit.{hex_digit, word_line, listing, PutsListing, EmitsProgram};
+ghost use Rattle.bril_report.specs.StageFaults.{status_of};
+
+use crate::image::image_of;
+use bril_checker::Checked;
+use bril_outside::sink::Sink;
+use bril_report::Status;
+use bril_tree::limits::Limits;
+use std::alloc::Global;
+
+/// Puts the words of the program's image under the limits on the output, each in eight hexadecimal digits and LF by one put.
+///
+/// `CodeTooBig`, `StackTooBig`: it may have more than 250,000 words, or needs more than 8,388,608 words of stack. With these, and
+/// out of memory, nothing is put. `CannotWrite`: a write failed.
+pub fn put_image<O: Sink>(
+    alloc: Global,
+    checked: &Checked,
+    limits: Limits,
+    out: &mut O,
+) -> Result<(), Status>
+    ensures { EmitsProgram (status_of result) checked.now.prog limits (O.seen out.old) (O.seen out.new) }
+{
+    let image = image_of(alloc, checked, limits)?;
+    put_words(image.words.as_slice(), out)
+}
+
+// Puts the line of each word. It takes no memory.
+fn put_words<O: Sink>(words: &[u32], out: &mut O) -> Result<(), Status>
+    ensures { PutsListing (status_of result) (listing words.now) (O.seen out.old) (O.seen out.new) }
+{
+    for word in words {
+        out.put(&word_line(*word))?;
+    }
+    Ok(())
+}
+
+// A word in eight hexadecimal digits, and LF.
+fn word_line(word: u32) -> [u8; 9]
+    ensures { result ≡ word_line word }
+{
+    [
+        hex_digit(word >> 28),
+        hex_digit(word >> 24),
+        hex_digit(word >> 20),
+        hex_digit(word >> 16),
+        hex_digit(word >> 12),
+        hex_digit(word >> 8),
+        hex_digit(word >> 4),
+        hex_digit(word),
+        b'\n',
+    ]
+}
+
+// The last hexadecimal digit of a number, in lower case.
+fn hex_digit(number: u32) -> u8
+    ensures { result ≡ hex_digit (number % 16) }
+{
+    let digit = (number % 16) as u8;
+    if digit < 10 {
+        b'0' + digit
+    } else {
+        b'a' + (digit - 10)
+    }
+}
