@@ -1,0 +1,4 @@
+pub mod Emittables
+pub mod Endings
+pub mod Sizes
+pub mod Systems

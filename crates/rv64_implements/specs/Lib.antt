@@ -1,0 +1,6 @@
+pub mod Emittable
+pub mod Home
+pub mod Implements
+pub mod Laws
+pub mod Shown
+pub mod WordBounds
