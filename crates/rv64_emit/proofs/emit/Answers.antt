@@ -1,0 +1,1 @@
+use Rattle.rv64_emit.proofs.emit.Goals as goal
