@@ -1,6 +1,5 @@
 -- An accepted program within the bounds has an image.
-use Rattle.std.proofs.Common.{◌≡◌, ℕ, ◌+◌, ◌-◌, ◌*◌, ◌^◌, ◌<◌, ◌≤◌, List, ◌++◌, length, map, Some, refl, sym, ap, ◌∙◌, subst, arith, length-append, mul-le-mul_left, mul-le-mul_right}
-use Rattle.std.specs.Prelude.{slice_get, All}
+use Rattle.std.proofs.Common.{◌≡◌, ℕ, ◌-◌, ◌*◌, ◌^◌, ◌<◌, ◌≤◌, length, sym, ap, ◌∙◌, arith, length-append}
 use Rattle.std.proofs.lemmas.List.{length-map}
 use Rattle.bril_tree.specs.declared.limits.Limits.{Limits}
 use Rattle.bril_tree.specs.declared.program.Prog.{Prog}
@@ -8,15 +7,14 @@ use Rattle.bril_tree.specs.Accepted.{IsAccepted}
 use Rattle.bril_tree.specs.Literals.{AreLiteralsInRange}
 use Rattle.bril_tree.specs.Size.{IsCounted}
 use Rattle.bril_tree.proofs.Elements.{All-at, zip-long}
-use Rattle.rv64_implements.specs.WordBounds.{word_bounds, IsStackSize, IsWithin}
+use Rattle.rv64_implements.specs.WordBounds.{IsStackSize, IsWithin}
 use Rattle.rv64_words.specs.declared.image.Image.{Image}
 use Rattle.rv64_words.specs.Encoding.{encoded}
-use Rattle.slot_code.specs.declared.slots.SlotFunction.{SlotFunction}
 use Rattle.slot_code.specs.declared.slots.Slots.{Slots}
 use Rattle.slot_code.specs.Lowered.{IsLowered, IsLoweredFunction, lowered_item}
 use Rattle.rv64_layout.specs.Image.{joined, start_at, head_words, function_words_at, image_words, largest_frame, IsImageOf}
 use Rattle.rv64_layout.proofs.Bounding.{image_bounded, function_made}
-use Rattle.rv64_layout.proofs.Fitting.{item_fits, frame_most, largest_is}
+use Rattle.rv64_layout.proofs.Fitting.{item_fits, largest_is}
 use Rattle.rv64_layout.proofs.Laid.{functions_length}
 use Rattle.rv64_emit.specs.Tables.{SlotsFit}
 

@@ -1,13 +1,12 @@
 -- Where the words of functions and items are while an image is made.
-use Rattle.std.proofs.Common.{◌≡◌, ℕ, zero, suc, ◌+◌, ◌-◌, ◌<◌, ◌≤◌, ⊎_elim, min, List, [], ◌∷◌, ◌++◌, length, map, get_or, Option, Some, None, pos, refl, sym, ap, ◌∙◌, subst, arith, add-one, zero-add, length-append, append_assoc}
+use Rattle.std.proofs.Common.{◌≡◌, ℕ, ◌+◌, ◌-◌, ◌<◌, ◌≤◌, ⊎_elim, min, List, [], ◌∷◌, ◌++◌, length, map, get_or, Some, pos, refl, sym, ap, ◌∙◌, subst, arith, add-one, zero-add, length-append, append_assoc}
 use Rattle.std.specs.Prelude.{slice_get}
 use Rattle.std.specs.List.{range_with_len}
 use Rattle.std.proofs.lemmas.List.{length-map}
 use Rattle.std.proofs.lemmas.List.FromFn.{get_or-map-range_with_len, length-map-range_with_len, map-range_with_len_more}
-use Rattle.std.proofs.lemmas.Option.{slice_get_read, slice_get_past, slice_get_within}
+use Rattle.std.proofs.lemmas.Option.{slice_get_read, slice_get_past}
 use Rattle.bril_tree.proofs.Elements.{get_inside}
 use Rattle.rv64_words.specs.declared.image.GuardAt.{GuardAt}
-use Rattle.rv64_words.specs.declared.word.Word.{Word}
 use Rattle.rv64_words.specs.declared.word.Word.TheVariants.{Sd}
 use Rattle.rv64_words.specs.Encoding.{encoded}
 use Rattle.slot_code.specs.declared.item.SlotItem.{SlotItem}
@@ -15,7 +14,7 @@ use Rattle.slot_code.specs.declared.item.SlotItem.TheVariants.{Pass, Constant, C
 use Rattle.slot_code.specs.declared.slots.SlotFunction.{SlotFunction}
 use Rattle.slot_code.specs.declared.slots.Slots.{Slots}
 use Rattle.rv64_layout.specs.Fits.{ItemFits}
-use Rattle.rv64_layout.specs.Image.{sum_below, joined, depth_at, size_at, words_before, function_size, function_size_or_none, start_at, entry_at, item_words_or_none, item_words_at, function_words_or_none, function_words_at, guard_or_none, guard_at, function_guards_or_none, function_guards_at}
+use Rattle.rv64_layout.specs.Image.{joined, depth_at, words_before, function_size, start_at, entry_at, item_words_or_none, item_words_at, function_words_or_none, function_words_at, guard_or_none, guard_at}
 use Rattle.rv64_layout.specs.Items.{item_size, item_words, leave_words}
 use Rattle.rv64_layout.proofs.Joining.{below_or, joined-more}
 use Rattle.rv64_layout.proofs.Laid.{items_length, functions_length}
@@ -54,9 +53,6 @@ module _ (slots : Slots) where
   pub starts_are : (starts : List ℕ) → starts ≡ start_table slots → (k : ℕ) → table_at starts k ≡ start_at slots k
   starts_are starts is k = ap (λ t. table_at t k) is ∙ table_of (start_at slots) (length slots.funcs) starts_stay k
 
-  pub starts_some : (starts : List ℕ) → starts ≡ start_table slots → 0 < length starts
-  starts_some starts is = let e : length starts ≡ length slots.funcs + 1 = ap length is ∙ length-map-range_with_len (start_at slots) 0 (length slots.funcs + 1) in omega arith
-
   entries_stay : (f : ℕ) (g : SlotFunction) → slice_get slots.funcs f ≡ Some g → (k : ℕ) → length g.code ≤ k → entry_at slots f k ≡ entry_at slots f (length g.code)
   entries_stay f g is k past =
       let here = entry_is slots f g k is in
@@ -69,11 +65,6 @@ module _ (slots : Slots) where
 
   pub entries_are : (f : ℕ) (g : SlotFunction) → slice_get slots.funcs f ≡ Some g → (entries : List ℕ) → entries ≡ entry_table slots f → (k : ℕ) → table_at entries k ≡ entry_at slots f k
   entries_are f g is entries are k = ap (λ t. table_at t k) (table_is f g is entries are) ∙ table_of (entry_at slots f) (length g.code) (entries_stay f g is) k
-
-  pub entries_some : (f : ℕ) (entries : List ℕ) → entries ≡ entry_table slots f → 0 < length entries
-  entries_some f entries are =
-      let e : length entries ≡ item_count (slice_get slots.funcs f) + 1 = ap length are ∙ length-map-range_with_len (entry_at slots f) 0 (item_count (slice_get slots.funcs f) + 1) in
-      omega arith
 
   -- a table of one value more
   pub starts_next : (starts more : List ℕ) (k at : ℕ) → more ≡ starts ++ at ∷ [] → at ≡ start_at slots k → starts ≡ map (start_at slots) (range_with_len 0 k) → more ≡ map (start_at slots) (range_with_len 0 (k + 1))
@@ -97,9 +88,6 @@ module _ (slots : Slots) where
 
   pub function_few : SlotsFit slots → (f : ℕ) (g : SlotFunction) → slice_get slots.funcs f ≡ Some g → start_at slots f + function_size g ≤ 250000
   function_few fit f g is = let few = fit.few in omega (arith, function_inside slots f g is)
-
-  pub next_start : (f : ℕ) (g : SlotFunction) → slice_get slots.funcs f ≡ Some g → start_at slots (f + 1) ≡ start_at slots f + function_size g
-  next_start f g is = let e : function_size_or_none (slice_get slots.funcs f) ≡ function_size g = ap function_size_or_none is in omega (arith, e, ap (start_at slots) (add-one f))
 
   pub turn : SlotsFit slots → (f : ℕ) (g : SlotFunction) → slice_get slots.funcs f ≡ Some g → (items : List SlotItem) → items ≡ g.code → (point : ℕ) (item : SlotItem) (depth : ℕ) → point < length items →
       item ≡ get_or items point item → depth ≡ depth_at g point → Turn f g point item depth
@@ -148,12 +136,6 @@ module _ (slots : Slots) where
           ∙ ap (λ h. item_words (start_at slots) (entry_at slots f) g (depth_at g point) h item) (here_is f g is first code point before so_far)
           ∙ sym (ap (item_words_or_none slots f g point) there)
 
-  pub items_all : (f : ℕ) (g : SlotFunction) → slice_get slots.funcs f ≡ Some g → (first code : List ℕ) (point : ℕ) (items : List SlotItem) → items ≡ g.code → length items ≤ point → point ≤ length items →
-      code ≡ first ++ map encoded (joined (item_words_at slots f g) point) → code ≡ first ++ map encoded (items_at slots f)
-  items_all f g is first code point items same past within so_far =
-      let all : point ≡ length g.code = omega (arith, ap length same) in
-      so_far ∙ ap (λ n. first ++ map encoded (joined (item_words_at slots f g) n)) all ∙ ap (λ o. first ++ map encoded (items_or_none slots f o)) (sym is)
-
   -- ---- the words of functions
 
   pub function_put : (f : ℕ) → f < length slots.funcs → (first begun items left : List ℕ) → begun ≡ first ++ map encoded (Sd 2 1 (pos 0) ∷ []) → items ≡ begun ++ map encoded (items_at slots f) →
@@ -168,11 +150,6 @@ module _ (slots : Slots) where
   function_here first code f before so_far =
       let words = joined (function_words_at slots) f in
       omega (arith, ap length so_far, length-append first (map encoded words), length-map words encoded, functions_length slots f)
-
-  pub functions_next : (first code next : List ℕ) (f : ℕ) → code ≡ first ++ map encoded (joined (function_words_at slots) f) → next ≡ code ++ map encoded (function_words_at slots f) →
-      next ≡ first ++ map encoded (joined (function_words_at slots) (f + 1))
-  functions_next first code next f so_far put =
-      put_then first code next (joined (function_words_at slots) f) (function_words_at slots f) so_far put ∙ ap (λ ws. first ++ map encoded ws) (sym (joined-more (function_words_at slots) f))
 
   -- ---- guards
 
@@ -202,9 +179,3 @@ module _ (slots : Slots) where
       ∙ ap (λ gs. guards ++ gs) (guard_same f g point item ∙ sym (ap (guard_or_none slots f g point) there))
       ∙ ap (λ gs. gs ++ guard_at slots f g point) so_far ∙ append_assoc first (joined (guard_at slots f g) point) (guard_at slots f g point)
       ∙ ap (λ gs. first ++ gs) (sym (joined-more (guard_at slots f g) point))
-
-  pub guards_all : (f : ℕ) (g : SlotFunction) → slice_get slots.funcs f ≡ Some g → (first guards : List GuardAt) (point : ℕ) (items : List SlotItem) → items ≡ g.code → length items ≤ point → point ≤ length items →
-      guards ≡ first ++ joined (guard_at slots f g) point → guards ≡ first ++ function_guards_at slots f
-  guards_all f g is first guards point items same past within so_far =
-      let all : point ≡ length g.code = omega (arith, ap length same) in
-      so_far ∙ ap (λ n. first ++ joined (guard_at slots f g) n) all ∙ ap (λ o. first ++ function_guards_or_none slots f o) (sym is)

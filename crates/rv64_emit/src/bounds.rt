@@ -61,7 +61,11 @@ fn item_bound(item: &Instr, locations: u64) -> u64
     match item {
         Instr::Label(_) => 0,
         Instr::Const { .. } => 12,
-        Instr::Act { op, args, .. } => operation_bound_of(*op, locations, args.as_slice().len() as u64),
+        Instr::Act { op, args, .. } => operation_bound_of(
+            *op,
+            locations,
+            args.as_slice().len() as u64,
+        ),
     }
 }
 
@@ -124,7 +128,10 @@ fn is_function_told(func: &Func) -> bool
 pub fn is_told(prog: &Prog) -> bool
     ensures { result ≡ bounds.is_told prog.now }
 {
-    prog.funcs.as_slice().iter().all(|func| is_function_told(func))
+    prog.funcs
+        .as_slice()
+        .iter()
+        .all(|func| is_function_told(func))
 }
 
 // ---- the stack
@@ -142,7 +149,11 @@ fn largest_frame(checked: &Checked) -> u64
 
 /// The words of the program's stack, if its words and its stack are within their bounds. The code over slots tells the numbers
 /// of locations, where bounds depend on them. Takes no memory.
-pub fn stack_within(checked: &Checked, funcs: &[SlotFunction], limits: Limits) -> Result<u32, EmitFault>
+pub fn stack_within(
+    checked: &Checked,
+    funcs: &[SlotFunction],
+    limits: Limits,
+) -> Result<u32, EmitFault>
     requires { AreLocationsKnown checked.now.prog funcs.now }
     ensures within { IfOk result (λ _. IsWithin checked.now.prog limits) }
     ensures stack { IfOk result (IsStackSize checked.now.prog limits) }

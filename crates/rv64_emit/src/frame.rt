@@ -16,7 +16,8 @@ pub fn word_of(value: Value) -> u64
         Value::Int(n) => n.cast_unsigned(),
         Value::Bool(b) => u64::from(b),
         Value::Char(c) => c as u64,
-        Value::Ptr { block, offset } => block as u64 * 0x1_0000_0000 + offset.cast_unsigned() as u64,
+        Value::Ptr { block, offset } => block as u64 * 0x1_0000_0000
+            + offset.cast_unsigned() as u64,
     }
 }
 

@@ -106,7 +106,12 @@ fn push_guard(
 }
 
 // The guards of a function.
-fn push_guards(guards: &mut Seq<GuardAt>, slots: &Slots, number: usize, entries: &[u32]) -> Result<(), AllocError>
+fn push_guards(
+    guards: &mut Seq<GuardAt>,
+    slots: &Slots,
+    number: usize,
+    entries: &[u32],
+) -> Result<(), AllocError>
     requires inside { number < length slots.now.funcs }
     requires fits { SlotsFit slots.now }
     requires entries { entries.now ≡ tables.entry_table slots.now number }
@@ -149,7 +154,12 @@ fn put_functions(
 }
 
 /// The image of code over slots for runs under the limits, with a stack of so many words.
-pub fn image_of(alloc: Global, slots: &Slots, limits: Limits, stack: u32) -> Result<Image, AllocError>
+pub fn image_of(
+    alloc: Global,
+    slots: &Slots,
+    limits: Limits,
+    stack: u32,
+) -> Result<Image, AllocError>
     requires fits { SlotsFit slots.now }
     requires stack { stack ≡ limits.frames * largest_frame slots.now }
     ensures { IfOk result (IsImageOf slots.now limits) }

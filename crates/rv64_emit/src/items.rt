@@ -11,13 +11,18 @@ ghost use Rattle.rv64_words.specs.Encoding.{encoded};
 ghost use Rattle.rv64_words.specs.Mnemonics as mnemonics;
 
 use crate::assembly::{addi, branch, jalr, ld, sd};
-use crate::frame::{argument_word, level_word, next_level_word, slot_count, slot_word, variable_word, word_of};
+use crate::frame::{
+    argument_word, level_word, next_level_word, slot_count, slot_word, variable_word, word_of,
+};
 use crate::operations::{put_binary, put_cell, put_load_cell, put_mark_cell, put_unary};
-use crate::sequences::{environment_call, fault, jump, number, put, put_constant, put_copies, put_frame_up, put_load, put_store};
+use crate::sequences::{
+    environment_call, fault, jump, number, put, put_constant, put_copies, put_frame_up, put_load,
+    put_store,
+};
+use crate::sizes::{before_call_size, guard_front_size, load_variable_size, restore_size};
 use bril_tree::sequence::Seq;
 use bril_tree::types::Base;
 use bril_tree::value::Value;
-use crate::sizes::{before_call_size, guard_front_size, load_variable_size, restore_size};
 use rv64_words::field::Immediate;
 use rv64_words::word::{Condition, Word};
 use slot_code::{BinaryOp, Printed, Slot, SlotFunction, UnaryOp};
@@ -38,7 +43,12 @@ pub fn put_value(code: &mut Seq<u32>, dest: u32, value: Value) -> Result<(), All
 
 /// A slot into another.
 #[tactic(auto, using(crate::proofs::Appending::put_then))]
-pub fn put_copy(code: &mut Seq<u32>, func: &SlotFunction, dest: Slot, from: Slot) -> Result<(), AllocError>
+pub fn put_copy(
+    code: &mut Seq<u32>,
+    func: &SlotFunction,
+    dest: Slot,
+    from: Slot,
+) -> Result<(), AllocError>
     requires dest { items.slot_word func.now dest < 2 ^ 26 }
     requires from { items.slot_word func.now from < 2 ^ 26 }
     ensures { OnOk result (code.new ≡ code.old ++ map encoded
@@ -50,7 +60,12 @@ pub fn put_copy(code: &mut Seq<u32>, func: &SlotFunction, dest: Slot, from: Slot
 
 /// What an operation computes from one variable into another.
 #[tactic(auto, using(crate::proofs::Appending::put_then))]
-pub fn put_unary_item(code: &mut Seq<u32>, operation: UnaryOp, dest: u32, operand: u32) -> Result<(), AllocError>
+pub fn put_unary_item(
+    code: &mut Seq<u32>,
+    operation: UnaryOp,
+    dest: u32,
+    operand: u32,
+) -> Result<(), AllocError>
     requires dest { 2 + dest < 2 ^ 26 }
     requires operand { 2 + operand < 2 ^ 26 }
     ensures { OnOk result (code.new ≡ code.old ++ map encoded
@@ -63,7 +78,13 @@ pub fn put_unary_item(code: &mut Seq<u32>, operation: UnaryOp, dest: u32, operan
 
 /// What an operation computes from two variables into a third.
 #[tactic(auto, using(crate::proofs::Appending::put_then))]
-pub fn put_binary_item(code: &mut Seq<u32>, operation: BinaryOp, dest: u32, first: u32, second: u32) -> Result<(), AllocError>
+pub fn put_binary_item(
+    code: &mut Seq<u32>,
+    operation: BinaryOp,
+    dest: u32,
+    first: u32,
+    second: u32,
+) -> Result<(), AllocError>
     requires dest { 2 + dest < 2 ^ 26 }
     requires first { 2 + first < 2 ^ 26 }
     requires second { 2 + second < 2 ^ 26 }
@@ -96,12 +117,21 @@ fn ways(at: u32, then_to: u32, else_to: u32) -> [Word; 3]
     ensures { result ≡ mnemonics.beq 5 0 (pos 8) ∷ Word.Jal 0 (jump_offset at then_to)
         ∷ Word.Jal 0 (jump_offset (at + 1) else_to) ∷ [] }
 {
-    [branch(Condition::Eq, 5, 0, 8), jump(0, at, then_to), jump(0, at + 1, else_to)]
+    [
+        branch(Condition::Eq, 5, 0, 8),
+        jump(0, at, then_to),
+        jump(0, at + 1, else_to),
+    ]
 }
 
 /// A jump to one item where a variable holds true, else to another.
 #[tactic(auto, using(crate::proofs::Appending::put_then))]
-pub fn put_branch(code: &mut Seq<u32>, condition: u32, then_to: u32, else_to: u32) -> Result<(), AllocError>
+pub fn put_branch(
+    code: &mut Seq<u32>,
+    condition: u32,
+    then_to: u32,
+    else_to: u32,
+) -> Result<(), AllocError>
     requires here { length code.old + (load_size (2 + condition) + 3) ≤ 250000 }
     requires condition { 2 + condition < 2 ^ 26 }
     requires then_to { then_to ≤ 250000 }
@@ -153,7 +183,13 @@ fn put_result(code: &mut Seq<u32>, dest: Option<u32>) -> Result<(), AllocError>
 
 /// A call of the function whose first word is `start`.
 #[tactic(auto, using(crate::proofs::Appending::put_then))]
-pub fn put_call(code: &mut Seq<u32>, func: &SlotFunction, dest: Option<u32>, start: u32, args: &[u32]) -> Result<(), AllocError>
+pub fn put_call(
+    code: &mut Seq<u32>,
+    func: &SlotFunction,
+    dest: Option<u32>,
+    start: u32,
+    args: &[u32],
+) -> Result<(), AllocError>
     requires here { length code.old + items.before_call func.now args.now ≤ 250000 }
     requires start { start ≤ 250000 }
     requires frame { func.now.words < 2 ^ 26 }
@@ -175,7 +211,12 @@ pub fn put_call(code: &mut Seq<u32>, func: &SlotFunction, dest: Option<u32>, sta
 pub fn leave() -> [Word; 4]
     ensures { result ≡ items.leave_words }
 {
-    [ld(1, 2, number(0)), ld(2, 2, number(8)), addi(8, 8, number(1)), jalr(0, 1, 0)]
+    [
+        ld(1, 2, number(0)),
+        ld(2, 2, number(8)),
+        addi(8, 8, number(1)),
+        jalr(0, 1, 0),
+    ]
 }
 
 // The returned value.
@@ -313,7 +354,11 @@ fn nop() -> Word
 
 /// The slots into those of a new level, where `depth` levels are kept.
 #[tactic(auto, using(crate::proofs::Appending::put_then))]
-pub fn put_speculate(code: &mut Seq<u32>, func: &SlotFunction, depth: usize) -> Result<(), AllocError>
+pub fn put_speculate(
+    code: &mut Seq<u32>,
+    func: &SlotFunction,
+    depth: usize,
+) -> Result<(), AllocError>
     requires { length func.now.slots * (depth + 2) < 2 ^ 26 }
     ensures { OnOk result (code.new ≡ code.old ++ map encoded
         (copy_words 2 (items.level_word func.now (suc depth)) (length func.now.slots) ++ items.nop_word ∷ [])) }
@@ -339,7 +384,12 @@ fn over_rest(rest: u32) -> [Word; 2]
 
 // The words of a guard before its last.
 #[tactic(auto, using(crate::proofs::Appending::put_then))]
-fn put_guard_front(code: &mut Seq<u32>, func: &SlotFunction, depth: usize, condition: u32) -> Result<(), AllocError>
+fn put_guard_front(
+    code: &mut Seq<u32>,
+    func: &SlotFunction,
+    depth: usize,
+    condition: u32,
+) -> Result<(), AllocError>
     requires condition { 2 + condition < 2 ^ 26 }
     requires levels { length func.now.slots * (depth + 2) < 2 ^ 26 }
     requires few { items.guard_front_size func.now depth condition ≤ 250000 }
@@ -352,7 +402,13 @@ fn put_guard_front(code: &mut Seq<u32>, func: &SlotFunction, depth: usize, condi
 
 /// A guard: where its variable doesn't hold true, the slots become those of the newest level, and control goes to an item.
 #[tactic(auto, using(crate::proofs::Appending::put_then))]
-pub fn put_guard(code: &mut Seq<u32>, func: &SlotFunction, depth: usize, condition: u32, abort_to: u32) -> Result<(), AllocError>
+pub fn put_guard(
+    code: &mut Seq<u32>,
+    func: &SlotFunction,
+    depth: usize,
+    condition: u32,
+    abort_to: u32,
+) -> Result<(), AllocError>
     requires here { length code.old + items.guard_front_size func.now depth condition ≤ 250000 }
     requires condition { 2 + condition < 2 ^ 26 }
     requires levels { length func.now.slots * (depth + 2) < 2 ^ 26 }

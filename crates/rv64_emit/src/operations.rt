@@ -91,11 +91,20 @@ pub fn put_binary(code: &mut Seq<u32>, operation: BinaryOp) -> Result<(), AllocE
         BinaryOp::Sub => put(code, &[op(RegisterOperation::Sub, 5, 5, 7)]),
         BinaryOp::Mul => put(code, &[op(RegisterOperation::Mul, 5, 5, 7)]),
         BinaryOp::Div => put_division(code),
-        BinaryOp::Eq | BinaryOp::Ceq => put(code, &[op(RegisterOperation::Sub, 5, 5, 7), negated()]),
+        BinaryOp::Eq | BinaryOp::Ceq => put(
+            code,
+            &[op(RegisterOperation::Sub, 5, 5, 7), negated()],
+        ),
         BinaryOp::Lt | BinaryOp::Clt => put(code, &[op(RegisterOperation::Slt, 5, 5, 7)]),
         BinaryOp::Gt | BinaryOp::Cgt => put(code, &[op(RegisterOperation::Slt, 5, 7, 5)]),
-        BinaryOp::Le | BinaryOp::Cle => put(code, &[op(RegisterOperation::Slt, 5, 7, 5), negated()]),
-        BinaryOp::Ge | BinaryOp::Cge => put(code, &[op(RegisterOperation::Slt, 5, 5, 7), negated()]),
+        BinaryOp::Le | BinaryOp::Cle => put(
+            code,
+            &[op(RegisterOperation::Slt, 5, 7, 5), negated()],
+        ),
+        BinaryOp::Ge | BinaryOp::Cge => put(
+            code,
+            &[op(RegisterOperation::Slt, 5, 5, 7), negated()],
+        ),
         BinaryOp::And => put(code, &[op(RegisterOperation::And, 5, 5, 7)]),
         BinaryOp::Or => put(code, &[op(RegisterOperation::Or, 5, 5, 7)]),
         BinaryOp::PtrAdd => put_pointer_sum(code),
@@ -131,7 +140,13 @@ fn pointer_of_parts() -> [Word; 5]
     ensures { result ≡ mnemonics.srli 5 5 32 ∷ mnemonics.slli 5 5 32 ∷ mnemonics.slli 7 7 32
         ∷ mnemonics.srli 7 7 32 ∷ mnemonics.add 5 5 7 ∷ [] }
 {
-    [srli(5, 5, 32), slli(5, 5, 32), slli(7, 7, 32), srli(7, 7, 32), add(5, 5, 7)]
+    [
+        srli(5, 5, 32),
+        slli(5, 5, 32),
+        slli(7, 7, 32),
+        srli(7, 7, 32),
+        add(5, 5, 7),
+    ]
 }
 
 // A pointer, moved by a number of cells, or fault 10 where the offset leaves the signed range of 32 bits.
@@ -168,7 +183,10 @@ pub fn put_cell(code: &mut Seq<u32>) -> Result<(), AllocError>
 pub fn put_load_cell(code: &mut Seq<u32>) -> Result<(), AllocError>
     ensures { OnOk result (code.new ≡ code.old ++ map encoded load_cell_words) }
 {
-    put(code, &[ld(5, 7, number(0)), branch(Condition::Ne, 5, 0, 16)])?;
+    put(
+        code,
+        &[ld(5, 7, number(0)), branch(Condition::Ne, 5, 0, 16)],
+    )?;
     put(code, &fault(6))?;
     put(code, &[ld(5, 7, number(8))])
 }

@@ -60,7 +60,12 @@ pub fn start_table(alloc: Global, slots: &Slots) -> Result<Seq<u32>, AllocError>
 }
 
 /// Where each item of a function begins whose first word is `start`, and at last the words that leave the function.
-pub fn entry_table(alloc: Global, slots: &Slots, number: usize, start: u32) -> Result<Seq<u32>, AllocError>
+pub fn entry_table(
+    alloc: Global,
+    slots: &Slots,
+    number: usize,
+    start: u32,
+) -> Result<Seq<u32>, AllocError>
     requires inside { number < length slots.now.funcs }
     requires fits { SlotsFit slots.now }
     requires start { start ≡ start_at slots.now number }

@@ -157,7 +157,14 @@ pub fn put_load(code: &mut Seq<u32>, rd: u8, word: u64) -> Result<(), AllocError
     if word < 256 {
         return put(code, &[ld(rd, 2, near_offset(word))]);
     }
-    put(code, &[far_offset(6, word), add(6, 6, 2), ld(rd, 6, low_digit(8 * word))])
+    put(
+        code,
+        &[
+            far_offset(6, word),
+            add(6, 6, 2),
+            ld(rd, 6, low_digit(8 * word)),
+        ],
+    )
 }
 
 /// A register into a word of the frame.
@@ -169,7 +176,14 @@ pub fn put_store(code: &mut Seq<u32>, rs2: u8, word: u64) -> Result<(), AllocErr
     if word < 256 {
         return put(code, &[sd(2, rs2, near_offset(word))]);
     }
-    put(code, &[far_offset(6, word), add(6, 6, 2), sd(6, rs2, low_digit(8 * word))])
+    put(
+        code,
+        &[
+            far_offset(6, word),
+            add(6, 6, 2),
+            sd(6, rs2, low_digit(8 * word)),
+        ],
+    )
 }
 
 /// How many words copy so many words of the frame.
@@ -213,7 +227,13 @@ pub fn put_frame_up(code: &mut Seq<u32>, words: u64) -> Result<(), AllocError>
     ensures { OnOk result (code.new ≡ code.old ++ map encoded (frame_up_words words)) }
 {
     if words < 255 {
-        return put(code, &[sd(2, 2, near_offset(words + 1)), addi(2, 2, near_offset(words))]);
+        return put(
+            code,
+            &[
+                sd(2, 2, near_offset(words + 1)),
+                addi(2, 2, near_offset(words)),
+            ],
+        );
     }
     put(
         code,
@@ -255,7 +275,11 @@ pub fn fault(kind: u16) -> [Word; 3]
     requires { kind < 2048 }
     ensures { result ≡ fault_words kind }
 {
-    [addi(10, 0, number(kind)), addi(17, 0, number(8)), Word::Ecall]
+    [
+        addi(10, 0, number(kind)),
+        addi(17, 0, number(8)),
+        Word::Ecall,
+    ]
 }
 
 /// The environment call of a number.

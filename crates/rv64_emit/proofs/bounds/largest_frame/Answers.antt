@@ -1,4 +1,4 @@
-use Rattle.std.proofs.Common.{◌≡◌, ◌<◌, ◌≤◌, length, ap, ◌∙◌, subst, arith}
+use Rattle.std.proofs.Common.{◌≡◌, ◌<◌, ◌≤◌, length, ap, ◌∙◌, subst}
 use Rattle.rv64_emit.proofs.Frames.{largest_next, largest_all}
 use Rattle.rv64_emit.proofs.bounds.largest_frame.Goals as goal
 

@@ -1,7 +1,6 @@
-use Rattle.std.proofs.Common.{◌≡◌, length, arith}
-use Rattle.rv64_layout.specs.Image.{entry_at}
+use Rattle.std.proofs.Common.{arith}
 use Rattle.rv64_layout.proofs.Placing.{starts_most, entries_most}
-use Rattle.rv64_emit.proofs.Placed.{turn, starts_are, starts_some, entries_are, entries_some, here_is, items_next}
+use Rattle.rv64_emit.proofs.Placed.{turn, starts_are, entries_are, here_is, items_next}
 use Rattle.rv64_emit.proofs.image.put_items.Goals as goal
 
 pub put_item-requires-clause-few_starts : goal.put_item-requires-clause-few_starts

@@ -1,7 +1,7 @@
 use Rattle.std.proofs.Common.{◌≡◌, ◌+◌, length, map, sym, ap, ◌∙◌, arith}
 use Rattle.std.specs.List.{range_with_len}
 use Rattle.rv64_layout.specs.Image.{entry_at}
-use Rattle.rv64_layout.proofs.Placing.{starts_most, entry_is}
+use Rattle.rv64_layout.proofs.Placing.{starts_most}
 use Rattle.rv64_emit.specs.Tables.{item_count}
 use Rattle.rv64_emit.proofs.Placed.{turn, entries_next}
 use Rattle.rv64_emit.proofs.places.entry_table.Goals as goal
@@ -27,9 +27,10 @@ overflow_add-at-in-loop-point c =
 pub loop-point-preserved : goal.loop-point-preserved
 loop-point-preserved c =
     let t = turn c.args.slots.now c.requires.fits c.args.number c.function_at-func.result.now c.function_at-func.ensures c.as_slice-item-items.result.now c.as_slice-item-items.ensures c.loop-point.point c.item-item.result c.depth_of.result c.loop-point-test.true c.item-item.is c.depth_of.ensures in
-    let pushed = c.in_ok-push.ensures {u = tt} in
-    (entries_next c.args.slots.now c.args.number c.loop-point.entries c.push.new.self c.loop-point.point c.loop-point.at pushed.ok c.loop-point.invariant.1 c.loop-point.invariant.0,
-     omega (arith, t.next, t.entry, t.next_entry, c.loop-point.invariant.1, c.size_of-at.ensures))
+    let pushed = c.in_ok-push.ensures {u = tt} in (
+      entries_next c.args.slots.now c.args.number c.loop-point.entries c.push.new.self c.loop-point.point c.loop-point.at pushed.ok c.loop-point.invariant.1 c.loop-point.invariant.0,
+      omega (arith, t.next, t.entry, t.next_entry, c.loop-point.invariant.1, c.size_of-at.ensures),
+    )
 
 pub returns : goal.returns
 returns c =

@@ -11,9 +11,10 @@ overflow_add-at c =
 
 pub loop-number-preserved : goal.loop-number-preserved
 loop-number-preserved c =
-    let pushed = c.in_ok-push.ensures {u = tt} in
-    (starts_next c.args.slots.now c.loop-number.starts c.push.new.self c.loop-number.number c.loop-number.at pushed.ok c.loop-number.invariant.1 c.loop-number.invariant.0,
-     omega (arith, c.loop-number.invariant.1, c.function_size_of-at.ensures))
+    let pushed = c.in_ok-push.ensures {u = tt} in (
+      starts_next c.args.slots.now c.loop-number.starts c.push.new.self c.loop-number.number c.loop-number.at pushed.ok c.loop-number.invariant.1 c.loop-number.invariant.0,
+      omega (arith, c.loop-number.invariant.1, c.function_size_of-at.ensures),
+    )
 
 pub returns : goal.returns
 returns c =

@@ -1,5 +1,4 @@
-use Rattle.std.proofs.Common.{◌+◌, ◌-◌, arith}
-use Rattle.rv64_sequences.specs.Sequences.{copy_size}
+use Rattle.std.proofs.Common.{arith}
 use Rattle.rv64_emit.proofs.Appending.{copy_size-next}
 use Rattle.rv64_emit.proofs.sequences.copy_size_of.Goals as goal
 

@@ -1,4 +1,4 @@
-use Rattle.std.proofs.Common.{◌+◌, ◌-◌, ◌++◌, map}
+use Rattle.std.proofs.Common.{◌++◌, map}
 use Rattle.rv64_words.specs.Encoding.{encoded}
 use Rattle.rv64_sequences.specs.Sequences.{copy_words}
 use Rattle.rv64_emit.proofs.Appending.{copies_next}
