@@ -1,0 +1,4 @@
+pub mod Removable
+pub mod Emptied
+pub mod Dead
+pub mod Work
