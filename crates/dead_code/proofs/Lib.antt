@@ -11,3 +11,4 @@ pub mod Queueing
 pub mod Clearing
 pub mod Looking
 pub mod Made
+pub mod Numbers
