@@ -10,5 +10,6 @@ pub mod Working
 pub mod Queueing
 pub mod Clearing
 pub mod Looking
+pub mod Sweeping
 pub mod Made
 pub mod Numbers

@@ -78,7 +78,7 @@ IsAmong reads n = Contains (map (λ (access : Access). access.location) reads) n
 pub among-none : (n : ℕ) → IsAmong [] n → ⊥
 among-none n h = in_contains n [] h
 
-among-more : (reads : List Access) (read : Access) (n : ℕ) → In n (map (λ (access : Access). access.location) (reads ++ read ∷ [])) → In n (map (λ (access : Access). access.location) reads) ⊎ (n ≡ read.location)
+pub among-more : (reads : List Access) (read : Access) (n : ℕ) → In n (map (λ (access : Access). access.location) (reads ++ read ∷ [])) → In n (map (λ (access : Access). access.location) reads) ⊎ (n ≡ read.location)
 among-more [] read n (inl e) = inr e
 among-more [] read n (inr i) = absurd i
 among-more (r ∷ reads) read n (inl e) = inl (inl e)
@@ -89,7 +89,7 @@ read-queued reads i read a b c qa qb qc low is first second =
     queues-more (IsAmong (take i reads)) (IsAmong (take (i + 1) reads)) i read.location a b c qa qb qc first second
     (λ n h. ⊎_elim (λ k. inl (contains_in n _ k)) inr (among-more (take i reads) read n (subst (λ l. In n (map (λ (access : Access). access.location) l)) (take_more reads i read low ∙ ap (λ r. take i reads ++ r ∷ []) (sym is)) (in_contains n _ h))))
 
-numbers-read : (item : ℕ) (xs : List Location) → map (λ (access : Access). access.location) (map (access_at item) xs) ≡ map number_of xs
+pub numbers-read : (item : ℕ) (xs : List Location) → map (λ (access : Access). access.location) (map (access_at item) xs) ≡ map number_of xs
 numbers-read item [] = refl
 numbers-read item (x ∷ xs) = ap (λ l. number_of x ∷ l) (numbers-read item xs)
 

@@ -30,7 +30,7 @@ set-here [] j a x e = absurd (let n : None ≡ Some a = e in cc)
 set-here (y ∷ xs) zero a x e = refl
 set-here (y ∷ xs) (suc j) a x e = set-here xs j a x e
 
-set-other : {X : Type 0} (xs : List X) (j p : ℕ) (x : X) → (p ≡ j → ⊥) → slice_get (set xs j x) p ≡ slice_get xs p
+pub set-other : {X : Type 0} (xs : List X) (j p : ℕ) (x : X) → (p ≡ j → ⊥) → slice_get (set xs j x) p ≡ slice_get xs p
 set-other [] j p x d = refl
 set-other (y ∷ xs) zero zero x d = absurd (d refl)
 set-other (y ∷ xs) zero (suc p) x d = refl

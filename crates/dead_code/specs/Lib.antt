@@ -3,3 +3,4 @@ pub mod Emptied
 pub mod Dead
 pub mod Work
 pub mod Numbers
+pub mod Sweep

@@ -2,8 +2,8 @@
 //!
 //! 1. Which items are removable (`specs/Removable.antt`), what the pass makes of them (`specs/Emptied.antt`), and what it
 //!    means (`specs/Dead.antt`).
-//! 2. The code: a work list of the locations that may have become dead (`src/work.rt`), the edit of the tree
-//!    (`src/edit.rt`), and the pass around it (`src/dead.rt`).
+//! 2. The code: a sweep over the items (`src/sweep.rt`), a work list of the locations that may have become dead
+//!    (`src/work.rt`), the edit of the tree (`src/edit.rt`), and the pass around it (`src/dead.rt`).
 //! 3. One item becomes `nop` (`proofs/Step.antt`), and one after another (`proofs/Chain.antt`).
 //! 4. Matched states go on: the result refines the program (`proofs/Refines.antt`).
 //! 5. The items and the walks of the result: it is accepted (`proofs/Accepted.antt`).
@@ -14,6 +14,7 @@
 mod dead;
 mod edit;
 mod laws;
+mod sweep;
 mod work;
 
 pub use dead::Dead;

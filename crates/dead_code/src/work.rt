@@ -15,6 +15,7 @@ ghost use Rattle.dead_code.specs.Work.{AreQueued, IsLookedAt, IsReadBy, IsSearch
 ghost use Rattle.live_sets.specs.Arcs.{AreBackArcs};
 ghost use Rattle.live_sets.specs.Reads.{Accesses, reads_from};
 
+use crate::sweep::swept;
 use bril_tree::numbered::Instr;
 use bril_tree::numbered_function::Func;
 use bril_tree::operation::Op;
@@ -104,7 +105,7 @@ fn only_computes(op: Op) -> bool
 }
 
 // Whether the item is a computation.
-fn is_computation(item: &Instr) -> bool
+pub(crate) fn is_computation(item: &Instr) -> bool
     ensures { result ≡ is_computation item.now }
 {
     match item {
@@ -202,7 +203,7 @@ impl Work {
         ensures count { IfOk result (λ work. length work.queued.items ≡ count) }
         ensures work { IfOk result (λ work. IsWork func.now.code work.dead.items work.queue.items work.queued.items (λ n. ⊥)) }
     {
-        let dead = idle_items(alloc, func, graph)?;
+        let dead = swept(alloc, func, idle_items(alloc, func, graph)?, count)?;
         let queue = numbers_below(alloc, count)?;
         let queued = vec![in alloc; true; count]?;
         Ok(Work {
