@@ -21,7 +21,7 @@ use Rattle.dead_code.specs.Removable.{is_computation, is_silent, IsUnused, IsIdl
 use Rattle.dead_code.proofs.Step.{now, now-here, now-other, now-points, reached-unused, same_branches, walk-now, walk-was, sites-same, live-was}
 
 module _ (code : List Instr) where
-  -- a computation at a reached point of what isn't live behind it in the end
+  -- a computation at a reached point of what isn't live after it in the end
   pub record Computed (made : List Instr) (point : ℕ) (item : Instr) : Type 0 where
     pub computes : is_computation item ≡ true
     pub unused : (x : Location) → In x (assigns_of item) → IsLive made x (suc point) → ⊥
@@ -51,8 +51,8 @@ module _ (code : List Instr) where
   was_reached made c point h = record { walk = h.walk; is = c.were h.walk h.is; ends = h.ends }
 
   -- a `nop` goes on
-  behind : (made : List Instr) (point : ℕ) → slice_get made point ≡ Some nop → IsReached made point → IsReached made (suc point)
-  behind made point at reached = reached_on made point (onward point) reached (subst (λ o. In (onward point) (branches_from made point o)) (sym at) (inl refl))
+  goes_past : (made : List Instr) (point : ℕ) → slice_get made point ≡ Some nop → IsReached made point → IsReached made (suc point)
+  goes_past made point at reached = reached_on made point (onward point) reached (subst (λ o. In (onward point) (branches_from made point o)) (sym at) (inl refl))
 
   module _ (made : List Instr) (c : Chain made) (j : ℕ) (r : IsRemovable made j) where
     here-now : Became made j → Gone (now made j r) j
@@ -83,7 +83,7 @@ module _ (code : List Instr) where
       is = now-other made j r p d ∙ g.is;
       why = λ reached.
           let k = g.why reached in
-          record { computes = k.computes; unused = λ x i live. k.unused x i (live-was made j r x (suc p) (behind made p g.is (still_reached made c p reached)) live) };
+          record { computes = k.computes; unused = λ x i live. k.unused x i (live-was made j r x (suc p) (goes_past made p g.is (still_reached made c p reached)) live) };
     })
 
     further : Chain (now made j r)

@@ -1,32 +1,30 @@
 -- The numbers of a deadened program: none is greater than the program's.
-use Rattle.std.proofs.Common.{◌≡◌, ◌⊎◌, ℕ, suc, true, List, [], Option, Some, None, refl, sym, ap, subst, ◌∙◌, inl, inr, ⊎_elim}
-use Rattle.std.specs.Prelude.{slice_get, is_some}
+use Rattle.std.proofs.Common.{◌≡◌, ◌⊎◌, ℕ, suc, List, [], Option, Some, None, refl, sym, ap, subst, ◌∙◌, inl, inr, ⊎_elim}
+use Rattle.std.specs.Prelude.{slice_get}
 use Rattle.std.proofs.lemmas.Option.{same_Some}
 use Rattle.bril_tree.specs.declared.edge.Edge.{Edge}
 use Rattle.bril_tree.specs.declared.numbered.Instr.{Instr}
 use Rattle.bril_tree.specs.declared.numbered.Instr.TheVariants.{Label}
 use Rattle.bril_tree.specs.declared.numbered_function.Func.{Func}
 use Rattle.bril_tree.specs.declared.program.Prog.{Prog}
-use Rattle.bril_tree.specs.Accepted.{IsAccepted, IsAcceptedFunction}
+use Rattle.bril_tree.specs.Accepted.{IsAccepted}
 use Rattle.bril_tree.specs.Edge.{Branch, branches_at, branches_from, onward}
 use Rattle.bril_tree.specs.Entries.{Enters}
 use Rattle.bril_tree.specs.FrameWords.{IsDepth}
 use Rattle.bril_tree.specs.Leaving.{IsEdge, edge_of, leave_of}
 use Rattle.bril_tree.specs.Membership.{In}
 use Rattle.bril_tree.specs.Numbered.{item_tree, named, names_of_functions, nop, nop_item, tree_at, variable_names}
-use Rattle.bril_tree.specs.Shape.{is_shaped}
 use Rattle.bril_tree.specs.Sites.{sites_of}
 use Rattle.bril_tree.specs.Step.{code_of, item_at, items_of}
 use Rattle.bril_tree.specs.Walk.{IsReached, end_of}
 use Rattle.bril_tree.proofs.Members.{contains_in, in_contains}
 use Rattle.pass_walks.specs.Matched.{MatchedWalk}
 use Rattle.pass_numbers.specs.Numbers.{FunctionWithin, NumbersWithin}
-use Rattle.pass_numbers.proofs.Counting.{all_in}
 use Rattle.pass_numbers.proofs.Depths.{depth-within, matched}
-use Rattle.pass_numbers.proofs.Edges.{edge-back, item-back, item_point, label-back, point_of_item}
+use Rattle.pass_numbers.proofs.Edges.{edge-back, item-back, label-back, point_of_item}
 use Rattle.pass_numbers.proofs.Entering.{EntryMatched, fewer-entries, width-within}
-use Rattle.pass_numbers.proofs.Locations.{IsOfItems, fewer-locations}
-use Rattle.pass_numbers.proofs.Programs.{functions_bound, by-functions}
+use Rattle.pass_numbers.proofs.Locations.{IsOfItems}
+use Rattle.pass_numbers.proofs.Programs.{accepted-locations, functions_bound, by-functions}
 use Rattle.dead_code.specs.Emptied.{IsDeadened}
 use Rattle.dead_code.proofs.Accepted.{deadened-accepted, walks}
 use Rattle.dead_code.proofs.Chain.{Gone}
@@ -113,8 +111,7 @@ module _ (P Q : Prog) (made : ℕ → List Instr) (accepted : IsAccepted P) (acc
 
   function_within : FunctionWithin 0 F G
   function_within = record {
-    locations = fewer-locations (names_of_functions P.funcs) (names_of_functions Q.funcs) F G of_items (is_some G.ret)
-        (λ b i. all_in (λ b. is_shaped (is_some G.ret) b ≡ true) G.code (all_in (IsAcceptedFunction Q) Q.funcs accepted_q.functions G (item_point Q.funcs f G q)).shaped b i);
+    locations = accepted-locations Q accepted_q f (names_of_functions P.funcs) (names_of_functions Q.funcs) F G q of_items;
     depth = λ d e a b. depth-within (dead_plan P Q made t) P Q f F.args G.args (walks P Q made accepted t f F G p q) d e (subst (λ c. IsDepth c d) (sym here) a) (subst (λ c. IsDepth c e) (sym there) b);
     entries = fewer-entries F G Same entry (λ a c b l k r s. r ∙ sym s);
     width = λ d e a b. width-within F G [] (λ leave. record { from = leave; IsExtra = λ l. ⊥; one = λ l k r s. absurd r; labels = λ l h. inr (let m = entry leave l h in (m.to, subst (λ o. Enters F.code o m.to) (sym m.leaves) m.enters, m.same)) }) d e a b;

@@ -195,7 +195,7 @@ fn readers_of(alloc: Global, flow: &Flow, location: u32) -> Result<Vec<u32>, All
 }
 
 impl Work {
-    // Nothing but idle items is dead, and each location of a number below the count is to be looked at.
+    // At first what is idle and what the sweep finds is dead, and each location of a number below the count is to be looked at.
     fn new(alloc: Global, func: &Func, graph: &Graph, count: usize) -> Result<Work, AllocError>
         requires few { length func.now.code < 2 ^ 32 - 1 }
         requires graph { IsGraphOf func.now.code graph.now }

@@ -1,13 +1,14 @@
 -- From the numbers of functions to those of programs.
-use Rattle.std.proofs.Common.{◌≡◌, ℕ, suc, ◌+◌, ◌≤◌, List, [], ◌∷◌, map, Some, refl, ⊎_elim, arith}
-use Rattle.std.specs.Prelude.{slice_get}
+use Rattle.std.proofs.Common.{◌≡◌, ℕ, suc, ◌+◌, ◌≤◌, true, List, [], ◌∷◌, map, Some, refl, ⊎_elim, arith}
+use Rattle.std.specs.Prelude.{is_some, slice_get}
 use Rattle.std.specs.List.{AllZip}
 use Rattle.std.proofs.lemmas.Bool.{cases_lt}
-use Rattle.bril_tree.specs.Accepted.{IsAcceptedFunction}
+use Rattle.bril_tree.specs.Accepted.{IsAccepted, IsAcceptedFunction}
 use Rattle.bril_tree.specs.Entries.{IsEntryCount, IsEntryWidth}
 use Rattle.bril_tree.specs.FrameWords.{IsDepth, location_count}
 use Rattle.bril_tree.specs.Membership.{In}
 use Rattle.bril_tree.specs.Numbered.{names_of_functions}
+use Rattle.bril_tree.specs.Shape.{is_shaped}
 use Rattle.bril_tree.specs.ProgramNumbers.{IsGreatest, IsSum, greatest}
 use Rattle.bril_tree.specs.declared.numbered_function.Func.{Func}
 use Rattle.bril_tree.specs.declared.program.Prog.{Prog}
@@ -15,6 +16,8 @@ use Rattle.bril_tree.proofs.Elements.{zip-find}
 use Rattle.bril_tree.proofs.Members.{contains_in, in_contains}
 use Rattle.pass_numbers.specs.Numbers.{FunctionWithin, FunctionsBound}
 use Rattle.pass_numbers.proofs.Counting.{all_in}
+use Rattle.pass_numbers.proofs.Edges.{item_point}
+use Rattle.pass_numbers.proofs.Locations.{IsOfItems, fewer-locations as fewer_of_items}
 use Rattle.pass_numbers.proofs.Existing.{not_bottomless, not_widthless}
 
 fewer-locations : (wider : ℕ) (xs ys : List Func) → AllZip (FunctionWithin wider) xs ys → greatest (map location_count ys) ≤ greatest (map location_count xs)
@@ -58,3 +61,8 @@ zip-by_number R (F ∷ xs) (G ∷ ys) names h = let rest : map (λ (f : Func). f
 
 pub by-functions : (P Q : Prog) → names_of_functions P.funcs ≡ names_of_functions Q.funcs → (R : Func → Func → Type 0) → ((f : ℕ) (F G : Func) → slice_get P.funcs f ≡ Some F → slice_get Q.funcs f ≡ Some G → R F G) → AllZip R P.funcs Q.funcs
 by-functions P Q names R h = zip-by_number R P.funcs Q.funcs names h
+
+-- a function of an accepted program has no more locations than the one whose items it has
+pub accepted-locations : (Q : Prog) → IsAccepted Q → (f : ℕ) (fs gs : List (List ℕ)) (F G : Func) → slice_get Q.funcs f ≡ Some G → IsOfItems fs gs F G → location_count G ≤ location_count F
+accepted-locations Q accepted f fs gs F G q of_items =
+    fewer_of_items fs gs F G of_items (is_some G.ret) (λ b i. all_in (λ b. is_shaped (is_some G.ret) b ≡ true) G.code (all_in (IsAcceptedFunction Q) Q.funcs accepted.functions G (item_point Q.funcs f G q)).shaped b i)

@@ -24,7 +24,7 @@ use Rattle.tidy_code.proofs.Refines.{tidying, tidy_plan, preserves, kept-tree, n
 use Rattle.tidy_code.proofs.Walks.{matched_walks}
 
 module _ (P Q : Prog) (keep : ℕ → ℕ → Bool) (accepted : IsAccepted P) (t : Tidied P keep Q) (f : ℕ) where
-  -- a reached point of P has a reached one of Q points it
+  -- for a reached point of P there is a reached one of Q that matches
   onwards : (i : ℕ) → IsReached (code_of P f) i → ReachedBeside (tidy_plan P Q keep t) P Q f i → (w : Branch) → In w (branches_at (code_of P f) i) → ReachedBeside (tidy_plan P Q keep t) P Q f w.to
   onwards i was r w among = by (item_at P f i) (keep f i) refl refl
     where

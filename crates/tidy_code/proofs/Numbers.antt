@@ -1,7 +1,7 @@
 -- The numbers of a tidied program: none is greater than the program's, but for one label more that may be entered from a
 -- leave point.
 use Rattle.std.proofs.Common.{◌≡◌, ◌⊎◌, ℕ, zero, suc, ◌+◌, ◌<◌, Bool, true, false, List, [], ◌∷◌, length, Option, Some, None, refl, sym, ap, subst, ◌∙◌, inl, inr, ⊎_elim, arith, true≢false}
-use Rattle.std.specs.Prelude.{slice_get, is_some}
+use Rattle.std.specs.Prelude.{slice_get}
 use Rattle.std.specs.List.{Contains}
 use Rattle.std.proofs.lemmas.Option.{same_Some, slice_get_within}
 use Rattle.bril_tree.specs.declared.edge.Edge.{Edge}
@@ -9,14 +9,13 @@ use Rattle.bril_tree.specs.declared.numbered.Instr.{Instr}
 use Rattle.bril_tree.specs.declared.numbered.Instr.TheVariants.{Label}
 use Rattle.bril_tree.specs.declared.numbered_function.Func.{Func}
 use Rattle.bril_tree.specs.declared.program.Prog.{Prog}
-use Rattle.bril_tree.specs.Accepted.{IsAccepted, IsAcceptedFunction}
+use Rattle.bril_tree.specs.Accepted.{IsAccepted}
 use Rattle.bril_tree.specs.Edge.{Branch, branches_at, branches_from, onward}
 use Rattle.bril_tree.specs.Entries.{Enters}
 use Rattle.bril_tree.specs.FrameWords.{IsDepth}
 use Rattle.bril_tree.specs.Leaving.{IsEdge, leave_of}
 use Rattle.bril_tree.specs.Membership.{In}
 use Rattle.bril_tree.specs.Numbered.{item_tree, named, names_of_functions, nop_item, tree_at, variable_names}
-use Rattle.bril_tree.specs.Shape.{is_shaped}
 use Rattle.bril_tree.specs.Sites.{sites_of}
 use Rattle.bril_tree.specs.Step.{code_of, item_at, items_of}
 use Rattle.bril_tree.specs.Walk.{IsReached, IsWalk, end_of}
@@ -25,12 +24,11 @@ use Rattle.pass_accept.proofs.Heads.{start_matched}
 use Rattle.pass_names.proofs.Preserving.{found}
 use Rattle.pass_walks.specs.Matched.{MatchesWalks}
 use Rattle.pass_numbers.specs.Numbers.{FunctionWithin, NumbersWithin}
-use Rattle.pass_numbers.proofs.Counting.{all_in}
 use Rattle.pass_numbers.proofs.Depths.{depth-within, matched}
-use Rattle.pass_numbers.proofs.Edges.{edge-back, edge-leaves, item-back, item_point, label-back, lands, point_of_item}
+use Rattle.pass_numbers.proofs.Edges.{edge-back, edge-leaves, item-back, label-back, lands, point_of_item}
 use Rattle.pass_numbers.proofs.Entering.{EntryMatched, LeaveMatched, fewer-entries, width-within}
-use Rattle.pass_numbers.proofs.Locations.{IsOfItems, fewer-locations}
-use Rattle.pass_numbers.proofs.Programs.{functions_bound, by-functions}
+use Rattle.pass_numbers.proofs.Locations.{IsOfItems}
+use Rattle.pass_numbers.proofs.Programs.{accepted-locations, functions_bound, by-functions}
 use Rattle.tidy_code.specs.Tidied.{IsTidied}
 use Rattle.tidy_code.proofs.Accepted.{old-item, tidied-accepted}
 use Rattle.tidy_code.proofs.Kept.{count-dropped, count-kept}
@@ -267,8 +265,7 @@ module _ (P Q : Prog) (keep : ℕ → ℕ → Bool) (accepted : IsAccepted P) (a
 
   function_within : FunctionWithin 1 F G
   function_within = record {
-    locations = fewer-locations (names_of_functions P.funcs) (names_of_functions Q.funcs) F G of_items (is_some G.ret)
-        (λ b i. all_in (λ b. is_shaped (is_some G.ret) b ≡ true) G.code (all_in (IsAcceptedFunction Q) Q.funcs accepted_q.functions G (item_point Q.funcs f G q)).shaped b i);
+    locations = accepted-locations Q accepted_q f (names_of_functions P.funcs) (names_of_functions Q.funcs) F G q of_items;
     depth = λ d e a b. depth-within (tidy_plan P Q keep t) P Q f F.args G.args walks d e (subst (λ c. IsDepth c d) (sym here) a) (subst (λ c. IsDepth c e) (sym there) b);
     entries = fewer-entries F G Leaves entry one-leave;
     width = width-within F G one_more leave-matched;
