@@ -4,6 +4,8 @@
 mod report;
 mod stage_faults;
 mod status;
+mod tallies;
 
 pub use report::{say, say_misuse, status_number};
 pub use status::{SourceFault, Status};
+pub use tallies::put_tally;

@@ -1,1 +1,1 @@
-mod Tails
+pub mod Names

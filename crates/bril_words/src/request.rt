@@ -5,12 +5,20 @@ use bril_tree::text::Text;
 /// What a command does with its file.
 #[derive(Clone, Copy, PartialEq, Eq, Debug, Drop)]
 pub enum Action {
-    /// Runs its program on the machine, with so many frames and cells at most and so many words.
-    Run { frames: u32, cells: u32, steps: u64 },
+    /// Runs its program on the machine, with so many frames and cells at most and so many words, and tells the counts of
+    /// the run or doesn't.
+    Run {
+        frames: u32,
+        cells: u32,
+        steps: u64,
+        stats: bool,
+    },
     /// Interprets its program, with so many frames and cells at most and so many steps.
     Interpret { frames: u32, cells: u32, steps: u64 },
     /// Writes the machine words of its program, with so many frames at most.
     Emit { frames: u32 },
+    /// Writes its program after the passes.
+    Passes,
     /// Writes how many functions and items its program has, where it is accepted.
     Check,
     /// Writes its canonical text.
@@ -19,10 +27,11 @@ pub enum Action {
     WriteJson,
 }
 
-/// An action, the path of its file, and the arguments of the file's program.
+/// An action, the path of its file, the list of passes, and the arguments of the file's program.
 #[derive(Clone, Copy, Drop)]
 pub struct Request<'a> {
     pub action: Action,
     pub path: &'a Text,
+    pub list: &'a str,
     pub args: &'a [Text],
 }
