@@ -2,3 +2,4 @@ pub mod Lines
 pub mod Report
 pub mod StageFaults
 pub mod Tallies
+pub mod Stats

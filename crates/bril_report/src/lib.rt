@@ -1,11 +1,14 @@
-//! What is told of how a command ended: its status, the status's number, and its line on the error output.
+//! What is told of how a command ended: its status, the status's number, and its line on the error output; and of the counts
+//! of a run of the machine.
 #![tactic(auto)]
 
 mod report;
 mod stage_faults;
+mod stats;
 mod status;
 mod tallies;
 
 pub use report::{say, say_misuse, status_number};
+pub use stats::{put_guard, put_words};
 pub use status::{SourceFault, Status};
 pub use tallies::put_tally;

@@ -496,7 +496,7 @@ fn put_around<E: Sink>(err: &mut E, front: &[u8], back: &[u8]) -> Result<(), Fai
 }
 
 // Puts a line that ends with a number.
-fn put_number<E: Sink>(err: &mut E, front: &[u8], number: u64) -> Result<(), Failed>
+pub(crate) fn put_number<E: Sink>(err: &mut E, front: &[u8], number: u64) -> Result<(), Failed>
     ensures { PutsPieces result (E.seen err.old) (number_pieces front.now number) (E.seen err.new) }
 {
     let mut buffer = Buffer::new();

@@ -1,5 +1,5 @@
 -- Where the machine that runs an image of a program stops, and where it runs on.
-use Rattle.std.proofs.Common.{◌≡◌, ℕ, ◌+◌, ◌*◌, ◌≤◌, List, Option, Some, None, refl, sym, ap, ◌∙◌, subst, arith}
+use Rattle.std.proofs.Common.{◌≡◌, ◌⊎◌, ℕ, zero, suc, inl, inr, ⊎_elim, ◌+◌, ◌*◌, ◌≤◌, List, Option, Some, None, refl, sym, ap, ◌∙◌, subst, arith}
 use Rattle.std.specs.Option.{option_map}
 use Rattle.simulation.specs.System.{IsFinal, IsPrefix}
 use Rattle.simulation.proofs.After.{after-final_le}
@@ -14,7 +14,7 @@ use Rattle.bril_tree.proofs.Measures.{IsCost-one}
 use Rattle.rv64_words.specs.declared.image.Image.{Image}
 use Rattle.rv64_words.specs.State.{State, Stop, Finished, start}
 use Rattle.rv64_implements.specs.Home.{Home}
-use Rattle.rv64_implements.specs.Implements.{ImplementsRun, image_system, image_after}
+use Rattle.rv64_implements.specs.Implements.{ImplementsRun, CountsFailures, image_system, image_after}
 use Rattle.rv64_implements.specs.Shown.{ProgramRunsOn, ProgramShows}
 use Rattle.rv64_implements.proofs.Systems.{image_is_system}
 
@@ -22,6 +22,11 @@ use Rattle.rv64_implements.proofs.Systems.{image_is_system}
 finished_of : (o : Option End) (how : Stop) → option_map Finished o ≡ Some how → (e : End) × (o ≡ Some e)
 finished_of None how is = cc
 finished_of (Some e) how is = (e, refl)
+
+either_way : (m n : ℕ) → (m ≤ n) ⊎ (n ≤ m)
+either_way zero n = inl (omega arith)
+either_way (suc m) zero = inr (omega arith)
+either_way (suc m) (suc n) = ⊎_elim (λ h. inl (omega arith)) (λ h. inr (omega arith)) (either_way m n)
 
 module _ (homes : ℕ → Location → Home) (image : Image) (p : Prog) (limits : Limits) (args : List Value) (run : ImplementsRun homes image p limits args) where
   -- the machine has stopped by then, where the program has
@@ -75,3 +80,22 @@ module _ (homes : ℕ → Location → Home) (image : Image) (p : Prog) (limits 
     -- the machine has not trapped, and what it shows holds of the program
     pub shown : Shown (image_after image limits args words).stopped
     shown = shown_at (image_after image limits args words).stopped refl
+
+  -- ---- the counts of guards
+
+  module _ (n words : ℕ) (end : End) (how : Stop) (ended : (state_after p limits args n).ended ≡ Some end) (stopped : (image_after image limits args words).stopped ≡ Some how) where
+    final_at : IsFinal (image_after image limits args (run.count n)).stopped
+    final_at = subst (λ (o : Option Stop). IsFinal o) (sym (sym ((run.agrees n).0) ∙ ap (option_map Finished) ended)) refl
+
+    final_then : IsFinal (image_after image limits args words).stopped
+    final_then = subst (λ (o : Option Stop). IsFinal o) (sym stopped) refl
+
+    -- a machine that stopped by two counts of words is in one state
+    same_stop : image_after image limits args (run.count n) ≡ image_after image limits args words
+    same_stop =
+        ⊎_elim (λ (h : run.count n ≤ words). sym (after-final_le (image_system image limits) (image_is_system image limits) (run.count n) words (start args) h final_at))
+        (λ (h : words ≤ run.count n). after-final_le (image_system image limits) (image_is_system image limits) words (run.count n) (start args) h final_then)
+        (either_way (run.count n) words)
+
+    pub failures_counted : CountsFailures image.guards (state_after p limits args n) (image_after image limits args words)
+    failures_counted = subst (λ (t : State). CountsFailures image.guards (state_after p limits args n) t) same_stop (run.fails n)

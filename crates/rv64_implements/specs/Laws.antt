@@ -8,8 +8,8 @@ use Rattle.bril_tree.specs.declared.value.Value.{Value}
 use Rattle.bril_tree.specs.Cost.{IsCost}
 use Rattle.bril_tree.specs.Run.{FitMain, state_after}
 use Rattle.rv64_words.specs.declared.image.Image.{Image}
-use Rattle.rv64_words.specs.State.{Finished}
-use Rattle.rv64_implements.specs.Implements.{Implements, image_after}
+use Rattle.rv64_words.specs.State.{Stop, Finished}
+use Rattle.rv64_implements.specs.Implements.{Implements, CountsFailures, image_after}
 use Rattle.rv64_implements.specs.Shown.{ProgramShows}
 
 -- However many words are executed, the machine has not trapped, and what it shows holds of the program.
@@ -24,3 +24,9 @@ ImagesEndInTime = (image : Image) (p : Prog) (limits : Limits) (args : List Valu
     (n cost words : ℕ) (end : End) → IsCost p cost → cost * (n + 1) ≤ words → (state_after p limits args n).ended ≡ Some end →
     ((image_after image limits args words).stopped ≡ Some (Finished end))
     × ((image_after image limits args words).printed ≡ (state_after p limits args n).printed)
+
+-- Where the program and the machine have both ended, the arrivals at each guard's word are the guard's failures.
+abbrev pub ImagesCountFailures : Type 0
+ImagesCountFailures = (image : Image) (p : Prog) (limits : Limits) (args : List Value) → Implements image p limits → FitMain p args →
+    (n words : ℕ) (end : End) (how : Stop) → (state_after p limits args n).ended ≡ Some end → (image_after image limits args words).stopped ≡ Some how →
+    CountsFailures image.guards (state_after p limits args n) (image_after image limits args words)

@@ -1,6 +1,6 @@
 // What an image that implements a program shows of it. Each function states a law, and does nothing when it is called.
 
-ghost use Rattle.rv64_implements.specs.Laws.{ImagesEndInTime, ImagesShowPrograms};
+ghost use Rattle.rv64_implements.specs.Laws.{ImagesCountFailures, ImagesEndInTime, ImagesShowPrograms};
 
 /// However many words of an image that implements a program are executed, the machine doesn't trap. Where it has ended, the
 /// program ends alike and prints the same. Where it runs on, the program has not ended after any number of steps n for which the
@@ -13,4 +13,10 @@ pub fn images_show_programs()
 /// many words as n + 1 steps cost, or more.
 pub fn images_end_in_time()
     ensures { ImagesEndInTime }
+{}
+
+/// Where a program and the machine that runs its image have both ended, the word of each guard was executed as often as the
+/// guard failed.
+pub fn images_count_failures()
+    ensures { ImagesCountFailures }
 {}

@@ -9,4 +9,4 @@ mod emittable;
 mod laws;
 
 pub use emittable::is_emittable;
-pub use laws::{images_end_in_time, images_show_programs};
+pub use laws::{images_count_failures, images_end_in_time, images_show_programs};

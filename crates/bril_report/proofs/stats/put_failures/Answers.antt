@@ -1,0 +1,16 @@
+-- The count is put after what comes before it.
+use Rattle.std.proofs.Common.{[], ◌∷◌, codes}
+use Rattle.std.proofs.lemmas.Result.{err_from_is_err_and}
+use Rattle.bril_outside.proofs.SinkWrites.{PutAll-append, PutSome-longer, PutSome-after}
+use Rattle.bril_report.proofs.stats.put_failures.Goals as goal
+
+pub returns-in_err-put_five : goal.returns-in_err-put_five
+returns-in_err-put_five g c =
+    let is = err_from_is_err_and c.from_residual.result c.from_residual.ensures.1 in
+    rw is.1 (PutSome-longer (c.args.fails.now ∷ codes "\n" ∷ []) c.in_err-put_five.ensures)
+
+pub returns-in-Ok : goal.returns-in-Ok
+returns-in-Ok g c = PutAll-append c.in_ok-put_five.ensures c.in-Ok.ensures.ok
+
+pub returns-in-Err : goal.returns-in-Err
+returns-in-Err g c = PutSome-after c.in_ok-put_five.ensures c.in-Err.ensures.err
