@@ -1,6 +1,7 @@
 // The names of a list of passes.
 
-ghost use Rattle.std.specs.Prelude.{◌≡◌, IfOk, length, nat_le};
+ghost use Rattle.std.specs.Prelude.{◌≡◌, IfOk, ◌==◌};
+ghost use Rattle.std.specs.List.{count_by};
 ghost use Rattle.bril_words.specs.Names.{names_of, has_few_names};
 
 use bril_tree::sequence::Seq;
@@ -28,5 +29,12 @@ pub fn names_of(alloc: Global, list: &str) -> Result<Seq<Text>, AllocError>
 pub(crate) fn has_few_names(list: &str) -> bool
     ensures { result ≡ has_few_names list.now }
 {
-    list.as_bytes().iter().filter(|byte| **byte == b',').count() < 64
+    commas(list.as_bytes()) < 64
+}
+
+// How many commas there are.
+fn commas(list: &[u8]) -> usize
+    ensures { result ≡ count_by (λ b. b == 44) list.now }
+{
+    list.iter().filter(|byte| **byte == b',').count()
 }
