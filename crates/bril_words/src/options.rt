@@ -1,6 +1,7 @@
 // The options of commands.
 
-ghost use Rattle.std.specs.Prelude.{◌≡◌, ◌≤◌, IfSome, None};
+ghost use Rattle.std.specs.Prelude.{◌≡◌, ◌≤◌, IfSome, None, length};
+ghost use Rattle.bril_words.specs.Names.{names_of};
 ghost use Rattle.std.specs.Option.{option_map};
 ghost use Rattle.bril_words.specs.CommandLine.{setting_of, takes, takes_stats, takes_arguments, with_written, with_flag, nothing_written, tail_of, tail_from, in_range, value_of, list_of};
 ghost use Rattle.bril_words.specs.Seen.{text_seen, values_seen};
@@ -156,7 +157,8 @@ fn setting_of(command: Command, word: &str) -> Option<Setting>
 
 // The list of passes: 64 names at most, and none where the option doesn't stand.
 pub(crate) fn list_of<'a>(text: Option<&'a Text>) -> Option<&'a str>
-    ensures { option_map (λ list. list.now) result ≡ list_of (text_seen text.entry) }
+    ensures is { option_map (λ list. list.now) result ≡ list_of (text_seen text.entry) }
+    ensures few { IfSome result (λ list. length (names_of list.now) ≤ 64) }
 {
     match text {
         None => Some(""),

@@ -1,6 +1,7 @@
 // The words of the command line.
 
-ghost use Rattle.std.specs.Prelude.{◌≡◌, true, false, None, IfOk};
+ghost use Rattle.std.specs.Prelude.{◌≡◌, ◌≤◌, None, length, IfOk};
+ghost use Rattle.bril_words.specs.Names.{names_of};
 ghost use Rattle.std.specs.Result.{result_map_both};
 ghost use Rattle.bril_words.specs.CommandLine.{words_read, is_operand, tail_from, nothing_written, options_of, action_of, options_asked, command_asked, plain_asked};
 ghost use Rattle.bril_words.specs.Request.{AreLimits, IsActionInRange};
@@ -41,6 +42,7 @@ pub const STEPS: u64 = 1_000_000_000;
 pub fn read_words<'a>(words: &'a [Text]) -> Result<Request<'a>, Misuse>
     ensures read { result_map_both request_seen (λ e. e) result ≡ words_read words.now }
     ensures range { IfOk result (λ request. IsActionInRange request.action) }
+    ensures few { IfOk result (λ request. length (names_of request.list.now) ≤ 64) }
 {
     match words {
         [_, command, path, rest @ ..] if is_operand(path.as_bytes()) => {
@@ -54,6 +56,7 @@ pub fn read_words<'a>(words: &'a [Text]) -> Result<Request<'a>, Misuse>
 fn read_command<'a>(name: &str, path: &'a Text, rest: &'a [Text]) -> Result<Request<'a>, Misuse>
     ensures read { result_map_both request_seen (λ e. e) result ≡ command_asked name.now path.now rest.now }
     ensures range { IfOk result (λ request. IsActionInRange request.action) }
+    ensures few { IfOk result (λ request. length (names_of request.list.now) ≤ 64) }
 {
     match name {
         "run" => read_with_options(Command::Run, path, rest),
@@ -72,6 +75,7 @@ fn read_plain<'a>(action: Action, path: &'a Text, rest: &'a [Text]) -> Result<Re
     requires { IsActionInRange action }
     ensures read { result_map_both request_seen (λ e. e) result ≡ plain_asked action path.now rest.now }
     ensures range { IfOk result (λ request. IsActionInRange request.action) }
+    ensures few { IfOk result (λ request. length (names_of request.list.now) ≤ 64) }
 {
     match rest {
         [] => Ok(Request {
@@ -104,6 +108,7 @@ fn read_with_options<'a>(
 ) -> Result<Request<'a>, Misuse>
     ensures read { result_map_both request_seen (λ e. e) result ≡ options_asked command path.now (options_of (tail_from command nothing_written None rest.now)) }
     ensures range { IfOk result (λ request. IsActionInRange request.action) }
+    ensures few { IfOk result (λ request. length (names_of request.list.now) ≤ 64) }
 {
     let options = read_options(command, rest)?;
     Ok(Request {
@@ -143,6 +148,7 @@ fn action_of(command: Command, options: Options<'_>) -> Action
 fn read_options<'a>(command: Command, rest: &'a [Text]) -> Result<Options<'a>, Misuse>
     ensures read { result_map_both options_seen (λ e. e) result ≡ options_of (tail_from command nothing_written None rest.now) }
     ensures range { IfOk result (λ options. AreLimits options.frames options.cells options.steps) }
+    ensures few { IfOk result (λ options. length (names_of options.list.now) ≤ 64) }
 {
     let (values, args) = tail_of(command, rest).ok_or(Misuse::Words)?;
     let list = list_of(values.passes).ok_or(Misuse::Value {
