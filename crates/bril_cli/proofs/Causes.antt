@@ -1,12 +1,11 @@
 -- When each status comes.
-use Rattle.std.proofs.Common.{◌≡◌, ℕ, ◌+◌, ◌*◌, ◌<◌, false, ◌≤◌, ◌⊎◌, true, List, [], length, Option, Some, None, Result, Ok, Err, refl, sym, ap, ◌∙◌, subst, arith, inl, inr, ⊎_elim, true≢false}
+use Rattle.std.proofs.Common.{◌≡◌, ℕ, ◌+◌, ◌*◌, ◌<◌, Bool, false, append-nil, ◌++◌, ◌≤◌, ◌⊎◌, true, List, [], length, Option, Some, None, Result, Ok, Err, refl, sym, ap, ◌∙◌, subst, arith, inl, inr, ⊎_elim, true≢false}
 use Rattle.std.specs.Prelude.{◌≢◌}
 use Rattle.bril_arguments.specs.Faults.{IsFaultOf}
 use Rattle.bril_arguments.specs.Spelled.{AreSpelled}
 use Rattle.bril_arguments.specs.declared.fault.ArgFault.{ArgFault}
 use Rattle.bril_arguments.specs.declared.fault.ArgFault.TheVariants as argument
 use Rattle.bril_tree.specs.Accepted.{IsAccepted}
-use Rattle.bril_tree.specs.Cost.{IsCost}
 use Rattle.bril_tree.specs.declared.limits.End.{End}
 use Rattle.bril_tree.specs.declared.limits.End.TheVariants.{Ended, Faulted}
 use Rattle.bril_tree.specs.declared.limits.Limits.{Limits}
@@ -29,28 +28,24 @@ use Rattle.bril_text.specs.Canonical.{canonical_text}
 use Rattle.bril_words.specs.Request.{Asked}
 use Rattle.bril_words.specs.declared.misuse.Misuse.{Misuse}
 use Rattle.bril_words.specs.declared.request.Action.{Action}
-use Rattle.bril_words.specs.declared.request.Action.TheVariants.{Run, Interpret, Emit, Check, WriteText, WriteJson}
+use Rattle.bril_words.specs.declared.request.Action.TheVariants.{Run, Interpret, Emit, Passes, Check, WriteText, WriteJson}
 use Rattle.bril_cli.specs.declared.source.Format.{Format}
 use Rattle.bril_cli.specs.Arguments.{argument_line, HasOnlyArgFault, AreOnlyValues, RefusesArgs}
 use Rattle.bril_cli.specs.Call.{Call, ReadsWell, AsksNone, UnlessMemory, TellsRun}
-use Rattle.bril_cli.specs.Images.{IsUnemitted, RefusesImage}
-use Rattle.bril_cli.specs.Driver.{IsFormless, DoesProgram, AsksProgram, DoesTree}
+use Rattle.bril_cli.specs.Images.{IsUnemitted}
+use Rattle.bril_cli.specs.Driver.{IsFormless, Untold, DoesProgram, AsksProgram, DoesTree}
 use Rattle.bril_cli.specs.Source.{most_bytes, HoldsFile, ReadsAs, HasFault, HasNameFault, HasOnlyCheckFault, HasImports, IsOnlyTree, IsOnlyFault, IsSource, IsLongFile}
 use Rattle.bril_cli.specs.Stages.{RefusesFile, RefusesTree, RefusesProgram, IsOnlyNameFault, IsOnlyProgram, IsAcceptedProgram, IsFaultless, PutsText}
 use Rattle.bril_cli.specs.commands.Check.{accepted_line}
-use Rattle.bril_cli.specs.commands.Emit.{ListsImage, EmitsImage, PutsListing, CanEmit}
 use Rattle.bril_cli.specs.commands.Interp.{StepsTo}
 use Rattle.bril_cli.specs.commands.Json.{json_line}
-use Rattle.bril_cli.specs.commands.Run.{RanWhole, RunsImage, RunsValues, CanRun}
+use Rattle.bril_cli.specs.PassList.{PassList}
 use Rattle.bril_report.specs.StageFaults.{argument_status}
 use Rattle.bril_cli.specs.CommandLine.{AsksFor, format_of, NeedsProgram, NeedsWords, GivesArguments}
 use Rattle.rv64_implements.specs.Emittable.{is_emittable}
-use Rattle.rv64_implements.specs.WordBounds.{IsWithin}
-use Rattle.rv64_implements.proofs.Sizes.{within_not_beyond}
-use Rattle.bril_arguments.proofs.Spelled.{AreSpelled-fit}
-use Rattle.bril_cli.proofs.Runs.{same_end, same_output}
 use Rattle.bril_cli.proofs.Interpreting.{Limits-same}
 use Rattle.bril_cli.proofs.Statuses.{Ends, Numbered-source, has_in}
+use Rattle.bril_cli.proofs.Telling.{says_nothing}
 
 -- ---- what the words ask for is one
 
@@ -60,8 +55,8 @@ asked_in other (Ok request) = request
 asked_in other (Err misuse) = other
 
 -- a request with these parts
-abbrev pub request_of : Action → List ℕ → List (List ℕ) → Asked
-request_of action path args = record { action = action; path = path; args = args }
+abbrev pub request_of : Action → List ℕ → List ℕ → List (List ℕ) → Asked
+request_of action path list args = record { action = action; path = path; list = list; args = args }
 
 pub Ok_not_Err : {request : Asked} {misuse : Misuse} → Ok request ≡ Err misuse → ⊥
 Ok_not_Err e = cc
@@ -69,15 +64,15 @@ Ok_not_Err e = cc
 module _ (c : Call) (a b : Action) (p q : List ℕ) (xs ys : List (List ℕ)) (e : AsksFor c.words a p xs) (f : AsksFor c.words b q ys) where
   asked_path : q ≡ p
   unfolding asked_in
-  asked_path = ap (λ r. (asked_in (request_of a p xs) r).path) (sym f ∙ e)
+  asked_path = ap (λ r. (asked_in (request_of a p e.0 xs) r).path) (sym f.1 ∙ e.1)
 
   asked_args : ys ≡ xs
   unfolding asked_in
-  asked_args = ap (λ r. (asked_in (request_of a p xs) r).args) (sym f ∙ e)
+  asked_args = ap (λ r. (asked_in (request_of a p e.0 xs) r).args) (sym f.1 ∙ e.1)
 
-  asked_action : b ≡ a
+  pub asked_action : b ≡ a
   unfolding asked_in
-  asked_action = ap (λ r. (asked_in (request_of a p xs) r).action) (sym f ∙ e)
+  asked_action = ap (λ r. (asked_in (request_of a p e.0 xs) r).action) (sym f.1 ∙ e.1)
 
 -- ---- where the files tell the bytes, what they may hold is these
 
@@ -120,15 +115,15 @@ no_program (status.Unaccepted p fault) tree refuses = inr (inr (inr (p, fault, r
 no_program status.OutOfMemory tree refuses = inl refl
 no_program _ tree refuses = absurd refuses
 
-exhausted : (how : Status) (A : Type 0) → how ≡ status.OutOfMemory → UnlessMemory (status_number how) A
+pub exhausted : (how : Status) (A : Type 0) → how ≡ status.OutOfMemory → UnlessMemory (status_number how) A
 exhausted how A e = inl (ap status_number e)
 
 -- From what was read well: memory ran out, or the file is too long, or its bytes have a fault, or its tree was dealt with.
 module _ (c : Call) (action : Action) (path : List ℕ) (args : List (List ℕ)) (how : Status) (ends : Ends c action path args how) (asks : Action) (bytes : List ℕ) (reads : ReadsWell c asks bytes) where
-  same_path : reads.path ≡ path
+  pub same_path : reads.path ≡ path
   same_path = asked_path c action asks path reads.path args reads.args ends.asked reads.asked
 
-  same_args : reads.args ≡ args
+  pub same_args : reads.args ≡ args
   same_args = asked_args c action asks path reads.path args reads.args ends.asked reads.asked
 
   same_action : asks ≡ action
@@ -141,105 +136,66 @@ module _ (c : Call) (action : Action) (path : List ℕ) (args : List (List ℕ))
   these other held = held_told c.files_before.holds path bytes other told held
 
   by_cases : (A : Type 0) → (how ≡ status.OutOfMemory → A) → (how ≡ status.FileTooBig → most_bytes < length bytes → A)
-      → ((fault : SourceFault) → how ≡ status.Misread fault → IsOnlyFault (format_of path) bytes fault → length bytes ≤ most_bytes → A)
-      → ((tree : Tree) → IsOnlyTree (format_of path) bytes tree → DoesTree asks how tree args c.out_before c.out_after → length bytes ≤ most_bytes → A) → A
+      → ((fault : SourceFault) → how ≡ status.Misread fault → ends.told ≡ [] → IsOnlyFault (format_of path) bytes fault → length bytes ≤ most_bytes → A)
+      → ((tree : Tree) → IsOnlyTree (format_of path) bytes tree → Untold asks ends.told → DoesTree asks how c.passes tree args ends.told c.out_before c.out_after → length bytes ≤ most_bytes → A) → A
   by_cases A memory long misread dealt =
       ⊎_elim (λ fails. ⊎_elim memory (⊎_elim (λ may. absurd (⊎_elim reads.sound (told_not_lacking c.files_before.holds path bytes told) may.1)) (λ l. long l.0 (subst (λ b. most_bytes < length b) (these l.1.bytes l.1.held) l.1.long))) (read_fails how _ _ path fails.refuses))
-      (⊎_elim (λ finds. ⊎_elim memory (λ m. misread m.0 m.1 (subst (λ b. IsOnlyFault (format_of path) b m.0) (these finds.bytes finds.file.held) m.2) (subst (λ b. length b ≤ most_bytes) (these finds.bytes finds.file.held) finds.file.short)) (no_tree how (format_of path) finds.bytes finds.refuses))
+      (⊎_elim (λ finds. ⊎_elim memory (λ m. misread m.0 m.1 finds.untold (subst (λ b. IsOnlyFault (format_of path) b m.0) (these finds.bytes finds.file.held) m.2) (subst (λ b. length b ≤ most_bytes) (these finds.bytes finds.file.held) finds.file.short)) (no_tree how (format_of path) finds.bytes finds.refuses))
       (λ deals. dealt deals.tree (subst (λ b. IsOnlyTree (format_of path) b deals.tree) (these deals.bytes deals.file.held) deals.only)
-      (subst (λ a. DoesTree a how deals.tree args c.out_before c.out_after) (sym same_action) deals.does)
+      (subst (λ a. Untold a ends.told) (sym same_action) deals.untold)
+      (subst (λ a. DoesTree a how c.passes deals.tree args ends.told c.out_before c.out_after) (sym same_action) deals.does)
       (subst (λ b. length b ≤ most_bytes) (these deals.bytes deals.file.held) deals.file.short)))
       ends.does
 
-  -- the line of a status is put, for the path that the words ask for
-  said : (end : Status) → how ≡ end → SaysStatus end path c.err_before c.err_after
-  said end e = subst (λ (h : Status). SaysStatus h path c.err_before c.err_after) e ends.says
+  -- the line of a status is put, for the path that the words ask for, where nothing is told before it
+  pub said : (end : Status) → how ≡ end → ends.told ≡ [] → SaysStatus end path c.err_before c.err_after
+  said end e none = subst (λ (h : Status). SaysStatus h path c.err_before c.err_after) e (ends.says.plain none)
 
 -- an action that needs a program asks for it
-asks_program : (action : Action) (how : Status) (tree : Tree) (args : List (List ℕ)) (s t : SinkSeen) → NeedsProgram action → DoesTree action how tree args s t → AsksProgram action how tree args s t
-asks_program (Run frames cells steps) how tree args s t needs does = does
-asks_program (Interpret frames cells steps) how tree args s t needs does = does
-asks_program (Emit frames) how tree args s t needs does = does
-asks_program Check how tree args s t needs does = does
-asks_program _ how tree args s t needs does = absurd needs
+asks_program : (action : Action) (how : Status) (l : PassList) (tree : Tree) (args : List (List ℕ)) (told : List ℕ) (s t : SinkSeen) → NeedsProgram action → DoesTree action how l tree args told s t → AsksProgram action how l tree args told s t
+asks_program (Run frames cells steps stats) how l tree args told s t needs does = does
+asks_program (Interpret frames cells steps) how l tree args told s t needs does = does
+asks_program (Emit frames) how l tree args told s t needs does = does
+asks_program Passes how l tree args told s t needs does = does
+asks_program Check how l tree args told s t needs does = does
+asks_program _ how l tree args told s t needs does = absurd needs
 
 -- an action that gives a program arguments asks for it
 needs_program : (action : Action) → GivesArguments action → NeedsProgram action
-needs_program (Run frames cells steps) gives = tt
+needs_program (Run frames cells steps stats) gives = tt
 needs_program (Interpret frames cells steps) gives = tt
 needs_program _ gives = absurd gives
 
 -- From asking for a program: memory ran out, or the tree has imports, or a fault of a name, or a program with a fault of the checker, or its accepted program was dealt with.
-module _ (action : Action) (how : Status) (tree : Tree) (args : List (List ℕ)) (s t : SinkSeen) (asks : AsksProgram action how tree args s t) where
-  by_names : (A : Type 0) → (how ≡ status.OutOfMemory → A) → (tree.imports ≢ [] → how ≡ status.Unsupported → A)
-      → (tree.imports ≡ [] → (fault : NameFault) → how ≡ status.Misnamed fault → IsOnlyNameFault tree fault → A)
-      → ((p : Prog) (fault : CheckFault) → how ≡ status.Unaccepted p fault → IsOnlyProgram tree p → HasOnlyCheckFault p fault → A)
-      → ((p : Prog) → IsAcceptedProgram tree p → DoesProgram action how p args s t → A) → A
+module _ (action : Action) (how : Status) (l : PassList) (tree : Tree) (args : List (List ℕ)) (told : List ℕ) (s t : SinkSeen) (asks : AsksProgram action how l tree args told s t) where
+  by_names : (A : Type 0) → (how ≡ status.OutOfMemory → A) → (told ≡ [] → tree.imports ≢ [] → how ≡ status.Unsupported → A)
+      → (told ≡ [] → tree.imports ≡ [] → (fault : NameFault) → how ≡ status.Misnamed fault → IsOnlyNameFault tree fault → A)
+      → (told ≡ [] → (p : Prog) (fault : CheckFault) → how ≡ status.Unaccepted p fault → IsOnlyProgram tree p → HasOnlyCheckFault p fault → A)
+      → ((p : Prog) → IsAcceptedProgram tree p → DoesProgram action how l p args told s t → A) → A
   by_names A memory imports misnamed unaccepted goes =
-      ⊎_elim (λ refused. ⊎_elim memory (⊎_elim (λ form. imports form.0 form.1) (⊎_elim (λ m. misnamed m.1 m.0 m.2 m.3) (λ u. unaccepted u.0 u.1 u.2 u.3 u.4))) (no_program how tree refused.0))
+      ⊎_elim (λ refused. ⊎_elim memory (⊎_elim (λ form. imports refused.1 form.0 form.1) (⊎_elim (λ m. misnamed refused.1 m.1 m.0 m.2 m.3) (λ u. unaccepted refused.1 u.0 u.1 u.2 u.3 u.4))) (no_program how tree refused.0))
       (λ program. goes program.0 program.1 program.2)
       asks
 
--- a program within the bounds is refused for want of memory alone
-refused_within : (how : Status) (p : Prog) (limits : Limits) → RefusesImage how p limits → IsWithin p limits → how ≡ status.OutOfMemory
-refused_within (status.CodeTooBig words) p limits refuses within = let w = within.code in let long = refuses.0 in absurd (omega arith)
-refused_within (status.StackTooBig words) p limits refuses within = absurd (within_not_beyond p limits refuses.1.0 within refuses.1.1 refuses.1.2)
-refused_within status.OutOfMemory p limits refuses within = refl
-refused_within _ p limits refuses within = absurd refuses
-
--- a program that gets no image is too large, or memory ran out
-refused_large : (how : Status) (p : Prog) (limits : Limits) → RefusesImage how p limits → UnlessMemory (status_number how) (status_number how ≡ 68)
-refused_large (status.CodeTooBig words) p limits refuses = inr refl
-refused_large (status.StackTooBig words) p limits refuses = inr refl
-refused_large status.OutOfMemory p limits refuses = inl refl
-refused_large _ p limits refuses = absurd refuses
-
--- a run of an image is told by how the machine ended
-tells_image : (c : Call) (path : List ℕ) (p : Prog) (limits : Limits) (values : List Value) (words : ℕ) → ¬ Rose c.out_before.faults c.out_after.faults → (how : Status) → SaysStatus how path c.err_before c.err_after → RunsImage how p limits values words c.out_before c.out_after
-    → UnlessMemory (status_number how) ((ended : Option End) × TellsRun ended words (status_number how) c × RanWhole p limits values words ended c.out_before c.out_after)
-tells_image c path p limits values words sound status.Done says ran = inr (Some Ended, (refl, says), ran)
-tells_image c path p limits values words sound (status.Faulted fault) says ran = inr (Some (Faulted fault), (refl, says), ran)
-tells_image c path p limits values words sound (status.Spent made) says ran =
-    let here : Says c.err_before (spent_line words) c.err_after = subst (λ n. Says c.err_before (spent_line n) c.err_after) ran.0 says in
-    inr (None, (refl, here), ran.1)
-tells_image c path p limits values words sound status.OutOfMemory says ran = inl refl
-tells_image c path p limits values words sound status.CannotWrite says ran = absurd (sound ran.rose)
-tells_image c path p limits values words sound _ says ran = absurd ran
-
--- and by the program's end, where the words are enough for it
-tells_end : (c : Call) (p : Prog) (limits : Limits) (values : List Value) (words number : ℕ) → FitMain p values → (n cost : ℕ) (end : End) → IsCost p cost → cost * (n + 1) ≤ words → (state_after p limits values n).ended ≡ Some end
-    → ((ended : Option End) × TellsRun ended words number c × RanWhole p limits values words ended c.out_before c.out_after)
-    → TellsRun (Some end) words number c × TookAll c.out_before (state_after p limits values n).printed c.out_after
-tells_end c p limits values words number fits n cost end is_cost enough ends (ended, tells, ran) = (
-  subst (λ (e : Option End). TellsRun e words number c) (same_end p limits values words ended ran.output ran.shows.machine fits n cost end is_cost enough ends) tells,
-  subst (λ bytes. TookAll c.out_before bytes c.out_after) (same_output p limits values words ended ran.output ran.shows.machine fits n cost end is_cost enough ends) ran.took,
-)
-
--- an image is listed
-lists_image : (how : Status) (p : Prog) (limits : Limits) (output : List ℕ) (s t : SinkSeen) → ListsImage p limits output → PutsListing how output s t → ¬ Rose s.faults t.faults
-    → UnlessMemory (status_number how) ((status_number how ≡ 0) × ((text : List ℕ) × ListsImage p limits text × TookAll s text t))
-lists_image status.Done p limits output s t lists puts sound = inr (refl, (output, lists, puts))
-lists_image status.CannotWrite p limits output s t lists puts sound = absurd (sound puts.1)
-lists_image _ p limits output s t lists puts sound = absurd puts
-
 -- a program that can't be made into machine words yet has its status
-unemitted : (asks : Action) (how : Status) (p : Prog) (args : List (List ℕ)) (s t : SinkSeen) → NeedsWords asks → is_emittable p ≡ false → DoesProgram asks how p args s t → how ≡ status.Unsupported
-unemitted (Run frames cells steps) how p args s t makes not does = ⊎_elim (λ form. form.1) (λ emits. absurd (true≢false (sym emits.0 ∙ not))) does.3
-unemitted (Emit frames) how p args s t makes not does = ⊎_elim (λ form. form.1) (λ emits. absurd (true≢false (sym emits.0 ∙ not))) does.3
-unemitted _ how p args s t makes not does = absurd makes
+pub unemitted : (asks : Action) (how : Status) (l : PassList) (p : Prog) (args : List (List ℕ)) (told : List ℕ) (s t : SinkSeen) → NeedsWords asks → is_emittable p ≡ false → Untold asks told → DoesProgram asks how l p args told s t
+    → (how ≡ status.Unsupported) × (told ≡ [])
+unemitted (Run frames cells steps stats) how l p args told s t makes not untold does = ⊎_elim (λ form. (form.1, form.2)) (λ emits. absurd (true≢false (sym emits.0 ∙ not))) does.3
+unemitted (Emit frames) how l p args told s t makes not untold does = (⊎_elim (λ form. form.1) (λ emits. absurd (true≢false (sym emits.0 ∙ not))) does.3, untold)
+unemitted _ how l p args told s t makes not untold does = absurd makes
 
 -- the arguments are refused, or spell values
-given : (asks : Action) (how : Status) (p : Prog) (args : List (List ℕ)) (s t : SinkSeen) → GivesArguments asks → (NeedsWords asks → is_emittable p ≡ true) → DoesProgram asks how p args s t
-    → RefusesArgs how p args ⊎ ((values : List Value) × AreOnlyValues p args values)
-given (Run frames cells steps) how p args s t gives emittable does =
+given : (asks : Action) (how : Status) (l : PassList) (p : Prog) (args : List (List ℕ)) (told : List ℕ) (s t : SinkSeen) → GivesArguments asks → (NeedsWords asks → is_emittable p ≡ true) → Untold asks told → DoesProgram asks how l p args told s t
+    → (RefusesArgs how p args × (told ≡ [])) ⊎ ((values : List Value) × AreOnlyValues p args values)
+given (Run frames cells steps stats) how l p args told s t gives emittable untold does =
     ⊎_elim (λ form. absurd (true≢false (sym (emittable tt) ∙ form.0)))
-    (λ emits. ⊎_elim (λ refused. inl refused.0) (λ goes. inr (goes.0, goes.1)) emits.1)
+    (λ emits. ⊎_elim (λ refused. inl (refused.0, refused.1)) (λ goes. inr (goes.0, goes.1)) emits.1)
     does.3
-given (Interpret frames cells steps) how p args s t gives emittable does = ⊎_elim (λ refused. inl refused.0) (λ goes. inr (goes.0, goes.1)) does.3
-given _ how p args s t gives emittable does = absurd gives
+given (Interpret frames cells steps) how l p args told s t gives emittable untold does = ⊎_elim (λ refused. inl (refused.0, untold)) (λ goes. inr (goes.0, goes.1)) does.3
+given _ how l p args told s t gives emittable untold does = absurd gives
 
 -- a fault of the arguments is the only cause of no values but want of memory
-args_fail : (how : Status) (p : Prog) (args : List (List ℕ)) → RefusesArgs how p args
+pub args_fail : (how : Status) (p : Prog) (args : List (List ℕ)) → RefusesArgs how p args
     → (how ≡ status.OutOfMemory) ⊎ ((fault : ArgFault) × (how ≡ argument_status fault) × HasOnlyArgFault (main_types p) args fault)
 args_fail (status.ArgumentCount given wanted) p args refuses = inr (argument.Count given wanted, refl, refuses)
 args_fail (status.BadArgument place) p args refuses = inr (argument.Spelling place, refl, refuses)
@@ -255,14 +211,14 @@ argument_said argument.Memory path s t ample says = absurd (ample refl)
 
 -- a run is told by the state that its steps lead to
 tells_run : (c : Call) (path : List ℕ) (p : Prog) (limits : Limits) (values : List Value) (steps : ℕ) → ¬ Rose c.out_before.faults c.out_after.faults → (how : Status) → SaysStatus how path c.err_before c.err_after → StepsTo how p limits values steps c.out_before c.out_after
-    → UnlessMemory (status_number how) (TellsRun (state_after p limits values steps).ended steps (status_number how) c × TookAll c.out_before (state_after p limits values steps).printed c.out_after)
+    → UnlessMemory (status_number how) (TellsRun (state_after p limits values steps).ended steps [] (status_number how) c × TookAll c.out_before (state_after p limits values steps).printed c.out_after)
 tells_run c path p limits values steps sound status.Done says goes =
-    inr (subst (λ (e : Option End). TellsRun e steps 0 c) (sym goes.0) (refl, says), goes.1)
+    inr (subst (λ (e : Option End). TellsRun e steps [] 0 c) (sym goes.0) (refl, says_nothing says, λ none. says), goes.1)
 tells_run c path p limits values steps sound (status.Faulted fault) says goes =
-    inr (subst (λ (e : Option End). TellsRun e steps 2 c) (sym goes.0) (refl, says), goes.1)
+    inr (subst (λ (e : Option End). TellsRun e steps [] 2 c) (sym goes.0) (refl, says), goes.1)
 tells_run c path p limits values steps sound (status.Spent made) says goes =
     let here : Says c.err_before (spent_line steps) c.err_after = subst (λ n. Says c.err_before (spent_line n) c.err_after) goes.0 says in
-    inr (subst (λ (e : Option End). TellsRun e steps 3 c) (sym goes.1.0) (refl, here), goes.1.1)
+    inr (subst (λ (e : Option End). TellsRun e steps [] 3 c) (sym goes.1.0) (refl, here), goes.1.1)
 tells_run c path p limits values steps sound status.OutOfMemory says goes = inl refl
 tells_run c path p limits values steps sound status.CannotWrite says goes = absurd (sound goes.1)
 tells_run c path p limits values steps sound _ says goes = absurd goes
@@ -282,105 +238,38 @@ one_program tree p q numbered only = only.alone p numbered
 
 module _ (c : Call) (action : Action) (path : List ℕ) (args : List (List ℕ)) (how : Status) (ends : Ends c action path args how) where
   -- The bytes' program is that of their tree, and nothing else comes where there is one: memory ran out, or the program has a fault of the checker, or it is accepted and was dealt with.
-  with_program : (asks : Action) → NeedsProgram asks → (A : Type 0) (bytes : List ℕ) (p : Prog) (reads : ReadsWell c asks bytes) → length bytes ≤ most_bytes → IsSource (format_of reads.path) bytes p
-      → (how ≡ status.OutOfMemory → A) → ((fault : CheckFault) → how ≡ status.Unaccepted p fault → HasOnlyCheckFault p fault → A) → (IsFaultless p → DoesProgram asks how p args c.out_before c.out_after → A) → A
+  pub with_program : (asks : Action) → NeedsProgram asks → (A : Type 0) (bytes : List ℕ) (p : Prog) (reads : ReadsWell c asks bytes) → length bytes ≤ most_bytes → IsSource (format_of reads.path) bytes p
+      → (how ≡ status.OutOfMemory → A) → ((fault : CheckFault) → how ≡ status.Unaccepted p fault → ends.told ≡ [] → HasOnlyCheckFault p fault → A)
+      → (IsFaultless p → Untold asks ends.told → DoesProgram asks how c.passes p args ends.told c.out_before c.out_after → A) → A
   with_program asks needs A bytes p reads short source memory unaccepted goes =
       let here : IsSource (format_of path) bytes p = subst (λ q. IsSource (format_of q) bytes p) (same_path c action path args how ends asks bytes reads) source in
       by_cases c action path args how ends asks bytes reads A memory
       (λ e long. absurd (omega arith))
-      (λ fault e only few. absurd (only.unread here.tree here.reads))
-      (λ tree only does few.
+      (λ fault e none only few. absurd (only.unread here.tree here.reads))
+      (λ tree only untold does few.
       let numbered : Numbered tree p = Numbered-source (format_of path) bytes tree only p here in
-      by_names asks how tree args c.out_before c.out_after (asks_program asks how tree args c.out_before c.out_after needs does) A memory
-      (λ imports e. absurd (imports numbered.alone))
-      (λ alone fault e has. absurd (has.unnumbered p numbered))
-      (λ q fault e program has.
+      by_names asks how c.passes tree args ends.told c.out_before c.out_after (asks_program asks how c.passes tree args ends.told c.out_before c.out_after needs does) A memory
+      (λ none imports e. absurd (imports numbered.alone))
+      (λ none alone fault e has. absurd (has.unnumbered p numbered))
+      (λ none q fault e program has.
       let same : q ≡ p = one_program tree p q numbered program in
-      unaccepted fault (subst (λ r. how ≡ status.Unaccepted r fault) same e) (subst (λ r. HasOnlyCheckFault r fault) same has))
+      unaccepted fault (subst (λ r. how ≡ status.Unaccepted r fault) same e) none (subst (λ r. HasOnlyCheckFault r fault) same has))
       (λ q program done.
       let same : q ≡ p = one_program tree p q numbered program.only in
-      goes (subst IsFaultless same program.sound) (subst (λ r. DoesProgram asks how r args c.out_before c.out_after) same done)))
-
-  -- a program that can be run is refused for its size, or is within the bounds and run, or memory ran out
-  by_run : (A : Type 0) (frames cells words : ℕ) (bytes : List ℕ) (reads : ReadsWell c (Run frames cells words) bytes) (p : Prog) (values : List Value) (limits : Limits) → CanRun c frames cells words bytes reads p values limits
-      → (how ≡ status.OutOfMemory → A) → (RefusesImage how p limits → A) → (IsWithin p limits → RunsImage how p limits values words c.out_before c.out_after → A) → A
-  by_run A frames cells words bytes reads p values limits can memory large runs =
-      let here : AreSpelled (main_types p) args values = subst (λ a. AreSpelled (main_types p) a values) (same_args c action path args how ends (Run frames cells words) bytes reads) can.spelled in
-      with_program (Run frames cells words) tt A bytes p reads can.short can.source memory
-      (λ fault e has. absurd (has.unaccepted can.accepted))
-      (λ faultless does.
-      let same : does.0 ≡ limits = Limits-same does.0 limits (does.1 ∙ sym can.frames_are) (does.2 ∙ sym can.cells_are) in
-      ⊎_elim (λ form. absurd (true≢false (sym can.emittable ∙ form.0)))
-      (λ emits. ⊎_elim (λ refused. ⊎_elim memory (λ has. absurd (has.2.unspelled values here)) (args_fail how p args refused.0))
-      (λ goes.
-      let run : RunsValues how p limits values words c.out_before c.out_after =
-      subst (λ (l : Limits). RunsValues how p l values words c.out_before c.out_after) same
-      (subst (λ (vs : List Value). RunsValues how p does.0 vs words c.out_before c.out_after) (goes.1.only values here) goes.2)
-      in
-      ⊎_elim (λ long. large long.0) (λ ran. runs ran.0 ran.1) run)
-      emits.1)
-      does.3)
-
-  pub runs_where : (frames cells words : ℕ) (bytes : List ℕ) (reads : ReadsWell c (Run frames cells words) bytes) (p : Prog) (values : List Value) (limits : Limits) → CanRun c frames cells words bytes reads p values limits
-      → IsWithin p limits → ¬ Rose c.out_before.faults c.out_after.faults
-      → UnlessMemory (status_number how) ((ended : Option End) × TellsRun ended words (status_number how) c × RanWhole p limits values words ended c.out_before c.out_after)
-  runs_where frames cells words bytes reads p values limits can within sound =
-      by_run _ frames cells words bytes reads p values limits can (exhausted how _)
-      (λ refuses. exhausted how _ (refused_within how p limits refuses within))
-      (λ few ran. tells_image c path p limits values words sound how ends.says ran)
-
-  pub ends_where : (frames cells words : ℕ) (bytes : List ℕ) (reads : ReadsWell c (Run frames cells words) bytes) (p : Prog) (values : List Value) (limits : Limits) → CanRun c frames cells words bytes reads p values limits
-      → IsWithin p limits → ¬ Rose c.out_before.faults c.out_after.faults
-      → (n cost : ℕ) (end : End) → IsCost p cost → cost * (n + 1) ≤ words → (state_after p limits values n).ended ≡ Some end
-      → UnlessMemory (status_number how) (TellsRun (Some end) words (status_number how) c × TookAll c.out_before (state_after p limits values n).printed c.out_after)
-  ends_where frames cells words bytes reads p values limits can within sound n cost end is_cost enough ended =
-      ⊎_elim inl
-      (λ told. inr (tells_end c p limits values words (status_number how) (AreSpelled-fit (main_types p) reads.args values can.spelled) n cost end is_cost enough ended told))
-      (runs_where frames cells words bytes reads p values limits can within sound)
-
-  pub long_run_where : (frames cells words : ℕ) (bytes : List ℕ) (reads : ReadsWell c (Run frames cells words) bytes) (p : Prog) (values : List Value) (limits : Limits) → CanRun c frames cells words bytes reads p values limits
-      → ¬ IsWithin p limits → UnlessMemory (status_number how) (status_number how ≡ 68)
-  long_run_where frames cells words bytes reads p values limits can beyond =
-      by_run _ frames cells words bytes reads p values limits can (exhausted how _) (refused_large how p limits) (λ few ran. absurd (beyond few))
-
-  -- a program that can be emitted is refused for its size, or is within the bounds and its image is listed, or memory ran out
-  by_emit : (A : Type 0) (frames : ℕ) (bytes : List ℕ) (reads : ReadsWell c (Emit frames) bytes) (p : Prog) (limits : Limits) → CanEmit c frames bytes reads p limits
-      → (how ≡ status.OutOfMemory → A) → (RefusesImage how p limits → A)
-      → (IsWithin p limits → (output : List ℕ) → ListsImage p limits output → PutsListing how output c.out_before c.out_after → A) → A
-  by_emit A frames bytes reads p limits can memory large lists =
-      with_program (Emit frames) tt A bytes p reads can.short can.source memory
-      (λ fault e has. absurd (has.unaccepted can.accepted))
-      (λ faultless does.
-      let same : does.0 ≡ limits = Limits-same does.0 limits (does.1 ∙ sym can.frames_are) (does.2 ∙ sym can.cells_are) in
-      ⊎_elim (λ form. absurd (true≢false (sym can.emittable ∙ form.0)))
-      (λ emits.
-      let image : EmitsImage how p limits c.out_before c.out_after = subst (λ (l : Limits). EmitsImage how p l c.out_before c.out_after) same emits.1 in
-      ⊎_elim (λ long. large long.0) (λ goes. lists goes.0 goes.1.0 goes.1.1 goes.1.2) image)
-      does.3)
-
-  pub emits_where : (frames : ℕ) (bytes : List ℕ) (reads : ReadsWell c (Emit frames) bytes) (p : Prog) (limits : Limits) → CanEmit c frames bytes reads p limits → IsWithin p limits → ¬ Rose c.out_before.faults c.out_after.faults
-      → UnlessMemory (status_number how) ((status_number how ≡ 0) × ((output : List ℕ) × ListsImage p limits output × TookAll c.out_before output c.out_after))
-  emits_where frames bytes reads p limits can within sound =
-      by_emit _ frames bytes reads p limits can (exhausted how _)
-      (λ refuses. exhausted how _ (refused_within how p limits refuses within))
-      (λ few output lists puts. lists_image how p limits output c.out_before c.out_after lists puts sound)
-
-  pub long_emit_where : (frames : ℕ) (bytes : List ℕ) (reads : ReadsWell c (Emit frames) bytes) (p : Prog) (limits : Limits) → CanEmit c frames bytes reads p limits → ¬ IsWithin p limits → UnlessMemory (status_number how) (status_number how ≡ 68)
-  long_emit_where frames bytes reads p limits can beyond =
-      by_emit _ frames bytes reads p limits can (exhausted how _) (refused_large how p limits) (λ few output lists puts. absurd (beyond few))
+      goes (subst IsFaultless same program.sound) untold (subst (λ r. DoesProgram asks how c.passes r args ends.told c.out_before c.out_after) same done)))
 
   pub interprets_where : (frames cells steps : ℕ) (bytes : List ℕ) (p : Prog) (values : List Value) (limits : Limits) (reads : ReadsWell c (Interpret frames cells steps) bytes) → length bytes ≤ most_bytes → IsSource (format_of reads.path) bytes p → IsAccepted p
       → AreSpelled (main_types p) reads.args values → limits.frames ≡ frames → limits.cells ≡ cells → ¬ Rose c.out_before.faults c.out_after.faults
-      → UnlessMemory (status_number how) (TellsRun (state_after p limits values steps).ended steps (status_number how) c × TookAll c.out_before (state_after p limits values steps).printed c.out_after)
+      → UnlessMemory (status_number how) (TellsRun (state_after p limits values steps).ended steps [] (status_number how) c × TookAll c.out_before (state_after p limits values steps).printed c.out_after)
   interprets_where frames cells steps bytes p values limits reads short source accepted spelled frames_are cells_are sound =
       let here : AreSpelled (main_types p) args values = subst (λ a. AreSpelled (main_types p) a values) (same_args c action path args how ends (Interpret frames cells steps) bytes reads) spelled in
       with_program (Interpret frames cells steps) tt _ bytes p reads short source (exhausted how _)
-      (λ fault e has. absurd (has.unaccepted accepted))
-      (λ faultless does.
+      (λ fault e none has. absurd (has.unaccepted accepted))
+      (λ faultless untold does.
       let same : does.0 ≡ limits = Limits-same does.0 limits (does.1 ∙ sym frames_are) (does.2 ∙ sym cells_are) in
       ⊎_elim (λ refused. ⊎_elim (exhausted how _) (λ has. absurd (has.2.unspelled values here)) (args_fail how p args refused.0))
       (λ goes.
-      tells_run c path p limits values steps sound how ends.says
+      tells_run c path p limits values steps sound how (ends.says.plain untold)
       (subst (λ (l : Limits). StepsTo how p l values steps c.out_before c.out_after) same
       (subst (λ (vs : List Value). StepsTo how p does.0 vs steps c.out_before c.out_after) (goes.1.only values here) goes.2)))
       does.3)
@@ -391,40 +280,40 @@ module _ (c : Call) (action : Action) (path : List ℕ) (args : List (List ℕ))
   misargued_where asks gives bytes p fault reads short source accepted emittable ample is =
       let here : IsFaultOf (main_types p) args fault = subst (λ a. IsFaultOf (main_types p) a fault) (same_args c action path args how ends asks bytes reads) is in
       with_program asks (needs_program asks gives) _ bytes p reads short source (exhausted how _)
-      (λ other e has. absurd (has.unaccepted accepted))
-      (λ faultless does.
+      (λ other e none has. absurd (has.unaccepted accepted))
+      (λ faultless untold does.
       ⊎_elim (λ refused. ⊎_elim (exhausted how _)
       (λ has.
       let same : how ≡ argument_status fault = has.1 ∙ ap argument_status (has.2.only fault (ample, here)) in
       inr (subst (λ (h : Status). (status_number h ≡ 69) × Says c.err_before (argument_line fault) c.err_after) (sym same)
-      (argument_said fault path c.err_before c.err_after ample (said c action path args how ends asks bytes reads (argument_status fault) same))))
-      (args_fail how p args refused))
+      (argument_said fault path c.err_before c.err_after ample (said c action path args how ends asks bytes reads (argument_status fault) same refused.1))))
+      (args_fail how p args refused.0))
       (λ goes. absurd (goes.1.faultless fault (ample, here)))
-      (given asks how p args c.out_before c.out_after gives emittable does))
+      (given asks how c.passes p args ends.told c.out_before c.out_after gives emittable untold does))
 
   pub checks_where : (bytes : List ℕ) (p : Prog) (reads : ReadsWell c Check bytes) → length bytes ≤ most_bytes → IsSource (format_of reads.path) bytes p → IsAccepted p
       → ¬ Rose c.out_before.faults c.out_after.faults → UnlessMemory (status_number how) ((status_number how ≡ 0) × TookAll c.out_before (accepted_line p) c.out_after)
   checks_where bytes p reads short source accepted sound =
       with_program Check tt _ bytes p reads short source (exhausted how _)
-      (λ fault e has. absurd (has.unaccepted accepted))
-      (λ faultless does. puts_text how (accepted_line p) c.out_before c.out_after does sound)
+      (λ fault e none has. absurd (has.unaccepted accepted))
+      (λ faultless untold does. puts_text how (accepted_line p) c.out_before c.out_after does sound)
 
   pub unchecked_where : (asks : Action) → NeedsProgram asks → (bytes : List ℕ) (p : Prog) (fault : CheckFault) (reads : ReadsWell c asks bytes) → length bytes ≤ most_bytes → IsSource (format_of reads.path) bytes p → checker.HasFault p fault
       → UnlessMemory (status_number how) ((status_number how ≡ 65) × Says c.err_before (unaccepted_line p fault) c.err_after)
   unchecked_where asks needs bytes p fault reads short source has =
       with_program asks needs _ bytes p reads short source (exhausted how _)
-      (λ other e is. inr (
+      (λ other e none is. inr (
         ap status_number e,
         subst (λ (k : CheckFault). Says c.err_before (unaccepted_line p k) c.err_after) (is.only fault has)
-            (said c action path args how ends asks bytes reads (status.Unaccepted p other) e),
+            (said c action path args how ends asks bytes reads (status.Unaccepted p other) e none),
       ))
-      (λ sound does. absurd (sound.faultless fault has))
+      (λ sound untold does. absurd (sound.faultless fault has))
 
   -- the line of a form
-  form_said : (asks : Action) (bytes : List ℕ) (reads : ReadsWell c asks bytes) → how ≡ status.Unsupported → (status_number how ≡ 65) × Says c.err_before (form_line reads.path) c.err_after
-  form_said asks bytes reads e = (
+  pub form_said : (asks : Action) (bytes : List ℕ) (reads : ReadsWell c asks bytes) → how ≡ status.Unsupported → ends.told ≡ [] → (status_number how ≡ 65) × Says c.err_before (form_line reads.path) c.err_after
+  form_said asks bytes reads e none = (
     ap status_number e,
-    let here : Says c.err_before (form_line path) c.err_after = said c action path args how ends asks bytes reads status.Unsupported e in
+    let here : Says c.err_before (form_line path) c.err_after = said c action path args how ends asks bytes reads status.Unsupported e none in
         subst (λ p. Says c.err_before (form_line p) c.err_after) (sym (same_path c action path args how ends asks bytes reads)) here,
   )
 
@@ -434,21 +323,23 @@ module _ (c : Call) (action : Action) (path : List ℕ) (args : List (List ℕ))
       let here : HasImports (format_of path) bytes = subst (λ q. HasImports (format_of q) bytes) (same_path c action path args how ends asks bytes reads) has in
       by_cases c action path args how ends asks bytes reads _ (exhausted how _)
       (λ e long. absurd (omega arith))
-      (λ fault e only few. absurd (only.unread here.tree here.reads))
-      (λ tree only does few.
+      (λ fault e none only few. absurd (only.unread here.tree here.reads))
+      (λ tree only untold does few.
       let some : tree.imports ≢ [] = subst (λ (t : Tree). t.imports ≢ []) (sym (only.alone here.tree here.reads)) here.imports in
-      by_names asks how tree args c.out_before c.out_after (asks_program asks how tree args c.out_before c.out_after needs does) _ (exhausted how _)
-      (λ imports e. inr (form_said asks bytes reads e))
-      (λ alone fault e other. absurd (some alone))
-      (λ q fault e program other. absurd (some program.numbered.alone))
+      by_names asks how c.passes tree args ends.told c.out_before c.out_after (asks_program asks how c.passes tree args ends.told c.out_before c.out_after needs does) _ (exhausted how _)
+      (λ none imports e. inr (form_said asks bytes reads e none))
+      (λ none alone fault e other. absurd (some alone))
+      (λ none q fault e program other. absurd (some program.numbered.alone))
       (λ q program done. absurd (some program.only.numbered.alone)))
 
   unemitted_where : (asks : Action) → NeedsProgram asks → (bytes : List ℕ) (reads : ReadsWell c asks bytes) → length bytes ≤ most_bytes → NeedsWords asks → IsUnemitted (format_of reads.path) bytes
       → UnlessMemory (status_number how) ((status_number how ≡ 65) × Says c.err_before (form_line reads.path) c.err_after)
   unemitted_where asks needs bytes reads short makes out =
       with_program asks needs _ bytes out.program reads short out.source (exhausted how _)
-      (λ fault e has. absurd (has.unaccepted out.accepted))
-      (λ faultless does. inr (form_said asks bytes reads (unemitted asks how out.program args c.out_before c.out_after makes out.not does)))
+      (λ fault e none has. absurd (has.unaccepted out.accepted))
+      (λ faultless untold does. 
+      let there = unemitted asks how c.passes out.program args ends.told c.out_before c.out_after makes out.not untold does in
+      inr (form_said asks bytes reads there.0 there.1))
 
   pub formless_where : (asks : Action) → NeedsProgram asks → (bytes : List ℕ) (reads : ReadsWell c asks bytes) → length bytes ≤ most_bytes → IsFormless asks (format_of reads.path) bytes
       → UnlessMemory (status_number how) ((status_number how ≡ 65) × Says c.err_before (form_line reads.path) c.err_after)
@@ -461,28 +352,28 @@ module _ (c : Call) (action : Action) (path : List ℕ) (args : List (List ℕ))
       let here : HasNameFault (format_of path) bytes fault = subst (λ q. HasNameFault (format_of q) bytes fault) (same_path c action path args how ends asks bytes reads) has in
       by_cases c action path args how ends asks bytes reads _ (exhausted how _)
       (λ e long. absurd (omega arith))
-      (λ other e only few. absurd (only.unread here.tree here.reads))
-      (λ tree only does few.
-      let none : tree.imports ≡ [] = subst (λ (t : Tree). t.imports ≡ []) (sym (only.alone here.tree here.reads)) here.alone in
-      by_names asks how tree args c.out_before c.out_after (asks_program asks how tree args c.out_before c.out_after needs does) _ (exhausted how _)
-      (λ imports e. absurd (imports none))
-      (λ alone other e is. inr (
+      (λ other e none only few. absurd (only.unread here.tree here.reads))
+      (λ tree only untold does few.
+      let without : tree.imports ≡ [] = subst (λ (t : Tree). t.imports ≡ []) (sym (only.alone here.tree here.reads)) here.alone in
+      by_names asks how c.passes tree args ends.told c.out_before c.out_after (asks_program asks how c.passes tree args ends.told c.out_before c.out_after needs does) _ (exhausted how _)
+      (λ none imports e. absurd (imports without))
+      (λ none alone other e is. inr (
         ap status_number e,
         subst (λ (k : NameFault). Says c.err_before (misnamed_line k) c.err_after) (is.alone fault (has_in (format_of path) bytes tree only fault here))
-            (said c action path args how ends asks bytes reads (status.Misnamed other) e),
+            (said c action path args how ends asks bytes reads (status.Misnamed other) e none),
       ))
-      (λ q other e program is. absurd (program.faultless fault (has_in (format_of path) bytes tree only fault here)))
+      (λ none q other e program is. absurd (program.faultless fault (has_in (format_of path) bytes tree only fault here)))
       (λ q program done. absurd (program.only.faultless fault (has_in (format_of path) bytes tree only fault here))))
 
   -- what a tree is written as is put
-  written_where : (asks : Action) (written : Tree → List ℕ) → ((tree : Tree) → DoesTree asks how tree args c.out_before c.out_after → PutsText how (written tree) c.out_before c.out_after) → (bytes : List ℕ) (tree : Tree) (reads : ReadsWell c asks bytes) → length bytes ≤ most_bytes → ReadsAs (format_of reads.path) bytes tree
+  written_where : (asks : Action) (written : Tree → List ℕ) → ((tree : Tree) → DoesTree asks how c.passes tree args ends.told c.out_before c.out_after → PutsText how (written tree) c.out_before c.out_after) → (bytes : List ℕ) (tree : Tree) (reads : ReadsWell c asks bytes) → length bytes ≤ most_bytes → ReadsAs (format_of reads.path) bytes tree
       → ¬ Rose c.out_before.faults c.out_after.faults → UnlessMemory (status_number how) ((status_number how ≡ 0) × TookAll c.out_before (written tree) c.out_after)
   written_where asks written puts bytes tree reads short is sound =
       let here : ReadsAs (format_of path) bytes tree = subst (λ q. ReadsAs (format_of q) bytes tree) (same_path c action path args how ends asks bytes reads) is in
       by_cases c action path args how ends asks bytes reads _ (exhausted how _)
       (λ e long. absurd (omega arith))
-      (λ fault e only few. absurd (only.unread tree here))
-      (λ other only does few. puts_text how (written tree) c.out_before c.out_after
+      (λ fault e none only few. absurd (only.unread tree here))
+      (λ other only untold does few. puts_text how (written tree) c.out_before c.out_after
       (subst (λ t. PutsText how (written t) c.out_before c.out_after) (only.alone tree here) (puts other does)) sound)
 
   pub writes_where : (bytes : List ℕ) (tree : Tree) (reads : ReadsWell c WriteText bytes) → length bytes ≤ most_bytes → ReadsAs (format_of reads.path) bytes tree
@@ -499,20 +390,20 @@ module _ (c : Call) (action : Action) (path : List ℕ) (args : List (List ℕ))
       let has : HasFault (format_of path) bytes fault = subst (λ q. HasFault (format_of q) bytes fault) (same_path c action path args how ends asks bytes reads) is in
       by_cases c action path args how ends asks bytes reads _ (exhausted how _)
       (λ e long. absurd (omega arith))
-      (λ found e only few. inr (ap status_number e, line found e (only.alone fault has)))
-      (λ tree only does few. absurd (only.faultless fault has))
+      (λ found e none only few. inr (ap status_number e, line found e none (only.alone fault has)))
+      (λ tree only untold does few. absurd (only.faultless fault has))
     where
-      line : (found : SourceFault) → how ≡ status.Misread found → found ≡ fault → Says c.err_before (misread_line reads.path fault) c.err_after
-      line found e same =
-          let says : Says c.err_before (misread_line path found) c.err_after = said c action path args how ends asks bytes reads (status.Misread found) e in
+      line : (found : SourceFault) → how ≡ status.Misread found → ends.told ≡ [] → found ≡ fault → Says c.err_before (misread_line reads.path fault) c.err_after
+      line found e none same =
+          let says : Says c.err_before (misread_line path found) c.err_after = said c action path args how ends asks bytes reads (status.Misread found) e none in
           let here : Says c.err_before (misread_line path fault) c.err_after = subst (λ (k : SourceFault). Says c.err_before (misread_line path k) c.err_after) same says in
           subst (λ p. Says c.err_before (misread_line p fault) c.err_after) (sym (same_path c action path args how ends asks bytes reads)) here
 
   pub long_where : (asks : Action) (bytes : List ℕ) → ReadsWell c asks bytes → most_bytes < length bytes → UnlessMemory (status_number how) (status_number how ≡ 68)
   long_where asks bytes reads long = by_cases c action path args how ends asks bytes reads _ (exhausted how _)
       (λ e more. inr (ap status_number e))
-      (λ found e only few. absurd (omega arith))
-      (λ tree only does few. absurd (omega arith))
+      (λ found e none only few. absurd (omega arith))
+      (λ tree only untold does few. absurd (omega arith))
 
   pub lacking_where : AsksNone c → UnlessMemory (status_number how) (status_number how ≡ 66)
   lacking_where asks =

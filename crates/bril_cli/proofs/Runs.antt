@@ -1,5 +1,5 @@
 -- What a run of an image leaves.
-use Rattle.std.proofs.Common.{◌≡◌, ℕ, suc, ◌+◌, ◌*◌, ◌≤◌, false, List, Option, Some, None, refl, sym, ap, ◌∙◌, subst, arith, ⊎_elim, true≢false}
+use Rattle.std.proofs.Common.{◌≡◌, ℕ, suc, ◌+◌, ◌*◌, ◌≤◌, Bool, true, false, List, Option, Some, None, refl, sym, ap, ◌∙◌, subst, arith, ⊎_elim, true≢false}
 use Rattle.std.specs.Option.{option_map}
 use Rattle.bril_outside.proofs.SinkWrites.{TookSome-longer}
 use Rattle.bril_outside.specs.Sink.{SinkSeen, TookAll, TookSome}
@@ -9,21 +9,23 @@ use Rattle.bril_tree.specs.declared.limits.End.{End}
 use Rattle.bril_tree.specs.declared.limits.Limits.{Limits}
 use Rattle.bril_tree.specs.declared.program.Prog.{Prog}
 use Rattle.bril_tree.specs.declared.value.Value.{Value}
-use Rattle.rv64_implements.proofs.Endings.{shown, stopped_in_time, printed_in_time}
+use Rattle.rv64_implements.proofs.Endings.{shown, stopped_in_time, printed_in_time, failures_counted}
 use Rattle.rv64_implements.proofs.Systems.{image_is_system, machine_after-after}
 use Rattle.rv64_implements.specs.Implements.{Implements, ImplementsRun, image_system, image_after}
 use Rattle.rv64_implements.specs.Shown.{ProgramShows}
 use Rattle.rv64_machine.specs.MachineView.{state_of, image_in, sizes_in, has_failed}
-use Rattle.rv64_machine.specs.StepAnswers.{Ran, RunFailed, Reached, puts_by, reached_after}
+use Rattle.rv64_machine.specs.StepAnswers.{Ran, RunFailed, Reached, puts_by, reached_after, unprinted}
 use Rattle.rv64_machine.specs.declared.answer.RunAnswer.TheVariants as run
 use Rattle.rv64_machine.specs.declared.machine.Machine.{Machine}
 use Rattle.rv64_words.specs.Machine.{machine_after}
 use Rattle.rv64_words.specs.Region.{sizes_of}
 use Rattle.rv64_words.specs.State.{State, Finished, Trapped, start}
+use Rattle.rv64_words.specs.declared.image.GuardAt.{GuardAt}
 use Rattle.rv64_words.specs.declared.image.Image.{Image}
 use Rattle.simulation.proofs.After.{after-grows_le}
 use Rattle.simulation.specs.System.{IsPrefix}
 use Rattle.bril_cli.specs.Images.{MachineShows}
+use Rattle.bril_cli.specs.Stats.{stats_told}
 use Rattle.bril_cli.specs.commands.Run.{ShowsRun, RanWhole, RanPartly}
 
 -- the first of some bytes are the first of those with more after them
@@ -40,6 +42,11 @@ finished_one (Some x) (Some y) e = cc
 no_trapped : (ended : Option End) (trap : _) → Some (Trapped trap) ≡ option_map Finished ended → ⊥
 no_trapped None trap e = cc
 no_trapped (Some end) trap e = cc
+
+-- what was printed isn't told
+told_unprinted : (stats : Bool) (p : Prog) (guards : List GuardAt) (t : State) → stats_told stats p guards (unprinted t) ≡ stats_told stats p guards t
+told_unprinted true p guards t = refl
+told_unprinted false p guards t = refl
 
 -- the machine was made for the image, the limits and the values, and has executed nothing
 pub record IsFresh (m : Machine) (image : Image) (limits : Limits) (values : List Value) : Type 0 where
@@ -78,14 +85,23 @@ module _ (image : Image) (p : Prog) (limits : Limits) (values : List Value) (imp
         (after-grows_le (image_system image limits) (image_is_system image limits) n words (start values) h)
 
     module _ (m' : Machine) (s t : SinkSeen) where
-      -- the machine ended so, or goes on
-      pub whole : (ended : Option End) → (reached_after m words).stopped ≡ option_map Finished ended → Reached (reached_after m words) (puts_by m words) m m' s t → RanWhole p limits values words ended s t
-      unfolding printed
-      whole ended ends ran = record {
-        output = printed;
-        shows = shows_at ended (ap (λ (u : State). u.stopped) (sym (reached words)) ∙ ends);
-        took = subst (λ (u : State). TookAll s u.printed t) (reached words) ran.printed.took;
-      }
+      -- the machine ended so, or goes on, and its counts were told
+      pub whole : (ended : Option End) → (reached_after m words).stopped ≡ option_map Finished ended → Reached (reached_after m words) (puts_by m words) m m' s t
+          → (stats : Bool) → RanWhole p limits values words stats ended (stats_told stats p image.guards (state_of m')) s t
+      unfolding printed shows_at
+      whole ended ends ran stats =
+          let here : (image_after image limits values words).stopped ≡ option_map Finished ended = ap (λ (u : State). u.stopped) (sym (reached words)) ∙ ends in
+          record {
+            output = printed;
+            shows = shows_at ended here;
+            tells = record {
+              lines = ap (stats_told stats p image.guards) ran.became.state ∙ told_unprinted stats p image.guards (reached_after m words)
+                  ∙ ap (stats_told stats p image.guards) (reached words);
+              guards = implements.implements.guards;
+              counts = λ n end is final. failures_counted implements.homes image p limits values run_of n words end (Finished end) final (here ∙ ap (option_map Finished) is);
+            };
+            took = subst (λ (u : State). TookAll s u.printed t) (reached words) ran.printed.took;
+          }
 
       pub no_trap : (trap : _) → Ran (run.Trap trap) words m m' s t → ⊥
       no_trap trap ran =

@@ -23,6 +23,7 @@ use Rattle.rv64_words.specs.State.{Finished}
 use Rattle.rv64_words.specs.declared.image.Image.{Image}
 use Rattle.bril_cli.specs.Call.{Call, SaysAlone}
 use Rattle.bril_cli.specs.CommandLine.{format_of}
+use Rattle.bril_cli.specs.PassList.{PassList, IsMade, AfterList}
 use Rattle.bril_cli.specs.Source.{IsSource, IsOnlySource, IsFile}
 use Rattle.bril_cli.specs.declared.source.Format.{Format}
 
@@ -41,9 +42,26 @@ pub record IsEmittedFile (files : FilesSeen) (path : List ℕ) (p : Prog) : Type
   pub accepted : IsAccepted p
   pub emittable : is_emittable p ≡ true
 
+-- The bytes read as an accepted program of which the list makes one that can't be made into machine words yet.
+pub record MakesUnemitted (l : PassList) (format : Format) (bytes : List ℕ) : Type 0 where
+  pub program : Prog
+  pub source : IsSource format bytes program
+  pub accepted : IsAccepted program
+  pub made : Prog
+  pub by : IsMade l program made
+  pub not : is_emittable made ≡ false
+
+-- what is done with a program that can be made into machine words; another is told, and there is silence
+abbrev pub IfEmittable : Status → Prog → Type 0 → Type 0 → Type 0
+IfEmittable how p Silent Does = ((is_emittable p ≡ false) × (how ≡ status.Unsupported) × Silent) ⊎ ((is_emittable p ≡ true) × Does)
+
+-- what is done with the program that a list makes of a program, where it can be made into machine words
+abbrev pub AfterListEmittable : Status → PassList → Prog → Type 0 → (Prog → Type 0) → Type 0
+AfterListEmittable how l p Silent Does = AfterList how l p Silent (λ q. IfEmittable how q Silent (Does q))
+
 -- the action makes an image of a program, under these limits
 abbrev pub MakesImage : Action → Limits → Type 0
-MakesImage (Run frames cells steps) limits = (limits.frames ≡ frames) × (limits.cells ≡ cells)
+MakesImage (Run frames cells steps stats) limits = (limits.frames ≡ frames) × (limits.cells ≡ cells)
 MakesImage (Emit frames) limits = (limits.frames ≡ frames) × (limits.cells ≡ default_cells)
 MakesImage _ limits = ⊥
 
@@ -64,7 +82,10 @@ pub record IsLongProgram (c : Call) (action : Action) (path : List ℕ) : Type 0
   pub makes : MakesImage action limits
   pub program : Prog
   pub is : IsEmittedFile c.files_before path program
-  pub passes : HasLongCode c program ⊎ HasLongStack c program limits
+  pub made : Prog
+  pub by : IsMade c.passes program made
+  pub emittable : is_emittable made ≡ true
+  pub passes : HasLongCode c made ⊎ HasLongStack c made limits
 
 -- why no image was made of a program
 abbrev pub RefusesImage : Status → Prog → Limits → Type 0

@@ -6,4 +6,8 @@ pub mod Driver
 pub mod Images
 pub mod Source
 pub mod Stages
+pub mod Stats
 pub mod commands
+pub mod After
+pub mod PassList
+pub mod Sources

@@ -3,6 +3,7 @@
 ghost use Rattle.std.specs.Prelude.{◌≡◌, ◌≤◌};
 ghost use Rattle.bril_cli.specs.Answers.{Promises};
 ghost use Rattle.bril_cli.specs.Call.{call_of};
+ghost use Rattle.bril_cli.specs.Stats.{SaysUnless};
 
 use crate::driver::drive;
 use bril_outside::files::Files;
@@ -10,6 +11,7 @@ use bril_outside::sink::Sink;
 use bril_report::{Status, say, say_misuse, status_number};
 use bril_tree::text::Text;
 use bril_words::read_words;
+use pass_law::Pass;
 use std::alloc::Global;
 
 /// Does what the words ask for, and answers the exit status.
@@ -20,13 +22,16 @@ use std::alloc::Global;
 /// program has, and `text` and `json`, which write the file in canonical text, and in canonical JSON and LF. After the path of
 /// `run` and `interp` there may be options, each with its number as the next word, `--frames` (from 1 to 65,536; 8,192 where it
 /// isn't given), `--cells` (to 4,194,304; 1,048,576) and `--steps` (to 1,000,000,000,000; 1,000,000,000), and then `--` and the
-/// arguments of `@main`; after that of `emit` there may be `--frames`. A file whose path ends in `.json` is in the JSON form of
+/// arguments of `@main`; for `run` also `--stats`; after that of `emit` there may be `--frames`. A file whose path ends in `.json` is in the JSON form of
 /// the Bril documentation, and any other in its text form. To be checked, interpreted, emitted or run it has to be without
 /// imports. To be emitted or run its program has to be of core Bril, over ints and bools.
 ///
 /// `run` makes the program into words of RV64I with multiplication and division, and a machine executes `--steps` of them at most.
 /// What they print is what the program prints by its semantics, and the machine ends as the program does: where the program ends
-/// after n steps, `run` has its end if `--steps` is at least the cost of n + 1 steps (`bril_tree/specs/Cost.antt`).
+/// after n steps, `run` has its end if `--steps` is at least the cost of n + 1 steps (`bril_tree/specs/Cost.antt`). With `--stats`,
+/// after a run that ended, stopped with a fault or goes on, `err` gets the line `words W`, W being the words that were executed, and
+/// for each guard of the program, in the order of functions and items, the line `guard @F I fails K`: its function, its item from 0,
+/// and how often it failed; then the line of the status.
 ///
 /// | Status | Comes | Line on `err` |
 /// |---|---|---|
@@ -67,10 +72,11 @@ pub fn bril_top<F: Files, O: Sink, E: Sink>(
     files: &mut F,
     out: &mut O,
     err: &mut E,
+    passes: &mut [Box<dyn Pass>],
 ) -> u8
     ensures holds { (F.seen files.new).holds ≡ (F.seen files.old).holds }
     ensures faults { (F.seen files.old).faults ≤ (F.seen files.new).faults }
-    ensures promises { Promises result (call_of words.now (F.seen files.old) (F.seen files.new) (O.seen out.old) (O.seen out.new) (E.seen err.old) (E.seen err.new)) }
+    ensures promises { Promises result (call_of words.now (F.seen files.old) (F.seen files.new) (O.seen out.old) (O.seen out.new) (E.seen err.old) (E.seen err.new) (λ p. meaning p) (λ p. counts p) passes.old passes.new) }
 {
     let request = match read_words(words) {
         Ok(request) => request,
@@ -79,7 +85,25 @@ pub fn bril_top<F: Files, O: Sink, E: Sink>(
             return status_number(&Status::Misused { misuse });
         }
     };
-    let status = Status::from(drive(alloc, request, files, out));
-    say(err, request.path, &status);
+    let mut silenced = false;
+    let status = Status::from(drive(
+        alloc,
+        request,
+        files,
+        out,
+        err,
+        passes,
+        &mut silenced,
+    ));
+    say_unless(silenced, err, request.path, &status);
     status_number(&status)
+}
+
+// Puts the line of a status, unless a put before it failed.
+fn say_unless<E: Sink>(silenced: bool, err: &mut E, path: &Text, status: &Status)
+    ensures { SaysUnless silenced status.now path.now (E.seen err.old) (E.seen err.new) }
+{
+    if !silenced {
+        say(err, path, status);
+    }
 }

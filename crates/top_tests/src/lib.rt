@@ -7,4 +7,8 @@ mod adapters;
 #[cfg(test)]
 mod laws;
 #[cfg(test)]
+mod made_passes;
+#[cfg(test)]
+mod passes;
+#[cfg(test)]
 mod weak;

@@ -1,5 +1,5 @@
 -- `interp`: an accepted program is interpreted with the arguments that the words spell.
-use Rattle.std.specs.Prelude.{ℕ, ◌≡◌, ◌⊎◌, ◌<◌, ◌≤◌, List, length, Option, Some, None}
+use Rattle.std.specs.Prelude.{ℕ, ◌≡◌, ◌⊎◌, ◌<◌, ◌≤◌, List, [], length, Option, Some, None}
 use Rattle.bril_arguments.specs.Spelled.{AreSpelled}
 use Rattle.bril_interpreter.specs.StepAnswers.{WantsMemory}
 use Rattle.bril_outside.specs.Files.{FilesSeen}
@@ -99,4 +99,4 @@ InterpretsWhere number c =
     (frames cells steps : ℕ) (bytes : List ℕ) (program : Prog) (values : List Value) (limits : Limits) (reads : ReadsWell c (Interpret frames cells steps) bytes) →
     length bytes ≤ most_bytes → IsSource (format_of reads.path) bytes program → IsAccepted program → AreSpelled (main_types program) reads.args values →
     limits.frames ≡ frames → limits.cells ≡ cells → ¬ Rose c.out_before.faults c.out_after.faults → let state = state_after program limits values steps in
-    UnlessMemory number (TellsRun state.ended steps number c × TookAll c.out_before state.printed c.out_after)
+    UnlessMemory number (TellsRun state.ended steps [] number c × TookAll c.out_before state.printed c.out_after)

@@ -1,0 +1,55 @@
+// `run --stats`: what is told of a run of the machine on the error output, before the line of the status.
+
+ghost use Rattle.std.specs.Prelude.{◌≡◌, ◌^◌, ◌<◌, false, length};
+ghost use Rattle.bril_cli.specs.Stats.{stats_pieces, stats_told, PutTold};
+ghost use Rattle.bril_report.specs.Report.{PutsPieces};
+ghost use Rattle.rv64_machine.specs.MachineView.{state_of, image_in};
+
+use bril_outside::sink::{Failed, Sink};
+use bril_report::{put_guard, put_words};
+use bril_tree::program::Prog;
+use rv64_machine::machine::Machine;
+use rv64_words::image::GuardAt;
+
+/// Tells how many words the machine executed, and how often the word of each guard, where that is asked for. Where a put of it
+/// failed, `silenced` becomes true, and nothing more is to be put.
+pub fn tell_stats<E: Sink>(
+    stats: bool,
+    program: &Prog,
+    guards: &[GuardAt],
+    machine: &Machine,
+    err: &mut E,
+    silenced: &mut bool,
+)
+    requires guards { guards.now ≡ (image_in machine.now).guards }
+    requires few { length guards.now < 2 ^ 32 }
+    requires sound { silenced.old ≡ false }
+    ensures { PutTold silenced.new (stats_told stats program.now guards.now (state_of machine.now)) (E.seen err.old) (E.seen err.new) }
+{
+    if !stats {
+        return;
+    }
+    match put_stats(program, guards, machine, err) {
+        Ok(()) => {}
+        Err(Failed) => *silenced = true,
+    }
+}
+
+// Puts the lines, each piece of them by one put.
+fn put_stats<E: Sink>(
+    program: &Prog,
+    guards: &[GuardAt],
+    machine: &Machine,
+    err: &mut E,
+) -> Result<(), Failed>
+    requires guards { guards.now ≡ (image_in machine.now).guards }
+    requires few { length guards.now < 2 ^ 32 }
+    ensures { PutsPieces result (E.seen err.old) (stats_pieces program.now guards.now (state_of machine.now)) (E.seen err.new) }
+{
+    put_words(err, machine.done())?;
+    for (number, guard) in guards.iter().enumerate() {
+        let fails = machine.fails(number as u32);
+        put_guard(err, program, guard.func, guard.item, fails)?;
+    }
+    Ok(())
+}
