@@ -32,8 +32,7 @@ use Rattle.bril_words.specs.declared.request.Action.TheVariants.{Run, Interpret,
 use Rattle.bril_cli.specs.declared.source.Format.{Format}
 use Rattle.bril_cli.specs.Arguments.{argument_line, HasOnlyArgFault, AreOnlyValues, RefusesArgs}
 use Rattle.bril_cli.specs.Call.{Call, ReadsWell, AsksNone, UnlessMemory, TellsRun}
-use Rattle.bril_cli.specs.Images.{IsUnemitted}
-use Rattle.bril_cli.specs.Driver.{IsFormless, Untold, DoesProgram, AsksProgram, DoesTree}
+use Rattle.bril_cli.specs.Driver.{Untold, DoesProgram, AsksProgram, DoesTree}
 use Rattle.bril_cli.specs.Source.{most_bytes, HoldsFile, ReadsAs, HasFault, HasNameFault, HasOnlyCheckFault, HasImports, IsOnlyTree, IsOnlyFault, IsSource, IsLongFile}
 use Rattle.bril_cli.specs.Stages.{RefusesFile, RefusesTree, RefusesProgram, IsOnlyNameFault, IsOnlyProgram, IsAcceptedProgram, IsFaultless, PutsText}
 use Rattle.bril_cli.specs.commands.Check.{accepted_line}
@@ -41,8 +40,7 @@ use Rattle.bril_cli.specs.commands.Interp.{StepsTo}
 use Rattle.bril_cli.specs.commands.Json.{json_line}
 use Rattle.bril_cli.specs.PassList.{PassList}
 use Rattle.bril_report.specs.StageFaults.{argument_status}
-use Rattle.bril_cli.specs.CommandLine.{AsksFor, format_of, NeedsProgram, NeedsWords, GivesArguments}
-use Rattle.rv64_implements.specs.Emittable.{is_emittable}
+use Rattle.bril_cli.specs.CommandLine.{AsksFor, format_of, NeedsProgram, GivesArguments}
 use Rattle.bril_cli.proofs.Interpreting.{Limits-same}
 use Rattle.bril_cli.proofs.Statuses.{Ends, Numbered-source, has_in}
 use Rattle.bril_cli.proofs.Telling.{says_nothing}
@@ -177,22 +175,12 @@ module _ (action : Action) (how : Status) (l : PassList) (tree : Tree) (args : L
       (λ program. goes program.0 program.1 program.2)
       asks
 
--- a program that can't be made into machine words yet has its status
-pub unemitted : (asks : Action) (how : Status) (l : PassList) (p : Prog) (args : List (List ℕ)) (told : List ℕ) (s t : SinkSeen) → NeedsWords asks → is_emittable p ≡ false → Untold asks told → DoesProgram asks how l p args told s t
-    → (how ≡ status.Unsupported) × (told ≡ [])
-unemitted (Run frames cells steps stats) how l p args told s t makes not untold does = ⊎_elim (λ form. (form.1, form.2)) (λ emits. absurd (true≢false (sym emits.0 ∙ not))) does.3
-unemitted (Emit frames) how l p args told s t makes not untold does = (⊎_elim (λ form. form.1) (λ emits. absurd (true≢false (sym emits.0 ∙ not))) does.3, untold)
-unemitted _ how l p args told s t makes not untold does = absurd makes
-
 -- the arguments are refused, or spell values
-given : (asks : Action) (how : Status) (l : PassList) (p : Prog) (args : List (List ℕ)) (told : List ℕ) (s t : SinkSeen) → GivesArguments asks → (NeedsWords asks → is_emittable p ≡ true) → Untold asks told → DoesProgram asks how l p args told s t
+given : (asks : Action) (how : Status) (l : PassList) (p : Prog) (args : List (List ℕ)) (told : List ℕ) (s t : SinkSeen) → GivesArguments asks → Untold asks told → DoesProgram asks how l p args told s t
     → (RefusesArgs how p args × (told ≡ [])) ⊎ ((values : List Value) × AreOnlyValues p args values)
-given (Run frames cells steps stats) how l p args told s t gives emittable untold does =
-    ⊎_elim (λ form. absurd (true≢false (sym (emittable tt) ∙ form.0)))
-    (λ emits. ⊎_elim (λ refused. inl (refused.0, refused.1)) (λ goes. inr (goes.0, goes.1)) emits.1)
-    does.3
-given (Interpret frames cells steps) how l p args told s t gives emittable untold does = ⊎_elim (λ refused. inl (refused.0, untold)) (λ goes. inr (goes.0, goes.1)) does.3
-given _ how l p args told s t gives emittable untold does = absurd gives
+given (Run frames cells steps stats) how l p args told s t gives untold does = ⊎_elim (λ refused. inl (refused.0, refused.1)) (λ goes. inr (goes.0, goes.1)) does.3
+given (Interpret frames cells steps) how l p args told s t gives untold does = ⊎_elim (λ refused. inl (refused.0, untold)) (λ goes. inr (goes.0, goes.1)) does.3
+given _ how l p args told s t gives untold does = absurd gives
 
 -- a fault of the arguments is the only cause of no values but want of memory
 pub args_fail : (how : Status) (p : Prog) (args : List (List ℕ)) → RefusesArgs how p args
@@ -275,9 +263,9 @@ module _ (c : Call) (action : Action) (path : List ℕ) (args : List (List ℕ))
       does.3)
 
   pub misargued_where : (asks : Action) → GivesArguments asks → (bytes : List ℕ) (p : Prog) (fault : ArgFault) (reads : ReadsWell c asks bytes) → length bytes ≤ most_bytes → IsSource (format_of reads.path) bytes p → IsAccepted p
-      → (NeedsWords asks → is_emittable p ≡ true) → fault ≢ argument.Memory → IsFaultOf (main_types p) reads.args fault
+      → fault ≢ argument.Memory → IsFaultOf (main_types p) reads.args fault
       → UnlessMemory (status_number how) ((status_number how ≡ 69) × Says c.err_before (argument_line fault) c.err_after)
-  misargued_where asks gives bytes p fault reads short source accepted emittable ample is =
+  misargued_where asks gives bytes p fault reads short source accepted ample is =
       let here : IsFaultOf (main_types p) args fault = subst (λ a. IsFaultOf (main_types p) a fault) (same_args c action path args how ends asks bytes reads) is in
       with_program asks (needs_program asks gives) _ bytes p reads short source (exhausted how _)
       (λ other e none has. absurd (has.unaccepted accepted))
@@ -289,7 +277,7 @@ module _ (c : Call) (action : Action) (path : List ℕ) (args : List (List ℕ))
       (argument_said fault path c.err_before c.err_after ample (said c action path args how ends asks bytes reads (argument_status fault) same refused.1))))
       (args_fail how p args refused.0))
       (λ goes. absurd (goes.1.faultless fault (ample, here)))
-      (given asks how c.passes p args ends.told c.out_before c.out_after gives emittable untold does))
+      (given asks how c.passes p args ends.told c.out_before c.out_after gives untold does))
 
   pub checks_where : (bytes : List ℕ) (p : Prog) (reads : ReadsWell c Check bytes) → length bytes ≤ most_bytes → IsSource (format_of reads.path) bytes p → IsAccepted p
       → ¬ Rose c.out_before.faults c.out_after.faults → UnlessMemory (status_number how) ((status_number how ≡ 0) × TookAll c.out_before (accepted_line p) c.out_after)
@@ -317,9 +305,9 @@ module _ (c : Call) (action : Action) (path : List ℕ) (args : List (List ℕ))
         subst (λ p. Says c.err_before (form_line p) c.err_after) (sym (same_path c action path args how ends asks bytes reads)) here,
   )
 
-  imports_where : (asks : Action) → NeedsProgram asks → (bytes : List ℕ) (reads : ReadsWell c asks bytes) → length bytes ≤ most_bytes → HasImports (format_of reads.path) bytes
+  pub formless_where : (asks : Action) → NeedsProgram asks → (bytes : List ℕ) (reads : ReadsWell c asks bytes) → length bytes ≤ most_bytes → HasImports (format_of reads.path) bytes
       → UnlessMemory (status_number how) ((status_number how ≡ 65) × Says c.err_before (form_line reads.path) c.err_after)
-  imports_where asks needs bytes reads short has =
+  formless_where asks needs bytes reads short has =
       let here : HasImports (format_of path) bytes = subst (λ q. HasImports (format_of q) bytes) (same_path c action path args how ends asks bytes reads) has in
       by_cases c action path args how ends asks bytes reads _ (exhausted how _)
       (λ e long. absurd (omega arith))
@@ -331,20 +319,6 @@ module _ (c : Call) (action : Action) (path : List ℕ) (args : List (List ℕ))
       (λ none alone fault e other. absurd (some alone))
       (λ none q fault e program other. absurd (some program.numbered.alone))
       (λ q program done. absurd (some program.only.numbered.alone)))
-
-  unemitted_where : (asks : Action) → NeedsProgram asks → (bytes : List ℕ) (reads : ReadsWell c asks bytes) → length bytes ≤ most_bytes → NeedsWords asks → IsUnemitted (format_of reads.path) bytes
-      → UnlessMemory (status_number how) ((status_number how ≡ 65) × Says c.err_before (form_line reads.path) c.err_after)
-  unemitted_where asks needs bytes reads short makes out =
-      with_program asks needs _ bytes out.program reads short out.source (exhausted how _)
-      (λ fault e none has. absurd (has.unaccepted out.accepted))
-      (λ faultless untold does. 
-      let there = unemitted asks how c.passes out.program args ends.told c.out_before c.out_after makes out.not untold does in
-      inr (form_said asks bytes reads there.0 there.1))
-
-  pub formless_where : (asks : Action) → NeedsProgram asks → (bytes : List ℕ) (reads : ReadsWell c asks bytes) → length bytes ≤ most_bytes → IsFormless asks (format_of reads.path) bytes
-      → UnlessMemory (status_number how) ((status_number how ≡ 65) × Says c.err_before (form_line reads.path) c.err_after)
-  formless_where asks needs bytes reads short =
-      ⊎_elim (imports_where asks needs bytes reads short) (λ out. unemitted_where asks needs bytes reads short out.0 out.1)
 
   pub misnamed_where : (asks : Action) → NeedsProgram asks → (bytes : List ℕ) (fault : NameFault) (reads : ReadsWell c asks bytes) → length bytes ≤ most_bytes → HasNameFault (format_of reads.path) bytes fault
       → UnlessMemory (status_number how) ((status_number how ≡ 65) × Says c.err_before (misnamed_line fault) c.err_after)

@@ -2,7 +2,7 @@
 use Rattle.std.proofs.Common.{◌≡◌, ℕ, ◌+◌, ◌*◌, ◌<◌, ◌≤◌, ◌⊎◌, Bool, true, false, append-nil, ◌++◌, List, [], length, Option, Some, None, refl, sym, ap, ◌∙◌, subst, arith, inl, inr, ⊎_elim, true≢false}
 use Rattle.bril_arguments.proofs.Spelled.{AreSpelled-fit}
 use Rattle.bril_arguments.specs.Spelled.{AreSpelled}
-use Rattle.bril_cli.proofs.Causes.{exhausted, args_fail, same_path, same_args, with_program}
+use Rattle.bril_cli.proofs.Causes.{exhausted, args_fail, same_args, with_program}
 use Rattle.bril_cli.proofs.Interpreting.{Limits-same}
 use Rattle.bril_cli.proofs.Runs.{same_end, same_output}
 use Rattle.bril_cli.proofs.Sources.{made_refines, made_fits, made_ends, made_prints, enough_made, shows_source}
@@ -10,8 +10,8 @@ use Rattle.bril_cli.proofs.Statuses.{Ends}
 use Rattle.bril_cli.specs.After.{AfterPasses, EmitsAfter}
 use Rattle.bril_cli.specs.Call.{Call, ReadsWell, UnlessMemory, TellsRun}
 use Rattle.bril_cli.specs.CommandLine.{format_of}
-use Rattle.bril_cli.specs.Images.{RefusesImage, IfEmittable, AfterListEmittable}
-use Rattle.bril_cli.specs.PassList.{IsMade, RefusesList, factor_of, tallies_told}
+use Rattle.bril_cli.specs.Images.{RefusesImage}
+use Rattle.bril_cli.specs.PassList.{IsMade, RefusesList, AfterList, factor_of, tallies_told}
 use Rattle.bril_cli.specs.Source.{most_bytes, IsSource}
 use Rattle.bril_cli.specs.Stats.{stats_told, SaysTold}
 use Rattle.bril_cli.specs.commands.Emit.{ListsImage, EmitsImage, PutsListing, CanEmit}
@@ -33,7 +33,6 @@ use Rattle.bril_tree.specs.declared.value.Value.{Value}
 use Rattle.bril_words.specs.declared.request.Action.TheVariants.{Run, Emit, Passes}
 use Rattle.bril_words.specs.declared.request.Action.{Action}
 use Rattle.rv64_implements.proofs.Sizes.{within_not_beyond}
-use Rattle.rv64_implements.specs.Emittable.{is_emittable}
 use Rattle.rv64_implements.specs.Implements.{image_after}
 use Rattle.rv64_implements.specs.WordBounds.{IsWithin}
 use Rattle.rv64_words.specs.State.{State}
@@ -57,25 +56,17 @@ module _ (c : Call) (path : List ℕ) (p : Prog) where
 
 -- ---- the program that it makes is made into machine words
 
-module _ (c : Call) (path : List ℕ) (q : Prog) (limits : Limits) (Does : Type 0) where
-  -- it can't be yet
-  unemitted_after : (how : Status) → SaysStatus how path c.err_before c.err_after → is_emittable q ≡ false → how ≡ status.Unsupported → c.out_after ≡ c.out_before → UnlessMemory (status_number how) (EmitsAfter (status_number how) c path q limits Does)
-  unemitted_after how says not is silent =
-      let here : SaysStatus status.Unsupported path c.err_before c.err_after = subst (λ (h : Status). SaysStatus h path c.err_before c.err_after) is says in
-      inr (inl (not, ap status_number is, record { silent = silent; says = here }))
-
+module _ (q : Prog) (limits : Limits) (Does : Type 0) where
   -- it is too large, or memory ran out
-  beyond : (how : Status) → is_emittable q ≡ true → RefusesImage how q limits → UnlessMemory (status_number how) (EmitsAfter (status_number how) c path q limits Does)
-  beyond (status.CodeTooBig words) emittable refuses =
-      inr (inr (emittable, inl ((λ within. let w = within.code in let long = refuses.0 in absurd (omega arith)), refl)))
-  beyond (status.StackTooBig words) emittable refuses =
-      inr (inr (emittable, inl ((λ within. within_not_beyond q limits refuses.1.0 within refuses.1.1 refuses.1.2), refl)))
-  beyond status.OutOfMemory emittable refuses = inl refl
-  beyond _ emittable refuses = absurd refuses
+  beyond : (how : Status) → RefusesImage how q limits → UnlessMemory (status_number how) (EmitsAfter (status_number how) q limits Does)
+  beyond (status.CodeTooBig words) refuses = inr (inl ((λ within. let w = within.code in let long = refuses.0 in absurd (omega arith)), refl))
+  beyond (status.StackTooBig words) refuses = inr (inl ((λ within. within_not_beyond q limits refuses.1.0 within refuses.1.1 refuses.1.2), refl))
+  beyond status.OutOfMemory refuses = inl refl
+  beyond _ refuses = absurd refuses
 
   -- it is within the bounds
-  within_bounds : (number : ℕ) → is_emittable q ≡ true → IsWithin q limits → UnlessMemory number Does → UnlessMemory number (EmitsAfter number c path q limits Does)
-  within_bounds number emittable few = ⊎_elim inl (λ does. inr (inr (emittable, inr (few, does))))
+  within_bounds : (number : ℕ) → IsWithin q limits → UnlessMemory number Does → UnlessMemory number (EmitsAfter number q limits Does)
+  within_bounds number few = ⊎_elim inl (λ does. inr (inr (few, does)))
 
 -- ---- `run`
 
@@ -141,78 +132,45 @@ writes_made c path told q _ says puts = absurd puts
 -- ---- the clauses
 
 module _ (c : Call) (action : Action) (path : List ℕ) (args : List (List ℕ)) (how : Status) (ends : Ends c action path args how) where
-  Runs-after : (p : Prog) (values : List Value) (limits : Limits) (words : ℕ) (stats : Bool) (at : List ℕ) → Type 0
-  Runs-after p values limits words stats at =
-      AfterPasses (status_number how) c p (λ q made. EmitsAfter (status_number how) c at q limits
-          (¬ Rose c.out_before.faults c.out_after.faults → IsRun (status_number how) c p q (factor_of c.passes p q made) limits values words stats))
-
   after_run : (p : Prog) → IsAccepted p → (values : List Value) → FitMain p values → (limits : Limits) (words : ℕ) (stats : Bool) → RunsList how c.passes p limits values words stats ends.told c.out_before c.out_after
-      → UnlessMemory (status_number how) (Runs-after p values limits words stats path)
-  unfolding Runs-after
+      → UnlessMemory (status_number how) (AfterPasses (status_number how) c p (λ q made. EmitsAfter (status_number how) q limits
+          (¬ Rose c.out_before.faults c.out_after.faults → IsRun (status_number how) c p q (factor_of c.passes p q made) limits values words stats)))
   after_run p accepted values fits limits words stats =
       ⊎_elim (λ refused. stops c path p how _ (ends.says.plain refused.1) refused.0 refused.2)
       (λ goes. makes c path p (status_number how) _ goes.0 goes.1
-      (⊎_elim (λ form. unemitted_after c path goes.0 limits _ how (ends.says.plain form.2) form.0 form.1 form.3)
-      (λ emits. ⊎_elim (λ long. beyond c path goes.0 limits _ how emits.0 long.0)
-      (λ ran. within_bounds c path goes.0 limits _ (status_number how) emits.0 ran.0 (says_run c path ends.told p goes.0 goes.1 accepted limits values fits words stats how ends.says ran.1))
-      emits.1)
+      (⊎_elim (λ long. beyond goes.0 limits _ how long.0)
+      (λ ran. within_bounds goes.0 limits _ (status_number how) ran.0 (says_run c path ends.told p goes.0 goes.1 accepted limits values fits words stats how ends.says ran.1))
       goes.2))
-
-  run_list : (frames cells words : ℕ) (stats : Bool) (bytes : List ℕ) (reads : ReadsWell c (Run frames cells words stats) bytes) (p : Prog) (values : List Value) (limits : Limits) → CanRun c frames cells words stats bytes reads p values limits
-      → (A : Type 0) → (how ≡ status.OutOfMemory → A) → (RunsList how c.passes p limits values words stats ends.told c.out_before c.out_after → A) → A
-  run_list frames cells words stats bytes reads p values limits can A memory runs =
-      let here : AreSpelled (main_types p) args values = subst (λ a. AreSpelled (main_types p) a values) (same_args c action path args how ends (Run frames cells words stats) bytes reads) can.spelled in
-      with_program c action path args how ends (Run frames cells words stats) tt A bytes p reads can.short can.source memory
-      (λ fault e none has. absurd (has.unaccepted can.accepted))
-      (λ faultless untold does.
-      let same : does.0 ≡ limits = Limits-same does.0 limits (does.1 ∙ sym can.frames_are) (does.2 ∙ sym can.cells_are) in
-      ⊎_elim (λ form. absurd (true≢false (sym can.emittable ∙ form.0)))
-      (λ emits. ⊎_elim (λ refused. ⊎_elim memory (λ has. absurd (has.2.unspelled values here)) (args_fail how p args refused.0))
-      (λ goes. runs
-      (subst (λ (l : Limits). RunsList how c.passes p l values words stats ends.told c.out_before c.out_after) same
-      (subst (λ (vs : List Value). RunsList how c.passes p does.0 vs words stats ends.told c.out_before c.out_after) (goes.1.only values here) goes.2)))
-      emits.1)
-      does.3)
 
   pub runs_where : (frames cells words : ℕ) (stats : Bool) (bytes : List ℕ) (reads : ReadsWell c (Run frames cells words stats) bytes) (p : Prog) (values : List Value) (limits : Limits) → CanRun c frames cells words stats bytes reads p values limits
-      → UnlessMemory (status_number how) (AfterPasses (status_number how) c p (λ q made. EmitsAfter (status_number how) c reads.path q limits
+      → UnlessMemory (status_number how) (AfterPasses (status_number how) c p (λ q made. EmitsAfter (status_number how) q limits
           (¬ Rose c.out_before.faults c.out_after.faults → IsRun (status_number how) c p q (factor_of c.passes p q made) limits values words stats)))
-  unfolding Runs-after
   runs_where frames cells words stats bytes reads p values limits can =
-      subst (λ at. UnlessMemory (status_number how) (Runs-after p values limits words stats at)) (sym (same_path c action path args how ends (Run frames cells words stats) bytes reads))
-      (run_list frames cells words stats bytes reads p values limits can _ (exhausted how _)
-      (after_run p can.accepted values (AreSpelled-fit (main_types p) reads.args values can.spelled) limits words stats))
-
-  Emits-after : (p : Prog) (limits : Limits) (at : List ℕ) → Type 0
-  Emits-after p limits at =
-      AfterPasses (status_number how) c p (λ q made. EmitsAfter (status_number how) c at q limits
-          (¬ Rose c.out_before.faults c.out_after.faults → (status_number how ≡ 0) × ((output : List ℕ) × ListsImage q limits output × TookAll c.out_before output c.out_after)))
-
-  after_emit : (p : Prog) (limits : Limits) → ends.told ≡ [] → AfterListEmittable how c.passes p (c.out_after ≡ c.out_before) (λ q. EmitsImage how q limits c.out_before c.out_after) → UnlessMemory (status_number how) (Emits-after p limits path)
-  unfolding Emits-after
-  after_emit p limits untold =
-      ⊎_elim (λ refused. stops c path p how _ (ends.says.plain untold) refused.0 refused.1)
-      (λ goes. makes c path p (status_number how) _ goes.0 goes.1
-      (⊎_elim (λ form. unemitted_after c path goes.0 limits _ how (ends.says.plain untold) form.0 form.1 form.2)
-      (λ emits. ⊎_elim (λ long. beyond c path goes.0 limits _ how emits.0 long.0)
-      (λ lists. within_bounds c path goes.0 limits _ (status_number how) emits.0 lists.0 (lists_image how goes.0 limits lists.1.0 c lists.1.1 lists.1.2))
-      emits.1)
-      goes.2))
-
-  pub emits_where : (frames : ℕ) (bytes : List ℕ) (reads : ReadsWell c (Emit frames) bytes) (p : Prog) (limits : Limits) → CanEmit c frames bytes reads p limits
-      → UnlessMemory (status_number how) (AfterPasses (status_number how) c p (λ q made. EmitsAfter (status_number how) c reads.path q limits
-          (¬ Rose c.out_before.faults c.out_after.faults → (status_number how ≡ 0) × ((output : List ℕ) × ListsImage q limits output × TookAll c.out_before output c.out_after))))
-  unfolding Emits-after
-  emits_where frames bytes reads p limits can =
-      subst (λ at. UnlessMemory (status_number how) (Emits-after p limits at)) (sym (same_path c action path args how ends (Emit frames) bytes reads))
-      (with_program c action path args how ends (Emit frames) tt _ bytes p reads can.short can.source (exhausted how _)
+      let here : AreSpelled (main_types p) args values = subst (λ a. AreSpelled (main_types p) a values) (same_args c action path args how ends (Run frames cells words stats) bytes reads) can.spelled in
+      with_program c action path args how ends (Run frames cells words stats) tt _ bytes p reads can.short can.source (exhausted how _)
       (λ fault e none has. absurd (has.unaccepted can.accepted))
       (λ faultless untold does.
       let same : does.0 ≡ limits = Limits-same does.0 limits (does.1 ∙ sym can.frames_are) (does.2 ∙ sym can.cells_are) in
-      ⊎_elim (λ form. absurd (true≢false (sym can.emittable ∙ form.0)))
-      (λ emits. after_emit p limits untold
-      (subst (λ (l : Limits). AfterListEmittable how c.passes p (c.out_after ≡ c.out_before) (λ q. EmitsImage how q l c.out_before c.out_after)) same emits.1))
-      does.3))
+      ⊎_elim (λ refused. ⊎_elim (exhausted how _) (λ has. absurd (has.2.unspelled values here)) (args_fail how p args refused.0))
+      (λ goes. after_run p can.accepted values (AreSpelled-fit (main_types p) reads.args values can.spelled) limits words stats
+      (subst (λ (l : Limits). RunsList how c.passes p l values words stats ends.told c.out_before c.out_after) same
+      (subst (λ (vs : List Value). RunsList how c.passes p does.0 vs words stats ends.told c.out_before c.out_after) (goes.1.only values here) goes.2)))
+      does.3)
+
+  pub emits_where : (frames : ℕ) (bytes : List ℕ) (reads : ReadsWell c (Emit frames) bytes) (p : Prog) (limits : Limits) → CanEmit c frames bytes reads p limits
+      → UnlessMemory (status_number how) (AfterPasses (status_number how) c p (λ q made. EmitsAfter (status_number how) q limits
+          (¬ Rose c.out_before.faults c.out_after.faults → (status_number how ≡ 0) × ((output : List ℕ) × ListsImage q limits output × TookAll c.out_before output c.out_after))))
+  emits_where frames bytes reads p limits can =
+      with_program c action path args how ends (Emit frames) tt _ bytes p reads can.short can.source (exhausted how _)
+      (λ fault e none has. absurd (has.unaccepted can.accepted))
+      (λ faultless untold does.
+      let same : does.0 ≡ limits = Limits-same does.0 limits (does.1 ∙ sym can.frames_are) (does.2 ∙ sym can.cells_are) in
+      ⊎_elim (λ refused. stops c path p how _ (ends.says.plain untold) refused.0 refused.1)
+      (λ goes. makes c path p (status_number how) _ goes.0 goes.1
+      (⊎_elim (λ long. beyond goes.0 limits _ how long.0)
+      (λ lists. within_bounds goes.0 limits _ (status_number how) lists.0 (lists_image how goes.0 limits lists.1.0 c lists.1.1 lists.1.2))
+      goes.2))
+      (subst (λ (l : Limits). AfterList how c.passes p (c.out_after ≡ c.out_before) (λ q. EmitsImage how q l c.out_before c.out_after)) same does.3))
 
   pub transforms_where : (bytes : List ℕ) (p : Prog) (reads : ReadsWell c Passes bytes) → length bytes ≤ most_bytes → IsSource (format_of reads.path) bytes p → IsAccepted p
       → UnlessMemory (status_number how) (AfterPasses (status_number how) c p (λ q made. ¬ Rose c.out_before.faults c.out_after.faults →

@@ -112,14 +112,14 @@ module _ (c : Call) (misuse : Misuse) (unasked : words_read c.words ≡ Err misu
     transforms = λ bytes p reads short source accepted. not_read Passes bytes reads;
     emits = λ frames bytes reads p limits can. not_read (Emit frames) bytes reads;
     interprets = λ frames cells steps bytes p values limits reads short source accepted spelled frames_are cells_are sound. not_read (Interpret frames cells steps) bytes reads;
-    misargued = λ action gives bytes p fault reads short source accepted emittable ample is. not_read action bytes reads;
+    misargued = λ action gives bytes p fault reads short source accepted ample is. not_read action bytes reads;
     checks = λ bytes p reads short source accepted sound. not_read Check bytes reads;
     writes = λ bytes tree reads short spelled sound. not_read WriteText bytes reads;
     writes_json = λ bytes tree reads short read sound. not_read WriteJson bytes reads;
     misread = λ action bytes fault reads short has. not_read action bytes reads;
     misnamed = λ action needs bytes fault reads short has. not_read action bytes reads;
     unchecked = λ action needs bytes p fault reads short source has. not_read action bytes reads;
-    formless = λ action needs bytes reads short formless. not_read action bytes reads;
+    formless = λ action needs bytes reads short imports. not_read action bytes reads;
     lacking = λ asks. not_asked asks.action asks.path asks.args asks.asked;
     long_file = λ action bytes reads long. not_read action bytes reads;
     keeps = λ action path args asks. not_asked action path args asks;

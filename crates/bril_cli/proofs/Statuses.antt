@@ -1,5 +1,5 @@
 -- What each status says of the call.
-use Rattle.std.proofs.Common.{◌≡◌, ◌⊎◌, ℕ, Bool, true, false, append-nil, true≢false, ◌++◌, List, Option, Some, refl, sym, subst, inl, inr, ⊎_elim, None}
+use Rattle.std.proofs.Common.{◌≡◌, ◌⊎◌, ℕ, Bool, false, append-nil, ◌++◌, List, Option, Some, refl, sym, subst, inl, inr, ⊎_elim, None}
 use Rattle.std.specs.Prelude.{[], codes}
 use Rattle.bril_arguments.specs.declared.fault.ArgFault.{ArgFault}
 use Rattle.bril_arguments.specs.declared.fault.ArgFault.TheVariants as argument
@@ -23,22 +23,21 @@ use Rattle.bril_words.specs.declared.request.Action.TheVariants.{Run, Interpret,
 use Rattle.bril_cli.specs.declared.source.Format.{Format}
 use Rattle.bril_cli.specs.Answers.{Answers}
 use Rattle.bril_cli.specs.Call.{Call}
-use Rattle.bril_cli.specs.Driver.{Produces, Puts, Leaves, IsFormlessAfter, Untold, told_unwritten, AsksProgram, DoesTree, DoesFile, FailsToRead, FindsNoTree, DealsWithTree}
-use Rattle.bril_cli.specs.Source.{IsFile, Writes, HasNameFault, HasOnlyNameFault, IsOnlyTree, IsSource, IsOnlySource}
+use Rattle.bril_cli.specs.Driver.{Produces, Puts, Leaves, Untold, told_unwritten, AsksProgram, DoesTree, DoesFile, FailsToRead, FindsNoTree, DealsWithTree}
+use Rattle.bril_cli.specs.Source.{IsFile, Writes, HasNameFault, HasOnlyNameFault, IsOnlyTree, IsSource, IsOnlySource, HasImports}
 use Rattle.bril_cli.specs.Stages.{IsOnlyNameFault, IsOnlyProgram, IsAcceptedProgram, RefusesProgram, PutsText}
 use Rattle.bril_cli.specs.Stats.{SaysTold}
 use Rattle.bril_cli.specs.commands.Check.{accepted_line, Checks}
-use Rattle.bril_cli.specs.commands.Emit.{ListsImage, Emits, EmitsImage, PutsListing}
+use Rattle.bril_cli.specs.commands.Emit.{ListsImage, Emits, EmitsProgram, PutsListing}
 use Rattle.bril_cli.specs.commands.Interp.{StopsForMemory, Interprets, Exhausts, StepsTo, InterpretsProgram}
 use Rattle.bril_cli.specs.commands.Json.{json_line}
 use Rattle.bril_cli.specs.commands.Passes.{IsTextOf, Transforms, PutsProgram, TransformsProgram}
-use Rattle.bril_cli.specs.commands.Run.{ShowsRun, Runs, RunsAndTells, RanWhole, IsSilent, RunsImage, RunsValues, RunsEmitted}
+use Rattle.bril_cli.specs.commands.Run.{ShowsRun, Runs, RunsAndTells, RanWhole, RunsImage, RunsValues, RunsProgram}
 use Rattle.bril_cli.specs.Arguments.{argument_line, HasOnlyArgFault, AreOnlyValues, RefusesArgs}
-use Rattle.bril_cli.specs.CommandLine.{AsksFor, format_of, NeedsProgram, NeedsWords, GivesArguments, TakesPasses, KeepsPasses}
-use Rattle.bril_cli.specs.Images.{IsEmittedFile, MakesImage, HasLongCode, HasLongStack, RefusesImage, IfEmittable, AfterListEmittable}
-use Rattle.bril_cli.specs.PassList.{IsMade, RefusesList, factor_of}
+use Rattle.bril_cli.specs.CommandLine.{AsksFor, format_of, NeedsProgram, GivesArguments, TakesPasses, KeepsPasses}
+use Rattle.bril_cli.specs.Images.{IsProgramFile, MakesImage, HasLongCode, HasLongStack, RefusesImage}
+use Rattle.bril_cli.specs.PassList.{IsMade, RefusesList, AfterList, factor_of}
 use Rattle.bril_words.specs.Defaults.{default_cells}
-use Rattle.rv64_implements.specs.Emittable.{is_emittable}
 use Rattle.rv64_implements.specs.WordBounds.{IsWithin}
 use Rattle.bril_arguments.proofs.Spelled.{AreSpelled-fit}
 use Rattle.bril_cli.proofs.Sources.{made_refines, shows_source}
@@ -162,8 +161,8 @@ module _ (c : Call) (action : Action) (path : List ℕ) (args : List (List ℕ))
 -- ---- the tree's program was asked for
 
 module _ (c : Call) (action : Action) (path : List ℕ) (args : List (List ℕ)) (asked : AsksFor c.words action path args) (needs : NeedsProgram action) (bytes : List ℕ) (file : IsFile c.files_before path bytes) (tree : Tree) (only : IsOnlyTree (format_of path) bytes tree) where
-  Answers-formless : SaysStatus status.Unsupported path c.err_before c.err_after → IsFormlessAfter c.passes action (format_of path) bytes → c.out_after ≡ c.out_before → Answers 65 c
-  Answers-formless says formless silent = record {
+  Answers-formless : SaysStatus status.Unsupported path c.err_before c.err_after → HasImports (format_of path) bytes → c.out_after ≡ c.out_before → Answers 65 c
+  Answers-formless says imports silent = record {
     action = action;
     path = path;
     args = args;
@@ -172,13 +171,13 @@ module _ (c : Call) (action : Action) (path : List ℕ) (args : List (List ℕ))
       needs = needs;
       bytes = bytes;
       file = file;
-      formless = formless;
+      imports = imports;
       alone = record { silent = silent; says = says };
     });
   }
 
   Answers-refused : (how : Status) → SaysStatus how path c.err_before c.err_after → RefusesProgram how tree → c.out_after ≡ c.out_before → Answers (status_number how) c
-  Answers-refused status.Unsupported says refuses silent = Answers-formless says (inl (inl (record { tree = tree; reads = only.reads; imports = refuses }))) silent
+  Answers-refused status.Unsupported says refuses silent = Answers-formless says (record { tree = tree; reads = only.reads; imports = refuses }) silent
   Answers-refused (status.Misnamed fault) says refuses silent = record {
     action = action;
     path = path;
@@ -216,21 +215,8 @@ module _ (c : Call) (action : Action) (path : List ℕ) (args : List (List ℕ))
     source_of : IsOnlySource (format_of path) bytes p
     source_of = IsOnlySource-of (format_of path) bytes tree only p program.only
 
-    -- ---- the program was to be made into machine words
-
-    -- it can't be yet
-    Answers-unemitted : NeedsWords action → (how : Status) → SaysStatus how path c.err_before c.err_after → is_emittable p ≡ false → how ≡ status.Unsupported → c.out_after ≡ c.out_before → Answers (status_number how) c
-    Answers-unemitted makes how says not is silent =
-        let here : SaysStatus status.Unsupported path c.err_before c.err_after = subst (λ (h : Status). SaysStatus h path c.err_before c.err_after) is says in
-        subst (λ (h : Status). Answers (status_number h) c) (sym is)
-        (Answers-formless here (inl (inr (makes, record { program = p; source = source_of.source; accepted = program.sound.accepted; not = not }))) silent)
-
-    -- the list of passes makes one that can't be yet
-    Answers-unemitted_after : NeedsWords action → (q : Prog) → IsMade c.passes p q → (how : Status) → SaysStatus how path c.err_before c.err_after → is_emittable q ≡ false → how ≡ status.Unsupported → c.out_after ≡ c.out_before → Answers (status_number how) c
-    Answers-unemitted_after makes q by how says not is silent =
-        let here : SaysStatus status.Unsupported path c.err_before c.err_after = subst (λ (h : Status). SaysStatus h path c.err_before c.err_after) is says in
-        subst (λ (h : Status). Answers (status_number h) c) (sym is)
-        (Answers-formless here (inr (makes, record { program = p; source = source_of.source; accepted = program.sound.accepted; made = q; by = by; not = not })) silent)
+    program_file : IsProgramFile c.files_before path p
+    program_file = record { bytes = bytes; file = file; source = source_of; accepted = program.sound.accepted }
 
     -- the list of passes makes no program
     Answers-list : TakesPasses action → (how : Status) → SaysStatus how path c.err_before c.err_after → RefusesList how c.passes p → c.out_after ≡ c.out_before → Answers (status_number how) c
@@ -271,41 +257,37 @@ module _ (c : Call) (action : Action) (path : List ℕ) (args : List (List ℕ))
     Answers-list takes status.OutOfMemory says refuses silent = Answers-exhausted c action path args asked says silent
     Answers-list takes _ says refuses silent = absurd refuses
 
-    module _ (emittable : is_emittable p ≡ true) where
-      emitted_file : IsEmittedFile c.files_before path p
-      emitted_file = record { bytes = bytes; file = file; source = source_of; accepted = program.sound.accepted; emittable = emittable }
+    -- ---- an image was to be made of the program that the list makes, and it is too large
+    module _ (q : Prog) (by : IsMade c.passes p q) (limits : Limits) (makes : MakesImage action limits) where
+      long_program : HasLongCode c q ⊎ HasLongStack c q limits → Answers 68 c
+      long_program passes = record {
+        action = action;
+        path = path;
+        args = args;
+        asked = asked;
+        passes = inr (inl (record { limits = limits; makes = makes; program = p; is = program_file; made = q; by = by; passes = passes }));
+      }
 
-      -- the list of passes makes one that is too large
-      module _ (q : Prog) (by : IsMade c.passes p q) (emits : is_emittable q ≡ true) (limits : Limits) (makes : MakesImage action limits) where
-        long_program : HasLongCode c q ⊎ HasLongStack c q limits → Answers 68 c
-        long_program passes = record {
-          action = action;
-          path = path;
-          args = args;
-          asked = asked;
-          passes = inr (inl (record { limits = limits; makes = makes; program = p; is = emitted_file; made = q; by = by; emittable = emits; passes = passes }));
-        }
-
-        Answers-long : (how : Status) → SaysStatus how path c.err_before c.err_after → RefusesImage how q limits → c.out_after ≡ c.out_before → Answers (status_number how) c
-        Answers-long (status.CodeTooBig words) says refuses silent =
-            long_program (inl (record {
-              long = refuses.0;
-              alone = record { silent = silent; says = subst (λ n. Says c.err_before (code_line n) c.err_after) refuses.1 says };
-            }))
-        Answers-long (status.StackTooBig words) says refuses silent =
-            long_program (inr (record {
-              short_code = refuses.0;
-              stack = refuses.1.0;
-              size = refuses.1.1;
-              long = refuses.1.2;
-              alone = record { silent = silent; says = subst (λ n. Says c.err_before (stack_line n) c.err_after) refuses.1.3 says };
-            }))
-        Answers-long status.OutOfMemory says refuses silent = Answers-exhausted c action path args asked says silent
-        Answers-long _ says refuses silent = absurd refuses
+      Answers-long : (how : Status) → SaysStatus how path c.err_before c.err_after → RefusesImage how q limits → c.out_after ≡ c.out_before → Answers (status_number how) c
+      Answers-long (status.CodeTooBig words) says refuses silent =
+          long_program (inl (record {
+            long = refuses.0;
+            alone = record { silent = silent; says = subst (λ n. Says c.err_before (code_line n) c.err_after) refuses.1 says };
+          }))
+      Answers-long (status.StackTooBig words) says refuses silent =
+          long_program (inr (record {
+            short_code = refuses.0;
+            stack = refuses.1.0;
+            size = refuses.1.1;
+            long = refuses.1.2;
+            alone = record { silent = silent; says = subst (λ n. Says c.err_before (stack_line n) c.err_after) refuses.1.3 says };
+          }))
+      Answers-long status.OutOfMemory says refuses silent = Answers-exhausted c action path args asked says silent
+      Answers-long _ says refuses silent = absurd refuses
 
     -- ---- the program was given arguments, which don't fit it
 
-    module _ (gives : GivesArguments action) (emittable : NeedsWords action → is_emittable p ≡ true) where
+    module _ (gives : GivesArguments action) where
       misargued : (fault : ArgFault) → HasOnlyArgFault (main_types p) args fault → Says c.err_before (argument_line fault) c.err_after → c.out_after ≡ c.out_before → Answers 69 c
       misargued fault has says silent = record {
         action = action;
@@ -318,7 +300,6 @@ module _ (c : Call) (action : Action) (path : List ℕ) (args : List (List ℕ))
         program = p;
         source = source_of;
         accepted = program.sound.accepted;
-        emittable = emittable;
         fault = fault;
         only = has;
         alone = record { silent = silent; says = says };
@@ -333,12 +314,12 @@ module _ (c : Call) (action : Action) (path : List ℕ) (args : List (List ℕ))
 -- ---- a tree was to run
 
 module _ (c : Call) (frames cells steps : ℕ) (stats : Bool) (path : List ℕ) (args : List (List ℕ)) (asked : AsksFor c.words (Run frames cells steps stats) path args) (bytes : List ℕ) (file : IsFile c.files_before path bytes) (tree : Tree) (only : IsOnlyTree (format_of path) bytes tree) where
-  module _ (p : Prog) (program : IsAcceptedProgram tree p) (emittable : is_emittable p ≡ true) (limits : Limits) (frames_are : limits.frames ≡ frames) (cells_are : limits.cells ≡ cells) where
-    module _ (values : List Value) (are : AreOnlyValues p args values) (q : Prog) (by : IsMade c.passes p q) (emits : is_emittable q ≡ true) (within : IsWithin q limits) where
+  module _ (p : Prog) (program : IsAcceptedProgram tree p) (limits : Limits) (frames_are : limits.frames ≡ frames) (cells_are : limits.cells ≡ cells) where
+    module _ (values : List Value) (are : AreOnlyValues p args values) (q : Prog) (by : IsMade c.passes p q) (within : IsWithin q limits) where
       runs : (ended : Option End) (output : List ℕ) → ShowsRun q limits values steps ended output → Runs c.files_before c.passes path args frames cells steps ended output
       runs ended output shows = record {
         program = p;
-        is = emitted_file c (Run frames cells steps stats) path args asked tt bytes file tree only p program emittable;
+        is = program_file c (Run frames cells steps stats) path args asked tt bytes file tree only p program;
         values = values;
         spelled = are.spelled;
         limits = limits;
@@ -346,7 +327,6 @@ module _ (c : Call) (frames cells steps : ℕ) (stats : Bool) (path : List ℕ) 
         cells_are = cells_are;
         made = q;
         by = by;
-        emittable = emits;
         within = within;
         shows = shows;
         source = shows_source p q (factor_of c.passes p q by) (made_refines c.passes p q by program.sound.accepted) limits values (AreSpelled-fit (main_types p) args values are.spelled) steps output ended shows.program;
@@ -408,16 +388,14 @@ module _ (c : Call) (frames cells steps : ℕ) (stats : Bool) (path : List ℕ) 
         Answers-ran _ says ran = absurd ran
 
     Answers-made : (values : List Value) → AreOnlyValues p args values → (q : Prog) → IsMade c.passes p q → (how : Status) (told : List ℕ) → SaysTold told how path c.err_before c.err_after
-        → IfEmittable how q (IsSilent told c.out_before c.out_after) (RunsValues how q limits values steps stats told c.out_before c.out_after) → Answers (status_number how) c
+        → RunsValues how q limits values steps stats told c.out_before c.out_after → Answers (status_number how) c
     Answers-made values are q by how told says =
-        ⊎_elim (λ form. Answers-unemitted_after c (Run frames cells steps stats) path args asked tt bytes file tree only p program tt q by how (says.plain form.2) form.0 form.1 form.3)
-        (λ emits. ⊎_elim (λ long. Answers-long c (Run frames cells steps stats) path args asked tt bytes file tree only p program emittable q by emits.0 limits (frames_are, cells_are) how (says.plain long.1) long.0 long.2)
-        (λ ran. Answers-ran values are q by emits.0 ran.0 told how says ran.1)
-        emits.1)
+        ⊎_elim (λ long. Answers-long c (Run frames cells steps stats) path args asked tt bytes file tree only p program q by limits (frames_are, cells_are) how (says.plain long.1) long.0 long.2)
+        (λ ran. Answers-ran values are q by ran.0 told how says ran.1)
 
-    Answers-emitted : (how : Status) (told : List ℕ) → SaysTold told how path c.err_before c.err_after → RunsEmitted how c.passes p args limits steps stats told c.out_before c.out_after → Answers (status_number how) c
-    Answers-emitted how told says =
-        ⊎_elim (λ refused. Answers-misargued c (Run frames cells steps stats) path args asked tt bytes file tree only p program tt (λ needs. emittable) how (says.plain refused.1) refused.0 refused.2)
+    Answers-program : (how : Status) (told : List ℕ) → SaysTold told how path c.err_before c.err_after → RunsProgram how c.passes p args limits steps stats told c.out_before c.out_after → Answers (status_number how) c
+    Answers-program how told says =
+        ⊎_elim (λ refused. Answers-misargued c (Run frames cells steps stats) path args asked tt bytes file tree only p program tt how (says.plain refused.1) refused.0 refused.2)
         (λ goes. ⊎_elim (λ refused. Answers-list c (Run frames cells steps stats) path args asked tt bytes file tree only p program tt how (says.plain refused.1) refused.0 refused.2)
         (λ made. Answers-made goes.0 goes.1 made.0 made.1 how told says made.2)
         goes.2)
@@ -425,25 +403,22 @@ module _ (c : Call) (frames cells steps : ℕ) (stats : Bool) (path : List ℕ) 
   Answers-run : (how : Status) (told : List ℕ) → SaysTold told how path c.err_before c.err_after → AsksProgram (Run frames cells steps stats) how c.passes tree args told c.out_before c.out_after → Answers (status_number how) c
   Answers-run how told says =
       ⊎_elim (λ refused. Answers-refused c (Run frames cells steps stats) path args asked tt bytes file tree only how (says.plain refused.1) refused.0 refused.2)
-      (λ goes. ⊎_elim (λ form. Answers-unemitted c (Run frames cells steps stats) path args asked tt bytes file tree only goes.0 goes.1 tt how (says.plain form.2) form.0 form.1 form.3)
-      (λ emits. Answers-emitted goes.0 goes.1 emits.0 goes.2.0 goes.2.1 goes.2.2 how told says emits.1)
-      goes.2.3)
+      (λ goes. Answers-program goes.0 goes.1 goes.2.0 goes.2.1 goes.2.2 how told says goes.2.3)
 
 -- ---- a tree's words were to be written
 
 module _ (c : Call) (frames : ℕ) (path : List ℕ) (args : List (List ℕ)) (asked : AsksFor c.words (Emit frames) path args) (bytes : List ℕ) (file : IsFile c.files_before path bytes) (tree : Tree) (only : IsOnlyTree (format_of path) bytes tree) where
-  module _ (p : Prog) (program : IsAcceptedProgram tree p) (emittable : is_emittable p ≡ true) (limits : Limits) (frames_are : limits.frames ≡ frames) (cells_are : limits.cells ≡ default_cells) where
-    module _ (q : Prog) (by : IsMade c.passes p q) (emittable_too : is_emittable q ≡ true) (within : IsWithin q limits) (output : List ℕ) (lists : ListsImage q limits output) where
+  module _ (p : Prog) (program : IsAcceptedProgram tree p) (limits : Limits) (frames_are : limits.frames ≡ frames) (cells_are : limits.cells ≡ default_cells) where
+    module _ (q : Prog) (by : IsMade c.passes p q) (within : IsWithin q limits) (output : List ℕ) (lists : ListsImage q limits output) where
       emits : Emits c.files_before c.passes path frames output
       emits = record {
         program = p;
-        is = emitted_file c (Emit frames) path args asked tt bytes file tree only p program emittable;
+        is = program_file c (Emit frames) path args asked tt bytes file tree only p program;
         limits = limits;
         frames_are = frames_are;
         cells_are = cells_are;
         made = q;
         by = by;
-        emittable = emittable_too;
         within = within;
         image = lists;
       }
@@ -474,14 +449,12 @@ module _ (c : Call) (frames : ℕ) (path : List ℕ) (args : List (List ℕ)) (a
       }
       Answers-listed _ says puts = absurd puts
 
-    Answers-image : (q : Prog) → IsMade c.passes p q → (how : Status) → SaysStatus how path c.err_before c.err_after → IfEmittable how q (c.out_after ≡ c.out_before) (EmitsImage how q limits c.out_before c.out_after) → Answers (status_number how) c
+    Answers-image : (q : Prog) → IsMade c.passes p q → (how : Status) → SaysStatus how path c.err_before c.err_after → EmitsImage how q limits c.out_before c.out_after → Answers (status_number how) c
     Answers-image q by how says =
-        ⊎_elim (λ form. Answers-unemitted_after c (Emit frames) path args asked tt bytes file tree only p program tt q by how says form.0 form.1 form.2)
-        (λ emits. ⊎_elim (λ long. Answers-long c (Emit frames) path args asked tt bytes file tree only p program emittable q by emits.0 limits (frames_are, cells_are) how says long.0 long.1)
-        (λ goes. Answers-listed q by emits.0 goes.0 goes.1.0 goes.1.1 how says goes.1.2)
-        emits.1)
+        ⊎_elim (λ long. Answers-long c (Emit frames) path args asked tt bytes file tree only p program q by limits (frames_are, cells_are) how says long.0 long.1)
+        (λ goes. Answers-listed q by goes.0 goes.1.0 goes.1.1 how says goes.1.2)
 
-    Answers-emit_list : (how : Status) → SaysStatus how path c.err_before c.err_after → AfterListEmittable how c.passes p (c.out_after ≡ c.out_before) (λ q. EmitsImage how q limits c.out_before c.out_after) → Answers (status_number how) c
+    Answers-emit_list : (how : Status) → SaysStatus how path c.err_before c.err_after → AfterList how c.passes p (c.out_after ≡ c.out_before) (λ q. EmitsImage how q limits c.out_before c.out_after) → Answers (status_number how) c
     Answers-emit_list how says =
         ⊎_elim (λ refused. Answers-list c (Emit frames) path args asked tt bytes file tree only p program tt how says refused.0 refused.1)
         (λ made. Answers-image made.0 made.1 how says made.2)
@@ -489,9 +462,7 @@ module _ (c : Call) (frames : ℕ) (path : List ℕ) (args : List (List ℕ)) (a
   Answers-emit : (how : Status) → SaysStatus how path c.err_before c.err_after → AsksProgram (Emit frames) how c.passes tree args [] c.out_before c.out_after → Answers (status_number how) c
   Answers-emit how says =
       ⊎_elim (λ refused. Answers-refused c (Emit frames) path args asked tt bytes file tree only how says refused.0 refused.2)
-      (λ goes. ⊎_elim (λ form. Answers-unemitted c (Emit frames) path args asked tt bytes file tree only goes.0 goes.1 tt how says form.0 form.1 form.2)
-      (λ emits. Answers-emit_list goes.0 goes.1 emits.0 goes.2.0 goes.2.1 goes.2.2 how says emits.1)
-      goes.2.3)
+      (λ goes. Answers-emit_list goes.0 goes.1 goes.2.0 goes.2.1 goes.2.2 how says goes.2.3)
 
 -- ---- what a list of passes makes of a tree's program was to be written
 
@@ -668,7 +639,7 @@ module _ (c : Call) (frames cells steps : ℕ) (path : List ℕ) (args : List (L
 
     Answers-interpreted : (how : Status) (limits : Limits) → limits.frames ≡ frames → limits.cells ≡ cells → SaysStatus how path c.err_before c.err_after → InterpretsProgram how p args limits steps c.out_before c.out_after → Answers (status_number how) c
     Answers-interpreted how limits frames_are cells_are says =
-        ⊎_elim (λ refused. Answers-misargued c (Interpret frames cells steps) path args asked tt bytes file tree only p program tt (λ needs. absurd needs) how says refused.0 refused.1)
+        ⊎_elim (λ refused. Answers-misargued c (Interpret frames cells steps) path args asked tt bytes file tree only p program tt how says refused.0 refused.1)
         (λ goes. Answers-steps limits frames_are cells_are goes.0 goes.1 how says goes.2)
 
   Answers-interpret : (how : Status) → SaysStatus how path c.err_before c.err_after → AsksProgram (Interpret frames cells steps) how c.passes tree args [] c.out_before c.out_after → Answers (status_number how) c

@@ -1,5 +1,5 @@
 -- The counts of a run, guard by guard.
-use Rattle.std.proofs.Common.{◌≡◌, ℕ, suc, ◌+◌, ◌<◌, Bool, true, false, List, [], ◌∷◌, ◌++◌, length, take, drop, get_or, Some, IfSome, refl, sym, ap, ◌∙◌, subst, arith, codes, append_assoc, append-nil, inl, inr, ⊎_elim, true≢false}
+use Rattle.std.proofs.Common.{◌≡◌, ℕ, suc, ◌+◌, ◌<◌, Bool, true, false, List, [], ◌∷◌, ◌++◌, length, take, drop, get_or, IfSome, refl, sym, ap, ◌∙◌, subst, arith, codes, append_assoc, append-nil, inl, inr, ⊎_elim, true≢false}
 use Rattle.std.specs.Fmt.{decimal}
 use Rattle.std.specs.Prelude.{slice_get}
 use Rattle.std.specs.List.{flat_map}
@@ -7,9 +7,9 @@ use Rattle.std.proofs.Math.Seq.{take-suc}
 use Rattle.std.proofs.lemmas.Grind.{flat_map-append}
 use Rattle.std.proofs.lemmas.List.{take-append-drop}
 use Rattle.std.proofs.lemmas.Option.{slice_get-get_or}
-use Rattle.bril_outside.proofs.SinkWrites.{Rose-after, Rose-before, TookAll-append, TookAll-none, TookSome-after, TookSome-longer, PutAll-append, PutSome-after, PutSome-longer, PutSome-took, joined-cons}
-use Rattle.bril_outside.specs.Sink.{SinkSeen, Rose, TookAll, TookSome, PutAll, PutSome, joined}
-use Rattle.bril_report.specs.Report.{Says, SaysStatus, PutsPieces, status_line}
+use Rattle.bril_outside.proofs.SinkWrites.{Rose-after, TookAll-append, TookAll-none, TookSome-after, TookSome-longer, PutAll-append, PutSome-after, PutSome-longer, PutSome-took, joined-cons}
+use Rattle.bril_outside.specs.Sink.{SinkSeen, TookAll, PutAll, PutSome, joined}
+use Rattle.bril_report.specs.Report.{Says, SaysStatus, status_line}
 use Rattle.bril_report.specs.Stats.{words_pieces, guard_pieces, function_name}
 use Rattle.bril_report.specs.declared.status.Status.{Status}
 use Rattle.bril_report.specs.declared.status.Status.TheVariants as status

@@ -1,9 +1,8 @@
 -- What is answered after a list of passes.
-use Rattle.std.specs.Prelude.{ℕ, ◌≡◌, ◌⊎◌, true, false, List, Some}
-use Rattle.bril_report.specs.Lines.{form_line, pass_line, unknown_pass_line}
+use Rattle.std.specs.Prelude.{ℕ, ◌≡◌, ◌⊎◌, Some}
+use Rattle.bril_report.specs.Lines.{pass_line, unknown_pass_line}
 use Rattle.bril_tree.specs.declared.limits.Limits.{Limits}
 use Rattle.bril_tree.specs.declared.program.Prog.{Prog}
-use Rattle.rv64_implements.specs.Emittable.{is_emittable}
 use Rattle.rv64_implements.specs.WordBounds.{IsWithin}
 use Rattle.bril_cli.specs.Call.{Call, SaysAlone}
 use Rattle.bril_cli.specs.PassList.{IsMade, IsFirstUnknown, IsRefusedPass}
@@ -27,8 +26,6 @@ pub record StopsTooLarge (number : ℕ) (c : Call) (p : Prog) : Type 0 where
 abbrev pub AfterPasses : ℕ → (c : Call) → (p : Prog) → ((q : Prog) → IsMade c.passes p q → Type 0) → Type 0
 AfterPasses number c p Does = StopsUnknown number c ⊎ (StopsTooLarge number c p ⊎ ((q : Prog) × (made : IsMade c.passes p q) × Does q made))
 
--- A program that can be made into machine words, and is within the bounds, and of which this holds; or else it is told.
-abbrev pub EmitsAfter : ℕ → Call → List ℕ → Prog → Limits → Type 0 → Type 0
-EmitsAfter number c path q limits Does =
-    ((is_emittable q ≡ false) × (number ≡ 65) × SaysAlone c (form_line path))
-    ⊎ ((is_emittable q ≡ true) × ((¬ IsWithin q limits × (number ≡ 68)) ⊎ (IsWithin q limits × Does)))
+-- A program that is within the bounds, and of which this holds; or else it is too large.
+abbrev pub EmitsAfter : ℕ → Prog → Limits → Type 0 → Type 0
+EmitsAfter number q limits Does = (¬ IsWithin q limits × (number ≡ 68)) ⊎ (IsWithin q limits × Does)

@@ -1,5 +1,5 @@
 -- What the top call answers: its status, and what it does to the files and its two outputs.
-use Rattle.std.specs.Prelude.{ℕ, ◌≡◌, ◌≢◌, ◌⊎◌, ◌<◌, ◌≤◌, true, List, [], ◌++◌, length, map, Some, None, codes, ◌==◌, Err, MatchBool, ◌↔◌}
+use Rattle.std.specs.Prelude.{ℕ, ◌≡◌, ◌≢◌, ◌⊎◌, ◌<◌, ◌≤◌, List, [], ◌++◌, length, map, Some, None, codes, ◌==◌, Err, MatchBool, ◌↔◌}
 use Rattle.bril_arguments.specs.Faults.{IsFaultOf}
 use Rattle.bril_arguments.specs.declared.fault.ArgFault.TheVariants.{Memory}
 use Rattle.bril_arguments.specs.declared.fault.ArgFault.{ArgFault}
@@ -19,14 +19,13 @@ use Rattle.bril_tree.specs.declared.program.Prog.{Prog}
 use Rattle.bril_words.specs.CommandLine.{words_read}
 use Rattle.bril_words.specs.declared.misuse.Misuse.{Misuse}
 use Rattle.bril_words.specs.declared.request.Action.{Action}
-use Rattle.rv64_implements.specs.Emittable.{is_emittable}
 use Rattle.bril_cli.specs.Arguments.{HasOnlyArgFault, argument_line}
 use Rattle.bril_cli.specs.Call.{Call, SaysAlone, ReadsWell, AsksNone, UnlessMemory}
-use Rattle.bril_cli.specs.CommandLine.{format_of, steps_of, AsksFor, NeedsProgram, NeedsWords, GivesArguments, TakesPasses, KeepsPasses, AskNothing}
-use Rattle.bril_cli.specs.Driver.{IsFormless, IsFormlessAfter, Produces, Prints, Puts, Leaves, told_unwritten}
+use Rattle.bril_cli.specs.CommandLine.{format_of, steps_of, AsksFor, NeedsProgram, GivesArguments, TakesPasses, KeepsPasses, AskNothing}
+use Rattle.bril_cli.specs.Driver.{Produces, Prints, Puts, Leaves, told_unwritten}
 use Rattle.bril_cli.specs.Images.{IsLongProgram}
 use Rattle.bril_cli.specs.PassList.{IsFirstUnknown, IsRefusedPass}
-use Rattle.bril_cli.specs.Source.{most_bytes, HasFault, IsOnlyFault, IsSource, IsOnlySource, HasNameFault, HasOnlyNameFault, HasOnlyCheckFault, IsFile}
+use Rattle.bril_cli.specs.Source.{most_bytes, HasFault, IsOnlyFault, IsSource, IsOnlySource, HasNameFault, HasOnlyNameFault, HasOnlyCheckFault, HasImports, IsFile}
 use Rattle.bril_cli.specs.commands.Check.{ChecksWhere}
 use Rattle.bril_cli.specs.commands.Emit.{EmitsWhere}
 use Rattle.bril_cli.specs.commands.Interp.{InterpretsWhere}
@@ -83,12 +82,12 @@ pub record Misused (c : Call) : Type 0 where
   pub alone : SaysAlone c (misuse_line misuse)
 
 -- 65: the file's bytes read as no tree; or the action needs a program, and the tree has imports, or a fault of a
--- name, or a program that isn't accepted; or it makes machine words, and the accepted program can't be made into any yet.
+-- name, or a program that isn't accepted.
 pub record FormlessFile (c : Call) (action : Action) (path : List ℕ) : Type 0 where
   pub needs : NeedsProgram action
   pub bytes : List ℕ
   pub file : IsFile c.files_before path bytes
-  pub formless : IsFormlessAfter c.passes action (format_of path) bytes
+  pub imports : HasImports (format_of path) bytes
   pub alone : SaysAlone c (form_line path)
 
 pub record MisnamedFile (c : Call) (action : Action) (path : List ℕ) : Type 0 where
@@ -159,7 +158,7 @@ pub record TooLarge (c : Call) : Type 0 where
   pub asked : AsksFor c.words action path args
   pub passes : LongFile c path ⊎ (IsLongProgram c action path ⊎ LongPass c action path)
 
--- 69: the file reads as an accepted program, which can be run, and the arguments don't fit it.
+-- 69: the file reads as an accepted program, and the arguments don't fit it.
 pub record Misargued (c : Call) : Type 0 where
   pub action : Action
   pub gives : GivesArguments action
@@ -171,7 +170,6 @@ pub record Misargued (c : Call) : Type 0 where
   pub program : Prog
   pub source : IsOnlySource (format_of path) bytes program
   pub accepted : IsAccepted program
-  pub emittable : NeedsWords action → is_emittable program ≡ true
   pub fault : ArgFault
   pub only : HasOnlyArgFault (main_types program) args fault
   pub alone : SaysAlone c (argument_line fault)
@@ -249,17 +247,17 @@ UncheckedWhere number c =
     (action : Action) → NeedsProgram action → (bytes : List ℕ) (program : Prog) (fault : CheckFault) (reads : ReadsWell c action bytes) → length bytes ≤ most_bytes → IsSource (format_of reads.path) bytes program →
     checker.HasFault program fault → UnlessMemory number ((number ≡ 65) × Says c.err_before (unaccepted_line program fault) c.err_after)
 
--- A file whose program isn't built, or can't run yet, is told.
+-- A file with imports, whose program isn't built yet, is told.
 abbrev pub FormlessWhere : ℕ → Call → Type 0
 FormlessWhere number c =
-    (action : Action) → NeedsProgram action → (bytes : List ℕ) (reads : ReadsWell c action bytes) → length bytes ≤ most_bytes → IsFormless action (format_of reads.path) bytes →
+    (action : Action) → NeedsProgram action → (bytes : List ℕ) (reads : ReadsWell c action bytes) → length bytes ≤ most_bytes → HasImports (format_of reads.path) bytes →
     UnlessMemory number ((number ≡ 65) × Says c.err_before (form_line reads.path) c.err_after)
 
--- Arguments that don't fit an accepted program are told, where the program can be run.
+-- Arguments that don't fit an accepted program are told.
 abbrev pub MisarguedWhere : ℕ → Call → Type 0
 MisarguedWhere number c =
     (action : Action) → GivesArguments action → (bytes : List ℕ) (program : Prog) (fault : ArgFault) (reads : ReadsWell c action bytes) → length bytes ≤ most_bytes →
-    IsSource (format_of reads.path) bytes program → IsAccepted program → (NeedsWords action → is_emittable program ≡ true) → fault ≢ Memory → IsFaultOf (main_types program) reads.args fault →
+    IsSource (format_of reads.path) bytes program → IsAccepted program → fault ≢ Memory → IsFaultOf (main_types program) reads.args fault →
     UnlessMemory number ((number ≡ 69) × Says c.err_before (argument_line fault) c.err_after)
 
 -- No file is at the path.

@@ -32,16 +32,6 @@ NeedsProgram Check = Unit {0}
 NeedsProgram WriteText = ⊥
 NeedsProgram WriteJson = ⊥
 
--- the action makes machine words of the file's program
-abbrev pub NeedsWords : Action → Type 0
-NeedsWords (Run frames cells steps stats) = Unit {0}
-NeedsWords (Interpret frames cells steps) = ⊥
-NeedsWords (Emit frames) = Unit {0}
-NeedsWords Passes = ⊥
-NeedsWords Check = ⊥
-NeedsWords WriteText = ⊥
-NeedsWords WriteJson = ⊥
-
 -- the action gives the file's program arguments
 abbrev pub GivesArguments : Action → Type 0
 GivesArguments (Run frames cells steps stats) = Unit {0}

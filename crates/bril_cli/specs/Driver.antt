@@ -11,10 +11,9 @@ use Rattle.bril_tree.specs.declared.tree.Tree.{Tree}
 use Rattle.bril_words.specs.declared.request.Action.TheVariants.{Run, Interpret, Emit, Passes, Check, WriteText, WriteJson}
 use Rattle.bril_words.specs.declared.request.Action.{Action}
 use Rattle.bril_cli.specs.Call.{Call}
-use Rattle.bril_cli.specs.CommandLine.{format_of, NeedsWords}
-use Rattle.bril_cli.specs.Images.{IsUnemitted, MakesUnemitted}
+use Rattle.bril_cli.specs.CommandLine.{format_of}
 use Rattle.bril_cli.specs.PassList.{PassList, tallies_told}
-use Rattle.bril_cli.specs.Source.{IsOnlyTree, HasImports, IsFile, Writes}
+use Rattle.bril_cli.specs.Source.{IsOnlyTree, IsFile, Writes}
 use Rattle.bril_cli.specs.Stages.{RefusesFile, RefusesTree, RefusesProgram, IsAcceptedProgram, PutsText}
 use Rattle.bril_cli.specs.commands.Check.{accepted_line, Checks}
 use Rattle.bril_cli.specs.commands.Emit.{Emits, EmitsWithin}
@@ -22,7 +21,6 @@ use Rattle.bril_cli.specs.commands.Interp.{Interprets, Exhausts, InterpretsWithi
 use Rattle.bril_cli.specs.commands.Json.{json_line}
 use Rattle.bril_cli.specs.commands.Passes.{Transforms, TransformsProgram}
 use Rattle.bril_cli.specs.commands.Run.{Runs, RunsAndTells, RunsWithin}
-use Rattle.bril_cli.specs.declared.source.Format.{Format}
 
 -- what an action on an accepted program, with these arguments, answers
 abbrev pub DoesProgram : Action → Status → PassList → Prog → List (List ℕ) → List ℕ → SinkSeen → SinkSeen → Type 0
@@ -81,14 +79,6 @@ pub record DealsWithTree (action : Action) (how : Status) (l : PassList) (f : Fi
 abbrev pub DoesFile : Action → Status → PassList → FilesSeen → FilesSeen → List ℕ → List (List ℕ) → List ℕ → SinkSeen → SinkSeen → Type 0
 DoesFile action how l f g path args told s t =
     FailsToRead how f g path told s t ⊎ (FindsNoTree how f path told s t ⊎ DealsWithTree action how l f path args told s t)
-
--- The bytes read as a tree whose program isn't built yet, or one that can't be made into machine words yet, or of which the list of
--- passes makes such a one, where the action makes these.
-abbrev pub IsFormless : Action → Format → List ℕ → Type 0
-IsFormless action format bytes = HasImports format bytes ⊎ (NeedsWords action × IsUnemitted format bytes)
-
-abbrev pub IsFormlessAfter : PassList → Action → Format → List ℕ → Type 0
-IsFormlessAfter l action format bytes = IsFormless action format bytes ⊎ (NeedsWords action × MakesUnemitted l format bytes)
 
 -- What an action comes to that runs the program of the file at a path: it has ended so within the steps, or goes on for None, and
 -- has printed this; `run` tells something of it, where that is asked for.

@@ -1,5 +1,5 @@
--- The image of an accepted program: which programs have one, and why one has none.
-use Rattle.std.specs.Prelude.{ℕ, ◌≡◌, ◌≤◌, ◌<◌, ◌⊎◌, true, false, List, Option}
+-- The image of an accepted program, or why it has none.
+use Rattle.std.specs.Prelude.{ℕ, ◌≡◌, ◌≤◌, ◌<◌, ◌⊎◌, List, Option}
 use Rattle.std.specs.Option.{option_map}
 use Rattle.bril_outside.specs.Files.{FilesSeen}
 use Rattle.bril_report.specs.Lines.{code_line, stack_line}
@@ -16,48 +16,21 @@ use Rattle.bril_words.specs.declared.request.Action.{Action}
 use Rattle.rv64_emit.specs.declared.EmitFault.{EmitFault}
 use Rattle.rv64_emit.specs.declared.EmitFault.TheVariants as fault
 use Rattle.rv64_emit.specs.Refusal.{capped}
-use Rattle.rv64_implements.specs.Emittable.{is_emittable}
 use Rattle.rv64_implements.specs.Implements.{Implements, image_after}
 use Rattle.rv64_implements.specs.WordBounds.{word_bounds, most_words, most_stack, IsStackSize}
 use Rattle.rv64_words.specs.State.{Finished}
 use Rattle.rv64_words.specs.declared.image.Image.{Image}
 use Rattle.bril_cli.specs.Call.{Call, SaysAlone}
 use Rattle.bril_cli.specs.CommandLine.{format_of}
-use Rattle.bril_cli.specs.PassList.{PassList, IsMade, AfterList}
-use Rattle.bril_cli.specs.Source.{IsSource, IsOnlySource, IsFile}
-use Rattle.bril_cli.specs.declared.source.Format.{Format}
+use Rattle.bril_cli.specs.PassList.{IsMade}
+use Rattle.bril_cli.specs.Source.{IsOnlySource, IsFile}
 
--- The bytes read as an accepted program that can't be made into machine words yet.
-pub record IsUnemitted (format : Format) (bytes : List ℕ) : Type 0 where
-  pub program : Prog
-  pub source : IsSource format bytes program
-  pub accepted : IsAccepted program
-  pub not : is_emittable program ≡ false
-
--- The file at the path reads as this program, which is accepted and can be made into machine words.
-pub record IsEmittedFile (files : FilesSeen) (path : List ℕ) (p : Prog) : Type 0 where
+-- The file at the path reads as this program, which is accepted.
+pub record IsProgramFile (files : FilesSeen) (path : List ℕ) (p : Prog) : Type 0 where
   pub bytes : List ℕ
   pub file : IsFile files path bytes
   pub source : IsOnlySource (format_of path) bytes p
   pub accepted : IsAccepted p
-  pub emittable : is_emittable p ≡ true
-
--- The bytes read as an accepted program of which the list makes one that can't be made into machine words yet.
-pub record MakesUnemitted (l : PassList) (format : Format) (bytes : List ℕ) : Type 0 where
-  pub program : Prog
-  pub source : IsSource format bytes program
-  pub accepted : IsAccepted program
-  pub made : Prog
-  pub by : IsMade l program made
-  pub not : is_emittable made ≡ false
-
--- what is done with a program that can be made into machine words; another is told, and there is silence
-abbrev pub IfEmittable : Status → Prog → Type 0 → Type 0 → Type 0
-IfEmittable how p Silent Does = ((is_emittable p ≡ false) × (how ≡ status.Unsupported) × Silent) ⊎ ((is_emittable p ≡ true) × Does)
-
--- what is done with the program that a list makes of a program, where it can be made into machine words
-abbrev pub AfterListEmittable : Status → PassList → Prog → Type 0 → (Prog → Type 0) → Type 0
-AfterListEmittable how l p Silent Does = AfterList how l p Silent (λ q. IfEmittable how q Silent (Does q))
 
 -- the action makes an image of a program, under these limits
 abbrev pub MakesImage : Action → Limits → Type 0
@@ -81,10 +54,9 @@ pub record IsLongProgram (c : Call) (action : Action) (path : List ℕ) : Type 0
   pub limits : Limits
   pub makes : MakesImage action limits
   pub program : Prog
-  pub is : IsEmittedFile c.files_before path program
+  pub is : IsProgramFile c.files_before path program
   pub made : Prog
   pub by : IsMade c.passes program made
-  pub emittable : is_emittable made ≡ true
   pub passes : HasLongCode c made ⊎ HasLongStack c made limits
 
 -- why no image was made of a program

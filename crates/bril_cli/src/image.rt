@@ -2,7 +2,6 @@
 
 ghost use Rattle.std.specs.Prelude.{◌≡◌, ◌≤◌, length, IfOk, IfErr};
 ghost use Rattle.bril_cli.specs.Images.{emit_status, RefusesImage};
-ghost use Rattle.rv64_implements.specs.Emittable.{IsEmittable};
 ghost use Rattle.rv64_implements.specs.Implements.{Implements};
 ghost use Rattle.rv64_implements.specs.WordBounds.{IsWithin};
 
@@ -13,11 +12,10 @@ use rv64_emit::{EmitFault, emit};
 use rv64_words::image::Image;
 use std::alloc::Global;
 
-/// The image of an accepted program that can be made into machine words, under these limits.
+/// The image of an accepted program under these limits.
 ///
 /// `CodeTooBig`, `StackTooBig`: it may have more than 250,000 words, or needs more than 8,388,608 words of stack.
 pub fn image_of(alloc: Global, checked: &Checked, limits: Limits) -> Result<Image, Status>
-    requires { IsEmittable checked.now.prog }
     ensures implements { IfOk result (λ image. Implements image checked.now.prog limits) }
     ensures words { IfOk result (λ image. length image.words ≤ 250000) }
     ensures stack { IfOk result (λ image. image.stack ≤ 8388608) }

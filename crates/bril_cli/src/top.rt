@@ -24,7 +24,7 @@ use std::alloc::Global;
 /// isn't given), `--cells` (to 4,194,304; 1,048,576) and `--steps` (to 1,000,000,000,000; 1,000,000,000), and then `--` and the
 /// arguments of `@main`; for `run` also `--stats`; after that of `emit` there may be `--frames`. A file whose path ends in `.json` is in the JSON form of
 /// the Bril documentation, and any other in its text form. To be checked, interpreted, emitted or run it has to be without
-/// imports. To be emitted or run its program has to be of core Bril, over ints and bools.
+/// imports.
 ///
 /// `run` makes the program into words of RV64I with multiplication and division, and a machine executes `--steps` of them at most.
 /// What they print is what the program prints by its semantics, and the machine ends as the program does: where the program ends
@@ -43,7 +43,6 @@ use std::alloc::Global;
 /// | 65 | the file is to be checked, interpreted, emitted or run and has imports | `PATH: form` |
 /// | 65 | the file is to be checked, interpreted, emitted or run, and a name in it stands twice or for nothing | `name K function F item I` |
 /// | 65 | the file is to be checked, interpreted, emitted or run, and its program isn't accepted | `check K function F item I`, for K = 3 with ` variable NAME` after it |
-/// | 65 | the file is to be emitted or run, and its accepted program has an operation or a type that isn't made into machine words yet | `PATH: form` |
 /// | 66 | the file is not there, or reading it failed | `cannot read PATH` |
 /// | 68 | the file has more than 16,777,216 bytes, or the program's machine words may be more than 250,000, or its frames need more than 8,388,608 words | `too large: bytes`, `too large: code WORDS`, `too large: stack WORDS` |
 /// | 69 | the program is to be run or interpreted, and the arguments are not as many as `@main` takes, or one spells no value of its type, the first of them at this place from 1 | `arguments: GIVEN given, WANTED wanted`, `argument PLACE` |

@@ -39,12 +39,7 @@ pub fn put_guard<E: Sink>(
 }
 
 // Puts the line of a guard, its item and its failures as decimals.
-fn put_failures<E: Sink>(
-    err: &mut E,
-    name: &[u8],
-    item: &[u8],
-    fails: &[u8],
-) -> Result<(), Failed>
+fn put_failures<E: Sink>(err: &mut E, name: &[u8], item: &[u8], fails: &[u8]) -> Result<(), Failed>
     ensures { PutsPieces result (E.seen err.old) (codes "guard @" ∷ name.now ∷ codes " " ∷ item.now ∷ codes " fails " ∷ fails.now ∷ codes "\n" ∷ []) (E.seen err.new) }
 {
     put_five(err, b"guard @", name, b" ", item, b" fails ")?;

@@ -26,7 +26,7 @@ pub enum Status {
     Spent { steps: u64 },
     /// The words ask for nothing.
     Misused { misuse: Misuse },
-    /// The file has imports, or its accepted program can't be made into machine words yet.
+    /// The file has imports.
     Unsupported,
     /// The file's bytes read as no tree.
     Misread { fault: SourceFault },

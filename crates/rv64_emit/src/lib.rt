@@ -3,7 +3,6 @@
 
 ghost use Rattle.std.specs.Prelude.{◌≤◌, length, IfOk, IfErr};
 ghost use Rattle.rv64_emit.specs.Refusal.{EmitRefuses};
-ghost use Rattle.rv64_implements.specs.Emittable.{IsEmittable};
 ghost use Rattle.rv64_implements.specs.Implements.{Implements};
 ghost use Rattle.rv64_implements.specs.WordBounds.{most_words, IsStackSize, IsWithin};
 
@@ -31,7 +30,7 @@ pub enum EmitFault {
 ///
 /// `CodeTooBig`, `StackTooBig`: exactly where the bounds are passed, the code first.
 pub fn emit(alloc: Global, prog: &Checked, limits: Limits) -> Result<Image, EmitFault>
-    ensures implements { IfOk result (λ image. IsEmittable prog.now.prog → Implements image prog.now.prog limits) }
+    ensures implements { IfOk result (λ image. Implements image prog.now.prog limits) }
     ensures words { IfOk result (λ image. length image.words ≤ most_words) }
     ensures stack { IfOk result (λ image. IsStackSize prog.now.prog limits image.stack) }
     ensures within { IfOk result (λ _. IsWithin prog.now.prog limits) }

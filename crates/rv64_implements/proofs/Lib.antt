@@ -1,4 +1,3 @@
-pub mod Emittables
 pub mod Endings
 pub mod Sizes
 pub mod Systems

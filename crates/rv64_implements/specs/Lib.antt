@@ -1,4 +1,3 @@
-pub mod Emittable
 pub mod Home
 pub mod Implements
 pub mod Laws

@@ -1,5 +1,5 @@
 -- `emit`: the machine words of an accepted program are written.
-use Rattle.std.specs.Prelude.{ℕ, ◌≡◌, ◌⊎◌, ◌+◌, ◌/◌, ◌%◌, ◌^◌, ◌≤◌, true, false, nat_lt, List, [], ◌∷◌, length, if◌then◌else◌}
+use Rattle.std.specs.Prelude.{ℕ, ◌≡◌, ◌⊎◌, ◌+◌, ◌/◌, ◌%◌, ◌^◌, ◌≤◌, nat_lt, List, [], ◌∷◌, length, if◌then◌else◌}
 use Rattle.std.specs.List.{flat_map}
 use Rattle.bril_outside.specs.Files.{FilesSeen}
 use Rattle.bril_outside.specs.Sink.{SinkSeen, Rose, TookAll, TookSome}
@@ -10,15 +10,14 @@ use Rattle.bril_tree.specs.declared.limits.Limits.{Limits}
 use Rattle.bril_tree.specs.declared.program.Prog.{Prog}
 use Rattle.bril_words.specs.Defaults.{default_cells}
 use Rattle.bril_words.specs.declared.request.Action.TheVariants.{Emit}
-use Rattle.rv64_implements.specs.Emittable.{is_emittable}
 use Rattle.rv64_implements.specs.Implements.{Implements}
 use Rattle.rv64_implements.specs.WordBounds.{IsWithin}
 use Rattle.rv64_words.specs.declared.image.Image.{Image}
 use Rattle.bril_cli.specs.Call.{Call, ReadsWell, UnlessMemory}
 use Rattle.bril_cli.specs.CommandLine.{format_of}
 use Rattle.bril_cli.specs.After.{AfterPasses, EmitsAfter}
-use Rattle.bril_cli.specs.Images.{IsEmittedFile, RefusesImage, IfEmittable, AfterListEmittable}
-use Rattle.bril_cli.specs.PassList.{PassList, IsMade}
+use Rattle.bril_cli.specs.Images.{IsProgramFile, RefusesImage}
+use Rattle.bril_cli.specs.PassList.{PassList, IsMade, AfterList}
 use Rattle.bril_cli.specs.Source.{most_bytes, IsSource}
 
 -- ---- the text of words
@@ -45,17 +44,16 @@ pub record ListsImage (p : Prog) (limits : Limits) (output : List ℕ) : Type 0 
   pub implements : Implements image p limits
   pub lists : output ≡ listing image.words
 
--- The file at the path reads as an accepted program that can be made into machine words, the list of passes makes another of it that
--- can be made into machine words too and is within the bounds, under a limit of so many frames, and this text lists its image's words.
+-- The file at the path reads as an accepted program, the list of passes makes another of it that is within the bounds under a limit of
+-- so many frames, and this text lists its image's words.
 pub record Emits (files : FilesSeen) (l : PassList) (path : List ℕ) (frames : ℕ) (output : List ℕ) : Type 0 where
   pub program : Prog
-  pub is : IsEmittedFile files path program
+  pub is : IsProgramFile files path program
   pub limits : Limits
   pub frames_are : limits.frames ≡ frames
   pub cells_are : limits.cells ≡ default_cells
   pub made : Prog
   pub by : IsMade l program made
-  pub emittable : is_emittable made ≡ true
   pub within : IsWithin made limits
   pub image : ListsImage made limits output
 
@@ -65,14 +63,14 @@ PutsListing status.Done text s t = TookAll s text t
 PutsListing status.CannotWrite text s t = TookSome s text t × Rose s.faults t.faults
 PutsListing _ text s t = ⊥
 
--- what writing the words of a program that can be made into machine words answers
+-- what writing the words of a program answers
 abbrev pub EmitsImage : Status → Prog → Limits → SinkSeen → SinkSeen → Type 0
 EmitsImage how p limits s t =
     (RefusesImage how p limits × (t ≡ s)) ⊎ (IsWithin p limits × ((output : List ℕ) × ListsImage p limits output × PutsListing how output s t))
 
 -- what writing the words of the program that a list of passes makes of an accepted program answers
 abbrev pub EmitsProgram : Status → PassList → Prog → Limits → SinkSeen → SinkSeen → Type 0
-EmitsProgram how l p limits s t = IfEmittable how p (t ≡ s) (AfterListEmittable how l p (t ≡ s) (λ q. EmitsImage how q limits s t))
+EmitsProgram how l p limits s t = AfterList how l p (t ≡ s) (λ q. EmitsImage how q limits s t)
 
 -- what writing them under a limit of so many frames answers
 abbrev pub EmitsWithin : Status → PassList → Prog → ℕ → SinkSeen → SinkSeen → Type 0
@@ -80,21 +78,18 @@ EmitsWithin how l p frames s t = (limits : Limits) × (limits.frames ≡ frames)
 
 -- ---- when `emit` answers what
 
--- the file that is read and the words of the command line have this program and these limits, and the program can be made into
--- machine words
+-- the file that is read and the words of the command line have this program, which is accepted, and these limits
 pub record CanEmit (c : Call) (frames : ℕ) (bytes : List ℕ) (reads : ReadsWell c (Emit frames) bytes) (program : Prog) (limits : Limits) : Type 0 where
   pub short : length bytes ≤ most_bytes
   pub source : IsSource (format_of reads.path) bytes program
   pub accepted : IsAccepted program
-  pub emittable : is_emittable program ≡ true
   pub frames_are : limits.frames ≡ frames
   pub cells_are : limits.cells ≡ default_cells
 
--- An accepted program that can be made into machine words is given to the list of passes. What this makes is told where it can't be
--- made into machine words yet, or is too large; and else its words are written.
+-- An accepted program is given to the list of passes. What this makes is told where it is too large; and else its words are written.
 abbrev pub EmitsWhere : ℕ → Call → Type 0
 EmitsWhere number c =
     (frames : ℕ) (bytes : List ℕ) (reads : ReadsWell c (Emit frames) bytes) (program : Prog) (limits : Limits) →
     CanEmit c frames bytes reads program limits →
-    UnlessMemory number (AfterPasses number c program (λ q made. EmitsAfter number c reads.path q limits
+    UnlessMemory number (AfterPasses number c program (λ q made. EmitsAfter number q limits
         (¬ Rose c.out_before.faults c.out_after.faults → (number ≡ 0) × ((output : List ℕ) × ListsImage q limits output × TookAll c.out_before output c.out_after))))

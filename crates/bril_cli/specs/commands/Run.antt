@@ -1,6 +1,6 @@
 -- `run`: an accepted program is made into machine words, which the machine executes with the arguments that the words of the
 -- command line spell.
-use Rattle.std.specs.Prelude.{ℕ, ◌≡◌, ◌⊎◌, ◌+◌, ◌*◌, ◌≤◌, Bool, true, false, List, [], length, Option, Some, None}
+use Rattle.std.specs.Prelude.{ℕ, ◌≡◌, ◌⊎◌, ◌+◌, ◌*◌, ◌≤◌, Bool, false, List, [], length, Option, Some, None}
 use Rattle.bril_arguments.specs.Spelled.{AreSpelled}
 use Rattle.bril_outside.specs.Files.{FilesSeen}
 use Rattle.bril_outside.specs.Sink.{SinkSeen, Rose, TookAll, TookSome}
@@ -15,15 +15,14 @@ use Rattle.bril_tree.specs.declared.limits.Limits.{Limits}
 use Rattle.bril_tree.specs.declared.program.Prog.{Prog}
 use Rattle.bril_tree.specs.declared.value.Value.{Value}
 use Rattle.bril_words.specs.declared.request.Action.TheVariants.{Run}
-use Rattle.rv64_implements.specs.Emittable.{is_emittable}
 use Rattle.rv64_implements.specs.Shown.{ProgramShows}
 use Rattle.rv64_implements.specs.WordBounds.{IsWithin}
 use Rattle.bril_cli.specs.Arguments.{AreOnlyValues, RefusesArgs}
 use Rattle.bril_cli.specs.Call.{Call, ReadsWell, UnlessMemory, TellsRun}
 use Rattle.bril_cli.specs.CommandLine.{format_of}
 use Rattle.bril_cli.specs.After.{AfterPasses, EmitsAfter}
-use Rattle.bril_cli.specs.Images.{IsEmittedFile, MachineShows, RefusesImage, AfterListEmittable}
-use Rattle.bril_cli.specs.PassList.{PassList, IsMade, factor_of}
+use Rattle.bril_cli.specs.Images.{IsProgramFile, MachineShows, RefusesImage}
+use Rattle.bril_cli.specs.PassList.{PassList, IsMade, AfterList, factor_of}
 use Rattle.bril_cli.specs.Source.{most_bytes, IsSource}
 use Rattle.bril_cli.specs.Sources.{SourceShows}
 use Rattle.bril_cli.specs.Stats.{TellsStats}
@@ -35,12 +34,12 @@ pub record ShowsRun (p : Prog) (limits : Limits) (values : List Value) (words : 
   pub machine : MachineShows p limits values words ended output
   pub program : ProgramShows p limits values words ended output
 
--- The file at the path reads as an accepted program that can be made into machine words, the list of passes makes another of it
--- that can be made into machine words too and is within the bounds, and this is what so many words come to with these arguments and
--- under these limits. The first program, which is the source, has ended so and printed this.
+-- The file at the path reads as an accepted program, the list of passes makes another of it that is within the bounds, and this is what
+-- so many words come to with these arguments and under these limits. The first program, which is the source, has ended so and printed
+-- this.
 pub record Runs (files : FilesSeen) (l : PassList) (path : List ℕ) (args : List (List ℕ)) (frames cells words : ℕ) (ended : Option End) (output : List ℕ) : Type 0 where
   pub program : Prog
-  pub is : IsEmittedFile files path program
+  pub is : IsProgramFile files path program
   pub values : List Value
   pub spelled : AreSpelled (main_types program) args values
   pub limits : Limits
@@ -48,7 +47,6 @@ pub record Runs (files : FilesSeen) (l : PassList) (path : List ℕ) (args : Lis
   pub cells_are : limits.cells ≡ cells
   pub made : Prog
   pub by : IsMade l program made
-  pub emittable : is_emittable made ≡ true
   pub within : IsWithin made limits
   pub shows : ShowsRun made limits values words ended output
   pub source : SourceShows program made (factor_of l program made by) limits values words ended output
@@ -88,23 +86,14 @@ abbrev pub RunsValues : Status → Prog → Limits → List Value → ℕ → Bo
 RunsValues how p limits values words stats told s t =
     (RefusesImage how p limits × (told ≡ []) × (t ≡ s)) ⊎ (IsWithin p limits × RunsImage how p limits values words stats told s t)
 
--- nothing is told and nothing is put
-abbrev pub IsSilent : List ℕ → SinkSeen → SinkSeen → Type 0
-IsSilent told s t = (told ≡ []) × (t ≡ s)
-
 -- what a list of passes answers, and then running the program that it makes
 abbrev pub RunsList : Status → PassList → Prog → Limits → List Value → ℕ → Bool → List ℕ → SinkSeen → SinkSeen → Type 0
-RunsList how l p limits values words stats told s t = AfterListEmittable how l p (IsSilent told s t) (λ q. RunsValues how q limits values words stats told s t)
+RunsList how l p limits values words stats told s t = AfterList how l p ((told ≡ []) × (t ≡ s)) (λ q. RunsValues how q limits values words stats told s t)
 
--- what running a program that can be made into machine words answers, with the values that words spell
-abbrev pub RunsEmitted : Status → PassList → Prog → List (List ℕ) → Limits → ℕ → Bool → List ℕ → SinkSeen → SinkSeen → Type 0
-RunsEmitted how l p args limits words stats told s t =
-    (RefusesArgs how p args × (told ≡ []) × (t ≡ s)) ⊎ ((values : List Value) × AreOnlyValues p args values × RunsList how l p limits values words stats told s t)
-
--- what running an accepted program answers
+-- what running an accepted program with the values that words spell answers
 abbrev pub RunsProgram : Status → PassList → Prog → List (List ℕ) → Limits → ℕ → Bool → List ℕ → SinkSeen → SinkSeen → Type 0
 RunsProgram how l p args limits words stats told s t =
-    ((is_emittable p ≡ false) × (how ≡ status.Unsupported) × (told ≡ []) × (t ≡ s)) ⊎ ((is_emittable p ≡ true) × RunsEmitted how l p args limits words stats told s t)
+    (RefusesArgs how p args × (told ≡ []) × (t ≡ s)) ⊎ ((values : List Value) × AreOnlyValues p args values × RunsList how l p limits values words stats told s t)
 
 -- what running it under limits of so many frames and cells answers
 abbrev pub RunsWithin : Status → PassList → Prog → List (List ℕ) → ℕ → ℕ → ℕ → Bool → List ℕ → SinkSeen → SinkSeen → Type 0
@@ -113,13 +102,11 @@ RunsWithin how l p args frames cells words stats told s t =
 
 -- ---- when `run` answers what
 
--- the file that is read and the words of the command line have this program, these values and these limits, and the program can
--- be run
+-- the file that is read and the words of the command line have this program, which is accepted, these values and these limits
 pub record CanRun (c : Call) (frames cells words : ℕ) (stats : Bool) (bytes : List ℕ) (reads : ReadsWell c (Run frames cells words stats) bytes) (program : Prog) (values : List Value) (limits : Limits) : Type 0 where
   pub short : length bytes ≤ most_bytes
   pub source : IsSource (format_of reads.path) bytes program
   pub accepted : IsAccepted program
-  pub emittable : is_emittable program ≡ true
   pub spelled : AreSpelled (main_types program) reads.args values
   pub frames_are : limits.frames ≡ frames
   pub cells_are : limits.cells ≡ cells
@@ -138,11 +125,11 @@ pub record IsRun (number : ℕ) (c : Call) (source made : Prog) (factor : ℕ) (
       (ended ≡ Some end) × (ran.output ≡ (state_after source limits values n).printed)
   pub plain : stats ≡ false → told ≡ []
 
--- An accepted program that can be made into machine words, with arguments that are spelled, is given to the list of passes. What this
--- makes is told where it can't be made into machine words yet, or is too large; and else it is executed for the words.
+-- An accepted program with arguments that are spelled is given to the list of passes. What this makes is told where it is too large;
+-- and else it is executed for the words.
 abbrev pub RunsWhere : ℕ → Call → Type 0
 RunsWhere number c =
     (frames cells words : ℕ) (stats : Bool) (bytes : List ℕ) (reads : ReadsWell c (Run frames cells words stats) bytes) (program : Prog) (values : List Value) (limits : Limits) →
     CanRun c frames cells words stats bytes reads program values limits →
-    UnlessMemory number (AfterPasses number c program (λ q made. EmitsAfter number c reads.path q limits
+    UnlessMemory number (AfterPasses number c program (λ q made. EmitsAfter number q limits
         (¬ Rose c.out_before.faults c.out_after.faults → IsRun number c program q (factor_of c.passes program q made) limits values words stats)))

@@ -1,9 +1,8 @@
 // `emit`: the machine words of an accepted program are written.
 
 ghost use Rattle.std.specs.Prelude.{◌≡◌, ◌%◌, ◌<◌, ◌≤◌, length};
-ghost use Rattle.bril_cli.specs.Images.{IfEmittable};
 ghost use Rattle.bril_cli.specs.PassList.{pass_list};
-ghost use Rattle.bril_cli.specs.commands.Emit.{hex_digit, word_line, listing, PutsListing, EmitsImage, EmitsProgram};
+ghost use Rattle.bril_cli.specs.commands.Emit.{hex_digit, word_line, listing, PutsListing, EmitsProgram};
 ghost use Rattle.bril_report.specs.StageFaults.{status_of};
 
 use crate::image::image_of;
@@ -15,15 +14,13 @@ use bril_tree::limits::Limits;
 use bril_tree::sequence::Seq;
 use bril_tree::text::Text;
 use pass_law::Pass;
-use rv64_implements::is_emittable;
 use std::alloc::Global;
 
 /// Gives the program to a list of passes, and puts the words of the image of what this makes, under the limits, on the output, each in
 /// eight hexadecimal digits and LF by one put.
 ///
-/// `Unsupported`: the program, or what the passes make of it, can't be made into machine words yet. `UnknownPass`, `PassTooLarge`: the
-/// list makes no program. `CodeTooBig`, `StackTooBig`: what it makes may have more than 250,000 words, or needs more than 8,388,608
-/// words of stack. With these, and out of memory, nothing is put. `CannotWrite`: a write failed.
+/// `UnknownPass`, `PassTooLarge`: the list makes no program. `CodeTooBig`, `StackTooBig`: what it makes may have more than 250,000
+/// words, or needs more than 8,388,608 words of stack. With these, and out of memory, nothing is put. `CannotWrite`: a write failed.
 pub fn put_image<O: Sink>(
     alloc: Global,
     checked: Checked,
@@ -35,26 +32,8 @@ pub fn put_image<O: Sink>(
     requires { length names.now ≤ 64 }
     ensures { EmitsProgram (status_of result) (pass_list (λ p. meaning p) (λ p. counts p) passes.old passes.new names.now) checked.prog limits (O.seen out.old) (O.seen out.new) }
 {
-    if !is_emittable(checked.prog()) {
-        return Err(Status::Unsupported);
-    }
     let made = transformed(alloc, passes, names, checked)?;
-    put_made(alloc, &made, limits, out)
-}
-
-// Puts the words of the image of the program that a list of passes made.
-fn put_made<O: Sink>(
-    alloc: Global,
-    checked: &Checked,
-    limits: Limits,
-    out: &mut O,
-) -> Result<(), Status>
-    ensures { IfEmittable (status_of result) checked.now.prog ((O.seen out.new) ≡ (O.seen out.old)) (EmitsImage (status_of result) checked.now.prog limits (O.seen out.old) (O.seen out.new)) }
-{
-    if !is_emittable(checked.prog()) {
-        return Err(Status::Unsupported);
-    }
-    let image = image_of(alloc, checked, limits)?;
+    let image = image_of(alloc, &made, limits)?;
     put_words(image.words.as_slice(), out)
 }
 

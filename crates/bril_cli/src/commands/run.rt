@@ -1,13 +1,11 @@
 // `run`: an accepted program is made into machine words, which the machine executes.
 
 ghost use Rattle.std.specs.Prelude.{◌≡◌, ◌≤◌, false, length};
-ghost use Rattle.bril_cli.specs.Images.{IfEmittable};
 ghost use Rattle.bril_cli.specs.PassList.{pass_list};
 ghost use Rattle.bril_cli.specs.Stats.{Telling};
-ghost use Rattle.bril_cli.specs.commands.Run.{IsSilent, RunsImage, RunsValues, RunsProgram};
+ghost use Rattle.bril_cli.specs.commands.Run.{RunsImage, RunsValues, RunsProgram};
 ghost use Rattle.bril_report.specs.StageFaults.{status_of};
 ghost use Rattle.bril_tree.specs.Run.{FitMain};
-ghost use Rattle.rv64_implements.specs.Emittable.{IsEmittable};
 ghost use Rattle.rv64_implements.specs.Implements.{Implements};
 
 use crate::arguments::values_of;
@@ -23,7 +21,6 @@ use bril_tree::sequence::Seq;
 use bril_tree::text::Text;
 use bril_tree::value::Value;
 use pass_law::Pass;
-use rv64_implements::is_emittable;
 use rv64_machine::answer::RunAnswer;
 use rv64_machine::machine::Machine;
 use rv64_words::image::Image;
@@ -41,11 +38,10 @@ pub struct RunSettings {
 /// values that the words of the command line spell as the arguments of its `main`: what it prints goes to `out`. After the run its
 /// counts are told on `err`, where that is asked for; `silenced` becomes true where a put of them failed.
 ///
-/// `Unsupported`: the program, or what the passes make of it, can't be made into machine words yet. `ArgumentCount`, `BadArgument`: the
-/// words of the command line spell no such values. `UnknownPass`, `PassTooLarge`: the list makes no program. `CodeTooBig`,
-/// `StackTooBig`: what it makes may have more than 250,000 words, or needs more than 8,388,608 words of stack. With these, and out of
-/// memory, nothing is put. `Faulted`, `Spent`: the program stopped with a fault, or the machine goes on after so many words.
-/// `CannotWrite`: a write failed, and nothing is told.
+/// `ArgumentCount`, `BadArgument`: the words of the command line spell no such values. `UnknownPass`, `PassTooLarge`: the list makes no
+/// program. `CodeTooBig`, `StackTooBig`: what it makes may have more than 250,000 words, or needs more than 8,388,608 words of stack.
+/// With these, and out of memory, nothing is put. `Faulted`, `Spent`: the program stopped with a fault, or the machine goes on after so
+/// many words. `CannotWrite`: a write failed, and nothing is told.
 pub fn run<O: Sink, E: Sink>(
     alloc: Global,
     checked: Checked,
@@ -61,33 +57,17 @@ pub fn run<O: Sink, E: Sink>(
     requires sound { silenced.old ≡ false }
     ensures { Telling (λ told. RunsProgram (status_of result) (pass_list (λ p. meaning p) (λ p. counts p) passes.old passes.new names.now) checked.prog words.now settings.limits settings.steps settings.stats told (O.seen out.old) (O.seen out.new)) silenced.new (E.seen err.old) (E.seen err.new) }
 {
-    let program = checked.prog();
-    if !is_emittable(program) {
-        return Err(Status::Unsupported);
-    }
-    let values = values_of(alloc, program, words)?;
+    let values = values_of(alloc, checked.prog(), words)?;
     let made = transformed(alloc, passes, names, checked)?;
-    run_made(alloc, &made, values.as_slice(), settings, out, err, silenced)
-}
-
-// Runs the program that a list of passes made, with these values.
-fn run_made<O: Sink, E: Sink>(
-    alloc: Global,
-    checked: &Checked,
-    values: &[Value],
-    settings: RunSettings,
-    out: &mut O,
-    err: &mut E,
-    silenced: &mut bool,
-) -> Result<(), Status>
-    requires fits { FitMain checked.now.prog values.now }
-    requires sound { silenced.old ≡ false }
-    ensures { Telling (λ told. IfEmittable (status_of result) checked.now.prog (IsSilent told (O.seen out.old) (O.seen out.new)) (RunsValues (status_of result) checked.now.prog settings.limits values.now settings.steps settings.stats told (O.seen out.old) (O.seen out.new))) silenced.new (E.seen err.old) (E.seen err.new) }
-{
-    if !is_emittable(checked.prog()) {
-        return Err(Status::Unsupported);
-    }
-    run_with(alloc, checked, values, settings, out, err, silenced)
+    run_with(
+        alloc,
+        &made,
+        values.as_slice(),
+        settings,
+        out,
+        err,
+        silenced,
+    )
 }
 
 // Makes the program's image and runs it with these values.
@@ -100,7 +80,6 @@ fn run_with<O: Sink, E: Sink>(
     err: &mut E,
     silenced: &mut bool,
 ) -> Result<(), Status>
-    requires emittable { IsEmittable checked.now.prog }
     requires fits { FitMain checked.now.prog values.now }
     requires sound { silenced.old ≡ false }
     ensures { Telling (λ told. RunsValues (status_of result) checked.now.prog settings.limits values.now settings.steps settings.stats told (O.seen out.old) (O.seen out.new)) silenced.new (E.seen err.old) (E.seen err.new) }

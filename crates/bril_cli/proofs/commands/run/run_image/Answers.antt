@@ -1,9 +1,6 @@
 -- A run of the image ends as the program does, or goes on, and is told; or a write fails.
-use Rattle.std.proofs.Common.{refl, sym, subst, Some, None, List, [], ◌≡◌}
-use Rattle.bril_outside.specs.Sink.{SinkSeen}
+use Rattle.std.proofs.Common.{refl, Some, None, []}
 use Rattle.bril_tree.specs.declared.limits.End.TheVariants.{Ended, Faulted}
-use Rattle.rv64_machine.specs.MachineView.{state_of}
-use Rattle.rv64_words.specs.declared.image.GuardAt.{GuardAt}
 use Rattle.bril_cli.proofs.Runs.{IsFresh, whole, partly, no_trap}
 use Rattle.bril_cli.proofs.Telling.{untold}
 use Rattle.bril_cli.proofs.commands.run.run_image.Given.{Over}
