@@ -1,6 +1,7 @@
 pub mod Causes
 pub mod Compiling
 pub mod Interpreting
+pub mod Keeping
 pub mod Listings
 pub mod Outcomes
 pub mod Promises
