@@ -2,7 +2,5 @@
 #![tactic(auto)]
 
 mod profile;
-#[cfg(test)]
-mod tests;
 
 pub use profile::{Entry, Profile};

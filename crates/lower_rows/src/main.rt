@@ -10,7 +10,7 @@
 //     graph SOURCE           of the first function's flow graph the edges, from, leaving and to; and of each point the open
 //                            sites, the newest first, and where the edges to it come from
 //     steps SOURCE           the words of each function's frame; each step of the run of `main`: the answer, where the run then
-//                            stands, and what the first variable holds; the guards of the first function that failed, and how
+//                            is, and what the first variable holds; the guards of the first function that failed, and how
 //                            often; and the output
 //     count PIECE PIECE ..   how many bytes a sink that counts took, after each piece
 //     decode BITS            the machine word of eight hexadecimal digits

@@ -2,16 +2,14 @@
 use Rattle.std.specs.List.{AllZip, sum_by}
 use Rattle.std.proofs.lemmas.List.Elements.{All-head, All-tail}
 use Rattle.std.proofs.lemmas.List.Sums.{sum_by-cons}
-use Rattle.bril_tree.specs.Size.{item_count, IsCounted}
+use Rattle.bril_tree.specs.Size.{IsCounted}
 use Rattle.bril_names.specs.Faults.{HasFault, function_names, IsSoundEdit}
 use Rattle.bril_names.specs.declared.fault.NameFault.{NameFault}
-use Rattle.bril_tree.specs.Numbered.{tree_of, tree_size, Numbered, function_tree, item_tree, variable_names}
-use Rattle.pass_names.proofs.Trees.{numbered-tree_of, edited-faultless}
+use Rattle.bril_tree.specs.Numbered.{tree_of, Numbered, function_tree}
+use Rattle.pass_names.proofs.Trees.{edited-faultless}
 use Rattle.pass_make.specs.CanBeMade.{CanBeMade}
-use Rattle.pass_make.proofs.Making.{size-tree_of}
-use Rattle.std.proofs.Common.{◌≡◌, ℕ, suc, ◌*◌, ◌<◌, ◌≤◌, List, [], ◌∷◌, length, map, get_or, All, refl, sym, ap, ◌∙◌, subst, arith}
-use Rattle.std.proofs.lemmas.List.{length-map, get_or-map}
-use Rattle.bril_tree.specs.declared.function_tree.FuncTree.{FuncTree}
+use Rattle.std.proofs.Common.{◌≡◌, suc, ◌*◌, ◌<◌, ◌≤◌, List, [], ◌∷◌, length, map, All, refl, ap, ◌∙◌, arith}
+use Rattle.std.proofs.lemmas.List.{length-map}
 use Rattle.bril_tree.specs.declared.numbered_function.Func.{Func}
 use Rattle.bril_tree.specs.declared.program.Prog.{Prog}
 use Rattle.bril_tree.specs.declared.tree.Tree.{Tree}

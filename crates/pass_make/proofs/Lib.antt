@@ -1,3 +1,4 @@
 pub mod Making
 pub mod Each
+pub mod Functions
 pub mod Bounds

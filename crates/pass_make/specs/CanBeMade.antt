@@ -1,12 +1,6 @@
 -- What a pass proves of the tree that it made, so that it becomes a checked program.
-use Rattle.std.specs.Prelude.{◌≡◌, ℕ, ◌<◌, List, [], length, All, Option, Some, None}
-use Rattle.std.specs.List.{AllZip, sum_by}
-use Rattle.bril_tree.specs.declared.function_tree.FuncTree.{FuncTree}
-use Rattle.bril_tree.specs.declared.function_tree.Item.{Item}
-use Rattle.bril_tree.specs.declared.function_tree.Item.TheVariants as item
-use Rattle.bril_tree.specs.declared.numbered.Instr.{Instr}
-use Rattle.bril_tree.specs.declared.numbered.Instr.TheVariants.{Act}
-use Rattle.bril_tree.specs.declared.operation.Op.TheVariants as op
+use Rattle.std.specs.Prelude.{◌≡◌, ◌<◌, [], length, All}
+use Rattle.std.specs.List.{AllZip}
 use Rattle.bril_tree.specs.declared.program.Prog.{Prog}
 use Rattle.bril_tree.specs.declared.tree.Tree.{Tree}
 use Rattle.bril_tree.specs.Accepted.{IsAccepted}

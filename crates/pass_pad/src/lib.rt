@@ -11,7 +11,5 @@
 
 mod edit;
 mod pad;
-#[cfg(test)]
-mod tests;
 
 pub use pad::Pad;

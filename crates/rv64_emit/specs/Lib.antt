@@ -1,1 +1,3 @@
+pub mod Bounds
 pub mod Refusal
+pub mod Tables

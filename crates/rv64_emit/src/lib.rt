@@ -1,15 +1,35 @@
 //! Makes the machine words of an accepted program.
+//!
+//! The program becomes code over slots. A first pass over it tells where functions and items begin, a second one appends
+//! their words; both take time in proportion to the words. `rv64_layout` says which words an item has and where they are,
+//! `emitted_code` that an image laid out so does what the program does.
 #![tactic(auto)]
 
-ghost use Rattle.std.specs.Prelude.{◌≤◌, length, IfOk, IfErr};
+ghost use Rattle.std.specs.Prelude.{◌≡◌, ◌≤◌, length, IfOk, IfErr};
+ghost use Rattle.rv64_emit.specs.declared.EmitFault.TheVariants.{Memory};
 ghost use Rattle.rv64_emit.specs.Refusal.{EmitRefuses};
 ghost use Rattle.rv64_implements.specs.Implements.{Implements};
 ghost use Rattle.rv64_implements.specs.WordBounds.{most_words, IsStackSize, IsWithin};
 
+mod assembly;
+mod bounds;
+mod frame;
+mod image;
+mod item;
+mod items;
+mod operations;
+mod places;
+mod sequences;
+mod sizes;
+
+use crate::bounds::{is_told, stack_within};
+use crate::image::image_of;
 use bril_checker::Checked;
 use bril_tree::limits::Limits;
+use bril_tree::literals::literals_are_in_range;
 use rv64_words::image::Image;
-use std::alloc::Global;
+use slot_code::lower;
+use std::alloc::{AllocError, Global};
 use thiserror::Error;
 
 /// Why no image is made of a program.
@@ -26,9 +46,21 @@ pub enum EmitFault {
     Memory,
 }
 
-/// The image of an accepted program under these limits: it does what the program does.
+impl From<AllocError> for EmitFault {
+    ghost from_gives = { λ _ e. e ≡ Memory };
+
+    fn from(_fault: AllocError) -> EmitFault {
+        EmitFault::Memory
+    }
+}
+
+/// The image of an accepted program for runs under these limits: it does what the program does, on the machine of
+/// `rv64_words`. It has at most 250,000 words, and its stack has the words of the largest frame, `limits.frames` times.
 ///
-/// `CodeTooBig`, `StackTooBig`: exactly where the bounds are passed, the code first.
+/// `CodeTooBig` comes exactly where the sum of the word bounds passes 250,000: 32, 40 for each function, and each item's.
+/// `StackTooBig` comes exactly where the code fits and the stack would pass 8,388,608 words. Where no bound depends on the
+/// number of a function's locations, as in programs without speculation, both are told before any memory is taken.
+/// `Memory` comes where memory ran out.
 pub fn emit(alloc: Global, prog: &Checked, limits: Limits) -> Result<Image, EmitFault>
     ensures implements { IfOk result (λ image. Implements image prog.now.prog limits) }
     ensures words { IfOk result (λ image. length image.words ≤ most_words) }
@@ -36,5 +68,11 @@ pub fn emit(alloc: Global, prog: &Checked, limits: Limits) -> Result<Image, Emit
     ensures within { IfOk result (λ _. IsWithin prog.now.prog limits) }
     ensures fault { IfErr result (EmitRefuses prog.now.prog limits) }
 {
-    Err(EmitFault::Memory)
+    literals_are_in_range(prog.prog());
+    if is_told(prog.prog()) {
+        stack_within(prog, &[], limits)?;
+    }
+    let slots = lower(alloc, prog)?;
+    let stack = stack_within(prog, slots.funcs.as_slice(), limits)?;
+    Ok(image_of(alloc, &slots, limits, stack)?)
 }

@@ -1,4 +1,4 @@
--- What a run and a step answer follows from how the machine is stopped behind them, unless a write failed.
+-- What a run and a step answer follows from how the machine is stopped after them, unless a write failed.
 use Rattle.std.proofs.Common.{◌≡◌, ◌⊎◌, ℕ, Option, Some, None, ap, sym, inl, inr, refl}
 use Rattle.bril_outside.specs.Sink.{SinkSeen}
 use Rattle.rv64_machine.specs.declared.answer.MachAnswer.{MachAnswer}
@@ -11,13 +11,13 @@ use Rattle.rv64_words.specs.Machine.{machine_step}
 use Rattle.rv64_words.specs.State.{State, Stop, Finished, Trapped}
 use Rattle.rv64_machine.specs.MachineView.{state_of, image_in, sizes_in}
 
--- the answer of a step behind which the machine is stopped so
+-- the answer of a step after which the machine is stopped so
 abbrev pub step_answer : Option Stop → MachAnswer
 step_answer None = step.Go
 step_answer (Some (Finished e)) = step.End e
 step_answer (Some (Trapped t)) = step.Trap t
 
--- the answer of a run behind which the machine is stopped so
+-- the answer of a run after which the machine is stopped so
 abbrev pub run_answer : Option Stop → RunAnswer
 run_answer None = run.Spent
 run_answer (Some (Finished e)) = run.End e

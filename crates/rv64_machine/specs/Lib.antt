@@ -1,2 +1,4 @@
 pub mod MachineView
+pub mod ProcessorView
+pub mod Resolved
 pub mod StepAnswers

@@ -6,3 +6,5 @@ mod environment;
 pub mod machine;
 mod memory;
 mod operation;
+mod processor;
+mod resolved;

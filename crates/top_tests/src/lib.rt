@@ -1,4 +1,5 @@
-// Tests of what no row of data can say: the adapters to the system's files and outputs, and laws at concrete types.
+// Tests of what no row of data can say: the adapters to the system's files and outputs, laws at concrete types, and lists
+// of passes.
 // What command lines and other calls give is shown by the programs `worked_rows` and `lower_rows`.
 #![tactic(auto)]
 
@@ -6,6 +7,8 @@
 mod adapters;
 #[cfg(test)]
 mod laws;
+#[cfg(test)]
+mod lists;
 #[cfg(test)]
 mod made_passes;
 #[cfg(test)]

@@ -1,145 +1,218 @@
-// Lists of passes on the top call, with passes that the program doesn't have.
+// Lists of passes, and each law of passes at a pass.
 
-use crate::made_passes::{Any, Bounded, Starved};
-use bril_cli::top::bril_top;
-use bril_outside::mem_files::MemFiles;
-use bril_outside::mem_sink::MemSink;
+ghost use Rattle.std.specs.Prelude.{[], codes};
+ghost use Rattle.pass_law.specs.Meaning.{is_name};
+ghost use Rattle.pass_law.specs.Tallies.{zero_tally};
+ghost use Rattle.pass_pad.specs.Pad.{pad_meaning};
+ghost use Rattle.pass_pad.specs.Plan.{padding, pad_plan};
+
+use bril_checker::{Checked, check};
+use bril_names::number;
+use bril_profile::Profile;
+use bril_text::read_text;
 use bril_tree::sequence::Seq;
 use bril_tree::text::Text;
-use pass_law::{Pass, Tally};
+use pass_accept::edit_accepted;
+use pass_law::{ListFault, Pass, PassFault, Tally, chains_refine, room, run_list};
+use pass_names::{PlannedByNames, Renamed, names_preserve, renaming_preserves};
 use pass_pad::Pad;
-use std::alloc::Global;
+use pass_plan::{Planned, Widened, widening_preserves};
+use pass_splice::items_are_spliced;
+use pass_steps::plan_refines;
+use pass_types::result_is_accepted;
+use pass_walks::walks_are_accepted;
+use std::alloc::{AllocError, Global};
 use std::test::Fail;
 
-// A program of two items.
-const ONE: &[u8] = b"@main { v: int = const 4; print v; }\n";
-
-// What a call ended with.
+// A pass of the plan of `pad`, which makes nothing: where its bound isn't too large it is out of memory.
 #[derive(Drop)]
-struct Ended {
-    status: u8,
-    out: MemSink,
-    err: MemSink,
+struct Lacking {
+    bound: u64,
 }
 
-// Calls the top call with these words after the program's name, and lends it the passes.
-fn call(alloc: Global, words: &[&str], passes: &mut [Box<dyn Pass>]) -> Result<Ended, Fail> {
-    let mut files = MemFiles::new(alloc, Seq::new(alloc));
-    files.add(&Text::of(alloc, "one.bril")?, ONE)?;
-    let mut given = Seq::new(alloc);
-    given.push(Text::of(alloc, "roolvist")?)?;
-    for word in words {
-        given.push(Text::of(alloc, word)?)?;
+impl Planned for Lacking {
+    ghost plan = { pad_plan };
+}
+
+impl Widened for Lacking {
+    ghost more = { λ P Q f i j a b. ⊥ };
+}
+
+impl PlannedByNames for Lacking {
+    ghost names = { padding };
+}
+
+impl Renamed for Lacking {
+    ghost renamed = { λ P Q f. [] };
+}
+
+impl Pass for Lacking {
+    ghost meaning = { λ pass. record pad_meaning { answers = is_name (codes "lacking"); bound = λ P profile. pass.bound } };
+
+    ghost counts = { λ _. zero_tally };
+
+    fn is_named(&self, name: &[u8]) -> bool {
+        name == b"lacking".as_slice()
     }
-    let mut out = MemSink::new(alloc, 4096, Seq::new(alloc))?;
-    let mut err = MemSink::new(alloc, 4096, Seq::new(alloc))?;
-    let status = bril_top(alloc, given.as_slice(), &mut files, &mut out, &mut err, passes);
-    Ok(Ended { status, out, err })
+
+    fn tally(&self) -> Tally {
+        Tally::zero()
+    }
+
+    fn run(
+        &mut self,
+        _alloc: Global,
+        prog: &Checked,
+        _profile: &Profile,
+    ) -> Result<Checked, PassFault> {
+        match room(prog.prog(), self.bound) {
+            Ok(()) => Err(PassFault::Memory),
+            Err(fault) => Err(fault),
+        }
+    }
 }
 
 #[test]
-fn each_pass_of_a_list_gets_what_the_one_before_it_made(rt: HostRuntime) -> Result<(), Fail> {
-    let first: Box<dyn Pass> = Box::new(rt.alloc(), Pad::new())?;
-    let second: Box<dyn Pass> = Box::new(rt.alloc(), Pad::new())?;
-    let mut passes = [first, second];
-    let words = ["passes", "one.bril", "--passes", "pad,pad"];
-    let ended = call(rt.alloc(), words.as_slice(), passes.as_mut_slice())?;
-    assert_eq!(rt; ended.status, 0);
-    assert_eq!(rt; ended.out.bytes(), b"@main {\n  nop;\n  nop;\n  v: int = const 4;\n  print v;\n}\n".as_slice());
-    // The first of two passes of one name is taken.
-    assert_eq!(rt; ended.err.bytes(), b"pad runs 2 seen 5 made 7\n".as_slice());
+fn each_law_is_called_at_a_pass() {
+    widening_preserves::<Lacking>();
+    names_preserve::<Lacking>();
+    renaming_preserves::<Lacking>();
+    plan_refines::<Lacking>();
+    walks_are_accepted::<Lacking>();
+    result_is_accepted();
+    edit_accepted::<Lacking>();
+    chains_refine::<Lacking>();
+    items_are_spliced::<u8>();
+}
+
+#[test]
+fn a_name_is_given_to_the_first_pass_that_answers_to_it(rt: HostRuntime) -> Result<(), Fail> {
+    let alloc = rt.alloc();
+    let mut passes = [boxed_pad(alloc)?, boxed_pad(alloc)?];
+    match run_names(alloc, passes.as_mut_slice(), &["pad", "pad"])? {
+        Ok(made) => assert_eq!(rt; items_of(&made), 2),
+        Err(_) => assert!(rt; false, "stopped"),
+    }
+    assert_eq!(rt; passes[0].tally(), tally(2, 1, 3));
     assert_eq!(rt; passes[1].tally(), Tally::zero());
     Ok(())
 }
 
 #[test]
-fn an_empty_name_of_a_list_is_that_of_no_pass(rt: HostRuntime) -> Result<(), Fail> {
-    let pad: Box<dyn Pass> = Box::new(rt.alloc(), Pad::new())?;
-    let mut passes = [pad];
-    let words = ["run", "one.bril", "--passes", "pad,,pad"];
-    let ended = call(rt.alloc(), words.as_slice(), passes.as_mut_slice())?;
-    assert_eq!(rt; ended.status, 70);
-    assert_eq!(rt; ended.err.bytes(), b"unknown pass 2\n".as_slice());
+fn a_name_without_a_pass_stops_the_list_before_it_begins(rt: HostRuntime) -> Result<(), Fail> {
+    let alloc = rt.alloc();
+    let mut passes = [boxed_pad(alloc)?];
+    match run_names(alloc, passes.as_mut_slice(), &["pad", ""])? {
+        Err(fault) => assert_eq!(rt; stop_of(fault), stop(2, 0, 0)),
+        Ok(_made) => assert!(rt; false, "ran"),
+    }
     assert_eq!(rt; passes[0].tally(), Tally::zero());
     Ok(())
 }
 
 #[test]
-fn an_empty_list_has_no_pass(rt: HostRuntime) -> Result<(), Fail> {
-    let pad: Box<dyn Pass> = Box::new(rt.alloc(), Pad::new())?;
-    let mut passes = [pad];
-    let words = ["passes", "one.bril", "--passes", ""];
-    let ended = call(rt.alloc(), words.as_slice(), passes.as_mut_slice())?;
-    assert_eq!(rt; ended.status, 0);
-    assert_eq!(rt; ended.out.bytes(), b"@main {\n  v: int = const 4;\n  print v;\n}\n".as_slice());
-    assert!(rt; ended.err.bytes().is_empty());
-    assert_eq!(rt; passes[0].tally(), Tally::zero());
+fn a_bound_that_is_too_large_stops_the_list_at_its_pass(rt: HostRuntime) -> Result<(), Fail> {
+    let alloc = rt.alloc();
+    let mut passes = [boxed_pad(alloc)?, boxed_lacking(alloc, 1_000_001)?];
+    match run_names(alloc, passes.as_mut_slice(), &["pad", "lacking", "pad"])? {
+        Err(fault) => assert_eq!(rt; stop_of(fault), stop(2, 1_000_001, 1)),
+        Ok(_made) => assert!(rt; false, "ran"),
+    }
+    assert_eq!(rt; passes[0].tally(), tally(1, 0, 1));
     Ok(())
 }
 
 #[test]
-fn a_pass_that_may_make_too_many_items_is_told_by_its_place_and_bound(
-    rt: HostRuntime,
-) -> Result<(), Fail> {
-    let pad: Box<dyn Pass> = Box::new(rt.alloc(), Pad::new())?;
-    let bounded: Box<dyn Pass> = Box::new(rt.alloc(), Bounded)?;
-    let mut passes = [pad, bounded];
-    let words = ["emit", "one.bril", "--passes", "pad,bounded,pad"];
-    let ended = call(rt.alloc(), words.as_slice(), passes.as_mut_slice())?;
-    assert_eq!(rt; ended.status, 68);
-    assert!(rt; ended.out.bytes().is_empty());
-    assert_eq!(rt; ended.err.bytes(), b"too large: pass 2 18446744073709551615\n".as_slice());
-    // The pass before it ran.
-    let ran = Tally {
-        runs: 1,
-        seen: 2,
-        made: 3,
-    };
-    assert_eq!(rt; passes[0].tally(), ran);
+fn a_pass_that_is_out_of_memory_stops_the_list(rt: HostRuntime) -> Result<(), Fail> {
+    let alloc = rt.alloc();
+    let mut passes = [boxed_pad(alloc)?, boxed_lacking(alloc, 1_000_000)?];
+    match run_names(alloc, passes.as_mut_slice(), &["pad", "lacking", "pad"])? {
+        Err(fault) => assert_eq!(rt; stop_of(fault), stop(0, 0, 0)),
+        Ok(_made) => assert!(rt; false, "ran"),
+    }
+    assert_eq!(rt; passes[0].tally(), tally(1, 0, 1));
     Ok(())
 }
 
-#[test]
-fn a_pass_that_gets_no_memory_ends_the_call(rt: HostRuntime) -> Result<(), Fail> {
-    let starved: Box<dyn Pass> = Box::new(rt.alloc(), Starved)?;
-    let mut passes = [starved];
-    let words = ["passes", "one.bril", "--passes", "starved"];
-    let ended = call(rt.alloc(), words.as_slice(), passes.as_mut_slice())?;
-    assert_eq!(rt; ended.status, 71);
-    assert_eq!(rt; ended.err.bytes(), b"out of memory\n".as_slice());
-    Ok(())
+// What the list of passes answers for the names, on a `main` without items.
+fn run_names(
+    alloc: Global,
+    passes: &mut [Box<dyn Pass>],
+    names: &[&str],
+) -> Result<Result<Checked, ListFault>, AllocError> {
+    let mut list = Seq::new(alloc);
+    for name in names {
+        list.push(Text::of(alloc, name)?)?;
+    }
+    if list.as_slice().len() > 3 {
+        return Err(AllocError);
+    }
+    let profile = Profile::without_entries(alloc);
+    let prog = program_of(alloc, b"@main { }").ok_or(AllocError)?;
+    Ok(run_list(alloc, passes, &list, prog, &profile))
 }
 
-#[test]
-fn a_pass_that_answers_to_every_name_is_told_by_the_first_of_the_list(
-    rt: HostRuntime,
-) -> Result<(), Fail> {
-    let any: Box<dyn Pass> = Box::new(rt.alloc(), Any::new())?;
-    let mut passes = [any];
-    let words = ["passes", "one.bril", "--passes", "x,,y"];
-    let ended = call(rt.alloc(), words.as_slice(), passes.as_mut_slice())?;
-    assert_eq!(rt; ended.status, 0);
-    assert_eq!(rt; ended.err.bytes(), b"x runs 3 seen 9 made 12\n".as_slice());
-    Ok(())
+// The pass `pad`, in a box.
+fn boxed_pad(alloc: Global) -> Result<Box<dyn Pass>, AllocError> {
+    let pad: Box<dyn Pass> = Box::new(alloc, Pad::new())?;
+    Ok(pad)
 }
 
-#[test]
-fn tallies_go_on_from_call_to_call(rt: HostRuntime) -> Result<(), Fail> {
-    let pad: Box<dyn Pass> = Box::new(rt.alloc(), Pad::new())?;
-    let mut passes = [pad];
-    let words = ["passes", "one.bril", "--passes", "pad"];
-    let first = call(rt.alloc(), words.as_slice(), passes.as_mut_slice())?;
-    assert_eq!(rt; first.err.bytes(), b"pad runs 1 seen 2 made 3\n".as_slice());
-    let second = call(rt.alloc(), words.as_slice(), passes.as_mut_slice())?;
-    assert_eq!(rt; second.err.bytes(), b"pad runs 2 seen 4 made 6\n".as_slice());
-    // A command that takes no list leaves them.
-    let checked = call(rt.alloc(), ["check", "one.bril"].as_slice(), passes.as_mut_slice())?;
-    assert_eq!(rt; checked.status, 0);
-    let ran = Tally {
-        runs: 2,
-        seen: 4,
-        made: 6,
-    };
-    assert_eq!(rt; passes[0].tally(), ran);
-    Ok(())
+// A pass that makes nothing, in a box.
+fn boxed_lacking(alloc: Global, bound: u64) -> Result<Box<dyn Pass>, AllocError> {
+    let lacking: Box<dyn Pass> = Box::new(alloc, Lacking { bound })?;
+    Ok(lacking)
+}
+
+// How a list of passes stopped: the place of the name, the bound, and the items of the program that was handed back; all 0
+// where it was out of memory.
+#[derive(Clone, Copy, PartialEq, Eq, Debug, Drop)]
+struct Stopped {
+    place: u32,
+    bound: u64,
+    items: usize,
+}
+
+fn stop_of(fault: ListFault) -> Stopped {
+    match fault {
+        ListFault::Unknown { place, prog } => stop(place, 0, items_of(&prog)),
+        ListFault::TooLarge { place, bound, prog } => stop(place, bound, items_of(&prog)),
+        ListFault::Memory => stop(0, 0, 0),
+    }
+}
+
+fn stop(place: u32, bound: u64, items: usize) -> Stopped {
+    Stopped {
+        place,
+        bound,
+        items,
+    }
+}
+
+fn tally(runs: u64, seen: u64, made: u64) -> Tally {
+    Tally { runs, seen, made }
+}
+
+// The number of items of `main`, which is the only function.
+fn items_of(prog: &Checked) -> usize {
+    match prog.prog().funcs.as_slice() {
+        [main] => main.code.as_slice().len(),
+        _ => 0,
+    }
+}
+
+// The accepted program of a source without imports.
+fn program_of(alloc: Global, source: &[u8]) -> Option<Checked> {
+    if source.len() > 16_777_216 {
+        return None;
+    }
+    let tree = read_text(alloc, source).ok()?;
+    if !tree.imports.as_slice().is_empty() {
+        return None;
+    }
+    let prog = number(alloc, &tree).ok()?;
+    if !prog.is_counted() {
+        return None;
+    }
+    check(alloc, prog).ok()
 }

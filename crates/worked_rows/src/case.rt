@@ -76,6 +76,10 @@ impl Case {
                 add_line(line, shown)?;
                 self.run(rest, shown)
             }
+            "cuts" => {
+                add_line(line, shown)?;
+                self.run_cut(rest, shown)
+            }
             "#" | "" => Ok(()),
             _ => Err(LineFault::Form),
         }
@@ -122,6 +126,30 @@ impl Case {
         Ok(())
     }
 
+    // Runs a command line for each length of the file that is being written but its own, with so many of its bytes, and
+    // appends what they leave: once for lengths in a row that leave the same, after a line with the first and the last.
+    fn run_cut(&mut self, line: &str, shown: &mut Vec<u8>) -> Result<(), LineFault> {
+        let alloc = self.alloc;
+        let path = self.path.take().ok_or(LineFault::Form)?;
+        let content = mem::replace(&mut self.content, Vec::new(alloc));
+        let mut answer = Vec::new(alloc);
+        let mut first = 0;
+        for (length, _) in content.iter().enumerate() {
+            self.files.add(&path, content.get(..length).unwrap_or(&[]))?;
+            let mut next = Vec::new(alloc);
+            self.run(line, &mut next)?;
+            hide_length(alloc, length, &mut next)?;
+            if next != answer {
+                add_answer(alloc, first, length, &answer, shown)?;
+                first = length;
+                answer = next;
+            }
+        }
+        add_answer(alloc, first, content.len(), &answer, shown)?;
+        self.files.add(&path, content.as_slice())?;
+        Ok(())
+    }
+
     // Runs a command line, and appends what it leaves.
     fn run(&mut self, line: &str, shown: &mut Vec<u8>) -> Result<(), LineFault> {
         let alloc = self.alloc;
@@ -146,6 +174,33 @@ impl Case {
         add_lines(alloc, "err ", err.bytes(), shown)?;
         Ok(())
     }
+}
+
+// Where what a command line leaves ends with the length, a blank before it, writes `#` in its stead.
+fn hide_length(alloc: Global, length: usize, answer: &mut Vec<u8>) -> Result<(), AllocError> {
+    let end = format!(in alloc; " {length}\n")?;
+    if answer.ends_with(end.as_bytes()) {
+        answer.truncate(answer.len() - end.len());
+        answer.extend_from_slice(b" #\n")?;
+    }
+    Ok(())
+}
+
+// Appends what the command line left for the lengths from the first on and below the end, where there are some.
+fn add_answer(
+    alloc: Global,
+    first: usize,
+    end: usize,
+    answer: &[u8],
+    shown: &mut Vec<u8>,
+) -> Result<(), AllocError> {
+    if first < end {
+        let last = end - 1;
+        let lengths = format!(in alloc; "bytes {first} to {last}")?;
+        add_line(lengths.as_str(), shown)?;
+        shown.extend_from_slice(answer)?;
+    }
+    Ok(())
 }
 
 // Appends the line and LF.

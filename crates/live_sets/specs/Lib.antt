@@ -1,0 +1,5 @@
+pub mod Among
+pub mod Arcs
+pub mod Reads
+pub mod Points
+pub mod Liveness

@@ -1,0 +1,9 @@
+-- Sets of points, as they are kept.
+use Rattle.std.specs.Prelude.{ℕ, Bool, false, slice_index_or}
+use Rattle.live_sets.specs.Among.{is_among}
+use Rattle.live_sets.specs.declared.points.Points.{Points}
+use Rattle.live_sets.specs.declared.points.Points.TheVariants.{Marks, Sorted}
+
+abbrev pub has_point : Points → ℕ → Bool
+has_point (Marks marks) point = slice_index_or marks.items point false
+has_point (Sorted sorted) point = is_among point sorted.points.items

@@ -1,0 +1,22 @@
+//! Liveness: which variables and shadows are live at each point of a function, exactly.
+//!
+//! A location is live at a point where a path leads from there to an item that reads it, past no item that assigns it.
+//! The search of `graph_search` goes back from the items that read a location, over arcs that go from a point to where a
+//! branch to it leaves: an abort leaves from the `speculate` whose speculation it ends, every other branch from its own
+//! item.
+#![tactic(auto)]
+
+mod accesses;
+mod arcs;
+mod flow;
+mod live;
+mod location;
+mod points;
+mod reads;
+mod sorted;
+
+pub use accesses::{Access, AccessLists};
+pub use flow::Flow;
+pub use live::Live;
+pub use location::assigned_number;
+pub use reads::item_reads;

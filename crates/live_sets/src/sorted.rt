@@ -1,0 +1,36 @@
+// Points in rising order.
+
+ghost use Rattle.std.specs.Prelude.{◌≡◌, ◌↔◌, ℕ, IsTrue, IfOk};
+ghost use Rattle.std.specs.List.{Contains};
+ghost use Rattle.std.specs.List.Sorted.{IsNonDecreasing};
+ghost use Rattle.live_sets.specs.Among.{is_among};
+
+use std::alloc::{AllocError, Global};
+
+// Points in rising order.
+#[derive(Drop)]
+pub(crate) struct SortedPoints {
+    pub points: Vec<u32>,
+    ghost rising: { IsNonDecreasing points.items },
+}
+
+impl SortedPoints {
+    // These points in order.
+    pub fn of(alloc: Global, found: &[u32]) -> Result<SortedPoints, AllocError>
+        ensures { IfOk result (λ sorted. (point : ℕ) → IsTrue (is_among point sorted.points.items) ↔ Contains found.now point) }
+    {
+        let mut points = Vec::new(alloc);
+        for point in found {
+            points.push(*point)?;
+        }
+        points.sort_unstable();
+        Ok(SortedPoints { points })
+    }
+
+    // Whether it is one of the points. Takes no memory.
+    pub fn contains(&self, point: u32) -> bool
+        ensures { result ≡ is_among point self.now.points.items }
+    {
+        self.points.as_slice().binary_search(&point).is_ok()
+    }
+}

@@ -1,0 +1,46 @@
+-- An accepted program within the bounds has an image.
+use Rattle.std.proofs.Common.{◌≡◌, ℕ, ◌-◌, ◌*◌, ◌^◌, ◌<◌, ◌≤◌, length, sym, ap, ◌∙◌, arith, length-append}
+use Rattle.std.proofs.lemmas.List.{length-map}
+use Rattle.bril_tree.specs.declared.limits.Limits.{Limits}
+use Rattle.bril_tree.specs.declared.program.Prog.{Prog}
+use Rattle.bril_tree.specs.Accepted.{IsAccepted}
+use Rattle.bril_tree.specs.Literals.{AreLiteralsInRange}
+use Rattle.bril_tree.specs.Size.{IsCounted}
+use Rattle.bril_tree.proofs.Elements.{All-at, zip-long}
+use Rattle.rv64_implements.specs.WordBounds.{IsStackSize, IsWithin}
+use Rattle.rv64_words.specs.declared.image.Image.{Image}
+use Rattle.rv64_words.specs.Encoding.{encoded}
+use Rattle.slot_code.specs.declared.slots.Slots.{Slots}
+use Rattle.slot_code.specs.Lowered.{IsLowered, IsLoweredFunction, lowered_item}
+use Rattle.rv64_layout.specs.Image.{joined, start_at, head_words, function_words_at, image_words, largest_frame, IsImageOf}
+use Rattle.rv64_layout.proofs.Bounding.{image_bounded, function_made}
+use Rattle.rv64_layout.proofs.Fitting.{item_fits, largest_is}
+use Rattle.rv64_layout.proofs.Laid.{functions_length}
+use Rattle.rv64_emit.specs.Tables.{SlotsFit}
+
+module _ (p : Prog) (slots : Slots) (limits : Limits) (accepted : IsAccepted p) (literals : AreLiteralsInRange p) (is : IsLowered p slots) (within : IsWithin p limits) where
+  few : start_at slots (length slots.funcs) ≤ 250000
+  few = let code = within.code in let bounded = image_bounded p slots is in omega arith
+
+  pub slots_fit : IsCounted p → SlotsFit slots
+  slots_fit counted = record {
+    functions = let few_functions = counted.functions in let lengths = zip-long IsLoweredFunction p.funcs slots.funcs is.funcs in omega arith;
+    points = λ f g at. (
+        let made = function_made p slots is f g at in
+        let same : length g.code ≡ length made.0.code = ap length made.2.code ∙ length-map made.0.code (lowered_item made.0) in
+        let few_items = All-at (λ h. length h.code < 2 ^ 32 - 1) p.funcs f made.0 counted.items made.1 in
+        omega arith);
+    items = item_fits p slots limits accepted literals is within;
+    few = few;
+  }
+
+  -- the image has few words
+  pub words_few : (image : Image) → IsImageOf slots limits image → length image.words ≤ 250000
+  words_few image laid =
+      let head = head_words limits (start_at slots slots.main) in
+      let functions = joined (function_words_at slots) (length slots.funcs) in
+      omega (arith, few, ap length laid.words, length-map (image_words slots limits) encoded, length-append head functions, functions_length slots (length slots.funcs))
+
+  -- the stack has the words of the largest frame, once for each frame
+  pub stack_is : (stack : ℕ) → IsStackSize p limits stack → stack ≡ limits.frames * largest_frame slots
+  stack_is stack size = size.is ∙ ap (λ n. limits.frames * n) (sym (largest_is p slots limits accepted literals is within size.frame size.largest))

@@ -1,0 +1,7 @@
+use Rattle.std.proofs.Common.{◌≡◌, map}
+use Rattle.std.specs.List.{range_with_len}
+use Rattle.rv64_layout.specs.Image.{entry_at}
+use Rattle.rv64_emit.proofs.places.entry_table.Given as goal
+
+abbrev pub invariant-loop-point : goal.invariant-loop-point
+invariant-loop-point l = (l.entries ≡ map (entry_at l.slots l.number) (range_with_len 0 l.point)) × (l.at ≡ entry_at l.slots l.number l.point)

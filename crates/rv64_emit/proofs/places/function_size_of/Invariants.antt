@@ -1,0 +1,6 @@
+use Rattle.std.proofs.Common.{◌≡◌}
+use Rattle.rv64_layout.specs.Image.{words_before}
+use Rattle.rv64_emit.proofs.places.function_size_of.Given as goal
+
+abbrev pub invariant-loop-point : goal.invariant-loop-point
+invariant-loop-point l = l.size ≡ words_before l.func l.point

@@ -1,0 +1,83 @@
+// Tables of the words at which functions and items begin.
+
+ghost use Rattle.std.specs.Prelude.{◌≡◌, ◌+◌, ◌<◌, ◌≤◌, ℕ, Some, length, slice_get, IfOk};
+ghost use Rattle.rv64_emit.specs.Tables as tables;
+ghost use Rattle.rv64_emit.specs.Tables.{SlotsFit, table_at};
+ghost use Rattle.rv64_layout.specs.Image.{start_at, function_size};
+
+use crate::frame::depth_of;
+use crate::item::size_of;
+use bril_tree::sequence::Seq;
+use slot_code::{SlotFunction, Slots};
+use std::alloc::{AllocError, Global};
+
+/// What a table has for a number, and past its end what it has last.
+pub fn place(table: &[u32], index: u32) -> u32
+    requires some { 0 < length table.now }
+    requires few { (k : ℕ) → table_at table.now k ≤ 250000 }
+    ensures value { result ≡ table_at table.now index }
+    ensures few { result ≤ 250000 }
+{
+    let last = table.len() - 1;
+    table[last.min(index as usize)]
+}
+
+/// The function of a number.
+pub fn function_at(slots: &Slots, number: usize) -> &SlotFunction
+    requires { number < length slots.now.funcs }
+    ensures { slice_get slots.now.funcs number ≡ Some result.now }
+{
+    &slots.funcs.as_slice()[number]
+}
+
+// How many words a function has.
+fn function_size_of(slots: &Slots, number: usize) -> u32
+    requires inside { number < length slots.now.funcs }
+    requires fits { SlotsFit slots.now }
+    ensures { start_at slots.now number + result ≡ start_at slots.now (number + 1) }
+{
+    let func = function_at(slots, number);
+    let mut size = 1;
+    for (point, item) in func.code.as_slice().iter().enumerate() {
+        size += size_of(func, depth_of(func, point), item);
+    }
+    size + 4
+}
+
+/// Where each function begins, and at last where the image ends.
+pub fn start_table(alloc: Global, slots: &Slots) -> Result<Seq<u32>, AllocError>
+    requires { SlotsFit slots.now }
+    ensures { IfOk result (λ starts. starts ≡ tables.start_table slots.now) }
+{
+    let mut starts = Seq::new(alloc);
+    let mut at = 6;
+    for number in 0..slots.funcs.as_slice().len() {
+        starts.push(at)?;
+        at += function_size_of(slots, number);
+    }
+    starts.push(at)?;
+    Ok(starts)
+}
+
+/// Where each item of a function begins whose first word is `start`, and at last the words that leave the function.
+pub fn entry_table(
+    alloc: Global,
+    slots: &Slots,
+    number: usize,
+    start: u32,
+) -> Result<Seq<u32>, AllocError>
+    requires inside { number < length slots.now.funcs }
+    requires fits { SlotsFit slots.now }
+    requires start { start ≡ start_at slots.now number }
+    ensures { IfOk result (λ entries. entries ≡ tables.entry_table slots.now number) }
+{
+    let func = function_at(slots, number);
+    let mut entries = Seq::new(alloc);
+    let mut at = start + 1;
+    for (point, item) in func.code.as_slice().iter().enumerate() {
+        entries.push(at)?;
+        at += size_of(func, depth_of(func, point), item);
+    }
+    entries.push(at)?;
+    Ok(entries)
+}

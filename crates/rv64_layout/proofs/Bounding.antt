@@ -1,0 +1,217 @@
+-- How many words items, functions and images have at most.
+use Rattle.std.proofs.Common.{◌≡◌, ℕ, zero, suc, ◌+◌, ◌*◌, ◌<◌, ◌≤◌, Bool, true, false, cond, List, [], ◌∷◌, length, Option, Some, None, refl, sym, ap, ◌∙◌, arith}
+use Rattle.std.specs.Prelude.{slice_get, option_map}
+use Rattle.std.specs.List.{sum_by}
+use Rattle.std.proofs.lemmas.List.{length-map}
+use Rattle.std.proofs.lemmas.List.Sums.{sum_by-cons}
+use Rattle.std.proofs.lemmas.Option.{slice_get-map, slice_get_within}
+use Rattle.bril_tree.specs.declared.numbered.Instr.{Instr}
+use Rattle.bril_tree.specs.declared.numbered.Instr.TheVariants.{Label, Const, Act}
+use Rattle.bril_tree.specs.declared.numbered_function.Func.{Func}
+use Rattle.bril_tree.specs.declared.operation.Op.{Op}
+use Rattle.bril_tree.specs.declared.operation.Op.TheVariants as op
+use Rattle.bril_tree.specs.declared.program.Prog.{Prog}
+use Rattle.bril_tree.specs.declared.types.Ty.{Ty}
+use Rattle.bril_tree.specs.FrameWords.{location_count}
+use Rattle.bril_tree.specs.Value.{word_of}
+use Rattle.bril_tree.proofs.Elements.{get_inside, zip-get, zip-long}
+use Rattle.rv64_implements.specs.WordBounds.{operation_bound, word_bound, function_bound, word_bounds}
+use Rattle.slot_code.specs.declared.item.Printed.{Printed}
+use Rattle.slot_code.specs.declared.item.SlotItem.{SlotItem}
+use Rattle.slot_code.specs.declared.item.SlotItem.TheVariants.{Pass, Constant, Copy, Unary, Binary, Jump, Branch, Call, Return, Print, Alloc, Free, Store, Load, Speculate, Commit, Guard}
+use Rattle.slot_code.specs.declared.slots.SlotFunction.{SlotFunction}
+use Rattle.slot_code.specs.declared.slots.Slots.{Slots}
+use Rattle.slot_code.specs.Lowered.{IsLowered, IsLoweredFunction, lowered_action, lowered_item, printed_as}
+use Rattle.rv64_sequences.specs.Operations.{unary_size, binary_size}
+use Rattle.rv64_sequences.specs.Sequences.{constant_size, load_size, store_size, copy_size, frame_up_size, is_near, fits_12, fits_32}
+use Rattle.rv64_layout.specs.Image.{sum_below, depth_at, size_or_none, size_at, function_size, function_size_or_none, start_at}
+use Rattle.rv64_layout.specs.Items.{item_size, pass_size, result_size, returned_size, spaced_size, print_size, slot_word, argument_word, level_word}
+use Rattle.rv64_layout.proofs.Joining.{sum_below-most, sum_passes}
+
+-- ---- sequences
+
+of_two : (t : Bool) (m n k : ℕ) → m ≤ k → n ≤ k → cond t m n ≤ k
+of_two true m n k first second = first
+of_two false m n k first second = second
+
+pub load_most : (o : ℕ) → load_size o ≤ 3
+load_most o = of_two (is_near o) 1 3 3 (omega arith) (omega arith)
+
+pub store_most : (o : ℕ) → store_size o ≤ 3
+store_most o = of_two (is_near o) 1 3 3 (omega arith) (omega arith)
+
+pub constant_most : (n : ℕ) → constant_size n ≤ 8
+constant_most n = of_two (fits_12 n) 1 _ 8 (omega arith) (of_two (fits_32 n) 2 8 8 (omega arith) (omega arith))
+
+pub copy_most : (from to n : ℕ) → copy_size from to n ≤ 6 * n
+copy_most from to zero = omega arith
+copy_most from to (suc n) = omega (arith, load_most from, store_most to, copy_most (suc from) (suc to) n)
+
+pub frame_up_most : (wide : ℕ) → frame_up_size wide ≤ 5
+frame_up_most wide = of_two _ 2 5 5 (omega arith) (omega arith)
+
+pub pass_most : (g : SlotFunction) (k : ℕ) (args : List ℕ) → pass_size g k args ≤ 6 * length args
+pass_most g k [] = omega arith
+pass_most g k (a ∷ args) = omega (arith, load_most (2 + a), store_most (argument_word g k), pass_most g (suc k) args)
+
+pub result_most : (dest : Option ℕ) → result_size dest ≤ 3
+result_most None = omega arith
+result_most (Some x) = store_most (2 + x)
+
+pub returned_most : (value : Option ℕ) → returned_size value ≤ 3
+returned_most None = omega arith
+returned_most (Some x) = load_most (2 + x)
+
+spaced_most : (args : List Printed) → spaced_size args ≤ 7 * length args
+spaced_most [] = omega arith
+spaced_most (a ∷ args) = omega (arith, load_most (2 + a.variable), spaced_most args)
+
+pub print_most : (args : List Printed) → print_size args ≤ 2 + 7 * length args
+print_most [] = omega arith
+print_most (a ∷ args) = omega (arith, load_most (2 + a.variable), spaced_most args)
+
+-- ---- items
+
+-- the most words of an item, in a function of so many slots
+abbrev pub most_size : ℕ → SlotItem → ℕ
+most_size slots Pass = 0
+most_size slots (Constant dest value) = 11
+most_size slots (Copy dest from) = 6
+most_size slots (Unary operation dest operand) = 6 + unary_size operation
+most_size slots (Binary operation dest first second) = 9 + binary_size operation
+most_size slots (Jump to) = 1
+most_size slots (Branch condition then_to else_to) = 6
+most_size slots (Call dest function args) = 14 + 6 * length args
+most_size slots (Return value) = 7
+most_size slots (Print args) = 2 + 7 * length args
+most_size slots (Alloc dest count) = 8
+most_size slots (Free pointer) = 5
+most_size slots (Store pointer value) = 23
+most_size slots (Load dest pointer) = 26
+most_size slots Speculate = 6 * slots + 1
+most_size slots Commit = 1
+most_size slots (Guard condition abort_to) = 6 * slots + 6
+
+pub item_most : (g : SlotFunction) (depth : ℕ) (item : SlotItem) → item_size g depth item ≤ most_size (length g.slots) item
+item_most g depth Pass = omega arith
+item_most g depth (Constant dest value) = omega (arith, constant_most (word_of value), store_most (2 + dest))
+item_most g depth (Copy dest from) = omega (arith, load_most (slot_word g from), store_most (slot_word g dest))
+item_most g depth (Unary operation dest operand) = omega (arith, load_most (2 + operand), store_most (2 + dest))
+item_most g depth (Binary operation dest first second) = omega (arith, load_most (2 + first), load_most (2 + second), store_most (2 + dest))
+item_most g depth (Jump to) = omega arith
+item_most g depth (Branch condition then_to else_to) = omega (arith, load_most (2 + condition))
+item_most g depth (Call dest function args) = omega (arith, pass_most g 0 args, frame_up_most g.words, result_most dest)
+item_most g depth (Return value) = omega (arith, returned_most value)
+item_most g depth (Print args) = print_most args
+item_most g depth (Alloc dest count) = omega (arith, load_most (2 + count), store_most (2 + dest))
+item_most g depth (Free pointer) = omega (arith, load_most (2 + pointer))
+item_most g depth (Store pointer value) = omega (arith, load_most (2 + pointer), load_most (2 + value))
+item_most g depth (Load dest pointer) = omega (arith, load_most (2 + pointer), store_most (2 + dest))
+item_most g depth Speculate = omega (arith, copy_most 2 (level_word g (suc depth)) (length g.slots))
+item_most g depth Commit = omega arith
+item_most g depth (Guard condition abort_to) = omega (arith, load_most (2 + condition), copy_most (level_word g depth) 2 (length g.slots))
+
+module _ (f : Func) (locations : ℕ) where
+  action_bounded : (operation : Op) (dest : Option ℕ) (ty : Option Ty) (args funcs labels : List ℕ) →
+      most_size locations (lowered_action f operation dest ty args funcs labels) ≤ operation_bound operation locations (length args)
+  action_bounded op.Print dest ty args funcs labels = omega (arith, length-map args (printed_as f.vars))
+  action_bounded op.Undef (Some x) None args funcs labels = omega arith
+  action_bounded op.Undef (Some x) (Some t) args funcs labels = omega arith
+  action_bounded op.Undef None ty args funcs labels = omega arith
+  action_bounded _ None ty args funcs labels = omega arith
+  action_bounded _ (Some x) ty args funcs labels = omega arith
+
+  pub instruction_bounded : (item : Instr) → most_size locations (lowered_item f item) ≤ word_bound locations item
+  instruction_bounded (Label l) = omega arith
+  instruction_bounded (Const dest ty value) = omega arith
+  instruction_bounded (Act dest ty operation args funcs labels) = action_bounded operation dest ty args funcs labels
+
+-- ---- sums over lists
+
+module _ {X : Type 0} (count : X → ℕ) where
+  abbrev pub count_or_none : Option X → ℕ
+  count_or_none None = 0
+  count_or_none (Some x) = count x
+
+  first_apart : (counts : ℕ → ℕ) (n : ℕ) → sum_below counts (suc n) ≡ counts 0 + sum_below (λ k. counts (suc k)) n
+  first_apart counts zero = omega arith
+  first_apart counts (suc n) = omega (arith, first_apart counts n)
+
+  pub sum_of_list : (xs : List X) → sum_below (λ k. count_or_none (slice_get xs k)) (length xs) ≡ sum_by count xs
+  sum_of_list [] = refl
+  sum_of_list (x ∷ xs) = omega (arith, first_apart (λ k. count_or_none (slice_get (x ∷ xs) k)) (length xs), sum_of_list xs, sum_by-cons count x xs)
+
+  -- an element counts at most as much as all
+  pub one_of_sum : (xs : List X) (k : ℕ) (x : X) → slice_get xs k ≡ Some x → count x ≤ sum_by count xs
+  one_of_sum xs k x is =
+      let counts : ℕ → ℕ = λ i. count_or_none (slice_get xs i) in
+      let here : counts k ≡ count x = ap count_or_none is in
+      omega (arith, here, sum_passes counts k (length xs) (slice_get_within xs k x is), sum_of_list xs)
+
+-- ---- functions and programs
+
+-- the item of a function that was made into one of the code over slots
+pub instruction_at : (f : Func) (g : SlotFunction) → IsLoweredFunction f g → (point : ℕ) (item : SlotItem) → slice_get g.code point ≡ Some item →
+    (instr : Instr) × (slice_get f.code point ≡ Some instr) × (item ≡ lowered_item f instr)
+instruction_at f g is point item at = by (slice_get f.code point) refl
+  where
+    made : slice_get g.code point ≡ option_map (lowered_item f) (slice_get f.code point)
+    made = ap (λ code. slice_get code point) is.code ∙ slice_get-map (lowered_item f) f.code point
+
+    by : (o : Option Instr) → slice_get f.code point ≡ o → (instr : Instr) × (slice_get f.code point ≡ Some instr) × (item ≡ lowered_item f instr)
+    by None e = absurd (let h : Some item ≡ None = sym at ∙ made ∙ ap (option_map (lowered_item f)) e in cc)
+    by (Some instr) e = (instr, e, (let h : Some item ≡ Some (lowered_item f instr) = sym at ∙ made ∙ ap (option_map (lowered_item f)) e in cc))
+
+code_length : (f : Func) (g : SlotFunction) → IsLoweredFunction f g → length g.code ≡ length f.code
+code_length f g is = ap length is.code ∙ length-map f.code (lowered_item f)
+
+pub function_bounded : (f : Func) (g : SlotFunction) → IsLoweredFunction f g → function_size g + 35 ≤ function_bound f
+function_bounded f g is = omega (arith, sum_below-most (size_at g) bounds each (length g.code), lengths, sum_of_list (word_bound locations) f.code)
+  where
+    locations : ℕ
+    locations = location_count f
+
+    bounds : ℕ → ℕ
+    bounds = λ k. count_or_none (word_bound locations) (slice_get f.code k)
+
+    lengths : sum_below bounds (length g.code) ≡ sum_below bounds (length f.code)
+    lengths = ap (sum_below bounds) (code_length f g is)
+
+    each : (k : ℕ) → size_at g k ≤ bounds k
+    each k = by (slice_get g.code k) refl
+      where
+        by : (o : Option SlotItem) → slice_get g.code k ≡ o → size_or_none g k o ≤ bounds k
+        by None e = omega arith
+        by (Some item) e =
+            let w = instruction_at f g is k item e in
+            let size = item_most g (depth_at g k) item in
+            let slots : most_size (length g.slots) item ≡ most_size locations (lowered_item f w.0) = ap (λ n. most_size n item) is.count ∙ ap (most_size locations) w.2 in
+            let bound : bounds k ≡ word_bound locations w.0 = ap (count_or_none (word_bound locations)) w.1 in
+            omega (arith, size, slots, instruction_bounded f locations w.0, bound)
+
+pub image_bounded : (p : Prog) (slots : Slots) → IsLowered p slots → start_at slots (length slots.funcs) + 26 ≤ word_bounds p
+image_bounded p slots is = omega (arith, sum_below-most (λ k. function_size_or_none (slice_get slots.funcs k)) bounds each (length slots.funcs), lengths, sum_of_list function_bound p.funcs)
+  where
+    bounds : ℕ → ℕ
+    bounds = λ k. count_or_none function_bound (slice_get p.funcs k)
+
+    lengths : sum_below bounds (length slots.funcs) ≡ sum_below bounds (length p.funcs)
+    lengths = ap (sum_below bounds) (sym (zip-long IsLoweredFunction p.funcs slots.funcs is.funcs))
+
+    each : (k : ℕ) → function_size_or_none (slice_get slots.funcs k) ≤ bounds k
+    each k = by (slice_get slots.funcs k) refl
+      where
+        by : (o : Option SlotFunction) → slice_get slots.funcs k ≡ o → function_size_or_none o ≤ bounds k
+        by None e = omega arith
+        by (Some g) e =
+            let inside : k < length p.funcs = omega (arith, slice_get_within slots.funcs k g e, zip-long IsLoweredFunction p.funcs slots.funcs is.funcs) in
+            let w = get_inside p.funcs k inside in
+            let bound : bounds k ≡ function_bound w.0 = ap (count_or_none function_bound) w.1 in
+            omega (arith, function_bounded w.0 g (zip-get IsLoweredFunction p.funcs slots.funcs k w.0 g is.funcs w.1 e), bound)
+
+-- the function of the program of which a function of the code over slots was made
+pub function_made : (p : Prog) (slots : Slots) → IsLowered p slots → (k : ℕ) (g : SlotFunction) → slice_get slots.funcs k ≡ Some g → (f : Func) × (slice_get p.funcs k ≡ Some f) × IsLoweredFunction f g
+function_made p slots is k g e =
+    let inside : k < length p.funcs = omega (arith, slice_get_within slots.funcs k g e, zip-long IsLoweredFunction p.funcs slots.funcs is.funcs) in
+    let w = get_inside p.funcs k inside in
+    (w.0, w.1, zip-get IsLoweredFunction p.funcs slots.funcs k w.0 g is.funcs w.1 e)

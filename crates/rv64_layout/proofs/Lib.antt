@@ -1,0 +1,9 @@
+pub mod Bounding
+pub mod Encodable
+pub mod Fitting
+pub mod Guarding
+pub mod ItemWords
+pub mod Joining
+pub mod Laid
+pub mod Lengths
+pub mod Placing

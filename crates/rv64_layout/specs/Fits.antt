@@ -1,0 +1,27 @@
+-- When the words of an item have encodings: the frame is small enough, and so are the numbers of its slots.
+use Rattle.std.specs.Prelude.{ℕ, ◌+◌, ◌*◌, ◌^◌, ◌<◌, length}
+use Rattle.std.specs.List.{AllByRecursion}
+use Rattle.bril_tree.specs.Value.{IsInRange}
+use Rattle.slot_code.specs.declared.item.SlotItem.{SlotItem}
+use Rattle.slot_code.specs.declared.item.SlotItem.TheVariants.{Call, Constant}
+use Rattle.slot_code.specs.declared.slots.SlotFunction.{SlotFunction}
+use Rattle.slot_code.specs.Laws.{slots_used}
+use Rattle.rv64_layout.specs.Items.{slot_word}
+
+-- how many arguments an item passes to a function
+abbrev pub passed_by : SlotItem → ℕ
+passed_by (Call dest function args) = length args
+passed_by _ = 0
+
+-- the value of a constant is in its range
+abbrev pub HasConstantInRange : SlotItem → Type 0
+HasConstantInRange (Constant dest value) = IsInRange value
+HasConstantInRange _ = Unit {0}
+
+-- An item of a function fits where so many speculations are open: none of the numbers in its words is too large.
+pub record ItemFits (g : SlotFunction) (depth : ℕ) (item : SlotItem) : Type 0 where
+  pub slots : AllByRecursion (λ slot. slot_word g slot < 2 ^ 26) (slots_used item)
+  pub frame : g.words < 2 ^ 26
+  pub levels : length g.slots * (depth + 2) < 2 ^ 26
+  pub passed : passed_by item < 2 ^ 26
+  pub constant : HasConstantInRange item

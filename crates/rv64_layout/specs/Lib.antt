@@ -1,0 +1,4 @@
+pub mod Fits
+pub mod Image
+pub mod Items
+pub mod Laid

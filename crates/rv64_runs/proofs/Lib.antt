@@ -1,0 +1,5 @@
+pub mod Calls
+pub mod Cores
+pub mod Going
+pub mod Steps
+pub mod Stretches

@@ -1,0 +1,34 @@
+-- The sequences alone: what the crate's laws say.
+use Rattle.std.proofs.Common.{◌≡◌, ℕ, ◌+◌, sym, subst, arith, List, [], ◌++◌, append-nil}
+use Rattle.rv64_words.specs.declared.image.Image.{Image}
+use Rattle.rv64_words.specs.declared.word.Word.{Word}
+use Rattle.rv64_words.specs.Region.{Sizes}
+use Rattle.rv64_runs.specs.Core.{Core}
+use Rattle.rv64_runs.specs.Runs.{HasAt, Runs}
+use Rattle.rv64_runs.proofs.Going.{Going, begin}
+use Rattle.rv64_sequences.specs.Laws.{ConstantsRun, FrameLoadsRun, FrameStoresRun, CopiesRun}
+use Rattle.rv64_sequences.specs.Sequences.{constant_words, load_from, store_over, copy_words, constant_size, load_size, store_size, copy_size}
+use Rattle.rv64_sequences.proofs.Constants.{constant}
+use Rattle.rv64_sequences.proofs.Copies.{words_copied}
+use Rattle.rv64_sequences.proofs.Frames.{frame_load, frame_store}
+
+module _ (image : Image) (z : Sizes) (k : ℕ) (c : Core) where
+  alone : (ws : List Word) → HasAt image k ws → Going image z k c 0 k c (ws ++ [])
+  alone ws has = begin image z k c (ws ++ []) (subst (HasAt image k) (sym (append-nil ws)) has)
+
+  runs_of : (m j : ℕ) (e : Core) → Going image z k c (0 + m) j e [] → Runs image z k c m j e
+  runs_of m j e g = let same : 0 + m ≡ m = omega arith in subst (λ n. Runs image z k c n j e) same g.runs
+
+pub constants : ConstantsRun
+constants image z k c r n has ne lt null = runs_of image z k c (constant_size n) _ _ (constant image z r n ne lt null (alone image z k c (constant_words r n) has))
+
+pub frame_loads : FrameLoadsRun
+frame_loads image z k c base r b o has ne reach = runs_of image z k c (load_size o) _ _ (frame_load image z base r b o ne reach (alone image z k c (load_from base r o) has))
+
+pub frame_stores : FrameStoresRun
+frame_stores image z k c base r b o has ne other reach = runs_of image z k c (store_size o) _ _ (frame_store image z base r b o ne other reach (alone image z k c (store_over base r o) has))
+
+pub copies : CopiesRun
+copies image z k c b from to n has few two apart in_from in_to =
+    let after = words_copied image z few b from to n c [] apart two in_from in_to (alone image z k c (copy_words from to n) has) in
+    (after.core, after.copied, runs_of image z k c (copy_size from to n) _ after.core after.going)

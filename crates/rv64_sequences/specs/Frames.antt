@@ -1,0 +1,40 @@
+-- What loads, stores and copies of a frame's words leave.
+use Rattle.std.specs.Prelude.{◌≡◌, ◌≢◌, ℕ, ◌+◌, ◌*◌, ◌%◌, ◌^◌, ◌<◌, ◌≤◌, ◌⊎◌, if◌then◌else◌}
+use Rattle.rv64_words.specs.Arithmetic.{extended_32}
+use Rattle.rv64_words.specs.Region.{Sizes, stack_base}
+use Rattle.rv64_runs.specs.Core.{Core, written}
+use Rattle.rv64_sequences.specs.Sequences.{high_part, is_near}
+
+-- A register has the address of the stack's word b, and word o from there is inside the stack.
+pub record Reaches (z : Sizes) (e : Core) (r b o : ℕ) : Type 0 where
+  pub base : e.registers r ≡ stack_base + 8 * b
+  pub inside : b + o < z.stack
+  pub few : z.stack ≤ 8388608
+
+-- what register 6 has after a load or a store of word o from the base in register r
+abbrev pub far_address : Core → ℕ → ℕ → ℕ
+far_address e r o = (extended_32 (high_part (8 * o) * 4096) + e.registers r) % 2 ^ 64
+
+abbrev pub address_left : Core → ℕ → ℕ → ℕ
+address_left e r o = if is_near o then e.registers 6 else far_address e r o
+
+-- the core with that
+abbrev pub addressed : Core → ℕ → ℕ → Core
+addressed e r o = written e 6 (address_left e r o)
+
+-- n words of the frame at word b were copied, by registers 5 and 6
+pub record Copied (d e : Core) (b from to n : ℕ) : Type 0 where
+  pub registers : (r : ℕ) → r ≢ 5 → r ≢ 6 → e.registers r ≡ d.registers r
+  pub table : e.table ≡ d.table
+  pub cells : e.cells ≡ d.cells
+  pub blocks : e.blocks ≡ d.blocks
+  pub given : e.given ≡ d.given
+  pub printed : e.printed ≡ d.printed
+  pub arrivals : e.arrivals ≡ d.arrivals
+  pub below : (k : ℕ) → k < b + to → e.stack k ≡ d.stack k
+  pub above : (k : ℕ) → b + (to + n) ≤ k → e.stack k ≡ d.stack k
+  pub copies : (j : ℕ) → j < n → e.stack (b + (to + j)) ≡ d.stack (b + (from + j))
+
+-- two stretches of n words don't meet
+abbrev pub LieApart : ℕ → ℕ → ℕ → Type 0
+LieApart from to n = (from + n ≤ to) ⊎ (to + n ≤ from)

@@ -1,0 +1,122 @@
+-- The words of the operations that compute, from registers 5 and 7 to register 5, and those of the memory extension.
+-- Registers 6 and 7 may change; a fault ends the run.
+use Rattle.std.specs.Prelude.{ℕ, pos, negsuc, List, [], ◌∷◌, ◌++◌}
+use Rattle.rv64_words.specs.declared.word.Word.{Word}
+use Rattle.rv64_words.specs.declared.word.Word.TheVariants.{Lui, Ld, Sd, Ecall}
+use Rattle.rv64_words.specs.Mnemonics.{addi, sltiu, slli, srli, srai, add, sub, slt, or, and, mul, div, beq, bne, bgeu, bltu}
+use Rattle.slot_code.specs.declared.item.BinaryOp.{BinaryOp}
+use Rattle.slot_code.specs.declared.item.BinaryOp.TheVariants as binary
+use Rattle.slot_code.specs.declared.item.UnaryOp.{UnaryOp}
+use Rattle.slot_code.specs.declared.item.UnaryOp.TheVariants as unary
+use Rattle.rv64_sequences.specs.Sequences.{fault_words}
+
+-- ---- one operand
+
+-- a scalar value of Unicode is below 0x110000, and its bits from bit 11 on are not those of 0xD800
+abbrev pub int_to_char_words : List Word
+int_to_char_words = Lui 6 0x110 ∷ bgeu 5 6 (pos 16) ∷ srli 6 5 11 ∷ addi 6 6 (negsuc 26) ∷ bne 6 0 (pos 16) ∷ fault_words 2
+
+abbrev pub unary_words : UnaryOp → List Word
+unary_words unary.Not = sltiu 5 5 (pos 1) ∷ []
+unary_words unary.CharToInt = []
+unary_words unary.IntToChar = int_to_char_words
+
+abbrev pub unary_size : UnaryOp → ℕ
+unary_size unary.Not = 1
+unary_size unary.CharToInt = 0
+unary_size unary.IntToChar = 8
+
+-- ---- two operands
+
+-- they are equal
+abbrev pub same_words : List Word
+same_words = sub 5 5 7 ∷ sltiu 5 5 (pos 1) ∷ []
+
+-- the first is less than the second, or the second less than the first; and that it isn't so
+abbrev pub less_words : List Word
+less_words = slt 5 5 7 ∷ []
+
+abbrev pub greater_words : List Word
+greater_words = slt 5 7 5 ∷ []
+
+abbrev pub not_greater_words : List Word
+not_greater_words = slt 5 7 5 ∷ sltiu 5 5 (pos 1) ∷ []
+
+abbrev pub not_less_words : List Word
+not_less_words = slt 5 5 7 ∷ sltiu 5 5 (pos 1) ∷ []
+
+abbrev pub division_words : List Word
+division_words = bne 7 0 (pos 16) ∷ fault_words 1 ++ div 5 5 7 ∷ []
+
+-- The pointer of register 5 is moved by so many cells as register 7 has: the fault PtrRange where the offset leaves the
+-- signed range of 32 bits.
+abbrev pub pointer_words : List Word
+pointer_words =
+    slli 6 5 32 ∷ srai 6 6 32 ∷ add 7 6 7 ∷ slli 6 7 32 ∷ srai 6 6 32 ∷ beq 6 7 (pos 16) ∷ fault_words 10 ++
+    srli 5 5 32 ∷ slli 5 5 32 ∷ slli 7 7 32 ∷ srli 7 7 32 ∷ add 5 5 7 ∷ []
+
+abbrev pub binary_words : BinaryOp → List Word
+binary_words binary.Add = add 5 5 7 ∷ []
+binary_words binary.Sub = sub 5 5 7 ∷ []
+binary_words binary.Mul = mul 5 5 7 ∷ []
+binary_words binary.Div = division_words
+binary_words binary.Eq = same_words
+binary_words binary.Lt = less_words
+binary_words binary.Gt = greater_words
+binary_words binary.Le = not_greater_words
+binary_words binary.Ge = not_less_words
+binary_words binary.Ceq = same_words
+binary_words binary.Clt = less_words
+binary_words binary.Cgt = greater_words
+binary_words binary.Cle = not_greater_words
+binary_words binary.Cge = not_less_words
+binary_words binary.And = and 5 5 7 ∷ []
+binary_words binary.Or = or 5 5 7 ∷ []
+binary_words binary.PtrAdd = pointer_words
+
+abbrev pub binary_size : BinaryOp → ℕ
+binary_size binary.Add = 1
+binary_size binary.Sub = 1
+binary_size binary.Mul = 1
+binary_size binary.Div = 5
+binary_size binary.Eq = 2
+binary_size binary.Lt = 1
+binary_size binary.Gt = 1
+binary_size binary.Le = 2
+binary_size binary.Ge = 2
+binary_size binary.Ceq = 2
+binary_size binary.Clt = 1
+binary_size binary.Cgt = 1
+binary_size binary.Cle = 2
+binary_size binary.Cge = 2
+binary_size binary.And = 1
+binary_size binary.Or = 1
+binary_size binary.PtrAdd = 14
+
+-- ---- memory
+
+-- a new block of so many cells as register 10 has; register 10 becomes its pointer
+abbrev pub alloc_words : List Word
+alloc_words = addi 17 0 (pos 6) ∷ Ecall ∷ []
+
+-- the block of the pointer of register 10 is freed
+abbrev pub free_words : List Word
+free_words = addi 17 0 (pos 7) ∷ Ecall ∷ []
+
+-- Register 7 becomes the address of the cell to which the pointer of register 5 points: the fault Access where its
+-- offset isn't inside a live block.
+abbrev pub cell_words : List Word
+cell_words =
+    srli 6 5 32 ∷ slli 6 6 4 ∷ Lui 7 0x20000 ∷ add 6 6 7 ∷ slli 5 5 32 ∷ srai 5 5 32 ∷ Ld 7 6 (pos 8) ∷ bltu 5 7 (pos 16) ∷
+    fault_words 5 ++ Ld 6 6 (pos 0) ∷ slli 5 5 4 ∷ add 7 6 5 ∷ []
+
+-- register 5 becomes what the cell at the address of register 7 holds: the fault Uninit where nothing was stored there
+abbrev pub load_cell_words : List Word
+load_cell_words = Ld 5 7 (pos 0) ∷ bne 5 0 (pos 16) ∷ fault_words 6 ++ Ld 5 7 (pos 8) ∷ []
+
+-- the cell at the address of register 7 was stored; and it holds register 5
+abbrev pub mark_cell_words : List Word
+mark_cell_words = addi 5 0 (pos 1) ∷ Sd 7 5 (pos 0) ∷ []
+
+abbrev pub store_cell_words : List Word
+store_cell_words = Sd 7 5 (pos 8) ∷ []

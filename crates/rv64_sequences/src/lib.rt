@@ -1,0 +1,25 @@
+//! Short sequences of words, and what they do.
+//!
+//! `specs/Sequences.antt` has the sequences from which code is laid out: constants, loads and stores of a frame's words,
+//! copies, faults and jumps. Each is short where the number or the word's place allows it, and its size depends on these
+//! alone. `specs/Operations.antt` has the words of the operations. `proofs/` shows what the sequences do, by one lemma
+//! for each, which the crates above cite. Each function here states some of it as a law, and does nothing when it is called.
+#![tactic(auto)]
+
+ghost use Rattle.rv64_sequences.specs.Laws.{ConstantsRun, FrameLoadsRun, FrameStoresRun, CopiesRun};
+
+/// The words of a constant set one register to it, in one, two or eight words.
+pub fn constants_run()
+    ensures { ConstantsRun }
+{}
+
+/// A word of a frame is loaded or stored, near its base or far from it. Register 6 may change besides.
+pub fn frame_words_run()
+    ensures loads { FrameLoadsRun }
+    ensures stores { FrameStoresRun }
+{}
+
+/// Words of a frame are copied to other words of it. Registers 5 and 6 may change besides.
+pub fn copies_run()
+    ensures { CopiesRun }
+{}

@@ -1,0 +1,7 @@
+pub mod Binary
+pub mod Cells
+pub mod Kept
+pub mod Operands
+pub mod Pointers
+pub mod Unary
+pub mod Words

@@ -1,0 +1,85 @@
+-- What the operands of an operation are in an accepted program, and what its words come to.
+use Rattle.std.specs.Prelude.{◌≡◌, ℕ, ◌+◌, ◌^◌, ◌<◌, ◌≤◌, FitsSigned}
+use Rattle.std.specs.Char.{IsScalar}
+use Rattle.std.specs.Int.{w32, w64}
+use Rattle.bril_tree.specs.declared.limits.End.{End}
+use Rattle.bril_tree.specs.declared.value.Value.{Value}
+use Rattle.bril_tree.specs.declared.value.Value.TheVariants.{Int, Bool as Boolean, Char, Ptr}
+use Rattle.rv64_words.specs.declared.image.Image.{Image}
+use Rattle.rv64_words.specs.Region.{Sizes}
+use Rattle.rv64_runs.specs.Core.{Core, Keeps}
+use Rattle.rv64_runs.specs.Runs.{Runs, Ends}
+use Rattle.slot_code.specs.declared.item.BinaryOp.{BinaryOp}
+use Rattle.slot_code.specs.declared.item.BinaryOp.TheVariants as binary
+use Rattle.slot_code.specs.declared.item.UnaryOp.{UnaryOp}
+use Rattle.slot_code.specs.declared.item.UnaryOp.TheVariants as unary
+
+-- ---- operands
+
+abbrev pub IsInt : Value → Type 0
+IsInt (Int n) = FitsSigned w64 n
+IsInt (Boolean b) = ⊥
+IsInt (Char c) = ⊥
+IsInt (Ptr block offset) = ⊥
+
+abbrev pub IsBool : Value → Type 0
+IsBool (Int n) = ⊥
+IsBool (Boolean b) = Unit {0}
+IsBool (Char c) = ⊥
+IsBool (Ptr block offset) = ⊥
+
+abbrev pub IsChar : Value → Type 0
+IsChar (Int n) = ⊥
+IsChar (Boolean b) = ⊥
+IsChar (Char c) = IsScalar c
+IsChar (Ptr block offset) = ⊥
+
+abbrev pub IsPtr : Value → Type 0
+IsPtr (Int n) = ⊥
+IsPtr (Boolean b) = ⊥
+IsPtr (Char c) = ⊥
+IsPtr (Ptr block offset) = (block < 2 ^ 32) × FitsSigned w32 offset
+
+-- the operands are of the types that the operation takes, and in their ranges
+abbrev pub UnarySuits : UnaryOp → Value → Type 0
+UnarySuits unary.Not a = IsBool a
+UnarySuits unary.CharToInt a = IsChar a
+UnarySuits unary.IntToChar a = IsInt a
+
+abbrev pub BinarySuits : BinaryOp → Value → Value → Type 0
+BinarySuits binary.Add a b = IsInt a × IsInt b
+BinarySuits binary.Sub a b = IsInt a × IsInt b
+BinarySuits binary.Mul a b = IsInt a × IsInt b
+BinarySuits binary.Div a b = IsInt a × IsInt b
+BinarySuits binary.Eq a b = IsInt a × IsInt b
+BinarySuits binary.Lt a b = IsInt a × IsInt b
+BinarySuits binary.Gt a b = IsInt a × IsInt b
+BinarySuits binary.Le a b = IsInt a × IsInt b
+BinarySuits binary.Ge a b = IsInt a × IsInt b
+BinarySuits binary.Ceq a b = IsChar a × IsChar b
+BinarySuits binary.Clt a b = IsChar a × IsChar b
+BinarySuits binary.Cgt a b = IsChar a × IsChar b
+BinarySuits binary.Cle a b = IsChar a × IsChar b
+BinarySuits binary.Cge a b = IsChar a × IsChar b
+BinarySuits binary.And a b = IsBool a × IsBool b
+BinarySuits binary.Or a b = IsBool a × IsBool b
+BinarySuits binary.PtrAdd a b = IsPtr a × IsInt b
+
+-- ---- what words come to
+
+-- From word k with core c, at most so many steps lead over so many words; then register 5 has v, and the rest is kept.
+pub record Gives (image : Image) (z : Sizes) (k : ℕ) (c : Core) (size v : ℕ) : Type 0 where
+  pub steps : ℕ
+  pub within : steps ≤ size
+  pub core : Core
+  pub keeps : Keeps c core
+  pub result : core.registers 5 ≡ v
+  pub runs : Runs image z k c steps (k + size) core
+
+-- From there at most so many steps lead to an end, and until then the rest is kept.
+pub record EndsSo (image : Image) (z : Sizes) (k : ℕ) (c : Core) (size : ℕ) (how : End) : Type 0 where
+  pub steps : ℕ
+  pub within : steps ≤ size
+  pub core : Core
+  pub keeps : Keeps c core
+  pub ends : Ends image z k c steps how core
