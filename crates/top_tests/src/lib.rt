@@ -10,8 +10,6 @@ mod laws;
 #[cfg(test)]
 mod lists;
 #[cfg(test)]
-mod made_passes;
-#[cfg(test)]
 mod passes;
 #[cfg(test)]
 mod weak;
