@@ -136,7 +136,7 @@ module _ (c : Call) (action : Action) (path : List ℕ) (args : List (List ℕ))
       → UnlessMemory (status_number how) (AfterPasses (status_number how) c p (λ q made. EmitsAfter (status_number how) q limits
           (¬ Rose c.out_before.faults c.out_after.faults → IsRun (status_number how) c p q (factor_of c.passes p q made) limits values words stats)))
   after_run p accepted values fits limits words stats =
-      ⊎_elim (λ refused. stops c path p how _ (ends.says.plain refused.1) refused.0 refused.2)
+      ⊎_elim (λ refused. stops c path p how _ (ends.says.plain refused.1.0) refused.0 refused.1.1)
       (λ goes. makes c path p (status_number how) _ goes.0 goes.1
       (⊎_elim (λ long. beyond goes.0 limits _ how long.0)
       (λ ran. within_bounds goes.0 limits _ (status_number how) ran.0 (says_run c path ends.told p goes.0 goes.1 accepted limits values fits words stats how ends.says ran.1))
@@ -179,6 +179,6 @@ module _ (c : Call) (action : Action) (path : List ℕ) (args : List (List ℕ))
       with_program c action path args how ends Passes tt _ bytes p reads short source (exhausted how _)
       (λ fault e none has. absurd (has.unaccepted accepted))
       (λ faultless untold does.
-      ⊎_elim (λ refused. stops c path p how _ (ends.says.plain refused.1) refused.0 refused.2)
+      ⊎_elim (λ refused. stops c path p how _ (ends.says.plain refused.1.0) refused.0 refused.1.1)
       (λ goes. makes c path p (status_number how) _ goes.0 goes.1 (writes_made c path ends.told goes.0 how ends.says goes.2))
       does)

@@ -70,3 +70,7 @@ module _ (p q : Prog) (k : ℕ) (refines : Refines p q k) (limits : Limits) (val
     pub shows_source : (ended : Option End) → ProgramShows q limits values words ended output → SourceShows p q k limits values words ended output
     shows_source None shows = runs_on shows
     shows_source (Some end) shows = ends_too end shows
+
+-- the arguments of a program fit what a list makes of it
+pub fits_made : (l : PassList) (p q : Prog) (made : IsMade l p q) → IsAccepted p → (values : List Value) → FitMain p values → FitMain q values
+fits_made l p q made accepted values fits = subst (λ types. AllZip Suits values types) (made_refines l p q made accepted).same_types fits
