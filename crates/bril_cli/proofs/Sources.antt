@@ -1,12 +1,11 @@
 -- What a run of a program that a list of passes made shows of the source.
-use Rattle.std.proofs.Common.{◌≡◌, ℕ, ◌+◌, ◌*◌, ◌≤◌, List, Option, Some, None, refl, sym, ap, ◌∙◌, subst, arith}
+use Rattle.std.proofs.Common.{◌≡◌, ℕ, ◌+◌, ◌*◌, ◌≤◌, List, Option, Some, None, refl, sym, ◌∙◌, subst, arith}
 use Rattle.std.specs.List.{AllZip}
 use Rattle.std.proofs.Math.Nat.{mul-le-mul_left}
-use Rattle.simulation.specs.System.{IsFinal, IsPrefix, Agree}
+use Rattle.simulation.specs.System.{IsFinal, Agree}
 use Rattle.simulation.proofs.Prefix.{IsPrefix-trans}
 use Rattle.bril_tree.specs.Accepted.{IsAccepted}
-use Rattle.bril_tree.specs.Cost.{IsCost}
-use Rattle.bril_tree.specs.Run.{Suits, FitMain, Refines, main_types, program, first_state, state_after}
+use Rattle.bril_tree.specs.Run.{Suits, FitMain, Refines, program, state_after}
 use Rattle.bril_tree.specs.declared.limits.End.{End}
 use Rattle.bril_tree.specs.declared.limits.Limits.{Limits}
 use Rattle.bril_tree.specs.declared.program.Prog.{Prog}

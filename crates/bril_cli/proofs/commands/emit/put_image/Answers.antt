@@ -12,7 +12,11 @@ returns-in_err-image g c =
 pub returns : goal.returns
 returns g c =
     let put = rw c.as_slice.ensures at c.put_words.ensures in
-    inr (c.in_ok-made.made.prog, c.in_ok-made.ensures.ok, inr (
-      c.in_ok-image.ensures.within,
-      (listing c.in_ok-image.image.words, record { image = c.in_ok-image.image; implements = c.in_ok-image.ensures.implements; lists = refl }, put),
-    ))
+    inr (
+      c.in_ok-made.made.prog,
+      c.in_ok-made.ensures.ok,
+      inr (
+        c.in_ok-image.ensures.within,
+        (listing c.in_ok-image.image.words, record { image = c.in_ok-image.image; implements = c.in_ok-image.ensures.implements; lists = refl }, put),
+      ),
+    )
