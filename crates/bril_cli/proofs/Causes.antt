@@ -1,5 +1,5 @@
 -- When each status comes.
-use Rattle.std.proofs.Common.{◌≡◌, ℕ, ◌+◌, ◌*◌, ◌<◌, Bool, false, append-nil, ◌++◌, ◌≤◌, ◌⊎◌, true, List, [], length, Option, Some, None, Result, Ok, Err, refl, sym, ap, ◌∙◌, subst, arith, inl, inr, ⊎_elim, true≢false}
+use Rattle.std.proofs.Common.{◌≡◌, ℕ, ◌<◌, ◌≤◌, ◌⊎◌, List, [], length, Option, Some, None, Result, Ok, Err, refl, sym, ap, ◌∙◌, subst, arith, inl, inr, ⊎_elim}
 use Rattle.std.specs.Prelude.{◌≢◌}
 use Rattle.bril_arguments.specs.Faults.{IsFaultOf}
 use Rattle.bril_arguments.specs.Spelled.{AreSpelled}
@@ -7,11 +7,10 @@ use Rattle.bril_arguments.specs.declared.fault.ArgFault.{ArgFault}
 use Rattle.bril_arguments.specs.declared.fault.ArgFault.TheVariants as argument
 use Rattle.bril_tree.specs.Accepted.{IsAccepted}
 use Rattle.bril_tree.specs.declared.limits.End.{End}
-use Rattle.bril_tree.specs.declared.limits.End.TheVariants.{Ended, Faulted}
 use Rattle.bril_tree.specs.declared.limits.Limits.{Limits}
 use Rattle.bril_tree.specs.declared.program.Prog.{Prog}
 use Rattle.bril_tree.specs.declared.value.Value.{Value}
-use Rattle.bril_tree.specs.Run.{FitMain, main_types, state_after}
+use Rattle.bril_tree.specs.Run.{main_types, state_after}
 use Rattle.bril_checker.specs.Faults as checker
 use Rattle.bril_checker.specs.declared.fault.CheckFault.{CheckFault}
 use Rattle.bril_tree.specs.declared.tree.Tree.{Tree}

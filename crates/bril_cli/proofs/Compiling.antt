@@ -1,5 +1,5 @@
 -- What is answered where a list of passes is given a program: by `run`, `emit` and `passes`.
-use Rattle.std.proofs.Common.{◌≡◌, ℕ, ◌+◌, ◌*◌, ◌<◌, ◌≤◌, ◌⊎◌, Bool, true, false, append-nil, ◌++◌, List, [], length, Option, Some, None, refl, sym, ap, ◌∙◌, subst, arith, inl, inr, ⊎_elim, true≢false}
+use Rattle.std.proofs.Common.{◌≡◌, ℕ, ◌*◌, ◌≤◌, Bool, true, false, append-nil, ◌++◌, List, [], length, Option, Some, None, refl, sym, ◌∙◌, subst, arith, inl, inr, ⊎_elim, true≢false}
 use Rattle.bril_arguments.proofs.Spelled.{AreSpelled-fit}
 use Rattle.bril_arguments.specs.Spelled.{AreSpelled}
 use Rattle.bril_cli.proofs.Causes.{exhausted, args_fail, same_args, with_program}
@@ -15,16 +15,15 @@ use Rattle.bril_cli.specs.PassList.{IsMade, RefusesList, AfterList, factor_of, t
 use Rattle.bril_cli.specs.Source.{most_bytes, IsSource}
 use Rattle.bril_cli.specs.Stats.{stats_told, SaysTold}
 use Rattle.bril_cli.specs.commands.Emit.{ListsImage, EmitsImage, PutsListing, CanEmit}
-use Rattle.bril_cli.specs.commands.Passes.{IsTextOf, PutsProgram, TransformsProgram}
-use Rattle.bril_cli.specs.commands.Run.{RanWhole, RunsImage, RunsValues, RunsList, IsRun, CanRun}
+use Rattle.bril_cli.specs.commands.Passes.{IsTextOf, PutsProgram}
+use Rattle.bril_cli.specs.commands.Run.{RanWhole, RunsImage, RunsList, IsRun, CanRun}
 use Rattle.bril_outside.specs.Sink.{Rose, TookAll}
 use Rattle.bril_report.specs.Lines.{spent_line}
 use Rattle.bril_report.specs.Report.{Says, status_number, SaysStatus}
 use Rattle.bril_report.specs.declared.status.Status.TheVariants as status
 use Rattle.bril_report.specs.declared.status.Status.{Status}
 use Rattle.bril_tree.specs.Accepted.{IsAccepted}
-use Rattle.bril_tree.specs.Cost.{IsCost}
-use Rattle.bril_tree.specs.Run.{FitMain, main_types, state_after}
+use Rattle.bril_tree.specs.Run.{FitMain, main_types}
 use Rattle.bril_tree.specs.declared.limits.End.TheVariants.{Ended, Faulted}
 use Rattle.bril_tree.specs.declared.limits.End.{End}
 use Rattle.bril_tree.specs.declared.limits.Limits.{Limits}
@@ -122,7 +121,7 @@ lists_image _ q limits output c lists puts = absurd puts
 -- a program is written, and then the tallies are told
 writes_made : (c : Call) (path told : List ℕ) (q : Prog) (how : Status) → SaysTold told how path c.err_before c.err_after → PutsProgram how c.passes q told c.out_before c.out_after
     → UnlessMemory (status_number how) (¬ Rose c.out_before.faults c.out_after.faults →
-        (status_number how ≡ 0) × Says c.err_before (tallies_told c.passes) c.err_after × ((text : List ℕ) × IsTextOf q text × TookAll c.out_before text c.out_after))
+    (status_number how ≡ 0) × Says c.err_before (tallies_told c.passes) c.err_after × ((text : List ℕ) × IsTextOf q text × TookAll c.out_before text c.out_after))
 writes_made c path told q status.Done says puts =
     inr (λ sound. (refl, subst (λ bytes. Says c.err_before bytes c.err_after) (append-nil told ∙ puts.0) says.all, puts.1))
 writes_made c path told q status.OutOfMemory says puts = inl refl
@@ -134,9 +133,9 @@ writes_made c path told q _ says puts = absurd puts
 module _ (c : Call) (action : Action) (path : List ℕ) (args : List (List ℕ)) (how : Status) (ends : Ends c action path args how) where
   after_run : (p : Prog) → IsAccepted p → (values : List Value) → FitMain p values → (limits : Limits) (words : ℕ) (stats : Bool) → RunsList how c.passes p limits values words stats ends.told c.out_before c.out_after
       → UnlessMemory (status_number how) (AfterPasses (status_number how) c p (λ q made. EmitsAfter (status_number how) q limits
-          (¬ Rose c.out_before.faults c.out_after.faults → IsRun (status_number how) c p q (factor_of c.passes p q made) limits values words stats)))
+      (¬ Rose c.out_before.faults c.out_after.faults → IsRun (status_number how) c p q (factor_of c.passes p q made) limits values words stats)))
   after_run p accepted values fits limits words stats =
-      ⊎_elim (λ refused. stops c path p how _ (ends.says.plain refused.1) refused.0 refused.2)
+      ⊎_elim (λ refused. stops c path p how _ (ends.says.plain refused.1.0) refused.0 refused.1.1)
       (λ goes. makes c path p (status_number how) _ goes.0 goes.1
       (⊎_elim (λ long. beyond goes.0 limits _ how long.0)
       (λ ran. within_bounds goes.0 limits _ (status_number how) ran.0 (says_run c path ends.told p goes.0 goes.1 accepted limits values fits words stats how ends.says ran.1))
@@ -144,7 +143,7 @@ module _ (c : Call) (action : Action) (path : List ℕ) (args : List (List ℕ))
 
   pub runs_where : (frames cells words : ℕ) (stats : Bool) (bytes : List ℕ) (reads : ReadsWell c (Run frames cells words stats) bytes) (p : Prog) (values : List Value) (limits : Limits) → CanRun c frames cells words stats bytes reads p values limits
       → UnlessMemory (status_number how) (AfterPasses (status_number how) c p (λ q made. EmitsAfter (status_number how) q limits
-          (¬ Rose c.out_before.faults c.out_after.faults → IsRun (status_number how) c p q (factor_of c.passes p q made) limits values words stats)))
+      (¬ Rose c.out_before.faults c.out_after.faults → IsRun (status_number how) c p q (factor_of c.passes p q made) limits values words stats)))
   runs_where frames cells words stats bytes reads p values limits can =
       let here : AreSpelled (main_types p) args values = subst (λ a. AreSpelled (main_types p) a values) (same_args c action path args how ends (Run frames cells words stats) bytes reads) can.spelled in
       with_program c action path args how ends (Run frames cells words stats) tt _ bytes p reads can.short can.source (exhausted how _)
@@ -159,7 +158,7 @@ module _ (c : Call) (action : Action) (path : List ℕ) (args : List (List ℕ))
 
   pub emits_where : (frames : ℕ) (bytes : List ℕ) (reads : ReadsWell c (Emit frames) bytes) (p : Prog) (limits : Limits) → CanEmit c frames bytes reads p limits
       → UnlessMemory (status_number how) (AfterPasses (status_number how) c p (λ q made. EmitsAfter (status_number how) q limits
-          (¬ Rose c.out_before.faults c.out_after.faults → (status_number how ≡ 0) × ((output : List ℕ) × ListsImage q limits output × TookAll c.out_before output c.out_after))))
+      (¬ Rose c.out_before.faults c.out_after.faults → (status_number how ≡ 0) × ((output : List ℕ) × ListsImage q limits output × TookAll c.out_before output c.out_after))))
   emits_where frames bytes reads p limits can =
       with_program c action path args how ends (Emit frames) tt _ bytes p reads can.short can.source (exhausted how _)
       (λ fault e none has. absurd (has.unaccepted can.accepted))
@@ -174,11 +173,11 @@ module _ (c : Call) (action : Action) (path : List ℕ) (args : List (List ℕ))
 
   pub transforms_where : (bytes : List ℕ) (p : Prog) (reads : ReadsWell c Passes bytes) → length bytes ≤ most_bytes → IsSource (format_of reads.path) bytes p → IsAccepted p
       → UnlessMemory (status_number how) (AfterPasses (status_number how) c p (λ q made. ¬ Rose c.out_before.faults c.out_after.faults →
-          (status_number how ≡ 0) × Says c.err_before (tallies_told c.passes) c.err_after × ((text : List ℕ) × IsTextOf q text × TookAll c.out_before text c.out_after)))
+      (status_number how ≡ 0) × Says c.err_before (tallies_told c.passes) c.err_after × ((text : List ℕ) × IsTextOf q text × TookAll c.out_before text c.out_after)))
   transforms_where bytes p reads short source accepted =
       with_program c action path args how ends Passes tt _ bytes p reads short source (exhausted how _)
       (λ fault e none has. absurd (has.unaccepted accepted))
       (λ faultless untold does.
-      ⊎_elim (λ refused. stops c path p how _ (ends.says.plain refused.1) refused.0 refused.2)
+      ⊎_elim (λ refused. stops c path p how _ (ends.says.plain refused.1.0) refused.0 refused.1.1)
       (λ goes. makes c path p (status_number how) _ goes.0 goes.1 (writes_made c path ends.told goes.0 how ends.says goes.2))
       does)

@@ -1,12 +1,11 @@
 -- What a run of a program that a list of passes made shows of the source.
-use Rattle.std.proofs.Common.{◌≡◌, ℕ, ◌+◌, ◌*◌, ◌≤◌, List, Option, Some, None, refl, sym, ap, ◌∙◌, subst, arith}
+use Rattle.std.proofs.Common.{◌≡◌, ℕ, ◌+◌, ◌*◌, ◌≤◌, List, Option, Some, None, refl, sym, ◌∙◌, subst, arith}
 use Rattle.std.specs.List.{AllZip}
 use Rattle.std.proofs.Math.Nat.{mul-le-mul_left}
-use Rattle.simulation.specs.System.{IsFinal, IsPrefix, Agree}
+use Rattle.simulation.specs.System.{IsFinal, Agree}
 use Rattle.simulation.proofs.Prefix.{IsPrefix-trans}
 use Rattle.bril_tree.specs.Accepted.{IsAccepted}
-use Rattle.bril_tree.specs.Cost.{IsCost}
-use Rattle.bril_tree.specs.Run.{Suits, FitMain, Refines, main_types, program, first_state, state_after}
+use Rattle.bril_tree.specs.Run.{Suits, FitMain, Refines, program, state_after}
 use Rattle.bril_tree.specs.declared.limits.End.{End}
 use Rattle.bril_tree.specs.declared.limits.Limits.{Limits}
 use Rattle.bril_tree.specs.declared.program.Prog.{Prog}
@@ -70,3 +69,7 @@ module _ (p q : Prog) (k : ℕ) (refines : Refines p q k) (limits : Limits) (val
     pub shows_source : (ended : Option End) → ProgramShows q limits values words ended output → SourceShows p q k limits values words ended output
     shows_source None shows = runs_on shows
     shows_source (Some end) shows = ends_too end shows
+
+-- the arguments of a program fit what a list makes of it
+pub fits_made : (l : PassList) (p q : Prog) (made : IsMade l p q) → IsAccepted p → (values : List Value) → FitMain p values → FitMain q values
+fits_made l p q made accepted values fits = subst (λ types. AllZip Suits values types) (made_refines l p q made accepted).same_types fits

@@ -28,7 +28,7 @@ use Rattle.bril_cli.specs.Source.{IsFile, Writes, HasNameFault, HasOnlyNameFault
 use Rattle.bril_cli.specs.Stages.{IsOnlyNameFault, IsOnlyProgram, IsAcceptedProgram, RefusesProgram, PutsText}
 use Rattle.bril_cli.specs.Stats.{SaysTold}
 use Rattle.bril_cli.specs.commands.Check.{accepted_line, Checks}
-use Rattle.bril_cli.specs.commands.Emit.{ListsImage, Emits, EmitsProgram, PutsListing}
+use Rattle.bril_cli.specs.commands.Emit.{ListsImage, Emits, EmitsImage, PutsListing}
 use Rattle.bril_cli.specs.commands.Interp.{StopsForMemory, Interprets, Exhausts, StepsTo, InterpretsProgram}
 use Rattle.bril_cli.specs.commands.Json.{json_line}
 use Rattle.bril_cli.specs.commands.Passes.{IsTextOf, Transforms, PutsProgram, TransformsProgram}
@@ -396,7 +396,7 @@ module _ (c : Call) (frames cells steps : ℕ) (stats : Bool) (path : List ℕ) 
     Answers-program : (how : Status) (told : List ℕ) → SaysTold told how path c.err_before c.err_after → RunsProgram how c.passes p args limits steps stats told c.out_before c.out_after → Answers (status_number how) c
     Answers-program how told says =
         ⊎_elim (λ refused. Answers-misargued c (Run frames cells steps stats) path args asked tt bytes file tree only p program tt how (says.plain refused.1) refused.0 refused.2)
-        (λ goes. ⊎_elim (λ refused. Answers-list c (Run frames cells steps stats) path args asked tt bytes file tree only p program tt how (says.plain refused.1) refused.0 refused.2)
+        (λ goes. ⊎_elim (λ refused. Answers-list c (Run frames cells steps stats) path args asked tt bytes file tree only p program tt how (says.plain refused.1.0) refused.0 refused.1.1)
         (λ made. Answers-made goes.0 goes.1 made.0 made.1 how told says made.2)
         goes.2)
 
@@ -509,7 +509,7 @@ module _ (c : Call) (path : List ℕ) (args : List (List ℕ)) (asked : AsksFor 
 
     Answers-transformed : (how : Status) (told : List ℕ) → SaysTold told how path c.err_before c.err_after → TransformsProgram how c.passes p told c.out_before c.out_after → Answers (status_number how) c
     Answers-transformed how told says =
-        ⊎_elim (λ refused. Answers-list c Passes path args asked tt bytes file tree only p program tt how (says.plain refused.1) refused.0 refused.2)
+        ⊎_elim (λ refused. Answers-list c Passes path args asked tt bytes file tree only p program tt how (says.plain refused.1.0) refused.0 refused.1.1)
         (λ made. Answers-written made.0 made.1 how told says made.2)
 
   Answers-passes : (how : Status) (told : List ℕ) → SaysTold told how path c.err_before c.err_after → AsksProgram Passes how c.passes tree args told c.out_before c.out_after → Answers (status_number how) c

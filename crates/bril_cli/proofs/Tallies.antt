@@ -1,5 +1,5 @@
 -- The lines of the passes that a list used, pass by pass.
-use Rattle.std.proofs.Common.{◌≡◌, ℕ, suc, ◌+◌, ◌<◌, ◌≤◌, ◌⊎◌, Bool, true, false, List, [], ◌∷◌, ◌++◌, length, take, drop, Option, Some, None, refl, sym, ap, ◌∙◌, subst, arith, codes, inl, inr, ⊎_elim, true≢false}
+use Rattle.std.proofs.Common.{◌≡◌, ℕ, suc, ◌+◌, ◌<◌, ◌⊎◌, Bool, true, false, List, [], ◌∷◌, ◌++◌, length, take, drop, Option, Some, None, refl, sym, ap, ◌∙◌, subst, arith, codes, inl, inr, ⊎_elim, true≢false}
 use Rattle.std.specs.Prelude.{get_or, cond, Result, Ok, Err}
 use Rattle.std.proofs.Math.Seq.{take-suc, drop-cons}
 use Rattle.bril_outside.proofs.SinkWrites.{joined-append, PutSome-took, PutAll-append, PutSome-after, PutSome-longer, both_nothing}

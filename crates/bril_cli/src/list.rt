@@ -36,11 +36,13 @@ pub fn transformed(
     match run_list(alloc, passes, names, checked, &profile) {
         Ok(made) => Ok(made),
         Err(ListFault::Unknown { place, prog: _prog }) => Err(Status::UnknownPass { place }),
-        Err(ListFault::TooLarge {
-            place,
-            bound,
-            prog: _prog,
-        }) => Err(Status::PassTooLarge { place, bound }),
+        Err(
+            ListFault::TooLarge {
+                place,
+                bound,
+                prog: _prog,
+            },
+        ) => Err(Status::PassTooLarge { place, bound }),
         Err(ListFault::Memory) => Err(Status::OutOfMemory),
     }
 }

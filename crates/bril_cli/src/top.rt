@@ -95,15 +95,7 @@ pub fn bril_top<F: Files, O: Sink, E: Sink>(
         }
     };
     let mut silenced = false;
-    let status = Status::from(drive(
-        alloc,
-        request,
-        files,
-        out,
-        err,
-        passes,
-        &mut silenced,
-    ));
+    let status = Status::from(drive(alloc, request, files, out, err, passes, &mut silenced));
     say_unless(silenced, err, request.path, &status);
     status_number(&status)
 }

@@ -1,5 +1,5 @@
 -- How many names a list has.
-use Rattle.std.proofs.Common.{◌≡◌, ℕ, suc, ◌+◌, ◌<◌, ◌≤◌, Bool, true, false, List, [], ◌∷◌, ◌++◌, append_assoc, length, ap, sym, ◌∙◌, refl, arith}
+use Rattle.std.proofs.Common.{◌≡◌, ℕ, suc, ◌+◌, ◌<◌, Bool, true, false, List, [], ◌∷◌, ◌++◌, append_assoc, length, ap, sym, ◌∙◌, refl, arith}
 use Rattle.std.specs.Prelude.{nat_lt, nat_le, ◌==◌, not, cond, All}
 use Rattle.std.specs.List.{slice_split, count_by, position_or_len, before_first, after_first}
 use Rattle.std.proofs.lemmas.List.Splits.{length-slice_split, slice_split_first, slice_split_none}

@@ -100,10 +100,7 @@ impl<'a> Values<'a> {
 }
 
 // What comes after the path: the values of options, the flag, and the arguments, each where the command takes it.
-pub(crate) fn tail_of<'a>(
-    command: Command,
-    rest: &'a [Text],
-) -> Option<(Values<'a>, &'a [Text])>
+pub(crate) fn tail_of<'a>(command: Command, rest: &'a [Text]) -> Option<(Values<'a>, &'a [Text])>
     ensures { option_map (λ t. tail_of (values_seen t.0) t.1.now) result ≡ tail_from command nothing_written None rest.now }
 {
     let mut values = Values {

@@ -14,9 +14,15 @@ pub enum Action {
         stats: bool,
     },
     /// Interprets its program, with so many frames and cells at most and so many steps.
-    Interpret { frames: u32, cells: u32, steps: u64 },
+    Interpret {
+        frames: u32,
+        cells: u32,
+        steps: u64,
+    },
     /// Writes the machine words of its program, with so many frames at most.
-    Emit { frames: u32 },
+    Emit {
+        frames: u32,
+    },
     /// Writes its program after the passes.
     Passes,
     /// Writes how many functions and items its program has, where it is accepted.

@@ -92,4 +92,4 @@ EmitsWhere number c =
     (frames : ℕ) (bytes : List ℕ) (reads : ReadsWell c (Emit frames) bytes) (program : Prog) (limits : Limits) →
     CanEmit c frames bytes reads program limits →
     UnlessMemory number (AfterPasses number c program (λ q made. EmitsAfter number q limits
-        (¬ Rose c.out_before.faults c.out_after.faults → (number ≡ 0) × ((output : List ℕ) × ListsImage q limits output × TookAll c.out_before output c.out_after))))
+    (¬ Rose c.out_before.faults c.out_after.faults → (number ≡ 0) × ((output : List ℕ) × ListsImage q limits output × TookAll c.out_before output c.out_after))))

@@ -52,4 +52,4 @@ abbrev pub TransformsWhere : ℕ → Call → Type 0
 TransformsWhere number c =
     (bytes : List ℕ) (program : Prog) (reads : ReadsWell c Passes bytes) → length bytes ≤ most_bytes → IsSource (format_of reads.path) bytes program → IsAccepted program →
     UnlessMemory number (AfterPasses number c program (λ q made. ¬ Rose c.out_before.faults c.out_after.faults →
-        (number ≡ 0) × Says c.err_before (tallies_told c.passes) c.err_after × ((text : List ℕ) × IsTextOf q text × TookAll c.out_before text c.out_after)))
+    (number ≡ 0) × Says c.err_before (tallies_told c.passes) c.err_after × ((text : List ℕ) × IsTextOf q text × TookAll c.out_before text c.out_after)))

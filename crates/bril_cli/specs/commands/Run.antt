@@ -132,4 +132,4 @@ RunsWhere number c =
     (frames cells words : ℕ) (stats : Bool) (bytes : List ℕ) (reads : ReadsWell c (Run frames cells words stats) bytes) (program : Prog) (values : List Value) (limits : Limits) →
     CanRun c frames cells words stats bytes reads program values limits →
     UnlessMemory number (AfterPasses number c program (λ q made. EmitsAfter number q limits
-        (¬ Rose c.out_before.faults c.out_after.faults → IsRun number c program q (factor_of c.passes program q made) limits values words stats)))
+    (¬ Rose c.out_before.faults c.out_after.faults → IsRun number c program q (factor_of c.passes program q made) limits values words stats)))

@@ -85,7 +85,16 @@ fn run_with<O: Sink, E: Sink>(
     ensures { Telling (λ told. RunsValues (status_of result) checked.now.prog settings.limits values.now settings.steps settings.stats told (O.seen out.old) (O.seen out.new)) silenced.new (E.seen err.old) (E.seen err.new) }
 {
     let image = image_of(alloc, checked, settings.limits)?;
-    run_image(alloc, &image, checked.prog(), values, settings, out, err, silenced)
+    run_image(
+        alloc,
+        &image,
+        checked.prog(),
+        values,
+        settings,
+        out,
+        err,
+        silenced,
+    )
 }
 
 // Runs an image that implements the program.

@@ -53,3 +53,9 @@ returns-in_ok-program-in-Passes-clause-does g c =
 pub returns-in_ok-program-in-Check-clause-does : goal.returns-in_ok-program-in-Check-clause-does
 returns-in_ok-program-in-Check-clause-does g c =
     rw c.in-Check.is ([], (refl, inr (c.in_ok-program-in-Check.program.prog, c.in_ok-program-in-Check.ensures.ok, c.put_counts.ensures)), untold c.args.silenced.now _ c.requires.sound)
+
+pub returns-in-WriteText-clause-does : goal.returns-in-WriteText-clause-does
+returns-in-WriteText-clause-does g c = rw c.in-WriteText.is ([], (refl, c.put_text.ensures), untold c.args.silenced.now _ c.requires.sound)
+
+pub returns-in-WriteJson-clause-does : goal.returns-in-WriteJson-clause-does
+returns-in-WriteJson-clause-does g c = rw c.in-WriteJson.is ([], (refl, c.put_json.ensures), untold c.args.silenced.now _ c.requires.sound)

@@ -1,5 +1,5 @@
 -- All lines were put, or a put of one failed.
-use Rattle.std.proofs.Common.{[], refl}
+use Rattle.std.proofs.Common.{[]}
 use Rattle.bril_cli.proofs.Tallies.{tallies_all, tallies_some}
 use Rattle.bril_cli.proofs.list.tell_tallies.Goals as goal
 
