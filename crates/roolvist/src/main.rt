@@ -59,14 +59,8 @@ fn end<F: Files, O: Sink, E: Sink>(
     let Ok(words) = collected(alloc, args) else {
         return ExitCode::from(status_number(&Status::OutOfMemory));
     };
-    ExitCode::from(bril_top(
-        alloc,
-        words.as_slice(),
-        files,
-        out,
-        err,
-        passes,
-    ))
+    let status = bril_top(alloc, words.as_slice(), files, out, err, passes);
+    ExitCode::from(status)
 }
 
 // The status where the system gives no words: one that is no text is a faulty command line.
