@@ -16,8 +16,8 @@ use crate::operations::{binary_size_of, unary_size_of};
 use crate::places::place;
 use crate::sequences::{constant_size_of, load_size_of, store_size_of};
 use crate::sizes::{
-    before_call_size, guard_front_size, load_variable_size, print_size_of, result_size_of,
-    returned_size_of, save_size, store_variable_size,
+    before_call_size, guard_front_size, load_variable_size, moved_size, operands_size,
+    print_size_of, result_size_of, returned_size_of, save_size, store_variable_size,
 };
 use bril_tree::sequence::Seq;
 use slot_code::{SlotFunction, SlotItem};
@@ -62,14 +62,7 @@ pub fn put_item(
             condition,
             then_to,
             else_to,
-        } => {
-            put_branch(
-                code,
-                *condition,
-                place(entries, *then_to),
-                place(entries, *else_to),
-            )
-        }
+        } => { put_branch(code, entries, *condition, *then_to, *else_to) }
         SlotItem::Call {
             dest,
             function,
@@ -106,17 +99,14 @@ pub fn size_of(func: &SlotFunction, depth: usize, item: &SlotItem) -> u32
             operation,
             dest,
             operand,
-        } => {
-            load_variable_size(*operand) + unary_size_of(*operation) + store_variable_size(*dest)
-        }
+        } => { unary_size_of(*operation) + moved_size(*operand, *dest) }
         SlotItem::Binary {
             operation,
             dest,
             first,
             second,
         } => {
-            let operands = load_variable_size(*first) + load_variable_size(*second);
-            operands + binary_size_of(*operation) + store_variable_size(*dest)
+            operands_size(*first, *second) + binary_size_of(*operation) + store_variable_size(*dest)
         }
         SlotItem::Jump { .. } => 1,
         SlotItem::Branch { condition, .. } => load_variable_size(*condition) + 3,
@@ -125,16 +115,10 @@ pub fn size_of(func: &SlotFunction, depth: usize, item: &SlotItem) -> u32
             + result_size_of(*dest),
         SlotItem::Return { value } => returned_size_of(*value) + 4,
         SlotItem::Print { args } => print_size_of(args.as_slice()),
-        SlotItem::Alloc { dest, count } => load_variable_size(*count)
-            + 2
-            + store_variable_size(*dest),
+        SlotItem::Alloc { dest, count } => moved_size(*count, *dest) + 2,
         SlotItem::Free { pointer } => load_variable_size(*pointer) + 2,
-        SlotItem::Store { pointer, value } => load_variable_size(*pointer)
-            + 17
-            + load_variable_size(*value),
-        SlotItem::Load { dest, pointer } => load_variable_size(*pointer)
-            + 20
-            + store_variable_size(*dest),
+        SlotItem::Store { pointer, value } => operands_size(*pointer, *value) + 17,
+        SlotItem::Load { dest, pointer } => moved_size(*pointer, *dest) + 20,
         SlotItem::Speculate => save_size(func, depth) + 1,
         SlotItem::Commit => 1,
         SlotItem::Guard { condition, .. } => guard_front_size(func, depth, *condition) + 1,

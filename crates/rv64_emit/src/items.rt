@@ -1,9 +1,10 @@
 // The words of items at the end of an image.
 
-ghost use Rattle.std.specs.Prelude.{◌≡◌, ◌+◌, ◌*◌, ◌^◌, ◌<◌, ◌≤◌, ◌∷◌, [], ◌++◌, map, pos, length, suc, OnOk};
+ghost use Rattle.std.specs.Prelude.{ℕ, ◌≡◌, ◌+◌, ◌*◌, ◌^◌, ◌<◌, ◌≤◌, ◌∷◌, [], ◌++◌, map, pos, length, suc, OnOk};
 ghost use Rattle.std.specs.List.{AllByRecursion};
 ghost use Rattle.bril_tree.specs.FunctionForm.{listed};
 ghost use Rattle.bril_tree.specs.Value as values;
+ghost use Rattle.rv64_emit.specs.Tables.{table_at};
 ghost use Rattle.rv64_layout.specs.Items as items;
 ghost use Rattle.rv64_sequences.specs.Operations.{unary_words, binary_words, alloc_words, free_words, cell_words, load_cell_words, mark_cell_words, store_cell_words};
 ghost use Rattle.rv64_sequences.specs.Sequences.{constant_words, load_words, store_words, copy_words, jump_offset, load_size};
@@ -15,6 +16,7 @@ use crate::frame::{
     argument_word, level_word, next_level_word, slot_count, slot_word, variable_word, word_of,
 };
 use crate::operations::{put_binary, put_cell, put_load_cell, put_mark_cell, put_unary};
+use crate::places::place;
 use crate::sequences::{
     environment_call, fault, jump, number, put, put_constant, put_copies, put_frame_up, put_load,
     put_store,
@@ -124,25 +126,29 @@ fn ways(at: u32, then_to: u32, else_to: u32) -> [Word; 3]
     ]
 }
 
-/// A jump to one item where a variable holds true, else to another.
+/// A jump to one item where a variable holds true, else to another. The table has the words at which items begin.
 #[tactic(auto, using(crate::proofs::Appending::put_then))]
 pub fn put_branch(
     code: &mut Seq<u32>,
+    entries: &[u32],
     condition: u32,
     then_to: u32,
     else_to: u32,
 ) -> Result<(), AllocError>
     requires here { length code.old + (load_size (2 + condition) + 3) ≤ 250000 }
     requires condition { 2 + condition < 2 ^ 26 }
-    requires then_to { then_to ≤ 250000 }
-    requires else_to { else_to ≤ 250000 }
+    requires some_entries { 0 < length entries.now }
+    requires few_entries { (k : ℕ) → table_at entries.now k ≤ 250000 }
     ensures { let at = length code.old + load_size (2 + condition) in OnOk result (code.new ≡ code.old ++ map encoded
-        (load_words 5 (2 + condition) ++ mnemonics.beq 5 0 (pos 8) ∷ Word.Jal 0 (jump_offset (at + 1) then_to)
-        ∷ Word.Jal 0 (jump_offset (at + 2) else_to) ∷ [])) }
+        (load_words 5 (2 + condition) ++ mnemonics.beq 5 0 (pos 8) ∷ Word.Jal 0 (jump_offset (at + 1) (table_at entries.now then_to))
+        ∷ Word.Jal 0 (jump_offset (at + 2) (table_at entries.now else_to)) ∷ [])) }
 {
     let at = code.as_slice().len() as u32 + load_variable_size(condition);
     put_load(code, 5, variable_word(condition))?;
-    put(code, &ways(at + 1, then_to, else_to))
+    put(
+        code,
+        &ways(at + 1, place(entries, then_to), place(entries, else_to)),
+    )
 }
 
 // ---- calls and returns

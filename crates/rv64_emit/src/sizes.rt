@@ -26,6 +26,22 @@ pub fn store_variable_size(variable: u32) -> u32
     store_size_of(variable_word(variable))
 }
 
+/// How many words load two variables.
+pub fn operands_size(first: u32, second: u32) -> u32
+    ensures value { result ≡ load_size (2 + first) + load_size (2 + second) }
+    ensures few { result ≤ 6 }
+{
+    load_variable_size(first) + load_variable_size(second)
+}
+
+/// How many words load one variable and store another.
+pub fn moved_size(from: u32, to: u32) -> u32
+    ensures value { result ≡ load_size (2 + from) + store_size (2 + to) }
+    ensures few { result ≤ 6 }
+{
+    load_variable_size(from) + store_variable_size(to)
+}
+
 // How many words pass the arguments of a call.
 fn pass_size_of(func: &SlotFunction, args: &[u32]) -> u32
     requires frame { func.now.words < 2 ^ 26 }

@@ -24,7 +24,7 @@ use Rattle.tidy_code.proofs.Refines.{tidying, tidy_plan, preserves, kept-tree, n
 use Rattle.tidy_code.proofs.Walks.{matched_walks}
 
 module _ (P Q : Prog) (keep : ℕ → ℕ → Bool) (accepted : IsAccepted P) (t : Tidied P keep Q) (f : ℕ) where
-  -- a reached point of P has a reached one of Q points it
+  -- for a reached point of P there is a reached one of Q that matches
   onwards : (i : ℕ) → IsReached (code_of P f) i → ReachedBeside (tidy_plan P Q keep t) P Q f i → (w : Branch) → In w (branches_at (code_of P f) i) → ReachedBeside (tidy_plan P Q keep t) P Q f w.to
   onwards i was r w among = by (item_at P f i) (keep f i) refl refl
     where
@@ -42,8 +42,8 @@ module _ (P Q : Prog) (keep : ℕ → ℕ → Bool) (accepted : IsAccepted P) (t
 
   module _ (F G : Func) (p : slice_get P.funcs f ≡ Some F) (q : slice_get Q.funcs f ≡ Some G) where
     -- each item of Q is a kept one of P, and is reached
-    items : (j : ℕ) (b : Instr) → item_at Q f j ≡ Some b → IsNew P Q f F G b ⊎ IsOld P Q f F G j b
-    items j b at =
+    pub old-item : (j : ℕ) (b : Instr) → item_at Q f j ≡ Some b → IsOld P Q f F G j b
+    old-item j b at =
         let size : length G.code ≡ kept_count (keep f) 0 (length F.code) =
         sym (length-map G.code (item_tree (names_of_functions Q.funcs) (variable_names G.vars) G.labels)) ∙ ap length (t.code f F G p q) ∙ kept-length (keep f) 0 (code_tree P F)
         ∙ ap (kept_count (keep f) 0) (length-map F.code (item_tree (names_of_functions P.funcs) (variable_names F.vars) F.labels)) in
@@ -55,11 +55,14 @@ module _ (P Q : Prog) (keep : ℕ → ℕ → Bool) (accepted : IsAccepted P) (t
         let here : item_at P f k.index ≡ Some a.0 = ap (λ o. slice_get (items_of o) k.index) p ∙ a.1 in
         let r = reached_points (tidy_plan P Q keep t) P Q f (preserves P Q keep t accepted) onwards k.index (t.kept f k.index a.0 here kept).0 in
         let same : r.j ≡ j = r.points ∙ k.count in
-        inr (record {
+        record {
           i = k.index;
           tree = sym (kept-tree P Q keep t f k.index _ (found P f k.index a.0 here).tree kept ∙ ap (tree_at Q f) k.count);
           stays = inl (subst (IsReached (code_of Q f)) same r.reached);
-        })
+        }
+
+    items : (j : ℕ) (b : Instr) → item_at Q f j ≡ Some b → IsNew P Q f F G b ⊎ IsOld P Q f F G j b
+    items j b at = inr (old-item j b at)
 
     edits : Edits (tidy_plan P Q keep t) P Q f F G
     edits = record {

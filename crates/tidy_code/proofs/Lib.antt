@@ -6,3 +6,4 @@ pub mod Accepted
 pub mod Staying
 pub mod Made
 pub mod Turns
+pub mod Numbers

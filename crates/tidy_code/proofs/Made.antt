@@ -291,7 +291,7 @@ module _ (P : Prog) (accepted : IsAccepted P) where
     pub tidied-points : Tidied P keep Q
     tidied-points = record { heads = heads-of_trees P Q heads; dropped = dropped; kept = kept; code = codes }
 
-  -- ---- what the function wants
+  -- ---- what the function needs
 
   pub makes-of_tree : (tree : Tree) → IsTidiedTree P tree → (Q : Prog) → Numbered tree Q → IsTidied P Q
   makes-of_tree tree t Q of_q = subst (IsTidiedTree P) (numbered-tree_of tree Q of_q) t

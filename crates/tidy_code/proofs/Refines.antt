@@ -107,7 +107,7 @@ module _ (P Q : Prog) (keep : ℕ → ℕ → Bool) (t : Tidied P keep Q) where
       by true e = e
       by false e = absurd (not_nop (item_at P f i) refl e)
 
-  keeps : KeepsNames P Q tidying
+  pub keeps : KeepsNames P Q tidying
   keeps = record {
     heads = t.heads;
     start = λ f. refl;

@@ -23,7 +23,7 @@ pub record Keeping (code : List Instr) (i : ℕ) (xs ys : List Item) : Type 0 wh
   pub stays : (k : ℕ) (x : Item) → slice_get xs k ≡ Some x → keep (i + k) ≡ true → IsStaying code (i + k) x
   pub drops : (k : ℕ) (x : Item) → slice_get xs k ≡ Some x → keep (i + k) ≡ false → IsStaying code (i + k) x → ⊥
 
--- the test at a point, and that of the points behind it
+-- the test at a point, and that of the points after it
 first_test : Bool → ℕ → (ℕ → Bool) → ℕ → Bool
 first_test b i rest n = cond (n == i) b (rest n)
 
@@ -40,7 +40,7 @@ module _ (code : List Instr) (i : ℕ) (x : Item) (xs ys : List Item) (r : Keepi
     test-items : kept_items r.keep (suc i) xs ≡ kept_items (first_test b i r.keep) (suc i) xs
     test-items = sym (kept_alike (first_test b i r.keep) r.keep (suc i) xs test-later)
 
-    -- the first item, or one behind it
+    -- the first item, or one after it
     at-first : (P : ℕ → Item → Type 0) → P i x → ((k : ℕ) (y : Item) → slice_get xs k ≡ Some y → P (suc i + k) y) → (k : ℕ) (y : Item) → slice_get (x ∷ xs) k ≡ Some y → P (i + k) y
     at-first P here rest zero y e = let z : i ≡ i + zero = omega arith in subst (λ n. P n y) z (subst (P i) (same_Some x y e) here)
     at-first P here rest (suc k) y e = let z : suc i + k ≡ i + suc k = omega arith in subst (λ n. P n y) z (rest k y e)

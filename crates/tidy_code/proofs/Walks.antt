@@ -27,7 +27,7 @@ use Rattle.tidy_code.proofs.Refines.{tidy_plan, preserves, nop-goes_on}
 
 module _ (keep : ℕ → Bool) where
   -- among n numbers from i on the one that is kept after j others; the end where there is none
-  nth_kept : ℕ → ℕ → ℕ → ℕ
+  pub nth_kept : ℕ → ℕ → ℕ → ℕ
   nth_kept zero i j = i
   nth_kept (suc n) i zero = cond (keep i) i (nth_kept n (suc i) zero)
   nth_kept (suc n) i (suc j) = nth_kept n (suc i) (cond (keep i) j (suc j))
@@ -44,7 +44,7 @@ module _ (keep : ℕ → Bool) where
   nth-is (suc n) i (suc j) = ⊎_elim inl (λ e. inr (omega (arith, e))) (nth-is n (suc i) (cond (keep i) j (suc j)))
 
   -- a kept number, or the end, is found again by its count
-  nth-count : (n i k : ℕ) → k ≤ n → (keep (i + k) ≡ true) ⊎ (k ≡ n) → nth_kept n i (kept_count keep i k) ≡ i + k
+  pub nth-count : (n i k : ℕ) → k ≤ n → (keep (i + k) ≡ true) ⊎ (k ≡ n) → nth_kept n i (kept_count keep i k) ≡ i + k
   unfolding nth_kept
   nth-count zero i k le h = omega arith
   nth-count (suc n) i zero le (inl e) = let z : i + zero ≡ i = omega arith in ap (λ b. cond b i (nth_kept n (suc i) zero)) (ap keep (sym z) ∙ e) ∙ sym z
@@ -66,9 +66,9 @@ module _ (P Q : Prog) (keep : ℕ → ℕ → Bool) (accepted : IsAccepted P) (t
   nop-assigns (Act d ty _ args fns ls) ret s n = absurd n
 
   -- a walk of P is drawn on past what is dropped
-  record Drawn (v : List Branch) : Type 0 where
-    matched : MatchedWalk (tidy_plan P Q keep t) P Q f args result_args v
-    stays : (keep f (end_of matched.walk) ≡ true) ⊎ (item_at P f (end_of matched.walk) ≡ None)
+  pub record Drawn (v : List Branch) : Type 0 where
+    pub matched : MatchedWalk (tidy_plan P Q keep t) P Q f args result_args v
+    pub stays : (keep f (end_of matched.walk) ≡ true) ⊎ (item_at P f (end_of matched.walk) ≡ None)
 
   one_more : (v : List Branch) (l : MatchedWalk (tidy_plan P Q keep t) P Q f args result_args v) (a : Instr) → item_at P f (end_of l.walk) ≡ Some a → keep f (end_of l.walk) ≡ false → WalksMatch (tidy_plan P Q keep t) P Q f args result_args (onward (end_of l.walk) ∷ l.walk) v
   one_more v l a at e =
@@ -89,7 +89,7 @@ module _ (P Q : Prog) (keep : ℕ → ℕ → Bool) (accepted : IsAccepted P) (t
       by (Some a) true at e rest = record { matched = l; stays = inl e }
       by (Some a) false at e rest = rest a at e
 
-  drawn : (v : List Branch) (l : MatchedWalk (tidy_plan P Q keep t) P Q f args result_args v) → Drawn v
+  pub drawn : (v : List Branch) (l : MatchedWalk (tidy_plan P Q keep t) P Q f args result_args v) → Drawn v
   drawn v l = draw (suc (length (code_of P f))) v l (omega arith)
 
   abbrev old : ℕ → ℕ

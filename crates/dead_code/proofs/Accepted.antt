@@ -1,0 +1,151 @@
+-- A deadened program is accepted.
+use Rattle.std.proofs.Common.{◌≡◌, ◌⊎◌, ℕ, suc, Bool, true, false, List, [], ◌∷◌, ◌++◌, length, map, Option, Some, None, refl, sym, ap, subst, ◌∙◌, inl, inr, ⊎_elim, arith}
+use Rattle.std.specs.Prelude.{slice_get, is_some}
+use Rattle.std.proofs.lemmas.List.{length-map}
+use Rattle.std.proofs.lemmas.Option.{same_Some}
+use Rattle.bril_tree.specs.declared.numbered.Instr.{Instr}
+use Rattle.bril_tree.specs.declared.numbered.Instr.TheVariants.{Label, Const, Act}
+use Rattle.bril_tree.specs.declared.numbered_function.Func.{Func}
+use Rattle.bril_tree.specs.declared.operation.Op.{Op}
+use Rattle.bril_tree.specs.declared.operation.Op.TheVariants as op
+use Rattle.bril_tree.specs.declared.types.Ty.{Ty}
+use Rattle.bril_tree.specs.declared.program.Prog.{Prog}
+use Rattle.bril_tree.specs.Accepted.{IsAccepted}
+use Rattle.bril_tree.specs.Assigned.{assigned_of, assigns_at, assigns_of}
+use Rattle.bril_tree.specs.Edge.{Branch, branches_at, branches_from, onward}
+use Rattle.bril_tree.specs.Membership.{In}
+use Rattle.bril_tree.specs.Numbered.{item_tree, named, names_in, names_of_functions, nop}
+use Rattle.bril_tree.specs.Operand.{Location, Variable, reads_of}
+use Rattle.bril_tree.specs.Shape.{is_shaped, shape_of}
+use Rattle.bril_tree.specs.Step.{code_of, item_at}
+use Rattle.bril_tree.specs.Walk.{IsWalk, IsReached, end_of}
+use Rattle.bril_tree.proofs.Members.{in_append_cases}
+use Rattle.bril_tree.proofs.Shapes.{shape-parts}
+use Rattle.pass_accept.specs.Edited.{IsNew, LosesNoDestination, IsOld, Edits}
+use Rattle.pass_accept.proofs.Heads.{start_matched}
+use Rattle.pass_accept.proofs.Alone.{went_on, both_alone}
+use Rattle.pass_accept.proofs.Reaching.{ReachedBeside, regular-reaches, reached_points, reached-on}
+use Rattle.pass_accept.proofs.Edited.{edit_accepted}
+use Rattle.pass_names.proofs.Preserving.{found, nothing_found}
+use Rattle.pass_steps.proofs.Shapes.{shaped_here}
+use Rattle.pass_walks.specs.Matched.{Covers, WalksMatch, MatchedWalk, IsHarmless, MatchesWalks}
+use Rattle.pass_walks.proofs.Walks.{regular_branch_matched}
+use Rattle.dead_code.specs.Removable.{is_silent}
+use Rattle.dead_code.proofs.Chain.{Gone, was_reached}
+use Rattle.dead_code.proofs.Points.{Deadened}
+use Rattle.dead_code.proofs.Refines.{deadening, dead_plan, preserves, staying-tree, gone-nop, flows-back}
+use Rattle.dead_code.proofs.Step.{computation-on, computation-keeps}
+
+empty : (xs : List ℕ) → length xs ≡ 0 → xs ≡ []
+empty [] e = refl
+empty (x ∷ xs) e = absurd (omega arith)
+
+-- a silent item and one of the same tree read nothing
+module _ (fs V W lP lQ : List (List ℕ)) (ret : Bool) where
+  nop-reads : (d e : Option ℕ) (ty tz : Option Ty) (o : Op) (args brgs fns gns ls ms : List ℕ) → length args ≡ 0 → item_tree fs V lP (Act d ty op.Nop args fns ls) ≡ item_tree fs W lQ (Act e tz o brgs gns ms) → reads_of (Act e tz o brgs gns ms) ≡ []
+  nop-reads d e ty tz o args brgs fns gns ls ms none same =
+      let operation : op.Nop ≡ o = cc in
+      let names : map (named V) args ≡ map (named W) brgs = cc in
+      let long : length brgs ≡ 0 = sym (length-map brgs (named W)) ∙ sym (ap length names) ∙ length-map args (named V) ∙ none in
+      ap (λ z. reads_of (Act e tz z brgs gns ms)) (sym operation) ∙ ap (λ l. reads_of (Act e tz op.Nop l gns ms)) (empty brgs long)
+
+  silent-reads : (a b : Instr) → is_shaped ret a ≡ true → is_silent a ≡ true → item_tree fs V lP a ≡ item_tree fs W lQ b → reads_of b ≡ []
+  silent-reads (Label l) (Label m) s e same = refl
+  silent-reads (Label l) (Const d ty v) s e same = refl
+  silent-reads (Label l) (Act d ty o args fns ls) s e same = absurd cc
+  silent-reads (Const d ty v) b s e same = absurd cc
+  silent-reads (Act d ty op.Nop args fns ls) (Label m) s e same = refl
+  silent-reads (Act d ty op.Nop args fns ls) (Const x tz v) s e same = refl
+  silent-reads (Act d ty op.Nop args fns ls) (Act x tz o brgs gns ms) s e same = nop-reads d x ty tz o args brgs fns gns ls ms (shape-parts (shape_of ret op.Nop) (is_some d) (length args) (length fns) (length ls) s).args_are same
+  silent-reads (Act d ty _ args fns ls) b s e same = absurd cc
+
+module _ (P Q : Prog) (made : ℕ → List Instr) (accepted : IsAccepted P) (t : Deadened P Q made) (f : ℕ) where
+  -- a reached point is reached in Q
+  onwards : (i : ℕ) → IsReached (code_of P f) i → ReachedBeside (dead_plan P Q made t) P Q f i → (w : Branch) → In w (branches_at (code_of P f) i) → ReachedBeside (dead_plan P Q made t) P Q f w.to
+  onwards i was r w among = ⊎_elim (λ same. regular-reaches (dead_plan P Q made t) P Q f (preserves P Q made t accepted) i r.j was r.points r.reached same w among) gone ((t.chain f).became i)
+    where
+      gone : Gone (code_of P f) (made f) i → ReachedBeside (dead_plan P Q made t) P Q f w.to
+      gone g =
+          let c = (g.why was).computes in
+          let branch : w ≡ onward i = ⊎_elim (λ s. s) (λ n. absurd n) (subst (In w) (computation-on (code_of P f) i g.item c) (subst (λ o. In w (branches_from (code_of P f) i o)) g.was among)) in
+          let here : In (onward i) (branches_at (code_of Q f) i) = subst (λ o. In (onward i) (branches_from (code_of Q f) i o)) (sym (gone-nop P Q made t f i g)) (inl refl) in
+          record { j = suc i; points = ap (λ (v : Branch). v.to) branch; reached = reached-on (code_of Q f) i (onward i) (subst (IsReached (code_of Q f)) (sym r.points) r.reached) here }
+
+  also_reached : (i : ℕ) → IsReached (code_of P f) i → IsReached (code_of Q f) i
+  also_reached i was = let r = reached_points (dead_plan P Q made t) P Q f (preserves P Q made t accepted) onwards i was in subst (IsReached (code_of Q f)) (sym r.points) r.reached
+
+  module _ (F G : Func) (p : slice_get P.funcs f ≡ Some F) (q : slice_get Q.funcs f ≡ Some G) where
+    nop-new : IsNew P Q f F G nop
+    nop-new = record { dest = λ x y name d. absurd (cc); fits = λ types. record { shaped = refl; calls = refl; typed = refl } }
+
+    no-reads : (b : Instr) → reads_of b ≡ [] → LosesNoDestination P Q f F G b
+    no-reads b e x y name among i a at dest = absurd (subst (In (Variable y)) e among)
+
+    -- each item of Q is a `nop` that the pass made, or one of P
+    items : (j : ℕ) (b : Instr) → item_at Q f j ≡ Some b → IsNew P Q f F G b ⊎ IsOld P Q f F G j b
+    items j b at = ⊎_elim stays (λ g. inl (subst (IsNew P Q f F G) (same_Some nop b (sym (gone-nop P Q made t f j g) ∙ at)) nop-new)) ((t.chain f).became j)
+      where
+        stays : slice_get (made f) j ≡ item_at P f j → IsNew P Q f F G b ⊎ IsOld P Q f F G j b
+        stays same = inr (by (item_at P f j) refl)
+          where
+            by : (o : Option Instr) → item_at P f j ≡ o → IsOld P Q f F G j b
+            by None none = absurd (let h = sym (nothing_found P f j none) ∙ staying-tree P Q made t f j same ∙ (found Q f j b at).tree in cc)
+            by (Some a) here = record {
+              i = j;
+              tree = sym (staying-tree P Q made t f j same);
+              stays = ⊎_elim (λ s. inr (no-reads b (quiet a here s))) (λ r. inl (also_reached j (was_reached (code_of P f) (made f) (t.chain f) j r))) (t.stays f j a (same ∙ here));
+            }
+              where
+                quiet : (a : Instr) → item_at P f j ≡ Some a → is_silent a ≡ true → reads_of b ≡ []
+                quiet a here s =
+                    let mine = found P f j a here in
+                    let theirs = found Q f j b at in
+                    let fact = shaped_here P accepted f j a here in
+                    silent-reads (names_of_functions P.funcs) (names_in (slice_get P.funcs f)) (names_in (slice_get Q.funcs f)) mine.function.labels theirs.function.labels fact.ret a b fact.shaped s
+                    (same_Some _ _ (sym mine.tree ∙ staying-tree P Q made t f j same ∙ theirs.tree) ∙ ap (λ fs. item_tree fs (names_in (slice_get Q.funcs f)) theirs.function.labels b) (sym t.heads.names))
+
+    goes_on : (v : List Branch) (b : Branch) → IsWalk (code_of Q f) v → (l : MatchedWalk (dead_plan P Q made t) P Q f F.args G.args v) → In b (branches_at (code_of Q f) (end_of v)) → MatchedWalk (dead_plan P Q made t) P Q f F.args G.args (b ∷ v)
+    goes_on v b is l among =
+        ⊎_elim (λ same. regular_branch_matched (dead_plan P Q made t) P Q f F.args G.args accepted (preserves P Q made t accepted) v b (record { walk = l.walk; matches = l.matches; regular = same }) among) gone ((t.chain f).became (end_of l.walk))
+      where
+        gone : Gone (code_of P f) (made f) (end_of l.walk) → MatchedWalk (dead_plan P Q made t) P Q f F.args G.args (b ∷ v)
+        gone g =
+            let i = end_of l.walk in
+            let was : IsReached (code_of P f) i = record { walk = l.walk; is = l.matches.is; ends = refl } in
+            let why = g.why was in
+            let on = computation-on (code_of P f) i g.item why.computes in
+            let here : item_at Q f (end_of v) ≡ Some nop = ap (item_at Q f) (sym l.matches.points) ∙ gone-nop P Q made t f i g in
+            let branch : b ≡ onward (end_of v) = ⊎_elim (λ s. s) (λ n. absurd n) (subst (λ o. In b (branches_from (code_of Q f) (end_of v) o)) here among) in
+            let mine = went_on (code_of P f) F.args l.walk g.item l.matches.is g.was (subst (In (onward i)) (sym on) (inl refl)) (computation-keeps g.item false why.computes) in
+            let theirs = went_on (code_of Q f) G.args v nop is here (inl refl) refl in
+            let step : In (onward i) (branches_at (code_of P f) i) = subst (λ o. In (onward i) (branches_from (code_of P f) i o)) (sym g.was) (subst (In (onward i)) (sym on) (inl refl)) in
+            let covers : Covers ((dead_plan P Q made t).LocationsMatch f (suc i) (suc (end_of v))) (assigns_of g.item ++ (assigned_of (code_of P f) F.args l.walk).locations) (assigned_of (code_of Q f) G.args v).locations =
+            λ x y matches among.
+            let free : In x (assigns_of g.item) → ⊥ = λ k. why.unused x k matches.1 in
+            l.matches.locations x y (matches.0, flows-back P Q made t f i (onward i) x was step refl matches.1 (subst (λ o. In x (assigns_at o) → ⊥) (sym g.was) free))
+            (⊎_elim (λ k. absurd (free k)) (λ k. k) (in_append_cases x (assigns_of g.item) (assigned_of (code_of P f) F.args l.walk).locations among)) in
+            record {
+              walk = onward i ∷ l.walk;
+              matches = subst (λ w. WalksMatch (dead_plan P Q made t) P Q f F.args G.args (onward i ∷ l.walk) (w ∷ v)) (sym branch)
+                  (both_alone (dead_plan P Q made t) P Q f F.args G.args l.walk v l.matches g.item nop mine theirs (ap suc l.matches.points) covers);
+            }
+
+    pub walks : MatchesWalks (dead_plan P Q made t) P Q f F.args G.args
+    walks = record {
+      old = λ j. j;
+      start = start_matched P Q t.heads f F G p q (deadening P Q made t) refl;
+      branches = goes_on;
+      drawn = λ v l. (l, l.matches.points);
+      settled = λ v l e. ⊎_elim inl (λ g. inr (harmless _ (end_of v) (ap (item_at Q f) (sym l.matches.points) ∙ gone-nop P Q made t f (end_of l.walk) g))) ((t.chain f).became (end_of l.walk));
+      once = λ s u w b r c k. sym b ∙ c;
+    }
+      where
+        harmless : (Assured : Location → Type 0) (j : ℕ) → item_at Q f j ≡ Some nop → IsHarmless Assured (slice_get (code_of Q f) j)
+        harmless Assured j e = subst (IsHarmless Assured) (sym e) (record { there = refl; alone = refl; closed = refl; reads = λ item same y among. absurd (subst (In y) (sym (ap reads_of (same_Some nop item same))) among) })
+
+    edits : Edits (dead_plan P Q made t) P Q f F G
+    edits = record { items = items; walks = inl walks }
+
+-- the result of the pass is accepted
+pub deadened-accepted : (P Q : Prog) (made : ℕ → List Instr) → IsAccepted P → Deadened P Q made → IsAccepted Q
+deadened-accepted P Q made accepted t = edit_accepted (λ _ _. dead_plan P Q made t) P Q accepted (preserves P Q made t accepted) t.heads (λ f F G p q. edits P Q made accepted t f F G p q)

@@ -1,0 +1,15 @@
+pub mod Step
+pub mod Chain
+pub mod Computing
+pub mod Points
+pub mod Refines
+pub mod Accepted
+pub mod Marks
+pub mod Searching
+pub mod Working
+pub mod Queueing
+pub mod Clearing
+pub mod Looking
+pub mod Sweeping
+pub mod Made
+pub mod Numbers

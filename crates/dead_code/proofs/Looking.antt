@@ -1,0 +1,134 @@
+-- Looking at a location: the search, its items one after another, and what is settled then.
+use Rattle.std.proofs.Common.{◌≡◌, ◌⊎◌, ◌↔◌, ℕ, suc, ◌+◌, ◌<◌, ◌≤◌, Bool, true, false, List, [], ◌∷◌, ◌++◌, length, get_or, set, take, Some, sym, ap, subst, ◌∙◌, inl, inr, ⊎_elim, arith}
+use Rattle.std.specs.Prelude.{slice_get}
+use Rattle.std.specs.List.{All, Contains}
+use Rattle.std.proofs.lemmas.Bool.{cases_Bool, cases_eq}
+use Rattle.std.proofs.lemmas.List.{get_or-set_same, get_or-set_other, take_more}
+use Rattle.std.proofs.lemmas.List.Elements.{All-push, All-weaker}
+use Rattle.std.proofs.lemmas.Option.{same_Some, slice_get_within}
+use Rattle.bril_tree.specs.declared.numbered.Instr.{Instr}
+use Rattle.bril_tree.specs.Membership.{In}
+use Rattle.bril_tree.specs.Numbered.{nop}
+use Rattle.bril_tree.specs.Operand.{Location, reads_of}
+use Rattle.bril_tree.proofs.Members.{in_contains, contains_in}
+use Rattle.definite_assignment.specs.Location.{number_of}
+use Rattle.graph_search.specs.Path.{IsReached as IsFound}
+use Rattle.graph_search.specs.declared.graph.Arc.{Arc}
+use Rattle.live_sets.specs.Arcs.{AreBackArcs}
+use Rattle.live_sets.specs.Reads.{Accesses, reads_from}
+use Rattle.live_sets.specs.declared.accesses.Access.{Access}
+use Rattle.live_sets.proofs.Law.{AreReaders}
+use Rattle.live_sets.proofs.ReadLists.{readers_are, reads-inside}
+use Rattle.dead_code.specs.Work.{IsLookedAt, IsReadBy, IsSearched, IsSound, IsWork, Queues, Unqueues, assignments_from, is_marked, reads_left, remaining}
+use Rattle.dead_code.proofs.Clearing.{is_assignment, removable, settled}
+use Rattle.dead_code.proofs.Marks.{with_nops-alive, with_nops-dead}
+use Rattle.dead_code.proofs.Queueing.{All-in, in-All}
+use Rattle.dead_code.proofs.Searching.{found-live, live-found}
+use Rattle.dead_code.proofs.Working.{remaining-chain, more, fewer-reads, more-work, more-searched}
+
+-- ---- the search
+
+module _ (code : List Instr) (dead : List Bool) (list : List Access) (reads : list ≡ reads_from 0 code) (number : ℕ) (readers : List ℕ) (exact : (item : ℕ) → Contains readers item ↔ Accesses list number item) where
+  pub readers-within : All (λ item. item < length code) readers
+  readers-within = in-All (λ item. item < length code) readers (λ item i.
+      let c = (exact item).0 (contains_in item readers i) in
+      let all : All (λ (a : Access). a.item < 0 + length code) list = subst (All (λ (a : Access). a.item < 0 + length code)) (sym reads) (reads-inside 0 code) in
+      let low : item < 0 + length code = All-in (λ (a : Access). a.item < 0 + length code) list (record { item = item; location = number }) all (in_contains _ list c) in
+      omega arith)
+
+  module _ (sound : IsSound code dead) (alive : List ℕ) (living : (item : ℕ) → Contains alive item ↔ (Contains readers item × (is_marked dead item ≡ false))) where
+    pub alive-within : (points : ℕ) → points ≡ length code + 1 → All (λ item. item < points) alive
+    alive-within points total = in-All (λ item. item < points) alive (λ item i.
+        let c = (living item).0 (contains_in item alive i) in
+        let low = All-in (λ n. n < length code) readers item readers-within (in_contains item readers c.0) in
+        omega arith)
+
+    -- the items that read the location in what remains
+    alive-readers : (x : Location) → number_of x ≡ number → AreReaders (remaining code dead) x alive
+    alive-readers x is = record { there = there; only = only }
+      where
+        all : AreReaders code x readers
+        all = readers_are code x readers (λ item. let e = exact item in subst (λ n. (Contains readers item → Accesses (reads_from 0 code) n item) × (Accesses (reads_from 0 code) n item → Contains readers item)) (sym is) (subst (λ l. (Contains readers item → Accesses l number item) × (Accesses l number item → Contains readers item)) reads (e.0, e.1)))
+
+        there : (p : ℕ) (item : Instr) → slice_get (remaining code dead) p ≡ Some item → Contains (reads_of item) x → Contains alive p
+        there p item at c = by (cases_Bool (is_marked dead p))
+          where
+            by : (is_marked dead p ≡ true) ⊎ (is_marked dead p ≡ false) → Contains alive p
+            by (inl m) = absurd (let n : nop ≡ item = same_Some nop item (sym (with_nops-dead nop dead code p sound.long m) ∙ at) in subst (In x) (sym (ap reads_of n)) (in_contains x (reads_of item) c))
+            by (inr m) = (living p).1 (all.there p item (sym (with_nops-alive nop dead code p m) ∙ at) c, m)
+
+        only : (p : ℕ) → Contains alive p → (item : Instr) × (slice_get (remaining code dead) p ≡ Some item) × Contains (reads_of item) x
+        only p c = let l = (living p).0 c in let r = all.only p l.0 in (r.0, with_nops-alive nop dead code p l.1 ∙ r.1, r.2)
+
+    pub searched : (arcs : List Arc) → AreBackArcs code arcs → (seeds found : List ℕ) → seeds ≡ alive → ((p : ℕ) → Contains found p ↔ IsFound arcs seeds number p) → (queued : List Bool) → IsSearched code dead queued number found
+    searched arcs are seeds found same search queued = record {
+      live = λ x is off p reached c.
+          found-live code (remaining code dead) (remaining-chain code dead sound) arcs are x alive (alive-readers x is) p (subst (λ n. IsFound arcs alive n p) (sym is) (subst (λ s. IsFound arcs s number p) same ((search p).0 c))) reached;
+      not_live = λ x is p reached away live.
+          away ((search p).1 (subst (λ s. IsFound arcs s number p) (sym same) (subst (λ n. IsFound arcs alive n p) is (live-found code (remaining code dead) (remaining-chain code dead sound) arcs are x alive (alive-readers x is) p reached live))));
+    }
+
+-- ---- one item
+
+-- what looking at an item leaves
+pub record Looked (code : List Instr) (dead more : List Bool) (queue longer : List ℕ) (queued marked : List Bool) (number : ℕ) (found : List ℕ) (item : ℕ) : Type 0 where
+  pub work : IsWork code more longer marked (λ n. n ≡ number)
+  pub searched : IsSearched code more marked number found
+  pub looked : IsLookedAt more found item
+  pub kept : (k : ℕ) → is_marked dead k ≡ true → is_marked more k ≡ true
+  pub less : reads_left (remaining code more) + length longer ≤ reads_left (remaining code dead) + length queue
+
+pub item-within : (code : List Instr) (number item : ℕ) → Accesses (assignments_from 0 code) number item → item < length code
+item-within code number item a = let r = is_assignment code number item a in slice_get_within code item r.item r.at
+
+pub look-dead : (code : List Instr) (dead : List Bool) (queue longer : List ℕ) (queued marked : List Bool) (number item : ℕ) (found : List ℕ) (instr : Instr) → number < length queued → IsWork code dead queue queued (λ n. n ≡ number) → IsSearched code dead queued number found → Accesses (assignments_from 0 code) number item
+    → is_marked dead item ≡ false → (Contains found (suc item) → ⊥) → slice_get code item ≡ Some instr → Queues (IsReadBy instr) (length (reads_of instr)) queue longer queued marked → Looked code dead (set dead item true) queue longer queued marked number found item
+look-dead code dead queue longer queued marked number item found instr inside w s access alive away at q =
+    let a = is_assignment code number item access in
+    let r = removable code dead queued number item found w.sound w.none_idle s a alive away in
+    let same : instr ≡ r.0.item = same_Some instr a.item (sym at ∙ a.at) ∙ sym r.1 in
+    let queues : Queues (IsReadBy r.0.item) (length (reads_of r.0.item)) queue longer queued marked = subst (λ (i : Instr). Queues (IsReadBy i) (length (reads_of i)) queue longer queued marked) same q in
+    let low : item < length dead = (let l = w.sound.long in let k = item-within code number item access in omega arith) in
+    let fewer = fewer-reads code dead w.sound item low r.0 in
+    let few = queues.few in
+    record {
+      work = more-work code dead w.sound item low r.0 queue longer queued marked queues (λ n. n ≡ number) w;
+      searched = more-searched code dead w.sound item low r.0 queue longer queued marked queues number found inside s;
+      looked = inl (get_or-set_same dead item true false low);
+      kept = λ k e. ⊎_elim (λ h. ap (is_marked (set dead item true)) h ∙ get_or-set_same dead item true false low) (λ d. get_or-set_other dead item k true false d ∙ e) (cases_eq k item);
+      less = omega arith;
+    }
+
+-- ---- several items
+
+pub looked-more : (dead more : List Bool) (found items : List ℕ) (i item : ℕ) → i < length items → item ≡ get_or items i 0 → ((k : ℕ) → is_marked dead k ≡ true → is_marked more k ≡ true) → All (IsLookedAt dead found) (take i items) → IsLookedAt more found item → All (IsLookedAt more found) (take (i + 1) items)
+looked-more dead more found items i item low is kept all one =
+    subst (All (IsLookedAt more found)) (sym (take_more items i 0 low ∙ ap (λ k. take i items ++ k ∷ []) (sym is)))
+    (All-push (IsLookedAt more found) (take i items) item (All-weaker (IsLookedAt dead found) (IsLookedAt more found) (λ k h. ⊎_elim (λ m. inl (kept k m)) inr h) (take i items) all) one)
+
+-- ---- a location
+
+pub looked-at : (code : List Instr) (dead : List Bool) (queue : List ℕ) (queued : List Bool) (number : ℕ) (found items : List ℕ) (list : List Access) → list ≡ assignments_from 0 code → ((item : ℕ) → Contains items item ↔ Accesses list number item) → All (IsLookedAt dead found) items
+    → IsWork code dead queue queued (λ n. n ≡ number) → IsSearched code dead queued number found → IsWork code dead queue queued (λ n. ⊥)
+looked-at code dead queue queued number found items list same exact all w s = record {
+  sound = w.sound;
+  none_idle = w.none_idle;
+  are = w.are;
+  settled = λ x inside off free. ⊎_elim
+      (λ e. settled code dead queued number found w.sound w.none_idle s (ap (is_marked queued) (sym e) ∙ off)
+      (λ k a. All-in (IsLookedAt dead found) items k all (in_contains k items ((exact k).1 (subst (λ l. Accesses l number k) (sym same) a)))) x e)
+      (λ d. w.settled x inside off d) (cases_eq (number_of x) number);
+}
+
+-- the items of a location are assignments
+pub items-assign : (code : List Instr) (number : ℕ) (items : List ℕ) (list : List Access) → list ≡ assignments_from 0 code → ((item : ℕ) → Contains items item ↔ Accesses list number item) → All (Accesses (assignments_from 0 code) number) items
+items-assign code number items list same exact = in-All (Accesses (assignments_from 0 code) number) items (λ k i. subst (λ l. Accesses l number k) same ((exact k).0 (contains_in k items i)))
+
+-- the location that is taken off the queue is the exception
+pub taken-off : (code : List Instr) (dead : List Bool) (queue shorter : List ℕ) (queued marked : List Bool) (number : ℕ) → IsWork code dead queue queued (λ n. ⊥) → Unqueues number queue shorter queued marked → IsWork code dead shorter marked (λ n. n ≡ number)
+taken-off code dead queue shorter queued marked number w u = record {
+  sound = w.sound;
+  none_idle = w.none_idle;
+  are = u.are;
+  settled = λ x inside off free. w.settled x (subst (λ n. number_of x < n) u.long inside) (sym (u.others (number_of x) free) ∙ off) (λ e. e);
+}

@@ -1,0 +1,124 @@
+-- The numbers of a deadened program: none is greater than the program's.
+use Rattle.std.proofs.Common.{◌≡◌, ◌⊎◌, ℕ, suc, List, [], Option, Some, None, refl, sym, ap, subst, ◌∙◌, inl, inr, ⊎_elim}
+use Rattle.std.specs.Prelude.{slice_get}
+use Rattle.std.proofs.lemmas.Option.{same_Some}
+use Rattle.bril_tree.specs.declared.edge.Edge.{Edge}
+use Rattle.bril_tree.specs.declared.numbered.Instr.{Instr}
+use Rattle.bril_tree.specs.declared.numbered.Instr.TheVariants.{Label}
+use Rattle.bril_tree.specs.declared.numbered_function.Func.{Func}
+use Rattle.bril_tree.specs.declared.program.Prog.{Prog}
+use Rattle.bril_tree.specs.Accepted.{IsAccepted}
+use Rattle.bril_tree.specs.Edge.{Branch, branches_at, branches_from, onward}
+use Rattle.bril_tree.specs.Entries.{Enters}
+use Rattle.bril_tree.specs.FrameWords.{IsDepth}
+use Rattle.bril_tree.specs.Leaving.{IsEdge, edge_of, leave_of}
+use Rattle.bril_tree.specs.Membership.{In}
+use Rattle.bril_tree.specs.Numbered.{item_tree, named, names_of_functions, nop, nop_item, tree_at, variable_names}
+use Rattle.bril_tree.specs.Sites.{sites_of}
+use Rattle.bril_tree.specs.Step.{code_of, item_at, items_of}
+use Rattle.bril_tree.specs.Walk.{IsReached, end_of}
+use Rattle.bril_tree.proofs.Members.{contains_in, in_contains}
+use Rattle.pass_walks.specs.Matched.{MatchedWalk}
+use Rattle.pass_numbers.specs.Numbers.{FunctionWithin, NumbersWithin}
+use Rattle.pass_numbers.proofs.Depths.{depth-within, matched}
+use Rattle.pass_numbers.proofs.Edges.{edge-back, item-back, label-back, point_of_item}
+use Rattle.pass_numbers.proofs.Entering.{EntryMatched, fewer-entries, width-within}
+use Rattle.pass_numbers.proofs.Locations.{IsOfItems}
+use Rattle.pass_numbers.proofs.Programs.{accepted-locations, functions_bound, by-functions}
+use Rattle.dead_code.specs.Emptied.{IsDeadened}
+use Rattle.dead_code.proofs.Accepted.{deadened-accepted, walks}
+use Rattle.dead_code.proofs.Chain.{Gone}
+use Rattle.dead_code.proofs.Step.{computation-on}
+use Rattle.dead_code.proofs.Made.{deadened-points, made}
+use Rattle.dead_code.proofs.Points.{Deadened}
+use Rattle.dead_code.proofs.Refines.{dead_plan, gone-nop, preserves, staying-tree}
+
+module _ (P Q : Prog) (made : ℕ → List Instr) (accepted : IsAccepted P) (accepted_q : IsAccepted Q) (t : Deadened P Q made) (f : ℕ) (F G : Func) (p : slice_get P.funcs f ≡ Some F) (q : slice_get Q.funcs f ≡ Some G) where
+  here : code_of P f ≡ F.code
+  here = ap items_of p
+
+  there : code_of Q f ≡ G.code
+  there = ap items_of q
+
+  -- an item of Q is a `nop`, or that of P by its tree
+  one-item : (i : ℕ) (b : Instr) → slice_get G.code i ≡ Some b → (b ≡ nop) ⊎ (tree_at P f i ≡ tree_at Q f i)
+  one-item i b at = ⊎_elim (λ same. inr (staying-tree P Q made t f i same)) (λ g. inl (same_Some b nop (sym at ∙ ap (λ c. slice_get c i) (sym there) ∙ gone-nop P Q made t f i g))) ((t.chain f).became i)
+
+  -- a label of Q is that of P
+  one-label : (i l : ℕ) → slice_get G.code i ≡ Some (Label l) → (m : ℕ) × (slice_get F.code i ≡ Some (Label m)) × (named F.labels m ≡ named G.labels l)
+  one-label i l at = ⊎_elim (λ e. absurd (let n : Label l ≡ nop = e in cc)) (λ same. label-back P Q f F G p q i i l same at) (one-item i (Label l) at)
+
+  -- ---- entries
+
+  -- an edge of Q is one of P
+  record EdgeBack (leave to : ℕ) : Type 0 where
+    edge : Edge
+    is : IsEdge (code_of P f) edge
+    leaves : edge.leave ≡ leave
+    goes : edge.to ≡ to
+
+  edge-same : (v : List Branch) (b : Branch) → (l : MatchedWalk (dead_plan P Q made t) P Q f F.args G.args v) → In b (branches_at (code_of Q f) (end_of v)) → EdgeBack (edge_of (sites_of (code_of Q f) v) b).leave b.to
+  edge-same v b l among = ⊎_elim regular gone ((t.chain f).became (end_of l.walk))
+    where
+      regular : slice_get (made f) (end_of l.walk) ≡ item_at P f (end_of l.walk) → EdgeBack (edge_of (sites_of (code_of Q f) v) b).leave b.to
+      regular same =
+          let e = edge-back (dead_plan P Q made t) P Q f F.args G.args (preserves P Q made t accepted) v b (record { walk = l.walk; matches = l.matches; regular = same }) among in
+          record { edge = e.edge; is = e.is; leaves = e.leaves.0; goes = e.points }
+
+      gone : Gone (code_of P f) (made f) (end_of l.walk) → EdgeBack (edge_of (sites_of (code_of Q f) v) b).leave b.to
+      gone g =
+          let i = end_of l.walk in
+          let was : IsReached (code_of P f) i = record { walk = l.walk; is = l.matches.is; ends = refl } in
+          let on = computation-on (code_of P f) i g.item (g.why was).computes in
+          let now : item_at Q f (end_of v) ≡ Some nop = ap (item_at Q f) (sym l.matches.points) ∙ gone-nop P Q made t f i g in
+          let branch : b ≡ onward (end_of v) = ⊎_elim (λ s. s) (λ n. absurd n) (subst (λ o. In b (branches_from (code_of Q f) (end_of v) o)) now among) in
+          let step : In (onward i) (branches_at (code_of P f) i) = subst (λ o. In (onward i) (branches_from (code_of P f) i o)) (sym g.was) (subst (In (onward i)) (sym on) (inl refl)) in
+          record {
+            edge = edge_of (sites_of (code_of P f) l.walk) (onward i);
+            is = record { walk = l.walk; is = l.matches.is; branch = onward i; at = contains_in (onward i) (branches_at (code_of P f) i) step; are = refl };
+            leaves = l.matches.points ∙ ap (λ (w : Branch). leave_of w.aborts w.from (sites_of (code_of Q f) v)) (sym branch);
+            goes = ap suc l.matches.points ∙ ap (λ (w : Branch). w.to) (sym branch);
+          }
+
+  abbrev Same : Option ℕ → ℕ → Option ℕ → Type 0
+  Same leave label from = leave ≡ from
+
+  entry : (leave : Option ℕ) (label : ℕ) → Enters G.code leave label → EntryMatched F G Same leave label
+  entry None l at = let m = one-label 0 l at in record { from = None; to = m.0; enters = m.1; leaves = refl; same = m.2 }
+  entry (Some point) l e =
+      let edge : IsEdge (code_of Q f) e.0 = subst (λ c. IsEdge c e.0) (sym there) e.1 in
+      let w = matched (dead_plan P Q made t) P Q f F.args G.args (walks P Q made accepted t f F G p q) edge.walk edge.is in
+      let back = edge-same edge.walk edge.branch w (in_contains edge.branch (branches_at (code_of Q f) (end_of edge.walk)) edge.at) in
+      let to : back.edge.to ≡ e.0.to = back.goes ∙ ap (λ (d : Edge). d.to) (sym edge.are) in
+      let m = one-label e.0.to l e.3 in
+      record {
+        from = Some point;
+        to = m.0;
+        enters = (back.edge, subst (λ c. IsEdge c back.edge) here back.is, back.leaves ∙ ap (λ (d : Edge). d.leave) (sym edge.are) ∙ e.2, ap (slice_get F.code) to ∙ m.1);
+        leaves = refl;
+        same = m.2;
+      }
+
+  -- ---- the numbers of a function
+
+  of_items : IsOfItems (names_of_functions P.funcs) (names_of_functions Q.funcs) F G
+  of_items = record { args = t.heads.args f F G p q; items = items }
+    where
+      items : (b : Instr) → In b G.code → (item_tree (names_of_functions Q.funcs) (variable_names G.vars) G.labels b ≡ nop_item) ⊎ ((a : Instr) × In a F.code × (item_tree (names_of_functions P.funcs) (variable_names F.vars) F.labels a ≡ item_tree (names_of_functions Q.funcs) (variable_names G.vars) G.labels b))
+      items b among =
+          let k = point_of_item G.code b among in
+          ⊎_elim (λ e. inl (ap (item_tree (names_of_functions Q.funcs) (variable_names G.vars) G.labels) e)) (λ same. inr (item-back P Q f F G p q k.0 k.0 b same k.1)) (one-item k.0 b k.1)
+
+  function_within : FunctionWithin 0 F G
+  function_within = record {
+    locations = accepted-locations Q accepted_q f (names_of_functions P.funcs) (names_of_functions Q.funcs) F G q of_items;
+    depth = λ d e a b. depth-within (dead_plan P Q made t) P Q f F.args G.args (walks P Q made accepted t f F G p q) d e (subst (λ c. IsDepth c d) (sym here) a) (subst (λ c. IsDepth c e) (sym there) b);
+    entries = fewer-entries F G Same entry (λ a c b l k r s. r ∙ sym s);
+    width = λ d e a b. width-within F G [] (λ leave. record { from = leave; IsExtra = λ l. ⊥; one = λ l k r s. absurd r; labels = λ l h. inr (let m = entry leave l h in (m.to, subst (λ o. Enters F.code o m.to) (sym m.leaves) m.enters, m.same)) }) d e a b;
+  }
+
+pub keeps_numbers : (P Q : Prog) → IsAccepted P → IsDeadened P Q → NumbersWithin P Q 0
+keeps_numbers P Q accepted makes =
+    let t = deadened-points P Q makes in
+    let accepted_q = deadened-accepted P Q (made P Q makes) accepted t in
+    functions_bound P Q 0 accepted (by-functions P Q t.heads.names (FunctionWithin 0) (λ f F G p q. function_within P Q (made P Q makes) accepted accepted_q t f F G p q))

@@ -1,0 +1,6 @@
+pub mod Removable
+pub mod Emptied
+pub mod Dead
+pub mod Work
+pub mod Numbers
+pub mod Sweep

@@ -1,0 +1,10 @@
+// What the pass keeps of the numbers of a program, as a law on what it makes: a bound over a list of passes follows from
+// it, link by link.
+
+ghost use Rattle.dead_code.specs.Numbers.{DeadKeepsNumbers};
+
+/// No number of a deadened program is greater than the program's: its locations, the depth of its open sites, its entries
+/// of labels, and the labels that are entered from one leave point. A call does nothing.
+pub fn dead_keeps_numbers()
+    ensures { DeadKeepsNumbers }
+{}

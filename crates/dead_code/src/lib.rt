@@ -1,0 +1,21 @@
+//! The pass `dead`: puts `nop` for removable items until none is left, and changes nothing else.
+//!
+//! 1. Which items are removable (`specs/Removable.antt`), what the pass makes of them (`specs/Emptied.antt`), and what it
+//!    means (`specs/Dead.antt`).
+//! 2. The code: a sweep over the items (`src/sweep.rt`), a work list of the locations that may have become dead
+//!    (`src/work.rt`), the edit of the tree (`src/edit.rt`), and the pass around it (`src/dead.rt`).
+//! 3. One item becomes `nop` (`proofs/Step.antt`), and one after another (`proofs/Chain.antt`).
+//! 4. Matched states go on: the result refines the program (`proofs/Refines.antt`).
+//! 5. The items and the walks of the result: it is accepted (`proofs/Accepted.antt`).
+//! 6. From the tree to its program: the tree can be numbered, and is as long (`proofs/Made.antt`).
+//! 7. No number of the program grows (`src/laws.rt`, `proofs/Numbers.antt`).
+#![tactic(auto)]
+
+mod dead;
+mod edit;
+mod laws;
+mod sweep;
+mod work;
+
+pub use dead::Dead;
+pub use laws::dead_keeps_numbers;

@@ -1,0 +1,202 @@
+// A sweep over the items, the last one first, that finds most of what is dead: all but what only branches tell. It knows of
+// each location the next item that reads it, and the next that assigns it.
+
+ghost use Rattle.std.specs.Prelude.{◌≡◌, ◌<◌, ◌+◌, ◌^◌, ◌-◌, ◌∷◌, [], true, Some, length, map, slice_get, if◌then◌else◌, IfOk, OnOk, IfSome};
+ghost use Rattle.std.specs.Option.{option_to_list};
+ghost use Rattle.bril_tree.specs.Operand.{reads_of};
+ghost use Rattle.definite_assignment.specs.Location.{number_of};
+ghost use Rattle.dead_code.specs.Removable.{is_computation};
+ghost use Rattle.dead_code.specs.Sweep.{AreNoted, IsQuiet, IsSwept, is_branching, is_end};
+ghost use Rattle.dead_code.specs.Work.{IsSound, NoneIdle, remaining};
+ghost use Rattle.live_sets.specs.Arcs.{number_at};
+
+use crate::work::is_computation;
+use bril_tree::numbered::Instr;
+use bril_tree::numbered_function::Func;
+use bril_tree::operation::Op;
+use live_sets::{assigned_number, item_reads};
+use std::alloc::{AllocError, Global};
+
+// What is known at a point: the next item that reads each location, the next that assigns it, the next from which branches
+// lead elsewhere, and the next from which none leads.
+#[derive(Drop)]
+struct Sweep {
+    dead: Vec<bool>,
+    reads: Vec<u32>,
+    assigns: Vec<u32>,
+    branch: u32,
+    end: u32,
+}
+
+// Whether branches lead from the item elsewhere than to the next point; an abort leads from the `speculate`.
+fn is_branching(item: &Instr) -> bool
+    ensures { result ≡ is_branching item.now }
+{
+    match item {
+        Instr::Label(_) => false,
+        Instr::Const { .. } => false,
+        Instr::Act { op, .. } => matches!(op, Op::Jmp | Op::Br | Op::Guard | Op::Speculate),
+    }
+}
+
+// Whether no branch leads from the item.
+fn is_end(item: &Instr) -> bool
+    ensures { result ≡ is_end (Some item.now) }
+{
+    match item {
+        Instr::Label(_) => false,
+        Instr::Const { .. } => false,
+        Instr::Act { op, .. } => *op == Op::Ret,
+    }
+}
+
+// The point, where the test holds.
+fn point_if(test: bool, point: u32, before: u32) -> u32
+    ensures { result ≡ if test then point else before }
+{
+    if test { point } else { before }
+}
+
+// Marks what is dead by a sweep.
+pub(crate) fn swept(
+    alloc: Global,
+    func: &Func,
+    dead: Vec<bool>,
+    count: usize,
+) -> Result<Vec<bool>, AllocError>
+    requires few { length func.now.code < 2 ^ 32 - 1 }
+    requires sound { IsSound func.now.code dead.items }
+    requires none { NoneIdle func.now.code dead.items }
+    ensures sound { IfOk result (λ dead. IsSound func.now.code dead.items) }
+    ensures none { IfOk result (λ dead. NoneIdle func.now.code dead.items) }
+{
+    let mut sweep = Sweep::new(alloc, func, dead, count)?;
+    let mut point = func.code.as_slice().len();
+    while point > 0 {
+        point -= 1;
+        sweep.look(alloc, func, point as u32)?;
+    }
+    Ok(sweep.dead)
+}
+
+impl Sweep {
+    // What is known at the end.
+    fn new(alloc: Global, func: &Func, dead: Vec<bool>, count: usize) -> Result<Sweep, AllocError>
+        requires few { length func.now.code < 2 ^ 32 - 1 }
+        requires long { length dead.items ≡ length func.now.code }
+        ensures dead { IfOk result (λ sweep. sweep.dead.items ≡ dead.items) }
+        ensures swept { IfOk result (λ sweep. IsSwept (remaining func.now.code sweep.dead.items) (length func.now.code) sweep.reads.items sweep.assigns.items sweep.branch sweep.end) }
+    {
+        let reads = vec![in alloc; u32::MAX; count]?;
+        let assigns = vec![in alloc; u32::MAX; count]?;
+        Ok(Sweep {
+            dead,
+            reads,
+            assigns,
+            branch: u32::MAX,
+            end: func.code.as_slice().len() as u32,
+        })
+    }
+
+    // Whether the next item that has to do with the location assigns it, or the function ends before.
+    fn is_quiet(&self, location: u32) -> bool
+        ensures { result ≡ true → IsQuiet self.now.reads.items self.now.assigns.items self.now.branch self.now.end location }
+    {
+        let k = location as usize;
+        if k >= self.reads.len() || k >= self.assigns.len() {
+            return false;
+        }
+        let next = self.assigns[k];
+        let first = if next < self.end { next } else { self.end };
+        first < self.reads[k] && first < self.branch
+    }
+
+    // Whether the item only computes what isn't live at the next point.
+    fn is_unused(&self, item: &Instr, assigned: Option<u32>) -> bool
+        ensures computes { result ≡ true → is_computation item.now ≡ true }
+        ensures quiet { result ≡ true → IfSome assigned (IsQuiet self.now.reads.items self.now.assigns.items self.now.branch self.now.end) }
+    {
+        match assigned {
+            None => false,
+            Some(location) => is_computation(item) && self.is_quiet(location),
+        }
+    }
+
+    // Notes the item of a location.
+    fn note(list: &mut Vec<u32>, location: u32, point: u32)
+        ensures { AreNoted point (location ∷ []) list.old.items list.new.items }
+    {
+        let k = location as usize;
+        if k < list.len() {
+            list[k] = point;
+        }
+    }
+
+    // Notes the item of a location, where there is one.
+    fn note_assigned(list: &mut Vec<u32>, location: Option<u32>, point: u32)
+        ensures { AreNoted point (option_to_list location) list.old.items list.new.items }
+    {
+        if let Some(location) = location {
+            Sweep::note(list, location, point);
+        }
+    }
+
+    // Notes what the item reads.
+    fn note_reads(&mut self, alloc: Global, item: &Instr, point: u32) -> Result<(), AllocError>
+        ensures dead { self.new.dead.items ≡ self.old.dead.items }
+        ensures assigns { self.new.assigns.items ≡ self.old.assigns.items }
+        ensures branch { self.new.branch ≡ self.old.branch }
+        ensures end { self.new.end ≡ self.old.end }
+        ensures noted { OnOk result (AreNoted point (map number_of (reads_of item.now)) self.old.reads.items self.new.reads.items) }
+    {
+        let reads = item_reads(alloc, point, item)?;
+        for read in reads.as_slice() {
+            Sweep::note(&mut self.reads, read.location, point);
+        }
+        Ok(())
+    }
+
+    // Notes what an item that stays does.
+    fn note_item(
+        &mut self,
+        alloc: Global,
+        _func: &Func,
+        item: &Instr,
+        assigned: Option<u32>,
+        point: u32,
+    ) -> Result<(), AllocError>
+        requires here { slice_get (remaining _func.now.code self.old.dead.items) point ≡ Some item.now }
+        requires assigned { assigned ≡ number_at (Some item.now) }
+        requires swept { IsSwept (remaining _func.now.code self.old.dead.items) (point + 1) self.old.reads.items self.old.assigns.items self.old.branch self.old.end }
+        ensures dead { self.new.dead.items ≡ self.old.dead.items }
+        ensures swept { OnOk result (IsSwept (remaining _func.now.code self.old.dead.items) point self.new.reads.items self.new.assigns.items self.new.branch self.new.end) }
+    {
+        Sweep::note_assigned(&mut self.assigns, assigned, point);
+        self.branch = point_if(is_branching(item), point, self.branch);
+        self.end = point_if(is_end(item), point, self.end);
+        self.note_reads(alloc, item, point)?;
+        Ok(())
+    }
+
+    // Looks at an item: it is dead, where it only computes what isn't live at the next point.
+    fn look(&mut self, alloc: Global, func: &Func, point: u32) -> Result<(), AllocError>
+        requires inside { point < length func.now.code }
+        requires sound { IsSound func.now.code self.old.dead.items }
+        requires none { NoneIdle func.now.code self.old.dead.items }
+        requires swept { IsSwept (remaining func.now.code self.old.dead.items) (point + 1) self.old.reads.items self.old.assigns.items self.old.branch self.old.end }
+        ensures sound { OnOk result (IsSound func.now.code self.new.dead.items) }
+        ensures none { OnOk result (NoneIdle func.now.code self.new.dead.items) }
+        ensures swept { OnOk result (IsSwept (remaining func.now.code self.new.dead.items) point self.new.reads.items self.new.assigns.items self.new.branch self.new.end) }
+    {
+        if self.dead[point as usize] {
+            return Ok(());
+        }
+        let item = &func.code.as_slice()[point as usize];
+        let assigned = assigned_number(item)?;
+        if self.is_unused(item, assigned) {
+            self.dead[point as usize] = true;
+            return Ok(());
+        }
+        self.note_item(alloc, func, item, assigned, point)
+    }
+}

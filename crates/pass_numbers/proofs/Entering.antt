@@ -1,0 +1,88 @@
+-- The entries of labels of a function, where each is matched by one of the function that it was made of.
+use Rattle.std.proofs.Common.{◌≡◌, ◌≢◌, ◌⊎◌, ℕ, ◌+◌, ◌<◌, ◌≤◌, List, ◌++◌, length, map, Option, Some, None, refl, sym, subst, ◌∙◌, inl, ⊎_elim, arith}
+use Rattle.std.specs.List.{AllPairs, range_with_len}
+use Rattle.std.proofs.lemmas.Bool.{cases_lt}
+use Rattle.std.proofs.lemmas.List.{length-append, length-map}
+use Rattle.bril_tree.specs.declared.numbered.Instr.TheVariants.{Label}
+use Rattle.bril_tree.specs.declared.numbered_function.Func.{Func}
+use Rattle.bril_tree.specs.Entries.{Enters, IsEntryCount, IsEntryWidth}
+use Rattle.bril_tree.specs.FunctionForm.{label_at}
+use Rattle.bril_tree.specs.Membership.{In}
+use Rattle.bril_tree.specs.Numbered.{named}
+use Rattle.bril_tree.proofs.LabelPoints.{in_range, range_high}
+use Rattle.bril_tree.proofs.Members.{contains_in, in_contains, in_append_left, in_append_right, in_flat_map, in_map}
+use Rattle.bril_names.proofs.Naming.{one_number}
+use Rattle.pass_numbers.proofs.Counting.{all_in, in_all, no_more, not_uncounted}
+use Rattle.pass_numbers.proofs.Edges.{item_point}
+use Rattle.pass_numbers.proofs.Existing.{label_point}
+use Rattle.pass_numbers.proofs.Locations.{range-differ}
+
+-- a label that is entered is one of the function
+pub label-low : (F : Func) (leave : Option ℕ) (l : ℕ) → Enters F.code leave l → l < length F.labels
+label-low F leave l e =
+    let p = label_point F.code leave l e in
+    let low = range_high 0 (length F.labels) l (subst (In l) F.formed.placed (in_flat_map label_at (Label l) l F.code (item_point F.code p.0 (Label l) p.2) (inl refl))) in
+    omega arith
+
+module _ (F G : Func) where
+  -- the labels have one name
+  abbrev pub SameLabel : ℕ → ℕ → Type 0
+  SameLabel l m = (l < length G.labels) × (named F.labels m ≡ named G.labels l)
+
+  one_label : (l k m : ℕ) → SameLabel l m → SameLabel k m → l ≡ k
+  one_label l k m a b = one_number G.labels G.formed.labels_differ l k a.0 b.0 (sym a.1 ∙ b.1)
+
+  -- an entry of G is matched by one of F, from a related leave point
+  pub record EntryMatched (L : Option ℕ → ℕ → Option ℕ → Type 0) (leave : Option ℕ) (label : ℕ) : Type 0 where
+    pub from : Option ℕ
+    pub to : ℕ
+    pub enters : Enters F.code from to
+    pub leaves : L leave label from
+    pub same : named F.labels to ≡ named G.labels label
+
+  module _ (L : Option ℕ → ℕ → Option ℕ → Type 0) (matched : (leave : Option ℕ) (label : ℕ) → Enters G.code leave label → EntryMatched L leave label) where
+    pub fewer-entries : ((a c b : Option ℕ) (l k : ℕ) → L a l b → L c k b → a ≡ c) → (d e : ℕ) → IsEntryCount F.code d → IsEntryCount G.code e → e ≤ d
+    fewer-entries one d e a b =
+        let few = no_more (λ (x y : Option ℕ × ℕ). SameLabel x.1 y.1 × L x.0 x.1 y.0) b.members a.members b.differ
+        (λ x i.
+        let enters = all_in (λ (x : Option ℕ × ℕ). Enters G.code x.0 x.1) b.members b.are x i in
+        let m = matched x.0 x.1 enters in
+        ((m.from, m.to), in_contains (m.from, m.to) a.members (a.all (m.from, m.to) m.enters), ((label-low G x.0 x.1 enters, m.same), m.leaves)))
+        (λ x z y r s. λ i. (one x.0 z.0 y.0 x.1 z.1 r.1 s.1 i, one_label x.1 z.1 y.1 r.0 s.0 i)) in
+        let m = a.count in
+        let n = b.count in
+        omega arith
+
+  -- the labels that are entered from one leave point of G are those from one of F, but for so many of which there is one
+  pub record LeaveMatched (extra : List (Option ℕ)) (leave : Option ℕ) : Type 1 where
+    pub from : Option ℕ
+    pub IsExtra : ℕ → Type 0
+    pub one : (l k : ℕ) → IsExtra l → IsExtra k → l ≡ k
+    pub labels : (l : ℕ) → Enters G.code leave l → (IsExtra l × In None extra) ⊎ ((m : ℕ) × Enters F.code from m × (named F.labels m ≡ named G.labels l))
+
+  abbrev Related : (ℕ → Type 0) → ℕ → Option ℕ → Type 0
+  Related IsExtra k None = IsExtra k
+  Related IsExtra k (Some m) = SameLabel k m
+
+  pub width-within : (extra : List (Option ℕ)) → ((leave : Option ℕ) → LeaveMatched extra leave) → (d e : ℕ) → IsEntryWidth F.code d → IsEntryWidth G.code e → e ≤ d + length extra
+  width-within extra matched d e a b = ⊎_elim (λ less. absurd (not_uncounted (Enters F.code l.from) (range_with_len 0 (length F.labels)) (range-differ (length F.labels)) (against less))) (λ le. le) (cases_lt (d + length extra) e)
+    where
+      l : LeaveMatched extra b.widest
+      l = matched b.widest
+
+      one_for : (x z : ℕ) (y : Option ℕ) → Related l.IsExtra x y → Related l.IsExtra z y → x ≡ z
+      one_for x z None r s = l.one x z r s
+      one_for x z (Some m) r s = one_label x z m r s
+
+      against : d + length extra < e → (ys : List ℕ) → AllPairs (λ x y. x ≢ y) ys → ((y : ℕ) → In y ys → Enters F.code l.from y × In y (range_with_len 0 (length F.labels))) → ((y : ℕ) → In y (range_with_len 0 (length F.labels)) → Enters F.code l.from y → In y ys) → ⊥
+      against less ys differ are all =
+          let there : (y : ℕ) → Enters F.code l.from y → In y ys = λ y h. all y (in_range 0 (length F.labels) y (omega arith) (let low = label-low F l.from y h in omega arith)) h in
+          let most = a.most l.from (length ys) (record { members = ys; differ = differ; are = in_all (Enters F.code l.from) ys (λ y i. (are y i).0); all = λ y h. contains_in y ys (there y h); count = refl }) in
+          let few = no_more (Related l.IsExtra) b.has.members (extra ++ map Some ys) b.has.differ
+          (λ k i.
+          let enters = all_in (Enters G.code b.widest) b.has.members b.has.are k i in
+          ⊎_elim (λ r. (None, in_append_left None extra (map Some ys) r.1, r.0)) (λ r. (Some r.0, in_append_right (Some r.0) extra (map Some ys) (in_map Some r.0 ys (there r.0 r.1)), (label-low G b.widest k enters, r.2))) (l.labels k enters)) one_for in
+          let both = length-append extra (map Some ys) in
+          let size = length-map ys Some in
+          let count = b.has.count in
+          omega arith
