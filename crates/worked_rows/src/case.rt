@@ -1,10 +1,12 @@
 // A case: the files and outputs that its lines set up, and its command lines.
 
+use crate::listing::execute;
 use bril_cli::top::bril_top;
 use bril_outside::mem_files::MemFiles;
 use bril_outside::mem_sink::MemSink;
 use bril_tree::sequence::Seq;
 use bril_tree::text::Text;
+use bril_tree::value::Value;
 use pass_law::Pass;
 use row_text::{LineFault, add_lines, add_unescaped};
 use std::alloc::{AllocError, Global};
@@ -75,6 +77,11 @@ impl Case {
                 self.end_file()?;
                 add_line(line, shown)?;
                 self.run(rest, shown)
+            }
+            "executes" => {
+                self.end_file()?;
+                add_line(line, shown)?;
+                self.execute(rest, shown)
             }
             "cuts" => {
                 add_line(line, shown)?;
@@ -148,6 +155,30 @@ impl Case {
         add_answer(alloc, first, content.len(), &answer, shown)?;
         self.files.add(&path, content.as_slice())?;
         Ok(())
+    }
+
+    // Runs a command line, executes the machine words that it writes, with the ints after `--` as their arguments, and appends
+    // what they leave.
+    fn execute(&mut self, line: &str, shown: &mut Vec<u8>) -> Result<(), LineFault> {
+        let alloc = self.alloc;
+        let (command, numbers) = line.split_once(" -- ").unwrap_or((line, ""));
+        let words = words_of(alloc, command)?;
+        let mut args = Seq::new(alloc);
+        for word in numbers.split_whitespace() {
+            args.push(Value::Int(word.parse::<i64>().map_err(|_| LineFault::Form)?))?;
+        }
+        let mut out = MemSink::new(alloc, ROOM, Seq::new(alloc))?;
+        let mut err = MemSink::new(alloc, ROOM, Seq::new(alloc))?;
+        let mut passes: [Box<dyn Pass>; 0] = [];
+        let _status = bril_top(
+            alloc,
+            words.as_slice(),
+            &mut self.files,
+            &mut out,
+            &mut err,
+            passes.as_mut_slice(),
+        );
+        execute(alloc, out.bytes(), args.as_slice(), shown)
     }
 
     // Runs a command line, and appends what it leaves.
