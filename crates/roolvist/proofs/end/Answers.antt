@@ -4,5 +4,5 @@ use Rattle.roolvist.proofs.end.Goals as goal
 
 pub returns-clause-words : goal.returns-clause-words
 returns-clause-words g c =
-    let promises = rw c.as_slice.ensures at c.bril_top.ensures.promises in
+    let promises = rw c.as_slice.ensures at c.bril_top-status.ensures.promises in
     rw (c.in-Ok.is, c.from-2.ensures) (inr (c.in-Ok-collected.words, c.in-Ok-collected.ensures, promises))
