@@ -12,6 +12,8 @@ use Rattle.bril_outside.specs.Files.{FilesSeen}
 use Rattle.bril_outside.specs.Sink.{SinkSeen}
 use Rattle.bril_report.specs.declared.status.Status.{Status}
 use Rattle.bril_report.specs.declared.status.Status.TheVariants as status
+use Rattle.pass_law.specs.Meaning.{Meaning}
+use Rattle.pass_law.specs.declared.tally.Tally.{Tally}
 use Rattle.bril_words.specs.declared.misuse.Misuse.TheVariants.{Words}
 
 -- these are all words that the iterator gives, as they are
@@ -24,12 +26,12 @@ pub record IsUntouched (files files' : FilesSeen) (out out' err err' : SinkSeen)
   pub out_stays : out' ≡ out
   pub err_stays : err' ≡ err
 
--- The status is what the top call promises of all words that the iterator gives; or it is 71, and then no file was read and
--- nothing was written.
-abbrev pub EndsAs : {Z : Type 0} → ℕ → IntoIter (String Z) Z → FilesSeen → FilesSeen → SinkSeen → SinkSeen → SinkSeen → SinkSeen → Type 0
-EndsAs status args files files' out out' err err' =
-    ((status ≡ 71) × IsUntouched files files' out out' err err')
-    ⊎ ((words : List (List ℕ)) × AreAllOf args words × Promises status (call_of words files files' out out' err err'))
+-- The status is what the top call promises of all words that the iterator gives; or it is 71, and then no file was read,
+-- nothing was written, and the passes stay as they were.
+abbrev pub EndsAs : {Z B : Type 0} → ℕ → IntoIter (String Z) Z → FilesSeen → FilesSeen → SinkSeen → SinkSeen → SinkSeen → SinkSeen → (B → Meaning) → (B → Tally) → List B → List B → Type 0
+EndsAs status args files files' out out' err err' meaning counts passes passes' =
+    ((status ≡ 71) × IsUntouched files files' out out' err err' × (passes' ≡ passes))
+    ⊎ ((words : List (List ℕ)) × AreAllOf args words × Promises status (call_of words files files' out out' err err' meaning counts passes passes'))
 
 -- the status where the system gives no words: out of memory, or another cause, as a word that is no text
 abbrev pub no_words : ErrorKind → Status

@@ -16,6 +16,7 @@ use bril_report::{Status, status_number};
 use bril_tree::sequence::Seq;
 use bril_tree::text::Text;
 use bril_words::Misuse;
+use pass_law::Pass;
 use std::alloc::{AllocError, Global};
 use std::env::{self, Args};
 use std::io::{self, ErrorKind, Stderr, Stdout};
@@ -25,12 +26,14 @@ fn main(rt: HostRuntime) -> ExitCode {
     let mut files = OsFiles::new(&rt);
     let mut out = OsSink::new(rt.stdout());
     let mut err = OsSink::new(rt.stderr());
+    let mut passes: [Box<dyn Pass>; 0] = [];
     end::<OsFiles<HostRuntime>, OsSink<Stdout>, OsSink<Stderr>>(
         rt.alloc(),
         env::args(&rt),
         &mut files,
         &mut out,
         &mut err,
+        passes.as_mut_slice(),
     )
 }
 
@@ -42,9 +45,11 @@ fn end<F: Files, O: Sink, E: Sink>(
     files: &mut F,
     out: &mut O,
     err: &mut E,
+    passes: &mut [Box<dyn Pass>],
 ) -> ExitCode
-    ensures words { IfOk args (λ args. EndsAs (exit_status result) args (F.seen files.old) (F.seen files.new) (O.seen out.old) (O.seen out.new) (E.seen err.old) (E.seen err.new)) }
+    ensures words { IfOk args (λ args. EndsAs (exit_status result) args (F.seen files.old) (F.seen files.new) (O.seen out.old) (O.seen out.new) (E.seen err.old) (E.seen err.new) (λ p. meaning p) (λ p. counts p) passes.old passes.new) }
     ensures none { IfErr args (λ fault. exit_status result ≡ status_number (no_words (error_kind fault))) }
+    ensures kept { IfErr args (λ _. passes.new ≡ passes.old) }
     ensures silent { IfErr args (λ _. IsUntouched (F.seen files.old) (F.seen files.new) (O.seen out.old) (O.seen out.new) (E.seen err.old) (E.seen err.new)) }
 {
     let args = match args {
@@ -54,7 +59,8 @@ fn end<F: Files, O: Sink, E: Sink>(
     let Ok(words) = collected(alloc, args) else {
         return ExitCode::from(status_number(&Status::OutOfMemory));
     };
-    ExitCode::from(bril_top(alloc, words.as_slice(), files, out, err))
+    let status = bril_top(alloc, words.as_slice(), files, out, err, passes);
+    ExitCode::from(status)
 }
 
 // The status where the system gives no words: one that is no text is a faulty command line.
