@@ -524,11 +524,11 @@ module _ (m : Plan) (P Q : Prog) (limits : Limits) (accepted : IsAccepted P) (pr
     abbrev H' : Frame
     H' = frame k j q qs
 
-    abbrev S1 : State
-    S1 = state (F' ∷ fs) blocks printed None x
+    abbrev source_state : State
+    source_state = state (F' ∷ fs) blocks printed None x
 
-    abbrev T1 : State
-    T1 = state (H' ∷ gs) blocks printed None y
+    abbrev result_state : State
+    result_state = state (H' ∷ gs) blocks printed None y
 
     here : FramesMatch m P Q F' H'
     here = record { function = refl; contents = contents }
@@ -537,7 +537,7 @@ module _ (m : Plan) (P Q : Prog) (limits : Limits) (accepted : IsAccepted P) (pr
       abbrev Row' : Op → Type 0
       Row' o = Row k i j p q ps qs contents regular fs gs callers blocks printed x y d e s t args result_args fns gns ls ms o
 
-      row-call : Row' op.Call → R (acts P limits op.Call d args fns ls F' fs S1) (acts Q limits op.Call e result_args gns ms H' gs T1)
+      row-call : Row' op.Call → R (acts P limits op.Call d args fns ls F' fs source_state) (acts Q limits op.Call e result_args gns ms H' gs result_state)
       row-call r =
           let vs = map (read p.vars) args in
           let g = slice_index fns 0 in
@@ -545,20 +545,20 @@ module _ (m : Plan) (P Q : Prog) (limits : Limits) (accepted : IsAccepted P) (pr
           let fits : call_fits P r.shaped.f (slice_get P.funcs g) d args ≡ true = r.shaped.called in
           let count = eqb-true (length args) (length (types_of (slice_get P.funcs g))) (and_parts _ _ fits).0 in
           let waits : CallersMatch m P Q g F' H' = record { frames = here; regular = regular; call = record { dest = d; ty = s; args = args; funcs = fns; labels = ls; is = r.at; callee_is = refl } } in
-          subst (λ ns. R (acts P limits op.Call d args fns ls F' fs S1) (calls Q limits (slice_index ns 0) (map (read q.vars) result_args) H' gs T1)) r.act.funcs
-          (subst (λ ws. R (acts P limits op.Call d args fns ls F' fs S1) (calls Q limits g ws H' gs T1)) ev
+          subst (λ ns. R (acts P limits op.Call d args fns ls F' fs source_state) (calls Q limits (slice_index ns 0) (map (read q.vars) result_args) H' gs result_state)) r.act.funcs
+          (subst (λ ws. R (acts P limits op.Call d args fns ls F' fs source_state) (calls Q limits g ws H' gs result_state)) ev
           (called k F' H' here fs gs callers blocks printed x y g vs waits (length-map args (read p.vars) ∙ count)))
 
       returned-alike : (b : Bool) → Row' op.Ret → b ≡ is_some (return_type (slice_get P.funcs k)) → length args ≡ cond b 1 0 → (argument p args 0 ≡ argument q result_args 0) ⊎ (is_some (return_type (slice_get P.funcs k)) ≡ false)
       returned-alike true r link count = inl (read_at-agree (m.LocationsMatch k i j) (m.LocationsMatch k i j) p q contents.locations args result_args 0 (omega arith) r.act.reads)
       returned-alike false r link count = inr (sym link)
 
-      row-ret : Row' op.Ret → R (acts P limits op.Ret d args fns ls F' fs S1) (acts Q limits op.Ret e result_args gns ms H' gs T1)
+      row-ret : Row' op.Ret → R (acts P limits op.Ret d args fns ls F' fs source_state) (acts Q limits op.Ret e result_args gns ms H' gs result_state)
       row-ret r =
           let count = (shape-parts (shape_of r.shaped.ret op.Ret) (is_some d) (length args) (length fns) (length ls) r.shaped.shaped).args_are in
           returns-alike k F' H' refl here fs gs callers blocks printed x y (argument p args 0) (argument q result_args 0) (returned-alike r.shaped.ret r r.shaped.returns count)
 
-      row : (o : Op) → Row' o → R (acts P limits o d args fns ls F' fs S1) (acts Q limits o e result_args gns ms H' gs T1)
+      row : (o : Op) → Row' o → R (acts P limits o d args fns ls F' fs source_state) (acts Q limits o e result_args gns ms H' gs result_state)
       row op.Nop r = row-nop k i j p q ps qs contents regular fs gs callers blocks printed x y d e s t args result_args fns gns ls ms r
       row op.Jmp r = row-jmp k i j p q ps qs contents regular fs gs callers blocks printed x y d e s t args result_args fns gns ls ms r
       row op.Br r = row-br k i j p q ps qs contents regular fs gs callers blocks printed x y d e s t args result_args fns gns ls ms r
@@ -582,32 +582,32 @@ module _ (m : Plan) (P Q : Prog) (limits : Limits) (accepted : IsAccepted P) (pr
 
       -- by what the operation gives on the first side
       by : (o : Op) (a b : Outcome) → item_at P k i ≡ Some (Act d s o args fns ls) → StepsMatch m P Q k i j (Some (Act d s o args fns ls)) (Some (Act e t o result_args gns ms)) → a ≡ b → action_outcome o d s args p ≡ a → action_outcome o e t result_args q ≡ b
-          → R (by_outcome P limits a (Act d s o args fns ls) F' fs S1) (by_outcome Q limits b (Act e t o result_args gns ms) H' gs T1)
+          → R (by_outcome P limits a (Act d s o args fns ls) F' fs source_state) (by_outcome Q limits b (Act e t o result_args gns ms) H' gs result_state)
       by o (Yields v) b at steps same ga gb =
-          subst (λ c. R (gives P limits d v F' fs S1) (by_outcome Q limits c (Act e t o result_args gns ms) H' gs T1)) same
+          subst (λ c. R (gives P limits d v F' fs source_state) (by_outcome Q limits c (Act e t o result_args gns ms) H' gs result_state)) same
           (gives_matches k i j p q ps qs contents regular fs gs callers blocks printed x y (Act d s o args fns ls) (Act e t o result_args gns ms) v blocks at steps
           (giver-goes_on (Act d s o args fns ls) p v ga) (giver-goes_on (Act e t o result_args gns ms) q v (gb ∙ sym same)) steps.same.dest (λ u h. inr (writes-gives (Act d s o args fns ls) p v u ga h)))
       by o (FaultsWith kind) b at steps same ga gb =
-          subst (λ c. R (faulted kind S1) (by_outcome Q limits c (Act e t o result_args gns ms) H' gs T1)) same (faults k i j p q ps qs contents regular fs gs callers blocks printed x y kind)
+          subst (λ c. R (faulted kind source_state) (by_outcome Q limits c (Act e t o result_args gns ms) H' gs result_state)) same (faults k i j p q ps qs contents regular fs gs callers blocks printed x y kind)
       by o HasEffect b at steps same ga gb =
-          subst (λ c. R (acts P limits o d args fns ls F' fs S1) (by_outcome Q limits c (Act e t o result_args gns ms) H' gs T1)) same
+          subst (λ c. R (acts P limits o d args fns ls F' fs source_state) (by_outcome Q limits c (Act e t o result_args gns ms) H' gs result_state)) same
           (row o (record { at = at; steps = steps; act = steps.same; shaped = shaped_here P accepted k i (Act d s o args fns ls) at; acts = ga }))
 
       act-alike : (o : Op) → item_at P k i ≡ Some (Act d s o args fns ls) → StepsMatch m P Q k i j (Some (Act d s o args fns ls)) (Some (Act e t o result_args gns ms))
-          → R (item_step P limits (Some (Act d s o args fns ls)) F' fs S1) (item_step Q limits (Some (Act e t o result_args gns ms)) H' gs T1)
+          → R (item_step P limits (Some (Act d s o args fns ls)) F' fs source_state) (item_step Q limits (Some (Act e t o result_args gns ms)) H' gs result_state)
       act-alike o at steps =
           let facts = shaped_here P accepted k i (Act d s o args fns ls) at in
           by o _ _ at steps (action-same (m.LocationsMatch k i j) p q contents.locations facts.ret o d e s t args result_args fns gns (length ls) facts.shaped steps.same) refl refl
 
       any-act-alike : (o u : Op) → o ≡ u → item_at P k i ≡ Some (Act d s o args fns ls) → StepsMatch m P Q k i j (Some (Act d s o args fns ls)) (Some (Act e t u result_args gns ms))
-          → R (item_step P limits (Some (Act d s o args fns ls)) F' fs S1) (item_step Q limits (Some (Act e t u result_args gns ms)) H' gs T1)
+          → R (item_step P limits (Some (Act d s o args fns ls)) F' fs source_state) (item_step Q limits (Some (Act e t u result_args gns ms)) H' gs result_state)
       any-act-alike o u e' at =
-          subst (λ z. StepsMatch m P Q k i j (Some (Act d s o args fns ls)) (Some (Act e t z result_args gns ms)) → R (item_step P limits (Some (Act d s o args fns ls)) F' fs S1) (item_step Q limits (Some (Act e t z result_args gns ms)) H' gs T1)) e' (act-alike o at)
+          subst (λ z. StepsMatch m P Q k i j (Some (Act d s o args fns ls)) (Some (Act e t z result_args gns ms)) → R (item_step P limits (Some (Act d s o args fns ls)) F' fs source_state) (item_step Q limits (Some (Act e t z result_args gns ms)) H' gs result_state)) e' (act-alike o at)
 
     nothing-returned : (o : Option Instr) → item_at P k i ≡ o → o ≡ None → (read no_values 0 ≡ read no_values 0) ⊎ (is_some (return_type (slice_get P.funcs k)) ≡ false)
     nothing-returned o at e = inl refl
 
-    item-alike : (o u : Option Instr) → item_at P k i ≡ o → StepsMatch m P Q k i j o u → R (item_step P limits o F' fs S1) (item_step Q limits u H' gs T1)
+    item-alike : (o u : Option Instr) → item_at P k i ≡ o → StepsMatch m P Q k i j o u → R (item_step P limits o F' fs source_state) (item_step Q limits u H' gs result_state)
     item-alike None None at steps = returns-alike k F' H' refl here fs gs callers blocks printed x y (read no_values 0) (read no_values 0) (inl refl)
     item-alike None (Some b) at steps = absurd steps.same
     item-alike (Some a) None at steps = absurd steps.same
@@ -617,7 +617,7 @@ module _ (m : Plan) (P Q : Prog) (limits : Limits) (accepted : IsAccepted P) (pr
     item-alike (Some (Label l)) (Some (Act e t u result_args gns ms)) at steps = absurd steps.same
     item-alike (Some (Const z ty v)) (Some (Label l')) at steps = absurd steps.same
     item-alike (Some (Const z ty v)) (Some (Const z' ty' w)) at steps =
-        subst (λ (l : Lit). R (gives P limits (Some z) (literal_value v) F' fs S1) (gives Q limits (Some z') (literal_value l) H' gs T1)) steps.same
+        subst (λ (l : Lit). R (gives P limits (Some z) (literal_value v) F' fs source_state) (gives Q limits (Some z') (literal_value l) H' gs result_state)) steps.same
         (gives_matches k i j p q ps qs contents regular fs gs callers blocks printed x y (Const z ty v) (Const z' ty' w) (literal_value v) blocks at steps (record { branches = λ c n. refl; keeps = λ b. refl; assigns = refl }) (record { branches = λ c n. refl; keeps = λ b. refl; assigns = refl }) refl (λ u h. inr (cc)))
     item-alike (Some (Const z ty v)) (Some (Act e t u result_args gns ms)) at steps = absurd steps.same
     item-alike (Some (Act d s o args fns ls)) (Some (Label l')) at steps = absurd steps.same
@@ -625,7 +625,7 @@ module _ (m : Plan) (P Q : Prog) (limits : Limits) (accepted : IsAccepted P) (pr
     item-alike (Some (Act d s o args fns ls)) (Some (Act e t u result_args gns ms)) at steps = any-act-alike d e s t args result_args fns gns ls ms o u steps.same.operation at steps
 
     -- the newest frames make a step
-    frame-alike : R (item_step P limits (item_at P k i) F' fs S1) (item_step Q limits (item_at Q k j) H' gs T1)
+    frame-alike : R (item_step P limits (item_at P k i) F' fs source_state) (item_step Q limits (item_at Q k j) H' gs result_state)
     frame-alike = item-alike _ _ refl (preserves.steps k i j (record { walk = contents.walk; is = contents.is; ends = contents.ends }) contents.points regular)
 
   -- Matched states that run, whose newest frames are at a regular pair of points, make a step to matched states.
