@@ -8,3 +8,6 @@ pub mod Source
 pub mod Stages
 pub mod Stats
 pub mod commands
+pub mod After
+pub mod PassList
+pub mod Sources

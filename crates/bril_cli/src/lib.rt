@@ -5,6 +5,7 @@ mod arguments;
 mod commands;
 mod driver;
 mod image;
+mod list;
 mod program;
 mod source;
 mod stats;

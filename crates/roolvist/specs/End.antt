@@ -1,13 +1,11 @@
 -- How the program ends, by the words that the system gives it.
-use Rattle.std.specs.Prelude.{ℕ, ◌≡◌, ◌⊎◌, List, map, string_bytes}
+use Rattle.std.specs.Prelude.{ℕ, ◌≡◌, List, map, string_bytes}
 use Rattle.std.specs.Iterator.{Drains}
 use Rattle.std.specs.Vec.Iter.{into_iter_steps}
 use Rattle.std.specs.declared.io.ErrorKind.{ErrorKind}
 use Rattle.std.specs.declared.io.ErrorKind.TheVariants.{OutOfMemory}
 use Rattle.std.specs.declared.string.String.{String}
 use Rattle.std.specs.declared.vec.IntoIter.{IntoIter}
-use Rattle.bril_cli.specs.Answers.{Promises}
-use Rattle.bril_cli.specs.Call.{call_of}
 use Rattle.bril_outside.specs.Files.{FilesSeen}
 use Rattle.bril_outside.specs.Sink.{SinkSeen}
 use Rattle.bril_report.specs.declared.status.Status.{Status}
@@ -23,13 +21,6 @@ pub record IsUntouched (files files' : FilesSeen) (out out' err err' : SinkSeen)
   pub files_stay : files' ≡ files
   pub out_stays : out' ≡ out
   pub err_stays : err' ≡ err
-
--- The status is what the top call promises of all words that the iterator gives; or it is 71, and then no file was read and
--- nothing was written.
-abbrev pub EndsAs : {Z : Type 0} → ℕ → IntoIter (String Z) Z → FilesSeen → FilesSeen → SinkSeen → SinkSeen → SinkSeen → SinkSeen → Type 0
-EndsAs status args files files' out out' err err' =
-    ((status ≡ 71) × IsUntouched files files' out out' err err')
-    ⊎ ((words : List (List ℕ)) × AreAllOf args words × Promises status (call_of words files files' out out' err err'))
 
 -- the status where the system gives no words: out of memory, or another cause, as a word that is no text
 abbrev pub no_words : ErrorKind → Status
