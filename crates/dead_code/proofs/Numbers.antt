@@ -20,6 +20,7 @@ use Rattle.bril_tree.specs.Walk.{IsReached, end_of}
 use Rattle.bril_tree.proofs.Members.{contains_in, in_contains}
 use Rattle.pass_walks.specs.Matched.{MatchedWalk}
 use Rattle.pass_numbers.specs.Numbers.{FunctionWithin, NumbersWithin}
+use Rattle.pass_numbers.proofs.Arguments.{no-longer-arguments}
 use Rattle.pass_numbers.proofs.Depths.{depth-within, matched}
 use Rattle.pass_numbers.proofs.Edges.{edge-back, item-back, label-back, point_of_item}
 use Rattle.pass_numbers.proofs.Entering.{EntryMatched, fewer-entries, width-within}
@@ -112,6 +113,7 @@ module _ (P Q : Prog) (made : ℕ → List Instr) (accepted : IsAccepted P) (acc
   function_within : FunctionWithin 0 F G
   function_within = record {
     locations = accepted-locations Q accepted_q f (names_of_functions P.funcs) (names_of_functions Q.funcs) F G q of_items;
+    arguments = no-longer-arguments (names_of_functions P.funcs) (names_of_functions Q.funcs) F G of_items;
     depth = λ d e a b. depth-within (dead_plan P Q made t) P Q f F.args G.args (walks P Q made accepted t f F G p q) d e (subst (λ c. IsDepth c d) (sym here) a) (subst (λ c. IsDepth c e) (sym there) b);
     entries = fewer-entries F G Same entry (λ a c b l k r s. r ∙ sym s);
     width = λ d e a b. width-within F G [] (λ leave. record { from = leave; IsExtra = λ l. ⊥; one = λ l k r s. absurd r; labels = λ l h. inr (let m = entry leave l h in (m.to, subst (λ o. Enters F.code o m.to) (sym m.leaves) m.enters, m.same)) }) d e a b;

@@ -3,8 +3,8 @@
 
 ghost use Rattle.dead_code.specs.Numbers.{DeadKeepsNumbers};
 
-/// No number of a deadened program is greater than the program's: its locations, the depth of its open sites, its entries
-/// of labels, and the labels that are entered from one leave point. A call does nothing.
+/// No number of a deadened program is greater than the program's: its locations, its longest list of arguments, the depth
+/// of its open sites, its entries of labels, and the labels that are entered from one leave point. A call does nothing.
 pub fn dead_keeps_numbers()
     ensures { DeadKeepsNumbers }
 {}

@@ -4,4 +4,5 @@ pub mod Programs
 pub mod Depths
 pub mod Locations
 pub mod Entering
+pub mod Arguments
 pub mod Edges

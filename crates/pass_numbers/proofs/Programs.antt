@@ -4,6 +4,7 @@ use Rattle.std.specs.Prelude.{is_some, slice_get}
 use Rattle.std.specs.List.{AllZip}
 use Rattle.std.proofs.lemmas.Bool.{cases_lt}
 use Rattle.bril_tree.specs.Accepted.{IsAccepted, IsAcceptedFunction}
+use Rattle.bril_tree.specs.Cost.{longest_in}
 use Rattle.bril_tree.specs.Entries.{IsEntryCount, IsEntryWidth}
 use Rattle.bril_tree.specs.FrameWords.{IsDepth, location_count}
 use Rattle.bril_tree.specs.Membership.{In}
@@ -17,14 +18,15 @@ use Rattle.bril_tree.proofs.Members.{contains_in, in_contains}
 use Rattle.pass_numbers.specs.Numbers.{FunctionWithin, FunctionsBound}
 use Rattle.pass_numbers.proofs.Counting.{all_in}
 use Rattle.pass_numbers.proofs.Edges.{item_point}
-use Rattle.pass_numbers.proofs.Locations.{IsOfItems, fewer-locations as fewer_of_items}
+use Rattle.pass_numbers.proofs.Locations.{IsOfItems, fewer-locations}
 use Rattle.pass_numbers.proofs.Existing.{not_bottomless, not_widthless}
 
-fewer-locations : (wider : ℕ) (xs ys : List Func) → AllZip (FunctionWithin wider) xs ys → greatest (map location_count ys) ≤ greatest (map location_count xs)
-fewer-locations wider [] [] z = omega arith
-fewer-locations wider [] (y ∷ ys) z = absurd z
-fewer-locations wider (x ∷ xs) [] z = absurd z
-fewer-locations wider (x ∷ xs) (y ∷ ys) z = let one = z.0.locations in let rest = fewer-locations wider xs ys z.1 in omega arith
+-- the greatest number, where no function has a greater one
+no-greater : (size : Func → ℕ) (wider : ℕ) → ((F G : Func) → FunctionWithin wider F G → size G ≤ size F) → (xs ys : List Func) → AllZip (FunctionWithin wider) xs ys → greatest (map size ys) ≤ greatest (map size xs)
+no-greater size wider each [] [] z = omega arith
+no-greater size wider each [] (y ∷ ys) z = absurd z
+no-greater size wider each (x ∷ xs) [] z = absurd z
+no-greater size wider each (x ∷ xs) (y ∷ ys) z = let one = each x y z.0 in let rest = no-greater size wider each xs ys z.1 in omega arith
 
 fewer-entries : (wider : ℕ) (xs ys : List Func) → AllZip (FunctionWithin wider) xs ys → (d e : ℕ) → IsSum (λ f n. IsEntryCount f.code n) xs d → IsSum (λ f n. IsEntryCount f.code n) ys e → e ≤ d
 fewer-entries wider [] [] z d e a b = omega (arith, a, b)
@@ -46,7 +48,8 @@ within R P Q wider more z exists one d e a b =
 
 pub functions_bound : FunctionsBound
 functions_bound P Q wider accepted z = record {
-  locations = fewer-locations wider P.funcs Q.funcs z;
+  locations = no-greater location_count wider (λ F G w. w.locations) P.funcs Q.funcs z;
+  arguments = no-greater longest_in wider (λ F G w. w.arguments) P.funcs Q.funcs z;
   depth = λ d e a b. let l = within (λ f n. IsDepth f.code n) P Q wider 0 z (λ F i. not_bottomless F.code (all_in (IsAcceptedFunction P) P.funcs accepted.functions F i).sites) (λ F G w d e a b. let l = w.depth d e a b in omega arith) d e a b in omega arith;
   entries = λ d e a b. fewer-entries wider P.funcs Q.funcs z d e a b;
   width = λ d e a b. within (λ f n. IsEntryWidth f.code n) P Q wider wider z (λ F i. not_widthless F.code) (λ F G w d e a b. w.width d e a b) d e a b;
@@ -65,4 +68,4 @@ by-functions P Q names R h = zip-by_number R P.funcs Q.funcs names h
 -- a function of an accepted program has no more locations than the one whose items it has
 pub accepted-locations : (Q : Prog) → IsAccepted Q → (f : ℕ) (fs gs : List (List ℕ)) (F G : Func) → slice_get Q.funcs f ≡ Some G → IsOfItems fs gs F G → location_count G ≤ location_count F
 accepted-locations Q accepted f fs gs F G q of_items =
-    fewer_of_items fs gs F G of_items (is_some G.ret) (λ b i. all_in (λ b. is_shaped (is_some G.ret) b ≡ true) G.code (all_in (IsAcceptedFunction Q) Q.funcs accepted.functions G (item_point Q.funcs f G q)).shaped b i)
+    fewer-locations fs gs F G of_items (is_some G.ret) (λ b i. all_in (λ b. is_shaped (is_some G.ret) b ≡ true) G.code (all_in (IsAcceptedFunction Q) Q.funcs accepted.functions G (item_point Q.funcs f G q)).shaped b i)

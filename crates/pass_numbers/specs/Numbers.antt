@@ -2,6 +2,7 @@
 use Rattle.std.specs.Prelude.{ℕ, ◌+◌, ◌≤◌}
 use Rattle.std.specs.List.{AllZip}
 use Rattle.bril_tree.specs.Accepted.{IsAccepted}
+use Rattle.bril_tree.specs.Cost.{longest_arguments, longest_in}
 use Rattle.bril_tree.specs.Entries.{IsEntryCount, IsEntryWidth}
 use Rattle.bril_tree.specs.FrameWords.{IsDepth, location_count}
 use Rattle.bril_tree.specs.ProgramNumbers.{AreEntries, IsGreatestDepth, IsGreatestWidth, most_locations}
@@ -11,6 +12,7 @@ use Rattle.bril_tree.specs.declared.program.Prog.{Prog}
 -- No number of Q is greater than that of P, but for so many labels more to which edges go from one leave point.
 pub record NumbersWithin (P Q : Prog) (wider : ℕ) : Type 0 where
   pub locations : most_locations Q ≤ most_locations P
+  pub arguments : longest_arguments Q ≤ longest_arguments P
   pub depth : (d e : ℕ) → IsGreatestDepth P d → IsGreatestDepth Q e → e ≤ d
   pub entries : (d e : ℕ) → AreEntries P d → AreEntries Q e → e ≤ d
   pub width : (d e : ℕ) → IsGreatestWidth P d → IsGreatestWidth Q e → e ≤ d + wider
@@ -18,6 +20,7 @@ pub record NumbersWithin (P Q : Prog) (wider : ℕ) : Type 0 where
 -- the same of a function
 pub record FunctionWithin (wider : ℕ) (F G : Func) : Type 0 where
   pub locations : location_count G ≤ location_count F
+  pub arguments : longest_in G ≤ longest_in F
   pub depth : (d e : ℕ) → IsDepth F.code d → IsDepth G.code e → e ≤ d
   pub entries : (d e : ℕ) → IsEntryCount F.code d → IsEntryCount G.code e → e ≤ d
   pub width : (d e : ℕ) → IsEntryWidth F.code d → IsEntryWidth G.code e → e ≤ d + wider

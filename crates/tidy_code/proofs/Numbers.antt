@@ -24,6 +24,7 @@ use Rattle.pass_accept.proofs.Heads.{start_matched}
 use Rattle.pass_names.proofs.Preserving.{found}
 use Rattle.pass_walks.specs.Matched.{MatchesWalks}
 use Rattle.pass_numbers.specs.Numbers.{FunctionWithin, NumbersWithin}
+use Rattle.pass_numbers.proofs.Arguments.{no-longer-arguments}
 use Rattle.pass_numbers.proofs.Depths.{depth-within, matched}
 use Rattle.pass_numbers.proofs.Edges.{edge-back, edge-leaves, item-back, label-back, lands, point_of_item}
 use Rattle.pass_numbers.proofs.Entering.{EntryMatched, LeaveMatched, fewer-entries, width-within}
@@ -266,6 +267,7 @@ module _ (P Q : Prog) (keep : ℕ → ℕ → Bool) (accepted : IsAccepted P) (a
   function_within : FunctionWithin 1 F G
   function_within = record {
     locations = accepted-locations Q accepted_q f (names_of_functions P.funcs) (names_of_functions Q.funcs) F G q of_items;
+    arguments = no-longer-arguments (names_of_functions P.funcs) (names_of_functions Q.funcs) F G of_items;
     depth = λ d e a b. depth-within (tidy_plan P Q keep t) P Q f F.args G.args walks d e (subst (λ c. IsDepth c d) (sym here) a) (subst (λ c. IsDepth c e) (sym there) b);
     entries = fewer-entries F G Leaves entry one-leave;
     width = width-within F G one_more leave-matched;

@@ -3,8 +3,9 @@
 
 ghost use Rattle.tidy_code.specs.Numbers.{TidyKeepsNumbers};
 
-/// No number of a tidied program is greater than the program's: its locations, the depth of its open sites, its entries of
-/// labels, and but for one more the labels that are entered from one leave point. A call does nothing.
+/// No number of a tidied program is greater than the program's: its locations, its longest list of arguments, the depth of
+/// its open sites, its entries of labels, and but for one more the labels that are entered from one leave point. A call does
+/// nothing.
 pub fn tidy_keeps_numbers()
     ensures { TidyKeepsNumbers }
 {}
