@@ -1,5 +1,5 @@
 -- What holds of all that is in a list.
-use Rattle.std.proofs.Common.{ℕ, List, get_or, All}
+use Rattle.std.proofs.Common.{List, get_or, All}
 use Rattle.std.proofs.lemmas.List.Elements.{All-contains, Contains-get_or}
 use Rattle.bril_tree.specs.Membership.{In}
 use Rattle.bril_tree.proofs.Members.{contains_in, in_contains}

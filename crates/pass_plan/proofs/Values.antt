@@ -1,13 +1,11 @@
 -- Locations after an assignment.
-use Rattle.std.proofs.Common.{◌≡◌, ◌⊎◌, ℕ, suc, Bool, true, false, List, [], ◌∷◌, ◌++◌, length, map, Option, Some, None, refl, sym, ap, subst, ◌∙◌, inl, inr, cond, arith, ◌<◌, zero, pos}
-use Rattle.std.specs.Prelude.{slice_get, slice_index, ◌==◌, is_some, unwrap_or}
+use Rattle.std.proofs.Common.{◌≡◌, ◌⊎◌, ℕ, List, [], ◌∷◌, length, map, Option, Some, None, sym, ◌∙◌, inl, inr, ◌<◌}
+use Rattle.std.specs.Prelude.{slice_index, is_some}
 use Rattle.std.specs.List.{AllZip}
-use Rattle.std.proofs.lemmas.Bool.{eqb-true, eqb-false}
 use Rattle.bril_tree.specs.declared.value.Value.{Value}
-use Rattle.bril_tree.specs.declared.value.Value.TheVariants.{Int}
 use Rattle.bril_tree.specs.FunctionForm.{listed}
 use Rattle.bril_tree.specs.Operand.{Location, Variable, Shadow}
-use Rattle.bril_tree.specs.State.{Locals, Values, read, with_value}
+use Rattle.bril_tree.specs.State.{Locals, read}
 use Rattle.bril_tree.specs.Step.{assigned, shadowed}
 use Rattle.bril_tree.specs.Membership.{In}
 use Rattle.bril_tree.specs.Locals.{value_at}
