@@ -1,35 +1,16 @@
 -- One side, or each by itself, goes on past an item: what passes that put in, drop or empty items want of walks.
-use Rattle.std.proofs.Common.{◌≡◌, ℕ, suc, false, List, ◌∷◌, ◌++◌, Some, sym, ap, subst, ◌∙◌}
-use Rattle.std.specs.Prelude.{slice_get}
+use Rattle.std.proofs.Common.{ℕ, suc, List, ◌∷◌, ◌++◌, sym, subst}
 use Rattle.bril_tree.specs.declared.numbered.Instr.{Instr}
 use Rattle.bril_tree.specs.declared.program.Prog.{Prog}
-use Rattle.bril_tree.specs.Assigned.{Assigned, assigned_of, assigned_changed, assigns_at, assigns_of}
-use Rattle.bril_tree.specs.Edge.{Branch, branches_at, branches_from, item_branches, onward}
+use Rattle.bril_tree.specs.Assigned.{Assigned, assigned_of, assigns_of}
+use Rattle.bril_tree.specs.Edge.{Branch, onward}
 use Rattle.bril_tree.specs.Operand.{Location}
-use Rattle.bril_tree.specs.Sites.{Keeps, item_change, change_of, sites_of, sites_changed}
+use Rattle.bril_tree.specs.Sites.{sites_of}
 use Rattle.bril_tree.specs.Step.{code_of}
-use Rattle.bril_tree.specs.Walk.{IsWalk, end_of}
-use Rattle.bril_tree.specs.Membership.{In}
-use Rattle.bril_tree.proofs.Members.{contains_in}
+use Rattle.bril_tree.specs.Walk.{end_of}
+use Rattle.bril_tree.proofs.Assignments.{WentOn}
 use Rattle.pass_plan.specs.Plan.{Plan}
 use Rattle.pass_walks.specs.Matched.{Covers, SavedSetsMatch, WalksMatch}
-
--- a walk one point further
-pub record WentOn (code : List Instr) (args : ℕ) (w : List Branch) (a : Instr) : Type 0 where
-  pub is : IsWalk code (onward (end_of w) ∷ w)
-  pub sites : sites_of code (onward (end_of w) ∷ w) ≡ sites_of code w
-  pub assigned : assigned_of code args (onward (end_of w) ∷ w) ≡ record { locations = assigns_of a ++ (assigned_of code args w).locations; saved = (assigned_of code args w).saved }
-
-pub went_on : (code : List Instr) (args : ℕ) (w : List Branch) (a : Instr) → IsWalk code w → slice_get code (end_of w) ≡ Some a → In (onward (end_of w)) (item_branches code (end_of w) a) → item_change (Some a) false ≡ Keeps → WentOn code args w a
-went_on code args w a is at among keeps =
-    let i = end_of w in
-    let here : In (onward i) (branches_at code i) = subst (λ o. In (onward i) (branches_from code i o)) (sym at) among in
-    let change : change_of code (onward i) ≡ Keeps = ap (λ o. item_change o false) at ∙ keeps in
-    record {
-      is = (contains_in (onward i) (branches_at code i) here, is);
-      sites = ap (λ c. sites_changed c i (sites_of code w)) change;
-      assigned = ap (λ o. assigned_changed (item_change o false) (assigns_at o) false (assigned_of code args w)) at ∙ ap (λ c. assigned_changed c (assigns_of a) false (assigned_of code args w)) keeps;
-    }
 
 module _ (m : Plan) (P Q : Prog) (f : ℕ) (args result_args : ℕ) (w v : List Branch) (h : WalksMatch m P Q f args result_args w v) where
   abbrev S : List ℕ → List ℕ → List (List Location) → List (List Location) → Type 0

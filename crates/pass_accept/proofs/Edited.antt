@@ -4,33 +4,26 @@ use Rattle.std.specs.Prelude.{slice_get, is_some}
 use Rattle.bril_tree.specs.declared.numbered.Instr.{Instr}
 use Rattle.bril_tree.specs.declared.numbered_function.Func.{Func}
 use Rattle.bril_tree.specs.declared.program.Prog.{Prog}
-use Rattle.bril_tree.specs.Accepted.{IsAccepted, IsAcceptedFunction, AreWalksAccepted}
+use Rattle.bril_tree.specs.Accepted.{IsAccepted, AreWalksAccepted}
 use Rattle.bril_tree.specs.FunctionForm.{listed}
-use Rattle.bril_tree.specs.Numbered.{variable_names, names_in, tree_at}
+use Rattle.bril_tree.specs.Numbered.{variable_names, names_in}
 use Rattle.bril_tree.specs.Operand.{Variable, dest_of, reads_of}
 use Rattle.bril_tree.specs.Step.{items_of, code_of, item_at}
 use Rattle.bril_tree.specs.Typing.{variable_type}
 use Rattle.bril_tree.specs.Walk.{IsReached}
 use Rattle.bril_tree.specs.Membership.{In}
+use Rattle.bril_tree.proofs.Acceptance.{walks_of}
 use Rattle.pass_plan.specs.Plan.{Plan, Preserves}
 use Rattle.pass_walks.specs.Matched.{MatchesWalks}
-use Rattle.pass_steps.proofs.Shapes.{All-at}
 use Rattle.pass_walks.proofs.Accepting.{walks_accepted}
 use Rattle.pass_names.specs.Named.{SameName}
 use Rattle.pass_names.specs.NamedPlan.{SameHeads}
+use Rattle.pass_names.proofs.Heads.{main_same, types_same}
 use Rattle.pass_types.specs.Stays.{HasTypeOfDest, Stays}
 use Rattle.pass_types.proofs.Staying.{dest_of_tree}
 use Rattle.pass_types.proofs.Accepted.{program_accepted}
-use Rattle.pass_walks.proofs.Deciding.{in_or_not}
-use Rattle.pass_accept.specs.Edited.{IsDest, KeepsTypes, IsNew, LosesNoDestination, IsOld, Edits, EditAccepted}
-use Rattle.pass_accept.proofs.Heads.{main_same, types_same}
+use Rattle.pass_accept.specs.Edited.{IsDest, KeepsTypes, IsNew, LosesNoDestination, IsOld, EditAccepted}
 use Rattle.pass_accept.proofs.Left.{read-left, left-typed, name-typed, unlost-typed}
-
--- the walks of an accepted function
-pub walks_of : (P : Prog) → IsAccepted P → (f : ℕ) (F : Func) → slice_get P.funcs f ≡ Some F → AreWalksAccepted (code_of P f) F.args (is_some F.ret)
-walks_of P accepted f F p =
-    let facts = All-at (IsAcceptedFunction P) P.funcs f F accepted.functions p in
-    subst (λ c. AreWalksAccepted c F.args (is_some F.ret)) (sym (ap items_of p)) (record { sites = facts.sites; alone = facts.alone; returns = facts.returns; assigned = facts.assigned })
 
 module _ (P Q : Prog) (accepted : IsAccepted P) (heads : SameHeads P Q) (f : ℕ) (F G : Func) (p : slice_get P.funcs f ≡ Some F) (q : slice_get Q.funcs f ≡ Some G)
     (items : (j : ℕ) (b : Instr) → item_at Q f j ≡ Some b → IsNew P Q f F G b ⊎ IsOld P Q f F G j b) (walks : AreWalksAccepted (code_of Q f) G.args (is_some G.ret)) where
@@ -79,7 +72,7 @@ walks_now : (m : Plan) (P Q : Prog) → IsAccepted P → Preserves m P Q → Sam
     → MatchesWalks m P Q f F.args G.args ⊎ AreWalksAccepted (code_of Q f) G.args (is_some G.ret) → AreWalksAccepted (code_of Q f) G.args (is_some G.ret)
 walks_now m P Q accepted preserves heads f F G p q (inl walks) =
     subst (λ r. AreWalksAccepted (code_of Q f) G.args (is_some r)) (heads.ret f F G p q)
-    (walks_accepted m P Q accepted preserves f F.args G.args (is_some F.ret) (walks_of P accepted f F p) walks in_or_not)
+    (walks_accepted m P Q f F.args G.args walks accepted preserves (is_some F.ret) (walks_of P accepted f F p))
 walks_now m P Q accepted preserves heads f F G p q (inr walks) = walks
 
 -- The program that a pass made is accepted.

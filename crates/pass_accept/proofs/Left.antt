@@ -1,73 +1,44 @@
 -- A location that is read at a reached item has a destination left, or is an argument; so its variable keeps its type.
-use Rattle.std.proofs.Common.{◌≡◌, ◌⊎◌, ℕ, suc, ◌<◌, ◌≤◌, Bool, List, [], ◌∷◌, length, Option, Some, None, refl, sym, ap, subst, ◌∙◌, inl, inr, ⊎_elim, arith}
+use Rattle.std.proofs.Common.{◌≡◌, ◌⊎◌, ℕ, ◌<◌, Bool, List, length, Option, Some, None, refl, sym, ap, subst, ◌∙◌, inl, inr, ⊎_elim, arith}
 use Rattle.std.specs.Prelude.{slice_get}
 use Rattle.std.proofs.lemmas.Bool.{cases_lt}
 use Rattle.std.proofs.lemmas.List.{length-map}
 use Rattle.std.proofs.lemmas.Option.{same_Some}
 use Rattle.bril_tree.specs.declared.numbered.Instr.{Instr}
-use Rattle.bril_tree.specs.declared.numbered.Instr.TheVariants.{Label, Const, Act}
 use Rattle.bril_tree.specs.declared.numbered.VarInfo.{VarInfo}
 use Rattle.bril_tree.specs.declared.numbered_function.Func.{Func}
-use Rattle.bril_tree.specs.declared.operation.Op.TheVariants as op
 use Rattle.bril_tree.specs.declared.program.Prog.{Prog}
 use Rattle.bril_tree.specs.Accepted.{IsAccepted, AreWalksAccepted}
-use Rattle.bril_tree.specs.Assigned.{assigned_of, assigns_of}
-use Rattle.bril_tree.specs.FunctionForm.{first_of_two, first_type, type_assigned}
-use Rattle.bril_tree.specs.Numbered.{item_tree, variable_names, names_of_functions, names_in, tree_at}
+use Rattle.bril_tree.specs.Numbered.{variable_names, names_of_functions, names_in, tree_at}
 use Rattle.bril_tree.specs.Operand.{Variable, dest_of, reads_of}
 use Rattle.bril_tree.specs.Step.{items_of, item_at}
 use Rattle.bril_tree.specs.Typing.{variable_type}
 use Rattle.bril_tree.specs.Walk.{IsReached}
 use Rattle.bril_tree.specs.Membership.{In}
-use Rattle.bril_tree.proofs.Members.{in_contains, contains_in}
-use Rattle.bril_names.specs.Range.{IsInRange}
+use Rattle.bril_tree.proofs.Typings.{IsDestination, typed_by}
+use Rattle.bril_tree.proofs.Acceptance.{read_left}
+use Rattle.bril_tree.proofs.Trees.{nothing_at}
 use Rattle.pass_names.specs.Named.{SameName}
 use Rattle.pass_names.specs.NamedPlan.{SameHeads}
+use Rattle.pass_names.proofs.Points.{found, found_under, Differ-in}
 use Rattle.bril_names.proofs.Naming.{one_number}
-use Rattle.pass_names.proofs.Preserving.{found, nothing_found, Differ-in}
-use Rattle.pass_names.proofs.Items.{type_of}
-use Rattle.pass_walks.proofs.Deciding.{in_or_not}
-use Rattle.pass_types.proofs.Staying.{get_inside, variable-has, assigned-from, type-assigned, same_destination, variable-stays}
+use Rattle.pass_types.proofs.Staying.{same_destination, variable-stays}
 use Rattle.pass_types.specs.Stays.{HasTypeOfDest}
 use Rattle.pass_accept.specs.Edited.{IsDest}
-use Rattle.pass_accept.proofs.Heads.{start-high, argument-typed, argument-stays}
+use Rattle.pass_names.proofs.Heads.{argument-stays}
+use Rattle.pass_accept.proofs.Heads.{argument-typed}
 
--- an item that assigns a variable has it as its destination
-assigns-dest : (b : Instr) (y : ℕ) → In (Variable y) (assigns_of b) → dest_of b ≡ Some y
-assigns-dest (Label l) y i = absurd i
-assigns-dest (Const d ty v) y (inl e) = cc
-assigns-dest (Const d ty v) y (inr i) = absurd i
-assigns-dest (Act d ty op.Set args fns ls) y (inl e) = absurd cc
-assigns-dest (Act d ty op.Set args fns ls) y (inr i) = absurd i
-assigns-dest (Act None ty _ args fns ls) y i = absurd i
-assigns-dest (Act (Some x) ty _ args fns ls) y i = ⊎_elim (λ e. cc) (λ n. absurd n) i
+-- the destination of an item, as an edit says it
+to_dest : (code : List Instr) (y : ℕ) → IsDestination code y → IsDest code y
+to_dest code y d = record { point = d.point; item = d.item; at = d.at; dest = d.dest }
 
 -- what is read at a reached item was assigned
 pub read-left : (code : List Instr) (args : ℕ) (ret : Bool) → AreWalksAccepted code args ret → (j : ℕ) (b : Instr) → IsReached code j → slice_get code j ≡ Some b → (y : ℕ) → In (Variable y) (reads_of b) → (y < args) ⊎ IsDest code y
-read-left code args ret walks j b reached at y among = ⊎_elim from_assigned (λ n. absurd (lacks n)) (in_or_not (Variable y) (assigned_of code args reached.walk).locations)
-  where
-    lacks : (In (Variable y) (assigned_of code args reached.walk).locations → ⊥) → ⊥
-    lacks n = walks.assigned j b (Variable y) at (contains_in (Variable y) (reads_of b) among) (record { walk = reached.walk; is = reached.is; ends = reached.ends; lacks = λ c. n (in_contains (Variable y) (assigned_of code args reached.walk).locations c) })
-
-    from_assigned : In (Variable y) (assigned_of code args reached.walk).locations → (y < args) ⊎ IsDest code y
-    from_assigned i = ⊎_elim (λ s. inl (start-high args y s)) (λ d. inr (record { point = d.1; item = d.0; at = d.2; dest = assigns-dest d.0 y d.3 })) ((assigned-from code args reached.walk).0 (Variable y) i)
-
--- an item has the variable as its destination, or none gives it a type
-dest_or_none : (y : ℕ) (code : List Instr) → IsDest code y ⊎ (first_type y code ≡ None)
-dest_or_none y [] = inr refl
-dest_or_none y (b ∷ code) = by (type-assigned y b) (dest_or_none y code)
-  where
-    by : ((dest_of b ≡ Some y) × (type_assigned y b ≡ type_of b)) ⊎ (type_assigned y b ≡ None) → IsDest code y ⊎ (first_type y code ≡ None) → IsDest (b ∷ code) y ⊎ (first_type y (b ∷ code) ≡ None)
-    by (inl d) rest = inl (record { point = 0; item = b; at = refl; dest = d.0 })
-    by (inr n) (inl d) = inl (record { point = suc d.point; item = d.item; at = d.at; dest = d.dest })
-    by (inr n) (inr e) = inr (ap (λ o. first_of_two o (first_type y code)) n ∙ e)
+read-left code args ret walks j b reached at y among = ⊎_elim inl (λ d. inr (to_dest code y d)) (read_left code args ret walks j b reached at y among)
 
 -- a variable is an argument, is a destination, or has no type
-pub typed-by : (G : Func) (y : ℕ) → y < length G.vars → (y < G.args) ⊎ (IsDest G.code y ⊎ (variable_type G.vars y ≡ None))
-typed-by G y less = ⊎_elim inl past (cases_lt y G.args)
-  where
-    past : G.args ≤ y → (y < G.args) ⊎ (IsDest G.code y ⊎ (variable_type G.vars y ≡ None))
-    past high = ⊎_elim (λ d. inr (inl d)) (λ n. inr (inr (let v = get_inside G.vars y less in variable-has G.vars y v.0 v.1 ∙ G.formed.types y v.0 high v.1 ∙ n))) (dest_or_none y G.code)
+typed-by : (G : Func) (y : ℕ) → y < length G.vars → (y < G.args) ⊎ (IsDest G.code y ⊎ (variable_type G.vars y ≡ None))
+typed-by G y less = ⊎_elim inl (λ r. inr (⊎_elim (λ d. inl (to_dest G.code y d)) inr r)) (typed_by G y less)
 
 module _ (P Q : Prog) (accepted : IsAccepted P) (heads : SameHeads P Q) (f : ℕ) (F G : Func) (p : slice_get P.funcs f ≡ Some F) (q : slice_get Q.funcs f ≡ Some G)
     (x y : ℕ) (name : SameName (variable_names F.vars) (variable_names G.vars) x y)
@@ -95,17 +66,16 @@ module _ (P Q : Prog) (accepted : IsAccepted P) (heads : SameHeads P Q) (f : ℕ
   dest-there i a at d j e = by (item_at Q f j) refl
     where
       by : (o : Option Instr) → item_at Q f j ≡ o → IsDest G.code y
-      by None none = absurd (let h = sym (nothing_found Q f j none) ∙ e ∙ (found P f i a at).tree in cc)
+      by None none = absurd (let h = sym (nothing_at Q f j none) ∙ e ∙ (found P f i a at).tree in cc)
       by (Some b) here =
           let fa = found P f i a at in
           let fb = found Q f j b here in
           let fs = names_of_functions P.funcs in
           let V = names_in (slice_get P.funcs f) in
           let W = names_in (slice_get Q.funcs f) in
-          let range = subst (λ n. IsInRange (length n) (length (names_in (slice_get Q.funcs f))) (length fb.function.labels) b) (sym heads.names) fb.range in
-          let tree : tree_at Q f j ≡ Some (item_tree fs (names_in (slice_get Q.funcs f)) fb.function.labels b) = fb.tree ∙ ap (λ n. Some (item_tree n (names_in (slice_get Q.funcs f)) fb.function.labels b)) (sym heads.names) in
-          let same = same_Some _ _ (sym tree ∙ e ∙ fa.tree) in
-          let s = same_destination fs W V fb.function.labels fa.function.labels b a same range fa.range x d in
+          let under = found_under fs Q heads.names f j b fb in
+          let same = same_Some _ _ (sym under.tree ∙ e ∙ fa.tree) in
+          let s = same_destination fs W V fb.function.labels fa.function.labels b a same under.range fa.range x d in
           record { point = j; item = b; at = ap (λ o. slice_get (items_of o) j) (sym q) ∙ here; dest = s.is ∙ ap Some (one s.x s.name) }
         where
           one : (z : ℕ) → SameName (names_in (slice_get Q.funcs f)) (names_in (slice_get P.funcs f)) z x → z ≡ y

@@ -1,4 +1,3 @@
-pub mod Making
 pub mod Each
 pub mod Functions
 pub mod Bounds

@@ -2,8 +2,8 @@
 //!
 //! A pass edits the tree of its program. The edited tree is numbered and checked here; the refusals of `number` and
 //! `check` other than out of memory are proved never to come, from what the pass says of its tree (`CanBeMade`, in
-//! `specs/`). `proofs/Making.antt` has what follows where each function is edited by itself, and `proofs/Each.antt` the
-//! same where a relation says what is made of each; `proofs/Functions.antt` is for the loop over the functions.
+//! `specs/`). `proofs/Each.antt` has what follows where a relation says what is made of each function, and
+//! `proofs/Functions.antt` is for the loop over the functions.
 #![tactic(auto)]
 
 ghost use Rattle.std.specs.Prelude.{◌≡◌, IfOk};

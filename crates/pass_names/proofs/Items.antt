@@ -15,11 +15,13 @@ use Rattle.bril_tree.specs.Numbered.{named, typed_name, dest_tree, item_tree}
 use Rattle.bril_tree.specs.Operand.{dest_of, Location, Variable, locations_read, reading_of, reads_of, shadow_of}
 use Rattle.bril_tree.specs.Shape.{is_shaped, is_action_shaped, shape_of}
 use Rattle.bril_tree.specs.Membership.{In}
+use Rattle.bril_tree.proofs.Shapes.{shape-parts}
+use Rattle.bril_tree.proofs.Elements.{zip-long}
+use Rattle.bril_tree.proofs.Typings.{type_of}
 use Rattle.bril_names.specs.Faults.{Differ}
 use Rattle.bril_names.specs.Range.{AreBelow, IsInRange}
 use Rattle.bril_names.proofs.Naming.{AreBelow-append, same_numbers}
 use Rattle.pass_plan.specs.Plan.{ItemsMatch}
-use Rattle.pass_plan.proofs.Outcomes.{shape-parts}
 use Rattle.pass_names.specs.Named.{SameName, SameLocation}
 
 -- the arguments of an item
@@ -27,12 +29,6 @@ abbrev pub args_of : Instr → List ℕ
 args_of (Label l) = []
 args_of (Const d ty v) = []
 args_of (Act d ty o args fns ls) = args
-
--- the type of an item
-abbrev pub type_of : Instr → Option Ty
-type_of (Label l) = None
-type_of (Const d ty v) = Some ty
-type_of (Act d ty o args fns ls) = ty
 
 -- ---- lists
 
@@ -47,12 +43,6 @@ zip-locations V W [] [] h = tt
 zip-locations V W [] (y ∷ ys) h = absurd h
 zip-locations V W (x ∷ xs) [] h = absurd h
 zip-locations V W (x ∷ xs) (y ∷ ys) h = (h.0, zip-locations V W xs ys h.1)
-
-pub zip-long : {X Y : Type 0} (R : X → Y → Type 0) (xs : List X) (ys : List Y) → AllZip R xs ys → length xs ≡ length ys
-zip-long R [] [] h = refl
-zip-long R [] (y ∷ ys) h = absurd h
-zip-long R (x ∷ xs) [] h = absurd h
-zip-long R (x ∷ xs) (y ∷ ys) h = ap suc (zip-long R xs ys h.1)
 
 pub zip-at : (R : ℕ → ℕ → Type 0) (xs ys : List ℕ) (k : ℕ) → k < length xs → AllZip R xs ys → R (slice_index xs k) (slice_index ys k)
 zip-at R [] ys k l h = absurd (omega arith)

@@ -1,5 +1,5 @@
 -- A pass that gives variables other names has a plan that is preserved.
-use Rattle.std.proofs.Common.{◌≡◌, ℕ, true, false, List, ◌∷◌, length, Option, Some, None, refl, sym, ap, subst, ◌∙◌}
+use Rattle.std.proofs.Common.{◌≡◌, ℕ, true, false, List, length, Option, Some, None, refl, sym, ap, subst, ◌∙◌}
 use Rattle.std.specs.Prelude.{slice_get}
 use Rattle.std.specs.Option.{option_map}
 use Rattle.std.proofs.lemmas.Option.{same_Some}
@@ -11,21 +11,23 @@ use Rattle.bril_tree.specs.Accepted.{IsAccepted}
 use Rattle.bril_tree.specs.Assigned.{assigns_at}
 use Rattle.bril_tree.specs.Edge.{Branch, branches_at, branches_from, item_branches, onward, jump, abort}
 use Rattle.bril_tree.specs.Numbered.{named, item_tree, names_of_functions, names_in, tree_at}
-use Rattle.bril_tree.specs.Operand.{Location}
+use Rattle.bril_tree.specs.Operand.{Location, reads_of}
 use Rattle.bril_tree.specs.Step.{items_of, code_of, item_at, point_of}
-use Rattle.bril_tree.specs.Walk.{IsReached, end_of}
+use Rattle.bril_tree.specs.Walk.{IsReached}
 use Rattle.bril_tree.specs.Membership.{In}
-use Rattle.bril_tree.proofs.Members.{contains_in}
+use Rattle.bril_tree.proofs.Branches.{reached_on}
+use Rattle.bril_tree.proofs.Trees.{nothing_at}
 use Rattle.bril_names.specs.Range.{IsInRange}
 use Rattle.bril_names.proofs.Functions.{Differ-functions}
 use Rattle.pass_plan.specs.Plan.{Plan, IsLearned, EdgesMatch, StepsMatch, Preserves}
 use Rattle.pass_steps.proofs.Shapes.{shaped_here}
 use Rattle.pass_names.specs.Named.{SameName}
 use Rattle.pass_names.specs.NamedPlan.{NamePlan}
+use Rattle.pass_names.specs.Renaming.{renamed_tree, renaming, Renames, RenamingPreserves}
+use Rattle.pass_names.proofs.Branches.{branches-zip}
 use Rattle.pass_names.proofs.Items.{Shares, item-shares}
 use Rattle.pass_names.proofs.Locations.{kept-apart}
-use Rattle.pass_names.specs.Renaming.{renamed_tree, renaming, Renames, RenamingPreserves}
-use Rattle.pass_names.proofs.Preserving.{Found, found, nothing_found, label_found, Differ-in, branches-zip}
+use Rattle.pass_names.proofs.Points.{Found, found, found_under, label_found, Differ-in}
 
 renamed-found : (X : Prog) (f i : ℕ) (a : Instr) → item_at X f i ≡ Some a → (F : Func) → slice_get X.funcs f ≡ Some F → (vars : List (List ℕ)) → renamed_tree (names_of_functions X.funcs) vars (slice_get X.funcs f) i ≡ Some (item_tree (names_of_functions X.funcs) vars F.labels a)
 renamed-found X f i a at F there vars =
@@ -39,6 +41,20 @@ renamed-none X f i at vars = by (slice_get X.funcs f) at
     by None e = refl
     by (Some F) e = ap (option_map (item_tree (names_of_functions X.funcs) vars F.labels)) e
 
+-- Two items of one tree, where the first one's variables have these names, share what the tree says.
+module _ (P Q : Prog) (accepted : IsAccepted P) (functions : names_of_functions P.funcs ≡ names_of_functions Q.funcs) (f i j : ℕ) (vars : List (List ℕ)) (sized : length vars ≡ length (names_in (slice_get P.funcs f))) (M : Location → Type 0)
+    (same : renamed_tree (names_of_functions P.funcs) vars (slice_get P.funcs f) i ≡ tree_at Q f j) (a b : Instr) (at : item_at P f i ≡ Some a) (bt : item_at Q f j ≡ Some b) where
+  pub items_share : ((x : Location) → In x (reads_of a) → M x) → Shares (names_of_functions P.funcs) vars (names_in (slice_get Q.funcs f)) (found P f i a at).function.labels (found Q f j b bt).function.labels (Differ-functions P) M a b
+  items_share reads =
+      let fs = names_of_functions P.funcs in
+      let fa = found P f i a at in
+      let fb = found Q f j b bt in
+      let under = found_under fs Q functions f j b fb in
+      let range : IsInRange (length fs) (length vars) (length fa.function.labels) a = subst (λ n. IsInRange (length fs) n (length fa.function.labels) a) (sym sized) fa.range in
+      let one : item_tree fs vars fa.function.labels a ≡ item_tree fs (names_in (slice_get Q.funcs f)) fb.function.labels b = same_Some _ _ (sym (renamed-found P f i a at fa.function fa.there vars) ∙ same ∙ under.tree) in
+      let shaped = shaped_here P accepted f i a at in
+      item-shares fs vars (names_in (slice_get Q.funcs f)) fa.function.labels fb.function.labels (Differ-functions P) M shaped.ret a b shaped.shaped one range under.range reads
+
 -- ---- the record
 
 module _ (P Q : Prog) (names : ℕ → List (List ℕ)) (N : NamePlan) (accepted : IsAccepted P) (k : Renames P Q names N) where
@@ -47,25 +63,17 @@ module _ (P Q : Prog) (names : ℕ → List (List ℕ)) (N : NamePlan) (accepted
 
   module _ (f i j : ℕ) (reached : IsReached (code_of P f) i) (points : N.PointsMatch f i j) (regular : N.IsRegular f i j) where
     module _ (a b : Instr) (at : item_at P f i ≡ Some a) (bt : item_at Q f j ≡ Some b) where
-      fa : Found P f i a
+      abbrev fa : Found P f i a
       fa = found P f i a at
 
-      fb : Found Q f j b
+      abbrev fb : Found Q f j b
       fb = found Q f j b bt
 
       abbrev fs : List (List ℕ)
       fs = names_of_functions P.funcs
 
       shares : Shares fs (names f) (names_in (slice_get Q.funcs f)) fa.function.labels fb.function.labels (Differ-functions P) (N.Matters f i) a b
-      shares =
-          let ns = k.heads.names in
-          let range : IsInRange (length fs) (length (names_in (slice_get Q.funcs f))) (length fb.function.labels) b = subst (λ n. IsInRange (length n) (length (names_in (slice_get Q.funcs f))) (length fb.function.labels) b) (sym ns) fb.range in
-          let tree : tree_at Q f j ≡ Some (item_tree fs (names_in (slice_get Q.funcs f)) fb.function.labels b) = fb.tree ∙ ap (λ n. Some (item_tree n (names_in (slice_get Q.funcs f)) fb.function.labels b)) (sym ns) in
-          let under : renamed_tree fs (names f) (slice_get P.funcs f) i ≡ Some (item_tree fs (names f) fa.function.labels a) = renamed-found P f i a at fa.function fa.there (names f) in
-          let old : IsInRange (length fs) (length (names f)) (length fa.function.labels) a = subst (λ n. IsInRange (length fs) n (length fa.function.labels) a) (sym (k.sized f)) fa.range in
-          let same : item_tree fs (names f) fa.function.labels a ≡ item_tree fs (names_in (slice_get Q.funcs f)) fb.function.labels b = same_Some _ _ (sym under ∙ k.same f i j reached points regular ∙ tree) in
-          let shaped = shaped_here P accepted f i a at in
-          item-shares fs (names f) (names_in (slice_get Q.funcs f)) fa.function.labels fb.function.labels (Differ-functions P) (N.Matters f i) shaped.ret a b shaped.shaped same old range (λ x h. k.reads f i j a x reached points regular at h)
+      shares = items_share P Q accepted k.heads.names f i j (names f) (k.sized f) (N.Matters f i) (k.same f i j reached points regular) a b at bt (λ x h. k.reads f i j a x reached points regular at h)
 
       abbrev among : Branch → Type 0
       among w = In w (item_branches (code_of P f) i a)
@@ -90,11 +98,7 @@ module _ (P Q : Prog) (names : ℕ → List (List ℕ)) (N : NamePlan) (accepted
       labelled : (l m : ℕ) (w : Branch) → SameName fa.function.labels fb.function.labels l m → among w → w.to ≡ point_of l (code_of P f) → N.PointsMatch f (point_of l (code_of P f)) (point_of m (code_of Q f))
       labelled l m w s h to =
           k.labels f (point_of l (code_of P f)) (point_of m (code_of Q f)) (named fa.function.labels l)
-          (record {
-            walk = w ∷ reached.walk;
-            is = (contains_in w (branches_at (code_of P f) (end_of reached.walk)) (subst (λ n. In w (branches_at (code_of P f) n)) (sym reached.ends) (at_branch w h)), reached.is);
-            ends = to;
-          })
+          (subst (IsReached (code_of P f)) to (reached_on (code_of P f) i w reached (at_branch w h)))
           (label_found P f fa.function l fa.there s.0)
           (label_found Q f fb.function m fb.there s.1 ∙ ap (λ n. Some (item.Label n)) (sym s.2))
 
@@ -121,7 +125,7 @@ module _ (P Q : Prog) (names : ℕ → List (List ℕ)) (N : NamePlan) (accepted
     point_steps : (o u : Option Instr) → item_at P f i ≡ o → item_at Q f j ≡ u → StepsMatch M P Q f i j o u
     point_steps None None at bt = record { same = tt; branches = tt }
     point_steps None (Some b) at bt = absurd (let h = sym (renamed-none P f i at (names f)) ∙ k.same f i j reached points regular ∙ (found Q f j b bt).tree in cc)
-    point_steps (Some a) None at bt = absurd (let h = sym (nothing_found Q f j bt) ∙ sym (k.same f i j reached points regular) ∙ renamed-found P f i a at (found P f i a at).function (found P f i a at).there (names f) in cc)
+    point_steps (Some a) None at bt = absurd (let h = sym (nothing_at Q f j bt) ∙ sym (k.same f i j reached points regular) ∙ renamed-found P f i a at (found P f i a at).function (found P f i a at).there (names f) in cc)
     point_steps (Some a) (Some b) at bt = item_steps a b at bt
 
   pub renaming_preserves : Preserves (renaming P Q names N) P Q

@@ -1,5 +1,5 @@
 -- Counts of different things, and the greatest of bounded numbers.
-use Rattle.std.proofs.Common.{◌≡◌, ◌≢◌, ℕ, zero, suc, ◌+◌, ◌<◌, ◌≤◌, List, [], ◌∷◌, length, get_or, All, refl, sym, ap, subst, ◌∙◌, inl, inr, ⊎_elim, arith}
+use Rattle.std.proofs.Common.{◌≡◌, ◌≢◌, ℕ, zero, suc, ◌+◌, ◌<◌, ◌≤◌, List, [], ◌∷◌, length, get_or, refl, sym, ap, subst, ◌∙◌, inl, inr, ⊎_elim, arith}
 use Rattle.std.specs.List.{AllPairs}
 use Rattle.std.proofs.lemmas.Bool.{cases_lt}
 use Rattle.std.proofs.lemmas.List.Elements.{Contains-get_or}
@@ -65,11 +65,3 @@ not_unbounded S bound low n s none = by (suc bound) n (omega arith) s
     by : (fuel m : ℕ) → bound < fuel + m → S m → ⊥
     by zero m enough h = let l = low m h in omega arith
     by (suc fuel) m enough h = none m h (λ k g. ⊎_elim (λ more. absurd (by fuel k (omega arith) g)) (λ l. l) (cases_lt m k))
-
--- ---- elements
-
-pub all_in : {X : Type 0} (P : X → Type 0) (xs : List X) → All P xs → (x : X) → In x xs → P x
-all_in P xs all x i = let c = contains_in x xs i in subst P c.2 (all c.0 x c.1)
-
-pub in_all : {X : Type 0} (P : X → Type 0) (xs : List X) → ((x : X) → In x xs → P x) → All P xs
-in_all P xs h k d low = h (get_or xs k d) (in_contains (get_or xs k d) xs (Contains-get_or xs k d low))

@@ -1,9 +1,7 @@
 -- The edges from a regular pair of points, and the labels to which they go.
-use Rattle.std.proofs.Common.{◌≡◌, ◌⊎◌, ℕ, zero, suc, inl, inr, Bool, true, false, ltb, List, [], ◌∷◌, length, map, Option, Some, None, refl, sym, ap, subst, ◌∙◌}
+use Rattle.std.proofs.Common.{◌≡◌, ◌⊎◌, ℕ, inl, inr, ⊎_elim, Bool, true, false, List, [], ◌∷◌, length, map, Option, Some, None, refl, sym, ap, subst, ◌∙◌}
 use Rattle.std.specs.Prelude.{slice_get}
-use Rattle.std.specs.List.{flat_map}
 use Rattle.std.specs.Option.{option_map}
-use Rattle.std.proofs.lemmas.Bool.{ltb-true}
 use Rattle.std.proofs.lemmas.Option.{same_Some}
 use Rattle.bril_tree.specs.declared.edge.Edge.{Edge}
 use Rattle.bril_tree.specs.declared.function_tree.Item.TheVariants as item
@@ -17,32 +15,21 @@ use Rattle.bril_tree.specs.Edge.{Branch, action_branches, branches_at, branches_
 use Rattle.bril_tree.specs.FunctionForm.{targets_of}
 use Rattle.bril_tree.specs.Leaving.{IsEdge, edge_of, leave_of}
 use Rattle.bril_tree.specs.Membership.{In}
-use Rattle.bril_tree.specs.Numbered.{item_tree, named, names_of_functions, point_tree, tree_at, variable_names}
+use Rattle.bril_tree.specs.Numbered.{item_tree, named, names_of_functions, nop, point_tree, tree_at, variable_names}
 use Rattle.bril_tree.specs.Operand.{Location}
 use Rattle.bril_tree.specs.Sites.{Opens, item_change, sites_of}
 use Rattle.bril_tree.specs.Step.{code_of, item_at, point_of}
 use Rattle.bril_tree.specs.Walk.{end_of}
 use Rattle.bril_tree.proofs.Assignments.{site_speculates}
 use Rattle.bril_tree.proofs.Branches.{branch_from}
-use Rattle.bril_tree.proofs.Elements.{zip-find}
+use Rattle.bril_tree.proofs.Elements.{zip-find, get_in, in_get}
+use Rattle.bril_tree.proofs.Formed.{target_below}
 use Rattle.bril_tree.proofs.LabelPoints.{label-point}
-use Rattle.bril_tree.proofs.Members.{contains_in, in_contains, in_flat_map, in_map_source}
+use Rattle.bril_tree.proofs.Members.{contains_in, in_contains, in_map_source}
+use Rattle.bril_names.proofs.Variables.{arguments_of}
 use Rattle.pass_plan.specs.Plan.{EdgesMatch, Plan, Preserves}
 use Rattle.pass_walks.specs.Matched.{RegularWalk, SavedSetsMatch}
-use Rattle.pass_numbers.proofs.Locations.{all_here}
-
--- ---- items
-
--- an item at a point is among the items, and one of them is at a point
-pub item_point : {X : Type 0} (xs : List X) (k : ℕ) (x : X) → slice_get xs k ≡ Some x → In x xs
-item_point [] k x e = absurd (let n : None ≡ Some x = e in cc)
-item_point (y ∷ xs) zero x e = inl (sym (same_Some y x e))
-item_point (y ∷ xs) (suc k) x e = inr (item_point xs k x e)
-
-pub point_of_item : {X : Type 0} (xs : List X) (x : X) → In x xs → (k : ℕ) × (slice_get xs k ≡ Some x)
-point_of_item [] x i = absurd i
-point_of_item (y ∷ xs) x (inl e) = (0, ap Some (sym e))
-point_of_item (y ∷ xs) x (inr i) = let r = point_of_item xs x i in (suc r.0, r.1)
+use Rattle.pass_numbers.proofs.Locations.{IsOfItems}
 
 -- ---- labels
 
@@ -62,7 +49,7 @@ module _ (P Q : Prog) (f : ℕ) (F G : Func) (p : slice_get P.funcs f ≡ Some F
       (sym mine ∙ same ∙ theirs ∙ ap (option_map (item_tree (names_of_functions Q.funcs) (variable_names G.vars) G.labels)) at)
 
   -- and so is any other item
-  pub item-back : (i j : ℕ) (b : Instr) → tree_at P f i ≡ tree_at Q f j → slice_get G.code j ≡ Some b → (a : Instr) × In a F.code × (item_tree (names_of_functions P.funcs) (variable_names F.vars) F.labels a ≡ item_tree (names_of_functions Q.funcs) (variable_names G.vars) G.labels b)
+  item-back : (i j : ℕ) (b : Instr) → tree_at P f i ≡ tree_at Q f j → slice_get G.code j ≡ Some b → (a : Instr) × In a F.code × (item_tree (names_of_functions P.funcs) (variable_names F.vars) F.labels a ≡ item_tree (names_of_functions Q.funcs) (variable_names G.vars) G.labels b)
   item-back i j b same at =
       let mine = ap (λ o. point_tree (names_of_functions P.funcs) o i) p in
       let theirs = ap (λ o. point_tree (names_of_functions Q.funcs) o j) q in
@@ -70,7 +57,16 @@ module _ (P Q : Prog) (f : ℕ) (F G : Func) (p : slice_get P.funcs f ≡ Some F
     where
       by : (o : Option Instr) → slice_get F.code i ≡ o → option_map (item_tree (names_of_functions P.funcs) (variable_names F.vars) F.labels) o ≡ Some (item_tree (names_of_functions Q.funcs) (variable_names G.vars) G.labels b) → (a : Instr) × In a F.code × (item_tree (names_of_functions P.funcs) (variable_names F.vars) F.labels a ≡ item_tree (names_of_functions Q.funcs) (variable_names G.vars) G.labels b)
       by None here e = absurd (let n : None ≡ Some (item_tree (names_of_functions Q.funcs) (variable_names G.vars) G.labels b) = e in cc)
-      by (Some a) here e = (a, item_point F.code i a here, same_Some _ _ e)
+      by (Some a) here e = (a, get_in F.code i a here, same_Some _ _ e)
+
+  -- where each item of Q is a `nop`, or one of P by its tree, the items of the function are of P's
+  pub items-back : arguments_of F.args F.vars ≡ arguments_of G.args G.vars → ((j : ℕ) (b : Instr) → slice_get G.code j ≡ Some b → (b ≡ nop) ⊎ ((i : ℕ) × (tree_at P f i ≡ tree_at Q f j))) → IsOfItems (names_of_functions P.funcs) (names_of_functions Q.funcs) F G
+  items-back args each = record {
+    args = args;
+    items = λ b among.
+        let k = in_get b G.code among in
+        ⊎_elim (λ e. inl (ap (item_tree (names_of_functions Q.funcs) (variable_names G.vars) G.labels) e)) (λ s. inr (item-back s.0 k.0 b s.1 k.1)) (each k.0 b k.1);
+  }
 
 -- ---- edges
 
@@ -138,9 +134,7 @@ edge-leaves code edge e = subst (λ n. (a : Instr) × (slice_get code n ≡ Some
 
 -- a target of an item of a function stands at its point
 target-point : (F : Func) (i : ℕ) (a : Instr) (l : ℕ) → slice_get F.code i ≡ Some a → In l (targets_of a) → slice_get F.code (point_of l F.code) ≡ Some (Label l)
-target-point F i a l at among =
-    label-point l (length F.labels) F.code F.formed.placed
-    (ltb-true l (length F.labels) (all_here (λ k. ltb k (length F.labels)) (flat_map targets_of F.code) F.formed.targets l (in_flat_map targets_of a l F.code (item_point F.code i a at) among)))
+target-point F i a l at among = label-point l (length F.labels) F.code F.formed.placed (target_below F i a at l among)
 
 -- a branch goes on, or to a label
 pub lands : (F : Func) (i : ℕ) (w : Branch) → In w (branches_at F.code i) → (w ≡ onward i) ⊎ ((l : ℕ) × (slice_get F.code w.to ≡ Some (Label l)))

@@ -11,9 +11,10 @@ use Rattle.bril_tree.specs.Membership.{In}
 use Rattle.bril_tree.specs.Numbered.{named}
 use Rattle.bril_tree.proofs.LabelPoints.{in_range, range_high}
 use Rattle.bril_tree.proofs.Members.{contains_in, in_contains, in_append_left, in_append_right, in_flat_map, in_map}
+use Rattle.bril_tree.proofs.Elements.{get_in}
 use Rattle.bril_names.proofs.Naming.{one_number}
-use Rattle.pass_numbers.proofs.Counting.{all_in, in_all, no_more, not_uncounted}
-use Rattle.pass_numbers.proofs.Edges.{item_point}
+use Rattle.pass_plan.proofs.Elements.{all_in, in_all}
+use Rattle.pass_numbers.proofs.Counting.{no_more, not_uncounted}
 use Rattle.pass_numbers.proofs.Existing.{label_point}
 use Rattle.pass_numbers.proofs.Locations.{range-differ}
 
@@ -21,7 +22,7 @@ use Rattle.pass_numbers.proofs.Locations.{range-differ}
 pub label-low : (F : Func) (leave : Option ℕ) (l : ℕ) → Enters F.code leave l → l < length F.labels
 label-low F leave l e =
     let p = label_point F.code leave l e in
-    let low = range_high 0 (length F.labels) l (subst (In l) F.formed.placed (in_flat_map label_at (Label l) l F.code (item_point F.code p.0 (Label l) p.2) (inl refl))) in
+    let low = range_high 0 (length F.labels) l (subst (In l) F.formed.placed (in_flat_map label_at (Label l) l F.code (get_in F.code p.0 (Label l) p.2) (inl refl))) in
     omega arith
 
 module _ (F G : Func) where

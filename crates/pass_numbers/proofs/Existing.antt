@@ -2,7 +2,6 @@
 use Rattle.std.proofs.Common.{◌≡◌, ℕ, ◌≤◌, List, [], ◌∷◌, length, Option, Some, None, refl, sym, ap, ◌∙◌, inl, ⊎_elim, arith}
 use Rattle.std.specs.Prelude.{slice_get}
 use Rattle.std.specs.List.{range_with_len}
-use Rattle.std.proofs.lemmas.Bool.{cases_lt}
 use Rattle.std.proofs.lemmas.Option.{same_Some, slice_get_within}
 use Rattle.std.proofs.lemmas.List.FromFn.{length-range_with_len}
 use Rattle.bril_tree.specs.declared.numbered.Instr.{Instr}
@@ -11,18 +10,15 @@ use Rattle.bril_tree.specs.Edge.{Branch}
 use Rattle.bril_tree.specs.Entries.{AreSoMany, Enters, IsEntryWidth}
 use Rattle.bril_tree.specs.FrameWords.{IsDepth}
 use Rattle.bril_tree.specs.Membership.{In}
-use Rattle.bril_tree.specs.Sites.{AreSitesSound, TooMany, sites_of}
-use Rattle.bril_tree.specs.Walk.{IsWalk, end_of}
+use Rattle.bril_tree.specs.Sites.{AreSitesSound, sites_of}
+use Rattle.bril_tree.specs.Walk.{IsWalk}
 use Rattle.bril_tree.proofs.LabelPoints.{in_range}
 use Rattle.bril_tree.proofs.Members.{contains_in}
-use Rattle.flow_graph.proofs.Told.{first_sites}
-use Rattle.pass_numbers.proofs.Counting.{all_in, in_all, no_more, not_unbounded}
+use Rattle.pass_walks.proofs.Based.{few_sites}
+use Rattle.pass_plan.proofs.Elements.{all_in, in_all}
+use Rattle.pass_numbers.proofs.Counting.{no_more, not_unbounded}
 
 -- ---- depth
-
--- no walk has more open sites than may be open
-few-sites : (code : List Instr) → AreSitesSound code → (w : List Branch) → IsWalk code w → length (sites_of code w) ≤ 8
-few-sites code sound w is = ⊎_elim (λ many. absurd (sound (end_of w) (TooMany (record { sites = sites_of code w; first = first_sites code w sound is; many = many })))) (λ few. few) (cases_lt 8 (length (sites_of code w)))
 
 record HasDepth (code : List Instr) (n : ℕ) : Type 0 where
   walk : List Branch
@@ -31,7 +27,7 @@ record HasDepth (code : List Instr) (n : ℕ) : Type 0 where
 
 pub not_bottomless : (code : List Instr) → AreSitesSound code → ((n : ℕ) → IsDepth code n → ⊥) → ⊥
 not_bottomless code sound none =
-    not_unbounded (HasDepth code) 8 (λ n h. let l = few-sites code sound h.walk h.is in let r = h.reaches in omega arith) 0 (record { walk = []; is = tt; reaches = refl })
+    not_unbounded (HasDepth code) 8 (λ n h. let l = few_sites code sound h.walk h.is in let r = h.reaches in omega arith) 0 (record { walk = []; is = tt; reaches = refl })
     (λ m h most. none m (record { deepest = h.walk; is = h.is; reaches = h.reaches; most = λ w is. most (length (sites_of code w)) (record { walk = w; is = is; reaches = refl }) }))
 
 -- ---- width

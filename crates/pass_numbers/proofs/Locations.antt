@@ -1,8 +1,8 @@
 -- The result has no more locations than the program, where each of its items is an item of the program by its tree, or `nop`.
 use Rattle.std.proofs.Common.{◌≡◌, ◌≢◌, ◌⊎◌, ℕ, ◌+◌, ◌<◌, ◌≤◌, Bool, true, false, cond, ◌||◌, eqb, List, [], ◌∷◌, ◌++◌, length, map, take, get_or, Option, Some, None, refl, sym, ap, subst, ◌∙◌, inl, inr, ⊎_elim, arith}
 use Rattle.std.specs.Prelude.{is_some}
-use Rattle.std.specs.List.{AllPairs, filter, flat_map, list_all, list_any, range_with_len}
-use Rattle.std.proofs.lemmas.Bool.{and_parts, cases_lt, eqb-true}
+use Rattle.std.specs.List.{AllPairs, filter, flat_map, list_any, range_with_len}
+use Rattle.std.proofs.lemmas.Bool.{cases_lt, eqb-true}
 use Rattle.std.proofs.lemmas.Bool.Decides.{eqb_tells}
 use Rattle.std.proofs.lemmas.List.{get_or-take, length-map, length-take, map-append}
 use Rattle.std.proofs.lemmas.List.FromFn.{length-range_with_len, get_or-range_with_len}
@@ -23,11 +23,12 @@ use Rattle.bril_tree.specs.FunctionForm.{both_or_neither, dest_is_typed, known_a
 use Rattle.bril_tree.specs.Membership.{In}
 use Rattle.bril_tree.specs.Shape.{is_action_shaped, is_shaped, shape_of}
 use Rattle.bril_tree.specs.Numbered.{dest_tree, item_tree, named, nop_item, variable_names}
+use Rattle.bril_tree.proofs.Elements.{in_get, passes_in}
+use Rattle.bril_tree.proofs.Formed.{variable_below}
 use Rattle.bril_tree.proofs.LabelPoints.{in_range, range_high}
-use Rattle.bril_tree.proofs.Members.{in_append_left, in_append_right, in_flat_map, in_flat_map_source}
+use Rattle.bril_tree.proofs.Members.{in_append_left, in_append_right, in_flat_map_source}
 use Rattle.bril_tree.proofs.Shapes.{shape-parts}
-use Rattle.bril_names.specs.Range.{AreBelow}
-use Rattle.bril_names.proofs.Appearance.{Seen, known_after-below, seen, old, fresh, strange}
+use Rattle.bril_names.proofs.Appearance.{Seen, seen, old, fresh, strange}
 use Rattle.bril_names.proofs.Functions.{Differ-variables}
 use Rattle.bril_names.proofs.Naming.{one_number}
 use Rattle.bril_names.proofs.Variables.{arguments_of, argument_names_taken}
@@ -162,11 +163,6 @@ any_from p (y ∷ xs) x (inr i) e = or_right (p y) (list_any p xs) (any_from p x
     or_right true b h = refl
     or_right false b h = h
 
-pub all_here : {X : Type 0} (p : X → Bool) (xs : List X) → list_all p xs ≡ true → (x : X) → In x xs → p x ≡ true
-all_here p [] e x i = absurd i
-all_here p (y ∷ xs) e x (inl s) = ap p s ∙ (and_parts (p y) (list_all p xs) e).0
-all_here p (y ∷ xs) e x (inr i) = all_here p xs (and_parts (p y) (list_all p xs) e).1 x i
-
 in_filter : {X : Type 0} (p : X → Bool) (xs : List X) (x : X) → In x xs → p x ≡ true → In x (filter p xs)
 in_filter p [] x i e = absurd i
 in_filter p (y ∷ xs) x (inl s) e = subst (In x) (sym (ap (λ b. cond b (y ∷ filter p xs) (filter p xs)) (ap p (sym s) ∙ e))) (inl s)
@@ -203,11 +199,6 @@ appeared known (x ∷ xs) n y e low high = by (seen known x xs) (λ k h l. appea
     by (fresh h same) again = ⊎_elim (λ l. inr (again (known + 1) (sym same ∙ e) (omega arith))) (λ g. let s : y ≡ known = omega arith in inl (s ∙ sym h)) (cases_lt known y)
     by (strange same) again = let f : None ≡ Some n = sym same ∙ e in absurd cc
 
-below : (n : ℕ) (xs : List ℕ) (x : ℕ) → AreBelow n xs → In x xs → x < n
-below n [] x b i = absurd i
-below n (y ∷ xs) x b (inl e) = omega (arith, e, b.0)
-below n (y ∷ xs) x b (inr i) = below n xs x b.1 i
-
 -- ---- the variables and shadows of a function
 
 -- each item of G is one of F by its tree, or `nop`, and their arguments are the same
@@ -233,17 +224,17 @@ module _ (fs gs : List (List ℕ)) (F G : Func) (of_items : IsOfItems fs gs F G)
     where
       none : item_tree gs W G.labels b ≡ nop_item → (a : Instr) × In a F.code × (item_tree fs V F.labels a ≡ item_tree gs W G.labels b)
       none e =
-          let names : map (named W) [] ≡ map (named W) (variables_of b) = sym (ap item_names e) ∙ names-item gs W G.labels b (all_here dest_is_typed G.code G.formed.typed b i) in
+          let names : map (named W) [] ≡ map (named W) (variables_of b) = sym (ap item_names e) ∙ names-item gs W G.labels b (passes_in dest_is_typed G.code b G.formed.typed i) in
           absurd (same_named W W [] (variables_of b) names y k).1
 
   typed-F : (a : Instr) → In a F.code → dest_is_typed a ≡ true
-  typed-F = all_here dest_is_typed F.code F.formed.typed
+  typed-F a i = passes_in dest_is_typed F.code a F.formed.typed i
 
   typed-G : (b : Instr) → In b G.code → dest_is_typed b ≡ true
-  typed-G = all_here dest_is_typed G.code G.formed.typed
+  typed-G b i = passes_in dest_is_typed G.code b G.formed.typed i
 
   variable-below : (a : Instr) → In a F.code → (x : ℕ) → In x (variables_of a) → x < length F.vars
-  variable-below a i x k = below (length F.vars) (flat_map variables_of F.code) x (known_after-below F.args (flat_map variables_of F.code) (length F.vars) F.formed.appear) (in_flat_map variables_of a x F.code i k)
+  variable-below a i x k = let at = in_get a F.code i in variable_below F at.0 a at.1 x k
 
   argument-found : (y : ℕ) → y < G.args → Found y
   argument-found y low =

@@ -13,11 +13,10 @@ use Rattle.bril_tree.specs.Shape.{is_shaped}
 use Rattle.bril_tree.specs.ProgramNumbers.{IsGreatest, IsSum, greatest}
 use Rattle.bril_tree.specs.declared.numbered_function.Func.{Func}
 use Rattle.bril_tree.specs.declared.program.Prog.{Prog}
-use Rattle.bril_tree.proofs.Elements.{zip-find}
+use Rattle.bril_tree.proofs.Elements.{zip-find, get_in}
 use Rattle.bril_tree.proofs.Members.{contains_in, in_contains}
+use Rattle.pass_plan.proofs.Elements.{all_in}
 use Rattle.pass_numbers.specs.Numbers.{FunctionWithin, FunctionsBound}
-use Rattle.pass_numbers.proofs.Counting.{all_in}
-use Rattle.pass_numbers.proofs.Edges.{item_point}
 use Rattle.pass_numbers.proofs.Locations.{IsOfItems, fewer-locations}
 use Rattle.pass_numbers.proofs.Existing.{not_bottomless, not_widthless}
 
@@ -68,4 +67,4 @@ by-functions P Q names R h = zip-by_number R P.funcs Q.funcs names h
 -- a function of an accepted program has no more locations than the one whose items it has
 pub accepted-locations : (Q : Prog) → IsAccepted Q → (f : ℕ) (fs gs : List (List ℕ)) (F G : Func) → slice_get Q.funcs f ≡ Some G → IsOfItems fs gs F G → location_count G ≤ location_count F
 accepted-locations Q accepted f fs gs F G q of_items =
-    fewer-locations fs gs F G of_items (is_some G.ret) (λ b i. all_in (λ b. is_shaped (is_some G.ret) b ≡ true) G.code (all_in (IsAcceptedFunction Q) Q.funcs accepted.functions G (item_point Q.funcs f G q)).shaped b i)
+    fewer-locations fs gs F G of_items (is_some G.ret) (λ b i. all_in (λ b. is_shaped (is_some G.ret) b ≡ true) G.code (all_in (IsAcceptedFunction Q) Q.funcs accepted.functions G (get_in Q.funcs f G q)).shaped b i)

@@ -7,20 +7,19 @@ use Rattle.bril_tree.specs.declared.numbered_function.Func.{Func}
 use Rattle.bril_tree.specs.declared.program.Prog.{Prog}
 use Rattle.bril_tree.specs.Accepted.{IsAccepted}
 use Rattle.bril_tree.specs.Edge.{Branch, branches_at, branches_from, onward}
-use Rattle.bril_tree.specs.Operand.{Location, dest_of, reads_of}
+use Rattle.bril_tree.specs.Operand.{Location, reads_of}
 use Rattle.bril_tree.specs.Step.{code_of, item_at}
 use Rattle.bril_tree.specs.Walk.{IsWalk, end_of}
 use Rattle.bril_tree.specs.Membership.{In}
 use Rattle.pass_accept.specs.Edited.{IsNew, IsOld, Edits}
 use Rattle.pass_accept.proofs.Heads.{start_matched}
-use Rattle.pass_accept.proofs.Alone.{went_on, result_alone}
+use Rattle.pass_accept.proofs.Alone.{result_alone}
 use Rattle.pass_accept.proofs.Edited.{edit_accepted}
 use Rattle.bril_tree.specs.Numbered.{nop}
+use Rattle.bril_tree.proofs.Assignments.{went_on}
 use Rattle.pass_pad.specs.Padded.{PaddedAt}
 use Rattle.pass_pad.specs.Plan.{padding, pad_plan}
 use Rattle.pass_pad.proofs.Refines.{preserves}
-use Rattle.pass_plan.specs.Plan.{Plan}
-use Rattle.pass_types.specs.Stays.{FitsByItself}
 use Rattle.pass_walks.specs.Matched.{WalksMatch, MatchedWalk, IsHarmless, MatchesWalks}
 use Rattle.pass_walks.proofs.Walks.{regular_branch_matched}
 

@@ -14,15 +14,17 @@ use Rattle.bril_tree.specs.declared.tree.Tree.{Tree}
 use Rattle.bril_tree.specs.Accepted.{IsAccepted}
 use Rattle.bril_tree.specs.Numbered.{Numbered, function_tree, names_of_functions, tree_at, tree_of, tree_size, items_in, nop_item}
 use Rattle.bril_tree.specs.Size.{item_count, IsCounted}
+use Rattle.bril_tree.proofs.Trees.{tree_at-items, tree_at-edited, nop-at, numbered-tree_of}
+use Rattle.bril_tree.proofs.Sizes.{size-tree_of, each_within}
 use Rattle.bril_names.specs.Faults.{IsKnown, IsSound, labels_of, function_names, SameHead, IsSoundEdit}
 use Rattle.bril_names.proofs.Functions.{is_main}
 use Rattle.bril_names.proofs.Naming.{AreAmong-none}
-use Rattle.pass_names.proofs.Trees.{numbered-tree_of, heads-of_trees}
+use Rattle.bril_names.proofs.Edits.{names_edited, heads-of_edits}
+use Rattle.pass_names.proofs.Trees.{heads-of_trees}
 use Rattle.pass_law.specs.Bounds.{IsTooLarge}
 use Rattle.pass_law.specs.Meaning.{Link}
 use Rattle.bril_profile.specs.declared.profile.Profile.{Profile}
 use Rattle.pass_make.specs.CanBeMade.{CanBeMade}
-use Rattle.pass_make.proofs.Making.{tree_at-items, tree_at-edited, nop-at, names-edited, heads-zip, size-tree_of, each-within}
 use Rattle.pass_make.proofs.Bounds.{sum-counted}
 use Rattle.pass_pad.specs.Pad.{pad_meaning}
 use Rattle.pass_pad.specs.Padded.{padded_function, padded_tree, IsPadded, padded_size, PaddedAt}
@@ -38,12 +40,12 @@ can_be_numbered names f s = record {
 }
 
 names : (P : Prog) → AllZip (IsSoundEdit (function_names (tree_of P))) (tree_of P).funcs (padded_tree (tree_of P)).funcs
-names P = names-edited P padded_function (can_be_numbered (function_names (tree_of P)))
+names P = names_edited P padded_function (can_be_numbered (function_names (tree_of P)))
 
 -- so its points are those of the old function, one further
 padded-points : (P Q : Prog) → IsPadded P Q → PaddedAt P Q
 padded-points P Q makes = record {
-  heads = heads-of_trees P Q (subst (λ (t : Tree). AllZip SameHead (tree_of P).funcs t.funcs) (sym makes) (heads-zip (function_names (tree_of P)) (tree_of P).funcs (padded_tree (tree_of P)).funcs (names P)));
+  heads = heads-of_trees P Q (subst (λ (t : Tree). AllZip SameHead (tree_of P).funcs t.funcs) (sym makes) (heads-of_edits (function_names (tree_of P)) (tree_of P).funcs (padded_tree (tree_of P)).funcs (names P)));
   first = λ f F p. nop-at Q f 0 (at f 0 ∙ ap (λ o. slice_get (items_in (option_map padded_function o)) 0) (slice_get-map (function_tree (names_of_functions P.funcs)) P.funcs f ∙ ap (option_map (function_tree (names_of_functions P.funcs))) p));
   rest = λ f i. tree_at-items P f i ∙ further (slice_get (tree_of P).funcs f) i ∙ sym (at f (suc i));
 }
@@ -77,7 +79,7 @@ padded-made P accepted room = record {
   imports = refl;
   names = names P;
   accepted = λ Q numbered. padded-accepted P Q accepted (padded-points P Q (sym (numbered-tree_of (padded_tree (tree_of P)) Q numbered)));
-  items = each-within 4294967295 (padded_tree (tree_of P)).funcs (subst (λ n. n < 4294967295) (sym (size-padded P)) (⊎_elim (λ l. omega arith) (λ l. absurd (let some = (is_main P).within in let many = length-map P.funcs (λ (f : Func). f.name) in omega arith)) room));
+  items = each_within 4294967295 (padded_tree (tree_of P)).funcs (subst (λ n. n < 4294967295) (sym (size-padded P)) (⊎_elim (λ l. omega arith) (λ l. absurd (let some = (is_main P).within in let many = length-map P.funcs (λ (f : Func). f.name) in omega arith)) room));
 }
 
 -- ---- by what the calls give: the tree of the program, its edit, and the program numbered of that

@@ -11,11 +11,13 @@ use Rattle.bril_tree.specs.Run.{Refines}
 use Rattle.bril_tree.specs.State.{Frame, State}
 use Rattle.bril_tree.specs.Step.{items_of, code_of, item_at}
 use Rattle.bril_tree.specs.Membership.{In}
-use Rattle.pass_names.specs.NamedPlan.{NamePlan, plan, KeepsNames}
-use Rattle.pass_names.proofs.Preserving.{names_preserve, label_once, no_partner, knows_nothing}
+use Rattle.pass_names.specs.NamedPlan.{KeepsNames}
+use Rattle.pass_names.proofs.Preserving.{names_preserve, knows_nothing}
+use Rattle.pass_names.proofs.Points.{label_once}
+use Rattle.pass_names.proofs.Heads.{no_partner}
 use Rattle.pass_pad.specs.Padded.{PaddedAt}
 use Rattle.pass_pad.specs.Plan.{padding, pad_plan}
-use Rattle.pass_plan.specs.Plan.{Plan, Preserves, StatesMatch}
+use Rattle.pass_plan.specs.Plan.{Preserves, StatesMatch}
 use Rattle.pass_steps.specs.Refinement.{CatchesUp, CatchUp, Advances}
 use Rattle.pass_steps.proofs.Moves.{result_moves}
 use Rattle.pass_steps.proofs.Refinement.{plan_refines}

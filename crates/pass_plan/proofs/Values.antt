@@ -1,47 +1,29 @@
 -- Locations after an assignment.
-use Rattle.std.proofs.Common.{◌≡◌, ◌⊎◌, ℕ, suc, Bool, true, false, List, [], ◌∷◌, ◌++◌, length, map, Option, Some, None, refl, sym, ap, subst, ◌∙◌, inl, inr, cond, arith, ◌<◌, zero, pos}
-use Rattle.std.specs.Prelude.{slice_get, slice_index, ◌==◌, is_some, unwrap_or}
+use Rattle.std.proofs.Common.{◌≡◌, ◌⊎◌, ℕ, List, [], ◌∷◌, length, map, Option, Some, None, sym, ◌∙◌, inl, inr, ◌<◌}
+use Rattle.std.specs.Prelude.{slice_index, is_some}
 use Rattle.std.specs.List.{AllZip}
-use Rattle.std.proofs.lemmas.Bool.{eqb-true, eqb-false}
 use Rattle.bril_tree.specs.declared.value.Value.{Value}
-use Rattle.bril_tree.specs.declared.value.Value.TheVariants.{Int}
 use Rattle.bril_tree.specs.FunctionForm.{listed}
 use Rattle.bril_tree.specs.Operand.{Location, Variable, Shadow}
-use Rattle.bril_tree.specs.State.{Locals, Values, read, with_value}
+use Rattle.bril_tree.specs.State.{Locals, read}
 use Rattle.bril_tree.specs.Step.{assigned, shadowed}
 use Rattle.bril_tree.specs.Membership.{In}
 use Rattle.bril_tree.specs.Locals.{value_at}
+use Rattle.bril_tree.proofs.HeldValues.{read-alike, read-held, assigned-same as held_assigned-same, assigned-other as held_assigned-other, shadowed-same as held_shadowed-same, shadowed-other as held_shadowed-other}
+use Rattle.bril_tree.proofs.Outcomes.{ReadAlike, arguments-same, argument-same}
 use Rattle.pass_plan.specs.Plan.{ValuesMatch, HoldsKnown, StaysMatched}
 
-pub with-same : (values : Values) (x : ℕ) (v : Value) → with_value values x v x ≡ Some v
-with-same values x v = by_test (x == x) refl
-  where
-    by_test : (d : Bool) → (x == x) ≡ d → cond (x == x) (Some v) (values x) ≡ Some v
-    by_test true e = ap (λ b. cond b (Some v) (values x)) e
-    by_test false e = absurd (eqb-false x x e refl)
-
-pub with-other : (values : Values) (x y : ℕ) (v : Value) → (y ≡ x → ⊥) → with_value values x v y ≡ values y
-with-other values x y v n = by_test (y == x) refl
-  where
-    by_test : (d : Bool) → (y == x) ≡ d → cond (y == x) (Some v) (values y) ≡ values y
-    by_test true e = absurd (n (eqb-true y x e))
-    by_test false e = ap (λ b. cond b (Some v) (values y)) e
-
 pub assigned-same : (x : ℕ) (v : Value) (p : Locals) (a : Location) → a ≡ Variable x → value_at (assigned (Some x) v p) a ≡ v
-assigned-same x v p (Variable y) e = let s : y ≡ x = cc in ap (λ (o : Option Value). unwrap_or o (Int (pos 0))) (ap (λ z. with_value p.vars x v z) s ∙ with-same p.vars x v)
-assigned-same x v p (Shadow y) e = absurd (cc)
+assigned-same x v p a e = read-held (assigned (Some x) v p) a v (held_assigned-same x v p a e)
 
 pub assigned-other : (x : ℕ) (v : Value) (p : Locals) (a : Location) → (a ≡ Variable x → ⊥) → value_at (assigned (Some x) v p) a ≡ value_at p a
-assigned-other x v p (Variable y) n = ap (λ (o : Option Value). unwrap_or o (Int (pos 0))) (with-other p.vars x y v (λ e. n (ap Variable e)))
-assigned-other x v p (Shadow y) n = refl
+assigned-other x v p a n = read-alike (assigned (Some x) v p) p a a (held_assigned-other x v p a n)
 
 pub shadowed-same : (x : ℕ) (v : Value) (p : Locals) (a : Location) → a ≡ Shadow x → value_at (shadowed x v p) a ≡ v
-shadowed-same x v p (Shadow y) e = let s : y ≡ x = cc in ap (λ (o : Option Value). unwrap_or o (Int (pos 0))) (ap (λ z. with_value p.shadows x v z) s ∙ with-same p.shadows x v)
-shadowed-same x v p (Variable y) e = absurd (cc)
+shadowed-same x v p a e = read-held (shadowed x v p) a v (held_shadowed-same x v p a e)
 
 pub shadowed-other : (x : ℕ) (v : Value) (p : Locals) (a : Location) → (a ≡ Shadow x → ⊥) → value_at (shadowed x v p) a ≡ value_at p a
-shadowed-other x v p (Shadow y) n = ap (λ (o : Option Value). unwrap_or o (Int (pos 0))) (with-other p.shadows x y v (λ e. n (ap Shadow e)))
-shadowed-other x v p (Variable y) n = refl
+shadowed-other x v p a n = read-alike (shadowed x v p) p a a (held_shadowed-other x v p a n)
 
 only : {X : Type 0} (a b : X) → In a (b ∷ []) → a ≡ b
 only a b (inl e) = e
@@ -77,22 +59,20 @@ module _ (A B : Location → Location → Type 0) (p q : Locals) (agree : Values
   pub read-agree : (x y : ℕ) → A (Variable x) (Variable y) → read p.vars x ≡ read q.vars y
   read-agree x y h = agree (Variable x) (Variable y) h
 
-  pub shadow-agree : (x y : ℕ) → A (Shadow x) (Shadow y) → read p.shadows x ≡ read q.shadows y
-  shadow-agree x y h = agree (Shadow x) (Shadow y) h
+  -- what matches reads the same
+  pub zip-alike : (xs ys : List Location) → AllZip A xs ys → AllZip (ReadAlike p q) xs ys
+  zip-alike [] [] h = tt
+  zip-alike [] (y ∷ ys) h = absurd h
+  zip-alike (x ∷ xs) [] h = absurd h
+  zip-alike (x ∷ xs) (y ∷ ys) h = (agree x y h.0, zip-alike xs ys h.1)
 
   -- the values of the arguments
   pub reads-agree : (xs ys : List ℕ) → AllZip A (map Variable xs) (map Variable ys) → map (read p.vars) xs ≡ map (read q.vars) ys
-  reads-agree [] [] h = refl
-  reads-agree [] (y ∷ ys) h = absurd h
-  reads-agree (x ∷ xs) [] h = absurd h
-  reads-agree (x ∷ xs) (y ∷ ys) h = let e = read-agree x y h.0 in let r = reads-agree xs ys h.1 in cc
+  reads-agree xs ys h = arguments-same p q xs ys (zip-alike (map Variable xs) (map Variable ys) h)
 
   -- one of them
   pub read_at-agree : (xs ys : List ℕ) (k : ℕ) → k < length xs → AllZip A (map Variable xs) (map Variable ys) → read p.vars (slice_index xs k) ≡ read q.vars (slice_index ys k)
-  read_at-agree [] ys k l h = absurd (omega arith)
-  read_at-agree (x ∷ xs) [] k l h = absurd h
-  read_at-agree (x ∷ xs) (y ∷ ys) zero l h = read-agree x y h.0
-  read_at-agree (x ∷ xs) (y ∷ ys) (suc k) l h = read_at-agree xs ys k (omega arith) h.1
+  read_at-agree xs ys k l h = argument-same p q xs ys k l (zip-alike (map Variable xs) (map Variable ys) h)
 
 -- what is known after an assignment
 module _ (K L : Location → Value → Type 0) (p : Locals) (holds : HoldsKnown K p) where

@@ -1,21 +1,15 @@
 -- A plan with more matching locations is preserved.
-use Rattle.std.proofs.Common.{◌≡◌, ◌⊎◌, ℕ, zero, suc, Bool, true, false, List, [], ◌∷◌, length, map, Option, Some, None, refl, sym, ap, subst, ◌∙◌, inl, inr, ⊎_elim}
-use Rattle.std.specs.Prelude.{slice_get}
+use Rattle.std.proofs.Common.{ℕ, List, [], ◌∷◌, Option, Some, None, refl, inl, inr, ⊎_elim}
 use Rattle.std.specs.List.{AllZip}
 use Rattle.bril_tree.specs.declared.numbered.Instr.{Instr}
 use Rattle.bril_tree.specs.declared.numbered.Instr.TheVariants.{Label, Const, Act}
 use Rattle.bril_tree.specs.declared.program.Prog.{Prog}
-use Rattle.bril_tree.specs.declared.value.Value.{Value}
 use Rattle.bril_tree.specs.Assigned.{assigns_at}
-use Rattle.bril_tree.specs.Edge.{Branch, branches_at, branches_from}
+use Rattle.bril_tree.specs.Edge.{branches_at}
 use Rattle.bril_tree.specs.Operand.{Location, reading_of, locations_read}
-use Rattle.bril_tree.specs.Run.{types_of}
-use Rattle.bril_tree.specs.Sites.{sites_of}
-use Rattle.bril_tree.specs.Step.{code_of, item_at, new_frame}
-use Rattle.bril_tree.specs.Walk.{IsWalk, IsReached, end_of}
+use Rattle.bril_tree.specs.Step.{code_of, item_at}
 use Rattle.bril_tree.specs.Membership.{In}
-use Rattle.pass_plan.specs.Plan.{Plan, ValuesMatch, StaysMatched, ActionsMatch, ItemsMatch, PointItemsMatch, EdgesMatch, StepsMatch, Preserves}
-use Rattle.bril_tree.specs.Locals.{value_at}
+use Rattle.pass_plan.specs.Plan.{Plan, StaysMatched, PointItemsMatch, EdgesMatch, Preserves}
 use Rattle.pass_plan.specs.Widening.{wide, Widens, WideningPreserves}
 
 pub zip-wider : {X Y : Type 0} (R S : X → Y → Type 0) (xs : List X) (ys : List Y) → AllZip R xs ys → ((x : X) (y : Y) → In x xs → In y ys → R x y → S x y) → AllZip S xs ys

@@ -1,7 +1,7 @@
 -- How the points, the locations and the states of a program match those of what a pass made of it, and what a pass
 -- proves of this matching. P is the given program and Q the result. A function of Q has the number that it has in P.
 use Rattle.bril_tree.specs.Locals.{value_at}
-use Rattle.std.specs.Prelude.{◌≡◌, ℕ, suc, ◌⊎◌, Bool, true, false, List, [], ◌∷◌, length, Option, Some, None, is_some, slice_get, slice_index}
+use Rattle.std.specs.Prelude.{◌≡◌, ℕ, ◌⊎◌, true, false, List, [], ◌∷◌, length, Option, Some, None, is_some, slice_get, slice_index}
 use Rattle.std.specs.List.{AllZip}
 use Rattle.bril_tree.specs.declared.numbered.Instr.{Instr}
 use Rattle.bril_tree.specs.declared.numbered.Instr.TheVariants.{Label, Const, Act}
@@ -12,11 +12,11 @@ use Rattle.bril_tree.specs.declared.types.Ty.{Ty}
 use Rattle.bril_tree.specs.declared.value.Value.{Value}
 use Rattle.bril_tree.specs.Assigned.{assigns_at}
 use Rattle.bril_tree.specs.Edge.{Branch, branches_from}
-use Rattle.bril_tree.specs.Operand.{Location, Variable, Shadow, locations_read, reading_of}
+use Rattle.bril_tree.specs.Operand.{Location, locations_read, reading_of}
 use Rattle.bril_tree.specs.Outcome.{Yields, outcome_of, argument}
 use Rattle.bril_tree.specs.Run.{types_of, main_types}
 use Rattle.bril_tree.specs.Sites.{sites_of}
-use Rattle.bril_tree.specs.State.{Locals, Frame, State, read}
+use Rattle.bril_tree.specs.State.{Locals, Frame, State}
 use Rattle.bril_tree.specs.Step.{code_of, item_at, new_frame}
 use Rattle.bril_tree.specs.Walk.{IsWalk, IsReached, end_of}
 use Rattle.bril_tree.specs.Membership.{In}

@@ -1,9 +1,7 @@
 -- Inside an attempt that the program doesn't have, between a `speculate` of the result and its `commit`, the result's
 -- frame has a save more. An item that looks at no saves does the same on both sides: it faults, or it changes locations alone.
-use Rattle.std.proofs.Common.{◌≡◌, ◌⊎◌, ℕ, zero, suc, ◌<◌, Bool, true, false, List, [], ◌∷◌, length, map, Option, Some, None, ℤ, pos, negsuc, refl, sym, ap, subst, ◌∙◌, inl, inr, cond, arith}
-use Rattle.std.specs.Prelude.{slice_get, slice_index, is_some}
-use Rattle.std.specs.List.{AllZip}
-use Rattle.bril_tree.specs.declared.limits.End.{End}
+use Rattle.std.proofs.Common.{◌+ℤ◌, ◌≡◌, ℕ, suc, Bool, true, false, List, ◌∷◌, length, map, Option, Some, None, refl, sym, subst, ◌∙◌, arith}
+use Rattle.std.specs.Prelude.{slice_index, is_some}
 use Rattle.bril_tree.specs.declared.limits.Fault.{Fault}
 use Rattle.bril_tree.specs.declared.limits.Fault.TheVariants as fault
 use Rattle.bril_tree.specs.declared.limits.Limits.{Limits}
@@ -16,20 +14,19 @@ use Rattle.bril_tree.specs.declared.types.Ty.{Ty}
 use Rattle.bril_tree.specs.declared.value.Lit.{Lit}
 use Rattle.bril_tree.specs.declared.value.Value.{Value}
 use Rattle.bril_tree.specs.Assigned.{assigns_of}
-use Rattle.bril_tree.specs.Edge.{item_branches, onward}
 use Rattle.bril_tree.specs.FunctionForm.{listed}
 use Rattle.bril_tree.specs.Memory.{cell_at, held}
-use Rattle.bril_tree.specs.Operand.{Location, Variable, Shadow, dest_of}
-use Rattle.bril_tree.specs.Outcome.{Outcome, Yields, FaultsWith, HasEffect, outcome_of, action_outcome, argument, int_of, divided, char_from, is_scalar}
-use Rattle.bril_tree.specs.Shape.{fits_shape, shape_of, is_shaped}
-use Rattle.bril_tree.specs.Sites.{Keeps, item_change}
-use Rattle.bril_tree.specs.State.{Locals, Frame, Block, State, read}
+use Rattle.bril_tree.specs.Operand.{Location, Variable, dest_of}
+use Rattle.bril_tree.specs.Outcome.{block_of, offset_of, Outcome, Yields, FaultsWith, HasEffect, action_outcome, argument, int_of}
+use Rattle.bril_tree.specs.Shape.{shape_of}
+use Rattle.bril_tree.specs.State.{Locals, Frame, Block, State}
 use Rattle.bril_tree.specs.Step.{assigned, shadowed, faulted, acts, by_outcome, item_step, loads, loads_held}
-use Rattle.bril_tree.specs.Typing.{type_fault}
 use Rattle.bril_tree.specs.Value.{literal_value}
+use Rattle.bril_tree.proofs.Outcomes.{divided-yields, char_from-yields, moved-yields, GoesOn, giver-goes_on}
+use Rattle.bril_tree.proofs.Shapes.{shape-parts}
 use Rattle.pass_plan.specs.Plan.{ValuesMatch, StaysMatched, ActionsMatch, ItemsMatch}
-use Rattle.pass_plan.proofs.Outcomes.{GoesOn, giver-goes_on, shape-parts, action-same}
-use Rattle.pass_steps.proofs.Shapes.{Shaped, divided-gives, cond-gives, char_from-gives, get-gives, undef-gives}
+use Rattle.pass_plan.proofs.Outcomes.{action-same}
+use Rattle.pass_steps.proofs.Shapes.{Shaped, get-gives, undef-gives}
 use Rattle.pass_steps.proofs.Steps.{frame, state}
 use Rattle.pass_plan.proofs.Values.{agree-assigned, agree-shadowed, read_at-agree, read-agree}
 
@@ -123,9 +120,9 @@ module _ (A : Location → Location → Type 0) (P Q : Prog) (limits : Limits) (
         (agree-shadowed A A p q agree (slice_index args 0) (slice_index result_args 0) v r.kept))
     row op.Get r = absurd (get-gives p d (length args) (length fns) (length ls) r.shaped.shaped r.acts)
     row op.Undef r = absurd (undef-gives P r.shaped.f d s args fns ls r.shaped.shaped r.shaped.typed r.acts)
-    row op.Div r = absurd (divided-gives _ _ _ r.acts)
-    row op.IntToChar r = absurd (char_from-gives (int_of (argument p args 0)) r.acts)
-    row op.PtrAdd r = absurd (cond-gives _ _ _ r.acts)
+    row op.Div r = absurd (divided-yields _ _ _ r.acts)
+    row op.IntToChar r = absurd (char_from-yields (int_of (argument p args 0)) r.acts)
+    row op.PtrAdd r = absurd (moved-yields (block_of (argument p args 0)) (offset_of (argument p args 0) +ℤ int_of (argument p args 1)) r.acts)
     row op.Nop r = let h = r.attempted in absurd (cc)
     row op.Jmp r = let h = r.attempted in absurd (cc)
     row op.Br r = let h = r.attempted in absurd (cc)

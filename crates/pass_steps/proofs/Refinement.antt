@@ -1,7 +1,6 @@
 -- A plan gives refinement.
-use Rattle.std.proofs.Common.{◌≡◌, ◌⊎◌, ℕ, zero, suc, ◌+◌, ◌*◌, ◌<◌, ◌≤◌, List, [], ◌∷◌, length, Some, None, refl, sym, ap, subst, ◌∙◌, inl, inr, arith}
+use Rattle.std.proofs.Common.{◌≡◌, ℕ, zero, suc, ◌*◌, ◌<◌, ◌≤◌, None, refl, sym, subst, ◌∙◌, inl, inr, arith}
 use Rattle.std.specs.Prelude.{slice_get}
-use Rattle.std.specs.List.{AllZip}
 use Rattle.std.proofs.Math.Nat.{mul-le-mul_left}
 use Rattle.simulation.specs.System.{Agree, after}
 use Rattle.simulation.specs.Simulation.{Chunk, Simulation}
@@ -10,12 +9,13 @@ use Rattle.simulation.proofs.Simulation.{Follows-from_simulation}
 use Rattle.bril_tree.specs.declared.limits.Limits.{Limits}
 use Rattle.bril_tree.specs.declared.program.Prog.{Prog}
 use Rattle.bril_tree.specs.Accepted.{IsAccepted}
-use Rattle.bril_tree.specs.Run.{program, first_state, Suits, types_of, Refines}
+use Rattle.bril_tree.specs.Run.{program, first_state, Suits, types_of}
 use Rattle.bril_tree.specs.State.{State}
 use Rattle.bril_tree.specs.Step.{step}
 use Rattle.bril_tree.proofs.Grows.{program_is_system}
+use Rattle.bril_tree.proofs.Elements.{zip-long}
 use Rattle.pass_plan.specs.Plan.{Plan, Preserves, StatesMatch}
-use Rattle.pass_steps.specs.Refinement.{EndedAlike, CatchesUp, MatchOrEnd, Progress, CatchUp, SourceMoves, BothMove, Advances, PlanRefines}
+use Rattle.pass_steps.specs.Refinement.{CatchesUp, MatchOrEnd, Progress, CatchUp, SourceMoves, BothMove, Advances, PlanRefines}
 use Rattle.pass_steps.proofs.Steps.{regular_steps_match, first_states_match}
 
 module _ (m : Plan) (P Q : Prog) (limits : Limits) (k : ℕ) (accepted : IsAccepted P) (preserves : Preserves m P Q) (advances : Advances m P Q limits k) where
@@ -70,17 +70,11 @@ module _ (m : Plan) (P Q : Prog) (limits : Limits) (k : ℕ) (accepted : IsAccep
       chunk s t (inl r) runs = chunk_from (suc (advances.distance s)) s t (omega arith) r runs
       chunk s t (inr e) runs = absurd (running-not_final s.ended runs e.final)
 
-pub zip_long : {X Y : Type 0} (R : X → Y → Type 0) (xs : List X) (ys : List Y) → AllZip R xs ys → length xs ≡ length ys
-zip_long R [] [] h = refl
-zip_long R [] (y ∷ ys) h = absurd h
-zip_long R (x ∷ xs) [] h = absurd h
-zip_long R (x ∷ xs) (y ∷ ys) h = ap suc (zip_long R xs ys h.1)
-
 pub plan_refines : (plan : Prog → Prog → Plan) → PlanRefines plan
 plan_refines plan P Q k accepted preserves positive advances = record {
   same_types = preserves.types;
   positive = positive;
   follows = λ limits args fit.
       Follows-from_simulation (program P limits) (program Q limits) (MatchOrEnd (plan P Q) P Q limits) (program_is_system P limits) (program_is_system Q limits) k (simulates (plan P Q) P Q limits k accepted preserves (advances limits))
-      (first_state P limits args) (first_state Q limits args) (inl (first_states_match (plan P Q) P Q limits accepted preserves args (zip_long Suits args (types_of (slice_get P.funcs P.main)) fit)));
+      (first_state P limits args) (first_state Q limits args) (inl (first_states_match (plan P Q) P Q limits accepted preserves args (zip-long Suits args (types_of (slice_get P.funcs P.main)) fit)));
 }

@@ -1,11 +1,9 @@
 -- At a regular pair of points matched states make steps to matched states.
-use Rattle.std.proofs.Common.{◌≡◌, ◌⊎◌, ℕ, zero, suc, ◌<◌, Bool, true, false, List, [], ◌∷◌, ◌++◌, length, map, Option, Some, None, ℤ, pos, negsuc, refl, sym, ap, subst, ◌∙◌, inl, inr, ⊎_elim, cond, arith, All}
-use Rattle.std.specs.Prelude.{slice_get, slice_index, ◌==◌, is_some, unwrap_or, nat_lt, IsTrue}
+use Rattle.std.proofs.Common.{◌+ℤ◌, ◌≡◌, ◌⊎◌, ℕ, suc, ◌<◌, Bool, true, false, List, [], ◌∷◌, ◌++◌, length, map, Option, Some, None, ℤ, pos, refl, sym, ap, subst, ◌∙◌, inl, inr, ⊎_elim, cond, arith}
+use Rattle.std.specs.Prelude.{slice_get, slice_index, is_some, nat_lt, IsTrue}
 use Rattle.std.specs.List.{AllZip}
 use Rattle.std.proofs.lemmas.Bool.{and_parts, eqb-true, not-true}
-use Rattle.std.proofs.lemmas.Option.{get_or_from_slice_get, slice_get_within}
 use Rattle.std.proofs.lemmas.List.{length-map}
-use Rattle.std.proofs.lemmas.Slice.Zip.{AllZip-long}
 use Rattle.bril_tree.specs.declared.limits.End.{End}
 use Rattle.bril_tree.specs.declared.limits.End.TheVariants.{Ended, Faulted}
 use Rattle.bril_tree.specs.declared.limits.Fault.{Fault}
@@ -13,7 +11,6 @@ use Rattle.bril_tree.specs.declared.limits.Fault.TheVariants as fault
 use Rattle.bril_tree.specs.declared.limits.Limits.{Limits}
 use Rattle.bril_tree.specs.declared.numbered.Instr.{Instr}
 use Rattle.bril_tree.specs.declared.numbered.Instr.TheVariants.{Label, Const, Act}
-use Rattle.bril_tree.specs.declared.numbered_function.Func.{Func}
 use Rattle.bril_tree.specs.declared.operation.Op.{Op}
 use Rattle.bril_tree.specs.declared.operation.Op.TheVariants as op
 use Rattle.bril_tree.specs.declared.program.Prog.{Prog}
@@ -21,30 +18,31 @@ use Rattle.bril_tree.specs.declared.types.Ty.{Ty}
 use Rattle.bril_tree.specs.declared.value.Lit.{Lit}
 use Rattle.bril_tree.specs.declared.value.Value.{Value}
 use Rattle.bril_tree.specs.declared.value.Value.TheVariants.{Ptr}
-use Rattle.bril_tree.specs.Accepted.{IsAccepted, IsAcceptedFunction}
+use Rattle.bril_tree.specs.Accepted.{IsAccepted}
 use Rattle.bril_tree.specs.Assigned.{assigns_of, assigns_at}
 use Rattle.bril_tree.specs.Edge.{Branch, branches_at, branches_from, item_branches, onward, jump, abort}
 use Rattle.bril_tree.specs.FunctionForm.{listed}
 use Rattle.bril_tree.specs.Memory.{is_live_any, cell_at, held, live_block, is_freeable, changed_block, allocation_fault, new_block, cells_of}
-use Rattle.bril_tree.specs.Operand.{Location, Variable, Shadow, dest_of, reads_of}
-use Rattle.bril_tree.specs.Outcome.{undefined, divided, char_from, moved, fits_32, is_scalar, shadow_given, Outcome, Yields, FaultsWith, HasEffect, outcome_of, action_outcome, argument, block_of, offset_of, int_of, bool_of}
+use Rattle.bril_tree.specs.Operand.{Location, Variable, dest_of}
+use Rattle.bril_tree.specs.Outcome.{Outcome, Yields, FaultsWith, HasEffect, action_outcome, argument, block_of, offset_of, int_of, bool_of}
 use Rattle.bril_tree.specs.Run.{types_of, first_state}
-use Rattle.bril_tree.specs.Shape.{Shape, same, is_shaped, is_action_shaped, fits_shape, shape_of}
-use Rattle.bril_tree.specs.Sites.{AreSitesSound, AreFirstSites, NoSite, needs_site, Keeps, item_change, sites_changed, sites_of, without_newest}
-use Rattle.bril_tree.specs.State.{Locals, Frame, Block, State, Values, read, no_values, with_value}
-use Rattle.bril_tree.specs.Step.{items_of, code_of, item_at, point_of, at_point, advanced, with_locations, assigned, shadowed, faulted, gives, advances, jumps, ends, awaited, returns, arguments_from, new_frame, calls, line_of, prints, allocates, frees, stores, loads, loads_held, speculates, commits, dropped, saved, guards, acts, acts_at, by_outcome, item_step, frames_step, running_step, step}
-use Rattle.bril_tree.specs.Typing.{return_type, is_call_shaped, call_fits, type_fault}
-use Rattle.bril_tree.specs.Value.{shown, literal_value}
-use Rattle.bril_tree.specs.Walk.{IsWalk, IsReached, end_of}
-use Rattle.flow_graph.proofs.FirstWalks.{reached_have_first}
-use Rattle.flow_graph.proofs.OpenSites.{sound_walks_agree}
+use Rattle.bril_tree.specs.Shape.{same, fits_shape, shape_of}
+use Rattle.bril_tree.specs.Sites.{needs_site, Keeps, item_change, sites_changed, sites_of, without_newest}
+use Rattle.bril_tree.specs.State.{Locals, Frame, Block, State, read, no_values, with_value}
+use Rattle.bril_tree.specs.Step.{code_of, item_at, point_of, with_locations, assigned, shadowed, faulted, gives, advances, jumps, ends, awaited, returns, new_frame, calls, line_of, allocates, frees, stores, loads, loads_held, dropped, saved, guards, acts, by_outcome, item_step, step}
+use Rattle.bril_tree.specs.Typing.{return_type, call_fits}
+use Rattle.bril_tree.specs.Value.{literal_value}
+use Rattle.bril_tree.specs.Walk.{IsReached, end_of}
 use Rattle.bril_tree.specs.Membership.{In}
 use Rattle.bril_tree.proofs.Members.{in_map, contains_in}
-use Rattle.pass_plan.specs.Plan.{Plan, ValuesMatch, HoldsKnown, Writes, IsLearned, StaysMatched, ActionsMatch, ItemsMatch, PointItemsMatch, EdgesMatch, StepsMatch, Preserves, SavesMatch, ContentsMatch, FramesMatch, IsCallOf, CallersMatch, StacksMatch, StatesMatch}
-use Rattle.bril_tree.specs.Locals.{value_at}
+use Rattle.flow_graph.proofs.Told.{some_site}
+use Rattle.pass_plan.specs.Plan.{Plan, ValuesMatch, HoldsKnown, Writes, StaysMatched, ActionsMatch, EdgesMatch, StepsMatch, Preserves, SavesMatch, ContentsMatch, FramesMatch, CallersMatch, StacksMatch, StatesMatch}
+use Rattle.bril_tree.proofs.Elements.{in_index}
+use Rattle.bril_tree.proofs.Shapes.{no_dest, dest_none, HasShape, shape-parts}
+use Rattle.bril_tree.proofs.Outcomes.{divided-yields, char_from-yields, moved-yields, GoesOn, giver-goes_on}
 use Rattle.pass_plan.proofs.Values.{holds-assigned, holds-shadowed, read-agree, agree-none, agree-assigned, agree-shadowed, reads-agree, read_at-agree}
-use Rattle.pass_plan.proofs.Outcomes.{HasShape, Alike2, GoesOn, giver-goes_on, shape-parts, action-same}
-use Rattle.pass_steps.proofs.Shapes.{in_index, zip_map-at, no_dest, dest_none, Shaped, shaped_here, divided-gives, cond-gives, char_from-gives, get-gives, undef-gives, some_site, writes-gives}
+use Rattle.pass_plan.proofs.Outcomes.{action-same}
+use Rattle.pass_steps.proofs.Shapes.{zip_map-at, Shaped, shaped_here, get-gives, undef-gives, writes-gives}
 
 -- ---- frames and states
 
@@ -385,14 +383,14 @@ module _ (m : Plan) (P Q : Prog) (limits : Limits) (accepted : IsAccepted P) (pr
             let l' = slice_index ms 0 in
             let one = (parts op.Guard r r.shaped.shaped).labels_are in
             let branch = zip_map-at (EdgesMatch m P Q k i j (Some (A op.Guard)) (Some (B op.Guard))) (abort code i) (abort (code_of Q k) j) ls ms 0 (omega (arith, one)) r.steps.branches.1 in
-            let here : IsTrue (needs_site (slice_get code i)) = subst (λ o. IsTrue (needs_site o)) (sym r.at) refl in
+            let here : IsTrue (needs_site (slice_get code (end_of contents.walk))) = subst (λ n. IsTrue (needs_site (slice_get code n))) (sym contents.ends) (subst (λ o. IsTrue (needs_site o)) (sym r.at) refl) in
             lands (point_of l code) (point_of l' (code_of Q k)) (saved ps p) (saved qs q) (dropped ps) (dropped qs) blocks printed _ _
             (go (Some (A op.Guard)) (Some (B op.Guard)) r.at (abort code i l) (abort (code_of Q k) j l') refl (inr (in_map (abort code i) l ls (in_index ls 0 (omega (arith, one))))) branch
             (saved ps p) (saved qs q) (dropped ps) (dropped qs)
             (aborts-locations (Some (A op.Guard)) (Some (B op.Guard)) (abort code i l) (abort (code_of Q k) j l') refl branch (sites_of code contents.walk) ps qs refl contents.saves
-            (some_site code contents.walk i r.shaped.sound contents.is contents.ends here))
+            (some_site code contents.walk r.shaped.sound contents.is here))
             (aborts-known (Some (A op.Guard)) (Some (B op.Guard)) (abort code i l) (abort (code_of Q k) j l') refl branch (sites_of code contents.walk) ps qs refl contents.saves
-            (some_site code contents.walk i r.shaped.sound contents.is contents.ends here))
+            (some_site code contents.walk r.shaped.sound contents.is here))
             (dropped-alike k (sites_of code contents.walk) ps qs contents.saves))
 
         row-guard : Row op.Guard → R (acts P limits op.Guard d args fns ls F fs S) (acts Q limits op.Guard e result_args gns ms G gs T)
@@ -575,9 +573,9 @@ module _ (m : Plan) (P Q : Prog) (limits : Limits) (accepted : IsAccepted P) (pr
       row op.Guard r = row-guard k i j p q ps qs contents regular fs gs callers blocks printed x y d e s t args result_args fns gns ls ms r
       row op.Get r = absurd (get-gives p d (length args) (length fns) (length ls) r.shaped.shaped r.acts)
       row op.Undef r = absurd (undef-gives P r.shaped.f d s args fns ls r.shaped.shaped r.shaped.typed r.acts)
-      row op.Div r = absurd (divided-gives _ _ _ r.acts)
-      row op.IntToChar r = absurd (char_from-gives (int_of (argument p args 0)) r.acts)
-      row op.PtrAdd r = absurd (cond-gives _ _ _ r.acts)
+      row op.Div r = absurd (divided-yields _ _ _ r.acts)
+      row op.IntToChar r = absurd (char_from-yields (int_of (argument p args 0)) r.acts)
+      row op.PtrAdd r = absurd (moved-yields (block_of (argument p args 0)) (offset_of (argument p args 0) +ℤ int_of (argument p args 1)) r.acts)
       row _ r = let h = r.acts in absurd (cc)
 
       -- by what the operation gives on the first side

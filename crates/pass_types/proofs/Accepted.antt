@@ -1,29 +1,26 @@
 -- The result of a pass is accepted.
-use Rattle.std.proofs.Common.{◌≡◌, ◌⊎◌, ℕ, true, length, get_or, Option, Some, None, refl, sym, ap, subst, ◌∙◌, ⊎_elim, All}
+use Rattle.std.proofs.Common.{◌≡◌, ◌⊎◌, ℕ, get_or, Option, Some, None, refl, sym, ap, subst, ◌∙◌, ⊎_elim, All}
 use Rattle.std.specs.Prelude.{slice_get, is_some, IsTrue}
 use Rattle.std.proofs.lemmas.Option.{slice_get-get_or, same_Some}
 use Rattle.bril_tree.specs.declared.numbered.Instr.{Instr}
 use Rattle.bril_tree.specs.declared.numbered_function.Func.{Func}
 use Rattle.bril_tree.specs.declared.program.Prog.{Prog}
 use Rattle.bril_tree.specs.Accepted.{IsAccepted, IsAcceptedFunction, IsPlainType, AreWalksAccepted}
-use Rattle.bril_tree.specs.FunctionForm.{listed}
-use Rattle.bril_tree.specs.Numbered.{item_tree, variable_names, names_of_functions, names_in, tree_at}
-use Rattle.bril_tree.specs.Operand.{Variable, dest_of, reads_of}
+use Rattle.bril_tree.specs.Numbered.{variable_names, names_of_functions, names_in, tree_at}
 use Rattle.bril_tree.specs.Run.{types_of}
 use Rattle.bril_tree.specs.Shape.{is_shaped}
 use Rattle.bril_tree.specs.Step.{items_of, code_of, item_at}
-use Rattle.bril_tree.specs.Typing.{variable_type, type_fault, return_type, is_call_shaped}
-use Rattle.bril_tree.specs.Membership.{In}
-use Rattle.bril_names.specs.Range.{IsInRange}
+use Rattle.bril_tree.specs.Typing.{type_fault, return_type, is_call_shaped}
+use Rattle.bril_tree.proofs.Trees.{nothing_at}
+use Rattle.bril_tree.proofs.Acceptance.{accepted_function, shaped_at, call_at, typed_at}
 use Rattle.bril_names.proofs.Functions.{Differ-functions}
-use Rattle.pass_steps.proofs.Shapes.{All-at}
 use Rattle.pass_names.specs.Named.{SameName}
 use Rattle.pass_names.specs.NamedPlan.{SameHeads}
-use Rattle.pass_names.proofs.Preserving.{found, nothing_found, partner}
-use Rattle.pass_names.proofs.Items.{item-shares, args_of}
+use Rattle.pass_names.proofs.Items.{item-shares}
+use Rattle.pass_names.proofs.Points.{found, found_under}
+use Rattle.pass_names.proofs.Heads.{partner}
 use Rattle.pass_types.proofs.Fitting.{shape-same, call-same, typed-kept}
 use Rattle.pass_types.specs.Stays.{FitsByItself, StaysTyped, Stays}
-use Rattle.pass_types.proofs.Staying.{fitted}
 
 module _ (P Q : Prog) (accepted : IsAccepted P) (heads : SameHeads P Q) (main : P.main ≡ Q.main) (types_same : (f : ℕ) (F G : Func) → slice_get P.funcs f ≡ Some F → slice_get Q.funcs f ≡ Some G → types_of (Some F) ≡ types_of (Some G)) where
   module _ (g : ℕ) where
@@ -53,23 +50,21 @@ module _ (P Q : Prog) (accepted : IsAccepted P) (heads : SameHeads P Q) (main : 
     fits j b at = ⊎_elim (λ a. a) (λ t. by t t.i t.tree (item_at P f t.i) refl) (s.items j b at)
       where
         by : StaysTyped P Q f F G j b → (i : ℕ) → tree_at Q f j ≡ tree_at P f i → (o : Option Instr) → item_at P f i ≡ o → FitsByItself Q G b
-        by t i e None none = absurd (let h = sym (nothing_found P f i none) ∙ sym e ∙ (found Q f j b at).tree in cc)
+        by t i e None none = absurd (let h = sym (nothing_at P f i none) ∙ sym e ∙ (found Q f j b at).tree in cc)
         by t i e (Some a) here =
             let fa = found P f i a here in
             let fb = found Q f j b at in
             let fs = names_of_functions P.funcs in
             let V = names_in (slice_get P.funcs f) in
             let W = names_in (slice_get Q.funcs f) in
-            let range = subst (λ n. IsInRange (length n) (length (names_in (slice_get Q.funcs f))) (length fb.function.labels) b) (sym heads.names) fb.range in
-            let tree : tree_at Q f j ≡ Some (item_tree fs (names_in (slice_get Q.funcs f)) fb.function.labels b) = fb.tree ∙ ap (λ n. Some (item_tree n (names_in (slice_get Q.funcs f)) fb.function.labels b)) (sym heads.names) in
-            let same = same_Some _ _ (sym fa.tree ∙ sym e ∙ tree) in
-            let fit = fitted P accepted f i a here F p in
-            let facts = All-at (IsAcceptedFunction P) P.funcs f F accepted.functions p in
+            let under = found_under fs Q heads.names f j b fb in
+            let same = same_Some _ _ (sym fa.tree ∙ sym e ∙ under.tree) in
+            let facts = accepted_function P f F accepted p in
             let at_a : slice_get F.code i ≡ Some a = ap (λ o. slice_get (items_of o) i) (sym p) ∙ here in
-            let shaped = All-at (λ (c : Instr). IsTrue (is_shaped (is_some F.ret) c)) F.code i a facts.shaped at_a in
-            let called = All-at (λ (c : Instr). IsTrue (is_call_shaped P F c)) F.code i a facts.calls at_a in
-            let typed = All-at (λ (c : Instr). type_fault P F c ≡ None) F.code i a facts.typed at_a in
-            let h = item-shares fs V W fa.function.labels fb.function.labels (Differ-functions P) (λ x. Unit {0}) (is_some F.ret) a b shaped same fa.range range (λ x i. tt) in
+            let shaped = shaped_at P F facts i a at_a in
+            let called = call_at P F facts i a at_a in
+            let typed = typed_at P F facts i a at_a in
+            let h = item-shares fs V W fa.function.labels fb.function.labels (Differ-functions P) (λ x. Unit {0}) (is_some F.ret) a b shaped same fa.range under.range (λ x i. tt) in
             let ret = heads.ret f F G p q in
             let back : (x y : ℕ) → SameName V W x y → SameName (variable_names F.vars) (variable_names G.vars) x y =
             λ x y n. subst (λ o. SameName (variable_names F.vars) (names_in o) x y) q (subst (λ o. SameName (names_in o) (names_in (slice_get Q.funcs f)) x y) p n) in

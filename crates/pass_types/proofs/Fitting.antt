@@ -1,5 +1,5 @@
 -- Items of the new function have their shapes and types where those of the old one have.
-use Rattle.std.proofs.Common.{◌≡◌, ◌⊎◌, ℕ, zero, suc, ◌<◌, Bool, true, false, List, [], ◌∷◌, length, map, Option, Some, None, refl, sym, ap, subst, ◌∙◌, inl, inr, ⊎_elim, arith}
+use Rattle.std.proofs.Common.{◌≡◌, ◌⊎◌, ℕ, Bool, true, false, List, [], ◌∷◌, length, map, Option, Some, None, refl, sym, ap, subst, ◌∙◌, inl, inr, ⊎_elim, arith}
 use Rattle.std.specs.Prelude.{slice_get, slice_index, is_some, ◌==◌, ◌&&◌}
 use Rattle.std.specs.List.{AllZip}
 use Rattle.std.proofs.lemmas.Bool.{and_parts}
@@ -19,10 +19,11 @@ use Rattle.bril_tree.specs.Typing.{variable_type, type_fault, action_type_fault,
 use Rattle.bril_names.specs.Faults.{Differ}
 use Rattle.bril_tree.specs.Membership.{In}
 use Rattle.bril_tree.proofs.Members.{in_map}
+use Rattle.bril_tree.proofs.Shapes.{shape-parts}
+use Rattle.bril_tree.proofs.Elements.{zip-long, in_index}
 use Rattle.pass_names.specs.Named.{SameName}
-use Rattle.pass_names.proofs.Items.{Shares, args_of, zip-long, zip-at}
-use Rattle.pass_plan.proofs.Outcomes.{shape-parts}
-use Rattle.pass_types.proofs.Typed.{act-typed}
+use Rattle.pass_names.proofs.Items.{Shares, args_of, zip-at}
+use Rattle.pass_types.proofs.Typed.{act-typed, typed-unless}
 
 zip-types : (V W : List (List ℕ)) (F G : Func) (xs ys : List ℕ) → AllZip (SameName V W) xs ys → ((x y : ℕ) → SameName V W x y → In y ys → variable_type F.vars x ≡ variable_type G.vars y) → map (variable_type F.vars) xs ≡ map (variable_type G.vars) ys
 zip-types V W F G [] [] z t = refl
@@ -31,11 +32,6 @@ zip-types V W F G (x ∷ xs) [] z t = absurd z
 zip-types V W F G (x ∷ xs) (y ∷ ys) z t = let e = t x y z.0 (inl refl) in let r = zip-types V W F G xs ys z.1 (λ a b n i. t a b n (inr i)) in λ i. e i ∷ r i
 
 -- ---- operands that are read
-
-index_in : (xs : List ℕ) (k : ℕ) → k < length xs → In (slice_index xs k) xs
-index_in [] k less = absurd (omega arith)
-index_in (x ∷ xs) zero less = inl refl
-index_in (x ∷ xs) (suc k) less = inr (index_in xs k (omega arith))
 
 none_in : (xs : List ℕ) (y : ℕ) → length xs ≡ 0 → In y xs → ⊥
 none_in [] y e i = i
@@ -46,10 +42,6 @@ arguments-read : (ret : Bool) (o : Op) (d : Option ℕ) (args : List ℕ) (fns l
 arguments-read ret op.Set d args fns labels s = inl refl
 arguments-read ret op.Get d args fns labels s = inr (λ y i. absurd (none_in args y (shape-parts (shape_of ret op.Get) (is_some d) (length args) fns labels s).args_are i))
 arguments-read ret _ d args fns labels s = inr (λ y i. in_map Variable y args i)
-
-typed-unless : (b : Bool) → wrong_unless b ≡ None → b ≡ true
-typed-unless true e = refl
-typed-unless false e = absurd cc
 
 and-true : (b c : Bool) → b ≡ true → c ≡ true → b && c ≡ true
 and-true true c e h = h
@@ -162,7 +154,7 @@ module _ (fs V W lP lQ : List (List ℕ)) (differ : Differ fs) (M : Location →
           let n0 : SameName V W (slice_index args 0) (slice_index result_args 0) = zip-at (SameName V W) args result_args 0 (omega (arith, two)) h.operands in
           let n1 : SameName V W (slice_index args 1) (slice_index result_args 1) = zip-at (SameName V W) args result_args 1 (omega (arith, two)) h.operands in
           let value = tr (slice_index args 1) (slice_index result_args 1) n1 (subst (λ z. In (Variable (slice_index result_args 1)) (locations_read (reading_of z) e result_args)) (sym k) (inl refl)) in
-          let shadowed = tn (slice_index args 0) (slice_index result_args 0) n0 (index_in result_args 0 (omega (arith, two, n))) in
+          let shadowed = tn (slice_index args 0) (slice_index result_args 0) n0 (in_index result_args 0 (omega (arith, two, n))) in
           let set : is_set_typed (argument_type G.vars result_args 0) (argument_type G.vars result_args 1) ≡ true =
           set-relaxed (argument_type F.vars args 0) (argument_type G.vars result_args 0) (argument_type G.vars result_args 1) shadowed (ap (is_set_typed (argument_type F.vars args 0)) (sym value) ∙ parts.1) in
           ap (λ z. action_type_fault Q G z e t result_args gns) k ∙ ap (λ z. action_type_fault Q G op.Set e z result_args gns) (sym h.types) ∙ ap wrong_unless (and-true _ _ dest set)

@@ -1,18 +1,19 @@
--- Items whose operands have the same types are typed alike, and types that stay.
-use Rattle.std.proofs.Common.{◌≡◌, ◌⊎◌, ℕ, zero, suc, ◌<◌, Bool, true, false, List, [], ◌∷◌, length, map, Option, Some, None, refl, sym, ap, ◌∙◌, inl, inr, ⊎_elim, cond, arith}
+-- Items whose operands have the same types are typed alike.
+use Rattle.std.proofs.Common.{◌≡◌, ℕ, zero, suc, ◌<◌, Bool, true, false, List, [], ◌∷◌, length, map, Option, Some, None, refl, ap, ◌∙◌, cond, arith}
 use Rattle.std.specs.Prelude.{slice_get, slice_index, is_some, ◌&&◌}
-use Rattle.bril_tree.specs.declared.numbered.Instr.{Instr}
 use Rattle.bril_tree.specs.declared.numbered_function.Func.{Func}
 use Rattle.bril_tree.specs.declared.operation.Op.{Op}
 use Rattle.bril_tree.specs.declared.operation.Op.TheVariants as op
 use Rattle.bril_tree.specs.declared.program.Prog.{Prog}
 use Rattle.bril_tree.specs.declared.types.Ty.{Ty}
-use Rattle.bril_tree.specs.FunctionForm.{type_assigned, first_of_two, first_type}
 use Rattle.bril_tree.specs.Run.{types_of}
 use Rattle.bril_tree.specs.Shape.{is_action_shaped, shape_of}
 use Rattle.bril_tree.specs.Typing.{variable_type, argument_type, is_action_typed, is_dest_typed, action_type_fault, print_fault, wrong_unless, is_return_typed, return_type, are_typed, same_result}
-use Rattle.bril_tree.specs.Membership.{In}
-use Rattle.pass_plan.proofs.Outcomes.{shape-parts}
+use Rattle.bril_tree.proofs.Shapes.{shape-parts}
+
+pub typed-unless : (b : Bool) → wrong_unless b ≡ None → b ≡ true
+typed-unless true e = refl
+typed-unless false e = absurd cc
 
 type-at : (V W : ℕ → Option Ty) (xs ys : List ℕ) (k : ℕ) → map V xs ≡ map W ys → k < length xs → V (slice_index xs k) ≡ W (slice_index ys k)
 type-at V W [] ys k e l = absurd (omega arith)
@@ -83,13 +84,3 @@ module _ (P Q : Prog) (F G : Func) (callees : (g : ℕ) → types_of (slice_get 
   act-typed ret op.Print d e ty args result_args fns labels s ts link dest = ap print_fault ts
   act-typed ret o d e ty args result_args fns labels s ts link dest =
       ap (λ b. wrong_unless (b && is_action_typed P F o ty args fns)) dest ∙ ap (λ b. wrong_unless (is_dest_typed Q G e ty && b)) (operands-typed ret o (is_some d) ty args result_args fns labels s ts link)
-
--- ---- types that stay
-
--- the first type with which a variable is assigned is the only one
-pub first_type-is : (y : ℕ) (t : Ty) (code : List Instr) → ((b : Instr) → In b code → (type_assigned y b ≡ None) ⊎ (type_assigned y b ≡ Some t)) → (b : Instr) → In b code → type_assigned y b ≡ Some t → first_type y code ≡ Some t
-first_type-is y t [] all b i e = absurd i
-first_type-is y t (c ∷ code) all b (inl s) e = ap (λ o. first_of_two o (first_type y code)) (ap (type_assigned y) (sym s) ∙ e)
-first_type-is y t (c ∷ code) all b (inr i) e =
-    let rest = first_type-is y t code (λ d j. all d (inr j)) b i e in
-    ⊎_elim (λ n. ap (λ o. first_of_two o (first_type y code)) n ∙ rest) (λ n. ap (λ o. first_of_two o (first_type y code)) n) (all c (inl refl))

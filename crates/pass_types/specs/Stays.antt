@@ -1,5 +1,5 @@
 -- What keeps the items of a result well typed.
-use Rattle.std.specs.Prelude.{◌≡◌, ◌⊎◌, ℕ, true, Option, Some, None, is_some, slice_get}
+use Rattle.std.specs.Prelude.{◌≡◌, ◌⊎◌, ℕ, true, Some, None, is_some, slice_get}
 use Rattle.bril_tree.specs.declared.numbered.Instr.{Instr}
 use Rattle.bril_tree.specs.declared.numbered_function.Func.{Func}
 use Rattle.bril_tree.specs.declared.program.Prog.{Prog}
@@ -10,10 +10,11 @@ use Rattle.bril_tree.specs.Shape.{is_shaped}
 use Rattle.bril_tree.specs.Step.{code_of, item_at}
 use Rattle.bril_tree.specs.Typing.{variable_type, type_fault, is_call_shaped}
 use Rattle.bril_tree.specs.Membership.{In}
-use Rattle.pass_names.proofs.Items.{args_of, type_of}
+use Rattle.pass_names.proofs.Items.{args_of}
 use Rattle.pass_names.specs.Named.{SameName}
 use Rattle.bril_tree.specs.Accepted.{IsAccepted, AreWalksAccepted}
 use Rattle.bril_tree.specs.Run.{types_of}
+use Rattle.bril_tree.proofs.Typings.{type_of}
 use Rattle.pass_names.specs.NamedPlan.{SameHeads}
 
 -- the item gives its destination the type with which an item of P assigns the variable x

@@ -1,5 +1,5 @@
-pub mod Deciding
 pub mod Walks
+pub mod Items
+pub mod Based
 pub mod Accepting
 pub mod Under
-pub mod Based

@@ -1,28 +1,27 @@
 -- Walks of the result go on with the walks of the program that match them.
-use Rattle.std.proofs.Common.{◌≡◌, ◌⊎◌, ℕ, zero, suc, ◌<◌, ◌≤◌, Bool, true, false, List, [], ◌∷◌, ◌++◌, length, map, Option, Some, None, refl, sym, ap, subst, ◌∙◌, inl, inr, ⊎_elim, cond, arith}
-use Rattle.std.specs.Prelude.{slice_get, is_some, IsTrue}
-use Rattle.std.specs.List.{AllZip}
+use Rattle.std.proofs.Common.{◌≡◌, ◌⊎◌, ℕ, suc, Bool, true, false, List, [], ◌∷◌, ◌++◌, map, Option, Some, None, refl, sym, ap, subst, ◌∙◌, inl, inr, ⊎_elim}
+use Rattle.std.specs.Prelude.{slice_get, IsTrue}
 use Rattle.bril_tree.specs.declared.numbered.Instr.{Instr}
 use Rattle.bril_tree.specs.declared.numbered.Instr.TheVariants.{Label, Const, Act}
-use Rattle.bril_tree.specs.declared.operation.Op.{Op}
-use Rattle.bril_tree.specs.declared.operation.Op.TheVariants as op
 use Rattle.bril_tree.specs.declared.program.Prog.{Prog}
-use Rattle.bril_tree.specs.declared.types.Ty.{Ty}
-use Rattle.bril_tree.specs.Accepted.{IsAccepted, leaves_frame}
-use Rattle.bril_tree.specs.Assigned.{Assigned, assigned_of, assigned_behind, assigned_changed, locations_closed, newest_saved, assigns_at, assigns_of}
-use Rattle.bril_tree.specs.Edge.{Branch, branches_at, branches_from, item_branches, action_branches, onward, jump, abort}
+use Rattle.bril_tree.specs.Accepted.{IsAccepted}
+use Rattle.bril_tree.specs.Assigned.{Assigned, assigned_of, assigned_behind, assigned_changed, newest_saved, assigns_at, assigns_of}
+use Rattle.bril_tree.specs.Edge.{Branch, branches_at, branches_from, onward}
 use Rattle.bril_tree.specs.FunctionForm.{listed}
 use Rattle.bril_tree.specs.Operand.{Location, Variable, dest_of}
-use Rattle.pass_plan.proofs.Outcomes.{GoesOn}
-use Rattle.bril_tree.specs.Shape.{is_shaped, shape_of}
-use Rattle.bril_tree.specs.Sites.{Change, Opens, Closes, Keeps, change_of, item_change, operation_change, guard_change, sites_of, sites_changed, without_newest, needs_site}
+use Rattle.bril_tree.specs.Sites.{Change, Opens, Closes, Keeps, change_of, item_change, operation_change, sites_of, sites_changed, without_newest, needs_site}
 use Rattle.bril_tree.specs.Step.{code_of, item_at}
-use Rattle.bril_tree.specs.Walk.{IsWalk, IsReached, end_of}
+use Rattle.bril_tree.specs.Walk.{end_of}
 use Rattle.bril_tree.specs.Membership.{In}
-use Rattle.bril_tree.proofs.Members.{in_contains, contains_in, in_append_left, in_append_right, in_append_cases, in_map_source}
-use Rattle.pass_plan.specs.Plan.{Plan, StaysMatched, ItemsMatch, PointItemsMatch, EdgesMatch, StepsMatch, Preserves}
+use Rattle.bril_tree.proofs.Members.{contains_in, in_append_left, in_append_right, in_append_cases}
+use Rattle.bril_tree.proofs.Shapes.{none_assigned, closing_needs}
+use Rattle.bril_tree.proofs.Outcomes.{GoesOn}
+use Rattle.bril_tree.proofs.Branches.{aborts-close, branches_from-leave}
+use Rattle.bril_tree.proofs.Elements.{zip-find}
+use Rattle.flow_graph.proofs.Told.{some_site}
+use Rattle.pass_plan.specs.Plan.{Plan, StaysMatched, PointItemsMatch, EdgesMatch, StepsMatch, Preserves}
 use Rattle.pass_walks.specs.Matched.{Covers, SavedSetsMatch, WalksMatch, MatchedWalk, RegularWalk}
-use Rattle.pass_steps.proofs.Shapes.{Shaped, shaped_here, some_site, dest_none}
+use Rattle.pass_steps.proofs.Shapes.{shaped_here}
 
 -- ---- what items say of a branch
 
@@ -39,65 +38,6 @@ same_change A (Some (Const x t v)) (Some (Act e r u result_args gns ms)) b s = a
 same_change A (Some (Act d t o args fns ls)) (Some (Label m)) b s = absurd s
 same_change A (Some (Act d t o args fns ls)) (Some (Const y r w)) b s = absurd s
 same_change A (Some (Act d t o args fns ls)) (Some (Act e r u result_args gns ms)) b s = ap (λ z. operation_change z b) s.operation
-
--- an item that opens or closes assigns nothing
-pub none-assigned : (ret : Bool) (a : Instr) (b : Bool) → is_shaped ret a ≡ true → (item_change (Some a) b ≡ Keeps → ⊥) → assigns_of a ≡ []
-none-assigned ret (Label l) b s n = refl
-none-assigned ret (Const d t v) b s n = absurd (n refl)
-none-assigned ret (Act d t op.Speculate args fns ls) b s n = ap (λ z. map Variable (listed z)) (dest_none (shape_of ret op.Speculate) d (length args) (length fns) (length ls) refl s)
-none-assigned ret (Act d t op.Commit args fns ls) b s n = ap (λ z. map Variable (listed z)) (dest_none (shape_of ret op.Commit) d (length args) (length fns) (length ls) refl s)
-none-assigned ret (Act d t op.Guard args fns ls) b s n = ap (λ z. map Variable (listed z)) (dest_none (shape_of ret op.Guard) d (length args) (length fns) (length ls) refl s)
-none-assigned ret (Act d t _ args fns ls) b s n = absurd (n refl)
-
--- an item that closes needs a site; an abort closes
-record Closing (o : Option Instr) (b : Bool) : Type 0 where
-  needs : item_change o b ≡ Closes → IsTrue (needs_site o)
-
-pub closing : (o : Option Instr) (b : Bool) → item_change o b ≡ Closes → IsTrue (needs_site o)
-closing None b e = absurd cc
-closing (Some (Label l)) b e = absurd cc
-closing (Some (Const d t v)) b e = absurd cc
-closing (Some (Act d t op.Speculate args fns ls)) b e = absurd cc
-closing (Some (Act d t op.Commit args fns ls)) b e = refl
-closing (Some (Act d t op.Guard args fns ls)) b e = refl
-closing (Some (Act d t _ args fns ls)) b e = absurd cc
-
--- only a guard's branch aborts
-pub aborts-close : (code : List Instr) (i : ℕ) (o : Option Instr) (w : Branch) → In w (branches_from code i o) → w.aborts ≡ true → item_change o true ≡ Closes
-aborts-close code i None w h e = absurd h
-aborts-close code i (Some (Label l)) w h e = absurd (only-onward i w h e)
-  where
-    only-onward : (i : ℕ) (w : Branch) → In w (onward i ∷ []) → w.aborts ≡ true → ⊥
-    only-onward i w (inl s) e = let t = ap (λ (x : Branch). x.aborts) s in cc
-    only-onward i w (inr h) e = h
-aborts-close code i (Some (Const d t v)) w (inl s) e = absurd (let t = ap (λ (x : Branch). x.aborts) s in cc)
-aborts-close code i (Some (Const d t v)) w (inr h) e = absurd h
-aborts-close code i (Some (Act d t op.Guard args fns ls)) w h e = refl
-aborts-close code i (Some (Act d t op.Ret args fns ls)) w h e = absurd h
-aborts-close code i (Some (Act d t op.Jmp args fns ls)) w h e = absurd (let s = in_map_source (jump code i) w ls h in let t = ap (λ (x : Branch). x.aborts) s.2 in cc)
-aborts-close code i (Some (Act d t op.Br args fns ls)) w h e = absurd (let s = in_map_source (jump code i) w ls h in let t = ap (λ (x : Branch). x.aborts) s.2 in cc)
-aborts-close code i (Some (Act d t _ args fns ls)) w h e = absurd (⊎_elim (λ s. let t = ap (λ (x : Branch). x.aborts) s in cc) (λ n. n) h)
-
--- a branch leaves its point
-pub from-here : (code : List Instr) (i : ℕ) (o : Option Instr) (w : Branch) → In w (branches_from code i o) → w.from ≡ i
-from-here code i None w h = absurd h
-from-here code i (Some (Label l)) w (inl s) = ap (λ (x : Branch). x.from) s
-from-here code i (Some (Label l)) w (inr h) = absurd h
-from-here code i (Some (Const d t v)) w (inl s) = ap (λ (x : Branch). x.from) s
-from-here code i (Some (Const d t v)) w (inr h) = absurd h
-from-here code i (Some (Act d t op.Guard args fns ls)) w (inl s) = ap (λ (x : Branch). x.from) s
-from-here code i (Some (Act d t op.Guard args fns ls)) w (inr h) = (let s = in_map_source (abort code i) w ls h in ap (λ (x : Branch). x.from) s.2)
-from-here code i (Some (Act d t op.Ret args fns ls)) w h = absurd h
-from-here code i (Some (Act d t op.Jmp args fns ls)) w h = (let s = in_map_source (jump code i) w ls h in ap (λ (x : Branch). x.from) s.2)
-from-here code i (Some (Act d t op.Br args fns ls)) w h = (let s = in_map_source (jump code i) w ls h in ap (λ (x : Branch). x.from) s.2)
-from-here code i (Some (Act d t _ args fns ls)) w h = ⊎_elim (λ s. ap (λ (x : Branch). x.from) s) (λ n. absurd n) h
-
-pub zip-find : {X Y : Type 0} (R : X → Y → Type 0) (xs : List X) (ys : List Y) (y : Y) → AllZip R xs ys → In y ys → (x : X) × In x xs × R x y
-zip-find R [] [] y z h = absurd h
-zip-find R [] (y' ∷ ys) y z h = absurd z
-zip-find R (x ∷ xs) [] y z h = absurd z
-zip-find R (x ∷ xs) (y' ∷ ys) y z (inl e) = (x, inl refl, subst (R x) (sym e) z.0)
-zip-find R (x ∷ xs) (y' ∷ ys) y z (inr h) = let r = zip-find R xs ys y z.1 h in (r.0, inr r.1, r.2)
 
 module _ (m : Plan) (P Q : Prog) (f : ℕ) (args result_args : ℕ) (accepted : IsAccepted P) where
   abbrev S : List ℕ → List ℕ → List (List Location) → List (List Location) → Type 0
@@ -138,12 +78,12 @@ module _ (m : Plan) (P Q : Prog) (f : ℕ) (args result_args : ℕ) (accepted : 
 
     none-here : (o' : Option Instr) → item_at P f (end_of w) ≡ o' → (item_change o' a.aborts ≡ Keeps → ⊥) → assigns_at o' ≡ []
     none-here None e n = refl
-    none-here (Some c) e n = let s = shaped_here P accepted f (end_of w) c e in none-assigned s.ret c a.aborts s.shaped n
+    none-here (Some c) e n = let s = shaped_here P accepted f (end_of w) c e in none_assigned s.ret c a.aborts s.shaped n
 
     some-here : item_change o a.aborts ≡ Closes → (c : Instr) → o ≡ Some c → sites_of (code_of P f) w ≡ [] → ⊥
     some-here e c there none =
         let s = shaped_here P accepted f (end_of w) c (at ∙ there) in
-        some_site (code_of P f) w (end_of w) s.sound h.is refl (subst (λ z. IsTrue (needs_site z)) (sym at) (closing o a.aborts e)) none
+        some_site (code_of P f) w s.sound h.is (subst (λ z. IsTrue (needs_site z)) (sym at) (closing_needs o a.aborts e)) none
 
     is-some : (o' : Option Instr) → In a (branches_from (code_of P f) (end_of w) o') → (c : Instr) × (o' ≡ Some c)
     is-some None i = absurd i
@@ -165,8 +105,8 @@ module _ (m : Plan) (P Q : Prog) (f : ℕ) (args result_args : ℕ) (accepted : 
     further =
         let code = code_of P f in
         let result_code = code_of Q f in
-        let fa = from-here code (end_of w) o a among in
-        let fb = from-here result_code (end_of v) u b bmong in
+        let fa = branches_from-leave code (end_of w) o a among in
+        let fb = branches_from-leave result_code (end_of v) u b bmong in
         let oa : slice_get code a.from ≡ o = ap (slice_get code) fa ∙ at in
         let ub : slice_get result_code b.from ≡ u = ap (slice_get result_code) fb ∙ bt in
         let same : item_change u b.aborts ≡ item_change o a.aborts = ap (item_change u) (sym branches.aborts) ∙ sym (same_change (m.LocationsMatch f (end_of w) (end_of v)) o u a.aborts steps.same) in

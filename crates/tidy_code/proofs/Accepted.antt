@@ -12,8 +12,8 @@ use Rattle.bril_tree.specs.Numbered.{variable_names, item_tree, names_of_functio
 use Rattle.bril_tree.specs.Step.{items_of, code_of, item_at}
 use Rattle.bril_tree.specs.Walk.{IsReached}
 use Rattle.bril_tree.specs.Membership.{In}
-use Rattle.pass_names.proofs.Preserving.{found}
 use Rattle.bril_tree.proofs.Elements.{get_inside}
+use Rattle.pass_names.proofs.Points.{found}
 use Rattle.pass_accept.specs.Edited.{IsNew, IsOld, Edits}
 use Rattle.pass_accept.proofs.Heads.{start_matched}
 use Rattle.pass_accept.proofs.Reaching.{ReachedBeside, regular-reaches, reached_points}

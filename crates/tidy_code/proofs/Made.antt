@@ -1,10 +1,9 @@
 -- From the tree that the pass makes to its program.
-use Rattle.std.proofs.Common.{◌≡◌, ◌≢◌, ◌⊎◌, ℕ, zero, suc, ◌+◌, ◌<◌, ◌≤◌, Bool, true, false, List, [], ◌∷◌, length, get_or, All, Option, Some, None, refl, sym, ap, subst, ◌∙◌, inl, inr, ⊎_elim, arith}
+use Rattle.std.proofs.Common.{◌≡◌, ◌≢◌, ◌⊎◌, ℕ, zero, suc, ◌+◌, ◌≤◌, Bool, true, false, List, [], ◌∷◌, length, Option, Some, None, refl, sym, ap, subst, ◌∙◌, inl, inr, ⊎_elim, arith}
 use Rattle.std.specs.Prelude.{slice_get, is_some}
 use Rattle.std.specs.List.{AllZip, Contains}
 use Rattle.std.specs.Option.{option_map}
-use Rattle.std.proofs.lemmas.Bool.{and_parts, eqb-true}
-use Rattle.std.proofs.lemmas.List.{length-map}
+use Rattle.std.proofs.lemmas.List.{length-map, nil_from_length}
 use Rattle.std.proofs.lemmas.List.Kept.{AllPairs-cons}
 use Rattle.std.proofs.lemmas.Option.{slice_get-map, same_Some}
 use Rattle.bril_tree.specs.declared.function_tree.FuncTree.{FuncTree}
@@ -30,21 +29,24 @@ use Rattle.bril_tree.specs.Membership.{In}
 use Rattle.bril_tree.proofs.Members.{in_map_source, contains_in}
 use Rattle.bril_names.specs.Faults.{Differ, IsKnown, IsSound, SameHead, IsSoundEdit, labels_of, function_names}
 use Rattle.bril_names.specs.Faults as fault
-use Rattle.bril_names.specs.Range.{AreBelow}
 use Rattle.bril_tree.proofs.Acceptance.{target_reached}
 use Rattle.bril_tree.proofs.Shapes.{shape-parts, dest_none}
 use Rattle.pass_steps.proofs.Shapes.{shaped_here}
-use Rattle.pass_names.proofs.Preserving.{found, label_found}
-use Rattle.pass_names.proofs.Trees.{numbered-tree_of, heads-of_trees, function_at}
+use Rattle.pass_names.proofs.Trees.{heads-of_trees}
+use Rattle.pass_names.proofs.Points.{found, label_found}
 use Rattle.pass_law.specs.Meaning.{Link}
 use Rattle.pass_make.specs.CanBeMade.{CanBeMade}
-use Rattle.pass_make.proofs.Each.{in-All, in-from, names-each, heads-each, items-each, size-each}
+use Rattle.pass_plan.proofs.Elements.{all_in, in_all}
+use Rattle.pass_make.proofs.Each.{names-each, heads-each, items-each, size-each}
 use Rattle.tidy_code.proofs.Points.{kept_items, IsNop, code_tree, Tidied}
 use Rattle.tidy_code.specs.Tidy.{tidy_meaning}
 use Rattle.tidy_code.specs.Tidied.{AreStaying, IsTidiedFunction, IsTidiedTree, IsTidied}
 use Rattle.tidy_code.proofs.Accepted.{tidied-accepted}
 use Rattle.tidy_code.proofs.Refines.{tidied-refines}
 use Rattle.bril_tree.specs.Size.{item_count, IsCounted}
+use Rattle.bril_tree.proofs.Formed.{target_below}
+use Rattle.bril_tree.proofs.Elements.{get_in}
+use Rattle.bril_tree.proofs.Trees.{numbered-tree_of, function_at}
 use Rattle.tidy_code.proofs.Staying.{Keeping, keeping, staying-in, StayedAt, in-stayed}
 
 -- ---- the tree and the numbers of a `nop`
@@ -63,36 +65,19 @@ nop-from_tree fs V l (Label k) e = absurd cc
 nop-from_tree fs V l (Const d ty v) e = absurd cc
 nop-from_tree fs V l (Act d ty o args fns ls) e = op-nop d ty o args fns ls cc
 
-empty : (xs : List ℕ) → length xs ≡ 0 → xs ≡ []
-empty [] e = refl
-empty (x ∷ xs) e = absurd (omega arith)
-
 nop-tree : (fs V l : List (List ℕ)) (ret : Bool) (a : Instr) → is_shaped ret a ≡ true → IsNop a → item_tree fs V l a ≡ nop_item
 nop-tree fs V l ret (Label k) s n = absurd n
 nop-tree fs V l ret (Const d ty v) s n = absurd n
 nop-tree fs V l ret (Act d ty op.Nop args fns ls) s n =
     let h = shape-parts (shape_of ret op.Nop) (is_some d) (length args) (length fns) (length ls) s in
     let none = dest_none (shape_of ret op.Nop) d (length args) (length fns) (length ls) refl s in
-    let a0 = empty args h.args_are in
-    let f0 = empty fns (eqb-true (length fns) 0 (and_parts _ _ (and_parts _ _ s).0).1) in
-    let l0 = empty ls h.labels_are in
+    let a0 = nil_from_length args h.args_are in
+    let f0 = nil_from_length fns h.funcs_are in
+    let l0 = nil_from_length ls h.labels_are in
     λ i. item_tree fs V l (Act (none i) ty op.Nop (a0 i) (f0 i) (l0 i))
 nop-tree fs V l ret (Act d ty _ args fns ls) s n = absurd n
 
 -- ---- lists
-
-in-at : {X : Type 0} (xs : List X) (k : ℕ) (d : X) → k < length xs → In (get_or xs k d) xs
-in-at [] k d less = absurd (omega arith)
-in-at (x ∷ xs) zero d less = inl refl
-in-at (x ∷ xs) (suc k) d less = inr (in-at xs k d (omega arith))
-
-All-in : {X : Type 0} (R : X → Type 0) (xs : List X) → ((x : X) → In x xs → R x) → All R xs
-All-in R xs h k d less = h (get_or xs k d) (in-at xs k d less)
-
-below-in : (n : ℕ) (xs : List ℕ) (x : ℕ) → AreBelow n xs → In x xs → x < n
-below-in n [] x h i = absurd i
-below-in n (y ∷ xs) x h (inl e) = let l = h.0 in omega (arith, e, l)
-below-in n (y ∷ xs) x h (inr i) = below-in n xs x h.1 i
 
 label-works : (n : List ℕ) → item.Label n ≡ nop_item → ⊥
 label-works n e = cc
@@ -120,7 +105,7 @@ differ-tidied code i [] ys t d = (subst (λ l. Differ (labels_of l)) (sym t) d, 
 differ-tidied code i (item.Label m ∷ xs) ys (inl h) d =
     let r = differ-tidied code (suc i) xs h.1.0 h.1.2 (λ a b z lt within. d (suc a) (suc b) z (omega arith) (omega arith)) in
     let head : (n : List ℕ) → In n (labels_of xs) → m ≢ n = λ n k. let c = contains_in n (labels_of xs) k in subst (λ w. m ≢ w) c.2 (d 0 (suc c.0) n (omega arith) (let l = c.1 in omega arith)) in (
-      subst (λ l. Differ (labels_of l)) (sym h.1.1) (AllPairs-cons (λ a b. a ≢ b) m (labels_of h.1.0) (All-in (λ n. m ≢ n) (labels_of h.1.0) (λ n k. head n (r.1 n k))) r.0),
+      subst (λ l. Differ (labels_of l)) (sym h.1.1) (AllPairs-cons (λ a b. a ≢ b) m (labels_of h.1.0) (in_all (λ n. m ≢ n) (labels_of h.1.0) (λ n k. head n (r.1 n k))) r.0),
       λ n k. ⊎_elim inl (λ j. inr (r.1 n j)) (subst (λ l. In n (labels_of l)) h.1.1 k),
     )
 differ-tidied code i (item.Label m ∷ xs) ys (inr h) d =
@@ -172,14 +157,8 @@ module _ (P : Prog) (accepted : IsAccepted P) where
     label-stays k a l n at reached m e =
         let here : item_at P f k ≡ Some a = ap (λ c. slice_get c k) code ∙ at in
         let goal = target_reached P accepted f k a l here (subst (λ c. IsReached c k) (sym code) reached) m in
-        label-in n g.code (stands (point_of l (code_of P f)) goal (label_found P f F l p (within here)))
+        label-in n g.code (stands (point_of l (code_of P f)) goal (label_found P f F l p (target_below F k a at l m)))
       where
-        within : item_at P f k ≡ Some a → l < length F.labels
-        within here =
-            let fa = found P f k a here in
-            let same : fa.function ≡ F = same_Some _ _ (sym fa.there ∙ p) in
-            below-in (length F.labels) (targets_of a) l (subst (λ (h : Func). AreBelow (length h.labels) (targets_of a)) same fa.range.targets) m
-
         stands : (q : ℕ) → IsReached (code_of P f) q → tree_at P f q ≡ Some (item.Label (named F.labels l)) → In (item.Label n) g.code
         stands q goal label =
             let w : q ≡ 0 + q = omega arith in
@@ -201,10 +180,10 @@ module _ (P : Prog) (accepted : IsAccepted P) where
         record {
           head = t.head;
           labels = d.0;
-          known = All-in (IsKnown (function_names (tree_of P)) (labels_of g.code)) g.code (λ y there.
+          known = in_all (IsKnown (function_names (tree_of P)) (labels_of g.code)) g.code (λ y there.
               let from = in-stayed F.code 0 xs g.code t.items y there in
-              let known = in-All (IsKnown (function_names (tree_of P)) (labels_of xs)) xs s.known y (in-from xs from.index y from.at) in
-              (known.0, All-in (λ n. Contains (labels_of g.code) n) (fault.targets_of y) (λ n m. contains_in n (labels_of g.code) (target-stays y from n m))));
+              let known = all_in (IsKnown (function_names (tree_of P)) (labels_of xs)) xs s.known y (get_in xs from.index y from.at) in
+              (known.0, in_all (λ n. Contains (labels_of g.code) n) (fault.targets_of y) (λ n m. contains_in n (labels_of g.code) (target-stays y from n m))));
         }
 
   -- ---- all functions

@@ -15,18 +15,19 @@ use Rattle.bril_tree.specs.Entries.{Enters}
 use Rattle.bril_tree.specs.FrameWords.{IsDepth}
 use Rattle.bril_tree.specs.Leaving.{IsEdge, leave_of}
 use Rattle.bril_tree.specs.Membership.{In}
-use Rattle.bril_tree.specs.Numbered.{item_tree, named, names_of_functions, nop_item, tree_at, variable_names}
+use Rattle.bril_tree.specs.Numbered.{named, names_of_functions, tree_at}
 use Rattle.bril_tree.specs.Sites.{sites_of}
 use Rattle.bril_tree.specs.Step.{code_of, item_at, items_of}
 use Rattle.bril_tree.specs.Walk.{IsReached, IsWalk, end_of}
 use Rattle.bril_tree.proofs.Members.{contains_in, in_contains}
 use Rattle.pass_accept.proofs.Heads.{start_matched}
-use Rattle.pass_names.proofs.Preserving.{found}
 use Rattle.pass_walks.specs.Matched.{MatchesWalks}
+use Rattle.pass_names.proofs.Points.{found}
 use Rattle.pass_numbers.specs.Numbers.{FunctionWithin, NumbersWithin}
+use Rattle.pass_walks.proofs.Accepting.{matched}
 use Rattle.pass_numbers.proofs.Arguments.{no-longer-arguments}
-use Rattle.pass_numbers.proofs.Depths.{depth-within, matched}
-use Rattle.pass_numbers.proofs.Edges.{edge-back, edge-leaves, item-back, label-back, lands, point_of_item}
+use Rattle.pass_numbers.proofs.Depths.{depth-within}
+use Rattle.pass_numbers.proofs.Edges.{edge-back, edge-leaves, items-back, label-back, lands}
 use Rattle.pass_numbers.proofs.Entering.{EntryMatched, LeaveMatched, fewer-entries, width-within}
 use Rattle.pass_numbers.proofs.Locations.{IsOfItems}
 use Rattle.pass_numbers.proofs.Programs.{accepted-locations, functions_bound, by-functions}
@@ -256,13 +257,9 @@ module _ (P Q : Prog) (keep : ℕ → ℕ → Bool) (accepted : IsAccepted P) (a
   -- ---- the numbers of a function
 
   of_items : IsOfItems (names_of_functions P.funcs) (names_of_functions Q.funcs) F G
-  of_items = record { args = t.heads.args f F G p q; items = items }
-    where
-      items : (b : Instr) → In b G.code → (item_tree (names_of_functions Q.funcs) (variable_names G.vars) G.labels b ≡ nop_item) ⊎ ((a : Instr) × In a F.code × (item_tree (names_of_functions P.funcs) (variable_names F.vars) F.labels a ≡ item_tree (names_of_functions Q.funcs) (variable_names G.vars) G.labels b))
-      items b among =
-          let k = point_of_item G.code b among in
-          let o = old-item P Q keep accepted t f F G p q k.0 b (ap (λ c. slice_get c k.0) there ∙ k.1) in
-          inr (item-back P Q f F G p q o.i k.0 b (sym o.tree) k.1)
+  of_items =
+      items-back P Q f F G p q (t.heads.args f F G p q)
+      (λ j b at. let o = old-item P Q keep accepted t f F G p q j b (ap (λ c. slice_get c j) there ∙ at) in inr (o.i, sym o.tree))
 
   function_within : FunctionWithin 1 F G
   function_within = record {

@@ -20,14 +20,17 @@ use Rattle.bril_tree.specs.State.{Frame, State}
 use Rattle.bril_tree.specs.Step.{items_of, code_of, item_at, step}
 use Rattle.bril_tree.specs.Walk.{IsReached}
 use Rattle.bril_tree.proofs.Branches.{walk_within}
+use Rattle.bril_tree.proofs.Outcomes.{GoesOn}
+use Rattle.bril_tree.proofs.Trees.{nothing_at}
 use Rattle.pass_names.specs.NamedPlan.{NamePlan, plan, KeepsNames}
-use Rattle.pass_names.proofs.Preserving.{no_partner, found, names_preserve, partner, nothing_found, label_once, knows_nothing}
+use Rattle.pass_names.proofs.Preserving.{names_preserve, knows_nothing}
+use Rattle.pass_names.proofs.Heads.{no_partner, partner}
+use Rattle.pass_names.proofs.Points.{found, label_once}
 use Rattle.pass_plan.specs.Plan.{Plan, Preserves, StatesMatch}
-use Rattle.pass_plan.proofs.Outcomes.{GoesOn}
 use Rattle.pass_steps.specs.Refinement.{Progress, CatchUp, SourceMoves, Advances, ChangesPlaces}
 use Rattle.pass_steps.proofs.Moves.{source_moves}
 use Rattle.pass_steps.proofs.Refinement.{plan_refines}
-use Rattle.pass_walks.proofs.Accepting.{none_past}
+use Rattle.pass_walks.proofs.Items.{past_end}
 use Rattle.tidy_code.proofs.Points.{kept_items, kept_count, IsNop, code_tree, Tidied}
 use Rattle.tidy_code.proofs.Kept.{kept-at, kept-end, count-kept, count-dropped}
 
@@ -86,21 +89,21 @@ module _ (P Q : Prog) (keep : ℕ → ℕ → Bool) (t : Tidied P keep Q) where
   ends-both f i reached at = by (slice_get P.funcs f) refl
     where
       by : (o : Option Func) → slice_get P.funcs f ≡ o → tree_at P f i ≡ tree_at Q f (kept_count (keep f) 0 i)
-      by None n = nothing_found P f i at ∙ sym (no_partner P Q t.heads f n (kept_count (keep f) 0 i))
+      by None n = nothing_at P f i at ∙ sym (no_partner P Q t.heads f n (kept_count (keep f) 0 i))
       by (Some F) n =
           let g = partner P Q t.heads f F n in
           let low : i ≤ length (code_of P f) = (let w = walk_within (code_of P f) reached.walk reached.is in let e = reached.ends in omega arith) in
-          let high : length (code_of P f) ≤ i = none_past (code_of P f) i at in
+          let high : length (code_of P f) ≤ i = past_end (code_of P f) i at in
           let same : length (code_of P f) ≡ length F.code = ap (λ o. length (items_of o)) n in
           let end : i ≡ length (code_tree P F) = (let l = length-map F.code (item_tree (names_of_functions P.funcs) (variable_names F.vars) F.labels) in omega arith) in
-          nothing_found P f i at ∙ sym (kept-end (keep f) 0 (code_tree P F)) ∙ ap (λ n. slice_get (kept_items (keep f) 0 (code_tree P F)) (kept_count (keep f) 0 n)) (sym end)
+          nothing_at P f i at ∙ sym (kept-end (keep f) 0 (code_tree P F)) ∙ ap (λ n. slice_get (kept_items (keep f) 0 (code_tree P F)) (kept_count (keep f) 0 n)) (sym end)
           ∙ ap (λ l. slice_get l (kept_count (keep f) 0 i)) (sym (t.code f F g.0 n g.1)) ∙ sym (tree-of Q f g.0 g.1 (kept_count (keep f) 0 i))
 
   pub kept_label : (f i : ℕ) (name : List ℕ) → IsReached (code_of P f) i → tree_at P f i ≡ Some (item.Label name) → keep f i ≡ true
   kept_label f i name reached at = by (keep f i) refl
     where
       not_nop : (o : Option Instr) → item_at P f i ≡ o → keep f i ≡ false → ⊥
-      not_nop None here e = let h = sym (nothing_found P f i here) ∙ at in cc
+      not_nop None here e = let h = sym (nothing_at P f i here) ∙ at in cc
       not_nop (Some a) here e = nop-no_label P f i a name here at (t.dropped f i a here e reached)
 
       by : (b : Bool) → keep f i ≡ b → keep f i ≡ true

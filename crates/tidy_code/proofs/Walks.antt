@@ -17,7 +17,7 @@ use Rattle.pass_walks.specs.Matched.{Covers, WalksMatch, MatchedWalk, MatchesWal
 use Rattle.pass_steps.proofs.Shapes.{shaped_here}
 use Rattle.bril_tree.proofs.Shapes.{dest_none}
 use Rattle.pass_walks.proofs.Walks.{regular_branch_matched, alone-lifts}
-use Rattle.pass_walks.proofs.Accepting.{none_past}
+use Rattle.pass_walks.proofs.Items.{past_end}
 use Rattle.bril_tree.proofs.Branches.{walk_within}
 use Rattle.tidy_code.proofs.Points.{kept_count, IsNop, Tidied}
 use Rattle.tidy_code.proofs.Kept.{count-dropped}
@@ -99,7 +99,7 @@ module _ (P Q : Prog) (keep : ℕ → ℕ → Bool) (accepted : IsAccepted P) (t
   found_again v d =
       let i = end_of d.matched.walk in
       let low = walk_within (code_of P f) d.matched.walk d.matched.matches.is in
-      let stays : (keep f (0 + i) ≡ true) ⊎ (i ≡ length (code_of P f)) = ⊎_elim (λ e. inl (let z : 0 + i ≡ i = omega arith in ap (keep f) z ∙ e)) (λ n. inr (let high = none_past (code_of P f) i n in omega arith)) d.stays in
+      let stays : (keep f (0 + i) ≡ true) ⊎ (i ≡ length (code_of P f)) = ⊎_elim (λ e. inl (let z : 0 + i ≡ i = omega arith in ap (keep f) z ∙ e)) (λ n. inr (let high = past_end (code_of P f) i n in omega arith)) d.stays in
       let z : 0 + i ≡ i = omega arith in
       sym (ap old d.matched.matches.points ∙ nth-count (keep f) (length (code_of P f)) 0 i low stays ∙ z)
 
