@@ -1,7 +1,7 @@
 -- A deadened program is accepted.
-use Rattle.std.proofs.Common.{◌≡◌, ◌⊎◌, ℕ, suc, Bool, true, false, List, [], ◌∷◌, ◌++◌, length, map, Option, Some, None, refl, sym, ap, subst, ◌∙◌, inl, inr, ⊎_elim, arith}
+use Rattle.std.proofs.Common.{◌≡◌, ◌⊎◌, ℕ, suc, Bool, true, false, List, [], ◌∷◌, ◌++◌, length, map, Option, Some, None, refl, sym, ap, subst, ◌∙◌, inl, inr, ⊎_elim}
 use Rattle.std.specs.Prelude.{slice_get, is_some}
-use Rattle.std.proofs.lemmas.List.{length-map}
+use Rattle.std.proofs.lemmas.List.{length-map, nil_from_length}
 use Rattle.std.proofs.lemmas.Option.{same_Some}
 use Rattle.bril_tree.specs.declared.numbered.Instr.{Instr}
 use Rattle.bril_tree.specs.declared.numbered.Instr.TheVariants.{Label, Const, Act}
@@ -21,24 +21,23 @@ use Rattle.bril_tree.specs.Step.{code_of, item_at}
 use Rattle.bril_tree.specs.Walk.{IsWalk, IsReached, end_of}
 use Rattle.bril_tree.proofs.Members.{in_append_cases}
 use Rattle.bril_tree.proofs.Shapes.{shape-parts}
+use Rattle.bril_tree.proofs.Trees.{nothing_at}
+use Rattle.bril_tree.proofs.Branches.{reached_on}
+use Rattle.bril_tree.proofs.Assignments.{went_on}
 use Rattle.pass_accept.specs.Edited.{IsNew, LosesNoDestination, IsOld, Edits}
 use Rattle.pass_accept.proofs.Heads.{start_matched}
-use Rattle.pass_accept.proofs.Alone.{went_on, both_alone}
-use Rattle.pass_accept.proofs.Reaching.{ReachedBeside, regular-reaches, reached_points, reached-on}
+use Rattle.pass_accept.proofs.Alone.{both_alone}
+use Rattle.pass_accept.proofs.Reaching.{ReachedBeside, regular-reaches, reached_points}
 use Rattle.pass_accept.proofs.Edited.{edit_accepted}
-use Rattle.pass_names.proofs.Preserving.{found, nothing_found}
 use Rattle.pass_steps.proofs.Shapes.{shaped_here}
 use Rattle.pass_walks.specs.Matched.{Covers, WalksMatch, MatchedWalk, IsHarmless, MatchesWalks}
 use Rattle.pass_walks.proofs.Walks.{regular_branch_matched}
+use Rattle.pass_names.proofs.Points.{found}
 use Rattle.dead_code.specs.Removable.{is_silent}
 use Rattle.dead_code.proofs.Chain.{Gone, was_reached}
 use Rattle.dead_code.proofs.Points.{Deadened}
 use Rattle.dead_code.proofs.Refines.{deadening, dead_plan, preserves, staying-tree, gone-nop, flows-back}
 use Rattle.dead_code.proofs.Step.{computation-on, computation-keeps}
-
-empty : (xs : List ℕ) → length xs ≡ 0 → xs ≡ []
-empty [] e = refl
-empty (x ∷ xs) e = absurd (omega arith)
 
 -- a silent item and one of the same tree read nothing
 module _ (fs V W lP lQ : List (List ℕ)) (ret : Bool) where
@@ -47,7 +46,7 @@ module _ (fs V W lP lQ : List (List ℕ)) (ret : Bool) where
       let operation : op.Nop ≡ o = cc in
       let names : map (named V) args ≡ map (named W) brgs = cc in
       let long : length brgs ≡ 0 = sym (length-map brgs (named W)) ∙ sym (ap length names) ∙ length-map args (named V) ∙ none in
-      ap (λ z. reads_of (Act e tz z brgs gns ms)) (sym operation) ∙ ap (λ l. reads_of (Act e tz op.Nop l gns ms)) (empty brgs long)
+      ap (λ z. reads_of (Act e tz z brgs gns ms)) (sym operation) ∙ ap (λ l. reads_of (Act e tz op.Nop l gns ms)) (nil_from_length brgs long)
 
   silent-reads : (a b : Instr) → is_shaped ret a ≡ true → is_silent a ≡ true → item_tree fs V lP a ≡ item_tree fs W lQ b → reads_of b ≡ []
   silent-reads (Label l) (Label m) s e same = refl
@@ -69,7 +68,7 @@ module _ (P Q : Prog) (made : ℕ → List Instr) (accepted : IsAccepted P) (t :
           let c = (g.why was).computes in
           let branch : w ≡ onward i = ⊎_elim (λ s. s) (λ n. absurd n) (subst (In w) (computation-on (code_of P f) i g.item c) (subst (λ o. In w (branches_from (code_of P f) i o)) g.was among)) in
           let here : In (onward i) (branches_at (code_of Q f) i) = subst (λ o. In (onward i) (branches_from (code_of Q f) i o)) (sym (gone-nop P Q made t f i g)) (inl refl) in
-          record { j = suc i; points = ap (λ (v : Branch). v.to) branch; reached = reached-on (code_of Q f) i (onward i) (subst (IsReached (code_of Q f)) (sym r.points) r.reached) here }
+          record { j = suc i; points = ap (λ (v : Branch). v.to) branch; reached = reached_on (code_of Q f) i (onward i) (subst (IsReached (code_of Q f)) (sym r.points) r.reached) here }
 
   also_reached : (i : ℕ) → IsReached (code_of P f) i → IsReached (code_of Q f) i
   also_reached i was = let r = reached_points (dead_plan P Q made t) P Q f (preserves P Q made t accepted) onwards i was in subst (IsReached (code_of Q f)) (sym r.points) r.reached
@@ -89,7 +88,7 @@ module _ (P Q : Prog) (made : ℕ → List Instr) (accepted : IsAccepted P) (t :
         stays same = inr (by (item_at P f j) refl)
           where
             by : (o : Option Instr) → item_at P f j ≡ o → IsOld P Q f F G j b
-            by None none = absurd (let h = sym (nothing_found P f j none) ∙ staying-tree P Q made t f j same ∙ (found Q f j b at).tree in cc)
+            by None none = absurd (let h = sym (nothing_at P f j none) ∙ staying-tree P Q made t f j same ∙ (found Q f j b at).tree in cc)
             by (Some a) here = record {
               i = j;
               tree = sym (staying-tree P Q made t f j same);

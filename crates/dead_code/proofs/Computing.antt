@@ -22,7 +22,7 @@ use Rattle.bril_tree.specs.Sites.{Keeps, item_change}
 use Rattle.bril_tree.specs.State.{Locals, Frame}
 use Rattle.bril_tree.specs.Step.{by_outcome, assigned, shadowed}
 use Rattle.bril_tree.specs.Typing.{type_fault}
-use Rattle.pass_plan.proofs.Outcomes.{giver-goes_on}
+use Rattle.bril_tree.proofs.Outcomes.{giver-goes_on}
 use Rattle.pass_plan.proofs.Values.{assigned-other, shadowed-other}
 use Rattle.pass_steps.specs.Refinement.{ChangesPlaces}
 use Rattle.pass_steps.proofs.Shapes.{Shaped}

@@ -19,10 +19,10 @@ use Rattle.live_sets.specs.Reads.{Accesses, reads_from}
 use Rattle.live_sets.specs.declared.accesses.Access.{Access}
 use Rattle.live_sets.proofs.Law.{AreReaders}
 use Rattle.live_sets.proofs.ReadLists.{readers_are, reads-inside}
+use Rattle.pass_plan.proofs.Elements.{all_in, in_all}
 use Rattle.dead_code.specs.Work.{IsLookedAt, IsReadBy, IsSearched, IsSound, IsWork, Queues, Unqueues, assignments_from, is_marked, reads_left, remaining}
 use Rattle.dead_code.proofs.Clearing.{is_assignment, removable, settled}
 use Rattle.dead_code.proofs.Marks.{with_nops-alive, with_nops-dead}
-use Rattle.dead_code.proofs.Queueing.{All-in, in-All}
 use Rattle.dead_code.proofs.Searching.{found-live, live-found}
 use Rattle.dead_code.proofs.Working.{remaining-chain, more, fewer-reads, more-work, more-searched}
 
@@ -30,17 +30,17 @@ use Rattle.dead_code.proofs.Working.{remaining-chain, more, fewer-reads, more-wo
 
 module _ (code : List Instr) (dead : List Bool) (list : List Access) (reads : list ≡ reads_from 0 code) (number : ℕ) (readers : List ℕ) (exact : (item : ℕ) → Contains readers item ↔ Accesses list number item) where
   pub readers-within : All (λ item. item < length code) readers
-  readers-within = in-All (λ item. item < length code) readers (λ item i.
+  readers-within = in_all (λ item. item < length code) readers (λ item i.
       let c = (exact item).0 (contains_in item readers i) in
       let all : All (λ (a : Access). a.item < 0 + length code) list = subst (All (λ (a : Access). a.item < 0 + length code)) (sym reads) (reads-inside 0 code) in
-      let low : item < 0 + length code = All-in (λ (a : Access). a.item < 0 + length code) list (record { item = item; location = number }) all (in_contains _ list c) in
+      let low : item < 0 + length code = all_in (λ (a : Access). a.item < 0 + length code) list all (record { item = item; location = number }) (in_contains _ list c) in
       omega arith)
 
   module _ (sound : IsSound code dead) (alive : List ℕ) (living : (item : ℕ) → Contains alive item ↔ (Contains readers item × (is_marked dead item ≡ false))) where
     pub alive-within : (points : ℕ) → points ≡ length code + 1 → All (λ item. item < points) alive
-    alive-within points total = in-All (λ item. item < points) alive (λ item i.
+    alive-within points total = in_all (λ item. item < points) alive (λ item i.
         let c = (living item).0 (contains_in item alive i) in
-        let low = All-in (λ n. n < length code) readers item readers-within (in_contains item readers c.0) in
+        let low = all_in (λ n. n < length code) readers readers-within item (in_contains item readers c.0) in
         omega arith)
 
     -- the items that read the location in what remains
@@ -116,13 +116,13 @@ looked-at code dead queue queued number found items list same exact all w s = re
   are = w.are;
   settled = λ x inside off free. ⊎_elim
       (λ e. settled code dead queued number found w.sound w.none_idle s (ap (is_marked queued) (sym e) ∙ off)
-      (λ k a. All-in (IsLookedAt dead found) items k all (in_contains k items ((exact k).1 (subst (λ l. Accesses l number k) (sym same) a)))) x e)
+      (λ k a. all_in (IsLookedAt dead found) items all k (in_contains k items ((exact k).1 (subst (λ l. Accesses l number k) (sym same) a)))) x e)
       (λ d. w.settled x inside off d) (cases_eq (number_of x) number);
 }
 
 -- the items of a location are assignments
 pub items-assign : (code : List Instr) (number : ℕ) (items : List ℕ) (list : List Access) → list ≡ assignments_from 0 code → ((item : ℕ) → Contains items item ↔ Accesses list number item) → All (Accesses (assignments_from 0 code) number) items
-items-assign code number items list same exact = in-All (Accesses (assignments_from 0 code) number) items (λ k i. subst (λ l. Accesses l number k) same ((exact k).0 (contains_in k items i)))
+items-assign code number items list same exact = in_all (Accesses (assignments_from 0 code) number) items (λ k i. subst (λ l. Accesses l number k) same ((exact k).0 (contains_in k items i)))
 
 -- the location that is taken off the queue is the exception
 pub taken-off : (code : List Instr) (dead : List Bool) (queue shorter : List ℕ) (queued marked : List Bool) (number : ℕ) → IsWork code dead queue queued (λ n. ⊥) → Unqueues number queue shorter queued marked → IsWork code dead shorter marked (λ n. n ≡ number)

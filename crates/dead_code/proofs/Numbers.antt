@@ -13,7 +13,7 @@ use Rattle.bril_tree.specs.Entries.{Enters}
 use Rattle.bril_tree.specs.FrameWords.{IsDepth}
 use Rattle.bril_tree.specs.Leaving.{IsEdge, edge_of, leave_of}
 use Rattle.bril_tree.specs.Membership.{In}
-use Rattle.bril_tree.specs.Numbered.{item_tree, named, names_of_functions, nop, nop_item, tree_at, variable_names}
+use Rattle.bril_tree.specs.Numbered.{named, names_of_functions, nop, tree_at}
 use Rattle.bril_tree.specs.Sites.{sites_of}
 use Rattle.bril_tree.specs.Step.{code_of, item_at, items_of}
 use Rattle.bril_tree.specs.Walk.{IsReached, end_of}
@@ -21,8 +21,9 @@ use Rattle.bril_tree.proofs.Members.{contains_in, in_contains}
 use Rattle.pass_walks.specs.Matched.{MatchedWalk}
 use Rattle.pass_numbers.specs.Numbers.{FunctionWithin, NumbersWithin}
 use Rattle.pass_numbers.proofs.Arguments.{no-longer-arguments}
-use Rattle.pass_numbers.proofs.Depths.{depth-within, matched}
-use Rattle.pass_numbers.proofs.Edges.{edge-back, item-back, label-back, point_of_item}
+use Rattle.pass_walks.proofs.Accepting.{matched}
+use Rattle.pass_numbers.proofs.Depths.{depth-within}
+use Rattle.pass_numbers.proofs.Edges.{edge-back, items-back, label-back}
 use Rattle.pass_numbers.proofs.Entering.{EntryMatched, fewer-entries, width-within}
 use Rattle.pass_numbers.proofs.Locations.{IsOfItems}
 use Rattle.pass_numbers.proofs.Programs.{accepted-locations, functions_bound, by-functions}
@@ -103,12 +104,7 @@ module _ (P Q : Prog) (made : ℕ → List Instr) (accepted : IsAccepted P) (acc
   -- ---- the numbers of a function
 
   of_items : IsOfItems (names_of_functions P.funcs) (names_of_functions Q.funcs) F G
-  of_items = record { args = t.heads.args f F G p q; items = items }
-    where
-      items : (b : Instr) → In b G.code → (item_tree (names_of_functions Q.funcs) (variable_names G.vars) G.labels b ≡ nop_item) ⊎ ((a : Instr) × In a F.code × (item_tree (names_of_functions P.funcs) (variable_names F.vars) F.labels a ≡ item_tree (names_of_functions Q.funcs) (variable_names G.vars) G.labels b))
-      items b among =
-          let k = point_of_item G.code b among in
-          ⊎_elim (λ e. inl (ap (item_tree (names_of_functions Q.funcs) (variable_names G.vars) G.labels) e)) (λ same. inr (item-back P Q f F G p q k.0 k.0 b same k.1)) (one-item k.0 b k.1)
+  of_items = items-back P Q f F G p q (t.heads.args f F G p q) (λ i b at. ⊎_elim inl (λ same. inr (i, same)) (one-item i b at))
 
   function_within : FunctionWithin 0 F G
   function_within = record {

@@ -1,9 +1,8 @@
 -- The queue of locations.
 use Rattle.std.proofs.Common.{◌≡◌, ◌⊎◌, ◌↔◌, ℕ, ◌+◌, ◌<◌, ◌≤◌, Bool, true, false, cond, append-nil, List, [], ◌∷◌, ◌++◌, length, map, get_or, set, take, replicate, refl, sym, ap, subst, ◌∙◌, inl, inr, ⊎_elim, arith, true≢false}
-use Rattle.std.specs.List.{All, Contains}
+use Rattle.std.specs.List.{Contains}
 use Rattle.std.proofs.lemmas.Bool.{cases_Bool, cases_eq, cases_lt}
 use Rattle.std.proofs.lemmas.List.{get_or-set_same, get_or-set_other, get_or-replicate, get_or_past, length-set, length-append, length-replicate, length-map, take_more}
-use Rattle.std.proofs.lemmas.List.Elements.{Contains-get_or}
 use Rattle.bril_tree.specs.declared.numbered.Instr.{Instr}
 use Rattle.bril_tree.specs.Membership.{In}
 use Rattle.bril_tree.specs.Operand.{Location, reads_of}
@@ -11,14 +10,8 @@ use Rattle.bril_tree.proofs.Members.{in_contains, contains_in, in_append_left, i
 use Rattle.definite_assignment.specs.Location.{number_of}
 use Rattle.live_sets.specs.Reads.{access_at, item_reads}
 use Rattle.live_sets.specs.declared.accesses.Access.{Access}
+use Rattle.pass_plan.proofs.Elements.{all_in, in_all}
 use Rattle.dead_code.specs.Work.{AreQueued, IsReadBy, Queues, Unqueues, is_marked}
-
--- an element of the list has the property
-pub All-in : {X : Type 0} (P : X → Type 0) (xs : List X) (x : X) → All P xs → In x xs → P x
-All-in P xs x all i = let c = contains_in x xs i in subst P c.2 (all c.0 x c.1)
-
-pub in-All : {X : Type 0} (P : X → Type 0) (xs : List X) → ((x : X) → In x xs → P x) → All P xs
-in-All P xs h k d low = h (get_or xs k d) (in_contains (get_or xs k d) xs (Contains-get_or xs k d low))
 
 only_one : (n l : ℕ) → In n (l ∷ []) → n ≡ l
 only_one n l (inl e) = e
@@ -42,7 +35,7 @@ queues-same l queue queued are on = record {
 pub queues-pushed : (l : ℕ) (queue longer : List ℕ) (queued : List Bool) → AreQueued queue queued → l < length queued → longer ≡ queue ++ l ∷ [] → Queues (λ n. n ≡ l) 1 queue longer queued (set queued l true)
 queues-pushed l queue longer queued are low is = record {
   are = record {
-    inside = in-All (λ n. n < length (set queued l true)) longer (λ n i. ⊎_elim (λ h. let k = All-in (λ n. n < length queued) queue n are.inside h in omega (arith, long, k)) (λ h. let e = only_one n l h in omega (arith, long, e, low)) (in_append_cases n queue (l ∷ []) (subst (In n) is i)));
+    inside = in_all (λ n. n < length (set queued l true)) longer (λ n i. ⊎_elim (λ h. let k = all_in (λ n. n < length queued) queue are.inside n h in omega (arith, long, k)) (λ h. let e = only_one n l h in omega (arith, long, e, low)) (in_append_cases n queue (l ∷ []) (subst (In n) is i)));
     there = λ n e. contains_in n longer (subst (In n) (sym is) (⊎_elim (λ same. in_append_right n queue (l ∷ []) (inl same)) (λ d. in_append_left n queue (l ∷ []) (in_contains n queue (are.there n (sym (get_or-set_other queued l n true false d) ∙ e)))) (cases_eq n l)));
   };
   long = long;
@@ -109,7 +102,7 @@ pub unqueued : (l : ℕ) (queue shorter : List ℕ) (queued : List Bool) → Are
 unqueued l queue shorter queued are is = record {
   inside = low;
   are = record {
-    inside = in-All (λ n. n < length (set queued l false)) shorter (λ n i. let k = All-in (λ n. n < length queued) queue n are.inside (subst (In n) (sym is) (in_append_left n shorter (l ∷ []) i)) in omega (arith, long, k));
+    inside = in_all (λ n. n < length (set queued l false)) shorter (λ n i. let k = all_in (λ n. n < length queued) queue are.inside n (subst (In n) (sym is) (in_append_left n shorter (l ∷ []) i)) in omega (arith, long, k));
     there = λ n e. contains_in n shorter (by n e);
   };
   long = long;
@@ -121,7 +114,7 @@ unqueued l queue shorter queued are is = record {
     long = length-set queued l false
 
     low : l < length queued
-    low = All-in (λ n. n < length queued) queue l are.inside (subst (In l) (sym is) (in_append_right l shorter (l ∷ []) (inl refl)))
+    low = all_in (λ n. n < length queued) queue are.inside l (subst (In l) (sym is) (in_append_right l shorter (l ∷ []) (inl refl)))
 
     by : (n : ℕ) → is_marked (set queued l false) n ≡ true → In n shorter
     by n e = ⊎_elim here other (cases_eq n l)
@@ -139,7 +132,7 @@ none-queued queue queued are none n = ⊎_elim (λ e. absurd (subst (In n) none 
 
 pub all-are-queued : (queue : List ℕ) (queued : List Bool) (count : ℕ) → queued ≡ replicate count true → ((n : ℕ) → Contains queue n ↔ (n < count)) → AreQueued queue queued
 all-are-queued queue queued count is exact = record {
-  inside = in-All (λ n. n < length queued) queue (λ n i. let l = ap length is ∙ length-replicate count true in let k = (exact n).0 (contains_in n queue i) in omega arith);
+  inside = in_all (λ n. n < length queued) queue (λ n i. let l = ap length is ∙ length-replicate count true in let k = (exact n).0 (contains_in n queue i) in omega arith);
   there = λ n e. (exact n).1 (let l = ap length is ∙ length-replicate count true in let k = marked-within queued n e in omega arith);
 }
 

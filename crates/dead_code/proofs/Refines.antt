@@ -23,15 +23,17 @@ use Rattle.bril_tree.specs.Step.{code_of, item_at, items_of, step}
 use Rattle.bril_tree.specs.Walk.{IsReached, end_of}
 use Rattle.bril_tree.proofs.Assignments.{site_speculates}
 use Rattle.bril_tree.proofs.Liveness.{live-reads, live-flows, live-back}
-use Rattle.bril_tree.proofs.Trees.{nop-at}
+use Rattle.bril_tree.proofs.Trees.{nop-at, nothing_at}
+use Rattle.bril_tree.proofs.Shapes.{none_assigned}
 use Rattle.pass_names.specs.NamedPlan.{NamePlan, plan, KeepsNames}
-use Rattle.pass_names.proofs.Preserving.{found, names_preserve, nothing_found, no_partner, label_once, knows_nothing}
+use Rattle.pass_names.proofs.Preserving.{names_preserve, knows_nothing}
+use Rattle.pass_names.proofs.Points.{found, label_once}
+use Rattle.pass_names.proofs.Heads.{no_partner}
 use Rattle.pass_plan.specs.Plan.{Plan, Preserves, StatesMatch, ValuesMatch}
 use Rattle.pass_steps.specs.Refinement.{Progress, CatchUp, BothMove, Advances}
 use Rattle.pass_steps.proofs.Moves.{both_move}
 use Rattle.pass_steps.proofs.Refinement.{plan_refines}
 use Rattle.pass_steps.proofs.Shapes.{shaped_here}
-use Rattle.pass_walks.proofs.Walks.{none-assigned}
 use Rattle.dead_code.specs.Removable.{is_computation}
 use Rattle.dead_code.proofs.Chain.{Gone}
 use Rattle.dead_code.proofs.Computing.{computes}
@@ -55,7 +57,7 @@ module _ (P Q : Prog) (made : ℕ → List Instr) (t : Deadened P Q made) where
   staying-tree f i same = by (slice_get P.funcs f) refl
     where
       by : (o : Option Func) → slice_get P.funcs f ≡ o → tree_at P f i ≡ tree_at Q f i
-      by None n = nothing_found P f i (ap (λ o. slice_get (items_of o) i) n) ∙ sym (no_partner P Q t.heads f n i)
+      by None n = nothing_at P f i (ap (λ o. slice_get (items_of o) i) n) ∙ sym (no_partner P Q t.heads f n i)
       by (Some F) n =
           ap (λ o. point_tree (names_of_functions P.funcs) o i) n
           ∙ ap (option_map (item_tree (names_of_functions P.funcs) (variable_names F.vars) F.labels)) (ap (λ o. slice_get (items_of o) i) (sym n) ∙ sym same)
@@ -98,7 +100,7 @@ module _ (P Q : Prog) (made : ℕ → List Instr) (t : Deadened P Q made) where
         old None here opens = absurd (let h = ap (λ o. item_change o false) (sym here) ∙ opens in cc)
         old (Some a) here opens =
             let facts = shaped_here P accepted f s a here in
-            ap assigns_at here ∙ none-assigned facts.ret a false facts.shaped (λ k. let h = sym k ∙ ap (λ o. item_change o false) (sym here) ∙ opens in cc)
+            ap assigns_at here ∙ none_assigned facts.ret a false facts.shaped (λ k. let h = sym k ∙ ap (λ o. item_change o false) (sym here) ∙ opens in cc)
 
         by : (slice_get (made f) s ≡ item_at P f s) ⊎ Gone (code_of P f) (made f) s → assigns_at (slice_get (made f) s) ≡ []
         by (inl same) = ap assigns_at same ∙ old (item_at P f s) refl (site_speculates (code_of P f) walk s (subst (In s) (sym e) (inl refl)))

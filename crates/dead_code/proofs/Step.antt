@@ -21,6 +21,7 @@ use Rattle.bril_tree.specs.Walk.{IsWalk, IsReached, end_of}
 use Rattle.bril_tree.proofs.Assignments.{in_or_not, site_speculates}
 use Rattle.bril_tree.proofs.Branches.{branch_from, reached_on}
 use Rattle.bril_tree.proofs.Members.{in_contains, contains_in}
+use Rattle.flow_graph.proofs.Searching.{get_set_other}
 use Rattle.dead_code.specs.Removable.{only_computes, is_computation, IsUnused, IsIdle, IsRemovable}
 
 -- ---- lists
@@ -29,13 +30,6 @@ pub set-here : {X : Type 0} (xs : List X) (j : ℕ) (a x : X) → slice_get xs j
 set-here [] j a x e = absurd (let n : None ≡ Some a = e in cc)
 set-here (y ∷ xs) zero a x e = refl
 set-here (y ∷ xs) (suc j) a x e = set-here xs j a x e
-
-pub set-other : {X : Type 0} (xs : List X) (j p : ℕ) (x : X) → (p ≡ j → ⊥) → slice_get (set xs j x) p ≡ slice_get xs p
-set-other [] j p x d = refl
-set-other (y ∷ xs) zero zero x d = absurd (d refl)
-set-other (y ∷ xs) zero (suc p) x d = refl
-set-other (y ∷ xs) (suc j) zero x d = refl
-set-other (y ∷ xs) (suc j) (suc p) x d = set-other xs j p x (λ e. d (ap suc e))
 
 -- ---- items
 
@@ -111,7 +105,7 @@ module _ (code : List Instr) (j : ℕ) (r : IsRemovable code j) where
   now-here = set-here code j r.item nop r.here
 
   pub now-other : (p : ℕ) → (p ≡ j → ⊥) → slice_get now p ≡ slice_get code p
-  now-other p d = set-other code j p nop d
+  now-other p d = get_set_other code j p nop d
 
   pub now-points : (l : ℕ) → point_of l now ≡ point_of l code
   now-points l = point-set l code j r.item nop r.here (removable-no_label code j l r.item r.why)

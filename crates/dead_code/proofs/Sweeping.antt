@@ -21,6 +21,7 @@ use Rattle.bril_tree.specs.Operand.{Location, reads_of}
 use Rattle.bril_tree.specs.Sites.{Opens, item_change}
 use Rattle.bril_tree.proofs.Assignments.{site_speculates}
 use Rattle.bril_tree.proofs.Members.{contains_in, in_contains, in_map}
+use Rattle.flow_graph.proofs.Searching.{get_set_other}
 use Rattle.definite_assignment.specs.Location.{number_of}
 use Rattle.live_sets.specs.Arcs.{number_at}
 use Rattle.live_sets.specs.Reads.{item_reads}
@@ -31,7 +32,7 @@ use Rattle.dead_code.specs.Sweep.{AreNoted, IsQuiet, IsSwept, branches_off, is_b
 use Rattle.dead_code.specs.Work.{IsSound, NoneIdle, remaining}
 use Rattle.dead_code.proofs.Marks.{length-with_nops}
 use Rattle.dead_code.proofs.Queueing.{among-more, numbers-read}
-use Rattle.dead_code.proofs.Step.{set-here, set-other}
+use Rattle.dead_code.proofs.Step.{set-here}
 use Rattle.dead_code.proofs.Working.{more-is, more-none_idle, more-sound}
 
 -- ---- where branches lead
@@ -137,7 +138,7 @@ module _ (made : List Instr) where
   }
     where
       other : (j : ℕ) → p + 1 ≤ j → slice_get (set made p nop) j ≡ slice_get made j
-      other j le = set-other made p j nop (λ e. omega (arith, le, e))
+      other j le = get_set_other made p j nop (λ e. omega (arith, le, e))
 
   -- an item that stays
   module _ (p : ℕ) (item : Instr) (here : slice_get made p ≡ Some item) (reads reads_new assigns assigns_new : List ℕ) (branch end : ℕ) (s : IsSwept made (p + 1) reads assigns branch end)
