@@ -14,6 +14,7 @@ use bril_checker::Checked;
 use bril_heap::Cells;
 use bril_tree::limits::{End, Fault, Limits};
 use bril_tree::numbered::Instr;
+use bril_tree::sequence::Seq;
 use bril_tree::value::Value;
 use std::alloc::{AllocError, Global};
 use std::marker::Model;
@@ -157,7 +158,7 @@ impl<'a> Interp<'a> {
     }
 
     // The argument at a place of an instruction of the newest frame.
-    pub(crate) fn argument(&self, args: &[u32], place: usize) -> Value
+    pub(crate) fn argument(&self, args: &Seq<u32>, place: usize) -> Value
         ensures { result ≡ argument (newest_of self.now).locations args.now place }
     {
         self.newest.locations().variable(number_at(args, place))

@@ -3,13 +3,14 @@
 ghost use Rattle.std.specs.Prelude.{◌≡◌, slice_index};
 ghost use Rattle.bril_tree.specs.Value.{literal_value};
 
+use bril_tree::sequence::Seq;
 use bril_tree::value::{Lit, Value};
 
 // The number at a place of the list, 0 past its end.
-pub fn number_at(numbers: &[u32], place: usize) -> u32
+pub fn number_at(numbers: &Seq<u32>, place: usize) -> u32
     ensures { result ≡ slice_index numbers.now place }
 {
-    match numbers.get(place) {
+    match numbers.as_slice().get(place) {
         Some(number) => *number,
         None => 0,
     }
