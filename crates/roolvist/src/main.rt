@@ -6,6 +6,7 @@ ghost use Rattle.std.specs.IoError.{error_kind};
 ghost use Rattle.std.specs.Process.{exit_status};
 ghost use Rattle.bril_cli.specs.Answers.{Promises};
 ghost use Rattle.bril_cli.specs.Call.{call_of};
+ghost use Rattle.bril_cli.specs.Shipped.{AreShipped};
 ghost use Rattle.bril_report.specs.Report.{status_number};
 ghost use Rattle.bril_report.specs.declared.status.Status.TheVariants.{OutOfMemory};
 ghost use Rattle.roolvist.specs.End.{AreAllOf, IsUntouched, no_words};
@@ -19,27 +20,40 @@ use bril_report::{Status, status_number};
 use bril_tree::sequence::Seq;
 use bril_tree::text::Text;
 use bril_words::Misuse;
+use dead_code::Dead;
 use pass_law::Pass;
 use std::alloc::{AllocError, Global};
 use std::env::{self, Args};
 use std::io::{self, ErrorKind, Stderr, Stdout};
 use std::process::ExitCode;
+use tidy_code::Tidy;
 
 fn main(rt: HostRuntime) -> ExitCode {
+    match with_passes(&rt) {
+        Ok(code) => code,
+        Err(AllocError) => ExitCode::from(status_number(&Status::OutOfMemory)),
+    }
+}
+
+// Does what the words of the command line ask for, with the shipped passes. Where there is no memory for these, nothing is
+// read or written.
+fn with_passes(rt: &HostRuntime) -> Result<ExitCode, AllocError> {
     let alloc = rt.alloc();
-    let words = given_words(alloc, env::args(&rt));
-    let mut files = OsFiles::new(&rt);
+    let dead: Box<dyn Pass> = Box::new(alloc, Dead::new())?;
+    let tidy: Box<dyn Pass> = Box::new(alloc, Tidy::new())?;
+    let mut passes = [dead, tidy];
+    let words = given_words(alloc, env::args(rt));
+    let mut files = OsFiles::new(rt);
     let mut out = OsSink::new(rt.stdout());
     let mut err = OsSink::new(rt.stderr());
-    let mut passes: [Box<dyn Pass>; 0] = [];
-    end::<OsFiles<HostRuntime>, OsSink<Stdout>, OsSink<Stderr>>(
+    Ok(end::<OsFiles<HostRuntime>, OsSink<Stdout>, OsSink<Stderr>>(
         alloc,
         words,
         &mut files,
         &mut out,
         &mut err,
         passes.as_mut_slice(),
-    )
+    ))
 }
 
 // Does what the words ask for, and gives the exit status: that of `bril_top`. Where there are no words it is that of their
@@ -52,6 +66,7 @@ fn end<F: Files, O: Sink, E: Sink>(
     err: &mut E,
     passes: &mut [Box<dyn Pass>],
 ) -> ExitCode
+    requires shipped { AreShipped (λ p. meaning p) passes.old }
     ensures words { IfOk words (λ words. Promises (exit_status result) (call_of words (F.seen files.old) (F.seen files.new) (O.seen out.old) (O.seen out.new) (E.seen err.old) (E.seen err.new) (λ p. meaning p) (λ p. counts p) passes.old passes.new)) }
     ensures none { IfErr words (λ status. exit_status result ≡ status_number status) }
     ensures kept { IfErr words (λ _. passes.new ≡ passes.old) }
