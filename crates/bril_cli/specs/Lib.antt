@@ -3,6 +3,7 @@ pub mod Arguments
 pub mod Call
 pub mod CommandLine
 pub mod Driver
+pub mod End
 pub mod Images
 pub mod Source
 pub mod Stages

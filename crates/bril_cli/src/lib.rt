@@ -4,6 +4,7 @@
 mod arguments;
 mod commands;
 mod driver;
+pub mod end;
 mod image;
 mod list;
 mod program;

@@ -3,19 +3,12 @@
 
 ghost use Rattle.std.specs.Prelude.{◌≡◌, Err, IfOk, IfErr};
 ghost use Rattle.std.specs.IoError.{error_kind};
-ghost use Rattle.std.specs.Process.{exit_status};
-ghost use Rattle.bril_cli.specs.Answers.{Promises};
-ghost use Rattle.bril_cli.specs.Call.{call_of};
-ghost use Rattle.bril_cli.specs.Shipped.{AreShipped};
-ghost use Rattle.bril_report.specs.Report.{status_number};
 ghost use Rattle.bril_report.specs.declared.status.Status.TheVariants.{OutOfMemory};
-ghost use Rattle.roolvist.specs.End.{AreAllOf, IsUntouched, no_words};
+ghost use Rattle.roolvist.specs.Words.{AreAllOf, no_words};
 
-use bril_cli::top::bril_top;
-use bril_outside::files::Files;
+use bril_cli::end::end;
 use bril_outside::os_files::OsFiles;
 use bril_outside::os_sink::OsSink;
-use bril_outside::sink::Sink;
 use bril_report::{Status, status_number};
 use bril_tree::sequence::Seq;
 use bril_tree::text::Text;
@@ -29,15 +22,16 @@ use std::process::ExitCode;
 use tidy_code::Tidy;
 
 fn main(rt: HostRuntime) -> ExitCode {
-    match with_passes(&rt) {
-        Ok(code) => code,
-        Err(AllocError) => ExitCode::from(status_number(&Status::OutOfMemory)),
-    }
+    let status = match with_passes(&rt) {
+        Ok(status) => status,
+        Err(AllocError) => status_number(&Status::OutOfMemory),
+    };
+    ExitCode::from(status)
 }
 
 // Does what the words of the command line ask for, with the shipped passes. Where there is no memory for these, nothing is
 // read or written.
-fn with_passes(rt: &HostRuntime) -> Result<ExitCode, AllocError> {
+fn with_passes(rt: &HostRuntime) -> Result<u8, AllocError> {
     let alloc = rt.alloc();
     let dead: Box<dyn Pass> = Box::new(alloc, Dead::new())?;
     let tidy: Box<dyn Pass> = Box::new(alloc, Tidy::new())?;
@@ -54,30 +48,6 @@ fn with_passes(rt: &HostRuntime) -> Result<ExitCode, AllocError> {
         &mut err,
         passes.as_mut_slice(),
     ))
-}
-
-// Does what the words ask for, and gives the exit status: that of `bril_top`. Where there are no words it is that of their
-// want; then no file is read, nothing is written, and the passes stay as they are.
-fn end<F: Files, O: Sink, E: Sink>(
-    alloc: Global,
-    words: Result<Seq<Text>, Status>,
-    files: &mut F,
-    out: &mut O,
-    err: &mut E,
-    passes: &mut [Box<dyn Pass>],
-) -> ExitCode
-    requires shipped { AreShipped (λ p. meaning p) passes.old }
-    ensures words { IfOk words (λ words. Promises (exit_status result) (call_of words (F.seen files.old) (F.seen files.new) (O.seen out.old) (O.seen out.new) (E.seen err.old) (E.seen err.new) (λ p. meaning p) (λ p. counts p) passes.old passes.new)) }
-    ensures none { IfErr words (λ status. exit_status result ≡ status_number status) }
-    ensures kept { IfErr words (λ _. passes.new ≡ passes.old) }
-    ensures silent { IfErr words (λ _. IsUntouched (F.seen files.old) (F.seen files.new) (O.seen out.old) (O.seen out.new) (E.seen err.old) (E.seen err.new)) }
-{
-    let words = match words {
-        Ok(words) => words,
-        Err(status) => return ExitCode::from(status_number(&status)),
-    };
-    let status = bril_top(alloc, words.as_slice(), files, out, err, passes);
-    ExitCode::from(status)
 }
 
 // All words that the system gives, as text. `Err`: it gives none, or they don't fit into memory.
