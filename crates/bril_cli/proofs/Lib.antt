@@ -6,6 +6,7 @@ pub mod Listings
 pub mod Outcomes
 pub mod Promises
 pub mod Runs
+pub mod Shipped
 pub mod Sources
 pub mod Statuses
 pub mod Tallies

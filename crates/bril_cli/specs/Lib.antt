@@ -11,4 +11,5 @@ pub mod Stats
 pub mod commands
 pub mod After
 pub mod PassList
+pub mod Shipped
 pub mod Sources

@@ -4,6 +4,7 @@ ghost use Rattle.std.specs.Prelude.{◌≡◌, IfOk, IfErr};
 ghost use Rattle.bril_cli.specs.Answers.{Promises};
 ghost use Rattle.bril_cli.specs.Call.{call_of};
 ghost use Rattle.bril_cli.specs.End.{IsUntouched};
+ghost use Rattle.bril_cli.specs.Shipped.{AreShipped};
 ghost use Rattle.bril_report.specs.Report.{status_number};
 
 use crate::top::bril_top;
@@ -15,7 +16,7 @@ use bril_tree::text::Text;
 use pass_law::Pass;
 use std::alloc::Global;
 
-/// Does what the words ask for by `bril_top`, and answers its exit status. Where there are no words it answers the status that says
+/// Does what the words ask for by `bril_top`, with the shipped passes, and answers its exit status. Where there are no words it answers the status that says
 /// why; then no file is read, nothing is written, and the passes stay as they are.
 pub fn end<F: Files, O: Sink, E: Sink>(
     alloc: Global,
@@ -25,6 +26,7 @@ pub fn end<F: Files, O: Sink, E: Sink>(
     err: &mut E,
     passes: &mut [Box<dyn Pass>],
 ) -> u8
+    requires shipped { AreShipped (λ p. meaning p) passes.old }
     ensures words { IfOk words (λ words. Promises result (call_of words (F.seen files.old) (F.seen files.new) (O.seen out.old) (O.seen out.new) (E.seen err.old) (E.seen err.new) (λ p. meaning p) (λ p. counts p) passes.old passes.new)) }
     ensures none { IfErr words (λ status. result ≡ status_number status) }
     ensures kept { IfErr words (λ _. passes.new ≡ passes.old) }

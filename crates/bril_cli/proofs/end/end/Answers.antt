@@ -1,0 +1,6 @@
+-- The passes make as the shipped ones do, and the status is what the top call promises of the words.
+use Rattle.bril_cli.proofs.Shipped.{AreShipped-make}
+use Rattle.bril_cli.proofs.end.end.Goals as goal
+
+pub bril_top-requires : goal.bril_top-requires
+bril_top-requires g c = AreShipped-make (λ p. (goal.Pass-dyn g (p.vtable, p.value)).meaning p.value) c.args.passes.now c.requires
