@@ -83,7 +83,7 @@ module _ (c : Call) (action : Action) (path : List ℕ) (args : List (List ℕ))
     formless = formless_where c action path args how ends;
     lacking = lacking_where c action path args how ends;
     long_file = long_where c action path args how ends;
-    keeps = λ other p xs asks. subst (λ (a : Action). KeepsPasses a c.passes.before c.passes.after) (sym (asked_action c action other path p args xs ends.asked asks)) ends.keeps;
+    keeps = λ other p xs asks. subst (λ (a : Action). KeepsPasses c.passes.meaning a c.passes.before c.passes.after) (sym (asked_action c action other path p args xs ends.asked asks)) ends.keeps;
   }
 
 -- of words that ask for nothing

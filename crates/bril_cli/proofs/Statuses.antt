@@ -71,7 +71,7 @@ pub record Ends (c : Call) (action : Action) (path : List ℕ) (args : List (Lis
   pub told : List ℕ
   pub does : DoesFile action how c.passes c.files_before c.files_after path args told c.out_before c.out_after
   pub says : SaysTold told how path c.err_before c.err_after
-  pub keeps : KeepsPasses action c.passes.before c.passes.after
+  pub keeps : KeepsPasses c.passes.meaning action c.passes.before c.passes.after
 
 -- ---- memory ran out, and nothing was put
 

@@ -268,9 +268,9 @@ LackingWhere number c = AsksNone c → UnlessMemory number (number ≡ 66)
 abbrev pub LongFileWhere : ℕ → Call → Type 0
 LongFileWhere number c = (action : Action) (bytes : List ℕ) → ReadsWell c action bytes → most_bytes < length bytes → UnlessMemory number (number ≡ 68)
 
--- The passes stay as they are where the words ask for an action that takes no list of them.
+-- The passes stay as they are where the words ask for an action that takes no list of them; else they mean the same.
 abbrev pub KeepsWhere : Call → Type 0
-KeepsWhere c = (action : Action) (path : List ℕ) (args : List (List ℕ)) → AsksFor c.words action path args → KeepsPasses action c.passes.before c.passes.after
+KeepsWhere c = (action : Action) (path : List ℕ) (args : List (List ℕ)) → AsksFor c.words action path args → KeepsPasses c.passes.meaning action c.passes.before c.passes.after
 
 -- What the top call promises of its status.
 pub record Promises (status : ℕ) (c : Call) : Type 0 where
@@ -302,5 +302,5 @@ pub record Promises (status : ℕ) (c : Call) : Type 0 where
   pub formless : FormlessWhere status c
   pub lacking : LackingWhere status c
   pub long_file : LongFileWhere status c
-  -- the passes, where the action takes no list of them
+  -- what becomes of the passes
   pub keeps : KeepsWhere c

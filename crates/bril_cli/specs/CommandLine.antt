@@ -6,6 +6,8 @@ use Rattle.bril_words.specs.Request.{Asked}
 use Rattle.bril_words.specs.declared.misuse.Misuse.{Misuse}
 use Rattle.bril_words.specs.declared.request.Action.{Action}
 use Rattle.bril_words.specs.declared.request.Action.TheVariants.{Run, Interpret, Emit, Passes, Check, WriteText, WriteJson}
+use Rattle.pass_law.specs.Chains.{AllSame}
+use Rattle.pass_law.specs.Meaning.{Meaning}
 use Rattle.bril_cli.specs.declared.source.Format.{Format}
 use Rattle.bril_cli.specs.declared.source.Format.TheVariants.{InText, InJson}
 
@@ -52,15 +54,15 @@ TakesPasses Check = ⊥
 TakesPasses WriteText = ⊥
 TakesPasses WriteJson = ⊥
 
--- the action leaves the passes as they are, where it takes no list of them
-abbrev pub KeepsPasses : {B : Type 0} → Action → List B → List B → Type 0
-KeepsPasses (Run frames cells steps stats) before after = Unit {0}
-KeepsPasses (Interpret frames cells steps) before after = after ≡ before
-KeepsPasses (Emit frames) before after = Unit {0}
-KeepsPasses Passes before after = Unit {0}
-KeepsPasses Check before after = after ≡ before
-KeepsPasses WriteText before after = after ≡ before
-KeepsPasses WriteJson before after = after ≡ before
+-- the action leaves the passes as they are, or what they mean, where it takes a list of them
+abbrev pub KeepsPasses : {B : Type 0} → (B → Meaning) → Action → List B → List B → Type 0
+KeepsPasses meaning (Run frames cells steps stats) before after = AllSame meaning before after
+KeepsPasses meaning (Interpret frames cells steps) before after = after ≡ before
+KeepsPasses meaning (Emit frames) before after = AllSame meaning before after
+KeepsPasses meaning Passes before after = AllSame meaning before after
+KeepsPasses meaning Check before after = after ≡ before
+KeepsPasses meaning WriteText before after = after ≡ before
+KeepsPasses meaning WriteJson before after = after ≡ before
 
 -- how many steps, or words of the machine, the action makes at most
 abbrev pub steps_of : Action → ℕ

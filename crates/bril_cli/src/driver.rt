@@ -52,7 +52,7 @@ pub fn drive<F: Files, O: Sink, E: Sink>(
     ensures holds { (F.seen files.new).holds ≡ (F.seen files.old).holds }
     ensures faults { (F.seen files.old).faults ≤ (F.seen files.new).faults }
     ensures does { Telling (λ told. DoesFile request.entry.action (status_of result) (pass_list (λ p. meaning p) (λ p. counts p) passes.old passes.new (names_of request.entry.list.now)) (F.seen files.old) (F.seen files.new) request.entry.path.now request.entry.args.now told (O.seen out.old) (O.seen out.new)) silenced.new (E.seen err.old) (E.seen err.new) }
-    ensures keeps { KeepsPasses request.entry.action passes.old passes.new }
+    ensures keeps { KeepsPasses (λ p. meaning p) request.entry.action passes.old passes.new }
 {
     let source = read_file(alloc, request.path, files)?;
     let tree = read_tree(alloc, request.path.as_bytes(), source.as_slice())?;
@@ -73,7 +73,7 @@ fn do_command<O: Sink, E: Sink>(
     requires few { length (names_of request.list.now) ≤ 64 }
     requires sound { silenced.old ≡ false }
     ensures does { Telling (λ told. Untold request.entry.action told × DoesTree request.entry.action (status_of result) (pass_list (λ p. meaning p) (λ p. counts p) passes.old passes.new (names_of request.entry.list.now)) tree.now request.entry.args.now told (O.seen out.old) (O.seen out.new)) silenced.new (E.seen err.old) (E.seen err.new) }
-    ensures keeps { KeepsPasses request.entry.action passes.old passes.new }
+    ensures keeps { KeepsPasses (λ p. meaning p) request.entry.action passes.old passes.new }
 {
     match request.action {
         Action::Run {

@@ -16,8 +16,8 @@ use bril_tree::text::Text;
 use pass_law::Pass;
 use std::alloc::Global;
 
-/// Does what the words ask for by `bril_top`, with the shipped passes, and answers its exit status. Where there are no words it answers the status that says
-/// why; then no file is read, nothing is written, and the passes stay as they are.
+/// Does what the words ask for by `bril_top`, with the shipped passes, and answers its exit status. Where there are no words it
+/// answers the status that says why; then no file is read, nothing is written, and the passes stay as they are.
 pub fn end<F: Files, O: Sink, E: Sink>(
     alloc: Global,
     words: Result<Seq<Text>, Status>,

@@ -31,6 +31,7 @@ pub fn transformed(
     requires { length names.now ≤ 64 }
     ensures ok { IfOk result (λ made. IsMade (pass_list (λ p. meaning p) (λ p. counts p) passes.old passes.new names.now) checked.prog made.prog) }
     ensures err { IfErr result (λ status. RefusesList status (pass_list (λ p. meaning p) (λ p. counts p) passes.old passes.new names.now) checked.prog) }
+    ensures same { AllSame (λ p. meaning p) passes.old passes.new }
 {
     let profile = Profile::without_entries(alloc);
     match run_list(alloc, passes, names, checked, &profile) {

@@ -6,6 +6,7 @@ ghost use Rattle.bril_cli.specs.Answers.{Promises};
 ghost use Rattle.bril_cli.specs.Call.{call_of};
 ghost use Rattle.bril_cli.specs.Shipped.{MakesAsShipped};
 ghost use Rattle.bril_cli.specs.Stats.{SaysUnless};
+ghost use Rattle.pass_law.specs.Chains.{AllSame};
 
 use crate::driver::drive;
 use bril_outside::files::Files;
@@ -89,6 +90,7 @@ pub fn bril_top<F: Files, O: Sink, E: Sink>(
     requires shipped { All (λ p. MakesAsShipped (meaning p)) passes.old }
     ensures holds { (F.seen files.new).holds ≡ (F.seen files.old).holds }
     ensures faults { (F.seen files.old).faults ≤ (F.seen files.new).faults }
+    ensures same { AllSame (λ p. meaning p) passes.old passes.new }
     ensures promises { Promises result (call_of words.now (F.seen files.old) (F.seen files.new) (O.seen out.old) (O.seen out.new) (E.seen err.old) (E.seen err.new) (λ p. meaning p) (λ p. counts p) passes.old passes.new) }
 {
     let request = match read_words(words) {

@@ -4,6 +4,7 @@ ghost use Rattle.std.specs.Prelude.{◌≡◌, ◌%◌, ◌<◌, ◌≤◌, leng
 ghost use Rattle.bril_cli.specs.PassList.{pass_list};
 ghost use Rattle.bril_cli.specs.commands.Emit.{hex_digit, word_line, listing, PutsListing, EmitsProgram};
 ghost use Rattle.bril_report.specs.StageFaults.{status_of};
+ghost use Rattle.pass_law.specs.Chains.{AllSame};
 
 use crate::image::image_of;
 use crate::list::transformed;
@@ -30,7 +31,8 @@ pub fn put_image<O: Sink>(
     out: &mut O,
 ) -> Result<(), Status>
     requires { length names.now ≤ 64 }
-    ensures { EmitsProgram (status_of result) (pass_list (λ p. meaning p) (λ p. counts p) passes.old passes.new names.now) checked.prog limits (O.seen out.old) (O.seen out.new) }
+    ensures does { EmitsProgram (status_of result) (pass_list (λ p. meaning p) (λ p. counts p) passes.old passes.new names.now) checked.prog limits (O.seen out.old) (O.seen out.new) }
+    ensures same { AllSame (λ p. meaning p) passes.old passes.new }
 {
     let made = transformed(alloc, passes, names, checked)?;
     let image = image_of(alloc, &made, limits)?;

@@ -5,6 +5,7 @@ ghost use Rattle.bril_cli.specs.PassList.{pass_list};
 ghost use Rattle.bril_cli.specs.Stats.{Telling};
 ghost use Rattle.bril_cli.specs.commands.Passes.{IsTextOf, PutsProgram, TransformsProgram};
 ghost use Rattle.bril_report.specs.StageFaults.{status_of};
+ghost use Rattle.pass_law.specs.Chains.{AllSame};
 ghost use Rattle.std.specs.Prelude.{IfOk};
 
 use crate::list::{tell_tallies, transformed};
@@ -36,7 +37,8 @@ pub fn put_transformed<O: Sink, E: Sink>(
 ) -> Result<(), Status>
     requires few { length names.now ≤ 64 }
     requires sound { silenced.old ≡ false }
-    ensures { Telling (λ told. TransformsProgram (status_of result) (pass_list (λ p. meaning p) (λ p. counts p) passes.old passes.new names.now) checked.prog told (O.seen out.old) (O.seen out.new)) silenced.new (E.seen err.old) (E.seen err.new) }
+    ensures does { Telling (λ told. TransformsProgram (status_of result) (pass_list (λ p. meaning p) (λ p. counts p) passes.old passes.new names.now) checked.prog told (O.seen out.old) (O.seen out.new)) silenced.new (E.seen err.old) (E.seen err.new) }
+    ensures same { AllSame (λ p. meaning p) passes.old passes.new }
 {
     let made = transformed(alloc, passes, names, checked)?;
     let text = text_of(alloc, made.prog())?;

@@ -5,6 +5,7 @@ ghost use Rattle.bril_cli.specs.PassList.{pass_list};
 ghost use Rattle.bril_cli.specs.Stats.{Telling};
 ghost use Rattle.bril_cli.specs.commands.Run.{RunsImage, RunsValues, RunsProgram};
 ghost use Rattle.bril_report.specs.StageFaults.{status_of};
+ghost use Rattle.pass_law.specs.Chains.{AllSame};
 ghost use Rattle.bril_tree.specs.Run.{FitMain};
 ghost use Rattle.rv64_implements.specs.Implements.{Implements};
 
@@ -55,7 +56,8 @@ pub fn run<O: Sink, E: Sink>(
 ) -> Result<(), Status>
     requires few { length names.now ≤ 64 }
     requires sound { silenced.old ≡ false }
-    ensures { Telling (λ told. RunsProgram (status_of result) (pass_list (λ p. meaning p) (λ p. counts p) passes.old passes.new names.now) checked.prog words.now settings.limits settings.steps settings.stats told (O.seen out.old) (O.seen out.new)) silenced.new (E.seen err.old) (E.seen err.new) }
+    ensures does { Telling (λ told. RunsProgram (status_of result) (pass_list (λ p. meaning p) (λ p. counts p) passes.old passes.new names.now) checked.prog words.now settings.limits settings.steps settings.stats told (O.seen out.old) (O.seen out.new)) silenced.new (E.seen err.old) (E.seen err.new) }
+    ensures same { AllSame (λ p. meaning p) passes.old passes.new }
 {
     let values = values_of(alloc, checked.prog(), words)?;
     let made = transformed(alloc, passes, names, checked)?;

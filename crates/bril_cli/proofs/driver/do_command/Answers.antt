@@ -1,6 +1,7 @@
 -- The tree's accepted program was dealt with, or it has none.
 use Rattle.std.proofs.Common.{[], inl, inr, refl}
 use Rattle.std.proofs.lemmas.Result.{err_from_is_err_and}
+use Rattle.bril_cli.proofs.Keeping.{kept}
 use Rattle.bril_cli.proofs.Telling.{untold}
 use Rattle.bril_cli.proofs.driver.do_command.Goals as goal
 
@@ -31,7 +32,7 @@ returns-in_err-program-in-Check-clause-does g c =
 
 pub returns-in_ok-program-in-Run-clause-does : goal.returns-in_ok-program-in-Run-clause-does
 returns-in_ok-program-in-Run-clause-does g c =
-    let ran = c.run.ensures in
+    let ran = c.run.ensures.does in
     rw (c.in-Run.is, ← c.in_ok-program-in-Run.ensures.names)
     (ran.0, (tt, inr (c.in_ok-program-in-Run.program.prog, c.in_ok-program-in-Run.ensures.program, (_, refl, refl, ran.1))), ran.2)
 
@@ -42,11 +43,11 @@ returns-in_ok-program-in-Interpret-clause-does g c =
 pub returns-in_ok-program-in-Emit-clause-does : goal.returns-in_ok-program-in-Emit-clause-does
 returns-in_ok-program-in-Emit-clause-does g c =
     rw (c.in-Emit.is, ← c.in_ok-program-in-Emit.ensures.names)
-    ([], (refl, inr (c.in_ok-program-in-Emit.program.prog, c.in_ok-program-in-Emit.ensures.program, (_, refl, refl, c.put_image.ensures))), untold c.args.silenced.now _ c.requires.sound)
+    ([], (refl, inr (c.in_ok-program-in-Emit.program.prog, c.in_ok-program-in-Emit.ensures.program, (_, refl, refl, c.put_image.ensures.does))), untold c.args.silenced.now _ c.requires.sound)
 
 pub returns-in_ok-program-in-Passes-clause-does : goal.returns-in_ok-program-in-Passes-clause-does
 returns-in_ok-program-in-Passes-clause-does g c =
-    let put = c.put_transformed.ensures in
+    let put = c.put_transformed.ensures.does in
     rw (c.in-Passes.is, ← c.in_ok-program-in-Passes.ensures.names)
     (put.0, (tt, inr (c.in_ok-program-in-Passes.program.prog, c.in_ok-program-in-Passes.ensures.program, put.1)), put.2)
 
@@ -59,3 +60,12 @@ returns-in-WriteText-clause-does g c = rw c.in-WriteText.is ([], (refl, c.put_te
 
 pub returns-in-WriteJson-clause-does : goal.returns-in-WriteJson-clause-does
 returns-in-WriteJson-clause-does g c = rw c.in-WriteJson.is ([], (refl, c.put_json.ensures), untold c.args.silenced.now _ c.requires.sound)
+
+pub returns-in_err-program-in-Run-clause-keeps : goal.returns-in_err-program-in-Run-clause-keeps
+returns-in_err-program-in-Run-clause-keeps g c = kept (λ p. (goal.Pass-dyn g (p.vtable, p.value)).meaning p.value) c.args.request.action c.args.passes.now
+
+pub returns-in_err-program-in-Emit-clause-keeps : goal.returns-in_err-program-in-Emit-clause-keeps
+returns-in_err-program-in-Emit-clause-keeps g c = kept (λ p. (goal.Pass-dyn g (p.vtable, p.value)).meaning p.value) c.args.request.action c.args.passes.now
+
+pub returns-in_err-program-in-Passes-clause-keeps : goal.returns-in_err-program-in-Passes-clause-keeps
+returns-in_err-program-in-Passes-clause-keeps g c = kept (λ p. (goal.Pass-dyn g (p.vtable, p.value)).meaning p.value) c.args.request.action c.args.passes.now

@@ -33,7 +33,7 @@ returns-clause-does g c =
     )
 
 pub returns-in_err-source-clause-keeps : goal.returns-in_err-source-clause-keeps
-returns-in_err-source-clause-keeps g c = kept c.args.request.action c.args.passes.now
+returns-in_err-source-clause-keeps g c = kept (λ p. (goal.Pass-dyn g (p.vtable, p.value)).meaning p.value) c.args.request.action c.args.passes.now
 
 pub returns-in_err-tree-clause-keeps : goal.returns-in_err-tree-clause-keeps
-returns-in_err-tree-clause-keeps g c = kept c.args.request.action c.args.passes.now
+returns-in_err-tree-clause-keeps g c = kept (λ p. (goal.Pass-dyn g (p.vtable, p.value)).meaning p.value) c.args.request.action c.args.passes.now

@@ -3,4 +3,4 @@ use Rattle.bril_cli.proofs.Shipped.{AreShipped-make}
 use Rattle.bril_cli.proofs.end.end.Goals as goal
 
 pub bril_top-requires : goal.bril_top-requires
-bril_top-requires g c = AreShipped-make (λ p. (goal.Pass-dyn g (p.vtable, p.value)).meaning p.value) c.args.passes.now c.requires
+bril_top-requires g c = record { shipped = AreShipped-make (λ p. (goal.Pass-dyn g (p.vtable, p.value)).meaning p.value) c.args.passes.now c.requires.shipped }

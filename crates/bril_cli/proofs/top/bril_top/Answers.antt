@@ -8,6 +8,8 @@ use Rattle.bril_cli.specs.CommandLine.{list_asked}
 use Rattle.bril_cli.specs.Driver.{DoesFile}
 use Rattle.bril_cli.specs.PassList.{pass_list}
 use Rattle.bril_cli.specs.Stats.{SaysUnless}
+use Rattle.pass_law.proofs.Same.{AllSame-refl}
+use Rattle.bril_cli.proofs.Keeping.{KeepsPasses-same}
 use Rattle.bril_cli.proofs.Promises.{Promises-driven}
 use Rattle.bril_cli.proofs.Statuses.{Ends}
 use Rattle.bril_cli.proofs.Telling.{says_told}
@@ -35,3 +37,9 @@ returns-clause-promises g c =
       keeps = c.drive.ensures.keeps;
     } in
     rw (c.status_number-2.ensures, c.from-status.ensures) (Promises-driven call request.action request.path.now request.args.now how ends)
+
+pub returns-in-Err-clause-same : goal.returns-in-Err-clause-same
+returns-in-Err-clause-same g c = AllSame-refl (λ p. (goal.Pass-dyn g (p.vtable, p.value)).meaning p.value) c.args.passes.now
+
+pub returns-clause-same : goal.returns-clause-same
+returns-clause-same g c = KeepsPasses-same (λ p. (goal.Pass-dyn g (p.vtable, p.value)).meaning p.value) c.in-Ok.request.action c.args.passes.now c.drive.new.passes c.drive.ensures.keeps

@@ -2,15 +2,15 @@
 use Rattle.std.proofs.Common.{refl, inr}
 use Rattle.bril_cli.proofs.commands.passes.put_transformed.Goals as goal
 
-pub returns-in-Ok : goal.returns-in-Ok
-returns-in-Ok g c =
+pub returns-in-Ok-clause-does : goal.returns-in-Ok-clause-does
+returns-in-Ok-clause-does g c =
     let told = rw c.as_slice-2.ensures at c.tell_tallies.ensures in
     let text = rw c.prog.ensures.value at c.in_ok-text.ensures in
     let took = rw c.as_slice.ensures at c.in-Ok.ensures.ok in
     (_, inr (c.in_ok-made.made.prog, c.in_ok-made.ensures.ok, (refl, (c.in_ok-text.text, text, took))), told)
 
-pub returns : goal.returns
-returns g c =
+pub returns-clause-does : goal.returns-clause-does
+returns-clause-does g c =
     let told = rw c.as_slice-2.ensures at c.tell_tallies.ensures in
     let text = rw c.prog.ensures.value at c.in_ok-text.ensures in
     let took = rw c.as_slice.ensures at c.in-Err.ensures.err.0 in

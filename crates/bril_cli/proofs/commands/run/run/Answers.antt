@@ -3,15 +3,16 @@ use Rattle.std.proofs.Common.{[], refl, inl, inr}
 use Rattle.std.proofs.lemmas.Result.{err_from_is_err_and}
 use Rattle.bril_cli.proofs.Sources.{fits_made}
 use Rattle.bril_cli.proofs.Telling.{untold}
+use Rattle.pass_law.proofs.Same.{AllSame-refl}
 use Rattle.bril_cli.proofs.commands.run.run.Goals as goal
 
-pub returns-in_err-values : goal.returns-in_err-values
-returns-in_err-values g c =
+pub returns-in_err-values-clause-does : goal.returns-in_err-values-clause-does
+returns-in_err-values-clause-does g c =
     let e = err_from_is_err_and c.from_residual.result c.from_residual.ensures.1 in
     rw (e.1, e.2) ([], inl (rw c.prog.ensures.value at c.in_err-values.ensures.err, refl, refl), untold c.args.silenced.now _ c.requires.sound)
 
-pub returns-in_err-made : goal.returns-in_err-made
-returns-in_err-made g c =
+pub returns-in_err-made-clause-does : goal.returns-in_err-made-clause-does
+returns-in_err-made-clause-does g c =
     let e = err_from_is_err_and c.from_residual-in_err-made.result c.from_residual-in_err-made.ensures.1 in
     let are = rw c.prog.ensures.value at c.in_ok-values.ensures.ok in
     rw (e.1, e.2) ([], inr (c.in_ok-values.values, are, inl (c.in_err-made.ensures.err, (refl, refl))), untold c.args.silenced.now _ c.requires.sound)
@@ -22,8 +23,11 @@ run_with-requires-clause-fits g c =
     let fits = rw c.prog.ensures.value at c.in_ok-values.ensures.fits in
     rw c.as_slice.ensures (fits_made _ c.args.checked.prog c.in_ok-made.made.prog c.in_ok-made.ensures.ok accepted c.in_ok-values.values fits)
 
-pub returns : goal.returns
-returns g c =
+pub returns-clause-does : goal.returns-clause-does
+returns-clause-does g c =
     let are = rw c.prog.ensures.value at c.in_ok-values.ensures.ok in
     let ran = rw c.as_slice.ensures at c.run_with.ensures in
     (ran.0, inr (c.in_ok-values.values, are, inr (c.in_ok-made.made.prog, c.in_ok-made.ensures.ok, ran.1)), ran.2)
+
+pub returns-in_err-values-clause-same : goal.returns-in_err-values-clause-same
+returns-in_err-values-clause-same g c = AllSame-refl (λ p. (goal.Pass-dyn g (p.vtable, p.value)).meaning p.value) c.args.passes.now
