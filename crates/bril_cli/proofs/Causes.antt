@@ -1,18 +1,16 @@
 -- When each status comes.
-use Rattle.std.proofs.Common.{◌≡◌, ℕ, ◌+◌, ◌*◌, ◌<◌, Bool, false, append-nil, ◌++◌, ◌≤◌, ◌⊎◌, true, List, [], length, Option, Some, None, Result, Ok, Err, refl, sym, ap, ◌∙◌, subst, arith, inl, inr, ⊎_elim, true≢false}
+use Rattle.std.proofs.Common.{◌≡◌, ℕ, ◌<◌, ◌≤◌, ◌⊎◌, List, [], length, Option, Some, None, Result, Ok, Err, refl, sym, ap, ◌∙◌, subst, arith, inl, inr, ⊎_elim}
 use Rattle.std.specs.Prelude.{◌≢◌}
 use Rattle.bril_arguments.specs.Faults.{IsFaultOf}
 use Rattle.bril_arguments.specs.Spelled.{AreSpelled}
 use Rattle.bril_arguments.specs.declared.fault.ArgFault.{ArgFault}
 use Rattle.bril_arguments.specs.declared.fault.ArgFault.TheVariants as argument
 use Rattle.bril_tree.specs.Accepted.{IsAccepted}
-use Rattle.bril_tree.specs.Cost.{IsCost}
 use Rattle.bril_tree.specs.declared.limits.End.{End}
-use Rattle.bril_tree.specs.declared.limits.End.TheVariants.{Ended, Faulted}
 use Rattle.bril_tree.specs.declared.limits.Limits.{Limits}
 use Rattle.bril_tree.specs.declared.program.Prog.{Prog}
 use Rattle.bril_tree.specs.declared.value.Value.{Value}
-use Rattle.bril_tree.specs.Run.{FitMain, main_types, state_after}
+use Rattle.bril_tree.specs.Run.{main_types, state_after}
 use Rattle.bril_checker.specs.Faults as checker
 use Rattle.bril_checker.specs.declared.fault.CheckFault.{CheckFault}
 use Rattle.bril_tree.specs.declared.tree.Tree.{Tree}
@@ -29,32 +27,22 @@ use Rattle.bril_text.specs.Canonical.{canonical_text}
 use Rattle.bril_words.specs.Request.{Asked}
 use Rattle.bril_words.specs.declared.misuse.Misuse.{Misuse}
 use Rattle.bril_words.specs.declared.request.Action.{Action}
-use Rattle.bril_words.specs.declared.request.Action.TheVariants.{Run, Interpret, Emit, Check, WriteText, WriteJson}
+use Rattle.bril_words.specs.declared.request.Action.TheVariants.{Run, Interpret, Emit, Passes, Check, WriteText, WriteJson}
 use Rattle.bril_cli.specs.declared.source.Format.{Format}
 use Rattle.bril_cli.specs.Arguments.{argument_line, HasOnlyArgFault, AreOnlyValues, RefusesArgs}
 use Rattle.bril_cli.specs.Call.{Call, ReadsWell, AsksNone, UnlessMemory, TellsRun}
-use Rattle.bril_cli.specs.Images.{RefusesImage}
 use Rattle.bril_cli.specs.Driver.{Untold, DoesProgram, AsksProgram, DoesTree}
 use Rattle.bril_cli.specs.Source.{most_bytes, HoldsFile, ReadsAs, HasFault, HasNameFault, HasOnlyCheckFault, HasImports, IsOnlyTree, IsOnlyFault, IsSource, IsLongFile}
 use Rattle.bril_cli.specs.Stages.{RefusesFile, RefusesTree, RefusesProgram, IsOnlyNameFault, IsOnlyProgram, IsAcceptedProgram, IsFaultless, PutsText}
-use Rattle.bril_cli.specs.Stats.{stats_told, SaysTold}
 use Rattle.bril_cli.specs.commands.Check.{accepted_line}
-use Rattle.bril_cli.specs.commands.Emit.{ListsImage, EmitsProgram, PutsListing, CanEmit}
 use Rattle.bril_cli.specs.commands.Interp.{StepsTo}
 use Rattle.bril_cli.specs.commands.Json.{json_line}
-use Rattle.bril_cli.specs.commands.Run.{RanWhole, RunsImage, RunsValues, CanRun}
+use Rattle.bril_cli.specs.PassList.{PassList}
 use Rattle.bril_report.specs.StageFaults.{argument_status}
 use Rattle.bril_cli.specs.CommandLine.{AsksFor, format_of, NeedsProgram, GivesArguments}
-use Rattle.rv64_implements.specs.WordBounds.{IsWithin}
-use Rattle.rv64_implements.proofs.Sizes.{within_not_beyond}
-use Rattle.bril_arguments.proofs.Spelled.{AreSpelled-fit}
-use Rattle.bril_cli.proofs.Runs.{same_end, same_output}
 use Rattle.bril_cli.proofs.Interpreting.{Limits-same}
 use Rattle.bril_cli.proofs.Statuses.{Ends, Numbered-source, has_in}
 use Rattle.bril_cli.proofs.Telling.{says_nothing}
-use Rattle.rv64_implements.specs.Implements.{image_after}
-use Rattle.rv64_words.specs.State.{State}
-use Rattle.rv64_words.specs.declared.image.GuardAt.{GuardAt}
 
 -- ---- what the words ask for is one
 
@@ -64,8 +52,8 @@ asked_in other (Ok request) = request
 asked_in other (Err misuse) = other
 
 -- a request with these parts
-abbrev pub request_of : Action → List ℕ → List (List ℕ) → Asked
-request_of action path args = record { action = action; path = path; args = args }
+abbrev pub request_of : Action → List ℕ → List ℕ → List (List ℕ) → Asked
+request_of action path list args = record { action = action; path = path; list = list; args = args }
 
 pub Ok_not_Err : {request : Asked} {misuse : Misuse} → Ok request ≡ Err misuse → ⊥
 Ok_not_Err e = cc
@@ -73,15 +61,15 @@ Ok_not_Err e = cc
 module _ (c : Call) (a b : Action) (p q : List ℕ) (xs ys : List (List ℕ)) (e : AsksFor c.words a p xs) (f : AsksFor c.words b q ys) where
   asked_path : q ≡ p
   unfolding asked_in
-  asked_path = ap (λ r. (asked_in (request_of a p xs) r).path) (sym f ∙ e)
+  asked_path = ap (λ r. (asked_in (request_of a p e.0 xs) r).path) (sym f.1 ∙ e.1)
 
   asked_args : ys ≡ xs
   unfolding asked_in
-  asked_args = ap (λ r. (asked_in (request_of a p xs) r).args) (sym f ∙ e)
+  asked_args = ap (λ r. (asked_in (request_of a p e.0 xs) r).args) (sym f.1 ∙ e.1)
 
-  asked_action : b ≡ a
+  pub asked_action : b ≡ a
   unfolding asked_in
-  asked_action = ap (λ r. (asked_in (request_of a p xs) r).action) (sym f ∙ e)
+  asked_action = ap (λ r. (asked_in (request_of a p e.0 xs) r).action) (sym f.1 ∙ e.1)
 
 -- ---- where the files tell the bytes, what they may hold is these
 
@@ -124,15 +112,15 @@ no_program (status.Unaccepted p fault) tree refuses = inr (inr (inr (p, fault, r
 no_program status.OutOfMemory tree refuses = inl refl
 no_program _ tree refuses = absurd refuses
 
-exhausted : (how : Status) (A : Type 0) → how ≡ status.OutOfMemory → UnlessMemory (status_number how) A
+pub exhausted : (how : Status) (A : Type 0) → how ≡ status.OutOfMemory → UnlessMemory (status_number how) A
 exhausted how A e = inl (ap status_number e)
 
 -- From what was read well: memory ran out, or the file is too long, or its bytes have a fault, or its tree was dealt with.
 module _ (c : Call) (action : Action) (path : List ℕ) (args : List (List ℕ)) (how : Status) (ends : Ends c action path args how) (asks : Action) (bytes : List ℕ) (reads : ReadsWell c asks bytes) where
-  same_path : reads.path ≡ path
+  pub same_path : reads.path ≡ path
   same_path = asked_path c action asks path reads.path args reads.args ends.asked reads.asked
 
-  same_args : reads.args ≡ args
+  pub same_args : reads.args ≡ args
   same_args = asked_args c action asks path reads.path args reads.args ends.asked reads.asked
 
   same_action : asks ≡ action
@@ -146,27 +134,28 @@ module _ (c : Call) (action : Action) (path : List ℕ) (args : List (List ℕ))
 
   by_cases : (A : Type 0) → (how ≡ status.OutOfMemory → A) → (how ≡ status.FileTooBig → most_bytes < length bytes → A)
       → ((fault : SourceFault) → how ≡ status.Misread fault → ends.told ≡ [] → IsOnlyFault (format_of path) bytes fault → length bytes ≤ most_bytes → A)
-      → ((tree : Tree) → IsOnlyTree (format_of path) bytes tree → Untold asks ends.told → DoesTree asks how tree args ends.told c.out_before c.out_after → length bytes ≤ most_bytes → A) → A
+      → ((tree : Tree) → IsOnlyTree (format_of path) bytes tree → Untold asks ends.told → DoesTree asks how c.passes tree args ends.told c.out_before c.out_after → length bytes ≤ most_bytes → A) → A
   by_cases A memory long misread dealt =
       ⊎_elim (λ fails. ⊎_elim memory (⊎_elim (λ may. absurd (⊎_elim reads.sound (told_not_lacking c.files_before.holds path bytes told) may.1)) (λ l. long l.0 (subst (λ b. most_bytes < length b) (these l.1.bytes l.1.held) l.1.long))) (read_fails how _ _ path fails.refuses))
       (⊎_elim (λ finds. ⊎_elim memory (λ m. misread m.0 m.1 finds.untold (subst (λ b. IsOnlyFault (format_of path) b m.0) (these finds.bytes finds.file.held) m.2) (subst (λ b. length b ≤ most_bytes) (these finds.bytes finds.file.held) finds.file.short)) (no_tree how (format_of path) finds.bytes finds.refuses))
       (λ deals. dealt deals.tree (subst (λ b. IsOnlyTree (format_of path) b deals.tree) (these deals.bytes deals.file.held) deals.only)
       (subst (λ a. Untold a ends.told) (sym same_action) deals.untold)
-      (subst (λ a. DoesTree a how deals.tree args ends.told c.out_before c.out_after) (sym same_action) deals.does)
+      (subst (λ a. DoesTree a how c.passes deals.tree args ends.told c.out_before c.out_after) (sym same_action) deals.does)
       (subst (λ b. length b ≤ most_bytes) (these deals.bytes deals.file.held) deals.file.short)))
       ends.does
 
   -- the line of a status is put, for the path that the words ask for, where nothing is told before it
-  said : (end : Status) → how ≡ end → ends.told ≡ [] → SaysStatus end path c.err_before c.err_after
+  pub said : (end : Status) → how ≡ end → ends.told ≡ [] → SaysStatus end path c.err_before c.err_after
   said end e none = subst (λ (h : Status). SaysStatus h path c.err_before c.err_after) e (ends.says.plain none)
 
 -- an action that needs a program asks for it
-asks_program : (action : Action) (how : Status) (tree : Tree) (args : List (List ℕ)) (told : List ℕ) (s t : SinkSeen) → NeedsProgram action → DoesTree action how tree args told s t → AsksProgram action how tree args told s t
-asks_program (Run frames cells steps stats) how tree args told s t needs does = does
-asks_program (Interpret frames cells steps) how tree args told s t needs does = does
-asks_program (Emit frames) how tree args told s t needs does = does
-asks_program Check how tree args told s t needs does = does
-asks_program _ how tree args told s t needs does = absurd needs
+asks_program : (action : Action) (how : Status) (l : PassList) (tree : Tree) (args : List (List ℕ)) (told : List ℕ) (s t : SinkSeen) → NeedsProgram action → DoesTree action how l tree args told s t → AsksProgram action how l tree args told s t
+asks_program (Run frames cells steps stats) how l tree args told s t needs does = does
+asks_program (Interpret frames cells steps) how l tree args told s t needs does = does
+asks_program (Emit frames) how l tree args told s t needs does = does
+asks_program Passes how l tree args told s t needs does = does
+asks_program Check how l tree args told s t needs does = does
+asks_program _ how l tree args told s t needs does = absurd needs
 
 -- an action that gives a program arguments asks for it
 needs_program : (action : Action) → GivesArguments action → NeedsProgram action
@@ -175,76 +164,25 @@ needs_program (Interpret frames cells steps) gives = tt
 needs_program _ gives = absurd gives
 
 -- From asking for a program: memory ran out, or the tree has imports, or a fault of a name, or a program with a fault of the checker, or its accepted program was dealt with.
-module _ (action : Action) (how : Status) (tree : Tree) (args : List (List ℕ)) (told : List ℕ) (s t : SinkSeen) (asks : AsksProgram action how tree args told s t) where
+module _ (action : Action) (how : Status) (l : PassList) (tree : Tree) (args : List (List ℕ)) (told : List ℕ) (s t : SinkSeen) (asks : AsksProgram action how l tree args told s t) where
   by_names : (A : Type 0) → (how ≡ status.OutOfMemory → A) → (told ≡ [] → tree.imports ≢ [] → how ≡ status.Unsupported → A)
       → (told ≡ [] → tree.imports ≡ [] → (fault : NameFault) → how ≡ status.Misnamed fault → IsOnlyNameFault tree fault → A)
       → (told ≡ [] → (p : Prog) (fault : CheckFault) → how ≡ status.Unaccepted p fault → IsOnlyProgram tree p → HasOnlyCheckFault p fault → A)
-      → ((p : Prog) → IsAcceptedProgram tree p → DoesProgram action how p args told s t → A) → A
+      → ((p : Prog) → IsAcceptedProgram tree p → DoesProgram action how l p args told s t → A) → A
   by_names A memory imports misnamed unaccepted goes =
       ⊎_elim (λ refused. ⊎_elim memory (⊎_elim (λ form. imports refused.1 form.0 form.1) (⊎_elim (λ m. misnamed refused.1 m.1 m.0 m.2 m.3) (λ u. unaccepted refused.1 u.0 u.1 u.2 u.3 u.4))) (no_program how tree refused.0))
       (λ program. goes program.0 program.1 program.2)
       asks
 
--- a program within the bounds is refused for want of memory alone
-refused_within : (how : Status) (p : Prog) (limits : Limits) → RefusesImage how p limits → IsWithin p limits → how ≡ status.OutOfMemory
-refused_within (status.CodeTooBig words) p limits refuses within = let w = within.code in let long = refuses.0 in absurd (omega arith)
-refused_within (status.StackTooBig words) p limits refuses within = absurd (within_not_beyond p limits refuses.1.0 within refuses.1.1 refuses.1.2)
-refused_within status.OutOfMemory p limits refuses within = refl
-refused_within _ p limits refuses within = absurd refuses
-
--- a program that gets no image is too large, or memory ran out
-refused_large : (how : Status) (p : Prog) (limits : Limits) → RefusesImage how p limits → UnlessMemory (status_number how) (status_number how ≡ 68)
-refused_large (status.CodeTooBig words) p limits refuses = inr refl
-refused_large (status.StackTooBig words) p limits refuses = inr refl
-refused_large status.OutOfMemory p limits refuses = inl refl
-refused_large _ p limits refuses = absurd refuses
-
--- a run of an image is said by how the machine ended
-tells_image : (c : Call) (path told : List ℕ) (p : Prog) (limits : Limits) (values : List Value) (words : ℕ) (stats : Bool) → ¬ Rose c.out_before.faults c.out_after.faults → (how : Status) → SaysTold told how path c.err_before c.err_after → RunsImage how p limits values words stats told c.out_before c.out_after
-    → UnlessMemory (status_number how) ((ended : Option End) × (more : List ℕ) × TellsRun ended words more (status_number how) c × RanWhole p limits values words stats ended more c.out_before c.out_after)
-tells_image c path told p limits values words stats sound status.Done says ran =
-    inr (Some Ended, told, (refl, subst (λ bytes. Says c.err_before bytes c.err_after) (append-nil told) says.all, says.plain), ran)
-tells_image c path told p limits values words stats sound (status.Faulted fault) says ran = inr (Some (Faulted fault), told, (refl, says.all), ran)
-tells_image c path told p limits values words stats sound (status.Spent made) says ran =
-    let here : Says c.err_before (told ++ spent_line words) c.err_after = subst (λ n. Says c.err_before (told ++ spent_line n) c.err_after) ran.0 says.all in
-    inr (None, told, (refl, here), ran.1)
-tells_image c path told p limits values words stats sound status.OutOfMemory says ran = inl refl
-tells_image c path told p limits values words stats sound status.CannotWrite says ran = absurd (sound ran.1.rose)
-tells_image c path told p limits values words stats sound _ says ran = absurd ran
-
--- nothing is told where that isn't asked for
-asked_for : (stats : Bool) (p : Prog) (guards : List GuardAt) (t : State) → stats ≡ false → stats_told stats p guards t ≡ []
-asked_for true p guards t e = absurd (true≢false e)
-asked_for false p guards t e = refl
-
--- and by the program's end, where the words are enough for it
-tells_end : (c : Call) (p : Prog) (limits : Limits) (values : List Value) (words number : ℕ) (stats : Bool) → FitMain p values → (n cost : ℕ) (end : End) → IsCost p cost → cost * (n + 1) ≤ words → (state_after p limits values n).ended ≡ Some end
-    → ((ended : Option End) × (told : List ℕ) × TellsRun ended words told number c × RanWhole p limits values words stats ended told c.out_before c.out_after)
-    → (told : List ℕ) × TellsRun (Some end) words told number c × TookAll c.out_before (state_after p limits values n).printed c.out_after × (stats ≡ false → told ≡ [])
-tells_end c p limits values words number stats fits n cost end is_cost enough ends (ended, told, tells, ran) =
-    let image = ran.shows.machine.image in (
-      told,
-      subst (λ (e : Option End). TellsRun e words told number c) (same_end p limits values words ended ran.output ran.shows.machine fits n cost end is_cost enough ends) tells,
-      subst (λ bytes. TookAll c.out_before bytes c.out_after) (same_output p limits values words ended ran.output ran.shows.machine fits n cost end is_cost enough ends) ran.took,
-      λ unasked. ran.tells.lines ∙ asked_for stats p image.guards (image_after image limits values words) unasked,
-    )
-
--- an image is listed
-lists_image : (how : Status) (p : Prog) (limits : Limits) (output : List ℕ) (s t : SinkSeen) → ListsImage p limits output → PutsListing how output s t → ¬ Rose s.faults t.faults
-    → UnlessMemory (status_number how) ((status_number how ≡ 0) × ((text : List ℕ) × ListsImage p limits text × TookAll s text t))
-lists_image status.Done p limits output s t lists puts sound = inr (refl, (output, lists, puts))
-lists_image status.CannotWrite p limits output s t lists puts sound = absurd (sound puts.1)
-lists_image _ p limits output s t lists puts sound = absurd puts
-
 -- the arguments are refused, or spell values
-given : (asks : Action) (how : Status) (p : Prog) (args : List (List ℕ)) (told : List ℕ) (s t : SinkSeen) → GivesArguments asks → Untold asks told → DoesProgram asks how p args told s t
+given : (asks : Action) (how : Status) (l : PassList) (p : Prog) (args : List (List ℕ)) (told : List ℕ) (s t : SinkSeen) → GivesArguments asks → Untold asks told → DoesProgram asks how l p args told s t
     → (RefusesArgs how p args × (told ≡ [])) ⊎ ((values : List Value) × AreOnlyValues p args values)
-given (Run frames cells steps stats) how p args told s t gives untold does = ⊎_elim (λ refused. inl (refused.0, refused.1)) (λ goes. inr (goes.0, goes.1)) does.3
-given (Interpret frames cells steps) how p args told s t gives untold does = ⊎_elim (λ refused. inl (refused.0, untold)) (λ goes. inr (goes.0, goes.1)) does.3
-given _ how p args told s t gives untold does = absurd gives
+given (Run frames cells steps stats) how l p args told s t gives untold does = ⊎_elim (λ refused. inl (refused.0, refused.1)) (λ goes. inr (goes.0, goes.1)) does.3
+given (Interpret frames cells steps) how l p args told s t gives untold does = ⊎_elim (λ refused. inl (refused.0, untold)) (λ goes. inr (goes.0, goes.1)) does.3
+given _ how l p args told s t gives untold does = absurd gives
 
 -- a fault of the arguments is the only cause of no values but want of memory
-args_fail : (how : Status) (p : Prog) (args : List (List ℕ)) → RefusesArgs how p args
+pub args_fail : (how : Status) (p : Prog) (args : List (List ℕ)) → RefusesArgs how p args
     → (how ≡ status.OutOfMemory) ⊎ ((fault : ArgFault) × (how ≡ argument_status fault) × HasOnlyArgFault (main_types p) args fault)
 args_fail (status.ArgumentCount given wanted) p args refuses = inr (argument.Count given wanted, refl, refuses)
 args_fail (status.BadArgument place) p args refuses = inr (argument.Spelling place, refl, refuses)
@@ -287,9 +225,9 @@ one_program tree p q numbered only = only.alone p numbered
 
 module _ (c : Call) (action : Action) (path : List ℕ) (args : List (List ℕ)) (how : Status) (ends : Ends c action path args how) where
   -- The bytes' program is that of their tree, and nothing else comes where there is one: memory ran out, or the program has a fault of the checker, or it is accepted and was dealt with.
-  with_program : (asks : Action) → NeedsProgram asks → (A : Type 0) (bytes : List ℕ) (p : Prog) (reads : ReadsWell c asks bytes) → length bytes ≤ most_bytes → IsSource (format_of reads.path) bytes p
+  pub with_program : (asks : Action) → NeedsProgram asks → (A : Type 0) (bytes : List ℕ) (p : Prog) (reads : ReadsWell c asks bytes) → length bytes ≤ most_bytes → IsSource (format_of reads.path) bytes p
       → (how ≡ status.OutOfMemory → A) → ((fault : CheckFault) → how ≡ status.Unaccepted p fault → ends.told ≡ [] → HasOnlyCheckFault p fault → A)
-      → (IsFaultless p → Untold asks ends.told → DoesProgram asks how p args ends.told c.out_before c.out_after → A) → A
+      → (IsFaultless p → Untold asks ends.told → DoesProgram asks how c.passes p args ends.told c.out_before c.out_after → A) → A
   with_program asks needs A bytes p reads short source memory unaccepted goes =
       let here : IsSource (format_of path) bytes p = subst (λ q. IsSource (format_of q) bytes p) (same_path c action path args how ends asks bytes reads) source in
       by_cases c action path args how ends asks bytes reads A memory
@@ -297,7 +235,7 @@ module _ (c : Call) (action : Action) (path : List ℕ) (args : List (List ℕ))
       (λ fault e none only few. absurd (only.unread here.tree here.reads))
       (λ tree only untold does few.
       let numbered : Numbered tree p = Numbered-source (format_of path) bytes tree only p here in
-      by_names asks how tree args ends.told c.out_before c.out_after (asks_program asks how tree args ends.told c.out_before c.out_after needs does) A memory
+      by_names asks how c.passes tree args ends.told c.out_before c.out_after (asks_program asks how c.passes tree args ends.told c.out_before c.out_after needs does) A memory
       (λ none imports e. absurd (imports numbered.alone))
       (λ none alone fault e has. absurd (has.unnumbered p numbered))
       (λ none q fault e program has.
@@ -305,70 +243,7 @@ module _ (c : Call) (action : Action) (path : List ℕ) (args : List (List ℕ))
       unaccepted fault (subst (λ r. how ≡ status.Unaccepted r fault) same e) none (subst (λ r. HasOnlyCheckFault r fault) same has))
       (λ q program done.
       let same : q ≡ p = one_program tree p q numbered program.only in
-      goes (subst IsFaultless same program.sound) untold (subst (λ r. DoesProgram asks how r args ends.told c.out_before c.out_after) same done)))
-
-  -- a program that can be run is refused for its size, or is within the bounds and run, or memory ran out
-  by_run : (A : Type 0) (frames cells words : ℕ) (stats : Bool) (bytes : List ℕ) (reads : ReadsWell c (Run frames cells words stats) bytes) (p : Prog) (values : List Value) (limits : Limits) → CanRun c frames cells words stats bytes reads p values limits
-      → (how ≡ status.OutOfMemory → A) → (RefusesImage how p limits → A) → (IsWithin p limits → RunsImage how p limits values words stats ends.told c.out_before c.out_after → A) → A
-  by_run A frames cells words stats bytes reads p values limits can memory large runs =
-      let here : AreSpelled (main_types p) args values = subst (λ a. AreSpelled (main_types p) a values) (same_args c action path args how ends (Run frames cells words stats) bytes reads) can.spelled in
-      with_program (Run frames cells words stats) tt A bytes p reads can.short can.source memory
-      (λ fault e none has. absurd (has.unaccepted can.accepted))
-      (λ faultless untold does.
-      let same : does.0 ≡ limits = Limits-same does.0 limits (does.1 ∙ sym can.frames_are) (does.2 ∙ sym can.cells_are) in
-      ⊎_elim (λ refused. ⊎_elim memory (λ has. absurd (has.2.unspelled values here)) (args_fail how p args refused.0))
-      (λ goes.
-      let run : RunsValues how p limits values words stats ends.told c.out_before c.out_after =
-      subst (λ (l : Limits). RunsValues how p l values words stats ends.told c.out_before c.out_after) same
-      (subst (λ (vs : List Value). RunsValues how p does.0 vs words stats ends.told c.out_before c.out_after) (goes.1.only values here) goes.2)
-      in
-      ⊎_elim (λ long. large long.0) (λ ran. runs ran.0 ran.1) run)
-      does.3)
-
-  pub runs_where : (frames cells words : ℕ) (stats : Bool) (bytes : List ℕ) (reads : ReadsWell c (Run frames cells words stats) bytes) (p : Prog) (values : List Value) (limits : Limits) → CanRun c frames cells words stats bytes reads p values limits
-      → IsWithin p limits → ¬ Rose c.out_before.faults c.out_after.faults
-      → UnlessMemory (status_number how) ((ended : Option End) × (told : List ℕ) × TellsRun ended words told (status_number how) c × RanWhole p limits values words stats ended told c.out_before c.out_after)
-  runs_where frames cells words stats bytes reads p values limits can within sound =
-      by_run _ frames cells words stats bytes reads p values limits can (exhausted how _)
-      (λ refuses. exhausted how _ (refused_within how p limits refuses within))
-      (λ few ran. tells_image c path ends.told p limits values words stats sound how ends.says ran)
-
-  pub ends_where : (frames cells words : ℕ) (stats : Bool) (bytes : List ℕ) (reads : ReadsWell c (Run frames cells words stats) bytes) (p : Prog) (values : List Value) (limits : Limits) → CanRun c frames cells words stats bytes reads p values limits
-      → IsWithin p limits → ¬ Rose c.out_before.faults c.out_after.faults
-      → (n cost : ℕ) (end : End) → IsCost p cost → cost * (n + 1) ≤ words → (state_after p limits values n).ended ≡ Some end
-      → UnlessMemory (status_number how) ((told : List ℕ) × TellsRun (Some end) words told (status_number how) c × TookAll c.out_before (state_after p limits values n).printed c.out_after × (stats ≡ false → told ≡ []))
-  ends_where frames cells words stats bytes reads p values limits can within sound n cost end is_cost enough ended =
-      ⊎_elim inl
-      (λ told. inr (tells_end c p limits values words (status_number how) stats (AreSpelled-fit (main_types p) reads.args values can.spelled) n cost end is_cost enough ended told))
-      (runs_where frames cells words stats bytes reads p values limits can within sound)
-
-  pub long_run_where : (frames cells words : ℕ) (stats : Bool) (bytes : List ℕ) (reads : ReadsWell c (Run frames cells words stats) bytes) (p : Prog) (values : List Value) (limits : Limits) → CanRun c frames cells words stats bytes reads p values limits
-      → ¬ IsWithin p limits → UnlessMemory (status_number how) (status_number how ≡ 68)
-  long_run_where frames cells words stats bytes reads p values limits can beyond =
-      by_run _ frames cells words stats bytes reads p values limits can (exhausted how _) (refused_large how p limits) (λ few ran. absurd (beyond few))
-
-  -- a program that can be emitted is refused for its size, or is within the bounds and its image is listed, or memory ran out
-  by_emit : (A : Type 0) (frames : ℕ) (bytes : List ℕ) (reads : ReadsWell c (Emit frames) bytes) (p : Prog) (limits : Limits) → CanEmit c frames bytes reads p limits
-      → (how ≡ status.OutOfMemory → A) → (RefusesImage how p limits → A)
-      → (IsWithin p limits → (output : List ℕ) → ListsImage p limits output → PutsListing how output c.out_before c.out_after → A) → A
-  by_emit A frames bytes reads p limits can memory large lists =
-      with_program (Emit frames) tt A bytes p reads can.short can.source memory
-      (λ fault e none has. absurd (has.unaccepted can.accepted))
-      (λ faultless untold does.
-      let same : does.0 ≡ limits = Limits-same does.0 limits (does.1 ∙ sym can.frames_are) (does.2 ∙ sym can.cells_are) in
-      let image : EmitsProgram how p limits c.out_before c.out_after = subst (λ (l : Limits). EmitsProgram how p l c.out_before c.out_after) same does.3 in
-      ⊎_elim (λ long. large long.0) (λ goes. lists goes.0 goes.1.0 goes.1.1 goes.1.2) image)
-
-  pub emits_where : (frames : ℕ) (bytes : List ℕ) (reads : ReadsWell c (Emit frames) bytes) (p : Prog) (limits : Limits) → CanEmit c frames bytes reads p limits → IsWithin p limits → ¬ Rose c.out_before.faults c.out_after.faults
-      → UnlessMemory (status_number how) ((status_number how ≡ 0) × ((output : List ℕ) × ListsImage p limits output × TookAll c.out_before output c.out_after))
-  emits_where frames bytes reads p limits can within sound =
-      by_emit _ frames bytes reads p limits can (exhausted how _)
-      (λ refuses. exhausted how _ (refused_within how p limits refuses within))
-      (λ few output lists puts. lists_image how p limits output c.out_before c.out_after lists puts sound)
-
-  pub long_emit_where : (frames : ℕ) (bytes : List ℕ) (reads : ReadsWell c (Emit frames) bytes) (p : Prog) (limits : Limits) → CanEmit c frames bytes reads p limits → ¬ IsWithin p limits → UnlessMemory (status_number how) (status_number how ≡ 68)
-  long_emit_where frames bytes reads p limits can beyond =
-      by_emit _ frames bytes reads p limits can (exhausted how _) (refused_large how p limits) (λ few output lists puts. absurd (beyond few))
+      goes (subst IsFaultless same program.sound) untold (subst (λ r. DoesProgram asks how c.passes r args ends.told c.out_before c.out_after) same done)))
 
   pub interprets_where : (frames cells steps : ℕ) (bytes : List ℕ) (p : Prog) (values : List Value) (limits : Limits) (reads : ReadsWell c (Interpret frames cells steps) bytes) → length bytes ≤ most_bytes → IsSource (format_of reads.path) bytes p → IsAccepted p
       → AreSpelled (main_types p) reads.args values → limits.frames ≡ frames → limits.cells ≡ cells → ¬ Rose c.out_before.faults c.out_after.faults
@@ -401,7 +276,7 @@ module _ (c : Call) (action : Action) (path : List ℕ) (args : List (List ℕ))
       (argument_said fault path c.err_before c.err_after ample (said c action path args how ends asks bytes reads (argument_status fault) same refused.1))))
       (args_fail how p args refused.0))
       (λ goes. absurd (goes.1.faultless fault (ample, here)))
-      (given asks how p args ends.told c.out_before c.out_after gives untold does))
+      (given asks how c.passes p args ends.told c.out_before c.out_after gives untold does))
 
   pub checks_where : (bytes : List ℕ) (p : Prog) (reads : ReadsWell c Check bytes) → length bytes ≤ most_bytes → IsSource (format_of reads.path) bytes p → IsAccepted p
       → ¬ Rose c.out_before.faults c.out_after.faults → UnlessMemory (status_number how) ((status_number how ≡ 0) × TookAll c.out_before (accepted_line p) c.out_after)
@@ -422,7 +297,7 @@ module _ (c : Call) (action : Action) (path : List ℕ) (args : List (List ℕ))
       (λ sound untold does. absurd (sound.faultless fault has))
 
   -- the line of a form
-  form_said : (asks : Action) (bytes : List ℕ) (reads : ReadsWell c asks bytes) → how ≡ status.Unsupported → ends.told ≡ [] → (status_number how ≡ 65) × Says c.err_before (form_line reads.path) c.err_after
+  pub form_said : (asks : Action) (bytes : List ℕ) (reads : ReadsWell c asks bytes) → how ≡ status.Unsupported → ends.told ≡ [] → (status_number how ≡ 65) × Says c.err_before (form_line reads.path) c.err_after
   form_said asks bytes reads e none = (
     ap status_number e,
     let here : Says c.err_before (form_line path) c.err_after = said c action path args how ends asks bytes reads status.Unsupported e none in
@@ -438,7 +313,7 @@ module _ (c : Call) (action : Action) (path : List ℕ) (args : List (List ℕ))
       (λ fault e none only few. absurd (only.unread here.tree here.reads))
       (λ tree only untold does few.
       let some : tree.imports ≢ [] = subst (λ (t : Tree). t.imports ≢ []) (sym (only.alone here.tree here.reads)) here.imports in
-      by_names asks how tree args ends.told c.out_before c.out_after (asks_program asks how tree args ends.told c.out_before c.out_after needs does) _ (exhausted how _)
+      by_names asks how c.passes tree args ends.told c.out_before c.out_after (asks_program asks how c.passes tree args ends.told c.out_before c.out_after needs does) _ (exhausted how _)
       (λ none imports e. inr (form_said asks bytes reads e none))
       (λ none alone fault e other. absurd (some alone))
       (λ none q fault e program other. absurd (some program.numbered.alone))
@@ -453,7 +328,7 @@ module _ (c : Call) (action : Action) (path : List ℕ) (args : List (List ℕ))
       (λ other e none only few. absurd (only.unread here.tree here.reads))
       (λ tree only untold does few.
       let without : tree.imports ≡ [] = subst (λ (t : Tree). t.imports ≡ []) (sym (only.alone here.tree here.reads)) here.alone in
-      by_names asks how tree args ends.told c.out_before c.out_after (asks_program asks how tree args ends.told c.out_before c.out_after needs does) _ (exhausted how _)
+      by_names asks how c.passes tree args ends.told c.out_before c.out_after (asks_program asks how c.passes tree args ends.told c.out_before c.out_after needs does) _ (exhausted how _)
       (λ none imports e. absurd (imports without))
       (λ none alone other e is. inr (
         ap status_number e,
@@ -464,7 +339,7 @@ module _ (c : Call) (action : Action) (path : List ℕ) (args : List (List ℕ))
       (λ q program done. absurd (program.only.faultless fault (has_in (format_of path) bytes tree only fault here))))
 
   -- what a tree is written as is put
-  written_where : (asks : Action) (written : Tree → List ℕ) → ((tree : Tree) → DoesTree asks how tree args ends.told c.out_before c.out_after → PutsText how (written tree) c.out_before c.out_after) → (bytes : List ℕ) (tree : Tree) (reads : ReadsWell c asks bytes) → length bytes ≤ most_bytes → ReadsAs (format_of reads.path) bytes tree
+  written_where : (asks : Action) (written : Tree → List ℕ) → ((tree : Tree) → DoesTree asks how c.passes tree args ends.told c.out_before c.out_after → PutsText how (written tree) c.out_before c.out_after) → (bytes : List ℕ) (tree : Tree) (reads : ReadsWell c asks bytes) → length bytes ≤ most_bytes → ReadsAs (format_of reads.path) bytes tree
       → ¬ Rose c.out_before.faults c.out_after.faults → UnlessMemory (status_number how) ((status_number how ≡ 0) × TookAll c.out_before (written tree) c.out_after)
   written_where asks written puts bytes tree reads short is sound =
       let here : ReadsAs (format_of path) bytes tree = subst (λ q. ReadsAs (format_of q) bytes tree) (same_path c action path args how ends asks bytes reads) is in

@@ -7,18 +7,19 @@ use Rattle.bril_report.specs.declared.status.Status.TheVariants as status
 use Rattle.bril_words.specs.CommandLine.{words_read}
 use Rattle.bril_words.specs.declared.misuse.Misuse.{Misuse}
 use Rattle.bril_words.specs.declared.request.Action.{Action}
-use Rattle.bril_words.specs.declared.request.Action.TheVariants.{Run, Interpret, Emit, Check, WriteText, WriteJson}
+use Rattle.bril_words.specs.declared.request.Action.TheVariants.{Run, Interpret, Emit, Passes, Check, WriteText, WriteJson}
 use Rattle.bril_cli.specs.Answers.{Answers, CannotWrite, Misused, Promises, SourceRefused, TooLarge}
 use Rattle.bril_cli.specs.Call.{Call, ReadsWell, SaysAlone}
-use Rattle.bril_cli.specs.CommandLine.{AsksFor, AskNothing}
-use Rattle.bril_cli.proofs.Causes.{Ok_not_Err, request_of, runs_where, ends_where, long_run_where, emits_where, long_emit_where, interprets_where, misargued_where, checks_where, unchecked_where, formless_where, misnamed_where, writes_where, writes_json_where, misread_where, long_where, lacking_where}
+use Rattle.bril_cli.specs.CommandLine.{AsksFor, AskNothing, KeepsPasses}
+use Rattle.bril_cli.proofs.Causes.{Ok_not_Err, request_of, asked_action, interprets_where, misargued_where, checks_where, unchecked_where, formless_where, misnamed_where, writes_where, writes_json_where, misread_where, long_where, lacking_where}
+use Rattle.bril_cli.proofs.Compiling.{runs_where, emits_where, transforms_where}
 use Rattle.bril_cli.proofs.Statuses.{Ends, Answers-of}
 
 refused_silent : (c : Call) → SourceRefused c → c.out_after ≡ c.out_before
 refused_silent c says = ⊎_elim (λ form. form.alone.silent) (⊎_elim (λ name. name.alone.silent) (⊎_elim (λ program. program.alone.silent) (λ bytes. bytes.alone.silent))) says.because
 
 large_silent : (c : Call) → TooLarge c → c.out_after ≡ c.out_before
-large_silent c says = ⊎_elim (λ file. file.alone.silent) (λ program. ⊎_elim (λ code. code.alone.silent) (λ stack. stack.alone.silent) program.passes) says.passes
+large_silent c says = ⊎_elim (λ file. file.alone.silent) (⊎_elim (λ program. ⊎_elim (λ code. code.alone.silent) (λ stack. stack.alone.silent) program.passes) (λ pass. pass.alone.silent)) says.passes
 
 -- from 64 to 70 nothing is put on the output
 silent_at : (how : Status) (c : Call) → Answers (status_number how) c → 64 ≤ status_number how → status_number how ≤ 70 → c.out_after ≡ c.out_before
@@ -31,6 +32,8 @@ silent_at status.FileTooBig c says low high = large_silent c says
 silent_at (status.CodeTooBig words) c says low high = large_silent c says
 silent_at (status.StackTooBig words) c says low high = large_silent c says
 silent_at (status.Misused misuse) c says low high = says.alone.silent
+silent_at (status.PassTooLarge place bound) c says low high = large_silent c says
+silent_at (status.UnknownPass place) c says low high = says.alone.silent
 silent_at (status.ArgumentCount given wanted) c says low high = says.alone.silent
 silent_at (status.BadArgument position) c says low high = says.alone.silent
 silent_at _ c says low high = absurd (omega arith)
@@ -50,7 +53,7 @@ module _ (c : Call) (action : Action) (path : List ℕ) (args : List (List ℕ))
   failed_write e = at_status 74 e
 
   asked_something : AskNothing c.words → status_number how ≡ 64
-  asked_something none = let e : Ok (request_of action path args) ≡ Err none.0 = sym ends.asked ∙ none.1 in absurd (Ok_not_Err e)
+  asked_something none = let e : Ok (request_of action path ends.asked.0 args) ≡ Err none.0 = sym ends.asked.1 ∙ none.1 in absurd (Ok_not_Err e)
 
   pub Promises-driven : Promises (status_number how) c
   Promises-driven = record {
@@ -62,11 +65,12 @@ module _ (c : Call) (action : Action) (path : List ℕ) (args : List (List ℕ))
     read = at_status 66;
     size = at_status 68;
     argued = at_status 69;
+    unknown = at_status 70;
     write = λ e. (failed_write e).rose;
     silent = silent_at how c told;
     misused = (λ e. ((usage e).misuse, (usage e).unasked), asked_something);
     runs = runs_where c action path args how ends;
-    ends = ends_where c action path args how ends;
+    transforms = transforms_where c action path args how ends;
     emits = emits_where c action path args how ends;
     interprets = interprets_where c action path args how ends;
     misargued = misargued_where c action path args how ends;
@@ -79,21 +83,20 @@ module _ (c : Call) (action : Action) (path : List ℕ) (args : List (List ℕ))
     formless = formless_where c action path args how ends;
     lacking = lacking_where c action path args how ends;
     long_file = long_where c action path args how ends;
-    long_run = long_run_where c action path args how ends;
-    long_emit = long_emit_where c action path args how ends;
+    keeps = λ other p xs asks. subst (λ (a : Action). KeepsPasses a c.passes.before c.passes.after) (sym (asked_action c action other path p args xs ends.asked asks)) ends.keeps;
   }
 
 -- of words that ask for nothing
 module _ (c : Call) (misuse : Misuse) (unasked : words_read c.words ≡ Err misuse) where
   not_asked : {A : Type 0} (action : Action) (path : List ℕ) (args : List (List ℕ)) → AsksFor c.words action path args → A
-  not_asked action path args asks = let e : Ok (request_of action path args) ≡ Err misuse = sym asks ∙ unasked in absurd (Ok_not_Err e)
+  not_asked action path args asks = let e : Ok (request_of action path asks.0 args) ≡ Err misuse = sym asks.1 ∙ unasked in absurd (Ok_not_Err e)
 
   not_read : {A : Type 0} (action : Action) (bytes : List ℕ) → ReadsWell c action bytes → A
   not_read action bytes reads = not_asked action reads.path reads.args reads.asked
 
-  pub Promises-misused : c.files_after ≡ c.files_before → SaysAlone c (misuse_line misuse) → Promises 64 c
-  Promises-misused unread alone = record {
-    answers = record { misuse = misuse; unasked = unasked; unread = unread; alone = alone };
+  pub Promises-misused : c.files_after ≡ c.files_before → c.passes.after ≡ c.passes.before → SaysAlone c (misuse_line misuse) → Promises 64 c
+  Promises-misused unread kept alone = record {
+    answers = record { misuse = misuse; unasked = unasked; unread = unread; kept = kept; alone = alone };
     done = λ e. absurd (omega arith);
     faulted = λ e. absurd (omega arith);
     spent = λ e. absurd (omega arith);
@@ -101,12 +104,13 @@ module _ (c : Call) (misuse : Misuse) (unasked : words_read c.words ≡ Err misu
     read = λ e. absurd (omega arith);
     size = λ e. absurd (omega arith);
     argued = λ e. absurd (omega arith);
+    unknown = λ e. absurd (omega arith);
     write = λ e. absurd (omega arith);
     silent = λ low high. alone.silent;
     misused = (λ e. (misuse, unasked), λ none. refl);
-    runs = λ frames cells words stats bytes reads p values limits can within sound. not_read (Run frames cells words stats) bytes reads;
-    ends = λ frames cells words stats bytes reads p values limits can within sound n cost end is_cost enough ended. not_read (Run frames cells words stats) bytes reads;
-    emits = λ frames bytes reads p limits can within sound. not_read (Emit frames) bytes reads;
+    runs = λ frames cells words stats bytes reads p values limits can. not_read (Run frames cells words stats) bytes reads;
+    transforms = λ bytes p reads short source accepted. not_read Passes bytes reads;
+    emits = λ frames bytes reads p limits can. not_read (Emit frames) bytes reads;
     interprets = λ frames cells steps bytes p values limits reads short source accepted spelled frames_are cells_are sound. not_read (Interpret frames cells steps) bytes reads;
     misargued = λ action gives bytes p fault reads short source accepted ample is. not_read action bytes reads;
     checks = λ bytes p reads short source accepted sound. not_read Check bytes reads;
@@ -118,6 +122,5 @@ module _ (c : Call) (misuse : Misuse) (unasked : words_read c.words ≡ Err misu
     formless = λ action needs bytes reads short imports. not_read action bytes reads;
     lacking = λ asks. not_asked asks.action asks.path asks.args asks.asked;
     long_file = λ action bytes reads long. not_read action bytes reads;
-    long_run = λ frames cells words stats bytes reads p values limits can beyond. not_read (Run frames cells words stats) bytes reads;
-    long_emit = λ frames bytes reads p limits can beyond. not_read (Emit frames) bytes reads;
+    keeps = λ action path args asks. not_asked action path args asks;
   }

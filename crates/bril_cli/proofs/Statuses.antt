@@ -1,6 +1,6 @@
 -- What each status says of the call.
 use Rattle.std.proofs.Common.{◌≡◌, ◌⊎◌, ℕ, Bool, false, append-nil, ◌++◌, List, Option, Some, refl, sym, subst, inl, inr, ⊎_elim, None}
-use Rattle.std.specs.Prelude.{[]}
+use Rattle.std.specs.Prelude.{[], codes}
 use Rattle.bril_arguments.specs.declared.fault.ArgFault.{ArgFault}
 use Rattle.bril_arguments.specs.declared.fault.ArgFault.TheVariants as argument
 use Rattle.bril_tree.specs.declared.limits.End.{End}
@@ -19,24 +19,28 @@ use Rattle.bril_report.specs.Report.{Says, status_number, SaysStatus}
 use Rattle.bril_report.specs.declared.status.Status.{Status}
 use Rattle.bril_report.specs.declared.status.Status.TheVariants as status
 use Rattle.bril_words.specs.declared.request.Action.{Action}
-use Rattle.bril_words.specs.declared.request.Action.TheVariants.{Run, Interpret, Emit, Check, WriteText, WriteJson}
+use Rattle.bril_words.specs.declared.request.Action.TheVariants.{Run, Interpret, Emit, Passes, Check, WriteText, WriteJson}
 use Rattle.bril_cli.specs.declared.source.Format.{Format}
 use Rattle.bril_cli.specs.Answers.{Answers}
 use Rattle.bril_cli.specs.Call.{Call}
-use Rattle.bril_cli.specs.Driver.{Produces, Puts, Leaves, Untold, AsksProgram, DoesTree, DoesFile, FailsToRead, FindsNoTree, DealsWithTree}
+use Rattle.bril_cli.specs.Driver.{Produces, Puts, Leaves, Untold, told_unwritten, AsksProgram, DoesTree, DoesFile, FailsToRead, FindsNoTree, DealsWithTree}
 use Rattle.bril_cli.specs.Source.{IsFile, Writes, HasNameFault, HasOnlyNameFault, IsOnlyTree, IsSource, IsOnlySource, HasImports}
 use Rattle.bril_cli.specs.Stages.{IsOnlyNameFault, IsOnlyProgram, IsAcceptedProgram, RefusesProgram, PutsText}
 use Rattle.bril_cli.specs.Stats.{SaysTold}
 use Rattle.bril_cli.specs.commands.Check.{accepted_line, Checks}
-use Rattle.bril_cli.specs.commands.Emit.{ListsImage, Emits, EmitsProgram, PutsListing}
+use Rattle.bril_cli.specs.commands.Emit.{ListsImage, Emits, EmitsImage, PutsListing}
 use Rattle.bril_cli.specs.commands.Interp.{StopsForMemory, Interprets, Exhausts, StepsTo, InterpretsProgram}
 use Rattle.bril_cli.specs.commands.Json.{json_line}
-use Rattle.bril_cli.specs.commands.Run.{ShowsRun, Runs, RunsAndTells, RanWhole, RunsImage, RunsProgram}
+use Rattle.bril_cli.specs.commands.Passes.{IsTextOf, Transforms, PutsProgram, TransformsProgram}
+use Rattle.bril_cli.specs.commands.Run.{ShowsRun, Runs, RunsAndTells, RanWhole, RunsImage, RunsValues, RunsProgram}
 use Rattle.bril_cli.specs.Arguments.{argument_line, HasOnlyArgFault, AreOnlyValues, RefusesArgs}
-use Rattle.bril_cli.specs.CommandLine.{AsksFor, format_of, NeedsProgram, GivesArguments}
+use Rattle.bril_cli.specs.CommandLine.{AsksFor, format_of, NeedsProgram, GivesArguments, TakesPasses, KeepsPasses}
 use Rattle.bril_cli.specs.Images.{IsProgramFile, MakesImage, HasLongCode, HasLongStack, RefusesImage}
+use Rattle.bril_cli.specs.PassList.{IsMade, RefusesList, AfterList, factor_of}
 use Rattle.bril_words.specs.Defaults.{default_cells}
 use Rattle.rv64_implements.specs.WordBounds.{IsWithin}
+use Rattle.bril_arguments.proofs.Spelled.{AreSpelled-fit}
+use Rattle.bril_cli.proofs.Sources.{made_refines, shows_source}
 use Rattle.bril_cli.proofs.Telling.{says_nothing, says_told, untold}
 
 -- ---- the program and the name fault of bytes are those of their tree
@@ -65,8 +69,9 @@ module _ (format : Format) (bytes : List ℕ) (tree : Tree) (only : IsOnlyTree f
 pub record Ends (c : Call) (action : Action) (path : List ℕ) (args : List (List ℕ)) (how : Status) : Type 0 where
   pub asked : AsksFor c.words action path args
   pub told : List ℕ
-  pub does : DoesFile action how c.files_before c.files_after path args told c.out_before c.out_after
+  pub does : DoesFile action how c.passes c.files_before c.files_after path args told c.out_before c.out_after
   pub says : SaysTold told how path c.err_before c.err_after
+  pub keeps : KeepsPasses action c.passes.before c.passes.after
 
 -- ---- memory ran out, and nothing was put
 
@@ -125,7 +130,7 @@ module _ (c : Call) (action : Action) (path : List ℕ) (args : List (List ℕ))
 
 -- ---- a text was to be put
 
-module _ (c : Call) (action : Action) (path : List ℕ) (args : List (List ℕ)) (asked : AsksFor c.words action path args) (text : List ℕ) (produces : Produces action c.files_before path args [] text) (may : Puts action c.files_before path args text) where
+module _ (c : Call) (action : Action) (path : List ℕ) (args : List (List ℕ)) (asked : AsksFor c.words action path args) (text : List ℕ) (produces : Produces action c.files_before c.passes path args [] text) (may : Puts action c.files_before c.passes path args text) (unsaid : told_unwritten action c.passes ≡ []) where
   Answers-put : (how : Status) → SaysStatus how path c.err_before c.err_after → PutsText how text c.out_before c.out_after → Answers (status_number how) c
   Answers-put status.Done says puts = record {
     action = action;
@@ -149,7 +154,7 @@ module _ (c : Call) (action : Action) (path : List ℕ) (args : List (List ℕ))
     puts = may;
     took = puts.0;
     rose = puts.1;
-    says = says;
+    says = subst (λ bytes. Says c.err_before (bytes ++ codes "cannot write\n") c.err_after) (sym unsaid) says;
   }
   Answers-put _ says puts = absurd puts
 
@@ -213,18 +218,57 @@ module _ (c : Call) (action : Action) (path : List ℕ) (args : List (List ℕ))
     program_file : IsProgramFile c.files_before path p
     program_file = record { bytes = bytes; file = file; source = source_of; accepted = program.sound.accepted }
 
-    -- ---- an image was to be made of the program, and it is too large
-    module _ (limits : Limits) (makes : MakesImage action limits) where
-      long_program : HasLongCode c p ⊎ HasLongStack c p limits → Answers 68 c
+    -- the list of passes makes no program
+    Answers-list : TakesPasses action → (how : Status) → SaysStatus how path c.err_before c.err_after → RefusesList how c.passes p → c.out_after ≡ c.out_before → Answers (status_number how) c
+    Answers-list takes (status.UnknownPass place) says refuses silent = record {
+      action = action;
+      takes = takes;
+      path = path;
+      args = args;
+      asked = asked;
+      bytes = bytes;
+      file = file;
+      program = p;
+      source = source_of;
+      accepted = program.sound.accepted;
+      place = place;
+      unknown = refuses.0;
+      unused = refuses.1;
+      alone = record { silent = silent; says = says };
+    }
+    Answers-list takes (status.PassTooLarge place bound) says refuses silent = record {
+      action = action;
+      path = path;
+      args = args;
+      asked = asked;
+      passes = inr (inr (record {
+        takes = takes;
+        bytes = bytes;
+        file = file;
+        program = p;
+        source = source_of;
+        accepted = program.sound.accepted;
+        place = place;
+        bound = bound;
+        refused = refuses;
+        alone = record { silent = silent; says = says };
+      }));
+    }
+    Answers-list takes status.OutOfMemory says refuses silent = Answers-exhausted c action path args asked says silent
+    Answers-list takes _ says refuses silent = absurd refuses
+
+    -- ---- an image was to be made of the program that the list makes, and it is too large
+    module _ (q : Prog) (by : IsMade c.passes p q) (limits : Limits) (makes : MakesImage action limits) where
+      long_program : HasLongCode c q ⊎ HasLongStack c q limits → Answers 68 c
       long_program passes = record {
         action = action;
         path = path;
         args = args;
         asked = asked;
-        passes = inr (record { limits = limits; makes = makes; program = p; is = program_file; passes = passes });
+        passes = inr (inl (record { limits = limits; makes = makes; program = p; is = program_file; made = q; by = by; passes = passes }));
       }
 
-      Answers-long : (how : Status) → SaysStatus how path c.err_before c.err_after → RefusesImage how p limits → c.out_after ≡ c.out_before → Answers (status_number how) c
+      Answers-long : (how : Status) → SaysStatus how path c.err_before c.err_after → RefusesImage how q limits → c.out_after ≡ c.out_before → Answers (status_number how) c
       Answers-long (status.CodeTooBig words) says refuses silent =
           long_program (inl (record {
             long = refuses.0;
@@ -271,8 +315,8 @@ module _ (c : Call) (action : Action) (path : List ℕ) (args : List (List ℕ))
 
 module _ (c : Call) (frames cells steps : ℕ) (stats : Bool) (path : List ℕ) (args : List (List ℕ)) (asked : AsksFor c.words (Run frames cells steps stats) path args) (bytes : List ℕ) (file : IsFile c.files_before path bytes) (tree : Tree) (only : IsOnlyTree (format_of path) bytes tree) where
   module _ (p : Prog) (program : IsAcceptedProgram tree p) (limits : Limits) (frames_are : limits.frames ≡ frames) (cells_are : limits.cells ≡ cells) where
-    module _ (values : List Value) (are : AreOnlyValues p args values) (within : IsWithin p limits) where
-      runs : (ended : Option End) (output : List ℕ) → ShowsRun p limits values steps ended output → Runs c.files_before path args frames cells steps ended output
+    module _ (values : List Value) (are : AreOnlyValues p args values) (q : Prog) (by : IsMade c.passes p q) (within : IsWithin q limits) where
+      runs : (ended : Option End) (output : List ℕ) → ShowsRun q limits values steps ended output → Runs c.files_before c.passes path args frames cells steps ended output
       runs ended output shows = record {
         program = p;
         is = program_file c (Run frames cells steps stats) path args asked tt bytes file tree only p program;
@@ -281,16 +325,19 @@ module _ (c : Call) (frames cells steps : ℕ) (stats : Bool) (path : List ℕ) 
         limits = limits;
         frames_are = frames_are;
         cells_are = cells_are;
+        made = q;
+        by = by;
         within = within;
         shows = shows;
+        source = shows_source p q (factor_of c.passes p q by) (made_refines c.passes p q by program.sound.accepted) limits values (AreSpelled-fit (main_types p) args values are.spelled) steps output ended shows.program;
       }
 
       module _ (told : List ℕ) where
-        tells_too : (ended : Option End) (ran : RanWhole p limits values steps stats ended told c.out_before c.out_after) → RunsAndTells c.files_before path args frames cells steps stats ended told ran.output
+        tells_too : (ended : Option End) (ran : RanWhole q limits values steps stats ended told c.out_before c.out_after) → RunsAndTells c.files_before c.passes path args frames cells steps stats ended told ran.output
         unfolding runs
         tells_too ended ran = record { runs = runs ended ran.output ran.shows; tells = ran.tells }
 
-        Answers-ran : (how : Status) → SaysTold told how path c.err_before c.err_after → RunsImage how p limits values steps stats told c.out_before c.out_after → Answers (status_number how) c
+        Answers-ran : (how : Status) → SaysTold told how path c.err_before c.err_after → RunsImage how q limits values steps stats told c.out_before c.out_after → Answers (status_number how) c
         Answers-ran status.Done says ran = record {
           action = Run frames cells steps stats;
           path = path;
@@ -340,14 +387,20 @@ module _ (c : Call) (frames cells steps : ℕ) (stats : Bool) (path : List ℕ) 
         }
         Answers-ran _ says ran = absurd ran
 
-    Answers-program : (how : Status) (told : List ℕ) → SaysTold told how path c.err_before c.err_after → RunsProgram how p args limits steps stats told c.out_before c.out_after → Answers (status_number how) c
+    Answers-made : (values : List Value) → AreOnlyValues p args values → (q : Prog) → IsMade c.passes p q → (how : Status) (told : List ℕ) → SaysTold told how path c.err_before c.err_after
+        → RunsValues how q limits values steps stats told c.out_before c.out_after → Answers (status_number how) c
+    Answers-made values are q by how told says =
+        ⊎_elim (λ long. Answers-long c (Run frames cells steps stats) path args asked tt bytes file tree only p program q by limits (frames_are, cells_are) how (says.plain long.1) long.0 long.2)
+        (λ ran. Answers-ran values are q by ran.0 told how says ran.1)
+
+    Answers-program : (how : Status) (told : List ℕ) → SaysTold told how path c.err_before c.err_after → RunsProgram how c.passes p args limits steps stats told c.out_before c.out_after → Answers (status_number how) c
     Answers-program how told says =
         ⊎_elim (λ refused. Answers-misargued c (Run frames cells steps stats) path args asked tt bytes file tree only p program tt how (says.plain refused.1) refused.0 refused.2)
-        (λ goes. ⊎_elim (λ long. Answers-long c (Run frames cells steps stats) path args asked tt bytes file tree only p program limits (frames_are, cells_are) how (says.plain long.1) long.0 long.2)
-        (λ ran. Answers-ran goes.0 goes.1 ran.0 told how says ran.1)
+        (λ goes. ⊎_elim (λ refused. Answers-list c (Run frames cells steps stats) path args asked tt bytes file tree only p program tt how (says.plain refused.1.0) refused.0 refused.1.1)
+        (λ made. Answers-made goes.0 goes.1 made.0 made.1 how told says made.2)
         goes.2)
 
-  Answers-run : (how : Status) (told : List ℕ) → SaysTold told how path c.err_before c.err_after → AsksProgram (Run frames cells steps stats) how tree args told c.out_before c.out_after → Answers (status_number how) c
+  Answers-run : (how : Status) (told : List ℕ) → SaysTold told how path c.err_before c.err_after → AsksProgram (Run frames cells steps stats) how c.passes tree args told c.out_before c.out_after → Answers (status_number how) c
   Answers-run how told says =
       ⊎_elim (λ refused. Answers-refused c (Run frames cells steps stats) path args asked tt bytes file tree only how (says.plain refused.1) refused.0 refused.2)
       (λ goes. Answers-program goes.0 goes.1 goes.2.0 goes.2.1 goes.2.2 how told says goes.2.3)
@@ -356,14 +409,16 @@ module _ (c : Call) (frames cells steps : ℕ) (stats : Bool) (path : List ℕ) 
 
 module _ (c : Call) (frames : ℕ) (path : List ℕ) (args : List (List ℕ)) (asked : AsksFor c.words (Emit frames) path args) (bytes : List ℕ) (file : IsFile c.files_before path bytes) (tree : Tree) (only : IsOnlyTree (format_of path) bytes tree) where
   module _ (p : Prog) (program : IsAcceptedProgram tree p) (limits : Limits) (frames_are : limits.frames ≡ frames) (cells_are : limits.cells ≡ default_cells) where
-    module _ (within : IsWithin p limits) (output : List ℕ) (lists : ListsImage p limits output) where
-      emits : Emits c.files_before path frames output
+    module _ (q : Prog) (by : IsMade c.passes p q) (within : IsWithin q limits) (output : List ℕ) (lists : ListsImage q limits output) where
+      emits : Emits c.files_before c.passes path frames output
       emits = record {
         program = p;
         is = program_file c (Emit frames) path args asked tt bytes file tree only p program;
         limits = limits;
         frames_are = frames_are;
         cells_are = cells_are;
+        made = q;
+        by = by;
         within = within;
         image = lists;
       }
@@ -394,15 +449,73 @@ module _ (c : Call) (frames : ℕ) (path : List ℕ) (args : List (List ℕ)) (a
       }
       Answers-listed _ says puts = absurd puts
 
-    Answers-image : (how : Status) → SaysStatus how path c.err_before c.err_after → EmitsProgram how p limits c.out_before c.out_after → Answers (status_number how) c
-    Answers-image how says =
-        ⊎_elim (λ long. Answers-long c (Emit frames) path args asked tt bytes file tree only p program limits (frames_are, cells_are) how says long.0 long.1)
-        (λ goes. Answers-listed goes.0 goes.1.0 goes.1.1 how says goes.1.2)
+    Answers-image : (q : Prog) → IsMade c.passes p q → (how : Status) → SaysStatus how path c.err_before c.err_after → EmitsImage how q limits c.out_before c.out_after → Answers (status_number how) c
+    Answers-image q by how says =
+        ⊎_elim (λ long. Answers-long c (Emit frames) path args asked tt bytes file tree only p program q by limits (frames_are, cells_are) how says long.0 long.1)
+        (λ goes. Answers-listed q by goes.0 goes.1.0 goes.1.1 how says goes.1.2)
 
-  Answers-emit : (how : Status) → SaysStatus how path c.err_before c.err_after → AsksProgram (Emit frames) how tree args [] c.out_before c.out_after → Answers (status_number how) c
+    Answers-emit_list : (how : Status) → SaysStatus how path c.err_before c.err_after → AfterList how c.passes p (c.out_after ≡ c.out_before) (λ q. EmitsImage how q limits c.out_before c.out_after) → Answers (status_number how) c
+    Answers-emit_list how says =
+        ⊎_elim (λ refused. Answers-list c (Emit frames) path args asked tt bytes file tree only p program tt how says refused.0 refused.1)
+        (λ made. Answers-image made.0 made.1 how says made.2)
+
+  Answers-emit : (how : Status) → SaysStatus how path c.err_before c.err_after → AsksProgram (Emit frames) how c.passes tree args [] c.out_before c.out_after → Answers (status_number how) c
   Answers-emit how says =
       ⊎_elim (λ refused. Answers-refused c (Emit frames) path args asked tt bytes file tree only how says refused.0 refused.2)
-      (λ goes. Answers-image goes.0 goes.1 goes.2.0 goes.2.1 goes.2.2 how says goes.2.3)
+      (λ goes. Answers-emit_list goes.0 goes.1 goes.2.0 goes.2.1 goes.2.2 how says goes.2.3)
+
+-- ---- what a list of passes makes of a tree's program was to be written
+
+module _ (c : Call) (path : List ℕ) (args : List (List ℕ)) (asked : AsksFor c.words Passes path args) (bytes : List ℕ) (file : IsFile c.files_before path bytes) (tree : Tree) (only : IsOnlyTree (format_of path) bytes tree) where
+  module _ (p : Prog) (program : IsAcceptedProgram tree p) where
+    transforms : (q : Prog) → IsMade c.passes p q → (output : List ℕ) → IsTextOf q output → Transforms c.files_before c.passes path output
+    transforms q by output text = record {
+      bytes = bytes;
+      file = file;
+      program = p;
+      source = IsOnlySource-of (format_of path) bytes tree only p program.only;
+      accepted = program.sound.accepted;
+      made = q;
+      by = by;
+      text = text;
+    }
+
+    Answers-written : (q : Prog) → IsMade c.passes p q → (how : Status) (told : List ℕ) → SaysTold told how path c.err_before c.err_after → PutsProgram how c.passes q told c.out_before c.out_after → Answers (status_number how) c
+    Answers-written q by status.Done told says puts = record {
+      action = Passes;
+      path = path;
+      args = args;
+      asked = asked;
+      told = told;
+      output = puts.1.0;
+      produces = (puts.0, transforms q by puts.1.0 puts.1.1);
+      took = puts.1.2;
+      says = subst (λ bytes. Says c.err_before bytes c.err_after) (append-nil told) says.all;
+      quiet = says.plain;
+    }
+    Answers-written q by status.OutOfMemory told says puts = Answers-exhausted c Passes path args asked (says.plain puts.0) puts.1
+    Answers-written q by status.CannotWrite told says puts = record {
+      action = Passes;
+      path = path;
+      args = args;
+      asked = asked;
+      output = puts.1.0;
+      puts = transforms q by puts.1.0 puts.1.1;
+      took = puts.1.2;
+      rose = puts.1.3;
+      says = subst (λ bytes. Says c.err_before (bytes ++ codes "cannot write\n") c.err_after) puts.0 says.all;
+    }
+    Answers-written q by _ told says puts = absurd puts
+
+    Answers-transformed : (how : Status) (told : List ℕ) → SaysTold told how path c.err_before c.err_after → TransformsProgram how c.passes p told c.out_before c.out_after → Answers (status_number how) c
+    Answers-transformed how told says =
+        ⊎_elim (λ refused. Answers-list c Passes path args asked tt bytes file tree only p program tt how (says.plain refused.1.0) refused.0 refused.1.1)
+        (λ made. Answers-written made.0 made.1 how told says made.2)
+
+  Answers-passes : (how : Status) (told : List ℕ) → SaysTold told how path c.err_before c.err_after → AsksProgram Passes how c.passes tree args told c.out_before c.out_after → Answers (status_number how) c
+  Answers-passes how told says =
+      ⊎_elim (λ refused. Answers-refused c Passes path args asked tt bytes file tree only how (says.plain refused.1) refused.0 refused.2)
+      (λ goes. Answers-transformed goes.0 goes.1 how told says goes.2)
 
 -- ---- a tree was to be checked
 
@@ -417,9 +530,9 @@ module _ (c : Call) (path : List ℕ) (args : List (List ℕ)) (asked : AsksFor 
         accepted = program.sound.accepted;
         text = refl;
       } in
-      Answers-put c Check path args asked (accepted_line p) (refl, checks) checks how says puts
+      Answers-put c Check path args asked (accepted_line p) (refl, checks) checks refl how says puts
 
-  Answers-check : (how : Status) → SaysStatus how path c.err_before c.err_after → AsksProgram Check how tree args [] c.out_before c.out_after → Answers (status_number how) c
+  Answers-check : (how : Status) → SaysStatus how path c.err_before c.err_after → AsksProgram Check how c.passes tree args [] c.out_before c.out_after → Answers (status_number how) c
   Answers-check how says =
       ⊎_elim (λ refused. Answers-refused c Check path args asked tt bytes file tree only how says refused.0 refused.2)
       (λ puts. Answers-checked how says puts.0 puts.1 puts.2)
@@ -529,7 +642,7 @@ module _ (c : Call) (frames cells steps : ℕ) (path : List ℕ) (args : List (L
         ⊎_elim (λ refused. Answers-misargued c (Interpret frames cells steps) path args asked tt bytes file tree only p program tt how says refused.0 refused.1)
         (λ goes. Answers-steps limits frames_are cells_are goes.0 goes.1 how says goes.2)
 
-  Answers-interpret : (how : Status) → SaysStatus how path c.err_before c.err_after → AsksProgram (Interpret frames cells steps) how tree args [] c.out_before c.out_after → Answers (status_number how) c
+  Answers-interpret : (how : Status) → SaysStatus how path c.err_before c.err_after → AsksProgram (Interpret frames cells steps) how c.passes tree args [] c.out_before c.out_after → Answers (status_number how) c
   Answers-interpret how says =
       ⊎_elim (λ refused. Answers-refused c (Interpret frames cells steps) path args asked tt bytes file tree only how says refused.0 refused.2)
       (λ goes. Answers-interpreted goes.0 goes.1 how goes.2.0 goes.2.1 goes.2.2 says goes.2.3)
@@ -537,31 +650,33 @@ module _ (c : Call) (frames cells steps : ℕ) (path : List ℕ) (args : List (L
 -- ---- a tree was dealt with
 
 module _ (c : Call) (path : List ℕ) (args : List (List ℕ)) (how : Status) where
-  -- `run` alone tells something
-  Answers-untold : (action : Action) → AsksFor c.words action path args → SaysStatus how path c.err_before c.err_after → (bytes : List ℕ) → IsFile c.files_before path bytes → (tree : Tree) → IsOnlyTree (format_of path) bytes tree → Untold action [] → DoesTree action how tree args [] c.out_before c.out_after → Answers (status_number how) c
+  plainly : SaysStatus how path c.err_before c.err_after → SaysTold [] how path c.err_before c.err_after
+  plainly said = says_told [] how path c.err_before c.err_before c.err_after false (untold false c.err_before refl) said
+
+  -- `run` and `passes` alone tell something
+  Answers-untold : (action : Action) → AsksFor c.words action path args → SaysStatus how path c.err_before c.err_after → (bytes : List ℕ) → IsFile c.files_before path bytes → (tree : Tree) → IsOnlyTree (format_of path) bytes tree → Untold action [] → DoesTree action how c.passes tree args [] c.out_before c.out_after → Answers (status_number how) c
   Answers-untold (Run frames cells steps stats) asked says bytes file tree only free does = Answers-run c frames cells steps stats path args asked bytes file tree only how [] (plainly says) does
-    where
-      plainly : SaysStatus how path c.err_before c.err_after → SaysTold [] how path c.err_before c.err_after
-      plainly said = says_told [] how path c.err_before c.err_before c.err_after false (untold false c.err_before refl) said
   Answers-untold (Interpret frames cells steps) asked says bytes file tree only untold does = Answers-interpret c frames cells steps path args asked bytes file tree only how says does
   Answers-untold (Emit frames) asked says bytes file tree only untold does = Answers-emit c frames path args asked bytes file tree only how says does
+  Answers-untold Passes asked says bytes file tree only free does = Answers-passes c path args asked bytes file tree only how [] (plainly says) does
   Answers-untold Check asked says bytes file tree only untold does = Answers-check c path args asked bytes file tree only how says does
   Answers-untold WriteText asked says bytes file tree only untold does =
       let writes : Writes canonical_text c.files_before path (canonical_text tree) = record { bytes = bytes; file = file; tree = tree; reads = only.reads; text = refl } in
-      Answers-put c WriteText path args asked (canonical_text tree) (refl, writes) writes how says does
+      Answers-put c WriteText path args asked (canonical_text tree) (refl, writes) writes refl how says does
   Answers-untold WriteJson asked says bytes file tree only untold does =
       let writes : Writes json_line c.files_before path (json_line tree) = record { bytes = bytes; file = file; tree = tree; reads = only.reads; text = refl } in
-      Answers-put c WriteJson path args asked (json_line tree) (refl, writes) writes how says does
+      Answers-put c WriteJson path args asked (json_line tree) (refl, writes) writes refl how says does
 
-  quietly : (action : Action) (told : List ℕ) → AsksFor c.words action path args → SaysTold told how path c.err_before c.err_after → DealsWithTree action how c.files_before path args told c.out_before c.out_after → told ≡ [] → Answers (status_number how) c
+  quietly : (action : Action) (told : List ℕ) → AsksFor c.words action path args → SaysTold told how path c.err_before c.err_after → DealsWithTree action how c.passes c.files_before path args told c.out_before c.out_after → told ≡ [] → Answers (status_number how) c
   quietly action told asked says deals none =
-      let deals' : DealsWithTree action how c.files_before path args [] c.out_before c.out_after = subst (λ bytes. DealsWithTree action how c.files_before path args bytes c.out_before c.out_after) none deals in
+      let deals' : DealsWithTree action how c.passes c.files_before path args [] c.out_before c.out_after = subst (λ bytes. DealsWithTree action how c.passes c.files_before path args bytes c.out_before c.out_after) none deals in
       Answers-untold action asked (says.plain none) deals'.bytes deals'.file deals'.tree deals'.only deals'.untold deals'.does
 
-  Answers-tree : (action : Action) (told : List ℕ) → AsksFor c.words action path args → SaysTold told how path c.err_before c.err_after → DealsWithTree action how c.files_before path args told c.out_before c.out_after → Answers (status_number how) c
+  Answers-tree : (action : Action) (told : List ℕ) → AsksFor c.words action path args → SaysTold told how path c.err_before c.err_after → DealsWithTree action how c.passes c.files_before path args told c.out_before c.out_after → Answers (status_number how) c
   Answers-tree (Run frames cells steps stats) told asked says deals = Answers-run c frames cells steps stats path args asked deals.bytes deals.file deals.tree deals.only how told says deals.does
   Answers-tree (Interpret frames cells steps) told asked says deals = quietly (Interpret frames cells steps) told asked says deals deals.untold
   Answers-tree (Emit frames) told asked says deals = quietly (Emit frames) told asked says deals deals.untold
+  Answers-tree Passes told asked says deals = Answers-passes c path args asked deals.bytes deals.file deals.tree deals.only how told says deals.does
   Answers-tree Check told asked says deals = quietly Check told asked says deals deals.untold
   Answers-tree WriteText told asked says deals = quietly WriteText told asked says deals deals.untold
   Answers-tree WriteJson told asked says deals = quietly WriteJson told asked says deals deals.untold

@@ -1,5 +1,5 @@
 -- What the top call answers: its status, and what it does to the files and its two outputs.
-use Rattle.std.specs.Prelude.{ℕ, ◌≡◌, ◌≢◌, ◌⊎◌, ◌<◌, ◌≤◌, List, [], ◌++◌, length, Some, None, codes, ◌==◌, Err, MatchBool, ◌↔◌}
+use Rattle.std.specs.Prelude.{ℕ, ◌≡◌, ◌≢◌, ◌⊎◌, ◌<◌, ◌≤◌, List, [], ◌++◌, length, map, Some, None, codes, ◌==◌, Err, MatchBool, ◌↔◌}
 use Rattle.bril_arguments.specs.Faults.{IsFaultOf}
 use Rattle.bril_arguments.specs.declared.fault.ArgFault.TheVariants.{Memory}
 use Rattle.bril_arguments.specs.declared.fault.ArgFault.{ArgFault}
@@ -8,7 +8,7 @@ use Rattle.bril_checker.specs.declared.fault.CheckFault.{CheckFault}
 use Rattle.bril_names.specs.declared.fault.NameFault.{NameFault}
 use Rattle.bril_outside.specs.Files.{MayHold, MayFail}
 use Rattle.bril_outside.specs.Sink.{Rose, TookAll, TookSome}
-use Rattle.bril_report.specs.Lines.{form_line, misread_line, misnamed_line, unaccepted_line, unread_line, fault_line, spent_line, misuse_line}
+use Rattle.bril_report.specs.Lines.{form_line, misread_line, misnamed_line, unaccepted_line, unread_line, fault_line, spent_line, pass_line, unknown_pass_line, misuse_line}
 use Rattle.bril_report.specs.Report.{Says}
 use Rattle.bril_report.specs.declared.status.SourceFault.{SourceFault}
 use Rattle.bril_tree.specs.Accepted.{IsAccepted}
@@ -21,15 +21,17 @@ use Rattle.bril_words.specs.declared.misuse.Misuse.{Misuse}
 use Rattle.bril_words.specs.declared.request.Action.{Action}
 use Rattle.bril_cli.specs.Arguments.{HasOnlyArgFault, argument_line}
 use Rattle.bril_cli.specs.Call.{Call, SaysAlone, ReadsWell, AsksNone, UnlessMemory}
-use Rattle.bril_cli.specs.CommandLine.{format_of, steps_of, AsksFor, NeedsProgram, GivesArguments, AskNothing}
-use Rattle.bril_cli.specs.Driver.{Produces, Prints, Puts, Leaves}
+use Rattle.bril_cli.specs.CommandLine.{format_of, steps_of, AsksFor, NeedsProgram, GivesArguments, TakesPasses, KeepsPasses, AskNothing}
+use Rattle.bril_cli.specs.Driver.{Produces, Prints, Puts, Leaves, told_unwritten}
 use Rattle.bril_cli.specs.Images.{IsLongProgram}
+use Rattle.bril_cli.specs.PassList.{IsFirstUnknown, IsRefusedPass}
 use Rattle.bril_cli.specs.Source.{most_bytes, HasFault, IsOnlyFault, IsSource, IsOnlySource, HasNameFault, HasOnlyNameFault, HasOnlyCheckFault, HasImports, IsFile}
 use Rattle.bril_cli.specs.commands.Check.{ChecksWhere}
-use Rattle.bril_cli.specs.commands.Emit.{EmitsWhere, LongEmitWhere}
+use Rattle.bril_cli.specs.commands.Emit.{EmitsWhere}
 use Rattle.bril_cli.specs.commands.Interp.{InterpretsWhere}
 use Rattle.bril_cli.specs.commands.Json.{WritesJsonWhere}
-use Rattle.bril_cli.specs.commands.Run.{RunsWhere, EndsWhere, LongRunWhere}
+use Rattle.bril_cli.specs.commands.Passes.{TransformsWhere}
+use Rattle.bril_cli.specs.commands.Run.{RunsWhere}
 use Rattle.bril_cli.specs.commands.Text.{WritesTextWhere}
 
 -- 0: all was done, and the output took all that the action produces of the file; the error output what `run` tells of the run.
@@ -40,7 +42,7 @@ pub record Finished (c : Call) : Type 0 where
   pub asked : AsksFor c.words action path args
   pub told : List ℕ
   pub output : List ℕ
-  pub produces : Produces action c.files_before path args told output
+  pub produces : Produces action c.files_before c.passes path args told output
   pub took : TookAll c.out_before output c.out_after
   pub says : Says c.err_before told c.err_after
   pub quiet : told ≡ [] → c.err_after ≡ c.err_before
@@ -54,7 +56,7 @@ pub record Stopped (c : Call) : Type 0 where
   pub fault : Fault
   pub told : List ℕ
   pub output : List ℕ
-  pub prints : Prints action c.files_before path args (Some (Faulted fault)) told output
+  pub prints : Prints action c.files_before c.passes path args (Some (Faulted fault)) told output
   pub took : TookAll c.out_before output c.out_after
   pub says : Says c.err_before (told ++ fault_line fault) c.err_after
 
@@ -67,7 +69,7 @@ pub record GoesOn (c : Call) : Type 0 where
   pub asked : AsksFor c.words action path args
   pub told : List ℕ
   pub output : List ℕ
-  pub prints : Prints action c.files_before path args None told output
+  pub prints : Prints action c.files_before c.passes path args None told output
   pub took : TookAll c.out_before output c.out_after
   pub says : Says c.err_before (told ++ spent_line (steps_of action)) c.err_after
 
@@ -76,6 +78,7 @@ pub record Misused (c : Call) : Type 0 where
   pub misuse : Misuse
   pub unasked : words_read c.words ≡ Err misuse
   pub unread : c.files_after ≡ c.files_before
+  pub kept : c.passes.after ≡ c.passes.before
   pub alone : SaysAlone c (misuse_line misuse)
 
 -- 65: the file's bytes read as no tree; or the action needs a program, and the tree has imports, or a fault of a
@@ -128,19 +131,32 @@ pub record CannotRead (c : Call) : Type 0 where
   pub fails : MayFail c.files_before c.files_after path
   pub alone : SaysAlone c (unread_line path)
 
--- 68: the file has too many bytes, or the program that is to be run or emitted has too many words of code or of stack.
+-- 68: the file has too many bytes, or a pass may make too many items, or the program that is to be run or emitted has too many words
+-- of code or of stack.
 pub record LongFile (c : Call) (path : List ℕ) : Type 0 where
   pub bytes : List ℕ
   pub held : MayHold c.files_before.holds path bytes
   pub long : most_bytes < length bytes
   pub alone : SaysAlone c (codes "too large: bytes\n")
 
+pub record LongPass (c : Call) (action : Action) (path : List ℕ) : Type 0 where
+  pub takes : TakesPasses action
+  pub bytes : List ℕ
+  pub file : IsFile c.files_before path bytes
+  pub program : Prog
+  pub source : IsOnlySource (format_of path) bytes program
+  pub accepted : IsAccepted program
+  pub place : ℕ
+  pub bound : ℕ
+  pub refused : IsRefusedPass c.passes program place bound
+  pub alone : SaysAlone c (pass_line place bound)
+
 pub record TooLarge (c : Call) : Type 0 where
   pub action : Action
   pub path : List ℕ
   pub args : List (List ℕ)
   pub asked : AsksFor c.words action path args
-  pub passes : LongFile c path ⊎ IsLongProgram c action path
+  pub passes : LongFile c path ⊎ (IsLongProgram c action path ⊎ LongPass c action path)
 
 -- 69: the file reads as an accepted program, and the arguments don't fit it.
 pub record Misargued (c : Call) : Type 0 where
@@ -158,6 +174,23 @@ pub record Misargued (c : Call) : Type 0 where
   pub only : HasOnlyArgFault (main_types program) args fault
   pub alone : SaysAlone c (argument_line fault)
 
+-- 70: no pass answers to a name of the list, this one being the first such; no pass ran.
+pub record UnknownPass (c : Call) : Type 0 where
+  pub action : Action
+  pub takes : TakesPasses action
+  pub path : List ℕ
+  pub args : List (List ℕ)
+  pub asked : AsksFor c.words action path args
+  pub bytes : List ℕ
+  pub file : IsFile c.files_before path bytes
+  pub program : Prog
+  pub source : IsOnlySource (format_of path) bytes program
+  pub accepted : IsAccepted program
+  pub place : ℕ
+  pub unknown : IsFirstUnknown c.passes (Some place)
+  pub unused : map c.passes.counts c.passes.after ≡ map c.passes.counts c.passes.before
+  pub alone : SaysAlone c (unknown_pass_line place)
+
 -- 71: memory ran out, for `run` before the first word was executed, and for `emit` before the first was written.
 pub record Exhausted (c : Call) : Type 0 where
   pub action : Action
@@ -174,10 +207,10 @@ pub record CannotWrite (c : Call) : Type 0 where
   pub args : List (List ℕ)
   pub asked : AsksFor c.words action path args
   pub output : List ℕ
-  pub puts : Puts action c.files_before path args output
+  pub puts : Puts action c.files_before c.passes path args output
   pub took : TookSome c.out_before output c.out_after
   pub rose : Rose c.out_before.faults c.out_after.faults
-  pub says : Says c.err_before (codes "cannot write\n") c.err_after
+  pub says : Says c.err_before (told_unwritten action c.passes ++ codes "cannot write\n") c.err_after
 
 -- What a status says of the call; there are no others.
 abbrev pub Answers : ℕ → Call → Type 0
@@ -190,8 +223,9 @@ Answers status c =
     (MatchBool (status == 66) (CannotRead c)
     (MatchBool (status == 68) (TooLarge c)
     (MatchBool (status == 69) (Misargued c)
+    (MatchBool (status == 70) (UnknownPass c)
     (MatchBool (status == 71) (Exhausted c)
-    (MatchBool (status == 74) (CannotWrite c) ⊥)))))))))
+    (MatchBool (status == 74) (CannotWrite c) ⊥))))))))))
 
 -- ---- when a status comes to every command that has its cause
 
@@ -234,6 +268,10 @@ LackingWhere number c = AsksNone c → UnlessMemory number (number ≡ 66)
 abbrev pub LongFileWhere : ℕ → Call → Type 0
 LongFileWhere number c = (action : Action) (bytes : List ℕ) → ReadsWell c action bytes → most_bytes < length bytes → UnlessMemory number (number ≡ 68)
 
+-- The passes stay as they are where the words ask for an action that takes no list of them.
+abbrev pub KeepsWhere : Call → Type 0
+KeepsWhere c = (action : Action) (path : List ℕ) (args : List (List ℕ)) → AsksFor c.words action path args → KeepsPasses action c.passes.before c.passes.after
+
 -- What the top call promises of its status.
 pub record Promises (status : ℕ) (c : Call) : Type 0 where
   -- what each status says
@@ -245,13 +283,14 @@ pub record Promises (status : ℕ) (c : Call) : Type 0 where
   pub read : status ≡ 66 → CannotRead c
   pub size : status ≡ 68 → TooLarge c
   pub argued : status ≡ 69 → Misargued c
+  pub unknown : status ≡ 70 → UnknownPass c
   pub write : status ≡ 74 → Rose c.out_before.faults c.out_after.faults
   pub silent : 64 ≤ status → status ≤ 70 → c.out_after ≡ c.out_before
   -- when each status comes; out of memory, 71 comes in place of all but 64
   pub misused : (status ≡ 64) ↔ AskNothing c.words
   pub runs : RunsWhere status c
-  pub ends : EndsWhere status c
   pub emits : EmitsWhere status c
+  pub transforms : TransformsWhere status c
   pub interprets : InterpretsWhere status c
   pub misargued : MisarguedWhere status c
   pub checks : ChecksWhere status c
@@ -263,5 +302,5 @@ pub record Promises (status : ℕ) (c : Call) : Type 0 where
   pub formless : FormlessWhere status c
   pub lacking : LackingWhere status c
   pub long_file : LongFileWhere status c
-  pub long_run : LongRunWhere status c
-  pub long_emit : LongEmitWhere status c
+  -- the passes, where the action takes no list of them
+  pub keeps : KeepsWhere c

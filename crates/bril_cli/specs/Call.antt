@@ -7,11 +7,16 @@ use Rattle.bril_report.specs.Report.{Says}
 use Rattle.bril_tree.specs.declared.limits.End.TheVariants.{Ended, Faulted}
 use Rattle.bril_tree.specs.declared.limits.End.{End}
 use Rattle.bril_words.specs.declared.request.Action.{Action}
-use Rattle.bril_cli.specs.CommandLine.{AsksFor}
+use Rattle.bril_words.specs.CommandLine.{words_read}
+use Rattle.bril_words.specs.Names.{names_of}
+use Rattle.pass_law.specs.Meaning.{Meaning}
+use Rattle.pass_law.specs.declared.tally.Tally.{Tally}
+use Rattle.bril_cli.specs.CommandLine.{AsksFor, list_asked}
+use Rattle.bril_cli.specs.PassList.{PassList, pass_list}
 use Rattle.bril_cli.specs.Source.{HoldsFile}
 
--- What is seen of a call: its words, and its files and its two outputs before and after it.
-pub record Call : Type 0 where
+-- What is seen of a call: its words, and its files, its two outputs and the passes that it was lent before and after it.
+pub record Call : Type 1 where
   pub words : List (List ℕ)
   pub files_before : FilesSeen
   pub files_after : FilesSeen
@@ -19,9 +24,10 @@ pub record Call : Type 0 where
   pub out_after : SinkSeen
   pub err_before : SinkSeen
   pub err_after : SinkSeen
+  pub passes : PassList
 
-abbrev pub call_of : List (List ℕ) → FilesSeen → FilesSeen → SinkSeen → SinkSeen → SinkSeen → SinkSeen → Call
-call_of words files files' out out' err err' = record {
+abbrev pub call_of : {B : Type 0} → List (List ℕ) → FilesSeen → FilesSeen → SinkSeen → SinkSeen → SinkSeen → SinkSeen → (B → Meaning) → (B → Tally) → List B → List B → Call
+call_of words files files' out out' err err' meaning counts passes passes' = record {
   words = words;
   files_before = files;
   files_after = files';
@@ -29,6 +35,7 @@ call_of words files files' out out' err err' = record {
   out_after = out';
   err_before = err;
   err_after = err';
+  passes = pass_list meaning counts passes passes' (names_of (list_asked (words_read words)));
 }
 
 -- nothing was put on the output, and this line on the error output

@@ -22,6 +22,7 @@ use Rattle.rv64_words.specs.State.{Finished}
 use Rattle.rv64_words.specs.declared.image.Image.{Image}
 use Rattle.bril_cli.specs.Call.{Call, SaysAlone}
 use Rattle.bril_cli.specs.CommandLine.{format_of}
+use Rattle.bril_cli.specs.PassList.{IsMade}
 use Rattle.bril_cli.specs.Source.{IsOnlySource, IsFile}
 
 -- The file at the path reads as this program, which is accepted.
@@ -54,7 +55,9 @@ pub record IsLongProgram (c : Call) (action : Action) (path : List ℕ) : Type 0
   pub makes : MakesImage action limits
   pub program : Prog
   pub is : IsProgramFile c.files_before path program
-  pub passes : HasLongCode c program ⊎ HasLongStack c program limits
+  pub made : Prog
+  pub by : IsMade c.passes program made
+  pub passes : HasLongCode c made ⊎ HasLongStack c made limits
 
 -- why no image was made of a program
 abbrev pub RefusesImage : Status → Prog → Limits → Type 0

@@ -3,8 +3,12 @@ pub mod Arguments
 pub mod Call
 pub mod CommandLine
 pub mod Driver
+pub mod End
 pub mod Images
 pub mod Source
 pub mod Stages
 pub mod Stats
 pub mod commands
+pub mod After
+pub mod PassList
+pub mod Sources

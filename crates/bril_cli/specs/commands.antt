@@ -3,5 +3,6 @@ pub mod Check
 pub mod Emit
 pub mod Interp
 pub mod Json
+pub mod Passes
 pub mod Run
 pub mod Text

@@ -1,29 +1,38 @@
 // The driver: the stages from a file to what a command does with it, in order. Each is a call that gives a result, and
 // `?` hands its refusal on.
 
-ghost use Rattle.std.specs.Prelude.{◌≡◌, ◌≤◌, false};
+ghost use Rattle.std.specs.Prelude.{◌≡◌, ◌≤◌, false, length, IfOk, IfErr};
+ghost use Rattle.bril_cli.specs.CommandLine.{KeepsPasses};
 ghost use Rattle.bril_cli.specs.Driver.{Untold, DoesTree, DoesFile};
+ghost use Rattle.bril_cli.specs.PassList.{pass_list};
+ghost use Rattle.bril_cli.specs.Stages.{IsAcceptedProgram, RefusesProgram};
 ghost use Rattle.bril_cli.specs.Stats.{Telling};
 ghost use Rattle.bril_report.specs.StageFaults.{status_of};
+ghost use Rattle.bril_words.specs.Names.{names_of};
 ghost use Rattle.bril_words.specs.Request.{IsActionInRange};
 
 use crate::commands::check::put_counts;
 use crate::commands::emit::put_image;
 use crate::commands::interp::interpret;
 use crate::commands::json::put_json;
+use crate::commands::passes::put_transformed;
 use crate::commands::run::{RunSettings, run};
 use crate::commands::text::put_text;
 use crate::program::accepted_program;
 use crate::source::{read_file, read_tree};
+use bril_checker::Checked;
 use bril_outside::files::Files;
 use bril_outside::sink::Sink;
 use bril_report::Status;
 use bril_tree::limits::Limits;
+use bril_tree::sequence::Seq;
+use bril_tree::text::Text;
 use bril_tree::tree::Tree;
-use bril_words::{Action, CELLS, Request};
+use bril_words::{Action, CELLS, Request, names_of};
+use pass_law::Pass;
 use std::alloc::Global;
 
-/// Does what a request asks of its file: what the action produces goes to `out`, and what is told of a run to `err`. Where a put of
+/// Does what a request asks of its file: what the action produces goes to `out`, and what is told of a run or of passes to `err`. Where a put of
 /// the latter failed, `silenced` becomes true, and nothing more is to be put on `err`.
 ///
 /// The file has at most 16,777,216 bytes, which read as a tree: in JSON where the path ends in `.json`, and in text
@@ -34,31 +43,37 @@ pub fn drive<F: Files, O: Sink, E: Sink>(
     files: &mut F,
     out: &mut O,
     err: &mut E,
+    passes: &mut [Box<dyn Pass>],
     silenced: &mut bool,
 ) -> Result<(), Status>
     requires range { IsActionInRange request.action }
+    requires few { length (names_of request.list.now) ≤ 64 }
     requires sound { silenced.old ≡ false }
     ensures holds { (F.seen files.new).holds ≡ (F.seen files.old).holds }
     ensures faults { (F.seen files.old).faults ≤ (F.seen files.new).faults }
-    ensures does { Telling (λ told. DoesFile request.entry.action (status_of result) (F.seen files.old) (F.seen files.new) request.entry.path.now request.entry.args.now told (O.seen out.old) (O.seen out.new)) silenced.new (E.seen err.old) (E.seen err.new) }
+    ensures does { Telling (λ told. DoesFile request.entry.action (status_of result) (pass_list (λ p. meaning p) (λ p. counts p) passes.old passes.new (names_of request.entry.list.now)) (F.seen files.old) (F.seen files.new) request.entry.path.now request.entry.args.now told (O.seen out.old) (O.seen out.new)) silenced.new (E.seen err.old) (E.seen err.new) }
+    ensures keeps { KeepsPasses request.entry.action passes.old passes.new }
 {
     let source = read_file(alloc, request.path, files)?;
     let tree = read_tree(alloc, request.path.as_bytes(), source.as_slice())?;
-    do_command(alloc, request, &tree, out, err, silenced)
+    do_command(alloc, request, &tree, out, err, passes, silenced)
 }
 
-// Does what a request asks of its file's tree. To check, interpret, emit or run it, the tree has an accepted program.
+// Does what a request asks of its file's tree. To check, interpret, transform, emit or run it, the tree has an accepted program.
 fn do_command<O: Sink, E: Sink>(
     alloc: Global,
     request: Request,
     tree: &Tree,
     out: &mut O,
     err: &mut E,
+    passes: &mut [Box<dyn Pass>],
     silenced: &mut bool,
 ) -> Result<(), Status>
     requires range { IsActionInRange request.action }
+    requires few { length (names_of request.list.now) ≤ 64 }
     requires sound { silenced.old ≡ false }
-    ensures { Telling (λ told. Untold request.entry.action told × DoesTree request.entry.action (status_of result) tree.now request.entry.args.now told (O.seen out.old) (O.seen out.new)) silenced.new (E.seen err.old) (E.seen err.new) }
+    ensures does { Telling (λ told. Untold request.entry.action told × DoesTree request.entry.action (status_of result) (pass_list (λ p. meaning p) (λ p. counts p) passes.old passes.new (names_of request.entry.list.now)) tree.now request.entry.args.now told (O.seen out.old) (O.seen out.new)) silenced.new (E.seen err.old) (E.seen err.new) }
+    ensures keeps { KeepsPasses request.entry.action passes.old passes.new }
 {
     match request.action {
         Action::Run {
@@ -72,8 +87,18 @@ fn do_command<O: Sink, E: Sink>(
                 steps,
                 stats,
             };
-            let program = accepted_program(alloc, tree)?;
-            run(alloc, &program, request.args, settings, out, err, silenced)
+            let (program, names) = prepared(alloc, tree, request.list)?;
+            run(
+                alloc,
+                program,
+                request.args,
+                settings,
+                passes,
+                &names,
+                out,
+                err,
+                silenced,
+            )
         }
         Action::Interpret {
             frames,
@@ -89,8 +114,12 @@ fn do_command<O: Sink, E: Sink>(
                 frames,
                 cells: CELLS,
             };
-            let program = accepted_program(alloc, tree)?;
-            put_image(alloc, &program, limits, out)
+            let (program, names) = prepared(alloc, tree, request.list)?;
+            put_image(alloc, program, limits, passes, &names, out)
+        }
+        Action::Passes => {
+            let (program, names) = prepared(alloc, tree, request.list)?;
+            put_transformed(alloc, program, passes, &names, out, err, silenced)
         }
         Action::Check => {
             let program = accepted_program(alloc, tree)?;
@@ -99,4 +128,15 @@ fn do_command<O: Sink, E: Sink>(
         Action::WriteText => put_text(alloc, tree, out),
         Action::WriteJson => put_json(alloc, tree, out),
     }
+}
+
+// The accepted program of a tree, and the names of a list of passes.
+fn prepared(alloc: Global, tree: &Tree, list: &str) -> Result<(Checked, Seq<Text>), Status>
+    ensures program { IfOk result (λ made. IsAcceptedProgram tree.now made.0.prog) }
+    ensures names { IfOk result (λ made. made.1 ≡ names_of list.now) }
+    ensures err { IfErr result (λ status. RefusesProgram status tree.now) }
+{
+    let program = accepted_program(alloc, tree)?;
+    let names = names_of(alloc, list)?;
+    Ok((program, names))
 }

@@ -4,7 +4,9 @@
 mod arguments;
 mod commands;
 mod driver;
+pub mod end;
 mod image;
+mod list;
 mod program;
 mod source;
 mod stats;

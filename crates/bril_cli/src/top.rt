@@ -11,45 +11,56 @@ use bril_outside::sink::Sink;
 use bril_report::{Status, say, say_misuse, status_number};
 use bril_tree::text::Text;
 use bril_words::read_words;
+use pass_law::Pass;
 use std::alloc::Global;
 
 /// Does what the words ask for, and answers the exit status.
 ///
 /// The words are the program's name, a command, and the path of a file: one byte or more, of which the first
 /// is no `-`. The commands are `run`, which makes the file's program into machine words and runs these, `interp`, which
-/// interprets it, `emit`, which writes its machine words, `check`, which writes how many functions and items its accepted
-/// program has, and `text` and `json`, which write the file in canonical text, and in canonical JSON and LF. After the path of
-/// `run` and `interp` there may be options, each with its number as the next word, `--frames` (from 1 to 65,536; 8,192 where it
-/// isn't given), `--cells` (to 4,194,304; 1,048,576) and `--steps` (to 1,000,000,000,000; 1,000,000,000), and then `--` and the
-/// arguments of `@main`; for `run` also `--stats`; after that of `emit` there may be `--frames`. A file whose path ends in `.json` is in the JSON form of
-/// the Bril documentation, and any other in its text form. To be checked, interpreted, emitted or run it has to be without
-/// imports.
+/// interprets it, `emit`, which writes its machine words, `passes`, which writes what a list of passes makes of it, `check`, which
+/// writes how many functions and items its accepted program has, and `text` and `json`, which write the file in canonical text, and
+/// in canonical JSON and LF. After the path of `run` and `interp` there may be options, each with its number as the next word,
+/// `--frames` (from 1 to 65,536; 8,192 where it isn't given), `--cells` (to 4,194,304; 1,048,576) and `--steps` (to
+/// 1,000,000,000,000; 1,000,000,000), and then `--` and the arguments of `@main`; for `run` also `--passes`, with a list of passes as
+/// the next word, and `--stats`. After that of `emit` there may be `--frames` and `--passes`, and after that of `passes` there may be
+/// `--passes`. A list is the names of 64 passes at most, with a comma between each two; where it is empty or isn't given, there are
+/// none. A file whose path ends in `.json` is in the JSON form of the Bril documentation, and any other in its text form. To be
+/// checked, interpreted, transformed, emitted or run it has to be without imports.
+///
+/// `run`, `emit` and `passes` give the program to the list of passes: each name to the first of `passes` that answers to it, and each
+/// pass gets what the one before it made, with the profile without entries. What is said below of a program's words is said of the
+/// program after the passes. It comes from the source by a chain of links, and the passes' tallies grow by these; no other command
+/// changes the passes.
 ///
 /// `run` makes the program into words of RV64I with multiplication and division, and a machine executes `--steps` of them at most.
 /// What they print is what the program prints by its semantics, and the machine ends as the program does: where the program ends
-/// after n steps, `run` has its end if `--steps` is at least the cost of n + 1 steps (`bril_tree/specs/Cost.antt`). With `--stats`,
+/// after n steps, `run` has its end if `--steps` is at least the cost of a step of the program after the passes
+/// (`bril_tree/specs/Cost.antt`), times the product of the passes' factors, times n + 1. With `--stats`,
 /// after a run that ended, stopped with a fault or goes on, `err` gets the line `words W`, W being the words that were executed, and
 /// for each guard of the program, in the order of functions and items, the line `guard @F I fails K`: its function, its item from 0,
 /// and how often it failed; then the line of the status.
 ///
 /// | Status | Comes | Line on `err` |
 /// |---|---|---|
-/// | 0 | all was done: `out` took all that the program prints up to its end, or its machine words, each in eight hexadecimal digits and LF, or `ok FUNCTIONS ITEMS` and LF, or the canonical text or JSON | none |
+/// | 0 | all was done: `out` took all that the program prints up to its end, or its machine words, each in eight hexadecimal digits and LF, or `ok FUNCTIONS ITEMS` and LF, or the canonical text or JSON | none; for `passes` the line `NAME runs R seen S made M` of each pass that the list used, in their order, NAME being the first name of the list that the pass answers to |
 /// | 2 | the program was run or interpreted and stopped with a fault; `out` took all that it printed | `fault K NAME` |
 /// | 3 | the program was interpreted and goes on after so many steps, or the machine after so many words; `out` took all that was printed | `spent STEPS` |
-/// | 64 | the words are any others | `usage`, or `usage: OPTION` for an option's number |
+/// | 64 | the words are any others | `usage`, or `usage: OPTION` for an option's number or list |
 /// | 65 | the file is no program in its form | `PATH: text K at AT`, `PATH: json K function F item I` |
-/// | 65 | the file is to be checked, interpreted, emitted or run and has imports | `PATH: form` |
-/// | 65 | the file is to be checked, interpreted, emitted or run, and a name in it stands twice or for nothing | `name K function F item I` |
-/// | 65 | the file is to be checked, interpreted, emitted or run, and its program isn't accepted | `check K function F item I`, for K = 3 with ` variable NAME` after it |
+/// | 65 | the file is to be checked, interpreted, transformed, emitted or run and has imports | `PATH: form` |
+/// | 65 | the file is to be checked, interpreted, transformed, emitted or run, and a name in it stands twice or for nothing | `name K function F item I` |
+/// | 65 | the file is to be checked, interpreted, transformed, emitted or run, and its program isn't accepted | `check K function F item I`, for K = 3 with ` variable NAME` after it |
 /// | 66 | the file is not there, or reading it failed | `cannot read PATH` |
 /// | 68 | the file has more than 16,777,216 bytes, or the program's machine words may be more than 250,000, or its frames need more than 8,388,608 words | `too large: bytes`, `too large: code WORDS`, `too large: stack WORDS` |
+/// | 68 | the pass at this place of the list, from 1, may make more than 1,000,000 items, and more than it was given | `too large: pass PLACE BOUND` |
 /// | 69 | the program is to be run or interpreted, and the arguments are not as many as `@main` takes, or one spells no value of its type, the first of them at this place from 1 | `arguments: GIVEN given, WANTED wanted`, `argument PLACE` |
+/// | 70 | no pass answers to the name at this place of the list, the first such; no pass ran | `unknown pass PLACE` |
 /// | 71 | memory ran out before anything was put on `out` or, for `interp`, at an item that takes memory, up to which `out` took what the program prints | `out of memory` |
-/// | 74 | a write to `out` failed, which took the first of what goes there | `cannot write` |
+/// | 74 | a write to `out` failed, which took the first of what goes there | `cannot write`; for `passes` the lines of the passes before it |
 ///
 /// Where several causes stand together, the first in this order is answered: 64, 66, the file's size, 65 in the order of
-/// the table, 69, and then the program's code and its stack.
+/// the table, 69, 70, the passes, and then the program's code and its stack.
 ///
 /// In text K is 1 where nothing begins at byte AT, 2 where no program goes on with the token there, 3 where a
 /// number is no int, 4 where a float stands, 5 at the 33rd `ptr` of a type. In JSON K is 1 where the bytes are no
@@ -70,10 +81,11 @@ pub fn bril_top<F: Files, O: Sink, E: Sink>(
     files: &mut F,
     out: &mut O,
     err: &mut E,
+    passes: &mut [Box<dyn Pass>],
 ) -> u8
     ensures holds { (F.seen files.new).holds ≡ (F.seen files.old).holds }
     ensures faults { (F.seen files.old).faults ≤ (F.seen files.new).faults }
-    ensures promises { Promises result (call_of words.now (F.seen files.old) (F.seen files.new) (O.seen out.old) (O.seen out.new) (E.seen err.old) (E.seen err.new)) }
+    ensures promises { Promises result (call_of words.now (F.seen files.old) (F.seen files.new) (O.seen out.old) (O.seen out.new) (E.seen err.old) (E.seen err.new) (λ p. meaning p) (λ p. counts p) passes.old passes.new) }
 {
     let request = match read_words(words) {
         Ok(request) => request,
@@ -83,7 +95,7 @@ pub fn bril_top<F: Files, O: Sink, E: Sink>(
         }
     };
     let mut silenced = false;
-    let status = Status::from(drive(alloc, request, files, out, err, &mut silenced));
+    let status = Status::from(drive(alloc, request, files, out, err, passes, &mut silenced));
     say_unless(silenced, err, request.path, &status);
     status_number(&status)
 }

@@ -61,8 +61,10 @@ joined-status status.CannotRead path = three (codes "cannot read ") path (codes 
 joined-status status.FileTooBig path = refl
 joined-status (status.CodeTooBig words) path = three (codes "too large: code ") (decimal words) (codes "\n")
 joined-status (status.StackTooBig words) path = three (codes "too large: stack ") (decimal words) (codes "\n")
+joined-status (status.PassTooLarge place bound) path = five (codes "too large: pass ") (decimal place) (codes " ") (decimal bound) (codes "\n")
 joined-status (status.ArgumentCount given wanted) path = five (codes "arguments: ") (decimal given) (codes " given, ") (decimal wanted) (codes " wanted\n")
 joined-status (status.BadArgument position) path = three (codes "argument ") (decimal position) (codes "\n")
+joined-status (status.UnknownPass place) path = three (codes "unknown pass ") (decimal place) (codes "\n")
 joined-status status.OutOfMemory path = refl
 joined-status status.CannotWrite path = refl
 

@@ -1,4 +1,5 @@
 pub mod Lines
 pub mod Report
 pub mod StageFaults
+pub mod Tallies
 pub mod Stats

@@ -16,7 +16,7 @@ use Rattle.bril_text.specs.declared.fault.TextFault.{TextFault}
 use Rattle.bril_text.specs.declared.fault.TextFault.TheVariants as text
 use Rattle.bril_words.specs.declared.misuse.Misuse.{Misuse}
 use Rattle.bril_words.specs.declared.misuse.Misuse.TheVariants.{Words, Value}
-use Rattle.bril_words.specs.declared.misuse.Setting.TheVariants.{Frames, Cells, Steps}
+use Rattle.bril_words.specs.declared.misuse.Setting.TheVariants.{Passes, Frames, Cells, Steps}
 use Rattle.bril_report.specs.declared.report.Position.{Position}
 use Rattle.bril_report.specs.declared.status.SourceFault.{SourceFault}
 use Rattle.bril_report.specs.declared.status.SourceFault.TheVariants.{Text, Json}
@@ -172,9 +172,18 @@ count_line given wanted = (codes "arguments: " ++ decimal given) ++ (codes " giv
 abbrev pub spelling_line : ℕ → List ℕ
 spelling_line position = codes "argument " ++ decimal position ++ codes "\n"
 
+-- the pass at a place, from 1, whose bound on items is too large
+abbrev pub pass_line : ℕ → ℕ → List ℕ
+pass_line place bound = (codes "too large: pass " ++ decimal place) ++ (codes " " ++ decimal bound ++ codes "\n")
+
+-- the place, from 1, of a name that no pass answers to
+abbrev pub unknown_pass_line : ℕ → List ℕ
+unknown_pass_line place = codes "unknown pass " ++ decimal place ++ codes "\n"
+
 -- words that ask for nothing
 abbrev pub misuse_line : Misuse → List ℕ
 misuse_line Words = codes "usage\n"
+misuse_line (Value Passes) = codes "usage: --passes\n"
 misuse_line (Value Frames) = codes "usage: --frames\n"
 misuse_line (Value Cells) = codes "usage: --cells\n"
 misuse_line (Value Steps) = codes "usage: --steps\n"

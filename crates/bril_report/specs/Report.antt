@@ -12,7 +12,7 @@ use Rattle.bril_report.specs.declared.status.SourceFault.{SourceFault}
 use Rattle.bril_report.specs.declared.status.SourceFault.TheVariants.{Text, Json}
 use Rattle.bril_report.specs.declared.status.Status.{Status}
 use Rattle.bril_report.specs.declared.status.Status.TheVariants as status
-use Rattle.bril_report.specs.Lines.{text_front, text_position, position_of, number_or_dash, json_front, json_position, name_front, name_position, variable_name, form_line, misread_line, misnamed_line, unaccepted_line, unread_line, code_line, stack_line, fault_line, spent_line, count_line, spelling_line, misuse_line}
+use Rattle.bril_report.specs.Lines.{text_front, text_position, position_of, number_or_dash, json_front, json_position, name_front, name_position, variable_name, form_line, misread_line, misnamed_line, unaccepted_line, unread_line, code_line, stack_line, fault_line, spent_line, count_line, spelling_line, pass_line, unknown_pass_line, misuse_line}
 
 -- a sink took the line, or its faults rose and it took the first of it
 abbrev pub Says : SinkSeen → List ℕ → SinkSeen → Type 0
@@ -32,8 +32,10 @@ status_number status.CannotRead = 66
 status_number status.FileTooBig = 68
 status_number (status.CodeTooBig words) = 68
 status_number (status.StackTooBig words) = 68
+status_number (status.PassTooLarge place bound) = 68
 status_number (status.ArgumentCount given wanted) = 69
 status_number (status.BadArgument position) = 69
+status_number (status.UnknownPass place) = 70
 status_number status.OutOfMemory = 71
 status_number status.CannotWrite = 74
 
@@ -51,8 +53,10 @@ status_line status.CannotRead path = unread_line path
 status_line status.FileTooBig path = codes "too large: bytes\n"
 status_line (status.CodeTooBig words) path = code_line words
 status_line (status.StackTooBig words) path = stack_line words
+status_line (status.PassTooLarge place bound) path = pass_line place bound
 status_line (status.ArgumentCount given wanted) path = count_line given wanted
 status_line (status.BadArgument position) path = spelling_line position
+status_line (status.UnknownPass place) path = unknown_pass_line place
 status_line status.OutOfMemory path = codes "out of memory\n"
 status_line status.CannotWrite path = codes "cannot write\n"
 
@@ -95,6 +99,9 @@ unaccepted_pieces p check.Memory = codes "check 0 function - item -\n" ∷ []
 abbrev pub count_pieces : ℕ → ℕ → List (List ℕ)
 count_pieces given wanted = codes "arguments: " ∷ decimal given ∷ codes " given, " ∷ decimal wanted ∷ codes " wanted\n" ∷ []
 
+abbrev pub pass_pieces : ℕ → ℕ → List (List ℕ)
+pass_pieces place bound = codes "too large: pass " ∷ decimal place ∷ codes " " ∷ decimal bound ∷ codes "\n" ∷ []
+
 abbrev pub status_pieces : Status → List ℕ → List (List ℕ)
 status_pieces status.Done path = []
 status_pieces (status.Faulted fault) path = fault_line fault ∷ []
@@ -108,8 +115,10 @@ status_pieces status.CannotRead path = codes "cannot read " ∷ path ∷ codes "
 status_pieces status.FileTooBig path = codes "too large: bytes\n" ∷ []
 status_pieces (status.CodeTooBig words) path = number_pieces (codes "too large: code ") words
 status_pieces (status.StackTooBig words) path = number_pieces (codes "too large: stack ") words
+status_pieces (status.PassTooLarge place bound) path = pass_pieces place bound
 status_pieces (status.ArgumentCount given wanted) path = count_pieces given wanted
 status_pieces (status.BadArgument position) path = number_pieces (codes "argument ") position
+status_pieces (status.UnknownPass place) path = number_pieces (codes "unknown pass ") place
 status_pieces status.OutOfMemory path = codes "out of memory\n" ∷ []
 status_pieces status.CannotWrite path = codes "cannot write\n" ∷ []
 
@@ -136,7 +145,9 @@ SaysStatus status.CannotRead path s t = Says s (status_line status.CannotRead pa
 SaysStatus status.FileTooBig path s t = Says s (status_line status.FileTooBig path) t
 SaysStatus (status.CodeTooBig words) path s t = Says s (status_line (status.CodeTooBig words) path) t
 SaysStatus (status.StackTooBig words) path s t = Says s (status_line (status.StackTooBig words) path) t
+SaysStatus (status.PassTooLarge place bound) path s t = Says s (status_line (status.PassTooLarge place bound) path) t
 SaysStatus (status.ArgumentCount given wanted) path s t = Says s (status_line (status.ArgumentCount given wanted) path) t
 SaysStatus (status.BadArgument position) path s t = Says s (status_line (status.BadArgument position) path) t
+SaysStatus (status.UnknownPass place) path s t = Says s (status_line (status.UnknownPass place) path) t
 SaysStatus status.OutOfMemory path s t = Says s (status_line status.OutOfMemory path) t
 SaysStatus status.CannotWrite path s t = Says s (status_line status.CannotWrite path) t

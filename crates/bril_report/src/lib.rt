@@ -6,7 +6,9 @@ mod report;
 mod stage_faults;
 mod stats;
 mod status;
+mod tallies;
 
 pub use report::{say, say_misuse, status_number};
 pub use stats::{put_guard, put_words};
 pub use status::{SourceFault, Status};
+pub use tallies::put_tally;

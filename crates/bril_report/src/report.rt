@@ -2,7 +2,7 @@
 
 ghost use Rattle.std.specs.Prelude.{◌≡◌, [], ◌∷◌, ◌++◌, codes, None, Some};
 ghost use Rattle.bril_report.specs.Lines.{text_front, text_position, json_front, json_position, name_front, name_position, number_or_dash, position_of, variable_name, fault_line, misuse_line};
-ghost use Rattle.bril_report.specs.Report.{Says, SaysBy, status_number, SaysStatus, PutsPieces, status_pieces, position_pieces, number_pieces, misread_pieces, misnamed_pieces, item_pieces, main_pieces, unassigned_pieces, unaccepted_pieces, count_pieces};
+ghost use Rattle.bril_report.specs.Report.{Says, SaysBy, status_number, SaysStatus, PutsPieces, status_pieces, position_pieces, number_pieces, misread_pieces, misnamed_pieces, item_pieces, main_pieces, unassigned_pieces, unaccepted_pieces, count_pieces, pass_pieces};
 
 use crate::status::{SourceFault, Status};
 use bril_checker::CheckFault;
@@ -37,8 +37,12 @@ pub fn status_number(status: &Status) -> u8
         | Status::Misnamed { .. }
         | Status::Unaccepted { .. } => 65,
         Status::CannotRead => 66,
-        Status::FileTooBig | Status::CodeTooBig { .. } | Status::StackTooBig { .. } => 68,
+        Status::FileTooBig
+        | Status::CodeTooBig { .. }
+        | Status::StackTooBig { .. }
+        | Status::PassTooLarge { .. } => 68,
         Status::ArgumentCount { .. } | Status::BadArgument { .. } => 69,
+        Status::UnknownPass { .. } => 70,
         Status::OutOfMemory => 71,
         Status::CannotWrite => 74,
     }
@@ -75,6 +79,9 @@ fn misuse_line(misuse: Misuse) -> &'static [u8]
     match misuse {
         Misuse::Words => b"usage\n",
         Misuse::Value {
+            setting: Setting::Passes,
+        } => b"usage: --passes\n",
+        Misuse::Value {
             setting: Setting::Frames,
         } => b"usage: --frames\n",
         Misuse::Value {
@@ -103,8 +110,10 @@ fn put_status<E: Sink>(err: &mut E, path: &Text, status: &Status) -> Result<(), 
         Status::FileTooBig => put_line(err, b"too large: bytes\n"),
         Status::CodeTooBig { words } => put_number(err, b"too large: code ", *words),
         Status::StackTooBig { words } => put_number(err, b"too large: stack ", *words),
+        Status::PassTooLarge { place, bound } => put_bound(err, *place, *bound),
         Status::ArgumentCount { given, wanted } => put_counts(err, *given, *wanted),
         Status::BadArgument { position } => put_number(err, b"argument ", u64::from(*position)),
+        Status::UnknownPass { place } => put_number(err, b"unknown pass ", u64::from(*place)),
         Status::OutOfMemory => put_line(err, b"out of memory\n"),
         Status::CannotWrite => put_line(err, b"cannot write\n"),
     }
@@ -127,6 +136,26 @@ fn fault_line(fault: Fault) -> &'static [u8]
         Fault::PtrRange => b"fault 10 PtrRange\n",
         Fault::Allocs => b"fault 11 Allocs\n",
     }
+}
+
+// Puts the line of a pass that may make too many items.
+fn put_bound<E: Sink>(err: &mut E, place: u32, bound: u64) -> Result<(), Failed>
+    ensures { PutsPieces result (E.seen err.old) (pass_pieces place bound) (E.seen err.new) }
+{
+    let mut first = Buffer::new();
+    let mut second = Buffer::new();
+    put_bounded(
+        err,
+        first.format(place).as_bytes(),
+        second.format(bound).as_bytes(),
+    )
+}
+
+// Puts the line of a pass's place and bound, both as decimals.
+fn put_bounded<E: Sink>(err: &mut E, place: &[u8], bound: &[u8]) -> Result<(), Failed>
+    ensures { PutsPieces result (E.seen err.old) (codes "too large: pass " ∷ place.now ∷ codes " " ∷ bound.now ∷ codes "\n" ∷ []) (E.seen err.new) }
+{
+    put_five(err, b"too large: pass ", place, b" ", bound, b"\n")
 }
 
 // Puts the line of a wrong number of arguments.

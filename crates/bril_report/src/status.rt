@@ -42,10 +42,14 @@ pub enum Status {
     CodeTooBig { words: u64 },
     /// The program needs too many words of stack, this many.
     StackTooBig { words: u64 },
+    /// The pass at this place of the list, from 1, may make too many items, by this bound of them.
+    PassTooLarge { place: u32, bound: u64 },
     /// So many arguments were given, and `main` takes so many.
     ArgumentCount { given: u32, wanted: u32 },
     /// The argument at this position, from 1, spells no value of its type.
     BadArgument { position: u32 },
+    /// No pass answers to the name at this place of the list, from 1.
+    UnknownPass { place: u32 },
     /// Memory ran out.
     OutOfMemory,
     /// A write to the output failed.

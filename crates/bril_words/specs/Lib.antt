@@ -1,4 +1,5 @@
 pub mod CommandLine
 pub mod Defaults
+pub mod Names
 pub mod Request
 pub mod Seen

@@ -1,12 +1,13 @@
 -- What words ask for.
 use Rattle.std.specs.Prelude.{ℕ, ◌≤◌, List}
 use Rattle.bril_words.specs.declared.request.Action.{Action}
-use Rattle.bril_words.specs.declared.request.Action.TheVariants.{Run, Interpret, Emit, Check, WriteText, WriteJson}
+use Rattle.bril_words.specs.declared.request.Action.TheVariants.{Run, Interpret, Emit, Passes, Check, WriteText, WriteJson}
 
--- an action, the path of its file, and the arguments of the file's program
+-- an action, the path of its file, the list of passes, and the arguments of the file's program
 pub record Asked : Type 0 where
   pub action : Action
   pub path : List ℕ
+  pub list : List ℕ
   pub args : List (List ℕ)
 
 -- the numbers of an action are in their ranges
@@ -26,6 +27,7 @@ abbrev pub IsActionInRange : Action → Type 0
 IsActionInRange (Run frames cells steps stats) = AreLimits frames cells steps
 IsActionInRange (Interpret frames cells steps) = AreLimits frames cells steps
 IsActionInRange (Emit frames) = AreFrames frames
+IsActionInRange Passes = Unit {0}
 IsActionInRange Check = Unit {0}
 IsActionInRange WriteText = Unit {0}
 IsActionInRange WriteJson = Unit {0}

@@ -1,8 +1,10 @@
 // Why words ask for nothing.
 
-/// An option of `run`, `interp` or `emit`.
+/// An option of a command.
 #[derive(Clone, Copy, PartialEq, Eq, Debug, Drop)]
 pub enum Setting {
+    /// `--passes`: the names of passes, 64 at most.
+    Passes,
     /// `--frames`: the most frames at once, 1 to 65,536.
     Frames,
     /// `--cells`: the most cells that are given out, 1 to 4,194,304.
@@ -16,6 +18,6 @@ pub enum Setting {
 pub enum Misuse {
     /// They are those of no command.
     Words,
-    /// The option's value is no number, or out of its range.
+    /// The option's value is no number or out of its range, or names too many passes.
     Value { setting: Setting },
 }

@@ -23,6 +23,8 @@ pub enum Action {
     Emit {
         frames: u32,
     },
+    /// Writes its program after the passes.
+    Passes,
     /// Writes how many functions and items its program has, where it is accepted.
     Check,
     /// Writes its canonical text.
@@ -31,10 +33,11 @@ pub enum Action {
     WriteJson,
 }
 
-/// An action, the path of its file, and the arguments of the file's program.
+/// An action, the path of its file, the list of passes, and the arguments of the file's program.
 #[derive(Clone, Copy, Drop)]
 pub struct Request<'a> {
     pub action: Action,
     pub path: &'a Text,
+    pub list: &'a str,
     pub args: &'a [Text],
 }

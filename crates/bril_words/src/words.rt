@@ -1,14 +1,14 @@
 // The words of the command line.
 
-ghost use Rattle.std.specs.Prelude.{◌≡◌, true, false, None, IfOk};
+ghost use Rattle.std.specs.Prelude.{◌≡◌, ◌≤◌, None, length, IfOk};
+ghost use Rattle.bril_words.specs.Names.{names_of};
 ghost use Rattle.std.specs.Result.{result_map_both};
-ghost use Rattle.bril_words.specs.CommandLine.{words_read, is_operand, tail_from, nothing_written, numbers_of, frames_written, frames_of, command_asked, run_asked, interp_asked, emit_asked, plain_asked};
-ghost use Rattle.bril_words.specs.Request.{AreLimits, AreFrames, IsActionInRange};
-ghost use Rattle.bril_words.specs.Seen.{request_seen, numbers_seen, text_seen};
-ghost use Rattle.std.specs.Option.{option_map};
+ghost use Rattle.bril_words.specs.CommandLine.{words_read, is_operand, tail_from, nothing_written, options_of, action_of, options_asked, command_asked, plain_asked};
+ghost use Rattle.bril_words.specs.Request.{AreLimits, IsActionInRange};
+ghost use Rattle.bril_words.specs.Seen.{request_seen, options_seen};
 
 use crate::misuse::{Misuse, Setting};
-use crate::options::{tail_of, value_of};
+use crate::options::{Command, list_of, tail_of, value_of};
 use crate::request::{Action, Request};
 use bril_tree::text::Text;
 
@@ -31,16 +31,18 @@ pub const STEPS: u64 = 1_000_000_000;
 /// What the words ask for. Takes no memory.
 ///
 /// The words are the program's name, a command, and the path of a file: one byte or more, of which the first is no
-/// `-`. The commands are `check`, `text` and `json`, with nothing after the path, `run` and `interp`, with options
-/// after the path, each at most once and as two words, `--frames N`, `--cells N` and `--steps N`, and for `run` the flag
-/// `--stats`, and then perhaps `--` and the arguments of the program, and `emit`, with perhaps `--frames N` after the path. Where an option
-/// isn't given it is 8,192 frames, 1,048,576 cells and 1,000,000,000 steps.
+/// `-`. After the path of `check`, `text` and `json` there is nothing. After that of the others there may be options, each at
+/// most once and as two words: for `run` `--passes LIST`, `--frames N`, `--cells N` and `--steps N`, and the flag `--stats`; for
+/// `interp` `--frames N`, `--cells N` and `--steps N`; for `passes` `--passes LIST`; and for `emit` `--passes LIST` and
+/// `--frames N`. After those of `run` and `interp` there may be `--` and the arguments of the program. Where an option isn't
+/// given it is the empty list, 8,192 frames, 1,048,576 cells and 1,000,000,000 steps.
 ///
-/// `Words`: the words are any others. `Value`: they are these, and this is the first of frames, cells and steps whose
-/// value is no number as `bril_nums::read_int` reads it, or is out of its range.
+/// `Words`: the words are any others. `Value`: they are these, and this is the first of passes, frames, cells and steps whose
+/// value has more than 64 names, is no number as `bril_nums::read_int` reads it, or is out of its range.
 pub fn read_words<'a>(words: &'a [Text]) -> Result<Request<'a>, Misuse>
     ensures read { result_map_both request_seen (λ e. e) result ≡ words_read words.now }
     ensures range { IfOk result (λ request. IsActionInRange request.action) }
+    ensures few { IfOk result (λ request. length (names_of request.list.now) ≤ 64) }
 {
     match words {
         [_, command, path, rest @ ..] if is_operand(path.as_bytes()) => {
@@ -54,11 +56,13 @@ pub fn read_words<'a>(words: &'a [Text]) -> Result<Request<'a>, Misuse>
 fn read_command<'a>(name: &str, path: &'a Text, rest: &'a [Text]) -> Result<Request<'a>, Misuse>
     ensures read { result_map_both request_seen (λ e. e) result ≡ command_asked name.now path.now rest.now }
     ensures range { IfOk result (λ request. IsActionInRange request.action) }
+    ensures few { IfOk result (λ request. length (names_of request.list.now) ≤ 64) }
 {
     match name {
-        "run" => read_run(path, rest),
-        "interp" => read_interp(path, rest),
-        "emit" => read_emit(path, rest),
+        "run" => read_with_options(Command::Run, path, rest),
+        "interp" => read_with_options(Command::Interp, path, rest),
+        "passes" => read_with_options(Command::Passes, path, rest),
+        "emit" => read_with_options(Command::Emit, path, rest),
         "check" => read_plain(Action::Check, path, rest),
         "text" => read_plain(Action::WriteText, path, rest),
         "json" => read_plain(Action::WriteJson, path, rest),
@@ -71,20 +75,24 @@ fn read_plain<'a>(action: Action, path: &'a Text, rest: &'a [Text]) -> Result<Re
     requires { IsActionInRange action }
     ensures read { result_map_both request_seen (λ e. e) result ≡ plain_asked action path.now rest.now }
     ensures range { IfOk result (λ request. IsActionInRange request.action) }
+    ensures few { IfOk result (λ request. length (names_of request.list.now) ≤ 64) }
 {
     match rest {
         [] => Ok(Request {
             action,
             path,
+            list: "",
             args: rest,
         }),
         _ => Err(Misuse::Words),
     }
 }
 
-// The numbers of a run, whether its counts are told, and the arguments of its program.
+// What the options of a command say: the list of passes, the numbers, whether the counts of a run are told, and the arguments
+// of its program.
 #[derive(Clone, Copy, Drop)]
-struct Numbers<'a> {
+struct Options<'a> {
+    list: &'a str,
     frames: u32,
     cells: u32,
     steps: u64,
@@ -92,49 +100,60 @@ struct Numbers<'a> {
     args: &'a [Text],
 }
 
-// The command `run`.
-fn read_run<'a>(path: &'a Text, rest: &'a [Text]) -> Result<Request<'a>, Misuse>
-    ensures read { result_map_both request_seen (λ e. e) result ≡ run_asked path.now (numbers_of (tail_from true nothing_written None rest.now)) }
+// A command with options.
+fn read_with_options<'a>(
+    command: Command,
+    path: &'a Text,
+    rest: &'a [Text],
+) -> Result<Request<'a>, Misuse>
+    ensures read { result_map_both request_seen (λ e. e) result ≡ options_asked command path.now (options_of (tail_from command nothing_written None rest.now)) }
     ensures range { IfOk result (λ request. IsActionInRange request.action) }
+    ensures few { IfOk result (λ request. length (names_of request.list.now) ≤ 64) }
 {
-    let numbers = read_numbers(true, rest)?;
-    let action = Action::Run {
-        frames: numbers.frames,
-        cells: numbers.cells,
-        steps: numbers.steps,
-        stats: numbers.stats,
-    };
+    let options = read_options(command, rest)?;
     Ok(Request {
-        action,
+        action: action_of(command, options),
         path,
-        args: numbers.args,
+        list: options.list,
+        args: options.args,
     })
 }
 
-// The command `interp`.
-fn read_interp<'a>(path: &'a Text, rest: &'a [Text]) -> Result<Request<'a>, Misuse>
-    ensures read { result_map_both request_seen (λ e. e) result ≡ interp_asked path.now (numbers_of (tail_from false nothing_written None rest.now)) }
-    ensures range { IfOk result (λ request. IsActionInRange request.action) }
+// The action of a command with these options.
+fn action_of(command: Command, options: Options<'_>) -> Action
+    requires { AreLimits options.frames options.cells options.steps }
+    ensures is { result ≡ action_of command (options_seen options.entry) }
+    ensures range { IsActionInRange result }
 {
-    let numbers = read_numbers(false, rest)?;
-    let action = Action::Interpret {
-        frames: numbers.frames,
-        cells: numbers.cells,
-        steps: numbers.steps,
-    };
-    Ok(Request {
-        action,
-        path,
-        args: numbers.args,
-    })
+    match command {
+        Command::Run => Action::Run {
+            frames: options.frames,
+            cells: options.cells,
+            steps: options.steps,
+            stats: options.stats,
+        },
+        Command::Interp => Action::Interpret {
+            frames: options.frames,
+            cells: options.cells,
+            steps: options.steps,
+        },
+        Command::Emit => Action::Emit {
+            frames: options.frames,
+        },
+        Command::Passes => Action::Passes,
+    }
 }
 
-// The numbers that the options give, whether the flag stands where it is taken, and the arguments after them.
-fn read_numbers<'a>(takes_stats: bool, rest: &'a [Text]) -> Result<Numbers<'a>, Misuse>
-    ensures read { result_map_both numbers_seen (λ e. e) result ≡ numbers_of (tail_from takes_stats nothing_written None rest.now) }
-    ensures range { IfOk result (λ numbers. AreLimits numbers.frames numbers.cells numbers.steps) }
+// What the options say, each what it is by default where it doesn't stand.
+fn read_options<'a>(command: Command, rest: &'a [Text]) -> Result<Options<'a>, Misuse>
+    ensures read { result_map_both options_seen (λ e. e) result ≡ options_of (tail_from command nothing_written None rest.now) }
+    ensures range { IfOk result (λ options. AreLimits options.frames options.cells options.steps) }
+    ensures few { IfOk result (λ options. length (names_of options.list.now) ≤ 64) }
 {
-    let (values, args) = tail_of(takes_stats, rest).ok_or(Misuse::Words)?;
+    let (values, args) = tail_of(command, rest).ok_or(Misuse::Words)?;
+    let list = list_of(values.passes).ok_or(Misuse::Value {
+        setting: Setting::Passes,
+    })?;
     let frames = value_of(MOST_FRAMES, FRAMES as u64, values.frames).ok_or(Misuse::Value {
         setting: Setting::Frames,
     })?;
@@ -144,49 +163,14 @@ fn read_numbers<'a>(takes_stats: bool, rest: &'a [Text]) -> Result<Numbers<'a>, 
     let steps = value_of(MOST_STEPS, STEPS, values.steps).ok_or(Misuse::Value {
         setting: Setting::Steps,
     })?;
-    Ok(Numbers {
+    Ok(Options {
+        list,
         frames: frames as u32,
         cells: cells as u32,
         steps,
         stats: values.stats,
         args,
     })
-}
-
-// The command `emit`.
-fn read_emit<'a>(path: &'a Text, rest: &'a [Text]) -> Result<Request<'a>, Misuse>
-    ensures read { result_map_both request_seen (λ e. e) result ≡ emit_asked path.now (frames_of (frames_written rest.now)) }
-    ensures range { IfOk result (λ request. IsActionInRange request.action) }
-{
-    let frames = read_frames(rest)?;
-    Ok(Request {
-        action: Action::Emit { frames },
-        path,
-        args: &[],
-    })
-}
-
-// The number of frames, the only option of `emit`.
-fn read_frames(rest: &[Text]) -> Result<u32, Misuse>
-    ensures read { result ≡ frames_of (frames_written rest.now) }
-    ensures range { IfOk result AreFrames }
-{
-    let written = frames_written(rest).ok_or(Misuse::Words)?;
-    let frames = value_of(MOST_FRAMES, FRAMES as u64, written).ok_or(Misuse::Value {
-        setting: Setting::Frames,
-    })?;
-    Ok(frames as u32)
-}
-
-// The value of the option as it stands, where nothing else does.
-fn frames_written<'a>(rest: &'a [Text]) -> Option<Option<&'a Text>>
-    ensures { option_map text_seen result ≡ frames_written rest.now }
-{
-    match rest {
-        [] => Some(None),
-        [word, value] if word.as_str() == "--frames" => Some(Some(value)),
-        _ => None,
-    }
 }
 
 // Whether a word is an operand.

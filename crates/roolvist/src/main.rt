@@ -1,60 +1,55 @@
 // The command line of Roolvist.
 #![tactic(auto)]
 
-ghost use Rattle.std.specs.Prelude.{◌≡◌, IfOk, IfErr};
+ghost use Rattle.std.specs.Prelude.{◌≡◌, Err, IfOk, IfErr};
 ghost use Rattle.std.specs.IoError.{error_kind};
-ghost use Rattle.std.specs.Process.{exit_status};
-ghost use Rattle.bril_report.specs.Report.{status_number};
-ghost use Rattle.roolvist.specs.End.{AreAllOf, EndsAs, IsUntouched, no_words};
+ghost use Rattle.bril_report.specs.declared.status.Status.TheVariants.{OutOfMemory};
+ghost use Rattle.roolvist.specs.Words.{AreAllOf, no_words};
 
-use bril_cli::top::bril_top;
-use bril_outside::files::Files;
+use bril_cli::end::end;
 use bril_outside::os_files::OsFiles;
 use bril_outside::os_sink::OsSink;
-use bril_outside::sink::Sink;
-use bril_report::{Status, status_number};
+use bril_report::Status;
 use bril_tree::sequence::Seq;
 use bril_tree::text::Text;
 use bril_words::Misuse;
+use pass_law::Pass;
 use std::alloc::{AllocError, Global};
 use std::env::{self, Args};
 use std::io::{self, ErrorKind, Stderr, Stdout};
 use std::process::ExitCode;
 
 fn main(rt: HostRuntime) -> ExitCode {
+    let alloc = rt.alloc();
+    let words = given_words(alloc, env::args(&rt));
     let mut files = OsFiles::new(&rt);
     let mut out = OsSink::new(rt.stdout());
     let mut err = OsSink::new(rt.stderr());
-    end::<OsFiles<HostRuntime>, OsSink<Stdout>, OsSink<Stderr>>(
-        rt.alloc(),
-        env::args(&rt),
+    let mut passes: [Box<dyn Pass>; 0] = [];
+    let status = end::<OsFiles<HostRuntime>, OsSink<Stdout>, OsSink<Stderr>>(
+        alloc,
+        words,
         &mut files,
         &mut out,
         &mut err,
-    )
+        passes.as_mut_slice(),
+    );
+    ExitCode::from(status)
 }
 
-// Does what the words ask for, and gives the exit status: that of `bril_top`, or 71 where the words don't fit into
-// memory. Where the system gives no words it is 71 out of memory, and else 64. In these cases nothing is written.
-fn end<F: Files, O: Sink, E: Sink>(
-    alloc: Global,
-    args: io::Result<Args>,
-    files: &mut F,
-    out: &mut O,
-    err: &mut E,
-) -> ExitCode
-    ensures words { IfOk args (λ args. EndsAs (exit_status result) args (F.seen files.old) (F.seen files.new) (O.seen out.old) (O.seen out.new) (E.seen err.old) (E.seen err.new)) }
-    ensures none { IfErr args (λ fault. exit_status result ≡ status_number (no_words (error_kind fault))) }
-    ensures silent { IfErr args (λ _. IsUntouched (F.seen files.old) (F.seen files.new) (O.seen out.old) (O.seen out.new) (E.seen err.old) (E.seen err.new)) }
+// All words that the system gives, as text. `Err`: it gives none, or they don't fit into memory.
+fn given_words(alloc: Global, args: io::Result<Args>) -> Result<Seq<Text>, Status>
+    ensures all { IfOk args (λ args. IfOk result (AreAllOf args)) }
+    ensures memory { IfOk args (λ _. IfErr result (λ status. status ≡ OutOfMemory)) }
+    ensures none { IfErr args (λ fault. result ≡ Err (no_words (error_kind fault))) }
 {
-    let args = match args {
-        Ok(args) => args,
-        Err(fault) => return ExitCode::from(status_number(&no_words(fault.kind()))),
-    };
-    let Ok(words) = collected(alloc, args) else {
-        return ExitCode::from(status_number(&Status::OutOfMemory));
-    };
-    ExitCode::from(bril_top(alloc, words.as_slice(), files, out, err))
+    match args {
+        Ok(args) => match collected(alloc, args) {
+            Ok(words) => Ok(words),
+            Err(AllocError) => Err(Status::OutOfMemory),
+        },
+        Err(fault) => Err(no_words(fault.kind())),
+    }
 }
 
 // The status where the system gives no words: one that is no text is a faulty command line.

@@ -8,6 +8,8 @@ mod adapters;
 #[cfg(test)]
 mod laws;
 #[cfg(test)]
+mod lists;
+#[cfg(test)]
 mod passes;
 #[cfg(test)]
 mod weak;

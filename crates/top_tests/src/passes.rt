@@ -153,13 +153,13 @@ fn run_names(
 }
 
 // The pass `pad`, in a box.
-fn boxed_pad(alloc: Global) -> Result<Box<dyn Pass>, AllocError> {
+pub(crate) fn boxed_pad(alloc: Global) -> Result<Box<dyn Pass>, AllocError> {
     let pad: Box<dyn Pass> = Box::new(alloc, Pad::new())?;
     Ok(pad)
 }
 
 // A pass that makes nothing, in a box.
-fn boxed_lacking(alloc: Global, bound: u64) -> Result<Box<dyn Pass>, AllocError> {
+pub(crate) fn boxed_lacking(alloc: Global, bound: u64) -> Result<Box<dyn Pass>, AllocError> {
     let lacking: Box<dyn Pass> = Box::new(alloc, Lacking { bound })?;
     Ok(lacking)
 }
@@ -189,7 +189,7 @@ fn stop(place: u32, bound: u64, items: usize) -> Stopped {
     }
 }
 
-fn tally(runs: u64, seen: u64, made: u64) -> Tally {
+pub(crate) fn tally(runs: u64, seen: u64, made: u64) -> Tally {
     Tally { runs, seen, made }
 }
 

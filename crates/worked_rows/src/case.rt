@@ -10,6 +10,7 @@ use bril_tree::bytes::Bytes;
 use bril_tree::sequence::Seq;
 use bril_tree::text::Text;
 use bril_tree::value::Value;
+use pass_law::Pass;
 use row_text::{LineFault, add_lines, add_unescaped};
 use std::alloc::{AllocError, Global};
 use std::mem;
@@ -176,7 +177,15 @@ impl Case {
         }
         let mut out = MemSink::new(alloc, ROOM, Seq::new(alloc))?;
         let mut err = MemSink::new(alloc, ROOM, Seq::new(alloc))?;
-        let _status = bril_top(alloc, words.as_slice(), &mut self.files, &mut out, &mut err);
+        let mut passes: [Box<dyn Pass>; 0] = [];
+        let _status = bril_top(
+            alloc,
+            words.as_slice(),
+            &mut self.files,
+            &mut out,
+            &mut err,
+            passes.as_mut_slice(),
+        );
         execute(alloc, out.bytes(), args.as_slice(), shown)
     }
 
@@ -224,7 +233,15 @@ impl Case {
         let room = mem::replace(&mut self.room, ROOM);
         let mut out = MemSink::new(alloc, room, puts)?;
         let mut err = MemSink::new(alloc, ROOM, errs)?;
-        let status = bril_top(alloc, words.as_slice(), &mut self.files, &mut out, &mut err);
+        let mut passes: [Box<dyn Pass>; 0] = [];
+        let status = bril_top(
+            alloc,
+            words.as_slice(),
+            &mut self.files,
+            &mut out,
+            &mut err,
+            passes.as_mut_slice(),
+        );
         let told = format!(in alloc; "status {status}")?;
         add_line(told.as_str(), shown)?;
         add_lines(alloc, "", out.bytes(), shown)?;

@@ -15,7 +15,9 @@ use Rattle.rv64_implements.specs.WordBounds.{IsWithin}
 use Rattle.rv64_words.specs.declared.image.Image.{Image}
 use Rattle.bril_cli.specs.Call.{Call, ReadsWell, UnlessMemory}
 use Rattle.bril_cli.specs.CommandLine.{format_of}
+use Rattle.bril_cli.specs.After.{AfterPasses, EmitsAfter}
 use Rattle.bril_cli.specs.Images.{IsProgramFile, RefusesImage}
+use Rattle.bril_cli.specs.PassList.{PassList, IsMade, AfterList}
 use Rattle.bril_cli.specs.Source.{most_bytes, IsSource}
 
 -- ---- the text of words
@@ -42,16 +44,18 @@ pub record ListsImage (p : Prog) (limits : Limits) (output : List ℕ) : Type 0 
   pub implements : Implements image p limits
   pub lists : output ≡ listing image.words
 
--- The file at the path reads as an accepted program that is within the bounds under a limit of so many frames, and this text lists
--- its image's words.
-pub record Emits (files : FilesSeen) (path : List ℕ) (frames : ℕ) (output : List ℕ) : Type 0 where
+-- The file at the path reads as an accepted program, the list of passes makes another of it that is within the bounds under a limit of
+-- so many frames, and this text lists its image's words.
+pub record Emits (files : FilesSeen) (l : PassList) (path : List ℕ) (frames : ℕ) (output : List ℕ) : Type 0 where
   pub program : Prog
   pub is : IsProgramFile files path program
   pub limits : Limits
   pub frames_are : limits.frames ≡ frames
   pub cells_are : limits.cells ≡ default_cells
-  pub within : IsWithin program limits
-  pub image : ListsImage program limits output
+  pub made : Prog
+  pub by : IsMade l program made
+  pub within : IsWithin made limits
+  pub image : ListsImage made limits output
 
 -- what writing a text piece by piece answers: no memory is taken
 abbrev pub PutsListing : Status → List ℕ → SinkSeen → SinkSeen → Type 0
@@ -59,14 +63,18 @@ PutsListing status.Done text s t = TookAll s text t
 PutsListing status.CannotWrite text s t = TookSome s text t × Rose s.faults t.faults
 PutsListing _ text s t = ⊥
 
--- what writing the words of an accepted program answers
-abbrev pub EmitsProgram : Status → Prog → Limits → SinkSeen → SinkSeen → Type 0
-EmitsProgram how p limits s t =
+-- what writing the words of a program answers
+abbrev pub EmitsImage : Status → Prog → Limits → SinkSeen → SinkSeen → Type 0
+EmitsImage how p limits s t =
     (RefusesImage how p limits × (t ≡ s)) ⊎ (IsWithin p limits × ((output : List ℕ) × ListsImage p limits output × PutsListing how output s t))
 
+-- what writing the words of the program that a list of passes makes of an accepted program answers
+abbrev pub EmitsProgram : Status → PassList → Prog → Limits → SinkSeen → SinkSeen → Type 0
+EmitsProgram how l p limits s t = AfterList how l p (t ≡ s) (λ q. EmitsImage how q limits s t)
+
 -- what writing them under a limit of so many frames answers
-abbrev pub EmitsWithin : Status → Prog → ℕ → SinkSeen → SinkSeen → Type 0
-EmitsWithin how p frames s t = (limits : Limits) × (limits.frames ≡ frames) × (limits.cells ≡ default_cells) × EmitsProgram how p limits s t
+abbrev pub EmitsWithin : Status → PassList → Prog → ℕ → SinkSeen → SinkSeen → Type 0
+EmitsWithin how l p frames s t = (limits : Limits) × (limits.frames ≡ frames) × (limits.cells ≡ default_cells) × EmitsProgram how l p limits s t
 
 -- ---- when `emit` answers what
 
@@ -78,15 +86,10 @@ pub record CanEmit (c : Call) (frames : ℕ) (bytes : List ℕ) (reads : ReadsWe
   pub frames_are : limits.frames ≡ frames
   pub cells_are : limits.cells ≡ default_cells
 
--- The words of one within the bounds are written.
+-- An accepted program is given to the list of passes. What this makes is told where it is too large; and else its words are written.
 abbrev pub EmitsWhere : ℕ → Call → Type 0
 EmitsWhere number c =
     (frames : ℕ) (bytes : List ℕ) (reads : ReadsWell c (Emit frames) bytes) (program : Prog) (limits : Limits) →
-    CanEmit c frames bytes reads program limits → IsWithin program limits → ¬ Rose c.out_before.faults c.out_after.faults →
-    UnlessMemory number ((number ≡ 0) × ((output : List ℕ) × ListsImage program limits output × TookAll c.out_before output c.out_after))
-
--- One that isn't within the bounds is too large.
-abbrev pub LongEmitWhere : ℕ → Call → Type 0
-LongEmitWhere number c =
-    (frames : ℕ) (bytes : List ℕ) (reads : ReadsWell c (Emit frames) bytes) (program : Prog) (limits : Limits) →
-    CanEmit c frames bytes reads program limits → ¬ IsWithin program limits → UnlessMemory number (number ≡ 68)
+    CanEmit c frames bytes reads program limits →
+    UnlessMemory number (AfterPasses number c program (λ q made. EmitsAfter number q limits
+    (¬ Rose c.out_before.faults c.out_after.faults → (number ≡ 0) × ((output : List ℕ) × ListsImage q limits output × TookAll c.out_before output c.out_after))))

@@ -20,8 +20,11 @@ use Rattle.rv64_implements.specs.WordBounds.{IsWithin}
 use Rattle.bril_cli.specs.Arguments.{AreOnlyValues, RefusesArgs}
 use Rattle.bril_cli.specs.Call.{Call, ReadsWell, UnlessMemory, TellsRun}
 use Rattle.bril_cli.specs.CommandLine.{format_of}
+use Rattle.bril_cli.specs.After.{AfterPasses, EmitsAfter}
 use Rattle.bril_cli.specs.Images.{IsProgramFile, MachineShows, RefusesImage}
+use Rattle.bril_cli.specs.PassList.{PassList, IsMade, AfterList, factor_of}
 use Rattle.bril_cli.specs.Source.{most_bytes, IsSource}
+use Rattle.bril_cli.specs.Sources.{SourceShows}
 use Rattle.bril_cli.specs.Stats.{TellsStats}
 
 -- What so many words of the machine come to, with these values as the arguments of `main`: the machine has ended so, or runs on
@@ -31,8 +34,10 @@ pub record ShowsRun (p : Prog) (limits : Limits) (values : List Value) (words : 
   pub machine : MachineShows p limits values words ended output
   pub program : ProgramShows p limits values words ended output
 
--- The file at the path reads as an accepted program that is within the bounds, and this is what so many words come to with these arguments and under these limits.
-pub record Runs (files : FilesSeen) (path : List ℕ) (args : List (List ℕ)) (frames cells words : ℕ) (ended : Option End) (output : List ℕ) : Type 0 where
+-- The file at the path reads as an accepted program, the list of passes makes another of it that is within the bounds, and this is what
+-- so many words come to with these arguments and under these limits. The first program, which is the source, has ended so and printed
+-- this.
+pub record Runs (files : FilesSeen) (l : PassList) (path : List ℕ) (args : List (List ℕ)) (frames cells words : ℕ) (ended : Option End) (output : List ℕ) : Type 0 where
   pub program : Prog
   pub is : IsProgramFile files path program
   pub values : List Value
@@ -40,13 +45,16 @@ pub record Runs (files : FilesSeen) (path : List ℕ) (args : List (List ℕ)) (
   pub limits : Limits
   pub frames_are : limits.frames ≡ frames
   pub cells_are : limits.cells ≡ cells
-  pub within : IsWithin program limits
-  pub shows : ShowsRun program limits values words ended output
+  pub made : Prog
+  pub by : IsMade l program made
+  pub within : IsWithin made limits
+  pub shows : ShowsRun made limits values words ended output
+  pub source : SourceShows program made (factor_of l program made by) limits values words ended output
 
 -- The same, and this is told of the counts of the machine, where that is asked for.
-pub record RunsAndTells (files : FilesSeen) (path : List ℕ) (args : List (List ℕ)) (frames cells words : ℕ) (stats : Bool) (ended : Option End) (told output : List ℕ) : Type 0 where
-  pub runs : Runs files path args frames cells words ended output
-  pub tells : TellsStats stats runs.shows.machine.image runs.program runs.limits runs.values words ended told
+pub record RunsAndTells (files : FilesSeen) (l : PassList) (path : List ℕ) (args : List (List ℕ)) (frames cells words : ℕ) (stats : Bool) (ended : Option End) (told output : List ℕ) : Type 0 where
+  pub runs : Runs files l path args frames cells words ended output
+  pub tells : TellsStats stats runs.shows.machine.image runs.made runs.limits runs.values words ended told
 
 -- The machine ended so, or ran on for None, the sink took all that it printed, and this is told of it.
 pub record RanWhole (p : Prog) (limits : Limits) (values : List Value) (words : ℕ) (stats : Bool) (ended : Option End) (told : List ℕ) (s t : SinkSeen) : Type 0 where
@@ -78,15 +86,19 @@ abbrev pub RunsValues : Status → Prog → Limits → List Value → ℕ → Bo
 RunsValues how p limits values words stats told s t =
     (RefusesImage how p limits × (told ≡ []) × (t ≡ s)) ⊎ (IsWithin p limits × RunsImage how p limits values words stats told s t)
 
+-- what a list of passes answers, and then running the program that it makes
+abbrev pub RunsList : Status → PassList → Prog → Limits → List Value → ℕ → Bool → List ℕ → SinkSeen → SinkSeen → Type 0
+RunsList how l p limits values words stats told s t = AfterList how l p ((told ≡ []) × (t ≡ s)) (λ q. RunsValues how q limits values words stats told s t)
+
 -- what running an accepted program with the values that words spell answers
-abbrev pub RunsProgram : Status → Prog → List (List ℕ) → Limits → ℕ → Bool → List ℕ → SinkSeen → SinkSeen → Type 0
-RunsProgram how p args limits words stats told s t =
-    (RefusesArgs how p args × (told ≡ []) × (t ≡ s)) ⊎ ((values : List Value) × AreOnlyValues p args values × RunsValues how p limits values words stats told s t)
+abbrev pub RunsProgram : Status → PassList → Prog → List (List ℕ) → Limits → ℕ → Bool → List ℕ → SinkSeen → SinkSeen → Type 0
+RunsProgram how l p args limits words stats told s t =
+    (RefusesArgs how p args × (told ≡ []) × (t ≡ s)) ⊎ ((values : List Value) × AreOnlyValues p args values × RunsList how l p limits values words stats told s t)
 
 -- what running it under limits of so many frames and cells answers
-abbrev pub RunsWithin : Status → Prog → List (List ℕ) → ℕ → ℕ → ℕ → Bool → List ℕ → SinkSeen → SinkSeen → Type 0
-RunsWithin how p args frames cells words stats told s t =
-    (limits : Limits) × (limits.frames ≡ frames) × (limits.cells ≡ cells) × RunsProgram how p args limits words stats told s t
+abbrev pub RunsWithin : Status → PassList → Prog → List (List ℕ) → ℕ → ℕ → ℕ → Bool → List ℕ → SinkSeen → SinkSeen → Type 0
+RunsWithin how l p args frames cells words stats told s t =
+    (limits : Limits) × (limits.frames ≡ frames) × (limits.cells ≡ cells) × RunsProgram how l p args limits words stats told s t
 
 -- ---- when `run` answers what
 
@@ -99,26 +111,25 @@ pub record CanRun (c : Call) (frames cells words : ℕ) (stats : Bool) (bytes : 
   pub frames_are : limits.frames ≡ frames
   pub cells_are : limits.cells ≡ cells
 
--- One within the bounds is executed for the words: its end is said, or that it runs on, after what is told of it, and the output
--- took all that was printed.
+-- What is said and put where the words are executed: the end of the machine, or that it runs on, after what is told of it, and all
+-- that was printed; and so it is with the source. Where the source has ended after n steps, and the words are at least the cost of
+-- a step of the program that was made, times the factor, times n + 1, this end is said, and the output took just what the source
+-- printed.
+pub record IsRun (number : ℕ) (c : Call) (source made : Prog) (factor : ℕ) (limits : Limits) (values : List Value) (words : ℕ) (stats : Bool) : Type 0 where
+  pub ended : Option End
+  pub told : List ℕ
+  pub tells : TellsRun ended words told number c
+  pub ran : RanWhole made limits values words stats ended told c.out_before c.out_after
+  pub shows : SourceShows source made factor limits values words ended ran.output
+  pub ends : (n cost : ℕ) (end : End) → IsCost made cost → cost * (factor * (n + 1)) ≤ words → (state_after source limits values n).ended ≡ Some end →
+      (ended ≡ Some end) × (ran.output ≡ (state_after source limits values n).printed)
+  pub plain : stats ≡ false → told ≡ []
+
+-- An accepted program with arguments that are spelled is given to the list of passes. What this makes is told where it is too large;
+-- and else it is executed for the words.
 abbrev pub RunsWhere : ℕ → Call → Type 0
 RunsWhere number c =
     (frames cells words : ℕ) (stats : Bool) (bytes : List ℕ) (reads : ReadsWell c (Run frames cells words stats) bytes) (program : Prog) (values : List Value) (limits : Limits) →
-    CanRun c frames cells words stats bytes reads program values limits → IsWithin program limits → ¬ Rose c.out_before.faults c.out_after.faults →
-    UnlessMemory number ((ended : Option End) × (told : List ℕ) × TellsRun ended words told number c × RanWhole program limits values words stats ended told c.out_before c.out_after)
-
--- Where the program has ended after n steps, and the words are at least the cost of n + 1 steps, this end is said, and the output
--- took just what the program printed. Nothing else is told where that isn't asked for.
-abbrev pub EndsWhere : ℕ → Call → Type 0
-EndsWhere number c =
-    (frames cells words : ℕ) (stats : Bool) (bytes : List ℕ) (reads : ReadsWell c (Run frames cells words stats) bytes) (program : Prog) (values : List Value) (limits : Limits) →
-    CanRun c frames cells words stats bytes reads program values limits → IsWithin program limits → ¬ Rose c.out_before.faults c.out_after.faults →
-    (n cost : ℕ) (end : End) → IsCost program cost → cost * (n + 1) ≤ words → (state_after program limits values n).ended ≡ Some end →
-    UnlessMemory number ((told : List ℕ) × TellsRun (Some end) words told number c × TookAll c.out_before (state_after program limits values n).printed c.out_after
-    × (stats ≡ false → told ≡ []))
-
--- One that isn't within the bounds is too large.
-abbrev pub LongRunWhere : ℕ → Call → Type 0
-LongRunWhere number c =
-    (frames cells words : ℕ) (stats : Bool) (bytes : List ℕ) (reads : ReadsWell c (Run frames cells words stats) bytes) (program : Prog) (values : List Value) (limits : Limits) →
-    CanRun c frames cells words stats bytes reads program values limits → ¬ IsWithin program limits → UnlessMemory number (number ≡ 68)
+    CanRun c frames cells words stats bytes reads program values limits →
+    UnlessMemory number (AfterPasses number c program (λ q made. EmitsAfter number q limits
+    (¬ Rose c.out_before.faults c.out_after.faults → IsRun number c program q (factor_of c.passes program q made) limits values words stats)))

@@ -1,29 +1,39 @@
 // `emit`: the machine words of an accepted program are written.
 
-ghost use Rattle.std.specs.Prelude.{◌≡◌, ◌%◌, ◌<◌};
+ghost use Rattle.std.specs.Prelude.{◌≡◌, ◌%◌, ◌<◌, ◌≤◌, length};
+ghost use Rattle.bril_cli.specs.PassList.{pass_list};
 ghost use Rattle.bril_cli.specs.commands.Emit.{hex_digit, word_line, listing, PutsListing, EmitsProgram};
 ghost use Rattle.bril_report.specs.StageFaults.{status_of};
 
 use crate::image::image_of;
+use crate::list::transformed;
 use bril_checker::Checked;
 use bril_outside::sink::Sink;
 use bril_report::Status;
 use bril_tree::limits::Limits;
+use bril_tree::sequence::Seq;
+use bril_tree::text::Text;
+use pass_law::Pass;
 use std::alloc::Global;
 
-/// Puts the words of the program's image under the limits on the output, each in eight hexadecimal digits and LF by one put.
+/// Gives the program to a list of passes, and puts the words of the image of what this makes, under the limits, on the output, each in
+/// eight hexadecimal digits and LF by one put.
 ///
-/// `CodeTooBig`, `StackTooBig`: it may have more than 250,000 words, or needs more than 8,388,608 words of stack. With these, and
-/// out of memory, nothing is put. `CannotWrite`: a write failed.
+/// `UnknownPass`, `PassTooLarge`: the list makes no program. `CodeTooBig`, `StackTooBig`: what it makes may have more than 250,000
+/// words, or needs more than 8,388,608 words of stack. With these, and out of memory, nothing is put. `CannotWrite`: a write failed.
 pub fn put_image<O: Sink>(
     alloc: Global,
-    checked: &Checked,
+    checked: Checked,
     limits: Limits,
+    passes: &mut [Box<dyn Pass>],
+    names: &Seq<Text>,
     out: &mut O,
 ) -> Result<(), Status>
-    ensures { EmitsProgram (status_of result) checked.now.prog limits (O.seen out.old) (O.seen out.new) }
+    requires { length names.now ≤ 64 }
+    ensures { EmitsProgram (status_of result) (pass_list (λ p. meaning p) (λ p. counts p) passes.old passes.new names.now) checked.prog limits (O.seen out.old) (O.seen out.new) }
 {
-    let image = image_of(alloc, checked, limits)?;
+    let made = transformed(alloc, passes, names, checked)?;
+    let image = image_of(alloc, &made, limits)?;
     put_words(image.words.as_slice(), out)
 }
 

@@ -1,6 +1,7 @@
 // `run`: an accepted program is made into machine words, which the machine executes.
 
 ghost use Rattle.std.specs.Prelude.{◌≡◌, ◌≤◌, false, length};
+ghost use Rattle.bril_cli.specs.PassList.{pass_list};
 ghost use Rattle.bril_cli.specs.Stats.{Telling};
 ghost use Rattle.bril_cli.specs.commands.Run.{RunsImage, RunsValues, RunsProgram};
 ghost use Rattle.bril_report.specs.StageFaults.{status_of};
@@ -9,14 +10,17 @@ ghost use Rattle.rv64_implements.specs.Implements.{Implements};
 
 use crate::arguments::values_of;
 use crate::image::image_of;
+use crate::list::transformed;
 use crate::stats::tell_stats;
 use bril_checker::Checked;
 use bril_outside::sink::Sink;
 use bril_report::Status;
 use bril_tree::limits::{End, Limits};
 use bril_tree::program::Prog;
+use bril_tree::sequence::Seq;
 use bril_tree::text::Text;
 use bril_tree::value::Value;
+use pass_law::Pass;
 use rv64_machine::answer::RunAnswer;
 use rv64_machine::machine::Machine;
 use rv64_words::image::Image;
@@ -30,29 +34,34 @@ pub struct RunSettings {
     pub stats: bool,
 }
 
-/// Runs the program on the machine under the limits, for so many words of it, with the values that the words of the command line
-/// spell as the arguments of its `main`: what it prints goes to `out`. After the run its counts are told on `err`, where that is
-/// asked for; `silenced` becomes true where a put of them failed.
+/// Gives the program to a list of passes, and runs what this makes on the machine under the limits, for so many words of it, with the
+/// values that the words of the command line spell as the arguments of its `main`: what it prints goes to `out`. After the run its
+/// counts are told on `err`, where that is asked for; `silenced` becomes true where a put of them failed.
 ///
-/// `ArgumentCount`, `BadArgument`: the words of the command line spell no such values. `CodeTooBig`, `StackTooBig`: it may have more than 250,000 words, or needs more than 8,388,608 words of
-/// stack. With these, and out of memory, nothing is put. `Faulted`, `Spent`: the program stopped with a fault, or the machine goes
-/// on after so many words. `CannotWrite`: a write failed, and nothing is told.
+/// `ArgumentCount`, `BadArgument`: the words of the command line spell no such values. `UnknownPass`, `PassTooLarge`: the list makes no
+/// program. `CodeTooBig`, `StackTooBig`: what it makes may have more than 250,000 words, or needs more than 8,388,608 words of stack.
+/// With these, and out of memory, nothing is put. `Faulted`, `Spent`: the program stopped with a fault, or the machine goes on after so
+/// many words. `CannotWrite`: a write failed, and nothing is told.
 pub fn run<O: Sink, E: Sink>(
     alloc: Global,
-    checked: &Checked,
+    checked: Checked,
     words: &[Text],
     settings: RunSettings,
+    passes: &mut [Box<dyn Pass>],
+    names: &Seq<Text>,
     out: &mut O,
     err: &mut E,
     silenced: &mut bool,
 ) -> Result<(), Status>
-    requires { silenced.old ≡ false }
-    ensures { Telling (λ told. RunsProgram (status_of result) checked.now.prog words.now settings.limits settings.steps settings.stats told (O.seen out.old) (O.seen out.new)) silenced.new (E.seen err.old) (E.seen err.new) }
+    requires few { length names.now ≤ 64 }
+    requires sound { silenced.old ≡ false }
+    ensures { Telling (λ told. RunsProgram (status_of result) (pass_list (λ p. meaning p) (λ p. counts p) passes.old passes.new names.now) checked.prog words.now settings.limits settings.steps settings.stats told (O.seen out.old) (O.seen out.new)) silenced.new (E.seen err.old) (E.seen err.new) }
 {
     let values = values_of(alloc, checked.prog(), words)?;
+    let made = transformed(alloc, passes, names, checked)?;
     run_with(
         alloc,
-        checked,
+        &made,
         values.as_slice(),
         settings,
         out,

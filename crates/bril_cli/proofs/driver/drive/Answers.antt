@@ -4,6 +4,7 @@ use Rattle.std.proofs.lemmas.Result.{err_from_is_err_and}
 use Rattle.bril_cli.specs.CommandLine.{format_of}
 use Rattle.bril_cli.specs.Source.{IsOnlyTree}
 use Rattle.bril_cli.specs.Stages.{RefusesTree}
+use Rattle.bril_cli.proofs.Keeping.{kept}
 use Rattle.bril_cli.proofs.Telling.{untold}
 use Rattle.bril_cli.proofs.driver.drive.Goals as goal
 
@@ -24,9 +25,15 @@ returns-in_err-tree-clause-does g c =
 
 pub returns-clause-does : goal.returns-clause-does
 returns-clause-does g c =
-    let does = c.do_command.ensures in
+    let does = c.do_command.ensures.does in
     let only : IsOnlyTree (format_of c.args.request.path.now) c.in_ok-source.source c.in_ok-tree.tree = search rules in (
       does.0,
       inr (inr (record { bytes = c.in_ok-source.source; file = c.in_ok-source.ensures.ok; tree = c.in_ok-tree.tree; only = only; untold = does.1.0; does = does.1.1 })),
       does.2,
     )
+
+pub returns-in_err-source-clause-keeps : goal.returns-in_err-source-clause-keeps
+returns-in_err-source-clause-keeps g c = kept c.args.request.action c.args.passes.now
+
+pub returns-in_err-tree-clause-keeps : goal.returns-in_err-tree-clause-keeps
+returns-in_err-tree-clause-keeps g c = kept c.args.request.action c.args.passes.now

@@ -1,8 +1,12 @@
 -- What the command answers, from what its stages answered.
-use Rattle.std.proofs.Common.{sym, subst}
+use Rattle.std.proofs.Common.{ℕ, List, ap, sym, subst}
 use Rattle.bril_report.specs.StageFaults.{status_of}
 use Rattle.bril_report.specs.declared.status.Status.{Status}
+use Rattle.bril_words.specs.Names.{names_of}
 use Rattle.bril_cli.specs.Call.{call_of}
+use Rattle.bril_cli.specs.CommandLine.{list_asked}
+use Rattle.bril_cli.specs.Driver.{DoesFile}
+use Rattle.bril_cli.specs.PassList.{pass_list}
 use Rattle.bril_cli.specs.Stats.{SaysUnless}
 use Rattle.bril_cli.proofs.Promises.{Promises-driven}
 use Rattle.bril_cli.proofs.Statuses.{Ends}
@@ -16,13 +20,18 @@ returns-clause-promises g c =
     let call =
     call_of c.args.words.now (g.F.Files.seen c.args.files.now) (g.F.Files.seen c.drive.new.files)
     (g.O.Sink.seen c.args.out.now) (g.O.Sink.seen c.drive.new.out)
-    (g.E.Sink.seen c.args.err.now) (g.E.Sink.seen c.say_unless.new.err) in
+    (g.E.Sink.seen c.args.err.now) (g.E.Sink.seen c.say_unless.new.err)
+    (λ p. (goal.Pass-dyn g (p.vtable, p.value)).meaning p.value) (λ p. (goal.Pass-dyn g (p.vtable, p.value)).counts p.value) c.args.passes.now c.drive.new.passes in
     let does = c.drive.ensures.does in
     let says = subst (λ (h : Status). SaysUnless c.drive.new.silenced h request.path.now (g.E.Sink.seen c.drive.new.err) (g.E.Sink.seen c.say_unless.new.err)) c.from-status.ensures c.say_unless.ensures in
     let ends : Ends call request.action request.path.now request.args.now how = record {
-      asked = sym c.in-Ok.ensures.read;
+      asked = (request.list.now, sym c.in-Ok.ensures.read);
       told = does.0;
-      does = does.1;
+      does = subst (λ (names : List (List ℕ)). DoesFile request.action how
+          (pass_list (λ p. (goal.Pass-dyn g (p.vtable, p.value)).meaning p.value) (λ p. (goal.Pass-dyn g (p.vtable, p.value)).counts p.value) c.args.passes.now c.drive.new.passes names)
+          (g.F.Files.seen c.args.files.now) (g.F.Files.seen c.drive.new.files) request.path.now request.args.now does.0 (g.O.Sink.seen c.args.out.now) (g.O.Sink.seen c.drive.new.out))
+          (ap (λ r. names_of (list_asked r)) c.in-Ok.ensures.read) does.1;
       says = says_told does.0 how request.path.now (g.E.Sink.seen c.args.err.now) (g.E.Sink.seen c.drive.new.err) (g.E.Sink.seen c.say_unless.new.err) c.drive.new.silenced does.2 says;
+      keeps = c.drive.ensures.keeps;
     } in
     rw (c.status_number-2.ensures, c.from-status.ensures) (Promises-driven call request.action request.path.now request.args.now how ends)

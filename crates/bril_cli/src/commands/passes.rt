@@ -1,0 +1,59 @@
+// `passes`: the program that a list of passes makes of an accepted program is written, in canonical text.
+
+ghost use Rattle.std.specs.Prelude.{◌≡◌, ◌≤◌, false, length};
+ghost use Rattle.bril_cli.specs.PassList.{pass_list};
+ghost use Rattle.bril_cli.specs.Stats.{Telling};
+ghost use Rattle.bril_cli.specs.commands.Passes.{IsTextOf, PutsProgram, TransformsProgram};
+ghost use Rattle.bril_report.specs.StageFaults.{status_of};
+ghost use Rattle.std.specs.Prelude.{IfOk};
+
+use crate::list::{tell_tallies, transformed};
+use bril_checker::Checked;
+use bril_names::unnumber;
+use bril_outside::sink::Sink;
+use bril_report::Status;
+use bril_text::write_text;
+use bril_tree::bytes::Bytes;
+use bril_tree::program::Prog;
+use bril_tree::sequence::Seq;
+use bril_tree::text::Text;
+use pass_law::Pass;
+use std::alloc::{AllocError, Global};
+
+/// Puts the canonical text of the program that a list of passes makes of an accepted program on the output. After that the tallies of
+/// the passes that the list used are told on `err`; `silenced` becomes true where a put of them failed.
+///
+/// `UnknownPass`, `PassTooLarge`: the list makes no program. With these, and out of memory, nothing is put and nothing is told.
+/// `CannotWrite`: the write failed, and the tallies are told.
+pub fn put_transformed<O: Sink, E: Sink>(
+    alloc: Global,
+    checked: Checked,
+    passes: &mut [Box<dyn Pass>],
+    names: &Seq<Text>,
+    out: &mut O,
+    err: &mut E,
+    silenced: &mut bool,
+) -> Result<(), Status>
+    requires few { length names.now ≤ 64 }
+    requires sound { silenced.old ≡ false }
+    ensures { Telling (λ told. TransformsProgram (status_of result) (pass_list (λ p. meaning p) (λ p. counts p) passes.old passes.new names.now) checked.prog told (O.seen out.old) (O.seen out.new)) silenced.new (E.seen err.old) (E.seen err.new) }
+{
+    let made = transformed(alloc, passes, names, checked)?;
+    let text = text_of(alloc, made.prog())?;
+    let put = out.put(text.as_slice());
+    tell_tallies(passes, names.as_slice(), err, silenced);
+    match put {
+        Ok(()) => Ok(()),
+        Err(_) => Err(Status::CannotWrite),
+    }
+}
+
+// The canonical text of a program.
+fn text_of(alloc: Global, program: &Prog) -> Result<Bytes, AllocError>
+    ensures { IfOk result (IsTextOf program.now) }
+{
+    let tree = unnumber(alloc, program)?;
+    let mut text = Bytes::new(alloc);
+    write_text(&tree, &mut text)?;
+    Ok(text)
+}
