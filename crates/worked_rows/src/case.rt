@@ -1,9 +1,12 @@
 // A case: the files and outputs that its lines set up, and its command lines.
 
+use crate::guards::add_fails;
 use crate::listing::execute;
 use bril_cli::top::bril_top;
+use bril_outside::files::{FileFault, Files};
 use bril_outside::mem_files::MemFiles;
 use bril_outside::mem_sink::MemSink;
+use bril_tree::bytes::Bytes;
 use bril_tree::sequence::Seq;
 use bril_tree::text::Text;
 use bril_tree::value::Value;
@@ -70,27 +73,32 @@ impl Case {
                 self.room = rest.parse::<u32>().map_err(|_| LineFault::Form)?;
                 Ok(())
             }
-            "==" => {
-                *self = Case::new(self.alloc);
+            "==" | "$" | "executes" | "counts" | "fails" | "cuts" => {
                 add_line(line, shown)?;
-                Ok(())
-            }
-            "$" => {
-                self.end_file()?;
-                add_line(line, shown)?;
-                self.run(rest, shown)
-            }
-            "executes" => {
-                self.end_file()?;
-                add_line(line, shown)?;
-                self.execute(rest, shown)
-            }
-            "cuts" => {
-                add_line(line, shown)?;
-                self.run_cut(rest, shown)
+                self.show(word, rest, shown)
             }
             "#" | "" => Ok(()),
             _ => Err(LineFault::Form),
+        }
+    }
+
+    // Does what a line that is shown asks for, and appends what it leaves.
+    fn show(&mut self, word: &str, rest: &str, shown: &mut Vec<u8>) -> Result<(), LineFault> {
+        match word {
+            "==" => {
+                *self = Case::new(self.alloc);
+                Ok(())
+            }
+            "cuts" => self.run_cut(rest, shown),
+            _ => {
+                self.end_file()?;
+                match word {
+                    "executes" => self.execute(rest, shown),
+                    "counts" => self.run_counted(rest, shown),
+                    "fails" => self.count_fails(rest, shown),
+                    _ => self.run(rest, shown),
+                }
+            }
         }
     }
 
@@ -173,6 +181,41 @@ impl Case {
         let mut err = MemSink::new(alloc, ROOM, Seq::new(alloc))?;
         let _status = self.call(words.as_slice(), &mut out, &mut err)?;
         execute(alloc, out.bytes(), args.as_slice(), shown)
+    }
+
+    // Runs a command line, and appends what it leaves, with `#` as the number of words that it tells.
+    fn run_counted(&mut self, line: &str, shown: &mut Vec<u8>) -> Result<(), LineFault> {
+        let mut left = Vec::new(self.alloc);
+        self.run(line, &mut left)?;
+        let left = str::from_utf8(left.as_slice()).map_err(|_| LineFault::Form)?;
+        for told in left.lines() {
+            if told.starts_with("err |words ") {
+                add_line("err |words #", shown)?;
+            } else {
+                add_line(told, shown)?;
+            }
+        }
+        Ok(())
+    }
+
+    // Interprets the program of a file with the words after `--` as its arguments, and appends how often each of its guards
+    // failed.
+    fn count_fails(&mut self, line: &str, shown: &mut Vec<u8>) -> Result<(), LineFault> {
+        let alloc = self.alloc;
+        let (path, arguments) = line.split_once(" -- ").unwrap_or((line, ""));
+        let path = text_of(alloc, path)?;
+        let words = words_of(alloc, arguments)?;
+        let mut source = Bytes::new(alloc);
+        match self.files.read(alloc, &path, ROOM as u64, &mut source) {
+            Ok(true) => {}
+            Ok(false) | Err(FileFault::Failed) => return Err(LineFault::Form),
+            Err(FileFault::Memory) => return Err(LineFault::Memory),
+        }
+        let bytes = source.as_slice();
+        if bytes.len() > 1_000_000 || words.as_slice().len() > 1_000 {
+            return Err(LineFault::Form);
+        }
+        add_fails(alloc, bytes, words.as_slice(), shown)
     }
 
     // Runs a command line, and appends what it leaves.
