@@ -149,9 +149,36 @@ fn a_pass_that_answers_to_every_name_is_given_an_empty_one(rt: HostRuntime) -> R
     Ok(())
 }
 
-// Calls the top call with these words after the program's name, and lends it the passes.
+#[test]
+fn tallies_go_on_from_call_to_call(rt: HostRuntime) -> Result<(), Fail> {
+    let alloc = rt.alloc();
+    let mut passes = [boxed_pad(alloc)?];
+    let first = call(
+        alloc,
+        &["passes", "one.bril", "--passes", "pad"],
+        passes.as_mut_slice(),
+    )?;
+    assert_eq!(rt; first.err.bytes(), b"pad runs 1 seen 2 made 3\n".as_slice());
+    let second = call(
+        alloc,
+        &["passes", "one.bril", "--passes", "pad"],
+        passes.as_mut_slice(),
+    )?;
+    assert_eq!(rt;
+        second.err.bytes(),
+        b"pad runs 2 seen 4 made 6\n".as_slice()
+    );
+    // A command that takes no list leaves them.
+    let checked = call(alloc, &["check", "one.bril"], passes.as_mut_slice())?;
+    assert_eq!(rt; checked.status, 0);
+    assert_eq!(rt; passes[0].tally(), tally(2, 4, 6));
+    Ok(())
+}
+
+// Calls the top call with these words after the program's name, and lends it the passes, which can be lent again.
 fn call(alloc: Global, words: &[&str], passes: &mut [Box<dyn Pass>]) -> Result<Ended, AllocError>
     requires { All (λ p. MakesAsShipped (meaning p)) passes.old }
+    ensures { All (λ p. MakesAsShipped (meaning p)) passes.new }
 {
     let mut files = MemFiles::new(alloc, Seq::new(alloc));
     files.add(&Text::of(alloc, "one.bril")?, ONE)?;
