@@ -3,4 +3,4 @@ use Rattle.bril_cli.proofs.Shipped.{All-shipped-same}
 use Rattle.top_tests.proofs.lists.call.Goals as goal
 
 pub returns : goal.returns
-returns c = All-shipped-same _ _ _ c.bril_top-status.ensures.same c.requires
+returns g c = All-shipped-same _ _ _ c.bril_top-status.ensures.same c.requires
