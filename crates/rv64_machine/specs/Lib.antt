@@ -1,3 +1,4 @@
+pub mod Groups
 pub mod MachineView
 pub mod ProcessorView
 pub mod Resolved

@@ -3,6 +3,7 @@
 
 pub mod answer;
 mod environment;
+mod group;
 pub mod machine;
 mod memory;
 mod operation;
