@@ -4,6 +4,7 @@
 pub mod answer;
 mod environment;
 mod group;
+mod grouped;
 pub mod machine;
 mod memory;
 mod operation;
