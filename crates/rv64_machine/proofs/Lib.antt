@@ -6,3 +6,4 @@ pub mod ResolvedSteps
 pub mod ResolvedWords
 pub mod RunAnswers
 pub mod Starts
+pub mod Stretches
