@@ -4,9 +4,10 @@
 pub mod answer;
 mod environment;
 mod group;
-mod grouped;
+mod group_steps;
 pub mod machine;
 mod memory;
 mod operation;
 mod processor;
 mod resolved;
+mod word_steps;
