@@ -1,8 +1,10 @@
 pub mod Arrivals
 pub mod Bursts
 pub mod Calls
+pub mod GroupWords
 pub mod LiveBlocks
 pub mod ResolvedSteps
 pub mod ResolvedWords
 pub mod RunAnswers
+pub mod SameWords
 pub mod Starts

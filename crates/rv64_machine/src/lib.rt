@@ -4,6 +4,7 @@
 pub mod answer;
 mod environment;
 mod group;
+mod group_words;
 pub mod machine;
 mod memory;
 mod operation;
