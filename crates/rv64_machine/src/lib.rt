@@ -5,6 +5,7 @@ pub mod answer;
 mod environment;
 mod group;
 mod group_steps;
+mod group_words;
 pub mod machine;
 mod memory;
 mod operation;
