@@ -1,40 +1,37 @@
 -- Blocks as they are kept, and the blocks of the semantics.
-use Rattle.std.proofs.Common.{◌≡◌, ℕ, zero, suc, ◌+◌, ◌<◌, ◌≤◌, true, false, cond, List, [], ◌∷◌, map, length, set, get_or, Option, Some, None, slice_get, Ok, refl, sym, ◌∙◌, ap, arith, ℤ, pos, negsuc, nat_abs}
+use Rattle.std.proofs.Common.{◌≡◌, ℕ, zero, suc, ◌+◌, ◌<◌, ◌≤◌, true, false, cond, List, [], ◌∷◌, map, length, set, get_or, Option, Some, None, slice_get, Ok, refl, sym, ap, arith, ℤ, pos, negsuc, nat_abs}
 use Rattle.std.specs.List.{count_by, sum_by}
-use Rattle.std.specs.Option.{option_map}
 use Rattle.std.proofs.lemmas.Bool.{lt-ltb, le-ltb}
-use Rattle.std.proofs.lemmas.List.{map-set, length-set, length-map}
+use Rattle.std.proofs.lemmas.List.{length-set}
 use Rattle.std.proofs.lemmas.List.Sums.{sum_by-set, get_or-le-sum_by}
 use Rattle.std.proofs.lemmas.Option.{slice_get-map, slice_get_read, get_or_from_slice_get, same_Some}
 use Rattle.bril_tree.specs.declared.value.Value.{Value}
 use Rattle.bril_tree.specs.declared.value.Value.TheVariants.{Ptr}
 use Rattle.bril_tree.specs.Memory.{live_block, cell_at, changed, changed_block}
 use Rattle.bril_tree.specs.State.{with_value, Block}
-use Rattle.bril_heap.specs.declared.block.StoredBlock.{StoredBlock}
 use Rattle.bril_heap.specs.Heap.{BlockView, IsHeap, block_seen, entries_of, stored_or_fault, load_answer, Stores}
-use Rattle.bril_heap.specs.Stored.{block_view, views, seen, IsLiveAt, IsCellAt}
-use Rattle.bril_heap.proofs.Entries.{entries-set, entries_read}
+use Rattle.bril_heap.specs.Stored.{seen, IsLiveAt, IsCellAt}
+use Rattle.bril_heap.proofs.Entries.{entries-set}
 
 -- the block at a place
-block_read : (blocks : List StoredBlock) (place : ℕ) (b : StoredBlock) → place < length blocks → b ≡ get_or blocks place b → slice_get (views blocks) place ≡ Some (block_view b)
-block_read blocks place b within read =
-    slice_get-map block_view blocks place ∙ ap (option_map block_view) (slice_get_read blocks (length blocks) place b refl within read)
+block_read : (blocks : List BlockView) (place : ℕ) (b : BlockView) → place < length blocks → b ≡ get_or blocks place b → slice_get blocks place ≡ Some b
+block_read blocks place b within read = slice_get_read blocks (length blocks) place b refl within read
 
-live_read : (blocks : List StoredBlock) (block place : ℕ) (b : StoredBlock) → IsLiveAt (views blocks) block place → b ≡ get_or blocks place b → slice_get (views blocks) place ≡ Some (block_view b)
-live_read blocks block place b live read = block_read blocks place b (omega (arith, live.within, length-map blocks block_view)) read
+live_read : (blocks : List BlockView) (block place : ℕ) (b : BlockView) → IsLiveAt blocks block place → b ≡ get_or blocks place b → slice_get blocks place ≡ Some b
+live_read blocks block place b live read = block_read blocks place b live.within read
 
 -- the live block of a number
-pub live_block-read : (blocks : List StoredBlock) (block place : ℕ) (b : StoredBlock) → IsLiveAt (views blocks) block place → b ≡ get_or blocks place b → live_block (seen blocks) block ≡ Some (block_seen (block_view b))
+pub live_block-read : (blocks : List BlockView) (block place : ℕ) (b : BlockView) → IsLiveAt blocks block place → b ≡ get_or blocks place b → live_block (seen blocks) block ≡ Some (block_seen b)
 live_block-read blocks block place b live read =
     let number : block ≡ suc place = live.number in
-    let stands : slice_get (views blocks) place ≡ Some (block_view b) = live_read blocks block place b live read in
-    let is_live : b.is_live ≡ true = live.live (block_view b) stands in
-    rw number (rw (slice_get-map block_seen (views blocks) place, stands, is_live) refl)
+    let stands : slice_get blocks place ≡ Some b = live_read blocks block place b live read in
+    let is_live : b.is_live ≡ true = live.live b stands in
+    rw number (rw (slice_get-map block_seen blocks place, stands, is_live) refl)
 
 -- a block that was ended isn't live
-pub live_block-ended : (blocks : List StoredBlock) (block place : ℕ) (b : StoredBlock) → block ≡ suc place → place < length blocks → b ≡ get_or blocks place b → b.is_live ≡ false → live_block (seen blocks) block ≡ None
+pub live_block-ended : (blocks : List BlockView) (block place : ℕ) (b : BlockView) → block ≡ suc place → place < length blocks → b ≡ get_or blocks place b → b.is_live ≡ false → live_block (seen blocks) block ≡ None
 live_block-ended blocks block place b number within read ended =
-    rw number (rw (slice_get-map block_seen (views blocks) place, block_read blocks place b within read, ended) refl)
+    rw number (rw (slice_get-map block_seen blocks place, block_read blocks place b within read, ended) refl)
 
 -- a change of one block
 changed-set : (bs : List BlockView) (place : ℕ) (b after : BlockView) (change : Block → Block) → slice_get bs place ≡ Some b → change (block_seen b) ≡ block_seen after → changed (map block_seen bs) place change ≡ map block_seen (set bs place after)
@@ -44,59 +41,57 @@ changed-set (x ∷ bs) zero b after change stands is =
     ap (λ (y : Block). y ∷ map block_seen bs) (rw first is)
 changed-set (x ∷ bs) (suc place) b after change stands is = ap (λ (rest : List Block). block_seen x ∷ rest) (changed-set bs place b after change stands is)
 
-pub set-seen : (blocks : List StoredBlock) (block place : ℕ) (b after : StoredBlock) (change : Block → Block) → IsLiveAt (views blocks) block place → b ≡ get_or blocks place b → change (block_seen (block_view b)) ≡ block_seen (block_view after) → seen (set blocks place after) ≡ changed_block (seen blocks) block change
+pub set-seen : (blocks : List BlockView) (block place : ℕ) (b after : BlockView) (change : Block → Block) → IsLiveAt blocks block place → b ≡ get_or blocks place b → change (block_seen b) ≡ block_seen after → seen (set blocks place after) ≡ changed_block (seen blocks) block change
 set-seen blocks block place b after change live read is =
     let number : block ≡ suc place = live.number in
-    rw number (rw (map-set block_view blocks place after) (sym (changed-set (views blocks) place (block_view b) (block_view after) change (live_read blocks block place b live read) is)))
+    rw number (sym (changed-set blocks place b after change (live_read blocks block place b live read) is))
 
 -- what is kept after a change of one block, which has as many cells as before
-pub heap-set : (limit given live now : ℕ) (blocks : List StoredBlock) (block place : ℕ) (b after : StoredBlock) → IsHeap limit given live (views blocks) → IsLiveAt (views blocks) block place → b ≡ get_or blocks place b → length after.cells.items ≡ length b.cells.items → now + cond b.is_live 1 0 ≡ live + cond after.is_live 1 0 → IsHeap limit given now (views (set blocks place after))
-heap-set limit given live now blocks block place b after heap at read same counts =
-    let bs : List BlockView = views blocks in
-    let stands : get_or bs place (block_view b) ≡ block_view b = get_or_from_slice_get bs place (block_view b) (block_view b) (live_read blocks block place b at read) in
-    let sizes : sum_by (λ v. length v.cells) (set bs place (block_view after)) + length b.cells.items ≡ sum_by (λ v. length v.cells) bs + length after.cells.items = rw stands at (sum_by-set (λ (v : BlockView). length v.cells) bs place (block_view after) (block_view b) at.within) in
-    let lives : count_by (λ v. v.is_live) (set bs place (block_view after)) + cond b.is_live 1 0 ≡ count_by (λ v. v.is_live) bs + cond after.is_live 1 0 = rw stands at (sum_by-set (λ (v : BlockView). cond v.is_live 1 0) bs place (block_view after) (block_view b) at.within) in
-    rw (map-set block_view blocks place after)
-    (record {
+pub heap-set : (limit given live now : ℕ) (bs : List BlockView) (block place : ℕ) (b after : BlockView) → IsHeap limit given live bs → IsLiveAt bs block place → b ≡ get_or bs place b → length after.cells ≡ length b.cells → now + cond b.is_live 1 0 ≡ live + cond after.is_live 1 0 → IsHeap limit given now (set bs place after)
+heap-set limit given live now bs block place b after heap at read same counts =
+    let stands : get_or bs place b ≡ b = get_or_from_slice_get bs place b b (live_read bs block place b at read) in
+    let sizes : sum_by (λ v. length v.cells) (set bs place after) + length b.cells ≡ sum_by (λ v. length v.cells) bs + length after.cells = rw stands at (sum_by-set (λ (v : BlockView). length v.cells) bs place after b at.within) in
+    let lives : count_by (λ v. v.is_live) (set bs place after) + cond b.is_live 1 0 ≡ count_by (λ v. v.is_live) bs + cond after.is_live 1 0 = rw stands at (sum_by-set (λ (v : BlockView). cond v.is_live 1 0) bs place after b at.within) in
+    record {
       given_out = omega (arith, heap.given_out);
       within = heap.within;
       alive = omega (arith, heap.alive);
-      few = omega (arith, heap.few, length-set bs place (block_view after));
-    })
+      few = omega (arith, heap.few, length-set bs place after);
+    }
 
 -- a live block counts
-pub live-counts : (limit given live : ℕ) (blocks : List StoredBlock) (block place : ℕ) (b : StoredBlock) → IsHeap limit given live (views blocks) → IsLiveAt (views blocks) block place → b ≡ get_or blocks place b → (b.is_live ≡ true) × (0 < live)
-live-counts limit given live blocks block place b heap at read =
-    let bs : List BlockView = views blocks in
-    let there : slice_get bs place ≡ Some (block_view b) = live_read blocks block place b at read in
-    let is_live : b.is_live ≡ true = at.live (block_view b) there in
-    let stands : get_or bs place (block_view b) ≡ block_view b = get_or_from_slice_get bs place (block_view b) (block_view b) there in
-    let counted : 1 ≤ count_by (λ v. v.is_live) bs = rw (stands, is_live) at (get_or-le-sum_by (λ (v : BlockView). cond v.is_live 1 0) bs place (block_view b) at.within) in
+pub live-counts : (limit given live : ℕ) (bs : List BlockView) (block place : ℕ) (b : BlockView) → IsHeap limit given live bs → IsLiveAt bs block place → b ≡ get_or bs place b → (b.is_live ≡ true) × (0 < live)
+live-counts limit given live bs block place b heap at read =
+    let there : slice_get bs place ≡ Some b = live_read bs block place b at read in
+    let is_live : b.is_live ≡ true = at.live b there in
+    let stands : get_or bs place b ≡ b = get_or_from_slice_get bs place b b there in
+    let counted : 1 ≤ count_by (λ v. v.is_live) bs = rw (stands, is_live) at (get_or-le-sum_by (λ (v : BlockView). cond v.is_live 1 0) bs place b at.within) in
     (is_live, omega (arith, heap.alive))
 
 -- a cell of a live block
-pub cell_at-read : (blocks : List StoredBlock) (block : ℕ) (offset : ℤ) (place cell : ℕ) (b : StoredBlock) → IsCellAt (views blocks) block offset place cell → b ≡ get_or blocks place b → (cell < length b.cells.items) × (cell_at (seen blocks) (Ptr block offset) ≡ Some cell)
+pub cell_at-read : (blocks : List BlockView) (block : ℕ) (offset : ℤ) (place cell : ℕ) (b : BlockView) → IsCellAt blocks block offset place cell → b ≡ get_or blocks place b → (cell < length b.cells) × (cell_at (seen blocks) (Ptr block offset) ≡ Some cell)
 cell_at-read blocks block offset place cell b at read =
     let offset_is : offset ≡ pos cell = at.cell_is in
-    let inside : cell < length b.cells.items = at.inside (block_view b) (live_read blocks block place b at.found read) in
-    (inside, rw offset_is (rw (live_block-read blocks block place b at.found read, lt-ltb cell (length b.cells.items) inside) refl))
+    let inside : cell < length b.cells = at.inside b (live_read blocks block place b at.found read) in
+    (inside, rw offset_is (rw (live_block-read blocks block place b at.found read, lt-ltb cell (length b.cells) inside) refl))
 
 -- an offset past the cells of a live block, or below them
-pub cell_at-past : (blocks : List StoredBlock) (block : ℕ) (offset : ℤ) (place : ℕ) (b : StoredBlock) → IsLiveAt (views blocks) block place → b ≡ get_or blocks place b → length b.cells.items ≤ nat_abs offset → cell_at (seen blocks) (Ptr block offset) ≡ None
-cell_at-past blocks block (pos n) place b at read past = rw (live_block-read blocks block place b at read, le-ltb n (length b.cells.items) past) refl
+pub cell_at-past : (blocks : List BlockView) (block : ℕ) (offset : ℤ) (place : ℕ) (b : BlockView) → IsLiveAt blocks block place → b ≡ get_or blocks place b → length b.cells ≤ nat_abs offset → cell_at (seen blocks) (Ptr block offset) ≡ None
+cell_at-past blocks block (pos n) place b at read past = rw (live_block-read blocks block place b at read, le-ltb n (length b.cells) past) refl
 cell_at-past blocks block (negsuc n) place b at read past = rw (live_block-read blocks block place b at read) refl
 
 -- what a load answers
-pub load-read : (blocks : List StoredBlock) (block : ℕ) (offset : ℤ) (place cell : ℕ) (b : StoredBlock) (entry : Option Value) → IsCellAt (views blocks) block offset place cell → b ≡ get_or blocks place b → entry ≡ get_or b.cells.items cell entry → load_answer (seen blocks) (Ptr block offset) (cell_at (seen blocks) (Ptr block offset)) ≡ stored_or_fault entry
+pub load-read : (blocks : List BlockView) (block : ℕ) (offset : ℤ) (place cell : ℕ) (b : BlockView) (entry : Option Value) → IsCellAt blocks block offset place cell → b ≡ get_or blocks place b → entry ≡ entries_of b.cells cell → load_answer (seen blocks) (Ptr block offset) (cell_at (seen blocks) (Ptr block offset)) ≡ stored_or_fault entry
 load-read blocks block offset place cell b entry at read holds =
     let cell_is = cell_at-read blocks block offset place cell b at read in
-    rw (cell_is.1) (rw (live_block-read blocks block place b at.found read, entries_read b.cells.items cell entry cell_is.0 holds) refl)
+    rw (cell_is.1) (rw (live_block-read blocks block place b at.found read) (rw holds refl))
 
 -- what a store answers and leaves
-pub store-set : (blocks : List StoredBlock) (block : ℕ) (offset : ℤ) (place cell : ℕ) (b after : StoredBlock) (v : Value) → IsCellAt (views blocks) block offset place cell → b ≡ get_or blocks place b → block_view after ≡ record { is_live = b.is_live; cells = set b.cells.items cell (Some v) } → Stores (Ok tt) (seen blocks) (Ptr block offset) (cell_at (seen blocks) (Ptr block offset)) v (seen (set blocks place after))
-store-set blocks block offset place cell b after v at read is =
+pub store-set : (blocks : List BlockView) (block : ℕ) (offset : ℤ) (place cell : ℕ) (b : BlockView) (v : Value) → IsCellAt blocks block offset place cell → b ≡ get_or blocks place b → Stores (Ok tt) (seen blocks) (Ptr block offset) (cell_at (seen blocks) (Ptr block offset)) v (seen (set blocks place (record b { cells = set b.cells cell (Some v) })))
+store-set blocks block offset place cell b v at read =
     let cell_is = cell_at-read blocks block offset place cell b at read in
-    let items : List (Option Value) = b.cells.items in
-    let stored : record { size = length items; is_live = b.is_live; cells = with_value (entries_of items) cell v } ≡ block_seen (block_view after) =
-    (λ i. record { size = sym (length-set items cell (Some v)) i; is_live = b.is_live; cells = sym (entries-set items cell v cell_is.0) i }) ∙ ap block_seen (sym is) in
+    let items : List (Option Value) = b.cells in
+    let after : BlockView = record b { cells = set items cell (Some v) } in
+    let stored : record { size = length items; is_live = b.is_live; cells = with_value (entries_of items) cell v } ≡ block_seen after =
+    λ i. record { size = sym (length-set items cell (Some v)) i; is_live = b.is_live; cells = sym (entries-set items cell v cell_is.0) i } in
     rw (cell_is.1) (refl, set-seen blocks block place b after (λ (x : Block). record x { cells = with_value x.cells cell v }) at.found read stored)

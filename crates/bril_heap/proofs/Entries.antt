@@ -1,8 +1,7 @@
 -- The cells of a block, as a list and as a map.
-use Rattle.std.proofs.Common.{◌≡◌, ◌≢◌, ℕ, zero, suc, ◌<◌, true, List, [], ◌∷◌, length, set, replicate, get_or, Option, Some, None, option_and_then, inl, inr, refl, ap, arith}
+use Rattle.std.proofs.Common.{◌≡◌, ◌≢◌, ℕ, zero, suc, ◌<◌, true, List, [], ◌∷◌, length, set, replicate, Option, Some, None, inl, inr, refl, arith}
 use Rattle.std.proofs.lemmas.Bool.{cases_eq, eq-eqb, ne_eqb}
 use Rattle.std.proofs.lemmas.List.{length-replicate}
-use Rattle.std.proofs.lemmas.Option.{slice_get_read}
 use Rattle.bril_tree.specs.declared.value.Value.{Value}
 use Rattle.bril_tree.specs.Memory.{new_block}
 use Rattle.bril_tree.specs.State.{with_value}
@@ -29,10 +28,6 @@ entry-set cells n v inside y = elim (cases_eq y n) [
 -- the cells after a store
 pub entries-set : (cells : List (Option Value)) (n : ℕ) (v : Value) → n < length cells → entries_of (set cells n (Some v)) ≡ with_value (entries_of cells) n v
 entries-set cells n v inside = λ i y. entry-set cells n v inside y i
-
--- what a cell holds
-pub entries_read : (cells : List (Option Value)) (n : ℕ) (entry : Option Value) → n < length cells → entry ≡ get_or cells n entry → entries_of cells n ≡ entry
-entries_read cells n entry inside read = ap (option_and_then (λ (e : Option Value). e)) (slice_get_read cells (length cells) n entry refl inside read)
 
 entry-replicate : (n y : ℕ) → entries_of (replicate n None) y ≡ None
 entry-replicate zero y = refl

@@ -1,12 +1,15 @@
--- How many blocks are live, and whether one is.
-use Rattle.std.proofs.Common.{◌≡◌, ℕ, ◌+◌, Bool, true, false, not, cond, ◌||◌, ◌==◌, List, [], ◌∷◌, map, zero-add, refl, arith}
+-- How many cells were given out and how many blocks are live, and whether one is.
+use Rattle.std.proofs.Common.{◌≡◌, ℕ, zero, suc, ◌+◌, ◌<◌, nat_lt, ℤ, pos, negsuc, nat_abs, int_lt, Bool, true, false, not, cond, if◌then◌else◌, ◌||◌, ◌==◌, List, [], ◌∷◌, map, length, Some, None, zero-add, refl, sym, ◌∙◌, arith}
 use Rattle.std.specs.List.{count_by}
 use Rattle.std.proofs.lemmas.Grind.{common_steps}
+use Rattle.std.proofs.lemmas.Bool.{lt-ltb}
+use Rattle.std.proofs.lemmas.List.{length-map}
 use Rattle.std.proofs.lemmas.List.Folds.{fold-map}
 use Rattle.std.proofs.lemmas.List.Sums.{sum_by-cons}
-use Rattle.bril_tree.specs.Memory.{is_live_any}
+use Rattle.bril_tree.specs.declared.limits.Fault.TheVariants as fault
+use Rattle.bril_tree.specs.Memory.{is_live_any, cells_given, most_blocks, allocation_fault}
 use Rattle.bril_tree.specs.State.{Block}
-use Rattle.bril_heap.specs.Heap.{BlockView, block_seen}
+use Rattle.bril_heap.specs.Heap.{BlockView, IsHeap, block_seen}
 
 is_live_any-more : (first rest : Bool) (n m : ℕ) → rest ≡ not (n == 0) → m ≡ cond first 1 0 + n → (first || rest) ≡ not (m == 0)
 is_live_any-more true rest n m is more = grind (arith, common_steps)
@@ -20,3 +23,11 @@ is_live_any-count (b ∷ blocks) =
 
 pub count-seen : (bs : List BlockView) → count_by (λ b. b.is_live) (map block_seen bs) ≡ count_by (λ b. b.is_live) bs
 count-seen bs = fold-map (λ (a : ℕ) (b : Block). a + cond b.is_live 1 0) block_seen 0 bs
+
+-- why a block of some cells can't be had, where there are fewer blocks than the most
+pub fault-seen : (limit given live : ℕ) (bs : List BlockView) (count : ℤ) → IsHeap limit given live bs → int_lt count (pos 1) ≡ false → length bs < most_blocks → allocation_fault limit (map block_seen bs) count ≡ (if nat_lt limit (given + nat_abs count) then Some fault.Cells else None)
+fault-seen limit given live bs (negsuc n) heap some few = cc
+fault-seen limit given live bs (pos zero) heap some few = cc
+fault-seen limit given live bs (pos (suc n)) heap some few =
+    let sizes : cells_given (map block_seen bs) ≡ given = fold-map (λ (a : ℕ) (b : Block). a + b.size) block_seen 0 bs ∙ sym heap.given_out in
+    rw (length-map bs block_seen, lt-ltb (length bs) most_blocks few, sizes) refl

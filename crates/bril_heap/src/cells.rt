@@ -2,8 +2,9 @@
 
 ghost use Rattle.std.specs.Prelude.{◌≡◌, ◌++◌, ◌∷◌, [], length, suc, count_by, if◌then◌else◌, not, ◌==◌, false, None, Some, IfOk, IfErr, OnOk, OnErr};
 
-use crate::block::{StoredBlock, cell_place, live_place, push_empty};
+use crate::block::{cell_place, live_place, push_empty};
 use crate::fault::HeapFault;
+use crate::stored_block::StoredBlock;
 use bril_tree::limits::Fault;
 use bril_tree::value::Value;
 use std::alloc::Global;
@@ -24,15 +25,12 @@ pub struct Cells {
 
 impl Model for Cells {
     ghost use Rattle.bril_heap.specs.Heap.{CellsView, IsHeap};
-    ghost use Rattle.std.specs.Prelude.{map};
 
     ghost Value = { CellsView };
 
-    ghost use Rattle.bril_heap.specs.Stored.{block_view};
+    ghost view = { λ c. record { limit = c.limit; blocks = c.blocks.items } };
 
-    ghost view = { λ c. record { limit = c.limit; blocks = map block_view c.blocks.items } };
-
-    ghost invariant = { λ c. IsHeap c.limit c.given c.live (map block_view c.blocks.items) };
+    ghost invariant = { λ c. IsHeap c.limit c.given c.live c.blocks.items };
 }
 
 impl Cells {
@@ -96,7 +94,7 @@ impl Cells {
         match live_place(&self.blocks, block) {
             None => false,
             Some(place) => {
-                self.blocks[place].is_live = false;
+                self.blocks[place].end();
                 self.live -= 1;
                 true
             }
@@ -110,7 +108,7 @@ impl Cells {
     {
         match cell_place(&self.blocks, block, offset) {
             None => Err(Fault::Access),
-            Some((place, cell)) => match self.blocks[place].cells[cell] {
+            Some((place, cell)) => match self.blocks[place].entry(cell) {
                 None => Err(Fault::Uninit),
                 Some(value) => Ok(value),
             },
@@ -126,8 +124,7 @@ impl Cells {
         match cell_place(&self.blocks, block, offset) {
             None => Err(Fault::Access),
             Some((place, cell)) => {
-                let found = &mut self.blocks[place];
-                found.cells[cell] = Some(value);
+                self.blocks[place].put(cell, value);
                 Ok(())
             }
         }

@@ -4,6 +4,8 @@
 mod block;
 mod cells;
 mod fault;
+mod stored_block;
+mod stored_cell;
 
 pub use cells::Cells;
 pub use fault::HeapFault;
