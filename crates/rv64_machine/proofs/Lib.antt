@@ -1,12 +1,5 @@
 pub mod Arrivals
 pub mod Bursts
 pub mod Calls
-pub mod GroupProps
-pub mod GroupWords
-pub mod LiveBlocks
-pub mod ResolvedSteps
-pub mod ResolvedWords
 pub mod RunAnswers
-pub mod SameWords
 pub mod Starts
-pub mod Stretches

@@ -1,0 +1,4 @@
+pub mod Addresses
+pub mod Groups
+pub mod ProcessorView
+pub mod Resolved
