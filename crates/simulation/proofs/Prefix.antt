@@ -8,11 +8,5 @@ IsPrefix-equal xs ys e = ([], sym e ∙ sym (append-nil xs))
 pub IsPrefix-refl : (xs : List ℕ) → IsPrefix xs xs
 IsPrefix-refl xs = ([], sym (append-nil xs))
 
-pub IsPrefix-empty : (xs : List ℕ) → IsPrefix [] xs
-IsPrefix-empty xs = (xs, refl)
-
-pub IsPrefix-append : (xs more : List ℕ) → IsPrefix xs (xs ++ more)
-IsPrefix-append xs more = (more, refl)
-
 pub IsPrefix-trans : (xs ys zs : List ℕ) → IsPrefix xs ys → IsPrefix ys zs → IsPrefix xs zs
 IsPrefix-trans xs ys zs p q = (p.0 ++ q.0, q.1 ∙ ap (λ l. l ++ q.0) p.1 ∙ append_assoc xs p.0 q.0)
