@@ -1,5 +1,5 @@
 -- A function has one count of entries and one width of them, and a program one sum of entries and one cost.
-use Rattle.std.proofs.Common.{◌≡◌, ℕ, ◌+◌, ◌*◌, ◌≤◌, List, [], ◌∷◌, length, All, sym, ap, ◌∙◌, subst, inl, inr, arith, le_antisymm}
+use Rattle.std.proofs.Common.{◌≡◌, ℕ, ◌+◌, ◌*◌, List, [], ◌∷◌, All, sym, ap, ◌∙◌, subst, inl, inr, arith, le_antisymm}
 use Rattle.std.proofs.lemmas.List.Elements.{All-head, All-tail}
 use Rattle.bril_tree.specs.declared.numbered.Instr.{Instr}
 use Rattle.bril_tree.specs.declared.numbered_function.Func.{Func}
@@ -7,7 +7,6 @@ use Rattle.bril_tree.specs.declared.program.Prog.{Prog}
 use Rattle.bril_tree.specs.FrameWords.{AreFrameWords}
 use Rattle.bril_tree.specs.Membership.{In}
 use Rattle.bril_tree.proofs.Counting.{no_more_items}
-use Rattle.bril_tree.proofs.Measures.{AreFrameWords-one}
 use Rattle.bril_tree.proofs.Members.{in_contains}
 use Rattle.program_numbers.specs.Cost.{IsCost, longest_arguments}
 use Rattle.program_numbers.specs.Entries.{AreSoMany, IsEntryWidth}

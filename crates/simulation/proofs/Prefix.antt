@@ -1,5 +1,5 @@
 -- Lists that begin with another.
-use Rattle.std.proofs.Common.{◌≡◌, ℕ, List, [], ◌++◌, refl, sym, ap, ◌∙◌, append_assoc, append-nil}
+use Rattle.std.proofs.Common.{◌≡◌, ℕ, List, [], ◌++◌, sym, ap, ◌∙◌, append_assoc, append-nil}
 use Rattle.simulation.specs.System.{IsPrefix}
 
 pub IsPrefix-equal : (xs ys : List ℕ) → xs ≡ ys → IsPrefix xs ys

@@ -1,5 +1,5 @@
 -- A simulation refines: the steps of both systems are cut into chunks, between which the states are related.
-use Rattle.std.proofs.Common.{◌≡◌, ℕ, zero, suc, ◌+◌, ◌-◌, ◌*◌, ◌≤◌, ◌<◌, None, refl, sym, ap, ◌∙◌, subst, ⊎_elim, arith, zero-le, mul-le-mul_left, mul-le-mul_right, le_trans}
+use Rattle.std.proofs.Common.{◌≡◌, ℕ, zero, suc, ◌+◌, ◌-◌, ◌*◌, ◌≤◌, ◌<◌, None, refl, sym, ap, ◌∙◌, subst, ⊎_elim, arith, zero-le, mul-le-mul_left}
 use Rattle.std.proofs.lemmas.Bool.{cases_lt}
 use Rattle.simulation.specs.System.{System, after, IsFinal, IsPrefix, IsSystem, Agree}
 use Rattle.simulation.specs.Refinement.{Follows}

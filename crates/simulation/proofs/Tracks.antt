@@ -1,5 +1,5 @@
 -- In a star simulation, and so in a plus one, there is a state of Q beside each state of P.
-use Rattle.std.proofs.Common.{◌≡◌, ℕ, zero, suc, ◌+◌, ◌-◌, ◌*◌, ◌≤◌, ◌<◌, None, sym, ◌∙◌, subst, inr, ⊎_elim, arith, le_refl, le_trans, mul-le-mul_right}
+use Rattle.std.proofs.Common.{◌≡◌, ℕ, zero, suc, ◌+◌, ◌-◌, ◌*◌, ◌≤◌, ◌<◌, None, sym, ◌∙◌, subst, inr, ⊎_elim, arith, le_refl, le_trans}
 use Rattle.std.proofs.lemmas.Bool.{cases_lt}
 use Rattle.simulation.specs.System.{System, after, IsFinal, IsPrefix, IsSystem, Agree}
 use Rattle.simulation.specs.Refinement.{Follows}
