@@ -1,8 +1,6 @@
 pub mod Accepted
 pub mod Assigned
-pub mod Cost
 pub mod Edge
-pub mod Entries
 pub mod FrameWords
 pub mod FunctionForm
 pub mod Identifier
@@ -17,9 +15,9 @@ pub mod Numbered
 pub mod Operand
 pub mod Outcome
 pub mod Path
+pub mod Place
 pub mod Locals
 pub mod ProgramForm
-pub mod ProgramNumbers
 pub mod Run
 pub mod Shape
 pub mod Sites

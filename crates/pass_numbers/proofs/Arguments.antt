@@ -8,10 +8,10 @@ use Rattle.bril_tree.specs.declared.numbered.Instr.TheVariants.{Label, Const, Ac
 use Rattle.bril_tree.specs.declared.numbered_function.Func.{Func}
 use Rattle.bril_tree.specs.declared.operation.Op.{Op}
 use Rattle.bril_tree.specs.declared.operation.Op.TheVariants as op
-use Rattle.bril_tree.specs.Cost.{item_passes, longest_in, operation_passes}
+use Rattle.program_numbers.specs.Cost.{item_passes, longest_in, operation_passes}
 use Rattle.bril_tree.specs.Membership.{In}
 use Rattle.bril_tree.specs.Numbered.{item_tree, named, nop_item, variable_names}
-use Rattle.bril_tree.specs.ProgramNumbers.{greatest}
+use Rattle.program_numbers.specs.ProgramNumbers.{greatest}
 use Rattle.bril_names.proofs.Variables.{same_arguments}
 use Rattle.pass_numbers.proofs.Locations.{IsOfItems}
 

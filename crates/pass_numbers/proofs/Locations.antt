@@ -32,7 +32,7 @@ use Rattle.bril_names.proofs.Appearance.{Seen, seen, old, fresh, strange}
 use Rattle.bril_names.proofs.Functions.{Differ-variables}
 use Rattle.bril_names.proofs.Naming.{one_number}
 use Rattle.bril_names.proofs.Variables.{arguments_of, argument_names_taken}
-use Rattle.pass_numbers.proofs.Counting.{no_more}
+use Rattle.bril_tree.proofs.Counting.{no_more}
 
 -- ---- the names of an item
 

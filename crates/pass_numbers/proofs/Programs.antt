@@ -4,13 +4,13 @@ use Rattle.std.specs.Prelude.{is_some, slice_get}
 use Rattle.std.specs.List.{AllZip}
 use Rattle.std.proofs.lemmas.Bool.{cases_lt}
 use Rattle.bril_tree.specs.Accepted.{IsAccepted, IsAcceptedFunction}
-use Rattle.bril_tree.specs.Cost.{longest_in}
-use Rattle.bril_tree.specs.Entries.{IsEntryCount, IsEntryWidth}
+use Rattle.program_numbers.specs.Cost.{longest_in}
+use Rattle.program_numbers.specs.Entries.{IsEntryCount, IsEntryWidth}
 use Rattle.bril_tree.specs.FrameWords.{IsDepth, location_count}
 use Rattle.bril_tree.specs.Membership.{In}
 use Rattle.bril_tree.specs.Numbered.{names_of_functions}
 use Rattle.bril_tree.specs.Shape.{is_shaped}
-use Rattle.bril_tree.specs.ProgramNumbers.{IsGreatest, IsSum, greatest}
+use Rattle.program_numbers.specs.ProgramNumbers.{IsGreatest, IsSum, greatest}
 use Rattle.bril_tree.specs.declared.numbered_function.Func.{Func}
 use Rattle.bril_tree.specs.declared.program.Prog.{Prog}
 use Rattle.bril_tree.proofs.Elements.{zip-find, get_in}

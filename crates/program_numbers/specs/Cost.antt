@@ -6,7 +6,7 @@ use Rattle.bril_tree.specs.declared.numbered_function.Func.{Func}
 use Rattle.bril_tree.specs.declared.operation.Op.{Op}
 use Rattle.bril_tree.specs.declared.operation.Op.TheVariants as op
 use Rattle.bril_tree.specs.declared.program.Prog.{Prog}
-use Rattle.bril_tree.specs.ProgramNumbers.{greatest, IsLargestFrame}
+use Rattle.program_numbers.specs.ProgramNumbers.{greatest, IsLargestFrame}
 
 -- the length of the list of arguments of a `call` or a `print`
 abbrev pub operation_passes : Op → List ℕ → ℕ

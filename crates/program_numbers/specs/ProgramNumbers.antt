@@ -4,7 +4,7 @@ use Rattle.std.specs.Prelude.{◌≡◌, ℕ, ◌+◌, ◌≤◌, List, [], ◌�
 use Rattle.std.specs.List.{Contains}
 use Rattle.bril_tree.specs.declared.numbered_function.Func.{Func}
 use Rattle.bril_tree.specs.declared.program.Prog.{Prog}
-use Rattle.bril_tree.specs.Entries.{IsEntryCount, IsEntryWidth}
+use Rattle.program_numbers.specs.Entries.{IsEntryCount, IsEntryWidth}
 use Rattle.bril_tree.specs.FrameWords.{IsDepth, AreFrameWords, location_count}
 
 -- the greatest of numbers, 0 where there is none

@@ -1,8 +1,5 @@
-use Rattle.bril_tree.proofs.Measures.{AreFrameWords-one, AreSoMany-one, IsEntryWidth-one, IsSum-one, IsCost-one}
-use Rattle.bril_tree.proofs.laws.numbers_are_one.Goals as goal
-
-pub returns-clause-words : goal.returns-clause-words
-returns-clause-words c = AreFrameWords-one
+use Rattle.program_numbers.proofs.Measures.{AreSoMany-one, IsEntryWidth-one, IsSum-one, IsCost-one}
+use Rattle.program_numbers.proofs.laws.numbers_are_one.Goals as goal
 
 pub returns-clause-entries : goal.returns-clause-entries
 returns-clause-entries c = λ code m n. AreSoMany-one _ m n
