@@ -13,6 +13,7 @@ pub mod name;
 pub mod numbered;
 pub mod numbered_function;
 pub mod operation;
+pub mod operators;
 pub mod program;
 pub mod sequence;
 mod shape;
