@@ -14,6 +14,7 @@ pub mod Liveness
 pub mod Measures
 pub mod Members
 pub mod Named
+pub mod Arities
 pub mod Outcomes
 pub mod Refinement
 pub mod Replays

@@ -13,6 +13,7 @@ pub mod Membership
 pub mod Memory
 pub mod Numbered
 pub mod Operand
+pub mod Operators
 pub mod Outcome
 pub mod Path
 pub mod Place

@@ -14,6 +14,7 @@ pub mod name;
 pub mod numbered;
 pub mod numbered_function;
 pub mod operation;
+pub mod operators;
 pub mod place;
 pub mod program;
 pub mod sequence;
