@@ -63,9 +63,9 @@ module _ (code : List Instr) (dead : List Bool) (list : List Access) (reads : li
     pub searched : (arcs : List Arc) → AreBackArcs code arcs → (seeds found : List ℕ) → seeds ≡ alive → ((p : ℕ) → Contains found p ↔ IsFound arcs seeds number p) → (queued : List Bool) → IsSearched code dead queued number found
     searched arcs are seeds found same search queued = record {
       live = λ x is off p reached c.
-          found-live code (remaining code dead) (remaining-chain code dead sound) arcs are x alive (alive-readers x is) p (subst (λ n. IsFound arcs alive n p) (sym is) (subst (λ s. IsFound arcs s number p) same ((search p).0 c))) reached;
+          found-live code (remaining code dead) (remaining-chain code dead sound) arcs are x alive (alive-readers x is) p (subst (λ n. IsFound arcs alive (other_than n) p) (sym is) (subst (λ s. IsFound arcs s (other_than number) p) same ((search p).0 c))) reached;
       not_live = λ x is p reached away live.
-          away ((search p).1 (subst (λ s. IsFound arcs s number p) (sym same) (subst (λ n. IsFound arcs alive n p) is (live-found code (remaining code dead) (remaining-chain code dead sound) arcs are x alive (alive-readers x is) p reached live))));
+          away ((search p).1 (subst (λ s. IsFound arcs s (other_than number) p) (sym same) (subst (λ n. IsFound arcs alive (other_than n) p) is (live-found code (remaining code dead) (remaining-chain code dead sound) arcs are x alive (alive-readers x is) p reached live))));
     }
 
 -- ---- one item
