@@ -4,7 +4,7 @@ use Rattle.std.specs.List.{Contains}
 use Rattle.definite_assignment.specs.Leaving.{turned}
 use Rattle.bril_tree.proofs.Members.{Contains-map}
 use Rattle.graph_search.proofs.Paths.{reached_step, reached_all}
-use Rattle.graph_search.specs.Path.{IsReached, Leads}
+use Rattle.graph_search.specs.Path.{IsReached, Leads, other_than}
 use Rattle.graph_search.specs.declared.graph.Arc.{Arc}
 
 turned_leads : (arcs : List Arc) (barred m n : ℕ) → Leads arcs (other_than barred) m n → Leads (map turned arcs) (other_than barred) n m

@@ -4,7 +4,7 @@ use Rattle.bril_tree.specs.Operand.{Location, reads_of}
 use Rattle.bril_tree.specs.declared.numbered.Instr.{Instr}
 use Rattle.definite_assignment.specs.Location.{number_of, is_argument}
 use Rattle.definite_assignment.specs.declared.reads.Read.{Read}
-use Rattle.graph_search.specs.Path.{IsReached}
+use Rattle.graph_search.specs.Path.{IsReached, other_than}
 use Rattle.graph_search.specs.declared.graph.Arc.{Arc}
 
 abbrev pub read_at : ℕ → Location → Read

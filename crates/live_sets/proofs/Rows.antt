@@ -4,7 +4,7 @@ use Rattle.std.specs.Prelude.{slice_get, IsTrue}
 use Rattle.std.specs.List.{All, Contains}
 use Rattle.std.proofs.lemmas.List.Elements.{Contains-get_or}
 use Rattle.std.proofs.lemmas.Option.{same_Some}
-use Rattle.graph_search.specs.Path.{IsBetween, IsReached}
+use Rattle.graph_search.specs.Path.{IsBetween, IsReached, other_than}
 use Rattle.graph_search.specs.declared.graph.Arc.{Arc}
 use Rattle.bril_tree.specs.declared.numbered.Instr.{Instr}
 use Rattle.bril_tree.specs.Live.{IsLive}

@@ -1,6 +1,6 @@
 use Rattle.std.proofs.Common.{◌<◌, ◌↔◌, ap, subst, sym, ◌∙◌}
 use Rattle.std.specs.List.{All, Contains}
-use Rattle.graph_search.specs.Path.{IsReached}
+use Rattle.graph_search.specs.Path.{IsReached, other_than}
 use Rattle.live_sets.proofs.Rows.{items-within, found-within, row-tells}
 use Rattle.live_sets.proofs.live.row_of.Goals as goal
 

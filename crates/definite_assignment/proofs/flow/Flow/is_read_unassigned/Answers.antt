@@ -3,7 +3,7 @@ use Rattle.std.specs.List.{Contains}
 use Rattle.std.proofs.lemmas.Bool.{both_ways}
 use Rattle.definite_assignment.specs.Leaving.{turned}
 use Rattle.definite_assignment.proofs.Turned.{turned-reaches}
-use Rattle.graph_search.specs.Path.{IsReached}
+use Rattle.graph_search.specs.Path.{IsReached, other_than}
 use Rattle.graph_search.proofs.Paths.{reached_seed}
 use Rattle.definite_assignment.proofs.flow.Flow.is_read_unassigned.Goals as goal
 

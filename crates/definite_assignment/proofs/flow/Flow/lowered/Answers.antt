@@ -3,7 +3,7 @@ use Rattle.std.specs.List.{Contains}
 use Rattle.definite_assignment.specs.Location.{is_argument}
 use Rattle.definite_assignment.specs.Reads.{IsOpen}
 use Rattle.definite_assignment.proofs.ReadRows.{Lowers-none, Lowers-same}
-use Rattle.graph_search.specs.Path.{IsReached}
+use Rattle.graph_search.specs.Path.{IsReached, other_than}
 use Rattle.definite_assignment.proofs.flow.Flow.lowered.Goals as goal
 
 pub returns-then-not-branch-clause-lowered : goal.returns-then-not-branch-clause-lowered

@@ -1,6 +1,6 @@
 use Rattle.std.proofs.Common.{◌≡◌, ◌↔◌, ap, subst}
 use Rattle.std.specs.List.{Contains}
-use Rattle.graph_search.specs.Path.{IsReached}
+use Rattle.graph_search.specs.Path.{IsReached, other_than}
 use Rattle.live_sets.proofs.flow.Flow.search.Goals as goal
 
 pub returns-clause-found : goal.returns-clause-found
