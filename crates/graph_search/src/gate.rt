@@ -1,7 +1,8 @@
 // Which arcs a search crosses.
 
-ghost use Rattle.std.specs.Prelude.{◌≡◌, Bool};
+ghost use Rattle.std.specs.Prelude.{◌≡◌, ◌<◌, ◌↔◌, ℕ, Bool, true};
 ghost use Rattle.graph_search.specs.declared.graph.Arc.{Arc};
+ghost use Rattle.graph_search.specs.Sets.{HasBit};
 
 use crate::graph::Arc;
 
@@ -13,6 +14,16 @@ pub trait Gate {
     /// Whether the search crosses the arc. Takes no memory.
     fn is_open(&self, arc: Arc) -> bool
         ensures { result ≡ opens self.now arc };
+}
+
+/// Which arcs each of 64 searches crosses.
+pub trait Gates {
+    /// Whether the search with this number, which is below 64, crosses an arc.
+    ghost opens: { Self → ℕ → Arc → Bool };
+
+    /// The word whose bits are the searches that cross the arc. Takes no memory.
+    fn open_bits(&self, arc: Arc) -> u64
+        ensures { (k : ℕ) → k < 64 → HasBit result k ↔ (opens self.now k arc ≡ true) };
 }
 
 /// The gate that is shut to the arcs with this label, and to no other.

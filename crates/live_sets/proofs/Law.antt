@@ -63,7 +63,7 @@ pub record AreReaders (code : List Instr) (x : Location) (items : List ℕ) : Ty
 
 -- paths end at nodes
 pub reached-within : (nodes : ℕ) (arcs : List Arc) (seeds : List ℕ) (gate : Arc → Bool) → All (IsBetween nodes) arcs → All (λ seed. seed < nodes) seeds → (node : ℕ) → IsReached arcs seeds gate node → node < nodes
-reached-within nodes arcs seeds barred between inside =
+reached-within nodes arcs seeds gate between inside =
     reached_all arcs seeds gate (λ n. n < nodes) (λ n c. subst (λ m. m < nodes) c.2 (inside c.0 n c.1))
     (λ m n before leads. let c = leads.there in let both : IsBetween nodes leads.arc = subst (IsBetween nodes) c.2 (between c.0 leads.arc c.1) in let e = leads.enters in let l = both.1 in omega arith)
 
