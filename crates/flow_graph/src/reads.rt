@@ -2,13 +2,20 @@
 
 ghost use Rattle.std.specs.Prelude.{◌≡◌, ◌<◌, ◌^◌, ◌-◌, ◌++◌, length, map, IfOk, OnOk};
 ghost use Rattle.bril_tree.specs.Operand.{Variable, locations_read, reading_of, shadow_of};
-ghost use Rattle.live_sets.specs.Reads.{access_at, item_reads, reads_from};
+ghost use Rattle.flow_graph.specs.Reads.{access_at, item_reads, reads_from};
 
-use crate::accesses::Access;
 use crate::location::{operand, shadow_number, variable_number};
 use bril_tree::numbered::Instr;
 use bril_tree::operation::Op;
 use std::alloc::{AllocError, Global};
+
+/// An access of a location by an item, as a read or an assignment: the item's number, and that of the location, which is
+/// twice that of a variable, and one more for its shadow.
+#[derive(Clone, Copy, PartialEq, Eq, Debug, Drop)]
+pub struct Access {
+    pub item: u32,
+    pub location: u32,
+}
 
 // Adds a read of each variable.
 fn push_variables(reads: &mut Vec<Access>, item: u32, args: &[u32]) -> Result<(), AllocError>
@@ -69,7 +76,8 @@ fn push_reads(reads: &mut Vec<Access>, item: u32, instr: &Instr) -> Result<(), A
     }
 }
 
-/// The reads of an item of this number, in order. `AllocError` comes also for a variable of a number from 2^31 on.
+/// The reads of an item of this number, in order. `AllocError` means want of memory, which a variable of a number from 2^31
+/// on is taken to have.
 pub fn item_reads(alloc: Global, item: u32, instr: &Instr) -> Result<Vec<Access>, AllocError>
     ensures { IfOk result (λ reads. reads.items ≡ item_reads item instr.now) }
 {
@@ -78,8 +86,9 @@ pub fn item_reads(alloc: Global, item: u32, instr: &Instr) -> Result<Vec<Access>
     Ok(reads)
 }
 
-// The reads of all items, in order.
-pub(crate) fn all_reads(alloc: Global, code: &[Instr]) -> Result<Vec<Access>, AllocError>
+/// The reads of all items, in order. Takes time and memory in proportion to the items and their arguments. `AllocError`
+/// means want of memory, which a variable of a number from 2^31 on is taken to have.
+pub fn all_reads(alloc: Global, code: &[Instr]) -> Result<Vec<Access>, AllocError>
     requires { length code.now < 2 ^ 32 - 1 }
     ensures { IfOk result (λ reads. reads.items ≡ reads_from 0 code.now) }
 {
