@@ -1,3 +1,4 @@
+pub mod AccessRows
 pub mod BranchRows
 pub mod Failing
 pub mod FirstWalks

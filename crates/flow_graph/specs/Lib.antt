@@ -1,3 +1,4 @@
+pub mod Accesses
 pub mod Faults
 pub mod Graph
 pub mod Laws

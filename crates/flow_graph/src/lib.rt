@@ -2,6 +2,7 @@
 //! item what it reads, what it assigns and where control goes from it.
 #![tactic(auto)]
 
+mod accesses;
 mod branches;
 mod edges;
 mod graph;
@@ -13,6 +14,7 @@ mod search;
 mod sites;
 mod visits;
 
+pub use accesses::AccessLists;
 pub use branches::{Branch, Branches, branches_of};
 pub use bril_tree::edge::Edge;
 pub use graph::{Graph, GraphFault};

@@ -1,7 +1,7 @@
 use Rattle.std.proofs.Common.{◌≡◌, ◌<◌, map, sym, ap, ◌∙◌, subst}
 use Rattle.std.specs.List.{All}
 use Rattle.std.proofs.lemmas.List.Elements.{All-map}
-use Rattle.live_sets.proofs.accesses.AccessLists.of.Goals as goal
+use Rattle.flow_graph.proofs.accesses.AccessLists.of.Goals as goal
 
 pub of-requires-clause-below : goal.of-requires-clause-below
 of-requires-clause-below c =

@@ -1,6 +1,6 @@
 use Rattle.std.proofs.Common.{◌<◌, ◌≤◌, ◌^◌, take}
 use Rattle.std.specs.List.{All}
-use Rattle.live_sets.proofs.accesses.location_count.Given as goal
+use Rattle.flow_graph.proofs.accesses.location_count.Given as goal
 
 abbrev pub invariant-loop-access : goal.invariant-loop-access
 invariant-loop-access l = record {

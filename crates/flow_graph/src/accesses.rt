@@ -1,22 +1,17 @@
-// Accesses of locations by items, in lists by the locations.
+// Accesses of locations by items, in rows by the locations.
 
-ghost use Rattle.std.specs.Prelude.{◌≡◌, ◌≤◌, ◌<◌, ◌+◌, ◌^◌, ◌-◌, ◌↔◌, ℕ, length, map, vec_len, IfOk};
+ghost use Rattle.std.specs.Prelude.{◌≡◌, ◌≤◌, ◌<◌, ◌+◌, ◌^◌, ◌-◌, ◌↔◌, ℕ, length, slice_index, vec_len, IfOk};
 ghost use Rattle.std.specs.List.{All, Contains};
-ghost use Rattle.live_sets.specs.Reads.{Accesses};
+ghost use Rattle.flow_graph.specs.Accesses.{Accesses, locations_of};
+ghost use Rattle.graph_search.specs.Adjacency.{EndsRow};
 
+use crate::reads::Access;
 use graph_search::Adjacency;
 use std::alloc::{AllocError, Global};
 use std::marker::Model;
 
-/// An access of a location by an item: the item's number, and the number of the location, which is twice that of a
-/// variable, and one more for its shadow.
-#[derive(Clone, Copy, PartialEq, Eq, Debug, Drop)]
-pub struct Access {
-    pub item: u32,
-    pub location: u32,
-}
-
-/// Accesses of locations by items, as reads or assignments, by the locations.
+/// Accesses of locations by items, as reads or assignments, in a list; the row of a location is the indices of its
+/// accesses, which are read from the last one to the first.
 #[derive(Drop)]
 pub struct AccessLists {
     list: Vec<Access>,
@@ -24,20 +19,20 @@ pub struct AccessLists {
 }
 
 impl Model for AccessLists {
-    ghost use Rattle.std.specs.Prelude.{◌≡◌, ◌<◌, ◌≤◌, ◌^◌, map};
+    ghost use Rattle.std.specs.Prelude.{◌≡◌, ◌<◌, ◌≤◌, ◌^◌};
     ghost use Rattle.std.specs.List.{All};
-    ghost use Rattle.live_sets.specs.Reads.{AccessesView};
+    ghost use Rattle.flow_graph.specs.Accesses.{AccessesView, locations_of};
 
     ghost Value = { AccessesView };
 
     ghost view = { λ a. record { locations = a.rows.count; list = a.list.items } };
 
-    ghost invariant = { λ a. (a.rows.keys ≡ map (λ access. access.location) a.list.items) × All (λ access. access.location < a.rows.count) a.list.items × (a.rows.count ≤ 2 ^ 32) };
+    ghost invariant = { λ a. (a.rows.keys ≡ locations_of a.list.items) × All (λ access. access.location < a.rows.count) a.list.items × (a.rows.count ≤ 2 ^ 32) };
 }
 
 // The numbers of the locations that are accessed.
 fn locations_of(alloc: Global, list: &[Access]) -> Result<Vec<u32>, AllocError>
-    ensures { IfOk result (λ locations. locations.items ≡ map (λ access. access.location) list.now) }
+    ensures { IfOk result (λ locations. locations.items ≡ locations_of list.now) }
 {
     let mut locations = Vec::new(alloc);
     for access in list {
@@ -92,17 +87,52 @@ impl AccessLists {
         self.rows.count()
     }
 
-    /// The items that access the location. An error means that there is no memory.
+    /// All accesses, in their order. Takes no memory.
+    pub fn list(&self) -> &[Access]
+        ensures { result.now ≡ self.now.list }
+    {
+        self.list.as_slice()
+    }
+
+    /// The end of a location's row: one past the last index of an access of the location, or 0 where there is none. Takes
+    /// no memory.
+    pub fn end(&self, location: u32) -> u32
+        requires { location < self.now.locations }
+        ensures { EndsRow (locations_of self.now.list) location (length self.now.list) result }
+    {
+        self.rows.end(location)
+    }
+
+    /// The end of a row before one of its indices: one past the last index before it of an access of the same location, or 0
+    /// where there is none. Takes no memory.
+    pub fn before(&self, index: u32) -> u32
+        requires { index < length self.now.list }
+        ensures { EndsRow (locations_of self.now.list) (slice_index (locations_of self.now.list) index) index result }
+    {
+        self.rows.before(index)
+    }
+
+    /// The items that access the location of a number, one for each access. An error means that there is no memory.
     pub fn items(&self, alloc: Global, location: u32) -> Result<Vec<u32>, AllocError>
+        ensures { IfOk result (λ items. (item : ℕ) → Contains items.items item ↔ Accesses self.now.list location item) }
+    {
+        if location as usize >= self.locations() {
+            return Ok(Vec::new(alloc));
+        }
+        self.row_items(alloc, location)
+    }
+
+    // The items of the row of a location.
+    fn row_items(&self, alloc: Global, location: u32) -> Result<Vec<u32>, AllocError>
         requires { location < self.now.locations }
         ensures { IfOk result (λ items. (item : ℕ) → Contains items.items item ↔ Accesses self.now.list location item) }
     {
         let mut items = Vec::new(alloc);
-        let mut end = self.rows.end(location);
+        let mut end = self.end(location);
         while end > 0 {
-            let k = end - 1;
-            items.push(self.list[k as usize].item)?;
-            end = self.rows.before(k);
+            let index = end - 1;
+            items.push(self.list[index as usize].item)?;
+            end = self.before(index);
         }
         Ok(items)
     }

@@ -1,27 +1,22 @@
-use Rattle.std.proofs.Common.{◌≡◌, ◌+◌, ◌-◌, ◌<◌, [], ◌∷◌, ◌++◌, length, map, get_or, ap, ◌∙◌, subst, arith}
+use Rattle.std.proofs.Common.{◌≡◌, ◌+◌, ◌-◌, ◌<◌, [], ◌∷◌, ◌++◌, length, get_or, ap, ◌∙◌, subst, arith}
 use Rattle.std.specs.List.{Contains}
 use Rattle.std.proofs.lemmas.List.Elements.{All-nil, All-push, Contains-push, Contains-append_left}
 use Rattle.std.proofs.lemmas.Option.{get_or_from_slice_get}
-use Rattle.live_sets.specs.Reads.{Accesses}
-use Rattle.live_sets.specs.declared.accesses.Access.{Access}
-use Rattle.live_sets.proofs.AccessRows.{done-start, done-next, all-done, accessed}
-use Rattle.live_sets.proofs.accesses.AccessLists.items.Goals as goal
+use Rattle.flow_graph.specs.Accesses.{Accesses}
+use Rattle.flow_graph.specs.declared.reads.Access.{Access}
+use Rattle.flow_graph.proofs.AccessRows.{done-start, done-next, all-done, accessed}
+use Rattle.flow_graph.proofs.accesses.AccessLists.row_items.Goals as goal
 
 pub loop-end-init : goal.loop-end-init
-loop-end-init c =
-    let list = c.args.self.now.list in
-    let same : c.self.inside.list.items ≡ list = ap (λ v. v.list) c.self.view_is in
-    let keys : c.self.inside.rows.keys ≡ map (λ access. access.location) list = c.self.invariant.0 ∙ ap (map (λ access. access.location)) same in
-    record {
-      done = done-start list c.self.inside.rows.keys c.args.location c.end-end.result (λ k access. Contains c.new-items.result.items access.item) keys c.end-end.ensures;
-      only = rw c.new-items.ensures.items (All-nil (λ item. Accesses list c.args.location item));
-    }
+loop-end-init c = record {
+  done = done-start c.args.self.now.list c.args.location c.end-end.result (λ k access. Contains c.new-items.result.items access.item) c.end-end.ensures;
+  only = rw c.new-items.ensures.items (All-nil (λ item. Accesses c.args.self.now.list c.args.location item));
+}
 
 pub loop-end-preserved : goal.loop-end-preserved
 loop-end-preserved c =
     let list = c.args.self.now.list in
     let same : c.self.inside.list.items ≡ list = ap (λ v. v.list) c.self.view_is in
-    let keys : c.self.inside.rows.keys ≡ map (λ access. access.location) list = c.self.invariant.0 ∙ ap (map (λ access. access.location)) same in
     let inv = c.loop-end.invariant in
     let positive = c.loop-end-test.true in
     let k = c.loop-end.end - 1 in
@@ -34,7 +29,7 @@ loop-end-preserved c =
     let is : c.index.result.now ≡ get_or list k c.index.result.now = c.index.ensures ∙ ap (λ xs. get_or xs k c.index.result.now) same in
     let pushed : c.push.new.self.items ≡ old ++ item ∷ [] = c.in_ok-push.ensures.items in
     record {
-      done = done-next list c.self.inside.rows.keys c.args.location c.loop-end.end k c.before-end.result (λ j access. Contains old access.item) (λ j access. Contains c.push.new.self.items access.item) keys here inv.done c.before-end.ensures
+      done = done-next list c.args.location c.loop-end.end k c.before-end.result (λ j access. Contains old access.item) (λ j access. Contains c.push.new.self.items access.item) here inv.done c.before-end.ensures
           (λ j access there. rw pushed (Contains-append_left old (item ∷ []) access.item there))
           (λ access e.
           let found : c.index.result.now ≡ access = is ∙ get_or_from_slice_get list k access c.index.result.now e in

@@ -2,7 +2,7 @@ use Rattle.std.proofs.Common.{◌<◌, ◌≤◌, take, subst, arith}
 use Rattle.std.specs.List.{All}
 use Rattle.std.proofs.lemmas.List.{take_all}
 use Rattle.std.proofs.lemmas.List.Elements.{All-more, All-weaker}
-use Rattle.live_sets.proofs.accesses.location_count.Goals as goal
+use Rattle.flow_graph.proofs.accesses.location_count.Goals as goal
 
 pub loop-access-preserved : goal.loop-access-preserved
 loop-access-preserved c =

@@ -1,7 +1,7 @@
 use Rattle.std.specs.List.{All, Contains}
-use Rattle.live_sets.specs.Reads.{Accesses}
-use Rattle.live_sets.proofs.AccessRows.{RowDone}
-use Rattle.live_sets.proofs.accesses.AccessLists.items.Given as goal
+use Rattle.flow_graph.specs.Accesses.{Accesses}
+use Rattle.flow_graph.proofs.AccessRows.{RowDone}
+use Rattle.flow_graph.proofs.accesses.AccessLists.row_items.Given as goal
 
 -- the items of the row from its end on
 abbrev pub invariant-loop-end : goal.invariant-loop-end
