@@ -22,11 +22,10 @@ use Rattle.bril_tree.specs.Sites.{Opens, item_change}
 use Rattle.bril_tree.proofs.Assignments.{site_speculates}
 use Rattle.bril_tree.proofs.Members.{contains_in, in_contains, in_map}
 use Rattle.flow_graph.proofs.Searching.{get_set_other}
-use Rattle.definite_assignment.specs.Location.{number_of}
-use Rattle.live_sets.specs.Arcs.{number_at}
-use Rattle.live_sets.specs.Reads.{item_reads}
-use Rattle.live_sets.specs.declared.accesses.Access.{Access}
-use Rattle.live_sets.proofs.Law.{assigned-number, number-assigned}
+use Rattle.flow_graph.specs.Location.{number_at, number_of}
+use Rattle.flow_graph.specs.Reads.{item_reads}
+use Rattle.flow_graph.specs.declared.reads.Access.{Access}
+use Rattle.flow_graph.proofs.Locations.{assigned-number, number-assigned}
 use Rattle.dead_code.specs.Removable.{IsRemovable, is_computation}
 use Rattle.dead_code.specs.Sweep.{AreNoted, IsQuiet, IsSwept, branches_off, is_branching, is_end}
 use Rattle.dead_code.specs.Work.{IsSound, NoneIdle, remaining}

@@ -6,8 +6,7 @@ use Rattle.bril_tree.specs.declared.numbered.Instr.TheVariants.{Label, Const, Ac
 use Rattle.bril_tree.specs.declared.operation.Op.{Op}
 use Rattle.bril_tree.specs.declared.operation.Op.TheVariants as op
 use Rattle.bril_tree.specs.Operand.{Location, reads_of}
-use Rattle.definite_assignment.specs.Location.{number_of}
-use Rattle.live_sets.specs.Arcs.{number_at}
+use Rattle.flow_graph.specs.Location.{number_at, number_of}
 
 -- branches lead from the operation elsewhere than to the next point; an abort leads from the `speculate`
 abbrev pub branches_off : Op → Bool

@@ -4,17 +4,16 @@
 ghost use Rattle.std.specs.Prelude.{◌≡◌, ◌<◌, ◌+◌, ◌^◌, ◌-◌, ◌∷◌, [], true, Some, length, map, slice_get, if◌then◌else◌, IfOk, OnOk, IfSome};
 ghost use Rattle.std.specs.Option.{option_to_list};
 ghost use Rattle.bril_tree.specs.Operand.{reads_of};
-ghost use Rattle.definite_assignment.specs.Location.{number_of};
+ghost use Rattle.flow_graph.specs.Location.{number_at, number_of};
 ghost use Rattle.dead_code.specs.Removable.{is_computation};
 ghost use Rattle.dead_code.specs.Sweep.{AreNoted, IsQuiet, IsSwept, is_branching, is_end};
 ghost use Rattle.dead_code.specs.Work.{IsSound, NoneIdle, remaining};
-ghost use Rattle.live_sets.specs.Arcs.{number_at};
 
 use crate::work::is_computation;
 use bril_tree::numbered::Instr;
 use bril_tree::numbered_function::Func;
 use bril_tree::operation::Op;
-use live_sets::{assigned_number, item_reads};
+use flow_graph::{assigned_number, item_reads};
 use std::alloc::{AllocError, Global};
 
 // What is known at a point: the next item that reads each location, the next that assigns it, the next from which branches

@@ -33,16 +33,16 @@ pub returns-then-is_unused-clause-sound : goal.returns-then-is_unused-clause-sou
 returns-then-is_unused-clause-sound c =
     (marked c.args.func.now.code c.args.self.now.dead.items c.args.point c.index-as_slice-point.result c.args.self.now.reads.items c.args.self.now.assigns.items c.args.self.now.branch c.args.self.now.end c.in_ok-assigned.assigned c.requires.sound c.requires.none
     (staying c.args.func.now.code c.args.self.now.dead.items c.args.point c.index-as_slice-point.result c.index.result.now c.as_slice.result.now c.requires.sound c.requires.inside c.index.ensures c.if-index.false c.as_slice.ensures c.index-as_slice-point.is)
-    (c.is_unused.ensures.computes c.if-is_unused.true) c.in_ok-assigned.ensures c.requires.swept (c.is_unused.ensures.quiet c.if-is_unused.true)).sound
+    (c.is_unused.ensures.computes c.if-is_unused.true) c.in_ok-assigned.ensures.number c.requires.swept (c.is_unused.ensures.quiet c.if-is_unused.true)).sound
 
 pub returns-then-is_unused-clause-none : goal.returns-then-is_unused-clause-none
 returns-then-is_unused-clause-none c =
     (marked c.args.func.now.code c.args.self.now.dead.items c.args.point c.index-as_slice-point.result c.args.self.now.reads.items c.args.self.now.assigns.items c.args.self.now.branch c.args.self.now.end c.in_ok-assigned.assigned c.requires.sound c.requires.none
     (staying c.args.func.now.code c.args.self.now.dead.items c.args.point c.index-as_slice-point.result c.index.result.now c.as_slice.result.now c.requires.sound c.requires.inside c.index.ensures c.if-index.false c.as_slice.ensures c.index-as_slice-point.is)
-    (c.is_unused.ensures.computes c.if-is_unused.true) c.in_ok-assigned.ensures c.requires.swept (c.is_unused.ensures.quiet c.if-is_unused.true)).none
+    (c.is_unused.ensures.computes c.if-is_unused.true) c.in_ok-assigned.ensures.number c.requires.swept (c.is_unused.ensures.quiet c.if-is_unused.true)).none
 
 pub returns-then-is_unused-clause-swept : goal.returns-then-is_unused-clause-swept
 returns-then-is_unused-clause-swept c =
     (marked c.args.func.now.code c.args.self.now.dead.items c.args.point c.index-as_slice-point.result c.args.self.now.reads.items c.args.self.now.assigns.items c.args.self.now.branch c.args.self.now.end c.in_ok-assigned.assigned c.requires.sound c.requires.none
     (staying c.args.func.now.code c.args.self.now.dead.items c.args.point c.index-as_slice-point.result c.index.result.now c.as_slice.result.now c.requires.sound c.requires.inside c.index.ensures c.if-index.false c.as_slice.ensures c.index-as_slice-point.is)
-    (c.is_unused.ensures.computes c.if-is_unused.true) c.in_ok-assigned.ensures c.requires.swept (c.is_unused.ensures.quiet c.if-is_unused.true)).swept
+    (c.is_unused.ensures.computes c.if-is_unused.true) c.in_ok-assigned.ensures.number c.requires.swept (c.is_unused.ensures.quiet c.if-is_unused.true)).swept

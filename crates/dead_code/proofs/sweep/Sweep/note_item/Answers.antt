@@ -2,7 +2,7 @@ use Rattle.std.proofs.Common.{Some, cond, ap, subst, sym, ◌∙◌}
 use Rattle.std.specs.Option.{option_to_list}
 use Rattle.dead_code.specs.Sweep.{AreNoted}
 use Rattle.dead_code.specs.Work.{remaining}
-use Rattle.live_sets.specs.Arcs.{number_at}
+use Rattle.flow_graph.specs.Location.{number_at}
 use Rattle.dead_code.proofs.Sweeping.{noted-swept}
 use Rattle.dead_code.proofs.sweep.Sweep.note_item.Goals as goal
 
