@@ -19,9 +19,9 @@ use Rattle.pass_walks.proofs.Accepting.{walks_accepted}
 use Rattle.pass_names.specs.Named.{SameName}
 use Rattle.pass_names.specs.NamedPlan.{SameHeads}
 use Rattle.pass_names.proofs.Heads.{main_same, types_same}
-use Rattle.pass_types.specs.Stays.{HasTypeOfDest, Stays}
-use Rattle.pass_types.proofs.Staying.{dest_of_tree}
-use Rattle.pass_types.proofs.Accepted.{program_accepted}
+use Rattle.pass_accept.specs.Stays.{HasTypeOfDest, Stays}
+use Rattle.pass_accept.proofs.Staying.{dest_of_tree}
+use Rattle.pass_accept.proofs.Accepted.{program_accepted}
 use Rattle.pass_accept.specs.Edited.{IsDest, KeepsTypes, IsNew, LosesNoDestination, IsOld, EditAccepted}
 use Rattle.pass_accept.proofs.Left.{read-left, left-typed, name-typed, unlost-typed}
 

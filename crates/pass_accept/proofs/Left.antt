@@ -22,8 +22,8 @@ use Rattle.pass_names.specs.Named.{SameName}
 use Rattle.pass_names.specs.NamedPlan.{SameHeads}
 use Rattle.pass_names.proofs.Points.{found, found_under, Differ-in}
 use Rattle.bril_names.proofs.Naming.{one_number}
-use Rattle.pass_types.proofs.Staying.{same_destination, variable-stays}
-use Rattle.pass_types.specs.Stays.{HasTypeOfDest}
+use Rattle.pass_accept.proofs.Staying.{same_destination, variable-stays}
+use Rattle.pass_accept.specs.Stays.{HasTypeOfDest}
 use Rattle.pass_accept.specs.Edited.{IsDest}
 use Rattle.pass_names.proofs.Heads.{argument-stays}
 use Rattle.pass_accept.proofs.Heads.{argument-typed}

@@ -14,7 +14,7 @@ use Rattle.pass_plan.specs.Plan.{Plan, Preserves}
 use Rattle.pass_walks.specs.Matched.{MatchesWalks}
 use Rattle.pass_names.specs.Named.{SameName}
 use Rattle.pass_names.specs.NamedPlan.{SameHeads}
-use Rattle.pass_types.specs.Stays.{HasTypeOfDest, FitsByItself}
+use Rattle.pass_accept.specs.Stays.{HasTypeOfDest, FitsByItself}
 
 -- an item of the code has the variable as its destination
 pub record IsDest (code : List Instr) (y : ℕ) : Type 0 where

@@ -1,4 +1,5 @@
 pub mod Elements
 pub mod Outcomes
+pub mod Splicing
 pub mod Values
 pub mod Widening

@@ -28,8 +28,8 @@ use Rattle.bril_tree.proofs.Elements.{in_get, get_in, get_inside}
 use Rattle.std.proofs.lemmas.List.{length-map}
 use Rattle.pass_names.specs.NamedPlan.{SameHeads}
 use Rattle.pass_names.specs.Named.{SameName}
-use Rattle.pass_types.specs.Stays.{HasTypeOfDest}
-use Rattle.pass_types.proofs.Typed.{typed-unless}
+use Rattle.pass_accept.specs.Stays.{HasTypeOfDest}
+use Rattle.pass_accept.proofs.Typed.{typed-unless}
 use Rattle.pass_names.proofs.Items.{SameDest, same_dest}
 use Rattle.pass_names.proofs.Points.{found, found_under, Differ-in}
 

@@ -19,8 +19,8 @@ use Rattle.pass_names.specs.NamedPlan.{SameHeads}
 use Rattle.pass_names.proofs.Items.{item-shares}
 use Rattle.pass_names.proofs.Points.{found, found_under}
 use Rattle.pass_names.proofs.Heads.{partner}
-use Rattle.pass_types.proofs.Fitting.{shape-same, call-same, typed-kept}
-use Rattle.pass_types.specs.Stays.{FitsByItself, StaysTyped, Stays}
+use Rattle.pass_accept.proofs.Fitting.{shape-same, call-same, typed-kept}
+use Rattle.pass_accept.specs.Stays.{FitsByItself, StaysTyped, Stays}
 
 module _ (P Q : Prog) (accepted : IsAccepted P) (heads : SameHeads P Q) (main : P.main ≡ Q.main) (types_same : (f : ℕ) (F G : Func) → slice_get P.funcs f ≡ Some F → slice_get Q.funcs f ≡ Some G → types_of (Some F) ≡ types_of (Some G)) where
   module _ (g : ℕ) where
