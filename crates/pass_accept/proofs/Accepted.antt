@@ -17,7 +17,7 @@ use Rattle.bril_names.proofs.Functions.{Differ-functions}
 use Rattle.pass_names.specs.Named.{SameName}
 use Rattle.pass_names.specs.NamedPlan.{SameHeads}
 use Rattle.pass_names.proofs.Items.{item-shares}
-use Rattle.pass_names.proofs.Points.{found, found_under}
+use Rattle.pass_names.proofs.Points.{found, found_under, same_name-of}
 use Rattle.pass_names.proofs.Heads.{partner}
 use Rattle.pass_accept.proofs.Fitting.{shape-same, call-same, typed-kept}
 use Rattle.pass_accept.specs.Stays.{FitsByItself, StaysTyped, Stays}
@@ -66,8 +66,7 @@ module _ (P Q : Prog) (accepted : IsAccepted P) (heads : SameHeads P Q) (main : 
             let typed = typed_at P F facts i a at_a in
             let h = item-shares fs V W fa.function.labels fb.function.labels (Differ-functions P) (λ x. Unit {0}) (is_some F.ret) a b shaped same fa.range under.range (λ x i. tt) in
             let ret = heads.ret f F G p q in
-            let back : (x y : ℕ) → SameName V W x y → SameName (variable_names F.vars) (variable_names G.vars) x y =
-            λ x y n. subst (λ o. SameName (variable_names F.vars) (names_in o) x y) q (subst (λ o. SameName (names_in o) (names_in (slice_get Q.funcs f)) x y) p n) in
+            let back = same_name-of P Q f F G p q in
             record {
               shaped = sym (shape-same fs V W fa.function.labels fb.function.labels (Differ-functions P) (λ x. Unit {0}) P Q F G callee-types callee-result ret (is_some G.ret) a b h) ∙ ap (λ r. is_shaped (is_some r) a) (sym ret) ∙ shaped;
               calls = sym (call-same fs V W fa.function.labels fb.function.labels (Differ-functions P) (λ x. Unit {0}) P Q F G callee-types callee-result ret a b h) ∙ called;

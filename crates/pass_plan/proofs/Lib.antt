@@ -3,3 +3,4 @@ pub mod Outcomes
 pub mod Splicing
 pub mod Values
 pub mod Widening
+pub mod Narrowing

@@ -1,3 +1,4 @@
 pub mod Plan
 pub mod Spliced
 pub mod Widening
+pub mod Narrowing
