@@ -5,8 +5,10 @@
 //! the values of locations. `Preserves` is what it then proves, edge by edge. The definitions are in `specs/Plan.antt`.
 //! A plan that is preserved can be widened by locations that match, or narrowed to the points that runs visit.
 //! What follows from a plan is in the crates above: `pass_steps` for runs and `pass_walks` for acceptance. The words are
-//! those of the CompCert compiler's proofs, where a pass has a relation that matches states. `specs/Spliced.antt` is for
-//! passes that put items in: lists with other lists put in before and after their items.
+//! those of the CompCert compiler's proofs, where a pass has a relation that matches states.
+//!
+//! `specs/Spliced.antt` is for passes that put items in: lists with other lists put in before and after their items.
+//! `specs/Marked.antt` is for passes that empty items: lists with one item in place of those that are marked.
 #![tactic(auto)]
 
 ghost use Rattle.std.specs.Prelude.{ℕ};

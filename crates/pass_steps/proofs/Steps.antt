@@ -418,9 +418,6 @@ module _ (m : Plan) (P Q : Prog) (limits : Limits) (accepted : IsAccepted P) (pr
     T' : State
     T' = state gs' blocks printed None y
 
-    called-item : Option Instr
-    called-item = Some (Act w.call.dest w.call.ty op.Call w.call.args w.call.funcs w.call.labels)
-
     reached : IsReached (code_of P caller.function) caller.point
     reached = record { walk = contents'.walk; is = contents'.is; ends = contents'.ends }
 
