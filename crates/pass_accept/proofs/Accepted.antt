@@ -39,10 +39,11 @@ module _ (P Q : Prog) (accepted : IsAccepted P) (heads : SameHeads P Q) (main : 
         by (Some F) None p q = absurd (let h = partner P Q heads g F p in let k = sym q ∙ h.1 in cc)
         by (Some F) (Some G) p q = ap of p ∙ same F G p q ∙ sym (ap of q)
 
-    callee-types : types_of (slice_get P.funcs g) ≡ types_of (slice_get Q.funcs g)
+    -- a callee takes and gives the same types
+    pub callee-types : types_of (slice_get P.funcs g) ≡ types_of (slice_get Q.funcs g)
     callee-types = by_callee types_of (λ F G p q. types_same g F G p q)
 
-    callee-result : return_type (slice_get P.funcs g) ≡ return_type (slice_get Q.funcs g)
+    pub callee-result : return_type (slice_get P.funcs g) ≡ return_type (slice_get Q.funcs g)
     callee-result = by_callee return_type (λ F G p q. heads.ret g F G p q)
 
   module _ (f : ℕ) (F G : Func) (p : slice_get P.funcs f ≡ Some F) (q : slice_get Q.funcs f ≡ Some G) (s : Stays P Q f F G) where

@@ -1,4 +1,5 @@
-//! The plan of a pass: which points, locations and states of a program match those of what the pass made of it. Laws alone.
+//! Laws alone: the plan of a pass, which points, locations and states of a program match those of what the pass made of
+//! it.
 //!
 //! A pass gives a relation between the points of a function before and after it, one between the locations of the two
 //! functions at matching points, the pairs of points at which both programs make the same step, and what it knows of
