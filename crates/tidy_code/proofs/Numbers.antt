@@ -12,10 +12,9 @@ use Rattle.bril_tree.specs.declared.program.Prog.{Prog}
 use Rattle.bril_tree.specs.Accepted.{IsAccepted}
 use Rattle.bril_tree.specs.Edge.{Branch, branches_at, branches_from, onward}
 use Rattle.bril_tree.specs.Entries.{Enters}
-use Rattle.bril_tree.specs.FrameWords.{IsDepth}
 use Rattle.bril_tree.specs.Leaving.{IsEdge, leave_of}
 use Rattle.bril_tree.specs.Membership.{In}
-use Rattle.bril_tree.specs.Numbered.{named, names_of_functions, tree_at}
+use Rattle.bril_tree.specs.Numbered.{named, tree_at}
 use Rattle.bril_tree.specs.Sites.{sites_of}
 use Rattle.bril_tree.specs.Step.{code_of, item_at, items_of}
 use Rattle.bril_tree.specs.Walk.{IsReached, IsWalk, end_of}
@@ -25,12 +24,10 @@ use Rattle.pass_walks.specs.Matched.{MatchesWalks}
 use Rattle.pass_names.proofs.Points.{found}
 use Rattle.pass_numbers.specs.Numbers.{FunctionWithin, NumbersWithin}
 use Rattle.pass_walks.proofs.Accepting.{matched}
-use Rattle.pass_numbers.proofs.Arguments.{no-longer-arguments}
-use Rattle.pass_numbers.proofs.Depths.{depth-within}
-use Rattle.pass_numbers.proofs.Edges.{edge-back, edge-leaves, items-back, label-back, lands}
+use Rattle.pass_numbers.proofs.Edges.{edge-back, edge-leaves, label-back, lands}
 use Rattle.pass_numbers.proofs.Entering.{EntryMatched, LeaveMatched, fewer-entries, width-within}
-use Rattle.pass_numbers.proofs.Locations.{IsOfItems}
-use Rattle.pass_numbers.proofs.Programs.{accepted-locations, functions_bound, by-functions}
+use Rattle.pass_numbers.proofs.Items.{IsOfItems, items-back, unchanged}
+use Rattle.pass_numbers.proofs.Programs.{by-functions, function-within, functions_bound}
 use Rattle.tidy_code.specs.Tidied.{IsTidied}
 use Rattle.tidy_code.proofs.Accepted.{old-item, tidied-accepted}
 use Rattle.tidy_code.proofs.Kept.{count-dropped, count-kept}
@@ -256,19 +253,13 @@ module _ (P Q : Prog) (keep : ℕ → ℕ → Bool) (accepted : IsAccepted P) (a
 
   -- ---- the numbers of a function
 
-  of_items : IsOfItems (names_of_functions P.funcs) (names_of_functions Q.funcs) F G
+  of_items : IsOfItems unchanged [] F G
   of_items =
       items-back P Q f F G p q (t.heads.args f F G p q)
       (λ j b at. let o = old-item P Q keep accepted t f F G p q j b (ap (λ c. slice_get c j) there ∙ at) in inr (o.i, sym o.tree))
 
   function_within : FunctionWithin 1 F G
-  function_within = record {
-    locations = accepted-locations Q accepted_q f (names_of_functions P.funcs) (names_of_functions Q.funcs) F G q of_items;
-    arguments = no-longer-arguments (names_of_functions P.funcs) (names_of_functions Q.funcs) F G of_items;
-    depth = λ d e a b. depth-within (tidy_plan P Q keep t) P Q f F.args G.args walks d e (subst (λ c. IsDepth c d) (sym here) a) (subst (λ c. IsDepth c e) (sym there) b);
-    entries = fewer-entries F G Leaves entry one-leave;
-    width = width-within F G one_more leave-matched;
-  }
+  function_within = function-within (tidy_plan P Q keep t) unchanged P Q accepted_q f F G p q walks of_items 1 (fewer-entries F G Leaves entry one-leave) (width-within F G one_more leave-matched)
 
 pub keeps_numbers : (P Q : Prog) → IsAccepted P → IsTidied P Q → NumbersWithin P Q 1
 keeps_numbers P Q accepted makes =
