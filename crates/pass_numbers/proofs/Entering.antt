@@ -1,8 +1,9 @@
 -- The entries of labels of a function, where each is matched by one of the function that it was made of.
-use Rattle.std.proofs.Common.{◌≡◌, ◌≢◌, ◌⊎◌, ℕ, ◌+◌, ◌<◌, ◌≤◌, List, [], ◌++◌, length, map, Option, Some, None, refl, sym, subst, ◌∙◌, inl, inr, ⊎_elim, arith}
+use Rattle.std.proofs.Common.{◌≡◌, ◌≢◌, ◌⊎◌, ℕ, zero, suc, ◌+◌, ◌<◌, ◌≤◌, List, [], ◌++◌, length, map, Option, Some, None, refl, sym, ap, subst, ◌∙◌, inl, inr, ⊎_elim, arith}
 use Rattle.std.specs.List.{AllPairs, range_with_len}
 use Rattle.std.proofs.lemmas.Bool.{cases_lt}
 use Rattle.std.proofs.lemmas.List.{length-append, length-map}
+use Rattle.std.proofs.lemmas.Option.{same_Some}
 use Rattle.bril_tree.specs.declared.numbered.Instr.TheVariants.{Label}
 use Rattle.bril_tree.specs.declared.numbered_function.Func.{Func}
 use Rattle.bril_tree.specs.Entries.{AreSoMany, Enters, IsEntryCount, IsEntryWidth}
@@ -25,13 +26,22 @@ label-low F leave l e =
     let low = range_high 0 (length F.labels) l (subst (In l) F.formed.placed (in_flat_map label_at (Label l) l F.code (get_in F.code p.0 (Label l) p.2) (inl refl))) in
     omega arith
 
+-- the leave point before a point
+abbrev pub point_before : ℕ → Option ℕ
+point_before zero = None
+point_before (suc n) = Some n
+
+pub point_before-one : (n q : ℕ) → Some q ≡ point_before n → n ≡ suc q
+point_before-one zero q e = absurd (let h : Some q ≡ None = e in cc)
+point_before-one (suc n) q e = ap suc (sym (same_Some q n e))
+
 module _ (F G : Func) where
   -- the labels have one name
   abbrev pub SameLabel : ℕ → ℕ → Type 0
   SameLabel l m = (l < length G.labels) × (named F.labels m ≡ named G.labels l)
 
-  pub one_label : (l k m : ℕ) → SameLabel l m → SameLabel k m → l ≡ k
-  one_label l k m a b = one_number G.labels G.formed.labels_differ l k a.0 b.0 (sym a.1 ∙ b.1)
+  pub one_named_label : (l k m : ℕ) → SameLabel l m → SameLabel k m → l ≡ k
+  one_named_label l k m a b = one_number G.labels G.formed.labels_differ l k a.0 b.0 (sym a.1 ∙ b.1)
 
   -- an entry of G is matched by one of F, from a related leave point
   pub record EntryMatched (L : Option ℕ → ℕ → Option ℕ → Type 0) (leave : Option ℕ) (label : ℕ) : Type 0 where
@@ -62,7 +72,7 @@ module _ (F G : Func) where
     StandsFor a (inr x) = (a.1 < length G.labels) × IsNew a.0 a.1 x
 
     one_entry : (a c : Entry) (y : Entry ⊎ X) → StandsFor a y → StandsFor c y → a ≡ c
-    one_entry a c (inl y) r s = λ i. (one_leave a.0 c.0 y.0 a.1 c.1 r.1 s.1 i, one_label a.1 c.1 y.1 r.0 s.0 i)
+    one_entry a c (inl y) r s = λ i. (one_leave a.0 c.0 y.0 a.1 c.1 r.1 s.1 i, one_named_label a.1 c.1 y.1 r.0 s.0 i)
     one_entry a c (inr x) r s = let e = one_new a.0 c.0 a.1 c.1 x r.0 s.0 r.1 s.1 in λ i. (e.0 i, e.1 i)
 
     -- at most so many entries more as there are new ones
@@ -88,7 +98,7 @@ module _ (F G : Func) where
   -- no entries more, where none is new
   pub fewer-entries : (L : Option ℕ → ℕ → Option ℕ → Type 0) → ((leave : Option ℕ) (label : ℕ) → Enters G.code leave label → EntryMatched L leave label) → ((a c b : Option ℕ) (l k : ℕ) → L a l b → L c k b → a ≡ c) → (d e : ℕ) → IsEntryCount F.code d → IsEntryCount G.code e → e ≤ d
   fewer-entries L matched one d e a b =
-      let few = few-entries ⊥ L (λ leave label x. x) [] (λ leave label enters. inl (matched leave label enters)) one (λ a c l k x low high r s. absurd x) d e a b in
+      let few = few-entries ℕ L (λ leave label x. ⊥) [] (λ leave label enters. inl (matched leave label enters)) one (λ a c l k x low high r s. absurd r) d e a b in
       omega arith
 
   -- ---- how many labels from one leave point
@@ -110,7 +120,7 @@ module _ (F G : Func) where
     where
       one_for : (x z : ℕ) (y : Option ℕ) → Related l.IsExtra x y → Related l.IsExtra z y → x ≡ z
       one_for x z None r s = l.one x z r s
-      one_for x z (Some m) r s = one_label x z m r s
+      one_for x z (Some m) r s = one_named_label x z m r s
 
       against : d + length extra < e → (ys : List ℕ) → AllPairs (λ x y. x ≢ y) ys → ((y : ℕ) → In y ys → Enters F.code l.from y × In y (range_with_len 0 (length F.labels))) → ((y : ℕ) → In y (range_with_len 0 (length F.labels)) → Enters F.code l.from y → In y ys) → ⊥
       against less ys differ are all =

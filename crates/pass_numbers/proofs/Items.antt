@@ -65,40 +65,35 @@ renamed_names rename V [] = refl
 renamed_names rename V (x ∷ xs) = ap (λ names. rename (named V x) ∷ names) (renamed_names rename V xs)
 
 module _ (rename : List ℕ → List ℕ) (extra : List (List ℕ)) (fs gs : List (List ℕ)) (F G : Func) (a b : Instr) (i : In a F.code) (j : In b G.code) where
-  abbrev was : Item
-  was = item_tree fs (variable_names F.vars) F.labels a
+  abbrev V : List (List ℕ)
+  V = variable_names F.vars
 
-  abbrev now : Item
-  now = item_tree gs (variable_names G.vars) G.labels b
+  abbrev W : List (List ℕ)
+  W = variable_names G.vars
 
   -- of a variable among some of the new item, where their names are the new names of some of the old one
-  named-from : (xs ys : List ℕ) → ((x : ℕ) → In x xs → In x (variables_of a)) → map rename (map (named (variable_names F.vars)) xs) ≡ map (named (variable_names G.vars)) ys → (y : ℕ) → In y ys → (n : IsNamed rename F G y) × In n.x xs
+  named-from : (xs ys : List ℕ) → ((x : ℕ) → In x xs → In x (variables_of a)) → map rename (map (named V) xs) ≡ map (named W) ys → (y : ℕ) → In y ys → (n : IsNamed rename F G y) × In n.x xs
   named-from xs ys own names y k =
-      let one = same_named (λ x. rename (named (variable_names F.vars) x)) (named (variable_names G.vars)) xs ys (sym (renamed_names rename (variable_names F.vars) xs) ∙ names) y k in
+      let one = same_named (λ x. rename (named V x)) (named W) xs ys (sym (renamed_names rename V xs) ∙ names) y k in
       let at = in_get a F.code i in
       (record { x = one.0; low = variable_below F at.0 a at.1 one.0 (own one.0 one.1); same = one.2 }, one.1)
 
   -- one with new names
-  pub renamed-item : map rename (item_names was) ≡ item_names now → map rename (shadow_names was) ≡ shadow_names now → tree_passes now ≤ tree_passes was → IsItemOf rename extra F G b
-  renamed-item names shadows passes = record {
-    variables = λ y k. inl (named-from (variables_of a) (variables_of b) (λ x m. m) (sym (ap (map rename) (names-item fs V F.labels a typed_a)) ∙ names ∙ names-item gs W G.labels b typed_b) y k).0;
+  pub renamed-item : (was now : Item) → item_tree fs (variable_names F.vars) F.labels a ≡ was → item_tree gs (variable_names G.vars) G.labels b ≡ now
+      → map rename (item_names was) ≡ item_names now → map rename (shadow_names was) ≡ shadow_names now → tree_passes now ≤ tree_passes was → IsItemOf rename extra F G b
+  renamed-item was now mine theirs names shadows passes = record {
+    variables = λ y k. inl (named-from (variables_of a) (variables_of b) (λ x m. m) (sym (ap (map rename) (names-item fs V F.labels a typed_a)) ∙ ap (λ t. map rename (item_names t)) mine ∙ names ∙ ap item_names (sym theirs) ∙ names-item gs W G.labels b typed_b) y k).0;
     shadows = λ y k.
-        let n = named-from (shadows_of a) (shadows_of b) (λ x m. shadow-of_variable x a m) (sym (ap (map rename) (names-shadows fs V F.labels a typed_a)) ∙ shadows ∙ names-shadows gs W G.labels b typed_b) y k in
+        let n = named-from (shadows_of a) (shadows_of b) (λ x m. shadow-of_variable x a m) (sym (ap (map rename) (names-shadows fs V F.labels a typed_a)) ∙ ap (λ t. map rename (shadow_names t)) mine ∙ shadows ∙ ap shadow_names (sym theirs) ∙ names-shadows gs W G.labels b typed_b) y k in
         let at = in_get a F.code i in
         (n.0, any_passes_from_place (names_shadow n.0.x) F.code at.0 a at.1 (is-named n.0.x a n.1));
     passes =
-        let before = passes-item fs V F.labels a in
-        let after = passes-item gs W G.labels b in
+        let before : item_passes a ≡ tree_passes was = passes-item fs V F.labels a ∙ ap tree_passes mine in
+        let after : item_passes b ≡ tree_passes now = passes-item gs W G.labels b ∙ ap tree_passes theirs in
         let most = in-greatest a F.code i in
         omega arith;
   }
     where
-      V : List (List ℕ)
-      V = variable_names F.vars
-
-      W : List (List ℕ)
-      W = variable_names G.vars
-
       typed_a : dest_is_typed a ≡ true
       typed_a = passes_in dest_is_typed F.code a F.formed.typed i
 
@@ -108,8 +103,8 @@ module _ (rename : List ℕ → List ℕ) (extra : List (List ℕ)) (fs gs : Lis
 -- one of the same tree
 pub old-item : (extra fs gs : List (List ℕ)) (F G : Func) (a b : Instr) → In a F.code → In b G.code → item_tree fs (variable_names F.vars) F.labels a ≡ item_tree gs (variable_names G.vars) G.labels b → IsItemOf unchanged extra F G b
 old-item extra fs gs F G a b i j same =
-    let s = ap tree_passes same in
-    renamed-item unchanged extra fs gs F G a b i j (map-id _ ∙ ap item_names same) (map-id _ ∙ ap shadow_names same) (omega arith)
+    let now = item_tree gs (variable_names G.vars) G.labels b in
+    renamed-item unchanged extra fs gs F G a b i j now now same refl (map-id (item_names now)) (map-id (shadow_names now)) (omega arith)
 
 -- ---- new items
 
@@ -124,6 +119,9 @@ none-in [] none = refl
 none-in (x ∷ xs) none = absurd (none x (inl refl))
 
 module _ (rename : List ℕ → List ℕ) (extra : List (List ℕ)) (F G : Func) (b : Instr) where
+  abbrev Names : List (List ℕ)
+  Names = variable_names G.vars
+
   pub plain-item : IsPlain rename extra F G b → IsItemOf rename extra F G b
   plain-item plain = record {
     variables = plain.names;
@@ -161,14 +159,11 @@ module _ (rename : List ℕ → List ℕ) (extra : List (List ℕ)) (F G : Func)
       → ((name : List ℕ) → In name (item_names tree) → ((x : ℕ) × (x < length F.vars) × (rename (named (variable_names F.vars) x) ≡ name)) ⊎ In name extra) → IsPlain rename extra F G b
   plain-tree j gs tree is shadows passes names = record {
     names = λ y k. ⊎_elim (λ n. inl (record { x = n.0; low = n.1; same = n.2 })) inr
-        (names (named W y) (subst (In (named W y)) (sym (names-item gs W G.labels b typed) ∙ ap item_names is) (in_map (named W) y (variables_of b) k)));
-    shadows = none-in (shadows_of b) (λ x k. subst (In (named W x)) (sym (names-shadows gs W G.labels b typed) ∙ ap shadow_names is ∙ shadows) (in_map (named W) x (shadows_of b) k));
-    passes = passes-item gs W G.labels b ∙ ap tree_passes is ∙ passes;
+        (names (named Names y) (subst (In (named Names y)) (sym (names-item gs Names G.labels b typed) ∙ ap item_names is) (in_map (named Names) y (variables_of b) k)));
+    shadows = none-in (shadows_of b) (λ x k. subst (In (named Names x)) (sym (names-shadows gs Names G.labels b typed) ∙ ap shadow_names is ∙ shadows) (in_map (named Names) x (shadows_of b) k));
+    passes = passes-item gs Names G.labels b ∙ ap tree_passes is ∙ passes;
   }
     where
-      W : List (List ℕ)
-      W = variable_names G.vars
-
       typed : dest_is_typed b ≡ true
       typed = passes_in dest_is_typed G.code b G.formed.typed j
 

@@ -11,3 +11,4 @@ pub mod Arguments
 pub mod Edges
 pub mod Twins
 pub mod InPlace
+pub mod Shares

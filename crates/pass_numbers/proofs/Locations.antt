@@ -148,9 +148,11 @@ module _ (rename : List ℕ → List ℕ) (extra : List (List ℕ)) (F G : Func)
   -- the location that a location of G was, or its extra name
   abbrev Stands : Location → Location ⊎ List ℕ → Type 0
   Stands (Variable y) (inl (Variable x)) = (y < length G.vars) × (rename (named V x) ≡ named W y)
+  Stands (Variable y) (inl (Shadow x)) = ⊥
   Stands (Variable y) (inr name) = (y < length G.vars) × (name ≡ named W y)
+  Stands (Shadow y) (inl (Variable x)) = ⊥
   Stands (Shadow y) (inl (Shadow x)) = (y < length G.vars) × (rename (named V x) ≡ named W y)
-  Stands _ _ = ⊥
+  Stands (Shadow y) (inr name) = ⊥
 
   one-name : (y z : ℕ) (name : List ℕ) → y < length G.vars → z < length G.vars → name ≡ named W y → name ≡ named W z → y ≡ z
   one-name y z name low high a b =
@@ -159,14 +161,17 @@ module _ (rename : List ℕ → List ℕ) (extra : List (List ℕ)) (F G : Func)
 
   one-stands : (l k : Location) (x : Location ⊎ List ℕ) → Stands l x → Stands k x → l ≡ k
   one-stands (Variable y) (Variable z) (inl (Variable x)) a b = ap Variable (one-name y z (rename (named V x)) a.0 b.0 a.1 b.1)
-  one-stands (Variable y) (Variable z) (inr name) a b = ap Variable (one-name y z name a.0 b.0 a.1 b.1)
-  one-stands (Shadow y) (Shadow z) (inl (Shadow x)) a b = ap Shadow (one-name y z (rename (named V x)) a.0 b.0 a.1 b.1)
   one-stands (Variable y) (Variable z) (inl (Shadow x)) a b = absurd a
-  one-stands (Variable y) (Shadow z) (inl x) a b = absurd b
-  one-stands (Variable y) (Shadow z) (inr x) a b = absurd b
-  one-stands (Shadow y) k (inl (Variable x)) a b = absurd a
-  one-stands (Shadow y) k (inr x) a b = absurd a
+  one-stands (Variable y) (Variable z) (inr name) a b = ap Variable (one-name y z name a.0 b.0 a.1 b.1)
+  one-stands (Variable y) (Shadow z) (inl (Variable x)) a b = absurd b
+  one-stands (Variable y) (Shadow z) (inl (Shadow x)) a b = absurd a
+  one-stands (Variable y) (Shadow z) (inr name) a b = absurd b
+  one-stands (Shadow y) (Variable z) (inl (Variable x)) a b = absurd a
   one-stands (Shadow y) (Variable z) (inl (Shadow x)) a b = absurd b
+  one-stands (Shadow y) (Variable z) (inr name) a b = absurd a
+  one-stands (Shadow y) (Shadow z) (inl (Variable x)) a b = absurd a
+  one-stands (Shadow y) (Shadow z) (inl (Shadow x)) a b = ap Shadow (one-name y z (rename (named V x)) a.0 b.0 a.1 b.1)
+  one-stands (Shadow y) (Shadow z) (inr name) a b = absurd a
 
   abbrev was : Location → Location ⊎ List ℕ
   was l = inl l
