@@ -9,7 +9,8 @@ use Rattle.bril_tree.specs.Operand.{Location, reads_of}
 use Rattle.bril_tree.specs.Walk.{IsReached}
 use Rattle.bril_tree.specs.declared.numbered.Instr.{Instr}
 use Rattle.definite_assignment.specs.Location.{number_of}
-use Rattle.dead_code.specs.Emptied.{emptied, WereRemovable, with_nops}
+use Rattle.dead_code.specs.Emptied.{emptied, WereRemovable}
+use Rattle.pass_plan.specs.Marked.{with_nops}
 use Rattle.dead_code.specs.Removable.{is_computation, is_silent}
 use Rattle.live_sets.specs.Arcs.{item_location}
 use Rattle.live_sets.specs.Reads.{access_at}

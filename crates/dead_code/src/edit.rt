@@ -4,7 +4,8 @@ ghost use Rattle.std.specs.Prelude.{◌≡◌, IfOk, false, if◌then◌else◌,
 ghost use Rattle.bril_tree.specs.Accepted.{IsAccepted};
 ghost use Rattle.bril_tree.specs.Numbered.{nop_item};
 ghost use Rattle.bril_tree.specs.Size.{IsCounted};
-ghost use Rattle.dead_code.specs.Emptied.{IsClearedTree, with_nops};
+ghost use Rattle.dead_code.specs.Emptied.{IsClearedTree};
+ghost use Rattle.pass_plan.specs.Marked.{with_nops};
 
 use crate::work::dead_items;
 use bril_names::function_of;

@@ -15,6 +15,7 @@ use Rattle.pass_accept.specs.Edited.{IsNew, IsOld, Edits}
 use Rattle.pass_accept.proofs.Heads.{start_matched}
 use Rattle.pass_accept.proofs.Alone.{result_alone}
 use Rattle.pass_accept.proofs.Edited.{edit_accepted}
+use Rattle.pass_accept.proofs.Left.{dest-there}
 use Rattle.bril_tree.specs.Numbered.{nop}
 use Rattle.bril_tree.proofs.Assignments.{went_on}
 use Rattle.pass_pad.specs.Padded.{PaddedAt}
@@ -33,7 +34,7 @@ module _ (P Q : Prog) (accepted : IsAccepted P) (t : PaddedAt P Q) (f : ℕ) (F 
 
   items : (j : ℕ) (b : Instr) → item_at Q f j ≡ Some b → IsNew P Q f F G b ⊎ IsOld P Q f F G j b
   items zero b at = inl (subst (IsNew P Q f F G) (same_Some nop b (sym (t.first f F p) ∙ at)) nop-new)
-  items (suc i) b at = inr (record { i = i; tree = sym (t.rest f i); stays = inr (λ x y name among k a here dest. (suc k, sym (t.rest f k))) })
+  items (suc i) b at = inr (record { i = i; tree = sym (t.rest f i); stays = inr (λ x y name among k a here dest. dest-there P Q t.heads f F G p q x y name k a here dest (suc k) (sym (t.rest f k))) })
 
   -- the point of P is one before that of Q
   old-end : (i j : ℕ) → (j ≡ suc i) ⊎ ((i ≡ 0) × (j ≡ 0)) → i ≡ pred j
