@@ -17,7 +17,7 @@ differ-both (x ∷ xs) ys mine theirs apart =
 
 -- different things, each made of one
 pub differ-map : {A B : Type 0} (f : A → B) → ((x y : A) → f x ≡ f y → x ≡ y) → (xs : List A) → AllPairs (λ a b. a ≢ b) xs → AllPairs (λ a b. a ≢ b) (map f xs)
-differ-map f one [] differ i j d less inside = absurd (omega arith)
+differ-map f one [] differ = λ i j d less inside. absurd (omega arith)
 differ-map f one (x ∷ xs) differ =
     AllPairs-cons (λ a b. a ≢ b) (f x) (map f xs) (in_all (λ z. f x ≢ z) (map f xs) (λ z i. λ e. let s = in_map_source f z xs i in differ-first x xs differ s.0 s.1 (one x s.0 (e ∙ s.2))))
     (differ-map f one xs (differ-rest x xs differ))
