@@ -1,5 +1,5 @@
 -- The numbers of a deadened program: none is greater than the program's.
-use Rattle.std.proofs.Common.{◌≡◌, ◌⊎◌, ℕ, suc, List, [], Option, Some, None, refl, sym, ap, subst, ◌∙◌, inl, inr, ⊎_elim}
+use Rattle.std.proofs.Common.{◌≡◌, ◌⊎◌, ℕ, suc, List, [], Some, refl, sym, ap, subst, ◌∙◌, inl, inr, ⊎_elim}
 use Rattle.std.specs.Prelude.{slice_get}
 use Rattle.std.proofs.lemmas.Option.{same_Some}
 use Rattle.bril_tree.specs.declared.numbered.Instr.{Instr}
@@ -14,7 +14,6 @@ use Rattle.bril_tree.specs.Numbered.{named, nop, tree_at}
 use Rattle.bril_tree.specs.Sites.{sites_of}
 use Rattle.bril_tree.specs.Step.{code_of, item_at, items_of}
 use Rattle.bril_tree.specs.Walk.{IsReached, end_of}
-use Rattle.bril_tree.proofs.Members.{contains_in, in_contains}
 use Rattle.pass_walks.specs.Matched.{MatchedWalk, MatchesWalks}
 use Rattle.pass_numbers.specs.Numbers.{FunctionWithin, NumbersWithin}
 use Rattle.pass_numbers.proofs.Edges.{edge-back, label-back}

@@ -1,6 +1,6 @@
 -- The entries of a function of which each item stays at its point, or another stands in its place: they are no more than
 -- before, and no more from one leave point.
-use Rattle.std.proofs.Common.{◌≡◌, ℕ, ◌+◌, ◌≤◌, Bool, true, false, List, [], length, Option, Some, None, refl, sym, ap, subst, ◌∙◌, inr}
+use Rattle.std.proofs.Common.{◌≡◌, ℕ, ◌+◌, ◌≤◌, false, List, [], Option, Some, None, refl, sym, ap, subst, ◌∙◌, inr}
 use Rattle.std.specs.Prelude.{slice_get}
 use Rattle.bril_tree.specs.declared.edge.Edge.{Edge}
 use Rattle.bril_tree.specs.declared.numbered.Instr.TheVariants.{Label}

@@ -1,14 +1,14 @@
 -- How many locations a result has more than the program: where its items come from the program's, at most those by extra
 -- names.
-use Rattle.std.proofs.Common.{◌≡◌, ◌≢◌, ◌⊎◌, ℕ, zero, suc, ◌+◌, ◌<◌, ◌≤◌, Bool, true, false, cond, List, [], ◌∷◌, ◌++◌, length, map, take, get_or, Option, Some, None, refl, sym, ap, subst, ◌∙◌, inl, inr, ⊎_elim, arith}
+use Rattle.std.proofs.Common.{◌≡◌, ◌≢◌, ◌⊎◌, ℕ, ◌+◌, ◌<◌, ◌≤◌, Bool, true, List, [], ◌∷◌, ◌++◌, length, map, take, get_or, Some, None, refl, sym, ap, subst, ◌∙◌, inl, inr, ⊎_elim, arith}
 use Rattle.std.specs.Prelude.{is_some, slice_get}
-use Rattle.std.specs.List.{AllPairs, filter, flat_map, list_any, range_with_len}
+use Rattle.std.specs.List.{AllPairs, filter, flat_map, range_with_len}
 use Rattle.std.proofs.lemmas.Bool.{cases_lt}
 use Rattle.std.proofs.lemmas.List.{get_or-take, length-append, length-map, length-take}
 use Rattle.std.proofs.lemmas.List.Elements.{Contains-get_or}
 use Rattle.std.proofs.lemmas.List.Folds.{Any-from_list_any}
 use Rattle.std.proofs.lemmas.List.FromFn.{length-range_with_len}
-use Rattle.std.proofs.lemmas.List.Kept.{AllPairs-cons, AllPairs-filter}
+use Rattle.std.proofs.lemmas.List.Kept.{AllPairs-filter}
 use Rattle.std.proofs.lemmas.List.Sums.{length-filter}
 use Rattle.bril_tree.specs.declared.function_tree.Dest.{Dest}
 use Rattle.bril_tree.specs.declared.numbered.Instr.{Instr}
@@ -29,11 +29,11 @@ use Rattle.bril_names.proofs.Appearance.{Seen, seen, old, fresh, strange}
 use Rattle.bril_names.proofs.Functions.{Differ-variables}
 use Rattle.bril_names.proofs.Naming.{one_number}
 use Rattle.bril_names.proofs.Variables.{argument_names_taken}
-use Rattle.pass_plan.proofs.Elements.{all_in, in_all}
+use Rattle.pass_plan.proofs.Elements.{all_in}
 use Rattle.pass_numbers.proofs.Counting.{no_more}
 use Rattle.pass_numbers.proofs.Different.{differ-both, differ-map, in_filter, filter_in, range-differ}
 use Rattle.pass_numbers.proofs.ItemTrees.{names-it}
-use Rattle.pass_numbers.proofs.Items.{IsItemOf, IsNamed, IsOfItems, is_used}
+use Rattle.pass_numbers.proofs.Items.{IsNamed, IsOfItems, is_used}
 
 -- ---- the locations of a function
 

@@ -1,5 +1,5 @@
 -- From the numbers of functions to those of programs.
-use Rattle.std.proofs.Common.{◌≡◌, ℕ, zero, suc, ◌+◌, ◌<◌, ◌≤◌, Bool, true, false, List, [], ◌∷◌, length, map, Some, refl, sym, ap, subst, ◌∙◌, ⊎_elim, arith}
+use Rattle.std.proofs.Common.{◌≡◌, ℕ, zero, suc, ◌+◌, ◌≤◌, List, [], ◌∷◌, length, map, Some, refl, sym, ap, subst, ◌∙◌, ⊎_elim, arith}
 use Rattle.std.specs.Prelude.{slice_get}
 use Rattle.std.specs.List.{AllZip, range_with_len, sum_by}
 use Rattle.std.proofs.lemmas.Bool.{cases_lt}
@@ -13,7 +13,7 @@ use Rattle.bril_tree.specs.FrameWords.{IsDepth, location_count}
 use Rattle.bril_tree.specs.Membership.{In}
 use Rattle.bril_tree.specs.Numbered.{names_of_functions}
 use Rattle.bril_tree.specs.ProgramNumbers.{IsGreatest, IsSum, greatest}
-use Rattle.bril_tree.specs.Step.{code_of, items_of}
+use Rattle.bril_tree.specs.Step.{items_of}
 use Rattle.bril_tree.specs.declared.numbered_function.Func.{Func}
 use Rattle.bril_tree.specs.declared.program.Prog.{Prog}
 use Rattle.bril_tree.proofs.Elements.{get_in, get_inside, in_get, zip-get, zip-long}
@@ -21,7 +21,7 @@ use Rattle.bril_tree.proofs.Members.{contains_in, in_contains}
 use Rattle.pass_plan.proofs.Elements.{all_in}
 use Rattle.pass_plan.specs.Plan.{Plan}
 use Rattle.pass_walks.specs.Matched.{MatchesWalks}
-use Rattle.pass_numbers.specs.Numbers.{FunctionGrows, FunctionWithin, FunctionsBound, FunctionsGrow, adding, widened}
+use Rattle.pass_numbers.specs.Numbers.{FunctionWithin, FunctionsBound, FunctionsGrow, widened}
 use Rattle.pass_numbers.proofs.Arguments.{no-longer-arguments}
 use Rattle.pass_numbers.proofs.Depths.{depth-within}
 use Rattle.pass_numbers.proofs.Existing.{not_bottomless, not_widthless}
@@ -117,11 +117,11 @@ functions_bound P Q wider accepted z =
     (record { locations = λ m n less. less; arguments = λ m n less. less; depth = λ m n less. less; width = λ m n less. omega arith })
     (λ n. let none = none-added 0 (length P.funcs) in omega arith) (zip-long (FunctionWithin wider) P.funcs Q.funcs z)
     (λ f F G p q. let w = zip-get (FunctionWithin wider) P.funcs Q.funcs f F G z p q in record {
-        locations = w.locations;
-        arguments = w.arguments;
-        depth = w.depth;
-        entries = λ d e a b. let l = w.entries d e a b in omega arith;
-        width = w.width;
+      locations = w.locations;
+      arguments = w.arguments;
+      depth = w.depth;
+      entries = λ d e a b. let l = w.entries d e a b in omega arith;
+      width = w.width;
     })
 
 -- ---- functions
