@@ -2,9 +2,9 @@
 use Rattle.std.proofs.Common.{ℕ, ◌≤◌, List, [], ◌∷◌, map, refl, inl, inr, arith}
 use Rattle.bril_tree.specs.declared.numbered.Instr.{Instr}
 use Rattle.bril_tree.specs.declared.numbered_function.Func.{Func}
-use Rattle.bril_tree.specs.Cost.{item_passes, longest_in}
+use Rattle.program_numbers.specs.Cost.{item_passes, longest_in}
 use Rattle.bril_tree.specs.Membership.{In}
-use Rattle.bril_tree.specs.ProgramNumbers.{greatest}
+use Rattle.program_numbers.specs.ProgramNumbers.{greatest}
 use Rattle.bril_names.proofs.Variables.{same_arguments}
 use Rattle.pass_numbers.proofs.Items.{IsOfItems}
 

@@ -6,7 +6,7 @@ use Rattle.std.proofs.lemmas.List.Kept.{AllPairs-cons}
 use Rattle.bril_tree.specs.Membership.{In}
 use Rattle.bril_tree.proofs.Members.{in_append_cases, in_map_source}
 use Rattle.pass_plan.proofs.Elements.{in_all}
-use Rattle.pass_numbers.proofs.Counting.{differ-first, differ-rest}
+use Rattle.bril_tree.proofs.Counting.{differ-first, differ-rest}
 
 -- a list of different things, made of two without a common one
 pub differ-both : {A : Type 0} (xs ys : List A) → AllPairs (λ a b. a ≢ b) xs → AllPairs (λ a b. a ≢ b) ys → ((x : A) → In x xs → In x ys → ⊥) → AllPairs (λ a b. a ≢ b) (xs ++ ys)

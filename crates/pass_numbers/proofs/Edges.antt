@@ -11,13 +11,13 @@ use Rattle.bril_tree.specs.declared.numbered_function.Func.{Func}
 use Rattle.bril_tree.specs.declared.operation.Op.{Op}
 use Rattle.bril_tree.specs.declared.operation.Op.TheVariants as op
 use Rattle.bril_tree.specs.declared.program.Prog.{Prog}
-use Rattle.bril_tree.specs.Edge.{Branch, action_branches, branches_at, branches_from, item_branches, onward}
+use Rattle.bril_tree.specs.Edge.{Branch, action_branches, branches_at, branches_from, onward}
 use Rattle.bril_tree.specs.FunctionForm.{targets_of}
 use Rattle.bril_tree.specs.Leaving.{IsEdge, edge_of, leave_of}
 use Rattle.bril_tree.specs.Membership.{In}
 use Rattle.bril_tree.specs.Numbered.{item_tree, named, names_of_functions, nop, point_tree, tree_at, variable_names}
 use Rattle.bril_tree.specs.Operand.{Location}
-use Rattle.bril_tree.specs.Sites.{Keeps, Opens, item_change, sites_of}
+use Rattle.bril_tree.specs.Sites.{Opens, item_change, sites_of}
 use Rattle.bril_tree.specs.Step.{code_of, item_at, point_of}
 use Rattle.bril_tree.specs.Walk.{end_of}
 use Rattle.bril_tree.proofs.Assignments.{site_speculates}
@@ -109,29 +109,6 @@ edge-leaves code edge e = subst (λ n. (a : Instr) × (slice_get code n ≡ Some
     by false ss same = from
     by true [] same = from
     by true (s ∷ ss) same = opened s (slice_get code s) refl (site_speculates code e.walk s (subst (In s) (sym same) (inl refl)))
-
--- an edge that leaves from an item which opens no site is one of the item's branches
-pub leaves-own : (code : List Instr) (n : ℕ) (a : Instr) → slice_get code n ≡ Some a → item_change (Some a) false ≡ Keeps → (edge : Edge) → IsEdge code edge → edge.leave ≡ n → (b : Branch) × In b (item_branches code n a) × (b.to ≡ edge.to)
-leaves-own code n a at keeps edge e left = (e.branch, by e.branch.aborts (sites_of code e.walk) refl leaves, sym (ap (λ (d : Edge). d.to) e.are))
-  where
-    among : In e.branch (branches_at code (end_of e.walk))
-    among = in_contains e.branch (branches_at code (end_of e.walk)) e.at
-
-    leaves : leave_of e.branch.aborts e.branch.from (sites_of code e.walk) ≡ n
-    leaves = sym (ap (λ (d : Edge). d.leave) e.are) ∙ left
-
-    own : e.branch.from ≡ n → In e.branch (item_branches code n a)
-    own s =
-        let ends : end_of e.walk ≡ n = sym (branch_from code (end_of e.walk) e.branch among) ∙ s in
-        subst (λ o. In e.branch (branches_from code n o)) at (subst (λ k. In e.branch (branches_at code k)) ends among)
-
-    by : (b : Bool) (ss : List ℕ) → sites_of code e.walk ≡ ss → leave_of b e.branch.from ss ≡ n → In e.branch (item_branches code n a)
-    by false ss same s = own s
-    by true [] same s = own s
-    by true (k ∷ ss) same s =
-        let opens : item_change (slice_get code k) false ≡ Opens = site_speculates code e.walk k (subst (In k) (sym same) (inl refl)) in
-        let h : Keeps ≡ Opens = sym keeps ∙ ap (λ o. item_change o false) (sym at ∙ ap (slice_get code) (sym s)) ∙ opens in
-        absurd cc
 
 -- a target of an item of a function stands at its point
 target-point : (F : Func) (i : ℕ) (a : Instr) (l : ℕ) → slice_get F.code i ≡ Some a → In l (targets_of a) → slice_get F.code (point_of l F.code) ≡ Some (Label l)

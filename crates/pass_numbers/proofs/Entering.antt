@@ -6,7 +6,7 @@ use Rattle.std.proofs.lemmas.List.{length-append, length-map}
 use Rattle.std.proofs.lemmas.Option.{same_Some}
 use Rattle.bril_tree.specs.declared.numbered.Instr.TheVariants.{Label}
 use Rattle.bril_tree.specs.declared.numbered_function.Func.{Func}
-use Rattle.bril_tree.specs.Entries.{AreSoMany, Enters, IsEntryCount, IsEntryWidth}
+use Rattle.program_numbers.specs.Entries.{AreSoMany, Enters, IsEntryCount, IsEntryWidth}
 use Rattle.bril_tree.specs.FunctionForm.{label_at}
 use Rattle.bril_tree.specs.Membership.{In}
 use Rattle.bril_tree.specs.Numbered.{named}
@@ -15,7 +15,8 @@ use Rattle.bril_tree.proofs.Members.{contains_in, in_contains, in_append_left, i
 use Rattle.bril_tree.proofs.Elements.{get_in}
 use Rattle.bril_names.proofs.Naming.{one_number}
 use Rattle.pass_plan.proofs.Elements.{all_in, in_all}
-use Rattle.pass_numbers.proofs.Counting.{no_more, not_uncounted}
+use Rattle.bril_tree.proofs.Counting.{no_more}
+use Rattle.pass_numbers.proofs.Counting.{not_uncounted}
 use Rattle.pass_numbers.proofs.Existing.{label_point}
 use Rattle.pass_numbers.proofs.Different.{range-differ}
 

@@ -7,7 +7,7 @@ use Rattle.std.proofs.lemmas.List.FromFn.{length-range_with_len}
 use Rattle.bril_tree.specs.declared.numbered.Instr.{Instr}
 use Rattle.bril_tree.specs.declared.numbered.Instr.TheVariants.{Label, Const, Act}
 use Rattle.bril_tree.specs.Edge.{Branch}
-use Rattle.bril_tree.specs.Entries.{AreSoMany, Enters, IsEntryWidth}
+use Rattle.program_numbers.specs.Entries.{AreSoMany, Enters, IsEntryWidth}
 use Rattle.bril_tree.specs.FrameWords.{IsDepth}
 use Rattle.bril_tree.specs.Membership.{In}
 use Rattle.bril_tree.specs.Sites.{AreSitesSound, sites_of}
@@ -16,7 +16,8 @@ use Rattle.bril_tree.proofs.LabelPoints.{in_range}
 use Rattle.bril_tree.proofs.Members.{contains_in}
 use Rattle.pass_walks.proofs.Based.{few_sites}
 use Rattle.pass_plan.proofs.Elements.{all_in, in_all}
-use Rattle.pass_numbers.proofs.Counting.{no_more, not_unbounded}
+use Rattle.bril_tree.proofs.Counting.{no_more}
+use Rattle.pass_numbers.proofs.Counting.{not_unbounded}
 
 -- ---- depth
 

@@ -7,7 +7,7 @@ use Rattle.bril_tree.specs.declared.numbered.Instr.TheVariants.{Label}
 use Rattle.bril_tree.specs.declared.numbered_function.Func.{Func}
 use Rattle.bril_tree.specs.declared.program.Prog.{Prog}
 use Rattle.bril_tree.specs.Edge.{Branch, branches_at}
-use Rattle.bril_tree.specs.Entries.{Enters, IsEntryCount, IsEntryWidth}
+use Rattle.program_numbers.specs.Entries.{Enters, IsEntryCount, IsEntryWidth}
 use Rattle.bril_tree.specs.Leaving.{IsEdge, edge_of, leave_of}
 use Rattle.bril_tree.specs.Membership.{In}
 use Rattle.bril_tree.specs.Numbered.{named}

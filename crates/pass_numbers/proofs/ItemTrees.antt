@@ -12,7 +12,7 @@ use Rattle.bril_tree.specs.declared.numbered.Instr.TheVariants.{Label, Const, Ac
 use Rattle.bril_tree.specs.declared.operation.Op.{Op}
 use Rattle.bril_tree.specs.declared.operation.Op.TheVariants as op
 use Rattle.bril_tree.specs.declared.types.Ty.{Ty}
-use Rattle.bril_tree.specs.Cost.{item_passes, operation_passes}
+use Rattle.program_numbers.specs.Cost.{item_passes, operation_passes}
 use Rattle.bril_tree.specs.FrameWords.{names_shadow, operation_names_shadow}
 use Rattle.bril_tree.specs.FunctionForm.{both_or_neither, dest_is_typed, listed, variables_of}
 use Rattle.bril_tree.specs.Membership.{In}

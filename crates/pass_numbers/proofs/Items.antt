@@ -14,12 +14,12 @@ use Rattle.bril_tree.specs.declared.numbered_function.Func.{Func}
 use Rattle.bril_tree.specs.declared.operation.Op.{Op}
 use Rattle.bril_tree.specs.declared.operation.Op.TheVariants as op
 use Rattle.bril_tree.specs.declared.program.Prog.{Prog}
-use Rattle.bril_tree.specs.Cost.{item_passes, longest_in, operation_passes}
+use Rattle.program_numbers.specs.Cost.{item_passes, longest_in, operation_passes}
 use Rattle.bril_tree.specs.FrameWords.{names_shadow}
 use Rattle.bril_tree.specs.FunctionForm.{dest_is_typed, listed, variables_of}
 use Rattle.bril_tree.specs.Membership.{In}
 use Rattle.bril_tree.specs.Numbered.{item_tree, named, names_of_functions, nop, point_tree, tree_at, variable_names}
-use Rattle.bril_tree.specs.ProgramNumbers.{greatest}
+use Rattle.program_numbers.specs.ProgramNumbers.{greatest}
 use Rattle.bril_tree.proofs.Elements.{get_in, in_get, passes_in}
 use Rattle.bril_tree.proofs.Formed.{variable_below}
 use Rattle.bril_tree.proofs.Members.{in_map}

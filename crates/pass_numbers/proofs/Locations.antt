@@ -30,7 +30,7 @@ use Rattle.bril_names.proofs.Functions.{Differ-variables}
 use Rattle.bril_names.proofs.Naming.{one_number}
 use Rattle.bril_names.proofs.Variables.{argument_names_taken}
 use Rattle.pass_plan.proofs.Elements.{all_in}
-use Rattle.pass_numbers.proofs.Counting.{no_more}
+use Rattle.bril_tree.proofs.Counting.{no_more}
 use Rattle.pass_numbers.proofs.Different.{differ-both, differ-map, in_filter, filter_in, range-differ}
 use Rattle.pass_numbers.proofs.ItemTrees.{names-it}
 use Rattle.pass_numbers.proofs.Items.{IsNamed, IsOfItems, is_used}

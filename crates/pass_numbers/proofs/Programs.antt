@@ -7,12 +7,12 @@ use Rattle.std.proofs.lemmas.List.{length-map}
 use Rattle.std.proofs.lemmas.List.Sums.{sum_by-cons}
 use Rattle.std.proofs.lemmas.Option.{slice_get_within}
 use Rattle.bril_tree.specs.Accepted.{IsAcceptedFunction}
-use Rattle.bril_tree.specs.Cost.{longest_in}
-use Rattle.bril_tree.specs.Entries.{IsEntryCount, IsEntryWidth}
+use Rattle.program_numbers.specs.Cost.{longest_in}
+use Rattle.program_numbers.specs.Entries.{IsEntryCount, IsEntryWidth}
 use Rattle.bril_tree.specs.FrameWords.{IsDepth, location_count}
 use Rattle.bril_tree.specs.Membership.{In}
 use Rattle.bril_tree.specs.Numbered.{names_of_functions}
-use Rattle.bril_tree.specs.ProgramNumbers.{IsGreatest, IsSum, greatest}
+use Rattle.program_numbers.specs.ProgramNumbers.{IsGreatest, IsSum, greatest}
 use Rattle.bril_tree.specs.Step.{items_of}
 use Rattle.bril_tree.specs.declared.numbered_function.Func.{Func}
 use Rattle.bril_tree.specs.declared.program.Prog.{Prog}

@@ -2,10 +2,10 @@
 use Rattle.std.specs.Prelude.{◌≡◌, ℕ, ◌+◌, ◌≤◌, length, Some, slice_get}
 use Rattle.std.specs.List.{AllZip, range_with_len, sum_by}
 use Rattle.bril_tree.specs.Accepted.{IsAccepted}
-use Rattle.bril_tree.specs.Cost.{longest_arguments, longest_in}
-use Rattle.bril_tree.specs.Entries.{IsEntryCount, IsEntryWidth}
+use Rattle.program_numbers.specs.Cost.{longest_arguments, longest_in}
+use Rattle.program_numbers.specs.Entries.{IsEntryCount, IsEntryWidth}
 use Rattle.bril_tree.specs.FrameWords.{IsDepth, location_count}
-use Rattle.bril_tree.specs.ProgramNumbers.{AreEntries, IsGreatestDepth, IsGreatestWidth, most_locations}
+use Rattle.program_numbers.specs.ProgramNumbers.{AreEntries, IsGreatestDepth, IsGreatestWidth, most_locations}
 use Rattle.bril_tree.specs.declared.numbered_function.Func.{Func}
 use Rattle.bril_tree.specs.declared.program.Prog.{Prog}
 

@@ -11,7 +11,7 @@ use Rattle.bril_tree.specs.declared.numbered_function.Func.{Func}
 use Rattle.bril_tree.specs.declared.program.Prog.{Prog}
 use Rattle.bril_tree.specs.Accepted.{IsAccepted}
 use Rattle.bril_tree.specs.Edge.{Branch, branches_at, branches_from, onward}
-use Rattle.bril_tree.specs.Entries.{Enters}
+use Rattle.program_numbers.specs.Entries.{Enters}
 use Rattle.bril_tree.specs.Leaving.{IsEdge, leave_of}
 use Rattle.bril_tree.specs.Membership.{In}
 use Rattle.bril_tree.specs.Numbered.{named, tree_at}
