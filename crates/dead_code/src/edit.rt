@@ -10,10 +10,10 @@ ghost use Rattle.pass_plan.specs.Marked.{with_nops};
 use crate::work::dead_items;
 use bril_names::function_of;
 use bril_tree::function_tree::{FuncTree, Item};
-use bril_tree::operation::Op;
 use bril_tree::program::Prog;
 use bril_tree::sequence::Seq;
 use bril_tree::tree::Tree;
+use pass_make::nop;
 use std::alloc::{AllocError, Global};
 
 // The program's tree with `nop` for removable items, until none is left.
@@ -68,17 +68,4 @@ fn emptied_item(alloc: Global, item: Item, dead: bool) -> Item
     ensures { result ≡ (if dead then nop_item else item) }
 {
     if dead { nop(alloc) } else { item }
-}
-
-// The item that does nothing.
-fn nop(alloc: Global) -> Item
-    ensures { result ≡ nop_item }
-{
-    Item::Act {
-        dest: None,
-        op: Op::Nop,
-        args: Seq::new(alloc),
-        funcs: Seq::new(alloc),
-        labels: Seq::new(alloc),
-    }
 }

@@ -1,12 +1,12 @@
 -- The result of a pass is accepted.
-use Rattle.std.proofs.Common.{◌≡◌, ◌⊎◌, ℕ, get_or, Option, Some, None, refl, sym, ap, subst, ◌∙◌, ⊎_elim, All}
+use Rattle.std.proofs.Common.{◌≡◌, ℕ, get_or, Option, Some, None, refl, sym, ap, subst, ◌∙◌, ⊎_elim, All}
 use Rattle.std.specs.Prelude.{slice_get, is_some, IsTrue}
 use Rattle.std.proofs.lemmas.Option.{slice_get-get_or, same_Some}
 use Rattle.bril_tree.specs.declared.numbered.Instr.{Instr}
 use Rattle.bril_tree.specs.declared.numbered_function.Func.{Func}
 use Rattle.bril_tree.specs.declared.program.Prog.{Prog}
 use Rattle.bril_tree.specs.Accepted.{IsAccepted, IsAcceptedFunction, IsPlainType, AreWalksAccepted}
-use Rattle.bril_tree.specs.Numbered.{variable_names, names_of_functions, names_in, tree_at}
+use Rattle.bril_tree.specs.Numbered.{names_of_functions, names_in, tree_at}
 use Rattle.bril_tree.specs.Run.{types_of}
 use Rattle.bril_tree.specs.Shape.{is_shaped}
 use Rattle.bril_tree.specs.Step.{items_of, code_of, item_at}
@@ -14,7 +14,6 @@ use Rattle.bril_tree.specs.Typing.{type_fault, return_type, is_call_shaped}
 use Rattle.bril_tree.proofs.Trees.{nothing_at}
 use Rattle.bril_tree.proofs.Acceptance.{accepted_function, shaped_at, call_at, typed_at}
 use Rattle.bril_names.proofs.Functions.{Differ-functions}
-use Rattle.pass_names.specs.Named.{SameName}
 use Rattle.pass_names.specs.NamedPlan.{SameHeads}
 use Rattle.pass_names.proofs.Items.{item-shares}
 use Rattle.pass_names.proofs.Points.{found, found_under, same_name-of}

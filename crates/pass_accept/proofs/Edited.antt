@@ -1,12 +1,12 @@
 -- The result of an edit is accepted.
-use Rattle.std.proofs.Common.{◌≡◌, ◌⊎◌, ℕ, ◌<◌, Option, Some, None, sym, ap, subst, ◌∙◌, inl, inr, ⊎_elim}
+use Rattle.std.proofs.Common.{◌≡◌, ◌⊎◌, ℕ, ◌<◌, Option, Some, None, refl, sym, ap, subst, ◌∙◌, inl, inr, ⊎_elim}
 use Rattle.std.specs.Prelude.{slice_get, is_some}
 use Rattle.bril_tree.specs.declared.numbered.Instr.{Instr}
 use Rattle.bril_tree.specs.declared.numbered_function.Func.{Func}
 use Rattle.bril_tree.specs.declared.program.Prog.{Prog}
 use Rattle.bril_tree.specs.Accepted.{IsAccepted, AreWalksAccepted}
 use Rattle.bril_tree.specs.FunctionForm.{listed}
-use Rattle.bril_tree.specs.Numbered.{variable_names}
+use Rattle.bril_tree.specs.Numbered.{nop, variable_names}
 use Rattle.bril_tree.specs.Operand.{Variable, dest_of, reads_of}
 use Rattle.bril_tree.specs.Step.{items_of, code_of, item_at}
 use Rattle.bril_tree.specs.Typing.{variable_type}
@@ -21,11 +21,22 @@ use Rattle.pass_names.specs.Named.{SameName}
 use Rattle.pass_names.specs.NamedPlan.{SameHeads}
 use Rattle.pass_names.proofs.Points.{same_name-in}
 use Rattle.pass_names.proofs.Heads.{main_same, types_same}
-use Rattle.pass_accept.specs.Stays.{HasTypeOfDest, Stays}
+use Rattle.pass_accept.specs.Stays.{FitsByItself, HasTypeOfDest, Stays}
 use Rattle.pass_accept.proofs.Staying.{dest_of_tree}
 use Rattle.pass_accept.proofs.Accepted.{program_accepted}
 use Rattle.pass_accept.specs.Edited.{KeepsTypes, IsNew, LosesNoDestination, IsOld, EditAccepted}
 use Rattle.pass_accept.proofs.Left.{left-typed, name-typed, unlost-typed}
+
+-- ---- items that a pass made
+
+-- one without a destination that meets its row by itself
+pub bare-new : (P Q : Prog) (f : ℕ) (F G : Func) (b : Instr) → dest_of b ≡ None → FitsByItself Q G b → IsNew P Q f F G b
+bare-new P Q f F G b none fits = record { dest = λ x y name d. absurd (let e : None ≡ Some y = sym none ∙ d in cc); fits = λ types. fits }
+
+pub nop-new : (P Q : Prog) (f : ℕ) (F G : Func) → IsNew P Q f F G nop
+nop-new P Q f F G = bare-new P Q f F G nop refl (record { shaped = refl; calls = refl; typed = refl })
+
+-- ---- the law
 
 module _ (P Q : Prog) (accepted : IsAccepted P) (heads : SameHeads P Q) (f : ℕ) (F G : Func) (p : slice_get P.funcs f ≡ Some F) (q : slice_get Q.funcs f ≡ Some G)
     (items : (j : ℕ) (b : Instr) → item_at Q f j ≡ Some b → IsNew P Q f F G b ⊎ IsOld P Q f F G j b) (walks : AreWalksAccepted (code_of Q f) G.args (is_some G.ret)) where
