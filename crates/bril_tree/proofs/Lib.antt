@@ -1,8 +1,8 @@
 pub mod Acceptance
 pub mod Appearance
 pub mod Assignments
-pub mod Bare
 pub mod Canonical
+pub mod Counting
 pub mod Equal
 pub mod Elements
 pub mod First
@@ -14,6 +14,7 @@ pub mod Liveness
 pub mod Measures
 pub mod Members
 pub mod Named
+pub mod Arities
 pub mod Outcomes
 pub mod Refinement
 pub mod Replays

@@ -12,7 +12,7 @@ use Rattle.bril_tree.specs.Numbered.{nop}
 use Rattle.bril_tree.specs.Operand.{Location, reads_of}
 use Rattle.bril_tree.proofs.Members.{in_contains, contains_in}
 use Rattle.definite_assignment.specs.Location.{number_of}
-use Rattle.graph_search.specs.Path.{IsReached as IsFound}
+use Rattle.graph_search.specs.Path.{IsReached as IsFound, other_than}
 use Rattle.graph_search.specs.declared.graph.Arc.{Arc}
 use Rattle.live_sets.specs.Arcs.{AreBackArcs}
 use Rattle.live_sets.specs.Reads.{Accesses, reads_from}
@@ -60,12 +60,12 @@ module _ (code : List Instr) (dead : List Bool) (list : List Access) (reads : li
         only : (p : ℕ) → Contains alive p → (item : Instr) × (slice_get (remaining code dead) p ≡ Some item) × Contains (reads_of item) x
         only p c = let l = (living p).0 c in let r = all.only p l.0 in (r.0, with_nops-alive nop dead code p l.1 ∙ r.1, r.2)
 
-    pub searched : (arcs : List Arc) → AreBackArcs code arcs → (seeds found : List ℕ) → seeds ≡ alive → ((p : ℕ) → Contains found p ↔ IsFound arcs seeds number p) → (queued : List Bool) → IsSearched code dead queued number found
+    pub searched : (arcs : List Arc) → AreBackArcs code arcs → (seeds found : List ℕ) → seeds ≡ alive → ((p : ℕ) → Contains found p ↔ IsFound arcs seeds (other_than number) p) → (queued : List Bool) → IsSearched code dead queued number found
     searched arcs are seeds found same search queued = record {
       live = λ x is off p reached c.
-          found-live code (remaining code dead) (remaining-chain code dead sound) arcs are x alive (alive-readers x is) p (subst (λ n. IsFound arcs alive n p) (sym is) (subst (λ s. IsFound arcs s number p) same ((search p).0 c))) reached;
+          found-live code (remaining code dead) (remaining-chain code dead sound) arcs are x alive (alive-readers x is) p (subst (λ n. IsFound arcs alive (other_than n) p) (sym is) (subst (λ s. IsFound arcs s (other_than number) p) same ((search p).0 c))) reached;
       not_live = λ x is p reached away live.
-          away ((search p).1 (subst (λ s. IsFound arcs s number p) (sym same) (subst (λ n. IsFound arcs alive n p) is (live-found code (remaining code dead) (remaining-chain code dead sound) arcs are x alive (alive-readers x is) p reached live))));
+          away ((search p).1 (subst (λ s. IsFound arcs s (other_than number) p) (sym same) (subst (λ n. IsFound arcs alive (other_than n) p) is (live-found code (remaining code dead) (remaining-chain code dead sound) arcs are x alive (alive-readers x is) p reached live))));
     }
 
 -- ---- one item

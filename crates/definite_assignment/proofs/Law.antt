@@ -24,8 +24,9 @@ use Rattle.bril_tree.specs.Leaving.{edge_of, leave_of}
 use Rattle.flow_graph.specs.Graph.{GraphView, IsGraphOf}
 use Rattle.bril_tree.specs.declared.edge.Edge.{Edge}
 use Rattle.flow_graph.proofs.Told.{sites_of_walk}
-use Rattle.graph_search.specs.Path.{Leads}
+use Rattle.graph_search.specs.Path.{Leads, other_than}
 use Rattle.graph_search.specs.declared.graph.Arc.{Arc}
+use Rattle.graph_search.proofs.Gates.{open-differs, differs-open}
 use Rattle.graph_search.proofs.Paths.{reached_seed, reached_step, reached_all}
 
 -- the graph of a function whose open sites are sound
@@ -46,17 +47,17 @@ arc_there code graph g point sites branch e leads =
 -- an arc from the point where a branch leaves, past an item that doesn't assign the location
 leads_on : (code : List Instr) (graph : GraphView) → IsSoundGraph code graph → (x : Location) (point leave : ℕ) (sites : List ℕ) (branch : Branch) →
     slice_get graph.sites point ≡ Some (Some sites) → Contains (branches_at code point) branch → leave_of branch.aborts branch.from sites ≡ leave →
-    label_of (slice_get code leave) ≢ Some (number_of x) → Leads (leaving_arcs code graph.edges) (number_of x) leave branch.to
+    label_of (slice_get code leave) ≢ Some (number_of x) → Leads (leaving_arcs code graph.edges) (other_than (number_of x)) leave branch.to
 leads_on code graph g x point leave sites branch e leads same passes = record {
   arc = leaving_arc code (edge_of sites branch);
   there = arc_there code graph g point sites branch e leads;
   leaves = same;
   enters = refl;
-  passes = λ h. passes (ap (λ l. label_of (slice_get code l)) (sym same) ∙ h);
+  passes = differs-open (number_of x) (leaving_arc code (edge_of sites branch)) (λ h. passes (ap (λ l. label_of (slice_get code l)) (sym same) ∙ h));
 }
 
-open_on : (arcs : List Arc) (args : ℕ) (x : Location) (l q : ℕ) → IsOpen arcs args (read_at l x) → Leads arcs (number_of x) l q → IsOpen arcs args (read_at q x)
-open_on arcs args x l q o leads = record { local = o.local; reached = reached_step arcs (0 ∷ []) (number_of x) l q o.reached leads }
+open_on : (arcs : List Arc) (args : ℕ) (x : Location) (l q : ℕ) → IsOpen arcs args (read_at l x) → Leads arcs (other_than (number_of x)) l q → IsOpen arcs args (read_at q x)
+open_on arcs args x l q o leads = record { local = o.local; reached = reached_step arcs (0 ∷ []) (other_than (number_of x)) l q o.reached leads }
 
 -- what a walk doesn't assign is open at its end, and what was saved without it makes it open at the site
 record Stands (code : List Instr) (args : ℕ) (arcs : List Arc) (x : Location) (walk : List Branch) : Type 0 where
@@ -137,7 +138,7 @@ stands : (code : List Instr) (args : ℕ) (graph : GraphView) → IsSoundGraph c
 stands code args graph g x [] is = record {
   here = λ lacks. record {
     local = false_from_ne_true (is_argument args (number_of x)) (λ h. lacks (argument-there args x h));
-    reached = reached_seed (leaving_arcs code graph.edges) (0 ∷ []) (number_of x) 0 (0, omega arith, refl);
+    reached = reached_seed (leaving_arcs code graph.edges) (0 ∷ []) (other_than (number_of x)) 0 (0, omega arith, refl);
   };
   saved = λ k site set s. let h = s.site_there in cc;
   same = refl;
@@ -208,7 +209,7 @@ lacks_branch code args graph g x point sites branch there leads passes m = ⊎_e
     (cases_Bool branch.aborts)
 
 lacks_arc : (code : List Instr) (args : ℕ) (graph : GraphView) → IsSoundGraph code graph → (x : Location) (l q : ℕ) → IsMaybeUnassigned code args x l →
-    Leads (leaving_arcs code graph.edges) (number_of x) l q → IsMaybeUnassigned code args x q
+    Leads (leaving_arcs code graph.edges) (other_than (number_of x)) l q → IsMaybeUnassigned code args x q
 lacks_arc code args graph g x l q m leads =
     let back = Contains-map_back (leaving_arc code) graph.edges leads.arc leads.there in
     let edge : Edge = back.0 in
@@ -219,13 +220,13 @@ lacks_arc code args graph g x l q m leads =
     let point : 0 + at.index ≡ at.index = omega arith in
     subst (IsMaybeUnassigned code args x) enters
     (lacks_branch code args graph g x at.index at.sites at.branch at.there (subst (λ p. Contains (branches_at code p) at.branch) point at.leads)
-    (λ h. leads.passes (ap (λ a. a.label) (sym arc) ∙ h)) (subst (IsMaybeUnassigned code args x) (sym leaves) m))
+    (λ h. open-differs (number_of x) leads.arc leads.passes (ap (λ a. a.label) (sym arc) ∙ h)) (subst (IsMaybeUnassigned code args x) (sym leaves) m))
 
 -- the law
 pub unassigned-iff : (code : List Instr) (args : ℕ) (graph : GraphView) → IsSoundGraph code graph → (x : Location) (point : ℕ) →
     IsOpen (leaving_arcs code graph.edges) args (read_at point x) ↔ IsMaybeUnassigned code args x point
 unassigned-iff code args graph g x point = (
-  λ o. reached_all (leaving_arcs code graph.edges) (0 ∷ []) (number_of x) (IsMaybeUnassigned code args x)
+  λ o. reached_all (leaving_arcs code graph.edges) (0 ∷ []) (other_than (number_of x)) (IsMaybeUnassigned code args x)
       (λ n h. subst (IsMaybeUnassigned code args x) (in_one n h) (record {
         walk = [];
         is = tt;

@@ -4,7 +4,7 @@ use Rattle.bril_tree.specs.Operand.{Location, reads_of}
 use Rattle.bril_tree.specs.declared.numbered.Instr.{Instr}
 use Rattle.definite_assignment.specs.Location.{number_of, is_argument}
 use Rattle.definite_assignment.specs.declared.reads.Read.{Read}
-use Rattle.graph_search.specs.Path.{IsReached}
+use Rattle.graph_search.specs.Path.{IsReached, other_than}
 use Rattle.graph_search.specs.declared.graph.Arc.{Arc}
 
 abbrev pub read_at : ℕ → Location → Read
@@ -22,7 +22,7 @@ reads_from item (instr ∷ code) = item_reads item instr ++ reads_from (suc item
 -- the read location may be unassigned at its item: it is no argument, and is unassigned on a path from the start
 pub record IsOpen (arcs : List Arc) (args : ℕ) (read : Read) : Type 0 where
   pub local : is_argument args read.location ≡ false
-  pub reached : IsReached arcs (0 ∷ []) read.location read.item
+  pub reached : IsReached arcs (0 ∷ []) (other_than read.location) read.item
 
 -- the least index in the list of an open read; the list's length where none is open
 pub record IsFirstOpen (arcs : List Arc) (args : ℕ) (reads : List Read) (first : ℕ) : Type 0 where

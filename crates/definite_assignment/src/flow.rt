@@ -9,7 +9,7 @@ use crate::location::is_argument_location;
 use crate::reads::{Read, all_reads, location_count};
 use bril_tree::numbered_function::Func;
 use flow_graph::Graph;
-use graph_search::{Adjacency, ArcGraph, Reached};
+use graph_search::{Adjacency, ArcGraph, OtherThan, Reached};
 use std::alloc::{AllocError, Global};
 
 // The reads of a function with `args` arguments, their indices in the list by what they read, and the arcs along which a
@@ -45,7 +45,7 @@ impl Flow {
     ghost use Rattle.std.specs.Prelude.{Some, false, length, slice_get, min, ◌-◌, ◌⊎◌, ◌∷◌, []};
     ghost use Rattle.std.specs.List.{Contains};
     ghost use Rattle.definite_assignment.specs.declared.reads.Read.{Read};
-    ghost use Rattle.graph_search.specs.Path.{IsReached};
+    ghost use Rattle.graph_search.specs.Path.{IsReached, other_than};
     ghost use Rattle.flow_graph.specs.Graph.{IsGraphOf};
     ghost use Rattle.definite_assignment.specs.Leaving.{leaving_arcs};
     ghost use Rattle.definite_assignment.specs.Reads.{reads_from, IsOpen, IsFirstOpen, Lowers};
@@ -109,10 +109,11 @@ impl Flow {
         requires nodes { reached.old.nodes ≡ self.now.forward.nodes }
         ensures nodes { reached.new.nodes ≡ reached.old.nodes }
         ensures none { IfOk result (λ b. b ≡ false → (k : ℕ) (read : Read) → slice_get self.now.reads.items k ≡ Some read → read.location ≡ location →
-            ¬ IsReached self.now.forward.arcs (0 ∷ []) location read.item) }
+            ¬ IsReached self.now.forward.arcs (0 ∷ []) (other_than location) read.item) }
     {
         let items = self.items_reading(alloc, location)?;
-        reached.search(&self.backward, items.as_slice(), location)?;
+        let gate = OtherThan { label: location };
+        reached.search(&self.backward, items.as_slice(), &gate)?;
         Ok(reached.is_marked(0))
     }
 
@@ -164,7 +165,8 @@ impl Flow {
         if !self.is_read_unassigned(alloc, reached, location)? {
             return Ok(first);
         }
-        reached.search(&self.forward, &[0], location)?;
+        let gate = OtherThan { label: location };
+        reached.search(&self.forward, &[0], &gate)?;
         Ok(self.first_marked(reached, location, first))
     }
 

@@ -3,7 +3,10 @@ use Rattle.std.proofs.Common.{◌≡◌, ◌≢◌, ℕ, suc, ◌+◌, ◌≤◌
 use Rattle.std.specs.Prelude.{slice_get}
 use Rattle.bril_tree.specs.declared.limits.End.TheVariants.{Faulted}
 use Rattle.bril_tree.specs.declared.limits.Fault.{Fault}
+use Rattle.bril_tree.specs.declared.operators.BinaryOp.{BinaryOp}
+use Rattle.bril_tree.specs.declared.operators.UnaryOp.{UnaryOp}
 use Rattle.bril_tree.specs.declared.value.Value.{Value}
+use Rattle.bril_tree.specs.Operators.{binary_operation, unary_operation}
 use Rattle.bril_tree.specs.Outcome.{Outcome, Yields, FaultsWith, HasEffect, computed, block_of}
 use Rattle.bril_tree.specs.State as bril
 use Rattle.bril_tree.specs.Step.{step}
@@ -25,13 +28,11 @@ use Rattle.rv64_values.proofs.Kept.{keeps_itself, keeps_on}
 use Rattle.rv64_values.proofs.Unary.{unary_gives, unary_faults}
 use Rattle.rv64_words.specs.declared.word.Word.{Word}
 use Rattle.rv64_words.specs.State.{State}
-use Rattle.slot_code.specs.declared.item.BinaryOp.{BinaryOp}
 use Rattle.slot_code.specs.declared.item.Slot.{Slot}
 use Rattle.slot_code.specs.declared.item.Slot.TheVariants.{Variable}
 use Rattle.slot_code.specs.declared.item.SlotItem.TheVariants.{Constant, Copy, Unary, Binary}
-use Rattle.slot_code.specs.declared.item.UnaryOp.{UnaryOp}
 use Rattle.slot_code.specs.Laws.{IsSlotOf}
-use Rattle.slot_code.specs.Meaning.{binary_operation, unary_operation, computes, fills, read_slot}
+use Rattle.slot_code.specs.Meaning.{computes, fills, read_slot}
 use Rattle.emitted_code.proofs.Arriving.{Moves, faults_moves, here, step_at, stores_moves}
 use Rattle.emitted_code.proofs.Operands.{loaded, loaded_keeps, loads, read_is, word_held}
 use Rattle.emitted_code.proofs.Outcomes.{binary_block, binary_computes, binary_most, binary_operands, unary_block, unary_computes, unary_most, unary_operand, word_small}

@@ -3,19 +3,19 @@ use Rattle.std.proofs.Common.{◌≡◌, ℕ, ◌^◌, ◌<◌, ◌≤◌, Bool,
 use Rattle.std.proofs.Math.Utf8.{scalar_fits}
 use Rattle.std.proofs.lemmas.Int.{ints}
 use Rattle.bril_tree.specs.declared.limits.Fault.TheVariants as fault
+use Rattle.bril_tree.specs.declared.operators.BinaryOp.{BinaryOp}
+use Rattle.bril_tree.specs.declared.operators.BinaryOp.TheVariants as binary
+use Rattle.bril_tree.specs.declared.operators.UnaryOp.{UnaryOp}
+use Rattle.bril_tree.specs.declared.operators.UnaryOp.TheVariants as unary
 use Rattle.bril_tree.specs.declared.value.Value.{Value}
 use Rattle.bril_tree.specs.declared.value.Value.TheVariants.{Int, Bool as Boolean, Char, Ptr}
+use Rattle.bril_tree.specs.Operators.{binary_operation, unary_operation}
 use Rattle.bril_tree.specs.Outcome.{Yields, FaultsWith, HasEffect, block_of, char_from, computed, divided, fits_32, int_of, is_scalar, moved, offset_of}
 use Rattle.bril_tree.specs.State.{Locals}
 use Rattle.bril_tree.specs.Value.{IsInRange, word_of}
-use Rattle.bril_tree.proofs.Outcomes.{char_from-yields, divided-yields, moved-yields}
+use Rattle.bril_tree.proofs.Outcomes.{div-never_acts, int2char-never_acts, ptradd-never_acts}
 use Rattle.rv64_sequences.specs.Operations.{binary_size, unary_size}
 use Rattle.rv64_values.specs.Operands.{BinarySuits, UnarySuits}
-use Rattle.slot_code.specs.declared.item.BinaryOp.{BinaryOp}
-use Rattle.slot_code.specs.declared.item.BinaryOp.TheVariants as binary
-use Rattle.slot_code.specs.declared.item.UnaryOp.{UnaryOp}
-use Rattle.slot_code.specs.declared.item.UnaryOp.TheVariants as unary
-use Rattle.slot_code.specs.Meaning.{binary_operation, unary_operation}
 use Rattle.emitted_code.proofs.Ready.{BinaryFinds, UnaryFinds}
 
 -- the word of a value in its range has 64 bits
@@ -106,11 +106,11 @@ yields_clash u e = cc
 pub unary_computes : (operation : UnaryOp) (a : Value) → computed (unary_operation operation) None a a ≡ HasEffect → ⊥
 unary_computes unary.Not a e = yields_clash _ e
 unary_computes unary.CharToInt a e = yields_clash _ e
-unary_computes unary.IntToChar a e = char_from-yields (int_of a) e
+unary_computes unary.IntToChar a e = int2char-never_acts None a a e
 
 pub binary_computes : (operation : BinaryOp) (a b : Value) → computed (binary_operation operation) None a b ≡ HasEffect → ⊥
-binary_computes binary.Div a b e = divided-yields _ _ _ e
-binary_computes binary.PtrAdd a b e = moved-yields (block_of a) (offset_of a +ℤ int_of b) e
+binary_computes binary.Div a b e = div-never_acts None a b e
+binary_computes binary.PtrAdd a b e = ptradd-never_acts None a b e
 binary_computes _ a b e = yields_clash _ e
 
 -- ---- how many words they have

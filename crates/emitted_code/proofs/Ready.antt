@@ -4,6 +4,10 @@ use Rattle.std.specs.Prelude.{FitsSigned, is_some, slice_get}
 use Rattle.std.specs.Char.{IsScalar}
 use Rattle.std.specs.Int.{w32, w64}
 use Rattle.std.specs.List.{AllByRecursion}
+use Rattle.bril_tree.specs.declared.operators.BinaryOp.{BinaryOp}
+use Rattle.bril_tree.specs.declared.operators.BinaryOp.TheVariants as binary
+use Rattle.bril_tree.specs.declared.operators.UnaryOp.{UnaryOp}
+use Rattle.bril_tree.specs.declared.operators.UnaryOp.TheVariants as unary
 use Rattle.bril_tree.specs.declared.types.Base.{Base}
 use Rattle.bril_tree.specs.declared.types.Base.TheVariants as base
 use Rattle.bril_tree.specs.declared.program.Prog.{Prog}
@@ -13,14 +17,10 @@ use Rattle.bril_tree.specs.Outcome.{block_of}
 use Rattle.bril_tree.specs.State.{Locals, Frame}
 use Rattle.bril_tree.specs.Typing.{return_type}
 use Rattle.bril_tree.specs.Value.{IsInRange}
-use Rattle.slot_code.specs.declared.item.BinaryOp.{BinaryOp}
-use Rattle.slot_code.specs.declared.item.BinaryOp.TheVariants as binary
 use Rattle.slot_code.specs.declared.item.Slot.{Slot}
 use Rattle.slot_code.specs.declared.item.Slot.TheVariants.{Variable, Shadow}
 use Rattle.slot_code.specs.declared.item.SlotItem.{SlotItem}
 use Rattle.slot_code.specs.declared.item.SlotItem.TheVariants.{Pass, Constant, Copy, Unary, Binary, Jump, Branch, Call, Return, Print, Alloc, Free, Store, Load, Speculate, Commit, Guard}
-use Rattle.slot_code.specs.declared.item.UnaryOp.{UnaryOp}
-use Rattle.slot_code.specs.declared.item.UnaryOp.TheVariants as unary
 use Rattle.slot_code.specs.declared.slots.SlotFunction.{SlotFunction}
 use Rattle.slot_code.specs.declared.slots.Slots.{Slots}
 

@@ -4,7 +4,7 @@ use Rattle.std.specs.Prelude.{slice_get, IsTrue}
 use Rattle.std.specs.List.{All, Contains}
 use Rattle.std.proofs.lemmas.List.Elements.{Contains-get_or}
 use Rattle.std.proofs.lemmas.Option.{same_Some}
-use Rattle.graph_search.specs.Path.{IsBetween, IsReached}
+use Rattle.graph_search.specs.Path.{IsBetween, IsReached, other_than}
 use Rattle.graph_search.specs.declared.graph.Arc.{Arc}
 use Rattle.bril_tree.specs.declared.numbered.Instr.{Instr}
 use Rattle.bril_tree.specs.Live.{IsLive}
@@ -72,16 +72,16 @@ module _ (code : List Instr) (list : List Access) (reads : list ≡ reads_from 0
       let inside : get_or items k d < 0 + length code = subst (λ (a : Access). a.item < 0 + length code) c.2 (h c.0 (record { item = get_or items k d; location = location }) c.1) in
       omega arith
 
-  module _ (arcs : List Arc) (are : AreBackArcs code arcs) (seeds : List ℕ) (same : seeds ≡ items) (found : List ℕ) (searched : (point : ℕ) → Contains found point ↔ IsReached arcs seeds location point) where
+  module _ (arcs : List Arc) (are : AreBackArcs code arcs) (seeds : List ℕ) (same : seeds ≡ items) (found : List ℕ) (searched : (point : ℕ) → Contains found point ↔ IsReached arcs seeds (other_than location) point) where
     pub found-within : (points : ℕ) → points ≡ length code + 1 → All (λ point. point < points) found
     found-within points total k d low =
-        reached-within points arcs items location (subst (λ n. All (IsBetween n) arcs) (sym total) are.between) (items-within points total) (get_or found k d)
-        (subst (λ s. IsReached arcs s location (get_or found k d)) same ((searched (get_or found k d)).0 (Contains-get_or found k d low)))
+        reached-within points arcs items (other_than location) (subst (λ n. All (IsBetween n) arcs) (sym total) are.between) (items-within points total) (get_or found k d)
+        (subst (λ s. IsReached arcs s (other_than location) (get_or found k d)) same ((searched (get_or found k d)).0 (Contains-get_or found k d low)))
 
     pub row-tells : (row : Points) → ((point : ℕ) → IsTrue (has_point row point) ↔ Contains found point) → (x : Location) → number_of x ≡ location → IsRow code x row
     row-tells row told x number point = (
-      (λ h. reached-live code arcs are x items readers point (subst (λ n. IsReached arcs items n point) (sym number) (subst (λ s. IsReached arcs s location point) same ((searched point).0 ((told point).0 h))))),
-      (λ live. (told point).1 ((searched point).1 (subst (λ s. IsReached arcs s location point) (sym same) (subst (λ n. IsReached arcs items n point) number (live-reached code arcs are x items readers point live))))),
+      (λ h. reached-live code arcs are x items readers point (subst (λ n. IsReached arcs items (other_than n) point) (sym number) (subst (λ s. IsReached arcs s (other_than location) point) same ((searched point).0 ((told point).0 h))))),
+      (λ live. (told point).1 ((searched point).1 (subst (λ s. IsReached arcs s (other_than location) point) (sym same) (subst (λ n. IsReached arcs items (other_than n) point) number (live-reached code arcs are x items readers point live))))),
     )
       where
         readers : AreReaders code x items

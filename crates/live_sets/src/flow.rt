@@ -5,7 +5,7 @@ ghost use Rattle.std.specs.List.{All, Contains};
 ghost use Rattle.bril_tree.specs.Shape.{shape_fault_of};
 ghost use Rattle.bril_tree.specs.Sites.{AreSitesSound};
 ghost use Rattle.flow_graph.specs.Graph.{IsGraphOf};
-ghost use Rattle.graph_search.specs.Path.{IsReached};
+ghost use Rattle.graph_search.specs.Path.{IsReached, other_than};
 ghost use Rattle.live_sets.specs.Arcs.{AreBackArcs};
 ghost use Rattle.live_sets.specs.Reads.{reads_from};
 
@@ -14,7 +14,7 @@ use crate::arcs::back_arcs;
 use crate::reads::all_reads;
 use bril_tree::numbered_function::Func;
 use flow_graph::Graph;
-use graph_search::{ArcGraph, Reached};
+use graph_search::{ArcGraph, OtherThan, Reached};
 use std::alloc::{AllocError, Global};
 use std::marker::Model;
 
@@ -84,9 +84,10 @@ impl Flow {
         requires points { reached.old.nodes ≡ self.now.points }
         requires items { All (λ item. item < self.now.points) items.now }
         ensures points { reached.new.nodes ≡ reached.old.nodes }
-        ensures found { OnOk result ((point : ℕ) → Contains reached.new.found point ↔ IsReached self.now.arcs items.now location point) }
+        ensures found { OnOk result ((point : ℕ) → Contains reached.new.found point ↔ IsReached self.now.arcs items.now (other_than location) point) }
     {
-        reached.search(&self.arcs, items, location)?;
+        let gate = OtherThan { label: location };
+        reached.search(&self.arcs, items, &gate)?;
         Ok(())
     }
 }

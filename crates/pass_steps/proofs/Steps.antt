@@ -39,7 +39,7 @@ use Rattle.flow_graph.proofs.Told.{some_site}
 use Rattle.pass_plan.specs.Plan.{Plan, ValuesMatch, HoldsKnown, Writes, StaysMatched, ActionsMatch, EdgesMatch, StepsMatch, Preserves, SavesMatch, ContentsMatch, FramesMatch, CallersMatch, StacksMatch, StatesMatch}
 use Rattle.bril_tree.proofs.Elements.{in_index}
 use Rattle.bril_tree.proofs.Shapes.{no_dest, dest_none, HasShape, shape-parts}
-use Rattle.bril_tree.proofs.Outcomes.{divided-yields, char_from-yields, moved-yields, GoesOn, giver-goes_on}
+use Rattle.bril_tree.proofs.Outcomes.{div-never_acts, int2char-never_acts, ptradd-never_acts, GoesOn, giver-goes_on}
 use Rattle.pass_plan.proofs.Values.{holds-assigned, holds-shadowed, read-agree, agree-none, agree-assigned, agree-shadowed, reads-agree, read_at-agree}
 use Rattle.pass_plan.proofs.Outcomes.{action-same}
 use Rattle.pass_steps.proofs.Shapes.{zip_map-at, Shaped, shaped_here, get-gives, undef-gives, writes-gives}
@@ -570,9 +570,9 @@ module _ (m : Plan) (P Q : Prog) (limits : Limits) (accepted : IsAccepted P) (pr
       row op.Guard r = row-guard k i j p q ps qs contents regular fs gs callers blocks printed x y d e s t args result_args fns gns ls ms r
       row op.Get r = absurd (get-gives p d (length args) (length fns) (length ls) r.shaped.shaped r.acts)
       row op.Undef r = absurd (undef-gives P r.shaped.f d s args fns ls r.shaped.shaped r.shaped.typed r.acts)
-      row op.Div r = absurd (divided-yields _ _ _ r.acts)
-      row op.IntToChar r = absurd (char_from-yields (int_of (argument p args 0)) r.acts)
-      row op.PtrAdd r = absurd (moved-yields (block_of (argument p args 0)) (offset_of (argument p args 0) +ℤ int_of (argument p args 1)) r.acts)
+      row op.Div r = absurd (div-never_acts s (argument p args 0) (argument p args 1) r.acts)
+      row op.IntToChar r = absurd (int2char-never_acts s (argument p args 0) (argument p args 1) r.acts)
+      row op.PtrAdd r = absurd (ptradd-never_acts s (argument p args 0) (argument p args 1) r.acts)
       row _ r = let h = r.acts in absurd (cc)
 
       -- by what the operation gives on the first side

@@ -22,12 +22,13 @@ use crate::sequences::{
     put_store,
 };
 use crate::sizes::{before_call_size, guard_front_size, load_variable_size, restore_size};
+use bril_tree::operators::{BinaryOp, UnaryOp};
 use bril_tree::sequence::Seq;
 use bril_tree::types::Base;
 use bril_tree::value::Value;
 use rv64_words::field::Immediate;
 use rv64_words::word::{Condition, Word};
-use slot_code::{BinaryOp, Printed, Slot, SlotFunction, UnaryOp};
+use slot_code::{Printed, Slot, SlotFunction};
 use std::alloc::AllocError;
 
 // ---- values

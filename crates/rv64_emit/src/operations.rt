@@ -7,10 +7,10 @@ ghost use Rattle.rv64_words.specs.Mnemonics as mnemonics;
 
 use crate::assembly::{add, addi, branch, ld, lui, op, sd, slli, srai, srli, with_immediate};
 use crate::sequences::{fault, number, put};
+use bril_tree::operators::{BinaryOp, UnaryOp};
 use bril_tree::sequence::Seq;
 use rv64_words::field::Immediate;
 use rv64_words::word::{Condition, ImmediateOperation, RegisterOperation, Word};
-use slot_code::{BinaryOp, UnaryOp};
 use std::alloc::AllocError;
 
 // ---- sizes

@@ -3,6 +3,10 @@ use Rattle.std.proofs.Common.{◌≡◌, ℕ, suc, ◌+◌, ◌*◌, ◌^◌, �
 use Rattle.std.specs.List.{AllByRecursion}
 use Rattle.std.proofs.lemmas.Int.{ints}
 use Rattle.std.proofs.Math.Utf8.{scalar_fits}
+use Rattle.bril_tree.specs.declared.operators.BinaryOp.{BinaryOp}
+use Rattle.bril_tree.specs.declared.operators.BinaryOp.TheVariants as binary
+use Rattle.bril_tree.specs.declared.operators.UnaryOp.{UnaryOp}
+use Rattle.bril_tree.specs.declared.operators.UnaryOp.TheVariants as unary
 use Rattle.bril_tree.specs.declared.types.Base.{Base}
 use Rattle.bril_tree.specs.declared.types.Base.TheVariants as base
 use Rattle.bril_tree.specs.declared.value.Value.{Value}
@@ -10,14 +14,10 @@ use Rattle.bril_tree.specs.declared.value.Value.TheVariants.{Int, Bool as Boolea
 use Rattle.bril_tree.specs.FunctionForm.{listed}
 use Rattle.bril_tree.specs.Value.{IsInRange, word_of}
 use Rattle.rv64_words.specs.Mnemonics.{beq}
-use Rattle.slot_code.specs.declared.item.BinaryOp.{BinaryOp}
-use Rattle.slot_code.specs.declared.item.BinaryOp.TheVariants as binary
 use Rattle.slot_code.specs.declared.item.Printed.{Printed}
 use Rattle.slot_code.specs.declared.item.Slot.TheVariants.{Variable}
 use Rattle.slot_code.specs.declared.item.SlotItem.{SlotItem}
 use Rattle.slot_code.specs.declared.item.SlotItem.TheVariants.{Pass, Constant, Copy, Unary, Binary, Jump, Branch, Call, Return, Print, Alloc, Free, Store, Load, Speculate, Commit, Guard}
-use Rattle.slot_code.specs.declared.item.UnaryOp.{UnaryOp}
-use Rattle.slot_code.specs.declared.item.UnaryOp.TheVariants as unary
 use Rattle.slot_code.specs.declared.slots.SlotFunction.{SlotFunction}
 use Rattle.rv64_sequences.specs.Operations.{unary_words, binary_words, alloc_words, free_words, cell_words, load_cell_words, mark_cell_words, store_cell_words}
 use Rattle.rv64_sequences.specs.Sequences.{constant_words, load_words, store_words, copy_words, frame_up_words, load_size}

@@ -1,15 +1,15 @@
 -- How many words sequences and items have.
 use Rattle.std.proofs.Common.{◌≡◌, ℕ, zero, suc, ◌+◌, Bool, true, false, cond, List, [], ◌∷◌, ◌++◌, length, Option, Some, None, refl, arith, length-append}
+use Rattle.bril_tree.specs.declared.operators.BinaryOp.{BinaryOp}
+use Rattle.bril_tree.specs.declared.operators.BinaryOp.TheVariants as binary
+use Rattle.bril_tree.specs.declared.operators.UnaryOp.{UnaryOp}
+use Rattle.bril_tree.specs.declared.operators.UnaryOp.TheVariants as unary
 use Rattle.bril_tree.specs.Value.{word_of}
 use Rattle.rv64_words.specs.declared.word.Word.{Word}
 use Rattle.rv64_words.specs.declared.word.Word.TheVariants.{Jal}
-use Rattle.slot_code.specs.declared.item.BinaryOp.{BinaryOp}
-use Rattle.slot_code.specs.declared.item.BinaryOp.TheVariants as binary
 use Rattle.slot_code.specs.declared.item.Printed.{Printed}
 use Rattle.slot_code.specs.declared.item.SlotItem.{SlotItem}
 use Rattle.slot_code.specs.declared.item.SlotItem.TheVariants.{Pass, Constant, Copy, Unary, Binary, Jump, Branch, Call, Return, Print, Alloc, Free, Store, Load, Speculate, Commit, Guard}
-use Rattle.slot_code.specs.declared.item.UnaryOp.{UnaryOp}
-use Rattle.slot_code.specs.declared.item.UnaryOp.TheVariants as unary
 use Rattle.slot_code.specs.declared.slots.SlotFunction.{SlotFunction}
 use Rattle.rv64_sequences.specs.Operations.{store_cell_words, unary_words, binary_words, unary_size, binary_size}
 use Rattle.rv64_sequences.specs.Sequences.{constant_words, load_words, store_words, copy_words, frame_up_words, jump_offset, fits_12, fits_32, is_near, constant_size, load_size, store_size, copy_size, frame_up_size}

@@ -1,13 +1,13 @@
 -- The words of the operations that compute, from registers 5 and 7 to register 5, and those of the memory extension.
 -- Registers 6 and 7 may change; a fault ends the run.
 use Rattle.std.specs.Prelude.{ℕ, pos, negsuc, List, [], ◌∷◌, ◌++◌}
+use Rattle.bril_tree.specs.declared.operators.BinaryOp.{BinaryOp}
+use Rattle.bril_tree.specs.declared.operators.BinaryOp.TheVariants as binary
+use Rattle.bril_tree.specs.declared.operators.UnaryOp.{UnaryOp}
+use Rattle.bril_tree.specs.declared.operators.UnaryOp.TheVariants as unary
 use Rattle.rv64_words.specs.declared.word.Word.{Word}
 use Rattle.rv64_words.specs.declared.word.Word.TheVariants.{Lui, Ld, Sd, Ecall}
 use Rattle.rv64_words.specs.Mnemonics.{addi, sltiu, slli, srli, srai, add, sub, slt, or, and, mul, div, beq, bne, bgeu, bltu}
-use Rattle.slot_code.specs.declared.item.BinaryOp.{BinaryOp}
-use Rattle.slot_code.specs.declared.item.BinaryOp.TheVariants as binary
-use Rattle.slot_code.specs.declared.item.UnaryOp.{UnaryOp}
-use Rattle.slot_code.specs.declared.item.UnaryOp.TheVariants as unary
 use Rattle.rv64_sequences.specs.Sequences.{fault_words}
 
 -- ---- one operand

@@ -5,6 +5,7 @@ use Rattle.std.specs.Int.{w64, cast_unsigned, int_wrap, from_bool}
 use Rattle.bril_tree.specs.declared.limits.End.TheVariants.{Faulted}
 use Rattle.bril_tree.specs.declared.limits.Fault.{Fault}
 use Rattle.bril_tree.specs.declared.limits.Fault.TheVariants as fault
+use Rattle.bril_tree.specs.declared.operators.BinaryOp.TheVariants as binary
 use Rattle.bril_tree.specs.declared.value.Value.{Value}
 use Rattle.bril_tree.specs.declared.value.Value.TheVariants.{Int, Bool as Boolean}
 use Rattle.bril_tree.specs.Outcome.{Yields, FaultsWith, divided as quotient_of, int_of, bool_of, char_of, int_same}
@@ -19,7 +20,6 @@ use Rattle.rv64_runs.specs.Runs.{HasAt, AreComputing, effects}
 use Rattle.rv64_runs.proofs.Going.{begin, plain, taken, not_taken}
 use Rattle.rv64_sequences.specs.Operations.{same_words, less_words, greater_words, not_greater_words, not_less_words, division_words}
 use Rattle.rv64_sequences.specs.Sequences.{fault_words}
-use Rattle.slot_code.specs.declared.item.BinaryOp.TheVariants as binary
 use Rattle.rv64_values.specs.Laws.{BinaryReady, BinaryWordsGive, BinaryWordsFault}
 use Rattle.rv64_values.specs.Operands.{IsInt, Gives, EndsSo}
 use Rattle.rv64_values.proofs.Kept.{keeps_itself, keeps_five, gives_by, gives_plain, faults_by}

@@ -9,6 +9,7 @@ use Rattle.bril_tree.specs.declared.limits.End.TheVariants.{Faulted}
 use Rattle.bril_tree.specs.declared.limits.Fault.{Fault}
 use Rattle.bril_tree.specs.declared.limits.Fault.TheVariants as fault
 use Rattle.bril_tree.specs.declared.operation.Op.TheVariants as op
+use Rattle.bril_tree.specs.declared.operators.BinaryOp.TheVariants as binary
 use Rattle.bril_tree.specs.declared.value.Value.{Value}
 use Rattle.bril_tree.specs.declared.value.Value.TheVariants.{Ptr}
 use Rattle.bril_tree.specs.Outcome.{Yields, FaultsWith, computed, fits_32, int_of, block_of, offset_of}
@@ -22,7 +23,6 @@ use Rattle.rv64_runs.specs.Runs.{effects}
 use Rattle.rv64_runs.proofs.Going.{Going, begin, plains, taken, not_taken}
 use Rattle.rv64_sequences.specs.Operations.{pointer_words}
 use Rattle.rv64_sequences.specs.Sequences.{fault_words}
-use Rattle.slot_code.specs.declared.item.BinaryOp.TheVariants as binary
 use Rattle.rv64_values.specs.Laws.{BinaryReady}
 use Rattle.rv64_values.specs.Operands.{Gives, EndsSo}
 use Rattle.rv64_values.proofs.Kept.{keeps_itself, keeps_five, keeps_six, keeps_seven, gives_by, faults_by}

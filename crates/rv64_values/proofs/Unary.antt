@@ -6,6 +6,7 @@ use Rattle.std.proofs.lemmas.Bool.Decides.{nat_tests}
 use Rattle.bril_tree.specs.declared.limits.End.TheVariants.{Faulted}
 use Rattle.bril_tree.specs.declared.limits.Fault.{Fault}
 use Rattle.bril_tree.specs.declared.limits.Fault.TheVariants as fault
+use Rattle.bril_tree.specs.declared.operators.UnaryOp.TheVariants as unary
 use Rattle.bril_tree.specs.declared.value.Value.{Value}
 use Rattle.bril_tree.specs.declared.value.Value.TheVariants.{Int, Bool as Boolean, Char}
 use Rattle.bril_tree.specs.Outcome.{Yields, FaultsWith, is_scalar, char_from, int_of, bool_of, char_of}
@@ -18,7 +19,6 @@ use Rattle.rv64_runs.specs.Runs.{HasAt}
 use Rattle.rv64_runs.proofs.Going.{Going, begin, plain, taken, not_taken}
 use Rattle.rv64_sequences.specs.Operations.{int_to_char_words, unary_words}
 use Rattle.rv64_sequences.specs.Sequences.{fault_words}
-use Rattle.slot_code.specs.declared.item.UnaryOp.TheVariants as unary
 use Rattle.rv64_values.specs.Laws.{UnaryWordsGive, UnaryWordsFault}
 use Rattle.rv64_values.specs.Operands.{Gives, EndsSo}
 use Rattle.rv64_values.proofs.Kept.{keeps_itself, keeps_five, keeps_six, gives_by, gives_plain, faults_by}

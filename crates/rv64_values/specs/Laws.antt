@@ -2,7 +2,10 @@
 use Rattle.std.specs.Prelude.{◌≡◌, ℕ, ◌^◌, ◌<◌, None}
 use Rattle.bril_tree.specs.declared.limits.End.TheVariants.{Faulted}
 use Rattle.bril_tree.specs.declared.limits.Fault.{Fault}
+use Rattle.bril_tree.specs.declared.operators.BinaryOp.{BinaryOp}
+use Rattle.bril_tree.specs.declared.operators.UnaryOp.{UnaryOp}
 use Rattle.bril_tree.specs.declared.value.Value.{Value}
+use Rattle.bril_tree.specs.Operators.{binary_operation, unary_operation}
 use Rattle.bril_tree.specs.Outcome.{Yields, FaultsWith, computed}
 use Rattle.bril_tree.specs.Value.{word_of}
 use Rattle.rv64_words.specs.declared.image.Image.{Image}
@@ -10,9 +13,6 @@ use Rattle.rv64_words.specs.Region.{Sizes}
 use Rattle.rv64_runs.specs.Core.{Core}
 use Rattle.rv64_runs.specs.Runs.{HasAt}
 use Rattle.rv64_sequences.specs.Operations.{unary_words, unary_size, binary_words, binary_size}
-use Rattle.slot_code.specs.declared.item.BinaryOp.{BinaryOp}
-use Rattle.slot_code.specs.declared.item.UnaryOp.{UnaryOp}
-use Rattle.slot_code.specs.Meaning.{unary_operation, binary_operation}
 use Rattle.rv64_values.specs.Operands.{UnarySuits, BinarySuits, Gives, EndsSo}
 
 -- The words of an operation stand at word k, registers 5 and 7 have the words of its operands, and the operands suit it.

@@ -7,56 +7,27 @@ use Rattle.bril_tree.specs.declared.numbered.VarInfo.{VarInfo}
 use Rattle.bril_tree.specs.declared.numbered_function.Func.{Func}
 use Rattle.bril_tree.specs.declared.operation.Op.{Op}
 use Rattle.bril_tree.specs.declared.operation.Op.TheVariants as op
+use Rattle.bril_tree.specs.declared.operators.BinaryOp.{BinaryOp}
+use Rattle.bril_tree.specs.declared.operators.UnaryOp.{UnaryOp}
 use Rattle.bril_tree.specs.declared.program.Prog.{Prog}
 use Rattle.bril_tree.specs.declared.types.Base.{Base}
 use Rattle.bril_tree.specs.declared.types.Base.TheVariants as base
 use Rattle.bril_tree.specs.declared.types.Ty.{Ty}
 use Rattle.bril_tree.specs.FrameWords.{AreFrameWords, location_count}
+use Rattle.bril_tree.specs.Operators.{binary_of, unary_of}
 use Rattle.bril_tree.specs.Step.{point_of}
 use Rattle.bril_tree.specs.Typing.{variable_type}
 use Rattle.bril_tree.specs.Value.{literal_value, zero_of}
 use Rattle.flow_graph.specs.Graph.{GraphView, IsGraphOf}
-use Rattle.slot_code.specs.declared.item.BinaryOp.{BinaryOp}
-use Rattle.slot_code.specs.declared.item.BinaryOp.TheVariants as binary
 use Rattle.slot_code.specs.declared.item.Printed.{Printed}
 use Rattle.slot_code.specs.declared.item.Slot.TheVariants.{Variable, Shadow}
 use Rattle.slot_code.specs.declared.item.SlotItem.{SlotItem}
 use Rattle.slot_code.specs.declared.item.SlotItem.TheVariants.{Pass, Constant, Copy, Unary, Binary, Jump, Branch, Call, Return, Print, Alloc, Free, Store, Load, Speculate, Commit, Guard}
-use Rattle.slot_code.specs.declared.item.UnaryOp.{UnaryOp}
-use Rattle.slot_code.specs.declared.item.UnaryOp.TheVariants as unary
 use Rattle.slot_code.specs.declared.slots.SlotFunction.{SlotFunction}
 use Rattle.slot_code.specs.declared.slots.Slots.{Slots}
 use Rattle.slot_code.specs.Numbering.{is_used, shadow_number, slots_in}
 
 -- ---- items
-
--- the operations that compute from one variable
-abbrev pub unary_of : Op → Option UnaryOp
-unary_of op.Not = Some unary.Not
-unary_of op.CharToInt = Some unary.CharToInt
-unary_of op.IntToChar = Some unary.IntToChar
-unary_of _ = None
-
--- the operations that compute from two variables
-abbrev pub binary_of : Op → Option BinaryOp
-binary_of op.Add = Some binary.Add
-binary_of op.Sub = Some binary.Sub
-binary_of op.Mul = Some binary.Mul
-binary_of op.Div = Some binary.Div
-binary_of op.Eq = Some binary.Eq
-binary_of op.Lt = Some binary.Lt
-binary_of op.Gt = Some binary.Gt
-binary_of op.Le = Some binary.Le
-binary_of op.Ge = Some binary.Ge
-binary_of op.Ceq = Some binary.Ceq
-binary_of op.Clt = Some binary.Clt
-binary_of op.Cgt = Some binary.Cgt
-binary_of op.Cle = Some binary.Cle
-binary_of op.Cge = Some binary.Cge
-binary_of op.And = Some binary.And
-binary_of op.Or = Some binary.Or
-binary_of op.PtrAdd = Some binary.PtrAdd
-binary_of _ = None
 
 -- an item with a destination, which the operation has in an accepted program
 abbrev pub with_dest : Option ℕ → (ℕ → SlotItem) → SlotItem

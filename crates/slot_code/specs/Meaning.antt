@@ -8,19 +8,16 @@ use Rattle.bril_tree.specs.declared.operation.Op.TheVariants as op
 use Rattle.bril_tree.specs.declared.program.Prog.{Prog}
 use Rattle.bril_tree.specs.declared.value.Value.{Value}
 use Rattle.bril_tree.specs.Memory.{is_live_any, cell_at, allocation_fault}
+use Rattle.bril_tree.specs.Operators.{binary_operation, unary_operation}
 use Rattle.bril_tree.specs.Outcome.{Outcome, Yields, FaultsWith, HasEffect, computed, int_of, bool_of}
 use Rattle.bril_tree.specs.Run.{first_state}
 use Rattle.bril_tree.specs.State.{no_values, read, Locals, Frame, State}
 use Rattle.bril_tree.specs.Step.{at_point, advanced, with_locations, assigned, shadowed, faulted, saved, dropped, goes_on, gives, advances, ends, calls, prints, allocates, frees, stores, loads, speculates, commits, with_failure}
-use Rattle.slot_code.specs.declared.item.BinaryOp.{BinaryOp}
-use Rattle.slot_code.specs.declared.item.BinaryOp.TheVariants as binary
 use Rattle.slot_code.specs.declared.item.Printed.{Printed}
 use Rattle.slot_code.specs.declared.item.Slot.{Slot}
 use Rattle.slot_code.specs.declared.item.Slot.TheVariants.{Variable, Shadow}
 use Rattle.slot_code.specs.declared.item.SlotItem.{SlotItem}
 use Rattle.slot_code.specs.declared.item.SlotItem.TheVariants.{Pass, Constant, Copy, Unary, Binary, Jump, Branch, Call, Return, Print, Alloc, Free, Store, Load, Speculate, Commit, Guard}
-use Rattle.slot_code.specs.declared.item.UnaryOp.{UnaryOp}
-use Rattle.slot_code.specs.declared.item.UnaryOp.TheVariants as unary
 use Rattle.slot_code.specs.declared.slots.SlotFunction.{SlotFunction}
 use Rattle.slot_code.specs.declared.slots.Slots.{Slots}
 
@@ -43,32 +40,6 @@ read_returned locations (Some x) = read locations.vars x
 
 abbrev pub read_printed : Locals → Printed → Value
 read_printed locations printed = read locations.vars printed.variable
-
--- ---- operations
-
-abbrev pub unary_operation : UnaryOp → Op
-unary_operation unary.Not = op.Not
-unary_operation unary.CharToInt = op.CharToInt
-unary_operation unary.IntToChar = op.IntToChar
-
-abbrev pub binary_operation : BinaryOp → Op
-binary_operation binary.Add = op.Add
-binary_operation binary.Sub = op.Sub
-binary_operation binary.Mul = op.Mul
-binary_operation binary.Div = op.Div
-binary_operation binary.Eq = op.Eq
-binary_operation binary.Lt = op.Lt
-binary_operation binary.Gt = op.Gt
-binary_operation binary.Le = op.Le
-binary_operation binary.Ge = op.Ge
-binary_operation binary.Ceq = op.Ceq
-binary_operation binary.Clt = op.Clt
-binary_operation binary.Cgt = op.Cgt
-binary_operation binary.Cle = op.Cle
-binary_operation binary.Cge = op.Cge
-binary_operation binary.And = op.And
-binary_operation binary.Or = op.Or
-binary_operation binary.PtrAdd = op.PtrAdd
 
 -- ---- items
 

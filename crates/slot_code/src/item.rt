@@ -1,5 +1,6 @@
 // The items of code over slots.
 
+use bril_tree::operators::{BinaryOp, UnaryOp};
 use bril_tree::sequence::Seq;
 use bril_tree::types::Base;
 use bril_tree::value::Value;
@@ -9,37 +10,6 @@ use bril_tree::value::Value;
 pub enum Slot {
     Variable(u32),
     Shadow(u32),
-}
-
-/// An operation that computes from one variable: `not` of Bril's core language, and the casts of its character extension.
-#[derive(Clone, Copy, PartialEq, Eq, Debug, Drop)]
-pub enum UnaryOp {
-    Not,
-    CharToInt,
-    IntToChar,
-}
-
-/// An operation that computes from two variables: the arithmetic, comparisons and logic of Bril's core language, the
-/// comparisons of its character extension, and `ptradd` of its memory extension.
-#[derive(Clone, Copy, PartialEq, Eq, Debug, Drop)]
-pub enum BinaryOp {
-    Add,
-    Sub,
-    Mul,
-    Div,
-    Eq,
-    Lt,
-    Gt,
-    Le,
-    Ge,
-    Ceq,
-    Clt,
-    Cgt,
-    Cle,
-    Cge,
-    And,
-    Or,
-    PtrAdd,
 }
 
 /// A variable that is printed, and whether its value is an int, a bool or a char.

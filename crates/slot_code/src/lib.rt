@@ -13,7 +13,7 @@ mod operations;
 mod program;
 mod slots;
 
-pub use item::{BinaryOp, Printed, Slot, SlotItem, UnaryOp};
+pub use item::{Printed, Slot, SlotItem};
 pub use laws::{items_use_slots, slots_have_numbers, steps_read_no_program};
 pub use program::lower;
 pub use slots::{SlotFunction, Slots};

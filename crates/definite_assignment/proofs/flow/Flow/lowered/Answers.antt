@@ -3,14 +3,14 @@ use Rattle.std.specs.List.{Contains}
 use Rattle.definite_assignment.specs.Location.{is_argument}
 use Rattle.definite_assignment.specs.Reads.{IsOpen}
 use Rattle.definite_assignment.proofs.ReadRows.{Lowers-none, Lowers-same}
-use Rattle.graph_search.specs.Path.{IsReached}
+use Rattle.graph_search.specs.Path.{IsReached, other_than}
 use Rattle.definite_assignment.proofs.flow.Flow.lowered.Goals as goal
 
 pub returns-then-not-branch-clause-lowered : goal.returns-then-not-branch-clause-lowered
 returns-then-not-branch-clause-lowered c =
     let self = c.args.self.now in
     Lowers-none self.reads.items (λ read. (read.location ≡ c.args.location) × IsOpen self.forward.arcs self.args read) c.args.first
-    (λ k read e h. c.in_ok-is_read_unassigned.ensures.none c.if-not-branch.true k read e h.0 (subst (λ p. IsReached self.forward.arcs (0 ∷ []) p read.item) h.0 h.1.reached))
+    (λ k read e h. c.in_ok-is_read_unassigned.ensures.none c.if-not-branch.true k read e h.0 (subst (λ p. IsReached self.forward.arcs (0 ∷ []) (other_than p) read.item) h.0 h.1.reached))
 
 pub returns-clause-lowered : goal.returns-clause-lowered
 returns-clause-lowered c =
@@ -22,8 +22,8 @@ returns-clause-lowered c =
       h.0,
       record {
         local = ap (is_argument self.args) h.0 ∙ local;
-        reached = subst (λ p. IsReached self.forward.arcs (0 ∷ []) p read.item) (sym h.0) ((c.in_ok-search.ensures.found read.item).0 h.1);
+        reached = subst (λ p. IsReached self.forward.arcs (0 ∷ []) (other_than p) read.item) (sym h.0) ((c.in_ok-search.ensures.found read.item).0 h.1);
       },
     ))
-    (λ read h. (h.0, (c.in_ok-search.ensures.found read.item).1 (subst (λ p. IsReached self.forward.arcs (0 ∷ []) p read.item) h.0 h.1.reached)))
+    (λ read h. (h.0, (c.in_ok-search.ensures.found read.item).1 (subst (λ p. IsReached self.forward.arcs (0 ∷ []) (other_than p) read.item) h.0 h.1.reached)))
     c.first_marked.ensures
