@@ -25,11 +25,12 @@ use Rattle.flow_graph.specs.Accesses.{Accesses}
 use Rattle.flow_graph.specs.Reads.{access_at}
 use Rattle.flow_graph.specs.declared.reads.Access.{Access}
 use Rattle.flow_graph.proofs.Locations.{assigned-location, location-assigned}
-use Rattle.dead_code.specs.Emptied.{IsCleared, WereRemovable, emptied, with_nops}
+use Rattle.dead_code.specs.Emptied.{IsCleared, WereRemovable, emptied}
+use Rattle.pass_plan.specs.Marked.{with_nops}
 use Rattle.dead_code.specs.Removable.{is_computation, is_silent, only_computes, IsUnused, IsIdle, IsRemovable}
 use Rattle.dead_code.specs.Work.{IsSearched, IsSettled, IsSound, IsWork, NoneIdle, assignment_if, assignments_from, is_marked, remaining}
 use Rattle.dead_code.proofs.Chain.{Chain, chain, still_reached, was_reached}
-use Rattle.dead_code.proofs.Marks.{with_nops-alive, with_nops-dead, length-with_nops}
+use Rattle.pass_plan.proofs.Marked.{with_nops-alive, with_nops-dead, length-with_nops, nops-true, nops-false, nops-before}
 use Rattle.dead_code.proofs.Step.{set-here}
 use Rattle.dead_code.proofs.Working.{computation-reached, next-reached, remaining-chain}
 
@@ -206,27 +207,6 @@ pub record IsEmptied (code : List Instr) (dead : List Bool) : Type 0 where
   pub were : WereRemovable code points
   pub is : remaining code dead ≡ emptied code points
   pub busy : (p : ℕ) (item : Instr) → p < length dead → slice_get (remaining code dead) p ≡ Some item → (is_silent item ≡ true) ⊎ IsReached code p
-
-nops-true : {X : Type 0} (e : X) (dead : List Bool) (items : List X) → length dead < length items → with_nops e (dead ++ true ∷ []) items ≡ set (with_nops e dead items) (length dead) e
-nops-true e [] [] low = absurd (omega arith)
-nops-true e [] (x ∷ items) low = refl
-nops-true e (d ∷ dead) [] low = absurd (omega arith)
-nops-true e (d ∷ dead) (x ∷ items) low = ap (λ l. cond d e x ∷ l) (nops-true e dead items (omega arith))
-
-nops-false : {X : Type 0} (e : X) (dead : List Bool) (items : List X) → with_nops e (dead ++ false ∷ []) items ≡ with_nops e dead items
-nops-false e [] [] = refl
-nops-false e [] (x ∷ items) = refl
-nops-false e (d ∷ dead) [] = refl
-nops-false e (d ∷ dead) (x ∷ items) = ap (λ l. cond d e x ∷ l) (nops-false e dead items)
-
-nops-before : {X : Type 0} (e : X) (b : Bool) (dead : List Bool) (items : List X) (p : ℕ) → p < length dead → slice_get (with_nops e (dead ++ b ∷ []) items) p ≡ slice_get (with_nops e dead items) p
-nops-before e b [] items p low = absurd (omega arith)
-nops-before e b (d ∷ dead) [] p low = refl
-nops-before e b (d ∷ dead) (x ∷ items) zero low = refl
-nops-before e b (d ∷ dead) (x ∷ items) (suc p) low = nops-before e b dead items p (omega arith)
-
-pub none-emptied : (code : List Instr) → IsEmptied code []
-none-emptied code = record { points = []; were = tt; is = refl; busy = λ p item low at. absurd (omega arith) }
 
 pub one-emptied : (code : List Instr) (dead : List Bool) (item : Instr) (b : Bool) → slice_get code (length dead) ≡ Some item → (b ≡ true → IsIdle code (length dead) item) → (b ≡ false → (is_silent item ≡ true) ⊎ IsReached code (length dead)) → IsEmptied code dead → IsEmptied code (dead ++ b ∷ [])
 one-emptied code dead item b at idle busy e = by b refl

@@ -30,7 +30,7 @@ use Rattle.flow_graph.proofs.Locations.{assigned-number, number-assigned}
 use Rattle.dead_code.specs.Removable.{IsRemovable, is_computation}
 use Rattle.dead_code.specs.Sweep.{AreNoted, GoesOn, IsQuiet, IsSwept}
 use Rattle.dead_code.specs.Work.{IsSound, NoneIdle, remaining}
-use Rattle.dead_code.proofs.Marks.{length-with_nops}
+use Rattle.pass_plan.proofs.Marked.{length-with_nops}
 use Rattle.dead_code.proofs.Queueing.{among-more, numbers-read}
 use Rattle.dead_code.proofs.Step.{branches-same, set-here}
 use Rattle.dead_code.proofs.Working.{more-is, more-none_idle, more-sound, remaining-chain}
@@ -224,23 +224,6 @@ all-swept code made count far reads assigns low r a = record {
 }
 
 -- ---- notes
-
-pub noted-nothing : (point : ℕ) (old : List ℕ) → AreNoted point [] old old
-noted-nothing point old = record { long = refl; noted = λ k c low. absurd (in_contains k [] c); kept = λ k. inl refl }
-
-pub noted-out : (point k : ℕ) (old : List ℕ) → length old ≤ k → AreNoted point (k ∷ []) old old
-noted-out point k old high = record { long = refl; noted = λ n c low. absurd (out n (in_contains n (k ∷ []) c) low); kept = λ n. inl refl }
-  where
-    out : (n : ℕ) → In n (k ∷ []) → n < length old → ⊥
-    out n (inl e) low = omega (arith, e)
-    out n (inr i) low = i
-
-pub noted-one : (point k : ℕ) (old : List ℕ) → k < length old → AreNoted point (k ∷ []) old (set old k point)
-noted-one point k old low = record { long = length-set old k point; noted = λ n c within. here n (in_contains n (k ∷ []) c); kept = λ n. ⊎_elim (λ e. inr (ap (slice_index (set old k point)) e ∙ get_or-set_same old k point 0 low, contains_in n (k ∷ []) (inl e))) (λ d. inl (get_or-set_other old k n point 0 d)) (cases_eq n k) }
-  where
-    here : (n : ℕ) → In n (k ∷ []) → slice_index (set old k point) n ≡ point
-    here n (inl e) = ap (slice_index (set old k point)) e ∙ get_or-set_same old k point 0 low
-    here n (inr i) = absurd i
 
 pub noted-more : (point k : ℕ) (numbers more : List ℕ) (a b c : List ℕ) → ((n : ℕ) → In n more → In n numbers ⊎ (n ≡ k)) → ((n : ℕ) → In n numbers ⊎ (n ≡ k) → In n more) → AreNoted point numbers a b → AreNoted point (k ∷ []) b c → AreNoted point more a c
 noted-more point k numbers more a b c split join first second = record {

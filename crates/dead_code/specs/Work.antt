@@ -9,7 +9,8 @@ use Rattle.bril_tree.specs.Operand.{Location, reads_of}
 use Rattle.bril_tree.specs.Walk.{IsReached}
 use Rattle.bril_tree.specs.declared.numbered.Instr.{Instr}
 use Rattle.flow_graph.specs.Location.{location_at, number_of}
-use Rattle.dead_code.specs.Emptied.{emptied, WereRemovable, with_nops}
+use Rattle.dead_code.specs.Emptied.{emptied, WereRemovable}
+use Rattle.pass_plan.specs.Marked.{with_nops}
 use Rattle.dead_code.specs.Removable.{is_computation, is_silent}
 use Rattle.flow_graph.specs.Reads.{access_at}
 use Rattle.flow_graph.specs.declared.reads.Access.{Access}

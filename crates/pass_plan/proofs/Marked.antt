@@ -1,14 +1,9 @@
--- Code with `nop` for what is marked dead.
-use Rattle.std.proofs.Common.{◌≡◌, ℕ, zero, suc, ◌+◌, ◌<◌, Bool, true, false, cond, List, [], ◌∷◌, ◌++◌, length, map, get_or, set, Some, None, refl, ap, arith}
+-- A list with another item in place of those that are marked.
+use Rattle.std.proofs.Common.{◌≡◌, ℕ, zero, suc, ◌<◌, Bool, true, false, cond, List, [], ◌∷◌, ◌++◌, length, map, get_or, set, Some, refl, ap, arith}
 use Rattle.std.specs.Prelude.{slice_get}
-use Rattle.std.proofs.lemmas.Option.{same_Some}
-use Rattle.bril_tree.specs.declared.numbered.Instr.{Instr}
-use Rattle.bril_tree.specs.Numbered.{nop}
-use Rattle.bril_tree.specs.Operand.{reads_of}
-use Rattle.dead_code.specs.Emptied.{with_nops}
-use Rattle.dead_code.specs.Work.{reads_left}
+use Rattle.pass_plan.specs.Marked.{with_nops}
 
--- one mark more
+-- one mark more among those that there are
 pub with_nops-set : {X : Type 0} (e : X) (dead : List Bool) (items : List X) (k : ℕ) → length dead ≡ length items → k < length dead → with_nops e (set dead k true) items ≡ set (with_nops e dead items) k e
 with_nops-set e [] items k long low = absurd (omega arith)
 with_nops-set e (d ∷ dead) [] k long low = absurd (omega arith)
@@ -22,6 +17,7 @@ with_nops-alive e (d ∷ dead) [] k alive = refl
 with_nops-alive e (d ∷ dead) (x ∷ items) zero alive = ap (λ b. Some (cond b e x)) alive
 with_nops-alive e (d ∷ dead) (x ∷ items) (suc k) alive = with_nops-alive e dead items k alive
 
+-- what is marked went
 pub with_nops-dead : {X : Type 0} (e : X) (dead : List Bool) (items : List X) (k : ℕ) → length dead ≡ length items → get_or dead k false ≡ true → slice_get (with_nops e dead items) k ≡ Some e
 with_nops-dead e [] items k long is = absurd cc
 with_nops-dead e (d ∷ dead) [] k long is = absurd (omega arith)
@@ -42,23 +38,33 @@ with_nops-map f e (d ∷ dead) (x ∷ items) = λ i. one d i ∷ with_nops-map f
     one true = refl
     one false = refl
 
-pub none-dead : {X : Type 0} (e : X) (dead : List Bool) (items : List X) → ((k : ℕ) → get_or dead k false ≡ false) → with_nops e dead items ≡ items
-none-dead e [] items none = refl
-none-dead e (d ∷ dead) [] none = refl
-none-dead e (d ∷ dead) (x ∷ items) none = λ i. cond (none 0 i) e x ∷ none-dead e dead items (λ k. none (suc k)) i
-
--- a `nop` reads nothing, so fewer reads are left
-pub reads-fewer : (items : List Instr) (k : ℕ) (item : Instr) → slice_get items k ≡ Some item → reads_left (set items k nop) + length (reads_of item) ≡ reads_left items
-reads-fewer [] k item at = absurd (let n : None ≡ Some item = at in cc)
-reads-fewer (x ∷ items) zero item at = let same = ap (λ (a : Instr). length (reads_of a)) (same_Some x item at) in omega arith
-reads-fewer (x ∷ items) (suc k) item at = let rest = reads-fewer items k item at in omega arith
+-- ---- one item more at the end
 
 pub nops-nil : {X : Type 0} (e : X) (dead : List Bool) → with_nops e dead [] ≡ []
 nops-nil e [] = refl
 nops-nil e (d ∷ dead) = refl
 
--- one item more
 pub nops-push : {X : Type 0} (e : X) (dead : List Bool) (items : List X) (x : X) → with_nops e dead (items ++ x ∷ []) ≡ with_nops e dead items ++ cond (get_or dead (length items) false) e x ∷ []
 nops-push e [] items x = refl
 nops-push e (d ∷ dead) [] x = ap (λ l. cond d e x ∷ l) (nops-nil e dead)
 nops-push e (d ∷ dead) (y ∷ items) x = ap (λ l. cond d e y ∷ l) (nops-push e dead items x)
+
+-- ---- one mark more at the end
+
+pub nops-true : {X : Type 0} (e : X) (dead : List Bool) (items : List X) → length dead < length items → with_nops e (dead ++ true ∷ []) items ≡ set (with_nops e dead items) (length dead) e
+nops-true e [] [] low = absurd (omega arith)
+nops-true e [] (x ∷ items) low = refl
+nops-true e (d ∷ dead) [] low = absurd (omega arith)
+nops-true e (d ∷ dead) (x ∷ items) low = ap (λ l. cond d e x ∷ l) (nops-true e dead items (omega arith))
+
+pub nops-false : {X : Type 0} (e : X) (dead : List Bool) (items : List X) → with_nops e (dead ++ false ∷ []) items ≡ with_nops e dead items
+nops-false e [] [] = refl
+nops-false e [] (x ∷ items) = refl
+nops-false e (d ∷ dead) [] = refl
+nops-false e (d ∷ dead) (x ∷ items) = ap (λ l. cond d e x ∷ l) (nops-false e dead items)
+
+pub nops-before : {X : Type 0} (e : X) (b : Bool) (dead : List Bool) (items : List X) (p : ℕ) → p < length dead → slice_get (with_nops e (dead ++ b ∷ []) items) p ≡ slice_get (with_nops e dead items) p
+nops-before e b [] items p low = absurd (omega arith)
+nops-before e b (d ∷ dead) [] p low = refl
+nops-before e b (d ∷ dead) (x ∷ items) zero low = refl
+nops-before e b (d ∷ dead) (x ∷ items) (suc p) low = nops-before e b dead items p (omega arith)

@@ -1,12 +1,12 @@
 -- The result of a pass is accepted.
-use Rattle.std.proofs.Common.{◌≡◌, ◌⊎◌, ℕ, get_or, Option, Some, None, refl, sym, ap, subst, ◌∙◌, ⊎_elim, All}
+use Rattle.std.proofs.Common.{◌≡◌, ℕ, get_or, Option, Some, None, refl, sym, ap, subst, ◌∙◌, ⊎_elim, All}
 use Rattle.std.specs.Prelude.{slice_get, is_some, IsTrue}
 use Rattle.std.proofs.lemmas.Option.{slice_get-get_or, same_Some}
 use Rattle.bril_tree.specs.declared.numbered.Instr.{Instr}
 use Rattle.bril_tree.specs.declared.numbered_function.Func.{Func}
 use Rattle.bril_tree.specs.declared.program.Prog.{Prog}
 use Rattle.bril_tree.specs.Accepted.{IsAccepted, IsAcceptedFunction, IsPlainType, AreWalksAccepted}
-use Rattle.bril_tree.specs.Numbered.{variable_names, names_of_functions, names_in, tree_at}
+use Rattle.bril_tree.specs.Numbered.{names_of_functions, names_in, tree_at}
 use Rattle.bril_tree.specs.Run.{types_of}
 use Rattle.bril_tree.specs.Shape.{is_shaped}
 use Rattle.bril_tree.specs.Step.{items_of, code_of, item_at}
@@ -14,13 +14,12 @@ use Rattle.bril_tree.specs.Typing.{type_fault, return_type, is_call_shaped}
 use Rattle.bril_tree.proofs.Trees.{nothing_at}
 use Rattle.bril_tree.proofs.Acceptance.{accepted_function, shaped_at, call_at, typed_at}
 use Rattle.bril_names.proofs.Functions.{Differ-functions}
-use Rattle.pass_names.specs.Named.{SameName}
 use Rattle.pass_names.specs.NamedPlan.{SameHeads}
 use Rattle.pass_names.proofs.Items.{item-shares}
-use Rattle.pass_names.proofs.Points.{found, found_under}
+use Rattle.pass_names.proofs.Points.{found, found_under, same_name-of}
 use Rattle.pass_names.proofs.Heads.{partner}
-use Rattle.pass_types.proofs.Fitting.{shape-same, call-same, typed-kept}
-use Rattle.pass_types.specs.Stays.{FitsByItself, StaysTyped, Stays}
+use Rattle.pass_accept.proofs.Fitting.{shape-same, call-same, typed-kept}
+use Rattle.pass_accept.specs.Stays.{FitsByItself, StaysTyped, Stays}
 
 module _ (P Q : Prog) (accepted : IsAccepted P) (heads : SameHeads P Q) (main : P.main ≡ Q.main) (types_same : (f : ℕ) (F G : Func) → slice_get P.funcs f ≡ Some F → slice_get Q.funcs f ≡ Some G → types_of (Some F) ≡ types_of (Some G)) where
   module _ (g : ℕ) where
@@ -39,10 +38,11 @@ module _ (P Q : Prog) (accepted : IsAccepted P) (heads : SameHeads P Q) (main : 
         by (Some F) None p q = absurd (let h = partner P Q heads g F p in let k = sym q ∙ h.1 in cc)
         by (Some F) (Some G) p q = ap of p ∙ same F G p q ∙ sym (ap of q)
 
-    callee-types : types_of (slice_get P.funcs g) ≡ types_of (slice_get Q.funcs g)
+    -- a callee takes and gives the same types
+    pub callee-types : types_of (slice_get P.funcs g) ≡ types_of (slice_get Q.funcs g)
     callee-types = by_callee types_of (λ F G p q. types_same g F G p q)
 
-    callee-result : return_type (slice_get P.funcs g) ≡ return_type (slice_get Q.funcs g)
+    pub callee-result : return_type (slice_get P.funcs g) ≡ return_type (slice_get Q.funcs g)
     callee-result = by_callee return_type (λ F G p q. heads.ret g F G p q)
 
   module _ (f : ℕ) (F G : Func) (p : slice_get P.funcs f ≡ Some F) (q : slice_get Q.funcs f ≡ Some G) (s : Stays P Q f F G) where
@@ -66,8 +66,7 @@ module _ (P Q : Prog) (accepted : IsAccepted P) (heads : SameHeads P Q) (main : 
             let typed = typed_at P F facts i a at_a in
             let h = item-shares fs V W fa.function.labels fb.function.labels (Differ-functions P) (λ x. Unit {0}) (is_some F.ret) a b shaped same fa.range under.range (λ x i. tt) in
             let ret = heads.ret f F G p q in
-            let back : (x y : ℕ) → SameName V W x y → SameName (variable_names F.vars) (variable_names G.vars) x y =
-            λ x y n. subst (λ o. SameName (variable_names F.vars) (names_in o) x y) q (subst (λ o. SameName (names_in o) (names_in (slice_get Q.funcs f)) x y) p n) in
+            let back = same_name-of P Q f F G p q in
             record {
               shaped = sym (shape-same fs V W fa.function.labels fb.function.labels (Differ-functions P) (λ x. Unit {0}) P Q F G callee-types callee-result ret (is_some G.ret) a b h) ∙ ap (λ r. is_shaped (is_some r) a) (sym ret) ∙ shaped;
               calls = sym (call-same fs V W fa.function.labels fb.function.labels (Differ-functions P) (λ x. Unit {0}) P Q F G callee-types callee-result ret a b h) ∙ called;

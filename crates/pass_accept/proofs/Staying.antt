@@ -28,15 +28,15 @@ use Rattle.bril_tree.proofs.Elements.{in_get, get_in, get_inside}
 use Rattle.std.proofs.lemmas.List.{length-map}
 use Rattle.pass_names.specs.NamedPlan.{SameHeads}
 use Rattle.pass_names.specs.Named.{SameName}
-use Rattle.pass_types.specs.Stays.{HasTypeOfDest}
-use Rattle.pass_types.proofs.Typed.{typed-unless}
+use Rattle.pass_accept.specs.Stays.{HasTypeOfDest}
+use Rattle.pass_accept.proofs.Typed.{typed-unless}
 use Rattle.pass_names.proofs.Items.{SameDest, same_dest}
 use Rattle.pass_names.proofs.Points.{found, found_under, Differ-in}
 
 -- ---- destinations
 
 -- the type of a destination is that of its variable
-dest-typed : (P : Prog) (F : Func) (ret : Bool) (a : Instr) (x : ℕ) (t : Ty) → is_shaped ret a ≡ true → type_fault P F a ≡ None → dest_of a ≡ Some x → type_of a ≡ Some t → variable_type F.vars x ≡ Some t
+pub dest-typed : (P : Prog) (F : Func) (ret : Bool) (a : Instr) (x : ℕ) (t : Ty) → is_shaped ret a ≡ true → type_fault P F a ≡ None → dest_of a ≡ Some x → type_of a ≡ Some t → variable_type F.vars x ≡ Some t
 dest-typed P F ret (Label l) x t s f d e = absurd cc
 dest-typed P F ret (Const y ty v) x t s f d e = both_typed-is t (variable_type F.vars x) (subst (λ u. both_typed same_type u (variable_type F.vars x) ≡ true) e (subst (λ n. is_dest_typed P F n (Some ty) ≡ true) d (and_parts (is_dest_typed P F (Some y) (Some ty)) (is_literal_typed v ty) (typed-unless (is_dest_typed P F (Some y) (Some ty) && is_literal_typed v ty) f)).0))
 dest-typed P F ret (Act y ty op.Print args fns ls) x t s f d e = absurd (let n = no_dest y (not-true _ (and_parts _ _ (and_parts _ _ s).0).0) in let h = sym n ∙ d in cc)

@@ -23,7 +23,7 @@ use Rattle.bril_tree.proofs.Shapes.{shape-parts}
 use Rattle.bril_tree.proofs.Elements.{zip-long, in_index}
 use Rattle.pass_names.specs.Named.{SameName}
 use Rattle.pass_names.proofs.Items.{Shares, args_of, zip-at}
-use Rattle.pass_types.proofs.Typed.{act-typed, typed-unless}
+use Rattle.pass_accept.proofs.Typed.{act-typed, typed-unless}
 
 zip-types : (V W : List (List ℕ)) (F G : Func) (xs ys : List ℕ) → AllZip (SameName V W) xs ys → ((x y : ℕ) → SameName V W x y → In y ys → variable_type F.vars x ≡ variable_type G.vars y) → map (variable_type F.vars) xs ≡ map (variable_type G.vars) ys
 zip-types V W F G [] [] z t = refl
