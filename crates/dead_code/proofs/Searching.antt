@@ -16,7 +16,7 @@ use Rattle.bril_tree.proofs.Members.{in_contains, contains_in}
 use Rattle.definite_assignment.specs.Location.{number_of}
 use Rattle.graph_search.specs.Path.{IsReached as IsFound, Leads, other_than}
 use Rattle.graph_search.specs.declared.graph.Arc.{Arc}
-use Rattle.graph_search.proofs.Gates.{open-differs, differs-open}
+use Rattle.graph_search.proofs.OpenArcs.{open-differs, differs-open}
 use Rattle.graph_search.proofs.Paths.{reached_seed, reached_step, reached_all}
 use Rattle.live_sets.specs.Arcs.{AreBackArcs, back_arc}
 use Rattle.live_sets.proofs.Law.{AreReaders, assigned-number, number-assigned}

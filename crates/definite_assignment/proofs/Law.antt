@@ -26,7 +26,7 @@ use Rattle.bril_tree.specs.declared.edge.Edge.{Edge}
 use Rattle.flow_graph.proofs.Told.{sites_of_walk}
 use Rattle.graph_search.specs.Path.{Leads, other_than}
 use Rattle.graph_search.specs.declared.graph.Arc.{Arc}
-use Rattle.graph_search.proofs.Gates.{open-differs, differs-open}
+use Rattle.graph_search.proofs.OpenArcs.{open-differs, differs-open}
 use Rattle.graph_search.proofs.Paths.{reached_seed, reached_step, reached_all}
 
 -- the graph of a function whose open sites are sound

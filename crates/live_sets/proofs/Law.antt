@@ -16,7 +16,7 @@ use Rattle.definite_assignment.specs.Location.{number_of}
 use Rattle.definite_assignment.proofs.Locations.{label-one}
 use Rattle.graph_search.specs.Path.{IsReached, Leads, IsBetween, other_than}
 use Rattle.graph_search.specs.declared.graph.Arc.{Arc}
-use Rattle.graph_search.proofs.Gates.{open-differs, differs-open}
+use Rattle.graph_search.proofs.OpenArcs.{open-differs, differs-open}
 use Rattle.graph_search.proofs.Paths.{reached_seed, reached_step, reached_all}
 use Rattle.live_sets.specs.Arcs.{AreBackArcs, back_arc, location_at, number_at, operation_location}
 
