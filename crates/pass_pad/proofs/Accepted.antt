@@ -7,7 +7,6 @@ use Rattle.bril_tree.specs.declared.numbered_function.Func.{Func}
 use Rattle.bril_tree.specs.declared.program.Prog.{Prog}
 use Rattle.bril_tree.specs.Accepted.{IsAccepted}
 use Rattle.bril_tree.specs.Edge.{Branch, branches_at, branches_from, onward}
-use Rattle.bril_tree.specs.Operand.{Location}
 use Rattle.bril_tree.specs.Step.{code_of, item_at}
 use Rattle.bril_tree.specs.Walk.{IsWalk, end_of}
 use Rattle.bril_tree.specs.Membership.{In}
