@@ -11,14 +11,16 @@ use Rattle.bril_tree.specs.Membership.{In}
 use Rattle.bril_tree.specs.Numbered.{nop}
 use Rattle.bril_tree.specs.Operand.{Location, reads_of}
 use Rattle.bril_tree.proofs.Members.{in_contains, contains_in}
-use Rattle.definite_assignment.specs.Location.{number_of}
+use Rattle.flow_graph.specs.Location.{number_of}
 use Rattle.graph_search.specs.Path.{IsReached as IsFound, other_than}
 use Rattle.graph_search.specs.declared.graph.Arc.{Arc}
 use Rattle.live_sets.specs.Arcs.{AreBackArcs}
-use Rattle.live_sets.specs.Reads.{Accesses, reads_from}
-use Rattle.live_sets.specs.declared.accesses.Access.{Access}
+use Rattle.flow_graph.specs.Accesses.{Accesses}
+use Rattle.flow_graph.specs.Reads.{reads_from}
+use Rattle.flow_graph.specs.declared.reads.Access.{Access}
 use Rattle.live_sets.proofs.Law.{AreReaders}
-use Rattle.live_sets.proofs.ReadLists.{readers_are, reads-inside}
+use Rattle.live_sets.proofs.Readers.{readers_are}
+use Rattle.flow_graph.proofs.ReadLists.{reads-inside}
 use Rattle.pass_plan.proofs.Elements.{all_in, in_all}
 use Rattle.dead_code.specs.Work.{IsLookedAt, IsReadBy, IsSearched, IsSound, IsWork, Queues, assignments_from, is_marked, reads_left, remaining}
 use Rattle.dead_code.proofs.Clearing.{is_assignment, removable, settled}

@@ -7,9 +7,9 @@ use Rattle.bril_tree.specs.declared.numbered.Instr.{Instr}
 use Rattle.bril_tree.specs.Membership.{In}
 use Rattle.bril_tree.specs.Operand.{Location, reads_of}
 use Rattle.bril_tree.proofs.Members.{in_contains, contains_in, in_append_left, in_append_right, in_append_cases}
-use Rattle.definite_assignment.specs.Location.{number_of}
-use Rattle.live_sets.specs.Reads.{access_at, item_reads}
-use Rattle.live_sets.specs.declared.accesses.Access.{Access}
+use Rattle.flow_graph.specs.Location.{number_of}
+use Rattle.flow_graph.specs.Reads.{access_at, item_reads}
+use Rattle.flow_graph.specs.declared.reads.Access.{Access}
 use Rattle.pass_plan.proofs.Elements.{in_all}
 use Rattle.dead_code.specs.Work.{AreQueued, IsReadBy, Queues, is_marked}
 

@@ -16,7 +16,7 @@ use Rattle.bril_tree.specs.Operand.{Location, reads_of}
 use Rattle.bril_tree.specs.Walk.{IsReached}
 use Rattle.bril_tree.proofs.Branches.{reached_on}
 use Rattle.bril_tree.proofs.Members.{contains_in, in_map}
-use Rattle.definite_assignment.specs.Location.{number_of}
+use Rattle.flow_graph.specs.Location.{number_of}
 use Rattle.dead_code.specs.Removable.{is_computation, is_silent, only_computes, IsRemovable}
 use Rattle.dead_code.specs.Work.{IsReadBy, IsSearched, IsSettled, IsSound, IsWork, NoneIdle, Queues, is_marked, reads_left, remaining}
 use Rattle.dead_code.proofs.Chain.{Chain, chain, still_reached, was_reached}

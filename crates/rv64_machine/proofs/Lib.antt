@@ -1,5 +1,4 @@
 pub mod Arrivals
 pub mod Bursts
 pub mod Calls
-pub mod RunAnswers
 pub mod Starts

@@ -1,6 +1,6 @@
 use Rattle.std.proofs.Common.{◌≡◌, length, take}
 use Rattle.live_sets.proofs.Sets.{AreMarked}
-use Rattle.live_sets.proofs.points.marks_of.Given as goal
+use Rattle.live_sets.proofs.marked.marks_of.Given as goal
 
 abbrev pub invariant-loop-point : goal.invariant-loop-point
 invariant-loop-point l = record {

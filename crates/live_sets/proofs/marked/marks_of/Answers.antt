@@ -1,6 +1,6 @@
 use Rattle.std.proofs.Common.{◌<◌, ◌∙◌, length, get_or, sym, subst, length-set, true}
 use Rattle.live_sets.proofs.Sets.{more-marked}
-use Rattle.live_sets.proofs.points.marks_of.Goals as goal
+use Rattle.live_sets.proofs.marked.marks_of.Goals as goal
 
 pub loop-point-preserved : goal.loop-point-preserved
 loop-point-preserved c =
