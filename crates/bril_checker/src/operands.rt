@@ -5,12 +5,13 @@ ghost use Rattle.std.specs.Option.{option_map};
 ghost use Rattle.bril_tree.specs.Run.{types_of};
 ghost use Rattle.bril_tree.specs.Typing.{variable_type, argument_type, unary, binary, are_typed, is_call_typed, is_return_typed, is_action_typed, is_dest_typed, call_fits, action_call_fits, is_call_shaped, is_literal_typed};
 
-use crate::types::{fits_shadow, has_base, has_pointer, have_same, have_target, same_result};
+use crate::types::{fits_shadow, has_base, has_pointer, have_same, have_target};
 use bril_tree::numbered::{Instr, VarInfo};
 use bril_tree::numbered_function::Func;
 use bril_tree::operation::Op;
 use bril_tree::program::Prog;
 use bril_tree::types::{Base, Ty};
+use bril_tree::typing::same_result;
 use bril_tree::value::Lit;
 
 // The type of a variable, where it has one.

@@ -1,27 +1,10 @@
 // Tests on types, and on operands that have a type or none.
 
 ghost use Rattle.std.specs.Prelude.{◌≡◌};
-ghost use Rattle.bril_tree.specs.Typing.{same_base, same_type, is_plain, is_pointer, points_to, if_typed, both_typed, same_result, is_set_typed};
+ghost use Rattle.bril_tree.specs.Typing.{same_type, is_plain, is_pointer, points_to, if_typed, both_typed, is_set_typed};
 
 use bril_tree::types::{Base, Ty};
-
-// Whether two bases are one.
-fn same_base(a: Base, b: Base) -> bool
-    ensures { result ≡ same_base a b }
-{
-    match a {
-        Base::Int => matches!(b, Base::Int),
-        Base::Bool => matches!(b, Base::Bool),
-        Base::Char => matches!(b, Base::Char),
-    }
-}
-
-// Whether two types are one.
-fn same_type(s: Ty, t: Ty) -> bool
-    ensures { result ≡ same_type s t }
-{
-    s.depth == t.depth && same_base(s.base, t.base)
-}
+use bril_tree::typing::{same_base, same_type};
 
 // Whether a type is the base, not behind a pointer.
 fn is_plain(base: Base, ty: Ty) -> bool
@@ -73,17 +56,6 @@ pub fn have_target(pointer: Option<Ty>, t: Option<Ty>) -> bool
 {
     match (pointer, t) {
         (Some(p), Some(t)) => p.depth == t.depth + 1 && same_base(p.base, t.base),
-        _ => false,
-    }
-}
-
-// Whether both are a type, which is one, or neither is.
-pub fn same_result(s: Option<Ty>, t: Option<Ty>) -> bool
-    ensures { result ≡ same_result s t }
-{
-    match (s, t) {
-        (None, None) => true,
-        (Some(s), Some(t)) => same_type(s, t),
         _ => false,
     }
 }

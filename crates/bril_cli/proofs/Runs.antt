@@ -3,7 +3,7 @@ use Rattle.std.proofs.Common.{◌≡◌, ℕ, suc, ◌+◌, ◌*◌, ◌≤◌, 
 use Rattle.std.specs.Option.{option_map}
 use Rattle.bril_outside.proofs.SinkWrites.{TookSome-longer}
 use Rattle.bril_outside.specs.Sink.{SinkSeen, TookAll, TookSome}
-use Rattle.bril_tree.specs.Cost.{IsCost}
+use Rattle.program_numbers.specs.Cost.{IsCost}
 use Rattle.bril_tree.specs.Run.{FitMain, state_after}
 use Rattle.bril_tree.specs.declared.limits.End.{End}
 use Rattle.bril_tree.specs.declared.limits.Limits.{Limits}

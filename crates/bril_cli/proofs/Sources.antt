@@ -19,9 +19,6 @@ use Rattle.bril_cli.specs.Sources.{SourceRunsOn, SourceShows}
 pub made_refines : (l : PassList) (p q : Prog) (made : IsMade l p q) → IsAccepted p → Refines p q (factor_of l p q made)
 made_refines l p q made accepted = (chains-refine l.meaning l.before made.profile l.names p made.ran.programs q accepted made.ran.chain).0
 
-pub made_accepted : (l : PassList) (p q : Prog) (made : IsMade l p q) → IsAccepted p → IsAccepted q
-made_accepted l p q made accepted = (chains-refine l.meaning l.before made.profile l.names p made.ran.programs q accepted made.ran.chain).1
-
 module _ (p q : Prog) (k : ℕ) (refines : Refines p q k) (limits : Limits) (values : List Value) (fits : FitMain p values) where
   -- the arguments fit what was made
   pub made_fits : FitMain q values

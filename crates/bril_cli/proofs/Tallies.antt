@@ -37,10 +37,6 @@ none_both : (xs ys : List (List ℕ)) → xs ++ ys ≡ [] → (xs ≡ []) × (ys
 none_both [] ys e = (refl, e)
 none_both (x ∷ xs) ys e = cc
 
--- a tally has pieces
-pub some_tally : (name : List ℕ) (runs seen made : ℕ) → tally_pieces name runs seen made ≡ [] → ⊥
-some_tally name runs seen made e = cc
-
 -- pieces after those that were put
 puts_after : (r : Result Unit Failed) (ps qs : List (List ℕ)) (e f h : SinkSeen) → PutAll e ps f → PutsPieces r f qs h → PutsPieces r e (ps ++ qs) h
 puts_after (Ok done) ps qs e f h front put = PutAll-append front put

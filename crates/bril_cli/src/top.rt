@@ -40,7 +40,7 @@ use std::alloc::Global;
 /// `run` makes the program into words of RV64I with multiplication and division, and a machine executes `--steps` of them at most.
 /// What they print is what the program prints by its semantics, and the machine ends as the program does: where the program ends
 /// after n steps, `run` has its end if `--steps` is at least the cost of a step of the program after the passes
-/// (`bril_tree/specs/Cost.antt`), times the product of the passes' factors, times n + 1. With `--stats`,
+/// (`program_numbers/specs/Cost.antt`), times the product of the passes' factors, times n + 1. With `--stats`,
 /// after a run that ended, stopped with a fault or goes on, `err` gets the line `words W`, W being the words that were executed, and
 /// for each guard of the program, in the order of functions and items, the line `guard @F I fails K`: its function, its item from 0,
 /// and how often it failed; then the line of the status.

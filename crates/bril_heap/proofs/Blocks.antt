@@ -1,7 +1,7 @@
 -- Blocks as they are kept, and the blocks of the semantics.
-use Rattle.std.proofs.Common.{◌≡◌, ℕ, zero, suc, ◌+◌, ◌<◌, ◌≤◌, true, false, cond, List, [], ◌∷◌, map, length, set, get_or, Option, Some, None, slice_get, Ok, refl, sym, ap, arith, ℤ, pos, negsuc, nat_abs}
+use Rattle.std.proofs.Common.{◌≡◌, ℕ, zero, suc, ◌+◌, ◌<◌, ◌≤◌, true, false, cond, List, [], ◌∷◌, map, length, set, get_or, Option, Some, None, slice_get, Ok, refl, sym, ap, arith, ℤ, pos}
 use Rattle.std.specs.List.{count_by, sum_by}
-use Rattle.std.proofs.lemmas.Bool.{lt-ltb, le-ltb}
+use Rattle.std.proofs.lemmas.Bool.{lt-ltb}
 use Rattle.std.proofs.lemmas.List.{length-set}
 use Rattle.std.proofs.lemmas.List.Sums.{sum_by-set, get_or-le-sum_by}
 use Rattle.std.proofs.lemmas.Option.{slice_get-map, slice_get_read, get_or_from_slice_get, same_Some}
@@ -9,7 +9,7 @@ use Rattle.bril_tree.specs.declared.value.Value.{Value}
 use Rattle.bril_tree.specs.declared.value.Value.TheVariants.{Ptr}
 use Rattle.bril_tree.specs.Memory.{live_block, cell_at, changed, changed_block}
 use Rattle.bril_tree.specs.State.{with_value, Block}
-use Rattle.bril_heap.specs.Heap.{BlockView, IsHeap, block_seen, entries_of, stored_or_fault, load_answer, Stores}
+use Rattle.bril_heap.specs.Heap.{BlockView, IsHeap, block_seen, entries_of, Stores}
 use Rattle.bril_heap.specs.Stored.{seen, IsLiveAt, IsCellAt}
 use Rattle.bril_heap.proofs.Entries.{entries-set}
 
@@ -74,17 +74,6 @@ cell_at-read blocks block offset place cell b at read =
     let offset_is : offset ≡ pos cell = at.cell_is in
     let inside : cell < length b.cells = at.inside b (live_read blocks block place b at.found read) in
     (inside, rw offset_is (rw (live_block-read blocks block place b at.found read, lt-ltb cell (length b.cells) inside) refl))
-
--- an offset past the cells of a live block, or below them
-pub cell_at-past : (blocks : List BlockView) (block : ℕ) (offset : ℤ) (place : ℕ) (b : BlockView) → IsLiveAt blocks block place → b ≡ get_or blocks place b → length b.cells ≤ nat_abs offset → cell_at (seen blocks) (Ptr block offset) ≡ None
-cell_at-past blocks block (pos n) place b at read past = rw (live_block-read blocks block place b at read, le-ltb n (length b.cells) past) refl
-cell_at-past blocks block (negsuc n) place b at read past = rw (live_block-read blocks block place b at read) refl
-
--- what a load answers
-pub load-read : (blocks : List BlockView) (block : ℕ) (offset : ℤ) (place cell : ℕ) (b : BlockView) (entry : Option Value) → IsCellAt blocks block offset place cell → b ≡ get_or blocks place b → entry ≡ entries_of b.cells cell → load_answer (seen blocks) (Ptr block offset) (cell_at (seen blocks) (Ptr block offset)) ≡ stored_or_fault entry
-load-read blocks block offset place cell b entry at read holds =
-    let cell_is = cell_at-read blocks block offset place cell b at read in
-    rw (cell_is.1) (rw (live_block-read blocks block place b at.found read) (rw holds refl))
 
 -- what a store answers and leaves
 pub store-set : (blocks : List BlockView) (block : ℕ) (offset : ℤ) (place cell : ℕ) (b : BlockView) (v : Value) → IsCellAt blocks block offset place cell → b ≡ get_or blocks place b → Stores (Ok tt) (seen blocks) (Ptr block offset) (cell_at (seen blocks) (Ptr block offset)) v (seen (set blocks place (record b { cells = set b.cells cell (Some v) })))

@@ -18,19 +18,9 @@ pub with_dest-locations : (dest : Option ℕ) (v : Value) (locations : LocalsVie
 with_dest-locations None v locations h = refl
 with_dest-locations (Some x) v locations h = ap (λ (values : Values). record (locations_of locations) { vars = values }) (entries-set locations.vars x v h)
 
-pub with_shadow-locations : (x : ℕ) (v : Value) (locations : LocalsView) → x < length locations.shadows → locations_of (with_shadow x v locations) ≡ shadowed x v (locations_of locations)
-with_shadow-locations x v locations h = ap (λ (values : Values). record (locations_of locations) { shadows = values }) (entries-set locations.shadows x v h)
-
 pub HasLocation-more : (dest : Option ℕ) (n m : ℕ) → n ≤ m → HasLocation dest n → HasLocation dest m
 HasLocation-more None n m l h = tt
 HasLocation-more (Some x) n m l h = omega arith
-
-pub with_dest-kept : (n : ℕ) (dest : Option ℕ) (v : Value) (locations : LocalsView) → AreLocals n locations → AreLocals n (with_dest dest v locations)
-with_dest-kept n None v locations h = h
-with_dest-kept n (Some x) v locations h = record { vars = omega (arith, h.vars, length-set locations.vars x (Some v)); shadows = h.shadows }
-
-pub with_shadow-kept : (n x : ℕ) (v : Value) (locations : LocalsView) → AreLocals n locations → AreLocals n (with_shadow x v locations)
-with_shadow-kept n x v locations h = record { vars = h.vars; shadows = omega (arith, h.shadows, length-set locations.shadows x (Some v)) }
 
 -- ---- a new frame
 
@@ -90,23 +80,3 @@ new_frame-kept p function vs locations vars shadows few =
     }
 
 -- ---- saves
-
-pub dropped-held : (p : Prog) (limits : Limits) (saves : List LocalsView) → map locations_of (without_newest saves) ≡ dropped (map locations_of saves)
-dropped-held p limits [] = refl
-dropped-held p limits (newest ∷ saves) = refl
-
-pub saved-held : (p : Prog) (limits : Limits) (saves : List LocalsView) (locations : LocalsView) → locations_of (newest_or saves locations) ≡ saved (map locations_of saves) (locations_of locations)
-saved-held p limits [] locations = refl
-saved-held p limits (newest ∷ saves) locations = refl
-
-pub dropped-kept : (n : ℕ) (saves : List LocalsView) → AllByRecursion (AreLocals n) saves → AllByRecursion (AreLocals n) (without_newest saves)
-dropped-kept n [] h = tt
-dropped-kept n (newest ∷ saves) h = h.1
-
-pub dropped-few : (saves : List LocalsView) → length (without_newest saves) ≤ length saves
-dropped-few [] = omega arith
-dropped-few (newest ∷ saves) = omega arith
-
-pub saved-kept : (n : ℕ) (saves : List LocalsView) (locations : LocalsView) → AllByRecursion (AreLocals n) saves → AreLocals n locations → AreLocals n (newest_or saves locations)
-saved-kept n [] locations h one = one
-saved-kept n (newest ∷ saves) locations h one = h.0

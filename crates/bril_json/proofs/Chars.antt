@@ -8,11 +8,6 @@ use Rattle.bril_json.specs.Form.{char_of}
 use Rattle.bril_json.specs.declared.fault.JsonFault.TheVariants.{Shape}
 use Rattle.bril_json.specs.declared.position.Position.{Position}
 
--- an empty text
-pub no_char : (position : Position) (text : List ℕ) → length text ≡ 0 → char_of position (chars text) ≡ Err (Shape position.func position.item)
-no_char position [] e = ap (char_of position) chars-nil
-no_char position (b ∷ bs) e = absurd (omega arith)
-
 -- a text of one scalar value
 pub one_char : (position : Position) (text rest : List ℕ) (c : ℕ) → IsUtf8 text → text ≡ encode_utf8 c ++ rest → length rest ≡ 0 → char_of position (chars text) ≡ Ok (Char c)
 one_char position text [] c utf8 is e = ap (char_of position) (chars_past_char text [] c utf8 is ∙ ap (λ cs. c ∷ cs) chars-nil)

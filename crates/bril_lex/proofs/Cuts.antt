@@ -40,9 +40,6 @@ one_way (p ∷ ps) (q ∷ qs) r s e lp lq nr ns =
     let class = ap (λ (f : Front). f.class) fronts in
     ((λ i. record { class = class i; text = parts.0 i } ∷ rest.0 i), rest.1)
 
-nothing_begins_nil : front_of [] ≡ None
-nothing_begins_nil = refl
-
 -- a cut that ends where nothing begins
 abbrev pub EndsAt : List ℕ → List Piece → List ℕ → Type 0
 EndsAt source pieces rest = (source ≡ bytes_of pieces ++ rest) × AreLongest pieces rest × (front_of rest ≡ None)

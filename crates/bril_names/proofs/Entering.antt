@@ -46,15 +46,6 @@ known_after-append known m (x ∷ xs) ys h = stepped known x m xs ys (λ k g. kn
 
 -- ---- one after the other
 
-pub Enters-none : (vars : List VarInfo) (assigned : ℕ → Option Ty) → ((x : ℕ) → assigned x ≡ None) → Enters vars vars [] assigned
-Enters-none vars assigned none = record {
-  added = [];
-  grows = sym (append-nil (variable_names vars));
-  appear = refl;
-  types = λ x. sym (first_of_two-none (type_of_variable vars x)) ∙ ap (first_of_two (type_of_variable vars x)) (sym (none x));
-  differ = λ d. d;
-}
-
 pub Enters-append : (before between after : List VarInfo) (xs ys : List ℕ) (first second both : ℕ → Option Ty)
     → Enters before between xs first → Enters between after ys second → ((x : ℕ) → both x ≡ first_of_two (first x) (second x)) → Enters before after (xs ++ ys) both
 Enters-append before between after xs ys first second both one two e = record {

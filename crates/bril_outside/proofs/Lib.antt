@@ -1,4 +1,3 @@
-pub mod FileReads
 pub mod MemoryWrites
 pub mod SinkWrites
 pub mod Stored

@@ -37,10 +37,6 @@ both_nothing (x ∷ xs) ys e = cc
 pub Rose-after : (a b c : ℕ) → a ≤ b → Rose b c → Rose a c
 Rose-after a b c h r = omega arith
 
--- a fault is seen over a step after it
-pub Rose-before : (a b c : ℕ) → Rose a b → b ≤ c → Rose a c
-Rose-before a b c r h = omega arith
-
 -- a sink takes nothing by doing nothing
 pub TookAll-none : (s : SinkSeen) → TookAll s [] s
 TookAll-none s = record { written = sym (written-none s.written); amount = sym (amount_after-zero s.amount); faults = omega arith }
@@ -52,14 +48,6 @@ TookAll-append {s} {t} {u} {a} {b} one two = record {
   amount = two.amount ∙ (ap (λ n. amount_after n (length b)) one.amount ∙ (amount_after-twice s.amount (length a) (length b) ∙ ap (amount_after s.amount) (sym (length-append a b))));
   faults = omega arith;
 }
-
--- all of the bytes are the first of them
-pub TookSome-all : {s t : SinkSeen} {a : List ℕ} → TookAll s a t → TookSome s a t
-TookSome-all {s} {t} {a} all = record { part = a; rest = []; whole = sym (append-nil a); took = all }
-
--- a sink that took nothing took the first of any bytes
-pub TookSome-none : (s : SinkSeen) (a : List ℕ) → TookSome s a s
-TookSome-none s a = record { part = []; rest = a; whole = refl; took = TookAll-none s }
 
 -- the first of a piece is the first of that piece with more behind it
 pub TookSome-longer : {s t : SinkSeen} {a : List ℕ} (b : List ℕ) → TookSome s a t → TookSome s (a ++ b) t
@@ -78,22 +66,6 @@ TookSome-after {s} {t} {u} {a} {b} one some = record {
   whole = ap (λ v. a ++ v) some.whole ∙ sym (append_assoc a some.part some.rest);
   took = TookAll-append one some.took;
 }
-
--- the faults never fall
-pub TookSome-faults : {s t : SinkSeen} {a : List ℕ} → TookSome s a t → s.faults ≤ t.faults
-TookSome-faults some = some.took.faults
-
--- what is told of the bytes stays told
-pub TookAll-written : {s t : SinkSeen} {a : List ℕ} (w : List ℕ) → TookAll s a t → s.written ≡ Some w → t.written ≡ Some (w ++ a)
-TookAll-written {s} {t} {a} w all told = all.written ∙ ap (option_map (λ v. v ++ a)) told
-
--- what is told of the amount stays told within its range
-pub TookAll-amount : {s t : SinkSeen} {a : List ℕ} (n : ℕ) → TookAll s a t → s.amount ≡ Some n → n + length a < 2 ^ 64 → t.amount ≡ Some (n + length a)
-TookAll-amount {s} {t} {a} n all told fits = all.amount ∙ (ap (λ m. amount_after m (length a)) told ∙ amount_after-in_range n (length a) fits)
-
--- bytes that were not told are not told after
-pub TookAll-untold : {s t : SinkSeen} {a : List ℕ} → TookAll s a t → s.written ≡ None → t.written ≡ None
-TookAll-untold {s} {t} {a} all none = all.written ∙ ap (option_map (λ v. v ++ a)) none
 
 -- ---- puts
 
@@ -244,7 +216,3 @@ FailedAfter-took {s} {t} {a} {ps} n failed = record {
       ∙ sym (append_assoc a (joined (failed.front ++ failed.part ∷ [])) (failed.rest ++ joined failed.unput));
   took = failed.took;
 }
-
--- a number of puts that was told stays told within its range
-pub PutTimes-told : {s t : SinkSeen} (puts n : ℕ) → PutTimes s puts t → s.puts ≡ Some n → n + puts < 2 ^ 64 → t.puts ≡ Some (n + puts)
-PutTimes-told puts n times told fits = times.told ∙ ap (λ m. amount_after m puts) told ∙ amount_after-in_range n puts fits

@@ -70,10 +70,6 @@ joined-status status.CannotWrite path = refl
 
 -- ---- what puts say
 
-pub PutsPieces-by : (r : Result Unit Failed) (s t : SinkSeen) (pieces : List (List ℕ)) → PutsPieces r s pieces t → SaysBy s pieces t
-PutsPieces-by (Ok done) s t pieces put = inl put
-PutsPieces-by (Err failed) s t pieces put = inr put
-
 pub PutsPieces-one : (r : Result Unit Failed) (s t : SinkSeen) (piece : List ℕ) → OnOk r (TookAll s piece t) → OnErr r (TookSome s piece t × Rose s.faults t.faults) → PutTimes s 1 t → PutsPieces r s (piece ∷ []) t
 PutsPieces-one (Ok done) s t piece ok err times = PutAll-one ok times
 PutsPieces-one (Err failed) s t piece ok err times = PutSome-one err.0 times err.1

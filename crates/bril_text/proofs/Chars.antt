@@ -1,11 +1,7 @@
 -- What comes between the quotes of a char.
-use Rattle.std.proofs.Common.{◌≡◌, ℕ, suc, ◌<◌, Bool, true, false, cond, eqb, List, [], ◌∷◌, length, Some, None, refl, sym, ap, ◌∙◌, subst, inl, inr, arith}
-use Rattle.std.specs.Prelude.{◌&&◌, unwrap_or}
+use Rattle.std.proofs.Common.{◌≡◌, ℕ, ◌<◌, List, length, Some, None, sym, ap, ◌∙◌, subst, inl, inr, arith}
 use Rattle.std.specs.Str.{IsUtf8}
-use Rattle.std.proofs.lemmas.Bool.Decides.{nat_tests}
 use Rattle.std.proofs.lemmas.Str.{IsUtf8-encode, length-encode, len_utf8_bounds}
-use Rattle.bril_lex.specs.Spelling.{escaped}
-use Rattle.bril_grammar.specs.Terminal.{scalar_at_front, char_value}
 use Rattle.bril_text.specs.Seen.{IsScalarText, IsInsideChar, escape_of}
 
 pub IsScalarText-utf8 : (text : List ℕ) → IsScalarText text → IsUtf8 text
@@ -13,24 +9,6 @@ IsScalarText-utf8 text s = subst IsUtf8 (sym s.1) (IsUtf8-encode s.0 s.2)
 
 pub IsScalarText-some : (text : List ℕ) → IsScalarText text → 0 < length text
 IsScalarText-some text s = omega (arith, ap length s.1, length-encode s.0, len_utf8_bounds s.0)
-
-not_two : (n : ℕ) → eqb (suc (suc (suc n))) 2 ≡ false
-not_two n = grind (arith, nat_tests)
-
--- the value is that of the escape, or else the scalar value at the front
-pub char_value-is : (text : List ℕ) → char_value text ≡ unwrap_or (escape_of text) (scalar_at_front text)
-char_value-is [] = refl
-char_value-is (a ∷ []) = refl
-char_value-is (a ∷ b ∷ []) = by (eqb a 92)
-  where
-    own : ℕ
-    own = scalar_at_front (a ∷ b ∷ [])
-
-    by : (t : Bool) → cond t (unwrap_or (escaped b) (scalar_at_front (a ∷ b ∷ []))) (scalar_at_front (a ∷ b ∷ [])) ≡ unwrap_or (cond t (escaped b) None) (scalar_at_front (a ∷ b ∷ []))
-    by true = refl
-    by false = refl
-char_value-is (a ∷ b ∷ d ∷ rest) =
-    ap (λ t. unwrap_or (cond (t && eqb a 92) (escaped b) None) (scalar_at_front (a ∷ b ∷ d ∷ rest))) (sym (not_two (length rest)))
 
 -- what is no escape is a scalar value
 pub no_escape : (text : List ℕ) → IsInsideChar text → escape_of text ≡ None → IsScalarText text

@@ -1,8 +1,8 @@
 pub mod Acceptance
 pub mod Appearance
 pub mod Assignments
-pub mod Bare
 pub mod Canonical
+pub mod Counting
 pub mod Equal
 pub mod Elements
 pub mod First

@@ -1,6 +1,6 @@
 -- The outcome of an item depends on what it reads alone, and an item that gives a value goes on.
 use Rattle.std.proofs.Common.{◌≡◌, ℕ, zero, suc, ◌<◌, Bool, true, false, cond, List, [], ◌∷◌, length, map, Option, Some, None, ℤ, pos, negsuc, refl, ap, ◌∙◌, arith}
-use Rattle.std.specs.Prelude.{is_some}
+use Rattle.std.specs.Prelude.{is_some, ◌+ℤ◌}
 use Rattle.std.specs.List.{AllZip}
 use Rattle.bril_tree.specs.declared.limits.Fault.{Fault}
 use Rattle.bril_tree.specs.declared.numbered.Instr.{Instr}
@@ -13,7 +13,7 @@ use Rattle.bril_tree.specs.Assigned.{assigns_of}
 use Rattle.bril_tree.specs.Edge.{item_branches, onward}
 use Rattle.bril_tree.specs.FunctionForm.{listed}
 use Rattle.bril_tree.specs.Operand.{Location, Variable, dest_of, locations_read, reading_of, shadow_of}
-use Rattle.bril_tree.specs.Outcome.{Yields, FaultsWith, HasEffect, outcome_of, action_outcome, computed, argument, shadow_given, divided, char_from, is_scalar, moved, fits_32}
+use Rattle.bril_tree.specs.Outcome.{Yields, FaultsWith, HasEffect, outcome_of, action_outcome, computed, int_of, block_of, offset_of, argument, shadow_given, divided, char_from, is_scalar, moved, fits_32}
 use Rattle.bril_tree.specs.Locals.{value_at}
 use Rattle.bril_tree.specs.Shape.{is_action_shaped, shape_of}
 use Rattle.bril_tree.specs.Sites.{Keeps, item_change}
@@ -88,16 +88,26 @@ either-yields : (b : Bool) (v : Value) (kind : Fault) → cond b (Yields v) (Fau
 either-yields true v kind e = cc
 either-yields false v kind e = cc
 
-pub divided-yields : (b : Bool) (x y : ℤ) → divided b x y ≡ HasEffect → ⊥
+divided-yields : (b : Bool) (x y : ℤ) → divided b x y ≡ HasEffect → ⊥
 divided-yields true x y e = cc
 divided-yields false x y e = cc
 
-pub char_from-yields : (z : ℤ) → char_from z ≡ HasEffect → ⊥
+char_from-yields : (z : ℤ) → char_from z ≡ HasEffect → ⊥
 char_from-yields (pos n) e = either-yields (is_scalar n) _ _ e
 char_from-yields (negsuc n) e = cc
 
-pub moved-yields : (block : ℕ) (offset : ℤ) → moved block offset ≡ HasEffect → ⊥
+moved-yields : (block : ℕ) (offset : ℤ) → moved block offset ≡ HasEffect → ⊥
 moved-yields block offset e = either-yields (fits_32 offset) _ _ e
+
+-- `div`, `int2char` and `ptradd` never act, whatever they read
+pub div-never_acts : (ty : Option Ty) (a b : Value) → computed op.Div ty a b ≡ HasEffect → ⊥
+div-never_acts ty a b e = divided-yields _ _ _ e
+
+pub int2char-never_acts : (ty : Option Ty) (a b : Value) → computed op.IntToChar ty a b ≡ HasEffect → ⊥
+int2char-never_acts ty a b e = char_from-yields (int_of a) e
+
+pub ptradd-never_acts : (ty : Option Ty) (a b : Value) → computed op.PtrAdd ty a b ≡ HasEffect → ⊥
+ptradd-never_acts ty a b e = moved-yields (block_of a) (offset_of a +ℤ int_of b) e
 
 -- two frames hold the same at locations that are read
 module _ (p q : Locals) where

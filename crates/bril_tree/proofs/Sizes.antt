@@ -13,7 +13,7 @@ use Rattle.bril_tree.specs.Size.{item_count, IsCounted}
 use Rattle.bril_tree.proofs.Trees.{numbered-tree_of}
 
 -- so many functions of so many items have less than 2^64 items
-sum-counted : (xs : List Func) → All (λ (f : Func). length f.code < 4294967295) xs → sum_by (λ (f : Func). length f.code) xs ≤ 4294967294 * length xs
+pub sum-counted : (xs : List Func) → All (λ (f : Func). length f.code < 4294967295) xs → sum_by (λ (f : Func). length f.code) xs ≤ 4294967294 * length xs
 sum-counted [] h = omega arith
 sum-counted (x ∷ xs) h =
     let first = All-head (λ (f : Func). length f.code < 4294967295) x xs h in

@@ -1,23 +1,19 @@
--- Laws of the names of operations, of the semantics, of the trees of programs, of live locations and of numbers.
+-- Laws of the names of operations, of the semantics, of the trees of programs, of live locations and of frames.
 use Rattle.std.specs.Prelude.{◌≡◌, ◌↔◌, ℕ, ◌*◌, ◌<◌, ◌^◌, List, All, Some, length}
 use Rattle.std.specs.List.{Contains}
 use Rattle.simulation.specs.System.{IsSystem}
 use Rattle.bril_tree.specs.declared.limits.Limits.{Limits}
 use Rattle.bril_tree.specs.declared.operation.Op.{Op}
-use Rattle.bril_tree.specs.declared.numbered.Instr.{Instr}
 use Rattle.bril_tree.specs.declared.numbered_function.Func.{Func}
 use Rattle.bril_tree.specs.declared.program.Prog.{Prog}
 use Rattle.bril_tree.specs.declared.tree.Tree.{Tree}
 use Rattle.bril_tree.specs.Accepted.{IsAcceptedFunction}
 use Rattle.bril_tree.specs.Assigned.{assigned_of}
-use Rattle.bril_tree.specs.Cost.{IsCost}
 use Rattle.bril_tree.specs.Edge.{Branch}
-use Rattle.bril_tree.specs.Entries.{IsEntryCount, IsEntryWidth}
 use Rattle.bril_tree.specs.FrameWords.{AreFrameWords}
 use Rattle.bril_tree.specs.Live.{IsLive}
 use Rattle.bril_tree.specs.Numbered.{Numbered, tree_of, tree_size}
 use Rattle.bril_tree.specs.Operand.{Location}
-use Rattle.bril_tree.specs.ProgramNumbers.{AreEntries}
 use Rattle.bril_tree.specs.Run.{program, Refines}
 use Rattle.bril_tree.specs.Size.{item_count, IsCounted}
 use Rattle.bril_tree.specs.Spelling.{operation_text, operation_of}
@@ -64,18 +60,6 @@ abbrev pub LiveAreAssigned : Type 0
 LiveAreAssigned = (p : Prog) (f : Func) → IsAcceptedFunction p f → (location : Location) (point : ℕ) → IsLive f.code location point →
     (walk : List Branch) → IsWalk f.code walk → end_of walk ≡ point → Contains (assigned_of f.code f.args walk).locations location
 
--- there is one of each of these numbers at most
+-- a function has one number of frame words at most
 abbrev pub FrameWordsAreOne : Type 0
 FrameWordsAreOne = (f : Func) (m n : ℕ) → AreFrameWords f m → AreFrameWords f n → m ≡ n
-
-abbrev pub EntryCountsAreOne : Type 0
-EntryCountsAreOne = (code : List Instr) (m n : ℕ) → IsEntryCount code m → IsEntryCount code n → m ≡ n
-
-abbrev pub EntryWidthsAreOne : Type 0
-EntryWidthsAreOne = (code : List Instr) (m n : ℕ) → IsEntryWidth code m → IsEntryWidth code n → m ≡ n
-
-abbrev pub CostsAreOne : Type 0
-CostsAreOne = (p : Prog) (m n : ℕ) → IsCost p m → IsCost p n → m ≡ n
-
-abbrev pub EntriesAreOne : Type 0
-EntriesAreOne = (p : Prog) (m n : ℕ) → AreEntries p m → AreEntries p n → m ≡ n

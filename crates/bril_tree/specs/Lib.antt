@@ -1,8 +1,6 @@
 pub mod Accepted
 pub mod Assigned
-pub mod Cost
 pub mod Edge
-pub mod Entries
 pub mod FrameWords
 pub mod FunctionForm
 pub mod Identifier
@@ -18,9 +16,9 @@ pub mod Operand
 pub mod Operators
 pub mod Outcome
 pub mod Path
+pub mod Place
 pub mod Locals
 pub mod ProgramForm
-pub mod ProgramNumbers
 pub mod Run
 pub mod Shape
 pub mod Sites

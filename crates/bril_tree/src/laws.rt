@@ -1,7 +1,7 @@
-// Laws of the names of operations, of the semantics, of the trees of programs, of live locations and of numbers. Each
+// Laws of the names of operations, of the semantics, of the trees of programs, of live locations and of frames. Each
 // function states some, and does nothing when it is called.
 
-ghost use Rattle.bril_tree.specs.Laws.{OperationsAreNamed, RunsAreSystems, RefinesItself, RefinesOn, ProgramsHaveTrees, TreesAreOne, NumberingKeepsCounts, NumberingKeepsBounds, CountedHaveSize, LiveAreAssigned, FrameWordsAreOne, EntryCountsAreOne, EntryWidthsAreOne, EntriesAreOne, CostsAreOne};
+ghost use Rattle.bril_tree.specs.Laws.{OperationsAreNamed, RunsAreSystems, RefinesItself, RefinesOn, ProgramsHaveTrees, TreesAreOne, NumberingKeepsCounts, NumberingKeepsBounds, CountedHaveSize, LiveAreAssigned, FrameWordsAreOne};
 
 /// Each operation is found by its own name, and by no other.
 pub fn operations_are_named()
@@ -43,12 +43,7 @@ pub fn live_locations_are_assigned()
     ensures { LiveAreAssigned }
 {}
 
-/// A function has one number of frame words, one of entries and one width of them, and a program one number of entries
-/// and one cost.
-pub fn numbers_are_one()
-    ensures words { FrameWordsAreOne }
-    ensures entries { EntryCountsAreOne }
-    ensures width { EntryWidthsAreOne }
-    ensures sum { EntriesAreOne }
-    ensures cost { CostsAreOne }
+/// A function has one number of frame words.
+pub fn frame_words_are_one()
+    ensures { FrameWordsAreOne }
 {}

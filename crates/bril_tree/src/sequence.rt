@@ -29,6 +29,13 @@ impl<T> Seq<T> {
         }
     }
 
+    /// The list of a vector's items, in order. Takes no memory.
+    pub fn of_items(items: Vec<T>) -> Seq<T>
+        ensures { result ≡ items.items }
+    {
+        Seq { held: items }
+    }
+
     /// The items, first to last, to be taken one by one. Takes no memory.
     pub fn into_items(self) -> Vec<T>
         ensures { result.items ≡ self }

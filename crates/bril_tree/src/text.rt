@@ -4,6 +4,7 @@ ghost use Rattle.std.specs.Prelude.{◌≡◌, IfOk};
 ghost use Rattle.std.specs.Str.{IsUtf8};
 
 use std::alloc::{AllocError, Global};
+use std::convert::AsStr;
 use std::marker::Model;
 
 /// UTF-8 text.
@@ -44,5 +45,13 @@ impl Text {
         ensures utf8 { IsUtf8 result.now }
     {
         self.held.as_str().as_bytes()
+    }
+}
+
+impl AsStr for Text {
+    ghost text = { λ t. t };
+
+    fn as_str(&self) -> &str {
+        Text::as_str(self)
     }
 }

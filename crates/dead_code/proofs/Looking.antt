@@ -11,18 +11,20 @@ use Rattle.bril_tree.specs.Membership.{In}
 use Rattle.bril_tree.specs.Numbered.{nop}
 use Rattle.bril_tree.specs.Operand.{Location, reads_of}
 use Rattle.bril_tree.proofs.Members.{in_contains, contains_in}
-use Rattle.definite_assignment.specs.Location.{number_of}
-use Rattle.graph_search.specs.Path.{IsReached as IsFound}
+use Rattle.flow_graph.specs.Location.{number_of}
+use Rattle.graph_search.specs.Path.{IsReached as IsFound, other_than}
 use Rattle.graph_search.specs.declared.graph.Arc.{Arc}
 use Rattle.live_sets.specs.Arcs.{AreBackArcs}
-use Rattle.live_sets.specs.Reads.{Accesses, reads_from}
-use Rattle.live_sets.specs.declared.accesses.Access.{Access}
+use Rattle.flow_graph.specs.Accesses.{Accesses}
+use Rattle.flow_graph.specs.Reads.{reads_from}
+use Rattle.flow_graph.specs.declared.reads.Access.{Access}
 use Rattle.live_sets.proofs.Law.{AreReaders}
-use Rattle.live_sets.proofs.ReadLists.{readers_are, reads-inside}
+use Rattle.live_sets.proofs.Readers.{readers_are}
+use Rattle.flow_graph.proofs.ReadLists.{reads-inside}
 use Rattle.pass_plan.proofs.Elements.{all_in, in_all}
 use Rattle.dead_code.specs.Work.{IsLookedAt, IsReadBy, IsSearched, IsSound, IsWork, Queues, Unqueues, assignments_from, is_marked, reads_left, remaining}
 use Rattle.dead_code.proofs.Clearing.{is_assignment, removable, settled}
-use Rattle.dead_code.proofs.Marks.{with_nops-alive, with_nops-dead}
+use Rattle.pass_plan.proofs.Marked.{with_nops-alive, with_nops-dead}
 use Rattle.dead_code.proofs.Searching.{found-live, live-found}
 use Rattle.dead_code.proofs.Working.{remaining-chain, more, fewer-reads, more-work, more-searched}
 
@@ -60,12 +62,12 @@ module _ (code : List Instr) (dead : List Bool) (list : List Access) (reads : li
         only : (p : ℕ) → Contains alive p → (item : Instr) × (slice_get (remaining code dead) p ≡ Some item) × Contains (reads_of item) x
         only p c = let l = (living p).0 c in let r = all.only p l.0 in (r.0, with_nops-alive nop dead code p l.1 ∙ r.1, r.2)
 
-    pub searched : (arcs : List Arc) → AreBackArcs code arcs → (seeds found : List ℕ) → seeds ≡ alive → ((p : ℕ) → Contains found p ↔ IsFound arcs seeds number p) → (queued : List Bool) → IsSearched code dead queued number found
+    pub searched : (arcs : List Arc) → AreBackArcs code arcs → (seeds found : List ℕ) → seeds ≡ alive → ((p : ℕ) → Contains found p ↔ IsFound arcs seeds (other_than number) p) → (queued : List Bool) → IsSearched code dead queued number found
     searched arcs are seeds found same search queued = record {
       live = λ x is off p reached c.
-          found-live code (remaining code dead) (remaining-chain code dead sound) arcs are x alive (alive-readers x is) p (subst (λ n. IsFound arcs alive n p) (sym is) (subst (λ s. IsFound arcs s number p) same ((search p).0 c))) reached;
+          found-live code (remaining code dead) (remaining-chain code dead sound) arcs are x alive (alive-readers x is) p (subst (λ n. IsFound arcs alive (other_than n) p) (sym is) (subst (λ s. IsFound arcs s (other_than number) p) same ((search p).0 c))) reached;
       not_live = λ x is p reached away live.
-          away ((search p).1 (subst (λ s. IsFound arcs s number p) (sym same) (subst (λ n. IsFound arcs alive n p) is (live-found code (remaining code dead) (remaining-chain code dead sound) arcs are x alive (alive-readers x is) p reached live))));
+          away ((search p).1 (subst (λ s. IsFound arcs s (other_than number) p) (sym same) (subst (λ n. IsFound arcs alive (other_than n) p) is (live-found code (remaining code dead) (remaining-chain code dead sound) arcs are x alive (alive-readers x is) p reached live))));
     }
 
 -- ---- one item
@@ -123,12 +125,3 @@ looked-at code dead queue queued number found items list same exact all w s = re
 -- the items of a location are assignments
 pub items-assign : (code : List Instr) (number : ℕ) (items : List ℕ) (list : List Access) → list ≡ assignments_from 0 code → ((item : ℕ) → Contains items item ↔ Accesses list number item) → All (Accesses (assignments_from 0 code) number) items
 items-assign code number items list same exact = in_all (Accesses (assignments_from 0 code) number) items (λ k i. subst (λ l. Accesses l number k) same ((exact k).0 (contains_in k items i)))
-
--- the location that is taken off the queue is the exception
-pub taken-off : (code : List Instr) (dead : List Bool) (queue shorter : List ℕ) (queued marked : List Bool) (number : ℕ) → IsWork code dead queue queued (λ n. ⊥) → Unqueues number queue shorter queued marked → IsWork code dead shorter marked (λ n. n ≡ number)
-taken-off code dead queue shorter queued marked number w u = record {
-  sound = w.sound;
-  none_idle = w.none_idle;
-  are = u.are;
-  settled = λ x inside off free. w.settled x (subst (λ n. number_of x < n) u.long inside) (sym (u.others (number_of x) free) ∙ off) (λ e. e);
-}

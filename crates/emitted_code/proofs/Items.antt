@@ -7,7 +7,7 @@ use Rattle.std.proofs.lemmas.List.Elements.{recursion_from_All}
 use Rattle.simulation.specs.Simulation.{Star}
 use Rattle.simulation.specs.System.{Agree}
 use Rattle.bril_tree.specs.declared.limits.End.{End}
-use Rattle.bril_tree.specs.Cost.{longest_arguments}
+use Rattle.program_numbers.specs.Cost.{longest_arguments}
 use Rattle.bril_tree.specs.FunctionForm.{listed}
 use Rattle.bril_tree.specs.State as bril
 use Rattle.bril_tree.proofs.Elements.{All-at}

@@ -13,7 +13,7 @@ use Rattle.bril_tree.specs.Operators.{binary_operation, unary_operation}
 use Rattle.bril_tree.specs.Outcome.{Yields, FaultsWith, HasEffect, block_of, char_from, computed, divided, fits_32, int_of, is_scalar, moved, offset_of}
 use Rattle.bril_tree.specs.State.{Locals}
 use Rattle.bril_tree.specs.Value.{IsInRange, word_of}
-use Rattle.bril_tree.proofs.Outcomes.{char_from-yields, divided-yields, moved-yields}
+use Rattle.bril_tree.proofs.Outcomes.{div-never_acts, int2char-never_acts, ptradd-never_acts}
 use Rattle.rv64_sequences.specs.Operations.{binary_size, unary_size}
 use Rattle.rv64_values.specs.Operands.{BinarySuits, UnarySuits}
 use Rattle.emitted_code.proofs.Ready.{BinaryFinds, UnaryFinds}
@@ -106,11 +106,11 @@ yields_clash u e = cc
 pub unary_computes : (operation : UnaryOp) (a : Value) → computed (unary_operation operation) None a a ≡ HasEffect → ⊥
 unary_computes unary.Not a e = yields_clash _ e
 unary_computes unary.CharToInt a e = yields_clash _ e
-unary_computes unary.IntToChar a e = char_from-yields (int_of a) e
+unary_computes unary.IntToChar a e = int2char-never_acts None a a e
 
 pub binary_computes : (operation : BinaryOp) (a b : Value) → computed (binary_operation operation) None a b ≡ HasEffect → ⊥
-binary_computes binary.Div a b e = divided-yields _ _ _ e
-binary_computes binary.PtrAdd a b e = moved-yields (block_of a) (offset_of a +ℤ int_of b) e
+binary_computes binary.Div a b e = div-never_acts None a b e
+binary_computes binary.PtrAdd a b e = ptradd-never_acts None a b e
 binary_computes _ a b e = yields_clash _ e
 
 -- ---- how many words they have

@@ -10,8 +10,8 @@ use Rattle.bril_tree.specs.declared.operation.Op.{Op}
 use Rattle.bril_tree.specs.declared.operation.Op.TheVariants as op
 use Rattle.bril_tree.specs.declared.program.Prog.{Prog}
 use Rattle.bril_tree.specs.declared.types.Ty.{Ty}
-use Rattle.bril_tree.specs.Cost.{item_passes, longest_in, longest_arguments}
-use Rattle.bril_tree.specs.ProgramNumbers.{greatest}
+use Rattle.program_numbers.specs.Cost.{item_passes, longest_in, longest_arguments}
+use Rattle.program_numbers.specs.ProgramNumbers.{greatest}
 use Rattle.bril_tree.specs.Run.{state_after}
 use Rattle.bril_tree.specs.State.{Frame}
 use Rattle.bril_tree.specs.Typing.{return_type}

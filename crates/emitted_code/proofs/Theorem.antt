@@ -4,7 +4,7 @@ use Rattle.bril_tree.specs.declared.limits.Limits.{Limits}
 use Rattle.bril_tree.specs.declared.program.Prog.{Prog}
 use Rattle.bril_tree.specs.declared.value.Value.{Value}
 use Rattle.bril_tree.specs.Accepted.{IsAccepted}
-use Rattle.bril_tree.specs.Cost.{longest_arguments}
+use Rattle.program_numbers.specs.Cost.{longest_arguments}
 use Rattle.bril_tree.specs.Literals.{AreLiteralsInRange}
 use Rattle.bril_tree.specs.Run.{FitMain}
 use Rattle.rv64_implements.specs.Implements.{Implements, ImplementsAt}

@@ -91,9 +91,10 @@ all_pass : {A : Type 0} (test : A → Bool) (xs : List A) → length xs ≤ pref
 all_pass test [] h = refl
 all_pass test (x ∷ xs) h = all_pass_more test x xs (cases_Bool (test x)) h (λ l. all_pass test xs l)
 
-not_none : (returns : Bool) (items : List Instr) → shape_fault_of returns items ≡ None → list_all (is_shaped returns) items ≡ true
-not_none returns items h =
+-- each item has the shape of its operation
+pub all_shaped : (returns : Bool) (items : List Instr) → shape_fault_of returns items ≡ None → list_all (is_shaped returns) items ≡ true
+all_shaped returns items h =
     all_pass (is_shaped returns) items (at_none (position_or_len (λ item. not (is_shaped returns item)) items) (length items) (cases_Bool _) h)
 
 pub code_labelled : (returns : Bool) (m : ℕ) (code : List Instr) → shape_fault_of returns code ≡ None → list_all (λ l. ltb l m) (flat_map targets_of code) ≡ true → All (HasLabels m) code
-code_labelled returns m code s t = all_labelled returns m code (not_none returns code s) t
+code_labelled returns m code s t = all_labelled returns m code (all_shaped returns code s) t

@@ -1,11 +1,14 @@
+pub mod AccessRows
 pub mod BranchRows
 pub mod Failing
 pub mod FirstWalks
 pub mod GraphEdges
 pub mod Listed
+pub mod Locations
 pub mod OpenSites
 pub mod Order
 pub mod PointEdges
+pub mod ReadLists
 pub mod Searching
 pub mod Told
 pub mod Turns

@@ -1,9 +1,9 @@
 -- Edges, and those that go to a point.
-use Rattle.std.proofs.Common.{◌≡◌, ℕ, suc, ◌+◌, ◌<◌, ◌≤◌, true, false, cond, eqb, List, [], ◌∷◌, ◌++◌, length, get_or, set, take, drop, replicate, Option, Some, None, refl, sym, ap, ◌∙◌, subst, inl, inr, arith, append-nil, append_assoc, length-set}
+use Rattle.std.proofs.Common.{◌≡◌, ℕ, suc, ◌+◌, ◌<◌, ◌≤◌, true, false, cond, eqb, List, [], ◌∷◌, ◌++◌, length, get_or, set, take, drop, Option, Some, None, refl, sym, ap, ◌∙◌, subst, inl, inr, arith, append-nil, append_assoc, length-set}
 use Rattle.std.specs.Prelude.{◌⊎◌, slice_get}
 use Rattle.std.specs.List.{All}
 use Rattle.std.proofs.lemmas.Bool.{cases_eq, eq-eqb, ne_eqb, cond-true, cond-false}
-use Rattle.std.proofs.lemmas.List.{drop_more, take_more, length-replicate, get_or-replicate}
+use Rattle.std.proofs.lemmas.List.{drop_more, take_more}
 use Rattle.std.proofs.lemmas.List.Elements.{filter-append, All-nil, All-cons}
 use Rattle.std.proofs.lemmas.Option.{slice_get-get_or, get_or_from_slice_get}
 use Rattle.bril_tree.specs.declared.numbered.Instr.{Instr}
@@ -64,12 +64,6 @@ edges_inside code sites edges many is m =
     all_in (λ e. e.to < many) edges (λ e i. omega (arith, inside_from code 0 sites e (subst (λ es. In e es) is i)))
 
 -- ---- the edges that go to a point
-
-pub none_yet : (many : ℕ) (preds : List (List Edge)) → preds ≡ replicate many [] → ArePreds many [] preds
-none_yet many preds is = record {
-  points = ap length is ∙ length-replicate many [];
-  at = λ p h. ap (λ ps. slice_get ps p) is ∙ slice_get-get_or (replicate many []) p [] (let l = length-replicate {A = List Edge} many [] in omega arith) ∙ ap (λ es. Some es) (get_or-replicate many p [] [] h);
-}
 
 same_point : (many : ℕ) (before : List Edge) (e : Edge) (preds : List (List Edge)) → ArePreds many before preds → e.to < many → (p : ℕ) → p < many → (p ≡ e.to) ⊎ (p ≡ e.to → ⊥) → slice_get (set preds e.to (get_or preds e.to [] ++ e ∷ [])) p ≡ Some (edges_to p before ++ cond (eqb e.to p) (e ∷ []) [])
 same_point many before e preds are inside p h (inl same) =

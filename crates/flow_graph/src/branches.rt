@@ -18,7 +18,8 @@ pub struct Branch {
     pub aborts: bool,
 }
 
-/// The branches from a point: the next point before a label, and of two labels the first one first.
+/// The branches from a point: none from a `ret` and from the function's end; the next point before a label, and of two
+/// labels the first one first.
 #[derive(Clone, Copy, Drop)]
 pub enum Branches {
     Nowhere,
@@ -39,14 +40,15 @@ pub fn all_branches(
 {
     let mut rows = Vec::new(alloc);
     for (point, item) in code.iter().enumerate() {
-        rows.push(branches_of_item(points, item, point as u32))?;
+        rows.push(branches_of(points, item, point as u32))?;
     }
     rows.push(Branches::Nowhere)?;
     Ok(rows)
 }
 
-// The branches from an item at a point.
-fn branches_of_item(points: &[u32], item: &Instr, point: u32) -> Branches
+/// The branches from an item at a point of a function, to each point to which control can go from there. `points` has the
+/// point of each of the function's labels, as `Func::label_points` gives them. Takes no memory.
+pub fn branches_of(points: &[u32], item: &Instr, point: u32) -> Branches
     requires labelled { HasLabels (length points.now) item.now }
     requires few { point + 1 < 2 ^ 32 }
     ensures { (code : List Instr) → IsLabelTable code points.now → branches_of result ≡ item_branches code point item.now }

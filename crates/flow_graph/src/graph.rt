@@ -74,6 +74,21 @@ impl Graph {
         Graph::drawn(alloc, func.code.as_slice(), rows.as_slice())
     }
 
+    /// The flow graph of a function whose items have the shapes of their operations and whose open sites fail at no point,
+    /// as in an accepted program. An error means that there is no memory.
+    pub fn of_sound(alloc: Global, func: &Func) -> Result<Graph, AllocError>
+        requires shaped { shape_fault_of (is_some func.now.ret) func.now.code ≡ None }
+        requires few { length func.now.code < 2 ^ 32 - 1 }
+        requires sound { AreSitesSound func.now.code }
+        ensures { IfOk result (λ graph. IsGraphOf func.now.code graph) }
+    {
+        match Graph::of(alloc, func) {
+            Ok(graph) => Ok(graph),
+            Err(GraphFault::Memory) => Err(AllocError),
+            Err(GraphFault::Nest { .. }) => unreachable!(),
+        }
+    }
+
     // The flow graph of these items, of which `rows` are the branches from each point.
     pub(crate) fn drawn(
         alloc: Global,

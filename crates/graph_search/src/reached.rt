@@ -1,9 +1,10 @@
 // A table of reached, and the search that makes them.
 
-ghost use Rattle.std.specs.Prelude.{◌≡◌, ◌≢◌, ◌<◌, ◌≤◌, ◌↔◌, ◌⊎◌, ℕ, IsTrue, Some, [], length, slice_index, IfOk, OnOk};
+ghost use Rattle.std.specs.Prelude.{◌≡◌, ◌≢◌, ◌<◌, ◌≤◌, ◌↔◌, ◌⊎◌, ℕ, IsTrue, true, [], length, slice_index, IfOk, OnOk};
 ghost use Rattle.std.specs.List.{All, AllPairs, Contains};
 ghost use Rattle.graph_search.specs.Path.{IsReached, Leads};
 
+use crate::gate::Gate;
 use crate::graph::{Arc, ArcGraph};
 use std::alloc::{AllocError, Global};
 use std::marker::Model;
@@ -73,20 +74,25 @@ impl Reached {
         self.found.as_slice()
     }
 
-    /// Finds the nodes that paths reach from the seeds over arcs whose label isn't `barred`; what was found before is
+    /// Finds the nodes that paths reach from the seeds over arcs that the gate opens; what was found before is
     /// forgotten. After an error, for want of memory, nothing is told of what was found.
-    pub fn search(&mut self, graph: &ArcGraph, seeds: &[u32], barred: u32) -> Result<(), AllocError>
+    pub fn search<G: Gate>(
+        &mut self,
+        graph: &ArcGraph,
+        seeds: &[u32],
+        gate: &G,
+    ) -> Result<(), AllocError>
         requires nodes { self.old.nodes ≡ graph.now.nodes }
         requires seeds { All (λ seed. seed < graph.now.nodes) seeds.now }
         ensures nodes { self.new.nodes ≡ self.old.nodes }
         ensures found { OnOk result ((node : ℕ) →
-            Contains self.new.found node ↔ IsReached graph.now.arcs seeds.now barred node) }
+            Contains self.new.found node ↔ IsReached graph.now.arcs seeds.now (G.opens gate.now) node) }
     {
         self.restart();
         for seed in seeds {
             let first = self.found.len();
             self.visit(*seed)?;
-            self.drain(graph, first, barred)?;
+            self.drain(graph, first, gate)?;
         }
         Ok(())
     }
@@ -113,47 +119,52 @@ impl Reached {
         Ok(())
     }
 
-    // Adds the node to which the arc goes, unless the arc has the label.
-    fn cross(&mut self, arc: Arc, barred: u32) -> Result<(), AllocError>
+    // Adds the node to which the arc goes, where the gate opens it.
+    fn cross<G: Gate>(&mut self, arc: Arc, gate: &G) -> Result<(), AllocError>
         requires { arc.to < self.old.nodes }
         ensures nodes { self.new.nodes ≡ self.old.nodes }
-        ensures found { OnOk result (VisitsAll (λ node. (arc.to ≡ node) × (arc.label ≢ Some barred)) self.old.found self.new.found) }
+        ensures found { OnOk result (VisitsAll (λ node. (arc.to ≡ node) × (G.opens gate.now arc ≡ true)) self.old.found self.new.found) }
     {
-        if arc.label == Some(barred) {
+        if !gate.is_open(arc) {
             return Ok(());
         }
         self.visit(arc.to)
     }
 
     // Adds the nodes to which arcs lead from this one.
-    fn visit_next(&mut self, graph: &ArcGraph, node: u32, barred: u32) -> Result<(), AllocError>
+    fn visit_next<G: Gate>(
+        &mut self,
+        graph: &ArcGraph,
+        node: u32,
+        gate: &G,
+    ) -> Result<(), AllocError>
         requires nodes { self.old.nodes ≡ graph.now.nodes }
         requires node { node < self.old.nodes }
         ensures nodes { self.new.nodes ≡ self.old.nodes }
-        ensures found { OnOk result (VisitsAll (Leads graph.now.arcs barred node) self.old.found self.new.found) }
+        ensures found { OnOk result (VisitsAll (Leads graph.now.arcs (G.opens gate.now) node) self.old.found self.new.found) }
     {
         let mut end = graph.adjacency.end(node);
         while end > 0 {
             let place = end - 1;
-            self.cross(graph.arcs[place as usize], barred)?;
+            self.cross(graph.arcs[place as usize], gate)?;
             end = graph.adjacency.before(place);
         }
         Ok(())
     }
 
     // Adds all that arcs lead to from the nodes at `first` and behind it, and from those that are added.
-    fn drain(&mut self, graph: &ArcGraph, first: usize, barred: u32) -> Result<(), AllocError>
+    fn drain<G: Gate>(&mut self, graph: &ArcGraph, first: usize, gate: &G) -> Result<(), AllocError>
         requires nodes { self.old.nodes ≡ graph.now.nodes }
         requires first { first ≤ length self.old.found }
-        requires closed { (k : ℕ) → k < first → (node : ℕ) → Leads graph.now.arcs barred (slice_index self.old.found k) node → Contains self.old.found node }
+        requires closed { (k : ℕ) → k < first → (node : ℕ) → Leads graph.now.arcs (G.opens gate.now) (slice_index self.old.found k) node → Contains self.old.found node }
         ensures nodes { self.new.nodes ≡ self.old.nodes }
         ensures found { OnOk result ((node : ℕ) →
-            Contains self.new.found node ↔ IsReached graph.now.arcs self.old.found barred node) }
+            Contains self.new.found node ↔ IsReached graph.now.arcs self.old.found (G.opens gate.now) node) }
     {
         let mut next = first;
         while next < self.found.len() {
             let node = self.found[next];
-            self.visit_next(graph, node, barred)?;
+            self.visit_next(graph, node, gate)?;
             next += 1;
         }
         Ok(())

@@ -1,10 +1,6 @@
 -- What `check` asks of the numbering of a tree that a pass made: so many functions.
-use Rattle.std.proofs.Common.{◌*◌, ◌<◌, ◌≤◌, List, [], ◌∷◌, length, All, arith}
-use Rattle.std.specs.List.{sum_by}
+use Rattle.std.proofs.Common.{◌<◌, length, arith}
 use Rattle.std.proofs.lemmas.List.{length-map}
-use Rattle.std.proofs.lemmas.List.Elements.{All-head, All-tail}
-use Rattle.std.proofs.lemmas.List.Sums.{sum_by-cons}
-use Rattle.bril_tree.specs.declared.numbered_function.Func.{Func}
 use Rattle.bril_tree.specs.declared.program.Prog.{Prog}
 use Rattle.bril_tree.specs.declared.tree.Tree.{Tree}
 use Rattle.bril_tree.specs.Numbered.{tree_of, Numbered, function_tree, names_of_functions}
@@ -13,15 +9,6 @@ use Rattle.bril_tree.proofs.Elements.{zip-long}
 use Rattle.bril_tree.proofs.Sizes.{functions_numbered}
 use Rattle.bril_names.specs.Faults.{function_names, IsSoundEdit}
 use Rattle.pass_make.specs.CanBeMade.{CanBeMade}
-
--- so many functions of so many items have less than 2^64 items
-pub sum-counted : (xs : List Func) → All (λ (f : Func). length f.code < 4294967295) xs → sum_by (λ (f : Func). length f.code) xs ≤ 4294967294 * length xs
-sum-counted [] h = omega arith
-sum-counted (x ∷ xs) h =
-    let first = All-head (λ (f : Func). length f.code < 4294967295) x xs h in
-    let rest = sum-counted xs (All-tail (λ (f : Func). length f.code < 4294967295) x xs h) in
-    let e = sum_by-cons (λ (f : Func). length f.code) x xs in
-    omega arith
 
 -- a made tree has as many functions as the program that it is made of
 pub functions_bounded : (P : Prog) (t : Tree) (q : Prog) → CanBeMade P t → Numbered t q → IsCounted P → length q.funcs < 4294967296

@@ -25,7 +25,7 @@ use Rattle.pass_law.specs.Bounds.{IsTooLarge}
 use Rattle.pass_law.specs.Meaning.{Link}
 use Rattle.bril_profile.specs.declared.profile.Profile.{Profile}
 use Rattle.pass_make.specs.CanBeMade.{CanBeMade}
-use Rattle.pass_make.proofs.Bounds.{sum-counted}
+use Rattle.bril_tree.proofs.Sizes.{sum-counted}
 use Rattle.pass_pad.specs.Pad.{pad_meaning}
 use Rattle.pass_pad.specs.Padded.{padded_function, padded_tree, IsPadded, padded_size, PaddedAt}
 use Rattle.pass_pad.proofs.Accepted.{padded-accepted}

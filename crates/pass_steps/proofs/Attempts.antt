@@ -22,7 +22,7 @@ use Rattle.bril_tree.specs.Shape.{shape_of}
 use Rattle.bril_tree.specs.State.{Locals, Frame, Block, State}
 use Rattle.bril_tree.specs.Step.{assigned, shadowed, faulted, acts, by_outcome, item_step, loads, loads_held}
 use Rattle.bril_tree.specs.Value.{literal_value}
-use Rattle.bril_tree.proofs.Outcomes.{divided-yields, char_from-yields, moved-yields, GoesOn, giver-goes_on}
+use Rattle.bril_tree.proofs.Outcomes.{div-never_acts, int2char-never_acts, ptradd-never_acts, GoesOn, giver-goes_on}
 use Rattle.bril_tree.proofs.Shapes.{shape-parts}
 use Rattle.pass_plan.specs.Plan.{ValuesMatch, StaysMatched, ActionsMatch, ItemsMatch}
 use Rattle.pass_plan.proofs.Outcomes.{action-same}
@@ -120,9 +120,9 @@ module _ (A : Location → Location → Type 0) (P Q : Prog) (limits : Limits) (
         (agree-shadowed A A p q agree (slice_index args 0) (slice_index result_args 0) v r.kept))
     row op.Get r = absurd (get-gives p d (length args) (length fns) (length ls) r.shaped.shaped r.acts)
     row op.Undef r = absurd (undef-gives P r.shaped.f d s args fns ls r.shaped.shaped r.shaped.typed r.acts)
-    row op.Div r = absurd (divided-yields _ _ _ r.acts)
-    row op.IntToChar r = absurd (char_from-yields (int_of (argument p args 0)) r.acts)
-    row op.PtrAdd r = absurd (moved-yields (block_of (argument p args 0)) (offset_of (argument p args 0) +ℤ int_of (argument p args 1)) r.acts)
+    row op.Div r = absurd (div-never_acts s (argument p args 0) (argument p args 1) r.acts)
+    row op.IntToChar r = absurd (int2char-never_acts s (argument p args 0) (argument p args 1) r.acts)
+    row op.PtrAdd r = absurd (ptradd-never_acts s (argument p args 0) (argument p args 1) r.acts)
     row op.Nop r = let h = r.attempted in absurd (cc)
     row op.Jmp r = let h = r.attempted in absurd (cc)
     row op.Br r = let h = r.attempted in absurd (cc)

@@ -39,7 +39,7 @@ use Rattle.flow_graph.proofs.Told.{some_site}
 use Rattle.pass_plan.specs.Plan.{Plan, ValuesMatch, HoldsKnown, Writes, StaysMatched, ActionsMatch, EdgesMatch, StepsMatch, Preserves, SavesMatch, ContentsMatch, FramesMatch, CallersMatch, StacksMatch, StatesMatch}
 use Rattle.bril_tree.proofs.Elements.{in_index}
 use Rattle.bril_tree.proofs.Shapes.{no_dest, dest_none, HasShape, shape-parts}
-use Rattle.bril_tree.proofs.Outcomes.{divided-yields, char_from-yields, moved-yields, GoesOn, giver-goes_on}
+use Rattle.bril_tree.proofs.Outcomes.{div-never_acts, int2char-never_acts, ptradd-never_acts, GoesOn, giver-goes_on}
 use Rattle.pass_plan.proofs.Values.{holds-assigned, holds-shadowed, read-agree, agree-none, agree-assigned, agree-shadowed, reads-agree, read_at-agree}
 use Rattle.pass_plan.proofs.Outcomes.{action-same}
 use Rattle.pass_steps.proofs.Shapes.{zip_map-at, Shaped, shaped_here, get-gives, undef-gives, writes-gives}
@@ -418,9 +418,6 @@ module _ (m : Plan) (P Q : Prog) (limits : Limits) (accepted : IsAccepted P) (pr
     T' : State
     T' = state gs' blocks printed None y
 
-    called-item : Option Instr
-    called-item = Some (Act w.call.dest w.call.ty op.Call w.call.args w.call.funcs w.call.labels)
-
     reached : IsReached (code_of P caller.function) caller.point
     reached = record { walk = contents'.walk; is = contents'.is; ends = contents'.ends }
 
@@ -477,8 +474,8 @@ module _ (m : Plan) (P Q : Prog) (limits : Limits) (accepted : IsAccepted P) (pr
       ended-alike : (b : Bool) → R (ends P limits b (state (F ∷ []) blocks printed None x)) (ends Q limits b (state (G ∷ []) blocks printed None y))
       ended-alike true = matches F G [] [] blocks printed (Some (Faulted fault.Leak)) x y framed tt
       ended-alike false = matches F G [] [] blocks printed (Some Ended) x y framed tt
-  returns-alike k F G ek framed [] (g ∷ gs) w blocks printed x y v v' s = absurd w
-  returns-alike k F G ek framed (f ∷ fs) [] w blocks printed x y v v' s = absurd w
+  returns-alike k F G ek _ [] (g ∷ gs) w blocks printed x y v v' s = absurd w
+  returns-alike k F G ek _ (f ∷ fs) [] w blocks printed x y v v' s = absurd w
   returns-alike k F G ek framed (f ∷ fs) (g ∷ gs) w blocks printed x y v v' s =
       let e = same_function f g w.0.frames.function in
       subst (λ h. R (gives P limits (awaited P limits (item_at P f.function f.point)) v f fs (state (F ∷ f ∷ fs) blocks printed None x)) (gives Q limits (awaited Q limits (item_at Q h.function h.point)) v' h gs (state (G ∷ g ∷ gs) blocks printed None y))) (sym e)
@@ -573,9 +570,9 @@ module _ (m : Plan) (P Q : Prog) (limits : Limits) (accepted : IsAccepted P) (pr
       row op.Guard r = row-guard k i j p q ps qs contents regular fs gs callers blocks printed x y d e s t args result_args fns gns ls ms r
       row op.Get r = absurd (get-gives p d (length args) (length fns) (length ls) r.shaped.shaped r.acts)
       row op.Undef r = absurd (undef-gives P r.shaped.f d s args fns ls r.shaped.shaped r.shaped.typed r.acts)
-      row op.Div r = absurd (divided-yields _ _ _ r.acts)
-      row op.IntToChar r = absurd (char_from-yields (int_of (argument p args 0)) r.acts)
-      row op.PtrAdd r = absurd (moved-yields (block_of (argument p args 0)) (offset_of (argument p args 0) +ℤ int_of (argument p args 1)) r.acts)
+      row op.Div r = absurd (div-never_acts s (argument p args 0) (argument p args 1) r.acts)
+      row op.IntToChar r = absurd (int2char-never_acts s (argument p args 0) (argument p args 1) r.acts)
+      row op.PtrAdd r = absurd (ptradd-never_acts s (argument p args 0) (argument p args 1) r.acts)
       row _ r = let h = r.acts in absurd (cc)
 
       -- by what the operation gives on the first side

@@ -6,7 +6,7 @@ use Rattle.std.proofs.lemmas.Option.{slice_get_within, slice_get_past}
 use Rattle.bril_tree.specs.declared.numbered_function.Func.{Func}
 use Rattle.bril_tree.specs.declared.program.Prog.{Prog}
 use Rattle.bril_tree.specs.FrameWords.{AreFrameWords}
-use Rattle.bril_tree.specs.ProgramNumbers.{IsLargestFrame}
+use Rattle.program_numbers.specs.ProgramNumbers.{IsLargestFrame}
 use Rattle.bril_tree.proofs.Elements.{get_in, get_inside, in_get}
 use Rattle.bril_tree.proofs.Measures.{AreFrameWords-one}
 use Rattle.bril_tree.proofs.Members.{contains_in, in_contains}

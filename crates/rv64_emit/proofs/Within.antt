@@ -10,7 +10,7 @@ use Rattle.bril_tree.specs.declared.operation.Op.{Op}
 use Rattle.bril_tree.specs.declared.operation.Op.TheVariants as op
 use Rattle.bril_tree.specs.declared.program.Prog.{Prog}
 use Rattle.bril_tree.specs.FrameWords.{location_count}
-use Rattle.bril_tree.specs.ProgramNumbers.{IsLargestFrame}
+use Rattle.program_numbers.specs.ProgramNumbers.{IsLargestFrame}
 use Rattle.bril_tree.proofs.Elements.{zip-get, zip-long, get_inside, get_in, passes_in}
 use Rattle.rv64_implements.specs.WordBounds.{operation_bound, word_bound, word_bounds, IsStackSize, IsWithin}
 use Rattle.slot_code.specs.declared.slots.SlotFunction.{SlotFunction}

@@ -2,7 +2,7 @@
 
 ghost use Rattle.std.specs.Prelude.{◌≡◌, ◌≢◌, ◌+◌, ◌*◌, ◌≤◌, ◌<◌, ℕ, List, Some, IsTrue, IfOk, IfErr, length, slice_get};
 ghost use Rattle.bril_tree.specs.declared.numbered_function.Func.{Func};
-ghost use Rattle.bril_tree.specs.ProgramNumbers.{IsLargestFrame};
+ghost use Rattle.program_numbers.specs.ProgramNumbers.{IsLargestFrame};
 ghost use Rattle.std.specs.List.{list_all};
 ghost use Rattle.rv64_emit.specs.Bounds as bounds;
 ghost use Rattle.rv64_emit.specs.Bounds.{is_told_item, AreLocationsKnown, bound_with, locations_at};

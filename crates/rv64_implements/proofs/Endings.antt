@@ -7,10 +7,10 @@ use Rattle.bril_tree.specs.declared.limits.End.{End}
 use Rattle.bril_tree.specs.declared.limits.Limits.{Limits}
 use Rattle.bril_tree.specs.declared.program.Prog.{Prog}
 use Rattle.bril_tree.specs.declared.value.Value.{Value}
-use Rattle.bril_tree.specs.Cost.{IsCost}
+use Rattle.program_numbers.specs.Cost.{IsCost}
 use Rattle.bril_tree.specs.Operand.{Location}
 use Rattle.bril_tree.specs.Run.{state_after}
-use Rattle.bril_tree.proofs.Measures.{IsCost-one}
+use Rattle.program_numbers.proofs.Measures.{IsCost-one}
 use Rattle.rv64_words.specs.declared.image.Image.{Image}
 use Rattle.rv64_words.specs.State.{State, Stop, Finished, start}
 use Rattle.rv64_implements.specs.Home.{Home}

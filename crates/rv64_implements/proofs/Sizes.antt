@@ -3,7 +3,7 @@ use Rattle.std.proofs.Common.{◌≡◌, ℕ, ◌*◌, ◌<◌, ap, sym, ◌∙�
 use Rattle.bril_tree.specs.declared.limits.Limits.{Limits}
 use Rattle.bril_tree.specs.declared.program.Prog.{Prog}
 use Rattle.bril_tree.specs.FrameWords.{AreFrameWords}
-use Rattle.bril_tree.proofs.Measures.{IsGreatest-one}
+use Rattle.program_numbers.proofs.Measures.{IsGreatest-one}
 use Rattle.rv64_implements.specs.WordBounds.{IsStackSize, IsWithin, most_stack}
 
 pub IsStackSize-one : (p : Prog) (limits : Limits) (m n : ℕ) → IsStackSize p limits m → IsStackSize p limits n → m ≡ n

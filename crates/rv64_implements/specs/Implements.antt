@@ -10,7 +10,7 @@ use Rattle.bril_tree.specs.declared.operation.Op.{Op}
 use Rattle.bril_tree.specs.declared.operation.Op.TheVariants as op
 use Rattle.bril_tree.specs.declared.program.Prog.{Prog}
 use Rattle.bril_tree.specs.declared.value.Value.{Value}
-use Rattle.bril_tree.specs.Cost.{IsCost}
+use Rattle.program_numbers.specs.Cost.{IsCost}
 use Rattle.bril_tree.specs.Live.{IsLive}
 use Rattle.bril_tree.specs.Locals.{location_value}
 use Rattle.bril_tree.specs.Operand.{Location}

@@ -5,7 +5,7 @@ use Rattle.bril_tree.specs.declared.limits.End.{End}
 use Rattle.bril_tree.specs.declared.limits.Limits.{Limits}
 use Rattle.bril_tree.specs.declared.program.Prog.{Prog}
 use Rattle.bril_tree.specs.declared.value.Value.{Value}
-use Rattle.bril_tree.specs.Cost.{IsCost}
+use Rattle.program_numbers.specs.Cost.{IsCost}
 use Rattle.bril_tree.specs.Run.{FitMain, state_after}
 use Rattle.rv64_words.specs.declared.image.Image.{Image}
 use Rattle.rv64_words.specs.State.{Stop, Finished}

@@ -9,7 +9,7 @@ use Rattle.bril_tree.specs.declared.operation.Op.{Op}
 use Rattle.bril_tree.specs.declared.operation.Op.TheVariants as op
 use Rattle.bril_tree.specs.declared.program.Prog.{Prog}
 use Rattle.bril_tree.specs.FrameWords.{location_count}
-use Rattle.bril_tree.specs.ProgramNumbers.{IsLargestFrame}
+use Rattle.program_numbers.specs.ProgramNumbers.{IsLargestFrame}
 
 -- ---- words
 

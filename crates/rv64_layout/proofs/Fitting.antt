@@ -17,11 +17,12 @@ use Rattle.bril_tree.specs.declared.types.Ty.{Ty}
 use Rattle.bril_tree.specs.Accepted.{IsAccepted}
 use Rattle.bril_tree.specs.FrameWords.{AreFrameWords, location_count}
 use Rattle.bril_tree.specs.Literals.{AreLiteralsInRange, IsLiteralInRange}
-use Rattle.bril_tree.specs.ProgramNumbers.{greatest, IsLargestFrame}
+use Rattle.program_numbers.specs.ProgramNumbers.{greatest, IsLargestFrame}
 use Rattle.bril_tree.specs.Sites.{sites_of}
 use Rattle.bril_tree.specs.Value.{IsInRange, zero_at, zero_of_base}
 use Rattle.bril_tree.proofs.Elements.{All-at, get_in, get_inside, in_get, zip-get, zip-long}
-use Rattle.bril_tree.proofs.Measures.{AreFrameWords-one, IsGreatest-one}
+use Rattle.bril_tree.proofs.Measures.{AreFrameWords-one}
+use Rattle.program_numbers.proofs.Measures.{IsGreatest-one}
 use Rattle.bril_tree.proofs.Members.{contains_in, in_contains}
 use Rattle.flow_graph.specs.Graph.{GraphView}
 use Rattle.rv64_implements.specs.WordBounds.{operation_bound, word_bound, function_bound, IsWithin}

@@ -1,7 +1,7 @@
 -- The image of code over slots: where its items begin, its words, its guards and its stack.
 use Rattle.std.specs.Prelude.{◌≡◌, ℕ, zero, suc, ◌+◌, ◌-◌, ◌*◌, List, [], ◌∷◌, ◌++◌, length, map, Option, Some, None, slice_get, slice_index, pos}
 use Rattle.bril_tree.specs.declared.limits.Limits.{Limits}
-use Rattle.bril_tree.specs.ProgramNumbers.{greatest}
+use Rattle.program_numbers.specs.ProgramNumbers.{greatest}
 use Rattle.rv64_words.specs.declared.image.GuardAt.{GuardAt}
 use Rattle.rv64_words.specs.declared.image.Image.{Image}
 use Rattle.rv64_words.specs.declared.word.Word.{Word}

@@ -14,10 +14,6 @@ after-add_one step n s = let e : n + 1 ≡ suc n = omega arith in ap (λ k. afte
 -- what a loop that makes one step in each turn wants
 pub ruleset stepping = (after-suc, after-add_one)
 
--- one more step at the start
-pub after-step : {S : Type 0} (step : S → S) (n : ℕ) (s : S) → after step (n + 1) s ≡ after step n (step s)
-after-step step n s = let e : n + 1 ≡ suc n = omega arith in ap (λ k. after step k s) e
-
 pub after-add : {S : Type 0} (step : S → S) (n m : ℕ) (s : S) → after step (n + m) s ≡ after step m (after step n s)
 after-add step zero m s = let e : zero + m ≡ m = omega arith in ap (λ k. after step k s) e
 after-add step (suc n) m s = let e : suc n + m ≡ suc (n + m) = omega arith in ap (λ k. after step k s) e ∙ after-add step n m (step s)
@@ -40,9 +36,6 @@ Agree-final P Q s t a f = subst IsFinal a.0 f
 
 pub Agree-final_back : {E S T : Type 0} (P : System E S) (Q : System E T) (s : S) (t : T) → Agree P Q s t → IsFinal (Q.ending t) → IsFinal (P.ending s)
 Agree-final_back P Q s t a f = subst IsFinal (sym a.0) f
-
-pub Agree-sym : {E S T : Type 0} (P : System E S) (Q : System E T) (s : S) (t : T) → Agree P Q s t → Agree Q P t s
-Agree-sym P Q s t a = (sym a.0, sym a.1)
 
 pub Agree-trans : {E S T U : Type 0} (P : System E S) (Q : System E T) (O : System E U) (s : S) (t : T) (u : U) → Agree P Q s t → Agree Q O t u → Agree P O s u
 Agree-trans P Q O s t u a b = (a.0 ∙ b.0, a.1 ∙ b.1)

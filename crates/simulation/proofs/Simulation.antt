@@ -1,5 +1,5 @@
 -- A simulation refines: the steps of both systems are cut into chunks, between which the states are related.
-use Rattle.std.proofs.Common.{◌≡◌, ℕ, zero, suc, ◌+◌, ◌-◌, ◌*◌, ◌≤◌, ◌<◌, None, refl, sym, ap, ◌∙◌, subst, ⊎_elim, arith, zero-le, mul-le-mul_left, mul-le-mul_right, le_trans}
+use Rattle.std.proofs.Common.{◌≡◌, ℕ, zero, suc, ◌+◌, ◌-◌, ◌*◌, ◌≤◌, ◌<◌, None, refl, sym, ap, ◌∙◌, subst, ⊎_elim, arith, zero-le, mul-le-mul_left}
 use Rattle.std.proofs.lemmas.Bool.{cases_lt}
 use Rattle.simulation.specs.System.{System, after, IsFinal, IsPrefix, IsSystem, Agree}
 use Rattle.simulation.specs.Refinement.{Follows}
@@ -210,25 +210,3 @@ Simulation-from_star P Q R c distance drift = record {
 
 pub Follows-from_star : {E S T : Type 0} (P : System E S) (Q : System E T) (R : S → T → Type 0) → IsSystem P → IsSystem Q → (c : ℕ) (distance : S → ℕ) → Star P Q c distance R → (s : S) (t : T) → R s t → Follows P Q c s t
 Follows-from_star P Q R soundP soundQ c distance drift = Follows-from_simulation P Q R soundP soundQ c (Simulation-from_star P Q R c distance drift)
-
--- a larger bound serves too
-pub Simulation-weaker : {E S T : Type 0} (P : System E S) (Q : System E T) (R : S → T → Type 0) (k j : ℕ) → k ≤ j → Simulation P Q k R → Simulation P Q j R
-Simulation-weaker P Q R k j h sim = record {
-  agrees = sim.agrees;
-  chunk = λ s t r runs.
-      let a = sim.chunk s t r runs in
-      record {
-        early = a.early;
-        moves = a.moves;
-        within = le_trans a.within (mul-le-mul_right (suc a.early) h);
-        quiet = a.quiet;
-        running = a.running;
-        again = a.again;
-      };
-}
-
-pub Plus-weaker : {E S T : Type 0} (P : System E S) (Q : System E T) (R : S → T → Type 0) (c d : ℕ) → c ≤ d → Plus P Q c R → Plus P Q d R
-Plus-weaker P Q R c d h lock = record {
-  agrees = lock.agrees;
-  moves = λ s t r runs. let m = lock.moves s t r runs in (m.0, le_trans m.1 h, m.2);
-}

@@ -1,5 +1,5 @@
 -- In a star simulation, and so in a plus one, there is a state of Q beside each state of P.
-use Rattle.std.proofs.Common.{◌≡◌, ℕ, zero, suc, ◌+◌, ◌-◌, ◌*◌, ◌≤◌, ◌<◌, None, sym, ◌∙◌, subst, inr, ⊎_elim, arith, le_refl, le_trans, mul-le-mul_right}
+use Rattle.std.proofs.Common.{◌≡◌, ℕ, zero, suc, ◌+◌, ◌-◌, ◌*◌, ◌≤◌, ◌<◌, None, sym, ◌∙◌, subst, inr, ⊎_elim, arith, le_refl, le_trans}
 use Rattle.std.proofs.lemmas.Bool.{cases_lt}
 use Rattle.simulation.specs.System.{System, after, IsFinal, IsPrefix, IsSystem, Agree}
 use Rattle.simulation.specs.Refinement.{Follows}
@@ -119,15 +119,3 @@ Star-from_plus P Q R c plus = record { agrees = plus.agrees; moves = λ s t r ru
 
 pub Tracks-from_plus : {E S T : Type 0} (P : System E S) (Q : System E T) (R : S → T → Type 0) → IsSystem P → IsSystem Q → (c : ℕ) → Plus P Q c R → (s : S) (t : T) (lead : ℕ) → lead ≤ c → R s (after Q.step lead t) → Tracks P Q c R s t
 Tracks-from_plus P Q R soundP soundQ c plus s t lead early start = Tracks-from_star P Q R soundP soundQ c (λ s. 0) (Star-from_plus P Q R c plus) s t lead early start
-
--- a larger bound and a weaker relation serve too
-pub Tracks-weaker : {E S T : Type 0} (P : System E S) (Q : System E T) (R W : S → T → Type 0) (c d : ℕ) (s : S) (t : T) → c ≤ d → ((x : S) (y : T) → R x y → W x y) → Tracks P Q c R s t → Tracks P Q d W s t
-Tracks-weaker P Q R W c d s t h weaker tracks = record {
-  count = tracks.count;
-  bounded = λ n. le_trans (tracks.bounded n) (mul-le-mul_right (n + 1) h);
-  rising = tracks.rising;
-  related = λ n. weaker (after P.step n s) (after Q.step (tracks.count n) t) (tracks.related n);
-  agrees = tracks.agrees;
-  ends_only = tracks.ends_only;
-  prints_only = tracks.prints_only;
-}

@@ -7,7 +7,7 @@ use Rattle.graph_search.proofs.Visiting.{kept}
 use Rattle.graph_search.proofs.reached.Reached.drain.Goals as goal
 
 pub loop-next-preserved : goal.loop-next-preserved
-loop-next-preserved c =
+loop-next-preserved g c =
     let arcs = c.args.graph.now.arcs in
     let inv = c.loop-next.invariant in
     let found = c.loop-next.self.found in
@@ -22,15 +22,15 @@ loop-next-preserved c =
     record {
       nodes = c.in_ok-visit_next.ensures.nodes ∙ inv.nodes;
       next = let grown : length new ≡ length found + length v.rest = ap length v.grew ∙ length-append found v.rest in omega arith;
-      closed = closed_more arcs c.args.barred next node found new low' here inv.closed v;
-      reached = reached_more arcs c.args.self.now.found c.args.barred node found new (next, low', get_or_default found next node 0 low' ∙ here) v inv.reached;
-      kept = λ n h. kept (Leads arcs c.args.barred node) found new v n (inv.kept n h);
+      closed = closed_more arcs (g.G.Gate.opens c.args.gate.now) next node found new low' here inv.closed v;
+      reached = reached_more arcs c.args.self.now.found (g.G.Gate.opens c.args.gate.now) node found new (next, low', get_or_default found next node 0 low' ∙ here) v inv.reached;
+      kept = λ n h. kept (Leads arcs (g.G.Gate.opens c.args.gate.now) node) found new v n (inv.kept n h);
     }
 
 pub returns-clause-found : goal.returns-clause-found
-returns-clause-found c =
+returns-clause-found g c =
     let inv = c.loop-next.invariant in
     let view : c.self.inside.found.items ≡ c.loop-next.self.found = ap (λ v. v.found) c.self.view_is in
     let short' : length c.self.inside.found.items ≤ c.loop-next.next = search rules in
     let short : length c.loop-next.self.found ≤ c.loop-next.next = rw view at short' in
-    λ n. (inv.reached n, all_found c.args.graph.now.arcs c.args.self.now.found c.args.barred c.loop-next.next c.loop-next.self.found short inv.closed inv.kept n)
+    λ n. (inv.reached n, all_found c.args.graph.now.arcs c.args.self.now.found (g.G.Gate.opens c.args.gate.now) c.loop-next.next c.loop-next.self.found short inv.closed inv.kept n)

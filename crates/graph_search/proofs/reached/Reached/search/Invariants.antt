@@ -5,7 +5,7 @@ use Rattle.graph_search.proofs.reached.Reached.search.Given as goal
 
 -- what paths from the seeds so far reach was found
 abbrev pub invariant-loop-seed : goal.invariant-loop-seed
-invariant-loop-seed l = record {
+invariant-loop-seed g l = record {
   nodes : l.self.nodes ≡ l.fn.self.nodes;
-  found : (node : ℕ) → Contains l.self.found node ↔ IsReached l.graph.arcs (take l.seed-index l.seeds) l.barred node;
+  found : (node : ℕ) → Contains l.self.found node ↔ IsReached l.graph.arcs (take l.seed-index l.seeds) (g.G.Gate.opens l.gate) node;
 }

@@ -6,7 +6,7 @@ use Rattle.graph_search.proofs.Visiting.{Goes, Goes-none, Goes-more, VisitsAll-n
 use Rattle.graph_search.proofs.reached.Reached.visit_next.Goals as goal
 
 pub loop-end-init : goal.loop-end-init
-loop-end-init c =
+loop-end-init g c =
     let arcs = c.args.graph.now.arcs in
     let same : c.graph.inside.arcs.items ≡ arcs = ap (λ v. v.arcs) c.graph.view_is in
     let keys : c.graph.inside.adjacency.keys ≡ map (λ a. a.from) arcs = c.graph.invariant.0 ∙ ap (map (λ a. a.from)) same in
@@ -14,14 +14,14 @@ loop-end-init c =
     rw length-map at (subst (λ ks. EndsRow ks c.args.node (length ks) c.end-end.result) keys c.end-end.ensures) in
     record {
       nodes = refl;
-      visited = VisitsAll-none (Goes arcs c.args.barred c.args.node c.end-end.result) c.args.self.now.found (Goes-none arcs c.args.barred c.args.node c.end-end.result row);
+      visited = VisitsAll-none (Goes arcs (g.G.Gate.opens c.args.gate.now) c.args.node c.end-end.result) c.args.self.now.found (Goes-none arcs (g.G.Gate.opens c.args.gate.now) c.args.node c.end-end.result row);
       bound = length arcs;
       within = omega arith;
       row = row;
     }
 
 pub loop-end-preserved : goal.loop-end-preserved
-loop-end-preserved c =
+loop-end-preserved g c =
     let arcs = c.args.graph.now.arcs in
     let inv = c.loop-end.invariant in
     let place = c.loop-end.end - 1 in
@@ -37,8 +37,8 @@ loop-end-preserved c =
     let short = inv.within in
     record {
       nodes = c.in_ok-cross.ensures.nodes ∙ inv.nodes;
-      visited = Goes-more arcs c.args.barred c.args.node c.loop-end.end place c.before-end.result inv.bound c.index.result.now c.args.self.now.found c.loop-end.self.found c.cross.new.self.found
-          here inv.within there inv.row rest inv.visited c.in_ok-cross.ensures.found;
+      visited = Goes-more arcs (g.G.Gate.opens c.args.gate.now) c.args.node c.loop-end.end place c.before-end.result inv.bound c.index.result.now here inv.within there inv.row rest
+          c.args.self.now.found c.loop-end.self.found c.cross.new.self.found inv.visited c.in_ok-cross.ensures.found;
       bound = place;
       within = omega arith;
       row = rest;

@@ -1,6 +1,0 @@
-use Rattle.std.proofs.Common.{◌≡◌, ◌++◌, drop}
-use Rattle.definite_assignment.specs.Reads.{reads_from}
-use Rattle.definite_assignment.proofs.reads.all_reads.Given as goal
-
-abbrev pub invariant-loop-item : goal.invariant-loop-item
-invariant-loop-item l = l.reads.items ++ reads_from l.item (drop l.item l.code) ≡ reads_from 0 l.code

@@ -1,0 +1,4 @@
+pub mod Cost
+pub mod Entries
+pub mod Laws
+pub mod ProgramNumbers
