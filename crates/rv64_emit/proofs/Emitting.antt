@@ -17,7 +17,7 @@ use Rattle.rv64_layout.specs.Image.{joined, start_at, head_words, function_words
 use Rattle.rv64_layout.proofs.Bounding.{image_bounded, function_made}
 use Rattle.rv64_layout.proofs.Fitting.{item_fits, largest_is}
 use Rattle.rv64_layout.proofs.Laid.{functions_length}
-use Rattle.emitted_code.proofs.Theorem.{implements}
+use Rattle.rv64_emit_laws.proofs.Theorem.{implements}
 use Rattle.rv64_emit.specs.Tables.{SlotsFit}
 
 -- what is said of an image

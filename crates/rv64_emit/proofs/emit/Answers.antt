@@ -17,9 +17,10 @@ ready c =
     let literals = subst AreLiteralsInRange c.prog.ensures.value c.literals_are_in_range.ensures in
     let counted = subst IsCounted c.prog.ensures.value c.prog.ensures.counted in
     let lowered = c.in_ok-slots.ensures {u = tt} in
-    let stack = c.in_ok-stack.ensures {u = tt} in
-    (slots_fit p c.in_ok-slots.slots c.args.limits accepted literals lowered.code stack.within counted,
-    stack_is p c.in_ok-slots.slots c.args.limits accepted literals lowered.code stack.within c.in_ok-stack.stack stack.stack)
+    let stack = c.in_ok-stack.ensures {u = tt} in (
+      slots_fit p c.in_ok-slots.slots c.args.limits accepted literals lowered.code stack.within counted,
+      stack_is p c.in_ok-slots.slots c.args.limits accepted literals lowered.code stack.within c.in_ok-stack.stack stack.stack,
+    )
 
 -- what is said of the image that was made
 made : (c : goal.After-drop-slots-2) → IsEmitted c.args.prog.now.prog c.args.limits c.in_ok-image_of.field-0
