@@ -6,3 +6,4 @@ pub mod Law
 pub mod Lowering
 pub mod Turned
 pub mod Branches
+pub mod Windows

@@ -7,7 +7,7 @@ use Rattle.graph_search.specs.Path.{IsReached, Leads}
 use Rattle.graph_search.specs.Sets.{Spreads, has_bit, is_pending, seeds_of}
 use Rattle.graph_search.specs.declared.graph.Arc.{Arc}
 use Rattle.graph_search.specs.declared.reached_sets.Seed.{Seed}
-use Rattle.graph_search.proofs.Bits.{no-bits}
+use Rattle.graph_search.proofs.WordBits.{no-bits}
 use Rattle.graph_search.proofs.Paths.{reached_seed, reached_step, reached_all}
 
 module _ (arcs : List Arc) (opens : ℕ → Arc → Bool) (seeds : List Seed) where
