@@ -7,3 +7,4 @@ pub mod Lowering
 pub mod Turned
 pub mod Branches
 pub mod Windows
+pub mod Starts

@@ -8,11 +8,11 @@ use Rattle.definite_assignment.specs.Reads.{Lowers}
 use Rattle.definite_assignment.specs.Window.{window_of}
 
 -- the condition may be another that is met by the same reads
-pub Lowers-same : (reads : List Access) (P Q : Access → Type 0) (first least : ℕ) → ((r : Access) → P r → Q r) → ((r : Access) → Q r → P r) → Lowers reads P first least → Lowers reads Q first least
+pub Lowers-same : (reads : List Access) (P Q : Access → Type 0) (first least : ℕ) → ((r : Access) → P r → Q r) → ((k : ℕ) (r : Access) → slice_get reads k ≡ Some r → Q r → P r) → Lowers reads P first least → Lowers reads Q first least
 Lowers-same reads P Q first least p q low = record {
   within = low.within;
   met = ⊎_elim inl (λ h. inr (h.0, h.1, p h.0 h.2)) low.met;
-  none = λ k read below e h. low.none k read below e (q read h);
+  none = λ k read below e h. low.none k read below e (q k read e h);
 }
 
 pub Lowers-none : (reads : List Access) (P : Access → Type 0) (first : ℕ) → ((k : ℕ) (r : Access) → slice_get reads k ≡ Some r → ¬ P r) → Lowers reads P first first

@@ -3,7 +3,8 @@ use Rattle.std.proofs.Common.{◌≡◌, ◌≢◌, ◌↔◌, ℕ, ◌+◌, ◌
 use Rattle.std.specs.Prelude.{slice_get}
 use Rattle.std.specs.Option.{option_map}
 use Rattle.std.proofs.lemmas.List.{length-map}
-use Rattle.std.proofs.lemmas.Option.{slice_get-map}
+use Rattle.std.specs.List.{All}
+use Rattle.std.proofs.lemmas.Option.{slice_get-map, slice_get_within, get_or_from_slice_get}
 use Rattle.flow_graph.specs.Accesses.{locations_of}
 use Rattle.flow_graph.specs.declared.reads.Access.{Access}
 use Rattle.flow_graph.proofs.AccessRows.{RowDone, location-of}
@@ -62,3 +63,9 @@ module _ (list reads : List Access) (same : list ≡ map windowed reads) (window
   -- the read at the row's end is one of the window
   pub read-of-window : (bound k : ℕ) → EndsRow (locations_of list) window bound end → k + 1 ≡ end → (read : Access) → slice_get reads k ≡ Some read → window_of read.location ≡ window
   read-of-window bound k row here read e = sym (location-of list k (windowed read) (listed-at k read e)) ∙ row.stands k here
+
+  -- windows of reads are below a bound of all
+  pub window-below : (bound : ℕ) → All (λ access. access.location < bound) list → (k : ℕ) (read : Access) → slice_get reads k ≡ Some read → window_of read.location < bound
+  window-below bound all k read e =
+      let at = listed-at k read e in
+      subst (λ (a : Access). a.location < bound) (get_or_from_slice_get list k (windowed read) (windowed read) at) (all k (windowed read) (slice_get_within list k (windowed read) at))

@@ -42,4 +42,15 @@ loop-end-preserved c =
     }
 
 pub returns : goal.returns
-returns c = ?
+returns c =
+    let self = c.args.self.now in
+    let inv = c.loop-end.invariant in
+    let past = c.loop-end-test.false in
+    record {
+      within = inv.below;
+      met = inv.met;
+      none = λ k read low e h.
+          let least : c.loop-end.least ≤ k =
+          all-of-window self.rows.list self.reads.items self.rows_are c.args.window c.loop-end.end (λ j r. IsFound self.args c.args.sets.now.words r → c.loop-end.least ≤ j) (omega arith) inv.done k read e h.0 h.1 in
+          absurd (omega arith);
+    }
