@@ -1,4 +1,4 @@
-use Rattle.std.proofs.Common.{◌≡◌, ◌≢◌, ◌<◌, List, ℕ, Some, length, get_or, ap, ◌∙◌, subst, arith, rules}
+use Rattle.std.proofs.Common.{◌≡◌, ◌≢◌, ◌<◌, List, ℕ, Some, length, sym, ap, ◌∙◌, subst, arith, rules}
 use Rattle.std.specs.Prelude.{slice_get, is_some}
 use Rattle.std.proofs.lemmas.Option.{slice_get-get_or}
 use Rattle.bril_tree.specs.declared.numbered_function.Func.{Func}
@@ -42,7 +42,7 @@ returns c =
     let within = is.within in
     let short : first ≢ length reads = search rules in
     let low : first < length reads = omega (arith, ap length same) in
-    let read = get_or reads first (record { item = 0; location = 0 }) in
+    let read = c.index-read.result.now in
     let at : slice_get (reads_from 0 f.code) first ≡ Some read =
-    subst (λ l. slice_get l first ≡ Some read) same (slice_get-get_or reads first (record { item = 0; location = 0 }) low) in
+    subst (λ l. slice_get l first ≡ Some read) same (slice_get-get_or reads first read low ∙ ap Some (sym c.index-read.ensures)) in
     first-unassigned f graph first read g is at

@@ -9,7 +9,7 @@ use Rattle.graph_search.proofs.Paths.{reached_seed}
 use Rattle.definite_assignment.proofs.flow.Flow.open_at_start.Goals as goal
 
 pub returns-clause-all : goal.returns-clause-all
-returns-clause-all c = λ n read e is open.
+returns-clause-all c = λ n read e is unassigned.
     let self = c.args.self.now in
     let k = place_of read.location in
     let low : k < 64 = place-low read.location in
@@ -17,8 +17,8 @@ returns-clause-all c = λ n read e is open.
     let seeds = c.in_ok-seeds.seeds.items in
     let back = map turned self.forward.arcs in
     let there : IsReached back (seeds_of k seeds) (other_than read.location) read.item =
-    reached_seed back (seeds_of k seeds) (other_than read.location) read.item (c.in_ok-seeds.ensures.all n read e is open.local) in
-    let start : IsReached back (seeds_of k seeds) (other_than read.location) 0 = turned-reaches self.forward.arcs (seeds_of k seeds) read.location read.item open.reached there in
+    reached_seed back (seeds_of k seeds) (other_than read.location) read.item (c.in_ok-seeds.ensures.all n read e is unassigned.local) in
+    let start : IsReached back (seeds_of k seeds) (other_than read.location) 0 = turned-reaches self.forward.arcs (seeds_of k seeds) read.location read.item unassigned.reached there in
     let past : IsReached back (seeds_of k seeds) (other_than (location_in c.args.window k)) 0 = subst (λ l. IsReached back (seeds_of k seeds) (other_than l) 0) (sym location) start in
     let searched : IsReached self.backward.arcs (seeds_of k c.as_slice.result.now) (other_than (location_in c.args.window k)) 0 =
     subst (λ arcs. IsReached arcs (seeds_of k c.as_slice.result.now) (other_than (location_in c.args.window k)) 0) (sym self.turned)
