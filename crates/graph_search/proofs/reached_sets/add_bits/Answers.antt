@@ -1,4 +1,4 @@
-use Rattle.std.proofs.Common.{◌≡◌, ℕ, ◌+◌, ◌<◌, ◌≤◌, length, set, true, sym, subst, arith}
+use Rattle.std.proofs.Common.{ℕ, ◌+◌, ◌≤◌, set, sym, subst, arith}
 use Rattle.std.specs.Prelude.{slice_index, bit_or}
 use Rattle.graph_search.specs.Sets.{Spreads, room}
 use Rattle.graph_search.proofs.WordBits.{or-grows}

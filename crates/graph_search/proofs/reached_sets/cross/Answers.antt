@@ -1,4 +1,4 @@
-use Rattle.std.proofs.Common.{◌≡◌, ℕ, ◌<◌, true}
+use Rattle.std.proofs.Common.{◌≡◌, true}
 use Rattle.std.specs.Prelude.{bit_and}
 use Rattle.graph_search.specs.Sets.{has_bit}
 use Rattle.graph_search.proofs.WordBits.{and-both, and-each}
