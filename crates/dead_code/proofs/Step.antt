@@ -89,7 +89,7 @@ module _ (code made : List Instr) (p : ℕ) (points : (l : ℕ) → point_of l m
   action-same op.Guard ls = λ i. onward p ∷ aborts ls i
   action-same _ ls = refl
 
-  branches-same : (o : Option Instr) → branches_from made p o ≡ branches_from code p o
+  pub branches-same : (o : Option Instr) → branches_from made p o ≡ branches_from code p o
   branches-same None = refl
   branches-same (Some (Label l)) = refl
   branches-same (Some (Const dest ty value)) = refl

@@ -183,6 +183,7 @@ fn numbers_below(alloc: Global, count: usize) -> Result<Vec<u32>, AllocError>
 impl Work {
     // At first what is idle and what the sweep finds is dead, and each location of a number below the count is to be looked at.
     fn new(alloc: Global, func: &Func, graph: &Graph, count: usize) -> Result<Work, AllocError>
+        requires shaped { shape_fault_of (is_some func.now.ret) func.now.code ≡ None }
         requires few { length func.now.code < 2 ^ 32 - 1 }
         requires graph { IsGraphOf func.now.code graph.now }
         requires count { count ≤ 2 ^ 32 }
