@@ -6,3 +6,5 @@ pub mod Law
 pub mod Lowering
 pub mod Turned
 pub mod Branches
+pub mod Windows
+pub mod Starts

@@ -1,3 +1,4 @@
 pub mod Leaving
 pub mod Reads
 pub mod Unassigned
+pub mod Window

@@ -37,11 +37,10 @@ pub fn first_unassigned(
 {
     let flow = Flow::of(alloc, func, graph)?;
     let first = flow.first_open(alloc)?;
-    let reads = flow.reads.list();
-    if first == reads.len() {
+    if first == flow.reads.len() {
         return Ok(None);
     }
-    let read = reads[first];
+    let read = flow.reads[first];
     Ok(Some(Unassigned {
         item: read.item,
         var: read.location / 2,

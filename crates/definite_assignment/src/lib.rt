@@ -4,5 +4,6 @@
 mod analysis;
 mod arcs;
 mod flow;
+mod window;
 
 pub use analysis::{Unassigned, first_unassigned};

@@ -1,5 +1,5 @@
 -- Words that are being filled with what paths reach.
-use Rattle.std.proofs.Common.{◌≡◌, ◌≢◌, ◌↔◌, ◌⊎◌, ℕ, ◌<◌, List, [], Bool, length, get_or, set, true, false, sym, ap, subst, ◌∙◌, ⊎_elim, get_or-set_other}
+use Rattle.std.proofs.Common.{◌≡◌, ◌↔◌, ℕ, ◌<◌, List, Bool, set, true, false, sym, ap, subst, ◌∙◌, ⊎_elim, get_or-set_other}
 use Rattle.std.specs.Prelude.{slice_index}
 use Rattle.std.specs.List.{Contains}
 use Rattle.std.proofs.lemmas.Bool.{cases_eq}
@@ -7,7 +7,7 @@ use Rattle.graph_search.specs.Path.{IsReached, Leads}
 use Rattle.graph_search.specs.Sets.{Spreads, has_bit, is_pending, seeds_of}
 use Rattle.graph_search.specs.declared.graph.Arc.{Arc}
 use Rattle.graph_search.specs.declared.reached_sets.Seed.{Seed}
-use Rattle.graph_search.proofs.Bits.{no-bits}
+use Rattle.graph_search.proofs.WordBits.{no-bits}
 use Rattle.graph_search.proofs.Paths.{reached_seed, reached_step, reached_all}
 
 module _ (arcs : List Arc) (opens : ℕ → Arc → Bool) (seeds : List Seed) where

@@ -1,5 +1,5 @@
 -- The seeds of each of some searches.
-use Rattle.std.proofs.Common.{◌≡◌, ◌⊎◌, ℕ, zero, suc, ◌+◌, ◌<◌, List, [], ◌∷◌, Bool, true, false, cond, length, map, refl, sym, subst, ◌∙◌, inl, inr, ⊎_elim, arith, true≢false}
+use Rattle.std.proofs.Common.{◌≡◌, ◌⊎◌, ℕ, zero, suc, List, [], ◌∷◌, ◌++◌, Bool, true, cond, map, sym, subst, inl, inr, ⊎_elim, arith}
 use Rattle.std.specs.List.{Contains, filter}
 use Rattle.std.proofs.lemmas.Bool.{cases_Bool}
 use Rattle.graph_search.specs.Sets.{has_bit, seeds_of}
@@ -35,5 +35,18 @@ module _ (seed : Seed) (seeds : List Seed) (n k : ℕ) where
       (λ e. inl (subst (λ b. Contains (with_seed seed seeds k b) n) e h))
       (cases_Bool (has_bit seed.bits k))
 
-pub no-seeds : (k n : ℕ) → Contains (seeds_of k []) n → ⊥
-no-seeds k n h = omega (arith, h.1)
+-- a seed was added behind the others
+pub seeds-kept : (old : List Seed) (seed : Seed) (n k : ℕ) → Contains (seeds_of k old) n → Contains (seeds_of k (old ++ seed ∷ [])) n
+seeds-kept [] seed n k h = absurd (omega (arith, h.1))
+seeds-kept (first ∷ old) seed n k h = ⊎_elim
+    (λ later. seed-later first (old ++ seed ∷ []) n k (seeds-kept old seed n k later))
+    (seed-first first (old ++ seed ∷ []) n k)
+    (seed-cases first old n k h)
+
+pub seeds-pushed : (old : List Seed) (seed : Seed) (n k : ℕ) → (seed.node ≡ n) × (has_bit seed.bits k ≡ true) → Contains (seeds_of k (old ++ seed ∷ [])) n
+seeds-pushed [] seed n k h = seed-first seed [] n k h
+seeds-pushed (first ∷ old) seed n k h = seed-later first (old ++ seed ∷ []) n k (seeds-pushed old seed n k h)
+
+-- one seed alone
+pub alone-only : (seed : Seed) (n k : ℕ) → Contains (seeds_of k (seed ∷ [])) n → seed.node ≡ n
+alone-only seed n k h = ⊎_elim (λ none. absurd (omega (arith, none.1))) (λ is. is.0) (seed-cases seed [] n k h)

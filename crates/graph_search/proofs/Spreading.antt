@@ -1,11 +1,10 @@
 -- How words grow.
-use Rattle.std.proofs.Common.{◌≡◌, ◌≢◌, ◌⊎◌, ℕ, ◌<◌, ◌≤◌, ◌+◌, ◌-◌, ◌^◌, List, Bool, length, get_or, set, true, false, refl, sym, ap, subst, ◌∙◌, inl, inr, ⊎_elim, arith, get_or-set_same, get_or-set_other, true≢false}
+use Rattle.std.proofs.Common.{◌≡◌, ◌≢◌, ◌⊎◌, ℕ, ◌<◌, ◌≤◌, ◌+◌, ◌-◌, ◌^◌, List, Bool, length, set, true, false, refl, sym, ap, subst, ◌∙◌, inl, inr, ⊎_elim, arith, get_or-set_same, get_or-set_other, true≢false}
 use Rattle.std.specs.Prelude.{slice_index, bit_or}
-use Rattle.std.specs.List.{sum_by}
 use Rattle.std.proofs.lemmas.Bool.{cases_eq}
 use Rattle.std.proofs.lemmas.List.Sums.{sum_by-set}
 use Rattle.graph_search.specs.Sets.{Spreads, has_bit, is_pending, room}
-use Rattle.graph_search.proofs.Bits.{or-left, or-right, or-cases}
+use Rattle.graph_search.proofs.WordBits.{or-left, or-right, or-cases}
 
 pub Spreads-none : (P : ℕ → ℕ → Type 0) (words : List ℕ) (marks : List Bool) → ((n k : ℕ) → k < 64 → P n k → has_bit (slice_index words n) k ≡ true) → Spreads P words marks words marks
 Spreads-none P words marks there = record { kept = λ n k h. h; came = λ n k low h. inl h; all = there; same = λ n e. (e, refl) }

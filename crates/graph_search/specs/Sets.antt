@@ -1,5 +1,5 @@
 -- Searches that go on at once: for each node a word, whose bit k tells whether the search with number k reached the node.
-use Rattle.std.specs.Prelude.{◌≡◌, ℕ, ◌<◌, ◌==◌, ◌+◌, ◌⊎◌, ◌-◌, ◌^◌, List, map, Bool, true, false, length, slice_index, slice_index_or}
+use Rattle.std.specs.Prelude.{◌≡◌, ℕ, ◌<◌, ◌==◌, ◌⊎◌, ◌-◌, ◌^◌, List, map, Bool, true, false, length, slice_index, slice_index_or}
 use Rattle.std.specs.Int.{bit_at}
 use Rattle.std.specs.List.{All, Contains, filter, sum_by}
 use Rattle.graph_search.specs.declared.reached_sets.Seed.{Seed}

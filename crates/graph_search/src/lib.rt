@@ -8,6 +8,7 @@
 #![tactic(auto)]
 
 mod adjacency;
+mod bits;
 mod gate;
 mod graph;
 mod pending;
@@ -16,6 +17,7 @@ mod reached_sets;
 mod words;
 
 pub use adjacency::Adjacency;
+pub use bits::{all_bits, all_but, one_bit};
 pub use gate::{Gate, Gates, OtherThan};
 pub use graph::{Arc, ArcGraph};
 pub use reached::Reached;

@@ -5,6 +5,7 @@ ghost use Rattle.std.specs.List.{All, Contains};
 ghost use Rattle.graph_search.specs.Path.{IsReached, Leads};
 ghost use Rattle.graph_search.specs.Sets.{Spreads, has_bit, is_pending, room, seeds_of};
 
+use crate::bits::tests_bit;
 use crate::gate::Gates;
 use crate::graph::{Arc, ArcGraph};
 use crate::pending::Pending;
@@ -153,6 +154,15 @@ impl ReachedSets {
             words: Words::new(alloc, nodes)?,
             pending: Pending::new(alloc, nodes)?,
         })
+    }
+
+    /// Whether the search with number k reached the node. Takes no memory.
+    pub fn is_reached(&self, node: u32, k: u32) -> bool
+        requires node { node < self.now.nodes }
+        requires few { k < 64 }
+        ensures { result ≡ has_bit (slice_index self.now.words node) k }
+    {
+        tests_bit(self.words.get(node), k)
     }
 
     /// The word whose bits are the searches that reached the node. Takes no memory.

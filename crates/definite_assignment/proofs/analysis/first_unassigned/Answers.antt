@@ -1,4 +1,4 @@
-use Rattle.std.proofs.Common.{◌≡◌, ◌≢◌, ◌<◌, List, ℕ, Some, length, get_or, ap, ◌∙◌, subst, arith, rules}
+use Rattle.std.proofs.Common.{◌≡◌, ◌≢◌, ◌<◌, List, ℕ, Some, length, sym, ap, ◌∙◌, subst, arith, rules}
 use Rattle.std.specs.Prelude.{slice_get, is_some}
 use Rattle.std.proofs.lemmas.Option.{slice_get-get_or}
 use Rattle.bril_tree.specs.declared.numbered_function.Func.{Func}
@@ -18,16 +18,16 @@ of-function : (f : Func) (graph : GraphView) (arcs : List Arc) (args : ℕ) (rea
 of-function f graph arcs args reads first a b r is =
     subst (λ l. IsFirstOpen (leaving_arcs f.code graph.edges) f.args l first) r (subst (λ l. IsFirstOpen l f.args reads first) b (subst (λ n. IsFirstOpen arcs n reads first) a is))
 
-pub returns-then-first-reads : goal.returns-then-first-reads
-returns-then-first-reads c =
+pub returns-then-first-len : goal.returns-then-first-len
+returns-then-first-len c =
     let f = c.args.func.now in
     let graph = c.args.graph.now in
     let flow = c.in_ok-flow.flow in
     let first = c.in_ok-first.first in
     let g : IsSoundGraph f.code graph = record { is = c.requires.graph; sound = c.requires.sound; returns = is_some f.ret; shaped = c.requires.shaped } in
-    let is = of-function f graph flow.forward.arcs flow.args flow.reads.list first c.in_ok-flow.ensures.args c.in_ok-flow.ensures.arcs c.in_ok-flow.ensures.reads c.in_ok-first.ensures in
-    let all : first ≡ length c.list-reads.result.now = search rules in
-    none-unassigned f graph first g is (all ∙ ap length (c.list-reads.ensures ∙ c.in_ok-flow.ensures.reads))
+    let is = of-function f graph flow.forward.arcs flow.args flow.reads.items first c.in_ok-flow.ensures.args c.in_ok-flow.ensures.arcs c.in_ok-flow.ensures.reads c.in_ok-first.ensures in
+    let all : first ≡ length flow.reads.items = search rules in
+    none-unassigned f graph first g is (all ∙ ap length c.in_ok-flow.ensures.reads)
 
 pub returns : goal.returns
 returns c =
@@ -35,14 +35,14 @@ returns c =
     let graph = c.args.graph.now in
     let flow = c.in_ok-flow.flow in
     let first = c.in_ok-first.first in
-    let reads = c.list-reads.result.now in
+    let reads = flow.reads.items in
     let g : IsSoundGraph f.code graph = record { is = c.requires.graph; sound = c.requires.sound; returns = is_some f.ret; shaped = c.requires.shaped } in
-    let is = of-function f graph flow.forward.arcs flow.args flow.reads.list first c.in_ok-flow.ensures.args c.in_ok-flow.ensures.arcs c.in_ok-flow.ensures.reads c.in_ok-first.ensures in
-    let same : reads ≡ reads_from 0 f.code = c.list-reads.ensures ∙ c.in_ok-flow.ensures.reads in
+    let is = of-function f graph flow.forward.arcs flow.args flow.reads.items first c.in_ok-flow.ensures.args c.in_ok-flow.ensures.arcs c.in_ok-flow.ensures.reads c.in_ok-first.ensures in
+    let same : reads ≡ reads_from 0 f.code = c.in_ok-flow.ensures.reads in
     let within = is.within in
     let short : first ≢ length reads = search rules in
     let low : first < length reads = omega (arith, ap length same) in
-    let read = get_or reads first (record { item = 0; location = 0 }) in
+    let read = c.index-read.result.now in
     let at : slice_get (reads_from 0 f.code) first ≡ Some read =
-    subst (λ l. slice_get l first ≡ Some read) same (slice_get-get_or reads first (record { item = 0; location = 0 }) low) in
+    subst (λ l. slice_get l first ≡ Some read) same (slice_get-get_or reads first read low ∙ ap Some (sym c.index-read.ensures)) in
     first-unassigned f graph first read g is at

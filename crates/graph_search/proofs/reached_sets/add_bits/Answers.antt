@@ -1,7 +1,7 @@
-use Rattle.std.proofs.Common.{◌≡◌, ℕ, ◌+◌, ◌<◌, ◌≤◌, length, set, true, sym, subst, arith}
+use Rattle.std.proofs.Common.{ℕ, ◌+◌, ◌≤◌, set, sym, subst, arith}
 use Rattle.std.specs.Prelude.{slice_index, bit_or}
 use Rattle.graph_search.specs.Sets.{Spreads, room}
-use Rattle.graph_search.proofs.Bits.{or-grows}
+use Rattle.graph_search.proofs.WordBits.{or-grows}
 use Rattle.graph_search.proofs.Spreading.{At, Spreads-set, Spreads-still, room-less}
 use Rattle.graph_search.proofs.reached_sets.add_bits.Goals as goal
 

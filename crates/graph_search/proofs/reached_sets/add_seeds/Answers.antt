@@ -1,7 +1,7 @@
-use Rattle.std.proofs.Common.{◌≡◌, ℕ, suc, ◌+◌, ◌-◌, ◌<◌, ◌≤◌, List, ◌∷◌, length, drop, get_or, true, sym, ap, subst, ◌∙◌, arith}
+use Rattle.std.proofs.Common.{◌≡◌, suc, ◌-◌, ◌<◌, ◌≤◌, List, ◌∷◌, length, drop, get_or, sym, ap, subst, ◌∙◌, arith}
 use Rattle.std.specs.List.{Contains}
 use Rattle.std.proofs.Math.Seq.{drop-cons}
-use Rattle.graph_search.specs.Sets.{Spreads, has_bit, seeds_of}
+use Rattle.graph_search.specs.Sets.{seeds_of}
 use Rattle.graph_search.specs.declared.reached_sets.Seed.{Seed}
 use Rattle.graph_search.proofs.Seeds.{seed-first, seed-later, seed-cases}
 use Rattle.graph_search.proofs.Spreading.{At, Spreads-then}

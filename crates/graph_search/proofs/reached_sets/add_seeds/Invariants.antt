@@ -1,4 +1,4 @@
-use Rattle.std.proofs.Common.{◌≡◌, ◌≤◌, ℕ, length, drop}
+use Rattle.std.proofs.Common.{◌≡◌, ◌≤◌, length, drop}
 use Rattle.std.specs.List.{Contains}
 use Rattle.graph_search.specs.Sets.{Spreads, seeds_of}
 use Rattle.graph_search.proofs.reached_sets.add_seeds.Given as goal

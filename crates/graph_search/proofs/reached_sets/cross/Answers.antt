@@ -1,7 +1,7 @@
-use Rattle.std.proofs.Common.{◌≡◌, ℕ, ◌<◌, true}
+use Rattle.std.proofs.Common.{◌≡◌, true}
 use Rattle.std.specs.Prelude.{bit_and}
 use Rattle.graph_search.specs.Sets.{has_bit}
-use Rattle.graph_search.proofs.Bits.{and-both, and-each}
+use Rattle.graph_search.proofs.WordBits.{and-both, and-each}
 use Rattle.graph_search.proofs.Spreading.{At, Spreads-as}
 use Rattle.graph_search.proofs.reached_sets.cross.Goals as goal
 

@@ -1,4 +1,4 @@
-use Rattle.std.proofs.Common.{◌≡◌, ◌∙◌, length}
+use Rattle.std.proofs.Common.{◌∙◌}
 use Rattle.graph_search.proofs.Filling.{Filling-first, Filling-next, Filling-last}
 use Rattle.graph_search.proofs.reached_sets.fill.Goals as goal
 

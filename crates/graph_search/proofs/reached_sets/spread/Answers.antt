@@ -1,9 +1,7 @@
-use Rattle.std.proofs.Common.{◌≡◌, ℕ, ◌+◌, ◌-◌, ◌<◌, ◌≤◌, length, map, get_or, true, sym, ap, ◌∙◌, refl, inl, inr, ⊎_elim, subst, arith}
-use Rattle.std.specs.Prelude.{slice_index}
-use Rattle.std.proofs.lemmas.List.{length-map}
-use Rattle.graph_search.specs.Adjacency.{EndsRow}
-use Rattle.graph_search.specs.Sets.{Spreads, has_bit}
+use Rattle.std.proofs.Common.{◌≡◌, ◌+◌, ◌-◌, length, map, get_or, true, sym, ap, ◌∙◌, refl, inl, inr, ⊎_elim, arith}
+use Rattle.graph_search.specs.Sets.{has_bit}
 use Rattle.graph_search.proofs.Spreading.{Spreads-none, Spreads-then}
+use Rattle.graph_search.proofs.ArcRows.{row-all, row-rest}
 use Rattle.graph_search.proofs.Visiting.{Goes, Goes-none, goes-later, goes-here, goes-split}
 use Rattle.graph_search.proofs.reached_sets.spread.Goals as goal
 
@@ -15,8 +13,7 @@ loop-end-init g c =
     let marks = c.args.pending.now.marks in
     let same : c.graph.inside.arcs.items ≡ arcs = ap (λ v. v.arcs) c.graph.view_is in
     let keys : c.graph.inside.adjacency.keys ≡ map (λ a. a.from) arcs = c.graph.invariant.0 ∙ ap (map (λ a. a.from)) same in
-    let row : EndsRow (map (λ a. a.from) arcs) c.args.node (length arcs) c.end-end.result =
-    rw length-map at (subst (λ ks. EndsRow ks c.args.node (length ks) c.end-end.result) keys c.end-end.ensures) in
+    let row = row-all arcs c.graph.inside.adjacency.keys keys c.args.node c.end-end.result c.end-end.ensures in
     record {
       words = refl;
       nodes = c.requires.nodes;
@@ -40,10 +37,7 @@ loop-end-preserved g c =
     let here : place + 1 ≡ c.loop-end.end = let positive = c.loop-end-test.true in omega arith in
     let same : c.graph.inside.arcs.items ≡ arcs = ap (λ v. v.arcs) c.graph.view_is in
     let keys : c.graph.inside.adjacency.keys ≡ map (λ a. a.from) arcs = c.graph.invariant.0 ∙ ap (map (λ a. a.from)) same in
-    let node : slice_index c.graph.inside.adjacency.keys place ≡ c.args.node = ap (λ ks. slice_index ks place) keys ∙ inv.row.stands place here in
-    let rest : EndsRow (map (λ a. a.from) arcs) c.args.node place c.before-end.result =
-    subst (λ key. EndsRow (map (λ a. a.from) arcs) key place c.before-end.result) node
-    (subst (λ ks. EndsRow ks (slice_index c.graph.inside.adjacency.keys place) place c.before-end.result) keys c.before-end.ensures) in
+    let rest = row-rest arcs c.graph.inside.adjacency.keys keys c.args.node place c.loop-end.end inv.bound c.before-end.result here inv.row c.before-end.ensures in
     let there : get_or arcs place arc ≡ arc = ap (λ xs. get_or xs place arc) (sym same) ∙ sym c.index.ensures in
     record {
       words = c.in_ok-cross.ensures.words ∙ inv.words;

@@ -1,29 +1,46 @@
-use Rattle.std.proofs.Common.{◌≡◌, false, [], ◌∷◌, sym, ap, ◌∙◌, subst}
-use Rattle.std.specs.List.{Contains}
-use Rattle.definite_assignment.specs.Reads.{is_argument}
+use Rattle.std.proofs.Common.{◌≡◌, ℕ, ◌<◌, [], ◌∷◌, true, sym, ap, ◌∙◌, subst}
 use Rattle.definite_assignment.specs.Reads.{IsOpen}
+use Rattle.definite_assignment.specs.Window.{IsFound, location_in, place_of, window_of}
 use Rattle.definite_assignment.proofs.Lowering.{Lowers-none, Lowers-same}
+use Rattle.definite_assignment.proofs.Starts.{start-only, start-there}
+use Rattle.definite_assignment.proofs.Windows.{location-back, place-low}
+use Rattle.flow_graph.specs.declared.reads.Access.{Access}
 use Rattle.graph_search.specs.Path.{IsReached, other_than}
+use Rattle.graph_search.specs.Sets.{has_bit}
+use Rattle.graph_search.proofs.WordBits.{no-bits}
 use Rattle.definite_assignment.proofs.flow.Flow.lowered.Goals as goal
 
-pub returns-then-not-branch-clause-lowered : goal.returns-then-not-branch-clause-lowered
-returns-then-not-branch-clause-lowered c =
+pub returns-then-bits-eq0-clause-lowered : goal.returns-then-bits-eq0-clause-lowered
+returns-then-bits-eq0-clause-lowered c =
     let self = c.args.self.now in
-    Lowers-none self.reads.list (λ read. (read.location ≡ c.args.location) × IsOpen self.forward.arcs self.args read) c.args.first
-    (λ k read e h. c.in_ok-is_read_unassigned.ensures.none c.if-not-branch.true k read e h.0 (subst (λ p. IsReached self.forward.arcs (0 ∷ []) (other_than p) read.item) h.0 h.1.reached))
+    Lowers-none self.reads.items (λ read. (window_of read.location ≡ c.args.window) × IsOpen self.forward.arcs self.args read) c.args.first
+    (λ n read e h. no-bits (place_of read.location) (subst (λ w. has_bit w (place_of read.location) ≡ true) c.if-bits-eq0.true (c.in_ok-bits.ensures.all n read e h.0 h.1)))
 
 pub returns-clause-lowered : goal.returns-clause-lowered
 returns-clause-lowered c =
     let self = c.args.self.now in
-    let location = c.args.location in
-    let local : is_argument self.args location ≡ false = sym c.is_argument_location.ensures ∙ c.if-is_argument_location.false in
-    Lowers-same self.reads.list (λ read. (read.location ≡ location) × Contains c.search.new.self.found read.item) (λ read. (read.location ≡ location) × IsOpen self.forward.arcs self.args read) c.args.first c.first_marked.result
-    (λ read h. (
+    let arcs = self.forward.arcs in
+    let window = c.args.window in
+    let bits = c.in_ok-bits.bits in
+    let words = c.search.new.self.words in
+    let location : (read : Access) → window_of read.location ≡ window → location_in window (place_of read.location) ≡ read.location =
+    λ read is. ap (λ w. location_in w (place_of read.location)) (sym is) ∙ location-back read.location in
+    Lowers-same self.reads.items (λ read. (window_of read.location ≡ window) × IsFound self.args words read) (λ read. (window_of read.location ≡ window) × IsOpen arcs self.args read) c.args.first c.first_found.result
+    (λ read h. let k = place_of read.location in (
       h.0,
       record {
-        local = ap (is_argument self.args) h.0 ∙ local;
-        reached = subst (λ p. IsReached self.forward.arcs (0 ∷ []) (other_than p) read.item) (sym h.0) ((c.in_ok-search.ensures.found read.item).0 h.1);
+        local = h.1.local;
+        reached = subst (λ l. IsReached arcs (0 ∷ []) (other_than l) read.item) (location read h.0)
+            (start-only arcs (other_than (location_in window k)) bits k read.item ((c.in_ok-search.ensures.found read.item k (place-low read.location)).0 h.1.reached));
       },
     ))
-    (λ read h. (h.0, (c.in_ok-search.ensures.found read.item).1 (subst (λ p. IsReached self.forward.arcs (0 ∷ []) (other_than p) read.item) h.0 h.1.reached)))
-    c.first_marked.ensures
+    (λ n read e h. let k = place_of read.location in (
+      h.0,
+      record {
+        local = h.1.local;
+        reached = (c.in_ok-search.ensures.found read.item k (place-low read.location)).1
+            (start-there arcs (other_than (location_in window k)) bits k read.item (c.in_ok-bits.ensures.all n read e h.0 h.1)
+            (subst (λ l. IsReached arcs (0 ∷ []) (other_than l) read.item) (sym (location read h.0)) h.1.reached));
+      },
+    ))
+    c.first_found.ensures

@@ -2,6 +2,7 @@ use Rattle.std.proofs.Common.{◌≡◌, ◌+◌, ◌<◌, map, length, sym, ap,
 use Rattle.std.specs.List.{All}
 use Rattle.std.proofs.lemmas.List.Elements.{All-weaker}
 use Rattle.definite_assignment.specs.Leaving.{leaving_arcs, turned}
+use Rattle.definite_assignment.specs.Window.{windowed}
 use Rattle.definite_assignment.proofs.Bounds.{arcs-between, turned-between}
 use Rattle.flow_graph.specs.Graph.{IsGraphOf}
 use Rattle.flow_graph.specs.Reads.{reads_from}
@@ -30,8 +31,9 @@ pub invariant_of-result : goal.invariant_of-result
 invariant_of-result c =
     let code = c.as_slice-code.result.now in
     let nodes : c.in_ok-forward.forward.nodes ≡ length code + 1 = c.in_ok-forward.ensures.nodes in
-    let list : c.in_ok-reads-2.reads.list ≡ reads_from 0 code = c.in_ok-reads-2.ensures ∙ c.in_ok-reads.ensures in
+    let list : c.in_ok-reads.reads.items ≡ reads_from 0 code = c.in_ok-reads.ensures in
     record {
+      rows_are = c.in_ok-rows.ensures ∙ c.in_ok-windowed.ensures ∙ ap (map windowed) c.as_slice-2.ensures.value;
       items = subst (λ rs. All (λ read. read.item < c.in_ok-forward.forward.nodes) rs) (sym list)
           (All-weaker (λ read. read.item < 0 + length code) (λ read. read.item < c.in_ok-forward.forward.nodes) (λ read low. omega arith) (reads_from 0 code) (reads-inside 0 code));
       turned = c.in_ok-backward.ensures.arcs ∙ c.in_ok-arcs_turned.ensures ∙ ap (map turned) (c.as_slice.ensures.value ∙ sym c.in_ok-forward.ensures.arcs);

@@ -1,4 +1,4 @@
-use Rattle.std.proofs.Common.{◌≡◌, ◌<◌, ◌^◌, sym, subst}
+use Rattle.std.proofs.Common.{◌<◌, ◌^◌, subst}
 use Rattle.std.specs.Prelude.{bit_or}
 use Rattle.std.proofs.lemmas.Nat.{or_lt}
 use Rattle.graph_search.proofs.words.Words.join.Goals as goal

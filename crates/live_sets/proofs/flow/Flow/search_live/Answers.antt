@@ -2,7 +2,7 @@ use Rattle.std.proofs.Common.{◌≡◌, ◌<◌, ℕ, ◌↔◌, ap, sym, subst
 use Rattle.std.specs.List.{All, Contains}
 use Rattle.flow_graph.specs.Accesses.{Accesses}
 use Rattle.flow_graph.proofs.AccessRows.{items-within}
-use Rattle.graph_search.specs.Path.{IsBetween, IsReached, other_than}
+use Rattle.graph_search.specs.Path.{IsBetween, other_than}
 use Rattle.live_sets.proofs.Rows.{found-live, found-within}
 use Rattle.live_sets.proofs.flow.Flow.search_live.Goals as goal
 

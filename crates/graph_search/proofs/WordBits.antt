@@ -1,11 +1,11 @@
 -- Bits of words.
-use Rattle.std.proofs.Common.{◌≡◌, ◌≢◌, ◌⊎◌, ℕ, ◌<◌, ◌≤◌, ◌+◌, min, max, true, false, sym, ◌∙◌, inl, inr, ⊎_elim, arith}
+use Rattle.std.proofs.Common.{◌≡◌, ◌≢◌, ◌⊎◌, ◌↔◌, ℕ, ◌<◌, ◌-◌, ◌^◌, w64, ap, min, max, true, sym, ◌∙◌, inl, inr, ⊎_elim, arith}
 use Rattle.std.specs.Prelude.{◌==◌, bit_or, bit_and}
 use Rattle.std.specs.Int.{bit_at}
 use Rattle.std.proofs.lemmas.Bool.{cases_eq}
 use Rattle.std.proofs.lemmas.Bool.Decides.{nat_tests}
 use Rattle.std.proofs.lemmas.Nat.{le_or_l}
-use Rattle.std.proofs.lemmas.Nat.Bits.{bit_at_or, bit_at_and, bit_at-lt, bit_at-zero}
+use Rattle.std.proofs.lemmas.Nat.Bits.{bit_at_or, bit_at_and, bit_at-lt, bit_at-zero, bit_at-pow_same, bit_at-pow_other, bit_at_not}
 use Rattle.graph_search.specs.Sets.{has_bit}
 
 one-there : (n : ℕ) → (n == 1) ≡ true → n ≡ 1
@@ -64,3 +64,26 @@ and-each a b k h =
 
 pub or-grows : (a b : ℕ) → bit_or a b ≢ a → a < bit_or a b
 or-grows a b other = let more = le_or_l a b in omega arith
+
+-- ---- single bits
+
+pub one-only : (word j k : ℕ) → word ≡ 2 ^ k → (has_bit word j ≡ true) ↔ (j ≡ k)
+one-only word j k e = (
+  λ h. ⊎_elim (λ same. same) (λ ne. absurd (not_one (bit_at (2 ^ k) j) (bit_at-pow_other k j ne) (ap (λ w. bit_at w j) (sym e) ∙ has-one word j h))) (cases_eq j k),
+  λ same. one-has word j (ap (λ w. bit_at w j) e ∙ ap (bit_at (2 ^ k)) same ∙ bit_at-pow_same k),
+)
+  where
+    not_one : (n : ℕ) → n ≡ 0 → n ≡ 1 → ⊥
+    not_one n p q = omega arith
+
+pub not-only : (word j k : ℕ) → word < 2 ^ 64 → j < 64 → (has_bit word j ≡ true) ↔ (j ≡ k) → (has_bit (2 ^ 64 - 1 - word) j ≡ true) ↔ (j ≢ k)
+not-only word j k fits low only = (
+  λ h same. both (bit_at word j) (sym (bit_at_not w64 word j fits low) ∙ has-one (2 ^ 64 - 1 - word) j h) (has-one word j (only.1 same)),
+  λ ne. one-has (2 ^ 64 - 1 - word) j (bit_at_not w64 word j fits low ∙ none (bit_at word j) (bit_at-lt word j) (λ e. ne (only.0 (one-has word j e)))),
+)
+  where
+    both : (n : ℕ) → 1 - n ≡ 1 → n ≡ 1 → ⊥
+    both n p q = omega arith
+
+    none : (n : ℕ) → n < 2 → (n ≡ 1 → ⊥) → 1 - n ≡ 1
+    none n p q = ⊎_elim (λ e. absurd (q e)) (λ e. omega arith) (cases_eq n 1)
