@@ -1,4 +1,5 @@
-// The grammar of Bril's text form: which tree a list of tokens spells, and where its first fault is.
+// Laws alone, and the types that they speak of: the grammar of Bril's text form, which tree a list of tokens spells, and
+// where its first fault is.
 #![tactic(auto)]
 
 pub mod fault;

@@ -17,7 +17,7 @@ use Rattle.bril_text.specs.declared.fault.TextFault.TheVariants as text
 use Rattle.bril_words.specs.declared.misuse.Misuse.{Misuse}
 use Rattle.bril_words.specs.declared.misuse.Misuse.TheVariants.{Words, Value}
 use Rattle.bril_words.specs.declared.misuse.Setting.TheVariants.{Passes, Frames, Cells, Steps}
-use Rattle.bril_report.specs.declared.report.Position.{Position}
+use Rattle.bril_report.specs.declared.report.FaultPlace.{FaultPlace}
 use Rattle.bril_report.specs.declared.status.SourceFault.{SourceFault}
 use Rattle.bril_report.specs.declared.status.SourceFault.TheVariants.{Text, Json}
 
@@ -43,7 +43,7 @@ text_position (text.Deep at) = at
 text_position text.Memory = 0
 
 -- a function and an item by their numbers, where a fault stands in one
-abbrev pub position_of : Option ℕ → Option ℕ → Position
+abbrev pub position_of : Option ℕ → Option ℕ → FaultPlace
 position_of func item = record { func = func; item = item }
 
 -- a number, or `-` for none
@@ -52,11 +52,11 @@ number_or_dash None = codes "-"
 number_or_dash (Some n) = decimal n
 
 -- a position, and what follows it on its line
-abbrev pub position_then : Position → List ℕ → List ℕ
+abbrev pub position_then : FaultPlace → List ℕ → List ℕ
 position_then position rest = number_or_dash position.func ++ codes " item " ++ (number_or_dash position.item ++ rest)
 
 -- the end of a line that tells a position
-abbrev pub position_end : Position → List ℕ
+abbrev pub position_end : FaultPlace → List ℕ
 position_end position = position_then position (codes "\n")
 
 -- the kind of a fault of the JSON, by its number
@@ -68,7 +68,7 @@ json_front (json.Float func item) = codes ": json 4 function "
 json_front (json.Deep func item) = codes ": json 5 function "
 json_front json.Memory = codes ": json 0 function "
 
-abbrev pub json_position : JsonFault → Position
+abbrev pub json_position : JsonFault → FaultPlace
 json_position json.Syntax = position_of None None
 json_position (json.Shape func item) = position_of func item
 json_position (json.IntRange func item) = position_of (Some func) (Some item)
@@ -90,7 +90,7 @@ name_front name.NoMain = codes "name 5 function "
 name_front (name.TwiceArg func) = codes "name 6 function "
 name_front name.Memory = codes "name 0 function "
 
-abbrev pub name_position : NameFault → Position
+abbrev pub name_position : NameFault → FaultPlace
 name_position (name.NoFunction func item) = position_of (Some func) (Some item)
 name_position (name.TwiceFunction func) = position_of (Some func) None
 name_position (name.NoLabel func item) = position_of (Some func) (Some item)

@@ -7,7 +7,7 @@ use Rattle.bril_tree.specs.declared.program.Prog.{Prog}
 use Rattle.bril_checker.specs.declared.fault.CheckFault.{CheckFault}
 use Rattle.bril_checker.specs.declared.fault.CheckFault.TheVariants as check
 use Rattle.bril_names.specs.declared.fault.NameFault.{NameFault}
-use Rattle.bril_report.specs.declared.report.Position.{Position}
+use Rattle.bril_report.specs.declared.report.FaultPlace.{FaultPlace}
 use Rattle.bril_report.specs.declared.status.SourceFault.{SourceFault}
 use Rattle.bril_report.specs.declared.status.SourceFault.TheVariants.{Text, Json}
 use Rattle.bril_report.specs.declared.status.Status.{Status}
@@ -62,7 +62,7 @@ status_line status.CannotWrite path = codes "cannot write\n"
 
 -- ---- the pieces of a line, each for one put
 
-abbrev pub position_pieces : Position → List ℕ → List (List ℕ)
+abbrev pub position_pieces : FaultPlace → List ℕ → List (List ℕ)
 position_pieces position rest = number_or_dash position.func ∷ codes " item " ∷ number_or_dash position.item ∷ rest ∷ []
 
 abbrev pub number_pieces : List ℕ → ℕ → List (List ℕ)

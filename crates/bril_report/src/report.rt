@@ -18,7 +18,7 @@ use itoa::Buffer;
 
 // A function and an item by their numbers, where a fault stands in one.
 #[derive(Clone, Copy, Drop)]
-struct Position {
+struct FaultPlace {
     func: Option<u32>,
     item: Option<u32>,
 }
@@ -252,7 +252,7 @@ fn put_unassigned<E: Sink>(err: &mut E, name: &[u8], func: u32, item: u32) -> Re
 fn put_named<E: Sink>(
     err: &mut E,
     front: &[u8],
-    position: Position,
+    position: FaultPlace,
     rest: &[u8],
     name: &[u8],
 ) -> Result<(), Failed>
@@ -297,7 +297,7 @@ fn put_after<E: Sink>(
     err: &mut E,
     path: &[u8],
     front: &[u8],
-    position: Position,
+    position: FaultPlace,
 ) -> Result<(), Failed>
     ensures { PutsPieces result (E.seen err.old) (path.now ∷ front.now ∷ position_pieces position (codes "\n")) (E.seen err.new) }
 {
@@ -312,7 +312,7 @@ fn put_after<E: Sink>(
 fn put_placed<E: Sink>(
     err: &mut E,
     front: &[u8],
-    position: Position,
+    position: FaultPlace,
     rest: &[u8],
 ) -> Result<(), Failed>
     ensures { PutsPieces result (E.seen err.old) (front.now ∷ position_pieces position rest.now) (E.seen err.new) }
@@ -330,30 +330,30 @@ fn put_placed<E: Sink>(
 }
 
 // The position of an item.
-fn item_position(func: u32, item: u32) -> Position
+fn item_position(func: u32, item: u32) -> FaultPlace
     ensures { result ≡ position_of (Some func) (Some item) }
 {
-    Position {
+    FaultPlace {
         func: Some(func),
         item: Some(item),
     }
 }
 
 // The position of a function.
-fn function_position(func: u32) -> Position
+fn function_position(func: u32) -> FaultPlace
     ensures { result ≡ position_of (Some func) None }
 {
-    Position {
+    FaultPlace {
         func: Some(func),
         item: None,
     }
 }
 
 // The position of what stands in no function.
-fn no_position() -> Position
+fn no_position() -> FaultPlace
     ensures { result ≡ position_of None None }
 {
-    Position {
+    FaultPlace {
         func: None,
         item: None,
     }
@@ -384,13 +384,13 @@ fn json_front(fault: JsonFault) -> &'static [u8]
 }
 
 // The position of a fault of the JSON.
-fn json_position(fault: JsonFault) -> Position
+fn json_position(fault: JsonFault) -> FaultPlace
     ensures { result ≡ json_position fault }
 {
     match fault {
         JsonFault::Shape { func, item }
         | JsonFault::Float { func, item }
-        | JsonFault::Deep { func, item } => Position { func, item },
+        | JsonFault::Deep { func, item } => FaultPlace { func, item },
         JsonFault::IntRange { func, item } => item_position(func, item),
         JsonFault::Syntax | JsonFault::Memory => no_position(),
     }
@@ -412,7 +412,7 @@ fn name_front(fault: NameFault) -> &'static [u8]
 }
 
 // The position of a fault of the names.
-fn name_position(fault: NameFault) -> Position
+fn name_position(fault: NameFault) -> FaultPlace
     ensures { result ≡ name_position fault }
 {
     match fault {

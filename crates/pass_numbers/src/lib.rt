@@ -1,6 +1,6 @@
-//! How the numbers of a program, in which bounds on passes and on machine words are told, change by a pass: its locations,
-//! its longest list of arguments, the depth of its open sites, its entries of labels, and the labels that are entered from one
-//! leave point.
+//! Laws alone: how the numbers of a program, in which bounds on passes and on machine words are told, change by a pass:
+//! its locations, its longest list of arguments, the depth of its open sites, its entries of labels, and the labels that
+//! are entered from one leave point.
 //!
 //! A pass shows of each function how its numbers grow (`FunctionGrows`, in `specs/`), mostly not at all (`FunctionWithin`). Then
 //! so do those of the program, its entries by what all functions get together. `proofs/Items.antt` says of which old items the new

@@ -1,4 +1,4 @@
-//! Systems that make steps, when one of them does what another does, and how that is shown by a
+//! Laws alone: systems that make steps, when one of them does what another does, and how that is shown by a
 //! relation between their states.
 //!
 //! A system has a step, says of a state how it ended or that it runs, and what it has printed. What

@@ -17,7 +17,7 @@ use std::alloc::{AllocError, Global};
 
 /// Where an item stands: the number of its function, and its own.
 #[derive(Clone, Copy, Drop)]
-pub struct Position {
+pub struct ItemNumber {
     pub func: u32,
     pub item: u32,
 }
@@ -45,7 +45,7 @@ pub fn number_items<'t>(
         let Ok(number) = u32::try_from(k) else {
             return Err(NameFault::Memory);
         };
-        let position = Position { func, item: number };
+        let position = ItemNumber { func, item: number };
         code.push(number_item(alloc, functions, labels, vars, position, item)?)?;
     }
     Ok(code)
@@ -57,7 +57,7 @@ fn number_item<'t>(
     functions: &Names<'_>,
     labels: &Names<'_>,
     vars: &mut Variables<'t>,
-    position: Position,
+    position: ItemNumber,
     item: &'t Item,
 ) -> Result<Instr, NameFault>
     requires { HasLabel labels.now item.now }
@@ -67,7 +67,7 @@ fn number_item<'t>(
     ensures fault { IfErr result (λ fault.
         IsLackOf functions.now labels.now position.func position.item item.now fault) }
 {
-    let Position { func, item: number } = position;
+    let ItemNumber { func, item: number } = position;
     match item {
         Item::Label(name) => match labels.find(name.as_bytes()) {
             Some(label) => Ok(Instr::Label(label)),
