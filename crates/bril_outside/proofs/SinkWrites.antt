@@ -162,10 +162,6 @@ PutSome-took {s} {t} {ps} some = record {
 pub TookBy-none : (s : SinkSeen) → TookBy s [] 0 s
 TookBy-none s = record { took = TookAll-none s; times = PutTimes-none s; silent = λ _. refl }
 
--- one put of something
-pub TookBy-one : {s t : SinkSeen} {piece : List ℕ} → piece ≢ [] → TookAll s piece t → PutTimes s 1 t → TookBy s piece 1 t
-TookBy-one some took times = record { took = took; times = times; silent = λ e. absurd (some e) }
-
 -- pieces that are something together
 pub TookBy-pieces : {s t : SinkSeen} {ps : List (List ℕ)} → joined ps ≢ [] → PutAll s ps t → TookBy s (joined ps) (length ps) t
 TookBy-pieces some put = record { took = put.took; times = put.times; silent = λ e. absurd (some e) }
