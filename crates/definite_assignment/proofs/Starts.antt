@@ -4,7 +4,6 @@ use Rattle.std.specs.List.{Contains}
 use Rattle.graph_search.specs.Path.{IsReached}
 use Rattle.graph_search.specs.Sets.{has_bit, seeds_of}
 use Rattle.graph_search.specs.declared.graph.Arc.{Arc}
-use Rattle.graph_search.specs.declared.reached_sets.Seed.{Seed}
 use Rattle.graph_search.proofs.Paths.{reached_seed, reached_step, reached_all}
 use Rattle.graph_search.proofs.Seeds.{alone-only, seed-first}
 

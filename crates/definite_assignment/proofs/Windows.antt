@@ -1,5 +1,5 @@
 -- Locations and their windows.
-use Rattle.std.proofs.Common.{◌≡◌, ◌≢◌, ◌↔◌, ℕ, ◌+◌, ◌*◌, ◌/◌, ◌%◌, ◌<◌, ◌≤◌, List, Some, true, length, map, sym, ap, ◌∙◌, subst, ⊎_elim, arith}
+use Rattle.std.proofs.Common.{◌≡◌, ◌≢◌, ◌↔◌, ℕ, ◌+◌, ◌<◌, List, Some, true, length, map, sym, ap, ◌∙◌, subst, arith}
 use Rattle.std.specs.Prelude.{slice_get}
 use Rattle.std.specs.Option.{option_map}
 use Rattle.std.proofs.lemmas.List.{length-map}
@@ -10,7 +10,6 @@ use Rattle.flow_graph.specs.declared.reads.Access.{Access}
 use Rattle.flow_graph.proofs.AccessRows.{RowDone, location-of}
 use Rattle.graph_search.specs.Adjacency.{EndsRow}
 use Rattle.graph_search.specs.Path.{is_other}
-use Rattle.graph_search.specs.Sets.{has_bit}
 use Rattle.graph_search.proofs.OpenArcs.{other-differs, differs-other}
 use Rattle.definite_assignment.specs.Window.{window_of, place_of, location_in, windowed}
 

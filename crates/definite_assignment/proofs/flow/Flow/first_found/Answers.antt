@@ -2,7 +2,7 @@ use Rattle.std.proofs.Common.{◌≡◌, ◌+◌, ◌-◌, ◌<◌, ◌≤◌, S
 use Rattle.std.specs.Prelude.{slice_get}
 use Rattle.flow_graph.specs.declared.reads.Access.{Access}
 use Rattle.flow_graph.proofs.AccessRows.{done-start, done-next}
-use Rattle.definite_assignment.specs.Window.{IsFound, window_of}
+use Rattle.definite_assignment.specs.Window.{IsFound}
 use Rattle.definite_assignment.proofs.Lowering.{lower-met, lower-below, lower-here}
 use Rattle.definite_assignment.proofs.Windows.{all-of-window, read-of-window, long-as}
 use Rattle.definite_assignment.proofs.flow.Flow.first_found.Goals as goal

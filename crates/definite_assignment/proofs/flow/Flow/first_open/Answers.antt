@@ -1,4 +1,4 @@
-use Rattle.std.proofs.Common.{◌<◌, ◌≤◌, arith}
+use Rattle.std.proofs.Common.{◌<◌, arith}
 use Rattle.definite_assignment.specs.Window.{window_of}
 use Rattle.definite_assignment.proofs.Windows.{window-below}
 use Rattle.definite_assignment.proofs.flow.Flow.first_open.Goals as goal

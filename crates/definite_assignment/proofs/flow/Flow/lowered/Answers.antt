@@ -1,4 +1,4 @@
-use Rattle.std.proofs.Common.{◌≡◌, ℕ, ◌<◌, [], ◌∷◌, true, sym, ap, ◌∙◌, subst}
+use Rattle.std.proofs.Common.{◌≡◌, [], ◌∷◌, true, sym, ap, ◌∙◌, subst}
 use Rattle.definite_assignment.specs.Reads.{IsOpen}
 use Rattle.definite_assignment.specs.Window.{IsFound, location_in, place_of, window_of}
 use Rattle.definite_assignment.proofs.Lowering.{Lowers-none, Lowers-same}

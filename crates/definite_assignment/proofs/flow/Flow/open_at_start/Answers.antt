@@ -1,4 +1,4 @@
-use Rattle.std.proofs.Common.{◌≡◌, ℕ, ◌<◌, map, true, sym, ap, ◌∙◌, subst}
+use Rattle.std.proofs.Common.{◌≡◌, ◌<◌, map, true, sym, ap, ◌∙◌, subst}
 use Rattle.definite_assignment.specs.Leaving.{turned}
 use Rattle.definite_assignment.specs.Window.{location_in, place_of}
 use Rattle.definite_assignment.proofs.Turned.{turned-reaches}

@@ -1,4 +1,4 @@
-use Rattle.std.proofs.Common.{◌≡◌, List, [], ◌∷◌, ◌++◌, refl, sym, subst}
+use Rattle.std.proofs.Common.{List, refl, sym, subst}
 use Rattle.std.specs.List.{Contains}
 use Rattle.graph_search.specs.Sets.{seeds_of}
 use Rattle.graph_search.specs.declared.reached_sets.Seed.{Seed}
