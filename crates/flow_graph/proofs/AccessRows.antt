@@ -3,7 +3,7 @@ use Rattle.std.proofs.Common.{◌≡◌, ℕ, ◌+◌, ◌<◌, ◌≤◌, List,
 use Rattle.std.specs.Prelude.{slice_get, slice_index}
 use Rattle.std.specs.List.{All, Contains}
 use Rattle.std.proofs.lemmas.Bool.{cases_lt, cases_eq}
-use Rattle.std.proofs.lemmas.List.{get_or-map, length-map}
+use Rattle.std.proofs.lemmas.List.{get_or-map}
 use Rattle.std.proofs.lemmas.List.Elements.{Contains-get_or}
 use Rattle.std.proofs.lemmas.Option.{slice_get_within, get_or_from_slice_get, slice_get-get_or}
 use Rattle.bril_tree.proofs.Elements.{get_in, in_get}
@@ -14,11 +14,6 @@ use Rattle.flow_graph.specs.declared.reads.Access.{Access}
 
 pub location-of : (list : List Access) (k : ℕ) (access : Access) → slice_get list k ≡ Some access → slice_index (locations_of list) k ≡ access.location
 location-of list k access e = get_or-map (λ r. r.location) list k access 0 (slice_get_within list k access e) ∙ ap (λ r. r.location) (get_or_from_slice_get list k access access e)
-
--- the row of a location, by the keys that the adjacency keeps
-pub row-is : (list : List Access) (keys : List ℕ) (location end : ℕ) → keys ≡ locations_of list → EndsRow keys location (length keys) end → EndsRow (locations_of list) location (length list) end
-row-is list keys location end e row =
-    subst (λ n. EndsRow (locations_of list) location n end) (length-map list (λ r. r.location)) (subst (λ ks. EndsRow ks location (length ks) end) e row)
 
 -- A location's row was gone through from its last access down to an end: what is left of it ends there, and each access from
 -- there on has the property.
