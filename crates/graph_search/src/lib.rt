@@ -5,6 +5,7 @@
 //! to a point leaves a variable unassigned: arcs from each point to the next ones, labelled with what the point's item
 //! assigns, from the start. Whether a variable is live at a point: the same arcs turned round, with the same labels,
 //! from the items that read the variable. The gate of the last two is shut to the variable's label.
+//! `ReachedSets` makes 64 searches at once, with a word of bits for each node.
 #![tactic(auto)]
 
 mod adjacency;

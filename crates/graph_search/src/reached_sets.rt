@@ -177,8 +177,9 @@ impl ReachedSets {
     /// paths reach over arcs that its gate opens. What was found before is forgotten. After an error, for want of memory,
     /// nothing is told of what was found.
     ///
-    /// Takes the nodes that come last to be looked at first, and begins with the first seed. So it looks at few nodes
-    /// twice where paths go mostly from the first seeds to the later ones.
+    /// A node is looked at again only where its word grew, and so at most 64 times. The node that came last is looked at
+    /// first, and the first seed before the others: where paths go mostly from the first seeds towards the later ones, most
+    /// nodes are looked at once.
     pub fn search<G: Gates>(
         &mut self,
         graph: &ArcGraph,

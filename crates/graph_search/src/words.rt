@@ -43,13 +43,6 @@ impl Words {
         self.words[node as usize]
     }
 
-    // The number of nodes.
-    pub fn nodes(&self) -> usize
-        ensures { result ≡ length self.now.words }
-    {
-        self.words.len()
-    }
-
     // Lists the node as one whose word may not be 0.
     fn touch(&mut self, node: u32) -> Result<(), AllocError>
         requires { node < length self.old.words }
