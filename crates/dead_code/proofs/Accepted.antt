@@ -15,7 +15,7 @@ use Rattle.bril_tree.specs.Assigned.{assigned_of, assigns_at, assigns_of}
 use Rattle.bril_tree.specs.Edge.{Branch, branches_at, branches_from, onward}
 use Rattle.bril_tree.specs.Membership.{In}
 use Rattle.bril_tree.specs.Numbered.{item_tree, named, names_in, names_of_functions, nop}
-use Rattle.bril_tree.specs.Operand.{Location, Variable, reads_of}
+use Rattle.bril_tree.specs.Operand.{Variable, reads_of}
 use Rattle.bril_tree.specs.Shape.{is_shaped, shape_of}
 use Rattle.bril_tree.specs.Step.{code_of, item_at}
 use Rattle.bril_tree.specs.Walk.{IsWalk, IsReached, end_of}

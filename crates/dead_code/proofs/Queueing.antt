@@ -1,8 +1,8 @@
 -- The queue of locations.
-use Rattle.std.proofs.Common.{◌≡◌, ◌⊎◌, ◌↔◌, ℕ, ◌+◌, ◌<◌, ◌≤◌, Bool, true, false, cond, append-nil, List, [], ◌∷◌, ◌++◌, length, map, get_or, set, take, replicate, refl, sym, ap, subst, ◌∙◌, inl, inr, ⊎_elim, arith, true≢false}
+use Rattle.std.proofs.Common.{◌≡◌, ◌⊎◌, ◌↔◌, ℕ, ◌+◌, ◌<◌, ◌≤◌, Bool, true, false, cond, append-nil, List, [], ◌∷◌, ◌++◌, length, map, get_or, take, replicate, refl, sym, ap, subst, ◌∙◌, inl, inr, ⊎_elim, arith, true≢false}
 use Rattle.std.specs.List.{Contains}
 use Rattle.std.proofs.lemmas.Bool.{cases_Bool, cases_eq, cases_lt}
-use Rattle.std.proofs.lemmas.List.{get_or-set_same, get_or-set_other, get_or-replicate, get_or_past, length-set, length-append, length-replicate, length-map, take_more}
+use Rattle.std.proofs.lemmas.List.{get_or-replicate, get_or_past, length-replicate, length-map, take_more}
 use Rattle.bril_tree.specs.declared.numbered.Instr.{Instr}
 use Rattle.bril_tree.specs.Membership.{In}
 use Rattle.bril_tree.specs.Operand.{Location, reads_of}
@@ -10,8 +10,8 @@ use Rattle.bril_tree.proofs.Members.{in_contains, contains_in, in_append_left, i
 use Rattle.flow_graph.specs.Location.{number_of}
 use Rattle.flow_graph.specs.Reads.{access_at, item_reads}
 use Rattle.flow_graph.specs.declared.reads.Access.{Access}
-use Rattle.pass_plan.proofs.Elements.{all_in, in_all}
-use Rattle.dead_code.specs.Work.{AreQueued, IsReadBy, Queues, Unqueues, is_marked}
+use Rattle.pass_plan.proofs.Elements.{in_all}
+use Rattle.dead_code.specs.Work.{AreQueued, IsReadBy, Queues, is_marked}
 
 only_one : (n l : ℕ) → In n (l ∷ []) → n ≡ l
 only_one n l (inl e) = e

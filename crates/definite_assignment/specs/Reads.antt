@@ -1,5 +1,5 @@
 -- Reads of locations that may be unassigned.
-use Rattle.std.specs.Prelude.{◌≡◌, ℕ, ◌+◌, ◌/◌, ◌%◌, ◌<◌, ◌≤◌, ◌⊎◌, ◌==◌, ◌&&◌, Bool, false, nat_lt, List, [], ◌∷◌, length, Some, slice_get}
+use Rattle.std.specs.Prelude.{◌≡◌, ℕ, ◌/◌, ◌%◌, ◌<◌, ◌≤◌, ◌⊎◌, ◌==◌, ◌&&◌, Bool, false, nat_lt, List, [], ◌∷◌, length, Some, slice_get}
 use Rattle.flow_graph.specs.declared.reads.Access.{Access}
 use Rattle.graph_search.specs.Path.{IsReached, other_than}
 use Rattle.graph_search.specs.declared.graph.Arc.{Arc}

@@ -6,3 +6,4 @@ pub mod Points
 pub mod Preserving
 pub mod Renaming
 pub mod Trees
+pub mod Standing

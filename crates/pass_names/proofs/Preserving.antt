@@ -23,7 +23,7 @@ use Rattle.pass_names.proofs.Points.{found, Differ-in}
 use Rattle.pass_names.proofs.Renaming.{items_share, renaming_preserves}
 
 -- under its own names a point has its tree
-own_tree : (fs : List (List ℕ)) (o : Option Func) (i : ℕ) → renamed_tree fs (names_in o) o i ≡ point_tree fs o i
+pub own_tree : (fs : List (List ℕ)) (o : Option Func) (i : ℕ) → renamed_tree fs (names_in o) o i ≡ point_tree fs o i
 own_tree fs None i = refl
 own_tree fs (Some F) i = refl
 

@@ -1,5 +1,5 @@
 -- The edges from a regular pair of points, and the labels to which they go.
-use Rattle.std.proofs.Common.{◌≡◌, ◌⊎◌, ℕ, inl, inr, ⊎_elim, Bool, true, false, List, [], ◌∷◌, length, map, Option, Some, None, refl, sym, ap, subst, ◌∙◌}
+use Rattle.std.proofs.Common.{◌≡◌, ◌⊎◌, ℕ, inl, inr, Bool, true, false, List, [], ◌∷◌, length, map, Option, Some, None, refl, sym, ap, subst, ◌∙◌}
 use Rattle.std.specs.Prelude.{slice_get}
 use Rattle.std.specs.Option.{option_map}
 use Rattle.std.proofs.lemmas.Option.{same_Some}
@@ -15,7 +15,7 @@ use Rattle.bril_tree.specs.Edge.{Branch, action_branches, branches_at, branches_
 use Rattle.bril_tree.specs.FunctionForm.{targets_of}
 use Rattle.bril_tree.specs.Leaving.{IsEdge, edge_of, leave_of}
 use Rattle.bril_tree.specs.Membership.{In}
-use Rattle.bril_tree.specs.Numbered.{item_tree, named, names_of_functions, nop, point_tree, tree_at, variable_names}
+use Rattle.bril_tree.specs.Numbered.{item_tree, named, names_of_functions, point_tree, tree_at, variable_names}
 use Rattle.bril_tree.specs.Operand.{Location}
 use Rattle.bril_tree.specs.Sites.{Opens, item_change, sites_of}
 use Rattle.bril_tree.specs.Step.{code_of, item_at, point_of}

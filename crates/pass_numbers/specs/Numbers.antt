@@ -47,7 +47,7 @@ FunctionWithin wider F G = FunctionGrows (widened wider) F G
 
 -- ---- from functions to programs
 
--- The numbers of which a program's is the greatest may be no smaller where they were greater.
+-- Where a number was greater it may be as great at least: asked of those of which the program's is the greatest of its functions'.
 pub record IsRising (growth : Growth) : Type 0 where
   pub locations : (m n : ℕ) → m ≤ n → growth.locations m ≤ growth.locations n
   pub arguments : (m n : ℕ) → m ≤ n → growth.arguments m ≤ growth.arguments n

@@ -2,10 +2,12 @@
 //! its longest list of arguments, the depth of its open sites, its entries of labels, and the labels that are entered from one
 //! leave point.
 //!
-//! A pass shows of each function that its numbers don't grow (`FunctionWithin`, in `specs/`). Then those of the program
-//! don't. `proofs/Locations.antt` has the locations from names, `proofs/Arguments.antt` the lists of arguments from items,
-//! `proofs/Depths.antt` the depth from walks that match, and `proofs/Edges.antt` and `proofs/Entering.antt` the entries and
-//! their width from edges that match.
+//! A pass shows of each function how its numbers grow (`FunctionGrows`, in `specs/`), mostly not at all (`FunctionWithin`). Then
+//! so do those of the program, its entries by what all functions get together. `proofs/Items.antt` says of which old items the new
+//! ones come, by the names and trees of `proofs/ItemTrees.antt`; from there `proofs/Locations.antt` has the locations and
+//! `proofs/Arguments.antt` the lists of arguments. `proofs/Depths.antt` has the depth from walks that match, `proofs/Edges.antt`
+//! and `proofs/Entering.antt` the entries and their width from edges that match, `proofs/InPlace.antt` from items that stay
+//! at their points, and `proofs/Twins.antt` pairs the branches of two items. `proofs/Shares.antt` adds up what belongs to functions.
 #![tactic(auto)]
 
 ghost use Rattle.pass_numbers.specs.Numbers.{FunctionsBound, FunctionsGrow};

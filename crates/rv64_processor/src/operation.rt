@@ -50,7 +50,9 @@ fn divide(a: u64, b: u64) -> u64
     if b == 0 {
         return u64::MAX;
     }
-    a.cast_signed().wrapping_div(b.cast_signed()).cast_unsigned()
+    a.cast_signed()
+        .wrapping_div(b.cast_signed())
+        .cast_unsigned()
 }
 
 /// Whether the condition holds of two numbers.

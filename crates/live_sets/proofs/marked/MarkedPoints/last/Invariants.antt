@@ -1,4 +1,4 @@
-use Rattle.std.proofs.Common.{◌≡◌, ◌<◌, ◌≤◌, ℕ, length, get_or, true, false}
+use Rattle.std.proofs.Common.{◌≡◌, ◌≤◌, ℕ, length, get_or, true, false}
 use Rattle.live_sets.proofs.marked.MarkedPoints.last.Given as goal
 
 -- none from the end on is marked
