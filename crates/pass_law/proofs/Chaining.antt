@@ -6,11 +6,7 @@ use Rattle.bril_tree.specs.declared.program.Prog.{Prog}
 use Rattle.bril_tree.specs.Run.{Refines}
 use Rattle.bril_tree.proofs.Refinement.{Refines-refl, Refines-trans}
 use Rattle.pass_law.specs.Chains.{first_answering, Chain, IsFactorOf, ChainsRefine, IsLinked, IsRefiningChain}
-use Rattle.pass_law.specs.Meaning.{Meaning, IsNumber}
-
--- a number that is told by an equation
-pub equation_number : (f : Prog → Profile → ℕ) → IsNumber (λ P profile k. k ≡ f P profile)
-equation_number f = record { one = λ P profile j k a b. a ∙ sym b; some = λ P profile accepted. (f P profile, refl) }
+use Rattle.pass_law.specs.Meaning.{Meaning}
 
 module _ {B : Type 0} (meaning : B → Meaning) (passes : List B) (profile : Profile) where
   -- the factor of a link is that of the first pass that answers
