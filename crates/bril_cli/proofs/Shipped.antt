@@ -23,8 +23,8 @@ both true b e = (refl, e)
 both false b e = absurd (let n : false ≡ true = e in cc)
 
 refuted : (b : Bool) → not b ≡ true → b ≡ true → ⊥
-refuted true e yes = let n : false ≡ true = e in cc
-refuted false e yes = cc
+refuted true e is = let n : false ≡ true = e in cc
+refuted false e is = let n : false ≡ true = is in cc
 
 -- ---- so each makes only what it makes itself
 
@@ -42,7 +42,7 @@ none_named s (t ∷ rest) e =
     (λ named. absurd (refuted (s.meaning.answers t.name) h.0 named), none_named s rest k.1)
 
 one_more : (s : Shipped) (rest some : List Shipped) → apart s some ≡ true → AllMake rest some → AllMake (s ∷ rest) some
-unfolding apart, AllMake
+unfolding apart AllMake
 one_more s rest [] e h = tt
 one_more s rest (t ∷ some) e h =
     let a = both (not (s.meaning.answers t.name)) (not (t.meaning.answers s.name) && apart s some) e in
@@ -50,14 +50,14 @@ one_more s rest (t ∷ some) e h =
     ((λ named. absurd (refuted (t.meaning.answers s.name) b.0 named), h.0), one_more s rest some b.1 h.1)
 
 all_make : (these : List Shipped) → all_apart these ≡ true → AllMake these these
-unfolding all_apart, AllMake
+unfolding all_apart AllMake
 all_make [] e = tt
 all_make (s ∷ rest) e =
     let h = both (apart s rest) (all_apart rest) e in
     ((λ named p profile q made. made, none_named s rest h.0), one_more s rest rest h.0 (all_make rest h.1))
 
 shipped-make : AllMake shipped shipped
-unfolding all_apart, apart
+unfolding all_apart apart
 shipped-make = all_make shipped refl
 
 -- ---- passes that mean what others do
