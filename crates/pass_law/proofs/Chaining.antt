@@ -1,5 +1,5 @@
 -- A chain refines with the product of its factors.
-use Rattle.std.proofs.Common.{◌≡◌, ℕ, ◌*◌, List, [], ◌∷◌, Option, Some, refl, sym, ap, subst, ◌∙◌}
+use Rattle.std.proofs.Common.{◌≡◌, ℕ, ◌*◌, List, [], ◌∷◌, refl, sym, ap, subst, ◌∙◌}
 use Rattle.bril_profile.specs.declared.profile.Profile.{Profile}
 use Rattle.bril_tree.specs.Accepted.{IsAccepted}
 use Rattle.bril_tree.specs.declared.program.Prog.{Prog}
@@ -29,13 +29,16 @@ module _ {B : Type 0} (meaning : B → Meaning) (passes : List B) (profile : Pro
       let l = c.0 in
       let rest = refining names R Rs Q l.link.accepted c.1 in
       record {
-        some = (l.link.factor * rest.some.0, record {
-          first = l.link.factor;
-          rest = rest.some.0;
-          is_first = link_factor name P R l l.link.factor l.link.is_factor;
-          is_rest = rest.some.1;
-          is = refl;
-        });
+        some = (
+          l.link.factor * rest.some.0,
+          record {
+            first = l.link.factor;
+            rest = rest.some.0;
+            is_first = link_factor name P R l l.link.factor l.link.is_factor;
+            is_rest = rest.some.1;
+            is = refl;
+          },
+        );
         one = λ j k a b. a.is ∙ ap (λ n. n * a.rest) (sym (only_factor name P R l a.first a.is_first) ∙ only_factor name P R l b.first b.is_first) ∙ ap (λ n. b.first * n) (rest.one a.rest b.rest a.is_rest b.is_rest) ∙ sym b.is;
         refines = λ k is. subst (Refines P Q) (ap (λ n. n * is.rest) (only_factor name P R l is.first is.is_first) ∙ sym is.is)
             (Refines-trans P R Q l.link.factor is.rest l.link.refines (rest.refines is.rest is.is_rest));

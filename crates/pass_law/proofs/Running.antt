@@ -1,5 +1,5 @@
 -- One name, given to the first pass that answers to it: the first of the list, or one of the rest.
-use Rattle.std.proofs.Common.{◌≡◌, ℕ, Bool, true, false, List, [], ◌∷◌, Option, Some, None, refl, sym, ap, subst, ◌∙◌}
+use Rattle.std.proofs.Common.{◌≡◌, ℕ, true, false, List, ◌∷◌, Some, sym, ap, subst, ◌∙◌}
 use Rattle.std.specs.Prelude.{Result, Ok, Err, IfOk, IfErr}
 use Rattle.bril_checker.specs.Checked.{CheckedView}
 use Rattle.bril_profile.specs.declared.profile.Profile.{Profile}
@@ -9,7 +9,7 @@ use Rattle.pass_law.specs.Chains.{or_else, first_answering, IsLinked, AllSame}
 use Rattle.pass_law.specs.Meaning.{Meaning, HasNumbers, Link, IsRefused, SameMeaning}
 use Rattle.pass_law.specs.Stops.{IsRefusedBy}
 use Rattle.pass_law.specs.declared.fault.PassFault.{PassFault}
-use Rattle.pass_law.proofs.Same.{SameMeaning-refl, AllSame-refl}
+use Rattle.pass_law.proofs.Same.{AllSame-refl}
 
 module _ {B : Type 0} (meaning : B → Meaning) (passes : List B) (first : B) (rest : List B) (is : passes ≡ first ∷ rest) where
   first-answers : (name : List ℕ) → (meaning first).answers name ≡ true → first_answering meaning passes name ≡ Some first

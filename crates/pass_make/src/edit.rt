@@ -87,11 +87,7 @@ impl<E: Edit> Pass for Edited<E> {
 }
 
 // What the edit makes of the program, or the refusal of its bound.
-fn made_by<E: Edit>(
-    alloc: Global,
-    prog: &Checked,
-    profile: &Profile,
-) -> Result<Checked, PassFault>
+fn made_by<E: Edit>(alloc: Global, prog: &Checked, profile: &Profile) -> Result<Checked, PassFault>
     ensures numbers { HasNumbers E.meaning }
     ensures link { IfOk result (λ made. Link E.meaning profile.now prog.now.prog made.prog) }
     ensures refused { IfErr result (IsRefused (E.meaning.IsBound prog.now.prog profile.now) (item_count prog.now.prog)) }
