@@ -5,8 +5,15 @@ use Rattle.roolvist.proofs.with_passes.Goals as goal
 
 pub end-requires : goal.end-requires
 end-requires c = record {
-  shipped = boxes-shipped _ _ _ c.as_mut_slice.ensures.value
-      (_, c.into_dyn_box.ensures.0, (λ p a x. SameMeaning-refl _),
-      (_, c.into_dyn_box-in_ok-new-2.ensures.0, (λ p a x. SameMeaning-refl _),
-      tt));
+  shipped = boxes-shipped _ _ _ c.as_mut_slice.ensures.value (
+    _,
+    c.into_dyn_box.ensures.0,
+    (λ p a x. SameMeaning-refl _),
+    (
+      _,
+      c.into_dyn_box-in_ok-new-2.ensures.0,
+      (λ p a x. SameMeaning-refl _),
+      tt,
+    ),
+  );
 }
