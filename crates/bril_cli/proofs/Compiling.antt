@@ -5,13 +5,13 @@ use Rattle.bril_arguments.specs.Spelled.{AreSpelled}
 use Rattle.bril_cli.proofs.Causes.{exhausted, args_fail, same_args, with_program}
 use Rattle.bril_cli.proofs.Interpreting.{Limits-same}
 use Rattle.bril_cli.proofs.Runs.{same_end, same_output}
-use Rattle.bril_cli.proofs.Sources.{made_refines, made_fits, made_ends, made_prints, enough_made, shows_source}
+use Rattle.bril_cli.proofs.Sources.{made_chain, made_fits, made_ends, made_prints, enough_made, shows_source}
 use Rattle.bril_cli.proofs.Statuses.{Ends}
 use Rattle.bril_cli.specs.After.{AfterPasses, EmitsAfter}
 use Rattle.bril_cli.specs.Call.{Call, ReadsWell, UnlessMemory, TellsRun}
 use Rattle.bril_cli.specs.CommandLine.{format_of}
 use Rattle.bril_cli.specs.Images.{RefusesImage}
-use Rattle.bril_cli.specs.PassList.{IsMade, RefusesList, AfterList, factor_of, tallies_told}
+use Rattle.bril_cli.specs.PassList.{IsMade, RefusesList, AfterList, AreFactorsOf, tallies_told}
 use Rattle.bril_cli.specs.Source.{most_bytes, IsSource}
 use Rattle.bril_cli.specs.Stats.{stats_told, SaysTold}
 use Rattle.bril_cli.specs.commands.Emit.{ListsImage, EmitsImage, PutsListing, CanEmit}
@@ -75,28 +75,28 @@ asked_for true p guards t e = absurd (true≢false e)
 asked_for false p guards t e = refl
 
 module _ (c : Call) (path told : List ℕ) (p q : Prog) (made : IsMade c.passes p q) (accepted : IsAccepted p) (limits : Limits) (values : List Value) (fits : FitMain p values) (words : ℕ) (stats : Bool) where
-  run_of : (number : ℕ) (ended : Option End) → TellsRun ended words told number c → RanWhole q limits values words stats ended told c.out_before c.out_after → IsRun number c p q (factor_of c.passes p q made) limits values words stats
+  run_of : (number : ℕ) (ended : Option End) → TellsRun ended words told number c → RanWhole q limits values words stats ended told c.out_before c.out_after → IsRun number c p q (AreFactorsOf c.passes p q made) limits values words stats
   run_of number ended tells ran =
-      let refines = made_refines c.passes p q made accepted in
-      let k = factor_of c.passes p q made in
-      let fits_made = made_fits p q k refines limits values fits in
+      let chain = made_chain c.passes p q made accepted in
+      let Is = AreFactorsOf c.passes p q made in
+      let fits_made = made_fits p q Is chain.some chain.refines limits values fits in
       record {
         ended = ended;
         told = told;
         tells = tells;
         ran = ran;
-        shows = shows_source p q k refines limits values fits words ran.output ended ran.shows.program;
-        ends = λ n cost end is_cost enough is. (
-          same_end q limits values words ended ran.output ran.shows.machine fits_made (k * n) cost end is_cost (enough_made p q k refines limits values fits n cost words enough) (made_ends p q k refines limits values fits n end is),
-          same_output q limits values words ended ran.output ran.shows.machine fits_made (k * n) cost end is_cost (enough_made p q k refines limits values fits n cost words enough) (made_ends p q k refines limits values fits n end is)
-              ∙ made_prints p q k refines limits values fits n end is,
+        shows = shows_source p q Is chain.some chain.refines limits values fits words ran.output ended ran.shows.program;
+        ends = λ n cost k end is_cost is enough ends. (
+          same_end q limits values words ended ran.output ran.shows.machine fits_made (k * n) cost end is_cost (enough_made p q Is chain.some chain.refines limits values fits k is n cost words enough) (made_ends p q Is chain.some chain.refines limits values fits k is n end ends),
+          same_output q limits values words ended ran.output ran.shows.machine fits_made (k * n) cost end is_cost (enough_made p q Is chain.some chain.refines limits values fits k is n cost words enough) (made_ends p q Is chain.some chain.refines limits values fits k is n end ends)
+              ∙ made_prints p q Is chain.some chain.refines limits values fits k is n end ends,
         );
         plain = λ unasked. ran.tells.lines ∙ asked_for stats q ran.shows.machine.image.guards (image_after ran.shows.machine.image limits values words) unasked;
       }
 
   -- a run of an image is said by how the machine ended
   says_run : (how : Status) → SaysTold told how path c.err_before c.err_after → RunsImage how q limits values words stats told c.out_before c.out_after
-      → UnlessMemory (status_number how) (¬ Rose c.out_before.faults c.out_after.faults → IsRun (status_number how) c p q (factor_of c.passes p q made) limits values words stats)
+      → UnlessMemory (status_number how) (¬ Rose c.out_before.faults c.out_after.faults → IsRun (status_number how) c p q (AreFactorsOf c.passes p q made) limits values words stats)
   says_run status.Done says ran =
       inr (λ sound. run_of 0 (Some Ended) (refl, subst (λ bytes. Says c.err_before bytes c.err_after) (append-nil told) says.all, says.plain) ran)
   says_run (status.Faulted fault) says ran = inr (λ sound. run_of 2 (Some (Faulted fault)) (refl, says.all) ran)
@@ -133,7 +133,7 @@ writes_made c path told q _ says puts = absurd puts
 module _ (c : Call) (action : Action) (path : List ℕ) (args : List (List ℕ)) (how : Status) (ends : Ends c action path args how) where
   after_run : (p : Prog) → IsAccepted p → (values : List Value) → FitMain p values → (limits : Limits) (words : ℕ) (stats : Bool) → RunsList how c.passes p limits values words stats ends.told c.out_before c.out_after
       → UnlessMemory (status_number how) (AfterPasses (status_number how) c p (λ q made. EmitsAfter (status_number how) q limits
-      (¬ Rose c.out_before.faults c.out_after.faults → IsRun (status_number how) c p q (factor_of c.passes p q made) limits values words stats)))
+      (¬ Rose c.out_before.faults c.out_after.faults → IsRun (status_number how) c p q (AreFactorsOf c.passes p q made) limits values words stats)))
   after_run p accepted values fits limits words stats =
       ⊎_elim (λ refused. stops c path p how _ (ends.says.plain refused.1.0) refused.0 refused.1.1)
       (λ goes. makes c path p (status_number how) _ goes.0 goes.1
@@ -143,7 +143,7 @@ module _ (c : Call) (action : Action) (path : List ℕ) (args : List (List ℕ))
 
   pub runs_where : (frames cells words : ℕ) (stats : Bool) (bytes : List ℕ) (reads : ReadsWell c (Run frames cells words stats) bytes) (p : Prog) (values : List Value) (limits : Limits) → CanRun c frames cells words stats bytes reads p values limits
       → UnlessMemory (status_number how) (AfterPasses (status_number how) c p (λ q made. EmitsAfter (status_number how) q limits
-      (¬ Rose c.out_before.faults c.out_after.faults → IsRun (status_number how) c p q (factor_of c.passes p q made) limits values words stats)))
+      (¬ Rose c.out_before.faults c.out_after.faults → IsRun (status_number how) c p q (AreFactorsOf c.passes p q made) limits values words stats)))
   runs_where frames cells words stats bytes reads p values limits can =
       let here : AreSpelled (main_types p) args values = subst (λ a. AreSpelled (main_types p) a values) (same_args c action path args how ends (Run frames cells words stats) bytes reads) can.spelled in
       with_program c action path args how ends (Run frames cells words stats) tt _ bytes p reads can.short can.source (exhausted how _)

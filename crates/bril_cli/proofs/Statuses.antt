@@ -36,11 +36,11 @@ use Rattle.bril_cli.specs.commands.Run.{ShowsRun, Runs, RunsAndTells, RanWhole, 
 use Rattle.bril_cli.specs.Arguments.{argument_line, HasOnlyArgFault, AreOnlyValues, RefusesArgs}
 use Rattle.bril_cli.specs.CommandLine.{AsksFor, format_of, NeedsProgram, GivesArguments, TakesPasses, KeepsPasses}
 use Rattle.bril_cli.specs.Images.{IsProgramFile, MakesImage, HasLongCode, HasLongStack, RefusesImage}
-use Rattle.bril_cli.specs.PassList.{IsMade, RefusesList, AfterList, factor_of}
+use Rattle.bril_cli.specs.PassList.{IsMade, RefusesList, AfterList, AreFactorsOf}
 use Rattle.bril_words.specs.Defaults.{default_cells}
 use Rattle.rv64_implements.specs.WordBounds.{IsWithin}
 use Rattle.bril_arguments.proofs.Spelled.{AreSpelled-fit}
-use Rattle.bril_cli.proofs.Sources.{made_refines, shows_source}
+use Rattle.bril_cli.proofs.Sources.{made_chain, shows_source}
 use Rattle.bril_cli.proofs.Telling.{says_nothing, says_told, untold}
 
 -- ---- the program and the name fault of bytes are those of their tree
@@ -329,7 +329,7 @@ module _ (c : Call) (frames cells steps : ℕ) (stats : Bool) (path : List ℕ) 
         by = by;
         within = within;
         shows = shows;
-        source = shows_source p q (factor_of c.passes p q by) (made_refines c.passes p q by program.sound.accepted) limits values (AreSpelled-fit (main_types p) args values are.spelled) steps output ended shows.program;
+        source = shows_source p q (AreFactorsOf c.passes p q by) (made_chain c.passes p q by program.sound.accepted).some (made_chain c.passes p q by program.sound.accepted).refines limits values (AreSpelled-fit (main_types p) args values are.spelled) steps output ended shows.program;
       }
 
       module _ (told : List ℕ) where

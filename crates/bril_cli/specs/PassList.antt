@@ -6,7 +6,7 @@ use Rattle.bril_report.specs.Tallies.{tally_pieces}
 use Rattle.bril_report.specs.declared.status.Status.TheVariants as status
 use Rattle.bril_report.specs.declared.status.Status.{Status}
 use Rattle.bril_tree.specs.declared.program.Prog.{Prog}
-use Rattle.pass_law.specs.Chains.{or_else, first_answering, first_unknown, factors, Ran, StoppedAt, AllSame}
+use Rattle.pass_law.specs.Chains.{or_else, first_answering, first_unknown, AreFactors, Ran, StoppedAt, AllSame}
 use Rattle.pass_law.specs.Meaning.{Meaning}
 use Rattle.pass_law.specs.declared.tally.Tally.{Tally}
 
@@ -36,8 +36,8 @@ pub record IsMade (l : PassList) (p q : Prog) : Type 0 where
   pub same : AllSame l.meaning l.before l.after
 
 -- so many steps of q, at most, for each step of p: the product of the factors of the links
-abbrev pub factor_of : (l : PassList) (p q : Prog) → IsMade l p q → ℕ
-factor_of l p q made = factors l.meaning l.before made.profile l.names p made.ran.programs
+abbrev pub AreFactorsOf : (l : PassList) (p q : Prog) → IsMade l p q → ℕ → Type 0
+AreFactorsOf l p q made factor = AreFactors l.meaning l.before made.profile l.names p made.ran.programs factor
 
 -- ---- why a list makes no program
 

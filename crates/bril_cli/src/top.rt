@@ -34,8 +34,8 @@ use std::alloc::Global;
 /// `run`, `emit` and `passes` give the program to the list of passes: each name to the first of `passes` that answers to it, and each
 /// pass gets what the one before it made, with the profile without entries. What is said below of a program's words is said of the
 /// program after the passes. It comes from the source by a chain of links, and the passes' tallies grow by these; no other command
-/// changes the passes. One that answers to `dead` or `tidy` is to make only what the pass of that name in `dead_code` or `tidy_code`
-/// makes: so these names mean the same in every list.
+/// changes the passes. One that answers to the name of a pass that the program is shipped with (`specs/Shipped.antt`) is to make only
+/// what that one makes: so these names mean the same in every list.
 ///
 /// `run` makes the program into words of RV64I with multiplication and division, and a machine executes `--steps` of them at most.
 /// What they print is what the program prints by its semantics, and the machine ends as the program does: where the program ends

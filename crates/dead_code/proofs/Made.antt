@@ -22,7 +22,10 @@ use Rattle.bril_tree.specs.Step.{code_of, items_of}
 use Rattle.bril_tree.specs.Walk.{IsReached}
 use Rattle.bril_names.specs.Faults.{Differ, IsKnown, IsSound, IsSoundEdit, SameHead, function_names, labels_of}
 use Rattle.bril_tree.proofs.Trees.{numbered-tree_of, tree_at-function}
-use Rattle.pass_law.specs.Meaning.{Link}
+use Rattle.pass_law.proofs.Equations.{equation_number}
+use Rattle.pass_law.specs.Meaning.{HasNumbers, Link}
+use Rattle.pass_make.specs.Edited.{IsLinkedTo}
+use Rattle.pass_make.specs.declared.made.Made.TheVariants as making
 use Rattle.pass_make.specs.CanBeMade.{CanBeMade}
 use Rattle.pass_make.proofs.Each.{tree_of_function, names-each, heads-each, items-each, size-each}
 use Rattle.pass_names.proofs.Trees.{heads-of_trees}
@@ -181,7 +184,7 @@ module _ (P : Prog) where
     makes-of_tree : (Q : Prog) → Numbered tree Q → IsDeadened P Q
     makes-of_tree Q of_q = subst (IsClearedTree P) (numbered-tree_of tree Q of_q) t
 
-    pub dead-made : IsCounted P → CanBeMade P tree
+    dead-made : IsCounted P → CanBeMade P tree
     dead-made c = record {
       imports = t.imports;
       names = names_made tree.funcs t.functions;
@@ -189,14 +192,25 @@ module _ (P : Prog) where
       items = items-each P (IsClearedFunction P) as-long tree.funcs t.functions c.items;
     }
 
-    pub linked : (profile : Profile) (Q : Prog) → Numbered tree Q → IsAccepted Q → item_count Q ≡ tree_size tree → Link dead_meaning profile P Q
+    linked : (profile : Profile) (Q : Prog) → Numbered tree Q → IsAccepted Q → item_count Q ≡ tree_size tree → Link dead_meaning profile P Q
     linked profile Q of_q accepted_q size =
         let makes = makes-of_tree Q of_q in
         let h = size-each P (IsClearedFunction P) as-long tree.funcs t.functions in
         record {
           makes = makes;
-          refines = deadened-refines P Q (made Q makes) (deadened-points Q makes) accepted;
           accepted = accepted_q;
+          factor = 1;
+          is_factor = refl;
+          refines = deadened-refines P Q (made Q makes) (deadened-points Q makes) accepted;
+          bound = item_count P;
+          is_bound = refl;
           within = omega (arith, size);
           fits = λ l. let more = l.more in omega arith;
         }
+
+    pub edited : IsCounted P → (profile : Profile) → IsLinkedTo dead_meaning profile P (making.Tree tree)
+    edited c profile = (dead-made c, linked profile)
+
+-- the factor and the bound are equations
+pub dead-numbers : HasNumbers dead_meaning
+dead-numbers = record { factor = equation_number (λ P profile. 1); bound = equation_number (λ P profile. item_count P) }

@@ -17,5 +17,5 @@ mod laws;
 mod sweep;
 mod work;
 
-pub use dead::Dead;
+pub use dead::{Dead, DeadEdit};
 pub use laws::dead_keeps_numbers;

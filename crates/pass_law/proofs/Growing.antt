@@ -5,14 +5,14 @@ use Rattle.std.proofs.lemmas.Option.{slice_get-get_or}
 use Rattle.bril_profile.specs.declared.profile.Profile.{Profile}
 use Rattle.bril_tree.specs.declared.program.Prog.{Prog}
 use Rattle.bril_tree.specs.Size.{item_count}
-use Rattle.pass_law.specs.Bounds.{capped, IsTooLarge}
-use Rattle.pass_law.specs.Chains.{further, first_answering, tallied, IsLinked, Chain, tallies_after, unknown_from, first_unknown, Ran, StoppedAt, CutOff, AllSame}
+use Rattle.pass_law.specs.Bounds.{HasLongBound}
+use Rattle.pass_law.specs.Chains.{further, first_answering, tallied, IsLinked, Chain, tallies_after, unknown_from, first_unknown, Ran, StoppedAt, AllSame}
 use Rattle.pass_law.specs.Meaning.{Meaning, IsRefused}
 use Rattle.pass_law.specs.Stops.{IsRefusedBy}
 use Rattle.pass_law.specs.declared.fault.PassFault.{PassFault}
 use Rattle.pass_law.specs.declared.fault.PassFault.TheVariants.{TooLarge}
 use Rattle.pass_law.specs.declared.tally.Tally.{Tally}
-use Rattle.pass_law.proofs.Same.{linked-before, tallied-same, answered-before, IsRefused-same}
+use Rattle.pass_law.proofs.Same.{linked-before, tallied-same, answered-before, HasNumbers-same, HasLongBound-same}
 
 -- one name more
 take-more : (names : List (List ℕ)) (i : ℕ) (name : List ℕ) → slice_get names i ≡ Some name → take (suc i) names ≡ take i names ++ name ∷ []
@@ -67,7 +67,7 @@ module _ {B : Type 0} (meaning : B → Meaning) (passes : List B) (profile : Pro
         → IsRefusedBy meaning now profile name Q fault → map counts after ≡ map counts now → StoppedAt meaning passes profile counts names P place told Q after
     stopped-at names i name P Q now after fault bound told place fault-is told-is is at same ran refused e =
         let b = answered-before meaning passes now name refused.pass same refused.first in
-        let why = IsRefused-same (meaning b.pass) (meaning refused.pass) b.same profile Q (item_count Q) (TooLarge bound) (subst (IsRefused ((meaning refused.pass).bound Q profile) (item_count Q)) fault-is refused.refused) in
+        let why = subst (IsRefused ((meaning refused.pass).IsBound Q profile) (item_count Q)) fault-is refused.refused in
         record {
           before = i;
           is = is;
@@ -76,8 +76,8 @@ module _ {B : Type 0} (meaning : B → Meaning) (passes : List B) (profile : Pro
           here = at;
           pass = b.pass;
           first = b.first;
-          large = why.0;
-          carried = sym told-is ∙ why.1;
+          numbers = HasNumbers-same (meaning b.pass) (meaning refused.pass) b.same refused.numbers;
+          long = HasLongBound-same (meaning b.pass) (meaning refused.pass) b.same profile Q (item_count Q) told (subst (HasLongBound ((meaning refused.pass).IsBound Q profile) (item_count Q)) told-is why);
         }
 
   -- ---- names to which some pass answers

@@ -1,41 +1,50 @@
 -- Passes that keep what they mean.
-use Rattle.std.proofs.Common.{◌≡◌, ℕ, ◌≤◌, Bool, true, false, List, [], ◌∷◌, Option, Some, None, refl, sym, ap, subst, ◌∙◌}
+use Rattle.std.proofs.Common.{◌≡◌, ◌↔◌, ℕ, Bool, true, false, List, [], ◌∷◌, Some, None, refl, sym, ap, subst, ◌∙◌}
 use Rattle.std.specs.Prelude.{IsSome}
 use Rattle.std.proofs.lemmas.Option.{same_Some}
 use Rattle.bril_profile.specs.declared.profile.Profile.{Profile}
 use Rattle.bril_tree.specs.declared.program.Prog.{Prog}
-use Rattle.bril_tree.specs.Run.{Refines}
-use Rattle.bril_tree.specs.Size.{item_count}
-use Rattle.pass_law.specs.Bounds.{IsTooLarge}
+use Rattle.pass_law.specs.Bounds.{HasLongBound}
 use Rattle.pass_law.specs.Chains.{or_else, grown_if, first_answering, tallied, IsLinked, AllSame}
-use Rattle.pass_law.specs.Meaning.{Meaning, Link, IsRefused, SameMeaning}
-use Rattle.pass_law.specs.declared.fault.PassFault.{PassFault}
+use Rattle.pass_law.specs.Meaning.{Meaning, IsNumber, HasNumbers, Link, SameMeaning}
 use Rattle.pass_law.specs.declared.tally.Tally.{Tally}
 
 pub SameMeaning-refl : (m : Meaning) → SameMeaning m m
-SameMeaning-refl m = record { answers = refl; factor = refl; bound = refl; there = λ P profile Q h. h; back = λ P profile Q h. h }
+SameMeaning-refl m = record { answers = refl; factor = λ P profile k. (λ h. h, λ h. h); bound = λ P profile k. (λ h. h, λ h. h); makes = λ P profile Q. (λ h. h, λ h. h) }
 
 pub SameMeaning-trans : (m n o : Meaning) → SameMeaning m n → SameMeaning n o → SameMeaning m o
 SameMeaning-trans m n o a b = record {
   answers = a.answers ∙ b.answers;
-  factor = a.factor ∙ b.factor;
-  bound = a.bound ∙ b.bound;
-  there = λ P profile Q h. b.there P profile Q (a.there P profile Q h);
-  back = λ P profile Q h. a.back P profile Q (b.back P profile Q h);
+  factor = λ P profile k. (λ h. (b.factor P profile k).0 ((a.factor P profile k).0 h), λ h. (a.factor P profile k).1 ((b.factor P profile k).1 h));
+  bound = λ P profile k. (λ h. (b.bound P profile k).0 ((a.bound P profile k).0 h), λ h. (a.bound P profile k).1 ((b.bound P profile k).1 h));
+  makes = λ P profile Q. (λ h. (b.makes P profile Q).0 ((a.makes P profile Q).0 h), λ h. (a.makes P profile Q).1 ((b.makes P profile Q).1 h));
 }
 
--- a link, and a refusal, by what the pass meant before
+-- numbers, a link and a long bound, by what the pass meant before
+IsNumber-same : (Is Are : Prog → Profile → ℕ → Type 0) → ((P : Prog) (profile : Profile) (k : ℕ) → Is P profile k ↔ Are P profile k) → IsNumber Are → IsNumber Is
+IsNumber-same Is Are same n = record {
+  one = λ P profile j k a b. n.one P profile j k ((same P profile j).0 a) ((same P profile k).0 b);
+  some = λ P profile accepted. let found = n.some P profile accepted in (found.0, (same P profile found.0).1 found.1);
+}
+
+pub HasNumbers-same : (m n : Meaning) → SameMeaning m n → HasNumbers n → HasNumbers m
+HasNumbers-same m n s h = record { factor = IsNumber-same m.IsFactor n.IsFactor s.factor h.factor; bound = IsNumber-same m.IsBound n.IsBound s.bound h.bound }
+
 pub Link-same : (m n : Meaning) → SameMeaning m n → (profile : Profile) (P Q : Prog) → Link n profile P Q → Link m profile P Q
 Link-same m n s profile P Q l = record {
-  makes = s.back P profile Q l.makes;
-  refines = subst (λ (f : Prog → Profile → ℕ). Refines P Q (f P profile)) (sym s.factor) l.refines;
+  makes = (s.makes P profile Q).1 l.makes;
   accepted = l.accepted;
-  within = subst (λ (f : Prog → Profile → ℕ). item_count Q ≤ f P profile) (sym s.bound) l.within;
-  fits = subst (λ (f : Prog → Profile → ℕ). IsTooLarge (f P profile) (item_count P) → ⊥) (sym s.bound) l.fits;
+  factor = l.factor;
+  is_factor = (s.factor P profile l.factor).1 l.is_factor;
+  refines = l.refines;
+  bound = l.bound;
+  is_bound = (s.bound P profile l.bound).1 l.is_bound;
+  within = l.within;
+  fits = l.fits;
 }
 
-pub IsRefused-same : (m n : Meaning) → SameMeaning m n → (profile : Profile) (P : Prog) (size : ℕ) (fault : PassFault) → IsRefused (n.bound P profile) size fault → IsRefused (m.bound P profile) size fault
-IsRefused-same m n s profile P size fault h = subst (λ (f : Prog → Profile → ℕ). IsRefused (f P profile) size fault) (sym s.bound) h
+pub HasLongBound-same : (m n : Meaning) → SameMeaning m n → (profile : Profile) (P : Prog) (size told : ℕ) → HasLongBound (n.IsBound P profile) size told → HasLongBound (m.IsBound P profile) size told
+HasLongBound-same m n s profile P size told h = record { bound = h.bound; is = (s.bound P profile h.bound).1 h.is; long = h.long; tells = h.tells }
 
 module _ {B : Type 0} (meaning : B → Meaning) where
   pub AllSame-refl : (ps : List B) → AllSame meaning ps ps
@@ -76,7 +85,7 @@ module _ {B : Type 0} (meaning : B → Meaning) where
   pub linked-before : (ps qs : List B) (profile : Profile) (name : List ℕ) (P Q : Prog) → AllSame meaning ps qs → IsLinked meaning qs profile name P Q → IsLinked meaning ps profile name P Q
   linked-before ps qs profile name P Q z l =
       let b = answered-before ps qs name l.pass z l.first in
-      record { pass = b.pass; first = b.first; link = Link-same (meaning b.pass) (meaning l.pass) b.same profile P Q l.link }
+      record { pass = b.pass; first = b.first; numbers = HasNumbers-same (meaning b.pass) (meaning l.pass) b.same l.numbers; link = Link-same (meaning b.pass) (meaning l.pass) b.same profile P Q l.link }
 
   -- the same pass is counted
   pub tallied-same : (ps qs : List B) (name : List ℕ) (seen made : ℕ) (ts : List Tally) → AllSame meaning ps qs → tallied meaning qs name seen made ts ≡ tallied meaning ps name seen made ts

@@ -9,3 +9,10 @@ capped n = min n 18446744073709551615
 pub record IsTooLarge (bound size : ℕ) : Type 0 where
   pub many : 1000000 < bound
   pub more : size < bound
+
+-- there is a bound that is too large for the size, and it is told, or 2^64 - 1 where it is greater
+pub record HasLongBound (IsBound : ℕ → Type 0) (size told : ℕ) : Type 0 where
+  pub bound : ℕ
+  pub is : IsBound bound
+  pub long : IsTooLarge bound size
+  pub tells : told ≡ capped bound

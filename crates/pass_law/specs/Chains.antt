@@ -1,14 +1,14 @@
 -- What a list of names does to a program, each name given to the first pass that answers to it. The passes are of any
 -- type B, each with its meaning.
-use Rattle.std.specs.Prelude.{◌≡◌, ℕ, suc, ◌+◌, ◌*◌, ◌<◌, Bool, true, false, cond, List, [], ◌∷◌, map, take, Option, Some, None, slice_get}
+use Rattle.std.specs.Prelude.{◌≡◌, ℕ, suc, ◌*◌, Bool, true, false, List, [], ◌∷◌, map, take, Option, Some, None, slice_get}
 use Rattle.std.specs.List.{AllZip}
 use Rattle.bril_profile.specs.declared.profile.Profile.{Profile}
 use Rattle.bril_tree.specs.declared.program.Prog.{Prog}
 use Rattle.bril_tree.specs.Accepted.{IsAccepted}
 use Rattle.bril_tree.specs.Run.{Refines}
 use Rattle.bril_tree.specs.Size.{item_count}
-use Rattle.pass_law.specs.Bounds.{capped, IsTooLarge}
-use Rattle.pass_law.specs.Meaning.{Meaning, Link, SameMeaning}
+use Rattle.pass_law.specs.Bounds.{HasLongBound}
+use Rattle.pass_law.specs.Meaning.{Meaning, HasNumbers, Link, SameMeaning}
 use Rattle.pass_law.specs.Tallies.{grown}
 use Rattle.pass_law.specs.declared.tally.Tally.{Tally}
 
@@ -32,6 +32,14 @@ abbrev pub unknown_from : {X : Type 0} → Option X → Option ℕ → Option �
 unknown_from None rest = Some 1
 unknown_from (Some x) rest = further rest
 
+-- a number of each kind, and their product
+pub record IsProduct (IsFirst IsRest : ℕ → Type 0) (k : ℕ) : Type 0 where
+  pub first : ℕ
+  pub rest : ℕ
+  pub is_first : IsFirst first
+  pub is_rest : IsRest rest
+  pub is : k ≡ first * rest
+
 module _ {B : Type 0} (meaning : B → Meaning) where
   -- the first pass that answers to the name
   abbrev pub first_answering : List B → List ℕ → Option B
@@ -49,6 +57,7 @@ module _ {B : Type 0} (meaning : B → Meaning) where
     pub record IsLinked (name : List ℕ) (P Q : Prog) : Type 0 where
       pub pass : B
       pub first : first_answering passes name ≡ Some pass
+      pub numbers : HasNumbers (meaning pass)
       pub link : Link (meaning pass) profile P Q
 
     -- from P to Q by one link for each name; the programs after each link
@@ -59,15 +68,15 @@ module _ {B : Type 0} (meaning : B → Meaning) where
     Chain (name ∷ names) P (R ∷ Rs) Q = IsLinked name P R × Chain names R Rs Q
 
     -- the factor of the first pass that answers; 1 where none does
-    abbrev pub factor_of : Option B → Prog → ℕ
-    factor_of None P = 1
-    factor_of (Some pass) P = (meaning pass).factor P profile
+    abbrev pub IsFactorOf : Option B → Prog → ℕ → Type 0
+    IsFactorOf None P k = k ≡ 1
+    IsFactorOf (Some pass) P k = (meaning pass).IsFactor P profile k
 
     -- the product of the factors of a chain
-    abbrev pub factors : List (List ℕ) → Prog → List Prog → ℕ
-    factors [] P Rs = 1
-    factors (name ∷ names) P [] = 1
-    factors (name ∷ names) P (R ∷ Rs) = factor_of (first_answering passes name) P * factors names R Rs
+    abbrev pub AreFactors : List (List ℕ) → Prog → List Prog → ℕ → Type 0
+    AreFactors [] P Rs k = k ≡ 1
+    AreFactors (name ∷ names) P [] k = k ≡ 1
+    AreFactors (name ∷ names) P (R ∷ Rs) k = IsProduct (IsFactorOf (first_answering passes name) P) (AreFactors names R Rs) k
 
     -- the tallies after a chain
     abbrev pub tallies_after : List (List ℕ) → Prog → List Prog → List Tally → List Tally
@@ -96,8 +105,8 @@ module _ {B : Type 0} (meaning : B → Meaning) where
         pub here : slice_get names before ≡ Some name
         pub pass : B
         pub first : first_answering passes name ≡ Some pass
-        pub large : IsTooLarge ((meaning pass).bound Q profile) (item_count Q)
-        pub carried : bound ≡ capped ((meaning pass).bound Q profile)
+        pub numbers : HasNumbers (meaning pass)
+        pub long : HasLongBound ((meaning pass).IsBound Q profile) (item_count Q) bound
 
       -- memory was wanting after some of the names had run
       pub record CutOff (names : List (List ℕ)) (P : Prog) (after : List B) : Type 0 where
@@ -109,7 +118,13 @@ module _ {B : Type 0} (meaning : B → Meaning) where
   abbrev pub AllSame : List B → List B → Type 0
   AllSame passes after = AllZip (λ p q. SameMeaning (meaning p) (meaning q)) passes after
 
--- A chain refines with the product of its factors, and the program at its end is accepted.
+-- There is one product of a chain's factors, and with it the program at its end refines the one at its beginning, and is accepted.
+pub record IsRefiningChain {B : Type 0} (meaning : B → Meaning) (passes : List B) (profile : Profile) (names : List (List ℕ)) (P : Prog) (programs : List Prog) (Q : Prog) : Type 0 where
+  pub some : (k : ℕ) × AreFactors meaning passes profile names P programs k
+  pub one : (j k : ℕ) → AreFactors meaning passes profile names P programs j → AreFactors meaning passes profile names P programs k → j ≡ k
+  pub refines : (k : ℕ) → AreFactors meaning passes profile names P programs k → Refines P Q k
+  pub accepted : IsAccepted Q
+
 abbrev pub ChainsRefine : {B : Type 0} → (B → Meaning) → Type 0
 ChainsRefine {B} meaning = (passes : List B) (profile : Profile) (names : List (List ℕ)) (P : Prog) (programs : List Prog) (Q : Prog) → IsAccepted P → Chain meaning passes profile names P programs Q
-    → Refines P Q (factors meaning passes profile names P programs) × IsAccepted Q
+    → IsRefiningChain meaning passes profile names P programs Q

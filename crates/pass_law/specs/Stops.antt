@@ -1,10 +1,10 @@
 -- Why a pass of a list made nothing, and what ran before a list stopped.
-use Rattle.std.specs.Prelude.{◌≡◌, ℕ, List, map, Option, Some, None}
+use Rattle.std.specs.Prelude.{◌≡◌, ℕ, List, map, Some, None}
 use Rattle.bril_profile.specs.declared.profile.Profile.{Profile}
 use Rattle.bril_tree.specs.declared.program.Prog.{Prog}
 use Rattle.bril_tree.specs.Size.{item_count}
 use Rattle.pass_law.specs.Chains.{first_answering, first_unknown, StoppedAt, CutOff}
-use Rattle.pass_law.specs.Meaning.{Meaning, IsRefused}
+use Rattle.pass_law.specs.Meaning.{Meaning, HasNumbers, IsRefused}
 use Rattle.pass_law.specs.declared.fault.ListFault.{ListFault}
 use Rattle.pass_law.specs.declared.fault.ListFault.TheVariants.{Unknown, TooLarge, Memory}
 use Rattle.pass_law.specs.declared.fault.PassFault.{PassFault}
@@ -15,7 +15,8 @@ module _ {B : Type 0} (meaning : B → Meaning) (passes : List B) (profile : Pro
   pub record IsRefusedBy (name : List ℕ) (P : Prog) (fault : PassFault) : Type 0 where
     pub pass : B
     pub first : first_answering meaning passes name ≡ Some pass
-    pub refused : IsRefused ((meaning pass).bound P profile) (item_count P) fault
+    pub numbers : HasNumbers (meaning pass)
+    pub refused : IsRefused ((meaning pass).IsBound P profile) (item_count P) fault
 
   -- the list of names stopped so, with the passes as they are `after`
   abbrev pub IsStopped : (B → Tally) → List (List ℕ) → Prog → List B → ListFault → Type 0

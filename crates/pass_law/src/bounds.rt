@@ -15,7 +15,7 @@ pub fn room(prog: &Prog, bound: u64) -> Result<(), PassFault>
     requires { IsCounted prog.now }
     ensures ok { OnOk result (IsTooLarge bound (item_count prog.now) → ⊥) }
     ensures fits { OnOk result ((bound ≤ 1000000) ⊎ (bound ≤ item_count prog.now)) }
-    ensures refused { IfErr result (IsRefused bound (item_count prog.now)) }
+    ensures refused { IfErr result (IsRefused (λ b. b ≡ bound) (item_count prog.now)) }
     ensures memory { IfErr result (λ fault. fault ≡ Memory → ⊥) }
 {
     if bound > 1_000_000 && bound > prog.size() {

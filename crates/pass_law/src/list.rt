@@ -3,7 +3,7 @@
 ghost use Rattle.std.specs.Prelude.{◌≡◌, ◌<◌, ◌^◌, None, IsSome, is_some, IfOk, IfErr, OnErr, map, length};
 ghost use Rattle.bril_tree.specs.Size.{item_count};
 ghost use Rattle.pass_law.specs.Chains.{first_answering, first_unknown, tallied, IsLinked, Ran, AllSame};
-ghost use Rattle.pass_law.specs.Meaning.{Link, IsRefused, SameMeaning};
+ghost use Rattle.pass_law.specs.Meaning.{HasNumbers, Link, IsRefused, SameMeaning};
 ghost use Rattle.pass_law.specs.Stops.{IsRefusedBy, IsStopped};
 ghost use Rattle.pass_law.specs.Tallies.{grown};
 
@@ -114,9 +114,10 @@ fn run_one(
     prog: &Checked,
     profile: &Profile,
 ) -> Result<Checked, PassFault>
+    ensures numbers { HasNumbers (meaning pass.old) }
     ensures link { IfOk result (λ made. Link (meaning pass.old) profile.now prog.now.prog made.prog) }
     ensures counted { IfOk result (λ made. counts pass.new ≡ grown (counts pass.old) (item_count prog.now.prog) (item_count made.prog)) }
-    ensures refused { IfErr result (λ fault. IsRefused ((meaning pass.old).bound prog.now.prog profile.now) (item_count prog.now.prog) fault) }
+    ensures refused { IfErr result (λ fault. IsRefused ((meaning pass.old).IsBound prog.now.prog profile.now) (item_count prog.now.prog) fault) }
     ensures uncounted { OnErr result (counts pass.new ≡ counts pass.old) }
     ensures same { SameMeaning (meaning pass.old) (meaning pass.new) }
 {

@@ -2,7 +2,7 @@
 
 ghost use Rattle.std.specs.Prelude.{◌≡◌, IfOk, IfErr, OnErr};
 ghost use Rattle.bril_tree.specs.Size.{item_count};
-ghost use Rattle.pass_law.specs.Meaning.{Meaning, Link, IsRefused, SameMeaning};
+ghost use Rattle.pass_law.specs.Meaning.{Meaning, HasNumbers, Link, IsRefused, SameMeaning};
 ghost use Rattle.pass_law.specs.Tallies.{grown};
 ghost use Rattle.pass_law.specs.declared.tally.Tally.{Tally};
 
@@ -31,16 +31,17 @@ pub trait Pass: Drop {
     /// Makes a program of the given one, by the profile. The result is accepted, refines the given program with the
     /// pass's factor, has at most its bound of items, and is what its relation says; the tally grows by one run with
     /// the sizes of both. An error is `TooLarge`, exactly where the bound passes 1,000,000 and the given size, or
-    /// `Memory`, and leaves the tally as it was. What the pass means never changes.
+    /// `Memory`, and leaves the tally as it was. There is one factor and one bound. What the pass means never changes.
     fn run(
         &mut self,
         alloc: Global,
         prog: &Checked,
         profile: &Profile,
     ) -> Result<Checked, PassFault>
+        ensures numbers { HasNumbers (meaning self.old) }
         ensures link { IfOk result (λ made. Link (meaning self.old) profile.now prog.now.prog made.prog) }
         ensures counted { IfOk result (λ made. counts self.new ≡ grown (counts self.old) (item_count prog.now.prog) (item_count made.prog)) }
-        ensures refused { IfErr result (λ fault. IsRefused ((meaning self.old).bound prog.now.prog profile.now) (item_count prog.now.prog) fault) }
+        ensures refused { IfErr result (λ fault. IsRefused ((meaning self.old).IsBound prog.now.prog profile.now) (item_count prog.now.prog) fault) }
         ensures uncounted { OnErr result (counts self.new ≡ counts self.old) }
         ensures same { SameMeaning (meaning self.old) (meaning self.new) };
 }

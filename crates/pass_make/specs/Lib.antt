@@ -1,1 +1,2 @@
 pub mod CanBeMade
+pub mod Edited

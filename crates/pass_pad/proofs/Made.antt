@@ -21,8 +21,10 @@ use Rattle.bril_names.proofs.Functions.{is_main}
 use Rattle.bril_names.proofs.Naming.{AreAmong-none}
 use Rattle.bril_names.proofs.Edits.{names_edited, heads-of_edits}
 use Rattle.pass_names.proofs.Trees.{heads-of_trees}
-use Rattle.pass_law.specs.Bounds.{IsTooLarge}
-use Rattle.pass_law.specs.Meaning.{Link}
+use Rattle.pass_law.proofs.Equations.{equation_number}
+use Rattle.pass_law.specs.Meaning.{HasNumbers, Link}
+use Rattle.pass_make.specs.Edited.{HasRoom, IsLinkedTo}
+use Rattle.pass_make.specs.declared.made.Made.TheVariants as making
 use Rattle.bril_profile.specs.declared.profile.Profile.{Profile}
 use Rattle.pass_make.specs.CanBeMade.{CanBeMade}
 use Rattle.bril_tree.proofs.Sizes.{sum-counted}
@@ -88,17 +90,25 @@ module _ (P : Prog) (tree made : Tree) (accepted : IsAccepted P) (of_p : Numbere
   made-is : made ≡ padded_tree (tree_of P)
   made-is = edited ∙ ap padded_tree (numbered-tree_of tree P of_p)
 
-  pub can_be_made : (bound : ℕ) → bound ≡ padded_size P → (bound ≤ 1000000) ⊎ (bound ≤ item_count P) → CanBeMade P made
-  can_be_made bound e room = subst (CanBeMade P) (sym made-is) (padded-made P accepted (subst (λ n. (n ≤ 1000000) ⊎ (n ≤ item_count P)) e room))
-
-  pub linked : (profile : Profile) (Q : Prog) → Numbered made Q → IsAccepted Q → item_count Q ≡ tree_size made → (IsTooLarge (padded_size P) (item_count P) → ⊥) → Link pad_meaning profile P Q
-  linked profile Q of_q accepted_q size fits =
+  linked : HasRoom (λ k. k ≡ padded_size P) (item_count P) → (profile : Profile) (Q : Prog) → Numbered made Q → IsAccepted Q → item_count Q ≡ tree_size made → Link pad_meaning profile P Q
+  linked room profile Q of_q accepted_q size =
       let makes : IsPadded P Q = sym (numbered-tree_of made Q of_q) ∙ made-is in
       let many = size ∙ ap tree_size made-is ∙ size-padded P in
       record {
         makes = makes;
-        refines = padded-refines P Q (padded-points P Q makes) accepted;
         accepted = accepted_q;
+        factor = 2;
+        is_factor = refl;
+        refines = padded-refines P Q (padded-points P Q makes) accepted;
+        bound = padded_size P;
+        is_bound = refl;
         within = omega (arith, many);
-        fits = fits;
+        fits = λ l. ⊎_elim (λ few. let more = l.many in omega arith) (λ few. let more = l.more in omega arith) (room (padded_size P) refl);
       }
+
+  pub padded-linked : HasRoom (λ k. k ≡ padded_size P) (item_count P) → (profile : Profile) → IsLinkedTo pad_meaning profile P (making.Tree made)
+  padded-linked room profile = (subst (CanBeMade P) (sym made-is) (padded-made P accepted (room (padded_size P) refl)), linked room profile)
+
+-- the factor and the bound are equations
+pub pad-numbers : HasNumbers pad_meaning
+pad-numbers = record { factor = equation_number (λ P profile. 2); bound = equation_number (λ P profile. padded_size P) }

@@ -1,5 +1,5 @@
 -- What the pass means.
-use Rattle.std.specs.Prelude.{codes}
+use Rattle.std.specs.Prelude.{◌≡◌, codes}
 use Rattle.pass_law.specs.Meaning.{Meaning, is_name}
 use Rattle.pass_pad.specs.Padded.{IsPadded, padded_size}
 
@@ -7,7 +7,7 @@ use Rattle.pass_pad.specs.Padded.{IsPadded, padded_size}
 abbrev pub pad_meaning : Meaning
 pad_meaning = record {
   answers = is_name (codes "pad");
-  factor = λ P profile. 2;
-  bound = λ P profile. padded_size P;
+  IsFactor = λ P profile k. k ≡ 2;
+  IsBound = λ P profile k. k ≡ padded_size P;
   Makes = λ P profile Q. IsPadded P Q;
 }

@@ -34,7 +34,10 @@ use Rattle.bril_tree.proofs.Shapes.{shape-parts, dest_none}
 use Rattle.pass_steps.proofs.Shapes.{shaped_here}
 use Rattle.pass_names.proofs.Trees.{heads-of_trees}
 use Rattle.pass_names.proofs.Points.{found, label_found}
-use Rattle.pass_law.specs.Meaning.{Link}
+use Rattle.pass_law.proofs.Equations.{equation_number}
+use Rattle.pass_law.specs.Meaning.{HasNumbers, Link}
+use Rattle.pass_make.specs.Edited.{IsLinkedTo}
+use Rattle.pass_make.specs.declared.made.Made.TheVariants as making
 use Rattle.pass_make.specs.CanBeMade.{CanBeMade}
 use Rattle.pass_plan.proofs.Elements.{all_in, in_all}
 use Rattle.pass_make.proofs.Each.{names-each, heads-each, items-each, size-each}
@@ -286,7 +289,7 @@ module _ (P : Prog) (accepted : IsAccepted P) where
       let size = length-map F.code (item_tree fs (variable_names F.vars) F.labels) in
       omega arith
 
-  pub tidy-made : (tree : Tree) → IsCounted P → IsTidiedTree P tree → CanBeMade P tree
+  tidy-made : (tree : Tree) → IsCounted P → IsTidiedTree P tree → CanBeMade P tree
   tidy-made tree c t = record {
     imports = t.imports;
     names = names_made tree.funcs t.functions;
@@ -296,13 +299,24 @@ module _ (P : Prog) (accepted : IsAccepted P) where
 
   -- ---- by what the calls give: the tree that was made, and the program numbered of that
 
-  pub linked : (tree : Tree) → IsTidiedTree P tree → (profile : Profile) (Q : Prog) → Numbered tree Q → IsAccepted Q → item_count Q ≡ tree_size tree → Link tidy_meaning profile P Q
+  linked : (tree : Tree) → IsTidiedTree P tree → (profile : Profile) (Q : Prog) → Numbered tree Q → IsAccepted Q → item_count Q ≡ tree_size tree → Link tidy_meaning profile P Q
   linked tree t profile Q of_q accepted_q size =
       let h = size-each P IsMade no_longer tree.funcs t.functions in
       record {
         makes = makes-of_tree tree t Q of_q;
-        refines = tidy-refines Q (makes-of_tree tree t Q of_q);
         accepted = accepted_q;
+        factor = 1;
+        is_factor = refl;
+        refines = tidy-refines Q (makes-of_tree tree t Q of_q);
+        bound = item_count P;
+        is_bound = refl;
         within = omega (arith, size);
         fits = λ l. let more = l.more in omega arith;
       }
+
+  pub edited : (tree : Tree) → IsTidiedTree P tree → IsCounted P → (profile : Profile) → IsLinkedTo tidy_meaning profile P (making.Tree tree)
+  edited tree t c profile = (tidy-made tree c t, linked tree t profile)
+
+-- the factor and the bound are equations
+pub tidy-numbers : HasNumbers tidy_meaning
+tidy-numbers = record { factor = equation_number (λ P profile. 1); bound = equation_number (λ P profile. item_count P) }

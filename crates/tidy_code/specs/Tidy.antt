@@ -1,5 +1,5 @@
 -- What the pass means.
-use Rattle.std.specs.Prelude.{codes}
+use Rattle.std.specs.Prelude.{◌≡◌, codes}
 use Rattle.bril_tree.specs.Size.{item_count}
 use Rattle.pass_law.specs.Meaning.{Meaning, is_name}
 use Rattle.tidy_code.specs.Tidied.{IsTidied}
@@ -8,7 +8,7 @@ use Rattle.tidy_code.specs.Tidied.{IsTidied}
 abbrev pub tidy_meaning : Meaning
 tidy_meaning = record {
   answers = is_name (codes "tidy");
-  factor = λ P profile. 1;
-  bound = λ P profile. item_count P;
+  IsFactor = λ P profile k. k ≡ 1;
+  IsBound = λ P profile k. k ≡ item_count P;
   Makes = λ P profile Q. IsTidied P Q;
 }

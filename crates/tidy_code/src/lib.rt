@@ -15,4 +15,4 @@ mod laws;
 mod tidy;
 
 pub use laws::tidy_keeps_numbers;
-pub use tidy::Tidy;
+pub use tidy::{Tidy, TidyEdit};

@@ -1,77 +1,32 @@
 // The pass.
 
-ghost use Rattle.std.specs.Prelude.{◌≡◌, IfOk, IfErr};
-ghost use Rattle.bril_profile.specs.declared.profile.Profile.{Profile};
-ghost use Rattle.pass_law.specs.Meaning.{Link};
-ghost use Rattle.pass_law.specs.declared.fault.PassFault.TheVariants.{Memory};
-ghost use Rattle.pass_law.specs.Tallies.{zero_tally};
 ghost use Rattle.tidy_code.specs.Tidy.{tidy_meaning};
 
 use crate::edit::tidied;
 use bril_checker::Checked;
 use bril_profile::Profile;
-use pass_law::{Pass, PassFault, Tally};
-use pass_make::finish;
-use std::alloc::Global;
-use std::marker::Model;
+use pass_make::{Edit, Edited, Made};
+use std::alloc::{AllocError, Global};
 
 /// The pass `tidy`, as clauses see it by its tally. It drops every `nop` and every item that no walk reaches, and keeps
 /// the order of the others. Its factor is 1, and its bound the number of items.
-#[derive(Drop)]
-pub struct Tidy {
-    tally: Tally,
-}
+pub type Tidy = Edited<TidyEdit>;
 
-impl Model for Tidy {
-    ghost use Rattle.pass_law.specs.declared.tally.Tally.{Tally};
+/// The edit of the pass `tidy`.
+pub struct TidyEdit;
 
-    ghost Value = { Tally };
+impl Edit for TidyEdit {
+    ghost meaning = { tidy_meaning };
 
-    ghost view = { λ tidy. tidy.tally };
-}
-
-impl Tidy {
-    /// The pass, with a tally of zeros. Takes no memory.
-    pub fn new() -> Tidy
-        ensures { result ≡ zero_tally }
-    {
-        Tidy {
-            tally: Tally::zero(),
-        }
-    }
-}
-
-impl Pass for Tidy {
-    ghost meaning = { λ _. tidy_meaning };
-
-    ghost counts = { λ tidy. tidy };
-
-    fn is_named(&self, name: &[u8]) -> bool {
+    fn is_named(name: &[u8]) -> bool {
         name == b"tidy".as_slice()
     }
 
-    fn tally(&self) -> Tally {
-        self.tally
+    fn bound(_alloc: Global, prog: &Checked, _profile: &Profile) -> Result<u64, AllocError> {
+        Ok(prog.prog().size())
     }
 
-    fn run(
-        &mut self,
-        alloc: Global,
-        prog: &Checked,
-        _profile: &Profile,
-    ) -> Result<Checked, PassFault> {
-        let made = tidied_program(alloc, prog)?;
-        self.tally.grow(prog.prog().size(), made.prog().size());
-        Ok(made)
+    fn edit(alloc: Global, prog: &Checked, _profile: &Profile) -> Result<Made, AllocError> {
+        Ok(Made::Tree(tidied(alloc, prog.prog())?))
     }
-}
-
-// The program without its `nop` items and without those that no walk reaches.
-fn tidied_program(alloc: Global, prog: &Checked) -> Result<Checked, PassFault>
-    ensures link { (profile : Profile) → IfOk result (λ made. Link tidy_meaning profile prog.now.prog made.prog) }
-    ensures memory { IfErr result (λ fault. fault ≡ Memory) }
-{
-    let old = prog.prog();
-    let tree = tidied(alloc, old)?;
-    Ok(finish(alloc, old, &tree)?)
 }

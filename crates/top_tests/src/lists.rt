@@ -2,7 +2,7 @@
 
 ghost use Rattle.pass_law.specs.Tallies.{zero_tally};
 ghost use Rattle.pass_pad.specs.Pad.{pad_meaning};
-ghost use Rattle.std.specs.Prelude.{true, IfOk};
+ghost use Rattle.std.specs.Prelude.{◌≡◌, true, IfOk};
 ghost use Rattle.std.specs.List.{All};
 ghost use Rattle.bril_cli.specs.Shipped.{MakesAsShipped};
 
@@ -28,7 +28,7 @@ struct Every {
 }
 
 impl Pass for Every {
-    ghost meaning = { λ pass. record pad_meaning { answers = λ name. true; bound = λ P profile. pass.bound; Makes = λ P profile Q. ⊥ } };
+    ghost meaning = { λ pass. record pad_meaning { answers = λ name. true; IsBound = λ P profile k. k ≡ pass.bound; Makes = λ P profile Q. ⊥ } };
 
     ghost counts = { λ _. zero_tally };
 
@@ -40,6 +40,7 @@ impl Pass for Every {
         Tally::zero()
     }
 
+    #[tactic(auto, using(crate::proofs::Numbers::bounded_numbers))]
     fn run(
         &mut self,
         _alloc: Global,

@@ -1,6 +1,6 @@
 // Lists of passes, and each law of passes at a pass.
 
-ghost use Rattle.std.specs.Prelude.{[], codes, IfOk};
+ghost use Rattle.std.specs.Prelude.{◌≡◌, [], codes, IfOk};
 ghost use Rattle.bril_cli.specs.Shipped.{MakesAsShipped};
 ghost use Rattle.pass_law.specs.Meaning.{is_name};
 ghost use Rattle.pass_law.specs.Tallies.{zero_tally};
@@ -56,7 +56,7 @@ impl Renamed for Lacking {
 }
 
 impl Pass for Lacking {
-    ghost meaning = { λ pass. record pad_meaning { answers = is_name (codes "lacking"); bound = λ P profile. pass.bound } };
+    ghost meaning = { λ pass. record pad_meaning { answers = is_name (codes "lacking"); IsBound = λ P profile k. k ≡ pass.bound } };
 
     ghost counts = { λ _. zero_tally };
 
@@ -68,6 +68,7 @@ impl Pass for Lacking {
         Tally::zero()
     }
 
+    #[tactic(auto, using(crate::proofs::Numbers::bounded_numbers))]
     fn run(
         &mut self,
         _alloc: Global,

@@ -22,7 +22,7 @@ use Rattle.bril_cli.specs.Call.{Call, ReadsWell, UnlessMemory, TellsRun}
 use Rattle.bril_cli.specs.CommandLine.{format_of}
 use Rattle.bril_cli.specs.After.{AfterPasses, EmitsAfter}
 use Rattle.bril_cli.specs.Images.{IsProgramFile, MachineShows, RefusesImage}
-use Rattle.bril_cli.specs.PassList.{PassList, IsMade, AfterList, factor_of}
+use Rattle.bril_cli.specs.PassList.{PassList, IsMade, AfterList, AreFactorsOf}
 use Rattle.bril_cli.specs.Source.{most_bytes, IsSource}
 use Rattle.bril_cli.specs.Sources.{SourceShows}
 use Rattle.bril_cli.specs.Stats.{TellsStats}
@@ -49,7 +49,7 @@ pub record Runs (files : FilesSeen) (l : PassList) (path : List ℕ) (args : Lis
   pub by : IsMade l program made
   pub within : IsWithin made limits
   pub shows : ShowsRun made limits values words ended output
-  pub source : SourceShows program made (factor_of l program made by) limits values words ended output
+  pub source : SourceShows program made (AreFactorsOf l program made by) limits values words ended output
 
 -- The same, and this is told of the counts of the machine, where that is asked for.
 pub record RunsAndTells (files : FilesSeen) (l : PassList) (path : List ℕ) (args : List (List ℕ)) (frames cells words : ℕ) (stats : Bool) (ended : Option End) (told output : List ℕ) : Type 0 where
@@ -115,13 +115,13 @@ pub record CanRun (c : Call) (frames cells words : ℕ) (stats : Bool) (bytes : 
 -- that was printed; and so it is with the source. Where the source has ended after n steps, and the words are at least the cost of
 -- a step of the program that was made, times the factor, times n + 1, this end is said, and the output took just what the source
 -- printed.
-pub record IsRun (number : ℕ) (c : Call) (source made : Prog) (factor : ℕ) (limits : Limits) (values : List Value) (words : ℕ) (stats : Bool) : Type 0 where
+pub record IsRun (number : ℕ) (c : Call) (source made : Prog) (IsFactor : ℕ → Type 0) (limits : Limits) (values : List Value) (words : ℕ) (stats : Bool) : Type 0 where
   pub ended : Option End
   pub told : List ℕ
   pub tells : TellsRun ended words told number c
   pub ran : RanWhole made limits values words stats ended told c.out_before c.out_after
-  pub shows : SourceShows source made factor limits values words ended ran.output
-  pub ends : (n cost : ℕ) (end : End) → IsCost made cost → cost * (factor * (n + 1)) ≤ words → (state_after source limits values n).ended ≡ Some end →
+  pub shows : SourceShows source made IsFactor limits values words ended ran.output
+  pub ends : (n cost factor : ℕ) (end : End) → IsCost made cost → IsFactor factor → cost * (factor * (n + 1)) ≤ words → (state_after source limits values n).ended ≡ Some end →
       (ended ≡ Some end) × (ran.output ≡ (state_after source limits values n).printed)
   pub plain : stats ≡ false → told ≡ []
 
@@ -132,4 +132,4 @@ RunsWhere number c =
     (frames cells words : ℕ) (stats : Bool) (bytes : List ℕ) (reads : ReadsWell c (Run frames cells words stats) bytes) (program : Prog) (values : List Value) (limits : Limits) →
     CanRun c frames cells words stats bytes reads program values limits →
     UnlessMemory number (AfterPasses number c program (λ q made. EmitsAfter number q limits
-    (¬ Rose c.out_before.faults c.out_after.faults → IsRun number c program q (factor_of c.passes program q made) limits values words stats)))
+    (¬ Rose c.out_before.faults c.out_after.faults → IsRun number c program q (AreFactorsOf c.passes program q made) limits values words stats)))
