@@ -1,5 +1,6 @@
 pub mod Arrivals
 pub mod Bursts
 pub mod Calls
+pub mod Executions
 pub mod RunAnswers
 pub mod Starts

@@ -1,6 +1,7 @@
 pub mod GroupProps
 pub mod GroupWords
 pub mod LiveBlocks
+pub mod Regions
 pub mod ResolvedSteps
 pub mod ResolvedWords
 pub mod SameWords
