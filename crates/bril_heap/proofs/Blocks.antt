@@ -1,7 +1,7 @@
 -- Blocks as they are kept, and the blocks of the semantics.
-use Rattle.std.proofs.Common.{◌≡◌, ℕ, zero, suc, ◌+◌, ◌<◌, ◌≤◌, true, false, cond, List, [], ◌∷◌, map, length, set, get_or, Option, Some, None, slice_get, Ok, refl, sym, ap, arith, ℤ, pos, negsuc, nat_abs}
+use Rattle.std.proofs.Common.{◌≡◌, ℕ, zero, suc, ◌+◌, ◌<◌, ◌≤◌, true, false, cond, List, [], ◌∷◌, map, length, set, get_or, Option, Some, None, slice_get, Ok, refl, sym, ap, arith, ℤ, pos}
 use Rattle.std.specs.List.{count_by, sum_by}
-use Rattle.std.proofs.lemmas.Bool.{lt-ltb, le-ltb}
+use Rattle.std.proofs.lemmas.Bool.{lt-ltb}
 use Rattle.std.proofs.lemmas.List.{length-set}
 use Rattle.std.proofs.lemmas.List.Sums.{sum_by-set, get_or-le-sum_by}
 use Rattle.std.proofs.lemmas.Option.{slice_get-map, slice_get_read, get_or_from_slice_get, same_Some}
@@ -9,7 +9,7 @@ use Rattle.bril_tree.specs.declared.value.Value.{Value}
 use Rattle.bril_tree.specs.declared.value.Value.TheVariants.{Ptr}
 use Rattle.bril_tree.specs.Memory.{live_block, cell_at, changed, changed_block}
 use Rattle.bril_tree.specs.State.{with_value, Block}
-use Rattle.bril_heap.specs.Heap.{BlockView, IsHeap, block_seen, entries_of, stored_or_fault, load_answer, Stores}
+use Rattle.bril_heap.specs.Heap.{BlockView, IsHeap, block_seen, entries_of, Stores}
 use Rattle.bril_heap.specs.Stored.{seen, IsLiveAt, IsCellAt}
 use Rattle.bril_heap.proofs.Entries.{entries-set}
 

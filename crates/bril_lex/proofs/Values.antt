@@ -1,9 +1,7 @@
 -- A token's text has one value.
-use Rattle.std.proofs.Common.{◌≡◌, ℕ, List, [], ◌∷◌, ◌++◌, Some, sym, ap, ◌∙◌, inl, inr}
+use Rattle.std.proofs.Common.{◌≡◌, ℕ, List, [], ◌∷◌, ◌++◌, sym, ap, ◌∙◌}
 use Rattle.std.proofs.lemmas.Bool.{true≢false}
-use Rattle.std.proofs.lemmas.List.{append_cancel_right}
-use Rattle.std.proofs.lemmas.Str.{encode_same}
-use Rattle.bril_lex.specs.Spelling.{escaped, SpellsChar, SpellsPath, IsEscape, IsPlainChar}
+use Rattle.bril_lex.specs.Spelling.{IsEscape, IsPlainChar}
 use Rattle.bril_lex.specs.Scan.{begins_escape}
 use Rattle.bril_lex.proofs.Quoted.{no_escape, escape_begins}
 use lib.Utf8.{encode}

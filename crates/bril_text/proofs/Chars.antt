@@ -1,11 +1,7 @@
 -- What comes between the quotes of a char.
-use Rattle.std.proofs.Common.{◌≡◌, ℕ, suc, ◌<◌, Bool, true, false, cond, eqb, List, [], ◌∷◌, length, Some, None, refl, sym, ap, ◌∙◌, subst, inl, inr, arith}
-use Rattle.std.specs.Prelude.{◌&&◌, unwrap_or}
+use Rattle.std.proofs.Common.{◌≡◌, ℕ, ◌<◌, List, length, Some, None, sym, ap, ◌∙◌, subst, inl, inr, arith}
 use Rattle.std.specs.Str.{IsUtf8}
-use Rattle.std.proofs.lemmas.Bool.Decides.{nat_tests}
 use Rattle.std.proofs.lemmas.Str.{IsUtf8-encode, length-encode, len_utf8_bounds}
-use Rattle.bril_lex.specs.Spelling.{escaped}
-use Rattle.bril_grammar.specs.Terminal.{scalar_at_front, char_value}
 use Rattle.bril_text.specs.Seen.{IsScalarText, IsInsideChar, escape_of}
 
 pub IsScalarText-utf8 : (text : List ℕ) → IsScalarText text → IsUtf8 text

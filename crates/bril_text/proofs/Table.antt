@@ -1,14 +1,11 @@
 -- Looking up a row of the table of keywords.
-use Rattle.std.proofs.Common.{◌≡◌, ℕ, ◌<◌, ◌≤◌, ◌+◌, cond, List, length, get_or, drop, map, Bool, Option, Some, None, ap, bytes_eq}
+use Rattle.std.proofs.Common.{◌≡◌, ℕ, List, Bool, Option, bytes_eq}
 use Rattle.std.specs.Prelude.{unwrap_or}
 use Rattle.std.specs.List.{list_any}
-use Rattle.std.specs.Borrow.{Bor}
-use Rattle.std.proofs.lemmas.List.{drop_more, drop_all}
 use Rattle.bril_grammar.specs.declared.keyword.Keyword.{Keyword}
 use Rattle.bril_grammar.specs.Keyword.{entries, keyword_among, operation_or_plain, keyword_of}
 use Rattle.bril_tree.specs.Spelling.{operation_of, float_operations}
 use Rattle.bril_tree.specs.declared.operation.Op.{Op}
-use Rattle.bril_text.specs.Table.{entry_of}
 
 -- what an identifier is, from the three look-ups
 pub keyword_is : (text : List ℕ) (found : Option Keyword) (operation : Option Op) (float : Bool) → found ≡ keyword_among entries text → operation ≡ operation_of text → float ≡ list_any (bytes_eq text) float_operations →

@@ -28,9 +28,10 @@ use Rattle.pass_accept.specs.Edited.{IsNew, LosesNoDestination, IsOld, Edits}
 use Rattle.pass_accept.proofs.Heads.{start_matched}
 use Rattle.pass_accept.proofs.Alone.{both_alone}
 use Rattle.pass_accept.proofs.Reaching.{ReachedBeside, regular-reaches, reached_points}
-use Rattle.pass_accept.proofs.Edited.{edit_accepted}
+use Rattle.pass_accept.proofs.Edited.{nop-new, edit_accepted}
 use Rattle.pass_steps.proofs.Shapes.{shaped_here}
-use Rattle.pass_walks.specs.Matched.{Covers, WalksMatch, MatchedWalk, IsHarmless, MatchesWalks}
+use Rattle.pass_walks.specs.Matched.{Covers, WalksMatch, MatchedWalk, MatchesWalks}
+use Rattle.pass_walks.proofs.Items.{harmless_item}
 use Rattle.pass_walks.proofs.Walks.{regular_branch_matched}
 use Rattle.pass_names.proofs.Points.{found}
 use Rattle.dead_code.specs.Removable.{is_silent}
@@ -74,15 +75,12 @@ module _ (P Q : Prog) (made : ℕ → List Instr) (accepted : IsAccepted P) (t :
   also_reached i was = let r = reached_points (dead_plan P Q made t) P Q f (preserves P Q made t accepted) onwards i was in subst (IsReached (code_of Q f)) (sym r.points) r.reached
 
   module _ (F G : Func) (p : slice_get P.funcs f ≡ Some F) (q : slice_get Q.funcs f ≡ Some G) where
-    nop-new : IsNew P Q f F G nop
-    nop-new = record { dest = λ x y name d. absurd (cc); fits = λ types. record { shaped = refl; calls = refl; typed = refl } }
-
     no-reads : (b : Instr) → reads_of b ≡ [] → LosesNoDestination P Q f F G b
     no-reads b e x y name among i a at dest = absurd (subst (In (Variable y)) e among)
 
     -- each item of Q is a `nop` that the pass made, or one of P
     items : (j : ℕ) (b : Instr) → item_at Q f j ≡ Some b → IsNew P Q f F G b ⊎ IsOld P Q f F G j b
-    items j b at = ⊎_elim stays (λ g. inl (subst (IsNew P Q f F G) (same_Some nop b (sym (gone-nop P Q made t f j g) ∙ at)) nop-new)) ((t.chain f).became j)
+    items j b at = ⊎_elim stays (λ g. inl (subst (IsNew P Q f F G) (same_Some nop b (sym (gone-nop P Q made t f j g) ∙ at)) (nop-new P Q f F G))) ((t.chain f).became j)
       where
         stays : slice_get (made f) j ≡ item_at P f j → IsNew P Q f F G b ⊎ IsOld P Q f F G j b
         stays same = inr (by (item_at P f j) refl)
@@ -135,12 +133,9 @@ module _ (P Q : Prog) (made : ℕ → List Instr) (accepted : IsAccepted P) (t :
       start = start_matched P Q t.heads f F G p q (deadening P Q made t) refl;
       branches = goes_on;
       drawn = λ v l. (l, l.matches.points);
-      settled = λ v l e. ⊎_elim inl (λ g. inr (harmless _ (end_of v) (ap (item_at Q f) (sym l.matches.points) ∙ gone-nop P Q made t f (end_of l.walk) g))) ((t.chain f).became (end_of l.walk));
+      settled = λ v l e. ⊎_elim inl (λ g. inr (harmless_item _ (item_at Q f (end_of v)) nop (ap (item_at Q f) (sym l.matches.points) ∙ gone-nop P Q made t f (end_of l.walk) g) refl refl refl)) ((t.chain f).became (end_of l.walk));
       once = λ s u w b r c k. sym b ∙ c;
     }
-      where
-        harmless : (Assured : Location → Type 0) (j : ℕ) → item_at Q f j ≡ Some nop → IsHarmless Assured (slice_get (code_of Q f) j)
-        harmless Assured j e = subst (IsHarmless Assured) (sym e) (record { there = refl; alone = refl; closed = refl; reads = λ item same y among. absurd (subst (In y) (sym (ap reads_of (same_Some nop item same))) among) })
 
     edits : Edits (dead_plan P Q made t) P Q f F G
     edits = record { items = items; walks = inl walks }

@@ -11,6 +11,7 @@ use Rattle.bril_tree.specs.declared.numbered.Instr.TheVariants.{Label, Const, Ac
 use Rattle.bril_tree.specs.declared.operation.Op.{Op}
 use Rattle.bril_tree.specs.declared.operation.Op.TheVariants as op
 use Rattle.bril_tree.specs.Assigned.{assigns_of}
+use Rattle.bril_tree.specs.FunctionForm.{listed}
 use Rattle.bril_tree.specs.Live.{IsLive}
 use Rattle.bril_tree.specs.Membership.{In}
 use Rattle.bril_tree.specs.Numbered.{nop}
@@ -19,31 +20,32 @@ use Rattle.bril_tree.specs.Shape.{is_shaped, fits_shape, shape_of}
 use Rattle.bril_tree.specs.Walk.{IsReached}
 use Rattle.bril_tree.proofs.Members.{in_contains, contains_in, in_append_left, in_append_right, in_append_cases}
 use Rattle.bril_tree.proofs.Shapes.{dest_there}
-use Rattle.definite_assignment.specs.Location.{number_of}
-use Rattle.live_sets.specs.Arcs.{item_location, operation_location}
-use Rattle.live_sets.specs.Reads.{Accesses, access_at}
-use Rattle.live_sets.specs.declared.accesses.Access.{Access}
-use Rattle.live_sets.proofs.Law.{assigned-location, location-assigned}
-use Rattle.dead_code.specs.Emptied.{IsCleared, WereRemovable, emptied, with_nops}
+use Rattle.flow_graph.specs.Location.{location_at, number_of}
+use Rattle.flow_graph.specs.Accesses.{Accesses}
+use Rattle.flow_graph.specs.Reads.{access_at}
+use Rattle.flow_graph.specs.declared.reads.Access.{Access}
+use Rattle.flow_graph.proofs.Locations.{assigned-location, location-assigned}
+use Rattle.dead_code.specs.Emptied.{IsCleared, WereRemovable, emptied}
+use Rattle.pass_plan.specs.Marked.{with_nops}
 use Rattle.dead_code.specs.Removable.{is_computation, is_silent, only_computes, IsUnused, IsIdle, IsRemovable}
 use Rattle.dead_code.specs.Work.{IsSearched, IsSettled, IsSound, IsWork, NoneIdle, assignment_if, assignments_from, is_marked, remaining}
 use Rattle.dead_code.proofs.Chain.{Chain, chain, still_reached, was_reached}
-use Rattle.dead_code.proofs.Marks.{with_nops-alive, with_nops-dead, length-with_nops}
+use Rattle.pass_plan.proofs.Marked.{with_nops-alive, with_nops-dead, length-with_nops, nops-true, nops-false, nops-before}
 use Rattle.dead_code.proofs.Step.{set-here}
 use Rattle.dead_code.proofs.Working.{computation-reached, next-reached, remaining-chain}
 
 -- ---- the assignments of computations
 
-one-there : (b : Bool) (k : ℕ) (item : Instr) (x : Location) → b ≡ true → item_location item ≡ Some x → In (access_at k x) (assignment_if b k item)
+one-there : (b : Bool) (k : ℕ) (item : Instr) (x : Location) → b ≡ true → location_at (Some item) ≡ Some x → In (access_at k x) (assignment_if b k item)
 one-there true k item x e at = subst (λ o. In (access_at k x) (map (access_at k) (option_to_list o))) (sym at) (inl refl)
 one-there false k item x e at = absurd cc
 
-assigned-from : (first : ℕ) (code : List Instr) (k : ℕ) (item : Instr) (x : Location) → slice_get code k ≡ Some item → is_computation item ≡ true → item_location item ≡ Some x → In (access_at (first + k) x) (assignments_from first code)
+assigned-from : (first : ℕ) (code : List Instr) (k : ℕ) (item : Instr) (x : Location) → slice_get code k ≡ Some item → is_computation item ≡ true → location_at (Some item) ≡ Some x → In (access_at (first + k) x) (assignments_from first code)
 assigned-from first [] k item x at c l = absurd (let n : None ≡ Some item = at in cc)
 assigned-from first (a ∷ code) zero item x at c l =
     let z : first + zero ≡ first = omega arith in
     let same : item ≡ a = sym (same_Some a item at) in
-    in_append_left _ (assignment_if (is_computation a) first a) (assignments_from (suc first) code) (subst (λ n. In (access_at n x) (assignment_if (is_computation a) first a)) (sym z) (one-there (is_computation a) first a x (ap is_computation (sym same) ∙ c) (ap item_location (sym same) ∙ l)))
+    in_append_left _ (assignment_if (is_computation a) first a) (assignments_from (suc first) code) (subst (λ n. In (access_at n x) (assignment_if (is_computation a) first a)) (sym z) (one-there (is_computation a) first a x (ap is_computation (sym same) ∙ c) (ap (λ (i : Instr). location_at (Some i)) (sym same) ∙ l)))
 assigned-from first (a ∷ code) (suc k) item x at c l =
     let z : suc first + k ≡ first + suc k = omega arith in
     in_append_right _ (assignment_if (is_computation a) first a) (assignments_from (suc first) code) (subst (λ n. In (access_at n x) (assignments_from (suc first) code)) z (assigned-from (suc first) code k item x at c l))
@@ -55,10 +57,10 @@ record AssignedBy (first : ℕ) (code : List Instr) (access : Access) : Type 0 w
   at : slice_get code k ≡ Some item
   computes : is_computation item ≡ true
   x : Location
-  assigns : item_location item ≡ Some x
+  assigns : location_at (Some item) ≡ Some x
   is : access ≡ access_at (first + k) x
 
-one-by : (first : ℕ) (a : Instr) (code : List Instr) (access : Access) (b : Bool) → is_computation a ≡ b → (o : Option Location) → item_location a ≡ o → In access (assignment_if b first a) → AssignedBy first (a ∷ code) access
+one-by : (first : ℕ) (a : Instr) (code : List Instr) (access : Access) (b : Bool) → is_computation a ≡ b → (o : Option Location) → location_at (Some a) ≡ o → In access (assignment_if b first a) → AssignedBy first (a ∷ code) access
 one-by first a code access true e None l i = absurd (subst (λ o. In access (map (access_at first) (option_to_list o))) l i)
 one-by first a code access true e (Some x) l i = by (subst (λ o. In access (map (access_at first) (option_to_list o))) l i)
   where
@@ -69,7 +71,7 @@ one-by first a code access false e o l i = absurd i
 
 assigned_by : (first : ℕ) (code : List Instr) (access : Access) → In access (assignments_from first code) → AssignedBy first code access
 assigned_by first [] access i = absurd i
-assigned_by first (a ∷ code) access i = ⊎_elim (λ h. one-by first a code access (is_computation a) refl (item_location a) refl h) (λ h. later (assigned_by (suc first) code access h)) (in_append_cases access (assignment_if (is_computation a) first a) (assignments_from (suc first) code) i)
+assigned_by first (a ∷ code) access i = ⊎_elim (λ h. one-by first a code access (is_computation a) refl (location_at (Some a)) refl h) (λ h. later (assigned_by (suc first) code access h)) (in_append_cases access (assignment_if (is_computation a) first a) (assignments_from (suc first) code) i)
   where
     later : AssignedBy (suc first) code access → AssignedBy first (a ∷ code) access
     later r = let z : suc first + r.k ≡ first + suc r.k = omega arith in record { k = suc r.k; item = r.item; at = r.at; computes = r.computes; x = r.x; assigns = r.assigns; is = r.is ∙ ap (λ n. access_at n r.x) z }
@@ -128,10 +130,10 @@ settled code dead queued number found sound none s off looked x is p item at com
 -- ---- the end
 
 -- a computation has a destination
-has_dest : (o : Op) (ret : Bool) (dest : Option ℕ) (args funcs labels : ℕ) → (shape_of ret o).dest ≡ true → fits_shape (shape_of ret o) (is_some dest) args funcs labels ≡ true → (x : Location) × (option_map Variable dest ≡ Some x)
-has_dest o ret dest args funcs labels d s = let e = dest_there (shape_of ret o) dest args funcs labels d s in (Variable e.0, ap (option_map Variable) e.1)
+has_dest : (o : Op) (ret : Bool) (dest : Option ℕ) (args funcs labels : ℕ) → (shape_of ret o).dest ≡ true → fits_shape (shape_of ret o) (is_some dest) args funcs labels ≡ true → (x : Location) × (slice_get (map Variable (listed dest)) 0 ≡ Some x)
+has_dest o ret dest args funcs labels d s = let e = dest_there (shape_of ret o) dest args funcs labels d s in (Variable e.0, ap (λ d. slice_get (map Variable (listed d)) 0) e.1)
 
-operation-assigns : (ret : Bool) (o : Op) (dest : Option ℕ) (ty : _) (args funcs labels : List ℕ) → is_shaped ret (Act dest ty o args funcs labels) ≡ true → only_computes o ≡ true → (x : Location) × (operation_location o dest args ≡ Some x)
+operation-assigns : (ret : Bool) (o : Op) (dest : Option ℕ) (ty : _) (args funcs labels : List ℕ) → is_shaped ret (Act dest ty o args funcs labels) ≡ true → only_computes o ≡ true → (x : Location) × (location_at (Some (Act dest ty o args funcs labels)) ≡ Some x)
 operation-assigns ret op.Set dest ty args funcs labels s c = (_, refl)
 operation-assigns ret op.Undef dest ty args funcs labels s c = has_dest op.Undef ret dest (length args) (length funcs) (length labels) refl s
 operation-assigns ret op.Get dest ty args funcs labels s c = has_dest op.Get ret dest (length args) (length funcs) (length labels) refl s
@@ -206,27 +208,6 @@ pub record IsEmptied (code : List Instr) (dead : List Bool) : Type 0 where
   pub is : remaining code dead ≡ emptied code points
   pub busy : (p : ℕ) (item : Instr) → p < length dead → slice_get (remaining code dead) p ≡ Some item → (is_silent item ≡ true) ⊎ IsReached code p
 
-nops-true : {X : Type 0} (e : X) (dead : List Bool) (items : List X) → length dead < length items → with_nops e (dead ++ true ∷ []) items ≡ set (with_nops e dead items) (length dead) e
-nops-true e [] [] low = absurd (omega arith)
-nops-true e [] (x ∷ items) low = refl
-nops-true e (d ∷ dead) [] low = absurd (omega arith)
-nops-true e (d ∷ dead) (x ∷ items) low = ap (λ l. cond d e x ∷ l) (nops-true e dead items (omega arith))
-
-nops-false : {X : Type 0} (e : X) (dead : List Bool) (items : List X) → with_nops e (dead ++ false ∷ []) items ≡ with_nops e dead items
-nops-false e [] [] = refl
-nops-false e [] (x ∷ items) = refl
-nops-false e (d ∷ dead) [] = refl
-nops-false e (d ∷ dead) (x ∷ items) = ap (λ l. cond d e x ∷ l) (nops-false e dead items)
-
-nops-before : {X : Type 0} (e : X) (b : Bool) (dead : List Bool) (items : List X) (p : ℕ) → p < length dead → slice_get (with_nops e (dead ++ b ∷ []) items) p ≡ slice_get (with_nops e dead items) p
-nops-before e b [] items p low = absurd (omega arith)
-nops-before e b (d ∷ dead) [] p low = refl
-nops-before e b (d ∷ dead) (x ∷ items) zero low = refl
-nops-before e b (d ∷ dead) (x ∷ items) (suc p) low = nops-before e b dead items p (omega arith)
-
-pub none-emptied : (code : List Instr) → IsEmptied code []
-none-emptied code = record { points = []; were = tt; is = refl; busy = λ p item low at. absurd (omega arith) }
-
 pub one-emptied : (code : List Instr) (dead : List Bool) (item : Instr) (b : Bool) → slice_get code (length dead) ≡ Some item → (b ≡ true → IsIdle code (length dead) item) → (b ≡ false → (is_silent item ≡ true) ⊎ IsReached code (length dead)) → IsEmptied code dead → IsEmptied code (dead ++ b ∷ [])
 one-emptied code dead item b at idle busy e = by b refl
   where
@@ -280,7 +261,7 @@ all-emptied code dead long e = (
 -- no more assignments than items
 one-assignment : (b : Bool) (k : ℕ) (item : Instr) → length (assignment_if b k item) ≤ 1
 one-assignment false k item = omega arith
-one-assignment true k item = by (item_location item)
+one-assignment true k item = by (location_at (Some item))
   where
     by : (o : Option Location) → length (map (access_at k) (option_to_list o)) ≤ 1
     by None = omega arith

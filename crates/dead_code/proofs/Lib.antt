@@ -4,7 +4,6 @@ pub mod Computing
 pub mod Points
 pub mod Refines
 pub mod Accepted
-pub mod Marks
 pub mod Searching
 pub mod Working
 pub mod Queueing

@@ -11,18 +11,20 @@ use Rattle.bril_tree.specs.Membership.{In}
 use Rattle.bril_tree.specs.Numbered.{nop}
 use Rattle.bril_tree.specs.Operand.{Location, reads_of}
 use Rattle.bril_tree.proofs.Members.{in_contains, contains_in}
-use Rattle.definite_assignment.specs.Location.{number_of}
+use Rattle.flow_graph.specs.Location.{number_of}
 use Rattle.graph_search.specs.Path.{IsReached as IsFound, other_than}
 use Rattle.graph_search.specs.declared.graph.Arc.{Arc}
 use Rattle.live_sets.specs.Arcs.{AreBackArcs}
-use Rattle.live_sets.specs.Reads.{Accesses, reads_from}
-use Rattle.live_sets.specs.declared.accesses.Access.{Access}
+use Rattle.flow_graph.specs.Accesses.{Accesses}
+use Rattle.flow_graph.specs.Reads.{reads_from}
+use Rattle.flow_graph.specs.declared.reads.Access.{Access}
 use Rattle.live_sets.proofs.Law.{AreReaders}
-use Rattle.live_sets.proofs.ReadLists.{readers_are, reads-inside}
+use Rattle.live_sets.proofs.Readers.{readers_are}
+use Rattle.flow_graph.proofs.ReadLists.{reads-inside}
 use Rattle.pass_plan.proofs.Elements.{all_in, in_all}
 use Rattle.dead_code.specs.Work.{IsLookedAt, IsReadBy, IsSearched, IsSound, IsWork, Queues, Unqueues, assignments_from, is_marked, reads_left, remaining}
 use Rattle.dead_code.proofs.Clearing.{is_assignment, removable, settled}
-use Rattle.dead_code.proofs.Marks.{with_nops-alive, with_nops-dead}
+use Rattle.pass_plan.proofs.Marked.{with_nops-alive, with_nops-dead}
 use Rattle.dead_code.proofs.Searching.{found-live, live-found}
 use Rattle.dead_code.proofs.Working.{remaining-chain, more, fewer-reads, more-work, more-searched}
 
@@ -123,12 +125,3 @@ looked-at code dead queue queued number found items list same exact all w s = re
 -- the items of a location are assignments
 pub items-assign : (code : List Instr) (number : ℕ) (items : List ℕ) (list : List Access) → list ≡ assignments_from 0 code → ((item : ℕ) → Contains items item ↔ Accesses list number item) → All (Accesses (assignments_from 0 code) number) items
 items-assign code number items list same exact = in_all (Accesses (assignments_from 0 code) number) items (λ k i. subst (λ l. Accesses l number k) same ((exact k).0 (contains_in k items i)))
-
--- the location that is taken off the queue is the exception
-pub taken-off : (code : List Instr) (dead : List Bool) (queue shorter : List ℕ) (queued marked : List Bool) (number : ℕ) → IsWork code dead queue queued (λ n. ⊥) → Unqueues number queue shorter queued marked → IsWork code dead shorter marked (λ n. n ≡ number)
-taken-off code dead queue shorter queued marked number w u = record {
-  sound = w.sound;
-  none_idle = w.none_idle;
-  are = u.are;
-  settled = λ x inside off free. w.settled x (subst (λ n. number_of x < n) u.long inside) (sym (u.others (number_of x) free) ∙ off) (λ e. e);
-}

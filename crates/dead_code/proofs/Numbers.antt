@@ -1,32 +1,25 @@
 -- The numbers of a deadened program: none is greater than the program's.
-use Rattle.std.proofs.Common.{◌≡◌, ◌⊎◌, ℕ, suc, List, [], Option, Some, None, refl, sym, ap, subst, ◌∙◌, inl, inr, ⊎_elim}
+use Rattle.std.proofs.Common.{◌≡◌, ◌⊎◌, ℕ, suc, List, [], Some, refl, sym, ap, subst, ◌∙◌, inl, inr, ⊎_elim}
 use Rattle.std.specs.Prelude.{slice_get}
 use Rattle.std.proofs.lemmas.Option.{same_Some}
-use Rattle.bril_tree.specs.declared.edge.Edge.{Edge}
 use Rattle.bril_tree.specs.declared.numbered.Instr.{Instr}
 use Rattle.bril_tree.specs.declared.numbered.Instr.TheVariants.{Label}
 use Rattle.bril_tree.specs.declared.numbered_function.Func.{Func}
 use Rattle.bril_tree.specs.declared.program.Prog.{Prog}
 use Rattle.bril_tree.specs.Accepted.{IsAccepted}
 use Rattle.bril_tree.specs.Edge.{Branch, branches_at, branches_from, onward}
-use Rattle.program_numbers.specs.Entries.{Enters}
-use Rattle.bril_tree.specs.FrameWords.{IsDepth}
-use Rattle.bril_tree.specs.Leaving.{IsEdge, edge_of, leave_of}
+use Rattle.bril_tree.specs.Leaving.{edge_of}
 use Rattle.bril_tree.specs.Membership.{In}
-use Rattle.bril_tree.specs.Numbered.{named, names_of_functions, nop, tree_at}
+use Rattle.bril_tree.specs.Numbered.{named, nop, tree_at}
 use Rattle.bril_tree.specs.Sites.{sites_of}
 use Rattle.bril_tree.specs.Step.{code_of, item_at, items_of}
 use Rattle.bril_tree.specs.Walk.{IsReached, end_of}
-use Rattle.bril_tree.proofs.Members.{contains_in, in_contains}
-use Rattle.pass_walks.specs.Matched.{MatchedWalk}
+use Rattle.pass_walks.specs.Matched.{MatchedWalk, MatchesWalks}
 use Rattle.pass_numbers.specs.Numbers.{FunctionWithin, NumbersWithin}
-use Rattle.pass_numbers.proofs.Arguments.{no-longer-arguments}
-use Rattle.pass_walks.proofs.Accepting.{matched}
-use Rattle.pass_numbers.proofs.Depths.{depth-within}
-use Rattle.pass_numbers.proofs.Edges.{edge-back, items-back, label-back}
-use Rattle.pass_numbers.proofs.Entering.{EntryMatched, fewer-entries, width-within}
-use Rattle.pass_numbers.proofs.Locations.{IsOfItems}
-use Rattle.pass_numbers.proofs.Programs.{accepted-locations, functions_bound, by-functions}
+use Rattle.pass_numbers.proofs.Edges.{edge-back, label-back}
+use Rattle.pass_numbers.proofs.InPlace.{EdgeBack, branch-back, in_place-entries, in_place-width}
+use Rattle.pass_numbers.proofs.Items.{IsOfItems, items-back, unchanged}
+use Rattle.pass_numbers.proofs.Programs.{by-functions, function-within, functions_bound}
 use Rattle.dead_code.specs.Emptied.{IsDeadened}
 use Rattle.dead_code.proofs.Accepted.{deadened-accepted, walks}
 use Rattle.dead_code.proofs.Chain.{Gone}
@@ -36,9 +29,6 @@ use Rattle.dead_code.proofs.Points.{Deadened}
 use Rattle.dead_code.proofs.Refines.{dead_plan, gone-nop, preserves, staying-tree}
 
 module _ (P Q : Prog) (made : ℕ → List Instr) (accepted : IsAccepted P) (accepted_q : IsAccepted Q) (t : Deadened P Q made) (f : ℕ) (F G : Func) (p : slice_get P.funcs f ≡ Some F) (q : slice_get Q.funcs f ≡ Some G) where
-  here : code_of P f ≡ F.code
-  here = ap items_of p
-
   there : code_of Q f ≡ G.code
   there = ap items_of q
 
@@ -53,21 +43,15 @@ module _ (P Q : Prog) (made : ℕ → List Instr) (accepted : IsAccepted P) (acc
   -- ---- entries
 
   -- an edge of Q is one of P
-  record EdgeBack (leave to : ℕ) : Type 0 where
-    edge : Edge
-    is : IsEdge (code_of P f) edge
-    leaves : edge.leave ≡ leave
-    goes : edge.to ≡ to
-
-  edge-same : (v : List Branch) (b : Branch) → (l : MatchedWalk (dead_plan P Q made t) P Q f F.args G.args v) → In b (branches_at (code_of Q f) (end_of v)) → EdgeBack (edge_of (sites_of (code_of Q f) v) b).leave b.to
+  edge-same : (v : List Branch) (b : Branch) → (l : MatchedWalk (dead_plan P Q made t) P Q f F.args G.args v) → In b (branches_at (code_of Q f) (end_of v)) → EdgeBack P f (edge_of (sites_of (code_of Q f) v) b).leave b.to
   edge-same v b l among = ⊎_elim regular gone ((t.chain f).became (end_of l.walk))
     where
-      regular : slice_get (made f) (end_of l.walk) ≡ item_at P f (end_of l.walk) → EdgeBack (edge_of (sites_of (code_of Q f) v) b).leave b.to
+      regular : slice_get (made f) (end_of l.walk) ≡ item_at P f (end_of l.walk) → EdgeBack P f (edge_of (sites_of (code_of Q f) v) b).leave b.to
       regular same =
           let e = edge-back (dead_plan P Q made t) P Q f F.args G.args (preserves P Q made t accepted) v b (record { walk = l.walk; matches = l.matches; regular = same }) among in
           record { edge = e.edge; is = e.is; leaves = e.leaves.0; goes = e.points }
 
-      gone : Gone (code_of P f) (made f) (end_of l.walk) → EdgeBack (edge_of (sites_of (code_of Q f) v) b).leave b.to
+      gone : Gone (code_of P f) (made f) (end_of l.walk) → EdgeBack P f (edge_of (sites_of (code_of Q f) v) b).leave b.to
       gone g =
           let i = end_of l.walk in
           let was : IsReached (code_of P f) i = record { walk = l.walk; is = l.matches.is; ends = refl } in
@@ -75,45 +59,19 @@ module _ (P Q : Prog) (made : ℕ → List Instr) (accepted : IsAccepted P) (acc
           let now : item_at Q f (end_of v) ≡ Some nop = ap (item_at Q f) (sym l.matches.points) ∙ gone-nop P Q made t f i g in
           let branch : b ≡ onward (end_of v) = ⊎_elim (λ s. s) (λ n. absurd n) (subst (λ o. In b (branches_from (code_of Q f) (end_of v) o)) now among) in
           let step : In (onward i) (branches_at (code_of P f) i) = subst (λ o. In (onward i) (branches_from (code_of P f) i o)) (sym g.was) (subst (In (onward i)) (sym on) (inl refl)) in
-          record {
-            edge = edge_of (sites_of (code_of P f) l.walk) (onward i);
-            is = record { walk = l.walk; is = l.matches.is; branch = onward i; at = contains_in (onward i) (branches_at (code_of P f) i) step; are = refl };
-            leaves = l.matches.points ∙ ap (λ (w : Branch). leave_of w.aborts w.from (sites_of (code_of Q f) v)) (sym branch);
-            goes = ap suc l.matches.points ∙ ap (λ (w : Branch). w.to) (sym branch);
-          }
-
-  abbrev Same : Option ℕ → ℕ → Option ℕ → Type 0
-  Same leave label from = leave ≡ from
-
-  entry : (leave : Option ℕ) (label : ℕ) → Enters G.code leave label → EntryMatched F G Same leave label
-  entry None l at = let m = one-label 0 l at in record { from = None; to = m.0; enters = m.1; leaves = refl; same = m.2 }
-  entry (Some point) l e =
-      let edge : IsEdge (code_of Q f) e.0 = subst (λ c. IsEdge c e.0) (sym there) e.1 in
-      let w = matched (dead_plan P Q made t) P Q f F.args G.args (walks P Q made accepted t f F G p q) edge.walk edge.is in
-      let back = edge-same edge.walk edge.branch w (in_contains edge.branch (branches_at (code_of Q f) (end_of edge.walk)) edge.at) in
-      let to : back.edge.to ≡ e.0.to = back.goes ∙ ap (λ (d : Edge). d.to) (sym edge.are) in
-      let m = one-label e.0.to l e.3 in
-      record {
-        from = Some point;
-        to = m.0;
-        enters = (back.edge, subst (λ c. IsEdge c back.edge) here back.is, back.leaves ∙ ap (λ (d : Edge). d.leave) (sym edge.are) ∙ e.2, ap (slice_get F.code) to ∙ m.1);
-        leaves = refl;
-        same = m.2;
-      }
+          branch-back P f l.walk l.matches.is (onward i) b step refl (ap (λ (w : Branch). w.aborts) branch) (l.matches.points ∙ ap (λ (w : Branch). w.from) (sym branch)) (ap suc l.matches.points ∙ ap (λ (w : Branch). w.to) (sym branch)) (sites_of (code_of Q f) v)
 
   -- ---- the numbers of a function
 
-  of_items : IsOfItems (names_of_functions P.funcs) (names_of_functions Q.funcs) F G
+  of_items : IsOfItems unchanged [] F G
   of_items = items-back P Q f F G p q (t.heads.args f F G p q) (λ i b at. ⊎_elim inl (λ same. inr (i, same)) (one-item i b at))
 
+  matches : MatchesWalks (dead_plan P Q made t) P Q f F.args G.args
+  matches = walks P Q made accepted t f F G p q
+
   function_within : FunctionWithin 0 F G
-  function_within = record {
-    locations = accepted-locations Q accepted_q f (names_of_functions P.funcs) (names_of_functions Q.funcs) F G q of_items;
-    arguments = no-longer-arguments (names_of_functions P.funcs) (names_of_functions Q.funcs) F G of_items;
-    depth = λ d e a b. depth-within (dead_plan P Q made t) P Q f F.args G.args (walks P Q made accepted t f F G p q) d e (subst (λ c. IsDepth c d) (sym here) a) (subst (λ c. IsDepth c e) (sym there) b);
-    entries = fewer-entries F G Same entry (λ a c b l k r s. r ∙ sym s);
-    width = λ d e a b. width-within F G [] (λ leave. record { from = leave; IsExtra = λ l. ⊥; one = λ l k r s. absurd r; labels = λ l h. inr (let m = entry leave l h in (m.to, subst (λ o. Enters F.code o m.to) (sym m.leaves) m.enters, m.same)) }) d e a b;
-  }
+  function_within =
+      function-within (dead_plan P Q made t) unchanged P Q accepted_q f F G p q matches of_items 0 (in_place-entries (dead_plan P Q made t) P Q f F G p q matches one-label edge-same) (in_place-width (dead_plan P Q made t) P Q f F G p q matches one-label edge-same)
 
 pub keeps_numbers : (P Q : Prog) → IsAccepted P → IsDeadened P Q → NumbersWithin P Q 0
 keeps_numbers P Q accepted makes =

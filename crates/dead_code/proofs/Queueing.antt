@@ -7,9 +7,9 @@ use Rattle.bril_tree.specs.declared.numbered.Instr.{Instr}
 use Rattle.bril_tree.specs.Membership.{In}
 use Rattle.bril_tree.specs.Operand.{Location, reads_of}
 use Rattle.bril_tree.proofs.Members.{in_contains, contains_in, in_append_left, in_append_right, in_append_cases}
-use Rattle.definite_assignment.specs.Location.{number_of}
-use Rattle.live_sets.specs.Reads.{access_at, item_reads}
-use Rattle.live_sets.specs.declared.accesses.Access.{Access}
+use Rattle.flow_graph.specs.Location.{number_of}
+use Rattle.flow_graph.specs.Reads.{access_at, item_reads}
+use Rattle.flow_graph.specs.declared.reads.Access.{Access}
 use Rattle.pass_plan.proofs.Elements.{all_in, in_all}
 use Rattle.dead_code.specs.Work.{AreQueued, IsReadBy, Queues, Unqueues, is_marked}
 
@@ -20,35 +20,6 @@ only_one n l (inr i) = absurd i
 -- a mark is among the marks
 marked-within : (marks : List Bool) (l : ℕ) → is_marked marks l ≡ true → l < length marks
 marked-within marks l e = ⊎_elim (λ low. low) (λ past. absurd (true≢false (sym e ∙ get_or_past marks l false past))) (cases_lt l (length marks))
-
--- ---- one location
-
-pub queues-same : (l : ℕ) (queue : List ℕ) (queued : List Bool) → AreQueued queue queued → (length queued ≤ l) ⊎ (is_marked queued l ≡ true) → Queues (λ n. n ≡ l) 1 queue queue queued queued
-queues-same l queue queued are on = record {
-  are = are;
-  long = refl;
-  kept = λ n e. e;
-  all = λ n e low. ⊎_elim (λ past. absurd (omega (arith, e, low, past))) (λ m. ap (is_marked queued) e ∙ m) on;
-  few = omega arith;
-}
-
-pub queues-pushed : (l : ℕ) (queue longer : List ℕ) (queued : List Bool) → AreQueued queue queued → l < length queued → longer ≡ queue ++ l ∷ [] → Queues (λ n. n ≡ l) 1 queue longer queued (set queued l true)
-queues-pushed l queue longer queued are low is = record {
-  are = record {
-    inside = in_all (λ n. n < length (set queued l true)) longer (λ n i. ⊎_elim (λ h. let k = all_in (λ n. n < length queued) queue are.inside n h in omega (arith, long, k)) (λ h. let e = only_one n l h in omega (arith, long, e, low)) (in_append_cases n queue (l ∷ []) (subst (In n) is i)));
-    there = λ n e. contains_in n longer (subst (In n) (sym is) (⊎_elim (λ same. in_append_right n queue (l ∷ []) (inl same)) (λ d. in_append_left n queue (l ∷ []) (in_contains n queue (are.there n (sym (get_or-set_other queued l n true false d) ∙ e)))) (cases_eq n l)));
-  };
-  long = long;
-  kept = λ n e. ⊎_elim (λ same. ap (is_marked (set queued l true)) same ∙ here) (λ d. get_or-set_other queued l n true false d ∙ e) (cases_eq n l);
-  all = λ n e inside. ap (is_marked (set queued l true)) e ∙ here;
-  few = let h = ap length is in let m = length-append queue (l ∷ []) in omega arith;
-}
-  where
-    long : length (set queued l true) ≡ length queued
-    long = length-set queued l true
-
-    here : is_marked (set queued l true) l ≡ true
-    here = get_or-set_same queued l true false low
 
 -- ---- several
 
@@ -95,38 +66,6 @@ all-queued item instr reads i a c qa qc is all within q = record {
   all = λ n h low. q.all n (subst (λ l. Contains l n) (sym (numbers-read item (reads_of instr)) ∙ ap (map (λ (access : Access). access.location)) (sym is ∙ sym all)) h) low;
   few = let f = q.few in let l = ap length is ∙ length-map (reads_of instr) (access_at item) in omega arith;
 }
-
--- ---- the next location
-
-pub unqueued : (l : ℕ) (queue shorter : List ℕ) (queued : List Bool) → AreQueued queue queued → queue ≡ shorter ++ l ∷ [] → Unqueues l queue shorter queued (set queued l false)
-unqueued l queue shorter queued are is = record {
-  inside = low;
-  are = record {
-    inside = in_all (λ n. n < length (set queued l false)) shorter (λ n i. let k = all_in (λ n. n < length queued) queue are.inside n (subst (In n) (sym is) (in_append_left n shorter (l ∷ []) i)) in omega (arith, long, k));
-    there = λ n e. contains_in n shorter (by n e);
-  };
-  long = long;
-  others = λ n d. get_or-set_other queued l n false false d;
-  few = let h = ap length is in let m = length-append shorter (l ∷ []) in omega arith;
-}
-  where
-    long : length (set queued l false) ≡ length queued
-    long = length-set queued l false
-
-    low : l < length queued
-    low = all_in (λ n. n < length queued) queue are.inside l (subst (In l) (sym is) (in_append_right l shorter (l ∷ []) (inl refl)))
-
-    by : (n : ℕ) → is_marked (set queued l false) n ≡ true → In n shorter
-    by n e = ⊎_elim here other (cases_eq n l)
-      where
-        here : n ≡ l → In n shorter
-        here same = absurd (true≢false (sym e ∙ ap (is_marked (set queued l false)) same ∙ get_or-set_same queued l false false low))
-
-        other : (n ≡ l → ⊥) → In n shorter
-        other d = ⊎_elim (λ i. i) (λ i. absurd (d (only_one n l i))) (in_append_cases n shorter (l ∷ []) (subst (In n) is (in_contains n queue (are.there n (sym (get_or-set_other queued l n false false d) ∙ e)))))
-
-pub none-queued : (queue : List ℕ) (queued : List Bool) → AreQueued queue queued → queue ≡ [] → (n : ℕ) → is_marked queued n ≡ false
-none-queued queue queued are none n = ⊎_elim (λ e. absurd (subst (In n) none (in_contains n queue (are.there n e)))) (λ e. e) (cases_Bool (is_marked queued n))
 
 -- ---- the start
 

@@ -13,13 +13,14 @@ use Rattle.bril_tree.specs.Sites.{Opens, Keeps, item_change}
 use Rattle.bril_tree.specs.Walk.{IsReached, end_of}
 use Rattle.bril_tree.proofs.Assignments.{site_speculates}
 use Rattle.bril_tree.proofs.Members.{in_contains, contains_in}
-use Rattle.definite_assignment.specs.Location.{number_of}
+use Rattle.flow_graph.specs.Location.{number_of}
 use Rattle.graph_search.specs.Path.{IsReached as IsFound, Leads, other_than}
 use Rattle.graph_search.specs.declared.graph.Arc.{Arc}
-use Rattle.graph_search.proofs.Gates.{open-differs, differs-open}
+use Rattle.graph_search.proofs.OpenArcs.{open-differs, differs-open}
 use Rattle.graph_search.proofs.Paths.{reached_seed, reached_step, reached_all}
 use Rattle.live_sets.specs.Arcs.{AreBackArcs, back_arc}
-use Rattle.live_sets.proofs.Law.{AreReaders, assigned-number, number-assigned}
+use Rattle.live_sets.proofs.Law.{AreReaders}
+use Rattle.flow_graph.proofs.Locations.{assigned-number, number-assigned}
 use Rattle.dead_code.proofs.Chain.{Gone, Chain}
 use Rattle.dead_code.proofs.Step.{reached-next}
 

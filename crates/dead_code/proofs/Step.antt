@@ -89,7 +89,7 @@ module _ (code made : List Instr) (p : ℕ) (points : (l : ℕ) → point_of l m
   action-same op.Guard ls = λ i. onward p ∷ aborts ls i
   action-same _ ls = refl
 
-  branches-same : (o : Option Instr) → branches_from made p o ≡ branches_from code p o
+  pub branches-same : (o : Option Instr) → branches_from made p o ≡ branches_from code p o
   branches-same None = refl
   branches-same (Some (Label l)) = refl
   branches-same (Some (Const dest ty value)) = refl
@@ -132,12 +132,6 @@ module _ (code : List Instr) (j : ℕ) (r : IsRemovable code j) where
   pub walk-was : (w : List Branch) → IsWalk now w → IsWalk code w
   walk-was [] is = tt
   walk-was (b ∷ w) is = let rest = walk-was w is.1 in (subst (λ l. Contains l b) (same_branches (end_of w) (record { walk = w; is = rest; ends = refl })) is.0, rest)
-
-  pub reached-now : (p : ℕ) → IsReached code p → IsReached now p
-  reached-now p h = record { walk = h.walk; is = walk-now h.walk h.is; ends = h.ends }
-
-  pub reached-was : (p : ℕ) → IsReached now p → IsReached code p
-  reached-was p h = record { walk = h.walk; is = walk-was h.walk h.is; ends = h.ends }
 
   change-same : (w : List Branch) (b : Branch) → IsWalk code w → Contains (branches_at code (end_of w)) b → change_of now b ≡ change_of code b
   change-same w b is at = ⊎_elim at_item (λ d. ap (λ o. item_change o b.aborts) (now-other b.from d)) (cases_eq b.from j)

@@ -12,28 +12,28 @@ use Rattle.bril_tree.specs.declared.operation.Op.{Op}
 use Rattle.bril_tree.specs.declared.types.Ty.{Ty}
 use Rattle.bril_tree.specs.declared.operation.Op.TheVariants as op
 use Rattle.bril_tree.specs.Assigned.{assigns_at, assigns_of}
-use Rattle.bril_tree.specs.Edge.{Branch, action_branches, branches_from, onward}
+use Rattle.bril_tree.specs.Edge.{Branch, branches_from, onward}
 use Rattle.bril_tree.specs.Leaving.{Leaves, AbortsFrom}
 use Rattle.bril_tree.specs.Live.{IsLive, Here, Later}
 use Rattle.bril_tree.specs.Membership.{In}
 use Rattle.bril_tree.specs.Numbered.{nop}
 use Rattle.bril_tree.specs.Operand.{Location, reads_of}
 use Rattle.bril_tree.specs.Sites.{Opens, item_change}
+use Rattle.bril_tree.specs.Step.{point_of}
 use Rattle.bril_tree.proofs.Assignments.{site_speculates}
 use Rattle.bril_tree.proofs.Members.{contains_in, in_contains, in_map}
 use Rattle.flow_graph.proofs.Searching.{get_set_other}
-use Rattle.definite_assignment.specs.Location.{number_of}
-use Rattle.live_sets.specs.Arcs.{number_at}
-use Rattle.live_sets.specs.Reads.{item_reads}
-use Rattle.live_sets.specs.declared.accesses.Access.{Access}
-use Rattle.live_sets.proofs.Law.{assigned-number, number-assigned}
+use Rattle.flow_graph.specs.Location.{number_at, number_of}
+use Rattle.flow_graph.specs.Reads.{item_reads}
+use Rattle.flow_graph.specs.declared.reads.Access.{Access}
+use Rattle.flow_graph.proofs.Locations.{assigned-number, number-assigned}
 use Rattle.dead_code.specs.Removable.{IsRemovable, is_computation}
-use Rattle.dead_code.specs.Sweep.{AreNoted, IsQuiet, IsSwept, branches_off, is_branching, is_end}
+use Rattle.dead_code.specs.Sweep.{AreNoted, GoesOn, IsQuiet, IsSwept}
 use Rattle.dead_code.specs.Work.{IsSound, NoneIdle, remaining}
-use Rattle.dead_code.proofs.Marks.{length-with_nops}
+use Rattle.pass_plan.proofs.Marked.{length-with_nops}
 use Rattle.dead_code.proofs.Queueing.{among-more, numbers-read}
-use Rattle.dead_code.proofs.Step.{set-here}
-use Rattle.dead_code.proofs.Working.{more-is, more-none_idle, more-sound}
+use Rattle.dead_code.proofs.Step.{branches-same, set-here}
+use Rattle.dead_code.proofs.Working.{more-is, more-none_idle, more-sound, remaining-chain}
 
 -- ---- where branches lead
 
@@ -41,99 +41,82 @@ onward-to : (j : ℕ) (b : Branch) → In b (onward j ∷ []) → b.to ≡ suc j
 onward-to j b (inl e) = ap (λ (w : Branch). w.to) e
 onward-to j b (inr n) = absurd n
 
-operation-to : (code : List Instr) (j : ℕ) (o : Op) (labels : List ℕ) (b : Branch) → branches_off o ≡ false → In b (action_branches code j o labels) → b.to ≡ suc j
-operation-to code j op.Jmp labels b e i = absurd cc
-operation-to code j op.Br labels b e i = absurd cc
-operation-to code j op.Guard labels b e i = absurd cc
-operation-to code j op.Speculate labels b e i = absurd cc
-operation-to code j op.Ret labels b e i = absurd i
-operation-to code j _ labels b e i = onward-to j b i
+-- a point without branches opens no site
+none-opens : (code : List Instr) (j : ℕ) (o : Option Instr) → branches_from code j o ≡ [] → item_change o false ≡ Opens → ⊥
+none-opens code j None e h = cc
+none-opens code j (Some (Label l)) e h = cc
+none-opens code j (Some (Const d ty v)) e h = cc
+none-opens code j (Some (Act d ty op.Speculate args fns ls)) e h = cc
+none-opens code j (Some (Act d ty _ args fns ls)) e h = cc
 
-item-to : (code : List Instr) (j : ℕ) (item : Instr) (b : Branch) → is_branching item ≡ false → In b (branches_from code j (Some item)) → b.to ≡ suc j
-item-to code j (Label l) b e i = onward-to j b i
-item-to code j (Const d ty v) b e i = onward-to j b i
-item-to code j (Act d ty o args fns ls) b e i = operation-to code j o ls b e i
+nop-goes : (code : List Instr) (j : ℕ) → GoesOn code j nop
+nop-goes code j = record { onward = λ b i. onward-to j b i ∙ (let n : suc j ≡ j + 1 = omega arith in n); plain = λ h. cc }
 
-operation-opens : (d : Option ℕ) (ty : Option Ty) (o : Op) (args fns ls : List ℕ) → branches_off o ≡ false → item_change (Some (Act d ty o args fns ls)) false ≡ Opens → ⊥
-operation-opens d ty op.Speculate args fns ls e opens = cc
-operation-opens d ty _ args fns ls e opens = cc
-
-opens : (item : Instr) → is_branching item ≡ false → item_change (Some item) false ≡ Opens → ⊥
-opens (Label l) e h = cc
-opens (Const d ty v) e h = cc
-opens (Act d ty o args fns ls) e h = operation-opens d ty o args fns ls e h
-
-module _ (made : List Instr) where
+module _ (code made : List Instr) where
   aborts-open : (j : ℕ) (b : Branch) → AbortsFrom made j b → item_change (slice_get made j) false ≡ Opens
   aborts-open j b a = site_speculates made a.walk j (subst (In j) (sym a.sites) (inl refl))
 
-  plain-to : (j : ℕ) (item : Instr) (b : Branch) → slice_get made j ≡ Some item → is_branching item ≡ false → Leaves made j b → b.to ≡ suc j
-  plain-to j item b at e (inl l) = item-to made j item b e (subst (λ o. In b (branches_from made j o)) at (in_contains b _ l.0))
-  plain-to j item b at e (inr a) = absurd (opens item e (ap (λ o. item_change o false) (sym at) ∙ aborts-open j b a))
+  module _ (labels : (l : ℕ) → point_of l made ≡ point_of l code) where
+    plain-to : (j : ℕ) (item : Instr) (b : Branch) → slice_get made j ≡ Some item → GoesOn code j item → Leaves made j b → b.to ≡ suc j
+    plain-to j item b at g (inl l) =
+        let i : In b (branches_from made j (Some item)) = subst (λ o. In b (branches_from made j o)) at (in_contains b _ l.0) in
+        g.onward b (subst (In b) (branches-same code made j labels (Some item)) i) ∙ (let n : j + 1 ≡ suc j = omega arith in n)
+    plain-to j item b at g (inr a) = absurd (g.plain (ap (λ o. item_change o false) (sym at) ∙ aborts-open j b a))
 
-  ends-from : (o : Option Instr) → is_end o ≡ true → (j : ℕ) (b : Branch) → In b (branches_from made j o) ⊎ (item_change o false ≡ Opens) → ⊥
-  ends-from None e j b (inl i) = i
-  ends-from None e j b (inr h) = cc
-  ends-from (Some (Label l)) e j b h = cc
-  ends-from (Some (Const d ty v)) e j b h = cc
-  ends-from (Some (Act d ty op.Ret args fns ls)) e j b (inl i) = i
-  ends-from (Some (Act d ty op.Ret args fns ls)) e j b (inr h) = cc
-  ends-from (Some (Act d ty _ args fns ls)) e j b h = cc
+    end-stops : (j : ℕ) (b : Branch) → branches_from code j (slice_get made j) ≡ [] → Leaves made j b → ⊥
+    end-stops j b e (inl l) = subst (In b) (branches-same code made j labels (slice_get made j) ∙ e) (in_contains b _ l.0)
+    end-stops j b e (inr a) = none-opens code j (slice_get made j) e (aborts-open j b a)
 
-  end-stops : (j : ℕ) (b : Branch) → is_end (slice_get made j) ≡ true → Leaves made j b → ⊥
-  end-stops j b e (inl l) = ends-from (slice_get made j) e j b (inl (in_contains b _ l.0))
-  end-stops j b e (inr a) = ends-from (slice_get made j) e j b (inr (aborts-open j b a))
+    -- ---- what is quiet isn't live
 
-  -- ---- what is quiet isn't live
+    module _ (p : ℕ) (reads assigns : List ℕ) (branch end : ℕ) (s : IsSwept code made p reads assigns branch end) (x : Location) (q : IsQuiet reads assigns branch end (number_of x)) where
+      stops : (j : ℕ) → j ≡ q.first → (b : Branch) → Leaves made j b → (Contains (assigns_at (slice_get made j)) x → ⊥) → ⊥
+      stops j e b leaves none = ⊎_elim (λ h. assigned (e ∙ h)) (λ h. end-stops j b (ap (λ n. branches_from code n (slice_get made n)) (e ∙ h) ∙ s.ends) leaves) q.is
+        where
+          assigned : j ≡ slice_index assigns (number_of x) → ⊥
+          assigned h = by (slice_get made j) refl
+            where
+              by : (o : Option Instr) → slice_get made j ≡ o → ⊥
+              by None at = end-stops j b (ap (branches_from code j) at) leaves
+              by (Some item) at =
+                  let n = s.assigned (number_of x) item q.assignable (ap (slice_get made) (sym h) ∙ at) in
+                  none (subst (λ o. Contains (assigns_at o) x) (sym at) (contains_in x (assigns_of item) (number-assigned (Some item) x n)))
 
-  module _ (p : ℕ) (reads assigns : List ℕ) (branch end : ℕ) (s : IsSwept made p reads assigns branch end) (x : Location) (q : IsQuiet reads assigns branch end (number_of x)) where
-    stops : (j : ℕ) → j ≡ q.first → (b : Branch) → Leaves made j b → (Contains (assigns_at (slice_get made j)) x → ⊥) → ⊥
-    stops j e b leaves none = ⊎_elim (λ h. assigned (e ∙ h)) (λ h. end-stops j b (ap (λ n. is_end (slice_get made n)) (e ∙ h) ∙ s.ends) leaves) q.is
-      where
-        assigned : j ≡ slice_index assigns (number_of x) → ⊥
-        assigned h = by (slice_get made j) refl
-          where
-            by : (o : Option Instr) → slice_get made j ≡ o → ⊥
-            by None at = end-stops j b (ap is_end at) leaves
-            by (Some item) at =
-                let n = s.assigned (number_of x) item q.assignable (ap (slice_get made) (sym h) ∙ at) in
-                none (subst (λ o. Contains (assigns_at o) x) (sym at) (contains_in x (assigns_of item) (number-assigned (Some item) x n)))
+      not-live : (fuel j : ℕ) → j + fuel ≡ q.first → p ≤ j → IsLive made x j → ⊥
+      not-live fuel j e low (Here _ item at c) = absurd (let r = s.unread x j item q.known low at c in let u = q.unread in omega arith)
+      not-live zero j e low (Later _ b leaves none live) = stops j (omega arith) b leaves none
+      not-live (suc fuel) j e low (Later _ b leaves none live) = by (slice_get made j) refl (not-live fuel (suc j) (omega arith) (omega arith))
+        where
+          by : (o : Option Instr) → slice_get made j ≡ o → (IsLive made x (suc j) → ⊥) → ⊥
+          by None at again = end-stops j b (ap (branches_from code j) at) leaves
+          by (Some item) at again = again (subst (IsLive made x) (plain-to j item b at (s.plain j item low (let l = q.plain in omega (arith, e)) at) leaves) live)
 
-    not-live : (fuel j : ℕ) → j + fuel ≡ q.first → p ≤ j → IsLive made x j → ⊥
-    not-live fuel j e low (Here _ item at c) = absurd (let r = s.unread x j item q.known low at c in let u = q.unread in omega arith)
-    not-live zero j e low (Later _ b leaves none live) = stops j (omega arith) b leaves none
-    not-live (suc fuel) j e low (Later _ b leaves none live) = by (slice_get made j) refl (not-live fuel (suc j) (omega arith) (omega arith))
-      where
-        by : (o : Option Instr) → slice_get made j ≡ o → (IsLive made x (suc j) → ⊥) → ⊥
-        by None at again = end-stops j b (ap is_end at) leaves
-        by (Some item) at again = again (subst (IsLive made x) (plain-to j item b at (s.plain j item low (let l = q.plain in omega (arith, e)) at) leaves) live)
-
-    pub quiet : IsLive made x p → ⊥
-    quiet live =
-        let low : p ≤ q.first = ⊎_elim (λ h. let l = s.later (number_of x) q.assignable in omega (arith, h)) (λ h. let l = s.end_later in omega (arith, h)) q.is in
-        not-live (q.first - p) p (omega arith) (omega arith) live
+      pub quiet : IsLive made x p → ⊥
+      quiet live =
+          let low : p ≤ q.first = ⊎_elim (λ h. let l = s.later (number_of x) q.assignable in omega (arith, h)) (λ h. let l = s.end_later in omega (arith, h)) q.is in
+          not-live (q.first - p) p (omega arith) (omega arith) live
 
   -- ---- one item
 
   -- a `nop`
-  pub nop-swept : (p : ℕ) (reads assigns : List ℕ) (branch end : ℕ) → slice_get made p ≡ Some nop → IsSwept made (p + 1) reads assigns branch end → IsSwept made p reads assigns branch end
+  pub nop-swept : (p : ℕ) (reads assigns : List ℕ) (branch end : ℕ) → slice_get made p ≡ Some nop → IsSwept code made (p + 1) reads assigns branch end → IsSwept code made p reads assigns branch end
   nop-swept p reads assigns branch end here s = record {
     unread = λ x j item low le at c. ⊎_elim (λ e. absurd (subst (In x) (sym (ap reads_of (same_Some nop item (sym here ∙ ap (slice_get made) (sym e) ∙ at)))) (in_contains x (reads_of item) c))) (λ d. s.unread x j item low (omega (arith, d)) at c) (cases_eq j p);
     assigned = s.assigned;
     later = λ k low. let l = s.later k low in omega arith;
-    plain = λ j item le less at. ⊎_elim (λ e. sym (ap is_branching (same_Some nop item (sym here ∙ ap (slice_get made) (sym e) ∙ at)))) (λ d. s.plain j item (omega (arith, d)) less at) (cases_eq j p);
+    plain = λ j item le less at. ⊎_elim (λ e. subst (GoesOn code j) (same_Some nop item (sym here ∙ ap (slice_get made) (sym e) ∙ at)) (nop-goes code j)) (λ d. s.plain j item (omega (arith, d)) less at) (cases_eq j p);
     ends = s.ends;
     end_later = let l = s.end_later in omega arith;
   }
 
   -- an item before becomes `nop`
-  pub before-swept : (p : ℕ) (reads assigns : List ℕ) (branch end : ℕ) → IsSwept made (p + 1) reads assigns branch end → IsSwept (set made p nop) (p + 1) reads assigns branch end
+  pub before-swept : (p : ℕ) (reads assigns : List ℕ) (branch end : ℕ) → IsSwept code made (p + 1) reads assigns branch end → IsSwept code (set made p nop) (p + 1) reads assigns branch end
   before-swept p reads assigns branch end s = record {
     unread = λ x j item low le at c. s.unread x j item low le (sym (other j le) ∙ at) c;
     assigned = λ k item low at. s.assigned k item low (sym (other (slice_index assigns k) (s.later k low)) ∙ at);
     later = s.later;
     plain = λ j item le less at. s.plain j item le less (sym (other j le) ∙ at);
-    ends = ap is_end (other end s.end_later) ∙ s.ends;
+    ends = ap (branches_from code end) (other end s.end_later) ∙ s.ends;
     end_later = s.end_later;
   }
     where
@@ -141,7 +124,7 @@ module _ (made : List Instr) where
       other j le = get_set_other made p j nop (λ e. omega (arith, le, e))
 
   -- an item that stays
-  module _ (p : ℕ) (item : Instr) (here : slice_get made p ≡ Some item) (reads reads_new assigns assigns_new : List ℕ) (branch end : ℕ) (s : IsSwept made (p + 1) reads assigns branch end)
+  module _ (p : ℕ) (item : Instr) (here : slice_get made p ≡ Some item) (reads reads_new assigns assigns_new : List ℕ) (branch end : ℕ) (s : IsSwept code made (p + 1) reads assigns branch end)
       (r : AreNoted p (map number_of (reads_of item)) reads reads_new) (a : AreNoted p (option_to_list (number_at (Some item))) assigns assigns_new) where
     same-item : (j : ℕ) (other : Instr) → j ≡ p → slice_get made j ≡ Some other → item ≡ other
     same-item j other e at = same_Some item other (sym here ∙ ap (slice_get made) (sym e) ∙ at)
@@ -172,27 +155,27 @@ module _ (made : List Instr) where
         new : (slice_index assigns_new k ≡ p) × Contains (option_to_list (number_at (Some item))) k → number_at (Some other) ≡ Some k
         new h = ap (λ (o : Instr). number_at (Some o)) (sym (same-item (slice_index assigns_new k) other h.0 at)) ∙ listed-is (number_at (Some item)) k (in_contains k _ h.1)
 
-    plain : (b : Bool) → is_branching item ≡ b → (j : ℕ) (other : Instr) → p ≤ j → j < cond b p branch → slice_get made j ≡ Some other → is_branching other ≡ false
-    plain true e j other le less at = absurd (omega arith)
-    plain false e j other le less at = ⊎_elim (λ h. ap is_branching (sym (same-item j other h at)) ∙ e) (λ d. s.plain j other (omega (arith, d)) less at) (cases_eq j p)
+    plain : (b : Bool) → (b ≡ false → GoesOn code p item) → (j : ℕ) (other : Instr) → p ≤ j → j < cond b p branch → slice_get made j ≡ Some other → GoesOn code j other
+    plain true goes j other le less at = absurd (omega arith)
+    plain false goes j other le less at = ⊎_elim (λ h. subst (λ n. GoesOn code n other) (sym h) (subst (GoesOn code p) (same-item j other h at) (goes refl))) (λ d. s.plain j other (omega (arith, d)) less at) (cases_eq j p)
 
-    ends : (b : Bool) → is_end (Some item) ≡ b → (is_end (slice_get made (cond b p end)) ≡ true) × (p ≤ cond b p end)
-    ends true e = (ap is_end here ∙ e, omega arith)
-    ends false e = (s.ends, let l = s.end_later in omega arith)
+    ends : (b : Bool) → (b ≡ true → branches_from code p (Some item) ≡ []) → (branches_from code (cond b p end) (slice_get made (cond b p end)) ≡ []) × (p ≤ cond b p end)
+    ends true none = (ap (branches_from code p) here ∙ none refl, omega arith)
+    ends false none = (s.ends, let l = s.end_later in omega arith)
 
-    pub noted-swept : (branch_new end_new : ℕ) → branch_new ≡ cond (is_branching item) p branch → end_new ≡ cond (is_end (Some item)) p end → IsSwept made p reads_new assigns_new branch_new end_new
-    noted-swept branch_new end_new b e = record {
+    pub noted-swept : (branching stops : Bool) → (branching ≡ false → GoesOn code p item) → (stops ≡ true → branches_from code p (Some item) ≡ []) → (branch_new end_new : ℕ) → branch_new ≡ cond branching p branch → end_new ≡ cond stops p end → IsSwept code made p reads_new assigns_new branch_new end_new
+    noted-swept branching stops goes none branch_new end_new b e = record {
       unread = unread;
       assigned = assigned;
       later = λ k low. ⊎_elim (λ same. let l = s.later k (subst (λ n. k < n) a.long low) in omega (arith, same)) (λ n. omega (arith, n.0)) (a.kept k);
-      plain = λ j other le less at. plain (is_branching item) refl j other le (subst (λ n. j < n) b less) at;
-      ends = ap (λ n. is_end (slice_get made n)) e ∙ (ends (is_end (Some item)) refl).0;
-      end_later = subst (λ n. p ≤ n) (sym e) (ends (is_end (Some item)) refl).1;
+      plain = λ j other le less at. plain branching goes j other le (subst (λ n. j < n) b less) at;
+      ends = ap (λ n. branches_from code n (slice_get made n)) e ∙ (ends stops none).0;
+      end_later = subst (λ n. p ≤ n) (sym e) (ends stops none).1;
     }
 
   -- a computation of what is quiet is removable
-  pub unused-removable : (p : ℕ) (item : Instr) (reads assigns : List ℕ) (branch end : ℕ) (assigned : Option ℕ) → slice_get made p ≡ Some item → is_computation item ≡ true → assigned ≡ number_at (Some item) → IsSwept made (p + 1) reads assigns branch end → IfSome assigned (IsQuiet reads assigns branch end) → IsRemovable made p
-  unused-removable p item reads assigns branch end assigned here computes is s q = record {
+  pub unused-removable : ((l : ℕ) → point_of l made ≡ point_of l code) → (p : ℕ) (item : Instr) (reads assigns : List ℕ) (branch end : ℕ) (assigned : Option ℕ) → slice_get made p ≡ Some item → is_computation item ≡ true → assigned ≡ number_at (Some item) → IsSwept code made (p + 1) reads assigns branch end → IfSome assigned (IsQuiet reads assigns branch end) → IsRemovable made p
+  unused-removable labels p item reads assigns branch end assigned here computes is s q = record {
     item = item;
     here = here;
     why = inl (record {
@@ -200,7 +183,7 @@ module _ (made : List Instr) where
       unused = λ x c live.
           let n : assigned ≡ Some (number_of x) = is ∙ assigned-number (Some item) x (in_contains x (assigns_of item) c) in
           let next : suc p ≡ p + 1 = omega arith in
-          quiet (p + 1) reads assigns branch end s x (subst (λ o. IfSome o (IsQuiet reads assigns branch end)) n q) (subst (IsLive made x) next live);
+          quiet labels (p + 1) reads assigns branch end s x (subst (λ o. IfSome o (IsQuiet reads assigns branch end)) n q) (subst (IsLive made x) next live);
     });
   }
 
@@ -208,19 +191,19 @@ module _ (made : List Instr) where
 pub record Marked (code : List Instr) (dead : List Bool) (p : ℕ) (reads assigns : List ℕ) (branch end : ℕ) : Type 0 where
   pub sound : IsSound code (set dead p true)
   pub none : NoneIdle code (set dead p true)
-  pub swept : IsSwept (remaining code (set dead p true)) p reads assigns branch end
+  pub swept : IsSwept code (remaining code (set dead p true)) p reads assigns branch end
 
 pub marked : (code : List Instr) (dead : List Bool) (p : ℕ) (item : Instr) (reads assigns : List ℕ) (branch end : ℕ) (assigned : Option ℕ) → IsSound code dead → NoneIdle code dead → slice_get (remaining code dead) p ≡ Some item → is_computation item ≡ true → assigned ≡ number_at (Some item)
-    → IsSwept (remaining code dead) (p + 1) reads assigns branch end → IfSome assigned (IsQuiet reads assigns branch end) → Marked code dead p reads assigns branch end
+    → IsSwept code (remaining code dead) (p + 1) reads assigns branch end → IfSome assigned (IsQuiet reads assigns branch end) → Marked code dead p reads assigns branch end
 marked code dead p item reads assigns branch end assigned sound none here computes is s q =
     let made = remaining code dead in
     let low : p < length dead = (let l = slice_get_within made p item here in let size = length-with_nops nop dead code in let long = sound.long in omega arith) in
-    let r = unused-removable made p item reads assigns branch end assigned here computes is s q in
+    let r = unused-removable code made (remaining-chain code dead sound).labels p item reads assigns branch end assigned here computes is s q in
     record {
       sound = more-sound code dead sound p low r;
       none = more-none_idle code dead sound p low r none;
-      swept = subst (λ l. IsSwept l p reads assigns branch end) (sym (more-is code dead sound p low r))
-          (nop-swept (set made p nop) p reads assigns branch end (set-here made p item nop here) (before-swept made p reads assigns branch end s));
+      swept = subst (λ l. IsSwept code l p reads assigns branch end) (sym (more-is code dead sound p low r))
+          (nop-swept code (set made p nop) p reads assigns branch end (set-here made p item nop here) (before-swept code made p reads assigns branch end s));
     }
 
 -- ---- the start
@@ -230,34 +213,17 @@ far-past count far n k xs is low =
     let size = ap length is ∙ length-replicate count far in
     ap (λ l. get_or l k 0) is ∙ get_or-replicate count k far 0 (omega arith)
 
-pub all-swept : (made : List Instr) (count far : ℕ) (reads assigns : List ℕ) → length made < far → reads ≡ replicate count far → assigns ≡ replicate count far → IsSwept made (length made) reads assigns far (length made)
-all-swept made count far reads assigns low r a = record {
+pub all-swept : (code made : List Instr) (count far : ℕ) (reads assigns : List ℕ) → length made < far → reads ≡ replicate count far → assigns ≡ replicate count far → IsSwept code made (length made) reads assigns far (length made)
+all-swept code made count far reads assigns low r a = record {
   unread = λ x j item within le at c. absurd (let l = slice_get_within made j item at in omega arith);
   assigned = λ k item within at. absurd (let l = slice_get_within made (slice_index assigns k) item at in let f = far-past count far 0 k assigns a within in omega arith);
   later = λ k within. let f = far-past count far 0 k assigns a within in omega arith;
   plain = λ j item le less at. absurd (let l = slice_get_within made j item at in omega arith);
-  ends = ap is_end (slice_get_past made (length made) (omega arith));
+  ends = ap (branches_from code (length made)) (slice_get_past made (length made) (omega arith));
   end_later = omega arith;
 }
 
 -- ---- notes
-
-pub noted-nothing : (point : ℕ) (old : List ℕ) → AreNoted point [] old old
-noted-nothing point old = record { long = refl; noted = λ k c low. absurd (in_contains k [] c); kept = λ k. inl refl }
-
-pub noted-out : (point k : ℕ) (old : List ℕ) → length old ≤ k → AreNoted point (k ∷ []) old old
-noted-out point k old high = record { long = refl; noted = λ n c low. absurd (out n (in_contains n (k ∷ []) c) low); kept = λ n. inl refl }
-  where
-    out : (n : ℕ) → In n (k ∷ []) → n < length old → ⊥
-    out n (inl e) low = omega (arith, e)
-    out n (inr i) low = i
-
-pub noted-one : (point k : ℕ) (old : List ℕ) → k < length old → AreNoted point (k ∷ []) old (set old k point)
-noted-one point k old low = record { long = length-set old k point; noted = λ n c within. here n (in_contains n (k ∷ []) c); kept = λ n. ⊎_elim (λ e. inr (ap (slice_index (set old k point)) e ∙ get_or-set_same old k point 0 low, contains_in n (k ∷ []) (inl e))) (λ d. inl (get_or-set_other old k n point 0 d)) (cases_eq n k) }
-  where
-    here : (n : ℕ) → In n (k ∷ []) → slice_index (set old k point) n ≡ point
-    here n (inl e) = ap (slice_index (set old k point)) e ∙ get_or-set_same old k point 0 low
-    here n (inr i) = absurd i
 
 pub noted-more : (point k : ℕ) (numbers more : List ℕ) (a b c : List ℕ) → ((n : ℕ) → In n more → In n numbers ⊎ (n ≡ k)) → ((n : ℕ) → In n numbers ⊎ (n ≡ k) → In n more) → AreNoted point numbers a b → AreNoted point (k ∷ []) b c → AreNoted point more a c
 noted-more point k numbers more a b c split join first second = record {

@@ -1,5 +1,5 @@
 -- The work list: one more item is dead.
-use Rattle.std.proofs.Common.{◌≡◌, ◌⊎◌, ℕ, suc, ◌+◌, ◌<◌, Bool, true, false, List, ◌∷◌, length, map, get_or, set, Option, Some, refl, sym, ap, subst, ◌∙◌, inl, inr, ⊎_elim, true≢false}
+use Rattle.std.proofs.Common.{◌≡◌, ◌⊎◌, ℕ, zero, suc, ◌+◌, ◌<◌, Bool, true, false, List, [], ◌∷◌, length, map, get_or, set, Option, Some, None, refl, sym, ap, subst, ◌∙◌, inl, inr, ⊎_elim, arith, true≢false}
 use Rattle.std.specs.Prelude.{slice_get}
 use Rattle.std.proofs.lemmas.Bool.{cases_Bool, cases_eq}
 use Rattle.std.proofs.lemmas.List.{get_or-set_same, get_or-set_other, length-set}
@@ -16,12 +16,18 @@ use Rattle.bril_tree.specs.Operand.{Location, reads_of}
 use Rattle.bril_tree.specs.Walk.{IsReached}
 use Rattle.bril_tree.proofs.Branches.{reached_on}
 use Rattle.bril_tree.proofs.Members.{contains_in, in_map}
-use Rattle.definite_assignment.specs.Location.{number_of}
+use Rattle.flow_graph.specs.Location.{number_of}
 use Rattle.dead_code.specs.Removable.{is_computation, is_silent, only_computes, IsRemovable}
 use Rattle.dead_code.specs.Work.{IsReadBy, IsSearched, IsSettled, IsSound, IsWork, NoneIdle, Queues, is_marked, reads_left, remaining}
 use Rattle.dead_code.proofs.Chain.{Chain, chain, still_reached, was_reached}
-use Rattle.dead_code.proofs.Marks.{with_nops-set, with_nops-alive, with_nops-dead, reads-fewer}
+use Rattle.pass_plan.proofs.Marked.{with_nops-set, with_nops-alive, with_nops-dead}
 use Rattle.dead_code.proofs.Step.{live-was, live-now, computation-on}
+
+-- a `nop` reads nothing, so fewer reads are left
+reads-fewer : (items : List Instr) (k : ℕ) (item : Instr) → slice_get items k ≡ Some item → reads_left (set items k nop) + length (reads_of item) ≡ reads_left items
+reads-fewer [] k item at = absurd (let n : None ≡ Some item = at in cc)
+reads-fewer (x ∷ items) zero item at = let same = ap (λ (a : Instr). length (reads_of a)) (same_Some x item at) in omega arith
+reads-fewer (x ∷ items) (suc k) item at = let rest = reads-fewer items k item at in omega arith
 
 -- a computation isn't silent
 operation-loud : (o : Op) (d : Option ℕ) (ty : _) (args fns ls : List ℕ) → only_computes o ≡ true → is_silent (Act d ty o args fns ls) ≡ false

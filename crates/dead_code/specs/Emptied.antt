@@ -1,5 +1,5 @@
 -- A program in which removable items became `nop`, one after another, until none was left.
-use Rattle.std.specs.Prelude.{◌≡◌, ◌⊎◌, ℕ, Bool, true, if◌then◌else◌, List, [], ◌∷◌, map, Some, slice_get, slice_set}
+use Rattle.std.specs.Prelude.{◌≡◌, ◌⊎◌, ℕ, true, List, [], ◌∷◌, map, Some, slice_get, slice_set}
 use Rattle.std.specs.List.{AllZip}
 use Rattle.bril_tree.specs.declared.function_tree.FuncTree.{FuncTree}
 use Rattle.bril_tree.specs.declared.numbered.Instr.{Instr}
@@ -28,12 +28,6 @@ pub record IsCleared (code made : List Instr) : Type 0 where
   pub is : made ≡ emptied code points
   pub none : (point : ℕ) → ¬ IsRemovable made point
   pub stays : (point : ℕ) (item : Instr) → slice_get made point ≡ Some item → (is_silent item ≡ true) ⊎ IsReached made point
-
--- items, with this one in place of those that are marked
-abbrev pub with_nops : {X : Type 0} → X → List Bool → List X → List X
-with_nops empty [] items = items
-with_nops empty (dead ∷ marks) [] = []
-with_nops empty (dead ∷ marks) (item ∷ items) = (if dead then empty else item) ∷ with_nops empty marks items
 
 -- the tree of a function of the program with other items of the same numbers
 abbrev pub tree_with : Prog → Func → List Instr → FuncTree

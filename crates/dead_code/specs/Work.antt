@@ -8,12 +8,12 @@ use Rattle.bril_tree.specs.Numbered.{nop}
 use Rattle.bril_tree.specs.Operand.{Location, reads_of}
 use Rattle.bril_tree.specs.Walk.{IsReached}
 use Rattle.bril_tree.specs.declared.numbered.Instr.{Instr}
-use Rattle.definite_assignment.specs.Location.{number_of}
-use Rattle.dead_code.specs.Emptied.{emptied, WereRemovable, with_nops}
+use Rattle.flow_graph.specs.Location.{location_at, number_of}
+use Rattle.dead_code.specs.Emptied.{emptied, WereRemovable}
+use Rattle.pass_plan.specs.Marked.{with_nops}
 use Rattle.dead_code.specs.Removable.{is_computation, is_silent}
-use Rattle.live_sets.specs.Arcs.{item_location}
-use Rattle.live_sets.specs.Reads.{access_at}
-use Rattle.live_sets.specs.declared.accesses.Access.{Access}
+use Rattle.flow_graph.specs.Reads.{access_at}
+use Rattle.flow_graph.specs.declared.reads.Access.{Access}
 
 -- the code with `nop` for what is dead
 abbrev pub remaining : List Instr → List Bool → List Instr
@@ -53,7 +53,7 @@ reads_left (item ∷ items) = length (reads_of item) + reads_left items
 -- ---- the assignments of computations
 
 abbrev pub assignment_if : Bool → ℕ → Instr → List Access
-assignment_if true item instr = map (access_at item) (option_to_list (item_location instr))
+assignment_if true item instr = map (access_at item) (option_to_list (location_at (Some instr)))
 assignment_if false item instr = []
 
 -- the assignments of computations among items that are numbered from one on

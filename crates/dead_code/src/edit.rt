@@ -4,15 +4,16 @@ ghost use Rattle.std.specs.Prelude.{◌≡◌, IfOk, false, if◌then◌else◌,
 ghost use Rattle.bril_tree.specs.Accepted.{IsAccepted};
 ghost use Rattle.bril_tree.specs.Numbered.{nop_item};
 ghost use Rattle.bril_tree.specs.Size.{IsCounted};
-ghost use Rattle.dead_code.specs.Emptied.{IsClearedTree, with_nops};
+ghost use Rattle.dead_code.specs.Emptied.{IsClearedTree};
+ghost use Rattle.pass_plan.specs.Marked.{with_nops};
 
 use crate::work::dead_items;
 use bril_names::function_of;
 use bril_tree::function_tree::{FuncTree, Item};
-use bril_tree::operation::Op;
 use bril_tree::program::Prog;
 use bril_tree::sequence::Seq;
 use bril_tree::tree::Tree;
+use pass_make::nop;
 use std::alloc::{AllocError, Global};
 
 // The program's tree with `nop` for removable items, until none is left.
@@ -67,17 +68,4 @@ fn emptied_item(alloc: Global, item: Item, dead: bool) -> Item
     ensures { result ≡ (if dead then nop_item else item) }
 {
     if dead { nop(alloc) } else { item }
-}
-
-// The item that does nothing.
-fn nop(alloc: Global) -> Item
-    ensures { result ≡ nop_item }
-{
-    Item::Act {
-        dest: None,
-        op: Op::Nop,
-        args: Seq::new(alloc),
-        funcs: Seq::new(alloc),
-        labels: Seq::new(alloc),
-    }
 }

@@ -1,20 +1,25 @@
 // A sweep over the items, the last one first, that finds most of what is dead: all but what only branches tell. It knows of
 // each location the next item that reads it, and the next that assigns it.
 
-ghost use Rattle.std.specs.Prelude.{◌≡◌, ◌<◌, ◌+◌, ◌^◌, ◌-◌, ◌∷◌, [], true, Some, length, map, slice_get, if◌then◌else◌, IfOk, OnOk, IfSome};
+ghost use Rattle.std.specs.Prelude.{◌≡◌, ◌≢◌, ◌<◌, ◌+◌, ◌^◌, ◌-◌, ◌∷◌, [], All, true, false, None, Some, is_some, length, map, slice_get, if◌then◌else◌, IfOk, OnOk, IfSome};
 ghost use Rattle.std.specs.Option.{option_to_list};
+ghost use Rattle.bril_tree.specs.Edge.{Branch};
+ghost use Rattle.bril_tree.specs.Labels.{IsLabelTable};
+ghost use Rattle.bril_tree.specs.Membership.{In};
 ghost use Rattle.bril_tree.specs.Operand.{reads_of};
-ghost use Rattle.definite_assignment.specs.Location.{number_of};
+ghost use Rattle.bril_tree.specs.Shape.{shape_fault_of};
+ghost use Rattle.bril_tree.specs.Sites.{Opens, item_change};
+ghost use Rattle.flow_graph.specs.Branches.{HasLabels, branches_of};
+ghost use Rattle.flow_graph.specs.Location.{number_at, number_of};
 ghost use Rattle.dead_code.specs.Removable.{is_computation};
-ghost use Rattle.dead_code.specs.Sweep.{AreNoted, IsQuiet, IsSwept, is_branching, is_end};
+ghost use Rattle.dead_code.specs.Sweep.{AreNoted, IsQuiet, IsSwept};
 ghost use Rattle.dead_code.specs.Work.{IsSound, NoneIdle, remaining};
-ghost use Rattle.live_sets.specs.Arcs.{number_at};
 
 use crate::work::is_computation;
 use bril_tree::numbered::Instr;
 use bril_tree::numbered_function::Func;
 use bril_tree::operation::Op;
-use live_sets::{assigned_number, item_reads};
+use flow_graph::{Branches, assigned_number, branches_of, item_reads};
 use std::alloc::{AllocError, Global};
 
 // What is known at a point: the next item that reads each location, the next that assigns it, the next from which branches
@@ -28,25 +33,44 @@ struct Sweep {
     end: u32,
 }
 
-// Whether branches lead from the item elsewhere than to the next point; an abort leads from the `speculate`.
-fn is_branching(item: &Instr) -> bool
-    ensures { result ≡ is_branching item.now }
+// Whether the item is a `speculate`.
+fn speculates(item: &Instr) -> bool
+    ensures { result ≡ false → item_change (Some item.now) false ≢ Opens }
 {
     match item {
         Instr::Label(_) => false,
         Instr::Const { .. } => false,
-        Instr::Act { op, .. } => matches!(op, Op::Jmp | Op::Br | Op::Guard | Op::Speculate),
+        Instr::Act { op, .. } => *op == Op::Speculate,
     }
 }
 
-// Whether no branch leads from the item.
-fn is_end(item: &Instr) -> bool
-    ensures { result ≡ is_end (Some item.now) }
+// Whether one of the branches from an item goes elsewhere than to the next point.
+fn goes_elsewhere(branches: Branches, next: u32) -> bool
+    ensures { result ≡ false → (branch : Branch) → In branch (branches_of branches) → branch.to ≡ next }
 {
-    match item {
-        Instr::Label(_) => false,
-        Instr::Const { .. } => false,
-        Instr::Act { op, .. } => *op == Op::Ret,
+    match branches {
+        Branches::Nowhere => false,
+        Branches::Single(branch) => branch.to != next,
+        Branches::Either(first, second) => first.to != next || second.to != next,
+    }
+}
+
+// Whether branches lead from the item elsewhere than to the next point; an abort leads from the `speculate`.
+fn is_branching(item: &Instr, branches: Branches, next: u32) -> bool
+    ensures onward { result ≡ false → (branch : Branch) → In branch (branches_of branches) → branch.to ≡ next }
+    ensures plain { result ≡ false → item_change (Some item.now) false ≢ Opens }
+{
+    speculates(item) || goes_elsewhere(branches, next)
+}
+
+// Whether there are no branches.
+fn are_none(branches: Branches) -> bool
+    ensures { result ≡ true → branches_of branches ≡ [] }
+{
+    match branches {
+        Branches::Nowhere => true,
+        Branches::Single(_) => false,
+        Branches::Either(_, _) => false,
     }
 }
 
@@ -64,17 +88,19 @@ pub(crate) fn swept(
     dead: Vec<bool>,
     count: usize,
 ) -> Result<Vec<bool>, AllocError>
+    requires shaped { shape_fault_of (is_some func.now.ret) func.now.code ≡ None }
     requires few { length func.now.code < 2 ^ 32 - 1 }
     requires sound { IsSound func.now.code dead.items }
     requires none { NoneIdle func.now.code dead.items }
     ensures sound { IfOk result (λ dead. IsSound func.now.code dead.items) }
     ensures none { IfOk result (λ dead. NoneIdle func.now.code dead.items) }
 {
+    let points = func.label_points(alloc)?;
     let mut sweep = Sweep::new(alloc, func, dead, count)?;
     let mut point = func.code.as_slice().len();
     while point > 0 {
         point -= 1;
-        sweep.look(alloc, func, point as u32)?;
+        sweep.look(alloc, func, points.as_slice(), point as u32)?;
     }
     Ok(sweep.dead)
 }
@@ -85,7 +111,7 @@ impl Sweep {
         requires few { length func.now.code < 2 ^ 32 - 1 }
         requires long { length dead.items ≡ length func.now.code }
         ensures dead { IfOk result (λ sweep. sweep.dead.items ≡ dead.items) }
-        ensures swept { IfOk result (λ sweep. IsSwept (remaining func.now.code sweep.dead.items) (length func.now.code) sweep.reads.items sweep.assigns.items sweep.branch sweep.end) }
+        ensures swept { IfOk result (λ sweep. IsSwept func.now.code (remaining func.now.code sweep.dead.items) (length func.now.code) sweep.reads.items sweep.assigns.items sweep.branch sweep.end) }
     {
         let reads = vec![in alloc; u32::MAX; count]?;
         let assigns = vec![in alloc; u32::MAX; count]?;
@@ -156,37 +182,52 @@ impl Sweep {
         Ok(())
     }
 
-    // Notes what an item that stays does.
+    // Notes what an item that stays does. `points` has the point of each label.
     fn note_item(
         &mut self,
         alloc: Global,
         _func: &Func,
+        points: &[u32],
         item: &Instr,
         assigned: Option<u32>,
         point: u32,
     ) -> Result<(), AllocError>
+        requires placed { IsLabelTable _func.now.code points.now }
+        requires labelled { HasLabels (length points.now) item.now }
+        requires few { point + 1 < 2 ^ 32 }
         requires here { slice_get (remaining _func.now.code self.old.dead.items) point ≡ Some item.now }
         requires assigned { assigned ≡ number_at (Some item.now) }
-        requires swept { IsSwept (remaining _func.now.code self.old.dead.items) (point + 1) self.old.reads.items self.old.assigns.items self.old.branch self.old.end }
+        requires swept { IsSwept _func.now.code (remaining _func.now.code self.old.dead.items) (point + 1) self.old.reads.items self.old.assigns.items self.old.branch self.old.end }
         ensures dead { self.new.dead.items ≡ self.old.dead.items }
-        ensures swept { OnOk result (IsSwept (remaining _func.now.code self.old.dead.items) point self.new.reads.items self.new.assigns.items self.new.branch self.new.end) }
+        ensures swept { OnOk result (IsSwept _func.now.code (remaining _func.now.code self.old.dead.items) point self.new.reads.items self.new.assigns.items self.new.branch self.new.end) }
     {
         Sweep::note_assigned(&mut self.assigns, assigned, point);
-        self.branch = point_if(is_branching(item), point, self.branch);
-        self.end = point_if(is_end(item), point, self.end);
+        let branches = branches_of(points, item, point);
+        self.branch = point_if(is_branching(item, branches, point + 1), point, self.branch);
+        self.end = point_if(are_none(branches), point, self.end);
         self.note_reads(alloc, item, point)?;
         Ok(())
     }
 
-    // Looks at an item: it is dead, where it only computes what isn't live at the next point.
-    fn look(&mut self, alloc: Global, func: &Func, point: u32) -> Result<(), AllocError>
+    // Looks at an item: it is dead, where it only computes what isn't live at the next point. `points` has the point of each
+    // label.
+    fn look(
+        &mut self,
+        alloc: Global,
+        func: &Func,
+        points: &[u32],
+        point: u32,
+    ) -> Result<(), AllocError>
+        requires placed { IsLabelTable func.now.code points.now }
+        requires labelled { All (HasLabels (length points.now)) func.now.code }
+        requires few { length func.now.code < 2 ^ 32 - 1 }
         requires inside { point < length func.now.code }
         requires sound { IsSound func.now.code self.old.dead.items }
         requires none { NoneIdle func.now.code self.old.dead.items }
-        requires swept { IsSwept (remaining func.now.code self.old.dead.items) (point + 1) self.old.reads.items self.old.assigns.items self.old.branch self.old.end }
+        requires swept { IsSwept func.now.code (remaining func.now.code self.old.dead.items) (point + 1) self.old.reads.items self.old.assigns.items self.old.branch self.old.end }
         ensures sound { OnOk result (IsSound func.now.code self.new.dead.items) }
         ensures none { OnOk result (NoneIdle func.now.code self.new.dead.items) }
-        ensures swept { OnOk result (IsSwept (remaining func.now.code self.new.dead.items) point self.new.reads.items self.new.assigns.items self.new.branch self.new.end) }
+        ensures swept { OnOk result (IsSwept func.now.code (remaining func.now.code self.new.dead.items) point self.new.reads.items self.new.assigns.items self.new.branch self.new.end) }
     {
         if self.dead[point as usize] {
             return Ok(());
@@ -197,6 +238,6 @@ impl Sweep {
             self.dead[point as usize] = true;
             return Ok(());
         }
-        self.note_item(alloc, func, item, assigned, point)
+        self.note_item(alloc, func, points, item, assigned, point)
     }
 }

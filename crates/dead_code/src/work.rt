@@ -7,21 +7,22 @@ ghost use Rattle.bril_tree.specs.Shape.{shape_fault_of};
 ghost use Rattle.bril_tree.specs.Sites.{AreSitesSound};
 ghost use Rattle.bril_tree.specs.Walk.{IsReached};
 ghost use Rattle.bril_tree.specs.declared.numbered.Instr.{Instr};
-ghost use Rattle.definite_assignment.specs.Location.{number_of};
+ghost use Rattle.flow_graph.specs.Accesses.{Accesses};
 ghost use Rattle.flow_graph.specs.Graph.{IsGraphOf};
+ghost use Rattle.flow_graph.specs.Location.{number_of};
+ghost use Rattle.flow_graph.specs.Reads.{reads_from};
 ghost use Rattle.dead_code.specs.Emptied.{IsCleared};
 ghost use Rattle.dead_code.specs.Removable.{IsIdle, is_computation, is_silent, only_computes};
 ghost use Rattle.dead_code.specs.Work.{AreQueued, IsLookedAt, IsReadBy, IsSearched, IsSound, IsWork, NoneIdle, Queues, Unqueues, assignment_if, assignments_from, is_marked, reads_left, remaining};
 ghost use Rattle.live_sets.specs.Arcs.{AreBackArcs};
-ghost use Rattle.live_sets.specs.Reads.{Accesses, reads_from};
 
 use crate::sweep::swept;
 use bril_tree::numbered::Instr;
 use bril_tree::numbered_function::Func;
 use bril_tree::operation::Op;
-use flow_graph::{Graph, GraphFault};
+use flow_graph::{Access, AccessLists, Graph, assigned_number, item_reads};
 use graph_search::Reached;
-use live_sets::{Access, AccessLists, Flow, assigned_number, item_reads};
+use live_sets::Flow;
 use std::alloc::{AllocError, Global};
 
 // What is dead so far, and the locations that are to be looked at: those that may have become dead since they were.
@@ -40,11 +41,7 @@ pub(crate) fn dead_items(alloc: Global, func: &Func) -> Result<Vec<bool>, AllocE
     ensures long { IfOk result (λ dead. length dead.items ≡ length func.now.code) }
     ensures cleared { IfOk result (λ dead. IsCleared func.now.code (remaining func.now.code dead.items)) }
 {
-    let graph = match Graph::of(alloc, func) {
-        Ok(graph) => graph,
-        Err(GraphFault::Memory) => return Err(AllocError),
-        Err(GraphFault::Nest { .. }) => unreachable!(),
-    };
+    let graph = Graph::of_sound(alloc, func)?;
     let flow = Flow::of(alloc, func, &graph)?;
     let assignments = assignments_of(alloc, func.code.as_slice())?;
     let work = Work::new(alloc, func, &graph, assignments.locations())?;
@@ -183,20 +180,10 @@ fn numbers_below(alloc: Global, count: usize) -> Result<Vec<u32>, AllocError>
     Ok(numbers)
 }
 
-// The items that read the location; none where no item reads one of a number as high.
-fn readers_of(alloc: Global, flow: &Flow, location: u32) -> Result<Vec<u32>, AllocError>
-    ensures { IfOk result (λ items. (item : ℕ) → Contains items.items item ↔ Accesses flow.now.reads.list location item) }
-{
-    let reads = flow.reads();
-    if location as usize >= reads.locations() {
-        return Ok(Vec::new(alloc));
-    }
-    reads.items(alloc, location)
-}
-
 impl Work {
     // At first what is idle and what the sweep finds is dead, and each location of a number below the count is to be looked at.
     fn new(alloc: Global, func: &Func, graph: &Graph, count: usize) -> Result<Work, AllocError>
+        requires shaped { shape_fault_of (is_some func.now.ret) func.now.code ≡ None }
         requires few { length func.now.code < 2 ^ 32 - 1 }
         requires graph { IsGraphOf func.now.code graph.now }
         requires count { count ≤ 2 ^ 32 }
@@ -295,7 +282,7 @@ impl Work {
         ensures points { reached.new.nodes ≡ reached.old.nodes }
         ensures searched { OnOk result (IsSearched _func.now.code self.now.dead.items self.now.queued.items location reached.new.found) }
     {
-        let readers = readers_of(alloc, flow, location)?;
+        let readers = flow.reads().items(alloc, location)?;
         let alive = self.alive(alloc, readers.as_slice())?;
         flow.search(reached, alive.as_slice(), location)?;
         Ok(())

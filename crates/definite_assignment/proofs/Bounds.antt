@@ -1,12 +1,10 @@
--- Arcs go between points, and reads are by items.
-use Rattle.std.proofs.Common.{◌≡◌, ℕ, suc, ◌+◌, ◌<◌, ◌≤◌, List, [], ◌∷◌, Bool, true, false, Some, map, length, get_or, sym, ap, ◌∙◌, subst, refl, arith}
+-- Arcs go between points.
+use Rattle.std.proofs.Common.{◌≡◌, ℕ, ◌+◌, ◌<◌, ◌≤◌, List, [], ◌∷◌, Bool, true, false, Some, map, length, get_or, sym, ap, ◌∙◌, subst, refl, arith}
 use Rattle.std.specs.Prelude.{slice_get}
 use Rattle.std.specs.List.{All, Contains}
-use Rattle.std.proofs.lemmas.List.Elements.{All-map, All-append, All-weaker, All-nil, Contains-get_or}
-use Rattle.bril_tree.specs.Operand.{reads_of}
+use Rattle.std.proofs.lemmas.List.Elements.{All-map, Contains-get_or}
 use Rattle.bril_tree.specs.declared.numbered.Instr.{Instr}
 use Rattle.definite_assignment.specs.Leaving.{leaving_arc, leaving_arcs, turned}
-use Rattle.definite_assignment.specs.Reads.{read_at, reads_from, item_reads}
 use Rattle.flow_graph.proofs.GraphEdges.{IsEdgeAt, edge-back}
 use Rattle.bril_tree.proofs.Replays.{sites-inside}
 use Rattle.definite_assignment.proofs.Branches.{branch-is, branch-inside}
@@ -41,10 +39,3 @@ arcs-between code graph g =
 
 pub turned-between : (nodes : ℕ) (arcs : List Arc) → All (IsBetween nodes) arcs → All (IsBetween nodes) (map turned arcs)
 turned-between nodes arcs all = All-map (IsBetween nodes) turned arcs (λ k d low. ((all k d low).1, (all k d low).0))
-
-pub reads-inside : (first : ℕ) (code : List Instr) → All (λ read. read.item < first + length code) (reads_from first code)
-reads-inside first [] = All-nil (λ read. read.item < first + 0)
-reads-inside first (instr ∷ code) =
-    All-append (λ read. read.item < first + suc (length code)) (item_reads first instr) (reads_from (suc first) code)
-    (All-map (λ read. read.item < first + suc (length code)) (read_at first) (reads_of instr) (λ k d low. omega arith))
-    (All-weaker (λ read. read.item < suc first + length code) (λ read. read.item < first + suc (length code)) (λ read h. omega arith) (reads_from (suc first) code) (reads-inside (suc first) code))

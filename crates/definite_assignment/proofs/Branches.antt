@@ -1,19 +1,20 @@
 -- The branches from a point.
-use Rattle.std.proofs.Common.{◌≡◌, ℕ, ◌<◌, ◌≤◌, List, ◌++◌, Bool, true, false, Option, Some, None, length, refl}
+use Rattle.std.proofs.Common.{◌≡◌, ℕ, ◌<◌, ◌≤◌, List, [], ◌++◌, Bool, true, false, Option, Some, None, length, refl, sym, ap, ◌∙◌}
 use Rattle.std.specs.Prelude.{slice_get}
 use Rattle.std.specs.List.{Contains}
 use Rattle.std.specs.Option.{option_to_list}
-use Rattle.bril_tree.specs.Assigned.{Assigned, assigned_changed, assigns_at, operation_assigns}
+use Rattle.bril_tree.specs.Assigned.{Assigned, assigned_changed, assigns_at}
 use Rattle.bril_tree.specs.Edge.{Branch, branches_at}
-use Rattle.bril_tree.specs.Sites.{Opens, Closes, item_change, operation_change, needs_site}
+use Rattle.bril_tree.specs.Shape.{is_shaped, shape_fault_of}
+use Rattle.bril_tree.specs.Sites.{Change, Opens, Closes, Keeps, item_change, needs_site}
 use Rattle.bril_tree.specs.declared.numbered.Instr.{Instr}
-use Rattle.bril_tree.specs.declared.numbered.Instr.TheVariants.{Label, Const, Act}
-use Rattle.bril_tree.specs.declared.operation.Op.{Op}
-use Rattle.bril_tree.specs.declared.operation.Op.TheVariants as op
+use Rattle.bril_tree.proofs.Elements.{get_in, passes_in}
 use Rattle.bril_tree.proofs.Members.{in_contains}
-use Rattle.bril_tree.proofs.Shapes.{closing_needs}
+use Rattle.bril_tree.proofs.Shapes.{closing_needs, none_assigned}
 use Rattle.bril_tree.proofs.Branches.{branch_from, branch_inside, branch_at_item, aborts-close}
-use Rattle.definite_assignment.specs.Location.{location_at, location_passed}
+use Rattle.flow_graph.specs.Location.{location_at}
+use Rattle.flow_graph.proofs.BranchRows.{all_shaped}
+use Rattle.flow_graph.proofs.Locations.{assigns-one}
 
 -- an abort is of an item that closes a site and needs one
 pub record IsAbort (item : Option Instr) : Type 0 where
@@ -39,32 +40,29 @@ branch-is code p branch h =
 pub branch-inside : (code : List Instr) (p : ℕ) (branch : Branch) → Contains (branches_at code p) branch → p < length code
 branch-inside code p branch h = branch_at_item code p branch (in_contains branch (branches_at code p) h)
 
--- what is assigned behind a branch that isn't an abort
-locations_op : (operation : Op) (dest : Option ℕ) (args : List ℕ) (a : Assigned) →
-    (assigned_changed (operation_change operation false) (operation_assigns operation dest args) false a).locations ≡ option_to_list (location_passed operation dest args) ++ a.locations
-locations_op op.Set dest args a = refl
-locations_op op.Speculate dest args a = refl
-locations_op op.Commit dest args a = refl
-locations_op _ None args a = refl
-locations_op _ (Some x) args a = refl
+-- ---- items that open or close sites assign nothing
 
-pub locations-passed : (item : Option Instr) (a : Assigned) →
-    (assigned_changed (item_change item false) (assigns_at item) false a).locations ≡ option_to_list (location_at item) ++ a.locations
-locations-passed None a = refl
-locations-passed (Some (Label l)) a = refl
-locations-passed (Some (Const dest ty value)) a = refl
-locations-passed (Some (Act dest ty operation args funcs labels)) a = locations_op operation dest args a
+module _ (returns : Bool) (code : List Instr) (shaped : shape_fault_of returns code ≡ None) (point : ℕ) where
+  item-shaped : (item : Instr) → slice_get code point ≡ Some item → is_shaped returns item ≡ true
+  item-shaped item e = passes_in (is_shaped returns) code item (all_shaped returns code shaped) (get_in code point item e)
 
--- an item that opens a site assigns nothing
-passed_op : (operation : Op) (b : Bool) (dest : Option ℕ) (args : List ℕ) → operation_change operation b ≡ Opens → location_passed operation dest args ≡ None
-passed_op op.Speculate b dest args e = refl
-passed_op op.Guard true dest args e = cc
-passed_op op.Guard false dest args e = cc
-passed_op op.Commit b dest args e = cc
-passed_op _ b dest args e = cc
+  -- where the item opens or closes a site, it assigns nothing
+  nothing-assigned : (aborts : Bool) → (item_change (slice_get code point) aborts ≡ Keeps → ⊥) → assigns_at (slice_get code point) ≡ []
+  nothing-assigned aborts changes = by (slice_get code point) refl changes
+    where
+      by : (o : Option Instr) → slice_get code point ≡ o → (item_change o aborts ≡ Keeps → ⊥) → assigns_at o ≡ []
+      by None e n = refl
+      by (Some item) e n = none_assigned returns item aborts (item-shaped item e) n
 
-pub opens-nothing : (item : Option Instr) (b : Bool) → item_change item b ≡ Opens → location_at item ≡ None
-opens-nothing None b e = refl
-opens-nothing (Some (Label l)) b e = refl
-opens-nothing (Some (Const dest ty value)) b e = cc
-opens-nothing (Some (Act dest ty operation args funcs labels)) b e = passed_op operation b dest args e
+  pub opens-nothing : (aborts : Bool) → item_change (slice_get code point) aborts ≡ Opens → location_at (slice_get code point) ≡ None
+  opens-nothing aborts e = ap (λ l. slice_get l 0) (nothing-assigned aborts (λ k. let h : Opens ≡ Keeps = sym e ∙ k in cc))
+
+  -- what is assigned behind a branch that isn't an abort
+  pub locations-passed : (a : Assigned) →
+      (assigned_changed (item_change (slice_get code point) false) (assigns_at (slice_get code point)) false a).locations ≡ option_to_list (location_at (slice_get code point)) ++ a.locations
+  locations-passed a = by (item_change (slice_get code point) false) refl ∙ ap (λ l. l ++ a.locations) (assigns-one (slice_get code point))
+    where
+      by : (c : Change) → item_change (slice_get code point) false ≡ c → (assigned_changed (item_change (slice_get code point) false) (assigns_at (slice_get code point)) false a).locations ≡ assigns_at (slice_get code point) ++ a.locations
+      by Keeps e = ap (λ c. (assigned_changed c (assigns_at (slice_get code point)) false a).locations) e
+      by Opens e = ap (λ c. (assigned_changed c (assigns_at (slice_get code point)) false a).locations) e ∙ ap (λ l. l ++ a.locations) (sym (nothing-assigned false (λ k. let h : Opens ≡ Keeps = sym e ∙ k in cc)))
+      by Closes e = ap (λ c. (assigned_changed c (assigns_at (slice_get code point)) false a).locations) e ∙ ap (λ l. l ++ a.locations) (sym (nothing-assigned false (λ k. let h : Closes ≡ Keeps = sym e ∙ k in cc)))

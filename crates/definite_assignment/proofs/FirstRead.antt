@@ -9,8 +9,8 @@ use Rattle.std.proofs.lemmas.List.Elements.{All-cons, All-nil}
 use Rattle.std.proofs.lemmas.Option.{slice_get-map, slice_get-get_or}
 use Rattle.bril_tree.specs.Operand.{Location, reads_of}
 use Rattle.bril_tree.specs.declared.numbered.Instr.{Instr}
-use Rattle.definite_assignment.specs.Reads.{read_at, item_reads, reads_from}
-use Rattle.definite_assignment.specs.declared.reads.Read.{Read}
+use Rattle.flow_graph.specs.Reads.{access_at, item_reads, reads_from}
+use Rattle.flow_graph.specs.declared.reads.Access.{Access}
 
 get_left : {A : Type 0} (xs ys : List A) (k : ℕ) → k < length xs → slice_get (xs ++ ys) k ≡ slice_get xs k
 get_left [] ys k low = absurd (omega arith)
@@ -23,7 +23,7 @@ get_right (x ∷ xs) ys k zero e = absurd (omega arith)
 get_right (x ∷ xs) ys k (suc j) e = get_right xs ys k j (omega arith)
 
 -- the read of one item, and that none before it meets the condition
-pub record SplitsReads (f : Location → Read) (P : Read → Type 0) (locations : List Location) (read : Read) : Type 0 where
+pub record SplitsReads (f : Location → Access) (P : Access → Type 0) (locations : List Location) (read : Access) : Type 0 where
   pub earlier : List Location
   pub location : Location
   pub later : List Location
@@ -31,8 +31,8 @@ pub record SplitsReads (f : Location → Read) (P : Read → Type 0) (locations 
   pub is : f location ≡ read
   pub others : All (λ other. ¬ P (f other)) earlier
 
-split_reads : (f : Location → Read) (P : Read → Type 0) (locations : List Location) (k : ℕ) (read : Read) → slice_get (map f locations) k ≡ Some read →
-    ((j : ℕ) (r : Read) → j < k → slice_get (map f locations) j ≡ Some r → ¬ P r) → SplitsReads f P locations read
+split_reads : (f : Location → Access) (P : Access → Type 0) (locations : List Location) (k : ℕ) (read : Access) → slice_get (map f locations) k ≡ Some read →
+    ((j : ℕ) (r : Access) → j < k → slice_get (map f locations) j ≡ Some r → ¬ P r) → SplitsReads f P locations read
 split_reads f P [] k read e before = cc
 split_reads f P (x ∷ locations) zero read e before = record {
   earlier = [];
@@ -54,22 +54,22 @@ split_reads f P (x ∷ locations) (suc k) read e before =
     }
 
 -- a read in the list of all reads, and that none before it meets the condition
-pub record IsReadAt (first : ℕ) (code : List Instr) (P : Read → Type 0) (read : Read) : Type 0 where
+pub record IsReadAt (first : ℕ) (code : List Instr) (P : Access → Type 0) (read : Access) : Type 0 where
   pub at : ℕ
   pub instr : Instr
   pub here : slice_get code at ≡ Some instr
   pub number : read.item ≡ first + at
-  pub splits : SplitsReads (read_at (first + at)) P (reads_of instr) read
-  pub least : (before : ℕ) (other : Instr) → before < at → slice_get code before ≡ Some other → All (λ location. ¬ P (read_at (first + before) location)) (reads_of other)
+  pub splits : SplitsReads (access_at (first + at)) P (reads_of instr) read
+  pub least : (before : ℕ) (other : Instr) → before < at → slice_get code before ≡ Some other → All (λ location. ¬ P (access_at (first + before) location)) (reads_of other)
 
-read_in_first : (first : ℕ) (instr : Instr) (code : List Instr) (P : Read → Type 0) (k : ℕ) (read : Read) → k < length (item_reads first instr) →
-    slice_get (reads_from first (instr ∷ code)) k ≡ Some read → ((j : ℕ) (r : Read) → j < k → slice_get (reads_from first (instr ∷ code)) j ≡ Some r → ¬ P r) →
+read_in_first : (first : ℕ) (instr : Instr) (code : List Instr) (P : Access → Type 0) (k : ℕ) (read : Access) → k < length (item_reads first instr) →
+    slice_get (reads_from first (instr ∷ code)) k ≡ Some read → ((j : ℕ) (r : Access) → j < k → slice_get (reads_from first (instr ∷ code)) j ≡ Some r → ¬ P r) →
     IsReadAt first (instr ∷ code) P read
 read_in_first first instr code P k read low e before =
     let here = get_left (item_reads first instr) (reads_from (suc first) code) k low in
     let one : first ≡ first + 0 = omega arith in
-    let s : SplitsReads (read_at first) P (reads_of instr) read =
-    split_reads (read_at first) P (reads_of instr) k read (sym here ∙ e)
+    let s : SplitsReads (access_at first) P (reads_of instr) read =
+    split_reads (access_at first) P (reads_of instr) k read (sym here ∙ e)
     (λ j r less h. let low' : j < length (item_reads first instr) = omega arith in
     before j r less (get_left (item_reads first instr) (reads_from (suc first) code) j low' ∙ h)) in
     record {
@@ -77,12 +77,12 @@ read_in_first first instr code P k read low e before =
       instr = instr;
       here = refl;
       number = sym (ap (λ r. r.item) s.is) ∙ one;
-      splits = subst (λ n. SplitsReads (read_at n) P (reads_of instr) read) one s;
+      splits = subst (λ n. SplitsReads (access_at n) P (reads_of instr) read) one s;
       least = λ b other less h. absurd (omega arith);
     }
 
-read_in_later : (first : ℕ) (instr : Instr) (code : List Instr) (P : Read → Type 0) (k : ℕ) (read : Read) → length (item_reads first instr) ≤ k →
-    ((j : ℕ) (r : Read) → j < k → slice_get (reads_from first (instr ∷ code)) j ≡ Some r → ¬ P r) → IsReadAt (suc first) code P read →
+read_in_later : (first : ℕ) (instr : Instr) (code : List Instr) (P : Access → Type 0) (k : ℕ) (read : Access) → length (item_reads first instr) ≤ k →
+    ((j : ℕ) (r : Access) → j < k → slice_get (reads_from first (instr ∷ code)) j ≡ Some r → ¬ P r) → IsReadAt (suc first) code P read →
     IsReadAt first (instr ∷ code) P read
 read_in_later first instr code P k read past before r =
     let one : suc first + r.at ≡ first + suc r.at = omega arith in
@@ -91,29 +91,29 @@ read_in_later first instr code P k read past before r =
       instr = r.instr;
       here = r.here;
       number = r.number ∙ one;
-      splits = subst (λ n. SplitsReads (read_at n) P (reads_of r.instr) read) one r.splits;
+      splits = subst (λ n. SplitsReads (access_at n) P (reads_of r.instr) read) one r.splits;
       least = later_least;
     }
   where
-    here_least : (other : Instr) → Some instr ≡ Some other → All (λ location. ¬ P (read_at (first + 0) location)) (reads_of other)
+    here_least : (other : Instr) → Some instr ≡ Some other → All (λ location. ¬ P (access_at (first + 0) location)) (reads_of other)
     here_least other h =
         let same : instr ≡ other = cc in
         let one : first ≡ first + 0 = omega arith in
-        subst (λ n. All (λ location. ¬ P (read_at n location)) (reads_of other)) one
-        (subst (λ i. All (λ location. ¬ P (read_at first location)) (reads_of i)) same
+        subst (λ n. All (λ location. ¬ P (access_at n location)) (reads_of other)) one
+        (subst (λ i. All (λ location. ¬ P (access_at first location)) (reads_of i)) same
         (λ j d low.
         let low' : j < length (item_reads first instr) = rw length-map low in
-        before j (read_at first (get_or (reads_of instr) j d)) (omega arith)
-        (get_left (item_reads first instr) (reads_from (suc first) code) j low' ∙ slice_get-map (read_at first) (reads_of instr) j ∙ ap (option_map (read_at first)) (slice_get-get_or (reads_of instr) j d low))))
+        before j (access_at first (get_or (reads_of instr) j d)) (omega arith)
+        (get_left (item_reads first instr) (reads_from (suc first) code) j low' ∙ slice_get-map (access_at first) (reads_of instr) j ∙ ap (option_map (access_at first)) (slice_get-get_or (reads_of instr) j d low))))
 
-    later_least : (b : ℕ) (other : Instr) → b < suc r.at → slice_get (instr ∷ code) b ≡ Some other → All (λ location. ¬ P (read_at (first + b) location)) (reads_of other)
+    later_least : (b : ℕ) (other : Instr) → b < suc r.at → slice_get (instr ∷ code) b ≡ Some other → All (λ location. ¬ P (access_at (first + b) location)) (reads_of other)
     later_least zero other less h = here_least other h
     later_least (suc b) other less h =
         let one : suc first + b ≡ first + suc b = omega arith in
-        subst (λ n. All (λ location. ¬ P (read_at n location)) (reads_of other)) one (r.least b other (omega arith) h)
+        subst (λ n. All (λ location. ¬ P (access_at n location)) (reads_of other)) one (r.least b other (omega arith) h)
 
-pub read-is : (first : ℕ) (code : List Instr) (P : Read → Type 0) (k : ℕ) (read : Read) → slice_get (reads_from first code) k ≡ Some read →
-    ((j : ℕ) (r : Read) → j < k → slice_get (reads_from first code) j ≡ Some r → ¬ P r) → IsReadAt first code P read
+pub read-is : (first : ℕ) (code : List Instr) (P : Access → Type 0) (k : ℕ) (read : Access) → slice_get (reads_from first code) k ≡ Some read →
+    ((j : ℕ) (r : Access) → j < k → slice_get (reads_from first code) j ≡ Some r → ¬ P r) → IsReadAt first code P read
 read-is first [] P k read e before = cc
 read-is first (instr ∷ code) P k read e before = ⊎_elim
     (λ low. read_in_first first instr code P k read low e before)
@@ -126,23 +126,3 @@ read-is first (instr ∷ code) P k read e before = ⊎_elim
     (read-is (suc first) code P i read (sym there ∙ e)
     (λ j r less h. before (n + j) r (omega arith) (get_right (item_reads first instr) (reads_from (suc first) code) j (n + j) refl ∙ h))))
     (cases_lt k (length (item_reads first instr)))
-
--- each read of an item is in the list
-pub reads-there : (first : ℕ) (code : List Instr) (point : ℕ) (instr : Instr) (location : Location) → slice_get code point ≡ Some instr → Contains (reads_of instr) location →
-    (k : ℕ) × (slice_get (reads_from first code) k ≡ Some (read_at (first + point) location))
-reads-there first [] point instr location h c = cc
-reads-there first (item ∷ code) zero instr location h c =
-    let same : item ≡ instr = cc in
-    let one : first ≡ first + 0 = omega arith in
-    let c' : Contains (reads_of item) location = subst (λ i. Contains (reads_of i) location) (sym same) c in
-    let low : c'.0 < length (item_reads first item) = rw length-map c'.1 in (
-      c'.0,
-      get_left (item_reads first item) (reads_from (suc first) code) c'.0 low ∙ slice_get-map (read_at first) (reads_of item) c'.0
-          ∙ ap (option_map (read_at first)) (slice_get-get_or (reads_of item) c'.0 location c'.1 ∙ ap Some c'.2) ∙ ap (λ n. Some (read_at n location)) one,
-    )
-reads-there first (item ∷ code) (suc point) instr location h c =
-    let rest = reads-there (suc first) code point instr location h c in
-    let one : suc first + point ≡ first + suc point = omega arith in (
-      length (item_reads first item) + rest.0,
-      get_right (item_reads first item) (reads_from (suc first) code) rest.0 (length (item_reads first item) + rest.0) refl ∙ rest.1 ∙ ap (λ n. Some (read_at n location)) one,
-    )

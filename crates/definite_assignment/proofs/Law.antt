@@ -13,11 +13,14 @@ use Rattle.bril_tree.specs.Sites.{AreSitesSound, NoSite, change_of, item_change,
 use Rattle.bril_tree.specs.Walk.{IsWalk, end_of}
 use Rattle.bril_tree.specs.declared.numbered.Instr.{Instr}
 use Rattle.definite_assignment.specs.Leaving.{leaving_arc, leaving_arcs}
-use Rattle.definite_assignment.specs.Location.{number_of, is_argument, label_of, location_at}
-use Rattle.definite_assignment.specs.Reads.{IsOpen, read_at}
+use Rattle.definite_assignment.specs.Reads.{IsOpen, is_argument}
+use Rattle.flow_graph.specs.Location.{number_of, location_at, number_at}
+use Rattle.flow_graph.specs.Reads.{access_at}
 use Rattle.flow_graph.proofs.GraphEdges.{IsEdgeAt, edge-there, edge-back}
+use Rattle.flow_graph.proofs.Locations.{number-is}
 use Rattle.bril_tree.proofs.Members.{Contains-map, Contains-map_back}
-use Rattle.definite_assignment.proofs.Locations.{label-one, argument-is, argument-there}
+use Rattle.bril_tree.specs.Shape.{shape_fault_of}
+use Rattle.definite_assignment.proofs.Arguments.{argument-is, argument-there}
 use Rattle.bril_tree.proofs.Replays.{IsSaved, saved-back, same-length, open-sites, replay}
 use Rattle.definite_assignment.proofs.Branches.{IsAbort, branch-is, locations-passed, opens-nothing}
 use Rattle.bril_tree.specs.Leaving.{edge_of, leave_of}
@@ -26,13 +29,15 @@ use Rattle.bril_tree.specs.declared.edge.Edge.{Edge}
 use Rattle.flow_graph.proofs.Told.{sites_of_walk}
 use Rattle.graph_search.specs.Path.{Leads, other_than}
 use Rattle.graph_search.specs.declared.graph.Arc.{Arc}
-use Rattle.graph_search.proofs.Gates.{open-differs, differs-open}
+use Rattle.graph_search.proofs.OpenArcs.{open-differs, differs-open}
 use Rattle.graph_search.proofs.Paths.{reached_seed, reached_step, reached_all}
 
--- the graph of a function whose open sites are sound
+-- the graph of a function whose open sites are sound and whose items have the shapes of their operations
 pub record IsSoundGraph (code : List Instr) (graph : GraphView) : Type 0 where
   pub is : IsGraphOf code graph
   pub sound : AreSitesSound code
+  pub returns : Bool
+  pub shaped : shape_fault_of returns code ≡ None
 
 -- where an abort is, a site is open
 some_site : {X : Type 0} (code : List Instr) (graph : GraphView) → IsSoundGraph code graph → (p : ℕ) → IsAbort (slice_get code p) → slice_get graph.sites p ≡ Some (Some []) → X
@@ -47,30 +52,30 @@ arc_there code graph g point sites branch e leads =
 -- an arc from the point where a branch leaves, past an item that doesn't assign the location
 leads_on : (code : List Instr) (graph : GraphView) → IsSoundGraph code graph → (x : Location) (point leave : ℕ) (sites : List ℕ) (branch : Branch) →
     slice_get graph.sites point ≡ Some (Some sites) → Contains (branches_at code point) branch → leave_of branch.aborts branch.from sites ≡ leave →
-    label_of (slice_get code leave) ≢ Some (number_of x) → Leads (leaving_arcs code graph.edges) (other_than (number_of x)) leave branch.to
+    number_at (slice_get code leave) ≢ Some (number_of x) → Leads (leaving_arcs code graph.edges) (other_than (number_of x)) leave branch.to
 leads_on code graph g x point leave sites branch e leads same passes = record {
   arc = leaving_arc code (edge_of sites branch);
   there = arc_there code graph g point sites branch e leads;
   leaves = same;
   enters = refl;
-  passes = differs-open (number_of x) (leaving_arc code (edge_of sites branch)) (λ h. passes (ap (λ l. label_of (slice_get code l)) (sym same) ∙ h));
+  passes = differs-open (number_of x) (leaving_arc code (edge_of sites branch)) (λ h. passes (ap (λ l. number_at (slice_get code l)) (sym same) ∙ h));
 }
 
-open_on : (arcs : List Arc) (args : ℕ) (x : Location) (l q : ℕ) → IsOpen arcs args (read_at l x) → Leads arcs (other_than (number_of x)) l q → IsOpen arcs args (read_at q x)
+open_on : (arcs : List Arc) (args : ℕ) (x : Location) (l q : ℕ) → IsOpen arcs args (access_at l x) → Leads arcs (other_than (number_of x)) l q → IsOpen arcs args (access_at q x)
 open_on arcs args x l q o leads = record { local = o.local; reached = reached_step arcs (0 ∷ []) (other_than (number_of x)) l q o.reached leads }
 
 -- what a walk doesn't assign is open at its end, and what was saved without it makes it open at the site
 record Stands (code : List Instr) (args : ℕ) (arcs : List Arc) (x : Location) (walk : List Branch) : Type 0 where
-  pub here : (¬ Contains (assigned_of code args walk).locations x) → IsOpen arcs args (read_at (end_of walk) x)
-  pub saved : (k site : ℕ) (set : List Location) → IsSaved (sites_of code walk) (assigned_of code args walk) k site set → (¬ Contains set x) → IsOpen arcs args (read_at site x)
+  pub here : (¬ Contains (assigned_of code args walk).locations x) → IsOpen arcs args (access_at (end_of walk) x)
+  pub saved : (k site : ℕ) (set : List Location) → IsSaved (sites_of code walk) (assigned_of code args walk) k site set → (¬ Contains set x) → IsOpen arcs args (access_at site x)
   pub same : length (sites_of code walk) ≡ length (assigned_of code args walk).saved
 
 -- what is assigned behind a branch that is no abort
-locations_on : (code : List Instr) (branch : Branch) (a : Assigned) → branch.aborts ≡ false →
+locations_on : (code : List Instr) (graph : GraphView) → IsSoundGraph code graph → (branch : Branch) (a : Assigned) → branch.aborts ≡ false →
     (assigned_behind code branch a).locations ≡ option_to_list (location_at (slice_get code branch.from)) ++ a.locations
-locations_on code branch a e =
+locations_on code graph g branch a e =
     let item = slice_get code branch.from in
-    ap (λ b. (assigned_changed (item_change item b) (assigns_at item) b a).locations) e ∙ locations-passed item a
+    ap (λ b. (assigned_changed (item_change item b) (assigns_at item) b a).locations) e ∙ locations-passed g.returns code g.shaped branch.from a
 
 -- what is assigned behind an abort
 locations_back : (code : List Instr) (branch : Branch) (a : Assigned) → branch.aborts ≡ true → IsAbort (slice_get code branch.from) →
@@ -94,25 +99,25 @@ listed_back (Some y) x (suc k, low, e) = absurd (omega arith)
 
 stands_on : (code : List Instr) (args : ℕ) (graph : GraphView) → IsSoundGraph code graph → (x : Location) (branch : Branch) (walk : List Branch) → IsWalk code walk →
     Contains (branches_at code (end_of walk)) branch → Stands code args (leaving_arcs code graph.edges) x walk → branch.aborts ≡ false →
-    (¬ Contains (assigned_behind code branch (assigned_of code args walk)).locations x) → IsOpen (leaving_arcs code graph.edges) args (read_at branch.to x)
+    (¬ Contains (assigned_behind code branch (assigned_of code args walk)).locations x) → IsOpen (leaving_arcs code graph.edges) args (access_at branch.to x)
 stands_on code args graph g x branch walk is leads s e lacks =
     let a = assigned_of code args walk in
     let item = slice_get code branch.from in
     let arcs = leaving_arcs code graph.edges in
     let from : branch.from ≡ end_of walk = (branch-is code (end_of walk) branch leads).from in
-    let locations : (assigned_behind code branch a).locations ≡ option_to_list (location_at item) ++ a.locations = locations_on code branch a e in
-    let before : IsOpen arcs args (read_at (end_of walk) x) =
+    let locations : (assigned_behind code branch a).locations ≡ option_to_list (location_at item) ++ a.locations = locations_on code graph g branch a e in
+    let before : IsOpen arcs args (access_at (end_of walk) x) =
     s.here (λ h. lacks (subst (λ ps. Contains ps x) (sym locations) (Contains-append_right (option_to_list (location_at item)) a.locations x h))) in
-    let passes : label_of item ≢ Some (number_of x) =
-    λ h. lacks (subst (λ ps. Contains ps x) (sym locations) (Contains-append_left (option_to_list (location_at item)) a.locations x (listed_one (location_at item) x (label-one (location_at item) x h)))) in
+    let passes : number_at item ≢ Some (number_of x) =
+    λ h. lacks (subst (λ ps. Contains ps x) (sym locations) (Contains-append_left (option_to_list (location_at item)) a.locations x (listed_one (location_at item) x (number-is (location_at item) x h)))) in
     let there = sites_of_walk code graph g.is g.sound walk is in
-    open_on arcs args x branch.from branch.to (subst (λ p. IsOpen arcs args (read_at p x)) (sym from) before)
+    open_on arcs args x branch.from branch.to (subst (λ p. IsOpen arcs args (access_at p x)) (sym from) before)
     (leads_on code graph g x (end_of walk) branch.from (sites_of code walk) branch there leads (leave_on branch.aborts branch.from (sites_of code walk) e) passes)
 
 stands_back : (code : List Instr) (args : ℕ) (graph : GraphView) → IsSoundGraph code graph → (x : Location) (branch : Branch) (walk : List Branch) → IsWalk code walk →
     Contains (branches_at code (end_of walk)) branch → Stands code args (leaving_arcs code graph.edges) x walk → branch.aborts ≡ true →
     (sites : List ℕ) → sites_of code walk ≡ sites → (saved : List (List Location)) → (assigned_of code args walk).saved ≡ saved →
-    (¬ Contains (newest_saved (assigned_of code args walk).locations saved) x) → IsOpen (leaving_arcs code graph.edges) args (read_at branch.to x)
+    (¬ Contains (newest_saved (assigned_of code args walk).locations saved) x) → IsOpen (leaving_arcs code graph.edges) args (access_at branch.to x)
 stands_back code args graph g x branch walk is leads s e [] is_sites saved is_saved lacks =
     let there = sites_of_walk code graph g.is g.sound walk is in
     some_site code graph g (end_of walk) ((branch-is code (end_of walk) branch leads).aborts e) (there ∙ ap (λ ss. Some (Some ss)) is_sites)
@@ -124,12 +129,12 @@ stands_back code args graph g x branch walk is leads s e (l ∷ rest) is_sites [
 stands_back code args graph g x branch walk is leads s e (l ∷ rest) is_sites (set ∷ sets) is_saved lacks =
     let arcs = leaving_arcs code graph.edges in
     let newest : slice_get (sites_of code walk) 0 ≡ Some l = ap (λ ss. slice_get ss 0) is_sites in
-    let before : IsOpen arcs args (read_at l x) = s.saved 0 l set (record { site_there = newest; saved_there = ap (λ ss. slice_get ss 0) is_saved }) lacks in
+    let before : IsOpen arcs args (access_at l x) = s.saved 0 l set (record { site_there = newest; saved_there = ap (λ ss. slice_get ss 0) is_saved }) lacks in
     let there : slice_get graph.sites (end_of walk) ≡ Some (Some (l ∷ rest)) =
     sites_of_walk code graph g.is g.sound walk is ∙ ap (λ ss. Some (Some ss)) is_sites in
     let opens = open-sites code walk 0 l newest in
-    let nothing : location_at (slice_get code l) ≡ None = opens-nothing (slice_get code l) opens.0 opens.1 in
-    let unlabelled : label_of (slice_get code l) ≡ None = ap (option_map number_of) nothing in
+    let nothing : location_at (slice_get code l) ≡ None = opens-nothing g.returns code g.shaped l opens.0 opens.1 in
+    let numberless : number_at (slice_get code l) ≡ None = ap (option_map number_of) nothing in
     open_on arcs args x l branch.to before
     (leads_on code graph g x (end_of walk) l (l ∷ rest) branch there leads (ap (λ b. leave_of b branch.from (l ∷ rest)) e) (λ h. cc))
 
@@ -154,14 +159,14 @@ stands code args graph g x (branch ∷ walk) is =
           (subst (λ ps. ¬ Contains ps x) (locations_back code branch a e (subst (λ p. IsAbort (slice_get code p)) (sym one.from) (one.aborts e))) lacks))
           (λ e. stands_on code args graph g x branch walk is.1 is.0 before e lacks)
           (cases_Bool branch.aborts);
-      saved = saved-back (λ site set. (¬ Contains set x) → IsOpen arcs args (read_at site x)) (change_of code branch) (assigns_at (slice_get code branch.from)) branch.aborts branch.from (sites_of code walk) a
-          (subst (λ p. (¬ Contains a.locations x) → IsOpen arcs args (read_at p x)) (sym one.from) before.here) before.saved;
+      saved = saved-back (λ site set. (¬ Contains set x) → IsOpen arcs args (access_at site x)) (change_of code branch) (assigns_at (slice_get code branch.from)) branch.aborts branch.from (sites_of code walk) a
+          (subst (λ p. (¬ Contains a.locations x) → IsOpen arcs args (access_at p x)) (sym one.from) before.here) before.saved;
       same = same-length (change_of code branch) (assigns_at (slice_get code branch.from)) branch.aborts branch.from (sites_of code walk) a before.same;
     }
 
 -- a walk to the point where a branch leaves gives a walk to where it goes
 lacks_on : (code : List Instr) (args : ℕ) (graph : GraphView) → IsSoundGraph code graph → (x : Location) (point : ℕ) (branch : Branch) → Contains (branches_at code point) branch → branch.aborts ≡ false →
-    label_of (slice_get code branch.from) ≢ Some (number_of x) → IsMaybeUnassigned code args x branch.from → IsMaybeUnassigned code args x branch.to
+    number_at (slice_get code branch.from) ≢ Some (number_of x) → IsMaybeUnassigned code args x branch.from → IsMaybeUnassigned code args x branch.to
 lacks_on code args graph g x point branch leads e passes m =
     let from : branch.from ≡ point = (branch-is code point branch leads).from in
     let item = slice_get code branch.from in
@@ -173,7 +178,7 @@ lacks_on code args graph g x point branch leads e passes m =
       lacks = λ h. ⊎_elim
           (λ now. passes (ap (option_map number_of) (listed_back (location_at item) x now)))
           m.lacks
-          (Contains-append_cases (option_to_list (location_at item)) a.locations x (subst (λ ps. Contains ps x) (locations_on code branch a e) h));
+          (Contains-append_cases (option_to_list (location_at item)) a.locations x (subst (λ ps. Contains ps x) (locations_on code graph g branch a e) h));
     }
 
 newest_is : (locations set : List Location) (saved : List (List Location)) → slice_get saved 0 ≡ Some set → newest_saved locations saved ≡ set
@@ -200,12 +205,12 @@ lacks_back code args graph g x point (l ∷ rest) branch there leads e m =
     }
 
 lacks_branch : (code : List Instr) (args : ℕ) (graph : GraphView) → IsSoundGraph code graph → (x : Location) (point : ℕ) (sites : List ℕ) (branch : Branch) →
-    slice_get graph.sites point ≡ Some (Some sites) → Contains (branches_at code point) branch → label_of (slice_get code (leave_of branch.aborts branch.from sites)) ≢ Some (number_of x) →
+    slice_get graph.sites point ≡ Some (Some sites) → Contains (branches_at code point) branch → number_at (slice_get code (leave_of branch.aborts branch.from sites)) ≢ Some (number_of x) →
     IsMaybeUnassigned code args x (leave_of branch.aborts branch.from sites) → IsMaybeUnassigned code args x branch.to
 lacks_branch code args graph g x point sites branch there leads passes m = ⊎_elim
     (λ e. lacks_back code args graph g x point sites branch there leads e (subst (λ b. IsMaybeUnassigned code args x (leave_of b branch.from sites)) e m))
     (λ e. let same = leave_on branch.aborts branch.from sites e in
-    lacks_on code args graph g x point branch leads e (λ h. passes (ap (λ l. label_of (slice_get code l)) same ∙ h)) (subst (IsMaybeUnassigned code args x) same m))
+    lacks_on code args graph g x point branch leads e (λ h. passes (ap (λ l. number_at (slice_get code l)) same ∙ h)) (subst (IsMaybeUnassigned code args x) same m))
     (cases_Bool branch.aborts)
 
 lacks_arc : (code : List Instr) (args : ℕ) (graph : GraphView) → IsSoundGraph code graph → (x : Location) (l q : ℕ) → IsMaybeUnassigned code args x l →
@@ -224,7 +229,7 @@ lacks_arc code args graph g x l q m leads =
 
 -- the law
 pub unassigned-iff : (code : List Instr) (args : ℕ) (graph : GraphView) → IsSoundGraph code graph → (x : Location) (point : ℕ) →
-    IsOpen (leaving_arcs code graph.edges) args (read_at point x) ↔ IsMaybeUnassigned code args x point
+    IsOpen (leaving_arcs code graph.edges) args (access_at point x) ↔ IsMaybeUnassigned code args x point
 unassigned-iff code args graph g x point = (
   λ o. reached_all (leaving_arcs code graph.edges) (0 ∷ []) (other_than (number_of x)) (IsMaybeUnassigned code args x)
       (λ n h. subst (IsMaybeUnassigned code args x) (in_one n h) (record {
@@ -234,7 +239,7 @@ unassigned-iff code args graph g x point = (
         lacks = λ there. both_ways (is_argument args (number_of x)) o.local (argument-is args x there);
       }))
       (lacks_arc code args graph g x) point o.reached,
-  λ m. subst (λ p. IsOpen (leaving_arcs code graph.edges) args (read_at p x)) m.ends ((stands code args graph g x m.walk m.is).here m.lacks),
+  λ m. subst (λ p. IsOpen (leaving_arcs code graph.edges) args (access_at p x)) m.ends ((stands code args graph g x m.walk m.is).here m.lacks),
 )
   where
     in_one : (n : ℕ) → Contains (0 ∷ []) n → 0 ≡ n

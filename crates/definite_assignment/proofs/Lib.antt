@@ -1,8 +1,8 @@
+pub mod Arguments
 pub mod Bounds
 pub mod FirstRead
 pub mod FirstUnassigned
 pub mod Law
-pub mod Locations
-pub mod ReadRows
+pub mod Lowering
 pub mod Turned
 pub mod Branches

@@ -1,4 +1,3 @@
 pub mod Leaving
-pub mod Location
 pub mod Reads
 pub mod Unassigned

@@ -37,10 +37,11 @@ pub fn first_unassigned(
 {
     let flow = Flow::of(alloc, func, graph)?;
     let first = flow.first_open(alloc)?;
-    if first == flow.reads.len() {
+    let reads = flow.reads.list();
+    if first == reads.len() {
         return Ok(None);
     }
-    let read = flow.reads[first];
+    let read = reads[first];
     Ok(Some(Unassigned {
         item: read.item,
         var: read.location / 2,

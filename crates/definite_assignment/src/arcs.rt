@@ -1,34 +1,22 @@
 // The arcs along which a location stays unassigned.
 
-ghost use Rattle.std.specs.Prelude.{◌≡◌, ℕ, map, slice_get, IfOk};
+ghost use Rattle.std.specs.Prelude.{◌≡◌, map, IfOk};
 ghost use Rattle.definite_assignment.specs.Leaving.{leaving_arc, leaving_arcs, turned};
-ghost use Rattle.definite_assignment.specs.Location.{label_of};
 
-use crate::location::item_label;
 use bril_tree::numbered::Instr;
-use flow_graph::Edge;
+use flow_graph::{Edge, point_number};
 use graph_search::Arc;
 use std::alloc::{AllocError, Global};
-
-// The number of the location that the item at a point assigns as control goes on.
-fn label_at(code: &[Instr], point: u32) -> Result<Option<u32>, AllocError>
-    ensures { IfOk result (λ label. label ≡ label_of (slice_get code.now point)) }
-{
-    match code.get(point as usize) {
-        None => Ok(None),
-        Some(item) => item_label(item),
-    }
-}
 
 // The arc of an edge, from the point where it leaves.
 fn arc_of(code: &[Instr], edge: Edge) -> Result<Arc, AllocError>
     ensures { IfOk result (λ arc. arc ≡ leaving_arc code.now edge) }
 {
-    let label = label_at(code, edge.leave)?;
+    let number = point_number(code, edge.leave)?;
     Ok(Arc {
         from: edge.leave,
         to: edge.to,
-        label,
+        label: number,
     })
 }
 

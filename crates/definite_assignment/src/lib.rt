@@ -4,7 +4,5 @@
 mod analysis;
 mod arcs;
 mod flow;
-mod location;
-mod reads;
 
 pub use analysis::{Unassigned, first_unassigned};

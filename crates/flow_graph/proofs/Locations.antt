@@ -18,7 +18,7 @@ number-one (Shadow x) (Variable y) e = absurd (omega arith)
 number-one (Shadow x) (Shadow y) e = let same : x ≡ y = omega arith in ap Shadow same
 
 -- a number is of one location
-number-is : (o : Option Location) (location : Location) → option_map number_of o ≡ Some (number_of location) → o ≡ Some location
+pub number-is : (o : Option Location) (location : Location) → option_map number_of o ≡ Some (number_of location) → o ≡ Some location
 number-is None location e = cc
 number-is (Some other) location e = let same : number_of other ≡ number_of location = cc in ap Some (number-one other location same)
 

@@ -53,41 +53,54 @@ pub Goes-none : (arcs : List Arc) (gate : Arc → Bool) (node end : ℕ) → End
 Goes-none arcs gate node end row n g = row.last g.place g.late g.within (source_at arcs g.place g.arc g.within g.there ∙ g.leaves)
 
 -- one more arc of the row
-pub Goes-more : (arcs : List Arc) (gate : Arc → Bool) (node end place earlier bound : ℕ) (arc : Arc) (a b c : List ℕ) →
-    place + 1 ≡ end → bound ≤ length arcs → get_or arcs place arc ≡ arc → EndsRow (map (λ a. a.from) arcs) node bound end →
-    EndsRow (map (λ a. a.from) arcs) node place earlier → VisitsAll (Goes arcs gate node end) a b →
-    VisitsAll (λ n. (arc.to ≡ n) × (gate arc ≡ true)) b c → VisitsAll (Goes arcs gate node earlier) a c
-Goes-more arcs gate node end place earlier bound arc a b c here short there row rest v w =
-    let within : place < length arcs = let low = row.within in omega arith in
-    let leaves : arc.from ≡ node = sym (source_at arcs place arc within there) ∙ row.stands place here in
-    VisitsAll-then (Goes arcs gate node end) (λ n. (arc.to ≡ n) × (gate arc ≡ true)) (Goes arcs gate node earlier) a b c
-    (λ n g. let low = rest.within in let late = g.late in record {
-      place = g.place;
-      late = omega arith;
-      within = g.within;
-      arc = g.arc;
-      there = g.there;
-      leaves = g.leaves;
-      enters = g.enters;
-      passes = g.passes;
-    })
-    (λ n h. record { place = place; late = rest.within; within = within; arc = arc; there = there; leaves = leaves; enters = h.0; passes = h.1 })
-    (λ n g. ⊎_elim
-    (λ below. absurd (rest.last g.place g.late below (source_at arcs g.place g.arc g.within g.there ∙ g.leaves)))
-    (λ above. ⊎_elim
-    (λ same.
-    let arcs_same : g.arc ≡ arc = sym g.there ∙ get_or_default arcs g.place g.arc arc g.within ∙ ap (λ k. get_or arcs k arc) same ∙ there in
-    inr (ap (λ x. x.to) (sym arcs_same) ∙ g.enters, ap gate (sym arcs_same) ∙ g.passes))
-    (λ differs. inl (record {
-      place = g.place;
-      late = omega arith;
-      within = g.within;
-      arc = g.arc;
-      there = g.there;
-      leaves = g.leaves;
-      enters = g.enters;
-      passes = g.passes;
-    }))
-    (cases_eq g.place place))
-    (cases_lt g.place place))
-    v w
+module _ (arcs : List Arc) (gate : Arc → Bool) (node end place earlier bound : ℕ) (arc : Arc) (here : place + 1 ≡ end) (short : bound ≤ length arcs) (there : get_or arcs place arc ≡ arc)
+    (row : EndsRow (map (λ a. a.from) arcs) node bound end) (rest : EndsRow (map (λ a. a.from) arcs) node place earlier) where
+  within : place < length arcs
+  within = let low = row.within in omega arith
+
+  pub goes-later : (n : ℕ) → Goes arcs gate node end n → Goes arcs gate node earlier n
+  goes-later n g = let low = rest.within in let late = g.late in record {
+    place = g.place;
+    late = omega arith;
+    within = g.within;
+    arc = g.arc;
+    there = g.there;
+    leaves = g.leaves;
+    enters = g.enters;
+    passes = g.passes;
+  }
+
+  pub goes-here : (n : ℕ) → (arc.to ≡ n) × (gate arc ≡ true) → Goes arcs gate node earlier n
+  goes-here n h = record {
+    place = place;
+    late = rest.within;
+    within = within;
+    arc = arc;
+    there = there;
+    leaves = sym (source_at arcs place arc within there) ∙ row.stands place here;
+    enters = h.0;
+    passes = h.1;
+  }
+
+  pub goes-split : (n : ℕ) → Goes arcs gate node earlier n → Goes arcs gate node end n ⊎ ((arc.to ≡ n) × (gate arc ≡ true))
+  goes-split n g = ⊎_elim
+      (λ below. absurd (rest.last g.place g.late below (source_at arcs g.place g.arc g.within g.there ∙ g.leaves)))
+      (λ above. ⊎_elim
+      (λ same.
+      let arcs_same : g.arc ≡ arc = sym g.there ∙ get_or_default arcs g.place g.arc arc g.within ∙ ap (λ k. get_or arcs k arc) same ∙ there in
+      inr (ap (λ x. x.to) (sym arcs_same) ∙ g.enters, ap gate (sym arcs_same) ∙ g.passes))
+      (λ differs. inl (record {
+        place = g.place;
+        late = omega arith;
+        within = g.within;
+        arc = g.arc;
+        there = g.there;
+        leaves = g.leaves;
+        enters = g.enters;
+        passes = g.passes;
+      }))
+      (cases_eq g.place place))
+      (cases_lt g.place place)
+
+  pub Goes-more : (a b c : List ℕ) → VisitsAll (Goes arcs gate node end) a b → VisitsAll (λ n. (arc.to ≡ n) × (gate arc ≡ true)) b c → VisitsAll (Goes arcs gate node earlier) a c
+  Goes-more a b c = VisitsAll-then (Goes arcs gate node end) (λ n. (arc.to ≡ n) × (gate arc ≡ true)) (Goes arcs gate node earlier) a b c goes-later goes-here goes-split

@@ -2,7 +2,7 @@
 
 ghost use Rattle.std.specs.Prelude.{◌≡◌, ◌<◌, ◌↔◌, ℕ, Bool, true};
 ghost use Rattle.graph_search.specs.declared.graph.Arc.{Arc};
-ghost use Rattle.graph_search.specs.Sets.{HasBit};
+ghost use Rattle.graph_search.specs.Sets.{has_bit};
 
 use crate::graph::Arc;
 
@@ -23,7 +23,7 @@ pub trait Gates {
 
     /// The word whose bits are the searches that cross the arc. Takes no memory.
     fn open_bits(&self, arc: Arc) -> u64
-        ensures { (k : ℕ) → k < 64 → HasBit result k ↔ (opens self.now k arc ≡ true) };
+        ensures { (k : ℕ) → k < 64 → (has_bit result k ≡ true) ↔ (opens self.now k arc ≡ true) };
 }
 
 /// The gate that is shut to the arcs with this label, and to no other.

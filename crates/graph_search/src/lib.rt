@@ -10,9 +10,13 @@
 mod adjacency;
 mod gate;
 mod graph;
+mod pending;
 mod reached;
+mod reached_sets;
+mod words;
 
 pub use adjacency::Adjacency;
-pub use gate::{Gate, OtherThan};
+pub use gate::{Gate, Gates, OtherThan};
 pub use graph::{Arc, ArcGraph};
 pub use reached::Reached;
+pub use reached_sets::{ReachedSets, Seed};

@@ -1,60 +1,19 @@
 -- What the search finds from the readers of a location is where the location is live.
-use Rattle.std.proofs.Common.{◌≡◌, ℕ, Bool, ◌<◌, List, Option, Some, None, refl, sym, ap, subst, ◌∙◌, inl, inr, arith}
+use Rattle.std.proofs.Common.{◌≡◌, ℕ, Bool, ◌<◌, List, Some, refl, sym, ap, subst, ◌∙◌, arith}
 use Rattle.std.specs.Prelude.{slice_get}
 use Rattle.std.specs.List.{All, Contains}
-use Rattle.std.specs.Option.{option_map, option_to_list}
 use Rattle.bril_tree.specs.declared.numbered.Instr.{Instr}
-use Rattle.bril_tree.specs.declared.numbered.Instr.TheVariants.{Label, Const, Act}
-use Rattle.bril_tree.specs.declared.operation.Op.{Op}
-use Rattle.bril_tree.specs.declared.operation.Op.TheVariants as op
-use Rattle.bril_tree.specs.Assigned.{assigns_at, operation_assigns}
+use Rattle.bril_tree.specs.Assigned.{assigns_at}
 use Rattle.bril_tree.specs.Live.{IsLive, Here, Later}
-use Rattle.bril_tree.specs.Membership.{In}
 use Rattle.bril_tree.specs.Operand.{Location, reads_of}
 use Rattle.bril_tree.proofs.Members.{in_contains, contains_in}
-use Rattle.definite_assignment.specs.Location.{number_of}
-use Rattle.definite_assignment.proofs.Locations.{label-one}
+use Rattle.flow_graph.specs.Location.{number_of}
+use Rattle.flow_graph.proofs.Locations.{assigned-number, number-assigned}
 use Rattle.graph_search.specs.Path.{IsReached, Leads, IsBetween, other_than}
 use Rattle.graph_search.specs.declared.graph.Arc.{Arc}
-use Rattle.graph_search.proofs.Gates.{open-differs, differs-open}
+use Rattle.graph_search.proofs.OpenArcs.{open-differs, differs-open}
 use Rattle.graph_search.proofs.Paths.{reached_seed, reached_step, reached_all}
-use Rattle.live_sets.specs.Arcs.{AreBackArcs, back_arc, location_at, number_at, operation_location}
-
--- ---- what an item assigns, and its number
-
-operation-assigns : (o : Op) (dest : Option ℕ) (args : List ℕ) → operation_assigns o dest args ≡ option_to_list (operation_location o dest args)
-operation-assigns op.Set dest args = refl
-operation-assigns _ None args = refl
-operation-assigns _ (Some x) args = refl
-
-assigns-location : (item : Option Instr) → assigns_at item ≡ option_to_list (location_at item)
-assigns-location None = refl
-assigns-location (Some (Label l)) = refl
-assigns-location (Some (Const dest ty value)) = refl
-assigns-location (Some (Act dest ty o args funcs labels)) = operation-assigns o dest args
-
-in_option : (o : Option Location) (x : Location) → In x (option_to_list o) → o ≡ Some x
-in_option None x i = absurd i
-in_option (Some y) x (inl e) = ap Some (sym e)
-in_option (Some y) x (inr i) = absurd i
-
-option_in : (o : Option Location) (x : Location) → o ≡ Some x → In x (option_to_list o)
-option_in None x e = absurd cc
-option_in (Some y) x e = inl (let same : y ≡ x = cc in sym same)
-
-pub assigned-location : (item : Option Instr) (x : Location) → In x (assigns_at item) → location_at item ≡ Some x
-assigned-location item x i = in_option (location_at item) x (subst (In x) (assigns-location item) i)
-
-pub location-assigned : (item : Option Instr) (x : Location) → location_at item ≡ Some x → In x (assigns_at item)
-location-assigned item x e = subst (In x) (sym (assigns-location item)) (option_in (location_at item) x e)
-
-pub assigned-number : (item : Option Instr) (x : Location) → In x (assigns_at item) → number_at item ≡ Some (number_of x)
-assigned-number item x i = ap (option_map number_of) (assigned-location item x i)
-
-pub number-assigned : (item : Option Instr) (x : Location) → number_at item ≡ Some (number_of x) → In x (assigns_at item)
-number-assigned item x e = location-assigned item x (label-one (location_at item) x e)
-
--- ---- the law
+use Rattle.live_sets.specs.Arcs.{AreBackArcs, back_arc}
 
 -- the items are exactly those that read the location
 pub record AreReaders (code : List Instr) (x : Location) (items : List ℕ) : Type 0 where

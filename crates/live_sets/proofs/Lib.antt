@@ -1,5 +1,4 @@
-pub mod AccessRows
-pub mod ReadLists
+pub mod Readers
 pub mod BackArcs
 pub mod Law
 pub mod Sets

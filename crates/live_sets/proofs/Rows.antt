@@ -1,5 +1,5 @@
 -- The rows of a table of liveness.
-use Rattle.std.proofs.Common.{◌≡◌, ◌⊎◌, ◌↔◌, ℕ, zero, suc, ◌+◌, ◌<◌, List, [], ◌∷◌, ◌++◌, length, get_or, Option, Some, None, refl, sym, ap, subst, ◌∙◌, inl, inr, ⊎_elim, arith, true≢false}
+use Rattle.std.proofs.Common.{◌≡◌, ◌⊎◌, ◌↔◌, ℕ, zero, suc, ◌+◌, ◌<◌, List, [], ◌∷◌, ◌++◌, length, get_or, Bool, Option, Some, None, refl, sym, ap, subst, ◌∙◌, inl, inr, ⊎_elim, arith, true≢false}
 use Rattle.std.specs.Prelude.{slice_get, IsTrue}
 use Rattle.std.specs.List.{All, Contains}
 use Rattle.std.proofs.lemmas.List.Elements.{Contains-get_or}
@@ -10,15 +10,16 @@ use Rattle.bril_tree.specs.declared.numbered.Instr.{Instr}
 use Rattle.bril_tree.specs.Live.{IsLive}
 use Rattle.bril_tree.specs.Operand.{Location, reads_of}
 use Rattle.bril_tree.proofs.Elements.{none_past}
-use Rattle.definite_assignment.specs.Location.{number_of}
+use Rattle.flow_graph.specs.Accesses.{Accesses}
+use Rattle.flow_graph.specs.Location.{number_of}
+use Rattle.flow_graph.specs.Reads.{reads_from}
+use Rattle.flow_graph.specs.declared.reads.Access.{Access}
+use Rattle.live_sets.specs.Flow.{FlowView, IsFlowOf}
 use Rattle.live_sets.specs.Liveness.{has_point_if, is_told}
 use Rattle.live_sets.specs.Points.{has_point}
-use Rattle.live_sets.specs.Arcs.{AreBackArcs}
-use Rattle.live_sets.specs.Reads.{Accesses, reads_from}
 use Rattle.live_sets.specs.declared.points.Points.{Points}
-use Rattle.live_sets.specs.declared.accesses.Access.{Access}
 use Rattle.live_sets.proofs.Law.{AreReaders, live-read, live-reached, reached-live, reached-within}
-use Rattle.live_sets.proofs.ReadLists.{read_listed, readers_are, reads-inside}
+use Rattle.live_sets.proofs.Readers.{read_listed, readers_are}
 
 -- the points at which the location is live
 abbrev pub IsRow : List Instr → Location → Points → Type 0
@@ -63,26 +64,18 @@ tells code rows are above x point = by (slice_get rows (number_of x)) refl
 
 -- ---- one row
 
-module _ (code : List Instr) (list : List Access) (reads : list ≡ reads_from 0 code) (location : ℕ) (items : List ℕ) (exact : (item : ℕ) → Contains items item ↔ Accesses list location item) where
-  -- the items that read a location have numbers below that of the end
-  pub items-within : (points : ℕ) → points ≡ length code + 1 → All (λ item. item < points) items
-  items-within points total k d low =
-      let c = (exact (get_or items k d)).0 (Contains-get_or items k d low) in
-      let h : All (λ (access : Access). access.item < 0 + length code) list = subst (All (λ (access : Access). access.item < 0 + length code)) (sym reads) (reads-inside 0 code) in
-      let inside : get_or items k d < 0 + length code = subst (λ (a : Access). a.item < 0 + length code) c.2 (h c.0 (record { item = get_or items k d; location = location }) c.1) in
-      omega arith
+-- what was found is a row of nodes
+pub found-within : (nodes : ℕ) (arcs : List Arc) (seeds : List ℕ) (gate : Arc → Bool) (found : List ℕ) → All (IsBetween nodes) arcs → All (λ seed. seed < nodes) seeds → ((node : ℕ) → Contains found node ↔ IsReached arcs seeds gate node) → All (λ node. node < nodes) found
+found-within nodes arcs seeds gate found between inside searched k d low =
+    reached-within nodes arcs seeds gate between inside (get_or found k d) ((searched (get_or found k d)).0 (Contains-get_or found k d low))
 
-  module _ (arcs : List Arc) (are : AreBackArcs code arcs) (seeds : List ℕ) (same : seeds ≡ items) (found : List ℕ) (searched : (point : ℕ) → Contains found point ↔ IsReached arcs seeds (other_than location) point) where
-    pub found-within : (points : ℕ) → points ≡ length code + 1 → All (λ point. point < points) found
-    found-within points total k d low =
-        reached-within points arcs items (other_than location) (subst (λ n. All (IsBetween n) arcs) (sym total) are.between) (items-within points total) (get_or found k d)
-        (subst (λ s. IsReached arcs s (other_than location) (get_or found k d)) same ((searched (get_or found k d)).0 (Contains-get_or found k d low)))
-
-    pub row-tells : (row : Points) → ((point : ℕ) → IsTrue (has_point row point) ↔ Contains found point) → (x : Location) → number_of x ≡ location → IsRow code x row
-    row-tells row told x number point = (
-      (λ h. reached-live code arcs are x items readers point (subst (λ n. IsReached arcs items (other_than n) point) (sym number) (subst (λ s. IsReached arcs s (other_than location) point) same ((searched point).0 ((told point).0 h))))),
-      (λ live. (told point).1 ((searched point).1 (subst (λ s. IsReached arcs s (other_than location) point) (sym same) (subst (λ n. IsReached arcs items (other_than n) point) number (live-reached code arcs are x items readers point live))))),
-    )
-      where
-        readers : AreReaders code x items
-        readers = readers_are code x items (λ item. let e = exact item in subst (λ n. (Contains items item → Accesses (reads_from 0 code) n item) × (Accesses (reads_from 0 code) n item → Contains items item)) (sym number) (subst (λ l. (Contains items item → Accesses l location item) × (Accesses l location item → Contains items item)) reads (e.0, e.1)))
+-- what is found from the readers of a location is where it is live
+pub found-live : (code : List Instr) (flow : FlowView) (location : ℕ) (seeds found : List ℕ) → ((item : ℕ) → Contains seeds item ↔ Accesses flow.reads.list location item) → ((point : ℕ) → Contains found point ↔ IsReached flow.arcs seeds (other_than location) point)
+    → IsFlowOf code flow → (x : Location) → number_of x ≡ location → (point : ℕ) → Contains found point ↔ IsLive code x point
+found-live code flow location seeds found exact searched are x number point = (
+  (λ c. reached-live code flow.arcs are.arcs x seeds readers point (subst (λ n. IsReached flow.arcs seeds (other_than n) point) (sym number) ((searched point).0 c))),
+  (λ live. (searched point).1 (subst (λ n. IsReached flow.arcs seeds (other_than n) point) number (live-reached code flow.arcs are.arcs x seeds readers point live))),
+)
+  where
+    readers : AreReaders code x seeds
+    readers = readers_are code x seeds (λ item. let e = exact item in subst (λ n. (Contains seeds item → Accesses (reads_from 0 code) n item) × (Accesses (reads_from 0 code) n item → Contains seeds item)) (sym number) (subst (λ l. (Contains seeds item → Accesses l location item) × (Accesses l location item → Contains seeds item)) are.reads (e.0, e.1)))

@@ -1,14 +1,18 @@
 -- Sets of points: marks, and points in order.
-use Rattle.std.proofs.Common.{◌≡◌, ◌⊎◌, ◌↔◌, ℕ, zero, suc, ◌+◌, ◌<◌, ◌≤◌, Bool, true, false, ◌||◌, List, [], ◌∷◌, ◌++◌, length, take, get_or, set, replicate, Result, Ok, Err, MatchResult, refl, sym, ap, subst, ◌∙◌, inl, inr, ⊎_elim, arith, true≢false, nat_cmp}
-use Rattle.std.specs.Prelude.{IsTrue, ◌==◌, is_ok}
+use Rattle.std.proofs.Common.{◌≡◌, ◌⊎◌, ◌↔◌, ℕ, zero, suc, ◌+◌, ◌-◌, ◌<◌, ◌≤◌, Bool, true, false, ◌||◌, List, [], ◌∷◌, ◌++◌, length, take, get_or, set, replicate, Result, Ok, Err, MatchResult, Some, refl, sym, ap, subst, ◌∙◌, inl, inr, ⊎_elim, arith, true≢false, nat_cmp}
+use Rattle.std.specs.Prelude.{IsTrue, ◌==◌, is_ok, slice_get}
 use Rattle.std.specs.List.{Contains}
 use Rattle.std.specs.List.Sorted.{IsBinarySearchResult, IsNonDecreasing, IsPermutation}
 use Rattle.std.proofs.lemmas.Bool.{cases_eq, cases_lt, eq-eqb, eqb-true}
 use Rattle.std.proofs.lemmas.List.{get_or-set_same, get_or-set_other, get_or-replicate, get_or_past, length-replicate, take_more}
 use Rattle.std.proofs.lemmas.List.Sorted.{searched, Contains-permutation, IsPermutation-sym}
+use Rattle.std.proofs.lemmas.Option.{get_or_from_slice_get}
 use Rattle.bril_tree.specs.Membership.{In}
+use Rattle.bril_tree.proofs.Elements.{get_in}
 use Rattle.bril_tree.proofs.Members.{in_contains, contains_in, in_append_left, in_append_right, in_append_cases}
+use Rattle.flow_graph.specs.Faults.{IsLeastOf}
 use Rattle.live_sets.specs.Among.{is_among}
+use Rattle.live_sets.specs.Greatest.{IsGreatestOf}
 
 -- ---- whether a point is among others
 
@@ -63,12 +67,6 @@ search-among xs point r search rising = same_test (is_among point xs) (Contains 
 abbrev pub AreMarked : List Bool → List ℕ → Type 0
 AreMarked marks found = (point : ℕ) → IsTrue (get_or marks point false) ↔ Contains found point
 
-pub none-marked : (count : ℕ) → AreMarked (replicate count false) []
-none-marked count point = ((λ e. absurd (true≢false (sym e ∙ none))), (λ c. absurd (omega (arith, c.1))))
-  where
-    none : get_or (replicate count false) point false ≡ false
-    none = ⊎_elim (λ low. get_or-replicate count point false false low) (λ past. get_or_past (replicate count false) point false (let l = length-replicate count false in omega (arith, l, past))) (cases_lt point count)
-
 pub one-marked : (marks : List Bool) (found : List ℕ) (q : ℕ) → q < length marks → AreMarked marks found → AreMarked (set marks q true) (found ++ q ∷ [])
 one-marked marks found q low are point = ⊎_elim same other (cases_eq point q)
   where
@@ -92,3 +90,23 @@ more-marked marks found i within low are = subst (AreMarked (set marks (get_or f
 -- the same points in another order
 pub permuted-among : (xs ys : List ℕ) → IsPermutation xs ys → (point : ℕ) → IsTrue (is_among point ys) ↔ Contains xs point
 permuted-among xs ys p point = ((λ e. Contains-permutation ys xs point (IsPermutation-sym xs ys p) ((among-contains point ys).0 e)), (λ c. (among-contains point ys).1 (Contains-permutation xs ys point p c)))
+
+-- ---- the first and the last of points in rising order
+
+pub first-is : (xs : List ℕ) (first : ℕ) → IsNonDecreasing xs → slice_get xs 0 ≡ Some first → IsLeastOf (λ point. IsTrue (is_among point xs)) (Some first)
+first-is xs first rising e = ((among-contains first xs).1 (contains_in first xs (get_in xs 0 first e)), λ p h. below p ((among-contains p xs).0 h))
+  where
+    below : (p : ℕ) → Contains xs p → first ≤ p
+    below p c = by c.0 c.1 c.2
+      where
+        by : (i : ℕ) → i < length xs → get_or xs i p ≡ p → first ≤ p
+        by zero low is = omega (arith, get_or_from_slice_get xs 0 first p e, is)
+        by (suc i) low is = omega (arith, rising 0 (suc i) p (omega arith) low, get_or_from_slice_get xs 0 first p e, is)
+
+pub last-is : (xs : List ℕ) (last : ℕ) → IsNonDecreasing xs → slice_get xs (length xs - 1) ≡ Some last → IsGreatestOf (λ point. IsTrue (is_among point xs)) (Some last)
+last-is xs last rising e = ((among-contains last xs).1 (contains_in last xs (get_in xs (length xs - 1) last e)), λ p h. above p ((among-contains p xs).0 h))
+  where
+    above : (p : ℕ) → Contains xs p → p ≤ last
+    above p c =
+        let low = c.1 in
+        omega (arith, rising c.0 (length xs - 1) p (omega arith) (omega arith), get_or_from_slice_get xs (length xs - 1) last p e, c.2)

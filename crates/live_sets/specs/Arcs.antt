@@ -1,44 +1,14 @@
--- The arcs along which locations are live: from a point back to where a branch to it leaves, with the location that the
--- item there assigns.
-use Rattle.std.specs.Prelude.{◌≡◌, ℕ, suc, ◌+◌, ◌==◌, if◌then◌else◌, List, [], ◌∷◌, ◌++◌, map, length, Option, Some, None, slice_get, slice_index}
-use Rattle.std.specs.List.{All, Contains}
-use Rattle.std.specs.Option.{option_map}
-use Rattle.bril_tree.specs.Edge.{Branch}
+-- The arcs along which locations are live: from a point back to where a branch to it leaves, with the number of the
+-- location that the item there assigns.
+use Rattle.std.specs.Prelude.{◌≡◌, ℕ, suc, ◌+◌, ◌==◌, if◌then◌else◌, List, [], ◌∷◌, ◌++◌, length, Option, Some, slice_get}
+use Rattle.std.specs.List.{All, Contains, flat_map}
+use Rattle.bril_tree.specs.Edge.{Branch, item_branches}
 use Rattle.bril_tree.specs.Leaving.{Leaves}
-use Rattle.bril_tree.specs.Operand.{Location, Variable, Shadow}
-use Rattle.bril_tree.specs.Step.{point_of}
 use Rattle.bril_tree.specs.declared.edge.Edge.{Edge}
 use Rattle.bril_tree.specs.declared.numbered.Instr.{Instr}
-use Rattle.bril_tree.specs.declared.numbered.Instr.TheVariants.{Label, Const, Act}
-use Rattle.bril_tree.specs.declared.operation.Op.{Op}
-use Rattle.bril_tree.specs.declared.operation.Op.TheVariants as op
-use Rattle.definite_assignment.specs.Location.{number_of}
+use Rattle.flow_graph.specs.Location.{number_at}
 use Rattle.graph_search.specs.Path.{IsBetween}
 use Rattle.graph_search.specs.declared.graph.Arc.{Arc}
-use Rattle.live_sets.specs.declared.arcs.Targets.{Targets}
-use Rattle.live_sets.specs.declared.arcs.Targets.TheVariants.{Nowhere, Single, Either}
-
--- ---- what items assign
-
-abbrev pub operation_location : Op → Option ℕ → List ℕ → Option Location
-operation_location op.Set dest args = Some (Shadow (slice_index args 0))
-operation_location _ dest args = option_map Variable dest
-
--- the location that an item assigns
-abbrev pub item_location : Instr → Option Location
-item_location (Label l) = None
-item_location (Const dest ty value) = Some (Variable dest)
-item_location (Act dest ty operation args funcs labels) = operation_location operation dest args
-
-abbrev pub location_at : Option Instr → Option Location
-location_at None = None
-location_at (Some item) = item_location item
-
--- its number
-abbrev pub number_at : Option Instr → Option ℕ
-number_at item = option_map number_of (location_at item)
-
--- ---- arcs
 
 -- from a point back to one where a branch to it leaves
 abbrev pub back_arc : List Instr → (leave to : ℕ) → Arc
@@ -52,30 +22,20 @@ pub record AreBackArcs (code : List Instr) (arcs : List Arc) : Type 0 where
 
 -- ---- how they are made
 
--- the points to which control goes otherwise than by an abort
-abbrev pub operation_points : List Instr → ℕ → Op → List ℕ → List ℕ
-operation_points code p op.Jmp labels = map (λ l. point_of l code) labels
-operation_points code p op.Br labels = map (λ l. point_of l code) labels
-operation_points code p op.Ret labels = []
-operation_points code p _ labels = suc p ∷ []
+-- from a point back to one that assigns the location of a number
+abbrev pub arc_back : (leave : ℕ) → (number : Option ℕ) → (to : ℕ) → Arc
+arc_back leave number to = record { from = to; to = leave; label = number }
 
-abbrev pub item_points : List Instr → ℕ → Instr → List ℕ
-item_points code p (Label l) = suc p ∷ []
-item_points code p (Const dest ty value) = suc p ∷ []
-item_points code p (Act dest ty operation args funcs labels) = operation_points code p operation labels
+-- the arc of a branch from an item that assigns the location of the number; an abort has none
+abbrev pub plain_arc : Option ℕ → Branch → List Arc
+plain_arc number branch = if branch.aborts then [] else (arc_back branch.from number branch.to ∷ [])
 
--- the points, as they are kept
-abbrev pub points_of : Targets → List ℕ
-points_of Nowhere = []
-points_of (Single to) = to ∷ []
-points_of (Either first second) = first ∷ second ∷ []
+-- the arcs of those of these branches that are no aborts
+abbrev pub plain_arcs : Option ℕ → List Branch → List Arc
+plain_arcs number branches = flat_map (plain_arc number) branches
 
-abbrev pub arc_back : (leave : ℕ) → (label : Option ℕ) → (to : ℕ) → Arc
-arc_back leave label to = record { from = to; to = leave; label = label }
-
--- the arcs of the branches from an item other than aborts
 abbrev pub item_arcs : List Instr → ℕ → Instr → List Arc
-item_arcs code p item = map (arc_back p (number_at (Some item))) (item_points code p item)
+item_arcs code p item = plain_arcs (number_at (Some item)) (item_branches code p item)
 
 -- the arcs of items that begin at a point
 abbrev pub arcs_from : List Instr → ℕ → List Instr → List Arc
@@ -87,5 +47,4 @@ abbrev pub abort_arc : List Instr → Edge → List Arc
 abort_arc code edge = if edge.leave == edge.from then [] else (back_arc code edge.leave edge.to ∷ [])
 
 abbrev pub abort_arcs : List Instr → List Edge → List Arc
-abort_arcs code [] = []
-abort_arcs code (edge ∷ edges) = abort_arc code edge ++ abort_arcs code edges
+abort_arcs code edges = flat_map (abort_arc code) edges

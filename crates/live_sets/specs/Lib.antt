@@ -1,5 +1,6 @@
 pub mod Among
 pub mod Arcs
-pub mod Reads
+pub mod Flow
+pub mod Greatest
 pub mod Points
 pub mod Liveness

@@ -3,7 +3,7 @@ use Rattle.std.specs.Prelude.{◌↔◌, ℕ, Bool, false, IsTrue, List, Option,
 use Rattle.bril_tree.specs.Live.{IsLive}
 use Rattle.bril_tree.specs.Operand.{Location}
 use Rattle.bril_tree.specs.declared.numbered.Instr.{Instr}
-use Rattle.definite_assignment.specs.Location.{number_of}
+use Rattle.flow_graph.specs.Location.{number_of}
 use Rattle.live_sets.specs.Points.{has_point}
 use Rattle.live_sets.specs.declared.live.Live.{Live}
 use Rattle.live_sets.specs.declared.points.Points.{Points}

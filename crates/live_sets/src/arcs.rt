@@ -3,28 +3,17 @@
 ghost use Rattle.std.specs.Prelude.{◌≡◌, ◌<◌, ◌+◌, ◌^◌, ◌-◌, ◌++◌, ◌∷◌, [], List, All, None, Some, is_some, length, map, IfOk, OnOk};
 ghost use Rattle.bril_tree.specs.Labels.{IsLabelTable};
 ghost use Rattle.bril_tree.specs.Shape.{shape_fault_of};
-ghost use Rattle.bril_tree.specs.Step.{point_of};
 ghost use Rattle.bril_tree.specs.Sites.{AreSitesSound};
 ghost use Rattle.bril_tree.specs.declared.numbered.Instr.{Instr};
-ghost use Rattle.flow_graph.specs.Branches.{HasLabels, label_count};
+ghost use Rattle.flow_graph.specs.Branches.{HasLabels, branch_of, branches_of};
 ghost use Rattle.flow_graph.specs.Graph.{IsGraphOf};
-ghost use Rattle.live_sets.specs.Arcs.{AreBackArcs, abort_arc, abort_arcs, arc_back, arcs_from, item_arcs, item_points, number_at, operation_points, points_of};
+ghost use Rattle.live_sets.specs.Arcs.{AreBackArcs, abort_arc, abort_arcs, arc_back, arcs_from, item_arcs, plain_arc, plain_arcs};
 
-use crate::location::{assigned_number, point_number};
 use bril_tree::numbered::Instr;
 use bril_tree::numbered_function::Func;
-use bril_tree::operation::Op;
-use flow_graph::{Edge, Graph};
+use flow_graph::{Branch, Branches, Edge, Graph, assigned_number, branches_of, point_number};
 use graph_search::Arc;
 use std::alloc::{AllocError, Global};
-
-// The points to which control goes from an item otherwise than by an abort.
-#[derive(Clone, Copy, Drop)]
-pub(crate) enum Targets {
-    Nowhere,
-    Single(u32),
-    Either(u32, u32),
-}
 
 // The arcs of a function.
 pub(crate) fn back_arcs(alloc: Global, func: &Func, graph: &Graph) -> Result<Vec<Arc>, AllocError>
@@ -66,82 +55,48 @@ fn push_item(
     requires few { point + 1 < 2 ^ 32 }
     ensures { OnOk result ((code : List Instr) → IsLabelTable code points.now → arcs.new.items ≡ arcs.old.items ++ item_arcs code point item.now) }
 {
-    let label = assigned_number(item)?;
-    push_targets(arcs, item_targets(points, item, point), point, label)
+    let number = assigned_number(item)?;
+    push_branches(arcs, number, branches_of(points, item, point))
 }
 
-// Adds the arcs from these points.
-fn push_targets(
+// Adds the arcs of those of these branches that are no aborts.
+fn push_branches(
     arcs: &mut Vec<Arc>,
-    targets: Targets,
-    leave: u32,
-    label: Option<u32>,
+    number: Option<u32>,
+    branches: Branches,
 ) -> Result<(), AllocError>
-    ensures { OnOk result (arcs.new.items ≡ arcs.old.items ++ map (arc_back leave label) (points_of targets)) }
+    ensures { OnOk result (arcs.new.items ≡ arcs.old.items ++ plain_arcs number (branches_of branches)) }
 {
-    match targets {
-        Targets::Nowhere => Ok(()),
-        Targets::Single(to) => {
-            arcs.push(arc(to, leave, label))?;
-            Ok(())
-        }
-        Targets::Either(first, second) => {
-            arcs.push(arc(first, leave, label))?;
-            arcs.push(arc(second, leave, label))?;
-            Ok(())
+    match branches {
+        Branches::Nowhere => Ok(()),
+        Branches::Single(branch) => push_branch(arcs, number, branch),
+        Branches::Either(first, second) => {
+            push_branch(arcs, number, first)?;
+            push_branch(arcs, number, second)
         }
     }
 }
 
-// The arc from a point back to where a branch to it leaves.
-fn arc(to: u32, leave: u32, label: Option<u32>) -> Arc
-    ensures { result ≡ arc_back leave label to }
+// Adds the arc of a branch, where it is no abort.
+fn push_branch(arcs: &mut Vec<Arc>, number: Option<u32>, branch: Branch) -> Result<(), AllocError>
+    ensures { OnOk result (arcs.new.items ≡ arcs.old.items ++ plain_arc number (branch_of branch)) }
+{
+    if branch.aborts {
+        return Ok(());
+    }
+    arcs.push(arc(branch.from, number, branch.to))?;
+    Ok(())
+}
+
+// The arc from a point back to one that assigns the location of a number.
+fn arc(leave: u32, number: Option<u32>, to: u32) -> Arc
+    ensures { result ≡ arc_back leave number to }
 {
     Arc {
         from: to,
         to: leave,
-        label,
+        label: number,
     }
-}
-
-// The points to which control goes from an item otherwise than by an abort.
-fn item_targets(points: &[u32], item: &Instr, point: u32) -> Targets
-    requires labelled { HasLabels (length points.now) item.now }
-    requires few { point + 1 < 2 ^ 32 }
-    ensures { (code : List Instr) → IsLabelTable code points.now → points_of result ≡ item_points code point item.now }
-{
-    match item {
-        Instr::Act { op, labels, .. } => {
-            operation_targets(points, *op, labels.as_slice(), point)
-        }
-        _ => Targets::Single(point + 1),
-    }
-}
-
-// The points to which control goes from an operation with these labels otherwise than by an abort.
-fn operation_targets(points: &[u32], op: Op, labels: &[u32], point: u32) -> Targets
-    requires counted { label_count op ≡ length labels.now }
-    requires known { All (λ l. l < length points.now) labels.now }
-    requires few { point + 1 < 2 ^ 32 }
-    ensures { (code : List Instr) → IsLabelTable code points.now → points_of result ≡ operation_points code point op labels.now }
-{
-    match op {
-        Op::Jmp => Targets::Single(label_point(points, labels[0])),
-        Op::Br => Targets::Either(
-            label_point(points, labels[0]),
-            label_point(points, labels[1]),
-        ),
-        Op::Ret => Targets::Nowhere,
-        _ => Targets::Single(point + 1),
-    }
-}
-
-// The point of a label.
-fn label_point(points: &[u32], label: u32) -> u32
-    requires { label < length points.now }
-    ensures { (code : List Instr) → IsLabelTable code points.now → result ≡ point_of label code }
-{
-    points[label as usize]
 }
 
 // Adds the arcs of the edges that leave elsewhere than at their own items.
@@ -161,7 +116,7 @@ fn push_abort(arcs: &mut Vec<Arc>, code: &[Instr], edge: Edge) -> Result<(), All
     if edge.leave == edge.from {
         return Ok(());
     }
-    let label = point_number(code, edge.leave)?;
-    arcs.push(arc(edge.to, edge.leave, label))?;
+    let number = point_number(code, edge.leave)?;
+    arcs.push(arc(edge.leave, number, edge.to))?;
     Ok(())
 }

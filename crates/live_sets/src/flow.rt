@@ -1,19 +1,20 @@
 // The reads of a function, and the arcs along which locations are live.
 
-ghost use Rattle.std.specs.Prelude.{◌≡◌, ◌<◌, ◌^◌, ◌-◌, ◌+◌, ◌↔◌, ℕ, None, is_some, length, IfOk, OnOk};
+ghost use Rattle.std.specs.Prelude.{◌≡◌, ◌≤◌, ◌<◌, ◌^◌, ◌-◌, ◌+◌, ◌↔◌, ℕ, List, None, is_some, length, IfOk, OnOk};
 ghost use Rattle.std.specs.List.{All, Contains};
+ghost use Rattle.bril_tree.specs.Live.{IsLive};
+ghost use Rattle.bril_tree.specs.Operand.{Location};
 ghost use Rattle.bril_tree.specs.Shape.{shape_fault_of};
 ghost use Rattle.bril_tree.specs.Sites.{AreSitesSound};
+ghost use Rattle.bril_tree.specs.declared.numbered.Instr.{Instr};
 ghost use Rattle.flow_graph.specs.Graph.{IsGraphOf};
-ghost use Rattle.graph_search.specs.Path.{IsReached, other_than};
-ghost use Rattle.live_sets.specs.Arcs.{AreBackArcs};
-ghost use Rattle.live_sets.specs.Reads.{reads_from};
+ghost use Rattle.flow_graph.specs.Location.{number_of};
+ghost use Rattle.graph_search.specs.Path.{IsBetween, IsReached, other_than};
+ghost use Rattle.live_sets.specs.Flow.{IsFlowOf};
 
-use crate::accesses::AccessLists;
 use crate::arcs::back_arcs;
-use crate::reads::all_reads;
 use bril_tree::numbered_function::Func;
-use flow_graph::Graph;
+use flow_graph::{AccessLists, Graph, all_reads};
 use graph_search::{ArcGraph, OtherThan, Reached};
 use std::alloc::{AllocError, Global};
 use std::marker::Model;
@@ -24,10 +25,13 @@ use std::marker::Model;
 pub struct Flow {
     reads: AccessLists,
     arcs: ArcGraph,
+    ghost items: { All (λ read. read.item < arcs.nodes) reads.list },
+    ghost between: { All (IsBetween arcs.nodes) arcs.arcs },
+    ghost few: { arcs.nodes ≤ 2 ^ 32 },
 }
 
 impl Model for Flow {
-    ghost use Rattle.live_sets.specs.Reads.{FlowView};
+    ghost use Rattle.live_sets.specs.Flow.{FlowView};
 
     ghost Value = { FlowView };
 
@@ -43,9 +47,7 @@ impl Flow {
         requires few { length func.now.code < 2 ^ 32 - 1 }
         requires graph { IsGraphOf func.now.code graph.now }
         requires sound { AreSitesSound func.now.code }
-        ensures points { IfOk result (λ flow. flow.points ≡ length func.now.code + 1) }
-        ensures reads { IfOk result (λ flow. flow.reads.list ≡ reads_from 0 func.now.code) }
-        ensures arcs { IfOk result (λ flow. AreBackArcs func.now.code flow.arcs) }
+        ensures { IfOk result (λ flow. IsFlowOf func.now.code flow) }
     {
         let reads = all_reads(alloc, func.code.as_slice())?;
         let arcs = back_arcs(alloc, func, graph)?;
@@ -61,7 +63,8 @@ impl Flow {
 
     /// The number of points, the function's end among them. Takes no memory.
     pub fn points(&self) -> usize
-        ensures { result ≡ self.now.points }
+        ensures same { result ≡ self.now.points }
+        ensures few { result ≤ 2 ^ 32 }
     {
         self.arcs.nodes()
     }
@@ -88,6 +91,26 @@ impl Flow {
     {
         let gate = OtherThan { label: location };
         reached.search(&self.arcs, items, &gate)?;
+        Ok(())
+    }
+
+    /// Finds exactly the points at which the location of a number is live; what was found before is forgotten. Takes time in
+    /// proportion to the points that are found and the branches to them, and to the items that read the location. After an
+    /// error, for want of memory, nothing is told of what was found.
+    pub fn search_live(
+        &self,
+        alloc: Global,
+        reached: &mut Reached,
+        location: u32,
+    ) -> Result<(), AllocError>
+        requires points { reached.old.nodes ≡ self.now.points }
+        ensures points { reached.new.nodes ≡ reached.old.nodes }
+        ensures within { OnOk result (All (λ point. point < self.now.points) reached.new.found) }
+        ensures live { OnOk result ((code : List Instr) → IsFlowOf code self.now → (x : Location) → number_of x ≡ location
+            → (point : ℕ) → Contains reached.new.found point ↔ IsLive code x point) }
+    {
+        let items = self.reads.items(alloc, location)?;
+        self.search(reached, items.as_slice(), location)?;
         Ok(())
     }
 }

@@ -6,17 +6,12 @@
 //! item.
 #![tactic(auto)]
 
-mod accesses;
 mod arcs;
 mod flow;
 mod live;
-mod location;
+mod marked;
 mod points;
-mod reads;
 mod sorted;
 
-pub use accesses::{Access, AccessLists};
 pub use flow::Flow;
 pub use live::Live;
-pub use location::assigned_number;
-pub use reads::item_reads;

@@ -1,22 +1,24 @@
 // Which locations are live at which points of a function.
 
-ghost use Rattle.std.specs.Prelude.{◌≡◌, ◌<◌, ◌^◌, ◌-◌, ◌+◌, ◌↔◌, ℕ, IsTrue, None, is_some, length, slice_get, IfOk};
+ghost use Rattle.std.specs.Prelude.{◌≡◌, ◌<◌, ◌^◌, ◌-◌, ◌+◌, ◌↔◌, ℕ, List, IsTrue, None, is_some, length, slice_get, IfOk};
 ghost use Rattle.bril_tree.specs.Live.{IsLive};
 ghost use Rattle.bril_tree.specs.Operand.{Location, Variable, Shadow};
 ghost use Rattle.bril_tree.specs.Shape.{shape_fault_of};
 ghost use Rattle.bril_tree.specs.Sites.{AreSitesSound};
 ghost use Rattle.bril_tree.specs.Step.{code_of};
-ghost use Rattle.definite_assignment.specs.Location.{number_of};
-ghost use Rattle.live_sets.specs.Arcs.{AreBackArcs};
+ghost use Rattle.bril_tree.specs.declared.numbered.Instr.{Instr};
+ghost use Rattle.flow_graph.specs.Faults.{IsLeastOf};
+ghost use Rattle.flow_graph.specs.Location.{number_of};
+ghost use Rattle.live_sets.specs.Flow.{IsFlowOf};
 ghost use Rattle.live_sets.specs.Liveness.{TellsLive, has_point_if, is_live};
+ghost use Rattle.live_sets.specs.Greatest.{IsGreatestOf};
 ghost use Rattle.live_sets.specs.Points.{has_point};
-ghost use Rattle.live_sets.specs.Reads.{reads_from};
 
 use crate::flow::Flow;
 use crate::points::Points;
 use bril_checker::Checked;
 use bril_tree::numbered_function::Func;
-use flow_graph::{Graph, GraphFault};
+use flow_graph::Graph;
 use graph_search::Reached;
 use std::alloc::{AllocError, Global};
 
@@ -53,6 +55,29 @@ impl Live {
     {
         is_in_row(self.rows.as_slice(), 2 * var as usize + 1, point)
     }
+
+    /// The first point at which the location of a number is live, and None exactly where it is live at none: the number is
+    /// twice that of a variable, and one more for its shadow. Takes no memory, and time in proportion to the points at which
+    /// it is live.
+    pub fn first(&self, location: u32) -> Option<u32>
+        ensures { (x : Location) → number_of x ≡ location → IsLeastOf (λ point. IsTrue (is_live self.now x point)) result }
+    {
+        match self.rows.get(location as usize) {
+            None => None,
+            Some(points) => points.first(),
+        }
+    }
+
+    /// The last point at which the location of a number is live, and None exactly where it is live at none. Takes no memory,
+    /// and time in proportion to the points at which it is live.
+    pub fn last(&self, location: u32) -> Option<u32>
+        ensures { (x : Location) → number_of x ≡ location → IsGreatestOf (λ point. IsTrue (is_live self.now x point)) result }
+    {
+        match self.rows.get(location as usize) {
+            None => None,
+            Some(points) => points.last(),
+        }
+    }
 }
 
 // Whether the point is in the row of the number; it is in none that isn't there.
@@ -72,49 +97,37 @@ fn live_in(alloc: Global, func: &Func) -> Result<Live, AllocError>
     requires sound { AreSitesSound func.now.code }
     ensures { IfOk result (λ live. TellsLive func.now.code live) }
 {
-    let graph = match Graph::of(alloc, func) {
-        Ok(graph) => graph,
-        Err(GraphFault::Memory) => return Err(AllocError),
-        Err(GraphFault::Nest { .. }) => unreachable!(),
-    };
+    let graph = Graph::of_sound(alloc, func)?;
     let flow = Flow::of(alloc, func, &graph)?;
-    table_of(alloc, func, &flow)
+    table_of(alloc, &flow)
 }
 
-// What is live in a function of this flow.
-fn table_of(alloc: Global, func: &Func, flow: &Flow) -> Result<Live, AllocError>
-    requires total { flow.now.points ≡ length func.now.code + 1 }
-    requires reads { flow.now.reads.list ≡ reads_from 0 func.now.code }
-    requires arcs { AreBackArcs func.now.code flow.now.arcs }
-    ensures { IfOk result (λ live. TellsLive func.now.code live) }
+// What is live in the function of this flow.
+fn table_of(alloc: Global, flow: &Flow) -> Result<Live, AllocError>
+    ensures { IfOk result (λ live. (code : List Instr) → IsFlowOf code flow.now → TellsLive code live) }
 {
     let mut reached = Reached::new(alloc, flow.points())?;
     let locations = flow.reads().locations();
     let mut rows = Vec::new(alloc);
     for location in 0..locations {
-        rows.push(row_of(alloc, func, flow, &mut reached, location as u32)?)?;
+        rows.push(row_of(alloc, flow, &mut reached, location as u32)?)?;
     }
     Ok(Live { rows })
 }
 
-// The points at which a location is live.
+// The points at which the location of a number is live.
 fn row_of(
     alloc: Global,
-    _func: &Func,
     flow: &Flow,
     reached: &mut Reached,
     location: u32,
 ) -> Result<Points, AllocError>
-    requires location { location < flow.now.reads.locations }
     requires points { reached.old.nodes ≡ flow.now.points }
-    requires total { flow.now.points ≡ length _func.now.code + 1 }
-    requires reads { flow.now.reads.list ≡ reads_from 0 _func.now.code }
-    requires arcs { AreBackArcs _func.now.code flow.now.arcs }
     ensures points { reached.new.nodes ≡ reached.old.nodes }
-    ensures row { IfOk result (λ row. (x : Location) → number_of x ≡ location → (point : ℕ) → IsTrue (has_point row point) ↔ IsLive _func.now.code x point) }
+    ensures row { IfOk result (λ row. (code : List Instr) → IsFlowOf code flow.now → (x : Location) → number_of x ≡ location
+        → (point : ℕ) → IsTrue (has_point row point) ↔ IsLive code x point) }
 {
-    let items = flow.reads().items(alloc, location)?;
-    flow.search(reached, items.as_slice(), location)?;
+    flow.search_live(alloc, reached, location)?;
     let row = Points::of(alloc, reached.found(), flow.points())?;
     Ok(row)
 }

@@ -1,9 +1,12 @@
 // Sets of points.
 
-ghost use Rattle.std.specs.Prelude.{◌≡◌, ◌<◌, ◌↔◌, ℕ, IsTrue, IfOk, false, slice_index_or};
+ghost use Rattle.std.specs.Prelude.{◌≡◌, ◌<◌, ◌≤◌, ◌^◌, ◌↔◌, ℕ, IsTrue, IfOk};
 ghost use Rattle.std.specs.List.{All, Contains};
+ghost use Rattle.flow_graph.specs.Faults.{IsLeastOf};
+ghost use Rattle.live_sets.specs.Greatest.{IsGreatestOf};
 ghost use Rattle.live_sets.specs.Points.{has_point};
 
+use crate::marked::MarkedPoints;
 use crate::sorted::SortedPoints;
 use std::alloc::{AllocError, Global};
 
@@ -11,7 +14,7 @@ use std::alloc::{AllocError, Global};
 // memory in proportion to the set.
 #[derive(Drop)]
 pub(crate) enum Points {
-    Marks(Vec<bool>),
+    Marked(MarkedPoints),
     Sorted(SortedPoints),
 }
 
@@ -21,11 +24,12 @@ const LARGE: usize = 32;
 impl Points {
     // The set of these points of a function of so many.
     pub fn of(alloc: Global, found: &[u32], count: usize) -> Result<Points, AllocError>
-        requires { All (λ point. point < count) found.now }
+        requires within { All (λ point. point < count) found.now }
+        requires few { count ≤ 2 ^ 32 }
         ensures { IfOk result (λ points. (point : ℕ) → IsTrue (has_point points point) ↔ Contains found.now point) }
     {
         if found.len() > count / LARGE {
-            return Ok(Points::Marks(marks_of(alloc, found, count)?));
+            return Ok(Points::Marked(MarkedPoints::of(alloc, found, count)?));
         }
         Ok(Points::Sorted(SortedPoints::of(alloc, found)?))
     }
@@ -35,27 +39,28 @@ impl Points {
         ensures { result ≡ has_point self.now point }
     {
         match self {
-            Points::Marks(marks) => is_marked(marks.as_slice(), point as usize),
+            Points::Marked(marked) => marked.contains(point),
             Points::Sorted(sorted) => sorted.contains(point),
         }
     }
-}
 
-// A mark for each of so many points, which tells whether it was found.
-fn marks_of(alloc: Global, found: &[u32], count: usize) -> Result<Vec<bool>, AllocError>
-    requires { All (λ point. point < count) found.now }
-    ensures { IfOk result (λ marks. (point : ℕ) → IsTrue (slice_index_or marks.items point false) ↔ Contains found.now point) }
-{
-    let mut marks = vec![in alloc; false; count]?;
-    for point in found {
-        marks[*point as usize] = true;
+    // The first of the points, where there is one. Takes no memory.
+    pub fn first(&self) -> Option<u32>
+        ensures { IsLeastOf (λ point. IsTrue (has_point self.now point)) result }
+    {
+        match self {
+            Points::Marked(marked) => marked.first(),
+            Points::Sorted(sorted) => sorted.first(),
+        }
     }
-    Ok(marks)
-}
 
-// The mark of a point; false where it has none.
-fn is_marked(marks: &[bool], point: usize) -> bool
-    ensures { result ≡ slice_index_or marks.now point false }
-{
-    point < marks.len() && marks[point]
+    // The last of the points, where there is one. Takes no memory.
+    pub fn last(&self) -> Option<u32>
+        ensures { IsGreatestOf (λ point. IsTrue (has_point self.now point)) result }
+    {
+        match self {
+            Points::Marked(marked) => marked.last(),
+            Points::Sorted(sorted) => sorted.last(),
+        }
+    }
 }

@@ -3,7 +3,9 @@
 ghost use Rattle.std.specs.Prelude.{◌≡◌, ◌↔◌, ℕ, IsTrue, IfOk};
 ghost use Rattle.std.specs.List.{Contains};
 ghost use Rattle.std.specs.List.Sorted.{IsNonDecreasing};
+ghost use Rattle.flow_graph.specs.Faults.{IsLeastOf};
 ghost use Rattle.live_sets.specs.Among.{is_among};
+ghost use Rattle.live_sets.specs.Greatest.{IsGreatestOf};
 
 use std::alloc::{AllocError, Global};
 
@@ -32,5 +34,25 @@ impl SortedPoints {
         ensures { result ≡ is_among point self.now.points.items }
     {
         self.points.as_slice().binary_search(&point).is_ok()
+    }
+
+    // The first of the points, where there is one. Takes no memory.
+    pub fn first(&self) -> Option<u32>
+        ensures { IsLeastOf (λ point. IsTrue (is_among point self.now.points.items)) result }
+    {
+        match self.points.as_slice().first() {
+            None => None,
+            Some(point) => Some(*point),
+        }
+    }
+
+    // The last of the points, where there is one. Takes no memory.
+    pub fn last(&self) -> Option<u32>
+        ensures { IsGreatestOf (λ point. IsTrue (is_among point self.now.points.items)) result }
+    {
+        match self.points.as_slice().last() {
+            None => None,
+            Some(point) => Some(*point),
+        }
     }
 }

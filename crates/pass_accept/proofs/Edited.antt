@@ -1,38 +1,48 @@
 -- The result of an edit is accepted.
-use Rattle.std.proofs.Common.{◌≡◌, ◌⊎◌, ℕ, ◌<◌, Option, Some, None, sym, ap, subst, ◌∙◌, inl, inr, ⊎_elim}
+use Rattle.std.proofs.Common.{◌≡◌, ◌⊎◌, ℕ, ◌<◌, Option, Some, None, refl, sym, ap, subst, ◌∙◌, inl, inr, ⊎_elim}
 use Rattle.std.specs.Prelude.{slice_get, is_some}
 use Rattle.bril_tree.specs.declared.numbered.Instr.{Instr}
 use Rattle.bril_tree.specs.declared.numbered_function.Func.{Func}
 use Rattle.bril_tree.specs.declared.program.Prog.{Prog}
 use Rattle.bril_tree.specs.Accepted.{IsAccepted, AreWalksAccepted}
 use Rattle.bril_tree.specs.FunctionForm.{listed}
-use Rattle.bril_tree.specs.Numbered.{variable_names, names_in}
+use Rattle.bril_tree.specs.Numbered.{nop, variable_names}
 use Rattle.bril_tree.specs.Operand.{Variable, dest_of, reads_of}
 use Rattle.bril_tree.specs.Step.{items_of, code_of, item_at}
 use Rattle.bril_tree.specs.Typing.{variable_type}
 use Rattle.bril_tree.specs.Walk.{IsReached}
 use Rattle.bril_tree.specs.Membership.{In}
-use Rattle.bril_tree.proofs.Acceptance.{walks_of}
+use Rattle.bril_tree.proofs.Acceptance.{walks_of, read_left}
+use Rattle.bril_tree.proofs.Typings.{IsDestination}
 use Rattle.pass_plan.specs.Plan.{Plan, Preserves}
 use Rattle.pass_walks.specs.Matched.{MatchesWalks}
 use Rattle.pass_walks.proofs.Accepting.{walks_accepted}
 use Rattle.pass_names.specs.Named.{SameName}
 use Rattle.pass_names.specs.NamedPlan.{SameHeads}
+use Rattle.pass_names.proofs.Points.{same_name-in}
 use Rattle.pass_names.proofs.Heads.{main_same, types_same}
-use Rattle.pass_types.specs.Stays.{HasTypeOfDest, Stays}
-use Rattle.pass_types.proofs.Staying.{dest_of_tree}
-use Rattle.pass_types.proofs.Accepted.{program_accepted}
-use Rattle.pass_accept.specs.Edited.{IsDest, KeepsTypes, IsNew, LosesNoDestination, IsOld, EditAccepted}
-use Rattle.pass_accept.proofs.Left.{read-left, left-typed, name-typed, unlost-typed}
+use Rattle.pass_accept.specs.Stays.{FitsByItself, HasTypeOfDest, Stays}
+use Rattle.pass_accept.proofs.Staying.{dest_of_tree}
+use Rattle.pass_accept.proofs.Accepted.{program_accepted}
+use Rattle.pass_accept.specs.Edited.{KeepsTypes, IsNew, LosesNoDestination, IsOld, EditAccepted}
+use Rattle.pass_accept.proofs.Left.{left-typed, name-typed, unlost-typed}
+
+-- ---- items that a pass made
+
+-- one without a destination that meets its row by itself
+pub bare-new : (P Q : Prog) (f : ℕ) (F G : Func) (b : Instr) → dest_of b ≡ None → FitsByItself Q G b → IsNew P Q f F G b
+bare-new P Q f F G b none fits = record { dest = λ x y name d. absurd (let e : None ≡ Some y = sym none ∙ d in cc); fits = λ types. fits }
+
+pub nop-new : (P Q : Prog) (f : ℕ) (F G : Func) → IsNew P Q f F G nop
+nop-new P Q f F G = bare-new P Q f F G nop refl (record { shaped = refl; calls = refl; typed = refl })
+
+-- ---- the law
 
 module _ (P Q : Prog) (accepted : IsAccepted P) (heads : SameHeads P Q) (f : ℕ) (F G : Func) (p : slice_get P.funcs f ≡ Some F) (q : slice_get Q.funcs f ≡ Some G)
     (items : (j : ℕ) (b : Instr) → item_at Q f j ≡ Some b → IsNew P Q f F G b ⊎ IsOld P Q f F G j b) (walks : AreWalksAccepted (code_of Q f) G.args (is_some G.ret)) where
   -- each destination has a type that the variable of its name had
   source : (x y : ℕ) → SameName (variable_names F.vars) (variable_names G.vars) x y → (j : ℕ) (b : Instr) → item_at Q f j ≡ Some b → dest_of b ≡ Some y → HasTypeOfDest P f x b
-  source x y name j b at d = ⊎_elim (λ n. n.dest x y name d) (λ o. dest_of_tree P Q heads f x y same_names o.i j b at d o.tree) (items j b at)
-    where
-      same_names : SameName (names_in (slice_get P.funcs f)) (names_in (slice_get Q.funcs f)) x y
-      same_names = subst (λ o. SameName (names_in o) (names_in (slice_get Q.funcs f)) x y) (sym p) (subst (λ o. SameName (variable_names F.vars) (names_in o) x y) (sym q) name)
+  source x y name j b at d = ⊎_elim (λ n. n.dest x y name d) (λ o. dest_of_tree P Q heads f x y (same_name-in P Q f F G p q x y name) o.i j b at d o.tree) (items j b at)
 
   keeps_types : KeepsTypes F G
   keeps_types x y name left = left-typed P Q accepted heads f F G p q x y name (source x y name) left
@@ -50,7 +60,7 @@ module _ (P Q : Prog) (accepted : IsAccepted P) (heads : SameHeads P Q) (f : ℕ
     of-read i = ⊎_elim reached unlost o.stays
       where
         reached : IsReached (code_of Q f) j → variable_type F.vars x ≡ variable_type G.vars y
-        reached r = keeps_types x y name (subst (λ c. (y < G.args) ⊎ IsDest c y) (ap items_of q) (read-left (code_of Q f) G.args (is_some G.ret) walks j b r at y i))
+        reached r = keeps_types x y name (subst (λ c. (y < G.args) ⊎ IsDestination c y) (ap items_of q) (read_left (code_of Q f) G.args (is_some G.ret) walks j b r at y i))
 
         unlost : LosesNoDestination P Q f F G b → variable_type F.vars x ≡ variable_type G.vars y
         unlost n = unlost-typed P Q accepted heads f F G p q x y name (source x y name) (n x y name i)

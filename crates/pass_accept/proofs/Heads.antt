@@ -19,16 +19,16 @@ use Rattle.pass_names.specs.Named.{SameName, SameLocation}
 use Rattle.pass_names.specs.NamedPlan.{NamePlan, SameHeads, plan}
 use Rattle.pass_names.proofs.Heads.{same_args, argument-back, argument-stays, argument-was}
 
--- ---- numbers from 0
+-- ---- numbers from 0: what is assigned where a function begins are its arguments, and no shadow
 
-start-high : (n x : ℕ) → In (Variable x) (map Variable (range_with_len 0 n)) → x < n
+pub start-high : (n x : ℕ) → In (Variable x) (map Variable (range_with_len 0 n)) → x < n
 start-high n x i =
     let s = in_map_source Variable (Variable x) (range_with_len 0 n) i in
     let same : x ≡ s.0 = (let e = s.2 in cc) in
     let h = range_high 0 n s.0 s.1 in
     omega (arith, same, h)
 
-start-shadow : (n x : ℕ) → In (Shadow x) (map Variable (range_with_len 0 n)) → ⊥
+pub start-shadow : (n x : ℕ) → In (Shadow x) (map Variable (range_with_len 0 n)) → ⊥
 start-shadow n x i = let s = in_map_source Variable (Shadow x) (range_with_len 0 n) i in let e = s.2 in cc
 
 taken : {X : Type 0} (n : ℕ) (xs : List X) (k : ℕ) → k < n → slice_get (take n xs) k ≡ slice_get xs k

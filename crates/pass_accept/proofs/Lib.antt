@@ -1,3 +1,7 @@
+pub mod Typed
+pub mod Fitting
+pub mod Staying
+pub mod Accepted
 pub mod Heads
 pub mod Alone
 pub mod Reaching

@@ -1,5 +1,5 @@
 -- What a pass says of its result, beside its plan, so that the result is accepted.
-use Rattle.std.specs.Prelude.{◌≡◌, ◌⊎◌, ℕ, ◌<◌, List, Some, slice_get, is_some}
+use Rattle.std.specs.Prelude.{◌≡◌, ◌⊎◌, ℕ, ◌<◌, Some, slice_get, is_some}
 use Rattle.bril_tree.specs.declared.numbered.Instr.{Instr}
 use Rattle.bril_tree.specs.declared.numbered_function.Func.{Func}
 use Rattle.bril_tree.specs.declared.program.Prog.{Prog}
@@ -10,22 +10,16 @@ use Rattle.bril_tree.specs.Step.{code_of, item_at}
 use Rattle.bril_tree.specs.Typing.{variable_type}
 use Rattle.bril_tree.specs.Walk.{IsReached}
 use Rattle.bril_tree.specs.Membership.{In}
+use Rattle.bril_tree.proofs.Typings.{IsDestination}
 use Rattle.pass_plan.specs.Plan.{Plan, Preserves}
 use Rattle.pass_walks.specs.Matched.{MatchesWalks}
 use Rattle.pass_names.specs.Named.{SameName}
 use Rattle.pass_names.specs.NamedPlan.{SameHeads}
-use Rattle.pass_types.specs.Stays.{HasTypeOfDest, FitsByItself}
-
--- an item of the code has the variable as its destination
-pub record IsDest (code : List Instr) (y : ℕ) : Type 0 where
-  pub point : ℕ
-  pub item : Instr
-  pub at : slice_get code point ≡ Some item
-  pub dest : dest_of item ≡ Some y
+use Rattle.pass_accept.specs.Stays.{HasTypeOfDest, FitsByItself}
 
 -- a variable that is an argument, or that an item of the result assigns, has the type that the variable of its name had
 abbrev pub KeepsTypes : (F G : Func) → Type 0
-KeepsTypes F G = (x y : ℕ) → SameName (variable_names F.vars) (variable_names G.vars) x y → (y < G.args) ⊎ IsDest G.code y → variable_type F.vars x ≡ variable_type G.vars y
+KeepsTypes F G = (x y : ℕ) → SameName (variable_names F.vars) (variable_names G.vars) x y → (y < G.args) ⊎ IsDestination G.code y → variable_type F.vars x ≡ variable_type G.vars y
 
 -- An item that the pass made or rewrote. Where its destination has the name of an old variable, some item of P assigned
 -- that one with this type; it meets its row of the table of operations, given that types are kept.
@@ -33,11 +27,11 @@ pub record IsNew (P Q : Prog) (f : ℕ) (F G : Func) (b : Instr) : Type 0 where
   pub dest : (x y : ℕ) → SameName (variable_names F.vars) (variable_names G.vars) x y → dest_of b ≡ Some y → HasTypeOfDest P f x b
   pub fits : KeepsTypes F G → FitsByItself Q G b
 
--- of the variables that the item reads no destination is lost
+-- the variables that the item reads and that were destinations still are, of whichever items
 abbrev pub LosesNoDestination : (P Q : Prog) (f : ℕ) (F G : Func) (b : Instr) → Type 0
-LosesNoDestination P Q f F G b = (x y : ℕ) → SameName (variable_names F.vars) (variable_names G.vars) x y → In (Variable y) (reads_of b) → (i : ℕ) (a : Instr) → item_at P f i ≡ Some a → dest_of a ≡ Some x → (j : ℕ) × (tree_at Q f j ≡ tree_at P f i)
+LosesNoDestination P Q f F G b = (x y : ℕ) → SameName (variable_names F.vars) (variable_names G.vars) x y → In (Variable y) (reads_of b) → (i : ℕ) (a : Instr) → item_at P f i ≡ Some a → dest_of a ≡ Some x → IsDestination G.code y
 
--- an item of P, by its tree, that is reached, or whose variables lost no destination
+-- an item of P, by its tree, that is reached, or whose variables stay destinations
 pub record IsOld (P Q : Prog) (f : ℕ) (F G : Func) (j : ℕ) (b : Instr) : Type 0 where
   pub i : ℕ
   pub tree : tree_at Q f j ≡ tree_at P f i

@@ -66,7 +66,8 @@ module _ (P Q : Prog) (heads : SameHeads P Q) where
     pub types_same : types_of (Some F) ≡ types_of (Some G)
     types_same = ap (map (λ (v : VarInfo). v.ty)) same_args.variables
 
-    first_names : (x : ℕ) → x < F.args → named (variable_names F.vars) x ≡ named (variable_names G.vars) x
+    -- the first names are those of the arguments
+    pub first_names : (x : ℕ) → x < F.args → named (variable_names F.vars) x ≡ named (variable_names G.vars) x
     first_names x less =
         let both = same_args in
         let less' : x < G.args = omega (arith, both.count) in
@@ -99,7 +100,8 @@ module _ (P Q : Prog) (heads : SameHeads P Q) where
     -- ---- where a function begins
 
     module _ (vs : List Value) (count : length vs ≡ length (types_of (Some F))) where
-      many : length vs ≡ F.args
+      -- as many values as arguments
+      pub many : length vs ≡ F.args
       many = count ∙ length-map (take F.args F.vars) (λ (v : VarInfo). v.ty) ∙ taken F.args (length F.vars) (length (take F.args F.vars)) (length-take F.args F.vars) F.formed.few_args
         where
           taken : (n m l : ℕ) → l ≡ min n m → n ≤ m → l ≡ n

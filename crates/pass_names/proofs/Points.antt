@@ -18,6 +18,7 @@ use Rattle.bril_tree.proofs.Trees.{found_at, nothing_at}
 use Rattle.bril_names.specs.Faults.{Differ}
 use Rattle.bril_names.specs.Range.{AreBelow, IsInRange, AreInRange}
 use Rattle.bril_names.proofs.Functions.{program_in_range, in_range, Differ-variables}
+use Rattle.pass_names.specs.Named.{SameName}
 use Rattle.bril_names.proofs.Items.{AreInRange-at}
 use Rattle.bril_names.proofs.Naming.{one_number}
 
@@ -110,3 +111,12 @@ label_once X f i j name at bt =
     let is : named F.labels a.number ≡ name = subst (λ (G : Func). named G.labels a.number ≡ name) same a.is in
     let number : a.number ≡ b.number = one_number F.labels F.formed.labels_differ a.number b.number within b.within (is ∙ sym b.is) in
     sym (label-at_point 0 (length F.labels) F.code F.formed.placed i a.number aa) ∙ ap (λ n. point_of n F.code) number ∙ label-at_point 0 (length F.labels) F.code F.formed.placed j b.number b.at
+
+-- ---- variables of one name, by two functions and by their number
+
+module _ (P Q : Prog) (f : ℕ) (F G : Func) (p : slice_get P.funcs f ≡ Some F) (q : slice_get Q.funcs f ≡ Some G) (x y : ℕ) where
+  pub same_name-in : SameName (variable_names F.vars) (variable_names G.vars) x y → SameName (names_in (slice_get P.funcs f)) (names_in (slice_get Q.funcs f)) x y
+  same_name-in n = subst (λ o. SameName (names_in o) (names_in (slice_get Q.funcs f)) x y) (sym p) (subst (λ o. SameName (variable_names F.vars) (names_in o) x y) (sym q) n)
+
+  pub same_name-of : SameName (names_in (slice_get P.funcs f)) (names_in (slice_get Q.funcs f)) x y → SameName (variable_names F.vars) (variable_names G.vars) x y
+  same_name-of n = subst (λ o. SameName (variable_names F.vars) (names_in o) x y) q (subst (λ o. SameName (names_in o) (names_in (slice_get Q.funcs f)) x y) p n)

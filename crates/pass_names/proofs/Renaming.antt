@@ -29,12 +29,14 @@ use Rattle.pass_names.proofs.Items.{Shares, item-shares}
 use Rattle.pass_names.proofs.Locations.{kept-apart}
 use Rattle.pass_names.proofs.Points.{Found, found, found_under, label_found, Differ-in}
 
-renamed-found : (X : Prog) (f i : ℕ) (a : Instr) → item_at X f i ≡ Some a → (F : Func) → slice_get X.funcs f ≡ Some F → (vars : List (List ℕ)) → renamed_tree (names_of_functions X.funcs) vars (slice_get X.funcs f) i ≡ Some (item_tree (names_of_functions X.funcs) vars F.labels a)
+-- the tree of an item with the new names
+pub renamed-found : (X : Prog) (f i : ℕ) (a : Instr) → item_at X f i ≡ Some a → (F : Func) → slice_get X.funcs f ≡ Some F → (vars : List (List ℕ)) → renamed_tree (names_of_functions X.funcs) vars (slice_get X.funcs f) i ≡ Some (item_tree (names_of_functions X.funcs) vars F.labels a)
 renamed-found X f i a at F there vars =
     let here : slice_get F.code i ≡ Some a = ap (λ o. slice_get (items_of o) i) (sym there) ∙ at in
     ap (λ o. renamed_tree (names_of_functions X.funcs) vars o i) there ∙ ap (option_map (item_tree (names_of_functions X.funcs) vars F.labels)) here
 
-renamed-none : (X : Prog) (f i : ℕ) → item_at X f i ≡ None → (vars : List (List ℕ)) → renamed_tree (names_of_functions X.funcs) vars (slice_get X.funcs f) i ≡ None
+-- past the end there is none
+pub renamed-none : (X : Prog) (f i : ℕ) → item_at X f i ≡ None → (vars : List (List ℕ)) → renamed_tree (names_of_functions X.funcs) vars (slice_get X.funcs f) i ≡ None
 renamed-none X f i at vars = by (slice_get X.funcs f) at
   where
     by : (o : Option Func) → slice_get (items_of o) i ≡ None → renamed_tree (names_of_functions X.funcs) vars o i ≡ None

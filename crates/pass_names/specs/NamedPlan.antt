@@ -1,7 +1,5 @@
 -- A pass that keeps names: which points match, and which locations matter at a point.
-use Rattle.std.specs.Prelude.{◌≡◌, ℕ, suc, true, false, List, [], ◌∷◌, length, Option, Some, None, slice_get}
-use Rattle.std.specs.Option.{option_map}
-use Rattle.bril_tree.specs.declared.function_tree.Item.{Item}
+use Rattle.std.specs.Prelude.{◌≡◌, ℕ, suc, true, false, List, ◌∷◌, length, Some, slice_get}
 use Rattle.bril_tree.specs.declared.function_tree.Item.TheVariants as item
 use Rattle.bril_tree.specs.declared.numbered.Instr.{Instr}
 use Rattle.bril_tree.specs.declared.numbered_function.Func.{Func}
@@ -11,7 +9,7 @@ use Rattle.bril_tree.specs.Run.{types_of}
 use Rattle.bril_tree.specs.Accepted.{IsAccepted}
 use Rattle.bril_tree.specs.Assigned.{assigns_at}
 use Rattle.bril_tree.specs.Edge.{Branch, branches_at, onward}
-use Rattle.bril_tree.specs.Numbered.{tree_at, names_in, variable_names, item_tree, names_of_functions}
+use Rattle.bril_tree.specs.Numbered.{tree_at, names_in, names_of_functions}
 use Rattle.bril_tree.specs.Operand.{Location, reads_of}
 use Rattle.bril_tree.specs.Sites.{sites_of}
 use Rattle.bril_tree.specs.Step.{code_of, item_at, new_frame}

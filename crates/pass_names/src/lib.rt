@@ -1,4 +1,4 @@
-//! Plans by names: a pass whose result has, at regular points, the items of its program by their trees.
+//! Laws alone: plans by names, of a pass whose result has, at regular points, the items of its program by their trees.
 //!
 //! Variables, labels and functions have numbers in a program, and the numbers change where an item is put in or dropped.
 //! Here a pass says its matching by names alone: which points match, which locations matter there, and that the items of

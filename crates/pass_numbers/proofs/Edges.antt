@@ -22,14 +22,12 @@ use Rattle.bril_tree.specs.Step.{code_of, item_at, point_of}
 use Rattle.bril_tree.specs.Walk.{end_of}
 use Rattle.bril_tree.proofs.Assignments.{site_speculates}
 use Rattle.bril_tree.proofs.Branches.{branch_from}
-use Rattle.bril_tree.proofs.Elements.{zip-find, get_in, in_get}
+use Rattle.bril_tree.proofs.Elements.{zip-find}
 use Rattle.bril_tree.proofs.Formed.{target_below}
 use Rattle.bril_tree.proofs.LabelPoints.{label-point}
 use Rattle.bril_tree.proofs.Members.{contains_in, in_contains, in_map_source}
-use Rattle.bril_names.proofs.Variables.{arguments_of}
 use Rattle.pass_plan.specs.Plan.{EdgesMatch, Plan, Preserves}
 use Rattle.pass_walks.specs.Matched.{RegularWalk, SavedSetsMatch}
-use Rattle.pass_numbers.proofs.Locations.{IsOfItems}
 
 -- ---- labels
 
@@ -48,26 +46,6 @@ module _ (P Q : Prog) (f : ℕ) (F G : Func) (p : slice_get P.funcs f ≡ Some F
       label-tree (names_of_functions P.funcs) (variable_names F.vars) F.labels (slice_get F.code i) (named G.labels l)
       (sym mine ∙ same ∙ theirs ∙ ap (option_map (item_tree (names_of_functions Q.funcs) (variable_names G.vars) G.labels)) at)
 
-  -- and so is any other item
-  item-back : (i j : ℕ) (b : Instr) → tree_at P f i ≡ tree_at Q f j → slice_get G.code j ≡ Some b → (a : Instr) × In a F.code × (item_tree (names_of_functions P.funcs) (variable_names F.vars) F.labels a ≡ item_tree (names_of_functions Q.funcs) (variable_names G.vars) G.labels b)
-  item-back i j b same at =
-      let mine = ap (λ o. point_tree (names_of_functions P.funcs) o i) p in
-      let theirs = ap (λ o. point_tree (names_of_functions Q.funcs) o j) q in
-      by (slice_get F.code i) refl (sym mine ∙ same ∙ theirs ∙ ap (option_map (item_tree (names_of_functions Q.funcs) (variable_names G.vars) G.labels)) at)
-    where
-      by : (o : Option Instr) → slice_get F.code i ≡ o → option_map (item_tree (names_of_functions P.funcs) (variable_names F.vars) F.labels) o ≡ Some (item_tree (names_of_functions Q.funcs) (variable_names G.vars) G.labels b) → (a : Instr) × In a F.code × (item_tree (names_of_functions P.funcs) (variable_names F.vars) F.labels a ≡ item_tree (names_of_functions Q.funcs) (variable_names G.vars) G.labels b)
-      by None here e = absurd (let n : None ≡ Some (item_tree (names_of_functions Q.funcs) (variable_names G.vars) G.labels b) = e in cc)
-      by (Some a) here e = (a, get_in F.code i a here, same_Some _ _ e)
-
-  -- where each item of Q is a `nop`, or one of P by its tree, the items of the function are of P's
-  pub items-back : arguments_of F.args F.vars ≡ arguments_of G.args G.vars → ((j : ℕ) (b : Instr) → slice_get G.code j ≡ Some b → (b ≡ nop) ⊎ ((i : ℕ) × (tree_at P f i ≡ tree_at Q f j))) → IsOfItems (names_of_functions P.funcs) (names_of_functions Q.funcs) F G
-  items-back args each = record {
-    args = args;
-    items = λ b among.
-        let k = in_get b G.code among in
-        ⊎_elim (λ e. inl (ap (item_tree (names_of_functions Q.funcs) (variable_names G.vars) G.labels) e)) (λ s. inr (item-back s.0 k.0 b s.1 k.1)) (each k.0 b k.1);
-  }
-
 -- ---- edges
 
 module _ (m : Plan) (P Q : Prog) (f args result_args : ℕ) (preserves : Preserves m P Q) where
@@ -82,7 +60,7 @@ module _ (m : Plan) (P Q : Prog) (f args result_args : ℕ) (preserves : Preserv
     pub leaves : Pair edge.leave leave
     pub points : m.PointsMatch f edge.to to
 
-  same-leave : (x y : Bool) → x ≡ y → (i j : ℕ) → Pair i j → (ss ts : List ℕ) (xs ys : List (List Location)) → SavedSetsMatch m P Q f args result_args ss ts xs ys → Pair (leave_of x i ss) (leave_of y j ts)
+  pub same-leave : (x y : Bool) → x ≡ y → (i j : ℕ) → Pair i j → (ss ts : List ℕ) (xs ys : List (List Location)) → SavedSetsMatch m P Q f args result_args ss ts xs ys → Pair (leave_of x i ss) (leave_of y j ts)
   same-leave false false e i j pair ss ts xs ys h = pair
   same-leave false true e i j pair ss ts xs ys h = absurd cc
   same-leave true false e i j pair ss ts xs ys h = absurd cc

@@ -33,9 +33,9 @@ not_bottomless code sound none =
 
 -- ---- width
 
--- the label of the function at its start
-start_label : (o : Option Instr) → (l : ℕ) → o ≡ Some (Label l) → (m : ℕ) → o ≡ Some (Label m) → l ≡ m
-start_label o l e m d = let s : Label l ≡ Label m = same_Some _ _ (sym e ∙ d) in cc
+-- at most one label stands at a point
+pub one_label : (o : Option Instr) (l m : ℕ) → o ≡ Some (Label l) → o ≡ Some (Label m) → l ≡ m
+one_label o l m a b = let s : Label l ≡ Label m = same_Some _ _ (sym a ∙ b) in cc
 
 record HasLabels (code : List Instr) (n : ℕ) : Type 0 where
   leave : Option ℕ
@@ -48,7 +48,7 @@ label_point code (Some q) l e = (e.0.to, in_range 0 (length code) e.0.to (omega 
 
 few-labels : (code : List Instr) (n : ℕ) → HasLabels code n → n ≤ length code
 few-labels code n h =
-    let few = no_more (λ l p. slice_get code p ≡ Some (Label l)) h.has.members (range_with_len 0 (length code)) h.has.differ (λ l i. label_point code h.leave l (all_in (Enters code h.leave) h.has.members h.has.are l i)) (λ l m p e d. start_label (slice_get code p) l e m d) in
+    let few = no_more (λ l p. slice_get code p ≡ Some (Label l)) h.has.members (range_with_len 0 (length code)) h.has.differ (λ l i. label_point code h.leave l (all_in (Enters code h.leave) h.has.members h.has.are l i)) (λ l m p e d. one_label (slice_get code p) l m e d) in
     let size = length-range_with_len 0 (length code) in
     let count = h.has.count in
     omega arith
@@ -68,7 +68,7 @@ some-labels code = by (slice_get code 0) refl
           members = l ∷ [];
           differ = λ i j d less inside. absurd (omega arith);
           are = in_all (Enters code None) (l ∷ []) (λ x i. ⊎_elim (λ same. e ∙ ap (λ m. Some (Label m)) (sym same)) (λ n. absurd n) i);
-          all = λ m d. contains_in m (l ∷ []) (inl (start_label (slice_get code 0) m d l e));
+          all = λ m d. contains_in m (l ∷ []) (inl (one_label (slice_get code 0) m l d e));
           count = refl;
         };
       },

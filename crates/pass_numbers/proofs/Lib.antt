@@ -1,8 +1,14 @@
 pub mod Counting
+pub mod Different
 pub mod Existing
 pub mod Programs
 pub mod Depths
+pub mod ItemTrees
+pub mod Items
 pub mod Locations
 pub mod Entering
 pub mod Arguments
 pub mod Edges
+pub mod Twins
+pub mod InPlace
+pub mod Shares

@@ -8,10 +8,16 @@
 //! their width from edges that match.
 #![tactic(auto)]
 
-ghost use Rattle.pass_numbers.specs.Numbers.{FunctionsBound};
+ghost use Rattle.pass_numbers.specs.Numbers.{FunctionsBound, FunctionsGrow};
 
 /// Where no number of a function is greater than that of the function that it was made of, no number of the program is.
 /// A call does nothing.
 pub fn functions_bound()
     ensures { FunctionsBound }
+{}
+
+/// The numbers of a program grow as those of its functions do, and its entries by what all its functions get. A call does
+/// nothing.
+pub fn functions_grow()
+    ensures { FunctionsGrow }
 {}

@@ -7,33 +7,30 @@ use Rattle.bril_tree.specs.declared.numbered_function.Func.{Func}
 use Rattle.bril_tree.specs.declared.program.Prog.{Prog}
 use Rattle.bril_tree.specs.Accepted.{IsAccepted}
 use Rattle.bril_tree.specs.Edge.{Branch, branches_at, branches_from, onward}
-use Rattle.bril_tree.specs.Operand.{Location, reads_of}
 use Rattle.bril_tree.specs.Step.{code_of, item_at}
 use Rattle.bril_tree.specs.Walk.{IsWalk, end_of}
 use Rattle.bril_tree.specs.Membership.{In}
 use Rattle.pass_accept.specs.Edited.{IsNew, IsOld, Edits}
 use Rattle.pass_accept.proofs.Heads.{start_matched}
 use Rattle.pass_accept.proofs.Alone.{result_alone}
-use Rattle.pass_accept.proofs.Edited.{edit_accepted}
+use Rattle.pass_accept.proofs.Edited.{nop-new, edit_accepted}
+use Rattle.pass_accept.proofs.Left.{dest-there}
 use Rattle.bril_tree.specs.Numbered.{nop}
 use Rattle.bril_tree.proofs.Assignments.{went_on}
 use Rattle.pass_pad.specs.Padded.{PaddedAt}
 use Rattle.pass_pad.specs.Plan.{padding, pad_plan}
 use Rattle.pass_pad.proofs.Refines.{preserves}
-use Rattle.pass_walks.specs.Matched.{WalksMatch, MatchedWalk, IsHarmless, MatchesWalks}
+use Rattle.pass_walks.specs.Matched.{WalksMatch, MatchedWalk, MatchesWalks}
+use Rattle.pass_walks.proofs.Items.{harmless_item}
 use Rattle.pass_walks.proofs.Walks.{regular_branch_matched}
 
 module _ (P Q : Prog) (accepted : IsAccepted P) (t : PaddedAt P Q) (f : ℕ) (F G : Func) (p : slice_get P.funcs f ≡ Some F) (q : slice_get Q.funcs f ≡ Some G) where
   abbrev Matched : List Branch → Type 0
   Matched v = MatchedWalk (pad_plan P Q) P Q f F.args G.args v
 
-  -- a `nop` fits everywhere
-  nop-new : IsNew P Q f F G nop
-  nop-new = record { dest = λ x y name d. absurd (cc); fits = λ types. record { shaped = refl; calls = refl; typed = refl } }
-
   items : (j : ℕ) (b : Instr) → item_at Q f j ≡ Some b → IsNew P Q f F G b ⊎ IsOld P Q f F G j b
-  items zero b at = inl (subst (IsNew P Q f F G) (same_Some nop b (sym (t.first f F p) ∙ at)) nop-new)
-  items (suc i) b at = inr (record { i = i; tree = sym (t.rest f i); stays = inr (λ x y name among k a here dest. (suc k, sym (t.rest f k))) })
+  items zero b at = inl (subst (IsNew P Q f F G) (same_Some nop b (sym (t.first f F p) ∙ at)) (nop-new P Q f F G))
+  items (suc i) b at = inr (record { i = i; tree = sym (t.rest f i); stays = inr (λ x y name among k a here dest. dest-there P Q t.heads f F G p q x y name k a here dest (suc k) (sym (t.rest f k))) })
 
   -- the point of P is one before that of Q
   old-end : (i j : ℕ) → (j ≡ suc i) ⊎ ((i ≡ 0) × (j ≡ 0)) → i ≡ pred j
@@ -64,13 +61,10 @@ module _ (P Q : Prog) (accepted : IsAccepted P) (t : PaddedAt P Q) (f : ℕ) (F 
     start = start_matched P Q t.heads f F G p q (padding P Q) (inr (refl, refl));
     branches = goes_on;
     drawn = λ v l. (l, old-end (end_of l.walk) (end_of v) l.matches.points);
-    settled = λ v l e. ⊎_elim (λ s. inl (inl s)) (λ z. inr (harmless _ (end_of v) z.1)) l.matches.points;
+    settled = λ v l e. ⊎_elim (λ s. inl (inl s)) (λ z. inr (harmless_item _ (item_at Q f (end_of v)) nop (ap (item_at Q f) z.1 ∙ t.first f F p) refl refl refl)) l.matches.points;
     once = λ s u w b r c k. after s u r ∙ sym (after s w k);
   }
     where
-      harmless : (Assured : Location → Type 0) (j : ℕ) → j ≡ 0 → IsHarmless Assured (slice_get (code_of Q f) j)
-      harmless Assured j e = subst (IsHarmless Assured) (sym (ap (item_at Q f) e ∙ t.first f F p)) (record { there = refl; alone = refl; closed = refl; reads = λ item same y among. absurd (subst (In y) (sym (ap reads_of (same_Some nop item same))) among) })
-
       after : (i j : ℕ) → (j ≡ suc i) ⊎ (slice_get P.funcs f ≡ None) → j ≡ suc i
       after i j (inl e) = e
       after i j (inr none) = absurd (let h = sym none ∙ p in cc)

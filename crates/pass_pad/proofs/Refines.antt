@@ -1,5 +1,5 @@
 -- A padded program refines the one that it is made from, with the factor 2: the plan, and where the result catches up.
-use Rattle.std.proofs.Common.{◌≡◌, ◌⊎◌, ℕ, suc, Option, Some, None, refl, sym, ap, subst, ◌∙◌, inl, inr, ⊎_elim, arith}
+use Rattle.std.proofs.Common.{◌≡◌, ℕ, suc, Option, Some, None, refl, sym, ap, subst, ◌∙◌, inl, inr, ⊎_elim, arith}
 use Rattle.std.specs.Prelude.{slice_get}
 use Rattle.bril_tree.specs.Numbered.{names_of_functions, nop, point_tree, tree_at}
 use Rattle.bril_tree.specs.declared.limits.Limits.{Limits}

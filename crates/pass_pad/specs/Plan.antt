@@ -1,5 +1,5 @@
 -- The plan of the pass.
-use Rattle.std.specs.Prelude.{◌≡◌, ◌⊎◌, ℕ, suc, None, slice_get}
+use Rattle.std.specs.Prelude.{◌≡◌, ◌⊎◌, suc, None, slice_get}
 use Rattle.bril_tree.specs.declared.program.Prog.{Prog}
 use Rattle.pass_names.specs.NamedPlan.{NamePlan, plan}
 use Rattle.pass_plan.specs.Plan.{Plan}

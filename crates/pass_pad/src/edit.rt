@@ -1,13 +1,12 @@
 // The edit of the tree.
 
 ghost use Rattle.std.specs.Prelude.{◌≡◌, IfOk};
-ghost use Rattle.bril_tree.specs.Numbered.{nop_item};
 ghost use Rattle.pass_pad.specs.Padded.{padded_function, padded_tree};
 
-use bril_tree::function_tree::{FuncTree, Item};
-use bril_tree::operation::Op;
+use bril_tree::function_tree::FuncTree;
 use bril_tree::sequence::Seq;
 use bril_tree::tree::Tree;
+use pass_make::nop;
 use std::alloc::{AllocError, Global};
 
 // The tree with one `nop` more before item 0 of each function.
@@ -39,17 +38,4 @@ fn padded_function(alloc: Global, func: FuncTree) -> Result<FuncTree, AllocError
         ret: func.ret,
         code,
     })
-}
-
-// The item that does nothing.
-fn nop(alloc: Global) -> Item
-    ensures { result ≡ nop_item }
-{
-    Item::Act {
-        dest: None,
-        op: Op::Nop,
-        args: Seq::new(alloc),
-        funcs: Seq::new(alloc),
-        labels: Seq::new(alloc),
-    }
 }

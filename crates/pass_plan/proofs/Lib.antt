@@ -1,4 +1,7 @@
 pub mod Elements
 pub mod Outcomes
+pub mod Splicing
+pub mod Marked
 pub mod Values
 pub mod Widening
+pub mod Narrowing

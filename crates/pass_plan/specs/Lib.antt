@@ -1,2 +1,5 @@
 pub mod Plan
+pub mod Spliced
+pub mod Marked
 pub mod Widening
+pub mod Narrowing

@@ -418,9 +418,6 @@ module _ (m : Plan) (P Q : Prog) (limits : Limits) (accepted : IsAccepted P) (pr
     T' : State
     T' = state gs' blocks printed None y
 
-    called-item : Option Instr
-    called-item = Some (Act w.call.dest w.call.ty op.Call w.call.args w.call.funcs w.call.labels)
-
     reached : IsReached (code_of P caller.function) caller.point
     reached = record { walk = contents'.walk; is = contents'.is; ends = contents'.ends }
 
@@ -477,8 +474,8 @@ module _ (m : Plan) (P Q : Prog) (limits : Limits) (accepted : IsAccepted P) (pr
       ended-alike : (b : Bool) → R (ends P limits b (state (F ∷ []) blocks printed None x)) (ends Q limits b (state (G ∷ []) blocks printed None y))
       ended-alike true = matches F G [] [] blocks printed (Some (Faulted fault.Leak)) x y framed tt
       ended-alike false = matches F G [] [] blocks printed (Some Ended) x y framed tt
-  returns-alike k F G ek framed [] (g ∷ gs) w blocks printed x y v v' s = absurd w
-  returns-alike k F G ek framed (f ∷ fs) [] w blocks printed x y v v' s = absurd w
+  returns-alike k F G ek _ [] (g ∷ gs) w blocks printed x y v v' s = absurd w
+  returns-alike k F G ek _ (f ∷ fs) [] w blocks printed x y v v' s = absurd w
   returns-alike k F G ek framed (f ∷ fs) (g ∷ gs) w blocks printed x y v v' s =
       let e = same_function f g w.0.frames.function in
       subst (λ h. R (gives P limits (awaited P limits (item_at P f.function f.point)) v f fs (state (F ∷ f ∷ fs) blocks printed None x)) (gives Q limits (awaited Q limits (item_at Q h.function h.point)) v' h gs (state (G ∷ g ∷ gs) blocks printed None y))) (sym e)

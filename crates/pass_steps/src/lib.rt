@@ -1,9 +1,10 @@
-//! Runs of a program and of what a pass made of it, by the pass's plan.
+//! Laws alone: runs of a program and of what a pass made of it, by the pass's plan.
 //!
 //! At a regular pair of points matched states make steps to matched states, for each operation, calls, returns, saves
 //! and aborts among them. Elsewhere one side goes on alone, or both make some steps. Where matched states always go on
 //! in one of these branches, the result refines the program. What a pass proves for this is `Advances`, in `specs/`; the
-//! lemmas that it takes for its special points are in `proofs/Moves.antt`, and `proofs/Attempts.antt` for items between
+//! lemmas that it takes for its special points are in `proofs/Moves.antt`, where one side goes on alone or both follow a
+//! branch by items that differ, and `proofs/Attempts.antt` for items between
 //! a `speculate` and a `commit` that the program doesn't have.
 #![tactic(auto)]
 

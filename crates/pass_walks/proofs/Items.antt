@@ -1,7 +1,8 @@
--- Items that do the same ask the same of the walks to them.
-use Rattle.std.proofs.Common.{◌≡◌, ℕ, ◌≤◌, Bool, List, [], length, Option, Some, None, refl, sym, ap, subst, ◌∙◌, ⊎_elim}
+-- Items that do the same ask the same of the walks to them; some ask nothing.
+use Rattle.std.proofs.Common.{◌≡◌, ℕ, ◌≤◌, Bool, false, List, [], length, Option, Some, None, refl, sym, ap, subst, ◌∙◌, ⊎_elim}
 use Rattle.std.specs.Prelude.{slice_get}
 use Rattle.std.proofs.lemmas.Bool.{cases_lt}
+use Rattle.std.proofs.lemmas.Option.{same_Some}
 use Rattle.bril_tree.specs.declared.numbered.Instr.{Instr}
 use Rattle.bril_tree.specs.declared.numbered.Instr.TheVariants.{Label, Const, Act}
 use Rattle.bril_tree.specs.declared.operation.Op.{Op}
@@ -14,6 +15,7 @@ use Rattle.bril_tree.specs.Sites.{needs_site}
 use Rattle.bril_tree.specs.Membership.{In}
 use Rattle.bril_tree.proofs.Elements.{none_past, zip-find}
 use Rattle.pass_plan.specs.Plan.{PointItemsMatch}
+use Rattle.pass_walks.specs.Matched.{IsHarmless}
 
 same_test : (A : Location → Location → Type 0) (test : Op → Bool) (of : Option Instr → Bool) → ((d : Option ℕ) (t : Option Ty) (o : Op) (args fns ls : List ℕ) → of (Some (Act d t o args fns ls)) ≡ test o) → ((l : ℕ) → of (Some (Label l)) ≡ of (Some (Label 0)))
     → ((x : ℕ) (t : Ty) (v : Lit) (y : ℕ) (s : Ty) (w : Lit) → of (Some (Const x t v)) ≡ of (Some (Const y s w))) → (o u : Option Instr) → PointItemsMatch A o u → of o ≡ of u
@@ -77,3 +79,7 @@ none_same A (Some a) (Some b) e s = absurd cc
 -- where a list has nothing it has ended
 pub past_end : {X : Type 0} (xs : List X) (k : ℕ) → slice_get xs k ≡ None → length xs ≤ k
 past_end xs k e = ⊎_elim (λ less. absurd (none_past xs k less e)) (λ past. past) (cases_lt k (length xs))
+
+-- an item that reads nothing, leaves no frame and needs no site asks nothing
+pub harmless_item : (Assured : Location → Type 0) (o : Option Instr) (b : Instr) → o ≡ Some b → reads_of b ≡ [] → leaves_frame (Some b) ≡ false → needs_site (Some b) ≡ false → IsHarmless Assured o
+harmless_item Assured o b at none stays closed = subst (IsHarmless Assured) (sym at) (record { there = refl; alone = stays; closed = closed; reads = λ item same y among. absurd (subst (In y) (sym (ap reads_of (same_Some b item same)) ∙ none) among) })

@@ -3,3 +3,4 @@ pub mod Items
 pub mod Based
 pub mod Accepting
 pub mod Under
+pub mod Blocks

@@ -1,15 +1,14 @@
 -- A walk of the new function, and one of the old that assigns as much.
-use Rattle.std.specs.Prelude.{◌≡◌, ◌⊎◌, ℕ, Bool, true, false, List, length, IsTrue, [], ◌∷◌, Option, Some, IsSome, slice_get}
+use Rattle.std.specs.Prelude.{◌≡◌, ◌⊎◌, ℕ, Bool, false, List, [], ◌∷◌, Option, Some, IsSome, slice_get}
 use Rattle.bril_tree.specs.Accepted.{AreWalksAccepted, IsAccepted, leaves_frame}
 use Rattle.bril_tree.specs.declared.numbered.Instr.{Instr}
 use Rattle.bril_tree.specs.declared.program.Prog.{Prog}
-use Rattle.bril_tree.specs.Assigned.{IsMaybeUnassigned, assigned_of}
-use Rattle.std.specs.List.{Contains}
+use Rattle.bril_tree.specs.Assigned.{assigned_of}
 use Rattle.bril_tree.specs.Edge.{Branch, branches_at}
 use Rattle.bril_tree.specs.Operand.{Location, reads_of}
-use Rattle.bril_tree.specs.Sites.{AreSitesSound, sites_of, needs_site}
-use Rattle.bril_tree.specs.Step.{code_of, item_at}
-use Rattle.bril_tree.specs.Walk.{IsWalk, IsReached, end_of}
+use Rattle.bril_tree.specs.Sites.{sites_of, needs_site}
+use Rattle.bril_tree.specs.Step.{code_of}
+use Rattle.bril_tree.specs.Walk.{IsWalk, end_of}
 use Rattle.bril_tree.specs.Membership.{In}
 use Rattle.pass_plan.specs.Plan.{Plan, Preserves}
 

@@ -1,8 +1,9 @@
-//! Walks of what a pass made, and walks of its program that match them.
+//! Laws alone: walks of what a pass made, and walks of its program that match them.
 //!
 //! A program is accepted by the walks of its functions: by the sites that are open on them and by the locations that they
 //! assign. A pass shows that each walk of its result is matched by one of the program, by its plan. Where items of the
-//! result open sites of their own, `proofs/Based.antt` has the same for walks that stand over one of the program.
+//! result open sites of their own, `proofs/Based.antt` has the same for walks that stand over one of the program, and
+//! `proofs/Blocks.antt` has which points of the result stand by which item of the program.
 #![tactic(auto)]
 
 ghost use Rattle.pass_walks.specs.Matched.{WalksAccepted};

@@ -3,7 +3,7 @@ use Rattle.std.proofs.Common.{◌≡◌, ℕ, ◌+◌, ◌*◌, false, ltb, sym,
 use Rattle.std.proofs.lemmas.Bool.Decides.{nat_tests}
 use Rattle.bril_tree.specs.State.{Block}
 use Rattle.rv64_words.specs.Region.{Sizes}
-use Rattle.rv64_runs.specs.Core.{Core}
+use Rattle.rv64_stretches.specs.Core.{Core}
 use Rattle.rv64_values.specs.Cells.{is_inside}
 use Rattle.rv64_blocks.specs.Laws.{CoreHolds, FindsCell, AccessesAreAlike, LoadsAreAlike, StoresAreAlike}
 use Rattle.rv64_blocks.proofs.Finding.{CellFound, cell_found, cell_missing, value_found, fresh_found}

@@ -11,9 +11,9 @@ use Rattle.bril_tree.specs.Memory.{cells_given, most_blocks, allocation_fault, c
 use Rattle.bril_tree.specs.State.{Block}
 use Rattle.rv64_words.specs.Region.{Sizes, cells_base}
 use Rattle.rv64_words.specs.State.{assigned}
-use Rattle.rv64_runs.specs.Core.{Core, with_block}
-use Rattle.rv64_runs.proofs.Calls.{block_fault}
-use Rattle.rv64_runs.proofs.Cores.{assigned_here, assigned_other}
+use Rattle.rv64_stretches.specs.Core.{Core, with_block}
+use Rattle.rv64_stretches.proofs.Calls.{block_fault}
+use Rattle.rv64_stretches.proofs.Cores.{assigned_here, assigned_other}
 use Rattle.rv64_blocks.specs.Memory.{HasWord, BlockHolds, LiesIn, MemoryHolds}
 use Rattle.rv64_blocks.specs.Laws.{CoreHolds}
 use Rattle.rv64_blocks.proofs.Lists.{pushed, pushed_length, pushed_given}

@@ -8,9 +8,9 @@ use Rattle.bril_tree.specs.Memory.{live_block, changed, changed_block, is_freeab
 use Rattle.bril_tree.specs.State.{Block}
 use Rattle.rv64_words.specs.Region.{Sizes}
 use Rattle.rv64_words.specs.State.{assigned}
-use Rattle.rv64_runs.specs.Core.{Core, without_block}
-use Rattle.rv64_runs.proofs.Calls.{frees_block}
-use Rattle.rv64_runs.proofs.Cores.{assigned_here, assigned_other}
+use Rattle.rv64_stretches.specs.Core.{Core, without_block}
+use Rattle.rv64_stretches.proofs.Calls.{frees_block}
+use Rattle.rv64_stretches.proofs.Cores.{assigned_here, assigned_other}
 use Rattle.rv64_values.proofs.Pointers.{block_part}
 use Rattle.rv64_blocks.specs.Memory.{BlockHolds, LiesIn, MemoryHolds}
 use Rattle.rv64_blocks.specs.Laws.{CoreHolds}

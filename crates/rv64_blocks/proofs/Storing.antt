@@ -9,7 +9,7 @@ use Rattle.bril_tree.specs.Memory.{changed, changed_block}
 use Rattle.bril_tree.specs.State.{Block, with_value}
 use Rattle.rv64_words.specs.Region.{Sizes}
 use Rattle.rv64_words.specs.State.{assigned}
-use Rattle.rv64_runs.proofs.Cores.{assigned_here, assigned_other}
+use Rattle.rv64_stretches.proofs.Cores.{assigned_here, assigned_other}
 use Rattle.rv64_blocks.specs.Memory.{HasWord, BlockHolds, LiesIn, MemoryHolds}
 use Rattle.rv64_blocks.proofs.Finding.{CellFound}
 use Rattle.rv64_blocks.proofs.Lists.{IsChanged, IsOther, changed_length, changed_at, changed_given}

@@ -8,7 +8,7 @@ use Rattle.bril_tree.specs.State.{Block, with_value}
 use Rattle.bril_tree.specs.Value.{word_of}
 use Rattle.rv64_words.specs.Environment as rv64
 use Rattle.rv64_words.specs.Region.{Sizes, cells_base}
-use Rattle.rv64_runs.specs.Core.{Core, machine, put_cell, with_block, without_block}
+use Rattle.rv64_stretches.specs.Core.{Core, machine, put_cell, with_block, without_block}
 use Rattle.rv64_blocks.specs.Memory.{HasWord, MemoryHolds}
 
 -- the machine's core holds the blocks

@@ -1,4 +1,4 @@
-//! The blocks of a program in the machine's memory.
+//! Laws alone: the blocks of a program in the machine's memory.
 //!
 //! `specs/Memory.antt` says when the machine's block table and cells hold the blocks of a program: by the addresses in the
 //! table, live blocks apart from one another. Here the operations of memory are shown to keep that, and to find in it what

@@ -1,5 +1,5 @@
 -- An accepted program within the bounds has an image.
-use Rattle.std.proofs.Common.{◌≡◌, ℕ, ◌-◌, ◌*◌, ◌^◌, ◌<◌, ◌≤◌, length, sym, ap, ◌∙◌, arith, length-append}
+use Rattle.std.proofs.Common.{◌≡◌, ℕ, ◌-◌, ◌*◌, ◌^◌, ◌<◌, ◌≤◌, length, sym, ap, ◌∙◌, subst, arith, length-append}
 use Rattle.std.proofs.lemmas.List.{length-map}
 use Rattle.bril_tree.specs.declared.limits.Limits.{Limits}
 use Rattle.bril_tree.specs.declared.program.Prog.{Prog}
@@ -7,6 +7,7 @@ use Rattle.bril_tree.specs.Accepted.{IsAccepted}
 use Rattle.bril_tree.specs.Literals.{AreLiteralsInRange}
 use Rattle.bril_tree.specs.Size.{IsCounted}
 use Rattle.bril_tree.proofs.Elements.{All-at, zip-long}
+use Rattle.rv64_implements.specs.Implements.{Implements}
 use Rattle.rv64_implements.specs.WordBounds.{IsStackSize, IsWithin}
 use Rattle.rv64_words.specs.declared.image.Image.{Image}
 use Rattle.rv64_words.specs.Encoding.{encoded}
@@ -16,7 +17,14 @@ use Rattle.rv64_layout.specs.Image.{joined, start_at, head_words, function_words
 use Rattle.rv64_layout.proofs.Bounding.{image_bounded, function_made}
 use Rattle.rv64_layout.proofs.Fitting.{item_fits, largest_is}
 use Rattle.rv64_layout.proofs.Laid.{functions_length}
+use Rattle.rv64_emit_laws.proofs.Theorem.{implements}
 use Rattle.rv64_emit.specs.Tables.{SlotsFit}
+
+-- what is said of an image
+pub record IsEmitted (p : Prog) (limits : Limits) (image : Image) : Type 0 where
+  pub implements : Implements image p limits
+  pub words : length image.words ≤ 250000
+  pub stack : IsStackSize p limits image.stack
 
 module _ (p : Prog) (slots : Slots) (limits : Limits) (accepted : IsAccepted p) (literals : AreLiteralsInRange p) (is : IsLowered p slots) (within : IsWithin p limits) where
   few : start_at slots (length slots.funcs) ≤ 250000
@@ -35,7 +43,7 @@ module _ (p : Prog) (slots : Slots) (limits : Limits) (accepted : IsAccepted p) 
   }
 
   -- the image has few words
-  pub words_few : (image : Image) → IsImageOf slots limits image → length image.words ≤ 250000
+  words_few : (image : Image) → IsImageOf slots limits image → length image.words ≤ 250000
   words_few image laid =
       let head = head_words limits (start_at slots slots.main) in
       let functions = joined (function_words_at slots) (length slots.funcs) in
@@ -44,3 +52,10 @@ module _ (p : Prog) (slots : Slots) (limits : Limits) (accepted : IsAccepted p) 
   -- the stack has the words of the largest frame, once for each frame
   pub stack_is : (stack : ℕ) → IsStackSize p limits stack → stack ≡ limits.frames * largest_frame slots
   stack_is stack size = size.is ∙ ap (λ n. limits.frames * n) (sym (largest_is p slots limits accepted literals is within size.frame size.largest))
+
+  pub emitted : (stack : ℕ) → IsStackSize p limits stack → (image : Image) → IsImageOf slots limits image → IsEmitted p limits image
+  emitted stack size image laid = record {
+    implements = implements p slots limits image accepted literals is within laid;
+    words = words_few image laid;
+    stack = subst (IsStackSize p limits) (sym (laid.stack ∙ sym (stack_is stack size))) size;
+  }

@@ -1,5 +1,5 @@
 -- The largest frame of a program, function by function.
-use Rattle.std.proofs.Common.{◌≡◌, ℕ, ◌+◌, ◌<◌, ◌≤◌, ◌⊎◌, inl, inr, ⊎_elim, max, List, length, Option, Some, None, refl, sym, ap, ◌∙◌, subst, arith}
+use Rattle.std.proofs.Common.{◌≡◌, ℕ, ◌+◌, ◌<◌, ◌≤◌, ◌⊎◌, inl, inr, ⊎_elim, max, List, length, Option, Some, None, sym, ap, ◌∙◌, subst, arith}
 use Rattle.std.specs.Prelude.{slice_get, IfSome, option_map}
 use Rattle.std.specs.List.{Contains}
 use Rattle.std.proofs.lemmas.Option.{slice_get_within, slice_get_past}
@@ -16,9 +16,6 @@ use Rattle.rv64_layout.proofs.Joining.{below_or}
 pub record IsLargestOf (funcs : List Func) (count words : ℕ) : Type 0 where
   pub most : (k : ℕ) (f : Func) (n : ℕ) → k < count → slice_get funcs k ≡ Some f → AreFrameWords f n → n ≤ words
   pub reached : ((count ≡ 0) × (words ≡ 0)) ⊎ ((k : ℕ) × (f : Func) × (slice_get funcs k ≡ Some f) × AreFrameWords f words)
-
-pub none_largest : (funcs : List Func) → IsLargestOf funcs 0 0
-none_largest funcs = record { most = λ k f n less is are. absurd (omega arith); reached = inl (refl, refl) }
 
 some_same : {X : Type 0} (x y : X) (o : Option X) → o ≡ Some x → o ≡ Some y → x ≡ y
 some_same x y o a b = cc

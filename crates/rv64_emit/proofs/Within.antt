@@ -1,5 +1,5 @@
 -- Whether a program is within its bounds, by what was counted.
-use Rattle.std.proofs.Common.{◌≡◌, ℕ, ◌*◌, ◌<◌, ◌≤◌, true, List, [], ◌∷◌, length, Option, refl, ap, ◌∙◌, arith}
+use Rattle.std.proofs.Common.{◌≡◌, ℕ, ◌*◌, ◌<◌, ◌≤◌, true, List, ◌∷◌, length, Option, refl, ap, ◌∙◌, arith, []}
 use Rattle.std.specs.List.{list_all, sum_by}
 use Rattle.std.proofs.lemmas.Bool.{and_parts, false≢true}
 use Rattle.std.proofs.lemmas.List.Sums.{sum_by-cons}
@@ -16,17 +16,11 @@ use Rattle.rv64_implements.specs.WordBounds.{operation_bound, word_bound, word_b
 use Rattle.slot_code.specs.declared.slots.SlotFunction.{SlotFunction}
 use Rattle.slot_code.specs.declared.slots.Slots.{Slots}
 use Rattle.slot_code.specs.Lowered.{IsLowered, IsLoweredFunction}
-use Rattle.rv64_emit.specs.declared.EmitFault.TheVariants.{StackTooBig}
 use Rattle.rv64_emit.specs.Bounds.{AreLocationsKnown, bound_with, locations_at, slot_count, is_told_item, is_told}
-use Rattle.rv64_emit.specs.Refusal.{capped, EmitRefuses}
+use Rattle.rv64_emit.specs.Refusal.{capped}
 use Rattle.std.proofs.lemmas.Option.{slice_get_within}
 
 -- ---- the bounds
-
-pub stack_refused : (p : Prog) (limits : Limits) (bound frame words : ℕ) → bound ≡ capped (word_bounds p) → bound ≤ 250000 → IsLargestFrame p frame → words ≡ capped (limits.frames * frame) → 8388608 < words →
-    EmitRefuses p limits (StackTooBig words)
-stack_refused p limits bound frame words bound_is few largest words_is many =
-    (omega arith, (limits.frames * frame, record { frame = frame; largest = largest; is = refl }, omega arith, words_is))
 
 pub stack_size : (p : Prog) (limits : Limits) (frame words : ℕ) → IsLargestFrame p frame → words ≡ capped (limits.frames * frame) → words ≤ 8388608 → IsStackSize p limits words
 stack_size p limits frame words largest words_is few = record { frame = frame; largest = largest; is = omega arith }

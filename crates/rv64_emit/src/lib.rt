@@ -2,7 +2,7 @@
 //!
 //! The program becomes code over slots. A first pass over it tells where functions and items begin, a second one appends
 //! their words; both take time in proportion to the words. `rv64_layout` says which words an item has and where they are,
-//! `emitted_code` that an image laid out so does what the program does.
+//! `rv64_emit_laws` that an image laid out so does what the program does.
 #![tactic(auto)]
 
 ghost use Rattle.std.specs.Prelude.{◌≡◌, ◌≤◌, length, IfOk, IfErr};

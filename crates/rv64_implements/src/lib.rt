@@ -1,4 +1,4 @@
-//! When an image of machine words does what a program does, and how large it may be.
+//! Laws alone: when an image of machine words does what a program does, and how large it may be.
 //!
 //! `specs/` has the definitions: `Implements` (an image does what a program does), `Home` (where a location's value is while
 //! the machine runs), `WordBounds` (the most words of an image and of its stack) and `Shown` (what so many words show of a

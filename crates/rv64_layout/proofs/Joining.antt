@@ -1,13 +1,10 @@
 -- Sums and lists over the numbers below one.
-use Rattle.std.proofs.Common.{◌≡◌, ℕ, zero, suc, ◌+◌, ◌-◌, ◌<◌, ◌≤◌, ◌⊎◌, inl, inr, ⊎_elim, List, [], ◌∷◌, ◌++◌, length, Some, refl, sym, ap, subst, arith, length-append, append_assoc, add-one}
+use Rattle.std.proofs.Common.{◌≡◌, ℕ, zero, suc, ◌+◌, ◌-◌, ◌<◌, ◌≤◌, ◌⊎◌, inl, inr, ⊎_elim, List, ◌∷◌, ◌++◌, length, Some, refl, sym, ap, subst, arith, length-append, append_assoc, add-one, []}
 use Rattle.std.specs.Prelude.{slice_get}
 use Rattle.rv64_words.specs.declared.word.Word.{Word}
 use Rattle.rv64_layout.specs.Image.{sum_below, joined}
 
 -- ---- sums
-
-pub sum_below-more : (counts : ℕ → ℕ) (n : ℕ) → sum_below counts (n + 1) ≡ sum_below counts n + counts n
-sum_below-more counts n = ap (sum_below counts) (add-one n)
 
 sum_after : (counts : ℕ → ℕ) (m k : ℕ) → sum_below counts m ≤ sum_below counts (m + k)
 sum_after counts m zero = let e : m + 0 ≡ m = omega arith in omega (arith, ap (sum_below counts) e)

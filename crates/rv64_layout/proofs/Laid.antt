@@ -13,7 +13,7 @@ use Rattle.rv64_words.specs.declared.word.Word.{Word}
 use Rattle.rv64_words.specs.declared.word.Word.TheVariants.{Sd}
 use Rattle.rv64_words.specs.Encoding.{encoded}
 use Rattle.rv64_words.specs.Machine.{is_guard_word}
-use Rattle.rv64_runs.specs.Runs.{HasAt}
+use Rattle.rv64_stretches.specs.Runs.{HasAt}
 use Rattle.rv64_sequences.specs.Sequences.{fault_words, high_part}
 use Rattle.slot_code.specs.declared.item.SlotItem.{SlotItem}
 use Rattle.slot_code.specs.declared.item.SlotItem.TheVariants.{Pass, Constant, Copy, Unary, Binary, Jump, Branch, Call, Return, Print, Alloc, Free, Store, Load, Speculate, Commit, Guard}

@@ -8,7 +8,7 @@ use Rattle.rv64_implements.specs.WordBounds.{IsWithin}
 use Rattle.rv64_words.specs.declared.image.GuardAt.{GuardAt}
 use Rattle.rv64_words.specs.declared.image.Image.{Image}
 use Rattle.rv64_words.specs.declared.word.Word.TheVariants.{Sd}
-use Rattle.rv64_runs.specs.Runs.{HasAt, WordAt}
+use Rattle.rv64_stretches.specs.Runs.{HasAt, WordAt}
 use Rattle.rv64_sequences.specs.Sequences.{fault_words}
 use Rattle.slot_code.specs.declared.item.SlotItem.{SlotItem}
 use Rattle.slot_code.specs.declared.item.SlotItem.TheVariants.{Guard}

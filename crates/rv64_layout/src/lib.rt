@@ -1,5 +1,5 @@
-//! How the image of code over slots is laid out: the words of each item, where items and functions begin, the image's
-//! guards and its stack.
+//! Laws alone: how the image of code over slots is laid out. Which words each item has, where items and functions begin,
+//! the image's guards and its stack.
 //!
 //! The definitions are in `specs/`: `Items.antt` has the words of each item, and how many they are; `Image.antt` the entries
 //! and the whole image. The sizes depend on numbers and on words of the frame alone, never on a place in the image.

@@ -2,5 +2,4 @@ pub mod Arrivals
 pub mod Bursts
 pub mod Calls
 pub mod Executions
-pub mod RunAnswers
 pub mod Starts

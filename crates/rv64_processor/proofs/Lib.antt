@@ -1,6 +1,5 @@
 pub mod GroupProps
 pub mod GroupWords
-pub mod LiveBlocks
 pub mod Regions
 pub mod ResolvedSteps
 pub mod ResolvedWords

@@ -4,7 +4,6 @@ ghost use Rattle.std.specs.Prelude.{◌≡◌, ◌*◌, ◌^◌, ◌<◌};
 ghost use Rattle.std.specs.Int.{w64, cast_unsigned};
 ghost use Rattle.rv64_words.specs.Arithmetic.{extended_32, less_signed, shifted_right_signed, divided, holds, with_immediate, shifted, computed};
 
-use bril_nums::quot;
 use rv64_words::field::{Immediate, Upper};
 use rv64_words::word::{Condition, ImmediateOperation, RegisterOperation, ShiftOperation};
 
@@ -44,14 +43,16 @@ fn shift_right_signed(a: u64, amount: u8) -> u64
     }
 }
 
-// The signed quotient; -1 by zero.
+// The quotient of signed numbers, rounded toward zero: by zero all bits are set, and -2^63 by -1 is -2^63.
 fn divide(a: u64, b: u64) -> u64
     ensures { result ≡ divided a b }
 {
-    match quot(a.cast_signed(), b.cast_signed()) {
-        Some(quotient) => quotient.cast_unsigned(),
-        None => u64::MAX,
+    if b == 0 {
+        return u64::MAX;
     }
+    a.cast_signed()
+        .wrapping_div(b.cast_signed())
+        .cast_unsigned()
 }
 
 /// Whether the condition holds of two numbers.

@@ -6,9 +6,9 @@ use Rattle.rv64_words.specs.declared.word.Word.TheVariants.{Lui}
 use Rattle.rv64_words.specs.Arithmetic.{extended_32, moved_by}
 use Rattle.rv64_words.specs.Mnemonics.{addi, slli}
 use Rattle.rv64_words.specs.Region.{Sizes}
-use Rattle.rv64_runs.specs.Core.{Core, written}
-use Rattle.rv64_runs.proofs.Cores.{written_twice, written_here}
-use Rattle.rv64_runs.proofs.Going.{Going, plain, is_core, is_place}
+use Rattle.rv64_stretches.specs.Core.{Core, written}
+use Rattle.rv64_stretches.proofs.Cores.{written_twice, written_here}
+use Rattle.rv64_stretches.proofs.Going.{Going, plain, is_core, is_place}
 use Rattle.rv64_sequences.specs.Sequences.{high_part, low_part, fits_12, fits_32, long_constant_words, constant_words, constant_size}
 use Rattle.rv64_sequences.proofs.Digits.{digit_again, small_again, medium_again, short_again, not_short}
 

@@ -4,9 +4,9 @@ use Rattle.rv64_words.specs.declared.image.Image.{Image}
 use Rattle.rv64_words.specs.declared.word.Word.{Word}
 use Rattle.rv64_words.specs.Region.{Sizes, stack_base}
 use Rattle.rv64_words.specs.State.{assigned}
-use Rattle.rv64_runs.specs.Core.{Core, written, put}
-use Rattle.rv64_runs.proofs.Cores.{assigned_here, assigned_other}
-use Rattle.rv64_runs.proofs.Going.{Going, is_place}
+use Rattle.rv64_stretches.specs.Core.{Core, written, put}
+use Rattle.rv64_stretches.proofs.Cores.{assigned_here, assigned_other}
+use Rattle.rv64_stretches.proofs.Going.{Going, is_place}
 use Rattle.rv64_sequences.specs.Frames.{address_left, addressed, Copied, LieApart}
 use Rattle.rv64_sequences.specs.Sequences.{load_words, store_words, load_size, store_size, copy_words, copy_size}
 use Rattle.rv64_sequences.proofs.Frames.{frame_load, frame_store}

@@ -5,10 +5,10 @@ use Rattle.rv64_words.specs.declared.image.Image.{Image}
 use Rattle.rv64_words.specs.declared.word.Word.{Word}
 use Rattle.rv64_words.specs.Mnemonics.{addi}
 use Rattle.rv64_words.specs.Region.{Sizes}
-use Rattle.rv64_runs.specs.Core.{Core}
-use Rattle.rv64_runs.specs.Runs.{effects, Ends}
-use Rattle.rv64_runs.proofs.Calls.{ending, finish}
-use Rattle.rv64_runs.proofs.Going.{Going, plain}
+use Rattle.rv64_stretches.specs.Core.{Core}
+use Rattle.rv64_stretches.specs.Runs.{effects, Ends}
+use Rattle.rv64_stretches.proofs.Calls.{ending, finish}
+use Rattle.rv64_stretches.proofs.Going.{Going, plain}
 use Rattle.rv64_sequences.specs.Sequences.{fault_words}
 
 -- registers 10 and 17 after the words of a fault

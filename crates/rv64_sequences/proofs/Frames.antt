@@ -6,9 +6,9 @@ use Rattle.rv64_words.specs.declared.word.Word.TheVariants.{Lui, Ld, Sd}
 use Rattle.rv64_words.specs.Arithmetic.{extended_32, moved_by}
 use Rattle.rv64_words.specs.Mnemonics.{addi, add}
 use Rattle.rv64_words.specs.Region.{Sizes, stack_base}
-use Rattle.rv64_runs.specs.Core.{Core, written, put}
-use Rattle.rv64_runs.proofs.Cores.{written_twice, written_same, written_other}
-use Rattle.rv64_runs.proofs.Going.{Going, plain, load, store, is_core, is_place}
+use Rattle.rv64_stretches.specs.Core.{Core, written, put}
+use Rattle.rv64_stretches.proofs.Cores.{written_twice, written_same, written_other}
+use Rattle.rv64_stretches.proofs.Going.{Going, plain, load, store, is_core, is_place}
 use Rattle.rv64_sequences.specs.Frames.{Reaches, far_address, addressed}
 use Rattle.rv64_sequences.specs.Sequences.{high_part, low_part, is_near, address_words, load_from, store_over, load_size, store_size, frame_up_words, frame_up_size}
 use Rattle.rv64_sequences.proofs.Digits.{based_again, near_again}

@@ -6,9 +6,9 @@ use Rattle.rv64_words.specs.declared.word.Word.{Word}
 use Rattle.rv64_words.specs.declared.word.Word.TheVariants.{Jal}
 use Rattle.rv64_words.specs.Arithmetic.{moved_by}
 use Rattle.rv64_words.specs.Region.{Sizes}
-use Rattle.rv64_runs.specs.Core.{Core, written, arrived}
-use Rattle.rv64_runs.specs.Runs.{WordAt, Runs}
-use Rattle.rv64_runs.proofs.Going.{Going, jump, jump_and_link, guard_jump}
+use Rattle.rv64_stretches.specs.Core.{Core, written, arrived}
+use Rattle.rv64_stretches.specs.Runs.{WordAt, Runs}
+use Rattle.rv64_stretches.proofs.Going.{Going, jump, jump_and_link, guard_jump}
 use Rattle.rv64_sequences.specs.Sequences.{jump_offset}
 
 -- the bytes from word a to word b lead there

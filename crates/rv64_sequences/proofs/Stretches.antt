@@ -3,9 +3,9 @@ use Rattle.std.proofs.Common.{◌≡◌, ℕ, ◌+◌, sym, subst, arith, List, 
 use Rattle.rv64_words.specs.declared.image.Image.{Image}
 use Rattle.rv64_words.specs.declared.word.Word.{Word}
 use Rattle.rv64_words.specs.Region.{Sizes}
-use Rattle.rv64_runs.specs.Core.{Core}
-use Rattle.rv64_runs.specs.Runs.{HasAt, Runs}
-use Rattle.rv64_runs.proofs.Going.{Going, begin}
+use Rattle.rv64_stretches.specs.Core.{Core}
+use Rattle.rv64_stretches.specs.Runs.{HasAt, Runs}
+use Rattle.rv64_stretches.proofs.Going.{Going, begin}
 use Rattle.rv64_sequences.specs.Laws.{ConstantsRun, FrameLoadsRun, FrameStoresRun, CopiesRun}
 use Rattle.rv64_sequences.specs.Sequences.{constant_words, load_from, store_over, copy_words, constant_size, load_size, store_size, copy_size}
 use Rattle.rv64_sequences.proofs.Constants.{constant}

@@ -2,7 +2,7 @@
 use Rattle.std.specs.Prelude.{◌≡◌, ◌≢◌, ℕ, ◌+◌, ◌*◌, ◌%◌, ◌^◌, ◌<◌, ◌≤◌, ◌⊎◌, if◌then◌else◌}
 use Rattle.rv64_words.specs.Arithmetic.{extended_32}
 use Rattle.rv64_words.specs.Region.{Sizes, stack_base}
-use Rattle.rv64_runs.specs.Core.{Core, written}
+use Rattle.rv64_stretches.specs.Core.{Core, written}
 use Rattle.rv64_sequences.specs.Sequences.{high_part, is_near}
 
 -- A register has the address of the stack's word b, and word o from there is inside the stack.

@@ -2,8 +2,8 @@
 use Rattle.std.specs.Prelude.{◌≡◌, ◌≢◌, ℕ, ◌+◌, ◌*◌, ◌^◌, ◌<◌, ◌≤◌}
 use Rattle.rv64_words.specs.declared.image.Image.{Image}
 use Rattle.rv64_words.specs.Region.{Sizes, stack_base}
-use Rattle.rv64_runs.specs.Core.{Core, written, put}
-use Rattle.rv64_runs.specs.Runs.{HasAt, Runs}
+use Rattle.rv64_stretches.specs.Core.{Core, written, put}
+use Rattle.rv64_stretches.specs.Runs.{HasAt, Runs}
 use Rattle.rv64_sequences.specs.Frames.{Reaches, addressed, Copied, LieApart}
 use Rattle.rv64_sequences.specs.Sequences.{constant_words, constant_size, load_from, store_over, load_size, store_size, copy_words, copy_size}
 

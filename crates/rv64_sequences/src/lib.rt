@@ -1,4 +1,4 @@
-//! Short sequences of words, and what they do.
+//! Laws alone: short sequences of words, and what they do.
 //!
 //! `specs/Sequences.antt` has the sequences from which code is laid out: constants, loads and stores of a frame's words,
 //! copies, faults and jumps. Each is short where the number or the word's place allows it, and its size depends on these

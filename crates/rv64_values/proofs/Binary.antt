@@ -15,9 +15,9 @@ use Rattle.rv64_words.specs.declared.word.Word.{Word}
 use Rattle.rv64_words.specs.Arithmetic.{less_signed, divided}
 use Rattle.rv64_words.specs.Mnemonics.{add, sub, mul, and, or, div}
 use Rattle.rv64_words.specs.Region.{Sizes}
-use Rattle.rv64_runs.specs.Core.{Core, written, Keeps}
-use Rattle.rv64_runs.specs.Runs.{HasAt, AreComputing, effects}
-use Rattle.rv64_runs.proofs.Going.{begin, plain, taken, not_taken}
+use Rattle.rv64_stretches.specs.Core.{Core, written, Keeps}
+use Rattle.rv64_stretches.specs.Runs.{HasAt, AreComputing, effects}
+use Rattle.rv64_stretches.proofs.Going.{begin, plain, taken, not_taken}
 use Rattle.rv64_sequences.specs.Operations.{same_words, less_words, greater_words, not_greater_words, not_less_words, division_words}
 use Rattle.rv64_sequences.specs.Sequences.{fault_words}
 use Rattle.rv64_values.specs.Laws.{BinaryReady, BinaryWordsGive, BinaryWordsFault}

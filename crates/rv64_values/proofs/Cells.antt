@@ -11,9 +11,9 @@ use Rattle.rv64_words.specs.declared.word.Word.TheVariants.{Lui, Ld, Sd}
 use Rattle.rv64_words.specs.Arithmetic.{moved_by}
 use Rattle.rv64_words.specs.Mnemonics.{add, slli, srli, srai, bltu, bne}
 use Rattle.rv64_words.specs.Region.{Sizes, table_base, cells_base, table_words, most_blocks}
-use Rattle.rv64_runs.specs.Core.{Core, written, put_cell, Keeps}
-use Rattle.rv64_runs.specs.Runs.{effects}
-use Rattle.rv64_runs.proofs.Going.{Going, begin, plain, plains, load_table, load_cell, store_cell, taken, not_taken, is_core, is_place}
+use Rattle.rv64_stretches.specs.Core.{Core, written, put_cell, Keeps}
+use Rattle.rv64_stretches.specs.Runs.{effects}
+use Rattle.rv64_stretches.proofs.Going.{Going, begin, plain, plains, load_table, load_cell, store_cell, taken, not_taken, is_core, is_place}
 use Rattle.rv64_sequences.specs.Operations.{cell_words, load_cell_words, mark_cell_words, store_cell_words}
 use Rattle.rv64_sequences.specs.Sequences.{fault_words}
 use Rattle.rv64_values.specs.Cells.{is_inside, PointerReady, FindsCell, CellReady}

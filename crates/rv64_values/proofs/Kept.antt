@@ -7,9 +7,9 @@ use Rattle.rv64_words.specs.declared.image.Image.{Image}
 use Rattle.rv64_words.specs.declared.word.Word.{Word}
 use Rattle.rv64_words.specs.Environment.{fault_of}
 use Rattle.rv64_words.specs.Region.{Sizes}
-use Rattle.rv64_runs.specs.Core.{Core, written, Keeps}
-use Rattle.rv64_runs.specs.Runs.{HasAt, AreComputing, effects, Runs}
-use Rattle.rv64_runs.proofs.Going.{Going, begin, plains}
+use Rattle.rv64_stretches.specs.Core.{Core, written, Keeps}
+use Rattle.rv64_stretches.specs.Runs.{HasAt, AreComputing, effects, Runs}
+use Rattle.rv64_stretches.proofs.Going.{Going, begin, plains}
 use Rattle.rv64_sequences.specs.Sequences.{fault_words}
 use Rattle.rv64_sequences.proofs.Ends.{called_off, finishes}
 use Rattle.rv64_values.specs.Operands.{Gives, EndsSo}

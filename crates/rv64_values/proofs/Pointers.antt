@@ -18,9 +18,9 @@ use Rattle.rv64_words.specs.declared.image.Image.{Image}
 use Rattle.rv64_words.specs.Arithmetic.{shifted_left, shifted_right_signed}
 use Rattle.rv64_words.specs.Mnemonics.{add, beq, slli, srai, srli}
 use Rattle.rv64_words.specs.Region.{Sizes}
-use Rattle.rv64_runs.specs.Core.{Core, Keeps}
-use Rattle.rv64_runs.specs.Runs.{effects}
-use Rattle.rv64_runs.proofs.Going.{Going, begin, plains, taken, not_taken}
+use Rattle.rv64_stretches.specs.Core.{Core, Keeps}
+use Rattle.rv64_stretches.specs.Runs.{effects}
+use Rattle.rv64_stretches.proofs.Going.{Going, begin, plains, taken, not_taken}
 use Rattle.rv64_sequences.specs.Operations.{pointer_words}
 use Rattle.rv64_sequences.specs.Sequences.{fault_words}
 use Rattle.rv64_values.specs.Laws.{BinaryReady}

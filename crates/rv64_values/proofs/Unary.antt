@@ -14,9 +14,9 @@ use Rattle.bril_tree.specs.Value.{word_of}
 use Rattle.rv64_words.specs.declared.image.Image.{Image}
 use Rattle.rv64_words.specs.Mnemonics.{addi, srli, bne}
 use Rattle.rv64_words.specs.Region.{Sizes}
-use Rattle.rv64_runs.specs.Core.{Core, written, Keeps}
-use Rattle.rv64_runs.specs.Runs.{HasAt}
-use Rattle.rv64_runs.proofs.Going.{Going, begin, plain, taken, not_taken}
+use Rattle.rv64_stretches.specs.Core.{Core, written, Keeps}
+use Rattle.rv64_stretches.specs.Runs.{HasAt}
+use Rattle.rv64_stretches.proofs.Going.{Going, begin, plain, taken, not_taken}
 use Rattle.rv64_sequences.specs.Operations.{int_to_char_words, unary_words}
 use Rattle.rv64_sequences.specs.Sequences.{fault_words}
 use Rattle.rv64_values.specs.Laws.{UnaryWordsGive, UnaryWordsFault}

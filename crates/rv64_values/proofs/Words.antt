@@ -1,12 +1,13 @@
 -- What words compute of the words of values.
-use Rattle.std.proofs.Common.{◌≡◌, ℕ, zero, suc, ◌+◌, ◌-◌, ◌*◌, ◌%◌, ◌^◌, ◌<◌, Bool, true, false, not, ◌&&◌, ◌||◌, eqb, ltb, leb, refl, sym, ap, ◌∙◌, arith, ℤ, pos, negsuc, ◌+ℤ◌, Some}
+use Rattle.std.proofs.Common.{◌≡◌, ℕ, ◌+◌, ◌-◌, ◌*◌, ◌%◌, ◌^◌, ◌<◌, Bool, true, false, not, ◌&&◌, ◌||◌, eqb, ltb, leb, refl, sym, ap, ◌∙◌, arith, ℤ, pos, negsuc, ◌+ℤ◌}
 use Rattle.std.specs.Prelude.{FitsSigned, ◌-ℤ◌, ◌*ℤ◌, int_lt, int_le, int_div, bit_and, bit_or}
 use Rattle.std.specs.Int.{w64, cast_unsigned, cast_signed, int_wrap, from_bool}
 use Rattle.std.proofs.lemmas.Bool.Decides.{nat_tests}
 use Rattle.std.proofs.lemmas.Int.{to_z-of_z, of_z-to_z, to_z_pos, wrapping_add_is, wrapping_sub_is, wrapping_mul_is}
-use Rattle.bril_nums.specs.Arith.{quotient}
+use Rattle.bril_nums.proofs.Quotients.{wrapping_div_is}
 use Rattle.bril_tree.specs.Outcome.{int_same}
-use Rattle.rv64_words.specs.Arithmetic.{less_signed, quotient_word, divided}
+use Rattle.rv64_words.specs.Arithmetic.{less_signed, divided}
+use Rattle.rv64_words.proofs.Division.{divided-rounded, quotient-below}
 
 -- ---- arithmetic
 
@@ -30,15 +31,13 @@ pub is_zero : (b : ℤ) → FitsSigned w64 b → eqb (cast_unsigned w64 b) 0 ≡
 is_zero (pos n) fits = grind (arith, nat_tests)
 is_zero (negsuc n) fits = let f = fits.sfits in grind (arith, nat_tests)
 
-quotient_is : (a b : ℤ) → int_same b (pos 0) ≡ false → quotient a b ≡ Some (int_wrap w64 (int_div a b))
-quotient_is a (pos zero) e = cc
-quotient_is a (pos (suc n)) e = refl
-quotient_is a (negsuc n) e = refl
-
+-- DIV gives the word of the quotient that Bril's `div` gives, where the divisor isn't 0
 pub div_word : (a b : ℤ) → FitsSigned w64 a → FitsSigned w64 b → int_same b (pos 0) ≡ false → divided (cast_unsigned w64 a) (cast_unsigned w64 b) ≡ cast_unsigned w64 (int_wrap w64 (int_div a b))
 div_word a b fa fb e =
-    ap (λ x. quotient_word (quotient x (cast_signed w64 (cast_unsigned w64 b)))) (to_z-of_z w64 a fa)
-    ∙ (ap (λ y. quotient_word (quotient a y)) (to_z-of_z w64 b fb) ∙ ap quotient_word (quotient_is a b e))
+    divided-rounded (cast_unsigned w64 a) (cast_unsigned w64 b) (is_zero b fb ∙ e)
+    ∙ (ap (λ x. cast_unsigned w64 (int_div x (cast_signed w64 (cast_unsigned w64 b)))) (to_z-of_z w64 a fa)
+    ∙ (ap (λ y. cast_unsigned w64 (int_div a y)) (to_z-of_z w64 b fb)
+    ∙ sym (ap (cast_unsigned w64) (sym (wrapping_div_is a b fa)) ∙ of_z-to_z w64 (cast_unsigned w64 (int_div a b)) (quotient-below a b fa))))
 
 -- ---- comparisons
 

@@ -6,8 +6,8 @@ use Rattle.bril_tree.specs.declared.limits.Fault.TheVariants as fault
 use Rattle.rv64_words.specs.declared.image.Image.{Image}
 use Rattle.rv64_words.specs.declared.word.Word.{Word}
 use Rattle.rv64_words.specs.Region.{Sizes, cells_base, most_blocks}
-use Rattle.rv64_runs.specs.Core.{Core, written, put_cell, Keeps}
-use Rattle.rv64_runs.specs.Runs.{HasAt, Runs}
+use Rattle.rv64_stretches.specs.Core.{Core, written, put_cell, Keeps}
+use Rattle.rv64_stretches.specs.Runs.{HasAt, Runs}
 use Rattle.rv64_sequences.specs.Operations.{cell_words, load_cell_words, mark_cell_words, store_cell_words}
 use Rattle.rv64_values.specs.Operands.{Gives, EndsSo}
 

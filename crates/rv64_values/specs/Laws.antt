@@ -10,8 +10,8 @@ use Rattle.bril_tree.specs.Outcome.{Yields, FaultsWith, computed}
 use Rattle.bril_tree.specs.Value.{word_of}
 use Rattle.rv64_words.specs.declared.image.Image.{Image}
 use Rattle.rv64_words.specs.Region.{Sizes}
-use Rattle.rv64_runs.specs.Core.{Core}
-use Rattle.rv64_runs.specs.Runs.{HasAt}
+use Rattle.rv64_stretches.specs.Core.{Core}
+use Rattle.rv64_stretches.specs.Runs.{HasAt}
 use Rattle.rv64_sequences.specs.Operations.{unary_words, unary_size, binary_words, binary_size}
 use Rattle.rv64_values.specs.Operands.{UnarySuits, BinarySuits, Gives, EndsSo}
 

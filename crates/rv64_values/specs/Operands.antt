@@ -11,8 +11,8 @@ use Rattle.bril_tree.specs.declared.value.Value.{Value}
 use Rattle.bril_tree.specs.declared.value.Value.TheVariants.{Int, Bool as Boolean, Char, Ptr}
 use Rattle.rv64_words.specs.declared.image.Image.{Image}
 use Rattle.rv64_words.specs.Region.{Sizes}
-use Rattle.rv64_runs.specs.Core.{Core, Keeps}
-use Rattle.rv64_runs.specs.Runs.{Runs, Ends}
+use Rattle.rv64_stretches.specs.Core.{Core, Keeps}
+use Rattle.rv64_stretches.specs.Runs.{Runs, Ends}
 
 -- ---- operands
 

@@ -1,4 +1,4 @@
-//! The words of the operations compute what the operations of Bril do.
+//! Laws alone: the words of the operations compute what the operations of Bril do.
 //!
 //! `rv64_sequences` has the words of each operation of code over slots: from registers 5 and 7 to register 5. Here they
 //! are shown right, for operands of the types that the operation takes: the result's word stands in register 5 after at

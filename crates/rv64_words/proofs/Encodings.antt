@@ -1,4 +1,4 @@
--- That no two words have the same 32 bits, and that the decoded word has the bits that it was decoded from.
+-- That decoding gives a word back from its bits.
 use Rattle.std.proofs.Common.{◌≡◌, ℕ, ◌+◌, ◌*◌, ◌/◌, ◌%◌, ◌-◌, ◌^◌, ◌<◌, ◌≤◌, Bool, true, false, cond, eqb, ltb, ℤ, pos, negsuc, Option, Some, None, refl, ap, ◌∙◌, arith}
 use Rattle.std.specs.Option.{option_map}
 use Rattle.std.proofs.lemmas.Int.{ints}
@@ -30,13 +30,6 @@ signed_12-bits_12 (negsuc n) h =
     let e : 4095 - (4095 - n) ≡ n = omega arith in
     rw (le-ltb (4095 - n) 2048 k, e) refl
 
-bits_12_by : (n : ℕ) (t : Bool) → n < 4096 → bits_12 (cond t (pos n) (negsuc (4095 - n))) ≡ n
-bits_12_by n true h = refl
-bits_12_by n false h = omega arith
-
-pub bits_12-signed_12 : (n : ℕ) → n < 4096 → bits_12 (signed_12 n) ≡ n
-bits_12-signed_12 n h = bits_12_by n (ltb n 2048) h
-
 IsImmediate_by : (n : ℕ) (t : Bool) → n < 4096 → ltb n 2048 ≡ t → IsImmediate (cond t (pos n) (negsuc (4095 - n)))
 IsImmediate_by n true h e = let k = ltb-true n 2048 e in (omega (arith, ints), omega (arith, ints))
 IsImmediate_by n false h e = let k = ltb-false n 2048 e in (omega (arith, ints), omega (arith, ints))
@@ -57,20 +50,6 @@ signed_13-bits_13 (negsuc n) h =
     let e : 8191 - (8191 - n) ≡ n = omega arith in
     rw (le-ltb (8191 - n) 4096 k, e) refl
 
-bits_13_by : (n : ℕ) (t : Bool) → n < 8192 → bits_13 (cond t (pos n) (negsuc (8191 - n))) ≡ n
-bits_13_by n true h = refl
-bits_13_by n false h = omega arith
-
-bits_13-signed_13 : (n : ℕ) → n < 8192 → bits_13 (signed_13 n) ≡ n
-bits_13-signed_13 n h = bits_13_by n (ltb n 4096) h
-
-IsBranchOffset_by : (n : ℕ) (t : Bool) → n < 8192 → n % 2 ≡ 0 → ltb n 4096 ≡ t → IsBranchOffset (cond t (pos n) (negsuc (8191 - n)))
-IsBranchOffset_by n true h even e = let k = ltb-true n 4096 e in (omega (arith, ints), omega (arith, ints), even)
-IsBranchOffset_by n false h even e = let k = ltb-false n 4096 e in (omega (arith, ints), omega (arith, ints), omega arith)
-
-IsBranchOffset-signed_13 : (n : ℕ) → n < 8192 → n % 2 ≡ 0 → IsBranchOffset (signed_13 n)
-IsBranchOffset-signed_13 n h even = IsBranchOffset_by n (ltb n 4096) h even refl
-
 bits_21-below : (d : ℤ) → IsJumpOffset d → bits_21 d < 2097152
 bits_21-below (pos n) h = let k = h.1 in omega (arith, ints)
 bits_21-below (negsuc n) h = omega arith
@@ -84,57 +63,16 @@ signed_21-bits_21 (negsuc n) h =
     let e : 2097151 - (2097151 - n) ≡ n = omega arith in
     rw (le-ltb (2097151 - n) 1048576 k, e) refl
 
-bits_21_by : (n : ℕ) (t : Bool) → n < 2097152 → bits_21 (cond t (pos n) (negsuc (2097151 - n))) ≡ n
-bits_21_by n true h = refl
-bits_21_by n false h = omega arith
-
-bits_21-signed_21 : (n : ℕ) → n < 2097152 → bits_21 (signed_21 n) ≡ n
-bits_21-signed_21 n h = bits_21_by n (ltb n 1048576) h
-
-IsJumpOffset_by : (n : ℕ) (t : Bool) → n < 2097152 → n % 2 ≡ 0 → ltb n 1048576 ≡ t → IsJumpOffset (cond t (pos n) (negsuc (2097151 - n)))
-IsJumpOffset_by n true h even e = let k = ltb-true n 1048576 e in (omega (arith, ints), omega (arith, ints), even)
-IsJumpOffset_by n false h even e = let k = ltb-false n 1048576 e in (omega (arith, ints), omega (arith, ints), omega arith)
-
-IsJumpOffset-signed_21 : (n : ℕ) → n < 2097152 → n % 2 ≡ 0 → IsJumpOffset (signed_21 n)
-IsJumpOffset-signed_21 n h even = IsJumpOffset_by n (ltb n 1048576) h even refl
-
 -- ---- the offsets of branches and jumps in their fields
 
 branch_low-below : (n : ℕ) → n < 8192 → branch_low n < 32
 branch_low-below n h = omega arith
 
-branch_high-below : (n : ℕ) → n < 8192 → branch_high n < 128
-branch_high-below n h = omega arith
-
 branch_bits-again : (n : ℕ) → n < 8192 → n % 2 ≡ 0 → branch_bits (branch_low n) (branch_high n) ≡ n
 branch_bits-again n h even = omega arith
 
-branch_bits-below : (low high : ℕ) → low < 32 → high < 128 → branch_bits low high < 8192
-branch_bits-below low high l h = omega arith
-
-branch_bits-even : (low high : ℕ) → low < 32 → high < 128 → branch_bits low high % 2 ≡ 0
-branch_bits-even low high l h = omega arith
-
-branch_low-bits : (low high : ℕ) → low < 32 → high < 128 → branch_low (branch_bits low high) ≡ low
-branch_low-bits low high l h = omega arith
-
-branch_high-bits : (low high : ℕ) → low < 32 → high < 128 → branch_high (branch_bits low high) ≡ high
-branch_high-bits low high l h = omega arith
-
-jump_upper-below : (n : ℕ) → n < 2097152 → jump_upper n < 2 ^ 20
-jump_upper-below n h = omega arith
-
 jump_bits-again : (n : ℕ) → n < 2097152 → n % 2 ≡ 0 → jump_bits (jump_upper n) ≡ n
 jump_bits-again n h even = omega arith
-
-jump_bits-below : (u : ℕ) → u < 2 ^ 20 → jump_bits u < 2097152
-jump_bits-below u h = omega arith
-
-jump_bits-even : (u : ℕ) → u < 2 ^ 20 → jump_bits u % 2 ≡ 0
-jump_bits-even u h = omega arith
-
-jump_upper-bits : (u : ℕ) → u < 2 ^ 20 → jump_upper (jump_bits u) ≡ u
-jump_upper-bits u h = omega arith
 
 -- ---- operations and their numbers
 

@@ -1,3 +1,4 @@
+pub mod Division
 pub mod Encodings
 pub mod Runs
 pub mod Words

@@ -1,7 +1,6 @@
 -- What words compute of 64-bit numbers below 2^64: RV64I and RV64M of the RISC-V Unprivileged ISA manual.
-use Rattle.std.specs.Prelude.{ℕ, ◌+◌, ◌-◌, ◌*◌, ◌/◌, ◌%◌, ◌^◌, Bool, not, ◌==◌, nat_lt, if◌then◌else◌, ℤ, int_lt, Option, Some, None, bit_and, bit_or, bit_xor}
+use Rattle.std.specs.Prelude.{ℕ, ◌+◌, ◌-◌, ◌*◌, ◌/◌, ◌%◌, ◌^◌, Bool, not, ◌&&◌, ◌==◌, nat_lt, if◌then◌else◌, ℤ, int_lt, int_div, bit_and, bit_or, bit_xor}
 use Rattle.std.specs.Int.{w64, cast_signed, cast_unsigned, from_bool}
-use Rattle.bril_nums.specs.Arith.{quotient}
 use Rattle.rv64_words.specs.declared.word.Condition.{Condition}
 use Rattle.rv64_words.specs.declared.word.Condition.TheVariants as condition
 use Rattle.rv64_words.specs.declared.word.ImmediateOperation.{ImmediateOperation}
@@ -33,13 +32,17 @@ shifted_right a k = a / 2 ^ k
 abbrev pub shifted_right_signed : ℕ → ℕ → ℕ
 shifted_right_signed a k = if nat_lt a (2 ^ 63) then a / 2 ^ k else (2 ^ 64 - 1) - ((2 ^ 64 - 1) - a) / 2 ^ k
 
--- the quotient that Bril's `div` gives, -1 where there is none
-abbrev pub quotient_word : Option ℤ → ℕ
-quotient_word None = 2 ^ 64 - 1
-quotient_word (Some q) = cast_unsigned w64 q
+-- the quotient of signed numbers, rounded toward zero
+abbrev pub rounded : ℕ → ℕ → ℕ
+rounded a b = cast_unsigned w64 (int_div (cast_signed w64 a) (cast_signed w64 b))
 
+-- DIV, by the table of the manual's chapter on multiplication and division: by zero all bits are set, -2^63 by -1 is -2^63,
+-- and any other quotient is rounded toward zero
 abbrev pub divided : ℕ → ℕ → ℕ
-divided a b = quotient_word (quotient (cast_signed w64 a) (cast_signed w64 b))
+divided a b =
+    if b == 0 then 2 ^ 64 - 1
+    else if a == 2 ^ 63 && b == 2 ^ 64 - 1 then 2 ^ 63
+    else rounded a b
 
 -- the condition holds of a and b
 abbrev pub holds : Condition → ℕ → ℕ → Bool

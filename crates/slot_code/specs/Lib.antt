@@ -1,3 +1,4 @@
+pub mod Flow
 pub mod Laws
 pub mod Lowered
 pub mod Meaning

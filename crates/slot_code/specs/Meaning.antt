@@ -3,8 +3,6 @@ use Rattle.std.specs.Prelude.{ℕ, Bool, true, false, List, [], ◌∷◌, map, 
 use Rattle.simulation.specs.System.{after}
 use Rattle.bril_tree.specs.declared.limits.End.{End}
 use Rattle.bril_tree.specs.declared.limits.Limits.{Limits}
-use Rattle.bril_tree.specs.declared.operation.Op.{Op}
-use Rattle.bril_tree.specs.declared.operation.Op.TheVariants as op
 use Rattle.bril_tree.specs.declared.program.Prog.{Prog}
 use Rattle.bril_tree.specs.declared.value.Value.{Value}
 use Rattle.bril_tree.specs.Memory.{is_live_any, cell_at, allocation_fault}

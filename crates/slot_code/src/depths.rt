@@ -2,6 +2,7 @@
 
 ghost use Rattle.std.specs.Prelude.{◌≡◌, ◌+◌, ◌-◌, ◌<◌, ◌^◌, None, Some, is_some, length, map, option_map, slice_get, IfOk};
 ghost use Rattle.bril_tree.specs.Shape.{shape_fault_of};
+ghost use Rattle.bril_tree.specs.Sites.{AreSitesSound};
 ghost use Rattle.slot_code.specs.Lowered.{AreDepths, open_count};
 
 use bril_tree::numbered_function::Func;
@@ -9,15 +10,14 @@ use bril_tree::sequence::Seq;
 use flow_graph::Graph;
 use std::alloc::{AllocError, Global};
 
-// How many speculations are open at each point of a function of an accepted program, where they nest.
+// How many speculations are open at each point of a function whose open sites fail at no point, as in an accepted program.
 pub fn depths_of(alloc: Global, func: &Func) -> Result<Seq<usize>, AllocError>
     requires shaped { shape_fault_of (is_some func.now.ret) func.now.code ≡ None }
     requires few { length func.now.code < 2 ^ 32 - 1 }
+    requires sound { AreSitesSound func.now.code }
     ensures { IfOk result (λ depths. AreDepths func.now.code depths) }
 {
-    let Ok(graph) = Graph::of(alloc, func) else {
-        return Err(AllocError);
-    };
+    let graph = Graph::of_sound(alloc, func)?;
     depths_in(alloc, &graph, func.code.as_slice().len() + 1)
 }
 

@@ -14,6 +14,8 @@ mod program;
 mod slots;
 
 pub use item::{Printed, Slot, SlotItem};
-pub use laws::{items_use_slots, slots_have_numbers, steps_read_no_program};
+pub use laws::{
+    items_are_instructions, items_use_slots, slots_have_numbers, steps_read_no_program,
+};
 pub use program::lower;
 pub use slots::{SlotFunction, Slots};

@@ -8,7 +8,7 @@ use crate::effects::lower_effect;
 use crate::item::SlotItem;
 use crate::numbers::number_at;
 use bril_tree::operation::Op;
-use bril_tree::operators::{binary_of, unary_of, BinaryOp, UnaryOp};
+use bril_tree::operators::{BinaryOp, UnaryOp, binary_of, unary_of};
 use bril_tree::types::Ty;
 
 // The item of an operation that goes on to the next item, other than calls and output; any other operation passes.

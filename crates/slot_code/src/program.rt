@@ -7,6 +7,7 @@ ghost use Rattle.bril_tree.specs.declared.value.Value.{Value};
 ghost use Rattle.bril_tree.specs.FrameWords.{AreFrameWords};
 ghost use Rattle.bril_tree.specs.Run.{state_after};
 ghost use Rattle.bril_tree.specs.Shape.{shape_fault_of};
+ghost use Rattle.bril_tree.specs.Sites.{AreSitesSound};
 ghost use Rattle.bril_tree.specs.State.{State};
 ghost use Rattle.bril_tree.specs.Step.{step};
 ghost use Rattle.slot_code.specs.Lowered.{IsLowered, IsLoweredFunction};
@@ -52,6 +53,7 @@ fn lower_functions(alloc: Global, checked: &Checked) -> Result<Seq<SlotFunction>
 fn lower_function(alloc: Global, func: &Func, words: u64) -> Result<SlotFunction, AllocError>
     requires shaped { shape_fault_of (is_some func.now.ret) func.now.code ≡ None }
     requires few { length func.now.code < 2 ^ 32 - 1 }
+    requires sound { AreSitesSound func.now.code }
     requires words { AreFrameWords func.now words }
     ensures { IfOk result (IsLoweredFunction func.now) }
 {

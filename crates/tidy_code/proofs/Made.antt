@@ -92,13 +92,6 @@ label-in n (item.Const d ty v ∷ xs) (inr i) = label-in n xs i
 label-in n (item.Act d o args fns ls ∷ xs) (inl e) = absurd cc
 label-in n (item.Act d o args fns ls ∷ xs) (inr i) = label-in n xs i
 
-label-from : (n : List ℕ) (xs : List Item) → In n (labels_of xs) → In (item.Label n) xs
-label-from n [] i = absurd i
-label-from n (item.Label m ∷ xs) (inl e) = inl (ap item.Label e)
-label-from n (item.Label m ∷ xs) (inr i) = inr (label-from n xs i)
-label-from n (item.Const d ty v ∷ xs) i = inr (label-from n xs i)
-label-from n (item.Act d o args fns ls ∷ xs) i = inr (label-from n xs i)
-
 -- labels that differ still differ
 differ-tidied : (code : List Instr) (i : ℕ) (xs ys : List Item) → AreStaying code i xs ys → Differ (labels_of xs) → Differ (labels_of ys) × ((n : List ℕ) → In n (labels_of ys) → In n (labels_of xs))
 differ-tidied code i [] ys t d = (subst (λ l. Differ (labels_of l)) (sym t) d, λ n m. subst (λ l. In n (labels_of l)) t m)

@@ -12,10 +12,9 @@ use Rattle.bril_tree.specs.declared.program.Prog.{Prog}
 use Rattle.bril_tree.specs.Accepted.{IsAccepted}
 use Rattle.bril_tree.specs.Edge.{Branch, branches_at, branches_from, onward}
 use Rattle.program_numbers.specs.Entries.{Enters}
-use Rattle.bril_tree.specs.FrameWords.{IsDepth}
 use Rattle.bril_tree.specs.Leaving.{IsEdge, leave_of}
 use Rattle.bril_tree.specs.Membership.{In}
-use Rattle.bril_tree.specs.Numbered.{named, names_of_functions, tree_at}
+use Rattle.bril_tree.specs.Numbered.{named, tree_at}
 use Rattle.bril_tree.specs.Sites.{sites_of}
 use Rattle.bril_tree.specs.Step.{code_of, item_at, items_of}
 use Rattle.bril_tree.specs.Walk.{IsReached, IsWalk, end_of}
@@ -25,12 +24,11 @@ use Rattle.pass_walks.specs.Matched.{MatchesWalks}
 use Rattle.pass_names.proofs.Points.{found}
 use Rattle.pass_numbers.specs.Numbers.{FunctionWithin, NumbersWithin}
 use Rattle.pass_walks.proofs.Accepting.{matched}
-use Rattle.pass_numbers.proofs.Arguments.{no-longer-arguments}
-use Rattle.pass_numbers.proofs.Depths.{depth-within}
-use Rattle.pass_numbers.proofs.Edges.{edge-back, edge-leaves, items-back, label-back, lands}
-use Rattle.pass_numbers.proofs.Entering.{EntryMatched, LeaveMatched, fewer-entries, width-within}
-use Rattle.pass_numbers.proofs.Locations.{IsOfItems}
-use Rattle.pass_numbers.proofs.Programs.{accepted-locations, functions_bound, by-functions}
+use Rattle.pass_numbers.proofs.Edges.{edge-back, edge-leaves, label-back, lands}
+use Rattle.pass_numbers.proofs.Entering.{EntryMatched, LeaveMatched, fewer-entries, point_before, point_before-one, width-within}
+use Rattle.pass_numbers.proofs.Existing.{one_label}
+use Rattle.pass_numbers.proofs.Items.{IsOfItems, items-back, unchanged}
+use Rattle.pass_numbers.proofs.Programs.{by-functions, function-within, functions_bound}
 use Rattle.tidy_code.specs.Tidied.{IsTidied}
 use Rattle.tidy_code.proofs.Accepted.{old-item, tidied-accepted}
 use Rattle.tidy_code.proofs.Kept.{count-dropped, count-kept}
@@ -39,22 +37,9 @@ use Rattle.tidy_code.proofs.Points.{kept_count, Tidied}
 use Rattle.tidy_code.proofs.Refines.{keeps, kept_label, nop-goes_on, preserves, tidy_plan, tidying}
 use Rattle.tidy_code.proofs.Walks.{drawn, matched_walks, nth-count, nth_kept}
 
--- the leave point before a point
-abbrev before : ℕ → Option ℕ
-before zero = None
-before (suc n) = Some n
-
-before-one : (n q : ℕ) → Some q ≡ before n → n ≡ suc q
-before-one zero q e = absurd (let h : Some q ≡ None = e in cc)
-before-one (suc n) q e = ap suc (sym (same_Some q n e))
-
 -- one label more
 abbrev one_more : List (Option ℕ)
 one_more = None ∷ []
-
--- a label is one
-one-label : (o : Option Instr) (l k : ℕ) → o ≡ Some (Label l) → o ≡ Some (Label k) → l ≡ k
-one-label o l k a b = let s : Label l ≡ Label k = same_Some _ _ (sym a ∙ b) in cc
 
 module _ (P Q : Prog) (keep : ℕ → ℕ → Bool) (accepted : IsAccepted P) (accepted_q : IsAccepted Q) (t : Tidied P keep Q) (f : ℕ) (F G : Func) (p : slice_get P.funcs f ≡ Some F) (q : slice_get Q.funcs f ≡ Some G) where
   abbrev count : ℕ → ℕ
@@ -135,7 +120,7 @@ module _ (P Q : Prog) (keep : ℕ → ℕ → Bool) (accepted : IsAccepted P) (a
   -- the leave point of P for one of Q, from which the label is entered
   abbrev Leaves : Option ℕ → ℕ → Option ℕ → Type 0
   Leaves leave label None = leave ≡ None
-  Leaves leave label (Some i) = ((keep f i ≡ true) × (leave ≡ Some (count i))) ⊎ ((keep f i ≡ false) × (leave ≡ before (count i)) × (slice_get G.code (count i) ≡ Some (Label label)))
+  Leaves leave label (Some i) = ((keep f i ≡ true) × (leave ≡ Some (count i))) ⊎ ((keep f i ≡ false) × (leave ≡ point_before (count i)) × (slice_get G.code (count i) ≡ Some (Label label)))
 
   one-leave : (a c b : Option ℕ) (l k : ℕ) → Leaves a l b → Leaves c k b → a ≡ c
   one-leave a c None l k r s = r ∙ sym s
@@ -148,7 +133,7 @@ module _ (P Q : Prog) (keep : ℕ → ℕ → Bool) (accepted : IsAccepted P) (a
   label-there a r l at = label-back P Q f F G p q r.point (count r.point) l (same-item r.point r.reached r.stays) (ap (slice_get G.code) r.same ∙ at)
 
   -- from a dropped item on
-  through : (a : ℕ) (r : Arrives a) (leave : Option ℕ) (l : ℕ) → slice_get G.code (count a) ≡ Some (Label l) → leave ≡ before (count a) → (i : ℕ) → Dropped i → r.point ≡ suc i → count i ≡ count a → EntryMatched F G Leaves leave l
+  through : (a : ℕ) (r : Arrives a) (leave : Option ℕ) (l : ℕ) → slice_get G.code (count a) ≡ Some (Label l) → leave ≡ point_before (count a) → (i : ℕ) → Dropped i → r.point ≡ suc i → count i ≡ count a → EntryMatched F G Leaves leave l
   through a r leave l at is i d next same =
       let m = label-there a r l at in
       let edge : Edge = record { from = i; leave = i; to = suc i } in
@@ -157,7 +142,7 @@ module _ (P Q : Prog) (keep : ℕ → ℕ → Bool) (accepted : IsAccepted P) (a
         from = Some i;
         to = m.0;
         enters = (edge, subst (λ c. IsEdge c edge) here is_edge, refl, ap (slice_get F.code) (sym next) ∙ m.1);
-        leaves = inr (d.falls, is ∙ ap before (sym same), ap (slice_get G.code) same ∙ at);
+        leaves = inr (d.falls, is ∙ ap point_before (sym same), ap (slice_get G.code) same ∙ at);
         same = m.2;
       }
 
@@ -204,7 +189,7 @@ module _ (P Q : Prog) (keep : ℕ → ℕ → Bool) (accepted : IsAccepted P) (a
               on e =
                   let from : edge.leave ≡ end_of is.walk = ap (λ (d : Edge). d.leave) is.are ∙ ap (λ (b : Branch). leave_of b.aborts b.from (sites_of (code_of P f) is.walk)) e in
                   let next_count : count is.branch.to ≡ suc leave = ap (λ (b : Branch). count b.to) e ∙ ap (λ n. count (suc n)) (sym from) ∙ count-kept (keep f) 0 edge.leave (let z : 0 + edge.leave ≡ edge.leave = omega arith in ap (keep f) z ∙ kept) ∙ ap suc (sym leaves) in
-                  through is.branch.to r (Some leave) l at_branch (sym (ap before next_count)) i d next same
+                  through is.branch.to r (Some leave) l at_branch (sym (ap point_before next_count)) i d next same
 
               label : (k : ℕ) × (slice_get F.code is.branch.to ≡ Some (Label k)) → EntryMatched F G Leaves (Some leave) l
               label k =
@@ -228,13 +213,13 @@ module _ (P Q : Prog) (keep : ℕ → ℕ → Bool) (accepted : IsAccepted P) (a
   leave-matched None = record {
     from = None;
     IsExtra = λ l. slice_get G.code 0 ≡ Some (Label l);
-    one = λ l k r s. one-label (slice_get G.code 0) l k r s;
+    one = λ l k r s. one_label (slice_get G.code 0) l k r s;
     labels = λ l h. inl (h, inl refl);
   }
   leave-matched (Some point) = record {
     from = Some place;
     IsExtra = λ l. slice_get G.code (suc point) ≡ Some (Label l);
-    one = λ l k r s. one-label (slice_get G.code (suc point)) l k r s;
+    one = λ l k r s. one_label (slice_get G.code (suc point)) l k r s;
     labels = λ l h. by l (entry (Some point) l h);
   }
     where
@@ -246,7 +231,7 @@ module _ (P Q : Prog) (keep : ℕ → ℕ → Bool) (accepted : IsAccepted P) (a
         where
           from : (o : Option ℕ) → Enters F.code o e.to → Leaves (Some point) l o → ((slice_get G.code (suc point) ≡ Some (Label l)) × In None one_more) ⊎ ((m : ℕ) × Enters F.code (Some place) m × (named F.labels m ≡ named G.labels l))
           from None enters leaves = absurd (let n : Some point ≡ None = leaves in cc)
-          from (Some i) enters (inr r) = inl (ap (slice_get G.code) (sym (before-one (count i) point r.1)) ∙ r.2, inl refl)
+          from (Some i) enters (inr r) = inl (ap (slice_get G.code) (sym (point_before-one (count i) point r.1)) ∙ r.2, inl refl)
           from (Some i) enters (inl r) =
               let s = edge-leaves F.code enters.0 enters.1 in
               let low : i < length (code_of P f) = subst (λ n. n < length (code_of P f)) enters.2 (subst (λ c. enters.0.leave < length c) (sym here) (slice_get_within F.code enters.0.leave s.0 s.1)) in
@@ -256,19 +241,13 @@ module _ (P Q : Prog) (keep : ℕ → ℕ → Bool) (accepted : IsAccepted P) (a
 
   -- ---- the numbers of a function
 
-  of_items : IsOfItems (names_of_functions P.funcs) (names_of_functions Q.funcs) F G
+  of_items : IsOfItems unchanged [] F G
   of_items =
       items-back P Q f F G p q (t.heads.args f F G p q)
       (λ j b at. let o = old-item P Q keep accepted t f F G p q j b (ap (λ c. slice_get c j) there ∙ at) in inr (o.i, sym o.tree))
 
   function_within : FunctionWithin 1 F G
-  function_within = record {
-    locations = accepted-locations Q accepted_q f (names_of_functions P.funcs) (names_of_functions Q.funcs) F G q of_items;
-    arguments = no-longer-arguments (names_of_functions P.funcs) (names_of_functions Q.funcs) F G of_items;
-    depth = λ d e a b. depth-within (tidy_plan P Q keep t) P Q f F.args G.args walks d e (subst (λ c. IsDepth c d) (sym here) a) (subst (λ c. IsDepth c e) (sym there) b);
-    entries = fewer-entries F G Leaves entry one-leave;
-    width = width-within F G one_more leave-matched;
-  }
+  function_within = function-within (tidy_plan P Q keep t) unchanged P Q accepted_q f F G p q walks of_items 1 (fewer-entries F G Leaves entry one-leave) (width-within F G one_more leave-matched)
 
 pub keeps_numbers : (P Q : Prog) → IsAccepted P → IsTidied P Q → NumbersWithin P Q 1
 keeps_numbers P Q accepted makes =

@@ -16,7 +16,7 @@ use bril_tree::operation::Op;
 use bril_tree::program::Prog;
 use bril_tree::sequence::Seq;
 use bril_tree::tree::Tree;
-use flow_graph::{Graph, GraphFault};
+use flow_graph::Graph;
 use std::alloc::{AllocError, Global};
 
 // The program's tree with what stays of each function.
@@ -44,11 +44,7 @@ fn tidied_function(alloc: Global, func: &Func, function: FuncTree) -> Result<Fun
     requires tree { length function.code ≡ length func.now.code }
     ensures { IfOk result (λ made. IsTidiedFunction func.now.code function made) }
 {
-    let graph = match Graph::of(alloc, func) {
-        Ok(graph) => graph,
-        Err(GraphFault::Memory) => return Err(AllocError),
-        Err(GraphFault::Nest { .. }) => unreachable!(),
-    };
+    let graph = Graph::of_sound(alloc, func)?;
     let mut code = Seq::new(alloc);
     let mut point = 0;
     for item in function.code.into_items() {

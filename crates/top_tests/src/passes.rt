@@ -13,14 +13,14 @@ use bril_profile::Profile;
 use bril_text::read_text;
 use bril_tree::sequence::Seq;
 use bril_tree::text::Text;
-use pass_accept::edit_accepted;
+use pass_accept::{edit_accepted, result_is_accepted};
 use pass_law::{ListFault, Pass, PassFault, Tally, chains_refine, room, run_list};
 use pass_names::{PlannedByNames, Renamed, names_preserve, renaming_preserves};
 use pass_pad::Pad;
-use pass_plan::{Planned, Widened, widening_preserves};
-use pass_splice::items_are_spliced;
+use pass_plan::{
+    Narrowed, Planned, Widened, items_are_spliced, narrowing_preserves, widening_preserves,
+};
 use pass_steps::plan_refines;
-use pass_types::result_is_accepted;
 use pass_walks::walks_are_accepted;
 use std::alloc::{AllocError, Global};
 use std::test::Fail;
@@ -37,6 +37,14 @@ impl Planned for Lacking {
 
 impl Widened for Lacking {
     ghost more = { λ P Q f i j a b. ⊥ };
+}
+
+impl Narrowed for Lacking {
+    ghost visited = { λ P Q f i. Unit {0} };
+
+    ghost regular = { λ P Q f i j. Unit {0} };
+
+    ghost known = { λ P Q f i a v. ⊥ };
 }
 
 impl PlannedByNames for Lacking {
@@ -76,6 +84,7 @@ impl Pass for Lacking {
 #[test]
 fn each_law_is_called_at_a_pass() {
     widening_preserves::<Lacking>();
+    narrowing_preserves::<Lacking>();
     names_preserve::<Lacking>();
     renaming_preserves::<Lacking>();
     plan_refines::<Lacking>();

@@ -1,4 +1,4 @@
-//! A run of an accepted program meets nothing that has no meaning.
+//! Laws alone: a run of an accepted program meets nothing that has no meaning.
 //!
 //! The semantics of a program is total: a location that holds nothing reads as the int 0, a value of a wrong type
 //! as the zero of the type that an operation wants, and an abort where nothing was saved puts nothing back. A program

@@ -8,7 +8,7 @@ invariant-loop-point l = record {
   inside : l.point ≤ length l.func.code;
   sound : IsSound l.func.code l.sweep.dead.items;
   none : NoneIdle l.func.code l.sweep.dead.items;
-  swept : IsSwept (remaining l.func.code l.sweep.dead.items) l.point l.sweep.reads.items l.sweep.assigns.items l.sweep.branch l.sweep.end;
+  swept : IsSwept l.func.code (remaining l.func.code l.sweep.dead.items) l.point l.sweep.reads.items l.sweep.assigns.items l.sweep.branch l.sweep.end;
 }
 
 abbrev pub decreases-loop-point : goal.decreases-loop-point

@@ -1,4 +1,4 @@
-use Rattle.std.proofs.Common.{rules, ◌≡◌, ◌+◌, length, ap, sym, subst, ◌∙◌}
+use Rattle.std.proofs.Common.{rules, ◌+◌, length, ap, subst}
 use Rattle.bril_tree.specs.Size.{item_count}
 use Rattle.bril_tree.specs.declared.program.Prog.{Prog}
 use Rattle.pass_law.specs.Bounds.{IsTooLarge}

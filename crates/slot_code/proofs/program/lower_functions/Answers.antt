@@ -15,6 +15,15 @@ lower_function-requires-clause-shaped c =
     let found = function_at p.funcs c.as_slice-func-items.result.now same c.loop-number.number f c.loop-number-test.true c.func-item.is in
     shaped_function p f (accepted_function p c.loop-number.number f accepted found)
 
+pub lower_function-requires-clause-sound : goal.lower_function-requires-clause-sound
+lower_function-requires-clause-sound c =
+    let p = c.args.checked.now.prog in
+    let f = c.func-item.result in
+    let accepted : IsAccepted p = subst IsAccepted c.prog.ensures.value c.prog.ensures.accepted in
+    let same = c.as_slice-func-items.ensures ∙ ap (λ q. q.funcs) c.prog.ensures.value in
+    let found = function_at p.funcs c.as_slice-func-items.result.now same c.loop-number.number f c.loop-number-test.true c.func-item.is in
+    (accepted_function p c.loop-number.number f accepted found).sites
+
 pub lower_function-requires-clause-words : goal.lower_function-requires-clause-words
 lower_function-requires-clause-words c =
     let p = c.args.checked.now.prog in

@@ -1,9 +1,5 @@
-use Rattle.flow_graph.proofs.Told.{no_nest}
 use Rattle.tidy_code.proofs.Turns.{loop-more}
 use Rattle.tidy_code.proofs.edit.tidied_function.Goals as goal
-
-pub unreachable-requires : goal.unreachable-requires
-unreachable-requires c = no_nest c.args.func.now.code c.in-Err-Nest.field-0 c.in-Err-Nest.field-0-0 c.requires.sound c.in-Err-Nest.field-0-is c.in-Err-Nest.ensures.fault
 
 pub loop-item-preserved : goal.loop-item-preserved
 loop-item-preserved c =

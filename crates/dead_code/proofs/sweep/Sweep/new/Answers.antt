@@ -2,7 +2,7 @@ use Rattle.std.proofs.Common.{length, subst, sym, arith}
 use Rattle.bril_tree.specs.Numbered.{nop}
 use Rattle.dead_code.specs.Sweep.{IsSwept}
 use Rattle.dead_code.specs.Work.{remaining}
-use Rattle.dead_code.proofs.Marks.{length-with_nops}
+use Rattle.pass_plan.proofs.Marked.{length-with_nops}
 use Rattle.dead_code.proofs.Sweeping.{all-swept}
 use Rattle.dead_code.proofs.sweep.Sweep.new.Goals as goal
 
@@ -13,6 +13,6 @@ returns-clause-swept c =
     let size = length-with_nops nop c.args.dead.items code in
     let reads = c.in_ok-reads.reads.items in
     let assigns = c.in_ok-assigns.assigns.items in
-    subst (λ l. IsSwept made (length code) reads assigns 4294967295 (length l)) (sym c.as_slice.ensures)
-    (subst (λ n. IsSwept made n reads assigns 4294967295 n) size
-    (all-swept made c.args.count 4294967295 reads assigns (omega (arith, size, c.requires.few)) (c.in_ok-reads.ensures.items_if_clones_equal (λ y e. e)) (c.in_ok-assigns.ensures.items_if_clones_equal (λ y e. e))))
+    subst (λ l. IsSwept code made (length code) reads assigns 4294967295 (length l)) (sym c.as_slice.ensures)
+    (subst (λ n. IsSwept code made n reads assigns 4294967295 n) size
+    (all-swept code made c.args.count 4294967295 reads assigns (omega (arith, size, c.requires.few)) (c.in_ok-reads.ensures.items_if_clones_equal (λ y e. e)) (c.in_ok-assigns.ensures.items_if_clones_equal (λ y e. e))))

@@ -1,5 +1,5 @@
 use Rattle.std.proofs.Common.{◌≡◌, map, take}
-use Rattle.live_sets.specs.declared.accesses.Access.{Access}
+use Rattle.flow_graph.specs.declared.reads.Access.{Access}
 use Rattle.dead_code.specs.Sweep.{AreNoted}
 use Rattle.dead_code.proofs.sweep.Sweep.note_reads.Given as goal
 

@@ -1,6 +1,6 @@
 use Rattle.std.proofs.Common.{sym, subst}
 use Rattle.std.specs.List.{All}
-use Rattle.live_sets.specs.Reads.{Accesses}
+use Rattle.flow_graph.specs.Accesses.{Accesses}
 use Rattle.dead_code.specs.Work.{IsLookedAt, assignments_from}
 use Rattle.dead_code.proofs.Looking.{items-assign, looked-at}
 use Rattle.dead_code.proofs.work.Work.look_at.Goals as goal

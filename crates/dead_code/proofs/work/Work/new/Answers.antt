@@ -1,4 +1,4 @@
-use Rattle.definite_assignment.specs.Location.{number_of}
+use Rattle.flow_graph.specs.Location.{number_of}
 use Rattle.dead_code.proofs.Queueing.{all-are-queued, none-off}
 use Rattle.dead_code.proofs.work.Work.new.Goals as goal
 

@@ -37,8 +37,8 @@ loop-end-preserved g c =
     let short = inv.within in
     record {
       nodes = c.in_ok-cross.ensures.nodes ∙ inv.nodes;
-      visited = Goes-more arcs (g.G.Gate.opens c.args.gate.now) c.args.node c.loop-end.end place c.before-end.result inv.bound c.index.result.now c.args.self.now.found c.loop-end.self.found c.cross.new.self.found
-          here inv.within there inv.row rest inv.visited c.in_ok-cross.ensures.found;
+      visited = Goes-more arcs (g.G.Gate.opens c.args.gate.now) c.args.node c.loop-end.end place c.before-end.result inv.bound c.index.result.now here inv.within there inv.row rest
+          c.args.self.now.found c.loop-end.self.found c.cross.new.self.found inv.visited c.in_ok-cross.ensures.found;
       bound = place;
       within = omega arith;
       row = rest;

@@ -1,0 +1,132 @@
+-- Each item leads to related states again.
+use Rattle.std.proofs.Common.{◌≡◌, ℕ, ◌+◌, ◌*◌, ◌≤◌, List, [], ◌∷◌, ◌++◌, length, map, Option, Some, None, refl, sym, ap, ◌∙◌, arith}
+use Rattle.std.specs.Prelude.{All, slice_get}
+use Rattle.std.specs.List.{AllByRecursion}
+use Rattle.std.specs.Option.{option_map}
+use Rattle.std.proofs.lemmas.List.Elements.{recursion_from_All}
+use Rattle.simulation.specs.Simulation.{Star}
+use Rattle.simulation.specs.System.{Agree}
+use Rattle.bril_tree.specs.declared.limits.End.{End}
+use Rattle.program_numbers.specs.Cost.{longest_arguments}
+use Rattle.bril_tree.specs.FunctionForm.{listed}
+use Rattle.bril_tree.specs.State as bril
+use Rattle.bril_tree.proofs.Elements.{All-at}
+use Rattle.rv64_implements.specs.Implements.{image_system, program_system}
+use Rattle.rv64_words.specs.State.{State, Finished}
+use Rattle.slot_code.specs.declared.item.Printed.{Printed}
+use Rattle.slot_code.specs.declared.item.Slot.TheVariants.{Variable}
+use Rattle.slot_code.specs.declared.item.SlotItem.{SlotItem}
+use Rattle.slot_code.specs.declared.item.SlotItem.TheVariants.{Pass, Constant, Copy, Unary, Binary, Jump, Branch, Call, Return, Print, Alloc, Free, Store, Load, Speculate, Commit, Guard}
+use Rattle.slot_code.specs.declared.slots.SlotFunction.{SlotFunction}
+use Rattle.slot_code.specs.Laws.{IsSlotOf, slots_used}
+use Rattle.rv64_emit_laws.proofs.Allocating.{alloc_moves}
+use Rattle.rv64_emit_laws.proofs.Arriving.{Moves, distance}
+use Rattle.rv64_emit_laws.proofs.Calling.{call_moves}
+use Rattle.rv64_emit_laws.proofs.Filling.{binary_moves, constant_moves, copy_moves, unary_moves}
+use Rattle.rv64_emit_laws.proofs.Freeing.{free_moves}
+use Rattle.rv64_emit_laws.proofs.Guarding.{guard_moves}
+use Rattle.rv64_emit_laws.proofs.Jumping.{branch_moves, jump_moves, pass_moves}
+use Rattle.rv64_emit_laws.proofs.Loading.{load_moves}
+use Rattle.rv64_emit_laws.proofs.Printing.{print_moves}
+use Rattle.rv64_emit_laws.proofs.Ready.{Finds}
+use Rattle.rv64_emit_laws.proofs.Relation.{RunsAlike, Related, run, over}
+use Rattle.rv64_emit_laws.proofs.Returning.{end_moves, return_moves}
+use Rattle.rv64_emit_laws.proofs.Setting.{Setting}
+use Rattle.rv64_emit_laws.proofs.Speculating.{commit_moves, speculate_moves}
+use Rattle.rv64_emit_laws.proofs.Points.{ListFits, FrameAt, AtItem, AtEnd, frame_at, well_typed}
+use Rattle.rv64_emit_laws.proofs.Storing.{store_moves}
+
+-- ---- slots of lists
+
+module _ (g : SlotFunction) where
+  slots_of : (xs : List ℕ) → AllByRecursion (IsSlotOf g) (map Variable xs) → AllByRecursion (λ x. IsSlotOf g (Variable x)) xs
+  slots_of [] h = tt
+  slots_of (x ∷ xs) h = (h.0, slots_of xs h.1)
+
+  args_used : (dest : Option ℕ) (args : List ℕ) → AllByRecursion (IsSlotOf g) (map Variable (listed dest ++ args)) → AllByRecursion (λ x. IsSlotOf g (Variable x)) args
+  args_used None args h = slots_of args h
+  args_used (Some x) args h = slots_of args h.1
+
+  printed_used : (args : List Printed) → AllByRecursion (IsSlotOf g) (map (λ a. Variable a.variable) args) → AllByRecursion (λ a. IsSlotOf g (Variable a.variable)) args
+  printed_used [] h = tt
+  printed_used (a ∷ args) h = (h.0, printed_used args h.1)
+
+module _ (S : Setting) where
+  dear : 128 ≤ S.cost
+  dear = let e = S.is_cost.is in omega arith
+
+  listed_dear : (n : ℕ) → n ≤ longest_arguments S.p → 128 + 8 * n ≤ S.cost
+  listed_dear n h = let e = S.is_cost.is in omega arith
+
+  module _ (s : bril.State) (t : State) (r : RunsAlike S s t) where
+    abbrev IsHere : SlotItem → Type 0
+    IsHere item = slice_get r.holds.function.code r.frame.point ≡ Some item
+
+    abbrev Uses : SlotItem → Type 0
+    Uses item = All (IsSlotOf r.holds.function) (slots_used item)
+
+    item_moves : (item : SlotItem) → IsHere item → Finds S.p S.slots r.frame item → Uses item → ListFits (longest_arguments S.p) item → Moves S s t
+    item_moves Pass here finds used fits = pass_moves S s t r here
+    item_moves (Constant dest value) here finds used fits = constant_moves S s t r dear dest value here finds.0 finds.1 (All-at (IsSlotOf r.holds.function) (slots_used (Constant dest value)) 0 (Variable dest) used refl)
+    item_moves (Copy dest from) here finds used fits =
+        copy_moves S s t r dear dest from here finds (All-at (IsSlotOf r.holds.function) (slots_used (Copy dest from)) 0 dest used refl) (All-at (IsSlotOf r.holds.function) (slots_used (Copy dest from)) 1 from used refl)
+    item_moves (Unary operation dest operand) here finds used fits =
+        let all = slots_used (Unary operation dest operand) in
+        unary_moves S s t r dear operation dest operand here finds (All-at (IsSlotOf r.holds.function) all 0 (Variable dest) used refl) (All-at (IsSlotOf r.holds.function) all 1 (Variable operand) used refl)
+    item_moves (Binary operation dest first second) here finds used fits =
+        let all = slots_used (Binary operation dest first second) in
+        binary_moves S s t r dear operation dest first second here finds (All-at (IsSlotOf r.holds.function) all 0 (Variable dest) used refl) (All-at (IsSlotOf r.holds.function) all 1 (Variable first) used refl)
+        (All-at (IsSlotOf r.holds.function) all 2 (Variable second) used refl)
+    item_moves (Jump to) here finds used fits = jump_moves S s t r to here dear
+    item_moves (Branch condition then_to else_to) here finds used fits =
+        branch_moves S s t r condition then_to else_to here finds (All-at (IsSlotOf r.holds.function) (slots_used (Branch condition then_to else_to)) 0 (Variable condition) used refl) dear
+    item_moves (Call dest function args) here finds used fits =
+        call_moves S s t r dest function args here (listed_dear (length args) fits) finds (args_used r.holds.function dest args (recursion_from_All (IsSlotOf r.holds.function) (slots_used (Call dest function args)) used))
+    item_moves (Return value) here finds used fits =
+        return_moves S s t r dear value here finds (λ x e. All-at (IsSlotOf r.holds.function) (slots_used (Return value)) 0 (Variable x) used (ap (λ v. slice_get (slots_used (Return v)) 0) e))
+    item_moves (Print args) here finds used fits =
+        print_moves S s t r args here finds (printed_used r.holds.function args (recursion_from_All (IsSlotOf r.holds.function) (slots_used (Print args)) used)) (listed_dear (length args) fits)
+    item_moves (Alloc dest count) here finds used fits =
+        let all = slots_used (Alloc dest count) in
+        alloc_moves S s t r dear dest count here finds (All-at (IsSlotOf r.holds.function) all 0 (Variable dest) used refl) (All-at (IsSlotOf r.holds.function) all 1 (Variable count) used refl)
+    item_moves (Free pointer) here finds used fits =
+        let all = slots_used (Free pointer) in
+        free_moves S s t r dear pointer here finds (All-at (IsSlotOf r.holds.function) all 0 (Variable pointer) used refl)
+    item_moves (Store pointer value) here finds used fits =
+        let all = slots_used (Store pointer value) in
+        store_moves S s t r dear pointer value here finds.0 finds.1 (All-at (IsSlotOf r.holds.function) all 0 (Variable pointer) used refl) (All-at (IsSlotOf r.holds.function) all 1 (Variable value) used refl)
+    item_moves (Load dest pointer) here finds used fits =
+        let all = slots_used (Load dest pointer) in
+        load_moves S s t r dear dest pointer here finds (All-at (IsSlotOf r.holds.function) all 0 (Variable dest) used refl) (All-at (IsSlotOf r.holds.function) all 1 (Variable pointer) used refl)
+    item_moves Speculate here finds used fits = speculate_moves S s t r here
+    item_moves Commit here finds used fits = commit_moves S s t r here finds dear
+    item_moves (Guard condition abort_to) here finds used fits =
+        guard_moves S s t r condition abort_to here finds.0 finds.1 (All-at (IsSlotOf r.holds.function) (slots_used (Guard condition abort_to)) 0 (Variable condition) used refl)
+
+    run_moves : FrameAt S r.frame r.holds.function → Moves S s t
+    run_moves (AtItem item here finds used fits) = item_moves item here finds used fits
+    run_moves (AtEnd none gives) = end_moves S s t r dear none gives
+
+  related_moves : (s : bril.State) (t : State) → Related S s t → s.ended ≡ None → Moves S s t
+  related_moves s t (run r) none =
+      let w = well_typed S r.steps r.frame r.older (ap (λ x. x.frames) (sym r.is) ∙ r.frames) in
+      run_moves s t r (frame_at S r.frame r.holds.function r.holds.there w)
+  related_moves s t (over r) none = absurd (never r.how (sym r.ended ∙ none))
+    where
+      never : (how : End) → Some how ≡ None → ⊥
+      never how e = cc
+
+  pub related_agree : (s : bril.State) (t : State) → Related S s t → Agree (program_system S.p S.limits) (image_system S.image S.limits) s t
+  related_agree s t (run r) = (ap (option_map Finished) r.running ∙ sym (ap (λ x. x.stopped) r.state), r.printed ∙ sym (ap (λ x. x.printed) r.state))
+  related_agree s t (over r) = (ap (option_map Finished) r.ended ∙ sym r.stopped, r.printed)
+
+  map_none : (o : Option End) → option_map Finished o ≡ None → o ≡ None
+  map_none None e = refl
+  map_none (Some x) e = cc
+
+  -- each step of the program is so many words, or none, and then the newest frame comes nearer to its end
+  pub simulation : Star (program_system S.p S.limits) (image_system S.image S.limits) S.cost (distance S) (Related S)
+  simulation = record {
+    agrees = related_agree;
+    moves = λ s t r e. related_moves s t r (map_none s.ended e);
+  }

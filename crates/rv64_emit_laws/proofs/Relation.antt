@@ -1,0 +1,106 @@
+-- The relation between the states of a program and those of the machine that runs its image.
+use Rattle.std.proofs.Common.{◌≡◌, ℕ, suc, ◌+◌, ◌*◌, ◌≤◌, true, List, [], ◌∷◌, length, Option, Some, None}
+use Rattle.std.specs.Prelude.{slice_get}
+use Rattle.bril_tree.specs.declared.limits.End.{End}
+use Rattle.bril_tree.specs.declared.value.Value.{Value}
+use Rattle.bril_tree.specs.Run.{state_after}
+use Rattle.bril_tree.specs.State as bril
+pub use Rattle.rv64_blocks.specs.Memory.{HasWord, BlockHolds, LiesIn, MemoryHolds}
+use Rattle.rv64_layout.specs.Image.{end_start, entry_at}
+use Rattle.rv64_layout.specs.Items.{level_word, return_word}
+use Rattle.rv64_stretches.specs.Core.{Core, machine}
+use Rattle.rv64_words.specs.declared.image.GuardAt.{GuardAt}
+use Rattle.rv64_words.specs.Region.{stack_base}
+use Rattle.rv64_words.specs.State.{State, Finished}
+use Rattle.slot_code.specs.declared.item.Slot.{Slot}
+use Rattle.slot_code.specs.declared.item.SlotItem.TheVariants.{Call}
+use Rattle.slot_code.specs.declared.slots.SlotFunction.{SlotFunction}
+use Rattle.slot_code.specs.Laws.{IsSlotOf}
+use Rattle.slot_code.specs.Numbering.{slot_number}
+use Rattle.rv64_emit_laws.proofs.Ready.{gives_back, slot_value}
+use Rattle.rv64_emit_laws.proofs.Setting.{Setting, sizes, widest}
+
+-- Each slot of the function that holds a value has its word: slot j the one `first + j` words above the frame's base. The slots
+-- as they are begin at word 2.
+pub record SlotsHold (made : ℕ) (g : SlotFunction) (base first : ℕ) (locations : bril.Locals) (stack : ℕ → ℕ) : Type 0 where
+  pub at : (slot : Slot) (v : Value) → IsSlotOf g slot → slot_value locations slot ≡ Some v → HasWord made v (stack (base + (first + slot_number g.shadow_numbers slot)))
+
+-- each open speculation has the words of the slots as they were: the newest of l at level l
+abbrev pub SavesHold : ℕ → SlotFunction → ℕ → List bril.Locals → (ℕ → ℕ) → Type 0
+SavesHold made g base [] stack = Unit {0}
+SavesHold made g base (save ∷ older) stack = SlotsHold made g base (level_word g (suc (length older))) save stack × SavesHold made g base older stack
+
+-- ---- frames
+
+-- A frame waits at a call of the function `above`, whose frame is at word `base` of the stack: its own ends there, and the
+-- first two words from there on are the way back and its own base. So many frames are older.
+pub record Waits (S : Setting) (made above base depth : ℕ) (f : bril.Frame) (stack : ℕ → ℕ) : Type 0 where
+  pub function : SlotFunction
+  pub there : slice_get S.slots.funcs f.function ≡ Some function
+  pub dest : Option ℕ
+  pub args : List ℕ
+  pub here : slice_get function.code f.point ≡ Some (Call dest above args)
+  pub takes : (x : ℕ) → dest ≡ Some x → gives_back S.p above ≡ true
+  pub alone : f.saves ≡ []
+  pub below : ℕ
+  pub ends : below + function.words ≡ base
+  pub deep : below ≤ depth * widest S
+  pub way : stack base ≡ 4 * return_word function (entry_at S.slots f.function f.point) args
+  pub old : stack (base + 1) ≡ stack_base + 8 * below
+  pub slots : SlotsHold made function below 2 f.locations stack
+
+-- the frames that wait for one of the function `above` at word `base`; the program ends where the first one returns
+abbrev pub OlderHold : Setting → ℕ → ℕ → ℕ → List bril.Frame → (ℕ → ℕ) → Type 0
+OlderHold S made above base [] stack = stack base ≡ 4 * end_start
+OlderHold S made above base (f ∷ older) stack =
+    (w : Waits S made above base (length older) f stack) × OlderHold S made f.function w.below older stack
+
+-- the machine holds the frames
+pub record FramesHold (S : Setting) (made : ℕ) (f : bril.Frame) (older : List bril.Frame) (c : Core) : Type 0 where
+  pub function : SlotFunction
+  pub there : slice_get S.slots.funcs f.function ≡ Some function
+  pub base : ℕ
+  pub at : c.registers 2 ≡ stack_base + 8 * base
+  pub zero_is : c.registers 0 ≡ 0
+  pub left : c.registers 8 + suc (length older) ≡ S.limits.frames
+  pub deep : base ≤ length older * widest S
+  pub slots : SlotsHold made function base 2 f.locations c.stack
+  pub saves : SavesHold made function base f.saves c.stack
+  pub older_hold : OlderHold S made f.function base older c.stack
+
+-- ---- guards
+
+-- the arrivals at each guard's word are the guard's failures
+abbrev pub GuardsHold : List GuardAt → (ℕ → ℕ → ℕ) → (ℕ → ℕ) → Type 0
+GuardsHold guards failures arrivals = (g : ℕ) (guard : GuardAt) → slice_get guards g ≡ Some guard → arrivals guard.word ≡ failures guard.func guard.item
+
+-- ---- states
+
+module _ (S : Setting) where
+  -- Both run: the machine is before the words of the newest frame's item, and holds the frames and the blocks.
+  pub record RunsAlike (s : bril.State) (t : State) : Type 0 where
+    pub steps : ℕ
+    pub is : s ≡ state_after S.p S.limits S.args steps
+    pub frame : bril.Frame
+    pub older : List bril.Frame
+    pub frames : s.frames ≡ frame ∷ older
+    pub running : s.ended ≡ None
+    pub core : Core
+    pub done : ℕ
+    pub state : t ≡ machine (entry_at S.slots frame.function frame.point) core done
+    pub holds : FramesHold S (length s.blocks) frame older core
+    pub memory : MemoryHolds (sizes S) s.blocks core.table core.cells core.blocks core.given
+    pub guards : GuardsHold S.image.guards s.failures core.arrivals
+    pub printed : s.printed ≡ core.printed
+
+  -- both have ended, and alike
+  pub record EndedAlike (s : bril.State) (t : State) : Type 0 where
+    pub how : End
+    pub ended : s.ended ≡ Some how
+    pub stopped : t.stopped ≡ Some (Finished how)
+    pub guards : GuardsHold S.image.guards s.failures t.arrivals
+    pub printed : s.printed ≡ t.printed
+
+  pub data Related : bril.State → State → Type 0 where
+    run : {s : bril.State} {t : State} → RunsAlike s t → Related s t
+    over : {s : bril.State} {t : State} → EndedAlike s t → Related s t

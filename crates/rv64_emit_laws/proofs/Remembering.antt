@@ -1,0 +1,110 @@
+-- What the machine holds of the frames when memory changes.
+use Rattle.std.proofs.Common.{◌≡◌, ◌≢◌, ℕ, zero, suc, ◌+◌, ◌-◌, ◌≤◌, refl, sym, ap, ◌∙◌, arith, List, [], ◌∷◌, length}
+use Rattle.bril_tree.specs.declared.value.Value.{Value}
+use Rattle.bril_tree.specs.Memory.{changed_block}
+use Rattle.bril_tree.specs.State as bril
+use Rattle.bril_tree.specs.Step.{step, advanced, with_locations}
+use Rattle.rv64_blocks.specs.Laws.{CoreHolds}
+use Rattle.rv64_blocks.proofs.Allocating.{word_known}
+use Rattle.rv64_blocks.proofs.Lists.{changed_length}
+use Rattle.rv64_layout.specs.Image.{entry_at}
+use Rattle.rv64_layout.specs.Items.{level_word, slot_word}
+use Rattle.rv64_layout.proofs.Bounding.{store_most}
+use Rattle.rv64_stretches.specs.Core.{Core, put}
+use Rattle.rv64_stretches.proofs.Going.{Going}
+use Rattle.rv64_sequences.specs.Sequences.{store_size, store_words}
+use Rattle.rv64_sequences.specs.Frames.{addressed}
+use Rattle.rv64_sequences.proofs.Frames.{frame_store}
+use Rattle.rv64_words.specs.State.{State, assigned}
+use Rattle.slot_code.specs.declared.item.Slot.{Slot}
+use Rattle.slot_code.specs.declared.slots.SlotFunction.{SlotFunction}
+use Rattle.slot_code.specs.Laws.{IsSlotOf}
+use Rattle.slot_code.specs.Meaning.{fills, with_slot}
+use Rattle.slot_code.specs.Numbering.{slot_number}
+use Rattle.rv64_emit_laws.proofs.Arriving.{Moves, arrive, guards_by, here}
+use Rattle.rv64_emit_laws.proofs.Holding.{SameFrame, filled_holds, slot_reaches}
+use Rattle.rv64_emit_laws.proofs.Relation.{HasWord, SlotsHold, SavesHold, Waits, OlderHold, FramesHold, RunsAlike}
+use Rattle.rv64_emit_laws.proofs.Setting.{Setting, sizes}
+use Rattle.rv64_emit_laws.proofs.Stretches.{landed, store_some, two_not_six, with_end}
+
+-- ---- more blocks were made
+
+module _ (made more : ℕ) (le : made ≤ more) where
+  pub slots_more : (g : SlotFunction) (base first : ℕ) (locations : bril.Locals) (stack : ℕ → ℕ) → SlotsHold made g base first locations stack → SlotsHold more g base first locations stack
+  slots_more g base first locations stack h = record { at = λ slot v in_g held. word_known made more v (stack (base + (first + slot_number g.shadow_numbers slot))) le (h.at slot v in_g held) }
+
+  pub saves_more : (g : SlotFunction) (base : ℕ) (saves : List bril.Locals) (stack : ℕ → ℕ) → SavesHold made g base saves stack → SavesHold more g base saves stack
+  saves_more g base [] stack h = tt
+  saves_more g base (save ∷ older) stack h = (slots_more g base (level_word g (suc (length older))) save stack h.0, saves_more g base older stack h.1)
+
+  waits_more : (S : Setting) (above base depth : ℕ) (f : bril.Frame) (stack : ℕ → ℕ) → Waits S made above base depth f stack → Waits S more above base depth f stack
+  waits_more S above base depth f stack w = record {
+    function = w.function;
+    there = w.there;
+    dest = w.dest;
+    args = w.args;
+    here = w.here;
+    takes = w.takes;
+    alone = w.alone;
+    below = w.below;
+    ends = w.ends;
+    deep = w.deep;
+    way = w.way;
+    old = w.old;
+    slots = slots_more w.function w.below 2 f.locations stack w.slots;
+  }
+
+  pub older_more : (S : Setting) (above base : ℕ) (older : List bril.Frame) (stack : ℕ → ℕ) → OlderHold S made above base older stack → OlderHold S more above base older stack
+  unfolding waits_more
+  older_more S above base [] stack h = h
+  older_more S above base (f ∷ older) stack h = (waits_more S above base (length older) f stack h.0, older_more S f.function h.0.below older stack h.1)
+
+  -- the frames are held as before
+  abbrev pub frames_more : (S : Setting) (f : bril.Frame) (older : List bril.Frame) (c : Core) → FramesHold S made f older c → FramesHold S more f older c
+  frames_more S f older c h = record {
+    function = h.function;
+    there = h.there;
+    base = h.base;
+    at = h.at;
+    zero_is = h.zero_is;
+    left = h.left;
+    deep = h.deep;
+    slots = slots_more h.function h.base 2 f.locations c.stack h.slots;
+    saves = saves_more h.function h.base f.saves c.stack h.saves;
+    older_hold = older_more S f.function h.base older c.stack h.older_hold;
+  }
+
+-- a change of one block makes no block
+pub same_made : (change : bril.Block → bril.Block) (blocks : List bril.Block) (block : ℕ) → length (changed_block blocks block change) ≡ length blocks
+same_made change blocks zero = refl
+same_made change blocks (suc k) = changed_length change blocks k
+
+-- ---- a slot gets a value, and memory has changed
+
+module _ (S : Setting) (s : bril.State) (t : State) (r : RunsAlike S s t) where
+  -- what a stretch kept that changed memory
+  pub record KeepsFrames (e : Core) : Type 0 where
+    pub frame : SameFrame r.core e
+    pub stack : e.stack ≡ r.core.stack
+    pub printed : e.printed ≡ r.core.printed
+    pub arrivals : e.arrivals ≡ r.core.arrivals
+
+  pub fills_moves : (blocks : List bril.Block) (dest : Slot) (v : Value) (rs : ℕ) (e : Core) (n j : ℕ) → length s.blocks ≤ length blocks → IsSlotOf r.holds.function dest → rs ≢ 6 → HasWord (length blocks) v (e.registers rs) → KeepsFrames e →
+      CoreHolds (sizes S) blocks e → step S.p S.limits s ≡ fills S.p S.slots S.limits dest v r.frame r.older (record s { blocks = blocks }) →
+      Going S.image (sizes S) (here S s t r) r.core n j e (store_words rs (slot_word r.holds.function dest)) → j + store_size (slot_word r.holds.function dest) ≡ entry_at S.slots r.frame.function (suc r.frame.point) →
+      n + 3 ≤ S.cost → Moves S s t
+  fills_moves blocks dest v rs e n j le in_dest not_six word keeps memory stepped g there cheap =
+      let h = frames_more (length s.blocks) (length blocks) le S r.frame r.older r.core r.holds in
+      let o = slot_word r.holds.function dest in
+      let w = e.registers rs in
+      let f : bril.Frame = advanced (with_locations (with_slot dest v r.frame.locations) r.frame) in
+      let last = put (addressed e 2 o) (r.holds.base + o) w in
+      let same : SameFrame r.core last = record { zero_register = keeps.frame.zero_register; frame_register = keeps.frame.frame_register; frames_left = keeps.frame.frames_left } in
+      let holds = filled_holds S (length blocks) r.frame r.older r.core h dest v w last in_dest word (ap (λ m. assigned m (r.holds.base + o) w) keeps.stack) same in
+      let reach = slot_reaches S (length s.blocks) r.frame r.older r.core r.holds e dest keeps.frame.frame_register in_dest in
+      let stored = frame_store S.image (sizes S) 2 rs r.holds.base o two_not_six not_six reach (with_end (store_words rs o) g) in
+      let one = store_some o in
+      let three = store_most o in
+      let count : n + store_size o ≡ suc (n + store_size o - 1) = omega arith in
+      arrive S s t r (fills S.p S.slots S.limits dest v r.frame r.older (record s { blocks = blocks })) f r.older last (n + store_size o - 1) stepped refl r.running (r.printed ∙ sym keeps.printed) holds
+      memory (guards_by S s t r e keeps.arrivals) (landed (suc (n + store_size o - 1)) (entry_at S.slots r.frame.function (suc r.frame.point)) count there stored) (omega arith)

@@ -1,0 +1,52 @@
+-- The theorem: the image of a program as it is laid out implements the program.
+use Rattle.std.proofs.Common.{◌+◌, ◌*◌, List, refl}
+use Rattle.bril_tree.specs.declared.limits.Limits.{Limits}
+use Rattle.bril_tree.specs.declared.program.Prog.{Prog}
+use Rattle.bril_tree.specs.declared.value.Value.{Value}
+use Rattle.bril_tree.specs.Accepted.{IsAccepted}
+use Rattle.program_numbers.specs.Cost.{longest_arguments}
+use Rattle.bril_tree.specs.Literals.{AreLiteralsInRange}
+use Rattle.bril_tree.specs.Run.{FitMain}
+use Rattle.rv64_implements.specs.Implements.{Implements, ImplementsAt}
+use Rattle.rv64_implements.specs.WordBounds.{IsWithin}
+use Rattle.rv64_layout.specs.Image.{IsImageOf}
+use Rattle.rv64_layout.specs.Laid.{IsLaid}
+use Rattle.rv64_layout.proofs.Laid.{laid}
+use Rattle.rv64_words.specs.declared.image.Image.{Image}
+use Rattle.slot_code.specs.declared.slots.Slots.{Slots}
+use Rattle.slot_code.specs.Lowered.{IsLowered}
+use Rattle.rv64_emit_laws.specs.Homes.{homes_of}
+use Rattle.rv64_emit_laws.specs.Laws.{ImagesImplementPrograms}
+use Rattle.rv64_emit_laws.proofs.GuardList.{lists_guards}
+use Rattle.rv64_emit_laws.proofs.Setting.{Setting}
+use Rattle.rv64_emit_laws.proofs.Whole.{implements_run}
+
+module _ (p : Prog) (slots : Slots) (limits : Limits) (image : Image) (accepted : IsAccepted p) (literals : AreLiteralsInRange p) (lowered : IsLowered p slots) (within : IsWithin p limits) (is : IsImageOf slots limits image) where
+  is_laid : IsLaid slots limits image
+  is_laid = laid p slots limits image accepted literals lowered within is
+
+  abbrev setting : (args : List Value) → FitMain p args → Setting
+  setting args fit = record {
+    p = p;
+    slots = slots;
+    image = image;
+    limits = limits;
+    args = args;
+    cost = 128 + 8 * (within.size.frame + longest_arguments p);
+    accepted = accepted;
+    literals = literals;
+    lowered = lowered;
+    laid = is_laid;
+    fit = fit;
+    is_cost = record { frame = within.size.frame; largest = within.size.largest; is = refl };
+  }
+
+  pub implements_at : ImplementsAt (homes_of slots) image p limits
+  implements_at = record { guards = lists_guards p slots limits image lowered is_laid; runs = λ args fit. implements_run (setting args fit) }
+
+  -- what the code generator promises
+  pub implements : Implements image p limits
+  implements = record { homes = homes_of slots; implements = implements_at }
+
+pub images_implement_programs : ImagesImplementPrograms
+images_implement_programs p slots limits image accepted literals lowered within is = implements_at p slots limits image accepted literals lowered within is
