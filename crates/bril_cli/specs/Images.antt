@@ -17,7 +17,8 @@ use Rattle.rv64_emit.specs.declared.EmitFault.{EmitFault}
 use Rattle.rv64_emit.specs.declared.EmitFault.TheVariants as fault
 use Rattle.rv64_emit.specs.Refusal.{capped}
 use Rattle.rv64_implements.specs.Implements.{Implements, image_after}
-use Rattle.rv64_implements.specs.WordBounds.{word_bounds, most_words, most_stack, IsStackSize}
+use Rattle.rv64_implements.specs.WordBounds.{word_bounds, IsStackSize}
+use Rattle.rv64_words.specs.Region.{most_words, most_stack}
 use Rattle.rv64_words.specs.State.{Finished}
 use Rattle.rv64_words.specs.declared.image.Image.{Image}
 use Rattle.bril_cli.specs.Call.{Call, SaysAlone}

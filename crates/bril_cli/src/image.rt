@@ -4,6 +4,7 @@ ghost use Rattle.std.specs.Prelude.{◌≡◌, ◌≤◌, length, IfOk, IfErr};
 ghost use Rattle.bril_cli.specs.Images.{emit_status, RefusesImage};
 ghost use Rattle.rv64_implements.specs.Implements.{Implements};
 ghost use Rattle.rv64_implements.specs.WordBounds.{IsWithin};
+ghost use Rattle.rv64_words.specs.Region.{most_words, most_stack};
 
 use bril_checker::Checked;
 use bril_report::Status;
@@ -17,8 +18,8 @@ use std::alloc::Global;
 /// `CodeTooBig`, `StackTooBig`: it may have more than 250,000 words, or needs more than 8,388,608 words of stack.
 pub fn image_of(alloc: Global, checked: &Checked, limits: Limits) -> Result<Image, Status>
     ensures implements { IfOk result (λ image. Implements image checked.now.prog limits) }
-    ensures words { IfOk result (λ image. length image.words ≤ 250000) }
-    ensures stack { IfOk result (λ image. image.stack ≤ 8388608) }
+    ensures words { IfOk result (λ image. length image.words ≤ most_words) }
+    ensures stack { IfOk result (λ image. image.stack ≤ most_stack) }
     ensures within { IfOk result (λ _. IsWithin checked.now.prog limits) }
     ensures err { IfErr result (λ status. RefusesImage status checked.now.prog limits) }
 {

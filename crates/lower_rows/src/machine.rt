@@ -1,6 +1,7 @@
 // Words and images of the machine.
 
 ghost use Rattle.std.specs.Prelude.{◌≡◌, ◌≤◌, IfOk, length};
+ghost use Rattle.rv64_words.specs.Region.{most_words};
 
 use crate::row::add_line;
 use bril_outside::mem_sink::MemSink;
@@ -12,6 +13,7 @@ use rv64_machine::machine::Machine;
 use rv64_words::decoding::decode;
 use rv64_words::encoding::encode;
 use rv64_words::image::Image;
+use rv64_words::region::MOST_WORDS;
 use std::alloc::{AllocError, Global};
 
 // The stack of an image, in words.
@@ -55,11 +57,11 @@ pub fn add_run(alloc: Global, line: &str, shown: &mut Vec<u8>) -> Result<(), Lin
 
 // The image of these words.
 fn image_of(alloc: Global, bits: &str) -> Result<Image, LineFault>
-    ensures words { IfOk result (λ image. length image.words ≤ 250000) }
+    ensures words { IfOk result (λ image. length image.words ≤ most_words) }
     ensures stack { IfOk result (λ image. image.stack ≡ 16) }
 {
     let words = words_of(alloc, bits)?;
-    if words.as_slice().len() > 250_000 {
+    if words.as_slice().len() > MOST_WORDS {
         return Err(LineFault::Form);
     }
     Ok(Image {
@@ -104,7 +106,7 @@ fn add_answers(
     put: u64,
     shown: &mut Vec<u8>,
 ) -> Result<(), AllocError>
-    requires words { length image.now.words ≤ 250000 }
+    requires words { length image.now.words ≤ most_words }
     requires stack { image.now.stack ≡ 16 }
 {
     let mut out = output(alloc, put)?;

@@ -10,6 +10,7 @@ use Rattle.slot_code.specs.declared.slots.Slots.{Slots}
 use Rattle.rv64_layout.specs.Fits.{ItemFits}
 use Rattle.rv64_layout.specs.Image.{joined, depth_at, start_at, entry_at, item_words_at}
 use Rattle.rv64_layout.specs.Items.{guard_front_size}
+use Rattle.rv64_words.specs.Region.{most_words}
 
 -- what a table has for a number, and past its end what it has last
 abbrev pub table_at : List ℕ → ℕ → ℕ
@@ -48,4 +49,4 @@ pub record SlotsFit (slots : Slots) : Type 0 where
   pub points : (f : ℕ) (g : SlotFunction) → slice_get slots.funcs f ≡ Some g → length g.code < 2 ^ 32
   pub items : (f : ℕ) (g : SlotFunction) (point : ℕ) (item : SlotItem) → slice_get slots.funcs f ≡ Some g → slice_get g.code point ≡ Some item →
       ItemFits g (depth_at g point) item
-  pub few : start_at slots (length slots.funcs) ≤ 250000
+  pub few : start_at slots (length slots.funcs) ≤ most_words

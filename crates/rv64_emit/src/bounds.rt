@@ -16,13 +16,8 @@ use bril_tree::numbered::Instr;
 use bril_tree::numbered_function::Func;
 use bril_tree::operation::Op;
 use bril_tree::program::Prog;
+use rv64_words::region::{MOST_STACK, MOST_WORDS};
 use slot_code::SlotFunction;
-
-/// The most words of an image, by the bounds of its items.
-const MOST_WORDS: u64 = 250_000;
-
-/// The most words of 64 bits of a stack.
-const MOST_STACK: u64 = 8_388_608;
 
 // ---- words
 
@@ -160,11 +155,11 @@ pub fn stack_within(
     ensures fault { IfErr result (EmitRefuses checked.now.prog limits) }
 {
     let words = program_bound(checked.prog(), funcs);
-    if words > MOST_WORDS {
+    if words > MOST_WORDS as u64 {
         return Err(EmitFault::CodeTooBig { words });
     }
     let words = (limits.frames as u64).saturating_mul(largest_frame(checked));
-    if words > MOST_STACK {
+    if words > MOST_STACK as u64 {
         return Err(EmitFault::StackTooBig { words });
     }
     Ok(words as u32)

@@ -4,6 +4,7 @@ ghost use Rattle.std.specs.Prelude.{◌≡◌, ◌+◌, ◌*◌, ◌^◌, ◌<�
 ghost use Rattle.bril_tree.specs.Value as values;
 ghost use Rattle.rv64_layout.specs.Image as image;
 ghost use Rattle.rv64_layout.specs.Items as items;
+ghost use Rattle.rv64_layout.specs.Fits.{frame_reach};
 
 use bril_tree::value::Value;
 use slot_code::{Slot, SlotFunction};
@@ -30,7 +31,7 @@ pub fn variable_word(variable: u32) -> u64
 
 /// The word of the frame in which a slot stands.
 pub fn slot_word(func: &SlotFunction, slot: Slot) -> u64
-    requires { items.slot_word func.now slot < 2 ^ 26 }
+    requires { items.slot_word func.now slot < frame_reach }
     ensures { result ≡ items.slot_word func.now slot }
 {
     2 + func.number(slot) as u64
@@ -45,7 +46,7 @@ pub fn slot_count(func: &SlotFunction) -> u64
 
 /// The first word of the slots as they were at an open speculation.
 pub fn level_word(func: &SlotFunction, level: usize) -> u64
-    requires { length func.now.slots * level < 2 ^ 26 }
+    requires { length func.now.slots * level < frame_reach }
     ensures { result ≡ items.level_word func.now level }
 {
     2 + slot_count(func) * level as u64
@@ -53,7 +54,7 @@ pub fn level_word(func: &SlotFunction, level: usize) -> u64
 
 /// The first word of the slots as they were at the speculation after that one.
 pub fn next_level_word(func: &SlotFunction, level: usize) -> u64
-    requires { length func.now.slots * (level + 2) < 2 ^ 26 }
+    requires { length func.now.slots * (level + 2) < frame_reach }
     ensures { result ≡ items.level_word func.now (suc level) }
 {
     level_word(func, level) + slot_count(func)
@@ -71,7 +72,7 @@ pub fn depth_of(func: &SlotFunction, point: usize) -> usize
 
 /// The word of the frame that is that of argument `number` in the frame above.
 pub fn argument_word(func: &SlotFunction, number: usize) -> u64
-    requires frame { func.now.words < 2 ^ 26 }
+    requires frame { func.now.words < frame_reach }
     requires number { number < 2 ^ 27 }
     ensures value { result ≡ items.argument_word func.now number }
     ensures few { result < 2 ^ 28 }

@@ -7,13 +7,15 @@ ghost use Rattle.rv64_layout.specs.Image.{joined, start_at, head_words, function
 ghost use Rattle.rv64_layout.specs.Fits.{ItemFits};
 ghost use Rattle.rv64_layout.specs.Items as layout;
 ghost use Rattle.rv64_words.specs.Encoding.{encoded};
+ghost use Rattle.rv64_words.specs.Region.{most_words};
 
 use crate::assembly::{addi, lui, sd};
 use crate::frame::depth_of;
 use crate::item::put_item;
 use crate::items::leave;
 use crate::places::{entry_table, function_at, place, start_table};
-use crate::sequences::{fault, high_digits, jump, low_digit, number as immediate, put};
+use crate::registers::{FRAME, FRAMES_LEFT, LINK};
+use crate::sequences::{high_digits, jump, low_digit, number as immediate, program_end, put};
 use crate::sizes::guard_front_size;
 use bril_tree::limits::Limits;
 use bril_tree::sequence::Seq;
@@ -26,17 +28,17 @@ use std::alloc::{AllocError, Global};
 // The first words: how many frames may be made beside that of `main`, the call of `main`, and the program's end.
 #[tactic(auto, using(crate::proofs::Appending::put_then))]
 fn put_head(code: &mut Seq<u32>, limits: Limits, main: u32) -> Result<(), AllocError>
-    requires { main ≤ 250000 }
+    requires { main ≤ most_words }
     ensures { OnOk result (code.new ≡ code.old ++ map encoded (head_words limits main)) }
 {
     let frames = limits.frames as u64 - 1;
     let call = [
-        lui(8, high_digits(frames) as u32),
-        addi(8, 8, low_digit(frames)),
-        jump(1, 2, main),
+        lui(FRAMES_LEFT, high_digits(frames) as u32),
+        addi(FRAMES_LEFT, FRAMES_LEFT, low_digit(frames)),
+        jump(LINK, 2, main),
     ];
     put(code, &call)?;
-    put(code, &fault(0))
+    put(code, &program_end())
 }
 
 // The words of a function's items.
@@ -76,7 +78,7 @@ fn put_function(
     requires here { length code.old ≡ start_at slots.now number }
     ensures { OnOk result (code.new ≡ code.old ++ map encoded (function_words_at slots.now number)) }
 {
-    put(code, &[sd(2, 1, immediate(0))])?;
+    put(code, &[sd(FRAME, LINK, immediate(0))])?;
     put_items(code, slots, number, starts, entries)?;
     put(code, &leave())?;
     Ok(())
@@ -93,7 +95,7 @@ fn push_guard(
     item: &SlotItem,
 ) -> Result<(), AllocError>
     requires fits { ItemFits func.now depth item.now }
-    requires few { place.word + layout.item_size func.now depth item.now ≤ 250000 }
+    requires few { place.word + layout.item_size func.now depth item.now ≤ most_words }
     ensures { OnOk result (guards.new ≡ guards.old ++ guard_with place.word place.func func.now depth place.item item.now) }
 {
     match item {

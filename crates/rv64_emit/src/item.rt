@@ -5,6 +5,7 @@ ghost use Rattle.rv64_emit.specs.Tables.{table_at};
 ghost use Rattle.rv64_layout.specs.Fits.{ItemFits};
 ghost use Rattle.rv64_layout.specs.Items.{item_size, item_words};
 ghost use Rattle.rv64_words.specs.Encoding.{encoded};
+ghost use Rattle.rv64_words.specs.Region.{most_words};
 
 use crate::frame::{slot_word, word_of};
 use crate::items::{
@@ -34,11 +35,11 @@ pub fn put_item(
     item: &SlotItem,
 ) -> Result<(), AllocError>
     requires some_starts { 0 < length starts.now }
-    requires few_starts { (k : ℕ) → table_at starts.now k ≤ 250000 }
+    requires few_starts { (k : ℕ) → table_at starts.now k ≤ most_words }
     requires some_entries { 0 < length entries.now }
-    requires few_entries { (k : ℕ) → table_at entries.now k ≤ 250000 }
+    requires few_entries { (k : ℕ) → table_at entries.now k ≤ most_words }
     requires fits { ItemFits func.now depth item.now }
-    requires here { length code.old + item_size func.now depth item.now ≤ 250000 }
+    requires here { length code.old + item_size func.now depth item.now ≤ most_words }
     ensures { OnOk result (code.new ≡ code.old ++ map encoded
         (item_words (table_at starts.now) (table_at entries.now) func.now depth (length code.old) item.now)) }
 {
@@ -86,7 +87,7 @@ pub fn put_item(
 /// How many words an item of a function has where so many speculations are open.
 pub fn size_of(func: &SlotFunction, depth: usize, item: &SlotItem) -> u32
     requires fits { ItemFits func.now depth item.now }
-    requires few { item_size func.now depth item.now ≤ 250000 }
+    requires few { item_size func.now depth item.now ≤ most_words }
     ensures { result ≡ item_size func.now depth item.now }
 {
     match item {

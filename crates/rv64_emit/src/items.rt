@@ -8,8 +8,11 @@ ghost use Rattle.rv64_emit.specs.Tables.{table_at};
 ghost use Rattle.rv64_layout.specs.Items as items;
 ghost use Rattle.rv64_sequences.specs.Operations.{unary_words, binary_words, alloc_words, free_words, cell_words, load_cell_words, mark_cell_words, store_cell_words};
 ghost use Rattle.rv64_sequences.specs.Sequences.{constant_words, load_words, store_words, copy_words, jump_offset, load_size};
+ghost use Rattle.rv64_words.specs.Calls.{call_number};
 ghost use Rattle.rv64_words.specs.Encoding.{encoded};
 ghost use Rattle.rv64_words.specs.Mnemonics as mnemonics;
+ghost use Rattle.rv64_words.specs.Region.{most_words};
+ghost use Rattle.rv64_layout.specs.Fits.{frame_reach};
 
 use crate::assembly::{addi, branch, jalr, ld, sd};
 use crate::frame::{
@@ -17,15 +20,18 @@ use crate::frame::{
 };
 use crate::operations::{put_binary, put_cell, put_load_cell, put_mark_cell, put_unary};
 use crate::places::place;
+use crate::registers::{ARGUMENT, FIRST, FRAME, FRAMES_LEFT, LINK, SECOND, ZERO};
 use crate::sequences::{
     environment_call, fault, jump, number, put, put_constant, put_copies, put_frame_up, put_load,
     put_store,
 };
 use crate::sizes::{before_call_size, guard_front_size, load_variable_size, restore_size};
+use bril_tree::limits::Fault;
 use bril_tree::operators::{BinaryOp, UnaryOp};
 use bril_tree::sequence::Seq;
 use bril_tree::types::Base;
 use bril_tree::value::Value;
+use rv64_words::call::Call;
 use rv64_words::field::Immediate;
 use rv64_words::word::{Condition, Word};
 use slot_code::{Printed, Slot, SlotFunction};
@@ -36,12 +42,12 @@ use std::alloc::AllocError;
 /// A value into a variable.
 #[tactic(auto, using(crate::proofs::Appending::put_then))]
 pub fn put_value(code: &mut Seq<u32>, dest: u32, value: Value) -> Result<(), AllocError>
-    requires { 2 + dest < 2 ^ 26 }
+    requires { 2 + dest < frame_reach }
     ensures { OnOk result (code.new ≡ code.old ++ map encoded
         (constant_words 5 (values.word_of value) ++ store_words 5 (2 + dest))) }
 {
-    put_constant(code, 5, word_of(value))?;
-    put_store(code, 5, variable_word(dest))
+    put_constant(code, FIRST, word_of(value))?;
+    put_store(code, FIRST, variable_word(dest))
 }
 
 /// A slot into another.
@@ -52,13 +58,13 @@ pub fn put_copy(
     dest: Slot,
     from: Slot,
 ) -> Result<(), AllocError>
-    requires dest { items.slot_word func.now dest < 2 ^ 26 }
-    requires from { items.slot_word func.now from < 2 ^ 26 }
+    requires dest { items.slot_word func.now dest < frame_reach }
+    requires from { items.slot_word func.now from < frame_reach }
     ensures { OnOk result (code.new ≡ code.old ++ map encoded
         (load_words 5 (items.slot_word func.now from) ++ store_words 5 (items.slot_word func.now dest))) }
 {
-    put_load(code, 5, slot_word(func, from))?;
-    put_store(code, 5, slot_word(func, dest))
+    put_load(code, FIRST, slot_word(func, from))?;
+    put_store(code, FIRST, slot_word(func, dest))
 }
 
 /// What an operation computes from one variable into another.
@@ -69,14 +75,14 @@ pub fn put_unary_item(
     dest: u32,
     operand: u32,
 ) -> Result<(), AllocError>
-    requires dest { 2 + dest < 2 ^ 26 }
-    requires operand { 2 + operand < 2 ^ 26 }
+    requires dest { 2 + dest < frame_reach }
+    requires operand { 2 + operand < frame_reach }
     ensures { OnOk result (code.new ≡ code.old ++ map encoded
         (load_words 5 (2 + operand) ++ (unary_words operation ++ store_words 5 (2 + dest)))) }
 {
-    put_load(code, 5, variable_word(operand))?;
+    put_load(code, FIRST, variable_word(operand))?;
     put_unary(code, operation)?;
-    put_store(code, 5, variable_word(dest))
+    put_store(code, FIRST, variable_word(dest))
 }
 
 /// What an operation computes from two variables into a third.
@@ -88,42 +94,43 @@ pub fn put_binary_item(
     first: u32,
     second: u32,
 ) -> Result<(), AllocError>
-    requires dest { 2 + dest < 2 ^ 26 }
-    requires first { 2 + first < 2 ^ 26 }
-    requires second { 2 + second < 2 ^ 26 }
+    requires dest { 2 + dest < frame_reach }
+    requires first { 2 + first < frame_reach }
+    requires second { 2 + second < frame_reach }
     ensures { OnOk result (code.new ≡ code.old ++ map encoded
         (load_words 5 (2 + first) ++ (load_words 7 (2 + second) ++ (binary_words operation ++ store_words 5 (2 + dest))))) }
 {
-    put_load(code, 5, variable_word(first))?;
-    put_load(code, 7, variable_word(second))?;
+    put_load(code, FIRST, variable_word(first))?;
+    put_load(code, SECOND, variable_word(second))?;
     put_binary(code, operation)?;
-    put_store(code, 5, variable_word(dest))
+    put_store(code, FIRST, variable_word(dest))
 }
 
 // ---- jumps
 
 /// A jump to an item.
 pub fn put_jump(code: &mut Seq<u32>, to: u32) -> Result<(), AllocError>
-    requires here { length code.old ≤ 250000 }
-    requires to { to ≤ 250000 }
+    requires here { length code.old ≤ most_words }
+    requires to { to ≤ most_words }
     ensures { OnOk result (code.new ≡ code.old ++ map encoded (Word.Jal 0 (jump_offset (length code.old) to) ∷ [])) }
 {
     let here = code.as_slice().len() as u32;
-    put(code, &[jump(0, here, to)])
+    put(code, &[jump(ZERO, here, to)])
 }
 
-// To one item where register 5 isn't 0, else to another; the jump to the first is word `at` of the image.
+// To one item where register 5 isn't 0, else to another; the jump to the first is word `at` of the image. Three words: a branch
+// reaches 4 KiB only, so it skips the first of two jumps, each of which reaches the whole image.
 fn ways(at: u32, then_to: u32, else_to: u32) -> [Word; 3]
-    requires at { at < 250000 }
-    requires then_to { then_to ≤ 250000 }
-    requires else_to { else_to ≤ 250000 }
+    requires at { at < most_words }
+    requires then_to { then_to ≤ most_words }
+    requires else_to { else_to ≤ most_words }
     ensures { result ≡ mnemonics.beq 5 0 (pos 8) ∷ Word.Jal 0 (jump_offset at then_to)
         ∷ Word.Jal 0 (jump_offset (at + 1) else_to) ∷ [] }
 {
     [
-        branch(Condition::Eq, 5, 0, 8),
-        jump(0, at, then_to),
-        jump(0, at + 1, else_to),
+        branch(Condition::Eq, FIRST, ZERO, 8),
+        jump(ZERO, at, then_to),
+        jump(ZERO, at + 1, else_to),
     ]
 }
 
@@ -136,16 +143,16 @@ pub fn put_branch(
     then_to: u32,
     else_to: u32,
 ) -> Result<(), AllocError>
-    requires here { length code.old + (load_size (2 + condition) + 3) ≤ 250000 }
-    requires condition { 2 + condition < 2 ^ 26 }
+    requires here { length code.old + (load_size (2 + condition) + 3) ≤ most_words }
+    requires condition { 2 + condition < frame_reach }
     requires some_entries { 0 < length entries.now }
-    requires few_entries { (k : ℕ) → table_at entries.now k ≤ 250000 }
+    requires few_entries { (k : ℕ) → table_at entries.now k ≤ most_words }
     ensures { let at = length code.old + load_size (2 + condition) in OnOk result (code.new ≡ code.old ++ map encoded
         (load_words 5 (2 + condition) ++ mnemonics.beq 5 0 (pos 8) ∷ Word.Jal 0 (jump_offset (at + 1) (table_at entries.now then_to))
         ∷ Word.Jal 0 (jump_offset (at + 2) (table_at entries.now else_to)) ∷ [])) }
 {
     let at = code.as_slice().len() as u32 + load_variable_size(condition);
-    put_load(code, 5, variable_word(condition))?;
+    put_load(code, FIRST, variable_word(condition))?;
     put(
         code,
         &ways(at + 1, place(entries, then_to), place(entries, else_to)),
@@ -158,32 +165,32 @@ pub fn put_branch(
 fn put_room(code: &mut Seq<u32>) -> Result<(), AllocError>
     ensures { OnOk result (code.new ≡ code.old ++ map encoded items.room_words) }
 {
-    put(code, &[branch(Condition::Ne, 8, 0, 16)])?;
-    put(code, &fault(8))?;
-    put(code, &[addi(8, 8, Immediate::of(-1))])
+    put(code, &[branch(Condition::Ne, FRAMES_LEFT, ZERO, 16)])?;
+    put(code, &fault(Fault::Frames))?;
+    put(code, &[addi(FRAMES_LEFT, FRAMES_LEFT, Immediate::of(-1))])
 }
 
 // The arguments into their words of the new frame.
 fn put_arguments(code: &mut Seq<u32>, func: &SlotFunction, args: &[u32]) -> Result<(), AllocError>
-    requires frame { func.now.words < 2 ^ 26 }
-    requires few { length args.now < 2 ^ 26 }
-    requires args { AllByRecursion (λ x. 2 + x < 2 ^ 26) args.now }
+    requires frame { func.now.words < frame_reach }
+    requires few { length args.now < frame_reach }
+    requires args { AllByRecursion (λ x. 2 + x < frame_reach) args.now }
     ensures { OnOk result (code.new ≡ code.old ++ map encoded (items.pass_words func.now 0 args.now)) }
 {
     for (k, arg) in args.iter().enumerate() {
-        put_load(code, 5, variable_word(*arg))?;
-        put_store(code, 5, argument_word(func, k))?;
+        put_load(code, FIRST, variable_word(*arg))?;
+        put_store(code, FIRST, argument_word(func, k))?;
     }
     Ok(())
 }
 
 // A function's result into its destination.
 fn put_result(code: &mut Seq<u32>, dest: Option<u32>) -> Result<(), AllocError>
-    requires { AllByRecursion (λ x. 2 + x < 2 ^ 26) (listed dest) }
+    requires { AllByRecursion (λ x. 2 + x < frame_reach) (listed dest) }
     ensures { OnOk result (code.new ≡ code.old ++ map encoded (items.result_words dest)) }
 {
     match dest {
-        Some(dest) => put_store(code, 10, variable_word(dest)),
+        Some(dest) => put_store(code, ARGUMENT, variable_word(dest)),
         None => Ok(()),
     }
 }
@@ -197,12 +204,12 @@ pub fn put_call(
     start: u32,
     args: &[u32],
 ) -> Result<(), AllocError>
-    requires here { length code.old + items.before_call func.now args.now ≤ 250000 }
-    requires start { start ≤ 250000 }
-    requires frame { func.now.words < 2 ^ 26 }
-    requires few { length args.now < 2 ^ 26 }
-    requires dest { AllByRecursion (λ x. 2 + x < 2 ^ 26) (listed dest) }
-    requires args { AllByRecursion (λ x. 2 + x < 2 ^ 26) args.now }
+    requires here { length code.old + items.before_call func.now args.now ≤ most_words }
+    requires start { start ≤ most_words }
+    requires frame { func.now.words < frame_reach }
+    requires few { length args.now < frame_reach }
+    requires dest { AllByRecursion (λ x. 2 + x < frame_reach) (listed dest) }
+    requires args { AllByRecursion (λ x. 2 + x < frame_reach) args.now }
     ensures { OnOk result (code.new ≡ code.old ++ map encoded
         (items.call_words func.now (length code.old) dest start args.now)) }
 {
@@ -210,7 +217,7 @@ pub fn put_call(
     put_room(code)?;
     put_arguments(code, func, args)?;
     put_frame_up(code, func.words)?;
-    put(code, &[jump(1, from, start)])?;
+    put(code, &[jump(LINK, from, start)])?;
     put_result(code, dest)
 }
 
@@ -219,20 +226,20 @@ pub fn leave() -> [Word; 4]
     ensures { result ≡ items.leave_words }
 {
     [
-        ld(1, 2, number(0)),
-        ld(2, 2, number(8)),
-        addi(8, 8, number(1)),
-        jalr(0, 1, 0),
+        ld(LINK, FRAME, number(0)),
+        ld(FRAME, FRAME, number(8)),
+        addi(FRAMES_LEFT, FRAMES_LEFT, number(1)),
+        jalr(ZERO, LINK, 0),
     ]
 }
 
 // The returned value.
 fn put_returned(code: &mut Seq<u32>, value: Option<u32>) -> Result<(), AllocError>
-    requires { AllByRecursion (λ x. 2 + x < 2 ^ 26) (listed value) }
+    requires { AllByRecursion (λ x. 2 + x < frame_reach) (listed value) }
     ensures { OnOk result (code.new ≡ code.old ++ map encoded (items.returned_words value)) }
 {
     match value {
-        Some(variable) => put_load(code, 10, variable_word(variable)),
+        Some(variable) => put_load(code, ARGUMENT, variable_word(variable)),
         None => Ok(()),
     }
 }
@@ -240,7 +247,7 @@ fn put_returned(code: &mut Seq<u32>, value: Option<u32>) -> Result<(), AllocErro
 /// A return, with a value or without one.
 #[tactic(auto, using(crate::proofs::Appending::put_then))]
 pub fn put_return(code: &mut Seq<u32>, value: Option<u32>) -> Result<(), AllocError>
-    requires { AllByRecursion (λ x. 2 + x < 2 ^ 26) (listed value) }
+    requires { AllByRecursion (λ x. 2 + x < frame_reach) (listed value) }
     ensures { OnOk result (code.new ≡ code.old ++ map encoded (items.returned_words value ++ items.leave_words)) }
 {
     put_returned(code, value)?;
@@ -250,34 +257,33 @@ pub fn put_return(code: &mut Seq<u32>, value: Option<u32>) -> Result<(), AllocEr
 // ---- output
 
 // The environment call that prints a value.
-fn print_call(kind: Base) -> u16
-    ensures value { result ≡ items.print_call kind }
-    ensures few { result < 2048 }
+fn print_call(kind: Base) -> Call
+    ensures { call_number result ≡ items.print_call kind }
 {
     match kind {
-        Base::Int => 1,
-        Base::Bool => 2,
-        Base::Char => 3,
+        Base::Int => Call::PrintInt,
+        Base::Bool => Call::PrintBool,
+        Base::Char => Call::PrintChar,
     }
 }
 
 // Prints a variable.
 #[tactic(auto, using(crate::proofs::Appending::put_then))]
 fn put_printed(code: &mut Seq<u32>, printed: Printed) -> Result<(), AllocError>
-    requires { 2 + printed.variable < 2 ^ 26 }
+    requires { 2 + printed.variable < frame_reach }
     ensures { OnOk result (code.new ≡ code.old ++ map encoded (items.value_words printed)) }
 {
-    put_load(code, 10, variable_word(printed.variable))?;
+    put_load(code, ARGUMENT, variable_word(printed.variable))?;
     put(code, &environment_call(print_call(printed.kind)))
 }
 
 // Prints variables, each after a space.
 fn put_spaced(code: &mut Seq<u32>, args: &[Printed]) -> Result<(), AllocError>
-    requires { AllByRecursion (λ a. 2 + a.variable < 2 ^ 26) args.now }
+    requires { AllByRecursion (λ a. 2 + a.variable < frame_reach) args.now }
     ensures { OnOk result (code.new ≡ code.old ++ map encoded (items.spaced_words args.now)) }
 {
     for arg in args {
-        put(code, &environment_call(4))?;
+        put(code, &environment_call(Call::PrintSpace))?;
         put_printed(code, *arg)?;
     }
     Ok(())
@@ -286,14 +292,14 @@ fn put_spaced(code: &mut Seq<u32>, args: &[Printed]) -> Result<(), AllocError>
 /// Prints variables, a space between two, and a line feed.
 #[tactic(auto, using(crate::proofs::Appending::put_then))]
 pub fn put_print(code: &mut Seq<u32>, args: &[Printed]) -> Result<(), AllocError>
-    requires { AllByRecursion (λ a. 2 + a.variable < 2 ^ 26) args.now }
+    requires { AllByRecursion (λ a. 2 + a.variable < frame_reach) args.now }
     ensures { OnOk result (code.new ≡ code.old ++ map encoded (items.print_words args.now)) }
 {
     if let [first, rest @ ..] = args {
         put_printed(code, *first)?;
         put_spaced(code, rest)?;
     }
-    put(code, &environment_call(5))
+    put(code, &environment_call(Call::PrintLine))
 }
 
 // ---- memory
@@ -301,53 +307,53 @@ pub fn put_print(code: &mut Seq<u32>, args: &[Printed]) -> Result<(), AllocError
 /// A new block of so many cells as a variable holds; another gets its pointer.
 #[tactic(auto, using(crate::proofs::Appending::put_then))]
 pub fn put_alloc(code: &mut Seq<u32>, dest: u32, count: u32) -> Result<(), AllocError>
-    requires dest { 2 + dest < 2 ^ 26 }
-    requires count { 2 + count < 2 ^ 26 }
+    requires dest { 2 + dest < frame_reach }
+    requires count { 2 + count < frame_reach }
     ensures { OnOk result (code.new ≡ code.old ++ map encoded
         (load_words 10 (2 + count) ++ (alloc_words ++ store_words 10 (2 + dest)))) }
 {
-    put_load(code, 10, variable_word(count))?;
-    put(code, &environment_call(6))?;
-    put_store(code, 10, variable_word(dest))
+    put_load(code, ARGUMENT, variable_word(count))?;
+    put(code, &environment_call(Call::Alloc))?;
+    put_store(code, ARGUMENT, variable_word(dest))
 }
 
 /// The block of a pointer is freed.
 #[tactic(auto, using(crate::proofs::Appending::put_then))]
 pub fn put_free(code: &mut Seq<u32>, pointer: u32) -> Result<(), AllocError>
-    requires { 2 + pointer < 2 ^ 26 }
+    requires { 2 + pointer < frame_reach }
     ensures { OnOk result (code.new ≡ code.old ++ map encoded (load_words 10 (2 + pointer) ++ free_words)) }
 {
-    put_load(code, 10, variable_word(pointer))?;
-    put(code, &environment_call(7))
+    put_load(code, ARGUMENT, variable_word(pointer))?;
+    put(code, &environment_call(Call::Free))
 }
 
 /// A variable into the cell of a pointer.
 #[tactic(auto, using(crate::proofs::Appending::put_then))]
 pub fn put_store_item(code: &mut Seq<u32>, pointer: u32, value: u32) -> Result<(), AllocError>
-    requires pointer { 2 + pointer < 2 ^ 26 }
-    requires value { 2 + value < 2 ^ 26 }
+    requires pointer { 2 + pointer < frame_reach }
+    requires value { 2 + value < frame_reach }
     ensures { OnOk result (code.new ≡ code.old ++ map encoded
         (load_words 5 (2 + pointer) ++ (cell_words ++ (mark_cell_words ++ (load_words 5 (2 + value) ++ store_cell_words))))) }
 {
-    put_load(code, 5, variable_word(pointer))?;
+    put_load(code, FIRST, variable_word(pointer))?;
     put_cell(code)?;
     put_mark_cell(code)?;
-    put_load(code, 5, variable_word(value))?;
-    put(code, &[sd(7, 5, number(8))])
+    put_load(code, FIRST, variable_word(value))?;
+    put(code, &[sd(SECOND, FIRST, number(8))])
 }
 
 /// The cell of a pointer into a variable.
 #[tactic(auto, using(crate::proofs::Appending::put_then))]
 pub fn put_load_item(code: &mut Seq<u32>, dest: u32, pointer: u32) -> Result<(), AllocError>
-    requires dest { 2 + dest < 2 ^ 26 }
-    requires pointer { 2 + pointer < 2 ^ 26 }
+    requires dest { 2 + dest < frame_reach }
+    requires pointer { 2 + pointer < frame_reach }
     ensures { OnOk result (code.new ≡ code.old ++ map encoded
         (load_words 5 (2 + pointer) ++ (cell_words ++ (load_cell_words ++ store_words 5 (2 + dest))))) }
 {
-    put_load(code, 5, variable_word(pointer))?;
+    put_load(code, FIRST, variable_word(pointer))?;
     put_cell(code)?;
     put_load_cell(code)?;
-    put_store(code, 5, variable_word(dest))
+    put_store(code, FIRST, variable_word(dest))
 }
 
 // ---- speculation
@@ -356,7 +362,7 @@ pub fn put_load_item(code: &mut Seq<u32>, dest: u32, pointer: u32) -> Result<(),
 fn nop() -> Word
     ensures { result ≡ items.nop_word }
 {
-    addi(0, 0, number(0))
+    addi(ZERO, ZERO, number(0))
 }
 
 /// The slots into those of a new level, where `depth` levels are kept.
@@ -366,7 +372,7 @@ pub fn put_speculate(
     func: &SlotFunction,
     depth: usize,
 ) -> Result<(), AllocError>
-    requires { length func.now.slots * (depth + 2) < 2 ^ 26 }
+    requires { length func.now.slots * (depth + 2) < frame_reach }
     ensures { OnOk result (code.new ≡ code.old ++ map encoded
         (copy_words 2 (items.level_word func.now (suc depth)) (length func.now.slots) ++ items.nop_word ∷ [])) }
 {
@@ -383,10 +389,13 @@ pub fn put_commit(code: &mut Seq<u32>) -> Result<(), AllocError>
 
 // Over the rest of a guard where register 5 isn't 0.
 fn over_rest(rest: u32) -> [Word; 2]
-    requires { 2 + rest ≤ 250000 }
+    requires { 2 + rest ≤ most_words }
     ensures { result ≡ mnemonics.beq 5 0 (pos 8) ∷ Word.Jal 0 (jump_offset 0 (2 + rest)) ∷ [] }
 {
-    [branch(Condition::Eq, 5, 0, 8), jump(0, 0, 2 + rest)]
+    [
+        branch(Condition::Eq, FIRST, ZERO, 8),
+        jump(ZERO, 0, 2 + rest),
+    ]
 }
 
 // The words of a guard before its last.
@@ -397,12 +406,12 @@ fn put_guard_front(
     depth: usize,
     condition: u32,
 ) -> Result<(), AllocError>
-    requires condition { 2 + condition < 2 ^ 26 }
-    requires levels { length func.now.slots * (depth + 2) < 2 ^ 26 }
-    requires few { items.guard_front_size func.now depth condition ≤ 250000 }
+    requires condition { 2 + condition < frame_reach }
+    requires levels { length func.now.slots * (depth + 2) < frame_reach }
+    requires few { items.guard_front_size func.now depth condition ≤ most_words }
     ensures { OnOk result (code.new ≡ code.old ++ map encoded (items.guard_front func.now depth condition)) }
 {
-    put_load(code, 5, variable_word(condition))?;
+    put_load(code, FIRST, variable_word(condition))?;
     put(code, &over_rest(restore_size(func, depth)))?;
     put_copies(code, level_word(func, depth), 2, slot_count(func))
 }
@@ -416,14 +425,14 @@ pub fn put_guard(
     condition: u32,
     abort_to: u32,
 ) -> Result<(), AllocError>
-    requires here { length code.old + items.guard_front_size func.now depth condition ≤ 250000 }
-    requires condition { 2 + condition < 2 ^ 26 }
-    requires levels { length func.now.slots * (depth + 2) < 2 ^ 26 }
-    requires abort_to { abort_to ≤ 250000 }
+    requires here { length code.old + items.guard_front_size func.now depth condition ≤ most_words }
+    requires condition { 2 + condition < frame_reach }
+    requires levels { length func.now.slots * (depth + 2) < frame_reach }
+    requires abort_to { abort_to ≤ most_words }
     ensures { OnOk result (code.new ≡ code.old ++ map encoded (items.guard_front func.now depth condition
         ++ Word.Jal 0 (jump_offset (length code.old + items.guard_front_size func.now depth condition) abort_to) ∷ [])) }
 {
     let last = code.as_slice().len() as u32 + guard_front_size(func, depth, condition);
     put_guard_front(code, func, depth, condition)?;
-    put(code, &[jump(0, last, abort_to)])
+    put(code, &[jump(ZERO, last, abort_to)])
 }

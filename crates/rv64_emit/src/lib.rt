@@ -9,7 +9,8 @@ ghost use Rattle.std.specs.Prelude.{◌≡◌, ◌≤◌, length, IfOk, IfErr};
 ghost use Rattle.rv64_emit.specs.declared.EmitFault.TheVariants.{Memory};
 ghost use Rattle.rv64_emit.specs.Refusal.{EmitRefuses};
 ghost use Rattle.rv64_implements.specs.Implements.{Implements};
-ghost use Rattle.rv64_implements.specs.WordBounds.{most_words, IsStackSize, IsWithin};
+ghost use Rattle.rv64_implements.specs.WordBounds.{IsStackSize, IsWithin};
+ghost use Rattle.rv64_words.specs.Region.{most_words};
 
 mod assembly;
 mod bounds;
@@ -19,6 +20,7 @@ mod item;
 mod items;
 mod operations;
 mod places;
+mod registers;
 mod sequences;
 mod sizes;
 

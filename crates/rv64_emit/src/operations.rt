@@ -6,7 +6,9 @@ ghost use Rattle.rv64_words.specs.Encoding.{encoded};
 ghost use Rattle.rv64_words.specs.Mnemonics as mnemonics;
 
 use crate::assembly::{add, addi, branch, ld, lui, op, sd, slli, srai, srli, with_immediate};
+use crate::registers::{ADDRESS, FIRST, SECOND, ZERO};
 use crate::sequences::{fault, number, put};
+use bril_tree::limits::Fault;
 use bril_tree::operators::{BinaryOp, UnaryOp};
 use bril_tree::sequence::Seq;
 use rv64_words::field::Immediate;
@@ -51,7 +53,7 @@ pub fn binary_size_of(operation: BinaryOp) -> u32
 fn negated() -> Word
     ensures { result ≡ mnemonics.sltiu 5 5 (pos 1) }
 {
-    with_immediate(ImmediateOperation::Sltiu, 5, 5, number(1))
+    with_immediate(ImmediateOperation::Sltiu, FIRST, FIRST, number(1))
 }
 
 /// An operation on register 5.
@@ -70,14 +72,14 @@ fn put_int_to_char(code: &mut Seq<u32>) -> Result<(), AllocError>
     ensures { OnOk result (code.new ≡ code.old ++ map encoded int_to_char_words) }
 {
     let tests = [
-        lui(6, 0x110),
-        branch(Condition::Geu, 5, 6, 16),
-        srli(6, 5, 11),
-        addi(6, 6, Immediate::of(-27)),
-        branch(Condition::Ne, 6, 0, 16),
+        lui(ADDRESS, 0x110),
+        branch(Condition::Geu, FIRST, ADDRESS, 16),
+        srli(ADDRESS, FIRST, 11),
+        addi(ADDRESS, ADDRESS, Immediate::of(-27)),
+        branch(Condition::Ne, ADDRESS, ZERO, 16),
     ];
     put(code, &tests)?;
-    put(code, &fault(2))
+    put(code, &fault(Fault::BadChar))
 }
 
 // ---- two operands
@@ -87,37 +89,43 @@ pub fn put_binary(code: &mut Seq<u32>, operation: BinaryOp) -> Result<(), AllocE
     ensures { OnOk result (code.new ≡ code.old ++ map encoded (binary_words operation)) }
 {
     match operation {
-        BinaryOp::Add => put(code, &[add(5, 5, 7)]),
-        BinaryOp::Sub => put(code, &[op(RegisterOperation::Sub, 5, 5, 7)]),
-        BinaryOp::Mul => put(code, &[op(RegisterOperation::Mul, 5, 5, 7)]),
+        BinaryOp::Add => put(code, &[add(FIRST, FIRST, SECOND)]),
+        BinaryOp::Sub => put(code, &[op(RegisterOperation::Sub, FIRST, FIRST, SECOND)]),
+        BinaryOp::Mul => put(code, &[op(RegisterOperation::Mul, FIRST, FIRST, SECOND)]),
         BinaryOp::Div => put_division(code),
         BinaryOp::Eq | BinaryOp::Ceq => put(
             code,
-            &[op(RegisterOperation::Sub, 5, 5, 7), negated()],
+            &[op(RegisterOperation::Sub, FIRST, FIRST, SECOND), negated()],
         ),
-        BinaryOp::Lt | BinaryOp::Clt => put(code, &[op(RegisterOperation::Slt, 5, 5, 7)]),
-        BinaryOp::Gt | BinaryOp::Cgt => put(code, &[op(RegisterOperation::Slt, 5, 7, 5)]),
+        BinaryOp::Lt | BinaryOp::Clt => put(
+            code,
+            &[op(RegisterOperation::Slt, FIRST, FIRST, SECOND)],
+        ),
+        BinaryOp::Gt | BinaryOp::Cgt => put(
+            code,
+            &[op(RegisterOperation::Slt, FIRST, SECOND, FIRST)],
+        ),
         BinaryOp::Le | BinaryOp::Cle => put(
             code,
-            &[op(RegisterOperation::Slt, 5, 7, 5), negated()],
+            &[op(RegisterOperation::Slt, FIRST, SECOND, FIRST), negated()],
         ),
         BinaryOp::Ge | BinaryOp::Cge => put(
             code,
-            &[op(RegisterOperation::Slt, 5, 5, 7), negated()],
+            &[op(RegisterOperation::Slt, FIRST, FIRST, SECOND), negated()],
         ),
-        BinaryOp::And => put(code, &[op(RegisterOperation::And, 5, 5, 7)]),
-        BinaryOp::Or => put(code, &[op(RegisterOperation::Or, 5, 5, 7)]),
+        BinaryOp::And => put(code, &[op(RegisterOperation::And, FIRST, FIRST, SECOND)]),
+        BinaryOp::Or => put(code, &[op(RegisterOperation::Or, FIRST, FIRST, SECOND)]),
         BinaryOp::PtrAdd => put_pointer_sum(code),
     }
 }
 
-// The quotient, or fault 1 where the divisor is 0.
+// The quotient, or a fault where the divisor is 0.
 fn put_division(code: &mut Seq<u32>) -> Result<(), AllocError>
     ensures { OnOk result (code.new ≡ code.old ++ map encoded division_words) }
 {
-    put(code, &[branch(Condition::Ne, 7, 0, 16)])?;
-    put(code, &fault(1))?;
-    put(code, &[op(RegisterOperation::Div, 5, 5, 7)])
+    put(code, &[branch(Condition::Ne, SECOND, ZERO, 16)])?;
+    put(code, &fault(Fault::DivZero))?;
+    put(code, &[op(RegisterOperation::Div, FIRST, FIRST, SECOND)])
 }
 
 // The sum of the offset in register 5 and of register 7 into register 7, and over the fault where it has 32 bits.
@@ -126,12 +134,12 @@ fn pointer_offset() -> [Word; 6]
         ∷ mnemonics.slli 6 7 32 ∷ mnemonics.srai 6 6 32 ∷ mnemonics.beq 6 7 (pos 16) ∷ [] }
 {
     [
-        slli(6, 5, 32),
-        srai(6, 6, 32),
-        add(7, 6, 7),
-        slli(6, 7, 32),
-        srai(6, 6, 32),
-        branch(Condition::Eq, 6, 7, 16),
+        slli(ADDRESS, FIRST, 32),
+        srai(ADDRESS, ADDRESS, 32),
+        add(SECOND, ADDRESS, SECOND),
+        slli(ADDRESS, SECOND, 32),
+        srai(ADDRESS, ADDRESS, 32),
+        branch(Condition::Eq, ADDRESS, SECOND, 16),
     ]
 }
 
@@ -141,59 +149,72 @@ fn pointer_of_parts() -> [Word; 5]
         ∷ mnemonics.srli 7 7 32 ∷ mnemonics.add 5 5 7 ∷ [] }
 {
     [
-        srli(5, 5, 32),
-        slli(5, 5, 32),
-        slli(7, 7, 32),
-        srli(7, 7, 32),
-        add(5, 5, 7),
+        srli(FIRST, FIRST, 32),
+        slli(FIRST, FIRST, 32),
+        slli(SECOND, SECOND, 32),
+        srli(SECOND, SECOND, 32),
+        add(FIRST, FIRST, SECOND),
     ]
 }
 
-// A pointer, moved by a number of cells, or fault 10 where the offset leaves the signed range of 32 bits.
+// A pointer, moved by a number of cells, or a fault where the offset leaves the signed range of 32 bits.
 fn put_pointer_sum(code: &mut Seq<u32>) -> Result<(), AllocError>
     ensures { OnOk result (code.new ≡ code.old ++ map encoded pointer_words) }
 {
     put(code, &pointer_offset())?;
-    put(code, &fault(10))?;
+    put(code, &fault(Fault::PtrRange))?;
     put(code, &pointer_of_parts())
 }
 
 // ---- cells
 
-/// The address of the cell to which the pointer in register 5 points into register 7, or fault 5.
+/// The address of the cell to which the pointer in register 5 points into register 7, or a fault.
 pub fn put_cell(code: &mut Seq<u32>) -> Result<(), AllocError>
     ensures { OnOk result (code.new ≡ code.old ++ map encoded cell_words) }
 {
     let size = [
-        srli(6, 5, 32),
-        slli(6, 6, 4),
-        lui(7, 0x20000),
-        add(6, 6, 7),
-        slli(5, 5, 32),
-        srai(5, 5, 32),
-        ld(7, 6, number(8)),
-        branch(Condition::Ltu, 5, 7, 16),
+        srli(ADDRESS, FIRST, 32),
+        slli(ADDRESS, ADDRESS, 4),
+        lui(SECOND, 0x20000),
+        add(ADDRESS, ADDRESS, SECOND),
+        slli(FIRST, FIRST, 32),
+        srai(FIRST, FIRST, 32),
+        ld(SECOND, ADDRESS, number(8)),
+        branch(Condition::Ltu, FIRST, SECOND, 16),
     ];
     put(code, &size)?;
-    put(code, &fault(5))?;
-    put(code, &[ld(6, 6, number(0)), slli(5, 5, 4), add(7, 6, 5)])
+    put(code, &fault(Fault::Access))?;
+    put(
+        code,
+        &[
+            ld(ADDRESS, ADDRESS, number(0)),
+            slli(FIRST, FIRST, 4),
+            add(SECOND, ADDRESS, FIRST),
+        ],
+    )
 }
 
-/// What the cell at the address in register 7 holds into register 5, or fault 6.
+/// What the cell at the address in register 7 holds into register 5, or a fault.
 pub fn put_load_cell(code: &mut Seq<u32>) -> Result<(), AllocError>
     ensures { OnOk result (code.new ≡ code.old ++ map encoded load_cell_words) }
 {
     put(
         code,
-        &[ld(5, 7, number(0)), branch(Condition::Ne, 5, 0, 16)],
+        &[
+            ld(FIRST, SECOND, number(0)),
+            branch(Condition::Ne, FIRST, ZERO, 16),
+        ],
     )?;
-    put(code, &fault(6))?;
-    put(code, &[ld(5, 7, number(8))])
+    put(code, &fault(Fault::Uninit))?;
+    put(code, &[ld(FIRST, SECOND, number(8))])
 }
 
 /// The cell at the address in register 7 was stored.
 pub fn put_mark_cell(code: &mut Seq<u32>) -> Result<(), AllocError>
     ensures { OnOk result (code.new ≡ code.old ++ map encoded mark_cell_words) }
 {
-    put(code, &[addi(5, 0, number(1)), sd(7, 5, number(0))])
+    put(
+        code,
+        &[addi(FIRST, ZERO, number(1)), sd(SECOND, FIRST, number(0))],
+    )
 }

@@ -4,6 +4,7 @@ ghost use Rattle.std.specs.Prelude.{◌≡◌, ◌+◌, ◌<◌, ◌≤◌, ℕ,
 ghost use Rattle.rv64_emit.specs.Tables as tables;
 ghost use Rattle.rv64_emit.specs.Tables.{SlotsFit, table_at};
 ghost use Rattle.rv64_layout.specs.Image.{start_at, function_size};
+ghost use Rattle.rv64_words.specs.Region.{most_words};
 
 use crate::frame::depth_of;
 use crate::item::size_of;
@@ -14,9 +15,9 @@ use std::alloc::{AllocError, Global};
 /// What a table has for a number, and past its end what it has last.
 pub fn place(table: &[u32], index: u32) -> u32
     requires some { 0 < length table.now }
-    requires few { (k : ℕ) → table_at table.now k ≤ 250000 }
+    requires few { (k : ℕ) → table_at table.now k ≤ most_words }
     ensures value { result ≡ table_at table.now index }
-    ensures few { result ≤ 250000 }
+    ensures few { result ≤ most_words }
 {
     let last = table.len() - 1;
     table[last.min(index as usize)]

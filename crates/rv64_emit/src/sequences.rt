@@ -3,10 +3,15 @@
 ghost use Rattle.std.specs.Prelude.{◌≡◌, ◌+◌, ◌*◌, ◌^◌, ◌<◌, ◌≤◌, ◌∷◌, [], ◌++◌, map, pos, OnOk};
 ghost use Rattle.rv64_layout.specs.Items.{environment_words};
 ghost use Rattle.rv64_sequences.specs.Sequences.{high_part, low_part, jump_offset, fits_12, fits_32, constant_words, long_constant_words, load_words, store_words, copy_words, fault_words, frame_up_words, constant_size, load_size, store_size, copy_size, frame_up_size};
+ghost use Rattle.rv64_words.specs.Calls.{call_number, fault_number};
 ghost use Rattle.rv64_words.specs.Encoding.{encoded};
+ghost use Rattle.rv64_words.specs.Region.{most_words};
 
 use crate::assembly::{add, addi, jal, ld, lui, sd, slli};
+use crate::registers::{ADDRESS, ARGUMENT, CALL, FIRST, FRAME, SECOND, ZERO};
+use bril_tree::limits::Fault;
 use bril_tree::sequence::Seq;
+use rv64_words::call::{Call, number_of_fault};
 use rv64_words::encoding::encode;
 use rv64_words::field::{Immediate, JumpOffset};
 use rv64_words::word::Word;
@@ -78,7 +83,8 @@ pub fn constant_size_of(n: u64) -> u32
     if is_of_32_bits(n) { 2 } else { 8 }
 }
 
-// The number in a register by its digits of 12 bits, the highest first.
+// The number in a register by its digits of 12 bits, the highest first. LUI and ADDI give 32 bits; the other 32 are three digits
+// more, and each takes SLLI and ADDI, since no word has a longer immediate: eight words in all.
 fn long_constant(rd: u8, n: u64) -> [Word; 8]
     requires { rd < 32 }
     ensures { result ≡ long_constant_words rd n }
@@ -104,7 +110,7 @@ pub fn put_constant(code: &mut Seq<u32>, rd: u8, n: u64) -> Result<(), AllocErro
     ensures { OnOk result (code.new ≡ code.old ++ map encoded (constant_words rd n)) }
 {
     if is_of_12_bits(n) {
-        return put(code, &[addi(rd, 0, low_digit(n))]);
+        return put(code, &[addi(rd, ZERO, low_digit(n))]);
     }
     if is_of_32_bits(n) {
         let high = lui(rd, (high_digits(n) % 0x10_0000) as u32);
@@ -155,14 +161,14 @@ pub fn put_load(code: &mut Seq<u32>, rd: u8, word: u64) -> Result<(), AllocError
     ensures { OnOk result (code.new ≡ code.old ++ map encoded (load_words rd word)) }
 {
     if word < 256 {
-        return put(code, &[ld(rd, 2, near_offset(word))]);
+        return put(code, &[ld(rd, FRAME, near_offset(word))]);
     }
     put(
         code,
         &[
-            far_offset(6, word),
-            add(6, 6, 2),
-            ld(rd, 6, low_digit(8 * word)),
+            far_offset(ADDRESS, word),
+            add(ADDRESS, ADDRESS, FRAME),
+            ld(rd, ADDRESS, low_digit(8 * word)),
         ],
     )
 }
@@ -174,14 +180,14 @@ pub fn put_store(code: &mut Seq<u32>, rs2: u8, word: u64) -> Result<(), AllocErr
     ensures { OnOk result (code.new ≡ code.old ++ map encoded (store_words rs2 word)) }
 {
     if word < 256 {
-        return put(code, &[sd(2, rs2, near_offset(word))]);
+        return put(code, &[sd(FRAME, rs2, near_offset(word))]);
     }
     put(
         code,
         &[
-            far_offset(6, word),
-            add(6, 6, 2),
-            sd(6, rs2, low_digit(8 * word)),
+            far_offset(ADDRESS, word),
+            add(ADDRESS, ADDRESS, FRAME),
+            sd(ADDRESS, rs2, low_digit(8 * word)),
         ],
     )
 }
@@ -190,7 +196,7 @@ pub fn put_store(code: &mut Seq<u32>, rs2: u8, word: u64) -> Result<(), AllocErr
 pub fn copy_size_of(from: u64, to: u64, count: u64) -> u32
     requires from { from + count ≤ 2 ^ 28 }
     requires to { to + count ≤ 2 ^ 28 }
-    requires few { copy_size from to count ≤ 250000 }
+    requires few { copy_size from to count ≤ most_words }
     ensures { result ≡ copy_size from to count }
 {
     let mut size = 0;
@@ -207,8 +213,8 @@ pub fn put_copies(code: &mut Seq<u32>, from: u64, to: u64, count: u64) -> Result
     ensures { OnOk result (code.new ≡ code.old ++ map encoded (copy_words from to count)) }
 {
     for k in 0..count {
-        put_load(code, 5, from + k)?;
-        put_store(code, 5, to + k)?;
+        put_load(code, FIRST, from + k)?;
+        put_store(code, FIRST, to + k)?;
     }
     Ok(())
 }
@@ -230,19 +236,19 @@ pub fn put_frame_up(code: &mut Seq<u32>, words: u64) -> Result<(), AllocError>
         return put(
             code,
             &[
-                sd(2, 2, near_offset(words + 1)),
-                addi(2, 2, near_offset(words)),
+                sd(FRAME, FRAME, near_offset(words + 1)),
+                addi(FRAME, FRAME, near_offset(words)),
             ],
         );
     }
     put(
         code,
         &[
-            far_offset(7, words),
-            add(7, 7, 2),
-            addi(7, 7, low_digit(8 * words)),
-            sd(7, 2, number(8)),
-            addi(2, 7, number(0)),
+            far_offset(SECOND, words),
+            add(SECOND, SECOND, FRAME),
+            addi(SECOND, SECOND, low_digit(8 * words)),
+            sd(SECOND, FRAME, number(8)),
+            addi(FRAME, SECOND, number(0)),
         ],
     )
 }
@@ -251,8 +257,8 @@ pub fn put_frame_up(code: &mut Seq<u32>, words: u64) -> Result<(), AllocError>
 
 // The bytes from one word of an image to another.
 fn jump_bytes(from: u32, to: u32) -> JumpOffset
-    requires from { from ≤ 250000 }
-    requires to { to ≤ 250000 }
+    requires from { from ≤ most_words }
+    requires to { to ≤ most_words }
     ensures { result ≡ jump_offset from to }
 {
     JumpOffset::of(4 * (to as i32 - from as i32))
@@ -261,8 +267,8 @@ fn jump_bytes(from: u32, to: u32) -> JumpOffset
 /// A jump to a word of an image from another; a register gets the address of the word after the jump.
 pub fn jump(rd: u8, from: u32, to: u32) -> Word
     requires rd { rd < 32 }
-    requires from { from ≤ 250000 }
-    requires to { to ≤ 250000 }
+    requires from { from ≤ most_words }
+    requires to { to ≤ most_words }
     ensures { result ≡ Word.Jal rd (jump_offset from to) }
 {
     jal(rd, jump_bytes(from, to))
@@ -270,22 +276,35 @@ pub fn jump(rd: u8, from: u32, to: u32) -> Word
 
 // ---- the environment
 
-/// The end of the run, by a fault's number or 0.
-pub fn fault(kind: u16) -> [Word; 3]
-    requires { kind < 2048 }
-    ensures { result ≡ fault_words kind }
+// The end of the run, by a fault's number or 0.
+fn end_by(number_of_end: u16) -> [Word; 3]
+    requires { number_of_end < 2048 }
+    ensures { result ≡ fault_words number_of_end }
 {
     [
-        addi(10, 0, number(kind)),
-        addi(17, 0, number(8)),
+        addi(ARGUMENT, ZERO, number(number_of_end)),
+        addi(CALL, ZERO, number(Call::End.number())),
         Word::Ecall,
     ]
 }
 
-/// The environment call of a number.
-pub fn environment_call(call: u16) -> [Word; 2]
-    requires { call < 2048 }
-    ensures { result ≡ environment_words call }
+/// The end of the run by a fault.
+pub fn fault(fault: Fault) -> [Word; 3]
+    ensures { result ≡ fault_words (fault_number fault) }
 {
-    [addi(17, 0, number(call)), Word::Ecall]
+    end_by(number_of_fault(fault))
+}
+
+/// The end of the program.
+pub fn program_end() -> [Word; 3]
+    ensures { result ≡ fault_words 0 }
+{
+    end_by(0)
+}
+
+/// An environment call.
+pub fn environment_call(call: Call) -> [Word; 2]
+    ensures { result ≡ environment_words (call_number call) }
+{
+    [addi(CALL, ZERO, number(call.number())), Word::Ecall]
 }

@@ -3,6 +3,8 @@
 ghost use Rattle.std.specs.Prelude.{◌≡◌, ◌+◌, ◌≤◌, ◌<◌, ◌^◌, ◌*◌, length, suc};
 ghost use Rattle.rv64_layout.specs.Items as items;
 ghost use Rattle.rv64_sequences.specs.Sequences.{copy_size, load_size, store_size};
+ghost use Rattle.rv64_words.specs.Region.{most_words};
+ghost use Rattle.rv64_layout.specs.Fits.{frame_reach};
 
 use crate::frame::{argument_word, level_word, next_level_word, slot_count, variable_word};
 use crate::sequences::{copy_size_of, frame_up_size_of, load_size_of, store_size_of};
@@ -44,8 +46,8 @@ pub fn moved_size(from: u32, to: u32) -> u32
 
 // How many words pass the arguments of a call.
 fn pass_size_of(func: &SlotFunction, args: &[u32]) -> u32
-    requires frame { func.now.words < 2 ^ 26 }
-    requires few { length args.now < 2 ^ 26 }
+    requires frame { func.now.words < frame_reach }
+    requires few { length args.now < frame_reach }
     ensures value { result ≡ items.pass_size func.now 0 args.now }
     ensures few { result ≤ 6 * length args.now }
 {
@@ -58,8 +60,8 @@ fn pass_size_of(func: &SlotFunction, args: &[u32]) -> u32
 
 /// How many words of a call come before its jump.
 pub fn before_call_size(func: &SlotFunction, args: &[u32]) -> u32
-    requires frame { func.now.words < 2 ^ 26 }
-    requires few { length args.now < 2 ^ 26 }
+    requires frame { func.now.words < frame_reach }
+    requires few { length args.now < frame_reach }
     ensures value { result ≡ items.before_call func.now args.now }
     ensures few { result ≤ 10 + 6 * length args.now }
 {
@@ -76,7 +78,7 @@ fn printed_size(printed: Printed) -> u32
 
 // How many words variables have that are printed, each after a space.
 fn spaced_size_of(args: &[Printed]) -> u32
-    requires { items.spaced_size args.now ≤ 250000 }
+    requires { items.spaced_size args.now ≤ most_words }
     ensures { result ≡ items.spaced_size args.now }
 {
     let mut size = 0;
@@ -88,7 +90,7 @@ fn spaced_size_of(args: &[Printed]) -> u32
 
 /// How many words a print has.
 pub fn print_size_of(args: &[Printed]) -> u32
-    requires { items.print_size args.now ≤ 250000 }
+    requires { items.print_size args.now ≤ most_words }
     ensures { result ≡ items.print_size args.now }
 {
     match args {
@@ -123,8 +125,8 @@ pub fn returned_size_of(value: Option<u32>) -> u32
 
 /// How many words put the slots into those of a new level, where `depth` levels are kept.
 pub fn save_size(func: &SlotFunction, depth: usize) -> u32
-    requires levels { length func.now.slots * (depth + 2) < 2 ^ 26 }
-    requires few { copy_size 2 (items.level_word func.now (suc depth)) (length func.now.slots) ≤ 250000 }
+    requires levels { length func.now.slots * (depth + 2) < frame_reach }
+    requires few { copy_size 2 (items.level_word func.now (suc depth)) (length func.now.slots) ≤ most_words }
     ensures { result ≡ copy_size 2 (items.level_word func.now (suc depth)) (length func.now.slots) }
 {
     copy_size_of(2, next_level_word(func, depth), slot_count(func))
@@ -132,8 +134,8 @@ pub fn save_size(func: &SlotFunction, depth: usize) -> u32
 
 /// How many words put the slots of a level back.
 pub fn restore_size(func: &SlotFunction, depth: usize) -> u32
-    requires levels { length func.now.slots * (depth + 2) < 2 ^ 26 }
-    requires few { copy_size (items.level_word func.now depth) 2 (length func.now.slots) ≤ 250000 }
+    requires levels { length func.now.slots * (depth + 2) < frame_reach }
+    requires few { copy_size (items.level_word func.now depth) 2 (length func.now.slots) ≤ most_words }
     ensures { result ≡ copy_size (items.level_word func.now depth) 2 (length func.now.slots) }
 {
     copy_size_of(level_word(func, depth), 2, slot_count(func))
@@ -141,8 +143,8 @@ pub fn restore_size(func: &SlotFunction, depth: usize) -> u32
 
 /// How many words of a guard come before its last.
 pub fn guard_front_size(func: &SlotFunction, depth: usize, condition: u32) -> u32
-    requires levels { length func.now.slots * (depth + 2) < 2 ^ 26 }
-    requires few { items.guard_front_size func.now depth condition ≤ 250000 }
+    requires levels { length func.now.slots * (depth + 2) < frame_reach }
+    requires few { items.guard_front_size func.now depth condition ≤ most_words }
     ensures { result ≡ items.guard_front_size func.now depth condition }
 {
     load_variable_size(condition) + 2 + restore_size(func, depth)

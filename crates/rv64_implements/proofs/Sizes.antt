@@ -4,7 +4,8 @@ use Rattle.bril_tree.specs.declared.limits.Limits.{Limits}
 use Rattle.bril_tree.specs.declared.program.Prog.{Prog}
 use Rattle.bril_tree.specs.FrameWords.{AreFrameWords}
 use Rattle.program_numbers.proofs.Measures.{IsGreatest-one}
-use Rattle.rv64_implements.specs.WordBounds.{IsStackSize, IsWithin, most_stack}
+use Rattle.rv64_implements.specs.WordBounds.{IsStackSize, IsWithin}
+use Rattle.rv64_words.specs.Region.{most_stack}
 
 pub IsStackSize-one : (p : Prog) (limits : Limits) (m n : ℕ) → IsStackSize p limits m → IsStackSize p limits n → m ≡ n
 IsStackSize-one p limits m n a b = a.is ∙ (ap (λ f. limits.frames * f) (IsGreatest-one AreFrameWords p a.frame b.frame a.largest b.largest) ∙ sym b.is)

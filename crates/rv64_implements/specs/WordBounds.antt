@@ -10,6 +10,7 @@ use Rattle.bril_tree.specs.declared.operation.Op.TheVariants as op
 use Rattle.bril_tree.specs.declared.program.Prog.{Prog}
 use Rattle.bril_tree.specs.FrameWords.{location_count}
 use Rattle.program_numbers.specs.ProgramNumbers.{IsLargestFrame}
+use Rattle.rv64_words.specs.Region.{most_words, most_stack}
 
 -- ---- words
 
@@ -51,10 +52,6 @@ function_bound f = 40 + sum_by (word_bound (location_count f)) f.code
 abbrev pub word_bounds : Prog → ℕ
 word_bounds p = 32 + sum_by function_bound p.funcs
 
--- an image has at most so many words
-abbrev pub most_words : ℕ
-most_words = 250000
-
 -- ---- the stack
 
 -- the words of 64 bits of the program's stack: as many times the largest frame as frames are allowed
@@ -62,10 +59,6 @@ pub record IsStackSize (p : Prog) (limits : Limits) (words : ℕ) : Type 0 where
   pub frame : ℕ
   pub largest : IsLargestFrame p frame
   pub is : words ≡ limits.frames * frame
-
--- a stack has at most so many words of 64 bits
-abbrev pub most_stack : ℕ
-most_stack = 8388608
 
 -- The program's image has few enough words, and needs few enough words of stack.
 pub record IsWithin (p : Prog) (limits : Limits) : Type 0 where

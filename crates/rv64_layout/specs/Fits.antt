@@ -8,6 +8,10 @@ use Rattle.slot_code.specs.declared.slots.SlotFunction.{SlotFunction}
 use Rattle.slot_code.specs.Laws.{slots_used}
 use Rattle.rv64_layout.specs.Items.{slot_word}
 
+-- The numbers of a frame's words, of those of its levels and of arguments are below this one: far offsets of 32 bits reach them.
+abbrev pub frame_reach : ℕ
+frame_reach = 2 ^ 26
+
 -- how many arguments an item passes to a function
 abbrev pub passed_by : SlotItem → ℕ
 passed_by (Call dest function args) = length args
@@ -20,8 +24,8 @@ HasConstantInRange _ = Unit {0}
 
 -- An item of a function fits where so many speculations are open: none of the numbers in its words is too large.
 pub record ItemFits (g : SlotFunction) (depth : ℕ) (item : SlotItem) : Type 0 where
-  pub slots : AllByRecursion (λ slot. slot_word g slot < 2 ^ 26) (slots_used item)
-  pub frame : g.words < 2 ^ 26
-  pub levels : length g.slots * (depth + 2) < 2 ^ 26
-  pub passed : passed_by item < 2 ^ 26
+  pub slots : AllByRecursion (λ slot. slot_word g slot < frame_reach) (slots_used item)
+  pub frame : g.words < frame_reach
+  pub levels : length g.slots * (depth + 2) < frame_reach
+  pub passed : passed_by item < frame_reach
   pub constant : HasConstantInRange item

@@ -17,6 +17,7 @@ use Rattle.slot_code.specs.declared.slots.Slots.{Slots}
 use Rattle.slot_code.specs.Lowered.{IsLowered}
 use Rattle.rv64_layout.specs.Image.{depth_at, start_at, entry_at, end_start, head_words, largest_frame, IsImageOf}
 use Rattle.rv64_layout.specs.Items.{item_size, item_words, guard_front, guard_front_size, abort_word, leave_words}
+use Rattle.rv64_words.specs.Region.{most_words, most_stack}
 
 -- ---- items
 
@@ -59,10 +60,10 @@ pub record IsLaid (slots : Slots) (limits : Limits) (image : Image) : Type 0 whe
   pub guards : (k : ℕ) (guard : GuardAt) → slice_get image.guards k ≡ Some guard → IsGuardAt slots guard
   pub apart : (a b : GuardAt) → IsGuardAt slots a → IsGuardAt slots b → a.word ≡ b.word → a ≡ b
   -- every place in it is one of at most 250,000 words, and the stack has room for the frames
-  pub few_starts : (f : ℕ) → start_at slots f ≤ 250000
-  pub few_entries : (f point : ℕ) → entry_at slots f point ≤ 250000
+  pub few_starts : (f : ℕ) → start_at slots f ≤ most_words
+  pub few_entries : (f point : ℕ) → entry_at slots f point ≤ most_words
   pub frames : (f : ℕ) (g : SlotFunction) → slice_get slots.funcs f ≡ Some g → g.words ≤ largest_frame slots
-  pub few_frames : limits.frames * largest_frame slots ≤ 8388608
+  pub few_frames : limits.frames * largest_frame slots ≤ most_stack
 
 -- The law: the image of an accepted program within the bounds is laid out so.
 abbrev pub ImagesAreLaid : Type 0

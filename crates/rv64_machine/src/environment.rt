@@ -1,16 +1,15 @@
-// What the environment calls print and name.
+// What the environment calls print.
 
-ghost use Rattle.std.specs.Prelude.{◌≡◌, ◌≢◌, ◌-◌, [], ◌∷◌, true, false, OnOk, OnErr, MatchOption, suc, encode_utf8};
+ghost use Rattle.std.specs.Prelude.{◌≡◌, [], ◌∷◌, true, false, OnOk, OnErr, MatchOption, suc, encode_utf8};
 ghost use Rattle.std.specs.Int.{w64, cast_signed};
 ghost use Rattle.std.specs.Fmt.{signed_decimal};
 ghost use Rattle.bril_outside.specs.Sink.{TookBy};
-ghost use Rattle.rv64_words.specs.Environment.{truth_text, fault_of};
+ghost use Rattle.rv64_words.specs.Environment.{truth_text};
 ghost use Rattle.rv64_machine.specs.StepAnswers.{Written, NotWritten};
 ghost use lib.Utf8.{scalar};
 
 use bril_nums::put_int;
 use bril_outside::sink::{Failed, Sink};
-use bril_tree::limits::Fault;
 
 /// Prints the number as a signed decimal, by one `put`.
 pub fn print_number<S: Sink>(number: u64, out: &mut S) -> Result<(), Failed>
@@ -59,25 +58,4 @@ pub fn char_numbered(number: u64) -> Option<char>
         return None;
     }
     char::from_u32(number as u32)
-}
-
-/// The fault of a number, counted from 1.
-pub fn fault_numbered(number: u64) -> Option<Fault>
-    requires { number ≢ 0 }
-    ensures { result ≡ fault_of (number - 1) }
-{
-    match number {
-        1 => Some(Fault::DivZero),
-        2 => Some(Fault::BadChar),
-        3 => Some(Fault::BadAlloc),
-        4 => Some(Fault::BadFree),
-        5 => Some(Fault::Access),
-        6 => Some(Fault::Uninit),
-        7 => Some(Fault::Leak),
-        8 => Some(Fault::Frames),
-        9 => Some(Fault::Cells),
-        10 => Some(Fault::PtrRange),
-        11 => Some(Fault::Allocs),
-        _ => None,
-    }
 }

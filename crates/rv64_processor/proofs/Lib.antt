@@ -1,5 +1,6 @@
 pub mod GroupProps
 pub mod GroupWords
+pub mod Regions
 pub mod ResolvedSteps
 pub mod ResolvedWords
 pub mod SameWords

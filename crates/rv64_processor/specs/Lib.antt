@@ -1,4 +1,7 @@
 pub mod Addresses
 pub mod Groups
+pub mod MemoryView
+pub mod Pc
 pub mod ProcessorView
+pub mod RegionView
 pub mod Resolved

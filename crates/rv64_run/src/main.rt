@@ -12,6 +12,7 @@ use bril_tree::value::Value;
 use rv64_machine::answer::RunAnswer;
 use rv64_machine::machine::Machine;
 use rv64_words::image::Image;
+use rv64_words::region::MOST_WORDS;
 use std::alloc::{AllocError, Global};
 use std::{env, io};
 
@@ -67,7 +68,7 @@ fn words_of(alloc: Global, source: &str) -> Result<Seq<u32>, AllocError> {
 // Runs the words, with the program's output on standard output.
 fn run(rt: &HostRuntime, words: Seq<u32>, args: &[Value]) -> anyhow::Result<()> {
     let alloc = rt.alloc();
-    if words.as_slice().len() > 250_000 || args.len() > 1000 {
+    if words.as_slice().len() > MOST_WORDS || args.len() > 1000 {
         eprintln!(rt; "too large")?;
         return Ok(());
     }

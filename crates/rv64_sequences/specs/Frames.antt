@@ -1,7 +1,7 @@
 -- What loads, stores and copies of a frame's words leave.
 use Rattle.std.specs.Prelude.{◌≡◌, ◌≢◌, ℕ, ◌+◌, ◌*◌, ◌%◌, ◌^◌, ◌<◌, ◌≤◌, ◌⊎◌, if◌then◌else◌}
 use Rattle.rv64_words.specs.Arithmetic.{extended_32}
-use Rattle.rv64_words.specs.Region.{Sizes, stack_base}
+use Rattle.rv64_words.specs.Region.{Sizes, stack_base, most_stack}
 use Rattle.rv64_stretches.specs.Core.{Core, written}
 use Rattle.rv64_sequences.specs.Sequences.{high_part, is_near}
 
@@ -9,7 +9,7 @@ use Rattle.rv64_sequences.specs.Sequences.{high_part, is_near}
 pub record Reaches (z : Sizes) (e : Core) (r b o : ℕ) : Type 0 where
   pub base : e.registers r ≡ stack_base + 8 * b
   pub inside : b + o < z.stack
-  pub few : z.stack ≤ 8388608
+  pub few : z.stack ≤ most_stack
 
 -- what register 6 has after a load or a store of word o from the base in register r
 abbrev pub far_address : Core → ℕ → ℕ → ℕ

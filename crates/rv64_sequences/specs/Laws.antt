@@ -1,7 +1,7 @@
 -- What the sequences do, as laws of any image in which they stand.
 use Rattle.std.specs.Prelude.{◌≡◌, ◌≢◌, ℕ, ◌+◌, ◌*◌, ◌^◌, ◌<◌, ◌≤◌}
 use Rattle.rv64_words.specs.declared.image.Image.{Image}
-use Rattle.rv64_words.specs.Region.{Sizes, stack_base}
+use Rattle.rv64_words.specs.Region.{Sizes, stack_base, most_stack}
 use Rattle.rv64_stretches.specs.Core.{Core, written, put}
 use Rattle.rv64_stretches.specs.Runs.{HasAt, Runs}
 use Rattle.rv64_sequences.specs.Frames.{Reaches, addressed, Copied, LieApart}
@@ -23,6 +23,6 @@ FrameStoresRun = (image : Image) (z : Sizes) (k : ℕ) (c : Core) (base r b o : 
 
 -- words of the frame are copied, and no others change
 abbrev pub CopiesRun : Type 0
-CopiesRun = (image : Image) (z : Sizes) (k : ℕ) (c : Core) (b from to n : ℕ) → HasAt image k (copy_words from to n) → z.stack ≤ 8388608 → c.registers 2 ≡ stack_base + 8 * b →
+CopiesRun = (image : Image) (z : Sizes) (k : ℕ) (c : Core) (b from to n : ℕ) → HasAt image k (copy_words from to n) → z.stack ≤ most_stack → c.registers 2 ≡ stack_base + 8 * b →
     LieApart from to n → b + (from + n) ≤ z.stack → b + (to + n) ≤ z.stack →
     (e : Core) × Copied c e b from to n × Runs image z k c (copy_size from to n) (k + copy_size from to n) e

@@ -5,7 +5,7 @@ use Rattle.bril_tree.specs.declared.limits.End.TheVariants.{Faulted}
 use Rattle.bril_tree.specs.declared.limits.Fault.TheVariants as fault
 use Rattle.rv64_words.specs.declared.image.Image.{Image}
 use Rattle.rv64_words.specs.declared.word.Word.{Word}
-use Rattle.rv64_words.specs.Region.{Sizes, cells_base, most_blocks}
+use Rattle.rv64_words.specs.Region.{Sizes, cells_base, most_blocks, most_stack}
 use Rattle.rv64_stretches.specs.Core.{Core, written, put_cell, Keeps}
 use Rattle.rv64_stretches.specs.Runs.{HasAt, Runs}
 use Rattle.rv64_sequences.specs.Operations.{cell_words, load_cell_words, mark_cell_words, store_cell_words}
@@ -22,7 +22,7 @@ is_inside (negsuc n) size = false
 pub record PointerReady (image : Image) (z : Sizes) (k : ℕ) (c : Core) (ws : List Word) (block : ℕ) (offset : ℤ) : Type 0 where
   pub has : HasAt image k ws
   pub low : k < 2 ^ 19
-  pub few : z.stack ≤ 8388608
+  pub few : z.stack ≤ most_stack
   pub null : c.registers 0 ≡ 0
   pub pointer : c.registers 5 ≡ block * 2 ^ 32 + cast_unsigned w32 offset
   pub fits : FitsSigned w32 offset
@@ -53,7 +53,7 @@ CellWordsFault = (image : Image) (z : Sizes) (k : ℕ) (c : Core) (block : ℕ) 
 pub record CellReady (image : Image) (z : Sizes) (k : ℕ) (c : Core) (ws : List Word) (at : ℕ) : Type 0 where
   pub has : HasAt image k ws
   pub low : k < 2 ^ 19
-  pub few : z.stack ≤ 8388608
+  pub few : z.stack ≤ most_stack
   pub null : c.registers 0 ≡ 0
   pub address : c.registers 7 ≡ cells_base + 16 * at
   pub inside : 2 * at + 1 < z.cells

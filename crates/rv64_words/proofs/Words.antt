@@ -1,7 +1,7 @@
 -- Lists of words as functions of the index.
-use Rattle.std.proofs.Common.{ap, map, take, ◌≡◌, ℕ, zero, suc, ◌+◌, ◌<◌, cond, eqb, List, [], ◌∷◌, ◌++◌, length, get_or, set, replicate, refl, sym, ◌∙◌, ⊎_elim, arith, get_or-set_same, get_or-set_other}
+use Rattle.std.proofs.Common.{◌≡◌, ℕ, zero, suc, ◌+◌, ◌<◌, cond, eqb, List, [], ◌∷◌, ◌++◌, length, get_or, set, replicate, refl, sym, ◌∙◌, ⊎_elim, arith, get_or-set_same, get_or-set_other}
 use Rattle.std.proofs.lemmas.Bool.{cases_eq, eq-eqb, ne_eqb, cases_lt}
-use Rattle.std.proofs.lemmas.List.{get_or-replicate, get_or_past, get_or_append_left, get_or_push, length-map, length-take-le, map_more, length-replicate, length_push}
+use Rattle.std.proofs.lemmas.List.{get_or-replicate, get_or_past, get_or_append_left, get_or_push, length-replicate, length_push}
 use Rattle.rv64_words.specs.State.{words_of, assigned}
 
 -- two functions that agree everywhere are one
@@ -46,16 +46,3 @@ zeros_at (suc (suc k)) = refl
 -- two zeros at first
 pub words_of-two_zeros : words_of (0 ∷ 0 ∷ []) ≡ (λ _. 0)
 words_of-two_zeros = same_words _ _ zeros_at
-
--- one more argument stands on the stack
-pub words_of-more : {X : Type 0} (f : X → ℕ) (xs : List ℕ) (args : List X) (k v : ℕ) (d : X) → k + 2 < length xs → k < length args
-    → words_of xs ≡ words_of (0 ∷ 0 ∷ map f (take k args)) → v ≡ f (get_or args k d)
-    → words_of (set xs (k + 2) v) ≡ words_of (0 ∷ 0 ∷ map f (take (k + 1) args))
-words_of-more f xs args k v d room here same e =
-    let ys : List ℕ = 0 ∷ 0 ∷ map f (take k args) in
-    let len : length ys ≡ k + 2 = rw (length-map, length-take-le k args (omega arith)) (omega arith) in
-    words_of-set xs (k + 2) v room
-    ∙ (ap (λ w. assigned w (k + 2) v) same
-    ∙ (ap (λ n. assigned (words_of ys) n v) (sym len)
-    ∙ (sym (words_of-push ys v)
-    ∙ ap words_of (ap (λ w. 0 ∷ 0 ∷ w) (ap (λ w. map f (take k args) ++ w ∷ []) e ∙ sym (map_more f args k d here))))))

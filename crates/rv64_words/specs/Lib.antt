@@ -1,4 +1,5 @@
 pub mod Arithmetic
+pub mod Calls
 pub mod Encoding
 pub mod Environment
 pub mod Fields

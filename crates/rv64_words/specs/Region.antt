@@ -19,6 +19,13 @@ most_blocks = 262144
 abbrev pub table_words : ℕ
 table_words = 524290
 
+-- the most words of an image, and the most words of 64 bits of its stack
+abbrev pub most_words : ℕ
+most_words = 250000
+
+abbrev pub most_stack : ℕ
+most_stack = 8388608
+
 -- how many words the stack and the cells have; a cell has two: 1 where it was stored, else 0, and its value
 pub record Sizes : Type 0 where
   pub stack : ℕ

@@ -2,6 +2,7 @@
 // them, their 32 bits, and images of them. specs/ says what the machine does at each word.
 #![tactic(auto)]
 
+pub mod call;
 pub mod decoding;
 pub mod encoding;
 pub mod field;

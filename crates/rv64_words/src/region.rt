@@ -1,4 +1,4 @@
-// The machine's memory: where its regions lie.
+// The machine's memory: where its regions lie, and how large they and images are at most.
 
 /// The address of the stack's first word.
 pub const STACK_BASE: u64 = 0x1000_0000;
@@ -14,3 +14,9 @@ pub const MOST_BLOCKS: u32 = 262_144;
 
 /// The words of the block table: two for each block number from 0 to 262,144.
 pub const TABLE_WORDS: usize = 524_290;
+
+/// The most words of an image.
+pub const MOST_WORDS: usize = 250_000;
+
+/// The most words of 64 bits of an image's stack.
+pub const MOST_STACK: u32 = 8_388_608;

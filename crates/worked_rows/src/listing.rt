@@ -7,6 +7,7 @@ use bril_tree::value::Value;
 use row_text::{LineFault, add_lines};
 use rv64_machine::machine::Machine;
 use rv64_words::image::Image;
+use rv64_words::region::MOST_WORDS;
 use std::alloc::Global;
 
 // What the machine has. Its words have their number of frames in them.
@@ -31,7 +32,7 @@ pub fn execute(
     shown: &mut Vec<u8>,
 ) -> Result<(), LineFault> {
     let words = words_of(alloc, listing)?;
-    if words.as_slice().len() > 250_000 || args.len() > 1_000 {
+    if words.as_slice().len() > MOST_WORDS || args.len() > 1_000 {
         return Err(LineFault::Form);
     }
     let image = Image {

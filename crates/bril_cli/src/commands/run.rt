@@ -8,6 +8,7 @@ ghost use Rattle.bril_report.specs.StageFaults.{status_of};
 ghost use Rattle.pass_law.specs.Chains.{AllSame};
 ghost use Rattle.bril_tree.specs.Run.{FitMain};
 ghost use Rattle.rv64_implements.specs.Implements.{Implements};
+ghost use Rattle.rv64_words.specs.Region.{most_words, most_stack};
 
 use crate::arguments::values_of;
 use crate::image::image_of;
@@ -112,8 +113,8 @@ fn run_image<O: Sink, E: Sink>(
 ) -> Result<(), Status>
     requires implements { Implements image.now program.now settings.limits }
     requires fits { FitMain program.now values.now }
-    requires words { length image.now.words ≤ 250000 }
-    requires stack { image.now.stack ≤ 8388608 }
+    requires words { length image.now.words ≤ most_words }
+    requires stack { image.now.stack ≤ most_stack }
     requires sound { silenced.old ≡ false }
     ensures { Telling (λ told. RunsImage (status_of result) program.now settings.limits values.now settings.steps settings.stats told (O.seen out.old) (O.seen out.new)) silenced.new (E.seen err.old) (E.seen err.new) }
 {
