@@ -1,4 +1,4 @@
-use Rattle.std.proofs.Common.{◌≡◌, ◌<◌, ◌-◌, ◌+◌}
+use Rattle.std.proofs.Common.{◌≡◌, ◌-◌, ◌+◌}
 use Rattle.rv64_processor.specs.RegionView.{words_in, size_in, written_in}
 use Rattle.rv64_processor.proofs.region.Region.fill.Given as goal
 
