@@ -1,6 +1,5 @@
 -- What a run of an interpreter leaves.
-use Rattle.std.proofs.Common.{◌≡◌, ℕ, suc, ◌≤◌, false, List, Some, None, refl, sym, ap, ◌∙◌, subst, arith, inr, ⊎_elim, true≢false}
-use Rattle.std.proofs.Math.Bridge.{le_prop}
+use Rattle.std.proofs.Common.{◌≡◌, ℕ, suc, ◌≤◌, false, List, [], Option, Some, None, refl, sym, ap, ◌∙◌, subst, arith, inr, ⊎_elim, true≢false}
 use Rattle.bril_interpreter.specs.declared.answer.StepAnswer.TheVariants as run
 use Rattle.bril_interpreter.specs.StepAnswers.{Ran, RunFailed, WantsMemory, reached_after, puts_within}
 use Rattle.bril_interpreter.specs.Interpreter.{InterpView, state_of}
@@ -17,7 +16,8 @@ use Rattle.bril_tree.specs.Step.{step}
 use Rattle.simulation.specs.System.{after, IsPrefix}
 use Rattle.simulation.proofs.After.{after-grows_le}
 use Rattle.bril_cli.proofs.Runs.{TookSome-prefix}
-use Rattle.bril_cli.specs.commands.Interp.{StopsShort}
+use Rattle.bril_commands.specs.Outcome.{ShowsWhole, ShowsPartly, StopsShort}
+use Rattle.bril_commands.specs.commands.Interp.{interpreted}
 
 -- the interpreter was made for the program, the limits and the values, and has made no step
 pub record IsFresh (i : InterpView) (p : Prog) (limits : Limits) (values : List Value) : Type 0 where
@@ -37,16 +37,26 @@ module _ (i : InterpView) (p : Prog) (limits : Limits) (values : List Value) (fr
       (after-grows_le (program p limits) (program_is_system p limits) n steps (first_state p limits values) h)
 
   module _ (i' : InterpView) (s t : SinkSeen) where
-    pub ended : (e : End) → Ran (run.End e) steps i i' s t → ((state_after p limits values steps).ended ≡ Some e) × TookAll s (state_after p limits values steps).printed t
-    ended e ran = (ap (λ (u : State). u.ended) (sym (reached steps)) ∙ ran.0, subst (λ (u : State). TookAll s u.printed t) (reached steps) ran.1.printed.took)
+    whole : (ended : Option End) → (state_after p limits values steps).ended ≡ ended → TookAll s (state_after p limits values steps).printed t → ShowsWhole (interpreted p values limits.frames limits.cells steps) ended [] s t
+    whole ended ends took = record {
+      output = (state_after p limits values steps).printed;
+      shows = (refl, record { limits = limits; frames_are = refl; cells_are = refl; ends = ends; prints = refl });
+      took = took;
+    }
 
-    pub goes_on : Ran run.Go steps i i' s t → ((state_after p limits values steps).ended ≡ None) × TookAll s (state_after p limits values steps).printed t
-    goes_on ran = (ap (λ (u : State). u.ended) (sym (reached steps)) ∙ ran.0, subst (λ (u : State). TookAll s u.printed t) (reached steps) ran.1.printed.took)
+    pub ended : (e : End) → Ran (run.End e) steps i i' s t → ShowsWhole (interpreted p values limits.frames limits.cells steps) (Some e) [] s t
+    ended e ran = whole (Some e) (ap (λ (u : State). u.ended) (sym (reached steps)) ∙ ran.0) (subst (λ (u : State). TookAll s u.printed t) (reached steps) ran.1.printed.took)
 
-    pub exhausted : Ran run.Memory steps i i' s t → StopsShort p limits values steps s t
+    pub goes_on : Ran run.Go steps i i' s t → ShowsWhole (interpreted p values limits.frames limits.cells steps) None [] s t
+    goes_on ran = whole None (ap (λ (u : State). u.ended) (sym (reached steps)) ∙ ran.0) (subst (λ (u : State). TookAll s u.printed t) (reached steps) ran.1.printed.took)
+
+    pub exhausted : Ran run.Memory steps i i' s t → StopsShort (interpreted p values limits.frames limits.cells steps) s t
     exhausted ran = inr (
       (state_after p limits values ran.made).printed,
       record {
+        limits = limits;
+        frames_are = refl;
+        cells_are = refl;
         made = ran.made;
         within = ran.within;
         wants = subst (λ (q : Prog). WantsMemory q limits (state_after p limits values ran.made)) fresh.of_program
@@ -57,39 +67,18 @@ module _ (i : InterpView) (p : Prog) (limits : Limits) (values : List Value) (fr
       subst (λ (u : State). TookAll s u.printed t) (reached ran.made) ran.reached.printed.took,
     )
 
-    by_print : RunFailed steps i i' s t → TookSome s (state_after p limits values steps).printed t × Rose s.faults t.faults
+    by_print : RunFailed steps i i' s t → ShowsPartly (interpreted p values limits.frames limits.cells steps) s t
     by_print failed =
-        let print = failed.print in (
-          TookSome-prefix (reached_after i (suc failed.made)).printed (state_after p limits values steps).printed
+        let print = failed.print in record {
+          ended = (state_after p limits values steps).ended;
+          told = [];
+          output = (state_after p limits values steps).printed;
+          shows = (refl, record { limits = limits; frames_are = refl; cells_are = refl; ends = refl; prints = refl });
+          took = TookSome-prefix (reached_after i (suc failed.made)).printed (state_after p limits values steps).printed
               (shown_before (suc failed.made) (let h = failed.within in omega arith))
-              (subst (λ bytes. TookSome s bytes t) (sym print.line) (FailedAfter-took (puts_within i failed.made) print.put)),
-          print.put.rose,
-        )
+              (subst (λ bytes. TookSome s bytes t) (sym print.line) (FailedAfter-took (puts_within i failed.made) print.put));
+          rose = print.put.rose;
+        }
 
-    pub failed : Ran run.WriteFault steps i i' s t → TookSome s (state_after p limits values steps).printed t × Rose s.faults t.faults
+    pub failed : Ran run.WriteFault steps i i' s t → ShowsPartly (interpreted p values limits.frames limits.cells steps) s t
     failed ran = ⊎_elim (λ before. absurd (true≢false (sym before.failed_before ∙ fresh.sound))) by_print ran
-
--- ---- limits of the same numbers are one
-
-abbrev limits_of : (frames cells : ℕ) → 1 ≤ frames → frames ≤ 65536 → 1 ≤ cells → cells ≤ 4194304 → Limits
-limits_of frames cells some_frames few_frames some_cells few_cells = record {
-  frames = frames;
-  cells = cells;
-  some_frames = some_frames;
-  few_frames = few_frames;
-  some_cells = some_cells;
-  few_cells = few_cells;
-}
-
-module _ (a b : Limits) (frames : a.frames ≡ b.frames) (cells : a.cells ≡ b.cells) where
-  same_frames : limits_of a.frames b.cells a.some_frames a.few_frames b.some_cells b.few_cells ≡ b
-  same_frames =
-      subst (λ f. (some : 1 ≤ f) (few : f ≤ 65536) → limits_of f b.cells some few b.some_cells b.few_cells ≡ b) (sym frames)
-      (λ some few i. limits_of b.frames b.cells (le_prop some b.some_frames i) (le_prop few b.few_frames i) b.some_cells b.few_cells)
-      a.some_frames a.few_frames
-
-  pub Limits-same : a ≡ b
-  Limits-same =
-      subst (λ c. (some : 1 ≤ c) (few : c ≤ 4194304) → limits_of a.frames c a.some_frames a.few_frames some few ≡ b) (sym cells)
-      (λ some few. (λ i. limits_of a.frames b.cells a.some_frames a.few_frames (le_prop some b.some_cells i) (le_prop few b.few_cells i)) ∙ same_frames)
-      a.some_cells a.few_cells

@@ -1,13 +1,4 @@
-pub mod Causes
-pub mod Compiling
 pub mod Interpreting
-pub mod Keeping
 pub mod Listings
-pub mod Outcomes
-pub mod Promises
 pub mod Runs
 pub mod Shipped
-pub mod Sources
-pub mod Statuses
-pub mod Tallies
-pub mod Telling

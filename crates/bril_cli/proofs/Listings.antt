@@ -5,7 +5,7 @@ use Rattle.std.proofs.lemmas.List.{take-append-drop}
 use Rattle.std.proofs.lemmas.List.Concat.{flat_map-cons}
 use Rattle.bril_outside.proofs.SinkWrites.{Rose-after, TookSome-after, TookSome-longer}
 use Rattle.bril_outside.specs.Sink.{SinkSeen, Rose, TookAll, TookSome}
-use Rattle.bril_cli.specs.commands.Emit.{listing, word_line}
+use Rattle.bril_commands.specs.commands.Emit.{listing, word_line}
 
 listing-at : (words : List ℕ) (i d : ℕ) → i < length words → listing words ≡ (listing (take i words) ++ word_line (get_or words i d)) ++ listing (drop (suc i) words)
 listing-at words i d inside =

@@ -3,13 +3,12 @@ use Rattle.std.proofs.Common.{◌≡◌, ℕ, suc, ◌+◌, ◌*◌, ◌≤◌, 
 use Rattle.std.specs.Option.{option_map}
 use Rattle.bril_outside.proofs.SinkWrites.{TookSome-longer}
 use Rattle.bril_outside.specs.Sink.{SinkSeen, TookAll, TookSome}
-use Rattle.program_numbers.specs.Cost.{IsCost}
-use Rattle.bril_tree.specs.Run.{FitMain, state_after}
+use Rattle.bril_tree.specs.Run.{FitMain}
 use Rattle.bril_tree.specs.declared.limits.End.{End}
 use Rattle.bril_tree.specs.declared.limits.Limits.{Limits}
 use Rattle.bril_tree.specs.declared.program.Prog.{Prog}
 use Rattle.bril_tree.specs.declared.value.Value.{Value}
-use Rattle.rv64_implements.proofs.Endings.{shown, stopped_in_time, printed_in_time, failures_counted}
+use Rattle.rv64_implements.proofs.Endings.{shown, failures_counted}
 use Rattle.rv64_implements.proofs.Systems.{image_is_system, machine_after-after}
 use Rattle.rv64_implements.specs.Implements.{Implements, ImplementsRun, image_system, image_after}
 use Rattle.rv64_implements.specs.Shown.{ProgramShows}
@@ -24,20 +23,14 @@ use Rattle.rv64_words.specs.declared.image.GuardAt.{GuardAt}
 use Rattle.rv64_words.specs.declared.image.Image.{Image}
 use Rattle.simulation.proofs.After.{after-grows_le}
 use Rattle.simulation.specs.System.{IsPrefix}
-use Rattle.bril_cli.specs.Images.{MachineShows}
-use Rattle.bril_cli.specs.Stats.{stats_told}
-use Rattle.bril_cli.specs.commands.Run.{ShowsRun, RanWhole, RanPartly}
+use Rattle.bril_commands.proofs.Running.{finished_one}
+use Rattle.bril_commands.specs.Outcome.{ShowsWhole, ShowsPartly}
+use Rattle.bril_commands.specs.Stats.{stats_told, TellsStats}
+use Rattle.bril_commands.specs.commands.Run.{ShowsRun, Executes, executed}
 
 -- the first of some bytes are the first of those with more after them
 pub TookSome-prefix : {s t : SinkSeen} (a b : List ℕ) → IsPrefix a b → TookSome s a t → TookSome s b t
 TookSome-prefix {s} {t} a b more some = subst (λ bytes. TookSome s bytes t) (sym more.1) (TookSome-longer more.0 some)
-
--- an end of the machine is one of the program's
-finished_one : (a b : Option End) → option_map Finished a ≡ option_map Finished b → a ≡ b
-finished_one None None e = refl
-finished_one None (Some y) e = cc
-finished_one (Some x) None e = cc
-finished_one (Some x) (Some y) e = cc
 
 no_trapped : (ended : Option End) (trap : _) → Some (Trapped trap) ≡ option_map Finished ended → ⊥
 no_trapped None trap e = cc
@@ -73,6 +66,18 @@ module _ (image : Image) (p : Prog) (limits : Limits) (values : List Value) (imp
         program = subst (λ (e : Option End). ProgramShows p limits values words e (image_after image limits values words).printed) same there.2;
       }
 
+  -- and this is told of it
+  executes_at : (stats : Bool) (ended : Option End) → (image_after image limits values words).stopped ≡ option_map Finished ended → Executes p limits values words stats ended (stats_told stats p image.guards (image_after image limits values words)) printed
+  unfolding printed shows_at
+  executes_at stats ended ends = record {
+    shows = shows_at ended ends;
+    tells = record {
+      lines = refl;
+      guards = implements.implements.guards;
+      counts = λ n end is final. failures_counted implements.homes image p limits values run_of n words end (Finished end) final (ends ∙ ap (option_map Finished) is);
+    };
+  }
+
   module _ (m : Machine) (fresh : IsFresh m image limits values) where
     reached : (n : ℕ) → reached_after m n ≡ image_after image limits values n
     reached n = (λ i. machine_after (fresh.holds i) (fresh.sizes i) n (fresh.state i)) ∙ machine_after-after image (sizes_of image limits.cells) n (start values)
@@ -87,19 +92,16 @@ module _ (image : Image) (p : Prog) (limits : Limits) (values : List Value) (imp
     module _ (m' : Machine) (s t : SinkSeen) where
       -- the machine ended so, or goes on, and its counts were told
       pub whole : (ended : Option End) → (reached_after m words).stopped ≡ option_map Finished ended → Reached (reached_after m words) (puts_by m words) m m' s t
-          → (stats : Bool) → RanWhole p limits values words stats ended (stats_told stats p image.guards (state_of m')) s t
-      unfolding printed shows_at
+          → (stats : Bool) → ShowsWhole (executed p limits values words stats) ended (stats_told stats p image.guards (state_of m')) s t
+      unfolding printed
       whole ended ends ran stats =
           let here : (image_after image limits values words).stopped ≡ option_map Finished ended = ap (λ (u : State). u.stopped) (sym (reached words)) ∙ ends in
+          let told : stats_told stats p image.guards (state_of m') ≡ stats_told stats p image.guards (image_after image limits values words) =
+              ap (stats_told stats p image.guards) ran.became.state ∙ told_unprinted stats p image.guards (reached_after m words)
+                  ∙ ap (stats_told stats p image.guards) (reached words) in
           record {
             output = printed;
-            shows = shows_at ended here;
-            tells = record {
-              lines = ap (stats_told stats p image.guards) ran.became.state ∙ told_unprinted stats p image.guards (reached_after m words)
-                  ∙ ap (stats_told stats p image.guards) (reached words);
-              guards = implements.implements.guards;
-              counts = λ n end is final. failures_counted implements.homes image p limits values run_of n words end (Finished end) final (here ∙ ap (option_map Finished) is);
-            };
+            shows = subst (λ bytes. Executes p limits values words stats ended bytes printed) (sym told) (executes_at stats ended here);
             took = subst (λ (u : State). TookAll s u.printed t) (reached words) ran.printed.took;
           }
 
@@ -108,28 +110,20 @@ module _ (image : Image) (p : Prog) (limits : Limits) (values : List Value) (imp
           let there = shown implements.homes image p limits values run_of words in
           no_trapped there.0 trap (sym ran.0 ∙ (ap (λ (u : State). u.stopped) (reached words) ∙ there.1))
 
-      by_print : RunFailed words m m' s t → RanPartly p limits values words s t
+      by_print : (stats : Bool) → RunFailed words m m' s t → ShowsPartly (executed p limits values words stats) s t
       unfolding printed
-      by_print failed =
+      by_print stats failed =
           let there = shown implements.homes image p limits values run_of words in
           record {
             ended = there.0;
+            told = stats_told stats p image.guards (image_after image limits values words);
             output = printed;
-            shows = shows_at there.0 there.1;
+            shows = executes_at stats there.0 there.1;
             took = TookSome-prefix (reached_after m (suc failed.executed)).printed printed
                 (printed_before (suc failed.executed) (let h = failed.within in omega arith))
                 failed.print.took;
             rose = failed.print.rose;
           }
 
-      pub partly : Ran run.WriteFault words m m' s t → RanPartly p limits values words s t
-      partly ran = ⊎_elim (λ failed. absurd (true≢false (sym failed.failed_before ∙ fresh.sound))) by_print ran
-
--- ---- a machine that shows a run has the program's end in time
-
-module _ (p : Prog) (limits : Limits) (values : List Value) (words : ℕ) (ended : Option End) (output : List ℕ) (shows : MachineShows p limits values words ended output) (fits : FitMain p values) (n cost : ℕ) (end : End) (is_cost : IsCost p cost) (enough : cost * (n + 1) ≤ words) (ends : (state_after p limits values n).ended ≡ Some end) where
-  pub same_end : ended ≡ Some end
-  same_end = finished_one ended (Some end) (sym shows.ends ∙ stopped_in_time shows.implements.homes shows.image p limits values (shows.implements.implements.runs values fits) n cost words end is_cost enough ends)
-
-  pub same_output : output ≡ (state_after p limits values n).printed
-  same_output = sym shows.prints ∙ printed_in_time shows.implements.homes shows.image p limits values (shows.implements.implements.runs values fits) n cost words end is_cost enough ends
+      pub partly : (stats : Bool) → Ran run.WriteFault words m m' s t → ShowsPartly (executed p limits values words stats) s t
+      partly stats ran = ⊎_elim (λ failed. absurd (true≢false (sym failed.failed_before ∙ fresh.sound))) (by_print stats) ran

@@ -1,15 +1,3 @@
-pub mod Answers
-pub mod Arguments
-pub mod Call
-pub mod CommandLine
-pub mod Driver
 pub mod End
 pub mod Images
-pub mod Source
-pub mod Stages
-pub mod Stats
-pub mod commands
-pub mod After
-pub mod PassList
 pub mod Shipped
-pub mod Sources

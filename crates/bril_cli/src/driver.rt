@@ -2,11 +2,11 @@
 // `?` hands its refusal on.
 
 ghost use Rattle.std.specs.Prelude.{◌≡◌, ◌≤◌, false, length, IfOk, IfErr};
-ghost use Rattle.bril_cli.specs.CommandLine.{KeepsPasses};
-ghost use Rattle.bril_cli.specs.Driver.{Untold, DoesTree, DoesFile};
-ghost use Rattle.bril_cli.specs.PassList.{pass_list};
-ghost use Rattle.bril_cli.specs.Stages.{IsAcceptedProgram, RefusesProgram};
-ghost use Rattle.bril_cli.specs.Stats.{Telling};
+ghost use Rattle.bril_commands.specs.Driver.{DoesTree, DoesFile};
+ghost use Rattle.bril_commands.specs.PassList.{pass_list};
+ghost use Rattle.bril_commands.specs.Stages.{IsAcceptedProgram, RefusesProgram};
+ghost use Rattle.bril_commands.specs.Stats.{Telling};
+ghost use Rattle.bril_commands.specs.Table.{command, KeepsPasses};
 ghost use Rattle.bril_report.specs.StageFaults.{status_of};
 ghost use Rattle.bril_words.specs.Names.{names_of};
 ghost use Rattle.bril_words.specs.Request.{IsActionInRange};
@@ -18,9 +18,9 @@ use crate::commands::json::put_json;
 use crate::commands::passes::put_transformed;
 use crate::commands::run::{RunSettings, run};
 use crate::commands::text::put_text;
-use crate::program::accepted_program;
-use crate::source::{read_file, read_tree};
 use bril_checker::Checked;
+use bril_commands::program::accepted_program;
+use bril_commands::source::{read_file, read_tree};
 use bril_outside::files::Files;
 use bril_outside::sink::Sink;
 use bril_report::Status;
@@ -51,7 +51,7 @@ pub fn drive<F: Files, O: Sink, E: Sink>(
     requires sound { silenced.old ≡ false }
     ensures holds { (F.seen files.new).holds ≡ (F.seen files.old).holds }
     ensures faults { (F.seen files.old).faults ≤ (F.seen files.new).faults }
-    ensures does { Telling (λ told. DoesFile request.entry.action (status_of result) (pass_list (λ p. meaning p) (λ p. counts p) passes.old passes.new (names_of request.entry.list.now)) (F.seen files.old) (F.seen files.new) request.entry.path.now request.entry.args.now told (O.seen out.old) (O.seen out.new)) silenced.new (E.seen err.old) (E.seen err.new) }
+    ensures does { Telling (λ told. DoesFile (command request.entry.action) (status_of result) (pass_list (λ p. meaning p) (λ p. counts p) passes.old passes.new (names_of request.entry.list.now)) (F.seen files.old) (F.seen files.new) request.entry.path.now request.entry.args.now told (O.seen out.old) (O.seen out.new)) silenced.new (E.seen err.old) (E.seen err.new) }
     ensures keeps { KeepsPasses (λ p. meaning p) request.entry.action passes.old passes.new }
 {
     let source = read_file(alloc, request.path, files)?;
@@ -72,7 +72,7 @@ fn do_command<O: Sink, E: Sink>(
     requires range { IsActionInRange request.action }
     requires few { length (names_of request.list.now) ≤ 64 }
     requires sound { silenced.old ≡ false }
-    ensures does { Telling (λ told. Untold request.entry.action told × DoesTree request.entry.action (status_of result) (pass_list (λ p. meaning p) (λ p. counts p) passes.old passes.new (names_of request.entry.list.now)) tree.now request.entry.args.now told (O.seen out.old) (O.seen out.new)) silenced.new (E.seen err.old) (E.seen err.new) }
+    ensures does { Telling (λ told. DoesTree (command request.entry.action) (status_of result) (pass_list (λ p. meaning p) (λ p. counts p) passes.old passes.new (names_of request.entry.list.now)) tree.now request.entry.args.now told (O.seen out.old) (O.seen out.new)) silenced.new (E.seen err.old) (E.seen err.new) }
     ensures keeps { KeepsPasses (λ p. meaning p) request.entry.action passes.old passes.new }
 {
     match request.action {

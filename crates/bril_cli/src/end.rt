@@ -1,10 +1,10 @@
 // How a command line ends, also where the system gives no words.
 
 ghost use Rattle.std.specs.Prelude.{◌≡◌, IfOk, IfErr};
-ghost use Rattle.bril_cli.specs.Answers.{Promises};
-ghost use Rattle.bril_cli.specs.Call.{call_of};
 ghost use Rattle.bril_cli.specs.End.{IsUntouched};
 ghost use Rattle.bril_cli.specs.Shipped.{AreShipped};
+ghost use Rattle.bril_commands.specs.Answers.{Promises};
+ghost use Rattle.bril_commands.specs.Call.{call_of};
 ghost use Rattle.bril_report.specs.Report.{status_number};
 
 use crate::top::bril_top;

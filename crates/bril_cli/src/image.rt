@@ -1,7 +1,8 @@
 // The image of an accepted program.
 
 ghost use Rattle.std.specs.Prelude.{◌≡◌, ◌≤◌, length, IfOk, IfErr};
-ghost use Rattle.bril_cli.specs.Images.{emit_status, RefusesImage};
+ghost use Rattle.bril_cli.specs.Images.{emit_status};
+ghost use Rattle.bril_commands.specs.Images.{RefusesImage};
 ghost use Rattle.rv64_implements.specs.Implements.{Implements};
 ghost use Rattle.rv64_implements.specs.WordBounds.{IsWithin};
 ghost use Rattle.rv64_words.specs.Region.{most_words, most_stack};

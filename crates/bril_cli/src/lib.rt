@@ -1,13 +1,9 @@
 //! The command line of Roolvist: what its words ask for is done, and the exit status says how it ended.
 #![tactic(auto)]
 
-mod arguments;
 mod commands;
 mod driver;
 pub mod end;
 mod image;
-mod list;
-mod program;
-mod source;
 mod stats;
 pub mod top;

@@ -1,7 +1,7 @@
 // `run --stats`: what is told of a run of the machine on the error output, before the line of the status.
 
 ghost use Rattle.std.specs.Prelude.{◌≡◌, ◌^◌, ◌<◌, false, length};
-ghost use Rattle.bril_cli.specs.Stats.{stats_pieces, stats_told, PutTold};
+ghost use Rattle.bril_commands.specs.Stats.{stats_pieces, stats_told, PutTold};
 ghost use Rattle.bril_report.specs.Report.{PutsPieces};
 ghost use Rattle.rv64_machine.specs.MachineView.{state_of, image_in};
 

@@ -2,10 +2,10 @@
 
 ghost use Rattle.std.specs.Prelude.{◌≡◌, ◌≤◌};
 ghost use Rattle.std.specs.List.{All};
-ghost use Rattle.bril_cli.specs.Answers.{Promises};
-ghost use Rattle.bril_cli.specs.Call.{call_of};
 ghost use Rattle.bril_cli.specs.Shipped.{MakesAsShipped};
-ghost use Rattle.bril_cli.specs.Stats.{SaysUnless};
+ghost use Rattle.bril_commands.specs.Answers.{Promises};
+ghost use Rattle.bril_commands.specs.Call.{call_of};
+ghost use Rattle.bril_commands.specs.Stats.{SaysUnless};
 ghost use Rattle.pass_law.specs.Chains.{AllSame};
 
 use crate::driver::drive;

@@ -1,5 +1,8 @@
 // A sweep over the items, the last one first, that finds most of what is dead: all but what only branches tell. It knows of
 // each location the next item that reads it, and the next that assigns it.
+//
+// The work list alone would find the same, but with a search for each location that it looks at. The sweep goes over a function once,
+// so a long chain of dead items in a straight line takes time in proportion to its length, and little is left for the work list.
 
 ghost use Rattle.std.specs.Prelude.{◌≡◌, ◌≢◌, ◌<◌, ◌+◌, ◌^◌, ◌-◌, ◌∷◌, [], All, true, false, None, Some, is_some, length, map, slice_get, if◌then◌else◌, IfOk, OnOk, IfSome};
 ghost use Rattle.std.specs.Option.{option_to_list};

@@ -1,8 +1,8 @@
 // `check`: how many functions and items the accepted program of a file has.
 
 ghost use Rattle.std.specs.Prelude.{◌≡◌, IfOk};
-ghost use Rattle.bril_cli.specs.Stages.{PutsText};
-ghost use Rattle.bril_cli.specs.commands.Check.{accepted_line};
+ghost use Rattle.bril_commands.specs.Outcome.{PutsText};
+ghost use Rattle.bril_commands.specs.commands.Check.{accepted_line};
 ghost use Rattle.bril_report.specs.StageFaults.{status_of};
 ghost use Rattle.bril_tree.specs.Size.{IsCounted};
 

@@ -1,14 +1,16 @@
 // `emit`: the machine words of an accepted program are written.
 
-ghost use Rattle.std.specs.Prelude.{◌≡◌, ◌%◌, ◌<◌, ◌≤◌, length};
-ghost use Rattle.bril_cli.specs.PassList.{pass_list};
-ghost use Rattle.bril_cli.specs.commands.Emit.{hex_digit, word_line, listing, PutsListing, EmitsProgram};
+ghost use Rattle.std.specs.Prelude.{◌≡◌, ◌%◌, ◌<◌, ◌≤◌, [], length};
+ghost use Rattle.bril_commands.specs.Driver.{DoesProgram};
+ghost use Rattle.bril_commands.specs.Outcome.{PutsText};
+ghost use Rattle.bril_commands.specs.PassList.{pass_list};
+ghost use Rattle.bril_commands.specs.commands.Emit.{hex_digit, word_line, listing, shown, emits};
 ghost use Rattle.bril_report.specs.StageFaults.{status_of};
 ghost use Rattle.pass_law.specs.Chains.{AllSame};
 
 use crate::image::image_of;
-use crate::list::transformed;
 use bril_checker::Checked;
+use bril_commands::list::transformed;
 use bril_outside::sink::Sink;
 use bril_report::Status;
 use bril_tree::limits::Limits;
@@ -31,7 +33,7 @@ pub fn put_image<O: Sink>(
     out: &mut O,
 ) -> Result<(), Status>
     requires { length names.now ≤ 64 }
-    ensures does { EmitsProgram (status_of result) (pass_list (λ p. meaning p) (λ p. counts p) passes.old passes.new names.now) checked.prog limits (O.seen out.old) (O.seen out.new) }
+    ensures does { DoesProgram (emits shown limits.frames limits.cells) (status_of result) (pass_list (λ p. meaning p) (λ p. counts p) passes.old passes.new names.now) checked.prog [] [] (O.seen out.old) (O.seen out.new) }
     ensures same { AllSame (λ p. meaning p) passes.old passes.new }
 {
     let made = transformed(alloc, passes, names, checked)?;
@@ -41,7 +43,7 @@ pub fn put_image<O: Sink>(
 
 // Puts the line of each word. It takes no memory.
 fn put_words<O: Sink>(words: &[u32], out: &mut O) -> Result<(), Status>
-    ensures { PutsListing (status_of result) (listing words.now) (O.seen out.old) (O.seen out.new) }
+    ensures { PutsText (status_of result) (listing words.now) (O.seen out.old) (O.seen out.new) }
 {
     for word in words {
         out.put(&word_line(*word))?;

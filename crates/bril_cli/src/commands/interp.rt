@@ -1,11 +1,15 @@
 // `interp`: an accepted program is interpreted with the arguments that the words spell.
 
-ghost use Rattle.bril_cli.specs.commands.Interp.{StepsTo, InterpretsProgram};
+ghost use Rattle.std.specs.Prelude.{[]};
+ghost use Rattle.bril_commands.specs.Arguments.{AreOnlyValues, RefusesArgs};
+ghost use Rattle.bril_commands.specs.Driver.{IsSilent, Stage};
+ghost use Rattle.bril_commands.specs.Outcome.{Works};
+ghost use Rattle.bril_commands.specs.commands.Interp.{interpreted};
 ghost use Rattle.bril_report.specs.StageFaults.{status_of};
 ghost use Rattle.bril_tree.specs.Run.{FitMain};
 
-use crate::arguments::values_of;
 use bril_checker::Checked;
+use bril_commands::arguments::values_of;
 use bril_interpreter::{Interp, StepAnswer};
 use bril_outside::sink::Sink;
 use bril_report::Status;
@@ -28,7 +32,7 @@ pub fn interpret<O: Sink>(
     steps: u64,
     out: &mut O,
 ) -> Result<(), Status>
-    ensures { InterpretsProgram (status_of result) checked.now.prog words.now limits steps (O.seen out.old) (O.seen out.new) }
+    ensures { Stage (RefusesArgs (status_of result) checked.now.prog words.now) (IsSilent [] (O.seen out.old) (O.seen out.new)) (λ values. AreOnlyValues checked.now.prog words.now values) (λ values are. Works (interpreted checked.now.prog values limits.frames limits.cells steps) (status_of result) [] (O.seen out.old) (O.seen out.new)) }
 {
     let values = values_of(alloc, checked.prog(), words)?;
     run_with(alloc, checked, values.as_slice(), limits, steps, out)
@@ -44,7 +48,7 @@ fn run_with<O: Sink>(
     out: &mut O,
 ) -> Result<(), Status>
     requires { FitMain checked.now.prog values.now }
-    ensures { StepsTo (status_of result) checked.now.prog limits values.now steps (O.seen out.old) (O.seen out.new) }
+    ensures { Works (interpreted checked.now.prog values.now limits.frames limits.cells steps) (status_of result) [] (O.seen out.old) (O.seen out.new) }
 {
     let Ok(mut interp) = Interp::new(alloc, checked, limits, values) else {
         return Err(Status::OutOfMemory);

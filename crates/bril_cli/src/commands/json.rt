@@ -1,7 +1,7 @@
 // `json`: the file in canonical JSON, and LF.
 
-ghost use Rattle.bril_cli.specs.Stages.{PutsText};
-ghost use Rattle.bril_cli.specs.commands.Json.{json_line};
+ghost use Rattle.bril_commands.specs.Outcome.{PutsText};
+ghost use Rattle.bril_commands.specs.commands.Json.{json_line};
 ghost use Rattle.bril_report.specs.StageFaults.{status_of};
 
 use bril_json::write_json;

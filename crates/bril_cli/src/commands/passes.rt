@@ -1,15 +1,15 @@
 // `passes`: the program that a list of passes makes of an accepted program is written, in canonical text.
 
-ghost use Rattle.std.specs.Prelude.{◌≡◌, ◌≤◌, false, length};
-ghost use Rattle.bril_cli.specs.PassList.{pass_list};
-ghost use Rattle.bril_cli.specs.Stats.{Telling};
-ghost use Rattle.bril_cli.specs.commands.Passes.{IsTextOf, PutsProgram, TransformsProgram};
+ghost use Rattle.std.specs.Prelude.{◌≡◌, ◌≤◌, false, [], length, IfOk};
+ghost use Rattle.bril_commands.specs.Driver.{DoesProgram};
+ghost use Rattle.bril_commands.specs.PassList.{pass_list};
+ghost use Rattle.bril_commands.specs.Stats.{Telling};
+ghost use Rattle.bril_commands.specs.commands.Passes.{IsTextOf, transforms};
 ghost use Rattle.bril_report.specs.StageFaults.{status_of};
 ghost use Rattle.pass_law.specs.Chains.{AllSame};
-ghost use Rattle.std.specs.Prelude.{IfOk};
 
-use crate::list::{tell_tallies, transformed};
 use bril_checker::Checked;
+use bril_commands::list::{tell_tallies, transformed};
 use bril_names::unnumber;
 use bril_outside::sink::Sink;
 use bril_report::Status;
@@ -37,7 +37,7 @@ pub fn put_transformed<O: Sink, E: Sink>(
 ) -> Result<(), Status>
     requires few { length names.now ≤ 64 }
     requires sound { silenced.old ≡ false }
-    ensures does { Telling (λ told. TransformsProgram (status_of result) (pass_list (λ p. meaning p) (λ p. counts p) passes.old passes.new names.now) checked.prog told (O.seen out.old) (O.seen out.new)) silenced.new (E.seen err.old) (E.seen err.new) }
+    ensures does { Telling (λ told. DoesProgram transforms (status_of result) (pass_list (λ p. meaning p) (λ p. counts p) passes.old passes.new names.now) checked.prog [] told (O.seen out.old) (O.seen out.new)) silenced.new (E.seen err.old) (E.seen err.new) }
     ensures same { AllSame (λ p. meaning p) passes.old passes.new }
 {
     let made = transformed(alloc, passes, names, checked)?;

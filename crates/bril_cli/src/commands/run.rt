@@ -1,20 +1,23 @@
 // `run`: an accepted program is made into machine words, which the machine executes.
 
-ghost use Rattle.std.specs.Prelude.{◌≡◌, ◌≤◌, false, length};
-ghost use Rattle.bril_cli.specs.PassList.{pass_list};
-ghost use Rattle.bril_cli.specs.Stats.{Telling};
-ghost use Rattle.bril_cli.specs.commands.Run.{RunsImage, RunsValues, RunsProgram};
+ghost use Rattle.std.specs.Prelude.{◌≡◌, ◌⊎◌, ◌≤◌, false, length};
+ghost use Rattle.bril_commands.specs.Command.{ImageFor, Fits, RefusesEmission};
+ghost use Rattle.bril_commands.specs.Driver.{DoesProgram, IsSilent};
+ghost use Rattle.bril_commands.specs.Outcome.{Works};
+ghost use Rattle.bril_commands.specs.PassList.{pass_list};
+ghost use Rattle.bril_commands.specs.Stats.{Telling};
+ghost use Rattle.bril_commands.specs.commands.Run.{executed, runs};
 ghost use Rattle.bril_report.specs.StageFaults.{status_of};
 ghost use Rattle.pass_law.specs.Chains.{AllSame};
 ghost use Rattle.bril_tree.specs.Run.{FitMain};
 ghost use Rattle.rv64_implements.specs.Implements.{Implements};
 ghost use Rattle.rv64_words.specs.Region.{most_words, most_stack};
 
-use crate::arguments::values_of;
 use crate::image::image_of;
-use crate::list::transformed;
 use crate::stats::tell_stats;
 use bril_checker::Checked;
+use bril_commands::arguments::values_of;
+use bril_commands::list::transformed;
 use bril_outside::sink::Sink;
 use bril_report::Status;
 use bril_tree::limits::{End, Limits};
@@ -57,7 +60,7 @@ pub fn run<O: Sink, E: Sink>(
 ) -> Result<(), Status>
     requires few { length names.now ≤ 64 }
     requires sound { silenced.old ≡ false }
-    ensures does { Telling (λ told. RunsProgram (status_of result) (pass_list (λ p. meaning p) (λ p. counts p) passes.old passes.new names.now) checked.prog words.now settings.limits settings.steps settings.stats told (O.seen out.old) (O.seen out.new)) silenced.new (E.seen err.old) (E.seen err.new) }
+    ensures does { Telling (λ told. DoesProgram (runs settings.limits.frames settings.limits.cells settings.steps settings.stats) (status_of result) (pass_list (λ p. meaning p) (λ p. counts p) passes.old passes.new names.now) checked.prog words.now told (O.seen out.old) (O.seen out.new)) silenced.new (E.seen err.old) (E.seen err.new) }
     ensures same { AllSame (λ p. meaning p) passes.old passes.new }
 {
     let values = values_of(alloc, checked.prog(), words)?;
@@ -85,7 +88,7 @@ fn run_with<O: Sink, E: Sink>(
 ) -> Result<(), Status>
     requires fits { FitMain checked.now.prog values.now }
     requires sound { silenced.old ≡ false }
-    ensures { Telling (λ told. RunsValues (status_of result) checked.now.prog settings.limits values.now settings.steps settings.stats told (O.seen out.old) (O.seen out.new)) silenced.new (E.seen err.old) (E.seen err.new) }
+    ensures { Telling (λ told. (RefusesEmission (ImageFor settings.limits.frames settings.limits.cells) (status_of result) checked.now.prog × IsSilent told (O.seen out.old) (O.seen out.new)) ⊎ (Fits (ImageFor settings.limits.frames settings.limits.cells) checked.now.prog × Works (executed checked.now.prog settings.limits values.now settings.steps settings.stats) (status_of result) told (O.seen out.old) (O.seen out.new))) silenced.new (E.seen err.old) (E.seen err.new) }
 {
     let image = image_of(alloc, checked, settings.limits)?;
     run_image(
@@ -116,7 +119,7 @@ fn run_image<O: Sink, E: Sink>(
     requires words { length image.now.words ≤ most_words }
     requires stack { image.now.stack ≤ most_stack }
     requires sound { silenced.old ≡ false }
-    ensures { Telling (λ told. RunsImage (status_of result) program.now settings.limits values.now settings.steps settings.stats told (O.seen out.old) (O.seen out.new)) silenced.new (E.seen err.old) (E.seen err.new) }
+    ensures { Telling (λ told. Works (executed program.now settings.limits values.now settings.steps settings.stats) (status_of result) told (O.seen out.old) (O.seen out.new)) silenced.new (E.seen err.old) (E.seen err.new) }
 {
     let guards = image.guards.as_slice();
     // No image has as many guards.

@@ -1,6 +1,6 @@
 // `text`: the file in canonical text.
 
-ghost use Rattle.bril_cli.specs.Stages.{PutsText};
+ghost use Rattle.bril_commands.specs.Outcome.{PutsText};
 ghost use Rattle.bril_report.specs.StageFaults.{status_of};
 ghost use Rattle.bril_text.specs.Canonical.{canonical_text};
 

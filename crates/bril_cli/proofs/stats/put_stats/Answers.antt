@@ -6,8 +6,8 @@ use Rattle.std.proofs.lemmas.Result.{err_from_is_err_and}
 use Rattle.bril_outside.proofs.SinkWrites.{PutSome-longer}
 use Rattle.rv64_machine.specs.MachineView.{state_of}
 use Rattle.rv64_words.specs.declared.image.GuardAt.{GuardAt}
-use Rattle.bril_cli.specs.Stats.{guard_told}
-use Rattle.bril_cli.proofs.Telling.{stats-more, stats-failed}
+use Rattle.bril_commands.specs.Stats.{guard_told}
+use Rattle.bril_commands.proofs.Telling.{stats-more, stats-failed}
 use Rattle.bril_cli.proofs.stats.put_stats.Goals as goal
 
 pub returns-in_err-put_words : goal.returns-in_err-put_words

@@ -4,7 +4,7 @@ use Rattle.std.specs.List.{flat_map}
 use Rattle.bril_outside.specs.Sink.{PutAll}
 use Rattle.bril_report.specs.Stats.{words_pieces}
 use Rattle.rv64_machine.specs.MachineView.{state_of}
-use Rattle.bril_cli.specs.Stats.{guard_told}
+use Rattle.bril_commands.specs.Stats.{guard_told}
 use Rattle.bril_cli.proofs.stats.put_stats.Given as goal
 
 abbrev pub invariant-loop-number : goal.invariant-loop-number

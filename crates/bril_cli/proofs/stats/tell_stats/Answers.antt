@@ -1,6 +1,6 @@
 -- A put of it failed.
 use Rattle.rv64_machine.specs.MachineView.{state_of}
-use Rattle.bril_cli.proofs.Telling.{told_some}
+use Rattle.bril_commands.proofs.Telling.{told_some}
 use Rattle.bril_cli.proofs.stats.tell_stats.Goals as goal
 
 pub returns-in-Err : goal.returns-in-Err

@@ -1,22 +1,30 @@
--- No image was made of what the list makes, or its words were put.
-use Rattle.std.proofs.Common.{refl, inl, inr}
+-- The list made no program, no image was made of what it made, or its words were put.
+use Rattle.std.proofs.Common.{[], refl, inl, inr}
 use Rattle.std.proofs.lemmas.Result.{err_from_is_err_and}
-use Rattle.bril_cli.specs.commands.Emit.{listing}
+use Rattle.bril_report.specs.StageFaults.{status_of}
+use Rattle.bril_commands.proofs.Works.{Works-text}
+use Rattle.bril_commands.specs.commands.Emit.{listing, shown, ShowsImage}
 use Rattle.bril_cli.proofs.commands.emit.put_image.Goals as goal
+
+pub returns-in_err-made-clause-does : goal.returns-in_err-made-clause-does
+returns-in_err-made-clause-does g c =
+    let e = err_from_is_err_and c.from_residual.result c.from_residual.ensures.1 in
+    rw (e.1, e.2) (inr ([], refl, inl (c.in_err-made.ensures.err, (refl, refl))))
 
 pub returns-in_err-image-clause-does : goal.returns-in_err-image-clause-does
 returns-in_err-image-clause-does g c =
     let e = err_from_is_err_and c.from_residual-in_err-image.result c.from_residual-in_err-image.ensures.1 in
-    rw (e.1, e.2) (inr (c.in_ok-made.made.prog, c.in_ok-made.ensures.ok, inl (c.in_err-image.ensures.err, refl)))
+    rw (e.1, e.2) (inr ([], refl, inr (c.in_ok-made.made.prog, c.in_ok-made.ensures.ok, inl ((c.args.limits, (refl, refl), c.in_err-image.ensures.err), (refl, refl)))))
 
 pub returns-clause-does : goal.returns-clause-does
 returns-clause-does g c =
     let put = rw c.as_slice.ensures at c.put_words.ensures in
-    inr (
+    let shows = record { limits = c.args.limits; are = (refl, refl); image = c.in_ok-image.image; implements = c.in_ok-image.ensures.implements; text = refl } in
+    inr ([], refl, inr (
       c.in_ok-made.made.prog,
       c.in_ok-made.ensures.ok,
       inr (
-        c.in_ok-image.ensures.within,
-        (listing c.in_ok-image.image.words, record { image = c.in_ok-image.image; implements = c.in_ok-image.ensures.implements; lists = refl }, put),
+        (c.args.limits, (refl, refl), c.in_ok-image.ensures.within),
+        Works-text (ShowsImage shown c.in_ok-made.made.prog c.args.limits.frames c.args.limits.cells) (listing c.in_ok-image.image.words) shows (status_of c.put_words.result) _ _ put,
       ),
-    )
+    ))

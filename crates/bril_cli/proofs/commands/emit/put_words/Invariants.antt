@@ -1,7 +1,7 @@
 -- The lines of the words so far were put.
 use Rattle.std.proofs.Common.{take}
 use Rattle.bril_outside.specs.Sink.{TookAll}
-use Rattle.bril_cli.specs.commands.Emit.{listing}
+use Rattle.bril_commands.specs.commands.Emit.{listing}
 use Rattle.bril_cli.proofs.commands.emit.put_words.Given as goal
 
 abbrev pub invariant-loop-word : goal.invariant-loop-word

@@ -32,12 +32,12 @@ returns-in-End-Faulted g c =
 pub returns-in-WriteFault : goal.returns-in-WriteFault
 returns-in-WriteFault g c =
     let d = (goal.at.returns-in-WriteFault g c).After-run in
-    failed c.in-Ok.interp c.args.checked.now.prog c.args.limits c.args.values.now (fresh g d) c.args.steps _ _ _ c.in-WriteFault.ensures
+    (refl, failed c.in-Ok.interp c.args.checked.now.prog c.args.limits c.args.values.now (fresh g d) c.args.steps _ _ _ c.in-WriteFault.ensures)
 
 pub returns-in_default : goal.returns-in_default
-returns-in_default g c = inl refl
+returns-in_default g c = (refl, inl refl)
 
 pub returns : goal.returns
 returns g c =
     let d = (goal.at.returns g c).After-run in
-    exhausted c.in-Ok.interp c.args.checked.now.prog c.args.limits c.args.values.now (fresh g d) c.args.steps _ _ _ c.in-Memory.ensures
+    (refl, exhausted c.in-Ok.interp c.args.checked.now.prog c.args.limits c.args.values.now (fresh g d) c.args.steps _ _ _ c.in-Memory.ensures)

@@ -2,7 +2,7 @@
 use Rattle.std.proofs.Common.{refl, Some, None, []}
 use Rattle.bril_tree.specs.declared.limits.End.TheVariants.{Ended, Faulted}
 use Rattle.bril_cli.proofs.Runs.{IsFresh, whole, partly, no_trap}
-use Rattle.bril_cli.proofs.Telling.{untold}
+use Rattle.bril_commands.proofs.Telling.{untold}
 use Rattle.bril_cli.proofs.commands.run.run_image.Given.{Over}
 use Rattle.bril_cli.proofs.commands.run.run_image.Goals as goal
 use Rattle.bril_cli.proofs.commands.run.run_image.Goals.{After-run}
@@ -54,6 +54,6 @@ pub returns-in-WriteFault : goal.returns-in-WriteFault
 returns-in-WriteFault g c =
     let d = (goal.at.returns-in-WriteFault g c).After-run in (
       [],
-      (refl, partly c.args.image.now c.args.program.now c.args.settings.limits c.args.values.now c.requires.implements c.requires.fits c.args.settings.steps c.in-Ok.machine (fresh g d) _ _ _ c.in-WriteFault.ensures.ran),
+      (refl, partly c.args.image.now c.args.program.now c.args.settings.limits c.args.values.now c.requires.implements c.requires.fits c.args.settings.steps c.in-Ok.machine (fresh g d) _ _ _ c.args.settings.stats c.in-WriteFault.ensures.ran),
       untold c.args.silenced.now _ c.requires.sound,
     )

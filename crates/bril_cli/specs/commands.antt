@@ -1,8 +1,0 @@
--- What each command does.
-pub mod Check
-pub mod Emit
-pub mod Interp
-pub mod Json
-pub mod Passes
-pub mod Run
-pub mod Text

@@ -1,0 +1,11 @@
+pub mod Causes
+pub mod Keeping
+pub mod Outcomes
+pub mod Promises
+pub mod Running
+pub mod Sources
+pub mod Statuses
+pub mod Tallies
+pub mod Telling
+pub mod When
+pub mod Works

@@ -1,0 +1,114 @@
+-- All that the top call promises.
+use Rattle.std.proofs.Common.{◌≡◌, ℕ, ◌≤◌, List, Ok, Err, refl, sym, ◌∙◌, subst, arith, ⊎_elim}
+use Rattle.bril_report.specs.Lines.{misuse_line}
+use Rattle.bril_report.specs.Report.{status_number}
+use Rattle.bril_report.specs.declared.status.Status.{Status}
+use Rattle.bril_report.specs.declared.status.Status.TheVariants as status
+use Rattle.bril_words.specs.CommandLine.{words_read}
+use Rattle.bril_words.specs.declared.misuse.Misuse.{Misuse}
+use Rattle.bril_words.specs.declared.request.Action.{Action}
+use Rattle.bril_commands.specs.Answers.{Answers, CannotWrite, Misused, Promises, SourceRefused, TooLarge}
+use Rattle.bril_commands.specs.Call.{Call, ReadsWell, SaysAlone}
+use Rattle.bril_commands.specs.CommandLine.{Asks, AsksFor, AskNothing}
+use Rattle.bril_commands.specs.Table.{KeepsPasses}
+use Rattle.bril_commands.proofs.Causes.{Ok_not_Err, request_of, asked_action, misargued_where, unchecked_where, formless_where, misnamed_where, misread_where, long_where, lacking_where}
+use Rattle.bril_commands.proofs.When.{done_where}
+use Rattle.bril_commands.proofs.Statuses.{Ends, Answers-of}
+
+refused_silent : (c : Call) → SourceRefused c → c.out_after ≡ c.out_before
+refused_silent c says = ⊎_elim (λ bytes. bytes.alone.silent) (λ program. ⊎_elim (λ form. form.alone.silent) (⊎_elim (λ name. name.alone.silent) (λ check. check.alone.silent)) program.1) says.because
+
+large_silent : (c : Call) → TooLarge c → c.out_after ≡ c.out_before
+large_silent c says = ⊎_elim (λ file. file.alone.silent) (⊎_elim (λ program. ⊎_elim (λ code. code.alone.silent) (λ stack. stack.alone.silent) program.because) (λ pass. pass.alone.silent)) says.because
+
+-- from 64 to 70 nothing is put on the output
+silent_at : (how : Status) (c : Call) → Answers (status_number how) c → 64 ≤ status_number how → status_number how ≤ 70 → c.out_after ≡ c.out_before
+silent_at status.Unsupported c says low high = refused_silent c says
+silent_at (status.Misread fault) c says low high = refused_silent c says
+silent_at (status.Misnamed fault) c says low high = refused_silent c says
+silent_at (status.Unaccepted p fault) c says low high = refused_silent c says
+silent_at status.CannotRead c says low high = says.alone.silent
+silent_at status.FileTooBig c says low high = large_silent c says
+silent_at (status.CodeTooBig words) c says low high = large_silent c says
+silent_at (status.StackTooBig words) c says low high = large_silent c says
+silent_at (status.Misused misuse) c says low high = says.alone.silent
+silent_at (status.PassTooLarge place bound) c says low high = large_silent c says
+silent_at (status.UnknownPass place) c says low high = says.alone.silent
+silent_at (status.ArgumentCount given wanted) c says low high = says.alone.silent
+silent_at (status.BadArgument position) c says low high = says.alone.silent
+silent_at _ c says low high = absurd (omega arith)
+
+-- of a request, once it was driven
+module _ (c : Call) (asks : Asks c.words) (how : Status) (ends : Ends c asks how) where
+  told : Answers (status_number how) c
+  told = Answers-of c asks how ends
+
+  at_status : (n : ℕ) → status_number how ≡ n → Answers n c
+  at_status n e = subst (λ k. Answers k c) e told
+
+  usage : status_number how ≡ 64 → Misused c
+  usage e = at_status 64 e
+
+  failed_write : status_number how ≡ 74 → CannotWrite c
+  failed_write e = at_status 74 e
+
+  asked_something : AskNothing c.words → status_number how ≡ 64
+  asked_something none = let e : Ok (request_of asks.action asks.path asks.asked.0 asks.args) ≡ Err none.0 = sym asks.asked.1 ∙ none.1 in absurd (Ok_not_Err e)
+
+  pub Promises-driven : Promises (status_number how) c
+  Promises-driven = record {
+    answers = told;
+    done = at_status 0;
+    faulted = at_status 2;
+    spent = at_status 3;
+    form = at_status 65;
+    read = at_status 66;
+    size = at_status 68;
+    argued = at_status 69;
+    unknown = at_status 70;
+    write = λ e. (failed_write e).rose;
+    silent = silent_at how c told;
+    misused = (λ e. ((usage e).misuse, (usage e).unasked), asked_something);
+    does = done_where c asks how ends;
+    misargued = misargued_where c asks how ends;
+    misread = misread_where c asks how ends;
+    misnamed = λ action needs bytes fault reads short has. misnamed_where c asks how ends action needs bytes reads short fault has;
+    unchecked = unchecked_where c asks how ends;
+    formless = formless_where c asks how ends;
+    lacking = lacking_where c asks how ends;
+    long_file = long_where c asks how ends;
+    keeps = λ action path args asked. subst (λ (a : Action). KeepsPasses c.passes.meaning a c.passes.before c.passes.after) (sym (asked_action c asks action path args asked)) ends.keeps;
+  }
+
+-- of words that ask for nothing
+module _ (c : Call) (misuse : Misuse) (unasked : words_read c.words ≡ Err misuse) where
+  not_asked : {A : Type 0} (action : Action) (path : List ℕ) (args : List (List ℕ)) → AsksFor c.words action path args → A
+  not_asked action path args asks = let e : Ok (request_of action path asks.0 args) ≡ Err misuse = sym asks.1 ∙ unasked in absurd (Ok_not_Err e)
+
+  not_read : {A : Type 0} (action : Action) (bytes : List ℕ) → ReadsWell c action bytes → A
+  not_read action bytes reads = not_asked action reads.path reads.args reads.asked
+
+  pub Promises-misused : c.files_after ≡ c.files_before → c.passes.after ≡ c.passes.before → SaysAlone c (misuse_line misuse) → Promises 64 c
+  Promises-misused unread kept alone = record {
+    answers = record { misuse = misuse; unasked = unasked; unread = unread; kept = kept; alone = alone };
+    done = λ e. absurd (omega arith);
+    faulted = λ e. absurd (omega arith);
+    spent = λ e. absurd (omega arith);
+    form = λ e. absurd (omega arith);
+    read = λ e. absurd (omega arith);
+    size = λ e. absurd (omega arith);
+    argued = λ e. absurd (omega arith);
+    unknown = λ e. absurd (omega arith);
+    write = λ e. absurd (omega arith);
+    silent = λ low high. alone.silent;
+    misused = (λ e. (misuse, unasked), λ none. refl);
+    does = λ action bytes reads. not_read action bytes reads;
+    misargued = λ action gives bytes p fault reads short source accepted ample is. not_read action bytes reads;
+    misread = λ action bytes fault reads short has. not_read action bytes reads;
+    misnamed = λ action needs bytes fault reads short has. not_read action bytes reads;
+    unchecked = λ action needs bytes p fault reads short source has. not_read action bytes reads;
+    formless = λ action needs bytes reads short imports. not_read action bytes reads;
+    lacking = λ none. not_asked none.asks.action none.asks.path none.asks.args none.asks.asked;
+    long_file = λ action bytes reads long. not_read action bytes reads;
+    keeps = λ action path args asks. not_asked action path args asks;
+  }

@@ -1,0 +1,317 @@
+-- What each status says of the call.
+use Rattle.std.proofs.Common.{◌≡◌, ◌⊎◌, ℕ, Bool, true, append-nil, ◌++◌, List, [], Option, Some, None, refl, sym, ap, ◌∙◌, subst, inl, inr, ⊎_elim}
+use Rattle.bril_arguments.specs.declared.fault.ArgFault.TheVariants as argument
+use Rattle.bril_arguments.specs.declared.fault.ArgFault.{ArgFault}
+use Rattle.bril_names.specs.Faults as names
+use Rattle.bril_names.specs.declared.fault.NameFault.{NameFault}
+use Rattle.bril_report.specs.Lines.{code_line, stack_line, spent_line}
+use Rattle.bril_report.specs.Report.{Says, status_number, SaysStatus}
+use Rattle.bril_report.specs.declared.status.Status.TheVariants as status
+use Rattle.bril_report.specs.declared.status.Status.{Status}
+use Rattle.bril_tree.specs.Numbered.{Numbered}
+use Rattle.bril_tree.specs.Run.{main_types}
+use Rattle.bril_tree.specs.declared.limits.End.TheVariants.{Ended, Faulted}
+use Rattle.bril_tree.specs.declared.limits.Limits.{Limits}
+use Rattle.bril_tree.specs.declared.program.Prog.{Prog}
+use Rattle.bril_tree.specs.declared.tree.Tree.{Tree}
+use Rattle.bril_tree.specs.declared.value.Value.{Value}
+use Rattle.bril_commands.proofs.Telling.{says_nothing}
+use Rattle.bril_commands.specs.Answers.{Answers, HasLongCode, HasLongStack}
+use Rattle.bril_commands.specs.Arguments.{argument_line, HasOnlyArgFault, RefusesArgs}
+use Rattle.bril_commands.specs.Call.{Call, CommandComesTo, ComesTo}
+use Rattle.bril_commands.specs.Command.{Command, OnTree, OnProgram, OfProgram, Arguments, NoArguments, OfMain, Emission, NoImage, ImageFor, TakesArguments, AreGiven, RefusesGiven, Makes, RefusesMaking, AreLimitsOf, Fits, RefusesEmission, NeedsProgram, GivesArguments, MakesImage, takes_passes}
+use Rattle.bril_commands.specs.CommandLine.{Asks, format_of}
+use Rattle.bril_commands.specs.Driver.{IsSilent, subject, DoesProgram, DoesTree, DoesFile}
+use Rattle.bril_commands.specs.Images.{RefusesImage}
+use Rattle.bril_commands.specs.Outcome.{Outcome, Works}
+use Rattle.bril_commands.specs.PassList.{RefusesList}
+use Rattle.bril_commands.specs.Source.{IsFile, HasNameFault, HasOnlyNameFault, IsOnlyTree, IsSource, IsOnlySource, IsProgramFile}
+use Rattle.bril_commands.specs.Stages.{IsOnlyNameFault, IsOnlyProgram, IsAcceptedProgram, RefusesFile, RefusesTree, RefusesProgram}
+use Rattle.bril_commands.specs.Stats.{SaysTold}
+use Rattle.bril_commands.specs.Table.{command, KeepsPasses}
+use Rattle.bril_commands.specs.declared.source.Format.{Format}
+
+-- ---- the program and the name fault of bytes are those of their tree
+
+module _ (format : Format) (bytes : List ℕ) (tree : Tree) (only : IsOnlyTree format bytes tree) where
+  pub Numbered-source : (p : Prog) → IsSource format bytes p → Numbered tree p
+  Numbered-source p source = let P : Tree → Type 0 = λ t. Numbered t p in subst P (sym (only.alone source.tree source.reads)) source.numbered
+
+  pub IsOnlySource-of : (p : Prog) → IsOnlyProgram tree p → IsOnlySource format bytes p
+  IsOnlySource-of p program = record {
+    source = record { tree = tree; reads = only.reads; numbered = program.numbered };
+    only = λ q source. sym (program.alone q (Numbered-source q source));
+  }
+
+  pub has_in : (other : NameFault) → HasNameFault format bytes other → names.HasFault tree other
+  has_in other h = let P : Tree → Type 0 = λ t. names.HasFault t other in subst P (sym (only.alone h.tree h.reads)) h.has
+
+  pub HasOnlyNameFault-of : (fault : NameFault) → tree.imports ≡ [] → IsOnlyNameFault tree fault → HasOnlyNameFault format bytes fault
+  HasOnlyNameFault-of fault alone has = record {
+    has = record { tree = tree; reads = only.reads; alone = alone; has = has.has };
+    only = λ other h. has.alone other (has_in other h);
+    unnumbered = λ p source. has.unnumbered p (Numbered-source p source);
+  }
+
+-- The words of a call ask for a command, the status is what it answered, and it was said after what is told.
+pub record Ends (c : Call) (asks : Asks c.words) (how : Status) : Type 0 where
+  pub told : List ℕ
+  pub does : DoesFile (command asks.action) how c.passes c.files_before c.files_after asks.path asks.args told c.out_before c.out_after
+  pub says : SaysTold told how asks.path c.err_before c.err_after
+  pub keeps : KeepsPasses c.passes.meaning asks.action c.passes.before c.passes.after
+
+module _ (c : Call) (asks : Asks c.words) where
+  -- the line of a status is put
+  abbrev Said : Status → Type 0
+  Said how = SaysStatus how asks.path c.err_before c.err_after
+
+  -- memory ran out, and nothing was put
+  Answers-exhausted : Said status.OutOfMemory → c.out_after ≡ c.out_before → Answers 71 c
+  Answers-exhausted says silent = record { asks = asks; leaves = inl silent; says = says }
+
+  -- the file was not read
+  Answers-file : (how : Status) → Said how → RefusesFile how c.files_before c.files_after asks.path → c.out_after ≡ c.out_before → Answers (status_number how) c
+  Answers-file status.CannotRead says refuses silent = record { asks = asks; fails = refuses; alone = record { silent = silent; says = says } }
+  Answers-file status.FileTooBig says refuses silent = record {
+    asks = asks;
+    because = inl (record { bytes = refuses.bytes; held = refuses.held; long = refuses.long; alone = record { silent = silent; says = says } });
+  }
+  Answers-file status.OutOfMemory says refuses silent = Answers-exhausted says silent
+  Answers-file _ says refuses silent = absurd refuses
+
+  -- ---- the work was carried out
+
+  module _ (o : Outcome) (comes : (Is : Outcome → Type 0) → Is o → ComesTo c asks Is) where
+    Answers-works : (how : Status) (told : List ℕ) → SaysTold told how asks.path c.err_before c.err_after → Works o how told c.out_before c.out_after → Answers (status_number how) c
+    Answers-works status.Done told says works = record {
+      asks = asks;
+      told = told;
+      output = works.output;
+      comes = comes (λ o. o.Shows (Some Ended) told works.output) works.shows;
+      took = works.took;
+      says = subst (λ bytes. Says c.err_before bytes c.err_after) (append-nil told) says.all;
+      quiet = says.plain;
+    }
+    Answers-works (status.Faulted fault) told says works = record {
+      asks = asks;
+      fault = fault;
+      told = told;
+      output = works.output;
+      comes = comes (λ o. o.Shows (Some (Faulted fault)) told works.output) works.shows;
+      took = works.took;
+      says = says.all;
+    }
+    Answers-works (status.Spent made) told says works = record {
+      asks = asks;
+      steps = made;
+      told = told;
+      output = works.1.output;
+      comes = comes (λ o. (made ≡ o.steps) × o.Shows None told works.1.output) (works.0, works.1.shows);
+      took = works.1.took;
+      says = says.all;
+    }
+    Answers-works status.OutOfMemory told says works = record {
+      asks = asks;
+      leaves = ⊎_elim inl (λ short. inr (short.0, comes (λ o. o.Exhausts short.0) short.1, short.2)) works.1;
+      says = says.plain works.0;
+    }
+    Answers-works status.CannotWrite told says works = record {
+      asks = asks;
+      ended = works.1.ended;
+      untold = works.1.told;
+      told = told;
+      output = works.1.output;
+      comes = comes (λ o. (told ≡ o.unwritten) × o.Shows works.1.ended works.1.told works.1.output) (works.0, works.1.shows);
+      took = works.1.took;
+      rose = works.1.rose;
+      says = says.all;
+    }
+    Answers-works _ told says works = absurd works
+
+  -- ---- the file has these bytes
+
+  module _ (bytes : List ℕ) (file : IsFile c.files_before asks.path bytes) where
+    -- they were not read as a tree
+    Answers-bytes : (how : Status) → Said how → RefusesTree how (format_of asks.path) bytes → c.out_after ≡ c.out_before → Answers (status_number how) c
+    Answers-bytes (status.Misread fault) says refuses silent = record {
+      asks = asks;
+      because = inl (record { bytes = bytes; file = file; fault = fault; only = refuses; alone = record { silent = silent; says = says } });
+    }
+    Answers-bytes status.OutOfMemory says refuses silent = Answers-exhausted says silent
+    Answers-bytes _ says refuses silent = absurd refuses
+
+    module _ (tree : Tree) (only : IsOnlyTree (format_of asks.path) bytes tree) where
+      -- ---- the tree's program was asked for
+
+      -- it has none that is accepted
+      Answers-refused : NeedsProgram (command asks.action) → (how : Status) → Said how → RefusesProgram how tree → c.out_after ≡ c.out_before → Answers (status_number how) c
+      Answers-refused needs status.Unsupported says refuses silent = record {
+        asks = asks;
+        because = inr (needs, inl (record {
+          bytes = bytes;
+          file = file;
+          imports = record { tree = tree; reads = only.reads; imports = refuses };
+          alone = record { silent = silent; says = says };
+        }));
+      }
+      Answers-refused needs (status.Misnamed fault) says refuses silent = record {
+        asks = asks;
+        because = inr (needs, inr (inl (record {
+          bytes = bytes;
+          file = file;
+          fault = fault;
+          only = HasOnlyNameFault-of (format_of asks.path) bytes tree only fault refuses.0 refuses.1;
+          alone = record { silent = silent; says = says };
+        })));
+      }
+      Answers-refused needs (status.Unaccepted p fault) says refuses silent = record {
+        asks = asks;
+        because = inr (needs, inr (inr (record {
+          bytes = bytes;
+          file = file;
+          program = p;
+          source = IsOnlySource-of (format_of asks.path) bytes tree only p refuses.0;
+          fault = fault;
+          only = refuses.1;
+          alone = record { silent = silent; says = says };
+        })));
+      }
+      Answers-refused needs status.OutOfMemory says refuses silent = Answers-exhausted says silent
+      Answers-refused needs _ says refuses silent = absurd refuses
+
+      module _ (p : Prog) (program : IsAcceptedProgram tree p) where
+        program_file : IsProgramFile c.files_before asks.path p
+        program_file = record { bytes = bytes; file = file; source = IsOnlySource-of (format_of asks.path) bytes tree only p program.only; accepted = program.sound.accepted }
+
+        -- the arguments don't fit it
+        misargued : GivesArguments (command asks.action) → (fault : ArgFault) → HasOnlyArgFault (main_types p) asks.args fault → Says c.err_before (argument_line fault) c.err_after → c.out_after ≡ c.out_before → Answers 69 c
+        misargued gives fault has says silent = record {
+          asks = asks;
+          gives = gives;
+          program = p;
+          file = program_file;
+          fault = fault;
+          only = has;
+          alone = record { silent = silent; says = says };
+        }
+
+        Answers-args : GivesArguments (command asks.action) → (how : Status) → Said how → RefusesArgs how p asks.args → c.out_after ≡ c.out_before → Answers (status_number how) c
+        Answers-args gives (status.ArgumentCount given wanted) says refuses silent = misargued gives (argument.Count given wanted) refuses says silent
+        Answers-args gives (status.BadArgument place) says refuses silent = misargued gives (argument.Spelling place) refuses says silent
+        Answers-args gives status.OutOfMemory says refuses silent = Answers-exhausted says silent
+        Answers-args gives _ says refuses silent = absurd refuses
+
+        Answers-given : (arguments : Arguments) → (TakesArguments arguments → GivesArguments (command asks.action)) → (how : Status) → Said how → RefusesGiven arguments how p asks.args → c.out_after ≡ c.out_before → Answers (status_number how) c
+        Answers-given NoArguments gives how says refuses silent = absurd refuses
+        Answers-given OfMain gives how says refuses silent = Answers-args (gives tt) how says refuses silent
+
+        -- the list of passes makes no program of it
+        Answers-list : takes_passes (command asks.action) ≡ true → (how : Status) → Said how → RefusesList how c.passes p → c.out_after ≡ c.out_before → Answers (status_number how) c
+        Answers-list takes (status.UnknownPass place) says refuses silent = record {
+          asks = asks;
+          takes = takes;
+          program = p;
+          file = program_file;
+          place = place;
+          unknown = refuses.0;
+          unused = refuses.1;
+          alone = record { silent = silent; says = says };
+        }
+        Answers-list takes (status.PassTooLarge place bound) says refuses silent = record {
+          asks = asks;
+          because = inr (inr (record {
+            takes = takes;
+            program = p;
+            file = program_file;
+            place = place;
+            bound = bound;
+            refused = refuses;
+            alone = record { silent = silent; says = says };
+          }));
+        }
+        Answers-list takes status.OutOfMemory says refuses silent = Answers-exhausted says silent
+        Answers-list takes _ says refuses silent = absurd refuses
+
+        Answers-making : (by_list : Bool) → (by_list ≡ true → takes_passes (command asks.action) ≡ true) → (how : Status) → Said how → RefusesMaking by_list how c.passes p → c.out_after ≡ c.out_before → Answers (status_number how) c
+        Answers-making false takes how says refuses silent = absurd refuses
+        Answers-making true takes how says refuses silent = Answers-list (takes refl) how says refuses silent
+
+        -- an image was to be made of the program that the list makes, and it is too large
+        module _ (q : Prog) (by : Makes (takes_passes (command asks.action)) c.passes p q) (limits : Limits) (makes : MakesImage (command asks.action) limits) where
+          long_program : HasLongCode c q ⊎ HasLongStack c q limits → Answers 68 c
+          long_program because = record {
+            asks = asks;
+            because = inr (inl (record { limits = limits; makes = makes; program = p; file = program_file; made = q; by = by; because = because }));
+          }
+
+          Answers-image : (how : Status) → Said how → RefusesImage how q limits → c.out_after ≡ c.out_before → Answers (status_number how) c
+          Answers-image (status.CodeTooBig words) says refuses silent =
+              long_program (inl (record {
+                long = refuses.0;
+                alone = record { silent = silent; says = subst (λ n. Says c.err_before (code_line n) c.err_after) refuses.1 says };
+              }))
+          Answers-image (status.StackTooBig words) says refuses silent =
+              long_program (inr (record {
+                short_code = refuses.0;
+                stack = refuses.1.0;
+                size = refuses.1.1;
+                long = refuses.1.2;
+                alone = record { silent = silent; says = subst (λ n. Says c.err_before (stack_line n) c.err_after) refuses.1.3 says };
+              }))
+          Answers-image status.OutOfMemory says refuses silent = Answers-exhausted says silent
+          Answers-image _ says refuses silent = absurd refuses
+
+      -- ---- a command on an accepted program
+
+      module _ (does : OfProgram) (is : command asks.action ≡ OnProgram does) where
+        makes_image : (limits : Limits) → AreLimitsOf does.emission limits → MakesImage (command asks.action) limits
+        makes_image limits are = subst (λ k. MakesImage k limits) (sym is) are
+
+        made_by : (p q : Prog) → Makes does.takes_passes c.passes p q → Makes (takes_passes (command asks.action)) c.passes p q
+        made_by p q makes = subst (λ by_list. Makes by_list c.passes p q) (sym (ap takes_passes is)) makes
+
+        comes_to : (p : Prog) (program : IsAcceptedProgram tree p) (values : List Value) → AreGiven does.arguments p asks.args values → (q : Prog) (makes : Makes does.takes_passes c.passes p q) → Fits does.emission q
+            → (Is : Outcome → Type 0) → Is (does.outcome (subject does c.passes p q makes values)) → ComesTo c asks Is
+        comes_to p program values given q makes fits Is holds = subst (λ k. CommandComesTo k c asks.path asks.args Is) (sym is) (record {
+          program = p;
+          file = program_file p program;
+          values = values;
+          given = given;
+          made = q;
+          makes = makes;
+          fits = fits;
+          is = holds;
+        })
+
+        Answers-made : (p : Prog) (program : IsAcceptedProgram tree p) (values : List Value) → AreGiven does.arguments p asks.args values → (q : Prog) (makes : Makes does.takes_passes c.passes p q)
+            → (how : Status) (told : List ℕ) → SaysTold told how asks.path c.err_before c.err_after
+            → (RefusesEmission does.emission how q × IsSilent told c.out_before c.out_after) ⊎ (Fits does.emission q × Works (does.outcome (subject does c.passes p q makes values)) how told c.out_before c.out_after)
+            → Answers (status_number how) c
+        Answers-made p program values given q makes how told says =
+            ⊎_elim (λ long. Answers-image p program q (made_by p q makes) long.0.0 (makes_image long.0.0 long.0.1) how (says.plain long.1.0) long.0.2 long.1.1)
+            (λ goes. Answers-works (does.outcome (subject does c.passes p q makes values)) (comes_to p program values given q makes goes.0) how told says goes.1)
+
+        Answers-program : (p : Prog) (program : IsAcceptedProgram tree p) (how : Status) (told : List ℕ) → SaysTold told how asks.path c.err_before c.err_after → DoesProgram does how c.passes p asks.args told c.out_before c.out_after → Answers (status_number how) c
+        Answers-program p program how told says =
+            ⊎_elim (λ refused. Answers-given p program does.arguments (λ takes. subst GivesArguments (sym is) takes) how (says.plain refused.1.0) refused.0 refused.1.1)
+            (λ values. ⊎_elim (λ refused. Answers-making p program does.takes_passes (λ takes. ap takes_passes is ∙ takes) how (says.plain refused.1.0) refused.0 refused.1.1)
+            (λ made. Answers-made p program values.0 values.1 made.0 made.1 how told says made.2)
+            values.2)
+
+      Answers-tree : (k : Command) → command asks.action ≡ k → (how : Status) (told : List ℕ) → SaysTold told how asks.path c.err_before c.err_after → DoesTree k how c.passes tree asks.args told c.out_before c.out_after → Answers (status_number how) c
+      Answers-tree (OnTree outcome) is how told says works =
+          Answers-works (outcome tree)
+          (λ Is holds. subst (λ k. CommandComesTo k c asks.path asks.args Is) (sym is) (record { bytes = bytes; file = file; tree = tree; only = only; is = holds }))
+          how told says works
+      Answers-tree (OnProgram does) is how told says =
+          ⊎_elim (λ refused. Answers-refused (subst NeedsProgram (sym is) tt) how (says.plain refused.1.0) refused.0 refused.1.1)
+          (λ goes. Answers-program does is goes.0 goes.1 how told says goes.2)
+
+  -- what each status says
+  pub Answers-of : (how : Status) → Ends c asks how → Answers (status_number how) c
+  Answers-of how ends =
+      ⊎_elim (λ refused. Answers-file how (ends.says.plain refused.1.0) refused.0 refused.1.1)
+      (λ read. ⊎_elim (λ refused. Answers-bytes read.0 read.1 how (ends.says.plain refused.1.0) refused.0 refused.1.1)
+      (λ tree. Answers-tree read.0 read.1 tree.0 tree.1 (command asks.action) refl how ends.told ends.says tree.2)
+      read.2)
+      ends.does

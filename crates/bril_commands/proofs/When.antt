@@ -1,0 +1,143 @@
+-- When a command is done.
+use Rattle.std.proofs.Common.{◌≡◌, ℕ, ◌≤◌, ◌⊎◌, Bool, true, false, append-nil, ◌++◌, List, [], length, Some, None, refl, sym, ap, ◌∙◌, subst, arith, inl, inr, ⊎_elim}
+use Rattle.bril_arguments.specs.Spelled.{AreSpelled}
+use Rattle.bril_outside.specs.Sink.{Rose}
+use Rattle.bril_report.specs.Lines.{spent_line}
+use Rattle.bril_report.specs.Report.{Says, status_number, SaysStatus}
+use Rattle.bril_report.specs.declared.status.Status.TheVariants as status
+use Rattle.bril_report.specs.declared.status.Status.{Status}
+use Rattle.bril_tree.specs.Accepted.{IsAccepted}
+use Rattle.bril_tree.specs.declared.limits.End.TheVariants.{Ended, Faulted}
+use Rattle.bril_tree.specs.declared.limits.Limits.{Limits}
+use Rattle.bril_tree.specs.declared.program.Prog.{Prog}
+use Rattle.bril_tree.specs.declared.tree.Tree.{Tree}
+use Rattle.bril_tree.specs.declared.value.Value.{Value}
+use Rattle.bril_words.specs.declared.request.Action.{Action}
+use Rattle.rv64_implements.proofs.Sizes.{within_not_beyond}
+use Rattle.rv64_implements.specs.WordBounds.{IsWithin}
+use Rattle.bril_commands.proofs.Causes.{DoesAccepted, args_fail, by_cases, exhausted, same_args, same_path, with_program}
+use Rattle.bril_commands.proofs.Statuses.{Ends}
+use Rattle.bril_commands.specs.Call.{Call, ReadsWell, UnlessMemory}
+use Rattle.bril_commands.specs.Command.{Command, OnTree, OnProgram, OfProgram, Arguments, NoArguments, OfMain, Emission, NoImage, ImageFor, AreGiven, RefusesGiven, Makes, RefusesMaking, Fits, RefusesEmission, NeedsProgram}
+use Rattle.bril_commands.specs.CommandLine.{Asks, format_of}
+use Rattle.bril_commands.specs.Driver.{IsSilent, subject, DoesProgram, DoesTree}
+use Rattle.bril_commands.specs.Images.{RefusesImage}
+use Rattle.bril_commands.specs.Outcome.{Outcome, Works}
+use Rattle.bril_commands.specs.PassList.{RefusesList}
+use Rattle.bril_commands.specs.Source.{most_bytes, ReadsAs, IsOnlyTree, IsSource}
+use Rattle.bril_commands.specs.Stats.{SaysTold}
+use Rattle.bril_commands.specs.Table.{command}
+use Rattle.bril_commands.specs.When.{Spell, StopsMaking, AfterPasses, AfterEmission, IsDoneUnless, CommandDone}
+
+-- the work is done, or memory ran out
+works_done : (c : Call) (path : List ℕ) (o : Outcome) (how : Status) (told : List ℕ) → SaysTold told how path c.err_before c.err_after → Works o how told c.out_before c.out_after
+    → UnlessMemory (status_number how) (IsDoneUnless (status_number how) c o)
+works_done c path o status.Done told says works = inr (λ sound. record {
+  ended = Some Ended;
+  told = told;
+  output = works.output;
+  shows = works.shows;
+  says = (refl, subst (λ bytes. Says c.err_before bytes c.err_after) (append-nil told) says.all, says.plain);
+  took = works.took;
+})
+works_done c path o (status.Faulted fault) told says works = inr (λ sound. record {
+  ended = Some (Faulted fault);
+  told = told;
+  output = works.output;
+  shows = works.shows;
+  says = (refl, says.all);
+  took = works.took;
+})
+works_done c path o (status.Spent made) told says works = inr (λ sound. record {
+  ended = None;
+  told = told;
+  output = works.1.output;
+  shows = works.1.shows;
+  says = (refl, subst (λ n. Says c.err_before (told ++ spent_line n) c.err_after) works.0 says.all);
+  took = works.1.took;
+})
+works_done c path o status.OutOfMemory told says works = inl refl
+works_done c path o status.CannotWrite told says works = inr (λ sound. absurd (sound works.1.rose))
+works_done c path o _ told says works = absurd works
+
+-- ---- the stages before it
+
+-- where words spell the arguments, nothing else comes
+no_refusal : (arguments : Arguments) (how : Status) (p : Prog) (args : List (List ℕ)) (values : List Value) → Spell arguments p args values → RefusesGiven arguments how p args → how ≡ status.OutOfMemory
+no_refusal NoArguments how p args values spelled refuses = absurd refuses
+no_refusal OfMain how p args values spelled refuses = ⊎_elim (λ e. e) (λ has. absurd (has.2.unspelled values spelled)) (args_fail how p args refuses)
+
+same_values : (arguments : Arguments) (p : Prog) (args : List (List ℕ)) (given values : List Value) → AreGiven arguments p args given → Spell arguments p args values → given ≡ values
+same_values NoArguments p args given values are spelled = are ∙ sym spelled
+same_values OfMain p args given values are spelled = are.only values spelled
+
+-- the list makes no program, or memory ran out
+list_stops : (c : Call) (path : List ℕ) (p : Prog) (how : Status) → SaysStatus how path c.err_before c.err_after → RefusesList how c.passes p → c.out_after ≡ c.out_before → UnlessMemory (status_number how) (StopsMaking true (status_number how) c p)
+list_stops c path p (status.UnknownPass place) says refuses silent =
+    inr (inl (record { place = place; unknown = refuses.0; is = refl; alone = record { silent = silent; says = says } }))
+list_stops c path p (status.PassTooLarge place bound) says refuses silent =
+    inr (inr (record { place = place; bound = bound; refused = refuses; is = refl; alone = record { silent = silent; says = says } }))
+list_stops c path p status.OutOfMemory says refuses silent = inl refl
+list_stops c path p _ says refuses silent = absurd refuses
+
+stops : (by_list : Bool) (c : Call) (path : List ℕ) (p : Prog) (how : Status) → SaysStatus how path c.err_before c.err_after → RefusesMaking by_list how c.passes p → c.out_after ≡ c.out_before → UnlessMemory (status_number how) (StopsMaking by_list (status_number how) c p)
+stops false c path p how says refuses silent = absurd refuses
+stops true c path p how says refuses silent = list_stops c path p how says refuses silent
+
+-- what it makes is too large, or memory ran out
+beyond : (how : Status) (q : Prog) (limits : Limits) → RefusesImage how q limits → UnlessMemory (status_number how) (¬ IsWithin q limits × (status_number how ≡ 68))
+beyond (status.CodeTooBig words) q limits refuses = inr ((λ within. let w = within.code in let long = refuses.0 in absurd (omega arith)), refl)
+beyond (status.StackTooBig words) q limits refuses = inr ((λ within. within_not_beyond q limits refuses.1.0 within refuses.1.1 refuses.1.2), refl)
+beyond status.OutOfMemory q limits refuses = inl refl
+beyond _ q limits refuses = absurd refuses
+
+too_large : (emission : Emission) (how : Status) (q : Prog) (Does : Type 0) → RefusesEmission emission how q → UnlessMemory (status_number how) (AfterEmission emission (status_number how) q Does)
+too_large NoImage how q Does refuses = absurd refuses.1
+too_large (ImageFor frames cells) how q Does refuses = ⊎_elim inl (λ long. inr (refuses.0, refuses.1, inl long)) (beyond how q refuses.0 refuses.2)
+
+-- it is within the bounds
+within_bounds : (emission : Emission) (number : ℕ) (q : Prog) (Does : Type 0) → Fits emission q → UnlessMemory number Does → UnlessMemory number (AfterEmission emission number q Does)
+within_bounds NoImage number q Does fits does = does
+within_bounds (ImageFor frames cells) number q Does fits does = ⊎_elim inl (λ done. inr (fits.0, fits.1, inr (fits.2, done))) does
+
+-- ---- the clause
+
+module _ (c : Call) (asks : Asks c.words) (how : Status) (ends : Ends c asks how) where
+  made_done : (does : OfProgram) (p q : Prog) (makes : Makes does.takes_passes c.passes p q) (values : List Value)
+      → (RefusesEmission does.emission how q × IsSilent ends.told c.out_before c.out_after) ⊎ (Fits does.emission q × Works (does.outcome (subject does c.passes p q makes values)) how ends.told c.out_before c.out_after)
+      → UnlessMemory (status_number how) (AfterEmission does.emission (status_number how) q (IsDoneUnless (status_number how) c (does.outcome (subject does c.passes p q makes values))))
+  made_done does p q makes values =
+      ⊎_elim (λ long. too_large does.emission how q _ long.0)
+      (λ goes. within_bounds does.emission (status_number how) q _ goes.0 (works_done c asks.path (does.outcome (subject does c.passes p q makes values)) how ends.told ends.says goes.1))
+
+  program_done : (does : OfProgram) (p : Prog) (values : List Value) → Spell does.arguments p asks.args values → DoesProgram does how c.passes p asks.args ends.told c.out_before c.out_after
+      → UnlessMemory (status_number how) (AfterPasses does.takes_passes (status_number how) c p (λ q makes. AfterEmission does.emission (status_number how) q (IsDoneUnless (status_number how) c (does.outcome (subject does c.passes p q makes values)))))
+  program_done does p values spelled =
+      ⊎_elim (λ refused. exhausted how _ (no_refusal does.arguments how p asks.args values spelled refused.0))
+      (λ goes. ⊎_elim (λ refused. ⊎_elim inl (λ stopped. inr (inl stopped)) (stops does.takes_passes c asks.path p how (ends.says.plain refused.1.0) refused.0 refused.1.1))
+      (λ made. ⊎_elim inl (λ done. inr (inr (made.0, made.1, done)))
+      (made_done does p made.0 made.1 values
+      (subst (λ (vs : List Value). (RefusesEmission does.emission how made.0 × IsSilent ends.told c.out_before c.out_after) ⊎ (Fits does.emission made.0 × Works (does.outcome (subject does c.passes p made.0 made.1 vs)) how ends.told c.out_before c.out_after))
+      (same_values does.arguments p asks.args goes.0 values goes.1 spelled) made.2)))
+      goes.2)
+
+  module _ (action : Action) (bytes : List ℕ) (reads : ReadsWell c action bytes) (short : length bytes ≤ most_bytes) where
+    command_done : (k : Command) → command action ≡ k → CommandDone k (status_number how) c (format_of reads.path) bytes reads.args
+    command_done (OnTree outcome) is = λ tree spelled.
+        let here : ReadsAs (format_of asks.path) bytes tree = subst (λ q. ReadsAs (format_of q) bytes tree) (same_path c asks how ends action bytes reads) spelled in
+        by_cases c asks how ends action bytes reads _ (exhausted how _)
+        (λ e long. absurd (omega arith))
+        (λ fault e none only few. absurd (only.unread tree here))
+        (λ other only does few.
+        works_done c asks.path (outcome tree) how ends.told ends.says
+        (subst (λ (t : Tree). Works (outcome t) how ends.told c.out_before c.out_after) (only.alone tree here)
+        (subst (λ k. DoesTree k how c.passes other asks.args ends.told c.out_before c.out_after) is does)))
+    command_done (OnProgram does) is = λ p values source accepted spelled.
+        let here : Spell does.arguments p asks.args values = subst (λ a. Spell does.arguments p a values) (same_args c asks how ends action bytes reads) spelled in
+        with_program c asks how ends action (subst NeedsProgram (sym is) tt) _ bytes p reads short source (exhausted how _)
+        (λ fault e none has. absurd (has.unaccepted accepted))
+        (λ faultless goes. program_done does p values here
+        (subst (λ k. DoesAccepted k how c.passes p asks.args ends.told c.out_before c.out_after) is goes))
+
+    pub done_where : CommandDone (command action) (status_number how) c (format_of reads.path) bytes reads.args
+    done_where = command_done (command action) refl

@@ -1,0 +1,283 @@
+-- What the top call answers: its status, and what it does to the files and its two outputs.
+use Rattle.std.specs.Prelude.{ℕ, ◌≡◌, ◌≢◌, ◌⊎◌, ◌<◌, ◌≤◌, true, List, [], ◌++◌, length, map, Option, Some, None, codes, ◌==◌, Err, MatchBool, ◌↔◌}
+use Rattle.bril_arguments.specs.Faults.{IsFaultOf}
+use Rattle.bril_arguments.specs.declared.fault.ArgFault.TheVariants.{Memory}
+use Rattle.bril_arguments.specs.declared.fault.ArgFault.{ArgFault}
+use Rattle.bril_checker.specs.Faults as checker
+use Rattle.bril_checker.specs.declared.fault.CheckFault.{CheckFault}
+use Rattle.bril_names.specs.declared.fault.NameFault.{NameFault}
+use Rattle.bril_outside.specs.Files.{MayHold, MayFail}
+use Rattle.bril_outside.specs.Sink.{Rose, TookAll, TookSome}
+use Rattle.bril_report.specs.Lines.{form_line, misread_line, misnamed_line, unaccepted_line, unread_line, fault_line, spent_line, code_line, stack_line, pass_line, unknown_pass_line, misuse_line}
+use Rattle.bril_report.specs.Report.{Says}
+use Rattle.bril_report.specs.declared.status.SourceFault.{SourceFault}
+use Rattle.bril_tree.specs.Accepted.{IsAccepted}
+use Rattle.bril_tree.specs.Run.{main_types}
+use Rattle.bril_tree.specs.declared.limits.End.TheVariants.{Ended, Faulted}
+use Rattle.bril_tree.specs.declared.limits.End.{End}
+use Rattle.bril_tree.specs.declared.limits.Fault.{Fault}
+use Rattle.bril_tree.specs.declared.limits.Limits.{Limits}
+use Rattle.bril_tree.specs.declared.program.Prog.{Prog}
+use Rattle.bril_words.specs.CommandLine.{words_read}
+use Rattle.bril_words.specs.declared.misuse.Misuse.{Misuse}
+use Rattle.bril_words.specs.declared.request.Action.{Action}
+use Rattle.pass_law.specs.Bounds.{capped}
+use Rattle.rv64_implements.specs.WordBounds.{word_bounds, IsStackSize}
+use Rattle.rv64_words.specs.Region.{most_words, most_stack}
+use Rattle.bril_commands.specs.Arguments.{HasOnlyArgFault, argument_line}
+use Rattle.bril_commands.specs.Call.{Call, SaysAlone, ReadsWell, AsksNone, UnlessMemory, ComesTo}
+use Rattle.bril_commands.specs.Command.{Makes, NeedsProgram, GivesArguments, MakesImage, takes_passes}
+use Rattle.bril_commands.specs.CommandLine.{format_of, Asks, AsksFor, AskNothing}
+use Rattle.bril_commands.specs.PassList.{IsFirstUnknown, IsRefusedPass}
+use Rattle.bril_commands.specs.Source.{most_bytes, HasFault, IsOnlyFault, IsSource, IsOnlySource, HasNameFault, HasOnlyNameFault, HasOnlyCheckFault, HasImports, IsFile, IsProgramFile}
+use Rattle.bril_commands.specs.Table.{command, KeepsPasses}
+use Rattle.bril_commands.specs.When.{DoneWhere}
+
+-- 0: all was done, and the output took all that the command puts; the error output what it tells.
+pub record Finished (c : Call) : Type 0 where
+  pub asks : Asks c.words
+  pub told : List ℕ
+  pub output : List ℕ
+  pub comes : ComesTo c asks (λ o. o.Shows (Some Ended) told output)
+  pub took : TookAll c.out_before output c.out_after
+  pub says : Says c.err_before told c.err_after
+  pub quiet : told ≡ [] → c.err_after ≡ c.err_before
+
+-- 2: the program was run or interpreted and stopped with a fault, and the output took all that is put.
+pub record Stopped (c : Call) : Type 0 where
+  pub asks : Asks c.words
+  pub fault : Fault
+  pub told : List ℕ
+  pub output : List ℕ
+  pub comes : ComesTo c asks (λ o. o.Shows (Some (Faulted fault)) told output)
+  pub took : TookAll c.out_before output c.out_after
+  pub says : Says c.err_before (told ++ fault_line fault) c.err_after
+
+-- 3: the program was interpreted and goes on after the steps, or was run and the machine goes on after as many words, and the
+-- output took all that is put.
+pub record GoesOn (c : Call) : Type 0 where
+  pub asks : Asks c.words
+  pub steps : ℕ
+  pub told : List ℕ
+  pub output : List ℕ
+  pub comes : ComesTo c asks (λ o. (steps ≡ o.steps) × o.Shows None told output)
+  pub took : TookAll c.out_before output c.out_after
+  pub says : Says c.err_before (told ++ spent_line steps) c.err_after
+
+-- 64: the words are not those of a command. No file was read.
+pub record Misused (c : Call) : Type 0 where
+  pub misuse : Misuse
+  pub unasked : words_read c.words ≡ Err misuse
+  pub unread : c.files_after ≡ c.files_before
+  pub kept : c.passes.after ≡ c.passes.before
+  pub alone : SaysAlone c (misuse_line misuse)
+
+-- 65: the file's bytes read as no tree; or the command needs a program, and the tree has imports, or a fault of a
+-- name, or a program that isn't accepted.
+pub record FormlessFile (c : Call) (path : List ℕ) : Type 0 where
+  pub bytes : List ℕ
+  pub file : IsFile c.files_before path bytes
+  pub imports : HasImports (format_of path) bytes
+  pub alone : SaysAlone c (form_line path)
+
+pub record MisnamedFile (c : Call) (path : List ℕ) : Type 0 where
+  pub bytes : List ℕ
+  pub file : IsFile c.files_before path bytes
+  pub fault : NameFault
+  pub only : HasOnlyNameFault (format_of path) bytes fault
+  pub alone : SaysAlone c (misnamed_line fault)
+
+pub record UnacceptedFile (c : Call) (path : List ℕ) : Type 0 where
+  pub bytes : List ℕ
+  pub file : IsFile c.files_before path bytes
+  pub program : Prog
+  pub source : IsOnlySource (format_of path) bytes program
+  pub fault : CheckFault
+  pub only : HasOnlyCheckFault program fault
+  pub alone : SaysAlone c (unaccepted_line program fault)
+
+pub record MisreadFile (c : Call) (path : List ℕ) : Type 0 where
+  pub bytes : List ℕ
+  pub file : IsFile c.files_before path bytes
+  pub fault : SourceFault
+  pub only : IsOnlyFault (format_of path) bytes fault
+  pub alone : SaysAlone c (misread_line path fault)
+
+pub record SourceRefused (c : Call) : Type 0 where
+  pub asks : Asks c.words
+  pub because : MisreadFile c asks.path ⊎ (NeedsProgram (command asks.action) × (FormlessFile c asks.path ⊎ (MisnamedFile c asks.path ⊎ UnacceptedFile c asks.path)))
+
+-- 66: reading failed, or the files are told and lack the path.
+pub record CannotRead (c : Call) : Type 0 where
+  pub asks : Asks c.words
+  pub fails : MayFail c.files_before c.files_after asks.path
+  pub alone : SaysAlone c (unread_line asks.path)
+
+-- 68: the file has too many bytes, or a pass may make too many items, or the program that is to be run or emitted has too many words
+-- of code or of stack.
+pub record LongFile (c : Call) (path : List ℕ) : Type 0 where
+  pub bytes : List ℕ
+  pub held : MayHold c.files_before.holds path bytes
+  pub long : most_bytes < length bytes
+  pub alone : SaysAlone c (codes "too large: bytes\n")
+
+pub record LongPass (c : Call) (asks : Asks c.words) : Type 0 where
+  pub takes : takes_passes (command asks.action) ≡ true
+  pub program : Prog
+  pub file : IsProgramFile c.files_before asks.path program
+  pub place : ℕ
+  pub bound : ℕ
+  pub refused : IsRefusedPass c.passes program place bound
+  pub alone : SaysAlone c (pass_line place bound)
+
+-- The program has too many words of code, or it has few enough and needs too many words of stack.
+pub record HasLongCode (c : Call) (q : Prog) : Type 0 where
+  pub long : most_words < word_bounds q
+  pub alone : SaysAlone c (code_line (capped (word_bounds q)))
+
+pub record HasLongStack (c : Call) (q : Prog) (limits : Limits) : Type 0 where
+  pub short_code : word_bounds q ≤ most_words
+  pub stack : ℕ
+  pub size : IsStackSize q limits stack
+  pub long : most_stack < stack
+  pub alone : SaysAlone c (stack_line (capped stack))
+
+pub record LongProgram (c : Call) (asks : Asks c.words) : Type 0 where
+  pub limits : Limits
+  pub makes : MakesImage (command asks.action) limits
+  pub program : Prog
+  pub file : IsProgramFile c.files_before asks.path program
+  pub made : Prog
+  pub by : Makes (takes_passes (command asks.action)) c.passes program made
+  pub because : HasLongCode c made ⊎ HasLongStack c made limits
+
+pub record TooLarge (c : Call) : Type 0 where
+  pub asks : Asks c.words
+  pub because : LongFile c asks.path ⊎ (LongProgram c asks ⊎ LongPass c asks)
+
+-- 69: the file reads as an accepted program, and the arguments don't fit it.
+pub record Misargued (c : Call) : Type 0 where
+  pub asks : Asks c.words
+  pub gives : GivesArguments (command asks.action)
+  pub program : Prog
+  pub file : IsProgramFile c.files_before asks.path program
+  pub fault : ArgFault
+  pub only : HasOnlyArgFault (main_types program) asks.args fault
+  pub alone : SaysAlone c (argument_line fault)
+
+-- 70: no pass answers to a name of the list, this one being the first such; no pass ran.
+pub record UnknownPass (c : Call) : Type 0 where
+  pub asks : Asks c.words
+  pub takes : takes_passes (command asks.action) ≡ true
+  pub program : Prog
+  pub file : IsProgramFile c.files_before asks.path program
+  pub place : ℕ
+  pub unknown : IsFirstUnknown c.passes (Some place)
+  pub unused : map c.passes.counts c.passes.after ≡ map c.passes.counts c.passes.before
+  pub alone : SaysAlone c (unknown_pass_line place)
+
+-- 71: memory ran out, and nothing was put but what the command may have put by then; for `run` before the first word was executed,
+-- and for `emit` before the first was written.
+pub record Exhausted (c : Call) : Type 0 where
+  pub asks : Asks c.words
+  pub leaves : (c.out_after ≡ c.out_before) ⊎ ((output : List ℕ) × ComesTo c asks (λ o. o.Exhausts output) × TookAll c.out_before output c.out_after)
+  pub says : Says c.err_before (codes "out of memory\n") c.err_after
+
+-- 74: a write to the output failed, which took the first of what the command puts there.
+pub record CannotWrite (c : Call) : Type 0 where
+  pub asks : Asks c.words
+  pub ended : Option End
+  pub untold : List ℕ
+  pub told : List ℕ
+  pub output : List ℕ
+  pub comes : ComesTo c asks (λ o. (told ≡ o.unwritten) × o.Shows ended untold output)
+  pub took : TookSome c.out_before output c.out_after
+  pub rose : Rose c.out_before.faults c.out_after.faults
+  pub says : Says c.err_before (told ++ codes "cannot write\n") c.err_after
+
+-- What a status says of the call; there are no others.
+abbrev pub Answers : ℕ → Call → Type 0
+Answers status c =
+    MatchBool (status == 0) (Finished c)
+    (MatchBool (status == 2) (Stopped c)
+    (MatchBool (status == 3) (GoesOn c)
+    (MatchBool (status == 64) (Misused c)
+    (MatchBool (status == 65) (SourceRefused c)
+    (MatchBool (status == 66) (CannotRead c)
+    (MatchBool (status == 68) (TooLarge c)
+    (MatchBool (status == 69) (Misargued c)
+    (MatchBool (status == 70) (UnknownPass c)
+    (MatchBool (status == 71) (Exhausted c)
+    (MatchBool (status == 74) (CannotWrite c) ⊥))))))))))
+
+-- ---- when a status comes to every command that has its cause
+
+-- The bytes' fault is told.
+abbrev pub MisreadWhere : ℕ → Call → Type 0
+MisreadWhere number c =
+    (action : Action) (bytes : List ℕ) (fault : SourceFault) (reads : ReadsWell c action bytes) → length bytes ≤ most_bytes → HasFault (format_of reads.path) bytes fault →
+    UnlessMemory number ((number ≡ 65) × Says c.err_before (misread_line reads.path fault) c.err_after)
+
+-- The names' fault is told.
+abbrev pub MisnamedWhere : ℕ → Call → Type 0
+MisnamedWhere number c =
+    (action : Action) → NeedsProgram (command action) → (bytes : List ℕ) (fault : NameFault) (reads : ReadsWell c action bytes) → length bytes ≤ most_bytes → HasNameFault (format_of reads.path) bytes fault →
+    UnlessMemory number ((number ≡ 65) × Says c.err_before (misnamed_line fault) c.err_after)
+
+-- The checker's fault is told.
+abbrev pub UncheckedWhere : ℕ → Call → Type 0
+UncheckedWhere number c =
+    (action : Action) → NeedsProgram (command action) → (bytes : List ℕ) (program : Prog) (fault : CheckFault) (reads : ReadsWell c action bytes) → length bytes ≤ most_bytes → IsSource (format_of reads.path) bytes program →
+    checker.HasFault program fault → UnlessMemory number ((number ≡ 65) × Says c.err_before (unaccepted_line program fault) c.err_after)
+
+-- A file with imports, whose program isn't built yet, is told.
+abbrev pub FormlessWhere : ℕ → Call → Type 0
+FormlessWhere number c =
+    (action : Action) → NeedsProgram (command action) → (bytes : List ℕ) (reads : ReadsWell c action bytes) → length bytes ≤ most_bytes → HasImports (format_of reads.path) bytes →
+    UnlessMemory number ((number ≡ 65) × Says c.err_before (form_line reads.path) c.err_after)
+
+-- Arguments that don't fit an accepted program are told.
+abbrev pub MisarguedWhere : ℕ → Call → Type 0
+MisarguedWhere number c =
+    (action : Action) → GivesArguments (command action) → (bytes : List ℕ) (program : Prog) (fault : ArgFault) (reads : ReadsWell c action bytes) → length bytes ≤ most_bytes →
+    IsSource (format_of reads.path) bytes program → IsAccepted program → fault ≢ Memory → IsFaultOf (main_types program) reads.args fault →
+    UnlessMemory number ((number ≡ 69) × Says c.err_before (argument_line fault) c.err_after)
+
+-- No file is at the path.
+abbrev pub LackingWhere : ℕ → Call → Type 0
+LackingWhere number c = AsksNone c → UnlessMemory number (number ≡ 66)
+
+-- The file has too many bytes.
+abbrev pub LongFileWhere : ℕ → Call → Type 0
+LongFileWhere number c = (action : Action) (bytes : List ℕ) → ReadsWell c action bytes → most_bytes < length bytes → UnlessMemory number (number ≡ 68)
+
+-- The passes stay as they are where the words ask for a command that takes no list of them; else they mean the same.
+abbrev pub KeepsWhere : Call → Type 0
+KeepsWhere c = (action : Action) (path : List ℕ) (args : List (List ℕ)) → AsksFor c.words action path args → KeepsPasses c.passes.meaning action c.passes.before c.passes.after
+
+-- What the top call promises of its status.
+pub record Promises (status : ℕ) (c : Call) : Type 0 where
+  -- what each status says
+  pub answers : Answers status c
+  pub done : status ≡ 0 → Finished c
+  pub faulted : status ≡ 2 → Stopped c
+  pub spent : status ≡ 3 → GoesOn c
+  pub form : status ≡ 65 → SourceRefused c
+  pub read : status ≡ 66 → CannotRead c
+  pub size : status ≡ 68 → TooLarge c
+  pub argued : status ≡ 69 → Misargued c
+  pub unknown : status ≡ 70 → UnknownPass c
+  pub write : status ≡ 74 → Rose c.out_before.faults c.out_after.faults
+  pub silent : 64 ≤ status → status ≤ 70 → c.out_after ≡ c.out_before
+  -- when each status comes; out of memory, 71 comes in place of all but 64
+  pub misused : (status ≡ 64) ↔ AskNothing c.words
+  pub does : DoneWhere status c
+  pub misargued : MisarguedWhere status c
+  pub misread : MisreadWhere status c
+  pub misnamed : MisnamedWhere status c
+  pub unchecked : UncheckedWhere status c
+  pub formless : FormlessWhere status c
+  pub lacking : LackingWhere status c
+  pub long_file : LongFileWhere status c
+  -- what becomes of the passes
+  pub keeps : KeepsWhere c

@@ -1,0 +1,105 @@
+-- What is seen of a call of the top call, and what it reads of its file.
+use Rattle.std.specs.Prelude.{ℕ, ◌≡◌, ◌⊎◌, List, [], ◌++◌, Option, Some, None}
+use Rattle.bril_outside.specs.Files.{FilesSeen, LacksFile}
+use Rattle.bril_outside.specs.Sink.{SinkSeen, Rose}
+use Rattle.bril_report.specs.Lines.{fault_line, spent_line}
+use Rattle.bril_report.specs.Report.{Says}
+use Rattle.bril_tree.specs.declared.limits.End.TheVariants.{Ended, Faulted}
+use Rattle.bril_tree.specs.declared.limits.End.{End}
+use Rattle.bril_tree.specs.declared.program.Prog.{Prog}
+use Rattle.bril_tree.specs.declared.tree.Tree.{Tree}
+use Rattle.bril_tree.specs.declared.value.Value.{Value}
+use Rattle.bril_words.specs.declared.request.Action.{Action}
+use Rattle.bril_words.specs.CommandLine.{words_read}
+use Rattle.bril_words.specs.Names.{names_of}
+use Rattle.pass_law.specs.Meaning.{Meaning}
+use Rattle.pass_law.specs.declared.tally.Tally.{Tally}
+use Rattle.bril_commands.specs.Command.{Command, OnTree, OnProgram, OfProgram, AreGiven, Makes, Fits}
+use Rattle.bril_commands.specs.CommandLine.{Asks, AsksFor, format_of, list_asked}
+use Rattle.bril_commands.specs.Driver.{subject}
+use Rattle.bril_commands.specs.Outcome.{Outcome}
+use Rattle.bril_commands.specs.PassList.{PassList, pass_list}
+use Rattle.bril_commands.specs.Source.{HoldsFile, IsFile, IsOnlyTree, IsProgramFile}
+use Rattle.bril_commands.specs.Table.{command}
+
+-- What is seen of a call: its words, and its files, its two outputs and the passes that it was lent before and after it.
+pub record Call : Type 1 where
+  pub words : List (List ℕ)
+  pub files_before : FilesSeen
+  pub files_after : FilesSeen
+  pub out_before : SinkSeen
+  pub out_after : SinkSeen
+  pub err_before : SinkSeen
+  pub err_after : SinkSeen
+  pub passes : PassList
+
+abbrev pub call_of : {B : Type 0} → List (List ℕ) → FilesSeen → FilesSeen → SinkSeen → SinkSeen → SinkSeen → SinkSeen → (B → Meaning) → (B → Tally) → List B → List B → Call
+call_of words files files' out out' err err' meaning counts passes passes' = record {
+  words = words;
+  files_before = files;
+  files_after = files';
+  out_before = out;
+  out_after = out';
+  err_before = err;
+  err_after = err';
+  passes = pass_list meaning counts passes passes' (names_of (list_asked (words_read words)));
+}
+
+-- nothing was put on the output, and this line on the error output
+pub record SaysAlone (c : Call) (line : List ℕ) : Type 0 where
+  pub silent : c.out_after ≡ c.out_before
+  pub says : Says c.err_before line c.err_after
+
+-- The words ask for this of a file that the files tell, with these bytes, and no read of it failed.
+pub record ReadsWell (c : Call) (action : Action) (bytes : List ℕ) : Type 0 where
+  pub path : List ℕ
+  pub args : List (List ℕ)
+  pub asked : AsksFor c.words action path args
+  pub told : HoldsFile c.files_before.holds path bytes
+  pub sound : ¬ Rose c.files_before.faults c.files_after.faults
+
+-- the words ask for a path, and the files are told and have none there
+pub record AsksNone (c : Call) : Type 0 where
+  pub asks : Asks c.words
+  pub lacks : LacksFile c.files_before.holds asks.path
+
+-- this status, unless memory ran out
+abbrev pub UnlessMemory : ℕ → Type 0 → Type 0
+UnlessMemory status answer = (status ≡ 71) ⊎ answer
+
+-- what is said of a run of so many steps, or words of the machine, that has ended so, None where it goes on, after what is told
+abbrev pub TellsRun : Option End → ℕ → List ℕ → ℕ → Call → Type 0
+TellsRun None steps told number c = (number ≡ 3) × Says c.err_before (told ++ spent_line steps) c.err_after
+TellsRun (Some Ended) steps told number c = (number ≡ 0) × Says c.err_before told c.err_after × (told ≡ [] → c.err_after ≡ c.err_before)
+TellsRun (Some (Faulted fault)) steps told number c = (number ≡ 2) × Says c.err_before (told ++ fault_line fault) c.err_after
+
+-- ---- what a command comes to
+
+-- The file at the path reads as a tree, and this holds of what it comes to.
+pub record TreeComesTo (outcome : Tree → Outcome) (c : Call) (path : List ℕ) (Is : Outcome → Type 0) : Type 0 where
+  pub bytes : List ℕ
+  pub file : IsFile c.files_before path bytes
+  pub tree : Tree
+  pub only : IsOnlyTree (format_of path) bytes tree
+  pub is : Is (outcome tree)
+
+-- The file at the path reads as an accepted program, the words spell its arguments, the list of passes makes a program of it that is
+-- within the bounds of an image, each where the command asks for it, and this holds of what it comes to.
+pub record ProgramComesTo (does : OfProgram) (c : Call) (path : List ℕ) (args : List (List ℕ)) (Is : Outcome → Type 0) : Type 0 where
+  pub program : Prog
+  pub file : IsProgramFile c.files_before path program
+  pub values : List Value
+  pub given : AreGiven does.arguments program args values
+  pub made : Prog
+  pub makes : Makes does.takes_passes c.passes program made
+  pub fits : Fits does.emission made
+  pub is : Is (does.outcome (subject does c.passes program made makes values))
+
+-- this holds of what a command comes to on the file at a path, with these arguments
+abbrev pub CommandComesTo : Command → Call → List ℕ → List (List ℕ) → (Outcome → Type 0) → Type 0
+CommandComesTo (OnTree outcome) c path args Is = TreeComesTo outcome c path Is
+CommandComesTo (OnProgram does) c path args Is = ProgramComesTo does c path args Is
+
+-- this holds of what the command comes to that the words ask for
+abbrev pub ComesTo : (c : Call) → Asks c.words → (Outcome → Type 0) → Type 0
+ComesTo c asks Is = CommandComesTo (command asks.action) c asks.path asks.args Is

@@ -1,0 +1,118 @@
+-- What a command is: what it works on, and what this comes to.
+use Rattle.std.specs.Prelude.{ℕ, ◌≡◌, Bool, true, false, List, []}
+use Rattle.bril_report.specs.declared.status.Status.{Status}
+use Rattle.bril_tree.specs.declared.limits.Limits.{Limits}
+use Rattle.bril_tree.specs.declared.program.Prog.{Prog}
+use Rattle.bril_tree.specs.declared.tree.Tree.{Tree}
+use Rattle.bril_tree.specs.declared.value.Value.{Value}
+use Rattle.rv64_implements.specs.WordBounds.{IsWithin}
+use Rattle.bril_commands.specs.Arguments.{AreOnlyValues, RefusesArgs}
+use Rattle.bril_commands.specs.Images.{RefusesImage}
+use Rattle.bril_commands.specs.Outcome.{Outcome}
+use Rattle.bril_commands.specs.PassList.{PassList, IsMade, RefusesList, AreFactorsOf}
+
+-- ---- the arguments
+
+-- the arguments that a command gives its program
+pub data Arguments : Type 0 where
+  -- it takes none
+  NoArguments : Arguments
+  -- those of `main`
+  OfMain : Arguments
+
+-- it takes some
+abbrev pub TakesArguments : Arguments → Type 0
+TakesArguments NoArguments = ⊥
+TakesArguments OfMain = Unit {0}
+
+-- the values that words spell
+abbrev pub AreGiven : Arguments → Prog → List (List ℕ) → List Value → Type 0
+AreGiven NoArguments p args values = values ≡ []
+AreGiven OfMain p args values = AreOnlyValues p args values
+
+-- why words spell none
+abbrev pub RefusesGiven : Arguments → Status → Prog → List (List ℕ) → Type 0
+RefusesGiven NoArguments how p args = ⊥
+RefusesGiven OfMain how p args = RefusesArgs how p args
+
+-- ---- the list of passes
+
+-- the program that a command makes, by a list of passes where it takes one
+abbrev pub Makes : Bool → PassList → Prog → Prog → Type 0
+Makes false l p q = q ≡ p
+Makes true l p q = IsMade l p q
+
+-- why it makes none
+abbrev pub RefusesMaking : Bool → Status → PassList → Prog → Type 0
+RefusesMaking false how l p = ⊥
+RefusesMaking true how l p = RefusesList how l p
+
+-- so many steps of q, at most, for each step of p
+abbrev pub FactorOf : (by_list : Bool) (l : PassList) (p q : Prog) → Makes by_list l p q → ℕ → Type 0
+FactorOf false l p q makes factor = factor ≡ 1
+FactorOf true l p q makes factor = AreFactorsOf l p q makes factor
+
+-- ---- the image
+
+-- whether a command emits its program
+pub data Emission : Type 0 where
+  NoImage : Emission
+  -- it does, for limits of so many frames and cells
+  ImageFor : (frames cells : ℕ) → Emission
+
+-- the limits of the image
+abbrev pub AreLimitsOf : Emission → Limits → Type 0
+AreLimitsOf NoImage limits = ⊥
+AreLimitsOf (ImageFor frames cells) limits = (limits.frames ≡ frames) × (limits.cells ≡ cells)
+
+-- the program has few enough words of code and of stack
+abbrev pub Fits : Emission → Prog → Type 0
+Fits NoImage q = Unit {0}
+Fits (ImageFor frames cells) q = (limits : Limits) × AreLimitsOf (ImageFor frames cells) limits × IsWithin q limits
+
+-- why the program gets no image
+abbrev pub RefusesEmission : Emission → Status → Prog → Type 0
+RefusesEmission emission how q = (limits : Limits) × AreLimitsOf emission limits × RefusesImage how q limits
+
+-- ---- the command
+
+-- what a command works on that needs a program: the passes, its file's program, what the passes make of it and by which factors, and
+-- the values of the arguments
+pub record Subject : Type 1 where
+  pub passes : PassList
+  pub source : Prog
+  pub made : Prog
+  pub IsFactor : ℕ → Type 0
+  pub values : List Value
+
+-- A command on the accepted program of its file.
+pub record OfProgram : Type 1 where
+  pub arguments : Arguments
+  pub takes_passes : Bool
+  pub emission : Emission
+  pub outcome : Subject → Outcome
+
+-- A command works on its file's tree alone, or on the tree's accepted program.
+pub data Command : Type 1 where
+  OnTree : (outcome : Tree → Outcome) → Command
+  OnProgram : OfProgram → Command
+
+-- it needs the accepted program
+abbrev pub NeedsProgram : Command → Type 0
+NeedsProgram (OnTree outcome) = ⊥
+NeedsProgram (OnProgram does) = Unit {0}
+
+-- it gives the program arguments
+abbrev pub GivesArguments : Command → Type 0
+GivesArguments (OnTree outcome) = ⊥
+GivesArguments (OnProgram does) = TakesArguments does.arguments
+
+-- it takes a list of passes
+abbrev pub takes_passes : Command → Bool
+takes_passes (OnTree outcome) = false
+takes_passes (OnProgram does) = does.takes_passes
+
+-- it makes an image for these limits
+abbrev pub MakesImage : Command → Limits → Type 0
+MakesImage (OnTree outcome) limits = ⊥
+MakesImage (OnProgram does) limits = AreLimitsOf does.emission limits

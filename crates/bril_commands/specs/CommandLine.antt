@@ -1,0 +1,37 @@
+-- What a command line asks for, and the format of its file.
+use Rattle.std.specs.Prelude.{◌≡◌, ℕ, Bool, nat_eq, List, [], Result, Ok, Err, if◌then◌else◌, codes}
+use Rattle.std.specs.List.{ends_with}
+use Rattle.bril_words.specs.CommandLine.{words_read, asked}
+use Rattle.bril_words.specs.Request.{Asked}
+use Rattle.bril_words.specs.declared.misuse.Misuse.{Misuse}
+use Rattle.bril_words.specs.declared.request.Action.{Action}
+use Rattle.bril_commands.specs.declared.source.Format.{Format}
+use Rattle.bril_commands.specs.declared.source.Format.TheVariants.{InText, InJson}
+
+-- the words ask for an action, the path of its file, and the arguments of the file's program
+abbrev pub AsksFor : List (List ℕ) → Action → List ℕ → List (List ℕ) → Type 0
+AsksFor words action path args = (list : List ℕ) × (words_read words ≡ asked action path list args)
+
+-- What words ask for.
+pub record Asks (words : List (List ℕ)) : Type 0 where
+  pub action : Action
+  pub path : List ℕ
+  pub args : List (List ℕ)
+  pub asked : AsksFor words action path args
+
+-- the list of passes that is asked for
+abbrev pub list_asked : Result Asked Misuse → List ℕ
+list_asked (Ok request) = request.list
+list_asked (Err misuse) = []
+
+-- the words ask for nothing
+abbrev pub AskNothing : List (List ℕ) → Type 0
+AskNothing words = (misuse : Misuse) × (words_read words ≡ Err misuse)
+
+-- the path is that of a file in JSON
+abbrev pub is_json : List ℕ → Bool
+is_json path = ends_with nat_eq path (codes ".json")
+
+-- the format of the file at a path
+abbrev pub format_of : List ℕ → Format
+format_of path = if is_json path then InJson else InText

@@ -1,0 +1,16 @@
+pub mod Answers
+pub mod Arguments
+pub mod Call
+pub mod Command
+pub mod CommandLine
+pub mod Driver
+pub mod Images
+pub mod Outcome
+pub mod PassList
+pub mod Source
+pub mod Sources
+pub mod Stages
+pub mod Stats
+pub mod Table
+pub mod When
+pub mod commands

@@ -1,0 +1,69 @@
+-- What a command comes to: how its program ended, what is told on the error output, and what is put on the output.
+use Rattle.std.specs.Prelude.{ℕ, ◌≡◌, ◌⊎◌, List, [], Option, Some, None}
+use Rattle.bril_outside.specs.Sink.{SinkSeen, Rose, TookAll, TookSome}
+use Rattle.bril_report.specs.declared.status.Status.TheVariants as status
+use Rattle.bril_report.specs.declared.status.Status.{Status}
+use Rattle.bril_tree.specs.declared.limits.End.TheVariants.{Ended, Faulted}
+use Rattle.bril_tree.specs.declared.limits.End.{End}
+
+-- What a command may come to, from what its stages handed on.
+pub record Outcome : Type 1 where
+  -- how many steps of the program, or words of the machine, are made at most
+  pub steps : ℕ
+  -- The program has ended so, or goes on after the steps for None, this is told, and this is put. A command that runs no program has
+  -- ended.
+  pub Shows : Option End → List ℕ → List ℕ → Type 0
+  -- what may have been put where memory ran out after that
+  pub Exhausts : List ℕ → Type 0
+  -- what is told where a write failed
+  pub unwritten : List ℕ
+
+-- A text of which this holds is put, and this is told. No program is run.
+abbrev pub writes : List ℕ → (List ℕ → Type 0) → Outcome
+writes told IsText = record {
+  steps = 0;
+  Shows = λ ended said output. (ended ≡ Some Ended) × (said ≡ told) × IsText output;
+  Exhausts = λ output. ⊥;
+  unwritten = told;
+}
+
+-- This text is put, and nothing is told.
+abbrev pub writes_text : List ℕ → Outcome
+writes_text text = writes [] (λ output. output ≡ text)
+
+-- ---- what carrying out a command's work answers
+
+-- This is told, and the output took all that is put.
+pub record ShowsWhole (o : Outcome) (ended : Option End) (told : List ℕ) (s t : SinkSeen) : Type 0 where
+  pub output : List ℕ
+  pub shows : o.Shows ended told output
+  pub took : TookAll s output t
+
+-- A write failed, and the output took the first of what is put.
+pub record ShowsPartly (o : Outcome) (s t : SinkSeen) : Type 0 where
+  pub ended : Option End
+  pub told : List ℕ
+  pub output : List ℕ
+  pub shows : o.Shows ended told output
+  pub took : TookSome s output t
+  pub rose : Rose s.faults t.faults
+
+-- what is left on the output where memory ran out
+abbrev pub StopsShort : Outcome → SinkSeen → SinkSeen → Type 0
+StopsShort o s t = (t ≡ s) ⊎ ((output : List ℕ) × o.Exhausts output × TookAll s output t)
+
+-- what carrying out the work answers, and what it tells
+abbrev pub Works : Outcome → Status → List ℕ → SinkSeen → SinkSeen → Type 0
+Works o status.Done told s t = ShowsWhole o (Some Ended) told s t
+Works o (status.Faulted fault) told s t = ShowsWhole o (Some (Faulted fault)) told s t
+Works o (status.Spent made) told s t = (made ≡ o.steps) × ShowsWhole o None told s t
+Works o status.CannotWrite told s t = (told ≡ o.unwritten) × ShowsPartly o s t
+Works o status.OutOfMemory told s t = (told ≡ []) × StopsShort o s t
+Works o _ told s t = ⊥
+
+-- what writing a text by itself answers
+abbrev pub PutsText : Status → List ℕ → SinkSeen → SinkSeen → Type 0
+PutsText status.Done text s t = TookAll s text t
+PutsText status.CannotWrite text s t = TookSome s text t × Rose s.faults t.faults
+PutsText status.OutOfMemory text s t = t ≡ s
+PutsText _ text s t = ⊥

@@ -1,0 +1,87 @@
+-- When a command's work is done: once its file is read well, unless a stage has its cause.
+use Rattle.std.specs.Prelude.{ℕ, ◌≡◌, ◌⊎◌, ◌≤◌, Bool, true, false, List, [], length, Option, Some, refl}
+use Rattle.bril_arguments.specs.Spelled.{AreSpelled}
+use Rattle.bril_outside.specs.Sink.{Rose, TookAll}
+use Rattle.bril_report.specs.Lines.{pass_line, unknown_pass_line}
+use Rattle.bril_tree.specs.Accepted.{IsAccepted}
+use Rattle.bril_tree.specs.Run.{main_types}
+use Rattle.bril_tree.specs.declared.limits.End.{End}
+use Rattle.bril_tree.specs.declared.limits.Limits.{Limits}
+use Rattle.bril_tree.specs.declared.program.Prog.{Prog}
+use Rattle.bril_tree.specs.declared.tree.Tree.{Tree}
+use Rattle.bril_tree.specs.declared.value.Value.{Value}
+use Rattle.bril_words.specs.declared.request.Action.{Action}
+use Rattle.rv64_implements.specs.WordBounds.{IsWithin}
+use Rattle.bril_commands.specs.Call.{Call, SaysAlone, ReadsWell, UnlessMemory, TellsRun}
+use Rattle.bril_commands.specs.Command.{Command, OnTree, OnProgram, OfProgram, Arguments, NoArguments, OfMain, Makes, Emission, NoImage, ImageFor, AreLimitsOf}
+use Rattle.bril_commands.specs.CommandLine.{format_of}
+use Rattle.bril_commands.specs.Driver.{subject}
+use Rattle.bril_commands.specs.Outcome.{Outcome}
+use Rattle.bril_commands.specs.PassList.{IsMade, IsFirstUnknown, IsRefusedPass}
+use Rattle.bril_commands.specs.Source.{most_bytes, ReadsAs, IsSource}
+use Rattle.bril_commands.specs.Table.{command}
+use Rattle.bril_commands.specs.declared.source.Format.{Format}
+
+-- ---- the stages
+
+-- the values of a command's arguments, where words spell some
+abbrev pub Spell : Arguments → Prog → List (List ℕ) → List Value → Type 0
+Spell NoArguments p args values = values ≡ []
+Spell OfMain p args values = AreSpelled (main_types p) args values
+
+-- No pass answers to the name at this place, which is the first such.
+pub record StopsUnknown (number : ℕ) (c : Call) : Type 0 where
+  pub place : ℕ
+  pub unknown : IsFirstUnknown c.passes (Some place)
+  pub is : number ≡ 70
+  pub alone : SaysAlone c (unknown_pass_line place)
+
+-- The pass of the name at this place refuses the program that it was given, for its bound on items.
+pub record StopsTooLarge (number : ℕ) (c : Call) (p : Prog) : Type 0 where
+  pub place : ℕ
+  pub bound : ℕ
+  pub refused : IsRefusedPass c.passes p place bound
+  pub is : number ≡ 68
+  pub alone : SaysAlone c (pass_line place bound)
+
+-- why the list makes no program
+abbrev pub StopsMaking : Bool → ℕ → Call → Prog → Type 0
+StopsMaking false number c p = ⊥
+StopsMaking true number c p = StopsUnknown number c ⊎ StopsTooLarge number c p
+
+-- The list of passes, where one is taken, makes a program of p, of which this holds; or it makes none, which is told.
+abbrev pub AfterPasses : (by_list : Bool) → ℕ → (c : Call) → (p : Prog) → ((q : Prog) → Makes by_list c.passes p q → Type 0) → Type 0
+AfterPasses by_list number c p Does = StopsMaking by_list number c p ⊎ ((q : Prog) × (makes : Makes by_list c.passes p q) × Does q makes)
+
+-- A program of which an image is made is within the bounds, and this holds; or else it is too large.
+abbrev pub AfterEmission : Emission → ℕ → Prog → Type 0 → Type 0
+AfterEmission NoImage number q Does = Does
+AfterEmission (ImageFor frames cells) number q Does =
+    (limits : Limits) × AreLimitsOf (ImageFor frames cells) limits × ((¬ IsWithin q limits × (number ≡ 68)) ⊎ (IsWithin q limits × Does))
+
+-- ---- the work
+
+-- This is how the program ended, what is told and what the output took.
+pub record IsDone (number : ℕ) (c : Call) (o : Outcome) : Type 0 where
+  pub ended : Option End
+  pub told : List ℕ
+  pub output : List ℕ
+  pub shows : o.Shows ended told output
+  pub says : TellsRun ended o.steps told number c
+  pub took : TookAll c.out_before output c.out_after
+
+-- it is done where no write failed
+abbrev pub IsDoneUnless : ℕ → Call → Outcome → Type 0
+IsDoneUnless number c o = ¬ Rose c.out_before.faults c.out_after.faults → IsDone number c o
+
+-- What a command does where its file has these bytes: the file's tree is worked on, or its accepted program with arguments that are
+-- spelled is given to the list of passes; what this makes is told where it is too large, and else it is worked on.
+abbrev pub CommandDone : Command → ℕ → Call → Format → List ℕ → List (List ℕ) → Type 0
+CommandDone (OnTree outcome) number c format bytes args = (tree : Tree) → ReadsAs format bytes tree → UnlessMemory number (IsDoneUnless number c (outcome tree))
+CommandDone (OnProgram does) number c format bytes args =
+    (p : Prog) (values : List Value) → IsSource format bytes p → IsAccepted p → Spell does.arguments p args values →
+    UnlessMemory number (AfterPasses does.takes_passes number c p (λ q makes. AfterEmission does.emission number q (IsDoneUnless number c (does.outcome (subject does c.passes p q makes values)))))
+
+-- The command that the words ask for is done, where its file is read well.
+abbrev pub DoneWhere : ℕ → Call → Type 0
+DoneWhere number c = (action : Action) (bytes : List ℕ) (reads : ReadsWell c action bytes) → length bytes ≤ most_bytes → CommandDone (command action) number c (format_of reads.path) bytes reads.args

@@ -1,0 +1,8 @@
+-- What each command does, a value each.
+pub mod Check
+pub mod Emit
+pub mod Interp
+pub mod Json
+pub mod Passes
+pub mod Run
+pub mod Text

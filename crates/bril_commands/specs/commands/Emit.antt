@@ -1,0 +1,53 @@
+-- `emit`: the machine words of an accepted program are written.
+use Rattle.std.specs.Prelude.{ℕ, ◌≡◌, ◌+◌, ◌/◌, ◌%◌, ◌^◌, nat_lt, true, List, [], ◌∷◌, if◌then◌else◌}
+use Rattle.std.specs.List.{flat_map}
+use Rattle.bril_tree.specs.declared.limits.Limits.{Limits}
+use Rattle.bril_tree.specs.declared.program.Prog.{Prog}
+use Rattle.bril_words.specs.Defaults.{default_cells}
+use Rattle.rv64_implements.specs.Implements.{Implements}
+use Rattle.rv64_words.specs.declared.image.Image.{Image}
+use Rattle.bril_commands.specs.Command.{OfProgram, NoArguments, ImageFor, AreLimitsOf}
+use Rattle.bril_commands.specs.Outcome.{writes}
+
+-- ---- the text of words
+
+-- the code of a hexadecimal digit, in lower case
+abbrev pub hex_digit : ℕ → ℕ
+hex_digit d = if nat_lt d 10 then 48 + d else 87 + d
+
+-- a word in eight hexadecimal digits, and LF
+abbrev pub word_line : ℕ → List ℕ
+word_line w =
+    hex_digit (w / 2 ^ 28 % 16) ∷ hex_digit (w / 2 ^ 24 % 16) ∷ hex_digit (w / 2 ^ 20 % 16) ∷ hex_digit (w / 2 ^ 16 % 16) ∷
+    hex_digit (w / 2 ^ 12 % 16) ∷ hex_digit (w / 2 ^ 8 % 16) ∷ hex_digit (w / 2 ^ 4 % 16) ∷ hex_digit (w % 16) ∷ 10 ∷ []
+
+-- the lines of words
+abbrev pub listing : List ℕ → List ℕ
+listing words = flat_map word_line words
+
+-- an image as `emit` shows it
+abbrev pub shown : Image → List ℕ
+shown image = listing image.words
+
+-- ---- the command
+
+-- The text shows an image that does what the program does.
+pub record ShowsImage (shows : Image → List ℕ) (q : Prog) (frames cells : ℕ) (output : List ℕ) : Type 0 where
+  pub limits : Limits
+  pub are : AreLimitsOf (ImageFor frames cells) limits
+  pub image : Image
+  pub implements : Implements image q limits
+  pub text : output ≡ shows image
+
+-- The image of the program that the list makes, for limits of so many frames and cells, is written as `shows` has it.
+abbrev pub emits : (Image → List ℕ) → (frames cells : ℕ) → OfProgram
+emits shows frames cells = record {
+  arguments = NoArguments;
+  takes_passes = true;
+  emission = ImageFor frames cells;
+  outcome = λ on. writes [] (ShowsImage shows on.made frames cells);
+}
+
+-- The words of the image are written, for the default number of cells.
+abbrev pub emits_words : (frames : ℕ) → OfProgram
+emits_words frames = emits shown frames default_cells

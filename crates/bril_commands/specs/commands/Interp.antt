@@ -1,0 +1,47 @@
+-- `interp`: an accepted program is interpreted with the arguments that the words spell.
+use Rattle.std.specs.Prelude.{ℕ, ◌≡◌, ◌<◌, false, List, [], Option}
+use Rattle.bril_interpreter.specs.StepAnswers.{WantsMemory}
+use Rattle.bril_tree.specs.Run.{state_after}
+use Rattle.bril_tree.specs.declared.limits.End.{End}
+use Rattle.bril_tree.specs.declared.limits.Limits.{Limits}
+use Rattle.bril_tree.specs.declared.program.Prog.{Prog}
+use Rattle.bril_tree.specs.declared.value.Value.{Value}
+use Rattle.bril_commands.specs.Command.{OfProgram, OfMain, NoImage}
+use Rattle.bril_commands.specs.Outcome.{Outcome}
+
+-- By its semantics the program, with these values, has ended so within the steps, or goes on for None, and has printed this.
+pub record Shows (p : Prog) (values : List Value) (frames cells steps : ℕ) (ended : Option End) (output : List ℕ) : Type 0 where
+  pub limits : Limits
+  pub frames_are : limits.frames ≡ frames
+  pub cells_are : limits.cells ≡ cells
+  pub ends : (state_after p limits values steps).ended ≡ ended
+  pub prints : (state_after p limits values steps).printed ≡ output
+
+-- By its semantics the program, with these values, stands after fewer than the steps at an item that takes memory and doesn't end
+-- the run, and has printed this.
+pub record StopsForMemory (p : Prog) (values : List Value) (frames cells steps : ℕ) (output : List ℕ) : Type 0 where
+  pub limits : Limits
+  pub frames_are : limits.frames ≡ frames
+  pub cells_are : limits.cells ≡ cells
+  pub made : ℕ
+  pub within : made < steps
+  pub wants : WantsMemory p limits (state_after p limits values made)
+  pub prints : (state_after p limits values made).printed ≡ output
+
+-- What the program prints within so many steps, by its semantics.
+abbrev pub interpreted : Prog → List Value → (frames cells steps : ℕ) → Outcome
+interpreted p values frames cells steps = record {
+  steps = steps;
+  Shows = λ ended told output. (told ≡ []) × Shows p values frames cells steps ended output;
+  Exhausts = λ output. StopsForMemory p values frames cells steps output;
+  unwritten = [];
+}
+
+-- The program is interpreted for so many steps, under limits of so many frames and cells.
+abbrev pub interprets : (frames cells steps : ℕ) → OfProgram
+interprets frames cells steps = record {
+  arguments = OfMain;
+  takes_passes = false;
+  emission = NoImage;
+  outcome = λ on. interpreted on.source on.values frames cells steps;
+}

@@ -1,0 +1,13 @@
+//! What the commands mean, and the stages that they share.
+//!
+//! `specs/` says what the top call answers: `Command` is what a command is, `commands/` has a value for each of them, `Table` the
+//! table of all, `Outcome` what a command comes to, and `Answers` what each status says, and when it comes. `proofs/` shows once, for
+//! every command of this form, that what its stages answer adds up to what the top call promises.
+//!
+//! The functions are the stages from a file to an accepted program and its arguments, and the list of passes.
+#![tactic(auto)]
+
+pub mod arguments;
+pub mod list;
+pub mod program;
+pub mod source;

@@ -1,0 +1,151 @@
+// The list of passes: the program that it makes of an accepted program, and what is told of the passes that it used.
+
+ghost use Rattle.std.specs.Prelude.{◌≡◌, ◌≤◌, false, [], length, take, drop, is_some, IfOk, IfErr};
+ghost use Rattle.bril_commands.specs.PassList.{pass_list, IsMade, RefusesList, first_name, is_taken, is_used, used_pieces, pieces_from};
+ghost use Rattle.bril_commands.specs.Stats.{PutTold};
+ghost use Rattle.bril_outside.specs.Sink.{joined};
+ghost use Rattle.bril_report.specs.Report.{PutsPieces};
+ghost use Rattle.pass_law.specs.Chains.{first_answering, AllSame};
+ghost use Rattle.std.specs.Option.{option_map};
+
+use bril_checker::Checked;
+use bril_outside::sink::{Failed, Sink};
+use bril_profile::Profile;
+use bril_report::{Status, put_tally};
+use bril_tree::sequence::Seq;
+use bril_tree::text::Text;
+use pass_law::{ListFault, Pass, run_list};
+use std::alloc::Global;
+
+/// The program that a list of passes makes of an accepted program, by the profile without entries: each name is given to the first
+/// pass that answers to it.
+///
+/// `UnknownPass`: no pass answers to the name at this place, the first such, and no pass ran. `PassTooLarge`: the pass at this place
+/// refuses the program that it was given, for its bound on items.
+pub fn transformed(
+    alloc: Global,
+    passes: &mut [Box<dyn Pass>],
+    names: &Seq<Text>,
+    checked: Checked,
+) -> Result<Checked, Status>
+    requires { length names.now ≤ 64 }
+    ensures ok { IfOk result (λ made. IsMade (pass_list (λ p. meaning p) (λ p. counts p) passes.old passes.new names.now) checked.prog made.prog) }
+    ensures err { IfErr result (λ status. RefusesList status (pass_list (λ p. meaning p) (λ p. counts p) passes.old passes.new names.now) checked.prog) }
+    ensures same { AllSame (λ p. meaning p) passes.old passes.new }
+{
+    let profile = Profile::without_entries(alloc);
+    match run_list(alloc, passes, names, checked, &profile) {
+        Ok(made) => Ok(made),
+        Err(ListFault::Unknown { place, prog: _prog }) => Err(Status::UnknownPass { place }),
+        Err(
+            ListFault::TooLarge {
+                place,
+                bound,
+                prog: _prog,
+            },
+        ) => Err(Status::PassTooLarge { place, bound }),
+        Err(ListFault::Memory) => Err(Status::OutOfMemory),
+    }
+}
+
+/// Tells the tallies of the passes that the list used, in their order. Where a put of it failed, `silenced` becomes true, and nothing
+/// more is to be put.
+pub fn tell_tallies<E: Sink>(
+    passes: &[Box<dyn Pass>],
+    names: &[Text],
+    err: &mut E,
+    silenced: &mut bool,
+)
+    requires { silenced.old ≡ false }
+    ensures { PutTold silenced.new (joined (pieces_from (λ p. meaning p) (λ p. counts p) names.now [] passes.now)) (E.seen err.old) (E.seen err.new) }
+{
+    match put_from(passes, 0, names, err) {
+        Ok(()) => {}
+        Err(Failed) => *silenced = true,
+    }
+}
+
+// Puts the lines of the passes from a place on.
+fn put_from<E: Sink>(
+    passes: &[Box<dyn Pass>],
+    place: usize,
+    names: &[Text],
+    err: &mut E,
+) -> Result<(), Failed>
+    requires { place ≤ length passes.now }
+    ensures quiet { pieces_from (λ p. meaning p) (λ p. counts p) names.now (take place passes.now) (drop place passes.now) ≡ [] → (E.seen err.new) ≡ (E.seen err.old) }
+    ensures puts { PutsPieces result (E.seen err.old) (pieces_from (λ p. meaning p) (λ p. counts p) names.now (take place passes.now) (drop place passes.now)) (E.seen err.new) }
+{
+    if place == passes.len() {
+        return Ok(());
+    }
+    put_used(&passes[..place], &passes[place], names, err)?;
+    put_from(passes, place + 1, names, err)
+}
+
+// Puts the line of a pass, where the list used it.
+fn put_used<E: Sink>(
+    earlier: &[Box<dyn Pass>],
+    pass: &Box<dyn Pass>,
+    names: &[Text],
+    err: &mut E,
+) -> Result<(), Failed>
+    ensures quiet { used_pieces (λ p. meaning p) (λ p. counts p) names.now earlier.now pass.now ≡ [] → (E.seen err.new) ≡ (E.seen err.old) }
+    ensures puts { PutsPieces result (E.seen err.old) (used_pieces (λ p. meaning p) (λ p. counts p) names.now earlier.now pass.now) (E.seen err.new) }
+{
+    if !is_used(earlier, pass, names) {
+        return Ok(());
+    }
+    match first_name(pass, names) {
+        None => Ok(()),
+        Some(name) => {
+            let tally = pass.tally();
+            put_tally(err, name, tally.runs, tally.seen, tally.made)
+        }
+    }
+}
+
+// Whether the pass answers to a name to which no earlier one does.
+fn is_used(earlier: &[Box<dyn Pass>], pass: &Box<dyn Pass>, names: &[Text]) -> bool
+    ensures { result ≡ is_used (λ p. meaning p) earlier.now pass.now names.now }
+{
+    match names.split_first() {
+        None => false,
+        Some((name, rest)) => {
+            is_taken(earlier, pass, name.as_bytes()) || is_used(earlier, pass, rest)
+        }
+    }
+}
+
+// Whether the pass answers to the name, and no earlier one does.
+fn is_taken(earlier: &[Box<dyn Pass>], pass: &Box<dyn Pass>, name: &[u8]) -> bool
+    ensures { result ≡ is_taken (λ p. meaning p) earlier.now pass.now name.now }
+{
+    pass.is_named(name) && !is_answered(earlier, name)
+}
+
+// Whether a pass answers to the name.
+fn is_answered(passes: &[Box<dyn Pass>], name: &[u8]) -> bool
+    ensures { result ≡ is_some (first_answering (λ p. meaning p) passes.now name.now) }
+{
+    match passes.split_first() {
+        None => false,
+        Some((first, rest)) => first.is_named(name) || is_answered(rest, name),
+    }
+}
+
+// The first of the names to which the pass answers.
+fn first_name<'a>(pass: &Box<dyn Pass>, names: &'a [Text]) -> Option<&'a [u8]>
+    ensures { option_map (λ name. name.now) result ≡ first_name (λ p. meaning p) pass.now names.now }
+{
+    match names.split_first() {
+        None => None,
+        Some((name, rest)) => {
+            if pass.is_named(name.as_bytes()) {
+                Some(name.as_bytes())
+            } else {
+                first_name(pass, rest)
+            }
+        }
+    }
+}

@@ -1,0 +1,47 @@
+// The accepted program of a tree: the stages between a file's tree and what a command does with its program.
+
+ghost use Rattle.std.specs.Prelude.{[], ◌≡◌, IfOk, IfErr};
+ghost use Rattle.bril_commands.specs.Stages.{IsFaultless, IsAcceptedProgram, RefusesCheck, RefusesProgram};
+
+use bril_checker::{Checked, check};
+use bril_names::number;
+use bril_report::Status;
+use bril_tree::program::Prog;
+use bril_tree::tree::Tree;
+use std::alloc::Global;
+
+/// The program of a tree, which has no imports, names without a fault, and a program that is accepted.
+///
+/// `Unsupported`: the tree has imports. `Misnamed`: a name has this fault. `Unaccepted`: the program has this fault.
+pub fn accepted_program(alloc: Global, tree: &Tree) -> Result<Checked, Status>
+    ensures ok { IfOk result (λ checked. IsAcceptedProgram tree.now checked.prog) }
+    ensures err { IfErr result (λ status. RefusesProgram status tree.now) }
+{
+    if !tree.imports.as_slice().is_empty() {
+        return Err(Status::Unsupported);
+    }
+    named_program(alloc, tree)
+}
+
+// The program of a tree without imports.
+fn named_program(alloc: Global, tree: &Tree) -> Result<Checked, Status>
+    requires { tree.now.imports ≡ [] }
+    ensures ok { IfOk result (λ checked. IsAcceptedProgram tree.now checked.prog) }
+    ensures err { IfErr result (λ status. RefusesProgram status tree.now) }
+{
+    let program = number(alloc, tree)?;
+    check_program(alloc, program)
+}
+
+// The program, where it is accepted.
+fn check_program(alloc: Global, program: Prog) -> Result<Checked, Status>
+    ensures prog { IfOk result (λ checked. checked.prog ≡ program) }
+    ensures sound { IfOk result (λ _. IsFaultless program) }
+    ensures err { IfErr result (λ status. RefusesCheck status program) }
+{
+    // No file of the allowed size has as many functions or items.
+    if !program.is_counted() {
+        return Err(Status::OutOfMemory);
+    }
+    Ok(check(alloc, program)?)
+}
