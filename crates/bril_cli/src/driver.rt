@@ -1,10 +1,9 @@
 // The driver: the stages from a file to what a command does with it, in order. Each is a call that gives a result, and
 // `?` hands its refusal on.
 
-ghost use Rattle.std.specs.Prelude.{◌≡◌, ◌≤◌, false, length, IfOk, IfErr};
+ghost use Rattle.std.specs.Prelude.{◌≡◌, ◌≤◌, false, length};
 ghost use Rattle.bril_commands.specs.Driver.{DoesTree, DoesFile};
 ghost use Rattle.bril_commands.specs.PassList.{pass_list};
-ghost use Rattle.bril_commands.specs.Stages.{IsAcceptedProgram, RefusesProgram};
 ghost use Rattle.bril_commands.specs.Stats.{Telling};
 ghost use Rattle.bril_commands.specs.Table.{command, KeepsPasses};
 ghost use Rattle.bril_report.specs.StageFaults.{status_of};
@@ -18,7 +17,6 @@ use crate::commands::json::put_json;
 use crate::commands::passes::put_transformed;
 use crate::commands::run::{RunSettings, run};
 use crate::commands::text::put_text;
-use bril_checker::Checked;
 use bril_commands::program::accepted_program;
 use bril_commands::source::{read_file, read_tree};
 use bril_outside::files::Files;
@@ -54,9 +52,12 @@ pub fn drive<F: Files, O: Sink, E: Sink>(
     ensures does { Telling (λ told. DoesFile (command request.entry.action) (status_of result) (pass_list (λ p. meaning p) (λ p. counts p) passes.old passes.new (names_of request.entry.list.now)) (F.seen files.old) (F.seen files.new) request.entry.path.now request.entry.args.now told (O.seen out.old) (O.seen out.new)) silenced.new (E.seen err.old) (E.seen err.new) }
     ensures keeps { KeepsPasses (λ p. meaning p) request.entry.action passes.old passes.new }
 {
+    let names = names_of(alloc, request.list)?;
     let source = read_file(alloc, request.path, files)?;
     let tree = read_tree(alloc, request.path.as_bytes(), source.as_slice())?;
-    do_command(alloc, request, &tree, out, err, passes, silenced)
+    do_command(
+        alloc, request, &tree, out, err, passes, &names, silenced,
+    )
 }
 
 // Does what a request asks of its file's tree. To check, interpret, transform, emit or run it, the tree has an accepted program.
@@ -67,12 +68,13 @@ fn do_command<O: Sink, E: Sink>(
     out: &mut O,
     err: &mut E,
     passes: &mut [Box<dyn Pass>],
+    names: &Seq<Text>,
     silenced: &mut bool,
 ) -> Result<(), Status>
     requires range { IsActionInRange request.action }
-    requires few { length (names_of request.list.now) ≤ 64 }
+    requires few { length names.now ≤ 64 }
     requires sound { silenced.old ≡ false }
-    ensures does { Telling (λ told. DoesTree (command request.entry.action) (status_of result) (pass_list (λ p. meaning p) (λ p. counts p) passes.old passes.new (names_of request.entry.list.now)) tree.now request.entry.args.now told (O.seen out.old) (O.seen out.new)) silenced.new (E.seen err.old) (E.seen err.new) }
+    ensures does { Telling (λ told. DoesTree (command request.entry.action) (status_of result) (pass_list (λ p. meaning p) (λ p. counts p) passes.old passes.new names.now) tree.now request.entry.args.now told (O.seen out.old) (O.seen out.new)) silenced.new (E.seen err.old) (E.seen err.new) }
     ensures keeps { KeepsPasses (λ p. meaning p) request.entry.action passes.old passes.new }
 {
     match request.action {
@@ -87,14 +89,14 @@ fn do_command<O: Sink, E: Sink>(
                 steps,
                 stats,
             };
-            let (program, names) = prepared(alloc, tree, request.list)?;
+            let program = accepted_program(alloc, tree)?;
             run(
                 alloc,
                 program,
                 request.args,
                 settings,
                 passes,
-                &names,
+                names,
                 out,
                 err,
                 silenced,
@@ -114,12 +116,12 @@ fn do_command<O: Sink, E: Sink>(
                 frames,
                 cells: CELLS,
             };
-            let (program, names) = prepared(alloc, tree, request.list)?;
-            put_image(alloc, program, limits, passes, &names, out)
+            let program = accepted_program(alloc, tree)?;
+            put_image(alloc, program, limits, passes, names, out)
         }
         Action::Passes => {
-            let (program, names) = prepared(alloc, tree, request.list)?;
-            put_transformed(alloc, program, passes, &names, out, err, silenced)
+            let program = accepted_program(alloc, tree)?;
+            put_transformed(alloc, program, passes, names, out, err, silenced)
         }
         Action::Check => {
             let program = accepted_program(alloc, tree)?;
@@ -128,15 +130,4 @@ fn do_command<O: Sink, E: Sink>(
         Action::WriteText => put_text(alloc, tree, out),
         Action::WriteJson => put_json(alloc, tree, out),
     }
-}
-
-// The accepted program of a tree, and the names of a list of passes.
-fn prepared(alloc: Global, tree: &Tree, list: &str) -> Result<(Checked, Seq<Text>), Status>
-    ensures program { IfOk result (λ made. IsAcceptedProgram tree.now made.0.prog) }
-    ensures names { IfOk result (λ made. made.1 ≡ names_of list.now) }
-    ensures err { IfErr result (λ status. RefusesProgram status tree.now) }
-{
-    let program = accepted_program(alloc, tree)?;
-    let names = names_of(alloc, list)?;
-    Ok((program, names))
 }

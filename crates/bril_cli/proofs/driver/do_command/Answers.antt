@@ -40,8 +40,8 @@ returns-in_err-program-in-Check-clause-does g c =
 pub returns-in_ok-program-in-Run-clause-does : goal.returns-in_ok-program-in-Run-clause-does
 returns-in_ok-program-in-Run-clause-does g c =
     let did = c.run.ensures.does in
-    rw (c.in-Run.is, ← c.in_ok-program-in-Run.ensures.names)
-    (did.0, inr (c.in_ok-program-in-Run.program.prog, c.in_ok-program-in-Run.ensures.program, did.1), did.2)
+    rw c.in-Run.is
+    (did.0, inr (c.in_ok-program-in-Run.program.prog, c.in_ok-program-in-Run.ensures.ok, did.1), did.2)
 
 pub returns-in_ok-program-in-Interpret-clause-does : goal.returns-in_ok-program-in-Interpret-clause-does
 returns-in_ok-program-in-Interpret-clause-does g c =
@@ -54,14 +54,14 @@ returns-in_ok-program-in-Interpret-clause-does g c =
 
 pub returns-in_ok-program-in-Emit-clause-does : goal.returns-in_ok-program-in-Emit-clause-does
 returns-in_ok-program-in-Emit-clause-does g c =
-    rw (c.in-Emit.is, ← c.in_ok-program-in-Emit.ensures.names)
-    ([], inr (c.in_ok-program-in-Emit.program.prog, c.in_ok-program-in-Emit.ensures.program, c.put_image.ensures.does), untold c.args.silenced.now _ c.requires.sound)
+    rw c.in-Emit.is
+    ([], inr (c.in_ok-program-in-Emit.program.prog, c.in_ok-program-in-Emit.ensures.ok, c.put_image.ensures.does), untold c.args.silenced.now _ c.requires.sound)
 
 pub returns-in_ok-program-in-Passes-clause-does : goal.returns-in_ok-program-in-Passes-clause-does
 returns-in_ok-program-in-Passes-clause-does g c =
     let put = c.put_transformed.ensures.does in
-    rw (c.in-Passes.is, ← c.in_ok-program-in-Passes.ensures.names)
-    (put.0, inr (c.in_ok-program-in-Passes.program.prog, c.in_ok-program-in-Passes.ensures.program, put.1), put.2)
+    rw c.in-Passes.is
+    (put.0, inr (c.in_ok-program-in-Passes.program.prog, c.in_ok-program-in-Passes.ensures.ok, put.1), put.2)
 
 pub returns-in_ok-program-in-Check-clause-does : goal.returns-in_ok-program-in-Check-clause-does
 returns-in_ok-program-in-Check-clause-does g c =

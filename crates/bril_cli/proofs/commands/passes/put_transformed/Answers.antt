@@ -26,5 +26,4 @@ returns-clause-does g c =
     let told = rw c.as_slice-2.ensures at c.tell_tallies.ensures in
     let text = rw c.prog.ensures.value at c.in_ok-text.ensures in
     let took = rw c.as_slice.ensures at c.in-Err.ensures.err.0 in
-    let partly = record { ended = _; told = _; output = c.in_ok-text.text; shows = (refl, refl, text); took = took; rose = c.in-Err.ensures.err.1 } in
-    (_, inr ([], refl, inr (c.in_ok-made.made.prog, c.in_ok-made.ensures.ok, inr (tt, (refl, partly)))), told)
+    (_, inr ([], refl, inr (c.in_ok-made.made.prog, c.in_ok-made.ensures.ok, inr (tt, (refl, record { ended = _; told = _; output = c.in_ok-text.text; shows = (refl, refl, text); took = took; rose = c.in-Err.ensures.err.1 })))), told)
