@@ -3,3 +3,4 @@ pub mod Report
 pub mod StageFaults
 pub mod Tallies
 pub mod Stats
+pub mod Told
