@@ -6,7 +6,7 @@ use Rattle.bril_report.specs.declared.status.Status.{Status}
 use Rattle.bril_tree.specs.declared.limits.End.{End}
 use Rattle.bril_commands.specs.Outcome.{Outcome, PutsText, ShowsWhole, Works, writes}
 
-module _ (a b : Outcome) (steps : a.steps ≡ b.steps) (unwritten : a.unwritten ≡ b.unwritten) (shows : (ended : Option End) (told output : List ℕ) → a.Shows ended told output → b.Shows ended told output) (exhausts : (output : List ℕ) → a.Exhausts output → b.Exhausts output) (told : List ℕ) (s t : SinkSeen) where
+module _ (a b : Outcome) (steps : a.steps ≡ b.steps) (unwritten : a.unwritten ≡ b.unwritten) (shows : (ended : Option End) (told : List (List ℕ)) (output : List ℕ) → a.Shows ended told output → b.Shows ended told output) (exhausts : (output : List ℕ) → a.Exhausts output → b.Exhausts output) (told : List (List ℕ)) (s t : SinkSeen) where
   whole : (ended : Option End) → ShowsWhole a ended told s t → ShowsWhole b ended told s t
   whole ended w = record { output = w.output; shows = shows ended told w.output w.shows; took = w.took }
 
