@@ -126,17 +126,17 @@ module _ (c : Call) (asks : Asks c.words) (how : Status) (ends : Ends c asks how
   same_action : action ≡ asks.action
   same_action = asked_action c asks action reads.path reads.args reads.asked
 
-  told : HoldsFile c.files_before.holds asks.path bytes
-  told = subst (λ p. HoldsFile c.files_before.holds p bytes) same_path reads.told
+  held : HoldsFile c.files_before.holds asks.path bytes
+  held = subst (λ p. HoldsFile c.files_before.holds p bytes) same_path reads.told
 
   these : (other : List ℕ) → MayHold c.files_before.holds asks.path other → other ≡ bytes
-  these other held = held_told c.files_before.holds asks.path bytes other told held
+  these other may = held_told c.files_before.holds asks.path bytes other held may
 
   pub by_cases : (A : Type 0) → (how ≡ status.OutOfMemory → A) → (how ≡ status.FileTooBig → most_bytes < length bytes → A)
       → ((fault : SourceFault) → how ≡ status.Misread fault → ends.told ≡ [] → IsOnlyFault (format_of asks.path) bytes fault → length bytes ≤ most_bytes → A)
       → ((tree : Tree) → IsOnlyTree (format_of asks.path) bytes tree → DoesTree (command action) how c.passes tree asks.args ends.told c.out_before c.out_after → length bytes ≤ most_bytes → A) → A
   by_cases A memory long misread dealt =
-      ⊎_elim (λ fails. ⊎_elim memory (⊎_elim (λ may. absurd (⊎_elim reads.sound (told_not_lacking c.files_before.holds asks.path bytes told) may.1)) (λ l. long l.0 (subst (λ b. most_bytes < length b) (these l.1.bytes l.1.held) l.1.long))) (read_fails how _ _ asks.path fails.0))
+      ⊎_elim (λ fails. ⊎_elim memory (⊎_elim (λ may. absurd (⊎_elim reads.sound (told_not_lacking c.files_before.holds asks.path bytes held) may.1)) (λ l. long l.0 (subst (λ b. most_bytes < length b) (these l.1.bytes l.1.held) l.1.long))) (read_fails how _ _ asks.path fails.0))
       (λ read.
       let same : read.0 ≡ bytes = these read.0 read.1.held in
       let few : length bytes ≤ most_bytes = subst (λ b. length b ≤ most_bytes) same read.1.short in

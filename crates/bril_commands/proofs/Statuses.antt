@@ -1,5 +1,5 @@
 -- What each status says of the call.
-use Rattle.std.proofs.Common.{◌≡◌, ◌⊎◌, ℕ, Bool, true, append-nil, ◌++◌, List, [], Option, Some, None, refl, sym, ap, ◌∙◌, subst, inl, inr, ⊎_elim}
+use Rattle.std.proofs.Common.{◌≡◌, ◌⊎◌, ℕ, Bool, true, false, append-nil, ◌++◌, List, [], Option, Some, None, refl, sym, ap, ◌∙◌, subst, inl, inr, ⊎_elim}
 use Rattle.bril_arguments.specs.declared.fault.ArgFault.TheVariants as argument
 use Rattle.bril_arguments.specs.declared.fault.ArgFault.{ArgFault}
 use Rattle.bril_names.specs.Faults as names
@@ -299,10 +299,10 @@ module _ (c : Call) (asks : Asks c.words) where
             values.2)
 
       Answers-tree : (k : Command) → command asks.action ≡ k → (how : Status) (told : List ℕ) → SaysTold told how asks.path c.err_before c.err_after → DoesTree k how c.passes tree asks.args told c.out_before c.out_after → Answers (status_number how) c
-      Answers-tree (OnTree outcome) is how told says works =
+      Answers-tree (OnTree outcome) is how told says =
           Answers-works (outcome tree)
           (λ Is holds. subst (λ k. CommandComesTo k c asks.path asks.args Is) (sym is) (record { bytes = bytes; file = file; tree = tree; only = only; is = holds }))
-          how told says works
+          how told says
       Answers-tree (OnProgram does) is how told says =
           ⊎_elim (λ refused. Answers-refused (subst NeedsProgram (sym is) tt) how (says.plain refused.1.0) refused.0 refused.1.1)
           (λ goes. Answers-program does is goes.0 goes.1 how told says goes.2)
