@@ -16,6 +16,8 @@ use Rattle.bril_report.specs.declared.status.SourceFault.TheVariants.{Text, Json
 use Rattle.bril_text.specs.declared.fault.TextFault.{TextFault}
 use Rattle.bril_text.specs.declared.fault.TextFault.TheVariants as text
 use Rattle.bril_tree.specs.declared.program.Prog.{Prog}
+use Rattle.pass_law.specs.declared.fault.ListFault.{ListFault}
+use Rattle.pass_law.specs.declared.fault.ListFault.TheVariants as list
 
 -- the status of a command that was done, or ended so
 abbrev pub status_of : Result Unit Status → Status
@@ -72,3 +74,9 @@ abbrev pub argument_status : ArgFault → Status
 argument_status (argument.Count given wanted) = status.ArgumentCount given wanted
 argument_status (argument.Spelling position) = status.BadArgument position
 argument_status argument.Memory = status.OutOfMemory
+
+-- the status of a fault of a list of passes
+abbrev pub list_status : ListFault → Status
+list_status (list.Unknown place prog) = status.UnknownPass place
+list_status (list.TooLarge place bound prog) = status.PassTooLarge place bound
+list_status list.Memory = status.OutOfMemory

@@ -1,7 +1,7 @@
 // The status of each stage's fault, so that `?` hands it on, and of how a command ended.
 
 ghost use Rattle.std.specs.Prelude.{◌≡◌};
-ghost use Rattle.bril_report.specs.StageFaults.{status_of, file_status, text_status, json_status, name_status, check_status, argument_status};
+ghost use Rattle.bril_report.specs.StageFaults.{status_of, file_status, text_status, json_status, name_status, check_status, argument_status, list_status};
 ghost use Rattle.bril_report.specs.declared.status.Status.TheVariants.{OutOfMemory, CannotWrite};
 
 use crate::status::{SourceFault, Status};
@@ -13,6 +13,7 @@ use bril_outside::files::FileFault;
 use bril_outside::sink::Failed;
 use bril_text::TextFault;
 use bril_tree::program::Prog;
+use pass_law::ListFault;
 use std::alloc::AllocError;
 
 /// `Done` of a command that was done, and else the status with which it ended.
@@ -133,6 +134,18 @@ impl From<ArgFault> for Status {
             ArgFault::Count { given, wanted } => Status::ArgumentCount { given, wanted },
             ArgFault::Spelling { place } => Status::BadArgument { position: place },
             ArgFault::Memory => Status::OutOfMemory,
+        }
+    }
+}
+
+impl From<ListFault> for Status {
+    ghost from_gives = { λ fault status. status ≡ list_status fault };
+
+    fn from(fault: ListFault) -> Status {
+        match fault {
+            ListFault::Unknown { place, .. } => Status::UnknownPass { place },
+            ListFault::TooLarge { place, bound, .. } => Status::PassTooLarge { place, bound },
+            ListFault::Memory => Status::OutOfMemory,
         }
     }
 }

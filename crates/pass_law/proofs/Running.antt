@@ -1,5 +1,5 @@
 -- One name, given to the first pass that answers to it: the first of the list, or one of the rest.
-use Rattle.std.proofs.Common.{◌≡◌, ℕ, true, false, List, ◌∷◌, Some, sym, ap, subst, ◌∙◌}
+use Rattle.std.proofs.Common.{◌≡◌, ℕ, Bool, true, false, List, ◌∷◌, Some, sym, ap, subst, ◌∙◌}
 use Rattle.std.specs.Prelude.{Result, Ok, Err, IfOk, IfErr}
 use Rattle.bril_checker.specs.Checked.{CheckedView}
 use Rattle.bril_profile.specs.declared.profile.Profile.{Profile}
@@ -10,6 +10,10 @@ use Rattle.pass_law.specs.Meaning.{Meaning, HasNumbers, Link, IsRefused, SameMea
 use Rattle.pass_law.specs.Stops.{IsRefusedBy}
 use Rattle.pass_law.specs.declared.fault.PassFault.{PassFault}
 use Rattle.pass_law.proofs.Same.{AllSame-refl}
+
+-- the pass in a box, and that in the place where a call found it, answer to the same names
+pub answers-at : {I : Type 0} {D : I → Type 0} (meaning : (i : I) → D i → Meaning) (i j : I) (x : D i) (y : D j) (name : List ℕ) (b : Bool) → ◌≡◌ {A = (k : I) × D k} (i, x) (j, y) → (meaning i x).answers name ≡ b → (meaning j y).answers name ≡ b
+answers-at {I} {D} meaning i j x y name b same = subst (λ (p : (k : I) × D k). (meaning p.0 p.1).answers name ≡ b) same
 
 module _ {B : Type 0} (meaning : B → Meaning) (passes : List B) (first : B) (rest : List B) (is : passes ≡ first ∷ rest) where
   first-answers : (name : List ℕ) → (meaning first).answers name ≡ true → first_answering meaning passes name ≡ Some first

@@ -17,6 +17,6 @@ mod tally;
 pub use bounds::room;
 pub use fault::{ListFault, PassFault};
 pub use laws::chains_refine;
-pub use list::run_list;
+pub use list::{is_answered, run_list};
 pub use pass::Pass;
 pub use tally::Tally;

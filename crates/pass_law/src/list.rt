@@ -63,13 +63,13 @@ fn unknown_place(passes: &[Box<dyn Pass>], names: &[Text]) -> Option<u32>
     None
 }
 
-// Whether a pass answers to the name.
-fn is_answered(passes: &[Box<dyn Pass>], name: &[u8]) -> bool
+/// Whether a pass answers to the name. Takes no memory.
+pub fn is_answered(passes: &[Box<dyn Pass>], name: &[u8]) -> bool
     ensures { result ≡ is_some (first_answering (λ p. meaning p) passes.now name.now) }
 {
     match passes.split_first() {
         None => false,
-        Some((first, rest)) => is_named(first, name) || is_answered(rest, name),
+        Some((first, rest)) => first.is_named(name) || is_answered(rest, name),
     }
 }
 
@@ -91,7 +91,7 @@ fn run_named(
     match passes.split_first_mut() {
         None => unreachable!(),
         Some((first, rest)) => {
-            if is_named(first, name) {
+            if first.is_named(name) {
                 run_one(alloc, first, prog, profile)
             } else {
                 run_named(alloc, rest, name, prog, profile)
@@ -100,14 +100,8 @@ fn run_named(
     }
 }
 
-// Whether the pass answers to the name.
-fn is_named(pass: &Box<dyn Pass>, name: &[u8]) -> bool
-    ensures { result ≡ (meaning pass.now).answers name.now }
-{
-    pass.is_named(name)
-}
-
-// Runs the pass.
+// Runs the pass. It has a function of its own since the prover learns nothing of the slice after a call of `run` at an
+// element of it.
 fn run_one(
     alloc: Global,
     pass: &mut Box<dyn Pass>,
