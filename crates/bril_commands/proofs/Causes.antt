@@ -154,7 +154,7 @@ module _ (c : Call) (asks : Asks c.words) (how : Status) (ends : Ends c asks how
 -- ---- a command that needs a program
 
 -- what it does with the accepted program
-abbrev pub DoesAccepted : Command → Status → PassList → Prog → List (List ℕ) → List ℕ → SinkSeen → SinkSeen → Type 0
+abbrev pub DoesAccepted : Command → Status → PassList → Prog → List (List ℕ) → List (List ℕ) → SinkSeen → SinkSeen → Type 0
 DoesAccepted (OnTree outcome) how l p args told s t = ⊥
 DoesAccepted (OnProgram does) how l p args told s t = DoesProgram does how l p args told s t
 
@@ -194,7 +194,7 @@ given (OnProgram does) how l p args told s t gives goes = spelled does.arguments
 -- what is said of a fault of the arguments
 argument_said : (fault : ArgFault) (path : List ℕ) (s t : SinkSeen) → fault ≢ argument.Memory → SaysStatus (argument_status fault) path s t
     → (status_number (argument_status fault) ≡ 69) × Says s (argument_line fault) t
-argument_said (argument.Count given wanted) path s t ample says = (refl, says)
+argument_said (argument.Count count wanted) path s t ample says = (refl, says)
 argument_said (argument.Spelling place) path s t ample says = (refl, says)
 argument_said argument.Memory path s t ample says = absurd (ample refl)
 

@@ -16,7 +16,6 @@ use Rattle.bril_tree.specs.declared.limits.Limits.{Limits}
 use Rattle.bril_tree.specs.declared.program.Prog.{Prog}
 use Rattle.bril_tree.specs.declared.tree.Tree.{Tree}
 use Rattle.bril_tree.specs.declared.value.Value.{Value}
-use Rattle.bril_commands.proofs.Telling.{says_nothing}
 use Rattle.bril_commands.specs.Answers.{Answers, HasLongCode, HasLongStack}
 use Rattle.bril_commands.specs.Arguments.{argument_line, HasOnlyArgFault, RefusesArgs}
 use Rattle.bril_commands.specs.Call.{Call, CommandComesTo, ComesTo}

@@ -52,6 +52,12 @@ pub record ShowsPartly (o : Outcome) (s t : SinkSeen) : Type 0 where
 abbrev pub StopsShort : Outcome → SinkSeen → SinkSeen → Type 0
 StopsShort o s t = (t ≡ s) ⊎ ((output : List ℕ) × o.Exhausts output × TookAll s output t)
 
+-- the status of a run that ended so, or goes on after so many steps, for None
+abbrev pub end_status : Option End → ℕ → Status
+end_status (Some Ended) steps = status.Done
+end_status (Some (Faulted fault)) steps = status.Faulted fault
+end_status None steps = status.Spent steps
+
 -- what carrying out the work answers, and what it tells
 abbrev pub Works : Outcome → Status → List (List ℕ) → SinkSeen → SinkSeen → Type 0
 Works o status.Done told s t = ShowsWhole o (Some Ended) told s t

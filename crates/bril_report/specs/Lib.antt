@@ -4,3 +4,4 @@ pub mod StageFaults
 pub mod Tallies
 pub mod Stats
 pub mod Told
+pub mod Telling
