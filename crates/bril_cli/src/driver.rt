@@ -40,7 +40,7 @@ pub fn drive<F: Files, O: Sink, E: Sink>(
     request: Request,
     files: &mut F,
     passes: &mut [Box<dyn Pass>],
-    outputs: &mut Outputs<'_, O, E>,
+    outputs: &mut Outputs<'_, '_, O, E>,
 ) -> Result<(), Status>
     requires range { IsActionInRange request.action }
     requires few { length (names_of request.list.now) ≤ 64 }
@@ -62,7 +62,7 @@ fn do_command<O: Sink, E: Sink>(
     tree: &Tree,
     passes: &mut [Box<dyn Pass>],
     names: &Seq<Text>,
-    outputs: &mut Outputs<'_, O, E>,
+    outputs: &mut Outputs<'_, '_, O, E>,
 ) -> Result<(), Status>
     requires range { IsActionInRange request.action }
     requires few { length names.now ≤ 64 }

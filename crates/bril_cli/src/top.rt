@@ -105,7 +105,7 @@ fn answer<F: Files, O: Sink, E: Sink>(
     words: &[Text],
     files: &mut F,
     passes: &mut [Box<dyn Pass>],
-    outputs: &mut Outputs<'_, O, E>,
+    outputs: &mut Outputs<'_, '_, O, E>,
 ) -> u8
     requires sound { outputs.old.err.has_failed ≡ false }
     ensures same_output { outputs.new.out.ghost_name ≡ outputs.old.out.ghost_name }

@@ -4,7 +4,7 @@ use crate::error_output::ErrorOutput;
 
 /// The output of a command, and its error output.
 #[derive(Drop)]
-pub struct Outputs<'a, O, E> {
+pub struct Outputs<'a, 'b, O, E> {
     pub out: &'a mut O,
-    pub err: ErrorOutput<'a, E>,
+    pub err: ErrorOutput<'b, E>,
 }

@@ -31,7 +31,7 @@ pub fn put_transformed<O: Sink, E: Sink>(
     checked: Checked,
     passes: &mut [Box<dyn Pass>],
     names: &Seq<Text>,
-    outputs: &mut Outputs<'_, O, E>,
+    outputs: &mut Outputs<'_, '_, O, E>,
 ) -> Result<(), Status>
     requires { length names.now ≤ 64 }
     ensures does { Telling O.seen E.seen (λ told s t. DoesProgram transforms (status_of result) (pass_list (λ p. meaning p) (λ p. counts p) passes.old passes.new names.now) checked.prog [] told s t) outputs.old outputs.new }

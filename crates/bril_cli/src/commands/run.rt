@@ -57,7 +57,7 @@ pub fn run<O: Sink, E: Sink>(
     settings: RunSettings,
     passes: &mut [Box<dyn Pass>],
     names: &Seq<Text>,
-    outputs: &mut Outputs<'_, O, E>,
+    outputs: &mut Outputs<'_, '_, O, E>,
 ) -> Result<(), Status>
     requires { length names.now ≤ 64 }
     ensures does { Telling O.seen E.seen (λ told s t. DoesProgram (runs settings.limits.frames settings.limits.cells settings.steps settings.stats) (status_of result) (pass_list (λ p. meaning p) (λ p. counts p) passes.old passes.new names.now) checked.prog words.now told s t) outputs.old outputs.new }
@@ -74,7 +74,7 @@ fn run_with<O: Sink, E: Sink>(
     checked: &Checked,
     values: &[Value],
     settings: RunSettings,
-    outputs: &mut Outputs<'_, O, E>,
+    outputs: &mut Outputs<'_, '_, O, E>,
 ) -> Result<(), Status>
     requires { FitMain checked.now.prog values.now }
     ensures { Telling O.seen E.seen (λ told s t. (RefusesEmission (ImageFor settings.limits.frames settings.limits.cells) (status_of result) checked.now.prog × IsSilent told s t) ⊎ (Fits (ImageFor settings.limits.frames settings.limits.cells) checked.now.prog × Works (executed checked.now.prog settings.limits values.now settings.steps settings.stats) (status_of result) told s t)) outputs.old outputs.new }
@@ -90,7 +90,7 @@ fn run_image<O: Sink, E: Sink>(
     program: &Prog,
     values: &[Value],
     settings: RunSettings,
-    outputs: &mut Outputs<'_, O, E>,
+    outputs: &mut Outputs<'_, '_, O, E>,
 ) -> Result<(), Status>
     requires implements { Implements image.now program.now settings.limits }
     requires fits { FitMain program.now values.now }

@@ -23,7 +23,7 @@ returns-clause-promises g c =
     let call =
     call_of c.args.words.now (g.F.Files.seen c.args.files.now) (g.F.Files.seen c.drive.new.files)
     (g.O.Sink.seen c.args.outputs.now.out.now) (g.O.Sink.seen c.drive.new.outputs.out.now)
-    (g.E.Sink.seen c.args.outputs.now.err.sink.now) (g.E.Sink.seen c.say.new.outputs.err.sink.now)
+    (g.E.Sink.seen c.args.outputs.now.err.sink.now) (g.E.Sink.seen c.say.new.err.sink.now)
     (λ p. (goal.Pass-dyn g (p.vtable, p.value)).meaning p.value) (λ p. (goal.Pass-dyn g (p.vtable, p.value)).counts p.value) c.args.passes.now c.drive.new.passes in
     let does = c.drive.ensures.does in
     let line = rw c.from-status.ensures at c.say.ensures.tells.told in
@@ -34,7 +34,7 @@ returns-clause-promises g c =
           (pass_list (λ p. (goal.Pass-dyn g (p.vtable, p.value)).meaning p.value) (λ p. (goal.Pass-dyn g (p.vtable, p.value)).counts p.value) c.args.passes.now c.drive.new.passes names)
           (g.F.Files.seen c.args.files.now) (g.F.Files.seen c.drive.new.files) request.path.now request.args.now does.told (g.O.Sink.seen c.args.outputs.now.out.now) (g.O.Sink.seen c.drive.new.outputs.out.now))
           (ap (λ r. names_of (list_asked r)) c.in-Ok.ensures.read) does.does;
-      says = says_told does.told how request.path.now c.requires does.tells.told line;
+      says = says_told does.told how request.path.now c.requires.sound does.tells.told line;
       keeps = c.drive.ensures.keeps;
     } in
     rw (c.status_number-2.ensures, c.from-status.ensures) (Promises-driven call asks how ends)

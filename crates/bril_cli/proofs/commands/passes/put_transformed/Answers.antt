@@ -13,3 +13,28 @@ pub returns-in_err-text-clause-does : goal.returns-in_err-text-clause-does
 returns-in_err-text-clause-does g c =
     let e = err_from_is_err_and c.from_residual-in_err-text.result c.from_residual-in_err-text.ensures.1 in
     rw (e.1, e.2) (Telling-none g.O.Sink.seen g.E.Sink.seen _ c.args.outputs.now (inr ([], refl, inr (c.in_ok-made.made.prog, c.in_ok-made.ensures.ok, inr (tt, (refl, inl refl))))))
+
+pub returns-in_err-put-clause-does : goal.returns-in_err-put-clause-does
+returns-in_err-put-clause-does g c =
+    let e = err_from_is_err_and c.from_residual-in_err-put.result c.from_residual-in_err-put.ensures.1 in
+    let told = rw c.as_slice-2.ensures at c.tell_tallies.ensures in
+    let text = rw c.prog.ensures.value at c.in_ok-text.ensures in
+    let put = rw c.as_slice.ensures at c.in_err-put.ensures.err in
+    rw (e.1, e.2) (record {
+      same_output = refl;
+      told = _;
+      does = inr ([], refl, inr (c.in_ok-made.made.prog, c.in_ok-made.ensures.ok, inr (tt, (refl, record { ended = _; told = _; output = c.in_ok-text.text; shows = (refl, refl, text); took = put.0; rose = put.1 }))));
+      tells = told;
+    })
+
+pub returns-clause-does : goal.returns-clause-does
+returns-clause-does g c =
+    let told = rw c.as_slice-2.ensures at c.tell_tallies.ensures in
+    let text = rw c.prog.ensures.value at c.in_ok-text.ensures in
+    let took = rw c.as_slice.ensures at c.in_ok-put.ensures.ok in
+    record {
+      same_output = refl;
+      told = _;
+      does = inr ([], refl, inr (c.in_ok-made.made.prog, c.in_ok-made.ensures.ok, inr (tt, record { output = c.in_ok-text.text; shows = (refl, refl, text); took = took })));
+      tells = told;
+    }

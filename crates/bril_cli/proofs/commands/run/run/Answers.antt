@@ -23,8 +23,8 @@ returns-in_err-made-clause-does g c =
     let are = rw c.prog.ensures.value at c.in_ok-values.ensures.ok in
     rw (e.1, e.2) (Telling-none g.O.Sink.seen g.E.Sink.seen _ c.args.outputs.now (inr (c.in_ok-values.values, are, inl (c.in_err-made.ensures.err, (refl, refl)))))
 
-pub run_with-requires-clause-fits : goal.run_with-requires-clause-fits
-run_with-requires-clause-fits g c =
+pub run_with-requires : goal.run_with-requires
+run_with-requires g c =
     let accepted = rw c.prog.ensures.value at c.prog.ensures.accepted in
     let fits = rw c.prog.ensures.value at c.in_ok-values.ensures.fits in
     let l = (pass_list (λ p. (goal.Pass-dyn g (p.vtable, p.value)).meaning p.value) (λ p. (goal.Pass-dyn g (p.vtable, p.value)).counts p.value) c.args.passes.now c.transformed.new.passes c.args.names.now) in
