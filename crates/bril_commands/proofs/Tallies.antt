@@ -6,7 +6,6 @@ use Rattle.bril_outside.proofs.SinkWrites.{joined-append, PutSome-took, PutAll-a
 use Rattle.bril_outside.specs.Sink.{SinkSeen, PutAll, PutSome, joined}
 use Rattle.bril_outside.specs.declared.sink.Failed.{Failed}
 use Rattle.bril_report.specs.Report.{PutsPieces}
-use Rattle.bril_report.specs.Tallies.{tally_pieces}
 use Rattle.pass_law.specs.Meaning.{Meaning}
 use Rattle.pass_law.specs.declared.tally.Tally.{Tally}
 use Rattle.bril_commands.specs.PassList.{first_name, is_used, named_pieces, used_pieces, pieces_from}
