@@ -27,7 +27,7 @@ use Rattle.bril_words.specs.declared.request.Action.{Action}
 use Rattle.bril_commands.proofs.Statuses.{Ends, Numbered-source, has_in}
 use Rattle.bril_commands.specs.Arguments.{argument_line, HasArgFault, HasOnlyArgFault, RefusesArgs}
 use Rattle.bril_commands.specs.Call.{Call, ReadsWell, AsksNone, UnlessMemory}
-use Rattle.bril_commands.specs.Command.{Command, OnTree, OnProgram, OfProgram, Arguments, NoArguments, OfMain, TakesArguments, AreGiven, RefusesGiven, NeedsProgram, GivesArguments}
+use Rattle.bril_commands.specs.Command.{Command, OnTree, OnProgram, Arguments, NoArguments, OfMain, TakesArguments, AreGiven, RefusesGiven, NeedsProgram, GivesArguments}
 use Rattle.bril_commands.specs.CommandLine.{Asks, AsksFor, format_of}
 use Rattle.bril_commands.specs.Driver.{IsSilent, Stage, DoesProgram, DoesTree}
 use Rattle.bril_commands.specs.PassList.{PassList}

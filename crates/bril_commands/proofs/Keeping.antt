@@ -1,5 +1,5 @@
 -- Passes that stay as they are, or mean the same.
-use Rattle.std.proofs.Common.{◌≡◌, Bool, true, false, List, refl, sym, subst}
+use Rattle.std.proofs.Common.{Bool, true, false, List, refl, sym, subst}
 use Rattle.pass_law.proofs.Same.{AllSame-refl}
 use Rattle.pass_law.specs.Chains.{AllSame}
 use Rattle.pass_law.specs.Meaning.{Meaning}

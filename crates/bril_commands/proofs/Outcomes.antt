@@ -1,13 +1,11 @@
 -- What the steps of an action on a file come to.
-use Rattle.std.proofs.Common.{◌≡◌, ◌⊎◌, ℕ, List, [], Result, Ok, Err, IfOk, refl, sym, subst, ⊎_elim, inr}
-use Rattle.std.specs.Prelude.{IfErr}
+use Rattle.std.proofs.Common.{◌≡◌, ◌⊎◌, ℕ, List, [], refl, sym, subst, ⊎_elim, inr}
 use Rattle.bril_outside.specs.Files.{FilesSeen, MayFail}
 use Rattle.bril_outside.specs.declared.files.FileFault.{FileFault}
 use Rattle.bril_outside.specs.declared.files.FileFault.TheVariants as file
 use Rattle.bril_tree.specs.declared.tree.Tree.{Tree}
 use Rattle.bril_tree.specs.Accepted.{IsAccepted}
 use Rattle.bril_tree.specs.declared.program.Prog.{Prog}
-use Rattle.bril_checker.specs.Checked.{CheckedView}
 use Rattle.bril_checker.specs.Faults as checker
 use Rattle.bril_checker.specs.declared.fault.CheckFault.{CheckFault}
 use Rattle.bril_checker.specs.declared.fault.CheckFault.TheVariants as check
@@ -15,11 +13,18 @@ use Rattle.bril_tree.specs.Numbered.{Numbered}
 use Rattle.bril_names.specs.Faults as names
 use Rattle.bril_names.specs.declared.fault.NameFault.{NameFault}
 use Rattle.bril_names.specs.declared.fault.NameFault.TheVariants as name
+use Rattle.bril_commands.specs.PassList.{pass_list, IsEmpty, RefusesList}
 use Rattle.bril_commands.specs.Source.{HasOnlyCheckFault}
-use Rattle.bril_commands.specs.Stages.{RefusesFile, RefusesNames, RefusesCheck, RefusesProgram, IsOnlyNameFault, IsOnlyProgram, IsFaultless, IsAcceptedProgram}
-use Rattle.bril_report.specs.StageFaults.{file_status, name_status, check_status}
+use Rattle.bril_commands.specs.Stages.{RefusesFile, RefusesNames, RefusesCheck, RefusesProgram, IsOnlyNameFault, IsOnlyProgram, IsAcceptedProgram}
+use Rattle.bril_profile.specs.declared.profile.Profile.{Profile}
+use Rattle.bril_report.specs.StageFaults.{file_status, name_status, check_status, list_status}
 use Rattle.bril_report.specs.declared.status.Status.{Status}
 use Rattle.bril_report.specs.declared.status.Status.TheVariants as status
+use Rattle.pass_law.specs.Meaning.{Meaning}
+use Rattle.pass_law.specs.Stops.{IsStopped}
+use Rattle.pass_law.specs.declared.fault.ListFault.{ListFault}
+use Rattle.pass_law.specs.declared.fault.ListFault.TheVariants as list
+use Rattle.pass_law.specs.declared.tally.Tally.{Tally}
 
 -- ---- What reading a file answers.
 
@@ -84,15 +89,14 @@ RefusesProgram-check (status.Unaccepted q fault) tree p only refuses =
 RefusesProgram-check status.OutOfMemory tree p only refuses = tt
 RefusesProgram-check _ tree p only refuses = absurd refuses
 
--- what checking the tree's only program answers
-module _ (tree : Tree) (p : Prog) (only : IsOnlyProgram tree p) where
-  pub accepted_if : (r : Result CheckedView Status) → IfOk r (λ checked. checked.prog ≡ p) → IfOk r (λ _. IsFaultless p) → IfOk r (λ checked. IsAcceptedProgram tree checked.prog)
-  accepted_if (Ok checked) prog sound = record {
-    only = subst (λ (q : Prog). IsOnlyProgram tree q) (sym prog) only;
-    sound = subst (λ (q : Prog). IsFaultless q) (sym prog) sound;
-  }
-  accepted_if (Err how) prog sound = tt
+-- the tree's only program, where it was checked
+pub IsAcceptedProgram-of : (tree : Tree) (p q : Prog) → IsOnlyProgram tree p → q ≡ p → IsAccepted p → ((fault : CheckFault) → checker.HasFault p fault → ⊥) → IsAcceptedProgram tree q
+IsAcceptedProgram-of tree p q only is accepted faultless =
+    subst (λ (r : Prog). IsAcceptedProgram tree r) (sym is) record { only = only; sound = record { accepted = accepted; faultless = faultless } }
 
-  pub refused_if : (r : Result CheckedView Status) → IfErr r (λ how. RefusesCheck how p) → IfErr r (λ how. RefusesProgram how tree)
-  refused_if (Ok checked) refuses = tt
-  refused_if (Err how) refuses = RefusesProgram-check how tree p only refuses
+-- ---- What a list of passes answers.
+
+pub RefusesList-of : {B : Type 0} (meaning : B → Meaning) (counts : B → Tally) (before after : List B) (names : List (List ℕ)) (p : Prog) (profile : Profile) → IsEmpty profile → (fault : ListFault) → IsStopped meaning before profile counts names p after fault → RefusesList (list_status fault) (pass_list meaning counts before after names) p
+RefusesList-of meaning counts before after names p profile empty (list.Unknown place prog) stopped = (λ other. stopped.0, stopped.2)
+RefusesList-of meaning counts before after names p profile empty (list.TooLarge place bound prog) stopped = record { known = λ other. stopped.0; profile = profile; empty = empty; at = prog.prog; stopped = stopped.1 }
+RefusesList-of meaning counts before after names p profile empty list.Memory stopped = tt

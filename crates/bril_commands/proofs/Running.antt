@@ -1,5 +1,5 @@
 -- What a run of an image says of the program that it was made of.
-use Rattle.std.proofs.Common.{◌≡◌, ℕ, ◌+◌, ◌*◌, ◌≤◌, Bool, List, Option, Some, None, refl, sym, ap, ◌∙◌}
+use Rattle.std.proofs.Common.{◌≡◌, ℕ, ◌+◌, ◌*◌, ◌≤◌, Bool, List, Option, Some, None, refl, sym, ◌∙◌}
 use Rattle.std.specs.Option.{option_map}
 use Rattle.program_numbers.specs.Cost.{IsCost}
 use Rattle.bril_tree.specs.Accepted.{IsAccepted}
@@ -9,7 +9,6 @@ use Rattle.bril_tree.specs.declared.limits.Limits.{Limits}
 use Rattle.bril_tree.specs.declared.program.Prog.{Prog}
 use Rattle.bril_tree.specs.declared.value.Value.{Value}
 use Rattle.rv64_implements.proofs.Endings.{stopped_in_time, printed_in_time}
-use Rattle.rv64_implements.specs.Implements.{image_after}
 use Rattle.rv64_words.specs.State.{Finished}
 use Rattle.bril_commands.proofs.Sources.{made_chain, made_fits, made_ends, made_prints, enough_made, shows_source}
 use Rattle.bril_commands.specs.Command.{ImageFor, AreLimitsOf}

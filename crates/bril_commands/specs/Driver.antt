@@ -8,7 +8,7 @@ use Rattle.bril_tree.specs.declared.tree.Tree.{Tree}
 use Rattle.bril_tree.specs.declared.value.Value.{Value}
 use Rattle.bril_commands.specs.Command.{Command, OnTree, OnProgram, OfProgram, Subject, AreGiven, RefusesGiven, Makes, RefusesMaking, FactorOf, Fits, RefusesEmission}
 use Rattle.bril_commands.specs.CommandLine.{format_of}
-use Rattle.bril_commands.specs.Outcome.{Outcome, Works}
+use Rattle.bril_commands.specs.Outcome.{Works}
 use Rattle.bril_commands.specs.PassList.{PassList}
 use Rattle.bril_commands.specs.Source.{IsOnlyTree, IsFile}
 use Rattle.bril_commands.specs.Stages.{RefusesFile, RefusesTree, RefusesProgram, IsAcceptedProgram}

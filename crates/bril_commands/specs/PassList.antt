@@ -1,5 +1,5 @@
 -- The passes that a call was lent, and what a list of their names comes to.
-use Rattle.std.specs.Prelude.{ℕ, ◌≡◌, ◌⊎◌, Bool, false, not, ◌&&◌, ◌||◌, is_some, cond, List, [], ◌∷◌, ◌++◌, map, Option, Some, None}
+use Rattle.std.specs.Prelude.{ℕ, ◌≡◌, Bool, false, not, ◌&&◌, ◌||◌, is_some, cond, List, [], ◌∷◌, ◌++◌, map, Option, Some, None}
 use Rattle.bril_profile.specs.declared.profile.Profile.{Profile}
 use Rattle.bril_report.specs.Tallies.{tally_pieces}
 use Rattle.bril_report.specs.declared.status.Status.TheVariants as status

@@ -1,5 +1,5 @@
 -- When a command's work is done: once its file is read well, unless a stage has its cause.
-use Rattle.std.specs.Prelude.{ℕ, ◌≡◌, ◌⊎◌, ◌≤◌, Bool, true, false, List, [], length, Option, Some, refl}
+use Rattle.std.specs.Prelude.{ℕ, ◌≡◌, ◌⊎◌, ◌≤◌, Bool, true, false, List, [], length, Option, Some}
 use Rattle.bril_arguments.specs.Spelled.{AreSpelled}
 use Rattle.bril_outside.specs.Sink.{Rose, TookAll}
 use Rattle.bril_report.specs.Lines.{pass_line, unknown_pass_line}
@@ -13,11 +13,11 @@ use Rattle.bril_tree.specs.declared.value.Value.{Value}
 use Rattle.bril_words.specs.declared.request.Action.{Action}
 use Rattle.rv64_implements.specs.WordBounds.{IsWithin}
 use Rattle.bril_commands.specs.Call.{Call, SaysAlone, ReadsWell, UnlessMemory, TellsRun}
-use Rattle.bril_commands.specs.Command.{Command, OnTree, OnProgram, OfProgram, Arguments, NoArguments, OfMain, Makes, Emission, NoImage, ImageFor, AreLimitsOf}
+use Rattle.bril_commands.specs.Command.{Command, OnTree, OnProgram, Arguments, NoArguments, OfMain, Makes, Emission, NoImage, ImageFor, AreLimitsOf}
 use Rattle.bril_commands.specs.CommandLine.{format_of}
 use Rattle.bril_commands.specs.Driver.{subject}
 use Rattle.bril_commands.specs.Outcome.{Outcome}
-use Rattle.bril_commands.specs.PassList.{IsMade, IsFirstUnknown, IsRefusedPass}
+use Rattle.bril_commands.specs.PassList.{IsFirstUnknown, IsRefusedPass}
 use Rattle.bril_commands.specs.Source.{most_bytes, ReadsAs, IsSource}
 use Rattle.bril_commands.specs.Table.{command}
 use Rattle.bril_commands.specs.declared.source.Format.{Format}

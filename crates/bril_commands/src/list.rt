@@ -1,9 +1,9 @@
 // The list of passes: the program that it makes of an accepted program, and what is told of the passes that it used.
 
-ghost use Rattle.std.specs.Prelude.{◌≡◌, ◌≤◌, [], length, take, drop, is_some, IfOk, IfErr};
+ghost use Rattle.std.specs.Prelude.{◌≡◌, ◌≤◌, [], length, take, drop, IfOk, IfErr};
 ghost use Rattle.bril_commands.specs.PassList.{pass_list, IsMade, RefusesList, first_name, is_taken, is_used, used_pieces, pieces_from};
 ghost use Rattle.bril_report.specs.Told.{Tells};
-ghost use Rattle.pass_law.specs.Chains.{first_answering, AllSame};
+ghost use Rattle.pass_law.specs.Chains.{AllSame};
 ghost use Rattle.std.specs.Option.{option_map};
 
 use bril_checker::Checked;
@@ -12,7 +12,7 @@ use bril_profile::Profile;
 use bril_report::{ErrorOutput, Status, put_tally};
 use bril_tree::sequence::Seq;
 use bril_tree::text::Text;
-use pass_law::{ListFault, Pass, run_list};
+use pass_law::{Pass, is_answered, run_list};
 use std::alloc::Global;
 
 /// The program that a list of passes makes of an accepted program, by the profile without entries: each name is given to the first
@@ -32,18 +32,7 @@ pub fn transformed(
     ensures same { AllSame (λ p. meaning p) passes.old passes.new }
 {
     let profile = Profile::without_entries(alloc);
-    match run_list(alloc, passes, names, checked, &profile) {
-        Ok(made) => Ok(made),
-        Err(ListFault::Unknown { place, prog: _prog }) => Err(Status::UnknownPass { place }),
-        Err(
-            ListFault::TooLarge {
-                place,
-                bound,
-                prog: _prog,
-            },
-        ) => Err(Status::PassTooLarge { place, bound }),
-        Err(ListFault::Memory) => Err(Status::OutOfMemory),
-    }
+    Ok(run_list(alloc, passes, names, checked, &profile)?)
 }
 
 /// Tells the tallies of the passes that the list used, in their order, each piece of a line by one put.
@@ -109,16 +98,6 @@ fn is_taken(earlier: &[Box<dyn Pass>], pass: &Box<dyn Pass>, name: &[u8]) -> boo
     ensures { result ≡ is_taken (λ p. meaning p) earlier.now pass.now name.now }
 {
     pass.is_named(name) && !is_answered(earlier, name)
-}
-
-// Whether a pass answers to the name.
-fn is_answered(passes: &[Box<dyn Pass>], name: &[u8]) -> bool
-    ensures { result ≡ is_some (first_answering (λ p. meaning p) passes.now name.now) }
-{
-    match passes.split_first() {
-        None => false,
-        Some((first, rest)) => first.is_named(name) || is_answered(rest, name),
-    }
 }
 
 // The first of the names to which the pass answers.

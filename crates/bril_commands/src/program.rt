@@ -1,12 +1,11 @@
 // The accepted program of a tree: the stages between a file's tree and what a command does with its program.
 
-ghost use Rattle.std.specs.Prelude.{[], ◌≡◌, IfOk, IfErr};
-ghost use Rattle.bril_commands.specs.Stages.{IsFaultless, IsAcceptedProgram, RefusesCheck, RefusesProgram};
+ghost use Rattle.std.specs.Prelude.{IfOk, IfErr};
+ghost use Rattle.bril_commands.specs.Stages.{IsAcceptedProgram, RefusesProgram};
 
 use bril_checker::{Checked, check};
 use bril_names::number;
 use bril_report::Status;
-use bril_tree::program::Prog;
 use bril_tree::tree::Tree;
 use std::alloc::Global;
 
@@ -20,25 +19,7 @@ pub fn accepted_program(alloc: Global, tree: &Tree) -> Result<Checked, Status>
     if !tree.imports.as_slice().is_empty() {
         return Err(Status::Unsupported);
     }
-    named_program(alloc, tree)
-}
-
-// The program of a tree without imports.
-fn named_program(alloc: Global, tree: &Tree) -> Result<Checked, Status>
-    requires { tree.now.imports ≡ [] }
-    ensures ok { IfOk result (λ checked. IsAcceptedProgram tree.now checked.prog) }
-    ensures err { IfErr result (λ status. RefusesProgram status tree.now) }
-{
     let program = number(alloc, tree)?;
-    check_program(alloc, program)
-}
-
-// The program, where it is accepted.
-fn check_program(alloc: Global, program: Prog) -> Result<Checked, Status>
-    ensures prog { IfOk result (λ checked. checked.prog ≡ program) }
-    ensures sound { IfOk result (λ _. IsFaultless program) }
-    ensures err { IfErr result (λ status. RefusesCheck status program) }
-{
     // No file of the allowed size has as many functions or items.
     if !program.is_counted() {
         return Err(Status::OutOfMemory);

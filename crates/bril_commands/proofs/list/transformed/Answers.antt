@@ -1,13 +1,9 @@
--- A pass refuses what it was given.
+-- A fault of the list has its status.
+use Rattle.std.proofs.lemmas.Result.{err_from_is_err_and}
+use Rattle.bril_commands.proofs.Outcomes.{RefusesList-of}
 use Rattle.bril_commands.proofs.list.transformed.Goals as goal
 
-pub returns-in-Err-TooLarge-clause-err : goal.returns-in-Err-TooLarge-clause-err
-returns-in-Err-TooLarge-clause-err g c =
-    let stopped = rw c.in-Err-TooLarge.field-0-is at c.in-Err-TooLarge.ensures.stopped in
-    record {
-      known = λ profile. stopped.0;
-      profile = c.without_entries-profile.result;
-      empty = c.without_entries-profile.ensures;
-      at = c.in-Err-TooLarge._prog.prog;
-      stopped = stopped.1;
-    }
+pub returns-in_err-run_list-clause-err : goal.returns-in_err-run_list-clause-err
+returns-in_err-run_list-clause-err g c =
+    let e = err_from_is_err_and c.from_residual.result c.from_residual.ensures.1 in
+    rw (e.1, e.2) (RefusesList-of _ _ _ _ _ _ c.without_entries-profile.result c.without_entries-profile.ensures c.in_err-run_list.field-0.0 c.in_err-run_list.ensures.stopped)
