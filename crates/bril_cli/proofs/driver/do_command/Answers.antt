@@ -1,7 +1,7 @@
 -- The tree's accepted program was dealt with, or it has none.
 use Rattle.std.proofs.Common.{◌≡◌, [], inl, inr, refl, ⊎_elim}
 use Rattle.std.proofs.lemmas.Result.{err_from_is_err_and}
-use Rattle.bril_report.proofs.Telling.{Telling-none, Tells-none}
+use Rattle.bril_report.proofs.Telling.{Tells-none}
 use Rattle.bril_report.specs.StageFaults.{status_of}
 use Rattle.bril_text.specs.Canonical.{canonical_text}
 use Rattle.bril_commands.proofs.Keeping.{kept}
@@ -15,27 +15,27 @@ use Rattle.bril_cli.proofs.driver.do_command.Goals as goal
 pub returns-in_err-program-in-Run-clause-does : goal.returns-in_err-program-in-Run-clause-does
 returns-in_err-program-in-Run-clause-does g c =
     let e = err_from_is_err_and c.from_residual.result c.from_residual.ensures.1 in
-    rw (c.in-Run.is, e.1, e.2) (Telling-none g.O.Sink.seen g.E.Sink.seen _ c.args.outputs.now (inl (c.in_err-program-in-Run.ensures.err, (refl, refl))))
+    rw (c.in-Run.is, e.1, e.2) (record { same_output = refl; told = []; does = inl (c.in_err-program-in-Run.ensures.err, (refl, refl)); tells = Tells-none g.E.Sink.seen c.args.outputs.now.err })
 
 pub returns-in_err-program-in-Interpret-clause-does : goal.returns-in_err-program-in-Interpret-clause-does
 returns-in_err-program-in-Interpret-clause-does g c =
     let e = err_from_is_err_and c.from_residual-in_err-program-in-Interpret.result c.from_residual-in_err-program-in-Interpret.ensures.1 in
-    rw (c.in-Interpret.is, e.1, e.2) (Telling-none g.O.Sink.seen g.E.Sink.seen _ c.args.outputs.now (inl (c.in_err-program-in-Interpret.ensures.err, (refl, refl))))
+    rw (c.in-Interpret.is, e.1, e.2) (record { same_output = refl; told = []; does = inl (c.in_err-program-in-Interpret.ensures.err, (refl, refl)); tells = Tells-none g.E.Sink.seen c.args.outputs.now.err })
 
 pub returns-in_err-program-in-Emit-clause-does : goal.returns-in_err-program-in-Emit-clause-does
 returns-in_err-program-in-Emit-clause-does g c =
     let e = err_from_is_err_and c.from_residual-in_err-program-in-Emit.result c.from_residual-in_err-program-in-Emit.ensures.1 in
-    rw (c.in-Emit.is, e.1, e.2) (Telling-none g.O.Sink.seen g.E.Sink.seen _ c.args.outputs.now (inl (c.in_err-program-in-Emit.ensures.err, (refl, refl))))
+    rw (c.in-Emit.is, e.1, e.2) (record { same_output = refl; told = []; does = inl (c.in_err-program-in-Emit.ensures.err, (refl, refl)); tells = Tells-none g.E.Sink.seen c.args.outputs.now.err })
 
 pub returns-in_err-program-in-Passes-clause-does : goal.returns-in_err-program-in-Passes-clause-does
 returns-in_err-program-in-Passes-clause-does g c =
     let e = err_from_is_err_and c.from_residual-in_err-program-in-Passes.result c.from_residual-in_err-program-in-Passes.ensures.1 in
-    rw (c.in-Passes.is, e.1, e.2) (Telling-none g.O.Sink.seen g.E.Sink.seen _ c.args.outputs.now (inl (c.in_err-program-in-Passes.ensures.err, (refl, refl))))
+    rw (c.in-Passes.is, e.1, e.2) (record { same_output = refl; told = []; does = inl (c.in_err-program-in-Passes.ensures.err, (refl, refl)); tells = Tells-none g.E.Sink.seen c.args.outputs.now.err })
 
 pub returns-in_err-program-in-Check-clause-does : goal.returns-in_err-program-in-Check-clause-does
 returns-in_err-program-in-Check-clause-does g c =
     let e = err_from_is_err_and c.from_residual-in_err-program-in-Check.result c.from_residual-in_err-program-in-Check.ensures.1 in
-    rw (c.in-Check.is, e.1, e.2) (Telling-none g.O.Sink.seen g.E.Sink.seen _ c.args.outputs.now (inl (c.in_err-program-in-Check.ensures.err, (refl, refl))))
+    rw (c.in-Check.is, e.1, e.2) (record { same_output = refl; told = []; does = inl (c.in_err-program-in-Check.ensures.err, (refl, refl)); tells = Tells-none g.E.Sink.seen c.args.outputs.now.err })
 
 pub returns-in_ok-program-in-Run-clause-does : goal.returns-in_ok-program-in-Run-clause-does
 returns-in_ok-program-in-Run-clause-does g c =

@@ -7,7 +7,7 @@ use Rattle.bril_commands.proofs.Works.{Works-as}
 use Rattle.bril_commands.specs.Driver.{subject}
 use Rattle.bril_commands.specs.commands.Run.{executed, ran, runs}
 use Rattle.bril_commands.specs.PassList.{pass_list}
-use Rattle.bril_report.proofs.Telling.{Telling-none}
+use Rattle.bril_report.proofs.Telling.{Tells-none}
 use Rattle.bril_report.specs.StageFaults.{status_of}
 use Rattle.pass_law.proofs.Same.{AllSame-refl}
 use Rattle.bril_cli.proofs.commands.run.run.Goals as goal
@@ -15,13 +15,13 @@ use Rattle.bril_cli.proofs.commands.run.run.Goals as goal
 pub returns-in_err-values-clause-does : goal.returns-in_err-values-clause-does
 returns-in_err-values-clause-does g c =
     let e = err_from_is_err_and c.from_residual.result c.from_residual.ensures.1 in
-    rw (e.1, e.2) (Telling-none g.O.Sink.seen g.E.Sink.seen _ c.args.outputs.now (inl (rw c.prog.ensures.value at c.in_err-values.ensures.err, (refl, refl))))
+    rw (e.1, e.2) (record { same_output = refl; told = []; does = inl (rw c.prog.ensures.value at c.in_err-values.ensures.err, (refl, refl)); tells = Tells-none g.E.Sink.seen c.args.outputs.now.err })
 
 pub returns-in_err-made-clause-does : goal.returns-in_err-made-clause-does
 returns-in_err-made-clause-does g c =
     let e = err_from_is_err_and c.from_residual-in_err-made.result c.from_residual-in_err-made.ensures.1 in
     let are = rw c.prog.ensures.value at c.in_ok-values.ensures.ok in
-    rw (e.1, e.2) (Telling-none g.O.Sink.seen g.E.Sink.seen _ c.args.outputs.now (inr (c.in_ok-values.values, are, inl (c.in_err-made.ensures.err, (refl, refl)))))
+    rw (e.1, e.2) (record { same_output = refl; told = []; does = inr (c.in_ok-values.values, are, inl (c.in_err-made.ensures.err, (refl, refl))); tells = Tells-none g.E.Sink.seen c.args.outputs.now.err })
 
 pub run_with-requires : goal.run_with-requires
 run_with-requires g c =
