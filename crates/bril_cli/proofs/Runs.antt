@@ -23,6 +23,7 @@ use Rattle.rv64_words.specs.declared.image.GuardAt.{GuardAt}
 use Rattle.rv64_words.specs.declared.image.Image.{Image}
 use Rattle.simulation.proofs.After.{after-grows_le}
 use Rattle.simulation.specs.System.{IsPrefix}
+use Rattle.bril_cli.specs.Machines.{IsFresh}
 use Rattle.bril_commands.proofs.Running.{finished_one}
 use Rattle.bril_commands.specs.Outcome.{ShowsWhole, ShowsPartly}
 use Rattle.bril_commands.specs.Stats.{stats_told, TellsStats}
@@ -40,13 +41,6 @@ no_trapped (Some end) trap e = cc
 told_unprinted : (stats : Bool) (p : Prog) (guards : List GuardAt) (t : State) → stats_told stats p guards (unprinted t) ≡ stats_told stats p guards t
 told_unprinted true p guards t = refl
 told_unprinted false p guards t = refl
-
--- the machine was made for the image, the limits and the values, and has executed nothing
-pub record IsFresh (m : Machine) (image : Image) (limits : Limits) (values : List Value) : Type 0 where
-  pub state : state_of m ≡ start values
-  pub holds : image_in m ≡ image
-  pub sizes : sizes_in m ≡ sizes_of image limits.cells
-  pub sound : has_failed m ≡ false
 
 module _ (image : Image) (p : Prog) (limits : Limits) (values : List Value) (implements : Implements image p limits) (fits : FitMain p values) (words : ℕ) where
   run_of : ImplementsRun implements.homes image p limits values

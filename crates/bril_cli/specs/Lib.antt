@@ -1,3 +1,4 @@
 pub mod End
 pub mod Images
+pub mod Machines
 pub mod Shipped

@@ -1,13 +1,12 @@
 // The driver: the stages from a file to what a command does with it, in order. Each is a call that gives a result, and
 // `?` hands its refusal on.
 
-ghost use Rattle.std.specs.Prelude.{◌≡◌, ◌≤◌, false, length, IfOk, IfErr};
+ghost use Rattle.std.specs.Prelude.{◌≡◌, ◌≤◌, length};
 ghost use Rattle.bril_commands.specs.Driver.{DoesTree, DoesFile};
 ghost use Rattle.bril_commands.specs.PassList.{pass_list};
-ghost use Rattle.bril_commands.specs.Stages.{IsAcceptedProgram, RefusesProgram};
-ghost use Rattle.bril_commands.specs.Stats.{Telling};
 ghost use Rattle.bril_commands.specs.Table.{command, KeepsPasses};
 ghost use Rattle.bril_report.specs.StageFaults.{status_of};
+ghost use Rattle.bril_report.specs.Telling.{Telling};
 ghost use Rattle.bril_words.specs.Names.{names_of};
 ghost use Rattle.bril_words.specs.Request.{IsActionInRange};
 
@@ -18,12 +17,11 @@ use crate::commands::json::put_json;
 use crate::commands::passes::put_transformed;
 use crate::commands::run::{RunSettings, run};
 use crate::commands::text::put_text;
-use bril_checker::Checked;
 use bril_commands::program::accepted_program;
 use bril_commands::source::{read_file, read_tree};
 use bril_outside::files::Files;
 use bril_outside::sink::Sink;
-use bril_report::Status;
+use bril_report::{Outputs, Status};
 use bril_tree::limits::Limits;
 use bril_tree::sequence::Seq;
 use bril_tree::text::Text;
@@ -32,31 +30,29 @@ use bril_words::{Action, CELLS, Request, names_of};
 use pass_law::Pass;
 use std::alloc::Global;
 
-/// Does what a request asks of its file: what the action produces goes to `out`, and what is told of a run or of passes to `err`. Where a put of
-/// the latter failed, `silenced` becomes true, and nothing more is to be put on `err`.
+/// Does what a request asks of its file: what the command puts goes to the output, and what it tells of a run or of passes to the error
+/// output.
 ///
 /// The file has at most 16,777,216 bytes, which read as a tree: in JSON where the path ends in `.json`, and in text
-/// anywhere else. `Err`: the status that a stage, or the command, ended with. A stage that refuses puts nothing on `out`.
+/// anywhere else. `Err`: the status that a stage, or the command, ended with. A stage that refuses puts nothing on the output.
 pub fn drive<F: Files, O: Sink, E: Sink>(
     alloc: Global,
     request: Request,
     files: &mut F,
-    out: &mut O,
-    err: &mut E,
     passes: &mut [Box<dyn Pass>],
-    silenced: &mut bool,
+    outputs: &mut Outputs<'_, O, E>,
 ) -> Result<(), Status>
     requires range { IsActionInRange request.action }
     requires few { length (names_of request.list.now) ≤ 64 }
-    requires sound { silenced.old ≡ false }
     ensures holds { (F.seen files.new).holds ≡ (F.seen files.old).holds }
     ensures faults { (F.seen files.old).faults ≤ (F.seen files.new).faults }
-    ensures does { Telling (λ told. DoesFile (command request.entry.action) (status_of result) (pass_list (λ p. meaning p) (λ p. counts p) passes.old passes.new (names_of request.entry.list.now)) (F.seen files.old) (F.seen files.new) request.entry.path.now request.entry.args.now told (O.seen out.old) (O.seen out.new)) silenced.new (E.seen err.old) (E.seen err.new) }
+    ensures does { Telling O.seen E.seen (λ told s t. DoesFile (command request.entry.action) (status_of result) (pass_list (λ p. meaning p) (λ p. counts p) passes.old passes.new (names_of request.entry.list.now)) (F.seen files.old) (F.seen files.new) request.entry.path.now request.entry.args.now told s t) outputs.old outputs.new }
     ensures keeps { KeepsPasses (λ p. meaning p) request.entry.action passes.old passes.new }
 {
+    let names = names_of(alloc, request.list)?;
     let source = read_file(alloc, request.path, files)?;
     let tree = read_tree(alloc, request.path.as_bytes(), source.as_slice())?;
-    do_command(alloc, request, &tree, out, err, passes, silenced)
+    do_command(alloc, request, &tree, passes, &names, outputs)
 }
 
 // Does what a request asks of its file's tree. To check, interpret, transform, emit or run it, the tree has an accepted program.
@@ -64,15 +60,13 @@ fn do_command<O: Sink, E: Sink>(
     alloc: Global,
     request: Request,
     tree: &Tree,
-    out: &mut O,
-    err: &mut E,
     passes: &mut [Box<dyn Pass>],
-    silenced: &mut bool,
+    names: &Seq<Text>,
+    outputs: &mut Outputs<'_, O, E>,
 ) -> Result<(), Status>
     requires range { IsActionInRange request.action }
-    requires few { length (names_of request.list.now) ≤ 64 }
-    requires sound { silenced.old ≡ false }
-    ensures does { Telling (λ told. DoesTree (command request.entry.action) (status_of result) (pass_list (λ p. meaning p) (λ p. counts p) passes.old passes.new (names_of request.entry.list.now)) tree.now request.entry.args.now told (O.seen out.old) (O.seen out.new)) silenced.new (E.seen err.old) (E.seen err.new) }
+    requires few { length names.now ≤ 64 }
+    ensures does { Telling O.seen E.seen (λ told s t. DoesTree (command request.entry.action) (status_of result) (pass_list (λ p. meaning p) (λ p. counts p) passes.old passes.new names.now) tree.now request.entry.args.now told s t) outputs.old outputs.new }
     ensures keeps { KeepsPasses (λ p. meaning p) request.entry.action passes.old passes.new }
 {
     match request.action {
@@ -87,17 +81,15 @@ fn do_command<O: Sink, E: Sink>(
                 steps,
                 stats,
             };
-            let (program, names) = prepared(alloc, tree, request.list)?;
+            let program = accepted_program(alloc, tree)?;
             run(
                 alloc,
                 program,
                 request.args,
                 settings,
                 passes,
-                &names,
-                out,
-                err,
-                silenced,
+                names,
+                outputs,
             )
         }
         Action::Interpret {
@@ -107,36 +99,25 @@ fn do_command<O: Sink, E: Sink>(
         } => {
             let limits = Limits { frames, cells };
             let program = accepted_program(alloc, tree)?;
-            interpret(alloc, &program, request.args, limits, steps, out)
+            interpret(alloc, &program, request.args, limits, steps, outputs.out)
         }
         Action::Emit { frames } => {
             let limits = Limits {
                 frames,
                 cells: CELLS,
             };
-            let (program, names) = prepared(alloc, tree, request.list)?;
-            put_image(alloc, program, limits, passes, &names, out)
+            let program = accepted_program(alloc, tree)?;
+            put_image(alloc, program, limits, passes, names, outputs.out)
         }
         Action::Passes => {
-            let (program, names) = prepared(alloc, tree, request.list)?;
-            put_transformed(alloc, program, passes, &names, out, err, silenced)
+            let program = accepted_program(alloc, tree)?;
+            put_transformed(alloc, program, passes, names, outputs)
         }
         Action::Check => {
             let program = accepted_program(alloc, tree)?;
-            put_counts(alloc, &program, out)
+            put_counts(alloc, &program, outputs.out)
         }
-        Action::WriteText => put_text(alloc, tree, out),
-        Action::WriteJson => put_json(alloc, tree, out),
+        Action::WriteText => put_text(alloc, tree, outputs.out),
+        Action::WriteJson => put_json(alloc, tree, outputs.out),
     }
-}
-
-// The accepted program of a tree, and the names of a list of passes.
-fn prepared(alloc: Global, tree: &Tree, list: &str) -> Result<(Checked, Seq<Text>), Status>
-    ensures program { IfOk result (λ made. IsAcceptedProgram tree.now made.0.prog) }
-    ensures names { IfOk result (λ made. made.1 ≡ names_of list.now) }
-    ensures err { IfErr result (λ status. RefusesProgram status tree.now) }
-{
-    let program = accepted_program(alloc, tree)?;
-    let names = names_of(alloc, list)?;
-    Ok((program, names))
 }

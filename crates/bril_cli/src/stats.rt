@@ -1,37 +1,30 @@
 // `run --stats`: what is told of a run of the machine on the error output, before the line of the status.
 
-ghost use Rattle.std.specs.Prelude.{◌≡◌, ◌^◌, ◌<◌, false, length};
-ghost use Rattle.bril_commands.specs.Stats.{stats_pieces, stats_told, PutTold};
-ghost use Rattle.bril_report.specs.Report.{PutsPieces};
+ghost use Rattle.std.specs.Prelude.{◌≡◌, ◌^◌, ◌<◌, length};
+ghost use Rattle.bril_commands.specs.Stats.{stats_pieces, stats_told};
+ghost use Rattle.bril_report.specs.Told.{Tells};
 ghost use Rattle.rv64_machine.specs.MachineView.{state_of, image_in};
 
-use bril_outside::sink::{Failed, Sink};
-use bril_report::{put_guard, put_words};
+use bril_outside::sink::Sink;
+use bril_report::{ErrorOutput, put_guard, put_words};
 use bril_tree::program::Prog;
 use rv64_machine::machine::Machine;
 use rv64_words::image::GuardAt;
 
-/// Tells how many words the machine executed, and how often the word of each guard, where that is asked for. Where a put of it
-/// failed, `silenced` becomes true, and nothing more is to be put.
+/// Tells how many words the machine executed, and how often the word of each guard, where that is asked for.
 pub fn tell_stats<E: Sink>(
     stats: bool,
     program: &Prog,
     guards: &[GuardAt],
     machine: &Machine,
-    err: &mut E,
-    silenced: &mut bool,
+    err: &mut ErrorOutput<'_, E>,
 )
     requires guards { guards.now ≡ (image_in machine.now).guards }
     requires few { length guards.now < 2 ^ 32 }
-    requires sound { silenced.old ≡ false }
-    ensures { PutTold silenced.new (stats_told stats program.now guards.now (state_of machine.now)) (E.seen err.old) (E.seen err.new) }
+    ensures { Tells E.seen err.old (stats_told stats program.now guards.now (state_of machine.now)) err.new }
 {
-    if !stats {
-        return;
-    }
-    match put_stats(program, guards, machine, err) {
-        Ok(()) => {}
-        Err(Failed) => *silenced = true,
+    if stats {
+        put_stats(program, guards, machine, err);
     }
 }
 
@@ -40,16 +33,15 @@ fn put_stats<E: Sink>(
     program: &Prog,
     guards: &[GuardAt],
     machine: &Machine,
-    err: &mut E,
-) -> Result<(), Failed>
+    err: &mut ErrorOutput<'_, E>,
+)
     requires guards { guards.now ≡ (image_in machine.now).guards }
     requires few { length guards.now < 2 ^ 32 }
-    ensures { PutsPieces result (E.seen err.old) (stats_pieces program.now guards.now (state_of machine.now)) (E.seen err.new) }
+    ensures { Tells E.seen err.old (stats_pieces program.now guards.now (state_of machine.now)) err.new }
 {
-    put_words(err, machine.done())?;
+    put_words(err, machine.done());
     for (number, guard) in guards.iter().enumerate() {
         let fails = machine.fails(number as u32);
-        put_guard(err, program, guard.func, guard.item, fails)?;
+        put_guard(err, program, guard.func, guard.item, fails);
     }
-    Ok(())
 }

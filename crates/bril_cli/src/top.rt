@@ -1,17 +1,16 @@
 // The top call: a command line from its words to its status.
 
-ghost use Rattle.std.specs.Prelude.{◌≡◌, ◌≤◌};
+ghost use Rattle.std.specs.Prelude.{◌≡◌, ◌≤◌, false};
 ghost use Rattle.std.specs.List.{All};
 ghost use Rattle.bril_cli.specs.Shipped.{MakesAsShipped};
 ghost use Rattle.bril_commands.specs.Answers.{Promises};
 ghost use Rattle.bril_commands.specs.Call.{call_of};
-ghost use Rattle.bril_commands.specs.Stats.{SaysUnless};
 ghost use Rattle.pass_law.specs.Chains.{AllSame};
 
 use crate::driver::drive;
 use bril_outside::files::Files;
 use bril_outside::sink::Sink;
-use bril_report::{Status, say, say_misuse, status_number};
+use bril_report::{ErrorOutput, Outputs, Status, say, say_misuse, status_number};
 use bril_tree::text::Text;
 use bril_words::read_words;
 use pass_law::Pass;
@@ -93,24 +92,37 @@ pub fn bril_top<F: Files, O: Sink, E: Sink>(
     ensures same { AllSame (λ p. meaning p) passes.old passes.new }
     ensures promises { Promises result (call_of words.now (F.seen files.old) (F.seen files.new) (O.seen out.old) (O.seen out.new) (E.seen err.old) (E.seen err.new) (λ p. meaning p) (λ p. counts p) passes.old passes.new) }
 {
+    let mut outputs = Outputs {
+        out,
+        err: ErrorOutput::new(err),
+    };
+    answer(alloc, words, files, passes, &mut outputs)
+}
+
+// The same, by two outputs.
+fn answer<F: Files, O: Sink, E: Sink>(
+    alloc: Global,
+    words: &[Text],
+    files: &mut F,
+    passes: &mut [Box<dyn Pass>],
+    outputs: &mut Outputs<'_, O, E>,
+) -> u8
+    requires sound { outputs.old.err.has_failed ≡ false }
+    ensures same_output { outputs.new.out.ghost_name ≡ outputs.old.out.ghost_name }
+    ensures same_error_output { outputs.new.err.sink.ghost_name ≡ outputs.old.err.sink.ghost_name }
+    ensures holds { (F.seen files.new).holds ≡ (F.seen files.old).holds }
+    ensures faults { (F.seen files.old).faults ≤ (F.seen files.new).faults }
+    ensures same { AllSame (λ p. meaning p) passes.old passes.new }
+    ensures promises { Promises result (call_of words.now (F.seen files.old) (F.seen files.new) (O.seen outputs.old.out.now) (O.seen outputs.new.out.now) (E.seen outputs.old.err.sink.now) (E.seen outputs.new.err.sink.now) (λ p. meaning p) (λ p. counts p) passes.old passes.new) }
+{
     let request = match read_words(words) {
         Ok(request) => request,
         Err(misuse) => {
-            say_misuse(err, misuse);
+            say_misuse(&mut outputs.err, misuse);
             return status_number(&Status::Misused { misuse });
         }
     };
-    let mut silenced = false;
-    let status = Status::from(drive(alloc, request, files, out, err, passes, &mut silenced));
-    say_unless(silenced, err, request.path, &status);
+    let status = Status::from(drive(alloc, request, files, passes, outputs));
+    say(&mut outputs.err, request.path, &status);
     status_number(&status)
-}
-
-// Puts the line of a status, unless a put before it failed.
-fn say_unless<E: Sink>(silenced: bool, err: &mut E, path: &Text, status: &Status)
-    ensures { SaysUnless silenced status.now path.now (E.seen err.old) (E.seen err.new) }
-{
-    if !silenced {
-        say(err, path, status);
-    }
 }

@@ -154,12 +154,12 @@ module _ (c : Call) (asks : Asks c.words) (how : Status) (ends : Ends c asks how
 -- ---- a command that needs a program
 
 -- what it does with the accepted program
-abbrev pub DoesAccepted : Command → Status → PassList → Prog → List (List ℕ) → List ℕ → SinkSeen → SinkSeen → Type 0
+abbrev pub DoesAccepted : Command → Status → PassList → Prog → List (List ℕ) → List (List ℕ) → SinkSeen → SinkSeen → Type 0
 DoesAccepted (OnTree outcome) how l p args told s t = ⊥
 DoesAccepted (OnProgram does) how l p args told s t = DoesProgram does how l p args told s t
 
 -- it asks for the program
-asks_program : (k : Command) (how : Status) (l : PassList) (tree : Tree) (args : List (List ℕ)) (told : List ℕ) (s t : SinkSeen) → NeedsProgram k → DoesTree k how l tree args told s t
+asks_program : (k : Command) (how : Status) (l : PassList) (tree : Tree) (args : List (List ℕ)) (told : List (List ℕ)) (s t : SinkSeen) → NeedsProgram k → DoesTree k how l tree args told s t
     → Stage (RefusesProgram how tree) (IsSilent told s t) (λ p. IsAcceptedProgram tree p) (λ p is. DoesAccepted k how l p args told s t)
 asks_program (OnTree outcome) how l tree args told s t needs does = absurd needs
 asks_program (OnProgram does) how l tree args told s t needs goes = goes
@@ -181,7 +181,7 @@ module _ (how : Status) (tree : Tree) (Silent : Type 0) (Goes : Prog → Type 0)
       asks
 
 -- the arguments are refused, or spell values
-given : (k : Command) (how : Status) (l : PassList) (p : Prog) (args : List (List ℕ)) (told : List ℕ) (s t : SinkSeen) → GivesArguments k → DoesAccepted k how l p args told s t
+given : (k : Command) (how : Status) (l : PassList) (p : Prog) (args : List (List ℕ)) (told : List (List ℕ)) (s t : SinkSeen) → GivesArguments k → DoesAccepted k how l p args told s t
     → (RefusesArgs how p args × (told ≡ [])) ⊎ ((fault : ArgFault) → HasArgFault (main_types p) args fault → ⊥)
 given (OnTree outcome) how l p args told s t gives does = absurd gives
 given (OnProgram does) how l p args told s t gives goes = spelled does.arguments gives (⊎_elim (λ refused. inl (refused.0, refused.1.0)) (λ values. inr (values.0, values.1)) goes)
@@ -194,7 +194,7 @@ given (OnProgram does) how l p args told s t gives goes = spelled does.arguments
 -- what is said of a fault of the arguments
 argument_said : (fault : ArgFault) (path : List ℕ) (s t : SinkSeen) → fault ≢ argument.Memory → SaysStatus (argument_status fault) path s t
     → (status_number (argument_status fault) ≡ 69) × Says s (argument_line fault) t
-argument_said (argument.Count given wanted) path s t ample says = (refl, says)
+argument_said (argument.Count count wanted) path s t ample says = (refl, says)
 argument_said (argument.Spelling place) path s t ample says = (refl, says)
 argument_said argument.Memory path s t ample says = absurd (ample refl)
 

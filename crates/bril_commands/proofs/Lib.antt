@@ -1,4 +1,5 @@
 pub mod Causes
+pub mod Counts
 pub mod Keeping
 pub mod Outcomes
 pub mod Promises

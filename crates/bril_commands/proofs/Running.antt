@@ -34,7 +34,7 @@ module _ (p : Prog) (limits : Limits) (values : List Value) (words : ℕ) (ended
 
 -- what is executed of a program that a list made says this of the source
 module _ (l : PassList) (p q : Prog) (made : IsMade l p q) (accepted : IsAccepted p) (limits : Limits) (frames cells : ℕ) (are : AreLimitsOf (ImageFor frames cells) limits) (values : List Value) (fits : FitMain p values) (words : ℕ) (stats : Bool) where
-  pub run_shows : (ended : Option End) (told output : List ℕ) → Executes q limits values words stats ended told output → RunShows p q (AreFactorsOf l p q made) values frames cells words stats ended told output
+  pub run_shows : (ended : Option End) (told : List (List ℕ)) (output : List ℕ) → Executes q limits values words stats ended told output → RunShows p q (AreFactorsOf l p q made) values frames cells words stats ended told output
   run_shows ended told output executes =
       let chain = made_chain l p q made accepted in
       let Is = AreFactorsOf l p q made in

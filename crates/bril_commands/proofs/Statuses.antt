@@ -1,10 +1,11 @@
 -- What each status says of the call.
-use Rattle.std.proofs.Common.{◌≡◌, ◌⊎◌, ℕ, Bool, true, false, append-nil, List, [], Some, None, refl, sym, ap, ◌∙◌, subst, inl, inr, ⊎_elim}
+use Rattle.std.proofs.Common.{◌≡◌, ◌⊎◌, ℕ, Bool, true, false, append-nil, ◌++◌, List, [], Option, Some, None, refl, sym, ap, ◌∙◌, subst, inl, inr, ⊎_elim}
 use Rattle.bril_arguments.specs.declared.fault.ArgFault.TheVariants as argument
 use Rattle.bril_arguments.specs.declared.fault.ArgFault.{ArgFault}
 use Rattle.bril_names.specs.Faults as names
 use Rattle.bril_names.specs.declared.fault.NameFault.{NameFault}
-use Rattle.bril_report.specs.Lines.{code_line, stack_line}
+use Rattle.bril_outside.specs.Sink.{joined}
+use Rattle.bril_report.specs.Lines.{code_line, stack_line, spent_line}
 use Rattle.bril_report.specs.Report.{Says, status_number, SaysStatus}
 use Rattle.bril_report.specs.declared.status.Status.TheVariants as status
 use Rattle.bril_report.specs.declared.status.Status.{Status}
@@ -18,7 +19,7 @@ use Rattle.bril_tree.specs.declared.value.Value.{Value}
 use Rattle.bril_commands.specs.Answers.{Answers, HasLongCode, HasLongStack}
 use Rattle.bril_commands.specs.Arguments.{argument_line, HasOnlyArgFault, RefusesArgs}
 use Rattle.bril_commands.specs.Call.{Call, CommandComesTo, ComesTo}
-use Rattle.bril_commands.specs.Command.{Command, OnTree, OnProgram, OfProgram, Arguments, NoArguments, OfMain, TakesArguments, AreGiven, RefusesGiven, Makes, RefusesMaking, AreLimitsOf, Fits, RefusesEmission, NeedsProgram, GivesArguments, MakesImage, takes_passes}
+use Rattle.bril_commands.specs.Command.{Command, OnTree, OnProgram, OfProgram, Arguments, NoArguments, OfMain, Emission, NoImage, ImageFor, TakesArguments, AreGiven, RefusesGiven, Makes, RefusesMaking, AreLimitsOf, Fits, RefusesEmission, NeedsProgram, GivesArguments, MakesImage, takes_passes}
 use Rattle.bril_commands.specs.CommandLine.{Asks, format_of}
 use Rattle.bril_commands.specs.Driver.{IsSilent, subject, DoesProgram, DoesTree, DoesFile}
 use Rattle.bril_commands.specs.Images.{RefusesImage}
@@ -54,7 +55,7 @@ module _ (format : Format) (bytes : List ℕ) (tree : Tree) (only : IsOnlyTree f
 
 -- The words of a call ask for a command, the status is what it answered, and it was said after what is told.
 pub record Ends (c : Call) (asks : Asks c.words) (how : Status) : Type 0 where
-  pub told : List ℕ
+  pub told : List (List ℕ)
   pub does : DoesFile (command asks.action) how c.passes c.files_before c.files_after asks.path asks.args told c.out_before c.out_after
   pub says : SaysTold told how asks.path c.err_before c.err_after
   pub keeps : KeepsPasses c.passes.meaning asks.action c.passes.before c.passes.after
@@ -81,14 +82,14 @@ module _ (c : Call) (asks : Asks c.words) where
   -- ---- the work was carried out
 
   module _ (o : Outcome) (comes : (Is : Outcome → Type 0) → Is o → ComesTo c asks Is) where
-    Answers-works : (how : Status) (told : List ℕ) → SaysTold told how asks.path c.err_before c.err_after → Works o how told c.out_before c.out_after → Answers (status_number how) c
+    Answers-works : (how : Status) (told : List (List ℕ)) → SaysTold told how asks.path c.err_before c.err_after → Works o how told c.out_before c.out_after → Answers (status_number how) c
     Answers-works status.Done told says works = record {
       asks = asks;
       told = told;
       output = works.output;
       comes = comes (λ o. o.Shows (Some Ended) told works.output) works.shows;
       took = works.took;
-      says = subst (λ bytes. Says c.err_before bytes c.err_after) (append-nil told) says.all;
+      says = subst (λ bytes. Says c.err_before bytes c.err_after) (append-nil (joined told)) says.all;
       quiet = says.plain;
     }
     Answers-works (status.Faulted fault) told says works = record {
@@ -146,43 +147,34 @@ module _ (c : Call) (asks : Asks c.words) where
       Answers-refused : NeedsProgram (command asks.action) → (how : Status) → Said how → RefusesProgram how tree → c.out_after ≡ c.out_before → Answers (status_number how) c
       Answers-refused needs status.Unsupported says refuses silent = record {
         asks = asks;
-        because = inr (
-          needs,
-          inl (record {
-            bytes = bytes;
-            file = file;
-            imports = record { tree = tree; reads = only.reads; imports = refuses };
-            alone = record { silent = silent; says = says };
-          }),
-        );
+        because = inr (needs, inl (record {
+          bytes = bytes;
+          file = file;
+          imports = record { tree = tree; reads = only.reads; imports = refuses };
+          alone = record { silent = silent; says = says };
+        }));
       }
       Answers-refused needs (status.Misnamed fault) says refuses silent = record {
         asks = asks;
-        because = inr (
-          needs,
-          inr (inl (record {
-            bytes = bytes;
-            file = file;
-            fault = fault;
-            only = HasOnlyNameFault-of (format_of asks.path) bytes tree only fault refuses.0 refuses.1;
-            alone = record { silent = silent; says = says };
-          })),
-        );
+        because = inr (needs, inr (inl (record {
+          bytes = bytes;
+          file = file;
+          fault = fault;
+          only = HasOnlyNameFault-of (format_of asks.path) bytes tree only fault refuses.0 refuses.1;
+          alone = record { silent = silent; says = says };
+        })));
       }
       Answers-refused needs (status.Unaccepted p fault) says refuses silent = record {
         asks = asks;
-        because = inr (
-          needs,
-          inr (inr (record {
-            bytes = bytes;
-            file = file;
-            program = p;
-            source = IsOnlySource-of (format_of asks.path) bytes tree only p refuses.0;
-            fault = fault;
-            only = refuses.1;
-            alone = record { silent = silent; says = says };
-          })),
-        );
+        because = inr (needs, inr (inr (record {
+          bytes = bytes;
+          file = file;
+          program = p;
+          source = IsOnlySource-of (format_of asks.path) bytes tree only p refuses.0;
+          fault = fault;
+          only = refuses.1;
+          alone = record { silent = silent; says = says };
+        })));
       }
       Answers-refused needs status.OutOfMemory says refuses silent = Answers-exhausted says silent
       Answers-refused needs _ says refuses silent = absurd refuses
@@ -292,21 +284,21 @@ module _ (c : Call) (asks : Asks c.words) where
         })
 
         Answers-made : (p : Prog) (program : IsAcceptedProgram tree p) (values : List Value) → AreGiven does.arguments p asks.args values → (q : Prog) (makes : Makes does.takes_passes c.passes p q)
-            → (how : Status) (told : List ℕ) → SaysTold told how asks.path c.err_before c.err_after
+            → (how : Status) (told : List (List ℕ)) → SaysTold told how asks.path c.err_before c.err_after
             → (RefusesEmission does.emission how q × IsSilent told c.out_before c.out_after) ⊎ (Fits does.emission q × Works (does.outcome (subject does c.passes p q makes values)) how told c.out_before c.out_after)
             → Answers (status_number how) c
         Answers-made p program values given q makes how told says =
             ⊎_elim (λ long. Answers-image p program q (made_by p q makes) long.0.0 (makes_image long.0.0 long.0.1) how (says.plain long.1.0) long.0.2 long.1.1)
             (λ goes. Answers-works (does.outcome (subject does c.passes p q makes values)) (comes_to p program values given q makes goes.0) how told says goes.1)
 
-        Answers-program : (p : Prog) (program : IsAcceptedProgram tree p) (how : Status) (told : List ℕ) → SaysTold told how asks.path c.err_before c.err_after → DoesProgram does how c.passes p asks.args told c.out_before c.out_after → Answers (status_number how) c
+        Answers-program : (p : Prog) (program : IsAcceptedProgram tree p) (how : Status) (told : List (List ℕ)) → SaysTold told how asks.path c.err_before c.err_after → DoesProgram does how c.passes p asks.args told c.out_before c.out_after → Answers (status_number how) c
         Answers-program p program how told says =
             ⊎_elim (λ refused. Answers-given p program does.arguments (λ takes. subst GivesArguments (sym is) takes) how (says.plain refused.1.0) refused.0 refused.1.1)
             (λ values. ⊎_elim (λ refused. Answers-making p program does.takes_passes (λ takes. ap takes_passes is ∙ takes) how (says.plain refused.1.0) refused.0 refused.1.1)
             (λ made. Answers-made p program values.0 values.1 made.0 made.1 how told says made.2)
             values.2)
 
-      Answers-tree : (k : Command) → command asks.action ≡ k → (how : Status) (told : List ℕ) → SaysTold told how asks.path c.err_before c.err_after → DoesTree k how c.passes tree asks.args told c.out_before c.out_after → Answers (status_number how) c
+      Answers-tree : (k : Command) → command asks.action ≡ k → (how : Status) (told : List (List ℕ)) → SaysTold told how asks.path c.err_before c.err_after → DoesTree k how c.passes tree asks.args told c.out_before c.out_after → Answers (status_number how) c
       Answers-tree (OnTree outcome) is how told says =
           Answers-works (outcome tree)
           (λ Is holds. subst (λ k. CommandComesTo k c asks.path asks.args Is) (sym is) (record { bytes = bytes; file = file; tree = tree; only = only; is = holds }))

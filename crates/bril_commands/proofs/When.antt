@@ -1,9 +1,12 @@
 -- When a command is done.
-use Rattle.std.proofs.Common.{◌≡◌, ℕ, ◌≤◌, ◌⊎◌, Bool, true, false, append-nil, ◌++◌, List, length, Some, None, refl, sym, ◌∙◌, subst, arith, inl, inr, ⊎_elim}
+use Rattle.std.proofs.Common.{◌≡◌, ℕ, ◌≤◌, ◌⊎◌, Bool, true, false, append-nil, ◌++◌, List, [], length, Some, None, refl, sym, ap, ◌∙◌, subst, arith, inl, inr, ⊎_elim}
+use Rattle.bril_arguments.specs.Spelled.{AreSpelled}
+use Rattle.bril_outside.specs.Sink.{Rose, joined}
 use Rattle.bril_report.specs.Lines.{spent_line}
 use Rattle.bril_report.specs.Report.{Says, status_number, SaysStatus}
 use Rattle.bril_report.specs.declared.status.Status.TheVariants as status
 use Rattle.bril_report.specs.declared.status.Status.{Status}
+use Rattle.bril_tree.specs.Accepted.{IsAccepted}
 use Rattle.bril_tree.specs.declared.limits.End.TheVariants.{Ended, Faulted}
 use Rattle.bril_tree.specs.declared.limits.Limits.{Limits}
 use Rattle.bril_tree.specs.declared.program.Prog.{Prog}
@@ -21,20 +24,20 @@ use Rattle.bril_commands.specs.Driver.{IsSilent, subject, DoesProgram, DoesTree}
 use Rattle.bril_commands.specs.Images.{RefusesImage}
 use Rattle.bril_commands.specs.Outcome.{Outcome, Works}
 use Rattle.bril_commands.specs.PassList.{RefusesList}
-use Rattle.bril_commands.specs.Source.{most_bytes, ReadsAs}
+use Rattle.bril_commands.specs.Source.{most_bytes, ReadsAs, IsOnlyTree, IsSource}
 use Rattle.bril_commands.specs.Stats.{SaysTold}
 use Rattle.bril_commands.specs.Table.{command}
 use Rattle.bril_commands.specs.When.{Spell, StopsMaking, AfterPasses, AfterEmission, IsDoneUnless, CommandDone}
 
 -- the work is done, or memory ran out
-works_done : (c : Call) (path : List ℕ) (o : Outcome) (how : Status) (told : List ℕ) → SaysTold told how path c.err_before c.err_after → Works o how told c.out_before c.out_after
+works_done : (c : Call) (path : List ℕ) (o : Outcome) (how : Status) (told : List (List ℕ)) → SaysTold told how path c.err_before c.err_after → Works o how told c.out_before c.out_after
     → UnlessMemory (status_number how) (IsDoneUnless (status_number how) c o)
 works_done c path o status.Done told says works = inr (λ sound. record {
   ended = Some Ended;
   told = told;
   output = works.output;
   shows = works.shows;
-  says = (refl, subst (λ bytes. Says c.err_before bytes c.err_after) (append-nil told) says.all, says.plain);
+  says = (refl, subst (λ bytes. Says c.err_before bytes c.err_after) (append-nil (joined told)) says.all, says.plain);
   took = works.took;
 })
 works_done c path o (status.Faulted fault) told says works = inr (λ sound. record {
@@ -50,7 +53,7 @@ works_done c path o (status.Spent made) told says works = inr (λ sound. record 
   told = told;
   output = works.1.output;
   shows = works.1.shows;
-  says = (refl, subst (λ n. Says c.err_before (told ++ spent_line n) c.err_after) works.0 says.all);
+  says = (refl, subst (λ n. Says c.err_before (joined told ++ spent_line n) c.err_after) works.0 says.all);
   took = works.1.took;
 })
 works_done c path o status.OutOfMemory told says works = inl refl

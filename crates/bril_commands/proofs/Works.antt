@@ -1,12 +1,13 @@
 -- Work that is carried out as one outcome says is carried out as another says.
-use Rattle.std.proofs.Common.{◌≡◌, ℕ, List, [], Option, refl, ◌∙◌, inl, inr, ⊎_elim}
+use Rattle.std.proofs.Common.{◌≡◌, ℕ, List, [], Option, Some, None, refl, sym, ◌∙◌, inl, inr, ⊎_elim}
 use Rattle.bril_outside.specs.Sink.{SinkSeen}
 use Rattle.bril_report.specs.declared.status.Status.TheVariants as status
 use Rattle.bril_report.specs.declared.status.Status.{Status}
+use Rattle.bril_tree.specs.declared.limits.End.TheVariants.{Ended, Faulted}
 use Rattle.bril_tree.specs.declared.limits.End.{End}
-use Rattle.bril_commands.specs.Outcome.{Outcome, PutsText, ShowsWhole, Works, writes}
+use Rattle.bril_commands.specs.Outcome.{Outcome, PutsText, ShowsWhole, Works, end_status, writes}
 
-module _ (a b : Outcome) (steps : a.steps ≡ b.steps) (unwritten : a.unwritten ≡ b.unwritten) (shows : (ended : Option End) (told output : List ℕ) → a.Shows ended told output → b.Shows ended told output) (exhausts : (output : List ℕ) → a.Exhausts output → b.Exhausts output) (told : List ℕ) (s t : SinkSeen) where
+module _ (a b : Outcome) (steps : a.steps ≡ b.steps) (unwritten : a.unwritten ≡ b.unwritten) (shows : (ended : Option End) (told : List (List ℕ)) (output : List ℕ) → a.Shows ended told output → b.Shows ended told output) (exhausts : (output : List ℕ) → a.Exhausts output → b.Exhausts output) (told : List (List ℕ)) (s t : SinkSeen) where
   whole : (ended : Option End) → ShowsWhole a ended told s t → ShowsWhole b ended told s t
   whole ended w = record { output = w.output; shows = shows ended told w.output w.shows; took = w.took }
 
@@ -14,17 +15,14 @@ module _ (a b : Outcome) (steps : a.steps ≡ b.steps) (unwritten : a.unwritten 
   Works-as status.Done works = whole _ works
   Works-as (status.Faulted fault) works = whole _ works
   Works-as (status.Spent made) works = (works.0 ∙ steps, whole _ works.1)
-  Works-as status.CannotWrite works = (
-    works.0 ∙ unwritten,
-    record {
-      ended = works.1.ended;
-      told = works.1.told;
-      output = works.1.output;
-      shows = shows works.1.ended works.1.told works.1.output works.1.shows;
-      took = works.1.took;
-      rose = works.1.rose;
-    },
-  )
+  Works-as status.CannotWrite works = (works.0 ∙ unwritten, record {
+    ended = works.1.ended;
+    told = works.1.told;
+    output = works.1.output;
+    shows = shows works.1.ended works.1.told works.1.output works.1.shows;
+    took = works.1.took;
+    rose = works.1.rose;
+  })
   Works-as status.OutOfMemory works = (works.0, ⊎_elim inl (λ short. inr (short.0, exhausts short.0 short.1, short.2)) works.1)
   Works-as _ works = absurd works
 
@@ -34,3 +32,9 @@ Works-text IsText text is status.Done s t puts = record { output = text; shows =
 Works-text IsText text is status.CannotWrite s t puts = (refl, record { ended = _; told = _; output = text; shows = (refl, refl, is); took = puts.0; rose = puts.1 })
 Works-text IsText text is status.OutOfMemory s t puts = (refl, inl puts)
 Works-text IsText text is _ s t puts = absurd puts
+
+-- it ended so, or goes on after the steps
+pub Works-ended : (o : Outcome) (ended : Option End) (told : List (List ℕ)) (s t : SinkSeen) → ShowsWhole o ended told s t → Works o (end_status ended o.steps) told s t
+Works-ended o (Some Ended) told s t whole = whole
+Works-ended o (Some (Faulted fault)) told s t whole = whole
+Works-ended o None told s t whole = (refl, whole)

@@ -7,7 +7,7 @@ use Rattle.bril_checker.specs.Faults as checker
 use Rattle.bril_checker.specs.declared.fault.CheckFault.{CheckFault}
 use Rattle.bril_names.specs.declared.fault.NameFault.{NameFault}
 use Rattle.bril_outside.specs.Files.{MayHold, MayFail}
-use Rattle.bril_outside.specs.Sink.{Rose, TookAll, TookSome}
+use Rattle.bril_outside.specs.Sink.{Rose, TookAll, TookSome, joined}
 use Rattle.bril_report.specs.Lines.{form_line, misread_line, misnamed_line, unaccepted_line, unread_line, fault_line, spent_line, code_line, stack_line, pass_line, unknown_pass_line, misuse_line}
 use Rattle.bril_report.specs.Report.{Says}
 use Rattle.bril_report.specs.declared.status.SourceFault.{SourceFault}
@@ -36,33 +36,33 @@ use Rattle.bril_commands.specs.When.{DoneWhere}
 -- 0: all was done, and the output took all that the command puts; the error output what it tells.
 pub record Finished (c : Call) : Type 0 where
   pub asks : Asks c.words
-  pub told : List ℕ
+  pub told : List (List ℕ)
   pub output : List ℕ
   pub comes : ComesTo c asks (λ o. o.Shows (Some Ended) told output)
   pub took : TookAll c.out_before output c.out_after
-  pub says : Says c.err_before told c.err_after
+  pub says : Says c.err_before (joined told) c.err_after
   pub quiet : told ≡ [] → c.err_after ≡ c.err_before
 
 -- 2: the program was run or interpreted and stopped with a fault, and the output took all that is put.
 pub record Stopped (c : Call) : Type 0 where
   pub asks : Asks c.words
   pub fault : Fault
-  pub told : List ℕ
+  pub told : List (List ℕ)
   pub output : List ℕ
   pub comes : ComesTo c asks (λ o. o.Shows (Some (Faulted fault)) told output)
   pub took : TookAll c.out_before output c.out_after
-  pub says : Says c.err_before (told ++ fault_line fault) c.err_after
+  pub says : Says c.err_before (joined told ++ fault_line fault) c.err_after
 
 -- 3: the program was interpreted and goes on after the steps, or was run and the machine goes on after as many words, and the
 -- output took all that is put.
 pub record GoesOn (c : Call) : Type 0 where
   pub asks : Asks c.words
   pub steps : ℕ
-  pub told : List ℕ
+  pub told : List (List ℕ)
   pub output : List ℕ
   pub comes : ComesTo c asks (λ o. (steps ≡ o.steps) × o.Shows None told output)
   pub took : TookAll c.out_before output c.out_after
-  pub says : Says c.err_before (told ++ spent_line steps) c.err_after
+  pub says : Says c.err_before (joined told ++ spent_line steps) c.err_after
 
 -- 64: the words are not those of a command. No file was read.
 pub record Misused (c : Call) : Type 0 where
@@ -187,13 +187,13 @@ pub record Exhausted (c : Call) : Type 0 where
 pub record CannotWrite (c : Call) : Type 0 where
   pub asks : Asks c.words
   pub ended : Option End
-  pub untold : List ℕ
-  pub told : List ℕ
+  pub untold : List (List ℕ)
+  pub told : List (List ℕ)
   pub output : List ℕ
   pub comes : ComesTo c asks (λ o. (told ≡ o.unwritten) × o.Shows ended untold output)
   pub took : TookSome c.out_before output c.out_after
   pub rose : Rose c.out_before.faults c.out_after.faults
-  pub says : Says c.err_before (told ++ codes "cannot write\n") c.err_after
+  pub says : Says c.err_before (joined told ++ codes "cannot write\n") c.err_after
 
 -- What a status says of the call; there are no others.
 abbrev pub Answers : ℕ → Call → Type 0

@@ -1,7 +1,7 @@
 -- What is seen of a call of the top call, and what it reads of its file.
 use Rattle.std.specs.Prelude.{ℕ, ◌≡◌, ◌⊎◌, List, [], ◌++◌, Option, Some, None}
 use Rattle.bril_outside.specs.Files.{FilesSeen, LacksFile}
-use Rattle.bril_outside.specs.Sink.{SinkSeen, Rose}
+use Rattle.bril_outside.specs.Sink.{SinkSeen, Rose, joined}
 use Rattle.bril_report.specs.Lines.{fault_line, spent_line}
 use Rattle.bril_report.specs.Report.{Says}
 use Rattle.bril_tree.specs.declared.limits.End.TheVariants.{Ended, Faulted}
@@ -68,10 +68,10 @@ abbrev pub UnlessMemory : ℕ → Type 0 → Type 0
 UnlessMemory status answer = (status ≡ 71) ⊎ answer
 
 -- what is said of a run of so many steps, or words of the machine, that has ended so, None where it goes on, after what is told
-abbrev pub TellsRun : Option End → ℕ → List ℕ → ℕ → Call → Type 0
-TellsRun None steps told number c = (number ≡ 3) × Says c.err_before (told ++ spent_line steps) c.err_after
-TellsRun (Some Ended) steps told number c = (number ≡ 0) × Says c.err_before told c.err_after × (told ≡ [] → c.err_after ≡ c.err_before)
-TellsRun (Some (Faulted fault)) steps told number c = (number ≡ 2) × Says c.err_before (told ++ fault_line fault) c.err_after
+abbrev pub TellsRun : Option End → ℕ → List (List ℕ) → ℕ → Call → Type 0
+TellsRun None steps told number c = (number ≡ 3) × Says c.err_before (joined told ++ spent_line steps) c.err_after
+TellsRun (Some Ended) steps told number c = (number ≡ 0) × Says c.err_before (joined told) c.err_after × (told ≡ [] → c.err_after ≡ c.err_before)
+TellsRun (Some (Faulted fault)) steps told number c = (number ≡ 2) × Says c.err_before (joined told ++ fault_line fault) c.err_after
 
 -- ---- what a command comes to
 

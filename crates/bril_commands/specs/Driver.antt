@@ -14,7 +14,7 @@ use Rattle.bril_commands.specs.Source.{IsOnlyTree, IsFile}
 use Rattle.bril_commands.specs.Stages.{RefusesFile, RefusesTree, RefusesProgram, IsAcceptedProgram}
 
 -- nothing is told, and nothing is put
-abbrev pub IsSilent : List ℕ → SinkSeen → SinkSeen → Type 0
+abbrev pub IsSilent : List (List ℕ) → SinkSeen → SinkSeen → Type 0
 IsSilent told s t = (told ≡ []) × (t ≡ s)
 
 -- A stage refuses, and there is silence; or it hands on something of which this holds, and the command goes on with it.
@@ -32,20 +32,20 @@ subject does l p q makes values = record {
 }
 
 -- what a command answers that works on an accepted program, with these arguments, and what it tells
-abbrev pub DoesProgram : OfProgram → Status → PassList → Prog → List (List ℕ) → List ℕ → SinkSeen → SinkSeen → Type 0
+abbrev pub DoesProgram : OfProgram → Status → PassList → Prog → List (List ℕ) → List (List ℕ) → SinkSeen → SinkSeen → Type 0
 DoesProgram does how l p args told s t =
     Stage (RefusesGiven does.arguments how p args) (IsSilent told s t) (λ values. AreGiven does.arguments p args values) (λ values given.
     Stage (RefusesMaking does.takes_passes how l p) (IsSilent told s t) (λ q. Makes does.takes_passes l p q) (λ q makes.
     (RefusesEmission does.emission how q × IsSilent told s t) ⊎ (Fits does.emission q × Works (does.outcome (subject does l p q makes values)) how told s t)))
 
 -- what a command answers on a tree
-abbrev pub DoesTree : Command → Status → PassList → Tree → List (List ℕ) → List ℕ → SinkSeen → SinkSeen → Type 0
+abbrev pub DoesTree : Command → Status → PassList → Tree → List (List ℕ) → List (List ℕ) → SinkSeen → SinkSeen → Type 0
 DoesTree (OnTree outcome) how l tree args told s t = Works (outcome tree) how told s t
 DoesTree (OnProgram does) how l tree args told s t =
     Stage (RefusesProgram how tree) (IsSilent told s t) (λ p. IsAcceptedProgram tree p) (λ p is. DoesProgram does how l p args told s t)
 
 -- what a command answers on the file at a path
-abbrev pub DoesFile : Command → Status → PassList → FilesSeen → FilesSeen → List ℕ → List (List ℕ) → List ℕ → SinkSeen → SinkSeen → Type 0
+abbrev pub DoesFile : Command → Status → PassList → FilesSeen → FilesSeen → List ℕ → List (List ℕ) → List (List ℕ) → SinkSeen → SinkSeen → Type 0
 DoesFile command how l f g path args told s t =
     Stage (RefusesFile how f g path) (IsSilent told s t) (λ bytes. IsFile f path bytes) (λ bytes file.
     Stage (RefusesTree how (format_of path) bytes) (IsSilent told s t) (λ tree. IsOnlyTree (format_of path) bytes tree) (λ tree only.

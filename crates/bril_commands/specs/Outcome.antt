@@ -10,16 +10,16 @@ use Rattle.bril_tree.specs.declared.limits.End.{End}
 pub record Outcome : Type 1 where
   -- how many steps of the program, or words of the machine, are made at most
   pub steps : ℕ
-  -- The program has ended so, or goes on after the steps for None, this is told, and this is put. A command that runs no program has
-  -- ended.
-  pub Shows : Option End → List ℕ → List ℕ → Type 0
+  -- The program has ended so, or goes on after the steps for None, this is told, in pieces of which each is one put, and this is put on
+  -- the output. A command that runs no program has ended.
+  pub Shows : Option End → List (List ℕ) → List ℕ → Type 0
   -- what may have been put where memory ran out after that
   pub Exhausts : List ℕ → Type 0
   -- what is told where a write failed
-  pub unwritten : List ℕ
+  pub unwritten : List (List ℕ)
 
 -- A text of which this holds is put, and this is told. No program is run.
-abbrev pub writes : List ℕ → (List ℕ → Type 0) → Outcome
+abbrev pub writes : List (List ℕ) → (List ℕ → Type 0) → Outcome
 writes told IsText = record {
   steps = 0;
   Shows = λ ended said output. (ended ≡ Some Ended) × (said ≡ told) × IsText output;
@@ -34,7 +34,7 @@ writes_text text = writes [] (λ output. output ≡ text)
 -- ---- what carrying out a command's work answers
 
 -- This is told, and the output took all that is put.
-pub record ShowsWhole (o : Outcome) (ended : Option End) (told : List ℕ) (s t : SinkSeen) : Type 0 where
+pub record ShowsWhole (o : Outcome) (ended : Option End) (told : List (List ℕ)) (s t : SinkSeen) : Type 0 where
   pub output : List ℕ
   pub shows : o.Shows ended told output
   pub took : TookAll s output t
@@ -42,7 +42,7 @@ pub record ShowsWhole (o : Outcome) (ended : Option End) (told : List ℕ) (s t 
 -- A write failed, and the output took the first of what is put.
 pub record ShowsPartly (o : Outcome) (s t : SinkSeen) : Type 0 where
   pub ended : Option End
-  pub told : List ℕ
+  pub told : List (List ℕ)
   pub output : List ℕ
   pub shows : o.Shows ended told output
   pub took : TookSome s output t
@@ -52,8 +52,14 @@ pub record ShowsPartly (o : Outcome) (s t : SinkSeen) : Type 0 where
 abbrev pub StopsShort : Outcome → SinkSeen → SinkSeen → Type 0
 StopsShort o s t = (t ≡ s) ⊎ ((output : List ℕ) × o.Exhausts output × TookAll s output t)
 
+-- the status of a run that ended so, or goes on after so many steps, for None
+abbrev pub end_status : Option End → ℕ → Status
+end_status (Some Ended) steps = status.Done
+end_status (Some (Faulted fault)) steps = status.Faulted fault
+end_status None steps = status.Spent steps
+
 -- what carrying out the work answers, and what it tells
-abbrev pub Works : Outcome → Status → List ℕ → SinkSeen → SinkSeen → Type 0
+abbrev pub Works : Outcome → Status → List (List ℕ) → SinkSeen → SinkSeen → Type 0
 Works o status.Done told s t = ShowsWhole o (Some Ended) told s t
 Works o (status.Faulted fault) told s t = ShowsWhole o (Some (Faulted fault)) told s t
 Works o (status.Spent made) told s t = (made ≡ o.steps) × ShowsWhole o None told s t

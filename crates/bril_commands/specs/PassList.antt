@@ -1,6 +1,5 @@
 -- The passes that a call was lent, and what a list of their names comes to.
-use Rattle.std.specs.Prelude.{ℕ, ◌≡◌, Bool, false, not, ◌&&◌, ◌||◌, is_some, cond, List, [], ◌∷◌, ◌++◌, map, Option, Some, None}
-use Rattle.bril_outside.specs.Sink.{joined}
+use Rattle.std.specs.Prelude.{ℕ, ◌≡◌, ◌⊎◌, Bool, false, not, ◌&&◌, ◌||◌, is_some, cond, List, [], ◌∷◌, ◌++◌, map, Option, Some, None}
 use Rattle.bril_profile.specs.declared.profile.Profile.{Profile}
 use Rattle.bril_report.specs.Tallies.{tally_pieces}
 use Rattle.bril_report.specs.declared.status.Status.TheVariants as status
@@ -91,6 +90,6 @@ module _ {B : Type 0} (meaning : B → Meaning) (counts : B → Tally) (names : 
   pieces_from earlier [] = []
   pieces_from earlier (pass ∷ passes) = used_pieces earlier pass ++ pieces_from (earlier ++ pass ∷ []) passes
 
--- the lines of the passes that the list used, in their order
-abbrev pub tallies_told : PassList → List ℕ
-tallies_told l = joined (pieces_from l.meaning l.counts l.names [] l.after)
+-- the lines of the passes that the list used, in their order, in pieces of which each is one put
+abbrev pub tallies_told : PassList → List (List ℕ)
+tallies_told l = pieces_from l.meaning l.counts l.names [] l.after

@@ -1,7 +1,7 @@
 -- What `run --stats` tells of a run on the error output, before the line of the status.
-use Rattle.std.specs.Prelude.{◌≡◌, ◌≢◌, ℕ, Bool, true, false, List, [], ◌++◌, Option, Some}
+use Rattle.std.specs.Prelude.{◌≡◌, ℕ, Bool, true, false, List, [], ◌++◌, Option, Some}
 use Rattle.std.specs.List.{flat_map}
-use Rattle.bril_outside.specs.Sink.{SinkSeen, Rose, TookAll, TookSome, joined}
+use Rattle.bril_outside.specs.Sink.{SinkSeen, joined}
 use Rattle.bril_report.specs.Report.{Says, SaysStatus, status_line}
 use Rattle.bril_report.specs.Stats.{words_pieces, guard_pieces, function_name}
 use Rattle.bril_report.specs.declared.status.Status.{Status}
@@ -26,14 +26,14 @@ abbrev pub stats_pieces : Prog → List GuardAt → State → List (List ℕ)
 stats_pieces p guards t = words_pieces t.done ++ flat_map (guard_told p t) guards
 
 -- what is told, which is nothing where it isn't asked for
-abbrev pub stats_told : Bool → Prog → List GuardAt → State → List ℕ
-stats_told true p guards t = joined (stats_pieces p guards t)
+abbrev pub stats_told : Bool → Prog → List GuardAt → State → List (List ℕ)
+stats_told true p guards t = stats_pieces p guards t
 stats_told false p guards t = []
 
 -- What is told of a run of so many words of an image, which ended so or went on for None: the words that were executed and the
 -- arrivals at each guard's word. There is one line for each guard of the program, in the order of functions and items, and where
 -- the program ended its number is that of the guard's failures.
-pub record TellsStats (stats : Bool) (image : Image) (p : Prog) (limits : Limits) (values : List Value) (words : ℕ) (ended : Option End) (told : List ℕ) : Type 0 where
+pub record TellsStats (stats : Bool) (image : Image) (p : Prog) (limits : Limits) (values : List Value) (words : ℕ) (ended : Option End) (told : List (List ℕ)) : Type 0 where
   pub lines : told ≡ stats_told stats p image.guards (image_after image limits values words)
   pub guards : ListsGuards image.guards p
   pub counts : (n : ℕ) (end : End) → ended ≡ Some end → (state_after p limits values n).ended ≡ Some end →
@@ -41,21 +41,7 @@ pub record TellsStats (stats : Bool) (image : Image) (p : Prog) (limits : Limits
 
 -- ---- on the error output
 
--- it took what is told, or a put of it failed, and nothing more is to be put
-abbrev pub PutTold : Bool → List ℕ → SinkSeen → SinkSeen → Type 0
-PutTold true told e f = (told ≢ []) × TookSome e told f × Rose e.faults f.faults
-PutTold false told e f = TookAll e told f × (told ≡ [] → f ≡ e)
-
--- something is told so that this holds of it
-abbrev pub Telling : (List ℕ → Type 0) → Bool → SinkSeen → SinkSeen → Type 0
-Telling P silenced e f = (told : List ℕ) × P told × PutTold silenced told e f
-
--- the line of the status is put, where nothing failed before it
-abbrev pub SaysUnless : Bool → Status → List ℕ → SinkSeen → SinkSeen → Type 0
-SaysUnless true how path e f = f ≡ e
-SaysUnless false how path e f = SaysStatus how path e f
-
--- it took what is told and the line of the status after it, or the first of it and its faults rose
-pub record SaysTold (told : List ℕ) (how : Status) (path : List ℕ) (e f : SinkSeen) : Type 0 where
-  pub all : Says e (told ++ status_line how path) f
+-- What is told was put, and then the line of a status, up to a put that failed.
+pub record SaysTold (told : List (List ℕ)) (how : Status) (path : List ℕ) (e f : SinkSeen) : Type 0 where
+  pub all : Says e (joined told ++ status_line how path) f
   pub plain : told ≡ [] → SaysStatus how path e f

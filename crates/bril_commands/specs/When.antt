@@ -64,7 +64,7 @@ AfterEmission (ImageFor frames cells) number q Does =
 -- This is how the program ended, what is told and what the output took.
 pub record IsDone (number : ℕ) (c : Call) (o : Outcome) : Type 0 where
   pub ended : Option End
-  pub told : List ℕ
+  pub told : List (List ℕ)
   pub output : List ℕ
   pub shows : o.Shows ended told output
   pub says : TellsRun ended o.steps told number c

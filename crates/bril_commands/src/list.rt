@@ -1,17 +1,15 @@
 // The list of passes: the program that it makes of an accepted program, and what is told of the passes that it used.
 
-ghost use Rattle.std.specs.Prelude.{◌≡◌, ◌≤◌, false, [], length, take, drop, IfOk, IfErr};
+ghost use Rattle.std.specs.Prelude.{◌≡◌, ◌≤◌, [], length, take, drop, IfOk, IfErr};
 ghost use Rattle.bril_commands.specs.PassList.{pass_list, IsMade, RefusesList, first_name, is_taken, is_used, used_pieces, pieces_from};
-ghost use Rattle.bril_commands.specs.Stats.{PutTold};
-ghost use Rattle.bril_outside.specs.Sink.{joined};
-ghost use Rattle.bril_report.specs.Report.{PutsPieces};
+ghost use Rattle.bril_report.specs.Told.{Tells};
 ghost use Rattle.pass_law.specs.Chains.{AllSame};
 ghost use Rattle.std.specs.Option.{option_map};
 
 use bril_checker::Checked;
-use bril_outside::sink::{Failed, Sink};
+use bril_outside::sink::Sink;
 use bril_profile::Profile;
-use bril_report::{Status, put_tally};
+use bril_report::{ErrorOutput, Status, put_tally};
 use bril_tree::sequence::Seq;
 use bril_tree::text::Text;
 use pass_law::{Pass, is_answered, run_list};
@@ -37,60 +35,49 @@ pub fn transformed(
     Ok(run_list(alloc, passes, names, checked, &profile)?)
 }
 
-/// Tells the tallies of the passes that the list used, in their order. Where a put of it failed, `silenced` becomes true, and nothing
-/// more is to be put.
+/// Tells the tallies of the passes that the list used, in their order, each piece of a line by one put.
 pub fn tell_tallies<E: Sink>(
     passes: &[Box<dyn Pass>],
     names: &[Text],
-    err: &mut E,
-    silenced: &mut bool,
+    err: &mut ErrorOutput<'_, E>,
 )
-    requires { silenced.old ≡ false }
-    ensures { PutTold silenced.new (joined (pieces_from (λ p. meaning p) (λ p. counts p) names.now [] passes.now)) (E.seen err.old) (E.seen err.new) }
+    ensures { Tells E.seen err.old (pieces_from (λ p. meaning p) (λ p. counts p) names.now [] passes.now) err.new }
 {
-    match put_from(passes, 0, names, err) {
-        Ok(()) => {}
-        Err(Failed) => *silenced = true,
-    }
+    tell_from(passes, 0, names, err);
 }
 
-// Puts the lines of the passes from a place on.
-fn put_from<E: Sink>(
+// Tells the lines of the passes from a place on.
+fn tell_from<E: Sink>(
     passes: &[Box<dyn Pass>],
     place: usize,
     names: &[Text],
-    err: &mut E,
-) -> Result<(), Failed>
+    err: &mut ErrorOutput<'_, E>,
+)
     requires { place ≤ length passes.now }
-    ensures quiet { pieces_from (λ p. meaning p) (λ p. counts p) names.now (take place passes.now) (drop place passes.now) ≡ [] → (E.seen err.new) ≡ (E.seen err.old) }
-    ensures puts { PutsPieces result (E.seen err.old) (pieces_from (λ p. meaning p) (λ p. counts p) names.now (take place passes.now) (drop place passes.now)) (E.seen err.new) }
+    ensures { Tells E.seen err.old (pieces_from (λ p. meaning p) (λ p. counts p) names.now (take place passes.now) (drop place passes.now)) err.new }
 {
     if place == passes.len() {
-        return Ok(());
+        return;
     }
-    put_used(&passes[..place], &passes[place], names, err)?;
-    put_from(passes, place + 1, names, err)
+    tell_used(&passes[..place], &passes[place], names, err);
+    tell_from(passes, place + 1, names, err);
 }
 
-// Puts the line of a pass, where the list used it.
-fn put_used<E: Sink>(
+// Tells the line of a pass, where the list used it.
+fn tell_used<E: Sink>(
     earlier: &[Box<dyn Pass>],
     pass: &Box<dyn Pass>,
     names: &[Text],
-    err: &mut E,
-) -> Result<(), Failed>
-    ensures quiet { used_pieces (λ p. meaning p) (λ p. counts p) names.now earlier.now pass.now ≡ [] → (E.seen err.new) ≡ (E.seen err.old) }
-    ensures puts { PutsPieces result (E.seen err.old) (used_pieces (λ p. meaning p) (λ p. counts p) names.now earlier.now pass.now) (E.seen err.new) }
+    err: &mut ErrorOutput<'_, E>,
+)
+    ensures { Tells E.seen err.old (used_pieces (λ p. meaning p) (λ p. counts p) names.now earlier.now pass.now) err.new }
 {
     if !is_used(earlier, pass, names) {
-        return Ok(());
+        return;
     }
-    match first_name(pass, names) {
-        None => Ok(()),
-        Some(name) => {
-            let tally = pass.tally();
-            put_tally(err, name, tally.runs, tally.seen, tally.made)
-        }
+    if let Some(name) = first_name(pass, names) {
+        let tally = pass.tally();
+        put_tally(err, name, tally.runs, tally.seen, tally.made);
     }
 }
 

@@ -1,9 +1,8 @@
 -- The pieces of a line are the line.
-use Rattle.std.proofs.Common.{◌≡◌, ℕ, List, [], ◌∷◌, ◌++◌, Ok, Err, Result, OnOk, OnErr, codes, refl, sym, subst, append_assoc, inl, inr}
+use Rattle.std.proofs.Common.{◌≡◌, ℕ, false, List, [], ◌∷◌, ◌++◌, codes, refl, sym, ap, ◌∙◌, subst, append_assoc}
 use Rattle.std.specs.Fmt.{decimal}
-use Rattle.bril_outside.specs.Sink.{SinkSeen, Rose, TookAll, TookSome, PutTimes, joined}
-use Rattle.bril_outside.specs.declared.sink.Failed.{Failed}
-use Rattle.bril_outside.proofs.SinkWrites.{PutAll-one, PutSome-one, PutSome-took}
+use Rattle.bril_outside.specs.Sink.{SinkSeen, joined}
+use Rattle.bril_outside.proofs.SinkWrites.{joined-append}
 use Rattle.bril_checker.specs.declared.fault.CheckFault.{CheckFault}
 use Rattle.bril_checker.specs.declared.fault.CheckFault.TheVariants as check
 use Rattle.bril_tree.specs.declared.program.Prog.{Prog}
@@ -12,7 +11,9 @@ use Rattle.bril_report.specs.declared.status.SourceFault.TheVariants.{Text, Json
 use Rattle.bril_report.specs.declared.status.Status.{Status}
 use Rattle.bril_report.specs.declared.status.Status.TheVariants as status
 use Rattle.bril_report.specs.Lines.{misread_line, unaccepted_line, text_front, text_position, json_front, json_position, name_front, name_position, number_or_dash, variable_name}
-use Rattle.bril_report.specs.Report.{Says, SaysBy, SaysStatus, PutsPieces, status_line, status_pieces, misread_pieces, unaccepted_pieces}
+use Rattle.bril_report.proofs.Telling.{Told-says}
+use Rattle.bril_report.specs.Report.{Says, SaysStatus, status_line, status_pieces, misread_pieces, unaccepted_pieces}
+use Rattle.bril_report.specs.Told.{Heard, Told}
 
 three : (a b c : List ℕ) → joined (a ∷ b ∷ c ∷ []) ≡ a ++ b ++ c
 three a b c = sym (append_assoc a b c)
@@ -68,20 +69,23 @@ joined-status (status.UnknownPass place) path = three (codes "unknown pass ") (d
 joined-status status.OutOfMemory path = refl
 joined-status status.CannotWrite path = refl
 
--- ---- what puts say
+-- ---- what is said of a status
 
-pub PutsPieces-one : (r : Result Unit Failed) (s t : SinkSeen) (piece : List ℕ) → OnOk r (TookAll s piece t) → OnErr r (TookSome s piece t × Rose s.faults t.faults) → PutTimes s 1 t → PutsPieces r s (piece ∷ []) t
-PutsPieces-one (Ok done) s t piece ok err times = PutAll-one ok times
-PutsPieces-one (Err failed) s t piece ok err times = PutSome-one err.0 times err.1
+says_status : (how : Status) (path : List ℕ) (s t : SinkSeen) → (how ≡ status.Done → t ≡ s) → Says s (status_line how path) t → SaysStatus how path s t
+says_status status.Done path s t same says = same refl
+says_status _ path s t same says = says
 
-pub PutsPieces-says : (r : Result Unit Failed) (s t : SinkSeen) (pieces : List (List ℕ)) → PutsPieces r s pieces t → Says s (joined pieces) t
-PutsPieces-says (Ok done) s t pieces put = inl put.took
-PutsPieces-says (Err failed) s t pieces put = inr (PutSome-took put, put.rose)
+done_pieces : (how : Status) (path : List ℕ) → how ≡ status.Done → status_pieces how path ≡ []
+done_pieces how path done = ap (λ (h : Status). status_pieces h path) done
 
-says_status : (how : Status) (path : List ℕ) (s t : SinkSeen) → (how ≡ status.Done → ⊥) → Says s (status_line how path) t → SaysStatus how path s t
-says_status status.Done path s t some says = absurd (some refl)
-says_status _ path s t some says = says
+pub Told-status : {e f : Heard} (how : Status) (path : List ℕ) → Told e (status_pieces how path) f → e.failed ≡ false → SaysStatus how path e.seen f.seen
+Told-status {e} {f} how path told before =
+    says_status how path e.seen f.seen (λ done. ap (λ (h : Heard). h.seen) (told.quiet (done_pieces how path done)))
+    (subst (λ bytes. Says e.seen bytes f.seen) (joined-status how path) (Told-says told before))
 
-pub PutsPieces-status : (how : Status) (path : List ℕ) (r : Result Unit Failed) (s t : SinkSeen) → (how ≡ status.Done → ⊥) → PutsPieces r s (status_pieces how path) t → SaysStatus how path s t
-PutsPieces-status how path r s t some put =
-    says_status how path s t some (subst (λ bytes. Says s bytes t) (joined-status how path) (PutsPieces-says r s t (status_pieces how path) put))
+-- and of what is told before it
+pub Told-line : {e f : Heard} (told : List (List ℕ)) (how : Status) (path : List ℕ) → Told e (told ++ status_pieces how path) f → e.failed ≡ false
+    → Says e.seen (joined told ++ status_line how path) f.seen
+Told-line {e} {f} told how path all before =
+    subst (λ bytes. Says e.seen bytes f.seen) (joined-append told (status_pieces how path) ∙ ap (λ line. joined told ++ line) (joined-status how path))
+    (Told-says all before)

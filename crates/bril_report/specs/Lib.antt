@@ -3,3 +3,5 @@ pub mod Report
 pub mod StageFaults
 pub mod Tallies
 pub mod Stats
+pub mod Told
+pub mod Telling

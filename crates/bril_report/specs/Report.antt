@@ -1,8 +1,7 @@
 -- The number of each status, and what is said of it.
-use Rattle.std.specs.Prelude.{ℕ, ◌≡◌, ◌⊎◌, List, [], ◌∷◌, ◌++◌, Some, None, Result, Ok, Err, codes}
+use Rattle.std.specs.Prelude.{ℕ, ◌≡◌, ◌⊎◌, List, [], ◌∷◌, ◌++◌, Some, None, codes}
 use Rattle.std.specs.Fmt.{decimal}
-use Rattle.bril_outside.specs.Sink.{SinkSeen, Rose, TookAll, TookSome, PutAll, PutSome}
-use Rattle.bril_outside.specs.declared.sink.Failed.{Failed}
+use Rattle.bril_outside.specs.Sink.{SinkSeen, Rose, TookAll, TookSome}
 use Rattle.bril_tree.specs.declared.program.Prog.{Prog}
 use Rattle.bril_checker.specs.declared.fault.CheckFault.{CheckFault}
 use Rattle.bril_checker.specs.declared.fault.CheckFault.TheVariants as check
@@ -121,15 +120,6 @@ status_pieces (status.BadArgument position) path = number_pieces (codes "argumen
 status_pieces (status.UnknownPass place) path = number_pieces (codes "unknown pass ") place
 status_pieces status.OutOfMemory path = codes "out of memory\n" ∷ []
 status_pieces status.CannotWrite path = codes "cannot write\n" ∷ []
-
--- each of the pieces was put by one put, up to the last or to one whose put failed; none was put after it
-abbrev pub SaysBy : SinkSeen → List (List ℕ) → SinkSeen → Type 0
-SaysBy s pieces t = PutAll s pieces t ⊎ PutSome s pieces t
-
--- the puts of a line's pieces: all of them, or those up to one that failed
-abbrev pub PutsPieces : Result Unit Failed → SinkSeen → List (List ℕ) → SinkSeen → Type 0
-PutsPieces (Ok done) s pieces t = PutAll s pieces t
-PutsPieces (Err failed) s pieces t = PutSome s pieces t
 
 -- what is said of a status
 abbrev pub SaysStatus : Status → List ℕ → SinkSeen → SinkSeen → Type 0

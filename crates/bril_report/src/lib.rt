@@ -2,12 +2,16 @@
 //! of a run of the machine.
 #![tactic(auto)]
 
+mod error_output;
+mod outputs;
 mod report;
 mod stage_faults;
 mod stats;
 mod status;
 mod tallies;
 
+pub use error_output::ErrorOutput;
+pub use outputs::Outputs;
 pub use report::{say, say_misuse, status_number};
 pub use stats::{put_guard, put_words};
 pub use status::{SourceFault, Status};

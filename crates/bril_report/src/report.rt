@@ -1,14 +1,17 @@
 // What is told of how a command ended: its number, and its line on the error output.
 
-ghost use Rattle.std.specs.Prelude.{◌≡◌, [], ◌∷◌, ◌++◌, codes, None, Some};
+ghost use Rattle.std.specs.Prelude.{◌≡◌, false, [], ◌∷◌, ◌++◌, codes, None, Some};
+ghost use Rattle.std.specs.Fmt.{decimal};
 ghost use Rattle.bril_report.specs.Lines.{text_front, text_position, json_front, json_position, name_front, name_position, number_or_dash, position_of, variable_name, fault_line, misuse_line};
-ghost use Rattle.bril_report.specs.Report.{Says, SaysBy, status_number, SaysStatus, PutsPieces, status_pieces, position_pieces, number_pieces, misread_pieces, misnamed_pieces, item_pieces, main_pieces, unassigned_pieces, unaccepted_pieces, count_pieces, pass_pieces};
+ghost use Rattle.bril_report.specs.Report.{Says, status_number, SaysStatus, status_pieces, position_pieces, number_pieces, misread_pieces, misnamed_pieces, item_pieces, main_pieces, unassigned_pieces, unaccepted_pieces, count_pieces, pass_pieces};
+ghost use Rattle.bril_report.specs.Told.{Tells, heard};
 
+use crate::error_output::ErrorOutput;
 use crate::status::{SourceFault, Status};
 use bril_checker::CheckFault;
 use bril_json::JsonFault;
 use bril_names::NameFault;
-use bril_outside::sink::{Failed, Sink, put_three, put_two};
+use bril_outside::sink::Sink;
 use bril_text::TextFault;
 use bril_tree::limits::Fault;
 use bril_tree::program::Prog;
@@ -48,28 +51,22 @@ pub fn status_number(status: &Status) -> u8
     }
 }
 
-/// Puts the line of a status, for the file at a path, on the error output: all of it, or the first of it where the
-/// output counts a fault. Each piece of the line is one put, and none comes after one that failed. Where all was done
-/// nothing is put.
-pub fn say<E: Sink>(err: &mut E, path: &Text, status: &Status)
-    ensures line { SaysStatus status.now path.now (E.seen err.old) (E.seen err.new) }
-    ensures puts { SaysBy (E.seen err.old) (status_pieces status.now path.now) (E.seen err.new) }
+/// Puts the line of a status, for the file at a path, on the error output: all of it, or the first of it where the output
+/// counts a fault, and nothing where a put failed before. Where all was done nothing is put.
+pub fn say<E: Sink>(err: &mut ErrorOutput<'_, E>, path: &Text, status: &Status)
+    ensures line { (heard E.seen err.old).failed ≡ false → SaysStatus status.now path.now (heard E.seen err.old).seen (heard E.seen err.new).seen }
+    ensures tells { Tells E.seen err.old (status_pieces status.now path.now) err.new }
 {
-    match status {
-        Status::Done => {}
-        _ => {
-            let _ = put_status(err, path, status);
-        }
-    }
+    put_status(err, path, status);
 }
 
-/// Puts the line of words that ask for nothing on the error output: all of it, or the first of it where the output
-/// counts a fault. The line is one put.
-pub fn say_misuse<E: Sink>(err: &mut E, misuse: Misuse)
-    ensures line { Says (E.seen err.old) (misuse_line misuse) (E.seen err.new) }
-    ensures puts { SaysBy (E.seen err.old) (misuse_line misuse ∷ []) (E.seen err.new) }
+/// Puts the line of words that ask for nothing on the error output: all of it, or the first of it where the output counts a
+/// fault, and nothing where a put failed before. The line is one put.
+pub fn say_misuse<E: Sink>(err: &mut ErrorOutput<'_, E>, misuse: Misuse)
+    ensures line { (heard E.seen err.old).failed ≡ false → Says (heard E.seen err.old).seen (misuse_line misuse) (heard E.seen err.new).seen }
+    ensures tells { Tells E.seen err.old (misuse_line misuse ∷ []) err.new }
 {
-    let _ = put_line(err, misuse_line(misuse));
+    err.put(misuse_line(misuse));
 }
 
 // The line of words that ask for nothing.
@@ -94,28 +91,28 @@ fn misuse_line(misuse: Misuse) -> &'static [u8]
 }
 
 // Puts the line of a status.
-fn put_status<E: Sink>(err: &mut E, path: &Text, status: &Status) -> Result<(), Failed>
-    ensures { PutsPieces result (E.seen err.old) (status_pieces status.now path.now) (E.seen err.new) }
+fn put_status<E: Sink>(err: &mut ErrorOutput<'_, E>, path: &Text, status: &Status)
+    ensures { Tells E.seen err.old (status_pieces status.now path.now) err.new }
 {
     match status {
-        Status::Done => Ok(()),
-        Status::Faulted { fault } => put_line(err, fault_line(*fault)),
+        Status::Done => {}
+        Status::Faulted { fault } => err.put(fault_line(*fault)),
         Status::Spent { steps } => put_number(err, b"spent ", *steps),
-        Status::Misused { misuse } => put_line(err, misuse_line(*misuse)),
-        Status::Unsupported => put_two(err, path.as_bytes(), b": form\n"),
+        Status::Misused { misuse } => err.put(misuse_line(*misuse)),
+        Status::Unsupported => err.put_all(&[path.as_bytes(), b": form\n"]),
         Status::Misread { fault } => put_misread(err, path.as_bytes(), *fault),
         Status::Misnamed { fault } => put_misnamed(err, *fault),
         Status::Unaccepted { program, fault } => put_unaccepted(err, program, *fault),
-        Status::CannotRead => put_around(err, b"cannot read ", path.as_bytes()),
-        Status::FileTooBig => put_line(err, b"too large: bytes\n"),
+        Status::CannotRead => err.put_all(&[b"cannot read ", path.as_bytes(), b"\n"]),
+        Status::FileTooBig => err.put(b"too large: bytes\n"),
         Status::CodeTooBig { words } => put_number(err, b"too large: code ", *words),
         Status::StackTooBig { words } => put_number(err, b"too large: stack ", *words),
         Status::PassTooLarge { place, bound } => put_bound(err, *place, *bound),
         Status::ArgumentCount { given, wanted } => put_counts(err, *given, *wanted),
         Status::BadArgument { position } => put_number(err, b"argument ", u64::from(*position)),
         Status::UnknownPass { place } => put_number(err, b"unknown pass ", u64::from(*place)),
-        Status::OutOfMemory => put_line(err, b"out of memory\n"),
-        Status::CannotWrite => put_line(err, b"cannot write\n"),
+        Status::OutOfMemory => err.put(b"out of memory\n"),
+        Status::CannotWrite => err.put(b"cannot write\n"),
     }
 }
 
@@ -139,55 +136,38 @@ fn fault_line(fault: Fault) -> &'static [u8]
 }
 
 // Puts the line of a pass that may make too many items.
-fn put_bound<E: Sink>(err: &mut E, place: u32, bound: u64) -> Result<(), Failed>
-    ensures { PutsPieces result (E.seen err.old) (pass_pieces place bound) (E.seen err.new) }
+fn put_bound<E: Sink>(err: &mut ErrorOutput<'_, E>, place: u32, bound: u64)
+    ensures { Tells E.seen err.old (pass_pieces place bound) err.new }
 {
     let mut first = Buffer::new();
     let mut second = Buffer::new();
-    put_bounded(
-        err,
+    err.put_all(&[
+        b"too large: pass ",
         first.format(place).as_bytes(),
+        b" ",
         second.format(bound).as_bytes(),
-    )
-}
-
-// Puts the line of a pass's place and bound, both as decimals.
-fn put_bounded<E: Sink>(err: &mut E, place: &[u8], bound: &[u8]) -> Result<(), Failed>
-    ensures { PutsPieces result (E.seen err.old) (codes "too large: pass " ∷ place.now ∷ codes " " ∷ bound.now ∷ codes "\n" ∷ []) (E.seen err.new) }
-{
-    put_five(err, b"too large: pass ", place, b" ", bound, b"\n")
+        b"\n",
+    ]);
 }
 
 // Puts the line of a wrong number of arguments.
-fn put_counts<E: Sink>(err: &mut E, given: u32, wanted: u32) -> Result<(), Failed>
-    ensures { PutsPieces result (E.seen err.old) (count_pieces given wanted) (E.seen err.new) }
+fn put_counts<E: Sink>(err: &mut ErrorOutput<'_, E>, given: u32, wanted: u32)
+    ensures { Tells E.seen err.old (count_pieces given wanted) err.new }
 {
     let mut first = Buffer::new();
     let mut second = Buffer::new();
-    put_counted(
-        err,
-        first.format(given).as_bytes(),
-        second.format(wanted).as_bytes(),
-    )
-}
-
-// Puts the line of how many arguments were given and are wanted, both as decimals.
-fn put_counted<E: Sink>(err: &mut E, given: &[u8], wanted: &[u8]) -> Result<(), Failed>
-    ensures { PutsPieces result (E.seen err.old) (codes "arguments: " ∷ given.now ∷ codes " given, " ∷ wanted.now ∷ codes " wanted\n" ∷ []) (E.seen err.new) }
-{
-    put_five(
-        err,
+    err.put_all(&[
         b"arguments: ",
-        given,
+        first.format(given).as_bytes(),
         b" given, ",
-        wanted,
+        second.format(wanted).as_bytes(),
         b" wanted\n",
-    )
+    ]);
 }
 
 // Puts the line of a fault of the bytes of the file at a path.
-fn put_misread<E: Sink>(err: &mut E, path: &[u8], fault: SourceFault) -> Result<(), Failed>
-    ensures { PutsPieces result (E.seen err.old) (misread_pieces path.now fault) (E.seen err.new) }
+fn put_misread<E: Sink>(err: &mut ErrorOutput<'_, E>, path: &[u8], fault: SourceFault)
+    ensures { Tells E.seen err.old (misread_pieces path.now fault) err.new }
 {
     match fault {
         SourceFault::Text(fault) => put_text_fault(err, path, fault),
@@ -196,15 +176,15 @@ fn put_misread<E: Sink>(err: &mut E, path: &[u8], fault: SourceFault) -> Result<
 }
 
 // Puts the line of a fault of the names.
-fn put_misnamed<E: Sink>(err: &mut E, fault: NameFault) -> Result<(), Failed>
-    ensures { PutsPieces result (E.seen err.old) (misnamed_pieces fault) (E.seen err.new) }
+fn put_misnamed<E: Sink>(err: &mut ErrorOutput<'_, E>, fault: NameFault)
+    ensures { Tells E.seen err.old (misnamed_pieces fault) err.new }
 {
-    put_placed(err, name_front(fault), name_position(fault), b"\n")
+    put_placed(err, name_front(fault), name_position(fault), b"\n");
 }
 
 // Puts the line of a fault of the checker, which the program has.
-fn put_unaccepted<E: Sink>(err: &mut E, program: &Prog, fault: CheckFault) -> Result<(), Failed>
-    ensures { PutsPieces result (E.seen err.old) (unaccepted_pieces program.now fault) (E.seen err.new) }
+fn put_unaccepted<E: Sink>(err: &mut ErrorOutput<'_, E>, program: &Prog, fault: CheckFault)
+    ensures { Tells E.seen err.old (unaccepted_pieces program.now fault) err.new }
 {
     match fault {
         CheckFault::Types { func, item } => put_item(err, b"check 1 function ", func, item),
@@ -217,27 +197,27 @@ fn put_unaccepted<E: Sink>(err: &mut E, program: &Prog, fault: CheckFault) -> Re
         CheckFault::NoReturn { func, item } => put_item(err, b"check 6 function ", func, item),
         CheckFault::MainType => put_main(err, program.main),
         CheckFault::PrintPtr { func, item } => put_item(err, b"check 8 function ", func, item),
-        CheckFault::Memory => put_line(err, b"check 0 function - item -\n"),
+        CheckFault::Memory => err.put(b"check 0 function - item -\n"),
     }
 }
 
 // Puts the line of a `main` that returns a value or takes a pointer.
-fn put_main<E: Sink>(err: &mut E, main: u32) -> Result<(), Failed>
-    ensures { PutsPieces result (E.seen err.old) (main_pieces main) (E.seen err.new) }
+fn put_main<E: Sink>(err: &mut ErrorOutput<'_, E>, main: u32)
+    ensures { Tells E.seen err.old (main_pieces main) err.new }
 {
-    put_placed(err, b"check 7 function ", function_position(main), b"\n")
+    put_placed(err, b"check 7 function ", function_position(main), b"\n");
 }
 
 // Puts a piece, a function and an item, and LF.
-fn put_item<E: Sink>(err: &mut E, front: &[u8], func: u32, item: u32) -> Result<(), Failed>
-    ensures { PutsPieces result (E.seen err.old) (item_pieces front.now func item) (E.seen err.new) }
+fn put_item<E: Sink>(err: &mut ErrorOutput<'_, E>, front: &[u8], func: u32, item: u32)
+    ensures { Tells E.seen err.old (item_pieces front.now func item) err.new }
 {
-    put_placed(err, front, item_position(func, item), b"\n")
+    put_placed(err, front, item_position(func, item), b"\n");
 }
 
 // Puts the line of a variable of this name that may be unassigned.
-fn put_unassigned<E: Sink>(err: &mut E, name: &[u8], func: u32, item: u32) -> Result<(), Failed>
-    ensures { PutsPieces result (E.seen err.old) (unassigned_pieces name.now func item) (E.seen err.new) }
+fn put_unassigned<E: Sink>(err: &mut ErrorOutput<'_, E>, name: &[u8], func: u32, item: u32)
+    ensures { Tells E.seen err.old (unassigned_pieces name.now func item) err.new }
 {
     put_named(
         err,
@@ -245,24 +225,21 @@ fn put_unassigned<E: Sink>(err: &mut E, name: &[u8], func: u32, item: u32) -> Re
         item_position(func, item),
         b" variable ",
         name,
-    )
+    );
 }
 
 // Puts a piece, a position and what follows it, a name, and LF.
 fn put_named<E: Sink>(
-    err: &mut E,
+    err: &mut ErrorOutput<'_, E>,
     front: &[u8],
     position: FaultPlace,
     rest: &[u8],
     name: &[u8],
-) -> Result<(), Failed>
-    ensures { PutsPieces result (E.seen err.old) (front.now ∷ (position_pieces position rest.now ++ name.now ∷ codes "\n" ∷ [])) (E.seen err.new) }
+)
+    ensures { Tells E.seen err.old (front.now ∷ (position_pieces position rest.now ++ name.now ∷ codes "\n" ∷ [])) err.new }
 {
-    put_placed(err, front, position, rest)?;
-    match put_two(err, name, b"\n") {
-        Ok(()) => Ok(()),
-        Err(Failed) => Err(Failed),
-    }
+    put_placed(err, front, position, rest);
+    err.put_all(&[name, b"\n"]);
 }
 
 // The name of a variable of a function.
@@ -279,54 +256,46 @@ fn variable_name(program: &Prog, func: u32, var: u32) -> &[u8]
 }
 
 // Puts the line of a fault of the text of the file at a path.
-fn put_text_fault<E: Sink>(err: &mut E, path: &[u8], fault: TextFault) -> Result<(), Failed>
-    ensures { PutsPieces result (E.seen err.old) (misread_pieces path.now (SourceFault.Text fault)) (E.seen err.new) }
+fn put_text_fault<E: Sink>(err: &mut ErrorOutput<'_, E>, path: &[u8], fault: TextFault)
+    ensures { Tells E.seen err.old (misread_pieces path.now (SourceFault.Text fault)) err.new }
+{
+    put_at(err, path, text_front(fault), text_position(fault));
+}
+
+// Puts a path, a piece, the byte at which a fault stands, and LF.
+fn put_at<E: Sink>(err: &mut ErrorOutput<'_, E>, path: &[u8], front: &[u8], at: u32)
+    ensures { Tells E.seen err.old (path.now ∷ front.now ∷ decimal at ∷ codes "\n" ∷ []) err.new }
 {
     let mut buffer = Buffer::new();
-    put_four(
-        err,
-        path,
-        text_front(fault),
-        buffer.format(text_position(fault)).as_bytes(),
-        b"\n",
-    )
+    err.put_all(&[path, front, buffer.format(at).as_bytes(), b"\n"]);
 }
 
 // Puts a path, a piece, a position and LF.
-fn put_after<E: Sink>(
-    err: &mut E,
-    path: &[u8],
-    front: &[u8],
-    position: FaultPlace,
-) -> Result<(), Failed>
-    ensures { PutsPieces result (E.seen err.old) (path.now ∷ front.now ∷ position_pieces position (codes "\n")) (E.seen err.new) }
+fn put_after<E: Sink>(err: &mut ErrorOutput<'_, E>, path: &[u8], front: &[u8], position: FaultPlace)
+    ensures { Tells E.seen err.old (path.now ∷ front.now ∷ position_pieces position (codes "\n")) err.new }
 {
-    err.put(path)?;
-    match put_placed(err, front, position, b"\n") {
-        Ok(()) => Ok(()),
-        Err(Failed) => Err(Failed),
-    }
+    err.put(path);
+    put_placed(err, front, position, b"\n");
 }
 
 // Puts a piece, a position and what follows it.
 fn put_placed<E: Sink>(
-    err: &mut E,
+    err: &mut ErrorOutput<'_, E>,
     front: &[u8],
     position: FaultPlace,
     rest: &[u8],
-) -> Result<(), Failed>
-    ensures { PutsPieces result (E.seen err.old) (front.now ∷ position_pieces position rest.now) (E.seen err.new) }
+)
+    ensures { Tells E.seen err.old (front.now ∷ position_pieces position rest.now) err.new }
 {
     let mut func = Buffer::new();
     let mut item = Buffer::new();
-    put_five(
-        err,
+    err.put_all(&[
         front,
         number_or_dash(&mut func, position.func),
         b" item ",
         number_or_dash(&mut item, position.item),
         rest,
-    )
+    ]);
 }
 
 // The position of an item.
@@ -452,53 +421,10 @@ fn text_position(fault: TextFault) -> u32
     }
 }
 
-// Puts four pieces.
-fn put_four<E: Sink>(err: &mut E, a: &[u8], b: &[u8], c: &[u8], d: &[u8]) -> Result<(), Failed>
-    ensures { PutsPieces result (E.seen err.old) (a.now ∷ b.now ∷ c.now ∷ d.now ∷ []) (E.seen err.new) }
-{
-    put_two(err, a, b)?;
-    match put_two(err, c, d) {
-        Ok(()) => Ok(()),
-        Err(Failed) => Err(Failed),
-    }
-}
-
-// Puts five pieces.
-pub(crate) fn put_five<E: Sink>(
-    err: &mut E,
-    a: &[u8],
-    b: &[u8],
-    c: &[u8],
-    d: &[u8],
-    e: &[u8],
-) -> Result<(), Failed>
-    ensures { PutsPieces result (E.seen err.old) (a.now ∷ b.now ∷ c.now ∷ d.now ∷ e.now ∷ []) (E.seen err.new) }
-{
-    put_two(err, a, b)?;
-    match put_three(err, c, d, e) {
-        Ok(()) => Ok(()),
-        Err(Failed) => Err(Failed),
-    }
-}
-
-// Puts a line that is one piece.
-fn put_line<E: Sink>(err: &mut E, line: &[u8]) -> Result<(), Failed>
-    ensures { PutsPieces result (E.seen err.old) (line.now ∷ []) (E.seen err.new) }
-{
-    err.put(line)
-}
-
-// Puts two pieces and LF.
-fn put_around<E: Sink>(err: &mut E, front: &[u8], back: &[u8]) -> Result<(), Failed>
-    ensures { PutsPieces result (E.seen err.old) (front.now ∷ back.now ∷ codes "\n" ∷ []) (E.seen err.new) }
-{
-    put_three(err, front, back, b"\n")
-}
-
 // Puts a line that ends with a number.
-pub(crate) fn put_number<E: Sink>(err: &mut E, front: &[u8], number: u64) -> Result<(), Failed>
-    ensures { PutsPieces result (E.seen err.old) (number_pieces front.now number) (E.seen err.new) }
+pub(crate) fn put_number<E: Sink>(err: &mut ErrorOutput<'_, E>, front: &[u8], number: u64)
+    ensures { Tells E.seen err.old (number_pieces front.now number) err.new }
 {
     let mut buffer = Buffer::new();
-    put_around(err, front, buffer.format(number).as_bytes())
+    err.put_all(&[front, buffer.format(number).as_bytes(), b"\n"]);
 }

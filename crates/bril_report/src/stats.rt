@@ -1,52 +1,43 @@
 // What is told of the counts of a run of the machine.
 
-ghost use Rattle.std.specs.Prelude.{◌≡◌, [], ◌∷◌, codes};
-ghost use Rattle.bril_report.specs.Report.{PutsPieces};
+ghost use Rattle.std.specs.Prelude.{◌≡◌};
 ghost use Rattle.bril_report.specs.Stats.{words_pieces, guard_pieces, function_name};
+ghost use Rattle.bril_report.specs.Told.{Tells};
 
-use crate::report::{put_five, put_number};
-use bril_outside::sink::{Failed, Sink, put_two};
+use crate::error_output::ErrorOutput;
+use crate::report::put_number;
+use bril_outside::sink::Sink;
 use bril_tree::program::Prog;
 use itoa::Buffer;
 
-/// Puts the line that tells how many words were executed on the error output. Each piece of the line is one put, and none
-/// comes after one that failed.
-pub fn put_words<E: Sink>(err: &mut E, words: u64) -> Result<(), Failed>
-    ensures { PutsPieces result (E.seen err.old) (words_pieces words) (E.seen err.new) }
+/// Puts the line that tells how many words were executed on the error output.
+pub fn put_words<E: Sink>(err: &mut ErrorOutput<'_, E>, words: u64)
+    ensures { Tells E.seen err.old (words_pieces words) err.new }
 {
-    put_number(err, b"words ", words)
+    put_number(err, b"words ", words);
 }
 
-/// Puts the line that tells how often the guard at an item of a function failed on the error output. Each piece of the line
-/// is one put, and none comes after one that failed.
+/// Puts the line that tells how often the guard at an item of a function failed on the error output.
 pub fn put_guard<E: Sink>(
-    err: &mut E,
+    err: &mut ErrorOutput<'_, E>,
     program: &Prog,
     func: u32,
     item: u32,
     fails: u64,
-) -> Result<(), Failed>
-    ensures { PutsPieces result (E.seen err.old) (guard_pieces (function_name program.now func) item fails) (E.seen err.new) }
+)
+    ensures { Tells E.seen err.old (guard_pieces (function_name program.now func) item fails) err.new }
 {
     let mut number = Buffer::new();
     let mut count = Buffer::new();
-    put_failures(
-        err,
+    err.put_all(&[
+        b"guard @",
         function_name(program, func),
+        b" ",
         number.format(item).as_bytes(),
+        b" fails ",
         count.format(fails).as_bytes(),
-    )
-}
-
-// Puts the line of a guard, its item and its failures as decimals.
-fn put_failures<E: Sink>(err: &mut E, name: &[u8], item: &[u8], fails: &[u8]) -> Result<(), Failed>
-    ensures { PutsPieces result (E.seen err.old) (codes "guard @" ∷ name.now ∷ codes " " ∷ item.now ∷ codes " fails " ∷ fails.now ∷ codes "\n" ∷ []) (E.seen err.new) }
-{
-    put_five(err, b"guard @", name, b" ", item, b" fails ")?;
-    match put_two(err, fails, b"\n") {
-        Ok(()) => Ok(()),
-        Err(Failed) => Err(Failed),
-    }
+        b"\n",
+    ]);
 }
 
 // The name of a function.

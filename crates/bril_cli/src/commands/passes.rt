@@ -1,18 +1,18 @@
 // `passes`: the program that a list of passes makes of an accepted program is written, in canonical text.
 
-ghost use Rattle.std.specs.Prelude.{◌≡◌, ◌≤◌, false, [], length, IfOk};
+ghost use Rattle.std.specs.Prelude.{◌≡◌, ◌≤◌, [], length, IfOk};
 ghost use Rattle.bril_commands.specs.Driver.{DoesProgram};
 ghost use Rattle.bril_commands.specs.PassList.{pass_list};
-ghost use Rattle.bril_commands.specs.Stats.{Telling};
 ghost use Rattle.bril_commands.specs.commands.Passes.{IsTextOf, transforms};
 ghost use Rattle.bril_report.specs.StageFaults.{status_of};
+ghost use Rattle.bril_report.specs.Telling.{Telling};
 ghost use Rattle.pass_law.specs.Chains.{AllSame};
 
 use bril_checker::Checked;
 use bril_commands::list::{tell_tallies, transformed};
 use bril_names::unnumber;
 use bril_outside::sink::Sink;
-use bril_report::Status;
+use bril_report::{Outputs, Status};
 use bril_text::write_text;
 use bril_tree::bytes::Bytes;
 use bril_tree::program::Prog;
@@ -22,7 +22,7 @@ use pass_law::Pass;
 use std::alloc::{AllocError, Global};
 
 /// Puts the canonical text of the program that a list of passes makes of an accepted program on the output. After that the tallies of
-/// the passes that the list used are told on `err`; `silenced` becomes true where a put of them failed.
+/// the passes that the list used are told on the error output.
 ///
 /// `UnknownPass`, `PassTooLarge`: the list makes no program. With these, and out of memory, nothing is put and nothing is told.
 /// `CannotWrite`: the write failed, and the tallies are told.
@@ -31,23 +31,18 @@ pub fn put_transformed<O: Sink, E: Sink>(
     checked: Checked,
     passes: &mut [Box<dyn Pass>],
     names: &Seq<Text>,
-    out: &mut O,
-    err: &mut E,
-    silenced: &mut bool,
+    outputs: &mut Outputs<'_, O, E>,
 ) -> Result<(), Status>
-    requires few { length names.now ≤ 64 }
-    requires sound { silenced.old ≡ false }
-    ensures does { Telling (λ told. DoesProgram transforms (status_of result) (pass_list (λ p. meaning p) (λ p. counts p) passes.old passes.new names.now) checked.prog [] told (O.seen out.old) (O.seen out.new)) silenced.new (E.seen err.old) (E.seen err.new) }
+    requires { length names.now ≤ 64 }
+    ensures does { Telling O.seen E.seen (λ told s t. DoesProgram transforms (status_of result) (pass_list (λ p. meaning p) (λ p. counts p) passes.old passes.new names.now) checked.prog [] told s t) outputs.old outputs.new }
     ensures same { AllSame (λ p. meaning p) passes.old passes.new }
 {
     let made = transformed(alloc, passes, names, checked)?;
     let text = text_of(alloc, made.prog())?;
-    let put = out.put(text.as_slice());
-    tell_tallies(passes, names.as_slice(), err, silenced);
-    match put {
-        Ok(()) => Ok(()),
-        Err(_) => Err(Status::CannotWrite),
-    }
+    let put = outputs.out.put(text.as_slice());
+    tell_tallies(passes, names.as_slice(), &mut outputs.err);
+    put?;
+    Ok(())
 }
 
 // The canonical text of a program.

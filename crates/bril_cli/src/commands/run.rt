@@ -1,13 +1,16 @@
 // `run`: an accepted program is made into machine words, which the machine executes.
 
-ghost use Rattle.std.specs.Prelude.{◌≡◌, ◌⊎◌, ◌≤◌, false, length};
+ghost use Rattle.std.specs.Prelude.{◌≡◌, ◌⊎◌, ◌≤◌, [], length, IfOk, IfErr};
 ghost use Rattle.bril_commands.specs.Command.{ImageFor, Fits, RefusesEmission};
 ghost use Rattle.bril_commands.specs.Driver.{DoesProgram, IsSilent};
-ghost use Rattle.bril_commands.specs.Outcome.{Works};
+ghost use Rattle.bril_cli.specs.Machines.{IsFresh};
+ghost use Rattle.bril_commands.specs.Outcome.{ShowsWhole, Works, end_status};
 ghost use Rattle.bril_commands.specs.PassList.{pass_list};
-ghost use Rattle.bril_commands.specs.Stats.{Telling};
+ghost use Rattle.bril_commands.specs.Stats.{stats_told};
 ghost use Rattle.bril_commands.specs.commands.Run.{executed, runs};
 ghost use Rattle.bril_report.specs.StageFaults.{status_of};
+ghost use Rattle.bril_report.specs.Telling.{Telling};
+ghost use Rattle.rv64_machine.specs.MachineView.{image_in, state_of};
 ghost use Rattle.pass_law.specs.Chains.{AllSame};
 ghost use Rattle.bril_tree.specs.Run.{FitMain};
 ghost use Rattle.rv64_implements.specs.Implements.{Implements};
@@ -19,7 +22,7 @@ use bril_checker::Checked;
 use bril_commands::arguments::values_of;
 use bril_commands::list::transformed;
 use bril_outside::sink::Sink;
-use bril_report::Status;
+use bril_report::{Outputs, Status};
 use bril_tree::limits::{End, Limits};
 use bril_tree::program::Prog;
 use bril_tree::sequence::Seq;
@@ -40,8 +43,8 @@ pub struct RunSettings {
 }
 
 /// Gives the program to a list of passes, and runs what this makes on the machine under the limits, for so many words of it, with the
-/// values that the words of the command line spell as the arguments of its `main`: what it prints goes to `out`. After the run its
-/// counts are told on `err`, where that is asked for; `silenced` becomes true where a put of them failed.
+/// values that the words of the command line spell as the arguments of its `main`: what it prints goes to the output. After the run its
+/// counts are told on the error output, where that is asked for.
 ///
 /// `ArgumentCount`, `BadArgument`: the words of the command line spell no such values. `UnknownPass`, `PassTooLarge`: the list makes no
 /// program. `CodeTooBig`, `StackTooBig`: what it makes may have more than 250,000 words, or needs more than 8,388,608 words of stack.
@@ -54,26 +57,15 @@ pub fn run<O: Sink, E: Sink>(
     settings: RunSettings,
     passes: &mut [Box<dyn Pass>],
     names: &Seq<Text>,
-    out: &mut O,
-    err: &mut E,
-    silenced: &mut bool,
+    outputs: &mut Outputs<'_, O, E>,
 ) -> Result<(), Status>
-    requires few { length names.now ≤ 64 }
-    requires sound { silenced.old ≡ false }
-    ensures does { Telling (λ told. DoesProgram (runs settings.limits.frames settings.limits.cells settings.steps settings.stats) (status_of result) (pass_list (λ p. meaning p) (λ p. counts p) passes.old passes.new names.now) checked.prog words.now told (O.seen out.old) (O.seen out.new)) silenced.new (E.seen err.old) (E.seen err.new) }
+    requires { length names.now ≤ 64 }
+    ensures does { Telling O.seen E.seen (λ told s t. DoesProgram (runs settings.limits.frames settings.limits.cells settings.steps settings.stats) (status_of result) (pass_list (λ p. meaning p) (λ p. counts p) passes.old passes.new names.now) checked.prog words.now told s t) outputs.old outputs.new }
     ensures same { AllSame (λ p. meaning p) passes.old passes.new }
 {
     let values = values_of(alloc, checked.prog(), words)?;
     let made = transformed(alloc, passes, names, checked)?;
-    run_with(
-        alloc,
-        &made,
-        values.as_slice(),
-        settings,
-        out,
-        err,
-        silenced,
-    )
+    run_with(alloc, &made, values.as_slice(), settings, outputs)
 }
 
 // Makes the program's image and runs it with these values.
@@ -82,44 +74,29 @@ fn run_with<O: Sink, E: Sink>(
     checked: &Checked,
     values: &[Value],
     settings: RunSettings,
-    out: &mut O,
-    err: &mut E,
-    silenced: &mut bool,
+    outputs: &mut Outputs<'_, O, E>,
 ) -> Result<(), Status>
-    requires fits { FitMain checked.now.prog values.now }
-    requires sound { silenced.old ≡ false }
-    ensures { Telling (λ told. (RefusesEmission (ImageFor settings.limits.frames settings.limits.cells) (status_of result) checked.now.prog × IsSilent told (O.seen out.old) (O.seen out.new)) ⊎ (Fits (ImageFor settings.limits.frames settings.limits.cells) checked.now.prog × Works (executed checked.now.prog settings.limits values.now settings.steps settings.stats) (status_of result) told (O.seen out.old) (O.seen out.new))) silenced.new (E.seen err.old) (E.seen err.new) }
+    requires { FitMain checked.now.prog values.now }
+    ensures { Telling O.seen E.seen (λ told s t. (RefusesEmission (ImageFor settings.limits.frames settings.limits.cells) (status_of result) checked.now.prog × IsSilent told s t) ⊎ (Fits (ImageFor settings.limits.frames settings.limits.cells) checked.now.prog × Works (executed checked.now.prog settings.limits values.now settings.steps settings.stats) (status_of result) told s t)) outputs.old outputs.new }
 {
     let image = image_of(alloc, checked, settings.limits)?;
-    run_image(
-        alloc,
-        &image,
-        checked.prog(),
-        values,
-        settings,
-        out,
-        err,
-        silenced,
-    )
+    run_image(alloc, &image, checked.prog(), values, settings, outputs)
 }
 
-// Runs an image that implements the program.
+// Runs an image that implements the program, and tells its counts once it has stopped or gone on to the end of the steps.
 fn run_image<O: Sink, E: Sink>(
     alloc: Global,
     image: &Image,
     program: &Prog,
     values: &[Value],
     settings: RunSettings,
-    out: &mut O,
-    err: &mut E,
-    silenced: &mut bool,
+    outputs: &mut Outputs<'_, O, E>,
 ) -> Result<(), Status>
     requires implements { Implements image.now program.now settings.limits }
     requires fits { FitMain program.now values.now }
     requires words { length image.now.words ≤ most_words }
     requires stack { image.now.stack ≤ most_stack }
-    requires sound { silenced.old ≡ false }
-    ensures { Telling (λ told. Works (executed program.now settings.limits values.now settings.steps settings.stats) (status_of result) told (O.seen out.old) (O.seen out.new)) silenced.new (E.seen err.old) (E.seen err.new) }
+    ensures { Telling O.seen E.seen (λ told s t. Works (executed program.now settings.limits values.now settings.steps settings.stats) (status_of result) told s t) outputs.old outputs.new }
 {
     let guards = image.guards.as_slice();
     // No image has as many guards.
@@ -129,22 +106,42 @@ fn run_image<O: Sink, E: Sink>(
     let Ok(mut machine) = Machine::new(alloc, image, values, settings.limits) else {
         return Err(Status::OutOfMemory);
     };
+    let ended = execute(image, program, values, settings, &mut machine, outputs.out)?;
+    tell_stats(settings.stats, program, guards, &machine, &mut outputs.err);
+    answer(ended, settings.steps)
+}
+
+// Executes so many words of the image. `Ok`: how the machine ended, or that it goes on, for `None`.
+fn execute<O: Sink>(
+    image: &Image,
+    program: &Prog,
+    values: &[Value],
+    settings: RunSettings,
+    machine: &mut Machine,
+    out: &mut O,
+) -> Result<Option<End>, Status>
+    requires implements { Implements image.now program.now settings.limits }
+    requires fits { FitMain program.now values.now }
+    requires fresh { IsFresh machine.old image.now settings.limits values.now }
+    ensures image { image_in machine.new ≡ image_in machine.old }
+    ensures ok { IfOk result (λ ended. ShowsWhole (executed program.now settings.limits values.now settings.steps settings.stats) ended (stats_told settings.stats program.now image.now.guards (state_of machine.new)) (O.seen out.old) (O.seen out.new)) }
+    ensures err { IfErr result (λ status. Works (executed program.now settings.limits values.now settings.steps settings.stats) status [] (O.seen out.old) (O.seen out.new)) }
+{
     match machine.run(settings.steps, out) {
-        RunAnswer::End(End::Ended) => {
-            tell_stats(settings.stats, program, guards, &machine, err, silenced);
-            Ok(())
-        }
-        RunAnswer::End(End::Faulted(fault)) => {
-            tell_stats(settings.stats, program, guards, &machine, err, silenced);
-            Err(Status::Faulted { fault })
-        }
-        RunAnswer::Spent => {
-            tell_stats(settings.stats, program, guards, &machine, err, silenced);
-            Err(Status::Spent {
-                steps: settings.steps,
-            })
-        }
+        RunAnswer::End(end) => Ok(Some(end)),
+        RunAnswer::Spent => Ok(None),
         RunAnswer::WriteFault => Err(Status::CannotWrite),
         RunAnswer::Trap(_) => unreachable!(),
+    }
+}
+
+// What is answered where the machine ended so, or goes on after so many words.
+fn answer(ended: Option<End>, steps: u64) -> Result<(), Status>
+    ensures { status_of result ≡ end_status ended steps }
+{
+    match ended {
+        Some(End::Ended) => Ok(()),
+        Some(End::Faulted(fault)) => Err(Status::Faulted { fault }),
+        None => Err(Status::Spent { steps }),
     }
 }

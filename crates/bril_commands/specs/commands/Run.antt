@@ -22,7 +22,7 @@ pub record ShowsRun (p : Prog) (limits : Limits) (values : List Value) (words : 
   pub program : ProgramShows p limits values words ended output
 
 -- the same, and this is told of it
-pub record Executes (p : Prog) (limits : Limits) (values : List Value) (words : ℕ) (stats : Bool) (ended : Option End) (told output : List ℕ) : Type 0 where
+pub record Executes (p : Prog) (limits : Limits) (values : List Value) (words : ℕ) (stats : Bool) (ended : Option End) (told : List (List ℕ)) (output : List ℕ) : Type 0 where
   pub shows : ShowsRun p limits values words ended output
   pub tells : TellsStats stats shows.machine.image p limits values words ended told
 
@@ -33,7 +33,7 @@ executed p limits values words stats = record { steps = words; Shows = Executes 
 -- A program was made of a source, and this is what so many words of it come to, and what they say of the source. Where the source has
 -- ended after n steps, and the words are at least the cost of a step of the program that was made, times the factor, times n + 1, the
 -- machine has this end, and has printed just what the source printed.
-pub record RunShows (source made : Prog) (IsFactor : ℕ → Type 0) (values : List Value) (frames cells words : ℕ) (stats : Bool) (ended : Option End) (told output : List ℕ) : Type 0 where
+pub record RunShows (source made : Prog) (IsFactor : ℕ → Type 0) (values : List Value) (frames cells words : ℕ) (stats : Bool) (ended : Option End) (told : List (List ℕ)) (output : List ℕ) : Type 0 where
   pub limits : Limits
   pub are : AreLimitsOf (ImageFor frames cells) limits
   pub executes : Executes made limits values words stats ended told output

@@ -1,34 +1,53 @@
 -- The file was not read, or not as a tree, or its tree was dealt with.
-use Rattle.std.proofs.Common.{[], refl, inl, inr, rules}
+use Rattle.std.proofs.Common.{ℕ, List, [], refl, inl, inr, subst, rules}
 use Rattle.std.proofs.lemmas.Result.{err_from_is_err_and}
 use Rattle.bril_commands.proofs.Keeping.{kept}
-use Rattle.bril_commands.proofs.Telling.{untold}
 use Rattle.bril_commands.specs.Command.{takes_passes}
 use Rattle.bril_commands.specs.CommandLine.{format_of}
+use Rattle.bril_commands.specs.Driver.{DoesTree}
+use Rattle.bril_commands.specs.PassList.{pass_list}
 use Rattle.bril_commands.specs.Source.{IsOnlyTree}
 use Rattle.bril_commands.specs.Stages.{RefusesTree}
 use Rattle.bril_commands.specs.Table.{command}
+use Rattle.bril_report.proofs.Telling.{Telling-none}
+use Rattle.bril_report.specs.StageFaults.{status_of}
 use Rattle.bril_cli.proofs.driver.drive.Goals as goal
+
+pub returns-in_err-names-clause-does : goal.returns-in_err-names-clause-does
+returns-in_err-names-clause-does g c =
+    let e = err_from_is_err_and c.from_residual.result c.from_residual.ensures.1 in
+    rw (e.1, e.2) (Telling-none g.O.Sink.seen g.E.Sink.seen _ c.args.outputs.now (inl (tt, (refl, refl))))
 
 pub returns-in_err-source-clause-does : goal.returns-in_err-source-clause-does
 returns-in_err-source-clause-does g c =
-    let e = err_from_is_err_and c.from_residual.result c.from_residual.ensures.1 in
-    rw (e.1, e.2) ([], inl (c.in_err-source.ensures.err, (refl, refl)), untold c.args.silenced.now _ c.requires.sound)
+    let e = err_from_is_err_and c.from_residual-in_err-source.result c.from_residual-in_err-source.ensures.1 in
+    rw (e.1, e.2) (Telling-none g.O.Sink.seen g.E.Sink.seen _ c.args.outputs.now (inl (c.in_err-source.ensures.err, (refl, refl))))
 
 pub returns-in_err-tree-clause-does : goal.returns-in_err-tree-clause-does
 returns-in_err-tree-clause-does g c =
     let e = err_from_is_err_and c.from_residual-in_err-tree.result c.from_residual-in_err-tree.ensures.1 in
     let refuses : RefusesTree c.in_err-tree.field-0.0 (format_of c.args.request.path.now) c.in_ok-source.source = search rules in
-    rw (e.1, e.2) ([], inr (c.in_ok-source.source, c.in_ok-source.ensures.ok, inl (refuses, (refl, refl))), untold c.args.silenced.now _ c.requires.sound)
+    rw (e.1, e.2) (Telling-none g.O.Sink.seen g.E.Sink.seen _ c.args.outputs.now (inr (c.in_ok-source.source, c.in_ok-source.ensures.ok, inl (refuses, (refl, refl)))))
 
 pub returns-clause-does : goal.returns-clause-does
 returns-clause-does g c =
     let does = c.do_command.ensures.does in
     let only : IsOnlyTree (format_of c.args.request.path.now) c.in_ok-source.source c.in_ok-tree.tree = search rules in
-    (does.0, inr (c.in_ok-source.source, c.in_ok-source.ensures.ok, inr (c.in_ok-tree.tree, only, does.1)), does.2)
+    let named = subst (λ (names : List (List ℕ)). DoesTree (command c.args.request.action) (status_of c.do_command.result)
+        (pass_list (λ p. (goal.Pass-dyn g (p.vtable, p.value)).meaning p.value) (λ p. (goal.Pass-dyn g (p.vtable, p.value)).counts p.value) c.args.passes.now c.do_command.new.passes names)
+        c.in_ok-tree.tree c.args.request.args.now does.told (g.O.Sink.seen c.args.outputs.now.out.now) (g.O.Sink.seen c.do_command.new.outputs.out.now)) c.in_ok-names.ensures does.does in
+    record {
+      same_output = does.same_output;
+      told = does.told;
+      does = inr (c.in_ok-source.source, c.in_ok-source.ensures.ok, inr (c.in_ok-tree.tree, only, named));
+      tells = does.tells;
+    }
 
 pub returns-in_err-source-clause-keeps : goal.returns-in_err-source-clause-keeps
 returns-in_err-source-clause-keeps g c = kept (λ p. (goal.Pass-dyn g (p.vtable, p.value)).meaning p.value) (takes_passes (command c.args.request.action)) c.args.passes.now
 
 pub returns-in_err-tree-clause-keeps : goal.returns-in_err-tree-clause-keeps
 returns-in_err-tree-clause-keeps g c = kept (λ p. (goal.Pass-dyn g (p.vtable, p.value)).meaning p.value) (takes_passes (command c.args.request.action)) c.args.passes.now
+
+pub returns-in_err-names-clause-keeps : goal.returns-in_err-names-clause-keeps
+returns-in_err-names-clause-keeps g c = kept (λ p. (goal.Pass-dyn g (p.vtable, p.value)).meaning p.value) (takes_passes (command c.args.request.action)) c.args.passes.now

@@ -1,12 +1,8 @@
--- The pieces of the guards so far were put.
-use Rattle.std.proofs.Common.{◌++◌, take}
-use Rattle.std.specs.List.{flat_map}
-use Rattle.bril_outside.specs.Sink.{PutAll}
-use Rattle.bril_report.specs.Stats.{words_pieces}
+-- The pieces of the guards so far were told.
+use Rattle.bril_report.specs.Told.{Tells}
 use Rattle.rv64_machine.specs.MachineView.{state_of}
-use Rattle.bril_commands.specs.Stats.{guard_told}
+use Rattle.bril_commands.proofs.Counts.{pieces_to}
 use Rattle.bril_cli.proofs.stats.put_stats.Given as goal
 
 abbrev pub invariant-loop-number : goal.invariant-loop-number
-invariant-loop-number g l =
-    PutAll (g.E.Sink.seen l.fn.err) (words_pieces (state_of l.machine).done ++ flat_map (guard_told l.program (state_of l.machine)) (take l.number l.guards)) (g.E.Sink.seen l.err)
+invariant-loop-number g l = Tells g.E.Sink.seen l.fn.err (pieces_to l.program (state_of l.machine) l.guards l.number) l.err

@@ -1,16 +1,6 @@
--- The name is put after what stands before it.
-use Rattle.std.proofs.Common.{[], ◌∷◌, codes}
-use Rattle.std.proofs.lemmas.Result.{err_from_is_err_and}
-use Rattle.bril_outside.proofs.SinkWrites.{PutAll-append, PutSome-longer, PutSome-after}
+-- The name is told after what stands before it.
+use Rattle.bril_report.proofs.Telling.{Tells-append}
 use Rattle.bril_report.proofs.report.put_named.Goals as goal
 
-pub returns-in_err-put_placed : goal.returns-in_err-put_placed
-returns-in_err-put_placed g c =
-    let is = err_from_is_err_and c.from_residual.result c.from_residual.ensures.1 in
-    rw is.1 (PutSome-longer (c.args.name.now ∷ codes "\n" ∷ []) c.in_err-put_placed.ensures)
-
-pub returns-in-Ok : goal.returns-in-Ok
-returns-in-Ok g c = PutAll-append c.in_ok-put_placed.ensures c.in-Ok.ensures.ok
-
-pub returns-in-Err : goal.returns-in-Err
-returns-in-Err g c = PutSome-after c.in_ok-put_placed.ensures c.in-Err.ensures.err
+pub returns : goal.returns
+returns g c = Tells-append g.E.Sink.seen c.put_placed.ensures c.put_all.ensures

@@ -19,7 +19,7 @@ returns-in_err-image-clause-does g c =
 pub returns-clause-does : goal.returns-clause-does
 returns-clause-does g c =
     let put = rw c.as_slice.ensures at c.put_words.ensures in
-    let shows = record { limits = c.args.limits; are = (refl, refl); image = c.in_ok-image.image; implements = c.in_ok-image.ensures.implements; text = refl } in
+    let shows : ShowsImage shown c.in_ok-made.made.prog c.args.limits.frames c.args.limits.cells (listing c.in_ok-image.image.words) = record { limits = c.args.limits; are = (refl, refl); image = c.in_ok-image.image; implements = c.in_ok-image.ensures.implements; text = refl } in
     inr ([], refl, inr (
       c.in_ok-made.made.prog,
       c.in_ok-made.ensures.ok,

@@ -3,10 +3,11 @@ use Rattle.std.proofs.Common.{[], refl, inl, inr, ⊎_elim}
 use Rattle.std.proofs.lemmas.Result.{err_from_is_err_and}
 use Rattle.bril_commands.proofs.Running.{run_shows}
 use Rattle.bril_commands.proofs.Sources.{fits_made}
-use Rattle.bril_commands.proofs.Telling.{untold}
 use Rattle.bril_commands.proofs.Works.{Works-as}
 use Rattle.bril_commands.specs.Driver.{subject}
 use Rattle.bril_commands.specs.commands.Run.{executed, ran, runs}
+use Rattle.bril_commands.specs.PassList.{pass_list}
+use Rattle.bril_report.proofs.Telling.{Telling-none}
 use Rattle.bril_report.specs.StageFaults.{status_of}
 use Rattle.pass_law.proofs.Same.{AllSame-refl}
 use Rattle.bril_cli.proofs.commands.run.run.Goals as goal
@@ -14,19 +15,20 @@ use Rattle.bril_cli.proofs.commands.run.run.Goals as goal
 pub returns-in_err-values-clause-does : goal.returns-in_err-values-clause-does
 returns-in_err-values-clause-does g c =
     let e = err_from_is_err_and c.from_residual.result c.from_residual.ensures.1 in
-    rw (e.1, e.2) ([], inl (rw c.prog.ensures.value at c.in_err-values.ensures.err, (refl, refl)), untold c.args.silenced.now _ c.requires.sound)
+    rw (e.1, e.2) (Telling-none g.O.Sink.seen g.E.Sink.seen _ c.args.outputs.now (inl (rw c.prog.ensures.value at c.in_err-values.ensures.err, (refl, refl))))
 
 pub returns-in_err-made-clause-does : goal.returns-in_err-made-clause-does
 returns-in_err-made-clause-does g c =
     let e = err_from_is_err_and c.from_residual-in_err-made.result c.from_residual-in_err-made.ensures.1 in
     let are = rw c.prog.ensures.value at c.in_ok-values.ensures.ok in
-    rw (e.1, e.2) ([], inr (c.in_ok-values.values, are, inl (c.in_err-made.ensures.err, (refl, refl))), untold c.args.silenced.now _ c.requires.sound)
+    rw (e.1, e.2) (Telling-none g.O.Sink.seen g.E.Sink.seen _ c.args.outputs.now (inr (c.in_ok-values.values, are, inl (c.in_err-made.ensures.err, (refl, refl)))))
 
 pub run_with-requires-clause-fits : goal.run_with-requires-clause-fits
 run_with-requires-clause-fits g c =
     let accepted = rw c.prog.ensures.value at c.prog.ensures.accepted in
     let fits = rw c.prog.ensures.value at c.in_ok-values.ensures.fits in
-    rw c.as_slice.ensures (fits_made _ c.args.checked.prog c.in_ok-made.made.prog c.in_ok-made.ensures.ok accepted c.in_ok-values.values fits)
+    let l = (pass_list (λ p. (goal.Pass-dyn g (p.vtable, p.value)).meaning p.value) (λ p. (goal.Pass-dyn g (p.vtable, p.value)).counts p.value) c.args.passes.now c.transformed.new.passes c.args.names.now) in
+    rw c.as_slice.ensures (fits_made l c.args.checked.prog c.in_ok-made.made.prog c.in_ok-made.ensures.ok accepted c.in_ok-values.values fits)
 
 pub returns-clause-does : goal.returns-clause-does
 returns-clause-does g c =
@@ -35,10 +37,16 @@ returns-clause-does g c =
     let fits = rw c.prog.ensures.value at c.in_ok-values.ensures.fits in
     let did = rw c.as_slice.ensures at c.run_with.ensures in
     let settings = c.args.settings in
-    let shows = run_shows _ c.args.checked.prog c.in_ok-made.made.prog c.in_ok-made.ensures.ok accepted settings.limits settings.limits.frames settings.limits.cells (refl, refl) c.in_ok-values.values fits settings.steps settings.stats in
-    let on = subject (runs settings.limits.frames settings.limits.cells settings.steps settings.stats) _ c.args.checked.prog c.in_ok-made.made.prog c.in_ok-made.ensures.ok c.in_ok-values.values in
-    let works = Works-as (executed c.in_ok-made.made.prog settings.limits c.in_ok-values.values settings.steps settings.stats) (ran on settings.limits.frames settings.limits.cells settings.steps settings.stats) refl refl shows (λ output none. none) did.0 _ _ (status_of c.run_with.result) in
-    (did.0, inr (c.in_ok-values.values, are, inr (c.in_ok-made.made.prog, c.in_ok-made.ensures.ok, ⊎_elim inl (λ went. inr (went.0, works went.1)) did.1)), did.2)
+    let l = (pass_list (λ p. (goal.Pass-dyn g (p.vtable, p.value)).meaning p.value) (λ p. (goal.Pass-dyn g (p.vtable, p.value)).counts p.value) c.args.passes.now c.transformed.new.passes c.args.names.now) in
+    let shows = run_shows l c.args.checked.prog c.in_ok-made.made.prog c.in_ok-made.ensures.ok accepted settings.limits settings.limits.frames settings.limits.cells (refl, refl) c.in_ok-values.values fits settings.steps settings.stats in
+    let on = subject (runs settings.limits.frames settings.limits.cells settings.steps settings.stats) l c.args.checked.prog c.in_ok-made.made.prog c.in_ok-made.ensures.ok c.in_ok-values.values in
+    let works = Works-as (executed c.in_ok-made.made.prog settings.limits c.in_ok-values.values settings.steps settings.stats) (ran on settings.limits.frames settings.limits.cells settings.steps settings.stats) refl refl shows (λ output none. none) did.told _ _ (status_of c.run_with.result) in
+    record {
+      same_output = did.same_output;
+      told = did.told;
+      does = inr (c.in_ok-values.values, are, inr (c.in_ok-made.made.prog, c.in_ok-made.ensures.ok, ⊎_elim inl (λ went. inr (went.0, works went.1)) did.does));
+      tells = did.tells;
+    }
 
 pub returns-in_err-values-clause-same : goal.returns-in_err-values-clause-same
 returns-in_err-values-clause-same g c = AllSame-refl (λ p. (goal.Pass-dyn g (p.vtable, p.value)).meaning p.value) c.args.passes.now

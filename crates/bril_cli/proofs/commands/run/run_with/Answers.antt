@@ -1,15 +1,20 @@
 -- No image was made, or it was run.
 use Rattle.std.proofs.Common.{[], refl, inl, inr}
 use Rattle.std.proofs.lemmas.Result.{err_from_is_err_and}
-use Rattle.bril_commands.proofs.Telling.{untold}
+use Rattle.bril_report.proofs.Telling.{Telling-none}
 use Rattle.bril_cli.proofs.commands.run.run_with.Goals as goal
 
 pub returns-in_err-image : goal.returns-in_err-image
 returns-in_err-image g c =
     let e = err_from_is_err_and c.from_residual.result c.from_residual.ensures.1 in
-    rw (e.1, e.2) ([], inl ((c.args.settings.limits, (refl, refl), c.in_err-image.ensures.err), (refl, refl)), untold c.args.silenced.now _ c.requires.sound)
+    rw (e.1, e.2) (Telling-none g.O.Sink.seen g.E.Sink.seen _ c.args.outputs.now (inl ((c.args.settings.limits, (refl, refl), c.in_err-image.ensures.err), (refl, refl))))
 
 pub returns : goal.returns
 returns g c =
     let ran = rw c.prog.ensures.value at c.run_image.ensures in
-    (ran.0, inr ((c.args.settings.limits, (refl, refl), c.in_ok-image.ensures.within), ran.1), ran.2)
+    record {
+      same_output = ran.same_output;
+      told = ran.told;
+      does = inr ((c.args.settings.limits, (refl, refl), c.in_ok-image.ensures.within), ran.does);
+      tells = ran.tells;
+    }

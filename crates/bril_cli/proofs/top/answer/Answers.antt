@@ -1,0 +1,46 @@
+-- What the command answers, from what its stages answered.
+use Rattle.std.proofs.Common.{ℕ, List, ap, sym, subst}
+use Rattle.bril_report.specs.StageFaults.{status_of}
+use Rattle.bril_report.specs.declared.status.Status.{Status}
+use Rattle.bril_words.specs.Names.{names_of}
+use Rattle.bril_commands.proofs.Keeping.{Keeps-same}
+use Rattle.bril_commands.proofs.Promises.{Promises-driven}
+use Rattle.bril_commands.proofs.Statuses.{Ends}
+use Rattle.bril_commands.proofs.Telling.{says_told}
+use Rattle.bril_commands.specs.Call.{call_of}
+use Rattle.bril_commands.specs.Command.{takes_passes}
+use Rattle.bril_commands.specs.CommandLine.{Asks, list_asked}
+use Rattle.bril_commands.specs.Driver.{DoesFile}
+use Rattle.bril_commands.specs.PassList.{pass_list}
+use Rattle.bril_commands.specs.Table.{command}
+use Rattle.pass_law.proofs.Same.{AllSame-refl}
+use Rattle.bril_cli.proofs.top.answer.Goals as goal
+
+pub returns-clause-promises : goal.returns-clause-promises
+returns-clause-promises g c =
+    let request = c.in-Ok.request in
+    let how = status_of c.drive.result in
+    let call =
+    call_of c.args.words.now (g.F.Files.seen c.args.files.now) (g.F.Files.seen c.drive.new.files)
+    (g.O.Sink.seen c.args.outputs.now.out.now) (g.O.Sink.seen c.drive.new.outputs.out.now)
+    (g.E.Sink.seen c.args.outputs.now.err.sink.now) (g.E.Sink.seen c.say.new.outputs.err.sink.now)
+    (λ p. (goal.Pass-dyn g (p.vtable, p.value)).meaning p.value) (λ p. (goal.Pass-dyn g (p.vtable, p.value)).counts p.value) c.args.passes.now c.drive.new.passes in
+    let does = c.drive.ensures.does in
+    let line = rw c.from-status.ensures at c.say.ensures.tells.told in
+    let asks : Asks c.args.words.now = record { action = request.action; path = request.path.now; args = request.args.now; asked = (request.list.now, sym c.in-Ok.ensures.read) } in
+    let ends : Ends call asks how = record {
+      told = does.told;
+      does = subst (λ (names : List (List ℕ)). DoesFile (command request.action) how
+          (pass_list (λ p. (goal.Pass-dyn g (p.vtable, p.value)).meaning p.value) (λ p. (goal.Pass-dyn g (p.vtable, p.value)).counts p.value) c.args.passes.now c.drive.new.passes names)
+          (g.F.Files.seen c.args.files.now) (g.F.Files.seen c.drive.new.files) request.path.now request.args.now does.told (g.O.Sink.seen c.args.outputs.now.out.now) (g.O.Sink.seen c.drive.new.outputs.out.now))
+          (ap (λ r. names_of (list_asked r)) c.in-Ok.ensures.read) does.does;
+      says = says_told does.told how request.path.now c.requires does.tells.told line;
+      keeps = c.drive.ensures.keeps;
+    } in
+    rw (c.status_number-2.ensures, c.from-status.ensures) (Promises-driven call asks how ends)
+
+pub returns-in-Err-clause-same : goal.returns-in-Err-clause-same
+returns-in-Err-clause-same g c = AllSame-refl (λ p. (goal.Pass-dyn g (p.vtable, p.value)).meaning p.value) c.args.passes.now
+
+pub returns-clause-same : goal.returns-clause-same
+returns-clause-same g c = Keeps-same (λ p. (goal.Pass-dyn g (p.vtable, p.value)).meaning p.value) (takes_passes (command c.in-Ok.request.action)) c.args.passes.now c.drive.new.passes c.drive.ensures.keeps
