@@ -24,10 +24,7 @@ pub fn image_of(alloc: Global, checked: &Checked, limits: Limits) -> Result<Imag
     ensures within { IfOk result (λ _. IsWithin checked.now.prog limits) }
     ensures err { IfErr result (λ status. RefusesImage status checked.now.prog limits) }
 {
-    match emit(alloc, checked, limits) {
-        Ok(image) => Ok(image),
-        Err(fault) => Err(emit_status(fault)),
-    }
+    emit(alloc, checked, limits).map_err(emit_status)
 }
 
 // The status of a program that gets no image.

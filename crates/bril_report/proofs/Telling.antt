@@ -3,10 +3,8 @@ use Rattle.std.proofs.Common.{◌≡◌, ℕ, Bool, true, false, List, [], ◌�
 use Rattle.bril_outside.specs.Sink.{SinkSeen, Rose, TookSome, PutTimes, PutAll, PutSome, joined}
 use Rattle.bril_outside.proofs.SinkWrites.{PutAll-none, PutAll-append, PutSome-one, PutSome-longer, PutSome-after, PutSome-took}
 use Rattle.bril_report.specs.Report.{Says}
-use Rattle.bril_report.specs.Telling.{Telling}
 use Rattle.bril_report.specs.Told.{Heard, Told, heard, Tells}
 use Rattle.bril_report.specs.declared.error_output.ErrorOutput.{ErrorOutput}
-use Rattle.bril_report.specs.declared.outputs.Outputs.{Outputs}
 
 no_pieces : (ps qs : List (List ℕ)) → ps ++ qs ≡ [] → (ps ≡ []) × (qs ≡ [])
 no_pieces [] qs e = (refl, e)
@@ -72,9 +70,3 @@ module _ {E : Type 0} (seen : E → SinkSeen) where
 
   pub Tells-append : {a b c : ErrorOutput E} {ps qs : List (List ℕ)} → Tells seen a ps b → Tells seen b qs c → Tells seen a (ps ++ qs) c
   Tells-append one two = record { same_sink = two.same_sink ∙ one.same_sink; told = Told-append one.told two.told }
-
--- ---- by two outputs
-
--- nothing is told
-pub Telling-none : {O E : Type 0} (out_seen : O → SinkSeen) (err_seen : E → SinkSeen) (P : List (List ℕ) → SinkSeen → SinkSeen → Type 0) (a : Outputs O E) → P [] (out_seen a.out.now) (out_seen a.out.now) → Telling out_seen err_seen P a a
-Telling-none out_seen err_seen P a does = record { same_output = refl; told = []; does = does; tells = Tells-none err_seen a.err }

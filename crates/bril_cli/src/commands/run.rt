@@ -65,14 +65,14 @@ pub fn run<O: Sink, E: Sink>(
 {
     let values = values_of(alloc, checked.prog(), words)?;
     let made = transformed(alloc, passes, names, checked)?;
-    run_with(alloc, &made, values.as_slice(), settings, outputs)
+    run_with(alloc, &made, &values, settings, outputs)
 }
 
 // Makes the program's image and runs it with these values.
 fn run_with<O: Sink, E: Sink>(
     alloc: Global,
     checked: &Checked,
-    values: &[Value],
+    values: &Seq<Value>,
     settings: RunSettings,
     outputs: &mut Outputs<'_, '_, O, E>,
 ) -> Result<(), Status>
@@ -80,7 +80,14 @@ fn run_with<O: Sink, E: Sink>(
     ensures { Telling O.seen E.seen (λ told s t. (RefusesEmission (ImageFor settings.limits.frames settings.limits.cells) (status_of result) checked.now.prog × IsSilent told s t) ⊎ (Fits (ImageFor settings.limits.frames settings.limits.cells) checked.now.prog × Works (executed checked.now.prog settings.limits values.now settings.steps settings.stats) (status_of result) told s t)) outputs.old outputs.new }
 {
     let image = image_of(alloc, checked, settings.limits)?;
-    run_image(alloc, &image, checked.prog(), values, settings, outputs)
+    run_image(
+        alloc,
+        &image,
+        checked.prog(),
+        values.as_slice(),
+        settings,
+        outputs,
+    )
 }
 
 // Runs an image that implements the program, and tells its counts once it has stopped or gone on to the end of the steps.

@@ -28,14 +28,14 @@ run_with-requires g c =
     let accepted = rw c.prog.ensures.value at c.prog.ensures.accepted in
     let fits = rw c.prog.ensures.value at c.in_ok-values.ensures.fits in
     let l = (pass_list (λ p. (goal.Pass-dyn g (p.vtable, p.value)).meaning p.value) (λ p. (goal.Pass-dyn g (p.vtable, p.value)).counts p.value) c.args.passes.now c.transformed.new.passes c.args.names.now) in
-    rw c.as_slice.ensures (fits_made l c.args.checked.prog c.in_ok-made.made.prog c.in_ok-made.ensures.ok accepted c.in_ok-values.values fits)
+    (fits_made l c.args.checked.prog c.in_ok-made.made.prog c.in_ok-made.ensures.ok accepted c.in_ok-values.values fits)
 
 pub returns-clause-does : goal.returns-clause-does
 returns-clause-does g c =
     let are = rw c.prog.ensures.value at c.in_ok-values.ensures.ok in
     let accepted = rw c.prog.ensures.value at c.prog.ensures.accepted in
     let fits = rw c.prog.ensures.value at c.in_ok-values.ensures.fits in
-    let did = rw c.as_slice.ensures at c.run_with.ensures in
+    let did = c.run_with.ensures in
     let settings = c.args.settings in
     let l = (pass_list (λ p. (goal.Pass-dyn g (p.vtable, p.value)).meaning p.value) (λ p. (goal.Pass-dyn g (p.vtable, p.value)).counts p.value) c.args.passes.now c.transformed.new.passes c.args.names.now) in
     let shows = run_shows l c.args.checked.prog c.in_ok-made.made.prog c.in_ok-made.ensures.ok accepted settings.limits settings.limits.frames settings.limits.cells (refl, refl) c.in_ok-values.values fits settings.steps settings.stats in

@@ -11,7 +11,7 @@ returns-in_err-image g c =
 
 pub returns : goal.returns
 returns g c =
-    let ran = rw c.prog.ensures.value at c.run_image.ensures in
+    let ran = rw c.as_slice.ensures at (rw c.prog.ensures.value at c.run_image.ensures) in
     record {
       same_output = ran.same_output;
       told = ran.told;
