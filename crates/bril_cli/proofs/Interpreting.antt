@@ -4,7 +4,7 @@ use Rattle.bril_interpreter.specs.declared.answer.StepAnswer.TheVariants as run
 use Rattle.bril_interpreter.specs.StepAnswers.{Ran, RunFailed, WantsMemory, reached_after, puts_within}
 use Rattle.bril_interpreter.specs.Interpreter.{InterpView, state_of}
 use Rattle.bril_outside.proofs.SinkWrites.{FailedAfter-took}
-use Rattle.bril_outside.specs.Sink.{SinkSeen, Rose, TookAll, TookSome}
+use Rattle.bril_outside.specs.Sink.{SinkSeen, TookAll, TookSome}
 use Rattle.bril_tree.proofs.Grows.{program_is_system}
 use Rattle.bril_tree.specs.declared.limits.End.{End}
 use Rattle.bril_tree.specs.declared.limits.Limits.{Limits}

@@ -1,5 +1,5 @@
 -- What a run of an image leaves.
-use Rattle.std.proofs.Common.{◌≡◌, ℕ, suc, ◌+◌, ◌*◌, ◌≤◌, Bool, true, false, List, Option, Some, None, refl, sym, ap, ◌∙◌, subst, arith, ⊎_elim, true≢false}
+use Rattle.std.proofs.Common.{◌≡◌, ℕ, suc, ◌≤◌, Bool, true, false, List, Option, Some, None, refl, sym, ap, ◌∙◌, subst, arith, ⊎_elim, true≢false}
 use Rattle.std.specs.Option.{option_map}
 use Rattle.bril_outside.proofs.SinkWrites.{TookSome-longer}
 use Rattle.bril_outside.specs.Sink.{SinkSeen, TookAll, TookSome}
@@ -12,7 +12,7 @@ use Rattle.rv64_implements.proofs.Endings.{shown, failures_counted}
 use Rattle.rv64_implements.proofs.Systems.{image_is_system, machine_after-after}
 use Rattle.rv64_implements.specs.Implements.{Implements, ImplementsRun, image_system, image_after}
 use Rattle.rv64_implements.specs.Shown.{ProgramShows}
-use Rattle.rv64_machine.specs.MachineView.{state_of, image_in, sizes_in, has_failed}
+use Rattle.rv64_machine.specs.MachineView.{state_of}
 use Rattle.rv64_machine.specs.StepAnswers.{Ran, RunFailed, Reached, puts_by, reached_after, unprinted}
 use Rattle.rv64_machine.specs.declared.answer.RunAnswer.TheVariants as run
 use Rattle.rv64_machine.specs.declared.machine.Machine.{Machine}
@@ -26,7 +26,7 @@ use Rattle.simulation.specs.System.{IsPrefix}
 use Rattle.bril_cli.specs.Machines.{IsFresh}
 use Rattle.bril_commands.proofs.Running.{finished_one}
 use Rattle.bril_commands.specs.Outcome.{ShowsWhole, ShowsPartly}
-use Rattle.bril_commands.specs.Stats.{stats_told, TellsStats}
+use Rattle.bril_commands.specs.Stats.{stats_told}
 use Rattle.bril_commands.specs.commands.Run.{ShowsRun, Executes, executed}
 
 -- the first of some bytes are the first of those with more after them
@@ -91,8 +91,8 @@ module _ (image : Image) (p : Prog) (limits : Limits) (values : List Value) (imp
       whole ended ends ran stats =
           let here : (image_after image limits values words).stopped ≡ option_map Finished ended = ap (λ (u : State). u.stopped) (sym (reached words)) ∙ ends in
           let told : stats_told stats p image.guards (state_of m') ≡ stats_told stats p image.guards (image_after image limits values words) =
-              ap (stats_told stats p image.guards) ran.became.state ∙ told_unprinted stats p image.guards (reached_after m words)
-                  ∙ ap (stats_told stats p image.guards) (reached words) in
+          ap (stats_told stats p image.guards) ran.became.state ∙ told_unprinted stats p image.guards (reached_after m words)
+          ∙ ap (stats_told stats p image.guards) (reached words) in
           record {
             output = printed;
             shows = subst (λ bytes. Executes p limits values words stats ended bytes printed) (sym told) (executes_at stats ended here);

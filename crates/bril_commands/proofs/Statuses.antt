@@ -1,11 +1,11 @@
 -- What each status says of the call.
-use Rattle.std.proofs.Common.{◌≡◌, ◌⊎◌, ℕ, Bool, true, false, append-nil, ◌++◌, List, [], Option, Some, None, refl, sym, ap, ◌∙◌, subst, inl, inr, ⊎_elim}
+use Rattle.std.proofs.Common.{◌≡◌, ◌⊎◌, ℕ, Bool, true, false, append-nil, List, [], Some, None, refl, sym, ap, ◌∙◌, subst, inl, inr, ⊎_elim}
 use Rattle.bril_arguments.specs.declared.fault.ArgFault.TheVariants as argument
 use Rattle.bril_arguments.specs.declared.fault.ArgFault.{ArgFault}
 use Rattle.bril_names.specs.Faults as names
 use Rattle.bril_names.specs.declared.fault.NameFault.{NameFault}
 use Rattle.bril_outside.specs.Sink.{joined}
-use Rattle.bril_report.specs.Lines.{code_line, stack_line, spent_line}
+use Rattle.bril_report.specs.Lines.{code_line, stack_line}
 use Rattle.bril_report.specs.Report.{Says, status_number, SaysStatus}
 use Rattle.bril_report.specs.declared.status.Status.TheVariants as status
 use Rattle.bril_report.specs.declared.status.Status.{Status}
@@ -19,7 +19,7 @@ use Rattle.bril_tree.specs.declared.value.Value.{Value}
 use Rattle.bril_commands.specs.Answers.{Answers, HasLongCode, HasLongStack}
 use Rattle.bril_commands.specs.Arguments.{argument_line, HasOnlyArgFault, RefusesArgs}
 use Rattle.bril_commands.specs.Call.{Call, CommandComesTo, ComesTo}
-use Rattle.bril_commands.specs.Command.{Command, OnTree, OnProgram, OfProgram, Arguments, NoArguments, OfMain, Emission, NoImage, ImageFor, TakesArguments, AreGiven, RefusesGiven, Makes, RefusesMaking, AreLimitsOf, Fits, RefusesEmission, NeedsProgram, GivesArguments, MakesImage, takes_passes}
+use Rattle.bril_commands.specs.Command.{Command, OnTree, OnProgram, OfProgram, Arguments, NoArguments, OfMain, TakesArguments, AreGiven, RefusesGiven, Makes, RefusesMaking, AreLimitsOf, Fits, RefusesEmission, NeedsProgram, GivesArguments, MakesImage, takes_passes}
 use Rattle.bril_commands.specs.CommandLine.{Asks, format_of}
 use Rattle.bril_commands.specs.Driver.{IsSilent, subject, DoesProgram, DoesTree, DoesFile}
 use Rattle.bril_commands.specs.Images.{RefusesImage}
@@ -147,34 +147,43 @@ module _ (c : Call) (asks : Asks c.words) where
       Answers-refused : NeedsProgram (command asks.action) → (how : Status) → Said how → RefusesProgram how tree → c.out_after ≡ c.out_before → Answers (status_number how) c
       Answers-refused needs status.Unsupported says refuses silent = record {
         asks = asks;
-        because = inr (needs, inl (record {
-          bytes = bytes;
-          file = file;
-          imports = record { tree = tree; reads = only.reads; imports = refuses };
-          alone = record { silent = silent; says = says };
-        }));
+        because = inr (
+          needs,
+          inl (record {
+            bytes = bytes;
+            file = file;
+            imports = record { tree = tree; reads = only.reads; imports = refuses };
+            alone = record { silent = silent; says = says };
+          }),
+        );
       }
       Answers-refused needs (status.Misnamed fault) says refuses silent = record {
         asks = asks;
-        because = inr (needs, inr (inl (record {
-          bytes = bytes;
-          file = file;
-          fault = fault;
-          only = HasOnlyNameFault-of (format_of asks.path) bytes tree only fault refuses.0 refuses.1;
-          alone = record { silent = silent; says = says };
-        })));
+        because = inr (
+          needs,
+          inr (inl (record {
+            bytes = bytes;
+            file = file;
+            fault = fault;
+            only = HasOnlyNameFault-of (format_of asks.path) bytes tree only fault refuses.0 refuses.1;
+            alone = record { silent = silent; says = says };
+          })),
+        );
       }
       Answers-refused needs (status.Unaccepted p fault) says refuses silent = record {
         asks = asks;
-        because = inr (needs, inr (inr (record {
-          bytes = bytes;
-          file = file;
-          program = p;
-          source = IsOnlySource-of (format_of asks.path) bytes tree only p refuses.0;
-          fault = fault;
-          only = refuses.1;
-          alone = record { silent = silent; says = says };
-        })));
+        because = inr (
+          needs,
+          inr (inr (record {
+            bytes = bytes;
+            file = file;
+            program = p;
+            source = IsOnlySource-of (format_of asks.path) bytes tree only p refuses.0;
+            fault = fault;
+            only = refuses.1;
+            alone = record { silent = silent; says = says };
+          })),
+        );
       }
       Answers-refused needs status.OutOfMemory says refuses silent = Answers-exhausted says silent
       Answers-refused needs _ says refuses silent = absurd refuses

@@ -1,5 +1,5 @@
 -- What is told, and the line of the status after it.
-use Rattle.std.proofs.Common.{◌≡◌, ℕ, false, List, [], ◌++◌, subst, refl}
+use Rattle.std.proofs.Common.{◌≡◌, ℕ, false, List, ◌++◌, subst}
 use Rattle.bril_report.proofs.Pieces.{Told-line, Told-status}
 use Rattle.bril_report.proofs.Telling.{Told-append}
 use Rattle.bril_report.specs.Report.{status_pieces}

@@ -1,12 +1,10 @@
 -- When a command is done.
-use Rattle.std.proofs.Common.{◌≡◌, ℕ, ◌≤◌, ◌⊎◌, Bool, true, false, append-nil, ◌++◌, List, [], length, Some, None, refl, sym, ap, ◌∙◌, subst, arith, inl, inr, ⊎_elim}
-use Rattle.bril_arguments.specs.Spelled.{AreSpelled}
-use Rattle.bril_outside.specs.Sink.{Rose, joined}
+use Rattle.std.proofs.Common.{◌≡◌, ℕ, ◌≤◌, ◌⊎◌, Bool, true, false, append-nil, ◌++◌, List, length, Some, None, refl, sym, ◌∙◌, subst, arith, inl, inr, ⊎_elim}
+use Rattle.bril_outside.specs.Sink.{joined}
 use Rattle.bril_report.specs.Lines.{spent_line}
 use Rattle.bril_report.specs.Report.{Says, status_number, SaysStatus}
 use Rattle.bril_report.specs.declared.status.Status.TheVariants as status
 use Rattle.bril_report.specs.declared.status.Status.{Status}
-use Rattle.bril_tree.specs.Accepted.{IsAccepted}
 use Rattle.bril_tree.specs.declared.limits.End.TheVariants.{Ended, Faulted}
 use Rattle.bril_tree.specs.declared.limits.Limits.{Limits}
 use Rattle.bril_tree.specs.declared.program.Prog.{Prog}
@@ -24,7 +22,7 @@ use Rattle.bril_commands.specs.Driver.{IsSilent, subject, DoesProgram, DoesTree}
 use Rattle.bril_commands.specs.Images.{RefusesImage}
 use Rattle.bril_commands.specs.Outcome.{Outcome, Works}
 use Rattle.bril_commands.specs.PassList.{RefusesList}
-use Rattle.bril_commands.specs.Source.{most_bytes, ReadsAs, IsOnlyTree, IsSource}
+use Rattle.bril_commands.specs.Source.{most_bytes, ReadsAs}
 use Rattle.bril_commands.specs.Stats.{SaysTold}
 use Rattle.bril_commands.specs.Table.{command}
 use Rattle.bril_commands.specs.When.{Spell, StopsMaking, AfterPasses, AfterEmission, IsDoneUnless, CommandDone}

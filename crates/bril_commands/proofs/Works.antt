@@ -1,5 +1,5 @@
 -- Work that is carried out as one outcome says is carried out as another says.
-use Rattle.std.proofs.Common.{◌≡◌, ℕ, List, [], Option, Some, None, refl, sym, ◌∙◌, inl, inr, ⊎_elim}
+use Rattle.std.proofs.Common.{◌≡◌, ℕ, List, [], Option, Some, None, refl, ◌∙◌, inl, inr, ⊎_elim}
 use Rattle.bril_outside.specs.Sink.{SinkSeen}
 use Rattle.bril_report.specs.declared.status.Status.TheVariants as status
 use Rattle.bril_report.specs.declared.status.Status.{Status}
@@ -15,14 +15,17 @@ module _ (a b : Outcome) (steps : a.steps ≡ b.steps) (unwritten : a.unwritten 
   Works-as status.Done works = whole _ works
   Works-as (status.Faulted fault) works = whole _ works
   Works-as (status.Spent made) works = (works.0 ∙ steps, whole _ works.1)
-  Works-as status.CannotWrite works = (works.0 ∙ unwritten, record {
-    ended = works.1.ended;
-    told = works.1.told;
-    output = works.1.output;
-    shows = shows works.1.ended works.1.told works.1.output works.1.shows;
-    took = works.1.took;
-    rose = works.1.rose;
-  })
+  Works-as status.CannotWrite works = (
+    works.0 ∙ unwritten,
+    record {
+      ended = works.1.ended;
+      told = works.1.told;
+      output = works.1.output;
+      shows = shows works.1.ended works.1.told works.1.output works.1.shows;
+      took = works.1.took;
+      rose = works.1.rose;
+    },
+  )
   Works-as status.OutOfMemory works = (works.0, ⊎_elim inl (λ short. inr (short.0, exhausts short.0 short.1, short.2)) works.1)
   Works-as _ works = absurd works
 

@@ -36,11 +36,7 @@ pub fn transformed(
 }
 
 /// Tells the tallies of the passes that the list used, in their order, each piece of a line by one put.
-pub fn tell_tallies<E: Sink>(
-    passes: &[Box<dyn Pass>],
-    names: &[Text],
-    err: &mut ErrorOutput<'_, E>,
-)
+pub fn tell_tallies<E: Sink>(passes: &[Box<dyn Pass>], names: &[Text], err: &mut ErrorOutput<'_, E>)
     ensures { Tells E.seen err.old (pieces_from (λ p. meaning p) (λ p. counts p) names.now [] passes.now) err.new }
 {
     tell_from(passes, 0, names, err);

@@ -1,7 +1,6 @@
 -- What the command answers, from what its stages answered.
 use Rattle.std.proofs.Common.{ℕ, List, ap, sym, subst}
 use Rattle.bril_report.specs.StageFaults.{status_of}
-use Rattle.bril_report.specs.declared.status.Status.{Status}
 use Rattle.bril_words.specs.Names.{names_of}
 use Rattle.bril_commands.proofs.Keeping.{Keeps-same}
 use Rattle.bril_commands.proofs.Promises.{Promises-driven}
