@@ -1,7 +1,8 @@
 -- The pieces of a line are the line.
-use Rattle.std.proofs.Common.{◌≡◌, ℕ, false, List, [], ◌∷◌, ◌++◌, codes, refl, sym, ap, subst, append_assoc}
+use Rattle.std.proofs.Common.{◌≡◌, ℕ, false, List, [], ◌∷◌, ◌++◌, codes, refl, sym, ap, ◌∙◌, subst, append_assoc}
 use Rattle.std.specs.Fmt.{decimal}
 use Rattle.bril_outside.specs.Sink.{SinkSeen, joined}
+use Rattle.bril_outside.proofs.SinkWrites.{joined-append}
 use Rattle.bril_checker.specs.declared.fault.CheckFault.{CheckFault}
 use Rattle.bril_checker.specs.declared.fault.CheckFault.TheVariants as check
 use Rattle.bril_tree.specs.declared.program.Prog.{Prog}
@@ -81,3 +82,10 @@ pub Told-status : {e f : Heard} (how : Status) (path : List ℕ) → Told e (sta
 Told-status {e} {f} how path told before =
     says_status how path e.seen f.seen (λ done. ap (λ (h : Heard). h.seen) (told.quiet (done_pieces how path done)))
     (subst (λ bytes. Says e.seen bytes f.seen) (joined-status how path) (Told-says told before))
+
+-- and of what is told before it
+pub Told-line : {e f : Heard} (told : List (List ℕ)) (how : Status) (path : List ℕ) → Told e (told ++ status_pieces how path) f → e.failed ≡ false
+    → Says e.seen (joined told ++ status_line how path) f.seen
+Told-line {e} {f} told how path all before =
+    subst (λ bytes. Says e.seen bytes f.seen) (joined-append told (status_pieces how path) ∙ ap (λ line. joined told ++ line) (joined-status how path))
+    (Told-says all before)

@@ -1,9 +1,9 @@
 -- What is told by pieces one after another.
 use Rattle.std.proofs.Common.{◌≡◌, ℕ, Bool, true, false, List, [], ◌∷◌, ◌++◌, refl, sym, ap, ◌∙◌, subst, inl, inr, true≢false}
 use Rattle.bril_outside.specs.Sink.{SinkSeen, Rose, TookSome, PutTimes, PutAll, PutSome, joined}
-use Rattle.bril_outside.proofs.SinkWrites.{PutAll-append, PutSome-one, PutSome-longer, PutSome-after, PutSome-took}
+use Rattle.bril_outside.proofs.SinkWrites.{PutAll-none, PutAll-append, PutSome-one, PutSome-longer, PutSome-after, PutSome-took}
 use Rattle.bril_report.specs.Report.{Says}
-use Rattle.bril_report.specs.Told.{Heard, sound, Told, heard, Tells}
+use Rattle.bril_report.specs.Told.{Heard, Told, heard, Tells}
 use Rattle.bril_report.specs.declared.error_output.ErrorOutput.{ErrorOutput}
 
 no_pieces : (ps qs : List (List ℕ)) → ps ++ qs ≡ [] → (ps ≡ []) × (qs ≡ [])
@@ -33,10 +33,10 @@ module _ {e f g : Heard} {ps qs : List (List ℕ)} (one : Told e ps f) (two : To
   }
 
 -- nothing
-pub Told-none : (e : Heard) → e.failed ≡ false → PutAll e.seen [] e.seen → Told e [] e
-Told-none e before put = record {
-  all = λ _ _. put;
-  some = λ _ after. absurd (true≢false (sym after ∙ before));
+pub Told-none : (e : Heard) → Told e [] e
+Told-none e = record {
+  all = λ _ _. PutAll-none e.seen;
+  some = λ before after. absurd (true≢false (sym after ∙ before));
   silent = λ _. refl;
   quiet = λ _. refl;
 }
@@ -64,6 +64,9 @@ module _ {e f : Heard} {pieces : List (List ℕ)} (told : Told e pieces f) (befo
 
 -- ---- by an output
 
-module _ {E : Type 0} (seen : E → SinkSeen) {a b c : ErrorOutput E} where
-  pub Tells-append : {ps qs : List (List ℕ)} → Tells seen a ps b → Tells seen b qs c → Tells seen a (ps ++ qs) c
+module _ {E : Type 0} (seen : E → SinkSeen) where
+  pub Tells-none : (a : ErrorOutput E) → Tells seen a [] a
+  Tells-none a = record { same_sink = refl; told = Told-none (heard seen a) }
+
+  pub Tells-append : {a b c : ErrorOutput E} {ps qs : List (List ℕ)} → Tells seen a ps b → Tells seen b qs c → Tells seen a (ps ++ qs) c
   Tells-append one two = record { same_sink = two.same_sink ∙ one.same_sink; told = Told-append one.told two.told }
