@@ -9,5 +9,6 @@
 
 pub mod arguments;
 pub mod list;
+pub mod listed_passes;
 pub mod program;
 pub mod source;
