@@ -17,7 +17,7 @@ use crate::commands::json::put_json;
 use crate::commands::passes::put_transformed;
 use crate::commands::run::{RunSettings, run};
 use crate::commands::text::put_text;
-use bril_commands::listed_passes::ListedPasses;
+use crate::listed_passes::ListedPasses;
 use bril_commands::program::accepted_program;
 use bril_commands::source::{read_file, read_tree};
 use bril_outside::files::Files;

@@ -9,6 +9,5 @@
 
 pub mod arguments;
 pub mod list;
-pub mod listed_passes;
 pub mod program;
 pub mod source;

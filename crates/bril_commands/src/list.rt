@@ -6,11 +6,11 @@ ghost use Rattle.bril_report.specs.Told.{Tells};
 ghost use Rattle.pass_law.specs.Chains.{AllSame};
 ghost use Rattle.std.specs.Option.{option_map};
 
-use crate::listed_passes::ListedPasses;
 use bril_checker::Checked;
 use bril_outside::sink::Sink;
 use bril_profile::Profile;
 use bril_report::{ErrorOutput, Status, put_tally};
+use bril_tree::sequence::Seq;
 use bril_tree::text::Text;
 use pass_law::{Pass, is_answered, run_list};
 use std::alloc::Global;
@@ -22,17 +22,17 @@ use std::alloc::Global;
 /// refuses the program that it was given, for its bound on items.
 pub fn transformed(
     alloc: Global,
-    passes: &mut ListedPasses<'_>,
+    passes: &mut [Box<dyn Pass>],
+    names: &Seq<Text>,
     checked: Checked,
 ) -> Result<Checked, Status>
-    ensures same_boxes { passes.new.boxes.ghost_name ≡ passes.old.boxes.ghost_name }
-    ensures same_names { passes.new.names ≡ passes.old.names }
-    ensures ok { IfOk result (λ made. IsMade (pass_list (λ p. meaning p) (λ p. counts p) passes.old.boxes.now passes.new.boxes.now passes.old.names) checked.prog made.prog) }
-    ensures err { IfErr result (λ status. RefusesList status (pass_list (λ p. meaning p) (λ p. counts p) passes.old.boxes.now passes.new.boxes.now passes.old.names) checked.prog) }
-    ensures same { AllSame (λ p. meaning p) passes.old.boxes.now passes.new.boxes.now }
+    requires { length names.now ≤ 64 }
+    ensures ok { IfOk result (λ made. IsMade (pass_list (λ p. meaning p) (λ p. counts p) passes.old passes.new names.now) checked.prog made.prog) }
+    ensures err { IfErr result (λ status. RefusesList status (pass_list (λ p. meaning p) (λ p. counts p) passes.old passes.new names.now) checked.prog) }
+    ensures same { AllSame (λ p. meaning p) passes.old passes.new }
 {
     let profile = Profile::without_entries(alloc);
-    Ok(run_list(alloc, passes.boxes, &passes.names, checked, &profile)?)
+    Ok(run_list(alloc, passes, names, checked, &profile)?)
 }
 
 /// Tells the tallies of the passes that the list used, in their order, each piece of a line by one put.

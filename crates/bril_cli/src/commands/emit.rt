@@ -9,9 +9,9 @@ ghost use Rattle.bril_report.specs.StageFaults.{status_of};
 ghost use Rattle.pass_law.specs.Chains.{AllSame};
 
 use crate::image::image_of;
+use crate::listed_passes::ListedPasses;
 use bril_checker::Checked;
 use bril_commands::list::transformed;
-use bril_commands::listed_passes::ListedPasses;
 use bril_outside::sink::Sink;
 use bril_report::Status;
 use bril_tree::limits::Limits;
@@ -33,7 +33,7 @@ pub fn put_image<O: Sink>(
     ensures does { DoesProgram (emits shown limits.frames limits.cells) (status_of result) (pass_list (λ p. meaning p) (λ p. counts p) passes.old.boxes.now passes.new.boxes.now passes.old.names) checked.prog [] [] (O.seen out.old) (O.seen out.new) }
     ensures same { AllSame (λ p. meaning p) passes.old.boxes.now passes.new.boxes.now }
 {
-    let made = transformed(alloc, passes, checked)?;
+    let made = transformed(alloc, passes.boxes, &passes.names, checked)?;
     let image = image_of(alloc, &made, limits)?;
     put_words(image.words.as_slice(), out)
 }

@@ -8,9 +8,9 @@ ghost use Rattle.bril_report.specs.StageFaults.{status_of};
 ghost use Rattle.bril_report.specs.Telling.{Telling};
 ghost use Rattle.pass_law.specs.Chains.{AllSame};
 
+use crate::listed_passes::ListedPasses;
 use bril_checker::Checked;
 use bril_commands::list::{tell_tallies, transformed};
-use bril_commands::listed_passes::ListedPasses;
 use bril_names::unnumber;
 use bril_outside::sink::Sink;
 use bril_report::{Outputs, Status};
@@ -34,10 +34,11 @@ pub fn put_transformed<O: Sink, E: Sink>(
     ensures does { Telling O.seen E.seen (λ told s t. DoesProgram transforms (status_of result) (pass_list (λ p. meaning p) (λ p. counts p) passes.old.boxes.now passes.new.boxes.now passes.old.names) checked.prog [] told s t) outputs.old outputs.new }
     ensures same { AllSame (λ p. meaning p) passes.old.boxes.now passes.new.boxes.now }
 {
-    let made = transformed(alloc, passes, checked)?;
+    let made = transformed(alloc, passes.boxes, &passes.names, checked)?;
     let text = text_of(alloc, made.prog())?;
     let put = outputs.out.put(text.as_slice());
-    tell_tallies(passes.boxes, passes.names.as_slice(), &mut outputs.err);
+    let boxes = &mut *passes.boxes;
+    tell_tallies(boxes, passes.names.as_slice(), &mut outputs.err);
     put?;
     Ok(())
 }

@@ -17,11 +17,11 @@ ghost use Rattle.rv64_implements.specs.Implements.{Implements};
 ghost use Rattle.rv64_words.specs.Region.{most_words, most_stack};
 
 use crate::image::image_of;
+use crate::listed_passes::ListedPasses;
 use crate::stats::tell_stats;
 use bril_checker::Checked;
 use bril_commands::arguments::values_of;
 use bril_commands::list::transformed;
-use bril_commands::listed_passes::ListedPasses;
 use bril_outside::sink::Sink;
 use bril_report::{Outputs, Status};
 use bril_tree::limits::{End, Limits};
@@ -63,7 +63,7 @@ pub fn run<O: Sink, E: Sink>(
     ensures same { AllSame (λ p. meaning p) passes.old.boxes.now passes.new.boxes.now }
 {
     let values = values_of(alloc, checked.prog(), words)?;
-    let made = transformed(alloc, passes, checked)?;
+    let made = transformed(alloc, passes.boxes, &passes.names, checked)?;
     run_with(alloc, &made, &values, settings, outputs)
 }
 

@@ -1,5 +1,5 @@
 -- The file was not read, or not as a tree, or its tree was dealt with.
-use Rattle.std.proofs.Common.{ℕ, List, [], refl, inl, inr, subst, rules}
+use Rattle.std.proofs.Common.{ℕ, ◌≡◌, List, [], refl, inl, inr, subst, rules}
 use Rattle.std.proofs.lemmas.Result.{err_from_is_err_and}
 use Rattle.bril_commands.proofs.Keeping.{kept}
 use Rattle.bril_commands.specs.Command.{takes_passes}
@@ -8,7 +8,7 @@ use Rattle.bril_commands.specs.Driver.{DoesTree}
 use Rattle.bril_commands.specs.PassList.{pass_list}
 use Rattle.bril_commands.specs.Source.{IsOnlyTree}
 use Rattle.bril_commands.specs.Stages.{RefusesTree}
-use Rattle.bril_commands.specs.Table.{command}
+use Rattle.bril_commands.specs.Table.{command, KeepsPasses}
 use Rattle.bril_report.proofs.Telling.{Tells-none}
 use Rattle.bril_report.specs.StageFaults.{status_of}
 use Rattle.bril_words.specs.Names.{names_of}
@@ -47,6 +47,11 @@ returns-clause-does g c =
       does = inr (c.in_ok-source.source, c.in_ok-source.ensures.ok, inr (c.in_ok-tree.tree, only, lent));
       tells = does.tells;
     }
+
+pub returns-clause-keeps : goal.returns-clause-keeps
+returns-clause-keeps g c =
+    let boxes : c.do_command.new.passes.boxes.now ≡ c.passes-1.given.0 = search rules in
+    subst (λ after. KeepsPasses (λ p. (goal.Pass-dyn g (p.vtable, p.value)).meaning p.value) c.args.request.action c.args.passes.now after) boxes c.do_command.ensures.keeps
 
 pub returns-in_err-source-clause-keeps : goal.returns-in_err-source-clause-keeps
 returns-in_err-source-clause-keeps g c = kept (λ p. (goal.Pass-dyn g (p.vtable, p.value)).meaning p.value) (takes_passes (command c.args.request.action)) c.args.passes.now

@@ -17,7 +17,7 @@ returns-in_err-text-clause-does g c =
 pub returns-in_err-put-clause-does : goal.returns-in_err-put-clause-does
 returns-in_err-put-clause-does g c =
     let e = err_from_is_err_and c.from_residual-in_err-put.result c.from_residual-in_err-put.ensures.1 in
-    let told = rw (c.as_slice-2.ensures, c.transformed.ensures.same_names) at c.tell_tallies.ensures in
+    let told = rw c.as_slice-2.ensures at c.tell_tallies.ensures in
     let text = rw c.prog.ensures.value at c.in_ok-text.ensures in
     let put = rw c.as_slice.ensures at c.in_err-put.ensures.err in
     rw (e.1, e.2) (record {
@@ -29,7 +29,7 @@ returns-in_err-put-clause-does g c =
 
 pub returns-clause-does : goal.returns-clause-does
 returns-clause-does g c =
-    let told = rw (c.as_slice-2.ensures, c.transformed.ensures.same_names) at c.tell_tallies.ensures in
+    let told = rw c.as_slice-2.ensures at c.tell_tallies.ensures in
     let text = rw c.prog.ensures.value at c.in_ok-text.ensures in
     let took = rw c.as_slice.ensures at c.in_ok-put.ensures.ok in
     record {
