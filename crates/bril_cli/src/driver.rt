@@ -17,14 +17,13 @@ use crate::commands::json::put_json;
 use crate::commands::passes::put_transformed;
 use crate::commands::run::{RunSettings, run};
 use crate::commands::text::put_text;
+use crate::listed_passes::ListedPasses;
 use bril_commands::program::accepted_program;
 use bril_commands::source::{read_file, read_tree};
 use bril_outside::files::Files;
 use bril_outside::sink::Sink;
 use bril_report::{Outputs, Status};
 use bril_tree::limits::Limits;
-use bril_tree::sequence::Seq;
-use bril_tree::text::Text;
 use bril_tree::tree::Tree;
 use bril_words::{Action, CELLS, Request, names_of};
 use pass_law::Pass;
@@ -52,7 +51,11 @@ pub fn drive<F: Files, O: Sink, E: Sink>(
     let names = names_of(alloc, request.list)?;
     let source = read_file(alloc, request.path, files)?;
     let tree = read_tree(alloc, request.path.as_bytes(), source.as_slice())?;
-    do_command(alloc, request, &tree, passes, &names, outputs)
+    let mut passes = ListedPasses {
+        boxes: passes,
+        names,
+    };
+    do_command(alloc, request, &tree, &mut passes, outputs)
 }
 
 // Does what a request asks of its file's tree. To check, interpret, transform, emit or run it, the tree has an accepted program.
@@ -60,14 +63,13 @@ fn do_command<O: Sink, E: Sink>(
     alloc: Global,
     request: Request,
     tree: &Tree,
-    passes: &mut [Box<dyn Pass>],
-    names: &Seq<Text>,
+    passes: &mut ListedPasses<'_>,
     outputs: &mut Outputs<'_, '_, O, E>,
 ) -> Result<(), Status>
     requires range { IsActionInRange request.action }
-    requires few { length names.now ≤ 64 }
-    ensures does { Telling O.seen E.seen (λ told s t. DoesTree (command request.entry.action) (status_of result) (pass_list (λ p. meaning p) (λ p. counts p) passes.old passes.new names.now) tree.now request.entry.args.now told s t) outputs.old outputs.new }
-    ensures keeps { KeepsPasses (λ p. meaning p) request.entry.action passes.old passes.new }
+    ensures same_boxes { passes.new.boxes.ghost_name ≡ passes.old.boxes.ghost_name }
+    ensures does { Telling O.seen E.seen (λ told s t. DoesTree (command request.entry.action) (status_of result) (pass_list (λ p. meaning p) (λ p. counts p) passes.old.boxes.now passes.new.boxes.now passes.old.names) tree.now request.entry.args.now told s t) outputs.old outputs.new }
+    ensures keeps { KeepsPasses (λ p. meaning p) request.entry.action passes.old.boxes.now passes.new.boxes.now }
 {
     match request.action {
         Action::Run {
@@ -82,15 +84,7 @@ fn do_command<O: Sink, E: Sink>(
                 stats,
             };
             let program = accepted_program(alloc, tree)?;
-            run(
-                alloc,
-                program,
-                request.args,
-                settings,
-                passes,
-                names,
-                outputs,
-            )
+            run(alloc, program, request.args, settings, passes, outputs)
         }
         Action::Interpret {
             frames,
@@ -107,11 +101,11 @@ fn do_command<O: Sink, E: Sink>(
                 cells: CELLS,
             };
             let program = accepted_program(alloc, tree)?;
-            put_image(alloc, program, limits, passes, names, outputs.out)
+            put_image(alloc, program, limits, passes, outputs.out)
         }
         Action::Passes => {
             let program = accepted_program(alloc, tree)?;
-            put_transformed(alloc, program, passes, names, outputs)
+            put_transformed(alloc, program, passes, outputs)
         }
         Action::Check => {
             let program = accepted_program(alloc, tree)?;

@@ -5,5 +5,6 @@ mod commands;
 mod driver;
 pub mod end;
 mod image;
+mod listed_passes;
 mod stats;
 pub mod top;

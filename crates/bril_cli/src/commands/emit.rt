@@ -9,14 +9,12 @@ ghost use Rattle.bril_report.specs.StageFaults.{status_of};
 ghost use Rattle.pass_law.specs.Chains.{AllSame};
 
 use crate::image::image_of;
+use crate::listed_passes::ListedPasses;
 use bril_checker::Checked;
 use bril_commands::list::transformed;
 use bril_outside::sink::Sink;
 use bril_report::Status;
 use bril_tree::limits::Limits;
-use bril_tree::sequence::Seq;
-use bril_tree::text::Text;
-use pass_law::Pass;
 use std::alloc::Global;
 
 /// Gives the program to a list of passes, and puts the words of the image of what this makes, under the limits, on the output, each in
@@ -28,15 +26,14 @@ pub fn put_image<O: Sink>(
     alloc: Global,
     checked: Checked,
     limits: Limits,
-    passes: &mut [Box<dyn Pass>],
-    names: &Seq<Text>,
+    passes: &mut ListedPasses<'_>,
     out: &mut O,
 ) -> Result<(), Status>
-    requires { length names.now ≤ 64 }
-    ensures does { DoesProgram (emits shown limits.frames limits.cells) (status_of result) (pass_list (λ p. meaning p) (λ p. counts p) passes.old passes.new names.now) checked.prog [] [] (O.seen out.old) (O.seen out.new) }
-    ensures same { AllSame (λ p. meaning p) passes.old passes.new }
+    ensures same_boxes { passes.new.boxes.ghost_name ≡ passes.old.boxes.ghost_name }
+    ensures does { DoesProgram (emits shown limits.frames limits.cells) (status_of result) (pass_list (λ p. meaning p) (λ p. counts p) passes.old.boxes.now passes.new.boxes.now passes.old.names) checked.prog [] [] (O.seen out.old) (O.seen out.new) }
+    ensures same { AllSame (λ p. meaning p) passes.old.boxes.now passes.new.boxes.now }
 {
-    let made = transformed(alloc, passes, names, checked)?;
+    let made = transformed(alloc, passes.boxes, &passes.names, checked)?;
     let image = image_of(alloc, &made, limits)?;
     put_words(image.words.as_slice(), out)
 }

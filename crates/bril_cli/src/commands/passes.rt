@@ -8,6 +8,7 @@ ghost use Rattle.bril_report.specs.StageFaults.{status_of};
 ghost use Rattle.bril_report.specs.Telling.{Telling};
 ghost use Rattle.pass_law.specs.Chains.{AllSame};
 
+use crate::listed_passes::ListedPasses;
 use bril_checker::Checked;
 use bril_commands::list::{tell_tallies, transformed};
 use bril_names::unnumber;
@@ -16,9 +17,6 @@ use bril_report::{Outputs, Status};
 use bril_text::write_text;
 use bril_tree::bytes::Bytes;
 use bril_tree::program::Prog;
-use bril_tree::sequence::Seq;
-use bril_tree::text::Text;
-use pass_law::Pass;
 use std::alloc::{AllocError, Global};
 
 /// Puts the canonical text of the program that a list of passes makes of an accepted program on the output. After that the tallies of
@@ -29,18 +27,18 @@ use std::alloc::{AllocError, Global};
 pub fn put_transformed<O: Sink, E: Sink>(
     alloc: Global,
     checked: Checked,
-    passes: &mut [Box<dyn Pass>],
-    names: &Seq<Text>,
+    passes: &mut ListedPasses<'_>,
     outputs: &mut Outputs<'_, '_, O, E>,
 ) -> Result<(), Status>
-    requires { length names.now ≤ 64 }
-    ensures does { Telling O.seen E.seen (λ told s t. DoesProgram transforms (status_of result) (pass_list (λ p. meaning p) (λ p. counts p) passes.old passes.new names.now) checked.prog [] told s t) outputs.old outputs.new }
-    ensures same { AllSame (λ p. meaning p) passes.old passes.new }
+    ensures same_boxes { passes.new.boxes.ghost_name ≡ passes.old.boxes.ghost_name }
+    ensures does { Telling O.seen E.seen (λ told s t. DoesProgram transforms (status_of result) (pass_list (λ p. meaning p) (λ p. counts p) passes.old.boxes.now passes.new.boxes.now passes.old.names) checked.prog [] told s t) outputs.old outputs.new }
+    ensures same { AllSame (λ p. meaning p) passes.old.boxes.now passes.new.boxes.now }
 {
-    let made = transformed(alloc, passes, names, checked)?;
+    let made = transformed(alloc, passes.boxes, &passes.names, checked)?;
     let text = text_of(alloc, made.prog())?;
     let put = outputs.out.put(text.as_slice());
-    tell_tallies(passes, names.as_slice(), &mut outputs.err);
+    let boxes = &mut *passes.boxes;
+    tell_tallies(boxes, passes.names.as_slice(), &mut outputs.err);
     put?;
     Ok(())
 }

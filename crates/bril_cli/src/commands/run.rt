@@ -17,6 +17,7 @@ ghost use Rattle.rv64_implements.specs.Implements.{Implements};
 ghost use Rattle.rv64_words.specs.Region.{most_words, most_stack};
 
 use crate::image::image_of;
+use crate::listed_passes::ListedPasses;
 use crate::stats::tell_stats;
 use bril_checker::Checked;
 use bril_commands::arguments::values_of;
@@ -28,7 +29,6 @@ use bril_tree::program::Prog;
 use bril_tree::sequence::Seq;
 use bril_tree::text::Text;
 use bril_tree::value::Value;
-use pass_law::Pass;
 use rv64_machine::answer::RunAnswer;
 use rv64_machine::machine::Machine;
 use rv64_words::image::Image;
@@ -55,16 +55,15 @@ pub fn run<O: Sink, E: Sink>(
     checked: Checked,
     words: &[Text],
     settings: RunSettings,
-    passes: &mut [Box<dyn Pass>],
-    names: &Seq<Text>,
+    passes: &mut ListedPasses<'_>,
     outputs: &mut Outputs<'_, '_, O, E>,
 ) -> Result<(), Status>
-    requires { length names.now ≤ 64 }
-    ensures does { Telling O.seen E.seen (λ told s t. DoesProgram (runs settings.limits.frames settings.limits.cells settings.steps settings.stats) (status_of result) (pass_list (λ p. meaning p) (λ p. counts p) passes.old passes.new names.now) checked.prog words.now told s t) outputs.old outputs.new }
-    ensures same { AllSame (λ p. meaning p) passes.old passes.new }
+    ensures same_boxes { passes.new.boxes.ghost_name ≡ passes.old.boxes.ghost_name }
+    ensures does { Telling O.seen E.seen (λ told s t. DoesProgram (runs settings.limits.frames settings.limits.cells settings.steps settings.stats) (status_of result) (pass_list (λ p. meaning p) (λ p. counts p) passes.old.boxes.now passes.new.boxes.now passes.old.names) checked.prog words.now told s t) outputs.old outputs.new }
+    ensures same { AllSame (λ p. meaning p) passes.old.boxes.now passes.new.boxes.now }
 {
     let values = values_of(alloc, checked.prog(), words)?;
-    let made = transformed(alloc, passes, names, checked)?;
+    let made = transformed(alloc, passes.boxes, &passes.names, checked)?;
     run_with(alloc, &made, &values, settings, outputs)
 }
 

@@ -98,10 +98,10 @@ returns-in-WriteJson-clause-does g c =
     rw c.in-WriteJson.is (record { same_output = refl; told = []; does = works; tells = Tells-none g.E.Sink.seen c.args.outputs.now.err })
 
 pub returns-in_err-program-in-Run-clause-keeps : goal.returns-in_err-program-in-Run-clause-keeps
-returns-in_err-program-in-Run-clause-keeps g c = kept (λ p. (goal.Pass-dyn g (p.vtable, p.value)).meaning p.value) (takes_passes (command c.args.request.action)) c.args.passes.now
+returns-in_err-program-in-Run-clause-keeps g c = kept (λ p. (goal.Pass-dyn g (p.vtable, p.value)).meaning p.value) (takes_passes (command c.args.request.action)) c.args.passes.now.boxes.now
 
 pub returns-in_err-program-in-Emit-clause-keeps : goal.returns-in_err-program-in-Emit-clause-keeps
-returns-in_err-program-in-Emit-clause-keeps g c = kept (λ p. (goal.Pass-dyn g (p.vtable, p.value)).meaning p.value) (takes_passes (command c.args.request.action)) c.args.passes.now
+returns-in_err-program-in-Emit-clause-keeps g c = kept (λ p. (goal.Pass-dyn g (p.vtable, p.value)).meaning p.value) (takes_passes (command c.args.request.action)) c.args.passes.now.boxes.now
 
 pub returns-in_err-program-in-Passes-clause-keeps : goal.returns-in_err-program-in-Passes-clause-keeps
-returns-in_err-program-in-Passes-clause-keeps g c = kept (λ p. (goal.Pass-dyn g (p.vtable, p.value)).meaning p.value) (takes_passes (command c.args.request.action)) c.args.passes.now
+returns-in_err-program-in-Passes-clause-keeps g c = kept (λ p. (goal.Pass-dyn g (p.vtable, p.value)).meaning p.value) (takes_passes (command c.args.request.action)) c.args.passes.now.boxes.now
