@@ -1,6 +1,6 @@
 // `emit`: the machine words of an accepted program are written.
 
-ghost use Rattle.std.specs.Prelude.{◌≡◌, ◌%◌, ◌<◌, ◌≤◌, [], length};
+ghost use Rattle.std.specs.Prelude.{◌≡◌, ◌%◌, ◌<◌, []};
 ghost use Rattle.bril_commands.specs.Driver.{DoesProgram};
 ghost use Rattle.bril_commands.specs.Outcome.{PutsText};
 ghost use Rattle.bril_commands.specs.PassList.{pass_list};

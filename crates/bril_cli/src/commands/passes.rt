@@ -1,6 +1,6 @@
 // `passes`: the program that a list of passes makes of an accepted program is written, in canonical text.
 
-ghost use Rattle.std.specs.Prelude.{◌≤◌, [], length, IfOk};
+ghost use Rattle.std.specs.Prelude.{[], IfOk};
 ghost use Rattle.bril_commands.specs.Driver.{DoesProgram};
 ghost use Rattle.bril_commands.specs.PassList.{pass_list};
 ghost use Rattle.bril_commands.specs.commands.Passes.{IsTextOf, transforms};

@@ -36,11 +36,11 @@ returns-clause-does g c =
     let boxes : c.do_command.new.passes.boxes.now ≡ c.passes-1.given.0 = search rules in
     let only : IsOnlyTree (format_of c.args.request.path.now) c.in_ok-source.source c.in_ok-tree.tree = search rules in
     let named = subst (λ (names : List (List ℕ)). DoesTree (command c.args.request.action) (status_of c.do_command.result)
-        (pass_list (λ p. (goal.Pass-dyn g (p.vtable, p.value)).meaning p.value) (λ p. (goal.Pass-dyn g (p.vtable, p.value)).counts p.value) c.args.passes.now c.do_command.new.passes.boxes.now names)
-        c.in_ok-tree.tree c.args.request.args.now does.told (g.O.Sink.seen c.args.outputs.now.out.now) (g.O.Sink.seen c.do_command.new.outputs.out.now)) c.in_ok-names.ensures does.does in
+    (pass_list (λ p. (goal.Pass-dyn g (p.vtable, p.value)).meaning p.value) (λ p. (goal.Pass-dyn g (p.vtable, p.value)).counts p.value) c.args.passes.now c.do_command.new.passes.boxes.now names)
+    c.in_ok-tree.tree c.args.request.args.now does.told (g.O.Sink.seen c.args.outputs.now.out.now) (g.O.Sink.seen c.do_command.new.outputs.out.now)) c.in_ok-names.ensures does.does in
     let lent = subst (λ after. DoesTree (command c.args.request.action) (status_of c.do_command.result)
-        (pass_list (λ p. (goal.Pass-dyn g (p.vtable, p.value)).meaning p.value) (λ p. (goal.Pass-dyn g (p.vtable, p.value)).counts p.value) c.args.passes.now after (names_of c.args.request.list.now))
-        c.in_ok-tree.tree c.args.request.args.now does.told (g.O.Sink.seen c.args.outputs.now.out.now) (g.O.Sink.seen c.do_command.new.outputs.out.now)) boxes named in
+    (pass_list (λ p. (goal.Pass-dyn g (p.vtable, p.value)).meaning p.value) (λ p. (goal.Pass-dyn g (p.vtable, p.value)).counts p.value) c.args.passes.now after (names_of c.args.request.list.now))
+    c.in_ok-tree.tree c.args.request.args.now does.told (g.O.Sink.seen c.args.outputs.now.out.now) (g.O.Sink.seen c.do_command.new.outputs.out.now)) boxes named in
     record {
       same_output = does.same_output;
       told = does.told;
