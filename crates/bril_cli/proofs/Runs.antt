@@ -91,8 +91,8 @@ module _ (image : Image) (p : Prog) (limits : Limits) (values : List Value) (imp
       whole ended ends ran stats =
           let here : (image_after image limits values words).stopped ≡ option_map Finished ended = ap (λ (u : State). u.stopped) (sym (reached words)) ∙ ends in
           let told : stats_told stats p image.guards (state_of m') ≡ stats_told stats p image.guards (image_after image limits values words) =
-              ap (stats_told stats p image.guards) ran.became.state ∙ told_unprinted stats p image.guards (reached_after m words)
-                  ∙ ap (stats_told stats p image.guards) (reached words) in
+          ap (stats_told stats p image.guards) ran.became.state ∙ told_unprinted stats p image.guards (reached_after m words)
+          ∙ ap (stats_told stats p image.guards) (reached words) in
           record {
             output = printed;
             shows = subst (λ bytes. Executes p limits values words stats ended bytes printed) (sym told) (executes_at stats ended here);

@@ -15,9 +15,9 @@ returns-clause-promises g c =
     let out : c.answer.new.outputs.out.now ≡ c.out-1.given.0 = search rules in
     let err : c.answer.new.outputs.err.sink.now ≡ c.err-1.given.0 = search rules in
     let Holds : SinkSeen → SinkSeen → SinkSeen → Type 0 = λ e o f. Promises c.answer.result
-        (call_of c.args.words.now (g.F.Files.seen c.args.files.now) (g.F.Files.seen c.answer.new.files)
-        (g.O.Sink.seen c.args.out.now) o e f
-        (λ p. (goal.Pass-dyn g (p.vtable, p.value)).meaning p.value) (λ p. (goal.Pass-dyn g (p.vtable, p.value)).counts p.value) c.args.passes.now c.answer.new.passes) in
+    (call_of c.args.words.now (g.F.Files.seen c.args.files.now) (g.F.Files.seen c.answer.new.files)
+    (g.O.Sink.seen c.args.out.now) o e f
+    (λ p. (goal.Pass-dyn g (p.vtable, p.value)).meaning p.value) (λ p. (goal.Pass-dyn g (p.vtable, p.value)).counts p.value) c.args.passes.now c.answer.new.passes) in
     subst (λ (f : SinkSeen). Holds (g.E.Sink.seen c.args.err.now) (g.O.Sink.seen c.out-1.given.0) f) (ap g.E.Sink.seen err)
     (subst (λ (o : SinkSeen). Holds (g.E.Sink.seen c.args.err.now) o (g.E.Sink.seen c.answer.new.outputs.err.sink.now)) (ap g.O.Sink.seen out)
     (subst (λ (e : SinkSeen). Holds e (g.O.Sink.seen c.answer.new.outputs.out.now) (g.E.Sink.seen c.answer.new.outputs.err.sink.now)) begins c.answer.ensures.promises))

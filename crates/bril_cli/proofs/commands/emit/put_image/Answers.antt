@@ -20,11 +20,15 @@ pub returns-clause-does : goal.returns-clause-does
 returns-clause-does g c =
     let put = rw c.as_slice.ensures at c.put_words.ensures in
     let shows : ShowsImage shown c.in_ok-made.made.prog c.args.limits.frames c.args.limits.cells (listing c.in_ok-image.image.words) = record { limits = c.args.limits; are = (refl, refl); image = c.in_ok-image.image; implements = c.in_ok-image.ensures.implements; text = refl } in
-    inr ([], refl, inr (
-      c.in_ok-made.made.prog,
-      c.in_ok-made.ensures.ok,
+    inr (
+      [],
+      refl,
       inr (
-        (c.args.limits, (refl, refl), c.in_ok-image.ensures.within),
-        Works-text (ShowsImage shown c.in_ok-made.made.prog c.args.limits.frames c.args.limits.cells) (listing c.in_ok-image.image.words) shows (status_of c.put_words.result) _ _ put,
+        c.in_ok-made.made.prog,
+        c.in_ok-made.ensures.ok,
+        inr (
+          (c.args.limits, (refl, refl), c.in_ok-image.ensures.within),
+          Works-text (ShowsImage shown c.in_ok-made.made.prog c.args.limits.frames c.args.limits.cells) (listing c.in_ok-image.image.words) shows (status_of c.put_words.result) _ _ put,
+        ),
       ),
-    ))
+    )
