@@ -53,7 +53,7 @@ pub fn drive<F: Files, O: Sink, E: Sink>(
     let tree = read_tree(alloc, request.path.as_bytes(), source.as_slice())?;
     let mut passes = ListedPasses {
         boxes: passes,
-        names,
+        names: &names,
     };
     do_command(alloc, request, &tree, &mut passes, outputs)
 }
@@ -63,12 +63,12 @@ fn do_command<O: Sink, E: Sink>(
     alloc: Global,
     request: Request,
     tree: &Tree,
-    passes: &mut ListedPasses<'_>,
+    passes: &mut ListedPasses<'_, '_>,
     outputs: &mut Outputs<'_, '_, O, E>,
 ) -> Result<(), Status>
     requires range { IsActionInRange request.action }
     ensures same_boxes { passes.new.boxes.ghost_name ≡ passes.old.boxes.ghost_name }
-    ensures does { Telling O.seen E.seen (λ told s t. DoesTree (command request.entry.action) (status_of result) (pass_list (λ p. meaning p) (λ p. counts p) passes.old.boxes.now passes.new.boxes.now passes.old.names) tree.now request.entry.args.now told s t) outputs.old outputs.new }
+    ensures does { Telling O.seen E.seen (λ told s t. DoesTree (command request.entry.action) (status_of result) (pass_list (λ p. meaning p) (λ p. counts p) passes.old.boxes.now passes.new.boxes.now passes.old.names.now) tree.now request.entry.args.now told s t) outputs.old outputs.new }
     ensures keeps { KeepsPasses (λ p. meaning p) request.entry.action passes.old.boxes.now passes.new.boxes.now }
 {
     match request.action {

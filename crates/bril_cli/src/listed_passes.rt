@@ -8,8 +8,8 @@ use pass_law::Pass;
 
 /// The passes that a command was lent, and the names of the list to which it gives its program: 64 at most.
 #[derive(Drop)]
-pub struct ListedPasses<'a> {
+pub struct ListedPasses<'a, 'b> {
     pub boxes: &'a mut [Box<dyn Pass>],
-    pub names: Seq<Text>,
-    ghost few: { length names ≤ 64 },
+    pub names: &'b Seq<Text>,
+    ghost few: { length names.now ≤ 64 },
 }

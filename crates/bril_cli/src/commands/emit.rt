@@ -26,14 +26,14 @@ pub fn put_image<O: Sink>(
     alloc: Global,
     checked: Checked,
     limits: Limits,
-    passes: &mut ListedPasses<'_>,
+    passes: &mut ListedPasses<'_, '_>,
     out: &mut O,
 ) -> Result<(), Status>
     ensures same_boxes { passes.new.boxes.ghost_name ≡ passes.old.boxes.ghost_name }
-    ensures does { DoesProgram (emits shown limits.frames limits.cells) (status_of result) (pass_list (λ p. meaning p) (λ p. counts p) passes.old.boxes.now passes.new.boxes.now passes.old.names) checked.prog [] [] (O.seen out.old) (O.seen out.new) }
+    ensures does { DoesProgram (emits shown limits.frames limits.cells) (status_of result) (pass_list (λ p. meaning p) (λ p. counts p) passes.old.boxes.now passes.new.boxes.now passes.old.names.now) checked.prog [] [] (O.seen out.old) (O.seen out.new) }
     ensures same { AllSame (λ p. meaning p) passes.old.boxes.now passes.new.boxes.now }
 {
-    let made = transformed(alloc, passes.boxes, &passes.names, checked)?;
+    let made = transformed(alloc, passes.boxes, passes.names, checked)?;
     let image = image_of(alloc, &made, limits)?;
     put_words(image.words.as_slice(), out)
 }

@@ -1,6 +1,6 @@
 // `passes`: the program that a list of passes makes of an accepted program is written, in canonical text.
 
-ghost use Rattle.std.specs.Prelude.{[], IfOk};
+ghost use Rattle.std.specs.Prelude.{◌≡◌, [], IfOk};
 ghost use Rattle.bril_commands.specs.Driver.{DoesProgram};
 ghost use Rattle.bril_commands.specs.PassList.{pass_list};
 ghost use Rattle.bril_commands.specs.commands.Passes.{IsTextOf, transforms};
@@ -27,14 +27,14 @@ use std::alloc::{AllocError, Global};
 pub fn put_transformed<O: Sink, E: Sink>(
     alloc: Global,
     checked: Checked,
-    passes: &mut ListedPasses<'_>,
+    passes: &mut ListedPasses<'_, '_>,
     outputs: &mut Outputs<'_, '_, O, E>,
 ) -> Result<(), Status>
     ensures same_boxes { passes.new.boxes.ghost_name ≡ passes.old.boxes.ghost_name }
-    ensures does { Telling O.seen E.seen (λ told s t. DoesProgram transforms (status_of result) (pass_list (λ p. meaning p) (λ p. counts p) passes.old.boxes.now passes.new.boxes.now passes.old.names) checked.prog [] told s t) outputs.old outputs.new }
+    ensures does { Telling O.seen E.seen (λ told s t. DoesProgram transforms (status_of result) (pass_list (λ p. meaning p) (λ p. counts p) passes.old.boxes.now passes.new.boxes.now passes.old.names.now) checked.prog [] told s t) outputs.old outputs.new }
     ensures same { AllSame (λ p. meaning p) passes.old.boxes.now passes.new.boxes.now }
 {
-    let made = transformed(alloc, passes.boxes, &passes.names, checked)?;
+    let made = transformed(alloc, passes.boxes, passes.names, checked)?;
     let text = text_of(alloc, made.prog())?;
     let put = outputs.out.put(text.as_slice());
     let boxes = &mut *passes.boxes;

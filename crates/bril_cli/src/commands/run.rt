@@ -55,15 +55,15 @@ pub fn run<O: Sink, E: Sink>(
     checked: Checked,
     words: &[Text],
     settings: RunSettings,
-    passes: &mut ListedPasses<'_>,
+    passes: &mut ListedPasses<'_, '_>,
     outputs: &mut Outputs<'_, '_, O, E>,
 ) -> Result<(), Status>
     ensures same_boxes { passes.new.boxes.ghost_name ≡ passes.old.boxes.ghost_name }
-    ensures does { Telling O.seen E.seen (λ told s t. DoesProgram (runs settings.limits.frames settings.limits.cells settings.steps settings.stats) (status_of result) (pass_list (λ p. meaning p) (λ p. counts p) passes.old.boxes.now passes.new.boxes.now passes.old.names) checked.prog words.now told s t) outputs.old outputs.new }
+    ensures does { Telling O.seen E.seen (λ told s t. DoesProgram (runs settings.limits.frames settings.limits.cells settings.steps settings.stats) (status_of result) (pass_list (λ p. meaning p) (λ p. counts p) passes.old.boxes.now passes.new.boxes.now passes.old.names.now) checked.prog words.now told s t) outputs.old outputs.new }
     ensures same { AllSame (λ p. meaning p) passes.old.boxes.now passes.new.boxes.now }
 {
     let values = values_of(alloc, checked.prog(), words)?;
-    let made = transformed(alloc, passes.boxes, &passes.names, checked)?;
+    let made = transformed(alloc, passes.boxes, passes.names, checked)?;
     run_with(alloc, &made, &values, settings, outputs)
 }
 

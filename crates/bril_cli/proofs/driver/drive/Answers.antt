@@ -33,25 +33,30 @@ returns-in_err-tree-clause-does g c =
 pub returns-clause-does : goal.returns-clause-does
 returns-clause-does g c =
     let does = c.do_command.ensures.does in
-    let boxes : c.do_command.new.passes.boxes.now ≡ c.passes-1.given.0 = search rules in
     let only : IsOnlyTree (format_of c.args.request.path.now) c.in_ok-source.source c.in_ok-tree.tree = search rules in
     let named = subst (λ (names : List (List ℕ)). DoesTree (command c.args.request.action) (status_of c.do_command.result)
     (pass_list (λ p. (goal.Pass-dyn g (p.vtable, p.value)).meaning p.value) (λ p. (goal.Pass-dyn g (p.vtable, p.value)).counts p.value) c.args.passes.now c.do_command.new.passes.boxes.now names)
     c.in_ok-tree.tree c.args.request.args.now does.told (g.O.Sink.seen c.args.outputs.now.out.now) (g.O.Sink.seen c.do_command.new.outputs.out.now)) c.in_ok-names.ensures does.does in
-    let lent = subst (λ after. DoesTree (command c.args.request.action) (status_of c.do_command.result)
-    (pass_list (λ p. (goal.Pass-dyn g (p.vtable, p.value)).meaning p.value) (λ p. (goal.Pass-dyn g (p.vtable, p.value)).counts p.value) c.args.passes.now after (names_of c.args.request.list.now))
-    c.in_ok-tree.tree c.args.request.args.now does.told (g.O.Sink.seen c.args.outputs.now.out.now) (g.O.Sink.seen c.do_command.new.outputs.out.now)) boxes named in
     record {
       same_output = does.same_output;
       told = does.told;
-      does = inr (c.in_ok-source.source, c.in_ok-source.ensures.ok, inr (c.in_ok-tree.tree, only, lent));
+      does = inr (
+        c.in_ok-source.source,
+        c.in_ok-source.ensures.ok,
+        inr (
+          c.in_ok-tree.tree,
+          only,
+          subst (λ after. DoesTree (command c.args.request.action) (status_of c.do_command.result)
+              (pass_list (λ p. (goal.Pass-dyn g (p.vtable, p.value)).meaning p.value) (λ p. (goal.Pass-dyn g (p.vtable, p.value)).counts p.value) c.args.passes.now after (names_of c.args.request.list.now))
+              c.in_ok-tree.tree c.args.request.args.now does.told (g.O.Sink.seen c.args.outputs.now.out.now) (g.O.Sink.seen c.do_command.new.outputs.out.now)) (search rules) named,
+        ),
+      );
       tells = does.tells;
     }
 
 pub returns-clause-keeps : goal.returns-clause-keeps
 returns-clause-keeps g c =
-    let boxes : c.do_command.new.passes.boxes.now ≡ c.passes-1.given.0 = search rules in
-    subst (λ after. KeepsPasses (λ p. (goal.Pass-dyn g (p.vtable, p.value)).meaning p.value) c.args.request.action c.args.passes.now after) boxes c.do_command.ensures.keeps
+    subst (λ after. KeepsPasses (λ p. (goal.Pass-dyn g (p.vtable, p.value)).meaning p.value) c.args.request.action c.args.passes.now after) (search rules) c.do_command.ensures.keeps
 
 pub returns-in_err-source-clause-keeps : goal.returns-in_err-source-clause-keeps
 returns-in_err-source-clause-keeps g c = kept (λ p. (goal.Pass-dyn g (p.vtable, p.value)).meaning p.value) (takes_passes (command c.args.request.action)) c.args.passes.now

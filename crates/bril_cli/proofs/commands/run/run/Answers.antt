@@ -27,7 +27,7 @@ pub run_with-requires : goal.run_with-requires
 run_with-requires g c =
     let accepted = rw c.prog.ensures.value at c.prog.ensures.accepted in
     let fits = rw c.prog.ensures.value at c.in_ok-values.ensures.fits in
-    let l = (pass_list (λ p. (goal.Pass-dyn g (p.vtable, p.value)).meaning p.value) (λ p. (goal.Pass-dyn g (p.vtable, p.value)).counts p.value) c.args.passes.now.boxes.now c.transformed.new.passes c.args.passes.now.names) in
+    let l = (pass_list (λ p. (goal.Pass-dyn g (p.vtable, p.value)).meaning p.value) (λ p. (goal.Pass-dyn g (p.vtable, p.value)).counts p.value) c.args.passes.now.boxes.now c.transformed.new.passes c.args.passes.now.names.now) in
     (fits_made l c.args.checked.prog c.in_ok-made.made.prog c.in_ok-made.ensures.ok accepted c.in_ok-values.values fits)
 
 pub returns-clause-does : goal.returns-clause-does
@@ -37,7 +37,7 @@ returns-clause-does g c =
     let fits = rw c.prog.ensures.value at c.in_ok-values.ensures.fits in
     let did = c.run_with.ensures in
     let settings = c.args.settings in
-    let l = (pass_list (λ p. (goal.Pass-dyn g (p.vtable, p.value)).meaning p.value) (λ p. (goal.Pass-dyn g (p.vtable, p.value)).counts p.value) c.args.passes.now.boxes.now c.transformed.new.passes c.args.passes.now.names) in
+    let l = (pass_list (λ p. (goal.Pass-dyn g (p.vtable, p.value)).meaning p.value) (λ p. (goal.Pass-dyn g (p.vtable, p.value)).counts p.value) c.args.passes.now.boxes.now c.transformed.new.passes c.args.passes.now.names.now) in
     let shows = run_shows l c.args.checked.prog c.in_ok-made.made.prog c.in_ok-made.ensures.ok accepted settings.limits settings.limits.frames settings.limits.cells (refl, refl) c.in_ok-values.values fits settings.steps settings.stats in
     let on = subject (runs settings.limits.frames settings.limits.cells settings.steps settings.stats) l c.args.checked.prog c.in_ok-made.made.prog c.in_ok-made.ensures.ok c.in_ok-values.values in
     let works = Works-as (executed c.in_ok-made.made.prog settings.limits c.in_ok-values.values settings.steps settings.stats) (ran on settings.limits.frames settings.limits.cells settings.steps settings.stats) refl refl shows (λ output none. none) did.told _ _ (status_of c.run_with.result) in
