@@ -21,6 +21,7 @@ use std::alloc::Global;
 pub fn image_of(alloc: Global, checked: &Checked, limits: Limits) -> Result<Image, Status>
     ensures implements { IfOk result (λ image. Implements image checked.now.prog limits) }
     ensures words { IfOk result (λ image. length image.words ≤ most_words) }
+    ensures guards { IfOk result (λ image. length image.guards ≤ length image.words) }
     ensures stack { IfOk result (λ image. image.stack ≤ most_stack) }
     ensures within { IfOk result (λ _. IsWithin checked.now.prog limits) }
     ensures err { IfErr result (λ status. RefusesImage status checked.now.prog limits) }

@@ -66,6 +66,7 @@ impl From<AllocError> for EmitFault {
 pub fn emit(alloc: Global, prog: &Checked, limits: Limits) -> Result<Image, EmitFault>
     ensures implements { IfOk result (λ image. Implements image prog.now.prog limits) }
     ensures words { IfOk result (λ image. length image.words ≤ most_words) }
+    ensures guards { IfOk result (λ image. length image.guards ≤ length image.words) }
     ensures stack { IfOk result (λ image. IsStackSize prog.now.prog limits image.stack) }
     ensures within { IfOk result (λ _. IsWithin prog.now.prog limits) }
     ensures fault { IfErr result (EmitRefuses prog.now.prog limits) }

@@ -49,5 +49,8 @@ returns-clause-implements c = (made c).implements
 pub returns-clause-words : goal.returns-clause-words
 returns-clause-words c = (made c).words
 
+pub returns-clause-guards : goal.returns-clause-guards
+returns-clause-guards c = (made c).guards
+
 pub returns-clause-stack : goal.returns-clause-stack
 returns-clause-stack c = (made c).stack
