@@ -35,11 +35,11 @@ use Rattle.pass_accept.specs.Stays.{FitsByItself}
 use Rattle.pass_accept.proofs.Edited.{edit_accepted, nop-new}
 use Rattle.ssa_exit.specs.Laws.{names_a_shadow}
 use Rattle.ssa_exit.specs.Unssaed.{is_written, writes_shadow}
-use Rattle.ssa_exit.proofs.Items.{CopyThere, GivesThere, copy_there, gives_there, none_named}
+use Rattle.ssa_exit.proofs.Items.{CopyThere, at-point, copy_there, gives_there, in-code, in-names, is-name, names-long, none_named}
 use Rattle.ssa_exit.proofs.Points.{Unssaed, Kind, Stays, Gets, Sets, kind, kept, new-name, Got, Copied, Undefined, got, Put, Given, Gone, put}
 use Rattle.ssa_exit.proofs.Refines.{preserves, unssa_plan}
 use Rattle.ssa_exit.proofs.Types.{dest-stays, stands-typed}
-use Rattle.ssa_exit.proofs.Variables.{get-typed, here-in, set-typed}
+use Rattle.ssa_exit.proofs.Variables.{both-true, get-typed, set-typed}
 use Rattle.ssa_exit.proofs.Walks.{walks}
 
 -- ---- types
@@ -49,12 +49,8 @@ same_base-own base.Int = refl
 same_base-own base.Bool = refl
 same_base-own base.Char = refl
 
-and-true : (b c : Bool) → b ≡ true → c ≡ true → b && c ≡ true
-and-true true c e h = h
-and-true false c e h = absurd cc
-
 same_type-own : (t : Ty) → same_type t t ≡ true
-same_type-own t = and-true (t.depth == t.depth) (same_base t.base t.base) (eq-eqb t.depth t.depth refl) (same_base-own t.base)
+same_type-own t = both-true (t.depth == t.depth) (same_base t.base t.base) (eq-eqb t.depth t.depth refl) (same_base-own t.base)
 
 -- a copy between variables of its type meets its row
 copy-fits : (Q : Prog) (G : Func) (d s : ℕ) (ty : Ty) → variable_type G.vars d ≡ Some ty → variable_type G.vars s ≡ Some ty → FitsByItself Q G (Act (Some d) (Some ty) op.Id (s ∷ []) [] [])
@@ -82,21 +78,6 @@ module _ (P Q : Prog) (fresh : ℕ → ℕ → List ℕ) (accepted : IsAccepted 
   abbrev W : List (List ℕ)
   W = variable_names G.vars
 
-  long : length V ≡ length F.vars
-  long = length-map F.vars (λ (v : VarInfo). v.name)
-
-  result-long : length W ≡ length G.vars
-  result-long = length-map G.vars (λ (v : VarInfo). v.name)
-
-  in-w : (d : ℕ) → d < length (names_in (slice_get Q.funcs f)) → d < length W
-  in-w d low = subst (λ o. d < length (names_in o)) q low
-
-  is-w : (d : ℕ) (name : List ℕ) → named (names_in (slice_get Q.funcs f)) d ≡ name → named W d ≡ name
-  is-w d name e = sym (ap (λ o. named (names_in o) d) q) ∙ e
-
-  at-result : (i : ℕ) (b : Instr) → item_at Q f i ≡ Some b → slice_get G.code i ≡ Some b
-  at-result i b at = ap (λ o. slice_get (items_of o) i) (sym q) ∙ at
-
   -- a `set` of the shadow of a variable with a type became a copy to what stands for it
   written-dest : (x : ℕ) (ty : Ty) → is_written F.code x ≡ true → variable_type F.vars x ≡ Some ty → (d : ℕ) → d < length W → named W d ≡ fresh f x → IsDestination G.code d
   written-dest x ty w typed d inside stands =
@@ -105,24 +86,24 @@ module _ (P Q : Prog) (fresh : ℕ → ℕ → List ℕ) (accepted : IsAccepted 
       of k.0 s.1 k.1 s.4 (kind P accepted f k.0)
     where
       of : (j : ℕ) (a : Instr) → slice_get F.code j ≡ Some a → writes_shadow x a ≡ true → Kind (item_at P f j) → IsDestination G.code d
-      of j a here sets (Stays e) = absurd (stays a sets (ap names_a_shadow (sym (ap (λ o. slice_get (items_of o) j) p ∙ here)) ∙ e))
+      of j a here sets (Stays e) = absurd (stays a sets (ap names_a_shadow (sym (at-point P f F p j a here)) ∙ e))
         where
           stays : (a : Instr) → writes_shadow x a ≡ true → names_a_shadow (Some a) ≡ false → ⊥
           stays (Label l) w n = cc
           stays (Const d ty v) w n = cc
           stays (Act d ty op.Set args fns ls) w n = cc
           stays (Act d ty _ args fns ls) w n = cc
-      of j a here sets (Gets z zty args fns ls at) = absurd (let e = ap (writes_shadow x) (same_Some a _ (sym (ap (λ o. slice_get (items_of o) j) p ∙ here) ∙ at)) in let h = sym sets ∙ e in cc)
+      of j a here sets (Gets z zty args fns ls at) = absurd (let e = ap (writes_shadow x) (same_Some a _ (sym (at-point P f F p j a here) ∙ at)) in let h = sym sets ∙ e in cc)
       of j a here sets (Sets sty z y fns ls at) = by (put P Q fresh t f F p j sty z y fns ls at)
         where
           one : x ≡ z
-          one = eqb-true x z (sym (ap (writes_shadow x) (same_Some a _ (sym (ap (λ o. slice_get (items_of o) j) p ∙ here) ∙ at))) ∙ sets)
+          one = eqb-true x z (sym (ap (writes_shadow x) (same_Some a _ (sym (at-point P f F p j a here) ∙ at))) ∙ sets)
 
           by : Put P Q fresh t f F p j z y → IsDestination G.code d
           by (Given s given tree) =
               let c = copy_there Q f j (fresh f z) s (named V y) tree in
-              let same : c.dest ≡ d = one_number W (Differ-variables G) c.dest d (in-w c.dest c.dest_in) inside (is-w c.dest _ c.dest_is ∙ ap (fresh f) (sym one) ∙ sym stands) in
-              record { point = j; item = _; at = at-result j _ c.at; dest = ap Some same }
+              let same : c.dest ≡ d = one_number W (Differ-variables G) c.dest d (in-names Q f G q c.dest c.dest_in) inside (is-name Q f G q c.dest _ c.dest_is ∙ ap (fresh f) (sym one) ∙ sym stands) in
+              record { point = j; item = _; at = in-code Q f G q j _ c.at; dest = ap Some same }
           by (Gone none tree) = absurd (let e : Some ty ≡ None = sym typed ∙ ap (variable_type F.vars) one ∙ none in cc)
 
   -- an item that gives a variable of the program a value, of its type
@@ -154,7 +135,7 @@ module _ (P Q : Prog) (fresh : ℕ → ℕ → List ℕ) (accepted : IsAccepted 
           a = Act (Some x) (Some ty) op.Get args fns ls
 
           below : x < length F.vars
-          below = variable_below F j _ (here-in P accepted f F p j _ at) x (inl refl)
+          below = variable_below F j _ (in-code P f F p j _ at) x (inl refl)
 
           typed : variable_type F.vars x ≡ Some ty
           typed = get-typed P accepted f F p j x ty args fns ls at
@@ -163,30 +144,30 @@ module _ (P Q : Prog) (fresh : ℕ → ℕ → List ℕ) (accepted : IsAccepted 
           of (Copied w tree) =
               let c = copy_there Q f j (named V x) ty (fresh f x) tree in
               let source : variable_type G.vars c.source ≡ Some ty =
-              stands-typed P Q fresh accepted t f F G p q x c.source below (let l = in-w c.source c.source_in in omega (arith, result-long)) (is-w c.source _ c.source_is) ty typed
-              (written-dest x ty w typed c.source (in-w c.source c.source_in) (is-w c.source _ c.source_is)) in
+              stands-typed P Q fresh accepted t f F G p q x c.source below (let l = in-names Q f G q c.source c.source_in in omega (arith, names-long Q f G q)) (is-name Q f G q c.source _ c.source_is) ty typed
+              (written-dest x ty w typed c.source (in-names Q f G q c.source c.source_in) (is-name Q f G q c.source _ c.source_is)) in
               subst (IsNew P Q f F G) (is-b _ c.at)
-              (gives-new j x c.dest ty (Act (Some x) (Some ty) op.Get args fns ls) (Act (Some c.dest) (Some ty) op.Id (c.source ∷ []) [] []) at refl refl refl refl (in-w c.dest c.dest_in) (is-w c.dest _ c.dest_is) (omega (arith, long, below))
-              (λ keeps dt. copy-fits Q G c.dest c.source ty dt source) typed (at-result j _ c.at))
+              (gives-new j x c.dest ty (Act (Some x) (Some ty) op.Get args fns ls) (Act (Some c.dest) (Some ty) op.Id (c.source ∷ []) [] []) at refl refl refl refl (in-names Q f G q c.dest c.dest_in) (is-name Q f G q c.dest _ c.dest_is) (omega (arith, names-long P f F p, below))
+              (λ keeps dt. copy-fits Q G c.dest c.source ty dt source) typed (in-code Q f G q j _ c.at))
           of (Undefined w tree) =
               let c = gives_there Q f j (named V x) ty op.Undef [] tree in
               subst (IsNew P Q f F G) (is-b _ (c.at ∙ ap (λ l. Some (Act (Some c.dest) (Some ty) op.Undef l [] [])) (none_named _ c.args c.args_are)))
-              (gives-new j x c.dest ty (Act (Some x) (Some ty) op.Get args fns ls) (Act (Some c.dest) (Some ty) op.Undef [] [] []) at refl refl refl refl (in-w c.dest c.dest_in) (is-w c.dest _ c.dest_is) (omega (arith, long, below))
-              (λ keeps dt. undef-fits Q G c.dest ty dt) typed (at-result j _ (c.at ∙ ap (λ l. Some (Act (Some c.dest) (Some ty) op.Undef l [] [])) (none_named _ c.args c.args_are))))
+              (gives-new j x c.dest ty (Act (Some x) (Some ty) op.Get args fns ls) (Act (Some c.dest) (Some ty) op.Undef [] [] []) at refl refl refl refl (in-names Q f G q c.dest c.dest_in) (is-name Q f G q c.dest _ c.dest_is) (omega (arith, names-long P f F p, below))
+              (λ keeps dt. undef-fits Q G c.dest ty dt) typed (in-code Q f G q j _ (c.at ∙ ap (λ l. Some (Act (Some c.dest) (Some ty) op.Undef l [] [])) (none_named _ c.args c.args_are))))
       by (Sets sty x y fns ls at) = inl (of (put P Q fresh t f F p j sty x y fns ls at))
         where
           below : x < length F.vars
-          below = variable_below F j _ (here-in P accepted f F p j _ at) x (inl refl)
+          below = variable_below F j _ (in-code P f F p j _ at) x (inl refl)
 
           given-below : y < length F.vars
-          given-below = variable_below F j _ (here-in P accepted f F p j _ at) y (inr (inl refl))
+          given-below = variable_below F j _ (in-code P f F p j _ at) y (inr (inl refl))
 
           of : Put P Q fresh t f F p j x y → IsNew P Q f F G b
           of (Gone none tree) = subst (IsNew P Q f F G) (is-b nop (nop-at Q f j tree)) (nop-new P Q f F G)
           of (Given s typed tree) = subst (IsNew P Q f F G) (is-b _ c.at) (record {
             dest = λ z w name dw.
                 let same : c.dest ≡ w = same_Some c.dest w dw in
-                absurd (new-name P Q fresh t f F p x z (omega (arith, long, below)) name.0 (sym (is-w c.dest _ c.dest_is) ∙ ap (named W) same ∙ sym name.2));
+                absurd (new-name P Q fresh t f F p x z (omega (arith, names-long P f F p, below)) name.0 (sym (is-name Q f G q c.dest _ c.dest_is) ∙ ap (named W) same ∙ sym name.2));
             fits = λ keeps. copy-fits Q G c.dest c.source s dest-typed (source-typed keeps);
           })
             where
@@ -195,11 +176,11 @@ module _ (P Q : Prog) (fresh : ℕ → ℕ → List ℕ) (accepted : IsAccepted 
 
               dest-typed : variable_type G.vars c.dest ≡ Some s
               dest-typed =
-                  stands-typed P Q fresh accepted t f F G p q x c.dest below (let l = in-w c.dest c.dest_in in omega (arith, result-long)) (is-w c.dest _ c.dest_is) s typed
-                  (record { point = j; item = _; at = at-result j _ c.at; dest = refl })
+                  stands-typed P Q fresh accepted t f F G p q x c.dest below (let l = in-names Q f G q c.dest c.dest_in in omega (arith, names-long Q f G q)) (is-name Q f G q c.dest _ c.dest_is) s typed
+                  (record { point = j; item = _; at = in-code Q f G q j _ c.at; dest = refl })
 
               name : SameName V W y c.source
-              name = (omega (arith, long, given-below), in-w c.source c.source_in, sym (is-w c.source _ c.source_is))
+              name = (omega (arith, names-long P f F p, given-below), in-names Q f G q c.source c.source_in, sym (is-name Q f G q c.source _ c.source_is))
 
               source-typed : KeepsTypes F G → variable_type G.vars c.source ≡ Some s
               source-typed keeps = sym (keeps y c.source name left) ∙ was
@@ -209,7 +190,7 @@ module _ (P Q : Prog) (fresh : ℕ → ℕ → List ℕ) (accepted : IsAccepted 
 
                   left : (c.source < G.args) ⊎ IsDestination G.code c.source
                   left = ⊎_elim (λ less. inl (argument-stays P Q t.heads f F G p q y c.source name less))
-                      (λ r. ⊎_elim (λ d. inr (dest-stays P Q fresh accepted t f F G p q d.point d.item (ap (λ o. slice_get (items_of o) d.point) p ∙ d.at) y c.source name d.dest))
+                      (λ r. ⊎_elim (λ d. inr (dest-stays P Q fresh accepted t f F G p q d.point d.item (at-point P f F p d.point d.item d.at) y c.source name d.dest))
                       (λ n. absurd (let e : None ≡ Some s = sym n ∙ was in cc)) r) (typed_by F y given-below)
 
   -- ---- the function

@@ -1,12 +1,14 @@
 -- Copies, and variables that get some value, where a tree has them; and what items that name no shadow read and assign.
 use Rattle.std.proofs.Common.{◌≡◌, ◌⊎◌, ℕ, zero, suc, ◌<◌, true, false, List, [], ◌∷◌, ◌++◌, length, map, Option, Some, None, refl, sym, ap, subst, ◌∙◌, inl, inr, ⊎_elim, arith}
 use Rattle.std.specs.Prelude.{slice_get, slice_index}
+use Rattle.std.proofs.lemmas.List.{length-map}
 use Rattle.std.proofs.lemmas.Option.{same_Some}
 use Rattle.bril_tree.specs.declared.function_tree.Dest.{Dest}
 use Rattle.bril_tree.specs.declared.function_tree.Item.{Item}
 use Rattle.bril_tree.specs.declared.function_tree.Item.TheVariants as item
 use Rattle.bril_tree.specs.declared.numbered.Instr.{Instr}
 use Rattle.bril_tree.specs.declared.numbered.Instr.TheVariants.{Label, Const, Act}
+use Rattle.bril_tree.specs.declared.numbered.VarInfo.{VarInfo}
 use Rattle.bril_tree.specs.declared.numbered_function.Func.{Func}
 use Rattle.bril_tree.specs.declared.operation.Op.{Op}
 use Rattle.bril_tree.specs.declared.operation.Op.TheVariants as op
@@ -15,9 +17,9 @@ use Rattle.bril_tree.specs.declared.types.Ty.{Ty}
 use Rattle.bril_tree.specs.Assigned.{assigns_at}
 use Rattle.bril_tree.specs.FunctionForm.{listed}
 use Rattle.bril_tree.specs.Membership.{In}
-use Rattle.bril_tree.specs.Numbered.{dest_tree, item_tree, named, names_in, names_of_functions, tree_at, typed_name}
+use Rattle.bril_tree.specs.Numbered.{dest_tree, item_tree, named, names_in, names_of_functions, tree_at, typed_name, variable_names}
 use Rattle.bril_tree.specs.Operand.{Location, Variable, Shadow, reads_of}
-use Rattle.bril_tree.specs.Step.{item_at}
+use Rattle.bril_tree.specs.Step.{item_at, items_of}
 use Rattle.bril_tree.proofs.Trees.{nothing_at}
 use Rattle.bril_names.specs.Range.{AreBelow}
 use Rattle.bril_names.proofs.Naming.{AreBelow-append}
@@ -58,6 +60,26 @@ left-same F fresh (Const d ty v) i e = refl
 left-same F fresh (Act d ty op.Get args fns ls) i e = absurd cc
 left-same F fresh (Act d ty op.Set args fns ls) i e = absurd cc
 left-same F fresh (Act d ty _ args fns ls) i e = refl
+
+-- ---- a function of a program
+
+module _ (X : Prog) (f : ℕ) (F : Func) (p : slice_get X.funcs f ≡ Some F) where
+  pub names-long : length (variable_names F.vars) ≡ length F.vars
+  names-long = length-map F.vars (λ (v : VarInfo). v.name)
+
+  -- its names, by its number
+  pub in-names : (x : ℕ) → x < length (names_in (slice_get X.funcs f)) → x < length (variable_names F.vars)
+  in-names x low = subst (λ o. x < length (names_in o)) p low
+
+  pub is-name : (x : ℕ) (name : List ℕ) → named (names_in (slice_get X.funcs f)) x ≡ name → named (variable_names F.vars) x ≡ name
+  is-name x name e = sym (ap (λ o. named (names_in o) x) p) ∙ e
+
+  -- its items
+  pub in-code : (i : ℕ) (a : Instr) → item_at X f i ≡ Some a → slice_get F.code i ≡ Some a
+  in-code i a at = ap (λ o. slice_get (items_of o) i) (sym p) ∙ at
+
+  pub at-point : (i : ℕ) (a : Instr) → slice_get F.code i ≡ Some a → item_at X f i ≡ Some a
+  at-point i a at = ap (λ o. slice_get (items_of o) i) p ∙ at
 
 -- ---- the loop over the items
 

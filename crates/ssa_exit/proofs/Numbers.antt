@@ -38,7 +38,7 @@ use Rattle.pass_numbers.proofs.Items.{IsNamed, is_used, unchanged}
 use Rattle.pass_numbers.proofs.Locations.{IsLocationOf, location-listed, locations-counted, locations-few, locations_of}
 use Rattle.pass_numbers.proofs.Programs.{by-functions, functions_bound}
 use Rattle.ssa_exit.specs.Laws.{names_a_shadow}
-use Rattle.ssa_exit.proofs.Items.{CopyThere, GivesThere, copy_there, gives_there}
+use Rattle.ssa_exit.proofs.Items.{at-point, copy_there, gives_there, names-long}
 use Rattle.ssa_exit.proofs.Points.{Unssaed, Kind, Stays, Gets, Sets, kind, kept, Got, Copied, Undefined, got, Put, Given, Gone, put}
 use Rattle.ssa_exit.proofs.Refines.{preserves, unssa_plan}
 use Rattle.ssa_exit.proofs.Variables.{StandsFor, extra, of_items, variables}
@@ -101,15 +101,12 @@ module _ (P Q : Prog) (fresh : ℕ → ℕ → List ℕ) (accepted : IsAccepted 
     matches : MatchesWalks (unssa_plan P Q fresh accepted t) P Q f F.args G.args
     matches = walks P Q fresh accepted t f F G p q
 
-    at-code : (i : ℕ) (b : Instr) → slice_get G.code i ≡ Some b → item_at Q f i ≡ Some b
-    at-code i b at = ap (λ o. slice_get (items_of o) i) q ∙ at
-
     -- a label of Q is that of P
     one-label : (i l : ℕ) → slice_get G.code i ≡ Some (Label l) → (m : ℕ) × (slice_get F.code i ≡ Some (Label m)) × (named F.labels m ≡ named G.labels l)
     one-label i l at = by (kind P accepted f i)
       where
         no-act : (d : Option ℕ) (ty : Option Ty) (o : Op) (args fns ls : List ℕ) → item_at Q f i ≡ Some (Act d ty o args fns ls) → (m : ℕ) × (slice_get F.code i ≡ Some (Label m)) × (named F.labels m ≡ named G.labels l)
-        no-act d ty o args fns ls bt = absurd (let e = same_Some _ _ (sym (at-code i (Label l) at) ∙ bt) in cc)
+        no-act d ty o args fns ls bt = absurd (let e = same_Some _ _ (sym (at-point Q f G q i (Label l) at) ∙ bt) in cc)
 
         by : Kind (item_at P f i) → (m : ℕ) × (slice_get F.code i ≡ Some (Label m)) × (named F.labels m ≡ named G.labels l)
         by (Stays e) = label-back P Q f F G p q i i l (kept P Q fresh t f i e) at
@@ -150,7 +147,7 @@ module _ (P Q : Prog) (fresh : ℕ → ℕ → List ℕ) (accepted : IsAccepted 
     Takes (Shadow y) l = ⊥
 
     one-name : (y z : ℕ) (name : List ℕ) → y < length G.vars → z < length G.vars → name ≡ named W y → name ≡ named W z → y ≡ z
-    one-name y z name low high a b = let long = length-map G.vars (λ (v : VarInfo). v.name) in one_number W (Differ-variables G) y z (omega (arith, long)) (omega (arith, long)) (sym a ∙ b)
+    one-name y z name low high a b = one_number W (Differ-variables G) y z (omega (arith, names-long Q f G q)) (omega (arith, names-long Q f G q)) (sym a ∙ b)
 
     one-takes : (l k x : Location) → Takes l x → Takes k x → l ≡ k
     one-takes (Variable y) (Variable z) (Variable x) a b = ap Variable (one-name y z (named V x) a.0 b.0 a.1 b.1)
@@ -176,7 +173,7 @@ module _ (P Q : Prog) (fresh : ℕ → ℕ → List ℕ) (accepted : IsAccepted 
     takes (Shadow y) h =
         let s = Any-from_list_any (names_shadow y) G.code h.1 in
         let k = in_get s.1 G.code (subst (λ b. In b G.code) s.3 (in_contains _ G.code (Contains-get_or G.code s.0 s.1 s.2))) in
-        absurd (let e = sym (names-some y s.1 s.4) ∙ ap names_a_shadow (sym (at-code k.0 s.1 k.1)) ∙ leaves-none f k.0 in cc)
+        absurd (let e = sym (names-some y s.1 s.4) ∙ ap names_a_shadow (sym (at-point Q f G q k.0 s.1 k.1)) ∙ leaves-none f k.0 in cc)
 
     function_within : FunctionWithin 0 F G
     function_within = record {

@@ -45,7 +45,7 @@ use Rattle.pass_names.proofs.Points.{Differ-in, found, label_once}
 use Rattle.pass_names.proofs.Preserving.{knows_nothing, names_preserve, own_tree}
 use Rattle.pass_names.proofs.Renaming.{items_share}
 use Rattle.ssa_exit.specs.Laws.{names_a_shadow}
-use Rattle.ssa_exit.proofs.Items.{IsVariable, assigns_variables, copy_there, in_variables, reads_variables}
+use Rattle.ssa_exit.proofs.Items.{IsVariable, assigns_variables, copy_there, in_variables, names-long, reads_variables}
 use Rattle.ssa_exit.proofs.Points.{Unssaed, Kind, Stays, Gets, Sets, kind, kept, new-name, Got, Copied, Undefined, got, Put, Given, Gone, put, reached-written}
 use Rattle.ssa_exit.proofs.Variables.{none-stands}
 
@@ -172,7 +172,7 @@ module _ (P Q : Prog) (fresh : ℕ → ℕ → List ℕ) (accepted : IsAccepted 
           let all = many P Q t.heads f F g.0 s.1 g.1 vs (subst (λ o. length vs ≡ length (types_of o)) s.1 count) in
           let names : named (V f) y ≡ named (W f) y = ap (λ o. named (names_in o) y) s.1 ∙ first_names P Q t.heads f F g.0 s.1 g.1 y (omega (arith, all)) ∙ sym (ap (λ o. named (names_in o) y) g.1) in
           let few = F.formed.few_args in
-          let size : length (V f) ≡ length F.vars = ap (λ o. length (names_in o)) s.1 ∙ length-map F.vars (λ (v : VarInfo). v.name) in
+          let size : length (V f) ≡ length F.vars = ap (λ o. length (names_in o)) s.1 ∙ names-long P f F s.1 in
           absurd (new f x y h.0 (omega (arith, size, all)) (sym h.2 ∙ sym names))
 
   widens : Widens N Stands P Q
@@ -307,9 +307,9 @@ module _ (P Q : Prog) (fresh : ℕ → ℕ → List ℕ) (accepted : IsAccepted 
               (put-agrees f i r.frame.locations r.result_frame.locations agree x y c.dest c.source c.dest_in c.dest_is range.1 c.source_in (ap (λ l. named l y) (sym names-in) ∙ sym c.source_is) range.0) (λ k v known. absurd known)
           by (Gone none tree) =
               let g = partner P Q t.heads f F p in
-              let size : length (V f) ≡ length F.vars = ap length (sym names-in) ∙ length-map F.vars (λ (v : VarInfo). v.name) in
+              let size : length (V f) ≡ length F.vars = ap length (sym names-in) ∙ names-long P f F p in
               let unstood : (z : ℕ) → z < length (W f) → named (W f) z ≡ fresh f x → ⊥ = λ z low e.
-              none-stands P Q fresh accepted t f F g.0 p g.1 x (omega (arith, size, range.0)) none z (subst (λ n. z < n) (ap (λ o. length (names_in o)) g.1 ∙ length-map g.0.vars (λ (v : VarInfo). v.name)) low) (sym (ap (λ o. named (names_in o) z) g.1) ∙ e) in
+              none-stands P Q fresh accepted t f F g.0 p g.1 x (omega (arith, size, range.0)) none z (subst (λ n. z < n) (ap (λ o. length (names_in o)) g.1 ∙ names-long Q f g.0 g.1) low) (sym (ap (λ o. named (names_in o) z) g.1) ∙ e) in
               both_move M P Q limits accepted preserves s u r runs (Act None ty op.Set (x ∷ y ∷ []) fns ls) nop at (there ∙ nop-at Q f i tree) refl refl
               (shadowed x (read r.frame.locations.vars y) r.frame.locations) r.result_frame.locations (λ older v. refl) (λ older v. refl) (ap suc r.newest.contents.points)
               (unread f i r.frame.locations r.result_frame.locations agree x y unstood) (λ k v known. absurd known)

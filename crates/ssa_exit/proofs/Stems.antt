@@ -80,25 +80,3 @@ pub halves-of : (stem : List ℕ) (vars : List VarInfo) (zero one : List ℕ) �
 halves-of stem vars zero one ez eo =
     subst (λ z. count_beginning z vars + count_beginning one vars ≤ count_beginning stem vars) (sym ez)
     (subst (λ o. count_beginning (stem ++ 48 ∷ []) vars + count_beginning o vars ≤ count_beginning stem vars) (sym eo) (halves stem vars))
-
--- ---- identifiers
-
-pub ident-more : (stem rest : List ℕ) → is_identifier stem ≡ true → list_all continues_identifier rest ≡ true → is_identifier (stem ++ rest) ≡ true
-ident-more [] rest s r = absurd cc
-ident-more (c ∷ stem) rest s r =
-    let parts = and_parts (begins_identifier c) (list_all continues_identifier stem) s in
-    ap (λ b. b && list_all continues_identifier (stem ++ rest)) parts.0 ∙ list_all-append continues_identifier stem rest ∙ ap (λ b. b && list_all continues_identifier rest) parts.1 ∙ r
-
--- what begins an identifier continues one, too
-pub ident-continues : (name : List ℕ) → is_identifier name ≡ true → list_all continues_identifier name ≡ true
-ident-continues [] e = refl
-ident-continues (c ∷ name) e =
-    let parts = and_parts (begins_identifier c) (list_all continues_identifier name) e in
-    by (begins_identifier c) refl parts.0 ∙ parts.1
-  where
-    by : (b : Bool) → begins_identifier c ≡ b → b ≡ true → list_all continues_identifier (c ∷ name) ≡ list_all continues_identifier name
-    by true h t = ap (λ b. ((b || (c == 46)) || is_ascii_digit c) && list_all continues_identifier name) h
-    by false h t = absurd cc
-
-pub shadow-ident : (stem name : List ℕ) → is_identifier stem ≡ true → is_identifier name ≡ true → is_identifier (shadow_name stem name) ≡ true
-shadow-ident stem name s n = ident-more stem (46 ∷ name) s (ident-continues name n)

@@ -20,6 +20,7 @@ use Rattle.bril_tree.specs.Operand.{dest_of}
 use Rattle.bril_tree.specs.Step.{item_at, items_of}
 use Rattle.bril_tree.specs.Typing.{variable_type}
 use Rattle.bril_tree.proofs.Elements.{get_in, get_inside, in_get}
+use Rattle.bril_tree.proofs.Formed.{variable_below}
 use Rattle.bril_tree.proofs.Trees.{nop-at, nothing_at}
 use Rattle.bril_tree.proofs.Typings.{IsDestination, first_type-is, type-assigned, type-assigned_own, type_of, variable-has}
 use Rattle.bril_names.proofs.Functions.{Differ-variables}
@@ -29,10 +30,8 @@ use Rattle.pass_names.proofs.Heads.{first_names, same_args}
 use Rattle.pass_names.proofs.Points.{found, found_under}
 use Rattle.pass_accept.proofs.Left.{dest-there}
 use Rattle.pass_accept.proofs.Staying.{same_destination}
-use Rattle.ssa_exit.proofs.Items.{CopyThere, GivesThere, copy_there, gives_there}
+use Rattle.ssa_exit.proofs.Items.{at-point, copy_there, gives_there, in-code, in-names, is-name, names-long}
 use Rattle.ssa_exit.proofs.Points.{Unssaed, Kind, Stays, Gets, Sets, kind, kept, new-name, Got, Copied, Undefined, got, Put, Given, Gone, put}
-use Rattle.ssa_exit.proofs.Variables.{get-typed, here-in}
-use Rattle.bril_tree.proofs.Formed.{variable_below}
 
 module _ (P Q : Prog) (fresh : ℕ → ℕ → List ℕ) (accepted : IsAccepted P) (t : Unssaed P Q fresh) (f : ℕ) (F G : Func) (p : slice_get P.funcs f ≡ Some F) (q : slice_get Q.funcs f ≡ Some G) where
   abbrev V : List (List ℕ)
@@ -40,22 +39,6 @@ module _ (P Q : Prog) (fresh : ℕ → ℕ → List ℕ) (accepted : IsAccepted 
 
   abbrev W : List (List ℕ)
   W = variable_names G.vars
-
-  long : length V ≡ length F.vars
-  long = length-map F.vars (λ (v : VarInfo). v.name)
-
-  result-long : length W ≡ length G.vars
-  result-long = length-map G.vars (λ (v : VarInfo). v.name)
-
-  -- names of the result, by its function
-  in-w : (d : ℕ) → d < length (names_in (slice_get Q.funcs f)) → d < length W
-  in-w d low = subst (λ o. d < length (names_in o)) q low
-
-  is-w : (d : ℕ) (name : List ℕ) → named (names_in (slice_get Q.funcs f)) d ≡ name → named W d ≡ name
-  is-w d name e = sym (ap (λ o. named (names_in o) d) q) ∙ e
-
-  at-result : (i : ℕ) (b : Instr) → item_at Q f i ≡ Some b → slice_get G.code i ≡ Some b
-  at-result i b at = ap (λ o. slice_get (items_of o) i) (sym q) ∙ at
 
   -- ---- destinations
 
@@ -67,7 +50,7 @@ module _ (P Q : Prog) (fresh : ℕ → ℕ → List ℕ) (accepted : IsAccepted 
       gives : (z d : ℕ) (b : Instr) → item_at Q f i ≡ Some b → dest_of b ≡ Some d → d < length W → named W d ≡ named V z → z ≡ x → IsDestination G.code y
       gives z d b bt db low is same =
           let one : d ≡ y = one_number W (Differ-variables G) d y low name.1 (is ∙ ap (named V) same ∙ name.2) in
-          record { point = i; item = b; at = at-result i b bt; dest = db ∙ ap Some one }
+          record { point = i; item = b; at = in-code Q f G q i b bt; dest = db ∙ ap Some one }
 
       by : Kind (item_at P f i) → IsDestination G.code y
       by (Stays e) = dest-there P Q t.heads f F G p q x y name i a at dest i (sym (kept P Q fresh t f i e))
@@ -77,15 +60,15 @@ module _ (P Q : Prog) (fresh : ℕ → ℕ → List ℕ) (accepted : IsAccepted 
           same = let e : Some z ≡ Some x = sym (ap dest_of (same_Some a _ (sym at ∙ here))) ∙ dest in same_Some z x e
 
           of : Got P Q fresh t f F p i z ty → IsDestination G.code y
-          of (Copied w tree) = let c = copy_there Q f i (named V z) ty (fresh f z) tree in gives z c.dest _ c.at refl (in-w c.dest c.dest_in) (is-w c.dest _ c.dest_is) same
-          of (Undefined w tree) = let c = gives_there Q f i (named V z) ty op.Undef [] tree in gives z c.dest _ c.at refl (in-w c.dest c.dest_in) (is-w c.dest _ c.dest_is) same
+          of (Copied w tree) = let c = copy_there Q f i (named V z) ty (fresh f z) tree in gives z c.dest _ c.at refl (in-names Q f G q c.dest c.dest_in) (is-name Q f G q c.dest _ c.dest_is) same
+          of (Undefined w tree) = let c = gives_there Q f i (named V z) ty op.Undef [] tree in gives z c.dest _ c.at refl (in-names Q f G q c.dest c.dest_in) (is-name Q f G q c.dest _ c.dest_is) same
       by (Sets ty z y fns ls here) = absurd (let e : None ≡ Some x = sym (ap dest_of (same_Some a _ (sym at ∙ here))) ∙ dest in cc)
 
   -- ---- what stands for a shadow
 
   module _ (x d : ℕ) (low : x < length F.vars) (inside : d < length G.vars) (stands : named W d ≡ fresh f x) where
     in-v : x < length V
-    in-v = omega (arith, long)
+    in-v = omega (arith, names-long P f F p)
 
     -- it is no variable of a name of the program
     other-name : (z : ℕ) → z < length V → named V z ≡ named W d → ⊥
@@ -120,19 +103,19 @@ module _ (P Q : Prog) (fresh : ℕ → ℕ → List ℕ) (accepted : IsAccepted 
         by (Gets z zty args fns ls here) = of (got P Q fresh t f F p j z zty args fns ls here)
           where
             high : z < length V
-            high = let l = variable_below F j _ (here-in P accepted f F p j _ here) z (inl refl) in omega (arith, long)
+            high = let l = variable_below F j _ (in-code P f F p j _ here) z (inl refl) in omega (arith, names-long P f F p)
 
             of : Got P Q fresh t f F p j z zty → type_of b ≡ Some ty
-            of (Copied w tree) = let c = copy_there Q f j (named V z) zty (fresh f z) tree in other c.dest z _ c.at refl (is-w c.dest _ c.dest_is) high
-            of (Undefined w tree) = let c = gives_there Q f j (named V z) zty op.Undef [] tree in other c.dest z _ c.at refl (is-w c.dest _ c.dest_is) high
+            of (Copied w tree) = let c = copy_there Q f j (named V z) zty (fresh f z) tree in other c.dest z _ c.at refl (is-name Q f G q c.dest _ c.dest_is) high
+            of (Undefined w tree) = let c = gives_there Q f j (named V z) zty op.Undef [] tree in other c.dest z _ c.at refl (is-name Q f G q c.dest _ c.dest_is) high
         by (Sets sty z y fns ls here) = of (put P Q fresh t f F p j sty z y fns ls here)
           where
             of : Put P Q fresh t f F p j z y → type_of b ≡ Some ty
             of (Given s written tree) =
                 let c = copy_there Q f j (fresh f z) s (named V y) tree in
                 let same : c.dest ≡ d = same_Some c.dest d (ap dest_of (same-item _ c.at) ∙ db) in
-                let l = variable_below F j _ (here-in P accepted f F p j _ here) z (inl refl) in
-                let one : z ≡ x = (t.are f F p).differ z x (omega (arith, long)) in-v (sym (is-w c.dest _ c.dest_is) ∙ ap (named W) same ∙ stands) in
+                let l = variable_below F j _ (in-code P f F p j _ here) z (inl refl) in
+                let one : z ≡ x = (t.are f F p).differ z x (omega (arith, names-long P f F p)) in-v (sym (is-name Q f G q c.dest _ c.dest_is) ∙ ap (named W) same ∙ stands) in
                 ap type_of (sym (same-item _ c.at)) ∙ sym written ∙ ap (variable_type F.vars) one ∙ typed
             of (Gone none tree) = absurd (let e : None ≡ Some d = ap dest_of (same-item nop (nop-at Q f j tree)) ∙ db in cc)
 
@@ -144,19 +127,16 @@ module _ (P Q : Prog) (fresh : ℕ → ℕ → List ℕ) (accepted : IsAccepted 
         argument less =
             let both = (same_args P Q t.heads f F G p q).count in
             let few = F.formed.few_args in
-            absurd (other-name d (omega (arith, long, both)) (first_names P Q t.heads f F G p q d (omega (arith, both))))
-
-        at-code : (j : ℕ) (b : Instr) → slice_get G.code j ≡ Some b → item_at Q f j ≡ Some b
-        at-code j b at = ap (λ o. slice_get (items_of o) j) q ∙ at
+            absurd (other-name d (omega (arith, names-long P f F p, both)) (first_names P Q t.heads f F G p q d (omega (arith, both))))
 
         each : (b : Instr) → In b G.code → (type_assigned d b ≡ None) ⊎ (type_assigned d b ≡ Some ty)
         each b among =
             let k = in_get b G.code among in
-            ⊎_elim (λ h. inr (h.1 ∙ dest-typed_so ty typed k.0 b (at-code k.0 b k.1) h.0)) inl (type-assigned d b)
+            ⊎_elim (λ h. inr (h.1 ∙ dest-typed_so ty typed k.0 b (at-point Q f G q k.0 b k.1) h.0)) inl (type-assigned d b)
 
         later : G.args ≤ d → variable_type G.vars d ≡ Some ty
         later above =
             let v = get_inside G.vars d inside in
             variable-has G.vars d v.0 v.1 ∙ G.formed.types d v.0 above v.1
             ∙ first_type-is d ty G.code each some.item (get_in G.code some.point some.item some.at)
-            (type-assigned_own d some.item some.dest ∙ dest-typed_so ty typed some.point some.item (at-code some.point some.item some.at) some.dest)
+            (type-assigned_own d some.item some.dest ∙ dest-typed_so ty typed some.point some.item (at-point Q f G q some.point some.item some.at) some.dest)

@@ -18,7 +18,7 @@ use Rattle.bril_tree.specs.declared.types.Ty.{Ty}
 use Rattle.bril_tree.specs.Accepted.{IsAccepted}
 use Rattle.bril_tree.specs.FrameWords.{names_shadow}
 use Rattle.bril_tree.specs.Membership.{In}
-use Rattle.bril_tree.specs.Numbered.{item_tree, named, names_of_functions, point_tree, tree_at, variable_names}
+use Rattle.bril_tree.specs.Numbered.{item_tree, named, names_of_functions, nop, point_tree, tree_at, variable_names}
 use Rattle.bril_tree.specs.Step.{item_at, items_of}
 use Rattle.bril_tree.specs.Typing.{is_set_typed, same_type, variable_type}
 use Rattle.bril_tree.proofs.Acceptance.{accepted_function, shaped_at, typed_at}
@@ -34,19 +34,21 @@ use Rattle.pass_numbers.proofs.Different.{filter_in, in_filter}
 use Rattle.pass_numbers.proofs.Items.{IsNamed, IsOfItems, IsPlain, is_used, items-plain, nop-plain, plain-tree, unchanged}
 use Rattle.pass_numbers.proofs.Locations.{variable-named}
 use Rattle.ssa_exit.specs.Unssaed.{copy_item, undef_item}
+use Rattle.ssa_exit.proofs.Items.{in-code, names-long}
 use Rattle.ssa_exit.proofs.Points.{Unssaed, Kind, Stays, Gets, Sets, kind, kept, new-name, Got, Copied, Undefined, got, Put, Given, Gone, put}
+
+pub both-true : (b c : Bool) → b ≡ true → c ≡ true → b && c ≡ true
+both-true true c d e = e
+both-true false c d e = absurd cc
 
 -- ---- types that a `get` and a `set` tell
 
 module _ (P : Prog) (accepted : IsAccepted P) (f : ℕ) (F : Func) (p : slice_get P.funcs f ≡ Some F) (i : ℕ) where
-  pub here-in : (a : Instr) → item_at P f i ≡ Some a → slice_get F.code i ≡ Some a
-  here-in a at = ap (λ o. slice_get (items_of o) i) (sym p) ∙ at
-
   pub get-typed : (x : ℕ) (ty : Ty) (args fns ls : List ℕ) → item_at P f i ≡ Some (Act (Some x) (Some ty) op.Get args fns ls) → variable_type F.vars x ≡ Some ty
   get-typed x ty args fns ls at =
       let a : Instr = Act (Some x) (Some ty) op.Get args fns ls in
       let facts = accepted_function P f F accepted p in
-      dest-typed P F (is_some F.ret) a x ty (shaped_at P F facts i a (here-in a at)) (typed_at P F facts i a (here-in a at)) refl refl
+      dest-typed P F (is_some F.ret) a x ty (shaped_at P F facts i a (in-code P f F p i a at)) (typed_at P F facts i a (in-code P f F p i a at)) refl refl
 
   same-set : (s : Ty) (u v : Option Ty) → u ≡ Some s → is_set_typed u v ≡ true → v ≡ Some s
   same-set s None v e h = absurd (let n : None ≡ Some s = e in cc)
@@ -56,7 +58,7 @@ module _ (P : Prog) (accepted : IsAccepted P) (f : ℕ) (F : Func) (p : slice_ge
   pub set-typed : (ty : Option Ty) (x y : ℕ) (fns ls : List ℕ) → item_at P f i ≡ Some (Act None ty op.Set (x ∷ y ∷ []) fns ls) → (s : Ty) → variable_type F.vars x ≡ Some s → variable_type F.vars y ≡ Some s
   set-typed ty x y fns ls at s e =
       let a : Instr = Act None ty op.Set (x ∷ y ∷ []) fns ls in
-      let t = typed-unless (is_set_typed (variable_type F.vars x) (variable_type F.vars y)) (typed_at P F (accepted_function P f F accepted p) i a (here-in a at)) in
+      let t = typed-unless (is_set_typed (variable_type F.vars x) (variable_type F.vars y)) (typed_at P F (accepted_function P f F accepted p) i a (in-code P f F p i a at)) in
       same-set s (variable_type F.vars x) (variable_type F.vars y) e t
 
 module _ (P Q : Prog) (fresh : ℕ → ℕ → List ℕ) (accepted : IsAccepted P) (t : Unssaed P Q fresh) (f : ℕ) (F G : Func) (p : slice_get P.funcs f ≡ Some F) (q : slice_get Q.funcs f ≡ Some G) where
@@ -65,9 +67,6 @@ module _ (P Q : Prog) (fresh : ℕ → ℕ → List ℕ) (accepted : IsAccepted 
 
   abbrev W : List (List ℕ)
   W = variable_names G.vars
-
-  long : length V ≡ length F.vars
-  long = length-map F.vars (λ (v : VarInfo). v.name)
 
   -- ---- names that are extra
 
@@ -78,15 +77,10 @@ module _ (P Q : Prog) (fresh : ℕ → ℕ → List ℕ) (accepted : IsAccepted 
   abbrev pub extra : List (List ℕ)
   extra = map (fresh f) (filter is_left (range_with_len 0 (length F.vars)))
 
-  both : (b c : Bool) → b ≡ true → c ≡ true → b && c ≡ true
-  both true true d e = refl
-  both true false d e = absurd cc
-  both false c d e = absurd cc
-
   in_extra : (x : ℕ) (ty : Ty) → x < length F.vars → is_used F.code x ≡ true → variable_type F.vars x ≡ Some ty → In (fresh f x) extra
   in_extra x ty low used typed =
       in_map (fresh f) x (filter is_left (range_with_len 0 (length F.vars)))
-      (in_filter is_left (range_with_len 0 (length F.vars)) x (in_range 0 (length F.vars) x (omega arith) (omega arith)) (both (is_used F.code x) (is_some (variable_type F.vars x)) used (ap is_some typed)))
+      (in_filter is_left (range_with_len 0 (length F.vars)) x (in_range 0 (length F.vars) x (omega arith) (omega arith)) (both-true (is_used F.code x) (is_some (variable_type F.vars x)) used (ap is_some typed)))
 
   -- ---- items
 
@@ -104,7 +98,7 @@ module _ (P Q : Prog) (fresh : ℕ → ℕ → List ℕ) (accepted : IsAccepted 
     of-get x ty args fns ls at = by (got P Q fresh t f F p j x ty args fns ls at)
       where
         here : slice_get F.code j ≡ Some (Act (Some x) (Some ty) op.Get args fns ls)
-        here = here-in P accepted f F p j _ at
+        here = in-code P f F p j _ at
 
         low : x < length F.vars
         low = variable_below F j _ here x (inl refl)
@@ -127,7 +121,7 @@ module _ (P Q : Prog) (fresh : ℕ → ℕ → List ℕ) (accepted : IsAccepted 
     of-set ty x y fns ls at = by (put P Q fresh t f F p j ty x y fns ls at)
       where
         here : slice_get F.code j ≡ Some (Act None ty op.Set (x ∷ y ∷ []) fns ls)
-        here = here-in P accepted f F p j _ at
+        here = in-code P f F p j _ at
 
         names : (s : Ty) → variable_type F.vars x ≡ Some s → (name : List ℕ) → In name (fresh f x ∷ named V y ∷ []) → NameOf name
         names s typed name (inl e) =
@@ -137,7 +131,7 @@ module _ (P Q : Prog) (fresh : ℕ → ℕ → List ℕ) (accepted : IsAccepted 
 
         by : Put P Q fresh t f F p j x y → IsPlain unchanged extra F G b
         by (Given s typed tree) = plain-tree unchanged extra F G b among (names_of_functions Q.funcs) (copy_item (fresh f x) s (named V y)) (tree-of _ tree) refl refl (names s typed)
-        by (Gone none tree) = nop-plain unchanged extra F G b (same_Some _ _ (sym bt ∙ ap (λ o. slice_get (items_of o) j) (sym q) ∙ nop-at Q f j tree))
+        by (Gone none tree) = nop-plain unchanged extra F G b (same_Some _ _ (sym bt ∙ in-code Q f G q j nop (nop-at Q f j tree)))
 
     each : IsPlain unchanged extra F G b ⊎ ((i : ℕ) × (tree_at P f i ≡ tree_at Q f j))
     each = by (kind P accepted f j)
@@ -176,12 +170,12 @@ module _ (P Q : Prog) (fresh : ℕ → ℕ → List ℕ) (accepted : IsAccepted 
   none-stands x low none y high e = ⊎_elim old new (variables y high)
     where
       old : IsNamed unchanged F G y → ⊥
-      old n = let l = n.low in new-name P Q fresh t f F p x n.x (omega (arith, long)) (omega (arith, long)) (sym e ∙ sym n.same)
+      old n = let l = n.low in new-name P Q fresh t f F p x n.x (omega (arith, names-long P f F p)) (omega (arith, names-long P f F p)) (sym e ∙ sym n.same)
 
       new : StandsFor y → ⊥
       new s =
           let l = s.low in
-          let one : s.x ≡ x = (t.are f F p).differ s.x x (omega (arith, long)) (omega (arith, long)) (s.same ∙ e) in
+          let one : s.x ≡ x = (t.are f F p).differ s.x x (omega (arith, names-long P f F p)) (omega (arith, names-long P f F p)) (s.same ∙ e) in
           let h : is_some (variable_type F.vars x) ≡ true = ap (λ z. is_some (variable_type F.vars z)) (sym one) ∙ s.typed in
           let n = ap is_some none in
           cc

@@ -31,7 +31,7 @@ use Rattle.pass_names.proofs.Points.{Differ-in, found}
 use Rattle.pass_accept.proofs.Alone.{both_alone}
 use Rattle.pass_accept.proofs.Heads.{start-covers, start-shadow}
 use Rattle.ssa_exit.specs.Laws.{names_a_shadow}
-use Rattle.ssa_exit.proofs.Items.{CopyThere, copy_there}
+use Rattle.ssa_exit.proofs.Items.{CopyThere, copy_there, names-long}
 use Rattle.ssa_exit.proofs.Points.{Unssaed, Kind, Stays, Gets, Sets, kind, Got, Copied, Undefined, got, Put, Given, Gone, put, read-assigned, reached-written}
 use Rattle.ssa_exit.proofs.Refines.{preserves, unssa_plan}
 use Rattle.ssa_exit.proofs.Variables.{none-stands}
@@ -161,8 +161,8 @@ module _ (P Q : Prog) (fresh : ℕ → ℕ → List ℕ) (accepted : IsAccepted 
             no (Shadow z) (Shadow v) (inr h) e = h
             no (Shadow z) (Variable v) (inr h) e =
                 let same : z ≡ x = cc in
-                let size : length V ≡ length F.vars = ap length (sym names-in) ∙ length-map F.vars (λ (v : VarInfo). v.name) in
-                none-stands P Q fresh accepted t f F G p q x (omega (arith, size, range.0)) none v (subst (λ n. v < n) (ap (λ o. length (names_in o)) q ∙ length-map G.vars (λ (v : VarInfo). v.name)) h.1) (sym (ap (λ o. named (names_in o) v) q) ∙ h.2 ∙ ap (fresh f) same)
+                let size : length V ≡ length F.vars = ap length (sym names-in) ∙ names-long P f F p in
+                none-stands P Q fresh accepted t f F G p q x (omega (arith, size, range.0)) none v (subst (λ n. v < n) (ap (λ o. length (names_in o)) q ∙ names-long Q f G q) h.1) (sym (ap (λ o. named (names_in o) v) q) ∙ h.2 ∙ ap (fresh f) same)
 
     pub beside : IsReached (code_of P f) i → (names_a_shadow (item_at P f i) ≡ false) ⊎ Beside i
     beside reached = by (kind P accepted f i)
