@@ -4,6 +4,7 @@ use Rattle.bril_profile.specs.declared.profile.Profile.{Profile}
 use Rattle.bril_tree.specs.declared.program.Prog.{Prog}
 use Rattle.dead_code.specs.Dead.{dead_meaning}
 use Rattle.pass_law.specs.Meaning.{Meaning, SameMeaning}
+use Rattle.ssa_exit.specs.Unssa.{unssa_meaning}
 use Rattle.tidy_code.specs.Tidy.{tidy_meaning}
 
 -- a pass that is shipped: its name, and what it means
@@ -15,6 +16,7 @@ pub record Shipped : Type 1 where
 abbrev pub shipped : List Shipped
 shipped =
     record { name = codes "dead"; meaning = dead_meaning } ∷
+    record { name = codes "unssa"; meaning = unssa_meaning } ∷
     record { name = codes "tidy"; meaning = tidy_meaning } ∷ []
 
 -- whatever m makes of a program, n makes too

@@ -15,6 +15,7 @@ use bril_tree::text::Text;
 use bril_words::Misuse;
 use dead_code::Dead;
 use pass_law::Pass;
+use ssa_exit::Unssa;
 use std::alloc::{AllocError, Global};
 use std::env::{self, Args};
 use std::io::{self, BufWriter, ErrorKind, IsTerminal, Stderr, Stdout};
@@ -41,8 +42,9 @@ fn exit_number(ended: Result<u8, AllocError>) -> u8
 fn with_passes(rt: &HostRuntime) -> Result<u8, AllocError> {
     let alloc = rt.alloc();
     let dead: Box<dyn Pass> = Box::new(alloc, Dead::new())?;
+    let unssa: Box<dyn Pass> = Box::new(alloc, Unssa::new())?;
     let tidy: Box<dyn Pass> = Box::new(alloc, Tidy::new())?;
-    let mut passes = [dead, tidy];
+    let mut passes = [dead, unssa, tidy];
     let words = given_words(alloc, env::args(rt));
     let mut files = OsFiles::new(rt);
     let mut out = standard_output(rt)?;

@@ -13,6 +13,7 @@ use bril_tree::value::Value;
 use dead_code::Dead;
 use pass_law::Pass;
 use row_text::{LineFault, add_lines, add_unescaped};
+use ssa_exit::Unssa;
 use std::alloc::{AllocError, Global};
 use std::mem;
 use tidy_code::Tidy;
@@ -243,8 +244,9 @@ impl Case {
         err: &mut MemSink,
     ) -> Result<u8, AllocError> {
         let dead: Box<dyn Pass> = Box::new(self.alloc, Dead::new())?;
+        let unssa: Box<dyn Pass> = Box::new(self.alloc, Unssa::new())?;
         let tidy: Box<dyn Pass> = Box::new(self.alloc, Tidy::new())?;
-        let mut passes = [dead, tidy];
+        let mut passes = [dead, unssa, tidy];
         let passes = passes.as_mut_slice();
         Ok(bril_top(self.alloc, words, &mut self.files, out, err, passes))
     }
