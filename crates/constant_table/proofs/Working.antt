@@ -1,16 +1,12 @@
 -- The work lists: looking at a point, and at a location.
-use Rattle.std.proofs.Common.{◌≡◌, ◌⊎◌, ◌↔◌, ℕ, ◌+◌, ◌<◌, Bool, true, false, List, [], ◌∷◌, ◌++◌, map, Option, Some, None, refl, sym, ap, subst, ◌∙◌, inl, inr, ⊎_elim, arith, true≢false}
+use Rattle.std.proofs.Common.{◌≡◌, ◌⊎◌, ◌↔◌, ℕ, ◌+◌, ◌<◌, Bool, true, false, List, [], ◌∷◌, ◌++◌, Some, None, refl, sym, ap, subst, ◌∙◌, inl, inr, ⊎_elim, arith, true≢false}
 use Rattle.std.specs.Prelude.{slice_get, slice_index_or, is_some}
 use Rattle.std.specs.List.{Contains}
-use Rattle.std.specs.Option.{option_map, option_to_list}
 use Rattle.std.proofs.lemmas.Bool.{cases_eq}
 use Rattle.std.proofs.lemmas.Option.{same_Some, get_or_from_slice_get, slice_get_within}
 use Rattle.bril_tree.specs.declared.numbered.Instr.{Instr}
-use Rattle.bril_tree.specs.declared.numbered.Instr.TheVariants.{Label, Const, Act}
 use Rattle.bril_tree.specs.declared.numbered_function.Func.{Func}
-use Rattle.bril_tree.specs.declared.operation.Op.TheVariants as op
 use Rattle.bril_tree.specs.Assigned.{assigns_of}
-use Rattle.bril_tree.specs.FunctionForm.{listed}
 use Rattle.bril_tree.specs.Membership.{In}
 use Rattle.bril_tree.specs.Operand.{Location, Variable, reads_of}
 use Rattle.bril_tree.specs.Shape.{is_shaped, shape_fault_of}

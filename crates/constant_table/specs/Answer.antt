@@ -1,6 +1,6 @@
 -- What an item gives to the location that it assigns, by what is known of those that it reads: the answer of its row in the
 -- table of operations.
-use Rattle.std.specs.Prelude.{ℕ, if◌then◌else◌, List, map}
+use Rattle.std.specs.Prelude.{if◌then◌else◌, List, map}
 use Rattle.std.specs.List.{list_any}
 use Rattle.bril_tree.specs.declared.numbered.Instr.{Instr}
 use Rattle.bril_tree.specs.declared.numbered.Instr.TheVariants.{Label, Const, Act}

@@ -7,12 +7,13 @@ ghost use Rattle.flow_graph.specs.Reads.{reads_from};
 ghost use Rattle.constant_table.specs.Answer.{answer};
 ghost use Rattle.constant_table.specs.Consistent.{IsLeast};
 ghost use Rattle.constant_table.specs.Kept.{is_marked, kept, told};
+ghost use Rattle.constant_table.specs.Ways.{item_condition};
 ghost use Rattle.constant_table.specs.Work.{IsWork};
 ghost use Rattle.constant_table.specs.declared.known.Known.TheVariants.{Many, Nothing};
 
 use crate::answer::{answer, shadow, variable};
 use crate::known::Known;
-use crate::work::{Work, is_marked, settled};
+use crate::work::{Work, condition, is_marked, settled};
 use bril_checker::Checked;
 use bril_tree::numbered::Instr;
 use bril_tree::numbered_function::Func;
@@ -48,6 +49,14 @@ impl ConstTable {
         ensures { result ≡ answer (told self.now).known item.now }
     {
         answer(self.known.as_slice(), item)
+    }
+
+    /// What is known of the condition of a `br` or a `guard`, which is its first argument; many for a label and a `const`. Takes
+    /// no memory.
+    pub fn condition(&self, item: &Instr) -> Known
+        ensures { result ≡ item_condition (told self.now).known item.now }
+    {
+        condition(self.known.as_slice(), item)
     }
 
     /// Whether the point is reached, as far as is known: from the first item on a reached item leads to the points of its

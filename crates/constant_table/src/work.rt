@@ -36,7 +36,7 @@ pub(crate) fn is_marked(marks: &[bool], point: usize) -> bool
 }
 
 // What is known of the condition of an item: of its first argument.
-fn condition(known: &[Known], item: &Instr) -> Known
+pub(crate) fn condition(known: &[Known], item: &Instr) -> Known
     ensures { result ≡ item_condition (kept known.now) item.now }
 {
     match item {
