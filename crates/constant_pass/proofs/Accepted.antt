@@ -2,7 +2,6 @@
 use Rattle.std.proofs.Common.{◌≡◌, ◌⊎◌, ℕ, suc, ◌<◌, Bool, true, false, cond, ◌&&◌, List, [], ◌∷◌, ◌++◌, length, map, Option, Some, None, refl, sym, ap, subst, ◌∙◌, inl, inr, ⊎_elim, arith}
 use Rattle.std.specs.Prelude.{slice_get, slice_index, is_some}
 use Rattle.std.proofs.lemmas.Option.{same_Some}
-use Rattle.bril_tree.specs.declared.function_tree.Item.TheVariants as item
 use Rattle.bril_tree.specs.declared.numbered.Instr.{Instr}
 use Rattle.bril_tree.specs.declared.numbered.Instr.TheVariants.{Label, Const, Act}
 use Rattle.bril_tree.specs.declared.numbered_function.Func.{Func}
@@ -10,28 +9,26 @@ use Rattle.bril_tree.specs.declared.operation.Op.TheVariants as op
 use Rattle.bril_tree.specs.declared.program.Prog.{Prog}
 use Rattle.bril_tree.specs.declared.types.Ty.{Ty}
 use Rattle.bril_tree.specs.declared.value.Lit.{Lit}
-use Rattle.bril_tree.specs.declared.value.Value.{Value}
 use Rattle.bril_tree.specs.Accepted.{IsAccepted, IsAcceptedFunction}
-use Rattle.bril_tree.specs.Assigned.{Assigned, assigned_of, assigned_behind, assigned_changed, assigns_at, assigns_of}
+use Rattle.bril_tree.specs.Assigned.{assigned_of, assigns_of}
 use Rattle.bril_tree.specs.Edge.{Branch, branches_at, branches_from, item_branches, onward, jump}
 use Rattle.bril_tree.specs.FunctionForm.{listed}
 use Rattle.bril_tree.specs.Membership.{In}
-use Rattle.bril_tree.specs.Numbered.{named, names_in, nop, tree_at, variable_names}
-use Rattle.bril_tree.specs.Operand.{Location, Variable, dest_of, reads_of}
+use Rattle.bril_tree.specs.Numbered.{named, names_in, nop, variable_names}
+use Rattle.bril_tree.specs.Operand.{Location, Variable, dest_of}
 use Rattle.bril_tree.specs.Outcome.{bool_of}
 use Rattle.bril_tree.specs.Shape.{is_shaped, shape_of}
-use Rattle.bril_tree.specs.Sites.{Keeps, item_change, sites_changed, sites_of}
+use Rattle.bril_tree.specs.Sites.{Keeps, item_change}
 use Rattle.bril_tree.specs.Step.{code_of, items_of, item_at, point_of}
 use Rattle.bril_tree.specs.Typing.{both_typed, same_type, is_dest_typed, is_literal_typed, type_fault, variable_type, wrong_unless}
 use Rattle.bril_tree.specs.Value.{literal_value}
 use Rattle.bril_tree.specs.Walk.{IsWalk, end_of}
 use Rattle.bril_tree.proofs.Acceptance.{accepted_function, shaped_at, typed_at}
-use Rattle.bril_tree.proofs.Branches.{branch_from}
 use Rattle.bril_tree.proofs.Elements.{in_index}
-use Rattle.bril_tree.proofs.Members.{contains_in, in_append_left, in_map}
+use Rattle.bril_tree.proofs.Members.{in_append_left, in_map}
 use Rattle.bril_tree.proofs.Outcomes.{giver-goes_on}
 use Rattle.bril_tree.proofs.Shapes.{dest_none, shape-parts}
-use Rattle.bril_tree.proofs.Trees.{nop-at, nothing_at}
+use Rattle.bril_tree.proofs.Trees.{nothing_at}
 use Rattle.bril_tree.proofs.Typings.{IsDestination, both_typed-is, type_of}
 use Rattle.bril_names.proofs.Naming.{one_number}
 use Rattle.pass_accept.specs.Edited.{IsNew, IsOld, Edits}
@@ -40,9 +37,9 @@ use Rattle.pass_accept.proofs.Edited.{bare-new, nop-new, edit_accepted}
 use Rattle.pass_accept.proofs.Heads.{start_matched}
 use Rattle.pass_accept.proofs.Left.{dest-there}
 use Rattle.pass_names.specs.Named.{SameName, SameLocation}
-use Rattle.pass_names.proofs.Points.{found, Differ-in, label_found, label_once, same_name-in}
+use Rattle.pass_names.proofs.Points.{found, Differ-in, same_name-in}
 use Rattle.pass_plan.specs.Plan.{Plan, StaysMatched}
-use Rattle.pass_walks.specs.Matched.{Covers, SavedSetsMatch, WalksMatch, MatchedWalk, IsHarmless, MatchesWalks}
+use Rattle.pass_walks.specs.Matched.{Covers, MatchedWalk, IsHarmless, MatchesWalks}
 use Rattle.pass_walks.proofs.Items.{harmless_item}
 use Rattle.pass_walks.proofs.Under.{Keeping}
 use Rattle.pass_walks.proofs.Walks.{regular_branch_matched}

@@ -8,12 +8,12 @@ use Rattle.bril_tree.specs.declared.operation.Op.TheVariants as op
 use Rattle.bril_tree.specs.declared.types.Ty.{Ty}
 use Rattle.bril_tree.specs.declared.value.Lit.{Lit}
 use Rattle.bril_tree.specs.Numbered.{item_tree}
-use Rattle.std.specs.Prelude.{slice_get, slice_index}
+use Rattle.std.specs.Prelude.{slice_get}
 use Rattle.bril_tree.specs.declared.function_tree.FuncTree.{FuncTree}
 use Rattle.bril_tree.specs.declared.numbered_function.Func.{Func}
 use Rattle.bril_tree.specs.Numbered.{function_tree, variable_names}
-use Rattle.bril_tree.specs.Operand.{Variable}
 use Rattle.constant_table.specs.Answer.{Knowledge, answer}
+use Rattle.constant_table.specs.Ways.{item_condition}
 use Rattle.constant_table.specs.Consistent.{Table}
 use Rattle.constant_pass.specs.Edit.{IsMade, AreMade, constant_tree, nop_tree}
 use Rattle.constant_pass.specs.Items.{condition, constant_or, folded_item, jump_or, literal_of, nop_or}
@@ -34,15 +34,15 @@ module _ (fs V L : List (List ℕ)) where
 -- ---- the item by its operation
 
 module _ (k : Knowledge) (a : Instr) (d : Option ℕ) (ty : Option Ty) (o : Op) (args gs ls : List ℕ) (is : a ≡ Act d ty o args gs ls) where
-  pub folds-br : o ≡ op.Br → folded_item k a ≡ jump_or (condition (k (Variable (slice_index args 0)))) ls a
+  pub folds-br : o ≡ op.Br → folded_item k a ≡ jump_or (condition (item_condition k a)) ls a
   folds-br e =
       let same : a ≡ Act d ty op.Br args gs ls = is ∙ ap (λ z. Act d ty z args gs ls) e in
-      ap (folded_item k) same ∙ ap (jump_or (condition (k (Variable (slice_index args 0)))) ls) (sym same)
+      ap (folded_item k) same ∙ ap (λ z. jump_or (condition (item_condition k z)) ls z) (sym same)
 
-  pub folds-guard : o ≡ op.Guard → folded_item k a ≡ nop_or (condition (k (Variable (slice_index args 0)))) a
+  pub folds-guard : o ≡ op.Guard → folded_item k a ≡ nop_or (condition (item_condition k a)) a
   folds-guard e =
       let same : a ≡ Act d ty op.Guard args gs ls = is ∙ ap (λ z. Act d ty z args gs ls) e in
-      ap (folded_item k) same ∙ ap (nop_or (condition (k (Variable (slice_index args 0))))) (sym same)
+      ap (folded_item k) same ∙ ap (λ z. nop_or (condition (item_condition k z)) z) (sym same)
 
   by_other : (z : Op) → (z ≡ op.Br → ⊥) → (z ≡ op.Guard → ⊥) → folded_item k (Act d ty z args gs ls) ≡ constant_or (literal_of (answer k (Act d ty z args gs ls))) d ty (Act d ty z args gs ls)
   by_other op.Br n m = absurd (n refl)

@@ -1,13 +1,10 @@
 -- A folded program refines the one that it is made from.
 use Rattle.std.proofs.Common.{◌≡◌, ◌⊎◌, ℕ, suc, ◌<◌, Bool, true, false, cond, List, [], ◌∷◌, length, map, Option, Some, None, refl, sym, ap, subst, ◌∙◌, inl, inr, ⊎_elim, arith}
 use Rattle.std.specs.Prelude.{slice_get, slice_index, is_some, IsTrue}
-use Rattle.std.proofs.lemmas.Bool.{cases_eq}
 use Rattle.std.proofs.lemmas.Option.{same_Some}
-use Rattle.bril_tree.specs.declared.function_tree.Item.TheVariants as item
 use Rattle.bril_tree.specs.declared.limits.Limits.{Limits}
 use Rattle.bril_tree.specs.declared.numbered.Instr.{Instr}
 use Rattle.bril_tree.specs.declared.numbered.Instr.TheVariants.{Label, Const, Act}
-use Rattle.bril_tree.specs.declared.numbered_function.Func.{Func}
 use Rattle.bril_tree.specs.declared.operation.Op.{Op}
 use Rattle.bril_tree.specs.declared.operation.Op.TheVariants as op
 use Rattle.bril_tree.specs.declared.program.Prog.{Prog}
@@ -18,8 +15,8 @@ use Rattle.bril_tree.specs.Accepted.{IsAccepted}
 use Rattle.bril_tree.specs.Assigned.{assigns_of, assigns_at}
 use Rattle.bril_tree.specs.Edge.{Branch, branches_at, branches_from, item_branches, onward, jump, abort}
 use Rattle.bril_tree.specs.Membership.{In}
-use Rattle.bril_tree.specs.Numbered.{named, names_in, nop, tree_at, variable_names}
-use Rattle.bril_tree.specs.Operand.{Location, Variable, Shadow, dest_of}
+use Rattle.bril_tree.specs.Numbered.{names_in, nop}
+use Rattle.bril_tree.specs.Operand.{Location, Variable, dest_of}
 use Rattle.bril_tree.specs.Outcome.{Yields, argument, outcome_of, bool_of}
 use Rattle.bril_tree.specs.Run.{Refines}
 use Rattle.bril_tree.specs.Shape.{shape_of}
@@ -32,13 +29,11 @@ use Rattle.bril_tree.proofs.Elements.{in_index}
 use Rattle.bril_tree.proofs.Members.{in_map}
 use Rattle.bril_tree.proofs.Outcomes.{giver-goes_on}
 use Rattle.bril_tree.proofs.Shapes.{HasShape, dest_none, shape-parts}
-use Rattle.bril_tree.proofs.Trees.{nop-at}
 use Rattle.flow_graph.proofs.Told.{some_site}
 use Rattle.bril_names.specs.Faults.{Differ}
-use Rattle.bril_names.specs.Range.{AreBelow}
 use Rattle.pass_names.specs.Named.{SameName, SameLocation}
 use Rattle.pass_names.proofs.Locations.{kept-apart, to_left}
-use Rattle.pass_names.proofs.Points.{found, Differ-in, label_found, label_once}
+use Rattle.pass_names.proofs.Points.{Differ-in}
 use Rattle.pass_plan.specs.Plan.{Plan, ValuesMatch, HoldsKnown, IsLearned, StaysMatched, EdgesMatch, StepsMatch, SavesMatch, StatesMatch}
 use Rattle.pass_plan.proofs.Values.{agree-assigned, holds-assigned, read_at-agree}
 use Rattle.pass_steps.specs.Refinement.{Progress, CatchUp, BothMove, Advances}
@@ -212,7 +207,7 @@ module _ (P Q : Prog) (T : ℕ → Table) (t : Folded P Q T) (accepted : IsAccep
           by true = refl
           by false = refl
 
-      j : JumpThere P Q F.function F.point l
+      j : JumpThere P Q T t F.function F.point l
       j = jump_there P Q T t F.function F.point d ty args fs ls at l l-in is
 
       jumps-step : step P limits s ≡ record s { frames = record F { point = point_of l (code_of P F.function) } ∷ r.older }

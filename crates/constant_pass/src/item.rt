@@ -17,6 +17,7 @@ use bril_tree::sequence::Seq;
 use bril_tree::value::{Lit, Value};
 use bril_values::bool_of;
 use constant_table::{ConstTable, Known};
+use pass_make::nop;
 use std::alloc::{AllocError, Global};
 
 // The literal of the one value that is known.
@@ -80,19 +81,6 @@ fn constant_or(literal: Option<Lit>, item: Item) -> Item
     }
 }
 
-// The item that does nothing.
-fn nop(alloc: Global) -> Item
-    ensures { result ≡ nop_item }
-{
-    Item::Act {
-        dest: None,
-        op: Op::Nop,
-        args: Seq::new(alloc),
-        funcs: Seq::new(alloc),
-        labels: Seq::new(alloc),
-    }
-}
-
 // `nop` where the condition is known to hold.
 fn nop_or(alloc: Global, condition: Option<bool>, item: Item) -> Item
     ensures { result ≡ nop_tree condition item }
@@ -117,13 +105,6 @@ fn jump(alloc: Global, func: &Func, label: u32) -> Result<Item, AllocError>
         funcs: Seq::new(alloc),
         labels,
     })
-}
-
-// The first argument, or 0 where there is none.
-fn first(args: &[u32]) -> u32
-    ensures { result ≡ slice_index args.now 0 }
-{
-    if args.len() > 0 { args[0] } else { 0 }
 }
 
 // A `jmp` in place of a branch whose condition is known.
@@ -162,23 +143,17 @@ fn folded_item(
     requires labelled { HasLabels (length func.now.labels) instr.now }
     ensures { IfOk result (λ made. (fs : List (List ℕ)) → item ≡ item_tree fs (variable_names func.now.vars) func.now.labels instr.now → made ≡ item_tree fs (variable_names func.now.vars) func.now.labels (folded_item (told table.now).known instr.now)) }
 {
-    let Instr::Act {
-        op,
-        args,
-        labels,
-        ..
-    } = instr
-    else {
+    let Instr::Act { op, labels, .. } = instr else {
         return Ok(item);
     };
     match op {
         Op::Br => {
-            let known = condition(table.var(first(args.as_slice())));
+            let known = condition(table.condition(instr));
             let made = jump_or(alloc, func, labels.as_slice(), known, item)?;
             Ok(made)
         }
         Op::Guard => {
-            let known = condition(table.var(first(args.as_slice())));
+            let known = condition(table.condition(instr));
             Ok(nop_or(alloc, known, item))
         }
         _ => Ok(constant_or(literal_of(table.answer(instr)), item)),
