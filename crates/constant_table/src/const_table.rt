@@ -5,7 +5,7 @@ ghost use Rattle.bril_tree.specs.Operand.{Location, Shadow, Variable};
 ghost use Rattle.bril_tree.specs.Shape.{shape_fault_of};
 ghost use Rattle.flow_graph.specs.Reads.{reads_from};
 ghost use Rattle.constant_table.specs.Answer.{answer};
-ghost use Rattle.constant_table.specs.Consistent.{IsLeast};
+ghost use Rattle.constant_table.specs.Consistent.{IsAtMost, IsConsistent, Table};
 ghost use Rattle.constant_table.specs.Kept.{is_marked, kept, told};
 ghost use Rattle.constant_table.specs.Ways.{item_condition};
 ghost use Rattle.constant_table.specs.Work.{IsWork};
@@ -74,7 +74,8 @@ impl ConstTable {
 /// or more, is taken to need more.
 pub fn table(alloc: Global, prog: &Checked, func: u32) -> Result<ConstTable, AllocError>
     requires { func < length prog.now.prog.funcs }
-    ensures { IfOk result (λ table. IfSome (slice_get prog.now.prog.funcs func) (λ f. IsLeast f.code f.args (told table))) }
+    ensures consistent { IfOk result (λ table. IfSome (slice_get prog.now.prog.funcs func) (λ f. IsConsistent f.code f.args (told table))) }
+    ensures least { IfOk result (λ table. IfSome (slice_get prog.now.prog.funcs func) (λ f. (u : Table) → IsConsistent f.code f.args u → IsAtMost (told table) u)) }
 {
     let prog = prog.prog();
     table_in(alloc, &prog.funcs.as_slice()[func as usize])
@@ -84,7 +85,8 @@ pub fn table(alloc: Global, prog: &Checked, func: u32) -> Result<ConstTable, All
 fn table_in(alloc: Global, func: &Func) -> Result<ConstTable, AllocError>
     requires shaped { shape_fault_of (is_some func.now.ret) func.now.code ≡ None }
     requires few { length func.now.code < 2 ^ 32 - 1 }
-    ensures { IfOk result (λ table. IsLeast func.now.code func.now.args (told table)) }
+    ensures consistent { IfOk result (λ table. IsConsistent func.now.code func.now.args (told table)) }
+    ensures least { IfOk result (λ table. (u : Table) → IsConsistent func.now.code func.now.args u → IsAtMost (told table) u) }
 {
     let labels = func.label_points(alloc)?;
     let reads = reads_of(alloc, func.code.as_slice())?;

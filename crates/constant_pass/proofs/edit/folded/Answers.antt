@@ -4,7 +4,7 @@ use Rattle.std.proofs.lemmas.Option.{slice_get-get_or}
 use Rattle.bril_tree.specs.declared.numbered_function.Func.{Func}
 use Rattle.bril_tree.specs.declared.program.Prog.{Prog}
 use Rattle.bril_tree.specs.Numbered.{names_of_functions}
-use Rattle.constant_table.specs.Consistent.{IsLeast}
+use Rattle.constant_table.specs.Consistent.{IsAtMost, IsConsistent, Table}
 use Rattle.constant_table.specs.Kept.{told}
 use Rattle.constant_pass.specs.Folded.{IsFoldedFunction}
 use Rattle.pass_make.proofs.Functions.{number_within, shaped_there, few_there, tree_there, long_there, more_there}
@@ -35,6 +35,9 @@ loop-number-preserved c =
     let within = number_within P c.as_slice-func-items.result.now c.as_slice-func-items.ensures at F c.loop-number-test.true c.func-item.is in
     let there : slice_get P.funcs at ≡ Some F = slice_get-get_or P.funcs at F within ∙ ap Some (sym (subst (λ fs. F ≡ get_or fs at F) c.as_slice-func-items.ensures c.func-item.is)) in
     let same = tree_there P c.as_slice-func-items.result.now c.as_slice-func-items.ensures at F c.loop-number-test.true c.func-item.is c.in_ok-function.function c.in_ok-function.ensures in
-    let least : IsLeast F.code F.args (told c.in_ok-table.table) = subst (λ o. IfSome o (λ (f : Func). IsLeast f.code f.args (told c.in_ok-table.table))) (ap (λ p. slice_get p.funcs at) (sym c.requires.same) ∙ there) c.in_ok-table.ensures in
-    let one : IsFoldedFunction P F c.in_ok-made.made = record { table = told c.in_ok-table.table; least = least; tree = made-function F (told c.in_ok-table.table) (names_of_functions P.funcs) c.in_ok-function.function c.in_ok-made.made c.in_ok-made.ensures.code c.in_ok-made.ensures.head same } in
+    let here : slice_get c.args.checked.now.prog.funcs at ≡ Some F = ap (λ p. slice_get p.funcs at) (sym c.requires.same) ∙ there in
+    let consistent : IsConsistent F.code F.args (told c.in_ok-table.table) = subst (λ o. IfSome o (λ (f : Func). IsConsistent f.code f.args (told c.in_ok-table.table))) here c.in_ok-table.ensures.consistent in
+    let least : (u : Table) → IsConsistent F.code F.args u → IsAtMost (told c.in_ok-table.table) u =
+    subst (λ o. IfSome o (λ (f : Func). (u : Table) → IsConsistent f.code f.args u → IsAtMost (told c.in_ok-table.table) u)) here c.in_ok-table.ensures.least in
+    let one : IsFoldedFunction P F c.in_ok-made.made = record { table = told c.in_ok-table.table; least = record { consistent = consistent; least = least }; tree = made-function F (told c.in_ok-table.table) (names_of_functions P.funcs) c.in_ok-function.function c.in_ok-made.made c.in_ok-made.ensures.code c.in_ok-made.ensures.head same } in
     more_there P c.as_slice-func-items.result.now c.as_slice-func-items.ensures at F c.loop-number-test.true c.func-item.is (IsFoldedFunction P) c.in_ok-made.made c.loop-number.funcs c.push.new.self c.loop-number.invariant one c.in_ok-push.ensures.ok

@@ -7,7 +7,7 @@ use Rattle.bril_tree.specs.Accepted.{IsAccepted}
 use Rattle.bril_tree.specs.Size.{IsCounted}
 use Rattle.bril_tree.proofs.Acceptance.{accepted_function, shaped_function}
 use Rattle.bril_tree.proofs.Elements.{All-at}
-use Rattle.constant_table.specs.Consistent.{IsLeast}
+use Rattle.constant_table.specs.Consistent.{IsAtMost, IsConsistent, Table}
 use Rattle.constant_table.specs.Kept.{told}
 use Rattle.constant_table.proofs.const_table.table.Goals as goal
 
@@ -29,8 +29,14 @@ table_in-requires-clause-few c =
     let at = there c.prog-prog.result.now P c.as_slice.result.now c.args.func F c.prog-prog.ensures.value c.as_slice.ensures c.requires c.index-as_slice-func.is in
     All-at (λ (f : Func). length f.code < 4294967295) P.funcs c.args.func F (subst IsCounted c.prog-prog.ensures.value c.prog-prog.ensures.counted).items at
 
-pub returns : goal.returns
-returns c =
+pub returns-clause-consistent : goal.returns-clause-consistent
+returns-clause-consistent c =
     let F = c.index-as_slice-func.result in
     let at = there c.prog-prog.result.now c.args.prog.now.prog c.as_slice.result.now c.args.func F c.prog-prog.ensures.value c.as_slice.ensures c.requires c.index-as_slice-func.is in
-    subst (λ o. IfOk c.table_in.result (λ table. IfSome o (λ (f : Func). IsLeast f.code f.args (told table)))) (sym at) c.table_in.ensures
+    subst (λ o. IfOk c.table_in.result (λ table. IfSome o (λ (f : Func). IsConsistent f.code f.args (told table)))) (sym at) c.table_in.ensures.consistent
+
+pub returns-clause-least : goal.returns-clause-least
+returns-clause-least c =
+    let F = c.index-as_slice-func.result in
+    let at = there c.prog-prog.result.now c.args.prog.now.prog c.as_slice.result.now c.args.func F c.prog-prog.ensures.value c.as_slice.ensures c.requires c.index-as_slice-func.is in
+    subst (λ o. IfOk c.table_in.result (λ table. IfSome o (λ (f : Func). (u : Table) → IsConsistent f.code f.args u → IsAtMost (told table) u))) (sym at) c.table_in.ensures.least

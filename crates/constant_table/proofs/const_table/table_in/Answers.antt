@@ -12,5 +12,8 @@ settled-requires-clause-labelled c =
     let many : length c.as_slice-2.result.now ≡ length f.labels = ap length c.as_slice-2.ensures.value ∙ c.in_ok-labels.ensures.all in
     subst (λ n. All (HasLabels n) f.code) (sym many) (code_labelled (is_some f.ret) (length f.labels) f.code c.requires.shaped f.formed.targets)
 
-pub returns : goal.returns
-returns c = all-settled c.args.func.now c.in_ok-done.done.known.items c.in_ok-done.done.reached.items c.in_ok-done.ensures
+pub returns-clause-consistent : goal.returns-clause-consistent
+returns-clause-consistent c = (all-settled c.args.func.now c.in_ok-done.done.known.items c.in_ok-done.done.reached.items c.in_ok-done.ensures).consistent
+
+pub returns-clause-least : goal.returns-clause-least
+returns-clause-least c = (all-settled c.args.func.now c.in_ok-done.done.known.items c.in_ok-done.done.reached.items c.in_ok-done.ensures).least
