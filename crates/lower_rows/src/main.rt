@@ -9,6 +9,7 @@
 //     numbered SOURCE        the canonical text of the program that the source is numbered as
 //     graph SOURCE           of the first function's flow graph the edges, from, leaving and to; and of each point the open
 //                            sites, the newest first, and where the edges to it come from
+//     live SOURCE            of each point of the first function the variables and the shadows that are live there
 //     steps SOURCE           the words of each function's frame; each step of the run of `main`: the answer, where the run then
 //                            is, and what the first variable holds; the guards of the first function that failed, and how
 //                            often; and the output
@@ -22,6 +23,7 @@
 #![tactic(auto)]
 
 mod graph;
+mod live;
 mod machine;
 mod program;
 mod row;
