@@ -13,6 +13,7 @@ use bril_report::{Status, status_number};
 use bril_tree::sequence::Seq;
 use bril_tree::text::Text;
 use bril_words::Misuse;
+use constant_pass::Const;
 use dead_code::Dead;
 use pass_law::Pass;
 use ssa_exit::Unssa;
@@ -41,10 +42,11 @@ fn exit_number(ended: Result<u8, AllocError>) -> u8
 // standard output, nothing is read or written.
 fn with_passes(rt: &HostRuntime) -> Result<u8, AllocError> {
     let alloc = rt.alloc();
+    let constant: Box<dyn Pass> = Box::new(alloc, Const::new())?;
     let dead: Box<dyn Pass> = Box::new(alloc, Dead::new())?;
     let unssa: Box<dyn Pass> = Box::new(alloc, Unssa::new())?;
     let tidy: Box<dyn Pass> = Box::new(alloc, Tidy::new())?;
-    let mut passes = [dead, unssa, tidy];
+    let mut passes = [constant, dead, unssa, tidy];
     let words = given_words(alloc, env::args(rt));
     let mut files = OsFiles::new(rt);
     let mut out = standard_output(rt)?;
