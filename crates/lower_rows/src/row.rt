@@ -2,6 +2,7 @@
 
 ghost use Rattle.std.specs.Prelude.{◌<◌, ◌^◌, length};
 
+use crate::constants::add_constants;
 use crate::graph::add_graph;
 use crate::live::add_live;
 use crate::machine::{add_run, add_word};
@@ -56,6 +57,7 @@ fn add_answer(
         "numbered" => add_numbered(alloc, source, shown),
         "graph" => add_graph(alloc, source, shown),
         "live" => add_live(alloc, source, shown),
+        "constants" => add_constants(alloc, source, shown),
         "steps" => add_steps(alloc, source, shown),
         _ => Err(LineFault::Form),
     }
