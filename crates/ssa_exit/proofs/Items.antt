@@ -1,6 +1,6 @@
 -- Copies, and variables that get some value, where a tree has them; and what items that name no shadow read and assign.
-use Rattle.std.proofs.Common.{◌≡◌, ◌⊎◌, ℕ, zero, suc, ◌<◌, true, false, List, [], ◌∷◌, ◌++◌, length, map, Option, Some, None, refl, sym, ap, subst, ◌∙◌, inl, inr, ⊎_elim, arith}
-use Rattle.std.specs.Prelude.{slice_get, slice_index}
+use Rattle.std.proofs.Common.{◌≡◌, ℕ, ◌<◌, false, List, [], ◌∷◌, ◌++◌, length, map, Option, Some, None, refl, sym, ap, subst, ◌∙◌, inl, inr}
+use Rattle.std.specs.Prelude.{slice_get}
 use Rattle.std.proofs.lemmas.List.{length-map}
 use Rattle.std.proofs.lemmas.Option.{same_Some}
 use Rattle.bril_tree.specs.declared.function_tree.Dest.{Dest}
@@ -22,7 +22,6 @@ use Rattle.bril_tree.specs.Operand.{Location, Variable, Shadow, reads_of}
 use Rattle.bril_tree.specs.Step.{item_at, items_of}
 use Rattle.bril_tree.proofs.Trees.{nothing_at}
 use Rattle.bril_names.specs.Range.{AreBelow}
-use Rattle.bril_names.proofs.Naming.{AreBelow-append}
 use Rattle.pass_names.proofs.Points.{Found, found}
 use Rattle.ssa_exit.specs.Laws.{names_a_shadow}
 use Rattle.ssa_exit.specs.Unssaed.{copy_item, left_item, left_items}

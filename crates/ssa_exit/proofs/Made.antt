@@ -1,5 +1,5 @@
 -- From the tree that the pass makes to its program.
-use Rattle.std.proofs.Common.{◌≡◌, ◌⊎◌, Bool, ℕ, zero, suc, ◌<◌, ◌≤◌, true, false, cond, List, [], ◌∷◌, length, map, All, Option, Some, None, refl, sym, ap, subst, ◌∙◌, inl, inr, arith}
+use Rattle.std.proofs.Common.{◌≡◌, Bool, ℕ, zero, suc, ◌≤◌, true, false, cond, List, [], ◌∷◌, length, map, All, Option, Some, None, refl, sym, ap, subst, ◌∙◌, arith}
 use Rattle.std.specs.Prelude.{slice_get, slice_index}
 use Rattle.std.specs.List.{AllZip, Contains}
 use Rattle.std.proofs.lemmas.List.{length-map}
@@ -32,7 +32,7 @@ use Rattle.pass_names.proofs.Trees.{heads-of_trees}
 use Rattle.ssa_exit.specs.Fresh.{AreFresh, count_beginning, shadow_names}
 use Rattle.ssa_exit.specs.Laws.{UnssaKeepsNumbers, UnssaLeavesNoShadow}
 use Rattle.ssa_exit.specs.Unssa.{unssa_meaning}
-use Rattle.ssa_exit.specs.Unssaed.{IsUnssaed, IsUnssaedFunction, IsUnssaedTree, copy_item, got_item, is_written, left_item, left_items, set_item, undef_item, unssaed_function}
+use Rattle.ssa_exit.specs.Unssaed.{IsUnssaed, IsUnssaedFunction, IsUnssaedTree, copy_item, is_written, left_item, left_items, set_item, undef_item, unssaed_function}
 use Rattle.ssa_exit.proofs.Accepted.{unssaed-accepted}
 use Rattle.ssa_exit.proofs.Numbers.{leaves-none, numbers-within}
 use Rattle.ssa_exit.proofs.Points.{Unssaed}

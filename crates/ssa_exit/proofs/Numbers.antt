@@ -1,13 +1,11 @@
 -- No `get` or `set` is left, and no number of the program grows.
-use Rattle.std.proofs.Common.{◌≡◌, ◌⊎◌, ℕ, suc, ◌<◌, Bool, true, false, List, [], ◌∷◌, length, Option, Some, None, refl, sym, ap, subst, ◌∙◌, inl, inr, ⊎_elim, arith}
+use Rattle.std.proofs.Common.{◌≡◌, ℕ, suc, ◌<◌, Bool, true, false, List, [], ◌∷◌, length, Option, Some, None, refl, sym, ap, subst, ◌∙◌, inl, ⊎_elim, arith}
 use Rattle.std.specs.Prelude.{slice_get}
-use Rattle.std.proofs.lemmas.List.{length-map}
 use Rattle.std.proofs.lemmas.List.Elements.{Contains-get_or}
 use Rattle.std.proofs.lemmas.List.Folds.{Any-from_list_any}
 use Rattle.std.proofs.lemmas.Option.{same_Some}
 use Rattle.bril_tree.specs.declared.numbered.Instr.{Instr}
 use Rattle.bril_tree.specs.declared.numbered.Instr.TheVariants.{Label, Const, Act}
-use Rattle.bril_tree.specs.declared.numbered.VarInfo.{VarInfo}
 use Rattle.bril_tree.specs.declared.numbered_function.Func.{Func}
 use Rattle.bril_tree.specs.declared.operation.Op.{Op}
 use Rattle.bril_tree.specs.declared.operation.Op.TheVariants as op
@@ -15,10 +13,10 @@ use Rattle.bril_tree.specs.declared.program.Prog.{Prog}
 use Rattle.bril_tree.specs.declared.types.Ty.{Ty}
 use Rattle.bril_tree.specs.Accepted.{IsAccepted}
 use Rattle.bril_tree.specs.Edge.{Branch, branches_at, branches_from, item_branches, onward}
-use Rattle.bril_tree.specs.FrameWords.{IsDepth, location_count, names_shadow}
+use Rattle.bril_tree.specs.FrameWords.{IsDepth, names_shadow}
 use Rattle.bril_tree.specs.Leaving.{edge_of}
 use Rattle.bril_tree.specs.Membership.{In}
-use Rattle.bril_tree.specs.Numbered.{item_tree, named, nop, tree_at, variable_names}
+use Rattle.bril_tree.specs.Numbered.{item_tree, named, tree_at, variable_names}
 use Rattle.bril_tree.specs.Operand.{Location, Variable, Shadow}
 use Rattle.bril_tree.specs.Sites.{sites_of}
 use Rattle.bril_tree.specs.Step.{code_of, item_at, items_of}
@@ -34,7 +32,7 @@ use Rattle.pass_numbers.proofs.Arguments.{no-longer-arguments}
 use Rattle.pass_numbers.proofs.Depths.{depth-within}
 use Rattle.pass_numbers.proofs.Edges.{edge-back, label-back}
 use Rattle.pass_numbers.proofs.InPlace.{EdgeBack, branch-back, in_place-entries, in_place-width}
-use Rattle.pass_numbers.proofs.Items.{IsNamed, is_used, unchanged}
+use Rattle.pass_numbers.proofs.Items.{IsNamed, unchanged}
 use Rattle.pass_numbers.proofs.Locations.{IsLocationOf, location-listed, locations-counted, locations-few, locations_of}
 use Rattle.pass_numbers.proofs.Programs.{by-functions, functions_bound}
 use Rattle.ssa_exit.specs.Laws.{names_a_shadow}

@@ -1,5 +1,5 @@
 -- A program without shadows by its points, and what stands at each.
-use Rattle.std.proofs.Common.{◌≡◌, ◌⊎◌, ℕ, ◌<◌, Bool, true, false, List, [], ◌∷◌, length, map, Option, Some, None, refl, sym, ap, subst, ◌∙◌, inl, inr, ⊎_elim, cond, arith}
+use Rattle.std.proofs.Common.{◌≡◌, ℕ, ◌<◌, Bool, true, false, List, [], ◌∷◌, length, Option, Some, None, refl, sym, ap, subst, ◌∙◌, inl, inr, ⊎_elim, cond, arith}
 use Rattle.std.specs.Prelude.{is_some, slice_get, slice_index}
 use Rattle.std.specs.List.{Contains, range_with_len}
 use Rattle.std.specs.Option.{option_map}
@@ -16,7 +16,7 @@ use Rattle.bril_tree.specs.Accepted.{AreWalksAccepted, IsAccepted}
 use Rattle.bril_tree.specs.Assigned.{assigned_of, assigns_of}
 use Rattle.bril_tree.specs.Edge.{Branch}
 use Rattle.bril_tree.specs.Membership.{In}
-use Rattle.bril_tree.specs.Numbered.{item_tree, named, names_in, names_of_functions, nop_item, point_tree, tree_at, variable_names}
+use Rattle.bril_tree.specs.Numbered.{item_tree, named, names_of_functions, nop_item, point_tree, tree_at, variable_names}
 use Rattle.bril_tree.specs.Operand.{Location, Variable, Shadow, reads_of}
 use Rattle.bril_tree.specs.Shape.{shape_of}
 use Rattle.bril_tree.specs.Step.{code_of, item_at, items_of}

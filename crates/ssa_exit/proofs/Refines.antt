@@ -1,15 +1,13 @@
 -- A program whose shadows became variables refines the one that it is made from: both make the same steps, and a shadow holds
 -- what the variable does that stands for it.
-use Rattle.std.proofs.Common.{◌≡◌, ◌⊎◌, ℕ, suc, ◌<◌, ◌≤◌, true, false, List, [], ◌∷◌, length, pos, Option, Some, None, refl, sym, ap, subst, ◌∙◌, inl, inr, ⊎_elim, arith}
+use Rattle.std.proofs.Common.{◌≡◌, ℕ, suc, ◌<◌, false, List, [], ◌∷◌, length, pos, Option, Some, None, refl, sym, ap, subst, ◌∙◌, inl, inr, ⊎_elim, arith}
 use Rattle.std.specs.Prelude.{slice_get, unwrap_or}
 use Rattle.std.specs.List.{AllZip}
 use Rattle.std.proofs.lemmas.Bool.{cases_eq, cases_lt}
-use Rattle.std.proofs.lemmas.List.{length-map}
 use Rattle.bril_tree.specs.declared.function_tree.Item.TheVariants as item
 use Rattle.bril_tree.specs.declared.limits.Limits.{Limits}
 use Rattle.bril_tree.specs.declared.numbered.Instr.{Instr}
 use Rattle.bril_tree.specs.declared.numbered.Instr.TheVariants.{Label, Const, Act}
-use Rattle.bril_tree.specs.declared.numbered.VarInfo.{VarInfo}
 use Rattle.bril_tree.specs.declared.numbered_function.Func.{Func}
 use Rattle.bril_tree.specs.declared.operation.Op.TheVariants as op
 use Rattle.bril_tree.specs.declared.program.Prog.{Prog}
@@ -24,7 +22,7 @@ use Rattle.bril_tree.specs.Numbered.{named, names_in, names_of_functions, nop, t
 use Rattle.bril_tree.specs.Operand.{Location, Variable, Shadow}
 use Rattle.bril_tree.specs.Outcome.{argument}
 use Rattle.bril_tree.specs.Run.{Refines, types_of}
-use Rattle.bril_tree.specs.State.{Locals, Frame, State, read, no_values}
+use Rattle.bril_tree.specs.State.{Locals, State, read, no_values}
 use Rattle.bril_tree.specs.Step.{assigned, code_of, item_at, new_frame, shadowed, step}
 use Rattle.bril_tree.specs.Walk.{IsReached}
 use Rattle.bril_tree.proofs.HeldValues.{arguments-past}

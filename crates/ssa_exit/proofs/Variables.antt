@@ -4,13 +4,11 @@ use Rattle.std.specs.Prelude.{is_some, slice_get}
 use Rattle.std.specs.List.{filter, range_with_len}
 use Rattle.std.specs.Option.{option_map}
 use Rattle.std.proofs.lemmas.Bool.{and_parts, eq-eqb}
-use Rattle.std.proofs.lemmas.List.{length-map}
 use Rattle.std.proofs.lemmas.Map.Keys.{any_passes_from_place}
 use Rattle.std.proofs.lemmas.Option.{same_Some}
 use Rattle.bril_tree.specs.declared.function_tree.Item.{Item}
 use Rattle.bril_tree.specs.declared.numbered.Instr.{Instr}
 use Rattle.bril_tree.specs.declared.numbered.Instr.TheVariants.{Act}
-use Rattle.bril_tree.specs.declared.numbered.VarInfo.{VarInfo}
 use Rattle.bril_tree.specs.declared.numbered_function.Func.{Func}
 use Rattle.bril_tree.specs.declared.operation.Op.TheVariants as op
 use Rattle.bril_tree.specs.declared.program.Prog.{Prog}
@@ -19,8 +17,8 @@ use Rattle.bril_tree.specs.Accepted.{IsAccepted}
 use Rattle.bril_tree.specs.FrameWords.{names_shadow}
 use Rattle.bril_tree.specs.Membership.{In}
 use Rattle.bril_tree.specs.Numbered.{item_tree, named, names_of_functions, nop, point_tree, tree_at, variable_names}
-use Rattle.bril_tree.specs.Step.{item_at, items_of}
-use Rattle.bril_tree.specs.Typing.{is_set_typed, same_type, variable_type}
+use Rattle.bril_tree.specs.Step.{item_at}
+use Rattle.bril_tree.specs.Typing.{is_set_typed, variable_type}
 use Rattle.bril_tree.proofs.Acceptance.{accepted_function, shaped_at, typed_at}
 use Rattle.bril_tree.proofs.Elements.{get_in}
 use Rattle.bril_tree.proofs.Formed.{variable_below}

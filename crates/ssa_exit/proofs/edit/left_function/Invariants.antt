@@ -1,4 +1,4 @@
-use Rattle.std.proofs.Common.{◌≡◌, length, take}
+use Rattle.std.proofs.Common.{◌≡◌, length}
 use Rattle.ssa_exit.specs.Fresh.{shadow_names}
 use Rattle.ssa_exit.specs.Unssaed.{left_items}
 use Rattle.ssa_exit.proofs.edit.left_function.Given as goal
