@@ -1,5 +1,5 @@
 -- What the builders make of a command, as `clap` sees it.
-use Rattle.std.proofs.Common.{◌≡◌, ◌∙◌, refl, sym, ap, ap₂, false, List, [], ◌∷◌, ◌++◌, append_assoc, map, append-nil, ℕ, zero, suc, ◌<◌, ◌≤◌, ◌+◌, length, take, get_or, arith}
+use Rattle.std.proofs.Common.{◌≡◌, ◌∙◌, refl, sym, ap, ap₂, false, List, [], ◌∷◌, ◌++◌, append_assoc, map, ℕ, zero, suc, ◌<◌, ◌≤◌, ◌+◌, length, take, get_or, arith}
 use Rattle.std.proofs.lemmas.List.{take_more, map_push}
 use Rattle.clap.specs.Built.{AddsArg, AddsSubcommand}
 use Rattle.clap.specs.Walk.{Rule, rule_of}
@@ -16,12 +16,6 @@ adds_rule a rules r old new arg has adds local is = record {
   app = adds.shape local ∙ ap₂ with_rule has.app is
       ∙ ap (λ (more : List Rule). on_top (λ s. record s { rules = more }) a) (append_assoc a.top.rules rules (r ∷ []));
   local = adds.globals ∙ rw (has.local, local) refl;
-}
-
-pub adds_none : (a : App) (c : Command) → HasApp a c → HasApp (with_rules a []) c
-adds_none a c has = record {
-  app = has.app ∙ sym (ap (λ (more : List Rule). on_top (λ s. record s { rules = more }) a) (append-nil a.top.rules));
-  local = has.local;
 }
 
 pub subcommands_more : (a : App) (cs : List Subcommand) (c : Subcommand) → with_subcommands a (cs ++ c ∷ []) ≡ with_subcommand (with_subcommands a cs) (subcommand_shape c)

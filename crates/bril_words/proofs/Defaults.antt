@@ -1,5 +1,5 @@
 -- Defaults: what they leave of the rows that are there.
-use Rattle.std.proofs.Common.{◌≡◌, ◌∙◌, refl, sym, ap, Bool, true, false, not, cond, List, [], ◌∷◌, ◌++◌, ◌&&◌, ◌||◌, true≢false, Option, Some, None, codes, is_some}
+use Rattle.std.proofs.Common.{◌≡◌, ◌∙◌, refl, sym, ap, Bool, true, false, not, cond, List, [], ◌∷◌, ◌++◌, ◌||◌, true≢false, Option, Some, None, codes, is_some}
 use Rattle.std.specs.Prelude.{find, fold, option_and_then, slice_get}
 use Rattle.std.specs.List.{list_all}
 use Rattle.std.specs.Str.{bytes_eq}
@@ -10,15 +10,12 @@ use Rattle.clap.specs.declared.builder.value_parser.Reading.{Reading}
 use Rattle.clap.specs.declared.parser.matches.ValueSource.TheVariants.{DefaultValue}
 use Rattle.clap.proofs.SimpleLemmas.{is_nil}
 use Rattle.bril_words.specs.CommandLine.{is_true}
-use Rattle.bril_words.proofs.Rows.{at_row_fresh, new_row, or_false}
+use Rattle.bril_words.proofs.Rows.{at_row_fresh, new_row}
 use Rattle.bril_words.proofs.Ready.{first_text, is_harmless, is_quiet, spares}
+use Rattle.bril_words.proofs.Tests.{or_false, and_true, not_true}
 
 abbrev pub find_id : Text → List Row → Option Row
 find_id id rows = find (λ r. bytes_eq r.id id) rows
-
-pub and_true : (a b : Bool) → (a && b) ≡ true → (a ≡ true) × (b ≡ true)
-and_true true b e = (refl, e)
-and_true false b e = absurd (true≢false (sym e))
 
 pub has_find : (id : Text) (rows : List Row) → has_row id rows ≡ is_some (find_id id rows)
 has_find id [] = refl
@@ -67,10 +64,6 @@ defaults_kept [] id rows there = refl
 defaults_kept (a ∷ rules) id rows there =
     let here = default_kept a id rows there in
     defaults_kept rules id (with_default rows a) (has_find id (with_default rows a) ∙ ap is_some here ∙ sym (has_find id rows) ∙ there) ∙ here
-
-not_true : (b : Bool) → not b ≡ true → b ≡ false
-not_true true e = absurd (true≢false (sym e))
-not_true false e = refl
 
 -- a list with an element isn't empty
 pub filled_is : {X : Type 0} (x : X) (xs : List X) → is_empty (x ∷ xs) ≡ false

@@ -49,76 +49,13 @@ abbrev pub ready_shape : Subcommand → Shape
 ready_shape c = built_leaf (inherited (with_leaf_noted (marked_built top_shape)) (subcommand_shape c))
 
 pub ready : (c : Subcommand) → Ready (ready_shape c) c
-ready subcommand.Run = record {
-  name = refl;
-  options = (record { long = refl; by_id = refl }, (record { long = refl; by_id = refl }, (record { long = refl; by_id = refl }, (record { long = refl; by_id = refl }, tt))));
-  flags = (refl, tt);
-  operands = (record { by_index = refl; by_id = refl }, tt);
-  harmless = refl;
-  quiet = refl;
-  others = λ id e. rw e refl;
-  check = λ rows given. rw given.0 refl;
-}
-ready subcommand.Interp = record {
-  name = refl;
-  options = (record { long = refl; by_id = refl }, (record { long = refl; by_id = refl }, (record { long = refl; by_id = refl }, tt)));
-  flags = tt;
-  operands = (record { by_index = refl; by_id = refl }, tt);
-  harmless = refl;
-  quiet = refl;
-  others = λ id e. refl;
-  check = λ rows given. rw given.0 refl;
-}
-ready subcommand.Passes = record {
-  name = refl;
-  options = (record { long = refl; by_id = refl }, tt);
-  flags = tt;
-  operands = (record { by_index = refl; by_id = refl }, tt);
-  harmless = refl;
-  quiet = refl;
-  others = λ id e. refl;
-  check = λ rows given. rw given.0 refl;
-}
-ready subcommand.Emit = record {
-  name = refl;
-  options = (record { long = refl; by_id = refl }, (record { long = refl; by_id = refl }, tt));
-  flags = tt;
-  operands = (record { by_index = refl; by_id = refl }, tt);
-  harmless = refl;
-  quiet = refl;
-  others = λ id e. refl;
-  check = λ rows given. rw given.0 refl;
-}
-ready subcommand.Check = record {
-  name = refl;
-  options = tt;
-  flags = tt;
-  operands = (record { by_index = refl; by_id = refl }, tt);
-  harmless = refl;
-  quiet = refl;
-  others = λ id e. refl;
-  check = λ rows given. rw given.0 refl;
-}
-ready subcommand.WriteText = record {
-  name = refl;
-  options = tt;
-  flags = tt;
-  operands = (record { by_index = refl; by_id = refl }, tt);
-  harmless = refl;
-  quiet = refl;
-  others = λ id e. refl;
-  check = λ rows given. rw given.0 refl;
-}
-ready subcommand.WriteJson = record {
-  name = refl;
-  options = tt;
-  flags = tt;
-  operands = (record { by_index = refl; by_id = refl }, tt);
-  harmless = refl;
-  quiet = refl;
-  others = λ id e. refl;
-  check = λ rows given. rw given.0 refl;
-}
+ready subcommand.Run = record { name = refl; options = (record { long = refl; by_id = refl }, (record { long = refl; by_id = refl }, (record { long = refl; by_id = refl }, (record { long = refl; by_id = refl }, tt)))); flags = (refl, tt); operands = (record { by_index = refl; by_id = refl }, tt); harmless = refl; quiet = refl; others = λ id e. rw e refl; check = λ rows given. rw given.0 refl }
+ready subcommand.Interp = record { name = refl; options = (record { long = refl; by_id = refl }, (record { long = refl; by_id = refl }, (record { long = refl; by_id = refl }, tt))); flags = tt; operands = (record { by_index = refl; by_id = refl }, tt); harmless = refl; quiet = refl; others = λ id e. refl; check = λ rows given. rw given.0 refl }
+ready subcommand.Passes = record { name = refl; options = (record { long = refl; by_id = refl }, tt); flags = tt; operands = (record { by_index = refl; by_id = refl }, tt); harmless = refl; quiet = refl; others = λ id e. refl; check = λ rows given. rw given.0 refl }
+ready subcommand.Emit = record { name = refl; options = (record { long = refl; by_id = refl }, (record { long = refl; by_id = refl }, tt)); flags = tt; operands = (record { by_index = refl; by_id = refl }, tt); harmless = refl; quiet = refl; others = λ id e. refl; check = λ rows given. rw given.0 refl }
+ready subcommand.Check = record { name = refl; options = tt; flags = tt; operands = (record { by_index = refl; by_id = refl }, tt); harmless = refl; quiet = refl; others = λ id e. refl; check = λ rows given. rw given.0 refl }
+ready subcommand.WriteText = record { name = refl; options = tt; flags = tt; operands = (record { by_index = refl; by_id = refl }, tt); harmless = refl; quiet = refl; others = λ id e. refl; check = λ rows given. rw given.0 refl }
+ready subcommand.WriteJson = record { name = refl; options = tt; flags = tt; operands = (record { by_index = refl; by_id = refl }, tt); harmless = refl; quiet = refl; others = λ id e. refl; check = λ rows given. rw given.0 refl }
 
 -- ---- all commands
 
@@ -137,10 +74,6 @@ pub record Meets (a : App) (c : Subcommand) (s : Shape) : Type 0 where
 pub whole_is_simple : is_simple_and_free whole_app ≡ true
 unfolding whole_app
 whole_is_simple = refl
-
-pub whole_names : whole_app.top.no_binary_name ≡ false
-unfolding whole_app
-whole_names = refl
 
 pub meets : (c : Subcommand) → Meets (built whole_app) c (ready_shape c)
 unfolding whole_app walked defaults_fault

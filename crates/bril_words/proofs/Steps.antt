@@ -12,6 +12,7 @@ use Rattle.clap.specs.declared.builder.value_parser.Reading.TheVariants.{AsWritt
 use Rattle.clap.specs.declared.parser.matches.ValueSource.TheVariants.{CommandLine}
 use Rattle.bril_words.specs.Plain.{is_plain}
 use Rattle.bril_words.proofs.Rows.{new_row, set_fresh}
+use Rattle.bril_words.proofs.Tests.{not_true}
 
 -- an argument that takes one value, as it is built
 abbrev pub taking : Text → Option Text → Option ℕ → Bool → Rule
@@ -78,10 +79,6 @@ pub record IsPlainWord (v : Text) : Type 0 where
   pub short : short_of v ≡ None
   pub dash : bytes_eq v (45 ∷ 45 ∷ []) ≡ false
 
-not_true : (b : Bool) → not b ≡ true → b ≡ false
-not_true true e = absurd (true≢false (sym e))
-not_true false e = refl
-
 pub plain_word_is : (v : Text) → is_plain v ≡ true → IsPlainWord v
 plain_word_is [] e = absurd (true≢false (sym e))
 plain_word_is (b ∷ bs) e =
@@ -96,9 +93,6 @@ pub record NamesOption (word name : Text) (value : Option Text) : Type 0 where
 pub use_free : (again : Bool) (id v : Text) (long : Option Text) (index : Option ℕ) (required : Bool) (rows : List Row) → has_row id rows ≡ false
     → use_fault again (taking id long index required) (v ∷ []) rows ≡ []
 use_free again id v long index required rows fresh = rw fresh refl
-
-pub flag_free : (again : Bool) (id : Text) (rows : List Row) → has_row id rows ≡ false → use_fault again (flagging id) [] rows ≡ []
-flag_free again id rows fresh = rw fresh refl
 
 pub used_taking : (id v : Text) (long : Option Text) (index : Option ℕ) (required : Bool) (rows : List Row) → has_row id rows ≡ false
     → used (taking id long index required) (v ∷ []) rows ≡ rows ++ given id (v ∷ []) ∷ []

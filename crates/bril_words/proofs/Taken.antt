@@ -19,6 +19,7 @@ use Rattle.bril_words.specs.Defaults.{most_frames, most_cells, most_steps, defau
 use Rattle.bril_words.specs.declared.options.Setting.{Setting}
 use Rattle.bril_words.specs.declared.options.Setting.TheVariants.{Passes, Frames, Cells, Steps}
 use Rattle.bril_words.proofs.Pieces.{AllOf}
+use Rattle.bril_words.proofs.Tests.{not_false}
 
 both_nil : (a b : Kinds) → or_else a b ≡ [] → (a ≡ []) × (b ≡ [])
 both_nil [] b e = (refl, e)
@@ -71,23 +72,19 @@ module _ (a : App) (all : AllOf IsCommand a.subs) where
       (both_nil (walk_fault a.top (names_of a) (walk_from nothing_held) words) _ none).1).1).1).1 in
       wants a.top (finished a.top.rules (walk a.top.rules (names_of a) nothing_held words).held) (is_some (entered a (stop_after a.top.rules (names_of a) words))) required help last
 
-refused_by : (given : List Text) → is_refused given ≡ not (is_empty (built_fault (built whole_app) nothing_held (drop 1 given)))
+pub refused_is : (given : List Text) → is_refused given ≡ not (is_empty (built_fault (built whole_app) nothing_held (drop 1 given)))
 unfolding is_refused whole_app
-refused_by given = refl
+refused_is given = refl
 
-matched_by : (given : List Text) → matched given ≡ entered (built whole_app) (stop_after (built whole_app).top.rules (names_of (built whole_app)) (drop 1 given))
+pub matched_is : (given : List Text) → matched given ≡ entered (built whole_app) (stop_after (built whole_app).top.rules (names_of (built whole_app)) (drop 1 given))
 unfolding matched whole_app
-matched_by given = refl
-
-not_false : (b : Bool) → not b ≡ false → b ≡ true
-not_false true e = refl
-not_false false e = absurd (true≢false e)
+matched_is given = refl
 
 taken_command : (given : List Text) → is_refused given ≡ false → (m : Text × List Row) × (matched given ≡ Some m) × ((c : Subcommand) × (subcommand_named m.0 ≡ Some c))
 taken_command given taken =
-    let none = is_nil (built_fault (built whole_app) nothing_held (drop 1 given)) (not_false _ (sym (refused_by given) ∙ taken)) in
+    let none = is_nil (built_fault (built whole_app) nothing_held (drop 1 given)) (not_false _ (sym (refused_is given) ∙ taken)) in
     let met = entered_command (built whole_app) whole_commands _ (has_it (built whole_app) whole_commands (drop 1 given) whole_wants.0 whole_wants.1 none) in
-    (met.0, matched_by given ∙ met.1, met.2)
+    (met.0, matched_is given ∙ met.1, met.2)
 
 -- ---- values never say that the words weren't taken
 

@@ -27,11 +27,12 @@ use Rattle.bril_words.proofs.Defaults.{defaults_harmless, defaults_kept, default
 use Rattle.bril_words.proofs.Found.{all_operands, first_found, given_there, operand_there}
 use Rattle.bril_words.proofs.Fresh.{OperandsDiffer, are_new}
 use Rattle.bril_words.proofs.OptionWords.{flag_word, joined_word, option_word}
-use Rattle.bril_words.proofs.Rows.{or_false}
 use Rattle.bril_words.specs.declared.options.Flag.TheVariants.{Stats}
 use Rattle.bril_words.proofs.Pieces.{AllOf, Ends, or_else_free, rows_in, walk_pieces}
 use Rattle.bril_words.proofs.Ready.{Meets, Ready, meets, ready, ready_shape, stopped_at}
 use Rattle.bril_words.proofs.Steps.{plain_word_is}
+use Rattle.bril_words.proofs.Tests.{or_false}
+use Rattle.bril_words.proofs.Taken.{matched_is, refused_is}
 
 -- ---- one command
 
@@ -232,15 +233,6 @@ module _ (program : List ℕ) (c : Subcommand) (ps : List Piece) (args tail : Li
       go true has = let is : takes_args (name_of c) ≡ true = takes_args_is c ∙ has in rw is (after ends)
       go false has = let is : takes_args (name_of c) ≡ false = takes_args_is c ∙ has in rw is (no_args ends has)
 
-refused_is : (program : List ℕ) (words : List Text) → is_refused (program ∷ words) ≡ not (is_empty (built_fault (built whole_app) nothing_held words))
-unfolding is_refused whole_app
-refused_is program words = refl
-
-matched_is : (program : List ℕ) (words : List Text)
-    → matched (program ∷ words) ≡ entered (built whole_app) (stop_after (built whole_app).top.rules (names_of (built whole_app)) words)
-unfolding matched whole_app
-matched_is program words = refl
-
 -- what words ask for, where `clap` is given these
 asks_of : List (List ℕ) → List (List ℕ) → Result Asked Refusal
 asks_of given args = if is_refused given then Err not_taken else matches_ask args (matched given)
@@ -277,11 +269,11 @@ module _ (c : Subcommand) (ps : List Piece) (fit : FitPieces c ps) (once : are_d
 
   taken : (program : List ℕ) → is_refused (program ∷ name_of c ∷ written ps) ≡ false
   taken program =
-      refused_is program (name_of c ∷ written ps)
+      refused_is (program ∷ name_of c ∷ written ps)
       ∙ ap (λ (k : Kinds). not (is_empty k)) (whole_free (built whole_app) c (ready_shape c) (meets c) (written ps) (leaf_free (ready_shape c) c (ready c) ps fit once (operands_differ c) count))
 
   rows : (program : List ℕ) → matched (program ∷ name_of c ∷ written ps) ≡ Some (rows_at (ready_shape c) (written ps))
-  rows program = matched_is program (name_of c ∷ written ps) ∙ whole_enters (built whole_app) c (ready_shape c) (meets c) (written ps)
+  rows program = matched_is (program ∷ name_of c ∷ written ps) ∙ whole_enters (built whole_app) c (ready_shape c) (meets c) (written ps)
 
 pub plain_asks : (words : List (List ℕ)) (c : Subcommand) (ps : List Piece) (args : List (List ℕ)) → IsPlainLine words c ps args
     → words_ask words ≡ texts_ask c args (texts_found (found_in (operands_of c) ps))
