@@ -67,7 +67,7 @@ module _ (c : Call) (asks : Asks c.words) where
 
   -- memory ran out, and nothing was put
   Answers-exhausted : Said status.OutOfMemory → c.out_after ≡ c.out_before → Answers 71 c
-  Answers-exhausted says silent = record { asks = asks; leaves = inl silent; says = says }
+  Answers-exhausted says silent = record { leaves = inl silent; says = says }
 
   -- the file was not read
   Answers-file : (how : Status) → Said how → RefusesFile how c.files_before c.files_after asks.path → c.out_after ≡ c.out_before → Answers (status_number how) c
@@ -111,8 +111,7 @@ module _ (c : Call) (asks : Asks c.words) where
       says = says.all;
     }
     Answers-works status.OutOfMemory told says works = record {
-      asks = asks;
-      leaves = ⊎_elim inl (λ short. inr (short.0, comes (λ o. o.Exhausts short.0) short.1, short.2)) works.1;
+      leaves = ⊎_elim inl (λ short. inr (asks, short.0, comes (λ o. o.Exhausts short.0) short.1, short.2)) works.1;
       says = says.plain works.0;
     }
     Answers-works status.CannotWrite told says works = record {

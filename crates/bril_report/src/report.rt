@@ -15,7 +15,6 @@ use bril_outside::sink::Sink;
 use bril_text::TextFault;
 use bril_tree::limits::Fault;
 use bril_tree::program::Prog;
-use bril_tree::text::Text;
 use bril_words::{Misuse, Setting};
 use itoa::Buffer;
 
@@ -52,29 +51,20 @@ pub fn status_number(status: &Status) -> u8
 }
 
 /// Puts the line of a status, for the file at a path, on the error output: all of it, or the first of it where the output
-/// counts a fault, and nothing where a put failed before. Where all was done nothing is put.
-pub fn say<E: Sink>(err: &mut ErrorOutput<'_, E>, path: &Text, status: &Status)
+/// counts a fault, and nothing where a put failed before. Where all was done nothing is put. Only the lines of 65 and 66 tell the path.
+pub fn say<E: Sink>(err: &mut ErrorOutput<'_, E>, path: &str, status: &Status)
     ensures line { (heard E.seen err.old).failed ≡ false → SaysStatus status.now path.now (heard E.seen err.old).seen (heard E.seen err.new).seen }
     ensures tells { Tells E.seen err.old (status_pieces status.now path.now) err.new }
 {
     put_status(err, path, status);
 }
 
-/// Puts the line of words that ask for nothing on the error output: all of it, or the first of it where the output counts a
-/// fault, and nothing where a put failed before. The line is one put.
-pub fn say_misuse<E: Sink>(err: &mut ErrorOutput<'_, E>, misuse: Misuse)
-    ensures line { (heard E.seen err.old).failed ≡ false → Says (heard E.seen err.old).seen (misuse_line misuse) (heard E.seen err.new).seen }
-    ensures tells { Tells E.seen err.old (misuse_line misuse ∷ []) err.new }
-{
-    err.put(misuse_line(misuse));
-}
-
-// The line of words that ask for nothing.
-fn misuse_line(misuse: Misuse) -> &'static [u8]
-    ensures { result.now ≡ misuse_line misuse }
+// What is told of words that ask for nothing.
+fn misuse_line(misuse: &Misuse) -> &[u8]
+    ensures { result.now ≡ misuse_line misuse.now }
 {
     match misuse {
-        Misuse::Words => b"usage\n",
+        Misuse::Words { text } => text.as_bytes(),
         Misuse::Value {
             setting: Setting::Passes,
         } => b"usage: --passes\n",
@@ -87,18 +77,19 @@ fn misuse_line(misuse: Misuse) -> &'static [u8]
         Misuse::Value {
             setting: Setting::Steps,
         } => b"usage: --steps\n",
+        Misuse::Memory => b"out of memory\n",
     }
 }
 
 // Puts the line of a status.
-fn put_status<E: Sink>(err: &mut ErrorOutput<'_, E>, path: &Text, status: &Status)
+fn put_status<E: Sink>(err: &mut ErrorOutput<'_, E>, path: &str, status: &Status)
     ensures { Tells E.seen err.old (status_pieces status.now path.now) err.new }
 {
     match status {
         Status::Done => {}
         Status::Faulted { fault } => err.put(fault_line(*fault)),
         Status::Spent { steps } => put_number(err, b"spent ", *steps),
-        Status::Misused { misuse } => err.put(misuse_line(*misuse)),
+        Status::Misused { misuse } => err.put(misuse_line(misuse)),
         Status::Unsupported => err.put_all(&[path.as_bytes(), b": form\n"]),
         Status::Misread { fault } => put_misread(err, path.as_bytes(), *fault),
         Status::Misnamed { fault } => put_misnamed(err, *fault),
