@@ -1,7 +1,8 @@
 -- All that the top call promises.
-use Rattle.std.proofs.Common.{◌≡◌, ℕ, ◌≤◌, List, Ok, Err, codes, inl, inr, refl, sym, ◌∙◌, subst, arith, ⊎_elim}
+use Rattle.std.proofs.Common.{◌≡◌, ℕ, ◌≤◌, List, [], ◌∷◌, Ok, Err, ap, map, codes, inl, inr, refl, sym, ◌∙◌, subst, arith, ⊎_elim}
 use Rattle.bril_report.specs.Lines.{misuse_line}
-use Rattle.bril_report.specs.Report.{Says, SaysStatus, status_number}
+use Rattle.bril_report.specs.Puts.{Puts}
+use Rattle.bril_report.specs.Report.{status_number, status_pieces}
 use Rattle.bril_report.specs.StageFaults.{misuse_status}
 use Rattle.bril_report.specs.declared.status.Status.{Status}
 use Rattle.bril_report.specs.declared.status.Status.TheVariants as status
@@ -10,7 +11,7 @@ use Rattle.bril_words.specs.CommandLine.{Refusal, not_taken, bad_value, words_as
 use Rattle.bril_words.specs.declared.misuse.Misuse.{Misuse}
 use Rattle.bril_words.specs.declared.misuse.Misuse.TheVariants as misuse
 use Rattle.bril_words.specs.declared.request.Action.{Action}
-use Rattle.bril_commands.specs.Answers.{Answers, CannotWrite, Misused, Promises, SourceRefused, TooLarge}
+use Rattle.bril_commands.specs.Answers.{Answers, Misused, Promises, SourceRefused, TooLarge}
 use Rattle.bril_commands.specs.Call.{Call, ReadsWell, SaysAlone, UnlessMemory}
 use Rattle.bril_commands.specs.Command.{Command, OnTree, OnProgram, takes_passes}
 use Rattle.bril_commands.specs.CommandLine.{Asks, AsksFor, AskNothing, IsToldOf, format_of}
@@ -56,9 +57,6 @@ module _ (c : Call) (asks : Asks c.words) (how : Status) (ends : Ends c asks how
   usage : status_number how ≡ 64 → Misused c
   usage e = at_status 64 e
 
-  failed_write : status_number how ≡ 74 → CannotWrite c
-  failed_write e = at_status 74 e
-
   asked_something : AskNothing c.words → UnlessMemory (status_number how) (status_number how ≡ 64)
   asked_something none = let e : Ok (request_of asks.action asks.path asks.asked.0 asks.args) ≡ Err none.0 = sym asks.asked.1 ∙ none.1 in absurd (Ok_not_Err e)
 
@@ -73,7 +71,7 @@ module _ (c : Call) (asks : Asks c.words) (how : Status) (ends : Ends c asks how
     size = at_status 68;
     argued = at_status 69;
     unknown = at_status 70;
-    write = λ e. (failed_write e).rose;
+    write = at_status 74;
     silent = silent_at how c told;
     misused = λ e. ((usage e).refusal, (usage e).unasked);
     unasked = asked_something;
@@ -98,7 +96,7 @@ module _ (c : Call) (refusal : Refusal) (refused : words_ask c.words ≡ Err ref
   not_read : {A : Type 0} (action : Action) (bytes : List ℕ) → ReadsWell c action bytes → A
   not_read action bytes reads = not_asked action reads.path reads.args reads.asked
 
-  Promises-misused : c.files_after ≡ c.files_before → c.passes.after ≡ c.passes.before → (line : List ℕ) → IsToldOf refusal line → SaysAlone c line → Promises 64 c
+  Promises-misused : c.files_after ≡ c.files_before → c.passes.after ≡ c.passes.before → (line : List ℕ) → IsToldOf refusal line → SaysAlone c (line ∷ []) → Promises 64 c
   Promises-misused unread kept line told alone = record {
     answers = record { refusal = refusal; unasked = refused; unread = unread; kept = kept; line = line; told = told; alone = alone };
     done = λ e. absurd (omega arith);
@@ -130,9 +128,9 @@ done_exhausted (OnTree outcome) c format bytes args = λ tree reads. inl refl
 done_exhausted (OnProgram does) c format bytes args = λ p values source accepted spelled. inl refl
 
 -- of words for whose reading memory ran out
-Promises-exhausted : (c : Call) → c.passes.after ≡ c.passes.before → c.out_after ≡ c.out_before → Says c.err_before (codes "out of memory\n") c.err_after → Promises 71 c
+Promises-exhausted : (c : Call) → c.passes.after ≡ c.passes.before → c.out_after ≡ c.out_before → Puts c.err_before (codes "out of memory\n" ∷ []) c.err_after → Promises 71 c
 Promises-exhausted c same silent says = record {
-  answers = record { leaves = inl silent; says = says };
+  answers = record { tallies = inl (ap (map c.passes.counts) same); leaves = inl silent; says = says };
   done = λ e. absurd (omega arith);
   faulted = λ e. absurd (omega arith);
   spent = λ e. absurd (omega arith);
@@ -159,7 +157,7 @@ Promises-exhausted c same silent says = record {
 
 -- of words that were not read
 pub Promises-unread : (c : Call) (misuse : Misuse) → words.Answers (words_ask c.words) (Err misuse) → c.files_after ≡ c.files_before → c.passes.after ≡ c.passes.before → c.out_after ≡ c.out_before
-    → (path : List ℕ) → SaysStatus (misuse_status misuse) path c.err_before c.err_after → Promises (status_number (misuse_status misuse)) c
+    → (path : List ℕ) → Puts c.err_before (status_pieces (misuse_status misuse) path) c.err_after → Promises (status_number (misuse_status misuse)) c
 Promises-unread c (misuse.Words text) answers unread same silent path says = Promises-misused c not_taken answers unread same (misuse_line (misuse.Words text)) tt (record { silent = silent; says = says })
 Promises-unread c (misuse.Value setting) answers unread same silent path says = Promises-misused c (bad_value setting) answers unread same (misuse_line (misuse.Value setting)) refl (record { silent = silent; says = says })
 Promises-unread c misuse.Memory answers unread same silent path says = Promises-exhausted c same silent says

@@ -74,7 +74,6 @@ new_frame-kept p function vs locations vars shadows few =
     record {
       locations = record { vars = omega arith; shadows = omega arith };
       saves = tt;
-      few_saves = omega arith;
       few_items = few;
       point = omega arith;
     }

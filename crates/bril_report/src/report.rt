@@ -1,10 +1,10 @@
 // What is told of how a command ended: its number, and its line on the error output.
 
-ghost use Rattle.std.specs.Prelude.{◌≡◌, false, [], ◌∷◌, ◌++◌, codes, None, Some};
+ghost use Rattle.std.specs.Prelude.{◌≡◌, [], ◌∷◌, ◌++◌, codes, None, Some};
 ghost use Rattle.std.specs.Fmt.{decimal};
 ghost use Rattle.bril_report.specs.Lines.{text_front, text_position, json_front, json_position, name_front, name_position, number_or_dash, position_of, variable_name, fault_line, misuse_line};
-ghost use Rattle.bril_report.specs.Report.{Says, status_number, SaysStatus, status_pieces, position_pieces, number_pieces, misread_pieces, misnamed_pieces, item_pieces, main_pieces, unassigned_pieces, unaccepted_pieces, count_pieces, pass_pieces};
-ghost use Rattle.bril_report.specs.Told.{Tells, heard};
+ghost use Rattle.bril_report.specs.Report.{status_number, status_pieces, position_pieces, number_pieces, misread_pieces, misnamed_pieces, item_pieces, main_pieces, unassigned_pieces, unaccepted_pieces, count_pieces, pass_pieces};
+ghost use Rattle.bril_report.specs.Told.{Tells};
 
 use crate::error_output::ErrorOutput;
 use crate::status::{SourceFault, Status};
@@ -50,39 +50,9 @@ pub fn status_number(status: &Status) -> u8
     }
 }
 
-/// Puts the line of a status, for the file at a path, on the error output: all of it, or the first of it where the output
-/// counts a fault, and nothing where a put failed before. Where all was done nothing is put. Only the lines of 65 and 66 tell the path.
+/// Puts the line of a status, for the file at a path, on the error output, in its pieces: all of them, or those up to one whose
+/// put fails, and nothing where a put failed before. Where all was done nothing is put. Only the lines of 65 and 66 tell the path.
 pub fn say<E: Sink>(err: &mut ErrorOutput<'_, E>, path: &str, status: &Status)
-    ensures line { (heard E.seen err.old).failed ≡ false → SaysStatus status.now path.now (heard E.seen err.old).seen (heard E.seen err.new).seen }
-    ensures tells { Tells E.seen err.old (status_pieces status.now path.now) err.new }
-{
-    put_status(err, path, status);
-}
-
-// What is told of words that ask for nothing.
-fn misuse_line(misuse: &Misuse) -> &[u8]
-    ensures { result.now ≡ misuse_line misuse.now }
-{
-    match misuse {
-        Misuse::Words { text } => text.as_bytes(),
-        Misuse::Value {
-            setting: Setting::Passes,
-        } => b"usage: --passes\n",
-        Misuse::Value {
-            setting: Setting::Frames,
-        } => b"usage: --frames\n",
-        Misuse::Value {
-            setting: Setting::Cells,
-        } => b"usage: --cells\n",
-        Misuse::Value {
-            setting: Setting::Steps,
-        } => b"usage: --steps\n",
-        Misuse::Memory => b"out of memory\n",
-    }
-}
-
-// Puts the line of a status.
-fn put_status<E: Sink>(err: &mut ErrorOutput<'_, E>, path: &str, status: &Status)
     ensures { Tells E.seen err.old (status_pieces status.now path.now) err.new }
 {
     match status {
@@ -104,6 +74,28 @@ fn put_status<E: Sink>(err: &mut ErrorOutput<'_, E>, path: &str, status: &Status
         Status::UnknownPass { place } => put_number(err, b"unknown pass ", u64::from(*place)),
         Status::OutOfMemory => err.put(b"out of memory\n"),
         Status::CannotWrite => err.put(b"cannot write\n"),
+    }
+}
+
+// What is told of words that ask for nothing.
+fn misuse_line(misuse: &Misuse) -> &[u8]
+    ensures { result.now ≡ misuse_line misuse.now }
+{
+    match misuse {
+        Misuse::Words { text } => text.as_bytes(),
+        Misuse::Value {
+            setting: Setting::Passes,
+        } => b"usage: --passes\n",
+        Misuse::Value {
+            setting: Setting::Frames,
+        } => b"usage: --frames\n",
+        Misuse::Value {
+            setting: Setting::Cells,
+        } => b"usage: --cells\n",
+        Misuse::Value {
+            setting: Setting::Steps,
+        } => b"usage: --steps\n",
+        Misuse::Memory => b"out of memory\n",
     }
 }
 

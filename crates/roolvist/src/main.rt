@@ -22,11 +22,18 @@ use std::process::ExitCode;
 use tidy_code::Tidy;
 
 fn main(rt: HostRuntime) -> ExitCode {
-    let status = match with_passes(&rt) {
+    ExitCode::from(exit_number(with_passes(&rt)))
+}
+
+// The exit status: what was answered, or 71 where there was no memory for the passes.
+fn exit_number(ended: Result<u8, AllocError>) -> u8
+    ensures answered { IfOk ended (λ status. result ≡ status) }
+    ensures memory { IfErr ended (λ _. result ≡ 71) }
+{
+    match ended {
         Ok(status) => status,
         Err(AllocError) => status_number(&Status::OutOfMemory),
-    };
-    ExitCode::from(status)
+    }
 }
 
 // Does what the words of the command line ask for, with the shipped passes. Where there is no memory for these, nothing is

@@ -2,7 +2,7 @@
 
 ghost use Rattle.std.specs.Prelude.{◌≡◌, ◌%◌, ◌<◌, []};
 ghost use Rattle.bril_commands.specs.Driver.{DoesProgram};
-ghost use Rattle.bril_commands.specs.Outcome.{PutsText};
+ghost use Rattle.bril_commands.specs.Outcome.{PutsPieces};
 ghost use Rattle.bril_commands.specs.PassList.{pass_list};
 ghost use Rattle.bril_commands.specs.commands.Emit.{hex_digit, word_line, listing, shown, emits};
 ghost use Rattle.bril_report.specs.StageFaults.{status_of};
@@ -40,7 +40,7 @@ pub fn put_image<O: Sink>(
 
 // Puts the line of each word. It takes no memory.
 fn put_words<O: Sink>(words: &[u32], out: &mut O) -> Result<(), Status>
-    ensures { PutsText (status_of result) (listing words.now) (O.seen out.old) (O.seen out.new) }
+    ensures { PutsPieces (status_of result) (listing words.now) (O.seen out.old) (O.seen out.new) }
 {
     for word in words {
         out.put(&word_line(*word))?;

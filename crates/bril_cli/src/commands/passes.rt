@@ -19,7 +19,7 @@ use bril_tree::bytes::Bytes;
 use bril_tree::program::Prog;
 use std::alloc::{AllocError, Global};
 
-/// Puts the canonical text of the program that a list of passes makes of an accepted program on the output. After that the tallies of
+/// Puts the canonical text of the program that a list of passes makes of an accepted program on the output, by one put. After that the tallies of
 /// the passes that the list used are told on the error output.
 ///
 /// `UnknownPass`, `PassTooLarge`: the list makes no program. With these, and out of memory, nothing is put and nothing is told.

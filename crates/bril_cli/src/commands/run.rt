@@ -101,14 +101,11 @@ fn run_image<O: Sink, E: Sink>(
     requires implements { Implements image.now program.now settings.limits }
     requires fits { FitMain program.now values.now }
     requires words { length image.now.words ≤ most_words }
+    requires guards { length image.now.guards ≤ length image.now.words }
     requires stack { image.now.stack ≤ most_stack }
     ensures { Telling O.seen E.seen (λ told s t. Works (executed program.now settings.limits values.now settings.steps settings.stats) (status_of result) told s t) outputs.old outputs.new }
 {
     let guards = image.guards.as_slice();
-    // No image has as many guards.
-    if guards.len() > 4294967295 {
-        return Err(Status::OutOfMemory);
-    }
     let Ok(mut machine) = Machine::new(alloc, image, values, settings.limits) else {
         return Err(Status::OutOfMemory);
     };

@@ -1,6 +1,8 @@
 -- The list made no program, or the text of what it made was put, or its put failed, and the tallies were told.
-use Rattle.std.proofs.Common.{[], refl, inl, inr}
+use Rattle.std.proofs.Common.{[], ◌∷◌, refl, inl, inr}
 use Rattle.std.proofs.lemmas.Result.{err_from_is_err_and}
+use Rattle.bril_outside.proofs.SinkWrites.{PutSome-one}
+use Rattle.bril_report.proofs.Puts.{PutsAll-one}
 use Rattle.bril_report.proofs.Telling.{Tells-none}
 use Rattle.bril_cli.proofs.commands.passes.put_transformed.Goals as goal
 
@@ -20,10 +22,11 @@ returns-in_err-put-clause-does g c =
     let told = rw c.as_slice-2.ensures at c.tell_tallies.ensures in
     let text = rw c.prog.ensures.value at c.in_ok-text.ensures in
     let put = rw c.as_slice.ensures at c.in_err-put.ensures.err in
+    let times = c.in_err-put.ensures.times in
     rw (e.1, e.2) (record {
       same_output = refl;
       told = _;
-      does = inr ([], refl, inr (c.in_ok-made.made.prog, c.in_ok-made.ensures.ok, inr (tt, (refl, record { ended = _; told = _; output = c.in_ok-text.text; shows = (refl, refl, text); took = put.0; rose = put.1 }))));
+      does = inr ([], refl, inr (c.in_ok-made.made.prog, c.in_ok-made.ensures.ok, inr (tt, (refl, record { ended = _; told = _; output = c.in_ok-text.text ∷ []; shows = (refl, refl, record { text = c.in_ok-text.text; is = text; one = refl }); took = PutSome-one put.0 times put.1 }))));
       tells = told;
     })
 
@@ -35,6 +38,6 @@ returns-clause-does g c =
     record {
       same_output = refl;
       told = _;
-      does = inr ([], refl, inr (c.in_ok-made.made.prog, c.in_ok-made.ensures.ok, inr (tt, record { output = c.in_ok-text.text; shows = (refl, refl, text); took = took })));
+      does = inr ([], refl, inr (c.in_ok-made.made.prog, c.in_ok-made.ensures.ok, inr (tt, record { output = c.in_ok-text.text ∷ []; shows = (refl, refl, record { text = c.in_ok-text.text; is = text; one = refl }); took = PutsAll-one took c.in_ok-put.ensures.times })));
       tells = told;
     }

@@ -8,8 +8,8 @@ ghost use Rattle.bril_commands.specs.commands.Interp.{interpreted};
 ghost use Rattle.bril_report.specs.StageFaults.{status_of};
 ghost use Rattle.bril_tree.specs.Run.{FitMain};
 
+use crate::arguments::values_of;
 use bril_checker::Checked;
-use bril_commands::arguments::values_of;
 use bril_interpreter::{Interp, StepAnswer};
 use bril_outside::sink::Sink;
 use bril_report::Status;

@@ -1,10 +1,10 @@
 -- A run of the interpreter makes the steps of the program, or a write fails, or memory runs out.
 use Rattle.std.proofs.Common.{refl, ap, inl}
 use Rattle.bril_checker.specs.Checked.{CheckedView}
-use Rattle.bril_cli.proofs.Interpreting.{IsFresh, ended, goes_on, exhausted, failed}
-use Rattle.bril_cli.proofs.commands.interp.run_with.Given.{Over}
-use Rattle.bril_cli.proofs.commands.interp.run_with.Goals as goal
-use Rattle.bril_cli.proofs.commands.interp.run_with.Goals.{After-run}
+use Rattle.bril_commands.proofs.Interpreting.{IsFresh, ended, goes_on, exhausted, failed}
+use Rattle.bril_commands.proofs.commands.interp.run_with.Given.{Over}
+use Rattle.bril_commands.proofs.commands.interp.run_with.Goals as goal
+use Rattle.bril_commands.proofs.commands.interp.run_with.Goals.{After-run}
 
 fresh : (g : Over) (c : After-run g) → IsFresh c.in-Ok.interp c.args.checked.now.prog c.args.limits c.args.values.now
 fresh g c = record {

@@ -1,11 +1,12 @@
 // `check`: how many functions and items the accepted program of a file has.
 
-ghost use Rattle.std.specs.Prelude.{◌≡◌, IfOk};
-ghost use Rattle.bril_commands.specs.Outcome.{PutsText};
+ghost use Rattle.std.specs.Prelude.{◌≡◌, [], ◌∷◌, IfOk};
+ghost use Rattle.bril_commands.specs.Outcome.{PutsPieces};
 ghost use Rattle.bril_commands.specs.commands.Check.{accepted_line};
 ghost use Rattle.bril_report.specs.StageFaults.{status_of};
 ghost use Rattle.bril_tree.specs.Size.{IsCounted};
 
+use crate::output;
 use bril_checker::Checked;
 use bril_outside::sink::Sink;
 use bril_report::Status;
@@ -14,13 +15,12 @@ use bril_tree::program::Prog;
 use itoa::Buffer;
 use std::alloc::{AllocError, Global};
 
-/// Puts the line of an accepted program on the output: how many functions and items it has.
+/// Puts the line of an accepted program on the output, by one put: how many functions and items it has.
 pub fn put_counts<O: Sink>(alloc: Global, checked: &Checked, out: &mut O) -> Result<(), Status>
-    ensures { PutsText (status_of result) (accepted_line checked.now.prog) (O.seen out.old) (O.seen out.new) }
+    ensures { PutsPieces (status_of result) (accepted_line checked.now.prog ∷ []) (O.seen out.old) (O.seen out.new) }
 {
     let line = accepted_line(alloc, checked.prog())?;
-    out.put(line.as_slice())?;
-    Ok(())
+    output::put_text(line.as_slice(), out)
 }
 
 // The line of an accepted program: how many functions and items it has.
