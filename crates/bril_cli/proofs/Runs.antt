@@ -1,9 +1,9 @@
 -- What a run of an image leaves.
-use Rattle.std.proofs.Common.{◌≡◌, ◌≢◌, ℕ, zero, suc, ◌+◌, ◌-◌, ◌<◌, ◌≤◌, Bool, true, false, List, [], ◌∷◌, ◌++◌, length, Option, Some, None, refl, sym, ap, ◌∙◌, subst, arith, inl, ⊎_elim, true≢false, append-nil, append_assoc, length-append}
+use Rattle.std.proofs.Common.{◌≡◌, ◌≢◌, ℕ, zero, suc, ◌+◌, ◌-◌, ◌≤◌, Bool, true, false, List, [], ◌∷◌, ◌++◌, length, Option, Some, None, refl, sym, ap, ◌∙◌, subst, arith, inl, ⊎_elim, true≢false, append-nil, append_assoc, length-append}
 use Rattle.std.proofs.lemmas.List.{append_cancel_left}
 use Rattle.std.specs.Option.{option_map}
 use Rattle.bril_outside.proofs.SinkWrites.{PutSome-longer, joined-append}
-use Rattle.bril_outside.specs.Sink.{SinkSeen, TookAll, PutTimes, PutAll, PutSome, joined}
+use Rattle.bril_outside.specs.Sink.{SinkSeen, TookAll, PutTimes, PutSome, joined}
 use Rattle.bril_tree.specs.Run.{FitMain}
 use Rattle.bril_tree.specs.declared.limits.End.{End}
 use Rattle.bril_tree.specs.declared.limits.Limits.{Limits}

@@ -5,12 +5,13 @@ ghost use Rattle.std.specs.List.{All};
 ghost use Rattle.bril_cli.specs.Shipped.{MakesAsShipped};
 ghost use Rattle.bril_commands.specs.Answers.{Promises};
 ghost use Rattle.bril_commands.specs.Call.{call_of};
+ghost use Rattle.bril_words.specs.Answers.{PlainAsk, RefusedAlone};
 ghost use Rattle.pass_law.specs.Chains.{AllSame};
 
 use crate::driver::drive;
 use bril_outside::files::Files;
 use bril_outside::sink::Sink;
-use bril_report::{ErrorOutput, Outputs, Status, say, say_misuse, status_number};
+use bril_report::{ErrorOutput, Outputs, Status, say, status_number};
 use bril_tree::text::Text;
 use bril_words::read_words;
 use pass_law::Pass;
@@ -18,15 +19,14 @@ use std::alloc::Global;
 
 /// Does what the words ask for, and answers the exit status.
 ///
-/// The words are the program's name, a command, and the path of a file: one byte or more, of which the first
-/// is no `-`. The commands are `run`, which makes the file's program into machine words and runs these, `interp`, which
+/// The words, which `bril_words::read_words` reads by `clap`, are the program's name, a command, and the path of a file. The commands
+/// are `run`, which makes the file's program into machine words and runs these, `interp`, which
 /// interprets it, `emit`, which writes its machine words, `passes`, which writes what a list of passes makes of it, `check`, which
 /// writes how many functions and items its accepted program has, and `text` and `json`, which write the file in canonical text, and
-/// in canonical JSON and LF. After the path of `run` and `interp` there may be options, each with its number as the next word,
+/// in canonical JSON and LF. With `run` and `interp` there may be options, each with its number,
 /// `--frames` (from 1 to 65,536; 8,192 where it isn't given), `--cells` (to 4,194,304; 1,048,576) and `--steps` (to
-/// 1,000,000,000,000; 1,000,000,000), and then `--` and the arguments of `@main`; for `run` also `--passes`, with a list of passes as
-/// the next word, and `--stats`. After that of `emit` there may be `--frames` and `--passes`, and after that of `passes` there may be
-/// `--passes`. A list is the names of 64 passes at most, with a comma between each two; where it is empty or isn't given, there are
+/// 1,000,000,000,000; 1,000,000,000), and then `--` and the arguments of `@main`; for `run` also `--passes`, with a list of passes, and
+/// `--stats`. With `emit` there may be `--frames` and `--passes`, and with `passes` there may be `--passes`. A list is the names of 64 passes at most, with a comma between each two; where it is empty or isn't given, there are
 /// none. A file whose path ends in `.json` is in the JSON form of the Bril documentation, and any other in its text form. To be
 /// checked, interpreted, transformed, emitted or run it has to be without imports.
 ///
@@ -49,7 +49,7 @@ use std::alloc::Global;
 /// | 0 | all was done: `out` took all that the program prints up to its end, or its machine words, each in eight hexadecimal digits and LF, or `ok FUNCTIONS ITEMS` and LF, or the canonical text or JSON | none; for `passes` the line `NAME runs R seen S made M` of each pass that the list used, in their order, NAME being the first name of the list that the pass answers to |
 /// | 2 | the program was run or interpreted and stopped with a fault; `out` took all that it printed | `fault K NAME` |
 /// | 3 | the program was interpreted and goes on after so many steps, or the machine after so many words; `out` took all that was printed | `spent STEPS` |
-/// | 64 | the words are any others | `usage`, or `usage: OPTION` for an option's number or list |
+/// | 64 | `clap` refuses the words, a request for help among them, or an option's number or list fails | the text of `clap`; `usage: OPTION` |
 /// | 65 | the file is no program in its form | `PATH: text K at AT`, `PATH: json K function F item I` |
 /// | 65 | the file is to be checked, interpreted, transformed, emitted or run and has imports | `PATH: form` |
 /// | 65 | the file is to be checked, interpreted, transformed, emitted or run, and a name in it stands twice or for nothing | `name K function F item I` |
@@ -59,7 +59,7 @@ use std::alloc::Global;
 /// | 68 | the pass at this place of the list, from 1, may make more than 1,000,000 items, and more than it was given | `too large: pass PLACE BOUND` |
 /// | 69 | the program is to be run or interpreted, and the arguments are not as many as `@main` takes, or one spells no value of its type, the first of them at this place from 1 | `arguments: GIVEN given, WANTED wanted`, `argument PLACE` |
 /// | 70 | no pass answers to the name at this place of the list, the first such; no pass ran | `unknown pass PLACE` |
-/// | 71 | memory ran out before anything was put on `out` or, for `interp`, at an item that takes memory, up to which `out` took what the program prints | `out of memory` |
+/// | 71 | memory ran out, perhaps while the words were read, before anything was put on `out` or, for `interp`, at an item that takes memory, up to which `out` took what the program prints | `out of memory` |
 /// | 74 | a write to `out` failed, which took the first of what goes there | `cannot write`; for `passes` the lines of the passes before it |
 ///
 /// Where several causes stand together, the first in this order is answered: 64, 66, the file's size, 65 in the order of
@@ -91,6 +91,8 @@ pub fn bril_top<F: Files, O: Sink, E: Sink>(
     ensures faults { (F.seen files.old).faults ≤ (F.seen files.new).faults }
     ensures same { AllSame (λ p. meaning p) passes.old passes.new }
     ensures promises { Promises result (call_of words.now (F.seen files.old) (F.seen files.new) (O.seen out.old) (O.seen out.new) (E.seen err.old) (E.seen err.new) (λ p. meaning p) (λ p. counts p) passes.old passes.new) }
+    ensures plain { PlainAsk words.now }
+    ensures refused { RefusedAlone words.now }
 {
     let mut outputs = Outputs {
         out,
@@ -114,12 +116,15 @@ fn answer<F: Files, O: Sink, E: Sink>(
     ensures faults { (F.seen files.old).faults ≤ (F.seen files.new).faults }
     ensures same { AllSame (λ p. meaning p) passes.old passes.new }
     ensures promises { Promises result (call_of words.now (F.seen files.old) (F.seen files.new) (O.seen outputs.old.out.now) (O.seen outputs.new.out.now) (E.seen outputs.old.err.sink.now) (E.seen outputs.new.err.sink.now) (λ p. meaning p) (λ p. counts p) passes.old passes.new) }
+    ensures plain { PlainAsk words.now }
+    ensures refused { RefusedAlone words.now }
 {
-    let request = match read_words(words) {
+    let request = match read_words(alloc, words) {
         Ok(request) => request,
         Err(misuse) => {
-            say_misuse(&mut outputs.err, misuse);
-            return status_number(&Status::Misused { misuse });
+            let status = Status::from(misuse);
+            say(&mut outputs.err, "", &status);
+            return status_number(&status);
         }
     };
     let status = Status::from(drive(alloc, request, files, passes, outputs));

@@ -22,7 +22,7 @@ use Rattle.bril_tree.specs.declared.program.Prog.{Prog}
 use Rattle.bril_tree.specs.declared.tree.Tree.{Tree}
 use Rattle.bril_tree.specs.declared.value.Value.{Value}
 use Rattle.bril_words.specs.Request.{Asked}
-use Rattle.bril_words.specs.declared.misuse.Misuse.{Misuse}
+use Rattle.bril_words.specs.CommandLine.{Refusal}
 use Rattle.bril_words.specs.declared.request.Action.{Action}
 use Rattle.bril_commands.proofs.Statuses.{Ends, Numbered-source, has_in, plain}
 use Rattle.bril_commands.specs.Arguments.{argument_pieces, HasArgFault, HasOnlyArgFault, RefusesArgs}
@@ -39,15 +39,15 @@ use Rattle.bril_commands.specs.declared.source.Format.{Format}
 -- ---- what the words ask for is one
 
 -- what was asked for, where something was
-asked_in : Asked → Result Asked Misuse → Asked
+asked_in : Asked → Result Asked Refusal → Asked
 asked_in other (Ok request) = request
-asked_in other (Err misuse) = other
+asked_in other (Err refusal) = other
 
 -- a request with these parts
 abbrev pub request_of : Action → List ℕ → List ℕ → List (List ℕ) → Asked
 request_of action path list args = record { action = action; path = path; list = list; args = args }
 
-pub Ok_not_Err : {request : Asked} {misuse : Misuse} → Ok request ≡ Err misuse → ⊥
+pub Ok_not_Err : {request : Asked} {refusal : Refusal} → Ok request ≡ Err refusal → ⊥
 Ok_not_Err e = cc
 
 module _ (c : Call) (asks : Asks c.words) (b : Action) (q : List ℕ) (ys : List (List ℕ)) (f : AsksFor c.words b q ys) where

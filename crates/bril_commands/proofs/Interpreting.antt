@@ -1,5 +1,5 @@
 -- What a run of an interpreter leaves.
-use Rattle.std.proofs.Common.{◌≡◌, ℕ, zero, suc, ◌+◌, ◌-◌, ◌<◌, ◌≤◌, List, [], ◌∷◌, ◌++◌, length, Option, Some, None, refl, sym, ap, ◌∙◌, subst, arith, inl, inr, ⊎_elim, true≢false, append_assoc, length-append}
+use Rattle.std.proofs.Common.{◌≡◌, ℕ, zero, suc, ◌+◌, ◌-◌, ◌≤◌, List, [], ◌∷◌, ◌++◌, length, Option, Some, None, refl, sym, ap, ◌∙◌, subst, arith, inl, inr, ⊎_elim, true≢false, append_assoc, length-append}
 use Rattle.bril_interpreter.specs.declared.answer.StepAnswer.TheVariants as run
 use Rattle.bril_interpreter.specs.Line.{next_print, pieces_of, puts_of}
 use Rattle.bril_interpreter.specs.StepAnswers.{Ran, RunFailed, WantsMemory, reached_after, print_at, puts_within}

@@ -28,9 +28,9 @@ use Rattle.pass_law.specs.declared.tally.Tally.{Tally}
 
 -- ---- What reading a file answers.
 
-pub RefusesFile-of : (fault : FileFault) (f g : FilesSeen) (path : List ℕ) → (fault ≡ file.Failed → MayFail f g path) → RefusesFile (file_status fault) f g path
-RefusesFile-of file.Failed f g path failed = failed refl
-RefusesFile-of file.Memory f g path failed = tt
+pub RefusesFile-of : (fault : FileFault) (f g : FilesSeen) (copied path : List ℕ) → copied ≡ path → (fault ≡ file.Failed → MayFail f g copied) → RefusesFile (file_status fault) f g path
+RefusesFile-of file.Failed f g copied path same failed = subst (λ p. MayFail f g p) same (failed refl)
+RefusesFile-of file.Memory f g copied path same failed = tt
 
 -- ---- What numbering answers: its fault is the only one or out of memory.
 

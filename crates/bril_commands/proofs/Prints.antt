@@ -9,10 +9,9 @@ use Rattle.bril_tree.specs.Memory.{live_block, is_freeable}
 use Rattle.bril_tree.specs.Outcome.{Outcome, Yields, FaultsWith, HasEffect, outcome_of, argument, block_of, offset_of}
 use Rattle.bril_tree.specs.Run.{first_state, state_after}
 use Rattle.bril_tree.specs.State.{State, Frame, Locals, read}
-use Rattle.bril_tree.specs.Step.{faulted, with_frames, advances, returns, ends, allocates, stores, loads, loads_held, guards, acts, acts_at, by_outcome, item_step, frames_step, running_step, step, item_at, line_of}
+use Rattle.bril_tree.specs.Step.{returns, ends, allocates, stores, loads, loads_held, guards, acts, acts_at, by_outcome, item_step, frames_step, running_step, step, item_at}
 use Rattle.bril_tree.specs.declared.limits.End.{End}
 use Rattle.bril_tree.specs.declared.limits.Fault.{Fault}
-use Rattle.bril_tree.specs.declared.limits.Fault.TheVariants as fault
 use Rattle.bril_tree.specs.declared.limits.Limits.{Limits}
 use Rattle.bril_tree.specs.declared.numbered.Instr.{Instr}
 use Rattle.bril_tree.specs.declared.numbered.Instr.TheVariants.{Label, Const, Act}

@@ -1,17 +1,25 @@
 -- All that the top call promises.
-use Rattle.std.proofs.Common.{◌≡◌, ℕ, ◌≤◌, List, [], ◌∷◌, Ok, Err, refl, sym, ◌∙◌, subst, arith, ⊎_elim}
+use Rattle.std.proofs.Common.{◌≡◌, ℕ, ◌≤◌, List, [], ◌∷◌, Ok, Err, ap, map, codes, inl, inr, refl, sym, ◌∙◌, subst, arith, ⊎_elim}
 use Rattle.bril_report.specs.Lines.{misuse_line}
-use Rattle.bril_report.specs.Report.{status_number}
+use Rattle.bril_report.specs.Puts.{Puts}
+use Rattle.bril_report.specs.Report.{status_number, status_pieces}
+use Rattle.bril_report.specs.StageFaults.{misuse_status}
 use Rattle.bril_report.specs.declared.status.Status.{Status}
 use Rattle.bril_report.specs.declared.status.Status.TheVariants as status
-use Rattle.bril_words.specs.CommandLine.{words_read}
+use Rattle.bril_words.specs.Answers as words
+use Rattle.bril_words.specs.CommandLine.{Refusal, not_taken, bad_value, words_ask}
 use Rattle.bril_words.specs.declared.misuse.Misuse.{Misuse}
+use Rattle.bril_words.specs.declared.misuse.Misuse.TheVariants as misuse
 use Rattle.bril_words.specs.declared.request.Action.{Action}
 use Rattle.bril_commands.specs.Answers.{Answers, Misused, Promises, SourceRefused, TooLarge}
-use Rattle.bril_commands.specs.Call.{Call, ReadsWell, SaysAlone}
-use Rattle.bril_commands.specs.CommandLine.{Asks, AsksFor, AskNothing}
-use Rattle.bril_commands.specs.Table.{KeepsPasses}
+use Rattle.bril_commands.specs.Call.{Call, ReadsWell, SaysAlone, UnlessMemory}
+use Rattle.bril_commands.specs.Command.{Command, OnTree, OnProgram, takes_passes}
+use Rattle.bril_commands.specs.CommandLine.{Asks, AsksFor, AskNothing, IsToldOf, format_of}
+use Rattle.bril_commands.specs.Table.{KeepsPasses, command}
+use Rattle.bril_commands.specs.When.{CommandDone}
+use Rattle.bril_commands.specs.declared.source.Format.{Format}
 use Rattle.bril_commands.proofs.Causes.{Ok_not_Err, request_of, asked_action, misargued_where, unchecked_where, formless_where, misnamed_where, misread_where, long_where, lacking_where}
+use Rattle.bril_commands.proofs.Keeping.{kept}
 use Rattle.bril_commands.proofs.When.{done_where}
 use Rattle.bril_commands.proofs.Statuses.{Ends, Answers-of}
 
@@ -49,7 +57,7 @@ module _ (c : Call) (asks : Asks c.words) (how : Status) (ends : Ends c asks how
   usage : status_number how ≡ 64 → Misused c
   usage e = at_status 64 e
 
-  asked_something : AskNothing c.words → status_number how ≡ 64
+  asked_something : AskNothing c.words → UnlessMemory (status_number how) (status_number how ≡ 64)
   asked_something none = let e : Ok (request_of asks.action asks.path asks.asked.0 asks.args) ≡ Err none.0 = sym asks.asked.1 ∙ none.1 in absurd (Ok_not_Err e)
 
   pub Promises-driven : Promises (status_number how) c
@@ -65,7 +73,8 @@ module _ (c : Call) (asks : Asks c.words) (how : Status) (ends : Ends c asks how
     unknown = at_status 70;
     write = at_status 74;
     silent = silent_at how c told;
-    misused = (λ e. ((usage e).misuse, (usage e).unasked), asked_something);
+    misused = λ e. ((usage e).refusal, (usage e).unasked);
+    unasked = asked_something;
     does = done_where c asks how ends;
     misargued = misargued_where c asks how ends;
     misread = misread_where c asks how ends;
@@ -77,17 +86,19 @@ module _ (c : Call) (asks : Asks c.words) (how : Status) (ends : Ends c asks how
     keeps = λ action path args asked. subst (λ (a : Action). KeepsPasses c.passes.meaning a c.passes.before c.passes.after) (sym (asked_action c asks action path args asked)) ends.keeps;
   }
 
+-- ---- of words that give no request
+
 -- of words that ask for nothing
-module _ (c : Call) (misuse : Misuse) (unasked : words_read c.words ≡ Err misuse) where
+module _ (c : Call) (refusal : Refusal) (refused : words_ask c.words ≡ Err refusal) where
   not_asked : {A : Type 0} (action : Action) (path : List ℕ) (args : List (List ℕ)) → AsksFor c.words action path args → A
-  not_asked action path args asks = let e : Ok (request_of action path asks.0 args) ≡ Err misuse = sym asks.1 ∙ unasked in absurd (Ok_not_Err e)
+  not_asked action path args asks = let e : Ok (request_of action path asks.0 args) ≡ Err refusal = sym asks.1 ∙ refused in absurd (Ok_not_Err e)
 
   not_read : {A : Type 0} (action : Action) (bytes : List ℕ) → ReadsWell c action bytes → A
   not_read action bytes reads = not_asked action reads.path reads.args reads.asked
 
-  pub Promises-misused : c.files_after ≡ c.files_before → c.passes.after ≡ c.passes.before → SaysAlone c (misuse_line misuse ∷ []) → Promises 64 c
-  Promises-misused unread kept alone = record {
-    answers = record { misuse = misuse; unasked = unasked; unread = unread; kept = kept; alone = alone };
+  Promises-misused : c.files_after ≡ c.files_before → c.passes.after ≡ c.passes.before → (line : List ℕ) → IsToldOf refusal line → SaysAlone c (line ∷ []) → Promises 64 c
+  Promises-misused unread kept line told alone = record {
+    answers = record { refusal = refusal; unasked = refused; unread = unread; kept = kept; line = line; told = told; alone = alone };
     done = λ e. absurd (omega arith);
     faulted = λ e. absurd (omega arith);
     spent = λ e. absurd (omega arith);
@@ -98,7 +109,8 @@ module _ (c : Call) (misuse : Misuse) (unasked : words_read c.words ≡ Err misu
     unknown = λ e. absurd (omega arith);
     write = λ e. absurd (omega arith);
     silent = λ low high. alone.silent;
-    misused = (λ e. (misuse, unasked), λ none. refl);
+    misused = λ e. (refusal, refused);
+    unasked = λ none. inr refl;
     does = λ action bytes reads. not_read action bytes reads;
     misargued = λ action gives bytes p fault reads short source accepted ample is. not_read action bytes reads;
     misread = λ action bytes fault reads short has. not_read action bytes reads;
@@ -109,3 +121,43 @@ module _ (c : Call) (misuse : Misuse) (unasked : words_read c.words ≡ Err misu
     long_file = λ action bytes reads long. not_read action bytes reads;
     keeps = λ action path args asks. not_asked action path args asks;
   }
+
+-- out of memory comes in place of all that a command does
+done_exhausted : (k : Command) (c : Call) (format : Format) (bytes : List ℕ) (args : List (List ℕ)) → CommandDone k 71 c format bytes args
+done_exhausted (OnTree outcome) c format bytes args = λ tree reads. inl refl
+done_exhausted (OnProgram does) c format bytes args = λ p values source accepted spelled. inl refl
+
+-- of words for whose reading memory ran out
+Promises-exhausted : (c : Call) → c.passes.after ≡ c.passes.before → c.out_after ≡ c.out_before → Puts c.err_before (codes "out of memory\n" ∷ []) c.err_after → Promises 71 c
+Promises-exhausted c same silent says = record {
+  answers = record { tallies = inl (ap (map c.passes.counts) same); leaves = inl silent; says = says };
+  done = λ e. absurd (omega arith);
+  faulted = λ e. absurd (omega arith);
+  spent = λ e. absurd (omega arith);
+  form = λ e. absurd (omega arith);
+  read = λ e. absurd (omega arith);
+  size = λ e. absurd (omega arith);
+  argued = λ e. absurd (omega arith);
+  unknown = λ e. absurd (omega arith);
+  write = λ e. absurd (omega arith);
+  silent = λ low high. absurd (omega arith);
+  misused = λ e. absurd (omega arith);
+  unasked = λ none. inl refl;
+  does = λ action bytes reads short. done_exhausted (command action) c (format_of reads.path) bytes reads.args;
+  misargued = λ action gives bytes p fault reads short source accepted ample is. inl refl;
+  misread = λ action bytes fault reads short has. inl refl;
+  misnamed = λ action needs bytes fault reads short has. inl refl;
+  unchecked = λ action needs bytes p fault reads short source has. inl refl;
+  formless = λ action needs bytes reads short imports. inl refl;
+  lacking = λ none. inl refl;
+  long_file = λ action bytes reads long. inl refl;
+  keeps = λ action path args asks.
+      subst (λ (after : List c.passes.Box). KeepsPasses c.passes.meaning action c.passes.before after) (sym same) (kept c.passes.meaning (takes_passes (command action)) c.passes.before);
+}
+
+-- of words that were not read
+pub Promises-unread : (c : Call) (misuse : Misuse) → words.Answers (words_ask c.words) (Err misuse) → c.files_after ≡ c.files_before → c.passes.after ≡ c.passes.before → c.out_after ≡ c.out_before
+    → (path : List ℕ) → Puts c.err_before (status_pieces (misuse_status misuse) path) c.err_after → Promises (status_number (misuse_status misuse)) c
+Promises-unread c (misuse.Words text) answers unread same silent path says = Promises-misused c not_taken answers unread same (misuse_line (misuse.Words text)) tt (record { silent = silent; says = says })
+Promises-unread c (misuse.Value setting) answers unread same silent path says = Promises-misused c (bad_value setting) answers unread same (misuse_line (misuse.Value setting)) refl (record { silent = silent; says = says })
+Promises-unread c misuse.Memory answers unread same silent path says = Promises-exhausted c same silent says

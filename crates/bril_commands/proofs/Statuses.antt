@@ -90,7 +90,7 @@ module _ (c : Call) (asks : Asks c.words) (keeps : KeepsPasses c.passes.meaning 
 
   -- memory ran out, and nothing was put
   Answers-exhausted : AreUnused c.passes ⊎ ListBegan c asks → Said status.OutOfMemory → c.out_after ≡ c.out_before → Answers 71 c
-  Answers-exhausted tallies says silent = record { asks = asks; tallies = tallies; leaves = inl silent; says = says }
+  Answers-exhausted tallies says silent = record { tallies = ⊎_elim inl (λ began. inr (asks, began)) tallies; leaves = inl silent; says = says }
 
   -- the file was not read
   Answers-file : (how : Status) → Said how → RefusesFile how c.files_before c.files_after asks.path → c.out_after ≡ c.out_before → AreUnused c.passes → Answers (status_number how) c
@@ -133,9 +133,8 @@ module _ (c : Call) (asks : Asks c.words) (keeps : KeepsPasses c.passes.meaning 
       says = says;
     }
     Answers-works status.OutOfMemory told says works = record {
-      asks = asks;
-      tallies = tallies;
-      leaves = ⊎_elim inl (λ short. inr (short.0, comes (λ o. o.Exhausts short.0) short.1, short.2)) works.1;
+      tallies = ⊎_elim inl (λ began. inr (asks, began)) tallies;
+      leaves = ⊎_elim inl (λ short. inr (asks, short.0, comes (λ o. o.Exhausts short.0) short.1, short.2)) works.1;
       says = plain told (status_pieces status.OutOfMemory asks.path) works.0 says;
     }
     Answers-works status.CannotWrite told says works = record {

@@ -1,5 +1,5 @@
 -- What the words of an image print, and by which pieces.
-use Rattle.std.proofs.Common.{◌≡◌, ◌≢◌, ℕ, zero, suc, List, [], ◌∷◌, ◌++◌, refl, sym, ap, ◌∙◌, append-nil}
+use Rattle.std.proofs.Common.{◌≡◌, ◌≢◌, ℕ, zero, suc, List, [], ◌∷◌, ◌++◌, refl, sym, ap, ◌∙◌}
 use Rattle.bril_outside.proofs.SinkWrites.{joined-append}
 use Rattle.bril_outside.specs.Sink.{joined}
 use Rattle.bril_tree.specs.declared.limits.Limits.{Limits}

@@ -1,5 +1,5 @@
 -- What the top call answers: its status, and what it does to the files and its two outputs.
-use Rattle.std.specs.Prelude.{ℕ, ◌≡◌, ◌≢◌, ◌⊎◌, ◌<◌, ◌≤◌, true, List, [], ◌∷◌, ◌++◌, length, Option, Some, None, codes, ◌==◌, Err, MatchBool, ◌↔◌}
+use Rattle.std.specs.Prelude.{ℕ, ◌≡◌, ◌≢◌, ◌⊎◌, ◌<◌, ◌≤◌, true, List, [], ◌∷◌, ◌++◌, length, Option, Some, None, codes, ◌==◌, Err, MatchBool}
 use Rattle.bril_arguments.specs.Faults.{IsFaultOf}
 use Rattle.bril_arguments.specs.declared.fault.ArgFault.TheVariants.{Memory}
 use Rattle.bril_arguments.specs.declared.fault.ArgFault.{ArgFault}
@@ -7,7 +7,7 @@ use Rattle.bril_checker.specs.Faults as checker
 use Rattle.bril_checker.specs.declared.fault.CheckFault.{CheckFault}
 use Rattle.bril_names.specs.declared.fault.NameFault.{NameFault}
 use Rattle.bril_outside.specs.Files.{MayHold, MayFail}
-use Rattle.bril_report.specs.Lines.{fault_line, misuse_line}
+use Rattle.bril_report.specs.Lines.{fault_line}
 use Rattle.bril_report.specs.Puts.{Puts, WritesAll, WritesSome}
 use Rattle.bril_report.specs.Report.{form_pieces, misread_pieces, misnamed_pieces, unaccepted_pieces, unread_pieces, spent_pieces, code_pieces, stack_pieces, pass_pieces, unknown_pass_pieces}
 use Rattle.bril_report.specs.declared.status.SourceFault.{SourceFault}
@@ -18,8 +18,7 @@ use Rattle.bril_tree.specs.declared.limits.End.{End}
 use Rattle.bril_tree.specs.declared.limits.Fault.{Fault}
 use Rattle.bril_tree.specs.declared.limits.Limits.{Limits}
 use Rattle.bril_tree.specs.declared.program.Prog.{Prog}
-use Rattle.bril_words.specs.CommandLine.{words_read}
-use Rattle.bril_words.specs.declared.misuse.Misuse.{Misuse}
+use Rattle.bril_words.specs.CommandLine.{Refusal, words_ask}
 use Rattle.bril_words.specs.declared.request.Action.{Action}
 use Rattle.pass_law.specs.Bounds.{capped}
 use Rattle.rv64_implements.specs.WordBounds.{word_bounds, IsStackSize}
@@ -27,7 +26,7 @@ use Rattle.rv64_words.specs.Region.{most_words, most_stack}
 use Rattle.bril_commands.specs.Arguments.{HasOnlyArgFault, argument_pieces}
 use Rattle.bril_commands.specs.Call.{Call, SaysAlone, ReadsWell, AsksNone, UnlessMemory, ComesTo}
 use Rattle.bril_commands.specs.Command.{Makes, NeedsProgram, GivesArguments, MakesImage, takes_passes}
-use Rattle.bril_commands.specs.CommandLine.{format_of, Asks, AsksFor, AskNothing}
+use Rattle.bril_commands.specs.CommandLine.{format_of, Asks, AsksFor, AskNothing, IsToldOf}
 use Rattle.bril_commands.specs.PassList.{AreUnused, IsFirstUnknown, IsRefusedPass, IsCutOff}
 use Rattle.bril_commands.specs.Source.{most_bytes, HasFault, IsOnlyFault, IsSource, IsOnlySource, HasNameFault, HasOnlyNameFault, HasOnlyCheckFault, HasImports, IsFile, IsProgramFile}
 use Rattle.bril_commands.specs.Table.{command, KeepsPasses}
@@ -66,13 +65,15 @@ pub record GoesOn (c : Call) : Type 0 where
   pub took : WritesAll c.out_before output c.out_after
   pub says : Puts c.err_before (told ++ spent_pieces steps) c.err_after
 
--- 64: the words are not those of a command. No file was read.
+-- 64: `clap` refuses the words, or takes them and the value of an option fails. No file was read.
 pub record Misused (c : Call) : Type 0 where
-  pub misuse : Misuse
-  pub unasked : words_read c.words ≡ Err misuse
+  pub refusal : Refusal
+  pub unasked : words_ask c.words ≡ Err refusal
   pub unread : c.files_after ≡ c.files_before
   pub kept : c.passes.after ≡ c.passes.before
-  pub alone : SaysAlone c (misuse_line misuse ∷ [])
+  pub line : List ℕ
+  pub told : IsToldOf refusal line
+  pub alone : SaysAlone c (line ∷ [])
 
 -- 65: the file's bytes read as no tree; or the command needs a program, and the tree has imports, or a fault of a
 -- name, or a program that isn't accepted. No pass ran.
@@ -189,12 +190,11 @@ pub record ListBegan (c : Call) (asks : Asks c.words) : Type 0 where
   pub file : IsProgramFile c.files_before asks.path program
   pub cut : IsCutOff c.passes program
 
--- 71: memory ran out, and nothing was put but what the command may have put by then; for `run` before the first word was executed,
--- and for `emit` before the first was written. No pass ran, or the list was begun.
+-- 71: memory ran out, perhaps while the words were read, and nothing was put but what the command may have put by then; for `run`
+-- before the first word was executed, and for `emit` before the first was written. No pass ran, or the list was begun.
 pub record Exhausted (c : Call) : Type 0 where
-  pub asks : Asks c.words
-  pub tallies : AreUnused c.passes ⊎ ListBegan c asks
-  pub leaves : (c.out_after ≡ c.out_before) ⊎ ((output : List (List ℕ)) × ComesTo c asks (λ o. o.Exhausts output) × WritesAll c.out_before output c.out_after)
+  pub tallies : AreUnused c.passes ⊎ ((asks : Asks c.words) × ListBegan c asks)
+  pub leaves : (c.out_after ≡ c.out_before) ⊎ ((asks : Asks c.words) × (output : List (List ℕ)) × ComesTo c asks (λ o. o.Exhausts output) × WritesAll c.out_before output c.out_after)
   pub says : Puts c.err_before (codes "out of memory\n" ∷ []) c.err_after
 
 -- 74: a put on the output failed, the last of what the command put there; or it took all, and failed to hand on what it held back.
@@ -282,8 +282,9 @@ pub record Promises (status : ℕ) (c : Call) : Type 0 where
   pub unknown : status ≡ 70 → UnknownPass c
   pub write : status ≡ 74 → CannotWrite c
   pub silent : 64 ≤ status → status ≤ 70 → c.out_after ≡ c.out_before
-  -- when each status comes; out of memory, 71 comes in place of all but 64
-  pub misused : (status ≡ 64) ↔ AskNothing c.words
+  -- when each status comes; out of memory, 71 comes in place of each
+  pub misused : status ≡ 64 → AskNothing c.words
+  pub unasked : AskNothing c.words → UnlessMemory status (status ≡ 64)
   pub does : DoneWhere status c
   pub misargued : MisarguedWhere status c
   pub misread : MisreadWhere status c

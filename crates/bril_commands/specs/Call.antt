@@ -11,7 +11,7 @@ use Rattle.bril_tree.specs.declared.program.Prog.{Prog}
 use Rattle.bril_tree.specs.declared.tree.Tree.{Tree}
 use Rattle.bril_tree.specs.declared.value.Value.{Value}
 use Rattle.bril_words.specs.declared.request.Action.{Action}
-use Rattle.bril_words.specs.CommandLine.{words_read}
+use Rattle.bril_words.specs.CommandLine.{words_ask}
 use Rattle.bril_words.specs.Names.{names_of}
 use Rattle.pass_law.specs.Meaning.{Meaning}
 use Rattle.pass_law.specs.declared.tally.Tally.{Tally}
@@ -43,7 +43,7 @@ call_of words files files' out out' err err' meaning counts passes passes' = rec
   out_after = out';
   err_before = err;
   err_after = err';
-  passes = pass_list meaning counts passes passes' (names_of (list_asked (words_read words)));
+  passes = pass_list meaning counts passes passes' (names_of (list_asked (words_ask words)));
 }
 
 -- nothing was put on the output, and this line on the error output, in these pieces

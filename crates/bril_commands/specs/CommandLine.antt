@@ -1,16 +1,17 @@
 -- What a command line asks for, and the format of its file.
 use Rattle.std.specs.Prelude.{◌≡◌, ℕ, Bool, nat_eq, List, [], Result, Ok, Err, if◌then◌else◌, codes}
 use Rattle.std.specs.List.{ends_with}
-use Rattle.bril_words.specs.CommandLine.{words_read, asked}
+use Rattle.bril_words.specs.CommandLine.{Refusal, not_taken, bad_value, asked, words_ask}
+use Rattle.bril_report.specs.Lines.{misuse_line}
 use Rattle.bril_words.specs.Request.{Asked}
-use Rattle.bril_words.specs.declared.misuse.Misuse.{Misuse}
+use Rattle.bril_words.specs.declared.misuse.Misuse.TheVariants.{Value}
 use Rattle.bril_words.specs.declared.request.Action.{Action}
 use Rattle.bril_commands.specs.declared.source.Format.{Format}
 use Rattle.bril_commands.specs.declared.source.Format.TheVariants.{InText, InJson}
 
 -- the words ask for an action, the path of its file, and the arguments of the file's program
 abbrev pub AsksFor : List (List ℕ) → Action → List ℕ → List (List ℕ) → Type 0
-AsksFor words action path args = (list : List ℕ) × (words_read words ≡ asked action path list args)
+AsksFor words action path args = (list : List ℕ) × (words_ask words ≡ asked action path list args)
 
 -- What words ask for.
 pub record Asks (words : List (List ℕ)) : Type 0 where
@@ -20,13 +21,18 @@ pub record Asks (words : List (List ℕ)) : Type 0 where
   pub asked : AsksFor words action path args
 
 -- the list of passes that is asked for
-abbrev pub list_asked : Result Asked Misuse → List ℕ
+abbrev pub list_asked : Result Asked Refusal → List ℕ
 list_asked (Ok request) = request.list
-list_asked (Err misuse) = []
+list_asked (Err refusal) = []
 
 -- the words ask for nothing
 abbrev pub AskNothing : List (List ℕ) → Type 0
-AskNothing words = (misuse : Misuse) × (words_read words ≡ Err misuse)
+AskNothing words = (refusal : Refusal) × (words_ask words ≡ Err refusal)
+
+-- what is told of words that ask for nothing: the text of `clap`, which may be any, or the line of the option whose value fails
+abbrev pub IsToldOf : Refusal → List ℕ → Type 0
+IsToldOf not_taken line = Unit {0}
+IsToldOf (bad_value setting) line = line ≡ misuse_line (Value setting)
 
 -- the path is that of a file in JSON
 abbrev pub is_json : List ℕ → Bool

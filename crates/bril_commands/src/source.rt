@@ -27,14 +27,15 @@ pub enum Format {
 /// The bytes of the file at the path, of at most 16,777,216.
 ///
 /// `CannotRead`: the file is not there, or reading it failed. `FileTooBig`: it has more bytes.
-pub fn read_file<F: Files>(alloc: Global, path: &Text, files: &mut F) -> Result<Bytes, Status>
+pub fn read_file<F: Files>(alloc: Global, path: &str, files: &mut F) -> Result<Bytes, Status>
     ensures holds { (F.seen files.new).holds ≡ (F.seen files.old).holds }
     ensures faults { (F.seen files.old).faults ≤ (F.seen files.new).faults }
     ensures ok { IfOk result (IsFile (F.seen files.old) path.now) }
     ensures err { IfErr result (λ status. RefusesFile status (F.seen files.old) (F.seen files.new) path.now) }
 {
+    let path = Text::of(alloc, path)?;
     let mut source = Bytes::new(alloc);
-    if files.read(alloc, path, MOST_BYTES, &mut source)? {
+    if files.read(alloc, &path, MOST_BYTES, &mut source)? {
         Ok(source)
     } else {
         Err(Status::FileTooBig)

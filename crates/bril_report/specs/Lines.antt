@@ -1,5 +1,5 @@
 -- What the lines on the error output are made of.
-use Rattle.std.specs.Prelude.{ℕ, List, [], Option, Some, None, codes, slice_get}
+use Rattle.std.specs.Prelude.{ℕ, List, [], Option, Some, None, codes, slice_get, string_bytes}
 use Rattle.std.specs.Fmt.{decimal}
 use Rattle.bril_tree.specs.declared.limits.Fault.{Fault}
 use Rattle.bril_tree.specs.declared.limits.Fault.TheVariants as fault
@@ -13,8 +13,8 @@ use Rattle.bril_names.specs.declared.fault.NameFault.TheVariants as name
 use Rattle.bril_text.specs.declared.fault.TextFault.{TextFault}
 use Rattle.bril_text.specs.declared.fault.TextFault.TheVariants as text
 use Rattle.bril_words.specs.declared.misuse.Misuse.{Misuse}
-use Rattle.bril_words.specs.declared.misuse.Misuse.TheVariants.{Words, Value}
-use Rattle.bril_words.specs.declared.misuse.Setting.TheVariants.{Passes, Frames, Cells, Steps}
+use Rattle.bril_words.specs.declared.misuse.Misuse.TheVariants.{Words, Value, Memory}
+use Rattle.bril_words.specs.declared.options.Setting.TheVariants.{Passes, Frames, Cells, Steps}
 use Rattle.bril_report.specs.declared.report.FaultPlace.{FaultPlace}
 
 -- the kind of a fault of the text, by its number
@@ -108,10 +108,11 @@ fault_line fault.Cells = codes "fault 9 Cells\n"
 fault_line fault.PtrRange = codes "fault 10 PtrRange\n"
 fault_line fault.Allocs = codes "fault 11 Allocs\n"
 
--- words that ask for nothing
+-- words that ask for nothing: the text of `clap`, or the option whose value fails
 abbrev pub misuse_line : Misuse → List ℕ
-misuse_line Words = codes "usage\n"
+misuse_line (Words text) = string_bytes text
 misuse_line (Value Passes) = codes "usage: --passes\n"
 misuse_line (Value Frames) = codes "usage: --frames\n"
 misuse_line (Value Cells) = codes "usage: --cells\n"
 misuse_line (Value Steps) = codes "usage: --steps\n"
+misuse_line Memory = codes "out of memory\n"

@@ -16,6 +16,8 @@ use Rattle.bril_report.specs.declared.status.SourceFault.TheVariants.{Text, Json
 use Rattle.bril_text.specs.declared.fault.TextFault.{TextFault}
 use Rattle.bril_text.specs.declared.fault.TextFault.TheVariants as text
 use Rattle.bril_tree.specs.declared.program.Prog.{Prog}
+use Rattle.bril_words.specs.declared.misuse.Misuse.{Misuse}
+use Rattle.bril_words.specs.declared.misuse.Misuse.TheVariants as misuse
 use Rattle.pass_law.specs.declared.fault.ListFault.{ListFault}
 use Rattle.pass_law.specs.declared.fault.ListFault.TheVariants as list
 
@@ -23,6 +25,12 @@ use Rattle.pass_law.specs.declared.fault.ListFault.TheVariants as list
 abbrev pub status_of : Result Unit Status → Status
 status_of (Ok done) = status.Done
 status_of (Err how) = how
+
+-- the status of words that ask for nothing
+abbrev pub misuse_status : Misuse → Status
+misuse_status (misuse.Words text) = status.Misused (misuse.Words text)
+misuse_status (misuse.Value setting) = status.Misused (misuse.Value setting)
+misuse_status misuse.Memory = status.OutOfMemory
 
 -- the status of a fault of reading a file
 abbrev pub file_status : FileFault → Status

@@ -12,7 +12,7 @@ mod tallies;
 
 pub use error_output::ErrorOutput;
 pub use outputs::Outputs;
-pub use report::{say, say_misuse, status_number};
+pub use report::{say, status_number};
 pub use stats::{put_guard, put_words};
 pub use status::{SourceFault, Status};
 pub use tallies::put_tally;

@@ -15,7 +15,6 @@ use bril_outside::sink::Sink;
 use bril_text::TextFault;
 use bril_tree::limits::Fault;
 use bril_tree::program::Prog;
-use bril_tree::text::Text;
 use bril_words::{Misuse, Setting};
 use itoa::Buffer;
 
@@ -52,15 +51,15 @@ pub fn status_number(status: &Status) -> u8
 }
 
 /// Puts the line of a status, for the file at a path, on the error output, in its pieces: all of them, or those up to one whose
-/// put fails, and nothing where a put failed before. Where all was done nothing is put.
-pub fn say<E: Sink>(err: &mut ErrorOutput<'_, E>, path: &Text, status: &Status)
+/// put fails, and nothing where a put failed before. Where all was done nothing is put. Only the lines of 65 and 66 tell the path.
+pub fn say<E: Sink>(err: &mut ErrorOutput<'_, E>, path: &str, status: &Status)
     ensures { Tells E.seen err.old (status_pieces status.now path.now) err.new }
 {
     match status {
         Status::Done => {}
         Status::Faulted { fault } => err.put(fault_line(*fault)),
         Status::Spent { steps } => put_number(err, b"spent ", *steps),
-        Status::Misused { misuse } => err.put(misuse_line(*misuse)),
+        Status::Misused { misuse } => err.put(misuse_line(misuse)),
         Status::Unsupported => err.put_all(&[path.as_bytes(), b": form\n"]),
         Status::Misread { fault } => put_misread(err, path.as_bytes(), *fault),
         Status::Misnamed { fault } => put_misnamed(err, *fault),
@@ -78,19 +77,12 @@ pub fn say<E: Sink>(err: &mut ErrorOutput<'_, E>, path: &Text, status: &Status)
     }
 }
 
-/// Puts the line of words that ask for nothing on the error output by one put, and nothing where a put failed before.
-pub fn say_misuse<E: Sink>(err: &mut ErrorOutput<'_, E>, misuse: Misuse)
-    ensures { Tells E.seen err.old (misuse_line misuse ∷ []) err.new }
-{
-    err.put(misuse_line(misuse));
-}
-
-// The line of words that ask for nothing.
-fn misuse_line(misuse: Misuse) -> &'static [u8]
-    ensures { result.now ≡ misuse_line misuse }
+// What is told of words that ask for nothing.
+fn misuse_line(misuse: &Misuse) -> &[u8]
+    ensures { result.now ≡ misuse_line misuse.now }
 {
     match misuse {
-        Misuse::Words => b"usage\n",
+        Misuse::Words { text } => text.as_bytes(),
         Misuse::Value {
             setting: Setting::Passes,
         } => b"usage: --passes\n",
@@ -103,6 +95,7 @@ fn misuse_line(misuse: Misuse) -> &'static [u8]
         Misuse::Value {
             setting: Setting::Steps,
         } => b"usage: --steps\n",
+        Misuse::Memory => b"out of memory\n",
     }
 }
 

@@ -1,7 +1,7 @@
 // The status of each stage's fault, so that `?` hands it on, and of how a command ended.
 
 ghost use Rattle.std.specs.Prelude.{◌≡◌};
-ghost use Rattle.bril_report.specs.StageFaults.{status_of, file_status, text_status, json_status, name_status, check_status, argument_status, list_status};
+ghost use Rattle.bril_report.specs.StageFaults.{status_of, misuse_status, file_status, text_status, json_status, name_status, check_status, argument_status, list_status};
 ghost use Rattle.bril_report.specs.declared.status.Status.TheVariants.{OutOfMemory, CannotWrite};
 
 use crate::status::{SourceFault, Status};
@@ -13,6 +13,7 @@ use bril_outside::files::FileFault;
 use bril_outside::sink::Failed;
 use bril_text::TextFault;
 use bril_tree::program::Prog;
+use bril_words::Misuse;
 use pass_law::ListFault;
 use std::alloc::AllocError;
 
@@ -33,6 +34,22 @@ impl From<AllocError> for Status {
 
     fn from(_fault: AllocError) -> Status {
         Status::OutOfMemory
+    }
+}
+
+impl From<Misuse> for Status {
+    ghost from_gives = { λ misuse status. status ≡ misuse_status misuse };
+
+    fn from(misuse: Misuse) -> Status {
+        match misuse {
+            Misuse::Words { text } => Status::Misused {
+                misuse: Misuse::Words { text },
+            },
+            Misuse::Value { setting } => Status::Misused {
+                misuse: Misuse::Value { setting },
+            },
+            Misuse::Memory => Status::OutOfMemory,
+        }
     }
 }
 

@@ -1,5 +1,14 @@
--- What the options are where they aren't given.
+-- The ranges of the options, and what they are where they don't stand.
 use Rattle.std.specs.Prelude.{ℕ}
+
+abbrev pub most_frames : ℕ
+most_frames = 65536
+
+abbrev pub most_cells : ℕ
+most_cells = 4194304
+
+abbrev pub most_steps : ℕ
+most_steps = 1000000000000
 
 abbrev pub default_frames : ℕ
 default_frames = 8192

@@ -1,5 +1,10 @@
+pub mod Answers
+pub mod App
 pub mod CommandLine
 pub mod Defaults
 pub mod Names
+pub mod Options
+pub mod Plain
 pub mod Request
 pub mod Seen
+pub mod Subcommands

@@ -1,13 +1,18 @@
-//! The words of the command line: what they ask for.
+//! The words of the command line, read by `clap`: what they ask for.
 #![tactic(auto)]
 
+mod builders;
 mod misuse;
 mod names;
 mod options;
 mod request;
+mod subcommands;
+mod values;
 mod words;
 
-pub use misuse::{Misuse, Setting};
+pub use misuse::Misuse;
 pub use names::names_of;
+pub use options::Setting;
 pub use request::{Action, Request};
-pub use words::{CELLS, FRAMES, STEPS, read_words};
+pub use values::{CELLS, FRAMES, STEPS};
+pub use words::read_words;

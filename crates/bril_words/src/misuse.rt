@@ -1,23 +1,26 @@
 // Why words ask for nothing.
 
-/// An option of a command.
-#[derive(Clone, Copy, PartialEq, Eq, Debug, Drop)]
-pub enum Setting {
-    /// `--passes`: the names of passes, 64 at most.
-    Passes,
-    /// `--frames`: the most frames at once, 1 to 65,536.
-    Frames,
-    /// `--cells`: the most cells that are given out, 1 to 4,194,304.
-    Cells,
-    /// `--steps`: the most steps, or words of the machine, that are made, 1 to 1,000,000,000,000.
-    Steps,
-}
+ghost use Rattle.std.specs.Prelude.{◌≡◌};
+ghost use Rattle.bril_words.specs.declared.misuse.Misuse.TheVariants.{Memory};
+
+use crate::options::Setting;
+use std::alloc::AllocError;
 
 /// Why words ask for nothing.
-#[derive(Clone, Copy, PartialEq, Eq, Debug, Drop)]
+#[derive(Drop)]
 pub enum Misuse {
-    /// They are those of no command.
-    Words,
+    /// `clap` refuses them, a request for help among them, with this text.
+    Words { text: String },
     /// The option's value is no number or out of its range, or names too many passes.
     Value { setting: Setting },
+    /// Memory was wanting.
+    Memory,
+}
+
+impl From<AllocError> for Misuse {
+    ghost from_gives = { λ _ misuse. misuse ≡ Memory };
+
+    fn from(_fault: AllocError) -> Misuse {
+        Misuse::Memory
+    }
 }

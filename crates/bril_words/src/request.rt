@@ -37,7 +37,7 @@ pub enum Action {
 #[derive(Clone, Copy, Drop)]
 pub struct Request<'a> {
     pub action: Action,
-    pub path: &'a Text,
+    pub path: &'a str,
     pub list: &'a str,
     pub args: &'a [Text],
 }

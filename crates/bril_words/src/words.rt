@@ -1,184 +1,126 @@
 // The words of the command line.
 
-ghost use Rattle.std.specs.Prelude.{◌≡◌, ◌≤◌, None, length, IfOk};
+ghost use Rattle.std.specs.Prelude.{◌≡◌, ◌≤◌, false, length, position, IfOk, IfErr};
+ghost use Rattle.clap.specs.Simple.{subcommand_rows_of};
+ghost use Rattle.clap.specs.Values.{kind_of};
+ghost use Rattle.bril_words.specs.Answers.{Answers, IsMisuseOf, PlainAsk, RefusedAlone, Refuses};
+ghost use Rattle.bril_words.specs.CommandLine.{arg_words, given_words, is_end, is_refused, matched, matches_ask, takes_args, words_ask};
 ghost use Rattle.bril_words.specs.Names.{names_of};
-ghost use Rattle.std.specs.Result.{result_map_both};
-ghost use Rattle.bril_words.specs.CommandLine.{words_read, is_operand, tail_from, nothing_written, options_of, action_of, options_asked, command_asked, plain_asked};
-ghost use Rattle.bril_words.specs.Request.{AreLimits, IsActionInRange};
-ghost use Rattle.bril_words.specs.Seen.{request_seen, options_seen};
+ghost use Rattle.bril_words.specs.Request.{IsActionInRange};
 
-use crate::misuse::{Misuse, Setting};
-use crate::options::{Command, list_of, tail_of, value_of};
-use crate::request::{Action, Request};
+use crate::builders::whole_command;
+use crate::misuse::Misuse;
+use crate::request::Request;
+use crate::subcommands::subcommand_named;
+use crate::values::read_found;
 use bril_tree::text::Text;
+use clap::error::ErrorKind;
+use clap::{ArgMatches, Error};
+use std::alloc::Global;
 
-// The most of each option.
-const MOST_FRAMES: u64 = 65_536;
-
-const MOST_CELLS: u64 = 4_194_304;
-
-const MOST_STEPS: u64 = 1_000_000_000_000;
-
-/// The frames that a run has at most, where no option says otherwise.
-pub const FRAMES: u32 = 8_192;
-
-/// The cells that a run has at most, where no option says otherwise.
-pub const CELLS: u32 = 1_048_576;
-
-/// The steps that a run makes at most, where no option says otherwise.
-pub const STEPS: u64 = 1_000_000_000;
-
-/// What the words ask for. Takes no memory.
+/// What the words ask for.
 ///
-/// The words are the program's name, a command, and the path of a file: one byte or more, of which the first is no
-/// `-`. After the path of `check`, `text` and `json` there is nothing. After that of the others there may be options, each at
-/// most once and as two words: for `run` `--passes LIST`, `--frames N`, `--cells N` and `--steps N`, and the flag `--stats`; for
-/// `interp` `--frames N`, `--cells N` and `--steps N`; for `passes` `--passes LIST`; and for `emit` `--passes LIST` and
-/// `--frames N`. After those of `run` and `interp` there may be `--` and the arguments of the program. Where an option isn't
-/// given it is the empty list, 8,192 frames, 1,048,576 cells and 1,000,000,000 steps.
+/// The words are the program's name, a command, and then, in any order, the path of a file and the options that the command
+/// takes, each at most once, as `--x v` or `--x=v`: `run` takes `--passes LIST`, `--frames N`, `--cells N`, `--steps N` and the
+/// flag `--stats`; `interp` `--frames N`, `--cells N` and `--steps N`; `passes` `--passes LIST`; `emit` `--passes LIST` and
+/// `--frames N`; `check`, `text` and `json` none. After these `run` and `interp` take `--` and the arguments of the program, which
+/// are any words. Where an option doesn't stand it is the empty list, 8,192 frames, 1,048,576 cells and 1,000,000,000 steps.
 ///
-/// `Words`: the words are any others. `Value`: they are these, and this is the first of passes, frames, cells and steps whose
-/// value has more than 64 names, is no number as `bril_nums::read_int` reads it, or is out of its range.
-pub fn read_words<'a>(words: &'a [Text]) -> Result<Request<'a>, Misuse>
-    ensures read { result_map_both request_seen (λ e. e) result ≡ words_read words.now }
+/// `clap` reads the words, of `run` and `interp` those before the first `--`. It takes all words of this form whose path and values
+/// have at least a byte and begin with no `-`, and some others; the values are then those of its matches.
+///
+/// `Words`: `clap` refuses the words. `Value`: it takes them, and this is the first of passes, frames, cells and steps whose value
+/// has more than 64 names, is no number as `bril_nums::read_int` reads it, or is out of its range.
+pub fn read_words<'a>(alloc: Global, words: &'a [Text]) -> Result<Request<'a>, Misuse>
+    ensures asked { Answers (words_ask words.now) result }
+    ensures plain { PlainAsk words.now }
+    ensures refused { RefusedAlone words.now }
     ensures range { IfOk result (λ request. IsActionInRange request.action) }
     ensures few { IfOk result (λ request. length (names_of request.list.now) ≤ 64) }
+{
+    let (given, args) = cut(words);
+    let matches = matches_of(alloc, given)?;
+    request_of(alloc, &matches, args)
+}
+
+// The words that `clap` is given, and the arguments of the program.
+fn cut<'a>(words: &'a [Text]) -> (&'a [Text], &'a [Text])
+    ensures given { result.0.now ≡ given_words words.now }
+    ensures args { result.1.now ≡ arg_words words.now }
 {
     match words {
-        [_, command, path, rest @ ..] if is_operand(path.as_bytes()) => {
-            read_command(command.as_str(), path, rest)
+        [_, word, rest @ ..] if takes_args(word.as_str()) => {
+            match end_in(rest) {
+                Some(place) => (&words[..place + 2], &rest[place + 1..]),
+                None => (words, &rest[rest.len()..]),
+            }
         }
-        _ => Err(Misuse::Words),
+        _ => (words, &words[words.len()..]),
     }
 }
 
-// What a command's name, its path and the words after it ask for.
-fn read_command<'a>(name: &str, path: &'a Text, rest: &'a [Text]) -> Result<Request<'a>, Misuse>
-    ensures read { result_map_both request_seen (λ e. e) result ≡ command_asked name.now path.now rest.now }
-    ensures range { IfOk result (λ request. IsActionInRange request.action) }
-    ensures few { IfOk result (λ request. length (names_of request.list.now) ≤ 64) }
+// Where the first `--` stands.
+fn end_in(words: &[Text]) -> Option<usize>
+    ensures { result ≡ position is_end words.now }
 {
-    match name {
-        "run" => read_with_options(Command::Run, path, rest),
-        "interp" => read_with_options(Command::Interp, path, rest),
-        "passes" => read_with_options(Command::Passes, path, rest),
-        "emit" => read_with_options(Command::Emit, path, rest),
-        "check" => read_plain(Action::Check, path, rest),
-        "text" => read_plain(Action::WriteText, path, rest),
-        "json" => read_plain(Action::WriteJson, path, rest),
-        _ => Err(Misuse::Words),
-    }
+    words.iter().position(|word| word.as_str() == "--")
 }
 
-// A command without options.
-fn read_plain<'a>(action: Action, path: &'a Text, rest: &'a [Text]) -> Result<Request<'a>, Misuse>
-    requires { IsActionInRange action }
-    ensures read { result_map_both request_seen (λ e. e) result ≡ plain_asked action path.now rest.now }
-    ensures range { IfOk result (λ request. IsActionInRange request.action) }
-    ensures few { IfOk result (λ request. length (names_of request.list.now) ≤ 64) }
+// Whether a word is a command that takes arguments.
+fn takes_args(word: &str) -> bool
+    ensures { result ≡ takes_args word.now }
 {
-    match rest {
-        [] => Ok(Request {
-            action,
-            path,
-            list: "",
-            args: rest,
-        }),
-        _ => Err(Misuse::Words),
+    match subcommand_named(word) {
+        Some(subcommand) => subcommand.has_args(),
+        None => false,
     }
 }
 
-// What the options of a command say: the list of passes, the numbers, whether the counts of a run are told, and the arguments
-// of its program.
-#[derive(Clone, Copy, Drop)]
-struct Options<'a> {
-    list: &'a str,
-    frames: u32,
-    cells: u32,
-    steps: u64,
-    stats: bool,
+// The matches of words, where `clap` takes them.
+fn matches_of<'a>(alloc: Global, given: &'a [Text]) -> Result<ArgMatches<'a>, Misuse>
+    ensures taken { IfOk result (λ _. is_refused given.now ≡ false) }
+    ensures matched { IfOk result (λ matches. subcommand_rows_of matches ≡ matched given.now) }
+    ensures refused { IfErr result (Refuses given.now) }
+{
+    let command = whole_command(alloc)?;
+    match command.try_get_matches_from(given) {
+        Ok(matches) => Ok(matches),
+        Err(error) => Err(misuse_of(alloc, &error)),
+    }
+}
+
+// Why `clap` gave no matches.
+fn misuse_of(alloc: Global, error: &Error) -> Misuse
+    ensures { IsMisuseOf (kind_of error.now) result }
+{
+    if error.kind() == ErrorKind::OutOfMemory {
+        return Misuse::Memory;
+    }
+    match format!(in alloc; "{error}") {
+        Ok(text) => Misuse::Words { text },
+        Err(_) => Misuse::Memory,
+    }
+}
+
+// What matches and arguments ask for.
+fn request_of<'a>(
+    alloc: Global,
+    matches: &ArgMatches<'a>,
     args: &'a [Text],
-}
-
-// A command with options.
-fn read_with_options<'a>(
-    command: Command,
-    path: &'a Text,
-    rest: &'a [Text],
 ) -> Result<Request<'a>, Misuse>
-    ensures read { result_map_both request_seen (λ e. e) result ≡ options_asked command path.now (options_of (tail_from command nothing_written None rest.now)) }
+    ensures asked { Answers (matches_ask args.now (subcommand_rows_of matches.now)) result }
     ensures range { IfOk result (λ request. IsActionInRange request.action) }
     ensures few { IfOk result (λ request. length (names_of request.list.now) ≤ 64) }
 {
-    let options = read_options(command, rest)?;
-    Ok(Request {
-        action: action_of(command, options),
-        path,
-        list: options.list,
-        args: options.args,
-    })
-}
-
-// The action of a command with these options.
-fn action_of(command: Command, options: Options<'_>) -> Action
-    requires { AreLimits options.frames options.cells options.steps }
-    ensures is { result ≡ action_of command (options_seen options.entry) }
-    ensures range { IsActionInRange result }
-{
-    match command {
-        Command::Run => Action::Run {
-            frames: options.frames,
-            cells: options.cells,
-            steps: options.steps,
-            stats: options.stats,
+    match matches.subcommand() {
+        Some((name, found)) => match subcommand_named(name) {
+            Some(subcommand) => read_found(subcommand, found, args),
+            None => Err(Misuse::Words {
+                text: String::new(alloc),
+            }),
         },
-        Command::Interp => Action::Interpret {
-            frames: options.frames,
-            cells: options.cells,
-            steps: options.steps,
-        },
-        Command::Emit => Action::Emit {
-            frames: options.frames,
-        },
-        Command::Passes => Action::Passes,
-    }
-}
-
-// What the options say, each what it is by default where it doesn't stand.
-fn read_options<'a>(command: Command, rest: &'a [Text]) -> Result<Options<'a>, Misuse>
-    ensures read { result_map_both options_seen (λ e. e) result ≡ options_of (tail_from command nothing_written None rest.now) }
-    ensures range { IfOk result (λ options. AreLimits options.frames options.cells options.steps) }
-    ensures few { IfOk result (λ options. length (names_of options.list.now) ≤ 64) }
-{
-    let (values, args) = tail_of(command, rest).ok_or(Misuse::Words)?;
-    let list = list_of(values.passes).ok_or(Misuse::Value {
-        setting: Setting::Passes,
-    })?;
-    let frames = value_of(MOST_FRAMES, FRAMES as u64, values.frames).ok_or(Misuse::Value {
-        setting: Setting::Frames,
-    })?;
-    let cells = value_of(MOST_CELLS, CELLS as u64, values.cells).ok_or(Misuse::Value {
-        setting: Setting::Cells,
-    })?;
-    let steps = value_of(MOST_STEPS, STEPS, values.steps).ok_or(Misuse::Value {
-        setting: Setting::Steps,
-    })?;
-    Ok(Options {
-        list,
-        frames: frames as u32,
-        cells: cells as u32,
-        steps,
-        stats: values.stats,
-        args,
-    })
-}
-
-// Whether a word is an operand.
-fn is_operand(word: &[u8]) -> bool
-    ensures { result ≡ is_operand word.now }
-{
-    match word {
-        [] => false,
-        [first, ..] => *first != b'-',
+        None => Err(Misuse::Words {
+            text: String::new(alloc),
+        }),
     }
 }

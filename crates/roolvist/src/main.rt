@@ -1,10 +1,10 @@
 // The command line of Roolvist.
 #![tactic(auto)]
 
-ghost use Rattle.std.specs.Prelude.{◌≡◌, Err, IfOk, IfErr};
+ghost use Rattle.std.specs.Prelude.{◌≡◌, IfOk, IfErr, IsErrAnd};
 ghost use Rattle.std.specs.IoError.{error_kind};
 ghost use Rattle.bril_report.specs.declared.status.Status.TheVariants.{OutOfMemory};
-ghost use Rattle.roolvist.specs.Words.{AreAllOf, no_words};
+ghost use Rattle.roolvist.specs.Words.{AreAllOf, IsForNoWords};
 
 use bril_cli::end::end;
 use bril_outside::os_files::OsFiles;
@@ -76,25 +76,27 @@ fn standard_output(rt: &HostRuntime) -> Result<OsSink<BufWriter<Stdout>>, AllocE
 fn given_words(alloc: Global, args: io::Result<Args>) -> Result<Seq<Text>, Status>
     ensures all { IfOk args (λ args. IfOk result (AreAllOf args)) }
     ensures memory { IfOk args (λ _. IfErr result (λ status. status ≡ OutOfMemory)) }
-    ensures none { IfErr args (λ fault. result ≡ Err (no_words (error_kind fault))) }
+    ensures none { IfErr args (λ fault. IsErrAnd result (IsForNoWords (error_kind fault))) }
 {
     match args {
         Ok(args) => match collected(alloc, args) {
             Ok(words) => Ok(words),
             Err(AllocError) => Err(Status::OutOfMemory),
         },
-        Err(fault) => Err(no_words(fault.kind())),
+        Err(fault) => Err(no_words(alloc, fault.kind())),
     }
 }
 
 // The status where the system gives no words: one that is no text is a faulty command line.
-fn no_words(kind: ErrorKind) -> Status
-    ensures { result ≡ no_words kind }
+fn no_words(alloc: Global, kind: ErrorKind) -> Status
+    ensures { IsForNoWords kind result }
 {
     match kind {
         ErrorKind::OutOfMemory => Status::OutOfMemory,
         _ => Status::Misused {
-            misuse: Misuse::Words,
+            misuse: Misuse::Words {
+                text: String::new(alloc),
+            },
         },
     }
 }

@@ -1,5 +1,5 @@
 -- The file was not read, or not as a tree, or its tree was dealt with.
-use Rattle.std.proofs.Common.{ℕ, ◌≡◌, List, [], refl, inl, inr, subst, rules}
+use Rattle.std.proofs.Common.{ℕ, List, [], refl, inl, inr, subst, rules}
 use Rattle.std.proofs.lemmas.Result.{err_from_is_err_and}
 use Rattle.bril_commands.proofs.Keeping.{kept}
 use Rattle.bril_commands.specs.Command.{takes_passes}

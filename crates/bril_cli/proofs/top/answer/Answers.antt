@@ -1,9 +1,10 @@
 -- What the command answers, from what its stages answered.
-use Rattle.std.proofs.Common.{ℕ, List, ap, sym, subst}
+use Rattle.std.proofs.Common.{ℕ, List, ap, codes, refl, sym, subst}
 use Rattle.bril_report.specs.StageFaults.{status_of}
 use Rattle.bril_words.specs.Names.{names_of}
 use Rattle.bril_commands.proofs.Keeping.{Keeps-same}
-use Rattle.bril_commands.proofs.Promises.{Promises-driven}
+use Rattle.bril_commands.proofs.Promises.{Promises-driven, Promises-unread}
+use Rattle.bril_report.proofs.Telling.{Told-puts}
 use Rattle.bril_commands.proofs.Statuses.{Ends}
 use Rattle.bril_commands.proofs.Telling.{puts_told}
 use Rattle.bril_commands.specs.Call.{call_of}
@@ -22,21 +23,31 @@ returns-clause-promises g c =
     let call =
     call_of c.args.words.now (g.F.Files.seen c.args.files.now) (g.F.Files.seen c.drive.new.files)
     (g.O.Sink.seen c.args.outputs.now.out.now) (g.O.Sink.seen c.drive.new.outputs.out.now)
-    (g.E.Sink.seen c.args.outputs.now.err.sink.now) (g.E.Sink.seen c.say.new.err.sink.now)
+    (g.E.Sink.seen c.args.outputs.now.err.sink.now) (g.E.Sink.seen c.say-2.new.err.sink.now)
     (λ p. (goal.Pass-dyn g (p.vtable, p.value)).meaning p.value) (λ p. (goal.Pass-dyn g (p.vtable, p.value)).counts p.value) c.args.passes.now c.drive.new.passes in
     let does = c.drive.ensures.does in
-    let line = rw c.from-status.ensures at c.say.ensures.told in
-    let asks : Asks c.args.words.now = record { action = request.action; path = request.path.now; args = request.args.now; asked = (request.list.now, sym c.in-Ok.ensures.read) } in
+    let line = rw c.from-status-2.ensures at c.say-2.ensures.told in
+    let asks : Asks c.args.words.now = record { action = request.action; path = request.path.now; args = request.args.now; asked = (request.list.now, c.in-Ok.ensures.asked) } in
     let ends : Ends call asks how = record {
       told = does.told;
       does = subst (λ (names : List (List ℕ)). DoesFile (command request.action) how
           (pass_list (λ p. (goal.Pass-dyn g (p.vtable, p.value)).meaning p.value) (λ p. (goal.Pass-dyn g (p.vtable, p.value)).counts p.value) c.args.passes.now c.drive.new.passes names)
           (g.F.Files.seen c.args.files.now) (g.F.Files.seen c.drive.new.files) request.path.now request.args.now does.told (g.O.Sink.seen c.args.outputs.now.out.now) (g.O.Sink.seen c.drive.new.outputs.out.now))
-          (ap (λ r. names_of (list_asked r)) c.in-Ok.ensures.read) does.does;
+          (ap (λ r. names_of (list_asked r)) (sym c.in-Ok.ensures.asked)) does.does;
       says = puts_told c.requires.sound does.tells.told line;
       keeps = c.drive.ensures.keeps;
     } in
-    rw (c.status_number-2.ensures, c.from-status.ensures) (Promises-driven call asks how ends)
+    rw (c.status_number-2.ensures, c.from-status-2.ensures) (Promises-driven call asks how ends)
+
+pub returns-in-Err-clause-promises : goal.returns-in-Err-clause-promises
+returns-in-Err-clause-promises g c =
+    let call =
+    call_of c.args.words.now (g.F.Files.seen c.args.files.now) (g.F.Files.seen c.args.files.now)
+    (g.O.Sink.seen c.args.outputs.now.out.now) (g.O.Sink.seen c.args.outputs.now.out.now)
+    (g.E.Sink.seen c.args.outputs.now.err.sink.now) (g.E.Sink.seen c.say.new.err.sink.now)
+    (λ p. (goal.Pass-dyn g (p.vtable, p.value)).meaning p.value) (λ p. (goal.Pass-dyn g (p.vtable, p.value)).counts p.value) c.args.passes.now c.args.passes.now in
+    let line = rw c.from-status.ensures at c.say.ensures.told in
+    rw (c.status_number.ensures, c.from-status.ensures) (Promises-unread call c.in-Err.misuse c.in-Err.ensures.asked refl refl refl (codes "") (Told-puts line c.requires.sound))
 
 pub returns-in-Err-clause-same : goal.returns-in-Err-clause-same
 returns-in-Err-clause-same g c = AllSame-refl (λ p. (goal.Pass-dyn g (p.vtable, p.value)).meaning p.value) c.args.passes.now

@@ -1,0 +1,52 @@
+-- The words of options, and their names.
+use Rattle.std.proofs.Common.{◌≡◌, refl, true, false, List, ◌∷◌, ◌++◌, Some, None, ℕ}
+use Rattle.std.specs.Str.{bytes_eq}
+use Rattle.bril_words.specs.declared.options.Setting.{Setting}
+use Rattle.bril_words.specs.declared.options.Setting.TheVariants.{Passes, Frames, Cells, Steps}
+use Rattle.bril_words.specs.declared.options.Flag.{Flag}
+use Rattle.bril_words.specs.declared.options.Flag.TheVariants.{Stats}
+use Rattle.bril_words.specs.declared.options.Operand.{Operand}
+use Rattle.bril_words.specs.declared.options.Operand.TheVariants.{File}
+use Rattle.bril_words.specs.Options.{option_name, flag_name, operand_id}
+use Rattle.bril_words.specs.Plain.{dashed}
+use Rattle.bril_words.proofs.Steps.{NamesOption}
+
+pub option_word : (x : Setting) → NamesOption (dashed (option_name x)) (option_name x) None
+option_word Passes = record { dash = refl; long = refl }
+option_word Frames = record { dash = refl; long = refl }
+option_word Cells = record { dash = refl; long = refl }
+option_word Steps = record { dash = refl; long = refl }
+
+pub joined_word : (x : Setting) (v : List ℕ) → NamesOption (dashed (option_name x) ++ 61 ∷ v) (option_name x) (Some v)
+joined_word Passes v = record { dash = refl; long = refl }
+joined_word Frames v = record { dash = refl; long = refl }
+joined_word Cells v = record { dash = refl; long = refl }
+joined_word Steps v = record { dash = refl; long = refl }
+
+pub flag_word : (x : Flag) → NamesOption (dashed (flag_name x)) (flag_name x) None
+flag_word Stats = record { dash = refl; long = refl }
+
+pub same_option : (x : Setting) → bytes_eq (option_name x) (option_name x) ≡ true
+same_option Passes = refl
+same_option Frames = refl
+same_option Cells = refl
+same_option Steps = refl
+
+-- no operand has the id of an option
+pub option_apart : (o : Operand) (x : Setting) → bytes_eq (operand_id o) (option_name x) ≡ false
+option_apart File Passes = refl
+option_apart File Frames = refl
+option_apart File Cells = refl
+option_apart File Steps = refl
+
+pub operand_apart : (o : Operand) (x : Setting) → bytes_eq (option_name x) (operand_id o) ≡ false
+operand_apart File Passes = refl
+operand_apart File Frames = refl
+operand_apart File Cells = refl
+operand_apart File Steps = refl
+
+pub flag_apart : (o : Operand) (x : Flag) → bytes_eq (operand_id o) (flag_name x) ≡ false
+flag_apart File Stats = refl
+
+pub operand_of_flag : (o : Operand) (x : Flag) → bytes_eq (flag_name x) (operand_id o) ≡ false
+operand_of_flag File Stats = refl

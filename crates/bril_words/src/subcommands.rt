@@ -1,0 +1,165 @@
+// The commands, which are subcommands to `clap`, and what each takes. A new one is a row in each function here.
+
+ghost use Rattle.std.specs.Prelude.{◌≡◌};
+ghost use Rattle.bril_words.specs.Subcommands.{name_of, options_of, flags_of, operands_of, has_args, subcommand_named};
+
+use crate::options::{Flag, Operand, Setting};
+
+// A command.
+#[derive(Clone, Copy, PartialEq, Eq, Debug, Drop)]
+pub(crate) enum Subcommand {
+    Run,
+    Interp,
+    Passes,
+    Emit,
+    Check,
+    WriteText,
+    WriteJson,
+}
+
+// All commands, in the order in which help lists them.
+pub(crate) const SUBCOMMANDS: [Subcommand; 7] = [
+    Subcommand::Run,
+    Subcommand::Interp,
+    Subcommand::Passes,
+    Subcommand::Emit,
+    Subcommand::Check,
+    Subcommand::WriteText,
+    Subcommand::WriteJson,
+];
+
+static OF_RUN: [Setting; 4] = [
+    Setting::Passes,
+    Setting::Frames,
+    Setting::Cells,
+    Setting::Steps,
+];
+
+static OF_INTERP: [Setting; 3] = [Setting::Frames, Setting::Cells, Setting::Steps];
+
+static OF_PASSES: [Setting; 1] = [Setting::Passes];
+
+static OF_EMIT: [Setting; 2] = [Setting::Passes, Setting::Frames];
+
+static NO_OPTIONS: [Setting; 0] = [];
+
+static STATS: [Flag; 1] = [Flag::Stats];
+
+static NO_FLAGS: [Flag; 0] = [];
+
+static FILE: [Operand; 1] = [Operand::File];
+
+impl Subcommand {
+    // Its word.
+    pub(crate) fn name<'a>(self) -> &'a str
+        ensures { result.now ≡ name_of self }
+    {
+        match self {
+            Subcommand::Run => "run",
+            Subcommand::Interp => "interp",
+            Subcommand::Passes => "passes",
+            Subcommand::Emit => "emit",
+            Subcommand::Check => "check",
+            Subcommand::WriteText => "text",
+            Subcommand::WriteJson => "json",
+        }
+    }
+
+    // Its options with a value.
+    pub(crate) fn options(self) -> &'static [Setting]
+        ensures { result.now ≡ options_of self }
+    {
+        match self {
+            Subcommand::Run => OF_RUN.as_slice(),
+            Subcommand::Interp => OF_INTERP.as_slice(),
+            Subcommand::Passes => OF_PASSES.as_slice(),
+            Subcommand::Emit => OF_EMIT.as_slice(),
+            Subcommand::Check | Subcommand::WriteText | Subcommand::WriteJson =>
+                NO_OPTIONS.as_slice(),
+        }
+    }
+
+    // Its options without a value.
+    pub(crate) fn flags(self) -> &'static [Flag]
+        ensures { result.now ≡ flags_of self }
+    {
+        match self {
+            Subcommand::Run => STATS.as_slice(),
+            Subcommand::Interp
+            | Subcommand::Passes
+            | Subcommand::Emit
+            | Subcommand::Check
+            | Subcommand::WriteText
+            | Subcommand::WriteJson => NO_FLAGS.as_slice(),
+        }
+    }
+
+    // The words that it wants, in their order.
+    pub(crate) fn operands(self) -> &'static [Operand]
+        ensures { result.now ≡ operands_of self }
+    {
+        match self {
+            Subcommand::Run
+            | Subcommand::Interp
+            | Subcommand::Passes
+            | Subcommand::Emit
+            | Subcommand::Check
+            | Subcommand::WriteText
+            | Subcommand::WriteJson => FILE.as_slice(),
+        }
+    }
+
+    // Whether it takes `--` and the arguments of a program.
+    pub(crate) fn has_args(self) -> bool
+        ensures { result ≡ has_args self }
+    {
+        matches!(self, Subcommand::Run | Subcommand::Interp)
+    }
+
+    // What it does, for help.
+    pub(crate) fn about<'a>(self) -> &'a str {
+        match self {
+            Subcommand::Run => "Compile a program to machine words and run these",
+            Subcommand::Interp => "Interpret a program",
+            Subcommand::Passes => "Write what a list of passes makes of a program",
+            Subcommand::Emit => "Write the machine words of a program",
+            Subcommand::Check => "Check a program and count its functions and items",
+            Subcommand::WriteText => "Write a file in the canonical text form",
+            Subcommand::WriteJson => "Write a file in the canonical JSON form",
+        }
+    }
+
+    // An example, for the end of its help.
+    pub(crate) fn example<'a>(self) -> &'a str {
+        match self {
+            Subcommand::Run => {
+                "ARGS are the arguments of the program's main function.{n}{n}Example: roolvist run examples/collatz.bril --stats -- 27"
+            }
+            Subcommand::Interp => {
+                "ARGS are the arguments of the program's main function.{n}{n}Example: roolvist interp examples/divisor.bril -- 1071 462"
+            }
+            Subcommand::Passes =>
+                "Example: roolvist passes examples/leftovers.bril --passes dead,tidy",
+            Subcommand::Emit => "Example: roolvist emit examples/empty.bril --frames 100",
+            Subcommand::Check => "Example: roolvist check examples/fibonacci.bril",
+            Subcommand::WriteText => "Example: roolvist text examples/one.json",
+            Subcommand::WriteJson => "Example: roolvist json examples/fibonacci.bril",
+        }
+    }
+}
+
+// The command of a word.
+pub(crate) fn subcommand_named(word: &str) -> Option<Subcommand>
+    ensures { result ≡ subcommand_named word.now }
+{
+    match word {
+        "run" => Some(Subcommand::Run),
+        "interp" => Some(Subcommand::Interp),
+        "passes" => Some(Subcommand::Passes),
+        "emit" => Some(Subcommand::Emit),
+        "check" => Some(Subcommand::Check),
+        "text" => Some(Subcommand::WriteText),
+        "json" => Some(Subcommand::WriteJson),
+        _ => None,
+    }
+}
