@@ -1,4 +1,3 @@
-pub mod Interpreting
 pub mod Listings
 pub mod Runs
 pub mod Shipped

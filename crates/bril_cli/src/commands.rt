@@ -1,9 +1,5 @@
-// What each command does, a file each.
+// The commands that take a list of passes, a file each. The others stand in `bril_commands`.
 
-pub(crate) mod check;
 pub(crate) mod emit;
-pub(crate) mod interp;
-pub(crate) mod json;
 pub(crate) mod passes;
 pub(crate) mod run;
-pub(crate) mod text;

@@ -10,14 +10,14 @@ ghost use Rattle.bril_report.specs.Telling.{Telling};
 ghost use Rattle.bril_words.specs.Names.{names_of};
 ghost use Rattle.bril_words.specs.Request.{IsActionInRange};
 
-use crate::commands::check::put_counts;
 use crate::commands::emit::put_image;
-use crate::commands::interp::interpret;
-use crate::commands::json::put_json;
 use crate::commands::passes::put_transformed;
 use crate::commands::run::{RunSettings, run};
-use crate::commands::text::put_text;
 use crate::listed_passes::ListedPasses;
+use bril_commands::commands::check::put_counts;
+use bril_commands::commands::interp::interpret;
+use bril_commands::commands::json::put_json;
+use bril_commands::commands::text::put_text;
 use bril_commands::program::accepted_program;
 use bril_commands::source::{read_file, read_tree};
 use bril_outside::files::Files;

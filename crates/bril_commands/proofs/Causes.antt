@@ -9,8 +9,8 @@ use Rattle.bril_checker.specs.declared.fault.CheckFault.{CheckFault}
 use Rattle.bril_names.specs.declared.fault.NameFault.{NameFault}
 use Rattle.bril_outside.specs.Files.{FileMap, FilesSeen, MayHold, MayFail, LacksFile}
 use Rattle.bril_outside.specs.Sink.{SinkSeen}
-use Rattle.bril_report.specs.Lines.{form_line, misread_line, misnamed_line, unaccepted_line}
-use Rattle.bril_report.specs.Report.{Says, status_number, SaysStatus}
+use Rattle.bril_report.specs.Puts.{Puts}
+use Rattle.bril_report.specs.Report.{form_pieces, misread_pieces, misnamed_pieces, unaccepted_pieces, status_number, status_pieces}
 use Rattle.bril_report.specs.StageFaults.{argument_status}
 use Rattle.bril_report.specs.declared.status.SourceFault.{SourceFault}
 use Rattle.bril_report.specs.declared.status.Status.TheVariants as status
@@ -24,12 +24,12 @@ use Rattle.bril_tree.specs.declared.value.Value.{Value}
 use Rattle.bril_words.specs.Request.{Asked}
 use Rattle.bril_words.specs.declared.misuse.Misuse.{Misuse}
 use Rattle.bril_words.specs.declared.request.Action.{Action}
-use Rattle.bril_commands.proofs.Statuses.{Ends, Numbered-source, has_in}
-use Rattle.bril_commands.specs.Arguments.{argument_line, HasArgFault, HasOnlyArgFault, RefusesArgs}
+use Rattle.bril_commands.proofs.Statuses.{Ends, Numbered-source, has_in, plain}
+use Rattle.bril_commands.specs.Arguments.{argument_pieces, HasArgFault, HasOnlyArgFault, RefusesArgs}
 use Rattle.bril_commands.specs.Call.{Call, ReadsWell, AsksNone, UnlessMemory}
 use Rattle.bril_commands.specs.Command.{Command, OnTree, OnProgram, Arguments, NoArguments, OfMain, TakesArguments, AreGiven, RefusesGiven, NeedsProgram, GivesArguments}
 use Rattle.bril_commands.specs.CommandLine.{Asks, AsksFor, format_of}
-use Rattle.bril_commands.specs.Driver.{IsSilent, Stage, DoesProgram, DoesTree}
+use Rattle.bril_commands.specs.Driver.{IsIdle, Stage, DoesProgram, DoesTree}
 use Rattle.bril_commands.specs.PassList.{PassList}
 use Rattle.bril_commands.specs.Source.{most_bytes, HoldsFile, HasFault, HasNameFault, HasOnlyCheckFault, HasImports, IsOnlyTree, IsOnlyFault, IsSource, IsLongFile}
 use Rattle.bril_commands.specs.Stages.{RefusesFile, RefusesTree, RefusesProgram, IsOnlyNameFault, IsOnlyProgram, IsAcceptedProgram, IsFaultless}
@@ -140,7 +140,7 @@ module _ (c : Call) (asks : Asks c.words) (how : Status) (ends : Ends c asks how
       (λ read.
       let same : read.0 ≡ bytes = these read.0 read.1.held in
       let few : length bytes ≤ most_bytes = subst (λ b. length b ≤ most_bytes) same read.1.short in
-      ⊎_elim (λ finds. ⊎_elim memory (λ m. misread m.0 m.1 finds.1.0 (subst (λ b. IsOnlyFault (format_of asks.path) b m.0) same m.2) few) (no_tree how (format_of asks.path) read.0 finds.0))
+      ⊎_elim (λ finds. ⊎_elim memory (λ m. misread m.0 m.1 finds.1.0.0 (subst (λ b. IsOnlyFault (format_of asks.path) b m.0) same m.2) few) (no_tree how (format_of asks.path) read.0 finds.0))
       (λ deals. dealt deals.0 (subst (λ b. IsOnlyTree (format_of asks.path) b deals.0) same deals.1)
       (subst (λ a. DoesTree (command a) how c.passes deals.0 asks.args ends.told c.out_before c.out_after) (sym same_action) deals.2)
       few)
@@ -148,8 +148,8 @@ module _ (c : Call) (asks : Asks c.words) (how : Status) (ends : Ends c asks how
       ends.does
 
   -- the line of a status is put, for the path that the words ask for, where nothing is told before it
-  pub said : (end : Status) → how ≡ end → ends.told ≡ [] → SaysStatus end asks.path c.err_before c.err_after
-  said end e none = subst (λ (h : Status). SaysStatus h asks.path c.err_before c.err_after) e (ends.says.plain none)
+  pub said : (end : Status) → how ≡ end → ends.told ≡ [] → Puts c.err_before (status_pieces end asks.path) c.err_after
+  said end e none = subst (λ (h : Status). Puts c.err_before (status_pieces h asks.path) c.err_after) e (plain ends.told (status_pieces how asks.path) none ends.says)
 
 -- ---- a command that needs a program
 
@@ -160,7 +160,7 @@ DoesAccepted (OnProgram does) how l p args told s t = DoesProgram does how l p a
 
 -- it asks for the program
 asks_program : (k : Command) (how : Status) (l : PassList) (tree : Tree) (args : List (List ℕ)) (told : List (List ℕ)) (s t : SinkSeen) → NeedsProgram k → DoesTree k how l tree args told s t
-    → Stage (RefusesProgram how tree) (IsSilent told s t) (λ p. IsAcceptedProgram tree p) (λ p is. DoesAccepted k how l p args told s t)
+    → Stage (RefusesProgram how tree) (IsIdle l told s t) (λ p. IsAcceptedProgram tree p) (λ p is. DoesAccepted k how l p args told s t)
 asks_program (OnTree outcome) how l tree args told s t needs does = absurd needs
 asks_program (OnProgram does) how l tree args told s t needs goes = goes
 
@@ -184,7 +184,7 @@ module _ (how : Status) (tree : Tree) (Silent : Type 0) (Goes : Prog → Type 0)
 given : (k : Command) (how : Status) (l : PassList) (p : Prog) (args : List (List ℕ)) (told : List (List ℕ)) (s t : SinkSeen) → GivesArguments k → DoesAccepted k how l p args told s t
     → (RefusesArgs how p args × (told ≡ [])) ⊎ ((fault : ArgFault) → HasArgFault (main_types p) args fault → ⊥)
 given (OnTree outcome) how l p args told s t gives does = absurd gives
-given (OnProgram does) how l p args told s t gives goes = spelled does.arguments gives (⊎_elim (λ refused. inl (refused.0, refused.1.0)) (λ values. inr (values.0, values.1)) goes)
+given (OnProgram does) how l p args told s t gives goes = spelled does.arguments gives (⊎_elim (λ refused. inl (refused.0, refused.1.0.0)) (λ values. inr (values.0, values.1)) goes)
   where
     spelled : (arguments : Arguments) → TakesArguments arguments → (RefusesGiven arguments how p args × (told ≡ [])) ⊎ ((values : List Value) × AreGiven arguments p args values)
         → (RefusesArgs how p args × (told ≡ [])) ⊎ ((fault : ArgFault) → HasArgFault (main_types p) args fault → ⊥)
@@ -192,8 +192,8 @@ given (OnProgram does) how l p args told s t gives goes = spelled does.arguments
     spelled OfMain takes either = ⊎_elim inl (λ values. inr values.1.faultless) either
 
 -- what is said of a fault of the arguments
-argument_said : (fault : ArgFault) (path : List ℕ) (s t : SinkSeen) → fault ≢ argument.Memory → SaysStatus (argument_status fault) path s t
-    → (status_number (argument_status fault) ≡ 69) × Says s (argument_line fault) t
+argument_said : (fault : ArgFault) (path : List ℕ) (s t : SinkSeen) → fault ≢ argument.Memory → Puts s (status_pieces (argument_status fault) path) t
+    → (status_number (argument_status fault) ≡ 69) × Puts s (argument_pieces fault) t
 argument_said (argument.Count count wanted) path s t ample says = (refl, says)
 argument_said (argument.Spelling place) path s t ample says = (refl, says)
 argument_said argument.Memory path s t ample says = absurd (ample refl)
@@ -212,20 +212,20 @@ module _ (c : Call) (asks : Asks c.words) (how : Status) (ends : Ends c asks how
       (λ fault e none only few. absurd (only.unread here.tree here.reads))
       (λ tree only does few.
       let numbered : Numbered tree p = Numbered-source (format_of asks.path) bytes tree only p here in
-      by_names how tree (IsSilent ends.told c.out_before c.out_after) (λ q. DoesAccepted (command action) how c.passes q asks.args ends.told c.out_before c.out_after)
+      by_names how tree (IsIdle c.passes ends.told c.out_before c.out_after) (λ q. DoesAccepted (command action) how c.passes q asks.args ends.told c.out_before c.out_after)
       (asks_program (command action) how c.passes tree asks.args ends.told c.out_before c.out_after needs does) A memory
       (λ none imports e. absurd (imports numbered.alone))
       (λ none alone fault e has. absurd (has.unnumbered p numbered))
       (λ none q fault e program has.
       let same : q ≡ p = program.alone p numbered in
-      unaccepted fault (subst (λ r. how ≡ status.Unaccepted r fault) same e) none.0 (subst (λ r. HasOnlyCheckFault r fault) same has))
+      unaccepted fault (subst (λ r. how ≡ status.Unaccepted r fault) same e) none.0.0 (subst (λ r. HasOnlyCheckFault r fault) same has))
       (λ q program done.
       let same : q ≡ p = program.only.alone p numbered in
       goes (subst IsFaultless same program.sound) (subst (λ r. DoesAccepted (command action) how c.passes r asks.args ends.told c.out_before c.out_after) same done)))
 
   pub misargued_where : GivesArguments (command action) → (bytes : List ℕ) (p : Prog) (fault : ArgFault) (reads : ReadsWell c action bytes) → length bytes ≤ most_bytes → IsSource (format_of reads.path) bytes p → IsAccepted p
       → fault ≢ argument.Memory → IsFaultOf (main_types p) reads.args fault
-      → UnlessMemory (status_number how) ((status_number how ≡ 69) × Says c.err_before (argument_line fault) c.err_after)
+      → UnlessMemory (status_number how) ((status_number how ≡ 69) × Puts c.err_before (argument_pieces fault) c.err_after)
   misargued_where gives bytes p fault reads short source accepted ample is =
       let here : IsFaultOf (main_types p) asks.args fault = subst (λ a. IsFaultOf (main_types p) a fault) (same_args c asks how ends action bytes reads) is in
       with_program (needs_program (command action) gives) _ bytes p reads short source (exhausted how _)
@@ -234,34 +234,34 @@ module _ (c : Call) (asks : Asks c.words) (how : Status) (ends : Ends c asks how
       ⊎_elim (λ refused. ⊎_elim (exhausted how _)
       (λ has.
       let same : how ≡ argument_status fault = has.1 ∙ ap argument_status (has.2.only fault (ample, here)) in
-      inr (subst (λ (h : Status). (status_number h ≡ 69) × Says c.err_before (argument_line fault) c.err_after) (sym same)
+      inr (subst (λ (h : Status). (status_number h ≡ 69) × Puts c.err_before (argument_pieces fault) c.err_after) (sym same)
       (argument_said fault asks.path c.err_before c.err_after ample (said c asks how ends action bytes reads (argument_status fault) same refused.1))))
       (args_fail how p asks.args refused.0))
       (λ faultless. absurd (faultless fault (ample, here)))
       (given (command action) how c.passes p asks.args ends.told c.out_before c.out_after gives does))
 
   pub unchecked_where : NeedsProgram (command action) → (bytes : List ℕ) (p : Prog) (fault : CheckFault) (reads : ReadsWell c action bytes) → length bytes ≤ most_bytes → IsSource (format_of reads.path) bytes p → checker.HasFault p fault
-      → UnlessMemory (status_number how) ((status_number how ≡ 65) × Says c.err_before (unaccepted_line p fault) c.err_after)
+      → UnlessMemory (status_number how) ((status_number how ≡ 65) × Puts c.err_before (unaccepted_pieces p fault) c.err_after)
   unchecked_where needs bytes p fault reads short source has =
       with_program needs _ bytes p reads short source (exhausted how _)
       (λ other e none is. inr (
         ap status_number e,
-        subst (λ (k : CheckFault). Says c.err_before (unaccepted_line p k) c.err_after) (is.only fault has)
+        subst (λ (k : CheckFault). Puts c.err_before (unaccepted_pieces p k) c.err_after) (is.only fault has)
             (said c asks how ends action bytes reads (status.Unaccepted p other) e none),
       ))
       (λ sound does. absurd (sound.faultless fault has))
 
   -- the line of a form
-  form_said : (bytes : List ℕ) (reads : ReadsWell c action bytes) → how ≡ status.Unsupported → ends.told ≡ [] → (status_number how ≡ 65) × Says c.err_before (form_line reads.path) c.err_after
+  form_said : (bytes : List ℕ) (reads : ReadsWell c action bytes) → how ≡ status.Unsupported → ends.told ≡ [] → (status_number how ≡ 65) × Puts c.err_before (form_pieces reads.path) c.err_after
   form_said bytes reads e none = (
     ap status_number e,
-    let here : Says c.err_before (form_line asks.path) c.err_after = said c asks how ends action bytes reads status.Unsupported e none in
-        subst (λ p. Says c.err_before (form_line p) c.err_after) (sym (same_path c asks how ends action bytes reads)) here,
+    let here : Puts c.err_before (form_pieces asks.path) c.err_after = said c asks how ends action bytes reads status.Unsupported e none in
+        subst (λ p. Puts c.err_before (form_pieces p) c.err_after) (sym (same_path c asks how ends action bytes reads)) here,
   )
 
   -- What a tree without an accepted program answers.
   module _ (needs : NeedsProgram (command action)) (bytes : List ℕ) (reads : ReadsWell c action bytes) (short : length bytes ≤ most_bytes) where
-    pub formless_where : HasImports (format_of reads.path) bytes → UnlessMemory (status_number how) ((status_number how ≡ 65) × Says c.err_before (form_line reads.path) c.err_after)
+    pub formless_where : HasImports (format_of reads.path) bytes → UnlessMemory (status_number how) ((status_number how ≡ 65) × Puts c.err_before (form_pieces reads.path) c.err_after)
     formless_where has =
         let here : HasImports (format_of asks.path) bytes = subst (λ q. HasImports (format_of q) bytes) (same_path c asks how ends action bytes reads) has in
         by_cases c asks how ends action bytes reads _ (exhausted how _)
@@ -269,14 +269,14 @@ module _ (c : Call) (asks : Asks c.words) (how : Status) (ends : Ends c asks how
         (λ fault e none only few. absurd (only.unread here.tree here.reads))
         (λ tree only does few.
         let some : tree.imports ≢ [] = subst (λ (t : Tree). t.imports ≢ []) (sym (only.alone here.tree here.reads)) here.imports in
-        by_names how tree (IsSilent ends.told c.out_before c.out_after) (λ q. DoesAccepted (command action) how c.passes q asks.args ends.told c.out_before c.out_after)
+        by_names how tree (IsIdle c.passes ends.told c.out_before c.out_after) (λ q. DoesAccepted (command action) how c.passes q asks.args ends.told c.out_before c.out_after)
         (asks_program (command action) how c.passes tree asks.args ends.told c.out_before c.out_after needs does) _ (exhausted how _)
-        (λ none imports e. inr (form_said bytes reads e none.0))
+        (λ none imports e. inr (form_said bytes reads e none.0.0))
         (λ none alone fault e other. absurd (some alone))
         (λ none q fault e program other. absurd (some program.numbered.alone))
         (λ q program done. absurd (some program.only.numbered.alone)))
 
-    pub misnamed_where : (fault : NameFault) → HasNameFault (format_of reads.path) bytes fault → UnlessMemory (status_number how) ((status_number how ≡ 65) × Says c.err_before (misnamed_line fault) c.err_after)
+    pub misnamed_where : (fault : NameFault) → HasNameFault (format_of reads.path) bytes fault → UnlessMemory (status_number how) ((status_number how ≡ 65) × Puts c.err_before (misnamed_pieces fault) c.err_after)
     misnamed_where fault has =
         let here : HasNameFault (format_of asks.path) bytes fault = subst (λ q. HasNameFault (format_of q) bytes fault) (same_path c asks how ends action bytes reads) has in
         by_cases c asks how ends action bytes reads _ (exhausted how _)
@@ -284,26 +284,26 @@ module _ (c : Call) (asks : Asks c.words) (how : Status) (ends : Ends c asks how
         (λ other e none only few. absurd (only.unread here.tree here.reads))
         (λ tree only does few.
         let without : tree.imports ≡ [] = subst (λ (t : Tree). t.imports ≡ []) (sym (only.alone here.tree here.reads)) here.alone in
-        by_names how tree (IsSilent ends.told c.out_before c.out_after) (λ q. DoesAccepted (command action) how c.passes q asks.args ends.told c.out_before c.out_after)
+        by_names how tree (IsIdle c.passes ends.told c.out_before c.out_after) (λ q. DoesAccepted (command action) how c.passes q asks.args ends.told c.out_before c.out_after)
         (asks_program (command action) how c.passes tree asks.args ends.told c.out_before c.out_after needs does) _ (exhausted how _)
         (λ none imports e. absurd (imports without))
         (λ none alone other e is. inr (
           ap status_number e,
-          subst (λ (k : NameFault). Says c.err_before (misnamed_line k) c.err_after) (is.alone fault (has_in (format_of asks.path) bytes tree only fault here))
-              (said c asks how ends action bytes reads (status.Misnamed other) e none.0),
+          subst (λ (k : NameFault). Puts c.err_before (misnamed_pieces k) c.err_after) (is.alone fault (has_in (format_of asks.path) bytes tree only fault here))
+              (said c asks how ends action bytes reads (status.Misnamed other) e none.0.0),
         ))
         (λ none q other e program is. absurd (program.faultless fault (has_in (format_of asks.path) bytes tree only fault here)))
         (λ q program done. absurd (program.only.faultless fault (has_in (format_of asks.path) bytes tree only fault here))))
 
   -- the line of a fault of the bytes
-  line_of : (fault : SourceFault) (bytes : List ℕ) (reads : ReadsWell c action bytes) (found : SourceFault) → how ≡ status.Misread found → ends.told ≡ [] → found ≡ fault → Says c.err_before (misread_line reads.path fault) c.err_after
+  line_of : (fault : SourceFault) (bytes : List ℕ) (reads : ReadsWell c action bytes) (found : SourceFault) → how ≡ status.Misread found → ends.told ≡ [] → found ≡ fault → Puts c.err_before (misread_pieces reads.path fault) c.err_after
   line_of fault bytes reads found e none same =
-      let says : Says c.err_before (misread_line asks.path found) c.err_after = said c asks how ends action bytes reads (status.Misread found) e none in
-      let here : Says c.err_before (misread_line asks.path fault) c.err_after = subst (λ (k : SourceFault). Says c.err_before (misread_line asks.path k) c.err_after) same says in
-      subst (λ p. Says c.err_before (misread_line p fault) c.err_after) (sym (same_path c asks how ends action bytes reads)) here
+      let says : Puts c.err_before (misread_pieces asks.path found) c.err_after = said c asks how ends action bytes reads (status.Misread found) e none in
+      let here : Puts c.err_before (misread_pieces asks.path fault) c.err_after = subst (λ (k : SourceFault). Puts c.err_before (misread_pieces asks.path k) c.err_after) same says in
+      subst (λ p. Puts c.err_before (misread_pieces p fault) c.err_after) (sym (same_path c asks how ends action bytes reads)) here
 
   pub misread_where : (bytes : List ℕ) (fault : SourceFault) (reads : ReadsWell c action bytes) → length bytes ≤ most_bytes → HasFault (format_of reads.path) bytes fault
-      → UnlessMemory (status_number how) ((status_number how ≡ 65) × Says c.err_before (misread_line reads.path fault) c.err_after)
+      → UnlessMemory (status_number how) ((status_number how ≡ 65) × Puts c.err_before (misread_pieces reads.path fault) c.err_after)
   misread_where bytes fault reads short is =
       let has : HasFault (format_of asks.path) bytes fault = subst (λ q. HasFault (format_of q) bytes fault) (same_path c asks how ends action bytes reads) is in
       by_cases c asks how ends action bytes reads _ (exhausted how _)

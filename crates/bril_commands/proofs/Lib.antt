@@ -1,7 +1,9 @@
 pub mod Causes
 pub mod Counts
+pub mod Interpreting
 pub mod Keeping
 pub mod Outcomes
+pub mod Prints
 pub mod Promises
 pub mod Running
 pub mod Sources
@@ -9,4 +11,5 @@ pub mod Statuses
 pub mod Tallies
 pub mod Telling
 pub mod When
+pub mod WordPieces
 pub mod Works

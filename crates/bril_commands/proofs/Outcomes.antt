@@ -99,4 +99,4 @@ IsAcceptedProgram-of tree p q only is accepted faultless =
 pub RefusesList-of : {B : Type 0} (meaning : B → Meaning) (counts : B → Tally) (before after : List B) (names : List (List ℕ)) (p : Prog) (profile : Profile) → IsEmpty profile → (fault : ListFault) → IsStopped meaning before profile counts names p after fault → RefusesList (list_status fault) (pass_list meaning counts before after names) p
 RefusesList-of meaning counts before after names p profile empty (list.Unknown place prog) stopped = (λ other. stopped.0, stopped.2)
 RefusesList-of meaning counts before after names p profile empty (list.TooLarge place bound prog) stopped = record { known = λ other. stopped.0; profile = profile; empty = empty; at = prog.prog; stopped = stopped.1 }
-RefusesList-of meaning counts before after names p profile empty list.Memory stopped = tt
+RefusesList-of meaning counts before after names p profile empty list.Memory stopped = record { known = λ other. stopped.0; profile = profile; empty = empty; cut = stopped.1 }

@@ -1,5 +1,5 @@
 -- All that the top call promises.
-use Rattle.std.proofs.Common.{◌≡◌, ℕ, ◌≤◌, List, Ok, Err, refl, sym, ◌∙◌, subst, arith, ⊎_elim}
+use Rattle.std.proofs.Common.{◌≡◌, ℕ, ◌≤◌, List, [], ◌∷◌, Ok, Err, refl, sym, ◌∙◌, subst, arith, ⊎_elim}
 use Rattle.bril_report.specs.Lines.{misuse_line}
 use Rattle.bril_report.specs.Report.{status_number}
 use Rattle.bril_report.specs.declared.status.Status.{Status}
@@ -7,7 +7,7 @@ use Rattle.bril_report.specs.declared.status.Status.TheVariants as status
 use Rattle.bril_words.specs.CommandLine.{words_read}
 use Rattle.bril_words.specs.declared.misuse.Misuse.{Misuse}
 use Rattle.bril_words.specs.declared.request.Action.{Action}
-use Rattle.bril_commands.specs.Answers.{Answers, CannotWrite, Misused, Promises, SourceRefused, TooLarge}
+use Rattle.bril_commands.specs.Answers.{Answers, Misused, Promises, SourceRefused, TooLarge}
 use Rattle.bril_commands.specs.Call.{Call, ReadsWell, SaysAlone}
 use Rattle.bril_commands.specs.CommandLine.{Asks, AsksFor, AskNothing}
 use Rattle.bril_commands.specs.Table.{KeepsPasses}
@@ -49,9 +49,6 @@ module _ (c : Call) (asks : Asks c.words) (how : Status) (ends : Ends c asks how
   usage : status_number how ≡ 64 → Misused c
   usage e = at_status 64 e
 
-  failed_write : status_number how ≡ 74 → CannotWrite c
-  failed_write e = at_status 74 e
-
   asked_something : AskNothing c.words → status_number how ≡ 64
   asked_something none = let e : Ok (request_of asks.action asks.path asks.asked.0 asks.args) ≡ Err none.0 = sym asks.asked.1 ∙ none.1 in absurd (Ok_not_Err e)
 
@@ -66,7 +63,7 @@ module _ (c : Call) (asks : Asks c.words) (how : Status) (ends : Ends c asks how
     size = at_status 68;
     argued = at_status 69;
     unknown = at_status 70;
-    write = λ e. (failed_write e).rose;
+    write = at_status 74;
     silent = silent_at how c told;
     misused = (λ e. ((usage e).misuse, (usage e).unasked), asked_something);
     does = done_where c asks how ends;
@@ -88,7 +85,7 @@ module _ (c : Call) (misuse : Misuse) (unasked : words_read c.words ≡ Err misu
   not_read : {A : Type 0} (action : Action) (bytes : List ℕ) → ReadsWell c action bytes → A
   not_read action bytes reads = not_asked action reads.path reads.args reads.asked
 
-  pub Promises-misused : c.files_after ≡ c.files_before → c.passes.after ≡ c.passes.before → SaysAlone c (misuse_line misuse) → Promises 64 c
+  pub Promises-misused : c.files_after ≡ c.files_before → c.passes.after ≡ c.passes.before → SaysAlone c (misuse_line misuse ∷ []) → Promises 64 c
   Promises-misused unread kept alone = record {
     answers = record { misuse = misuse; unasked = unasked; unread = unread; kept = kept; alone = alone };
     done = λ e. absurd (omega arith);

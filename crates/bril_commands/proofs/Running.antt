@@ -1,6 +1,7 @@
 -- What a run of an image says of the program that it was made of.
 use Rattle.std.proofs.Common.{◌≡◌, ℕ, ◌+◌, ◌*◌, ◌≤◌, Bool, List, Option, Some, None, refl, sym, ◌∙◌}
 use Rattle.std.specs.Option.{option_map}
+use Rattle.bril_outside.specs.Sink.{joined}
 use Rattle.program_numbers.specs.Cost.{IsCost}
 use Rattle.bril_tree.specs.Accepted.{IsAccepted}
 use Rattle.bril_tree.specs.Run.{FitMain, state_after}
@@ -34,7 +35,7 @@ module _ (p : Prog) (limits : Limits) (values : List Value) (words : ℕ) (ended
 
 -- what is executed of a program that a list made says this of the source
 module _ (l : PassList) (p q : Prog) (made : IsMade l p q) (accepted : IsAccepted p) (limits : Limits) (frames cells : ℕ) (are : AreLimitsOf (ImageFor frames cells) limits) (values : List Value) (fits : FitMain p values) (words : ℕ) (stats : Bool) where
-  pub run_shows : (ended : Option End) (told : List (List ℕ)) (output : List ℕ) → Executes q limits values words stats ended told output → RunShows p q (AreFactorsOf l p q made) values frames cells words stats ended told output
+  pub run_shows : (ended : Option End) (told output : List (List ℕ)) → Executes q limits values words stats ended told output → RunShows p q (AreFactorsOf l p q made) values frames cells words stats ended told output
   run_shows ended told output executes =
       let chain = made_chain l p q made accepted in
       let Is = AreFactorsOf l p q made in
@@ -43,10 +44,10 @@ module _ (l : PassList) (p q : Prog) (made : IsMade l p q) (accepted : IsAccepte
         limits = limits;
         are = are;
         executes = executes;
-        shows_source = shows_source p q Is chain.some chain.refines limits values fits words output ended executes.shows.program;
+        shows_source = shows_source p q Is chain.some chain.refines limits values fits words (joined output) ended executes.shows.program;
         ends = λ n cost k end is_cost is enough ends. (
-          same_end q limits values words ended output executes.shows.machine fits_made (k * n) cost end is_cost (enough_made p q Is chain.some chain.refines limits values fits k is n cost words enough) (made_ends p q Is chain.some chain.refines limits values fits k is n end ends),
-          same_output q limits values words ended output executes.shows.machine fits_made (k * n) cost end is_cost (enough_made p q Is chain.some chain.refines limits values fits k is n cost words enough) (made_ends p q Is chain.some chain.refines limits values fits k is n end ends)
+          same_end q limits values words ended (joined output) executes.shows.machine fits_made (k * n) cost end is_cost (enough_made p q Is chain.some chain.refines limits values fits k is n cost words enough) (made_ends p q Is chain.some chain.refines limits values fits k is n end ends),
+          same_output q limits values words ended (joined output) executes.shows.machine fits_made (k * n) cost end is_cost (enough_made p q Is chain.some chain.refines limits values fits k is n cost words enough) (made_ends p q Is chain.some chain.refines limits values fits k is n end ends)
               ∙ made_prints p q Is chain.some chain.refines limits values fits k is n end ends,
         );
       }

@@ -1,12 +1,13 @@
 -- What each status says of the call.
-use Rattle.std.proofs.Common.{◌≡◌, ◌⊎◌, ℕ, Bool, true, false, append-nil, List, [], Some, None, refl, sym, ap, ◌∙◌, subst, inl, inr, ⊎_elim}
+use Rattle.std.proofs.Common.{◌≡◌, ◌⊎◌, ℕ, Bool, true, false, append-nil, List, [], ◌++◌, length, map, Some, None, refl, sym, ap, ◌∙◌, subst, inl, inr, ⊎_elim}
+use Rattle.std.proofs.Math.Seq.{take-length}
 use Rattle.bril_arguments.specs.declared.fault.ArgFault.TheVariants as argument
 use Rattle.bril_arguments.specs.declared.fault.ArgFault.{ArgFault}
 use Rattle.bril_names.specs.Faults as names
 use Rattle.bril_names.specs.declared.fault.NameFault.{NameFault}
-use Rattle.bril_outside.specs.Sink.{joined}
-use Rattle.bril_report.specs.Lines.{code_line, stack_line}
-use Rattle.bril_report.specs.Report.{Says, status_number, SaysStatus}
+use Rattle.bril_outside.specs.Sink.{SinkSeen}
+use Rattle.bril_report.specs.Puts.{Puts}
+use Rattle.bril_report.specs.Report.{status_number, status_pieces, code_pieces, stack_pieces}
 use Rattle.bril_report.specs.declared.status.Status.TheVariants as status
 use Rattle.bril_report.specs.declared.status.Status.{Status}
 use Rattle.bril_tree.specs.Numbered.{Numbered}
@@ -16,19 +17,20 @@ use Rattle.bril_tree.specs.declared.limits.Limits.{Limits}
 use Rattle.bril_tree.specs.declared.program.Prog.{Prog}
 use Rattle.bril_tree.specs.declared.tree.Tree.{Tree}
 use Rattle.bril_tree.specs.declared.value.Value.{Value}
-use Rattle.bril_commands.specs.Answers.{Answers, HasLongCode, HasLongStack}
-use Rattle.bril_commands.specs.Arguments.{argument_line, HasOnlyArgFault, RefusesArgs}
+use Rattle.bril_commands.specs.Answers.{Answers, HasLongCode, HasLongStack, ListBegan}
+use Rattle.bril_commands.specs.Arguments.{argument_pieces, HasOnlyArgFault, RefusesArgs}
 use Rattle.bril_commands.specs.Call.{Call, CommandComesTo, ComesTo}
 use Rattle.bril_commands.specs.Command.{Command, OnTree, OnProgram, OfProgram, Arguments, NoArguments, OfMain, TakesArguments, AreGiven, RefusesGiven, Makes, RefusesMaking, AreLimitsOf, Fits, RefusesEmission, NeedsProgram, GivesArguments, MakesImage, takes_passes}
 use Rattle.bril_commands.specs.CommandLine.{Asks, format_of}
 use Rattle.bril_commands.specs.Driver.{IsSilent, subject, DoesProgram, DoesTree, DoesFile}
 use Rattle.bril_commands.specs.Images.{RefusesImage}
 use Rattle.bril_commands.specs.Outcome.{Outcome, Works}
-use Rattle.bril_commands.specs.PassList.{RefusesList}
+use Rattle.bril_commands.specs.PassList.{PassList, AreUnused, IsMade, IsCutOff, RefusesList}
 use Rattle.bril_commands.specs.Source.{IsFile, HasNameFault, HasOnlyNameFault, IsOnlyTree, IsSource, IsOnlySource, IsProgramFile}
 use Rattle.bril_commands.specs.Stages.{IsOnlyNameFault, IsOnlyProgram, IsAcceptedProgram, RefusesFile, RefusesTree, RefusesProgram}
-use Rattle.bril_commands.specs.Stats.{SaysTold}
-use Rattle.bril_commands.specs.Table.{command, KeepsPasses}
+use Rattle.bril_commands.specs.Table.{command, Keeps, KeepsPasses}
+use Rattle.bril_words.specs.declared.request.Action.{Action}
+use Rattle.pass_law.specs.Chains.{Ran}
 use Rattle.bril_commands.specs.declared.source.Format.{Format}
 
 -- ---- the program and the name fault of bytes are those of their tree
@@ -53,44 +55,64 @@ module _ (format : Format) (bytes : List ℕ) (tree : Tree) (only : IsOnlyTree f
     unnumbered = λ p source. has.unnumbered p (Numbered-source p source);
   }
 
+-- where nothing was told, the line stands alone
+pub plain : {s t : SinkSeen} (told line : List (List ℕ)) → told ≡ [] → Puts s (told ++ line) t → Puts s line t
+plain {s} {t} told line none says = subst (λ (ps : List (List ℕ)). Puts s (ps ++ line) t) none says
+
+-- a list that made a program ran to its end
+IsMade-cut : (l : PassList) (p q : Prog) → IsMade l p q → IsCutOff l p
+IsMade-cut l p q made = record {
+  known = made.known;
+  profile = made.profile;
+  empty = made.empty;
+  cut = record {
+    before = length l.names;
+    program = q;
+    ran = subst (λ names. Ran l.meaning l.before made.profile l.counts names p q l.after) (sym (take-length l.names)) made.ran;
+  };
+}
+
 -- The words of a call ask for a command, the status is what it answered, and it was said after what is told.
 pub record Ends (c : Call) (asks : Asks c.words) (how : Status) : Type 0 where
   pub told : List (List ℕ)
   pub does : DoesFile (command asks.action) how c.passes c.files_before c.files_after asks.path asks.args told c.out_before c.out_after
-  pub says : SaysTold told how asks.path c.err_before c.err_after
+  pub says : Puts c.err_before (told ++ status_pieces how asks.path) c.err_after
   pub keeps : KeepsPasses c.passes.meaning asks.action c.passes.before c.passes.after
 
-module _ (c : Call) (asks : Asks c.words) where
+-- a command that takes no list leaves the passes as they were
+unused_by : (c : Call) (action : Action) → takes_passes (command action) ≡ false → KeepsPasses c.passes.meaning action c.passes.before c.passes.after → AreUnused c.passes
+unused_by c action none keeps = ap (map c.passes.counts) (subst (λ by_list. Keeps c.passes.meaning by_list c.passes.before c.passes.after) none keeps)
+
+module _ (c : Call) (asks : Asks c.words) (keeps : KeepsPasses c.passes.meaning asks.action c.passes.before c.passes.after) where
   -- the line of a status is put
   abbrev Said : Status → Type 0
-  Said how = SaysStatus how asks.path c.err_before c.err_after
+  Said how = Puts c.err_before (status_pieces how asks.path) c.err_after
 
   -- memory ran out, and nothing was put
-  Answers-exhausted : Said status.OutOfMemory → c.out_after ≡ c.out_before → Answers 71 c
-  Answers-exhausted says silent = record { asks = asks; leaves = inl silent; says = says }
+  Answers-exhausted : AreUnused c.passes ⊎ ListBegan c asks → Said status.OutOfMemory → c.out_after ≡ c.out_before → Answers 71 c
+  Answers-exhausted tallies says silent = record { asks = asks; tallies = tallies; leaves = inl silent; says = says }
 
   -- the file was not read
-  Answers-file : (how : Status) → Said how → RefusesFile how c.files_before c.files_after asks.path → c.out_after ≡ c.out_before → Answers (status_number how) c
-  Answers-file status.CannotRead says refuses silent = record { asks = asks; fails = refuses; alone = record { silent = silent; says = says } }
-  Answers-file status.FileTooBig says refuses silent = record {
+  Answers-file : (how : Status) → Said how → RefusesFile how c.files_before c.files_after asks.path → c.out_after ≡ c.out_before → AreUnused c.passes → Answers (status_number how) c
+  Answers-file status.CannotRead says refuses silent unused = record { asks = asks; unused = unused; fails = refuses; alone = record { silent = silent; says = says } }
+  Answers-file status.FileTooBig says refuses silent unused = record {
     asks = asks;
-    because = inl (record { bytes = refuses.bytes; held = refuses.held; long = refuses.long; alone = record { silent = silent; says = says } });
+    because = inl (record { bytes = refuses.bytes; held = refuses.held; long = refuses.long; unused = unused; alone = record { silent = silent; says = says } });
   }
-  Answers-file status.OutOfMemory says refuses silent = Answers-exhausted says silent
-  Answers-file _ says refuses silent = absurd refuses
+  Answers-file status.OutOfMemory says refuses silent unused = Answers-exhausted (inl unused) says silent
+  Answers-file _ says refuses silent unused = absurd refuses
 
   -- ---- the work was carried out
 
-  module _ (o : Outcome) (comes : (Is : Outcome → Type 0) → Is o → ComesTo c asks Is) where
-    Answers-works : (how : Status) (told : List (List ℕ)) → SaysTold told how asks.path c.err_before c.err_after → Works o how told c.out_before c.out_after → Answers (status_number how) c
+  module _ (o : Outcome) (comes : (Is : Outcome → Type 0) → Is o → ComesTo c asks Is) (tallies : AreUnused c.passes ⊎ ListBegan c asks) where
+    Answers-works : (how : Status) (told : List (List ℕ)) → Puts c.err_before (told ++ status_pieces how asks.path) c.err_after → Works o how told c.out_before c.out_after → Answers (status_number how) c
     Answers-works status.Done told says works = record {
       asks = asks;
       told = told;
       output = works.output;
       comes = comes (λ o. o.Shows (Some Ended) told works.output) works.shows;
       took = works.took;
-      says = subst (λ bytes. Says c.err_before bytes c.err_after) (append-nil (joined told)) says.all;
-      quiet = says.plain;
+      says = subst (λ (ps : List (List ℕ)). Puts c.err_before ps c.err_after) (append-nil told) says;
     }
     Answers-works (status.Faulted fault) told says works = record {
       asks = asks;
@@ -99,7 +121,7 @@ module _ (c : Call) (asks : Asks c.words) where
       output = works.output;
       comes = comes (λ o. o.Shows (Some (Faulted fault)) told works.output) works.shows;
       took = works.took;
-      says = says.all;
+      says = says;
     }
     Answers-works (status.Spent made) told says works = record {
       asks = asks;
@@ -108,12 +130,13 @@ module _ (c : Call) (asks : Asks c.words) where
       output = works.1.output;
       comes = comes (λ o. (made ≡ o.steps) × o.Shows None told works.1.output) (works.0, works.1.shows);
       took = works.1.took;
-      says = says.all;
+      says = says;
     }
     Answers-works status.OutOfMemory told says works = record {
       asks = asks;
+      tallies = tallies;
       leaves = ⊎_elim inl (λ short. inr (short.0, comes (λ o. o.Exhausts short.0) short.1, short.2)) works.1;
-      says = says.plain works.0;
+      says = plain told (status_pieces status.OutOfMemory asks.path) works.0 says;
     }
     Answers-works status.CannotWrite told says works = record {
       asks = asks;
@@ -123,8 +146,7 @@ module _ (c : Call) (asks : Asks c.words) where
       output = works.1.output;
       comes = comes (λ o. (told ≡ o.unwritten) × o.Shows works.1.ended works.1.told works.1.output) (works.0, works.1.shows);
       took = works.1.took;
-      rose = works.1.rose;
-      says = says.all;
+      says = says;
     }
     Answers-works _ told says works = absurd works
 
@@ -132,21 +154,23 @@ module _ (c : Call) (asks : Asks c.words) where
 
   module _ (bytes : List ℕ) (file : IsFile c.files_before asks.path bytes) where
     -- they were not read as a tree
-    Answers-bytes : (how : Status) → Said how → RefusesTree how (format_of asks.path) bytes → c.out_after ≡ c.out_before → Answers (status_number how) c
-    Answers-bytes (status.Misread fault) says refuses silent = record {
+    Answers-bytes : (how : Status) → Said how → RefusesTree how (format_of asks.path) bytes → c.out_after ≡ c.out_before → AreUnused c.passes → Answers (status_number how) c
+    Answers-bytes (status.Misread fault) says refuses silent unused = record {
       asks = asks;
+      unused = unused;
       because = inl (record { bytes = bytes; file = file; fault = fault; only = refuses; alone = record { silent = silent; says = says } });
     }
-    Answers-bytes status.OutOfMemory says refuses silent = Answers-exhausted says silent
-    Answers-bytes _ says refuses silent = absurd refuses
+    Answers-bytes status.OutOfMemory says refuses silent unused = Answers-exhausted (inl unused) says silent
+    Answers-bytes _ says refuses silent unused = absurd refuses
 
     module _ (tree : Tree) (only : IsOnlyTree (format_of asks.path) bytes tree) where
       -- ---- the tree's program was asked for
 
       -- it has none that is accepted
-      Answers-refused : NeedsProgram (command asks.action) → (how : Status) → Said how → RefusesProgram how tree → c.out_after ≡ c.out_before → Answers (status_number how) c
-      Answers-refused needs status.Unsupported says refuses silent = record {
+      Answers-refused : NeedsProgram (command asks.action) → (how : Status) → Said how → RefusesProgram how tree → c.out_after ≡ c.out_before → AreUnused c.passes → Answers (status_number how) c
+      Answers-refused needs status.Unsupported says refuses silent unused = record {
         asks = asks;
+        unused = unused;
         because = inr (
           needs,
           inl (record {
@@ -157,8 +181,9 @@ module _ (c : Call) (asks : Asks c.words) where
           }),
         );
       }
-      Answers-refused needs (status.Misnamed fault) says refuses silent = record {
+      Answers-refused needs (status.Misnamed fault) says refuses silent unused = record {
         asks = asks;
+        unused = unused;
         because = inr (
           needs,
           inr (inl (record {
@@ -170,8 +195,9 @@ module _ (c : Call) (asks : Asks c.words) where
           })),
         );
       }
-      Answers-refused needs (status.Unaccepted p fault) says refuses silent = record {
+      Answers-refused needs (status.Unaccepted p fault) says refuses silent unused = record {
         asks = asks;
+        unused = unused;
         because = inr (
           needs,
           inr (inr (record {
@@ -185,34 +211,39 @@ module _ (c : Call) (asks : Asks c.words) where
           })),
         );
       }
-      Answers-refused needs status.OutOfMemory says refuses silent = Answers-exhausted says silent
-      Answers-refused needs _ says refuses silent = absurd refuses
+      Answers-refused needs status.OutOfMemory says refuses silent unused = Answers-exhausted (inl unused) says silent
+      Answers-refused needs _ says refuses silent unused = absurd refuses
 
       module _ (p : Prog) (program : IsAcceptedProgram tree p) where
         program_file : IsProgramFile c.files_before asks.path p
         program_file = record { bytes = bytes; file = file; source = IsOnlySource-of (format_of asks.path) bytes tree only p program.only; accepted = program.sound.accepted }
 
         -- the arguments don't fit it
-        misargued : GivesArguments (command asks.action) → (fault : ArgFault) → HasOnlyArgFault (main_types p) asks.args fault → Says c.err_before (argument_line fault) c.err_after → c.out_after ≡ c.out_before → Answers 69 c
-        misargued gives fault has says silent = record {
+        misargued : GivesArguments (command asks.action) → (fault : ArgFault) → HasOnlyArgFault (main_types p) asks.args fault → Puts c.err_before (argument_pieces fault) c.err_after → c.out_after ≡ c.out_before → AreUnused c.passes → Answers 69 c
+        misargued gives fault has says silent unused = record {
           asks = asks;
           gives = gives;
           program = p;
           file = program_file;
           fault = fault;
           only = has;
+          unused = unused;
           alone = record { silent = silent; says = says };
         }
 
-        Answers-args : GivesArguments (command asks.action) → (how : Status) → Said how → RefusesArgs how p asks.args → c.out_after ≡ c.out_before → Answers (status_number how) c
-        Answers-args gives (status.ArgumentCount given wanted) says refuses silent = misargued gives (argument.Count given wanted) refuses says silent
-        Answers-args gives (status.BadArgument place) says refuses silent = misargued gives (argument.Spelling place) refuses says silent
-        Answers-args gives status.OutOfMemory says refuses silent = Answers-exhausted says silent
-        Answers-args gives _ says refuses silent = absurd refuses
+        Answers-args : GivesArguments (command asks.action) → (how : Status) → Said how → RefusesArgs how p asks.args → c.out_after ≡ c.out_before → AreUnused c.passes → Answers (status_number how) c
+        Answers-args gives (status.ArgumentCount given wanted) says refuses silent unused = misargued gives (argument.Count given wanted) refuses says silent unused
+        Answers-args gives (status.BadArgument place) says refuses silent unused = misargued gives (argument.Spelling place) refuses says silent unused
+        Answers-args gives status.OutOfMemory says refuses silent unused = Answers-exhausted (inl unused) says silent
+        Answers-args gives _ says refuses silent unused = absurd refuses
 
-        Answers-given : (arguments : Arguments) → (TakesArguments arguments → GivesArguments (command asks.action)) → (how : Status) → Said how → RefusesGiven arguments how p asks.args → c.out_after ≡ c.out_before → Answers (status_number how) c
-        Answers-given NoArguments gives how says refuses silent = absurd refuses
-        Answers-given OfMain gives how says refuses silent = Answers-args (gives tt) how says refuses silent
+        Answers-given : (arguments : Arguments) → (TakesArguments arguments → GivesArguments (command asks.action)) → (how : Status) → Said how → RefusesGiven arguments how p asks.args → c.out_after ≡ c.out_before → AreUnused c.passes → Answers (status_number how) c
+        Answers-given NoArguments gives how says refuses silent unused = absurd refuses
+        Answers-given OfMain gives how says refuses silent unused = Answers-args (gives tt) how says refuses silent unused
+
+        -- the list was begun
+        began : takes_passes (command asks.action) ≡ true → IsCutOff c.passes p → ListBegan c asks
+        began takes cut = record { takes = takes; program = p; file = program_file; cut = cut }
 
         -- the list of passes makes no program of it
         Answers-list : takes_passes (command asks.action) ≡ true → (how : Status) → Said how → RefusesList how c.passes p → c.out_after ≡ c.out_before → Answers (status_number how) c
@@ -238,12 +269,17 @@ module _ (c : Call) (asks : Asks c.words) where
             alone = record { silent = silent; says = says };
           }));
         }
-        Answers-list takes status.OutOfMemory says refuses silent = Answers-exhausted says silent
+        Answers-list takes status.OutOfMemory says refuses silent = Answers-exhausted (inr (began takes refuses)) says silent
         Answers-list takes _ says refuses silent = absurd refuses
 
         Answers-making : (by_list : Bool) → (by_list ≡ true → takes_passes (command asks.action) ≡ true) → (how : Status) → Said how → RefusesMaking by_list how c.passes p → c.out_after ≡ c.out_before → Answers (status_number how) c
         Answers-making false takes how says refuses silent = absurd refuses
         Answers-making true takes how says refuses silent = Answers-list (takes refl) how says refuses silent
+
+        -- how the passes were left by a command that made a program by its list, or without one
+        tallies_of : (by_list : Bool) → takes_passes (command asks.action) ≡ by_list → (q : Prog) → Makes by_list c.passes p q → AreUnused c.passes ⊎ ListBegan c asks
+        tallies_of false takes q makes = inl (unused_by c asks.action takes keeps)
+        tallies_of true takes q makes = inr (began takes (IsMade-cut c.passes p q makes))
 
         -- an image was to be made of the program that the list makes, and it is too large
         module _ (q : Prog) (by : Makes (takes_passes (command asks.action)) c.passes p q) (limits : Limits) (makes : MakesImage (command asks.action) limits) where
@@ -257,7 +293,7 @@ module _ (c : Call) (asks : Asks c.words) where
           Answers-image (status.CodeTooBig words) says refuses silent =
               long_program (inl (record {
                 long = refuses.0;
-                alone = record { silent = silent; says = subst (λ n. Says c.err_before (code_line n) c.err_after) refuses.1 says };
+                alone = record { silent = silent; says = subst (λ n. Puts c.err_before (code_pieces n) c.err_after) refuses.1 says };
               }))
           Answers-image (status.StackTooBig words) says refuses silent =
               long_program (inr (record {
@@ -265,9 +301,9 @@ module _ (c : Call) (asks : Asks c.words) where
                 stack = refuses.1.0;
                 size = refuses.1.1;
                 long = refuses.1.2;
-                alone = record { silent = silent; says = subst (λ n. Says c.err_before (stack_line n) c.err_after) refuses.1.3 says };
+                alone = record { silent = silent; says = subst (λ n. Puts c.err_before (stack_pieces n) c.err_after) refuses.1.3 says };
               }))
-          Answers-image status.OutOfMemory says refuses silent = Answers-exhausted says silent
+          Answers-image status.OutOfMemory says refuses silent = Answers-exhausted (tallies_of (takes_passes (command asks.action)) refl q by) says silent
           Answers-image _ says refuses silent = absurd refuses
 
       -- ---- a command on an accepted program
@@ -293,34 +329,36 @@ module _ (c : Call) (asks : Asks c.words) where
         })
 
         Answers-made : (p : Prog) (program : IsAcceptedProgram tree p) (values : List Value) → AreGiven does.arguments p asks.args values → (q : Prog) (makes : Makes does.takes_passes c.passes p q)
-            → (how : Status) (told : List (List ℕ)) → SaysTold told how asks.path c.err_before c.err_after
+            → (how : Status) (told : List (List ℕ)) → Puts c.err_before (told ++ status_pieces how asks.path) c.err_after
             → (RefusesEmission does.emission how q × IsSilent told c.out_before c.out_after) ⊎ (Fits does.emission q × Works (does.outcome (subject does c.passes p q makes values)) how told c.out_before c.out_after)
             → Answers (status_number how) c
         Answers-made p program values given q makes how told says =
-            ⊎_elim (λ long. Answers-image p program q (made_by p q makes) long.0.0 (makes_image long.0.0 long.0.1) how (says.plain long.1.0) long.0.2 long.1.1)
-            (λ goes. Answers-works (does.outcome (subject does c.passes p q makes values)) (comes_to p program values given q makes goes.0) how told says goes.1)
+            ⊎_elim (λ long. Answers-image p program q (made_by p q makes) long.0.0 (makes_image long.0.0 long.0.1) how (plain told (status_pieces how asks.path) long.1.0 says) long.0.2 long.1.1)
+            (λ goes. Answers-works (does.outcome (subject does c.passes p q makes values)) (comes_to p program values given q makes goes.0) (tallies_of p program (takes_passes (command asks.action)) refl q (made_by p q makes)) how told says goes.1)
 
-        Answers-program : (p : Prog) (program : IsAcceptedProgram tree p) (how : Status) (told : List (List ℕ)) → SaysTold told how asks.path c.err_before c.err_after → DoesProgram does how c.passes p asks.args told c.out_before c.out_after → Answers (status_number how) c
+        Answers-program : (p : Prog) (program : IsAcceptedProgram tree p) (how : Status) (told : List (List ℕ)) → Puts c.err_before (told ++ status_pieces how asks.path) c.err_after → DoesProgram does how c.passes p asks.args told c.out_before c.out_after → Answers (status_number how) c
         Answers-program p program how told says =
-            ⊎_elim (λ refused. Answers-given p program does.arguments (λ takes. subst GivesArguments (sym is) takes) how (says.plain refused.1.0) refused.0 refused.1.1)
-            (λ values. ⊎_elim (λ refused. Answers-making p program does.takes_passes (λ takes. ap takes_passes is ∙ takes) how (says.plain refused.1.0) refused.0 refused.1.1)
+            ⊎_elim (λ refused. Answers-given p program does.arguments (λ takes. subst GivesArguments (sym is) takes) how (plain told (status_pieces how asks.path) refused.1.0.0 says) refused.0 refused.1.0.1 refused.1.1)
+            (λ values. ⊎_elim (λ refused. Answers-making p program does.takes_passes (λ takes. ap takes_passes is ∙ takes) how (plain told (status_pieces how asks.path) refused.1.0 says) refused.0 refused.1.1)
             (λ made. Answers-made p program values.0 values.1 made.0 made.1 how told says made.2)
             values.2)
 
-      Answers-tree : (k : Command) → command asks.action ≡ k → (how : Status) (told : List (List ℕ)) → SaysTold told how asks.path c.err_before c.err_after → DoesTree k how c.passes tree asks.args told c.out_before c.out_after → Answers (status_number how) c
+      Answers-tree : (k : Command) → command asks.action ≡ k → (how : Status) (told : List (List ℕ)) → Puts c.err_before (told ++ status_pieces how asks.path) c.err_after → DoesTree k how c.passes tree asks.args told c.out_before c.out_after → Answers (status_number how) c
       Answers-tree (OnTree outcome) is how told says =
           Answers-works (outcome tree)
           (λ Is holds. subst (λ k. CommandComesTo k c asks.path asks.args Is) (sym is) (record { bytes = bytes; file = file; tree = tree; only = only; is = holds }))
+          (inl (unused_by c asks.action (ap takes_passes is) keeps))
           how told says
       Answers-tree (OnProgram does) is how told says =
-          ⊎_elim (λ refused. Answers-refused (subst NeedsProgram (sym is) tt) how (says.plain refused.1.0) refused.0 refused.1.1)
+          ⊎_elim (λ refused. Answers-refused (subst NeedsProgram (sym is) tt) how (plain told (status_pieces how asks.path) refused.1.0.0 says) refused.0 refused.1.0.1 refused.1.1)
           (λ goes. Answers-program does is goes.0 goes.1 how told says goes.2)
 
-  -- what each status says
-  pub Answers-of : (how : Status) → Ends c asks how → Answers (status_number how) c
-  Answers-of how ends =
-      ⊎_elim (λ refused. Answers-file how (ends.says.plain refused.1.0) refused.0 refused.1.1)
-      (λ read. ⊎_elim (λ refused. Answers-bytes read.0 read.1 how (ends.says.plain refused.1.0) refused.0 refused.1.1)
-      (λ tree. Answers-tree read.0 read.1 tree.0 tree.1 (command asks.action) refl how ends.told ends.says tree.2)
-      read.2)
-      ends.does
+-- what each status says
+pub Answers-of : (c : Call) (asks : Asks c.words) (how : Status) → Ends c asks how → Answers (status_number how) c
+Answers-of c asks how ends =
+    let alone = plain ends.told (status_pieces how asks.path) in
+    ⊎_elim (λ refused. Answers-file c asks ends.keeps how (alone refused.1.0.0 ends.says) refused.0 refused.1.0.1 refused.1.1)
+    (λ read. ⊎_elim (λ refused. Answers-bytes c asks ends.keeps read.0 read.1 how (alone refused.1.0.0 ends.says) refused.0 refused.1.0.1 refused.1.1)
+    (λ tree. Answers-tree c asks ends.keeps read.0 read.1 tree.0 tree.1 (command asks.action) refl how ends.told ends.says tree.2)
+    read.2)
+    ends.does

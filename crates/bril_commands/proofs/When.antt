@@ -1,8 +1,8 @@
 -- When a command is done.
 use Rattle.std.proofs.Common.{◌≡◌, ℕ, ◌≤◌, ◌⊎◌, Bool, true, false, append-nil, ◌++◌, List, length, Some, None, refl, sym, ◌∙◌, subst, arith, inl, inr, ⊎_elim}
-use Rattle.bril_outside.specs.Sink.{joined}
-use Rattle.bril_report.specs.Lines.{spent_line}
-use Rattle.bril_report.specs.Report.{Says, status_number, SaysStatus}
+use Rattle.bril_report.proofs.Puts.{WritesSome-rose}
+use Rattle.bril_report.specs.Puts.{Puts}
+use Rattle.bril_report.specs.Report.{status_number, status_pieces, spent_pieces}
 use Rattle.bril_report.specs.declared.status.Status.TheVariants as status
 use Rattle.bril_report.specs.declared.status.Status.{Status}
 use Rattle.bril_tree.specs.declared.limits.End.TheVariants.{Ended, Faulted}
@@ -14,7 +14,7 @@ use Rattle.bril_words.specs.declared.request.Action.{Action}
 use Rattle.rv64_implements.proofs.Sizes.{within_not_beyond}
 use Rattle.rv64_implements.specs.WordBounds.{IsWithin}
 use Rattle.bril_commands.proofs.Causes.{DoesAccepted, args_fail, by_cases, exhausted, same_args, same_path, with_program}
-use Rattle.bril_commands.proofs.Statuses.{Ends}
+use Rattle.bril_commands.proofs.Statuses.{Ends, plain}
 use Rattle.bril_commands.specs.Call.{Call, ReadsWell, UnlessMemory}
 use Rattle.bril_commands.specs.Command.{Command, OnTree, OnProgram, OfProgram, Arguments, NoArguments, OfMain, Emission, NoImage, ImageFor, AreGiven, RefusesGiven, Makes, RefusesMaking, Fits, RefusesEmission, NeedsProgram}
 use Rattle.bril_commands.specs.CommandLine.{Asks, format_of}
@@ -23,19 +23,18 @@ use Rattle.bril_commands.specs.Images.{RefusesImage}
 use Rattle.bril_commands.specs.Outcome.{Outcome, Works}
 use Rattle.bril_commands.specs.PassList.{RefusesList}
 use Rattle.bril_commands.specs.Source.{most_bytes, ReadsAs}
-use Rattle.bril_commands.specs.Stats.{SaysTold}
 use Rattle.bril_commands.specs.Table.{command}
 use Rattle.bril_commands.specs.When.{Spell, StopsMaking, AfterPasses, AfterEmission, IsDoneUnless, CommandDone}
 
 -- the work is done, or memory ran out
-works_done : (c : Call) (path : List ℕ) (o : Outcome) (how : Status) (told : List (List ℕ)) → SaysTold told how path c.err_before c.err_after → Works o how told c.out_before c.out_after
+works_done : (c : Call) (path : List ℕ) (o : Outcome) (how : Status) (told : List (List ℕ)) → Puts c.err_before (told ++ status_pieces how path) c.err_after → Works o how told c.out_before c.out_after
     → UnlessMemory (status_number how) (IsDoneUnless (status_number how) c o)
 works_done c path o status.Done told says works = inr (λ sound. record {
   ended = Some Ended;
   told = told;
   output = works.output;
   shows = works.shows;
-  says = (refl, subst (λ bytes. Says c.err_before bytes c.err_after) (append-nil (joined told)) says.all, says.plain);
+  says = (refl, subst (λ (ps : List (List ℕ)). Puts c.err_before ps c.err_after) (append-nil told) says);
   took = works.took;
 })
 works_done c path o (status.Faulted fault) told says works = inr (λ sound. record {
@@ -43,7 +42,7 @@ works_done c path o (status.Faulted fault) told says works = inr (λ sound. reco
   told = told;
   output = works.output;
   shows = works.shows;
-  says = (refl, says.all);
+  says = (refl, says);
   took = works.took;
 })
 works_done c path o (status.Spent made) told says works = inr (λ sound. record {
@@ -51,11 +50,11 @@ works_done c path o (status.Spent made) told says works = inr (λ sound. record 
   told = told;
   output = works.1.output;
   shows = works.1.shows;
-  says = (refl, subst (λ n. Says c.err_before (joined told ++ spent_line n) c.err_after) works.0 says.all);
+  says = (refl, subst (λ n. Puts c.err_before (told ++ spent_pieces n) c.err_after) works.0 says);
   took = works.1.took;
 })
 works_done c path o status.OutOfMemory told says works = inl refl
-works_done c path o status.CannotWrite told says works = inr (λ sound. absurd (sound works.1.rose))
+works_done c path o status.CannotWrite told says works = inr (λ sound. absurd (sound (WritesSome-rose works.1.took)))
 works_done c path o _ told says works = absurd works
 
 -- ---- the stages before it
@@ -70,7 +69,7 @@ same_values NoArguments p args given values are spelled = are ∙ sym spelled
 same_values OfMain p args given values are spelled = are.only values spelled
 
 -- the list makes no program, or memory ran out
-list_stops : (c : Call) (path : List ℕ) (p : Prog) (how : Status) → SaysStatus how path c.err_before c.err_after → RefusesList how c.passes p → c.out_after ≡ c.out_before → UnlessMemory (status_number how) (StopsMaking true (status_number how) c p)
+list_stops : (c : Call) (path : List ℕ) (p : Prog) (how : Status) → Puts c.err_before (status_pieces how path) c.err_after → RefusesList how c.passes p → c.out_after ≡ c.out_before → UnlessMemory (status_number how) (StopsMaking true (status_number how) c p)
 list_stops c path p (status.UnknownPass place) says refuses silent =
     inr (inl (record { place = place; unknown = refuses.0; is = refl; alone = record { silent = silent; says = says } }))
 list_stops c path p (status.PassTooLarge place bound) says refuses silent =
@@ -78,7 +77,7 @@ list_stops c path p (status.PassTooLarge place bound) says refuses silent =
 list_stops c path p status.OutOfMemory says refuses silent = inl refl
 list_stops c path p _ says refuses silent = absurd refuses
 
-stops : (by_list : Bool) (c : Call) (path : List ℕ) (p : Prog) (how : Status) → SaysStatus how path c.err_before c.err_after → RefusesMaking by_list how c.passes p → c.out_after ≡ c.out_before → UnlessMemory (status_number how) (StopsMaking by_list (status_number how) c p)
+stops : (by_list : Bool) (c : Call) (path : List ℕ) (p : Prog) (how : Status) → Puts c.err_before (status_pieces how path) c.err_after → RefusesMaking by_list how c.passes p → c.out_after ≡ c.out_before → UnlessMemory (status_number how) (StopsMaking by_list (status_number how) c p)
 stops false c path p how says refuses silent = absurd refuses
 stops true c path p how says refuses silent = list_stops c path p how says refuses silent
 
@@ -112,7 +111,7 @@ module _ (c : Call) (asks : Asks c.words) (how : Status) (ends : Ends c asks how
       → UnlessMemory (status_number how) (AfterPasses does.takes_passes (status_number how) c p (λ q makes. AfterEmission does.emission (status_number how) q (IsDoneUnless (status_number how) c (does.outcome (subject does c.passes p q makes values)))))
   program_done does p values spelled =
       ⊎_elim (λ refused. exhausted how _ (no_refusal does.arguments how p asks.args values spelled refused.0))
-      (λ goes. ⊎_elim (λ refused. ⊎_elim inl (λ stopped. inr (inl stopped)) (stops does.takes_passes c asks.path p how (ends.says.plain refused.1.0) refused.0 refused.1.1))
+      (λ goes. ⊎_elim (λ refused. ⊎_elim inl (λ stopped. inr (inl stopped)) (stops does.takes_passes c asks.path p how (plain ends.told (status_pieces how asks.path) refused.1.0 ends.says) refused.0 refused.1.1))
       (λ made. ⊎_elim inl (λ done. inr (inr (made.0, made.1, done)))
       (made_done does p made.0 made.1 values
       (subst (λ (vs : List Value). (RefusesEmission does.emission how made.0 × IsSilent ends.told c.out_before c.out_after) ⊎ (Fits does.emission made.0 × Works (does.outcome (subject does c.passes p made.0 made.1 vs)) how ends.told c.out_before c.out_after))

@@ -1,13 +1,13 @@
 -- Work that is carried out as one outcome says is carried out as another says.
-use Rattle.std.proofs.Common.{◌≡◌, ℕ, List, [], Option, Some, None, refl, ◌∙◌, inl, inr, ⊎_elim}
-use Rattle.bril_outside.specs.Sink.{SinkSeen}
+use Rattle.std.proofs.Common.{◌≡◌, ◌≢◌, ℕ, List, [], Option, Some, None, refl, ◌∙◌, inl, inr, ⊎_elim}
+use Rattle.bril_outside.specs.Sink.{SinkSeen, Rose, Flushed}
 use Rattle.bril_report.specs.declared.status.Status.TheVariants as status
 use Rattle.bril_report.specs.declared.status.Status.{Status}
 use Rattle.bril_tree.specs.declared.limits.End.TheVariants.{Ended, Faulted}
 use Rattle.bril_tree.specs.declared.limits.End.{End}
-use Rattle.bril_commands.specs.Outcome.{Outcome, PutsText, ShowsWhole, Works, end_status, writes}
+use Rattle.bril_commands.specs.Outcome.{Outcome, PutsPieces, ShowsPut, ShowsWhole, ShowsPartly, Works, end_status, writes}
 
-module _ (a b : Outcome) (steps : a.steps ≡ b.steps) (unwritten : a.unwritten ≡ b.unwritten) (shows : (ended : Option End) (told : List (List ℕ)) (output : List ℕ) → a.Shows ended told output → b.Shows ended told output) (exhausts : (output : List ℕ) → a.Exhausts output → b.Exhausts output) (told : List (List ℕ)) (s t : SinkSeen) where
+module _ (a b : Outcome) (steps : a.steps ≡ b.steps) (unwritten : a.unwritten ≡ b.unwritten) (shows : (ended : Option End) (told output : List (List ℕ)) → a.Shows ended told output → b.Shows ended told output) (exhausts : (output : List (List ℕ)) → a.Exhausts output → b.Exhausts output) (told : List (List ℕ)) (s t : SinkSeen) where
   whole : (ended : Option End) → ShowsWhole a ended told s t → ShowsWhole b ended told s t
   whole ended w = record { output = w.output; shows = shows ended told w.output w.shows; took = w.took }
 
@@ -23,21 +23,36 @@ module _ (a b : Outcome) (steps : a.steps ≡ b.steps) (unwritten : a.unwritten 
       output = works.1.output;
       shows = shows works.1.ended works.1.told works.1.output works.1.shows;
       took = works.1.took;
-      rose = works.1.rose;
     },
   )
   Works-as status.OutOfMemory works = (works.0, ⊎_elim inl (λ short. inr (short.0, exhausts short.0 short.1, short.2)) works.1)
   Works-as _ works = absurd works
 
--- a text was written, and nothing is told
-pub Works-text : (IsText : List ℕ → Type 0) (text : List ℕ) → IsText text → (how : Status) (s t : SinkSeen) → PutsText how text s t → Works (writes [] IsText) how [] s t
-Works-text IsText text is status.Done s t puts = record { output = text; shows = (refl, refl, is); took = puts }
-Works-text IsText text is status.CannotWrite s t puts = (refl, record { ended = _; told = _; output = text; shows = (refl, refl, is); took = puts.0; rose = puts.1 })
-Works-text IsText text is status.OutOfMemory s t puts = (refl, inl puts)
-Works-text IsText text is _ s t puts = absurd puts
+-- pieces were put, and nothing is told
+pub Works-put : (IsOutput : List (List ℕ) → Type 0) (pieces : List (List ℕ)) → IsOutput pieces → (how : Status) (s t : SinkSeen) → PutsPieces how pieces s t → Works (writes [] IsOutput) how [] s t
+Works-put IsOutput pieces is status.Done s t puts = record { output = pieces; shows = (refl, refl, is); took = puts }
+Works-put IsOutput pieces is status.CannotWrite s t puts = (refl, record { ended = _; told = _; output = pieces; shows = (refl, refl, is); took = puts })
+Works-put IsOutput pieces is status.OutOfMemory s t puts = (refl, inl puts)
+Works-put IsOutput pieces is _ s t puts = absurd puts
+
+-- pieces were put, and this is told either way
+pub Works-told : (told : List (List ℕ)) (IsOutput : List (List ℕ) → Type 0) (pieces : List (List ℕ)) → IsOutput pieces → (how : Status) (s t : SinkSeen) → PutsPieces how pieces s t → how ≢ status.OutOfMemory → Works (writes told IsOutput) how told s t
+Works-told told IsOutput pieces is status.Done s t puts ample = record { output = pieces; shows = (refl, refl, is); took = puts }
+Works-told told IsOutput pieces is status.CannotWrite s t puts ample = (refl, record { ended = _; told = _; output = pieces; shows = (refl, refl, is); took = puts })
+Works-told told IsOutput pieces is status.OutOfMemory s t puts ample = absurd (ample refl)
+Works-told told IsOutput pieces is _ s t puts ample = absurd puts
 
 -- it ended so, or goes on after the steps
 pub Works-ended : (o : Outcome) (ended : Option End) (told : List (List ℕ)) (s t : SinkSeen) → ShowsWhole o ended told s t → Works o (end_status ended o.steps) told s t
 Works-ended o (Some Ended) told s t whole = whole
 Works-ended o (Some (Faulted fault)) told s t whole = whole
 Works-ended o None told s t whole = (refl, whole)
+
+-- ---- all was put, and then the output was to hand on what it held back
+
+module _ (o : Outcome) {ended : Option End} {told : List (List ℕ)} {s t u : SinkSeen} (put : ShowsPut o ended told s t) (flushed : Flushed t u) where
+  pub Shows-flushed : ShowsWhole o ended told s u
+  Shows-flushed = record { output = put.output; shows = put.shows; took = record { between = t; puts = put.puts; flushed = flushed } }
+
+  pub Shows-unflushed : Rose t.faults u.faults → ShowsPartly o s u
+  Shows-unflushed rose = record { ended = ended; told = told; output = put.output; shows = put.shows; took = inr (record { between = t; puts = put.puts; flushed = flushed }, rose) }

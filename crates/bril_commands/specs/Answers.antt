@@ -1,5 +1,5 @@
 -- What the top call answers: its status, and what it does to the files and its two outputs.
-use Rattle.std.specs.Prelude.{ℕ, ◌≡◌, ◌≢◌, ◌⊎◌, ◌<◌, ◌≤◌, true, List, [], ◌++◌, length, map, Option, Some, None, codes, ◌==◌, Err, MatchBool, ◌↔◌}
+use Rattle.std.specs.Prelude.{ℕ, ◌≡◌, ◌≢◌, ◌⊎◌, ◌<◌, ◌≤◌, true, List, [], ◌∷◌, ◌++◌, length, Option, Some, None, codes, ◌==◌, Err, MatchBool, ◌↔◌}
 use Rattle.bril_arguments.specs.Faults.{IsFaultOf}
 use Rattle.bril_arguments.specs.declared.fault.ArgFault.TheVariants.{Memory}
 use Rattle.bril_arguments.specs.declared.fault.ArgFault.{ArgFault}
@@ -7,9 +7,9 @@ use Rattle.bril_checker.specs.Faults as checker
 use Rattle.bril_checker.specs.declared.fault.CheckFault.{CheckFault}
 use Rattle.bril_names.specs.declared.fault.NameFault.{NameFault}
 use Rattle.bril_outside.specs.Files.{MayHold, MayFail}
-use Rattle.bril_outside.specs.Sink.{Rose, TookAll, TookSome, joined}
-use Rattle.bril_report.specs.Lines.{form_line, misread_line, misnamed_line, unaccepted_line, unread_line, fault_line, spent_line, code_line, stack_line, pass_line, unknown_pass_line, misuse_line}
-use Rattle.bril_report.specs.Report.{Says}
+use Rattle.bril_report.specs.Lines.{fault_line, misuse_line}
+use Rattle.bril_report.specs.Puts.{Puts, WritesAll, WritesSome}
+use Rattle.bril_report.specs.Report.{form_pieces, misread_pieces, misnamed_pieces, unaccepted_pieces, unread_pieces, spent_pieces, code_pieces, stack_pieces, pass_pieces, unknown_pass_pieces}
 use Rattle.bril_report.specs.declared.status.SourceFault.{SourceFault}
 use Rattle.bril_tree.specs.Accepted.{IsAccepted}
 use Rattle.bril_tree.specs.Run.{main_types}
@@ -24,34 +24,36 @@ use Rattle.bril_words.specs.declared.request.Action.{Action}
 use Rattle.pass_law.specs.Bounds.{capped}
 use Rattle.rv64_implements.specs.WordBounds.{word_bounds, IsStackSize}
 use Rattle.rv64_words.specs.Region.{most_words, most_stack}
-use Rattle.bril_commands.specs.Arguments.{HasOnlyArgFault, argument_line}
+use Rattle.bril_commands.specs.Arguments.{HasOnlyArgFault, argument_pieces}
 use Rattle.bril_commands.specs.Call.{Call, SaysAlone, ReadsWell, AsksNone, UnlessMemory, ComesTo}
 use Rattle.bril_commands.specs.Command.{Makes, NeedsProgram, GivesArguments, MakesImage, takes_passes}
 use Rattle.bril_commands.specs.CommandLine.{format_of, Asks, AsksFor, AskNothing}
-use Rattle.bril_commands.specs.PassList.{IsFirstUnknown, IsRefusedPass}
+use Rattle.bril_commands.specs.PassList.{AreUnused, IsFirstUnknown, IsRefusedPass, IsCutOff}
 use Rattle.bril_commands.specs.Source.{most_bytes, HasFault, IsOnlyFault, IsSource, IsOnlySource, HasNameFault, HasOnlyNameFault, HasOnlyCheckFault, HasImports, IsFile, IsProgramFile}
 use Rattle.bril_commands.specs.Table.{command, KeepsPasses}
 use Rattle.bril_commands.specs.When.{DoneWhere}
+
+-- What is put on the output and on the error output is given in pieces, of which each is one put. Nothing is put on either after a put
+-- on it that failed. Before a status is told, and before a command tells anything, the output has handed on all that it held back.
 
 -- 0: all was done, and the output took all that the command puts; the error output what it tells.
 pub record Finished (c : Call) : Type 0 where
   pub asks : Asks c.words
   pub told : List (List ℕ)
-  pub output : List ℕ
+  pub output : List (List ℕ)
   pub comes : ComesTo c asks (λ o. o.Shows (Some Ended) told output)
-  pub took : TookAll c.out_before output c.out_after
-  pub says : Says c.err_before (joined told) c.err_after
-  pub quiet : told ≡ [] → c.err_after ≡ c.err_before
+  pub took : WritesAll c.out_before output c.out_after
+  pub says : Puts c.err_before told c.err_after
 
 -- 2: the program was run or interpreted and stopped with a fault, and the output took all that is put.
 pub record Stopped (c : Call) : Type 0 where
   pub asks : Asks c.words
   pub fault : Fault
   pub told : List (List ℕ)
-  pub output : List ℕ
+  pub output : List (List ℕ)
   pub comes : ComesTo c asks (λ o. o.Shows (Some (Faulted fault)) told output)
-  pub took : TookAll c.out_before output c.out_after
-  pub says : Says c.err_before (joined told ++ fault_line fault) c.err_after
+  pub took : WritesAll c.out_before output c.out_after
+  pub says : Puts c.err_before (told ++ fault_line fault ∷ []) c.err_after
 
 -- 3: the program was interpreted and goes on after the steps, or was run and the machine goes on after as many words, and the
 -- output took all that is put.
@@ -59,10 +61,10 @@ pub record GoesOn (c : Call) : Type 0 where
   pub asks : Asks c.words
   pub steps : ℕ
   pub told : List (List ℕ)
-  pub output : List ℕ
+  pub output : List (List ℕ)
   pub comes : ComesTo c asks (λ o. (steps ≡ o.steps) × o.Shows None told output)
-  pub took : TookAll c.out_before output c.out_after
-  pub says : Says c.err_before (joined told ++ spent_line steps) c.err_after
+  pub took : WritesAll c.out_before output c.out_after
+  pub says : Puts c.err_before (told ++ spent_pieces steps) c.err_after
 
 -- 64: the words are not those of a command. No file was read.
 pub record Misused (c : Call) : Type 0 where
@@ -70,22 +72,22 @@ pub record Misused (c : Call) : Type 0 where
   pub unasked : words_read c.words ≡ Err misuse
   pub unread : c.files_after ≡ c.files_before
   pub kept : c.passes.after ≡ c.passes.before
-  pub alone : SaysAlone c (misuse_line misuse)
+  pub alone : SaysAlone c (misuse_line misuse ∷ [])
 
 -- 65: the file's bytes read as no tree; or the command needs a program, and the tree has imports, or a fault of a
--- name, or a program that isn't accepted.
+-- name, or a program that isn't accepted. No pass ran.
 pub record FormlessFile (c : Call) (path : List ℕ) : Type 0 where
   pub bytes : List ℕ
   pub file : IsFile c.files_before path bytes
   pub imports : HasImports (format_of path) bytes
-  pub alone : SaysAlone c (form_line path)
+  pub alone : SaysAlone c (form_pieces path)
 
 pub record MisnamedFile (c : Call) (path : List ℕ) : Type 0 where
   pub bytes : List ℕ
   pub file : IsFile c.files_before path bytes
   pub fault : NameFault
   pub only : HasOnlyNameFault (format_of path) bytes fault
-  pub alone : SaysAlone c (misnamed_line fault)
+  pub alone : SaysAlone c (misnamed_pieces fault)
 
 pub record UnacceptedFile (c : Call) (path : List ℕ) : Type 0 where
   pub bytes : List ℕ
@@ -94,32 +96,35 @@ pub record UnacceptedFile (c : Call) (path : List ℕ) : Type 0 where
   pub source : IsOnlySource (format_of path) bytes program
   pub fault : CheckFault
   pub only : HasOnlyCheckFault program fault
-  pub alone : SaysAlone c (unaccepted_line program fault)
+  pub alone : SaysAlone c (unaccepted_pieces program fault)
 
 pub record MisreadFile (c : Call) (path : List ℕ) : Type 0 where
   pub bytes : List ℕ
   pub file : IsFile c.files_before path bytes
   pub fault : SourceFault
   pub only : IsOnlyFault (format_of path) bytes fault
-  pub alone : SaysAlone c (misread_line path fault)
+  pub alone : SaysAlone c (misread_pieces path fault)
 
 pub record SourceRefused (c : Call) : Type 0 where
   pub asks : Asks c.words
+  pub unused : AreUnused c.passes
   pub because : MisreadFile c asks.path ⊎ (NeedsProgram (command asks.action) × (FormlessFile c asks.path ⊎ (MisnamedFile c asks.path ⊎ UnacceptedFile c asks.path)))
 
--- 66: reading failed, or the files are told and lack the path.
+-- 66: reading failed, or the files are told and lack the path. No pass ran.
 pub record CannotRead (c : Call) : Type 0 where
   pub asks : Asks c.words
+  pub unused : AreUnused c.passes
   pub fails : MayFail c.files_before c.files_after asks.path
-  pub alone : SaysAlone c (unread_line asks.path)
+  pub alone : SaysAlone c (unread_pieces asks.path)
 
--- 68: the file has too many bytes, or a pass may make too many items, or the program that is to be run or emitted has too many words
--- of code or of stack.
+-- 68: the file has too many bytes, and no pass ran; or a pass may make too many items, or the program that is to be run or emitted has
+-- too many words of code or of stack.
 pub record LongFile (c : Call) (path : List ℕ) : Type 0 where
   pub bytes : List ℕ
   pub held : MayHold c.files_before.holds path bytes
   pub long : most_bytes < length bytes
-  pub alone : SaysAlone c (codes "too large: bytes\n")
+  pub unused : AreUnused c.passes
+  pub alone : SaysAlone c (codes "too large: bytes\n" ∷ [])
 
 pub record LongPass (c : Call) (asks : Asks c.words) : Type 0 where
   pub takes : takes_passes (command asks.action) ≡ true
@@ -128,19 +133,19 @@ pub record LongPass (c : Call) (asks : Asks c.words) : Type 0 where
   pub place : ℕ
   pub bound : ℕ
   pub refused : IsRefusedPass c.passes program place bound
-  pub alone : SaysAlone c (pass_line place bound)
+  pub alone : SaysAlone c (pass_pieces place bound)
 
 -- The program has too many words of code, or it has few enough and needs too many words of stack.
 pub record HasLongCode (c : Call) (q : Prog) : Type 0 where
   pub long : most_words < word_bounds q
-  pub alone : SaysAlone c (code_line (capped (word_bounds q)))
+  pub alone : SaysAlone c (code_pieces (capped (word_bounds q)))
 
 pub record HasLongStack (c : Call) (q : Prog) (limits : Limits) : Type 0 where
   pub short_code : word_bounds q ≤ most_words
   pub stack : ℕ
   pub size : IsStackSize q limits stack
   pub long : most_stack < stack
-  pub alone : SaysAlone c (stack_line (capped stack))
+  pub alone : SaysAlone c (stack_pieces (capped stack))
 
 pub record LongProgram (c : Call) (asks : Asks c.words) : Type 0 where
   pub limits : Limits
@@ -155,7 +160,7 @@ pub record TooLarge (c : Call) : Type 0 where
   pub asks : Asks c.words
   pub because : LongFile c asks.path ⊎ (LongProgram c asks ⊎ LongPass c asks)
 
--- 69: the file reads as an accepted program, and the arguments don't fit it.
+-- 69: the file reads as an accepted program, and the arguments don't fit it. No pass ran.
 pub record Misargued (c : Call) : Type 0 where
   pub asks : Asks c.words
   pub gives : GivesArguments (command asks.action)
@@ -163,7 +168,8 @@ pub record Misargued (c : Call) : Type 0 where
   pub file : IsProgramFile c.files_before asks.path program
   pub fault : ArgFault
   pub only : HasOnlyArgFault (main_types program) asks.args fault
-  pub alone : SaysAlone c (argument_line fault)
+  pub unused : AreUnused c.passes
+  pub alone : SaysAlone c (argument_pieces fault)
 
 -- 70: no pass answers to a name of the list, this one being the first such; no pass ran.
 pub record UnknownPass (c : Call) : Type 0 where
@@ -173,27 +179,34 @@ pub record UnknownPass (c : Call) : Type 0 where
   pub file : IsProgramFile c.files_before asks.path program
   pub place : ℕ
   pub unknown : IsFirstUnknown c.passes (Some place)
-  pub unused : map c.passes.counts c.passes.after ≡ map c.passes.counts c.passes.before
-  pub alone : SaysAlone c (unknown_pass_line place)
+  pub unused : AreUnused c.passes
+  pub alone : SaysAlone c (unknown_pass_pieces place)
+
+-- The command gave its program to the list of passes, of which the first ones ran.
+pub record ListBegan (c : Call) (asks : Asks c.words) : Type 0 where
+  pub takes : takes_passes (command asks.action) ≡ true
+  pub program : Prog
+  pub file : IsProgramFile c.files_before asks.path program
+  pub cut : IsCutOff c.passes program
 
 -- 71: memory ran out, and nothing was put but what the command may have put by then; for `run` before the first word was executed,
--- and for `emit` before the first was written.
+-- and for `emit` before the first was written. No pass ran, or the list was begun.
 pub record Exhausted (c : Call) : Type 0 where
   pub asks : Asks c.words
-  pub leaves : (c.out_after ≡ c.out_before) ⊎ ((output : List ℕ) × ComesTo c asks (λ o. o.Exhausts output) × TookAll c.out_before output c.out_after)
-  pub says : Says c.err_before (codes "out of memory\n") c.err_after
+  pub tallies : AreUnused c.passes ⊎ ListBegan c asks
+  pub leaves : (c.out_after ≡ c.out_before) ⊎ ((output : List (List ℕ)) × ComesTo c asks (λ o. o.Exhausts output) × WritesAll c.out_before output c.out_after)
+  pub says : Puts c.err_before (codes "out of memory\n" ∷ []) c.err_after
 
--- 74: a write to the output failed, which took the first of what the command puts there.
+-- 74: a put on the output failed, the last of what the command put there; or it took all, and failed to hand on what it held back.
 pub record CannotWrite (c : Call) : Type 0 where
   pub asks : Asks c.words
   pub ended : Option End
   pub untold : List (List ℕ)
   pub told : List (List ℕ)
-  pub output : List ℕ
+  pub output : List (List ℕ)
   pub comes : ComesTo c asks (λ o. (told ≡ o.unwritten) × o.Shows ended untold output)
-  pub took : TookSome c.out_before output c.out_after
-  pub rose : Rose c.out_before.faults c.out_after.faults
-  pub says : Says c.err_before (joined told ++ codes "cannot write\n") c.err_after
+  pub took : WritesSome c.out_before output c.out_after
+  pub says : Puts c.err_before (told ++ codes "cannot write\n" ∷ []) c.err_after
 
 -- What a status says of the call; there are no others.
 abbrev pub Answers : ℕ → Call → Type 0
@@ -216,32 +229,32 @@ Answers status c =
 abbrev pub MisreadWhere : ℕ → Call → Type 0
 MisreadWhere number c =
     (action : Action) (bytes : List ℕ) (fault : SourceFault) (reads : ReadsWell c action bytes) → length bytes ≤ most_bytes → HasFault (format_of reads.path) bytes fault →
-    UnlessMemory number ((number ≡ 65) × Says c.err_before (misread_line reads.path fault) c.err_after)
+    UnlessMemory number ((number ≡ 65) × Puts c.err_before (misread_pieces reads.path fault) c.err_after)
 
 -- The names' fault is told.
 abbrev pub MisnamedWhere : ℕ → Call → Type 0
 MisnamedWhere number c =
     (action : Action) → NeedsProgram (command action) → (bytes : List ℕ) (fault : NameFault) (reads : ReadsWell c action bytes) → length bytes ≤ most_bytes → HasNameFault (format_of reads.path) bytes fault →
-    UnlessMemory number ((number ≡ 65) × Says c.err_before (misnamed_line fault) c.err_after)
+    UnlessMemory number ((number ≡ 65) × Puts c.err_before (misnamed_pieces fault) c.err_after)
 
 -- The checker's fault is told.
 abbrev pub UncheckedWhere : ℕ → Call → Type 0
 UncheckedWhere number c =
     (action : Action) → NeedsProgram (command action) → (bytes : List ℕ) (program : Prog) (fault : CheckFault) (reads : ReadsWell c action bytes) → length bytes ≤ most_bytes → IsSource (format_of reads.path) bytes program →
-    checker.HasFault program fault → UnlessMemory number ((number ≡ 65) × Says c.err_before (unaccepted_line program fault) c.err_after)
+    checker.HasFault program fault → UnlessMemory number ((number ≡ 65) × Puts c.err_before (unaccepted_pieces program fault) c.err_after)
 
 -- A file with imports, whose program isn't built yet, is told.
 abbrev pub FormlessWhere : ℕ → Call → Type 0
 FormlessWhere number c =
     (action : Action) → NeedsProgram (command action) → (bytes : List ℕ) (reads : ReadsWell c action bytes) → length bytes ≤ most_bytes → HasImports (format_of reads.path) bytes →
-    UnlessMemory number ((number ≡ 65) × Says c.err_before (form_line reads.path) c.err_after)
+    UnlessMemory number ((number ≡ 65) × Puts c.err_before (form_pieces reads.path) c.err_after)
 
 -- Arguments that don't fit an accepted program are told.
 abbrev pub MisarguedWhere : ℕ → Call → Type 0
 MisarguedWhere number c =
     (action : Action) → GivesArguments (command action) → (bytes : List ℕ) (program : Prog) (fault : ArgFault) (reads : ReadsWell c action bytes) → length bytes ≤ most_bytes →
     IsSource (format_of reads.path) bytes program → IsAccepted program → fault ≢ Memory → IsFaultOf (main_types program) reads.args fault →
-    UnlessMemory number ((number ≡ 69) × Says c.err_before (argument_line fault) c.err_after)
+    UnlessMemory number ((number ≡ 69) × Puts c.err_before (argument_pieces fault) c.err_after)
 
 -- No file is at the path.
 abbrev pub LackingWhere : ℕ → Call → Type 0
@@ -267,7 +280,7 @@ pub record Promises (status : ℕ) (c : Call) : Type 0 where
   pub size : status ≡ 68 → TooLarge c
   pub argued : status ≡ 69 → Misargued c
   pub unknown : status ≡ 70 → UnknownPass c
-  pub write : status ≡ 74 → Rose c.out_before.faults c.out_after.faults
+  pub write : status ≡ 74 → CannotWrite c
   pub silent : 64 ≤ status → status ≤ 70 → c.out_after ≡ c.out_before
   -- when each status comes; out of memory, 71 comes in place of all but 64
   pub misused : (status ≡ 64) ↔ AskNothing c.words

@@ -1,11 +1,11 @@
 -- The arguments of a program: the values that words spell, or why they spell none.
-use Rattle.std.specs.Prelude.{ℕ, ◌≡◌, ◌≢◌, ◌⊎◌, ◌≤◌, List, length, Option, codes, ◌^◌}
+use Rattle.std.specs.Prelude.{ℕ, ◌≡◌, ◌≢◌, ◌⊎◌, ◌≤◌, List, [], ◌∷◌, length, Option, codes, ◌^◌}
 use Rattle.bril_arguments.specs.Faults.{IsFaultOf}
 use Rattle.bril_arguments.specs.Spelled.{AreSpelled}
 use Rattle.bril_arguments.specs.declared.fault.ArgFault.TheVariants as argument
 use Rattle.bril_arguments.specs.declared.fault.ArgFault.TheVariants.{Memory, Count, Spelling}
 use Rattle.bril_arguments.specs.declared.fault.ArgFault.{ArgFault}
-use Rattle.bril_report.specs.Lines.{count_line, spelling_line}
+use Rattle.bril_report.specs.Report.{count_pieces, spelling_pieces}
 use Rattle.bril_report.specs.declared.status.Status.TheVariants as status
 use Rattle.bril_report.specs.declared.status.Status.{Status}
 use Rattle.bril_tree.specs.Run.{main_types}
@@ -38,7 +38,7 @@ RefusesArgs status.OutOfMemory p args = (2 ^ 32 ≤ length args) ⊎ IsFaultOf (
 RefusesArgs _ p args = ⊥
 
 -- the line of a fault of the arguments
-abbrev pub argument_line : ArgFault → List ℕ
-argument_line (Count given wanted) = count_line given wanted
-argument_line (Spelling place) = spelling_line place
-argument_line Memory = codes "out of memory\n"
+abbrev pub argument_pieces : ArgFault → List (List ℕ)
+argument_pieces (Count given wanted) = count_pieces given wanted
+argument_pieces (Spelling place) = spelling_pieces place
+argument_pieces Memory = codes "out of memory\n" ∷ []

@@ -1,9 +1,10 @@
 -- What is seen of a call of the top call, and what it reads of its file.
-use Rattle.std.specs.Prelude.{ℕ, ◌≡◌, ◌⊎◌, List, [], ◌++◌, Option, Some, None}
+use Rattle.std.specs.Prelude.{ℕ, ◌≡◌, ◌⊎◌, List, [], ◌∷◌, ◌++◌, Option, Some, None}
 use Rattle.bril_outside.specs.Files.{FilesSeen, LacksFile}
-use Rattle.bril_outside.specs.Sink.{SinkSeen, Rose, joined}
-use Rattle.bril_report.specs.Lines.{fault_line, spent_line}
-use Rattle.bril_report.specs.Report.{Says}
+use Rattle.bril_outside.specs.Sink.{SinkSeen, Rose}
+use Rattle.bril_report.specs.Lines.{fault_line}
+use Rattle.bril_report.specs.Puts.{Puts}
+use Rattle.bril_report.specs.Report.{spent_pieces}
 use Rattle.bril_tree.specs.declared.limits.End.TheVariants.{Ended, Faulted}
 use Rattle.bril_tree.specs.declared.limits.End.{End}
 use Rattle.bril_tree.specs.declared.program.Prog.{Prog}
@@ -45,10 +46,10 @@ call_of words files files' out out' err err' meaning counts passes passes' = rec
   passes = pass_list meaning counts passes passes' (names_of (list_asked (words_read words)));
 }
 
--- nothing was put on the output, and this line on the error output
-pub record SaysAlone (c : Call) (line : List ℕ) : Type 0 where
+-- nothing was put on the output, and this line on the error output, in these pieces
+pub record SaysAlone (c : Call) (line : List (List ℕ)) : Type 0 where
   pub silent : c.out_after ≡ c.out_before
-  pub says : Says c.err_before line c.err_after
+  pub says : Puts c.err_before line c.err_after
 
 -- The words ask for this of a file that the files tell, with these bytes, and no read of it failed.
 pub record ReadsWell (c : Call) (action : Action) (bytes : List ℕ) : Type 0 where
@@ -69,9 +70,9 @@ UnlessMemory status answer = (status ≡ 71) ⊎ answer
 
 -- what is said of a run of so many steps, or words of the machine, that has ended so, None where it goes on, after what is told
 abbrev pub TellsRun : Option End → ℕ → List (List ℕ) → ℕ → Call → Type 0
-TellsRun None steps told number c = (number ≡ 3) × Says c.err_before (joined told ++ spent_line steps) c.err_after
-TellsRun (Some Ended) steps told number c = (number ≡ 0) × Says c.err_before (joined told) c.err_after × (told ≡ [] → c.err_after ≡ c.err_before)
-TellsRun (Some (Faulted fault)) steps told number c = (number ≡ 2) × Says c.err_before (joined told ++ fault_line fault) c.err_after
+TellsRun None steps told number c = (number ≡ 3) × Puts c.err_before (told ++ spent_pieces steps) c.err_after
+TellsRun (Some Ended) steps told number c = (number ≡ 0) × Puts c.err_before told c.err_after
+TellsRun (Some (Faulted fault)) steps told number c = (number ≡ 2) × Puts c.err_before (told ++ fault_line fault ∷ []) c.err_after
 
 -- ---- what a command comes to
 

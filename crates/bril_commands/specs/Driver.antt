@@ -9,13 +9,17 @@ use Rattle.bril_tree.specs.declared.value.Value.{Value}
 use Rattle.bril_commands.specs.Command.{Command, OnTree, OnProgram, OfProgram, Subject, AreGiven, RefusesGiven, Makes, RefusesMaking, FactorOf, Fits, RefusesEmission}
 use Rattle.bril_commands.specs.CommandLine.{format_of}
 use Rattle.bril_commands.specs.Outcome.{Works}
-use Rattle.bril_commands.specs.PassList.{PassList}
+use Rattle.bril_commands.specs.PassList.{PassList, AreUnused}
 use Rattle.bril_commands.specs.Source.{IsOnlyTree, IsFile}
 use Rattle.bril_commands.specs.Stages.{RefusesFile, RefusesTree, RefusesProgram, IsAcceptedProgram}
 
 -- nothing is told, and nothing is put
 abbrev pub IsSilent : List (List ℕ) → SinkSeen → SinkSeen → Type 0
 IsSilent told s t = (told ≡ []) × (t ≡ s)
+
+-- the same, and no pass ran
+abbrev pub IsIdle : PassList → List (List ℕ) → SinkSeen → SinkSeen → Type 0
+IsIdle l told s t = IsSilent told s t × AreUnused l
 
 -- A stage refuses, and there is silence; or it hands on something of which this holds, and the command goes on with it.
 abbrev pub Stage : {X : Type 0} → (Refuses : Type 0) → (Silent : Type 0) → (Is : X → Type 0) → ((x : X) → Is x → Type 0) → Type 0
@@ -34,7 +38,7 @@ subject does l p q makes values = record {
 -- what a command answers that works on an accepted program, with these arguments, and what it tells
 abbrev pub DoesProgram : OfProgram → Status → PassList → Prog → List (List ℕ) → List (List ℕ) → SinkSeen → SinkSeen → Type 0
 DoesProgram does how l p args told s t =
-    Stage (RefusesGiven does.arguments how p args) (IsSilent told s t) (λ values. AreGiven does.arguments p args values) (λ values given.
+    Stage (RefusesGiven does.arguments how p args) (IsIdle l told s t) (λ values. AreGiven does.arguments p args values) (λ values given.
     Stage (RefusesMaking does.takes_passes how l p) (IsSilent told s t) (λ q. Makes does.takes_passes l p q) (λ q makes.
     (RefusesEmission does.emission how q × IsSilent told s t) ⊎ (Fits does.emission q × Works (does.outcome (subject does l p q makes values)) how told s t)))
 
@@ -42,11 +46,11 @@ DoesProgram does how l p args told s t =
 abbrev pub DoesTree : Command → Status → PassList → Tree → List (List ℕ) → List (List ℕ) → SinkSeen → SinkSeen → Type 0
 DoesTree (OnTree outcome) how l tree args told s t = Works (outcome tree) how told s t
 DoesTree (OnProgram does) how l tree args told s t =
-    Stage (RefusesProgram how tree) (IsSilent told s t) (λ p. IsAcceptedProgram tree p) (λ p is. DoesProgram does how l p args told s t)
+    Stage (RefusesProgram how tree) (IsIdle l told s t) (λ p. IsAcceptedProgram tree p) (λ p is. DoesProgram does how l p args told s t)
 
 -- what a command answers on the file at a path
 abbrev pub DoesFile : Command → Status → PassList → FilesSeen → FilesSeen → List ℕ → List (List ℕ) → List (List ℕ) → SinkSeen → SinkSeen → Type 0
 DoesFile command how l f g path args told s t =
-    Stage (RefusesFile how f g path) (IsSilent told s t) (λ bytes. IsFile f path bytes) (λ bytes file.
-    Stage (RefusesTree how (format_of path) bytes) (IsSilent told s t) (λ tree. IsOnlyTree (format_of path) bytes tree) (λ tree only.
+    Stage (RefusesFile how f g path) (IsIdle l told s t) (λ bytes. IsFile f path bytes) (λ bytes file.
+    Stage (RefusesTree how (format_of path) bytes) (IsIdle l told s t) (λ tree. IsOnlyTree (format_of path) bytes tree) (λ tree only.
     DoesTree command how l tree args told s t))

@@ -1,6 +1,8 @@
--- What a command comes to: how its program ended, what is told on the error output, and what is put on the output.
-use Rattle.std.specs.Prelude.{ℕ, ◌≡◌, ◌⊎◌, List, [], Option, Some, None}
-use Rattle.bril_outside.specs.Sink.{SinkSeen, Rose, TookAll, TookSome}
+-- What a command comes to: how its program ended, what is told on the error output, and what is put on the output, in pieces of which
+-- each is one put.
+use Rattle.std.specs.Prelude.{ℕ, ◌≡◌, ◌⊎◌, List, [], ◌∷◌, Option, Some, None}
+use Rattle.bril_outside.specs.Sink.{SinkSeen}
+use Rattle.bril_report.specs.Puts.{PutsAll, WritesAll, WritesSome}
 use Rattle.bril_report.specs.declared.status.Status.TheVariants as status
 use Rattle.bril_report.specs.declared.status.Status.{Status}
 use Rattle.bril_tree.specs.declared.limits.End.TheVariants.{Ended, Faulted}
@@ -10,47 +12,52 @@ use Rattle.bril_tree.specs.declared.limits.End.{End}
 pub record Outcome : Type 1 where
   -- how many steps of the program, or words of the machine, are made at most
   pub steps : ℕ
-  -- The program has ended so, or goes on after the steps for None, this is told, in pieces of which each is one put, and this is put on
-  -- the output. A command that runs no program has ended.
-  pub Shows : Option End → List (List ℕ) → List ℕ → Type 0
+  -- The program has ended so, or goes on after the steps for None, this is told, and this is put on the output. A command that runs no
+  -- program has ended.
+  pub Shows : Option End → (told output : List (List ℕ)) → Type 0
   -- what may have been put where memory ran out after that
-  pub Exhausts : List ℕ → Type 0
+  pub Exhausts : (output : List (List ℕ)) → Type 0
   -- what is told where a write failed
   pub unwritten : List (List ℕ)
 
--- A text of which this holds is put, and this is told. No program is run.
-abbrev pub writes : List (List ℕ) → (List ℕ → Type 0) → Outcome
-writes told IsText = record {
+-- Pieces of which this holds are put, and this is told. No program is run.
+abbrev pub writes : List (List ℕ) → (List (List ℕ) → Type 0) → Outcome
+writes told IsOutput = record {
   steps = 0;
-  Shows = λ ended said output. (ended ≡ Some Ended) × (said ≡ told) × IsText output;
+  Shows = λ ended said output. (ended ≡ Some Ended) × (said ≡ told) × IsOutput output;
   Exhausts = λ output. ⊥;
   unwritten = told;
 }
 
--- This text is put, and nothing is told.
+-- This text is put by one put, and nothing is told.
 abbrev pub writes_text : List ℕ → Outcome
-writes_text text = writes [] (λ output. output ≡ text)
+writes_text text = writes [] (λ output. output ≡ text ∷ [])
 
 -- ---- what carrying out a command's work answers
 
--- This is told, and the output took all that is put.
-pub record ShowsWhole (o : Outcome) (ended : Option End) (told : List (List ℕ)) (s t : SinkSeen) : Type 0 where
-  pub output : List ℕ
+-- This is told, and the output took all that is put. It may hold some of it back.
+pub record ShowsPut (o : Outcome) (ended : Option End) (told : List (List ℕ)) (s t : SinkSeen) : Type 0 where
+  pub output : List (List ℕ)
   pub shows : o.Shows ended told output
-  pub took : TookAll s output t
+  pub puts : PutsAll s output t
 
--- A write failed, and the output took the first of what is put.
+-- This is told, and the output took all that is put, and handed it on.
+pub record ShowsWhole (o : Outcome) (ended : Option End) (told : List (List ℕ)) (s t : SinkSeen) : Type 0 where
+  pub output : List (List ℕ)
+  pub shows : o.Shows ended told output
+  pub took : WritesAll s output t
+
+-- A put failed, the last of them; or all was put, and the output failed to hand on what it held back.
 pub record ShowsPartly (o : Outcome) (s t : SinkSeen) : Type 0 where
   pub ended : Option End
   pub told : List (List ℕ)
-  pub output : List ℕ
+  pub output : List (List ℕ)
   pub shows : o.Shows ended told output
-  pub took : TookSome s output t
-  pub rose : Rose s.faults t.faults
+  pub took : WritesSome s output t
 
 -- what is left on the output where memory ran out
 abbrev pub StopsShort : Outcome → SinkSeen → SinkSeen → Type 0
-StopsShort o s t = (t ≡ s) ⊎ ((output : List ℕ) × o.Exhausts output × TookAll s output t)
+StopsShort o s t = (t ≡ s) ⊎ ((output : List (List ℕ)) × o.Exhausts output × WritesAll s output t)
 
 -- the status of a run that ended so, or goes on after so many steps, for None
 abbrev pub end_status : Option End → ℕ → Status
@@ -67,9 +74,9 @@ Works o status.CannotWrite told s t = (told ≡ o.unwritten) × ShowsPartly o s 
 Works o status.OutOfMemory told s t = (told ≡ []) × StopsShort o s t
 Works o _ told s t = ⊥
 
--- what writing a text by itself answers
-abbrev pub PutsText : Status → List ℕ → SinkSeen → SinkSeen → Type 0
-PutsText status.Done text s t = TookAll s text t
-PutsText status.CannotWrite text s t = TookSome s text t × Rose s.faults t.faults
-PutsText status.OutOfMemory text s t = t ≡ s
-PutsText _ text s t = ⊥
+-- what putting pieces by itself answers
+abbrev pub PutsPieces : Status → List (List ℕ) → SinkSeen → SinkSeen → Type 0
+PutsPieces status.Done pieces s t = WritesAll s pieces t
+PutsPieces status.CannotWrite pieces s t = WritesSome s pieces t
+PutsPieces status.OutOfMemory pieces s t = t ≡ s
+PutsPieces _ pieces s t = ⊥

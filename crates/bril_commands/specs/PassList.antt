@@ -5,7 +5,7 @@ use Rattle.bril_report.specs.Tallies.{tally_pieces}
 use Rattle.bril_report.specs.declared.status.Status.TheVariants as status
 use Rattle.bril_report.specs.declared.status.Status.{Status}
 use Rattle.bril_tree.specs.declared.program.Prog.{Prog}
-use Rattle.pass_law.specs.Chains.{or_else, first_answering, first_unknown, AreFactors, Ran, StoppedAt, AllSame}
+use Rattle.pass_law.specs.Chains.{or_else, first_answering, first_unknown, AreFactors, Ran, StoppedAt, CutOff, AllSame}
 use Rattle.pass_law.specs.Meaning.{Meaning}
 use Rattle.pass_law.specs.declared.tally.Tally.{Tally}
 
@@ -26,9 +26,18 @@ pass_list {B} meaning counts before after names = record { Box = B; meaning = me
 abbrev pub IsEmpty : Profile → Type 0
 IsEmpty profile = profile.entries ≡ []
 
+-- from 1, the place of the first name to which no pass answers, None where there is none
+abbrev pub IsFirstUnknown : PassList → Option ℕ → Type 0
+IsFirstUnknown l place = (profile : Profile) → first_unknown l.meaning l.before profile l.names ≡ place
+
+-- no pass ran: each has the tally that it had
+abbrev pub AreUnused : PassList → Type 0
+AreUnused l = map l.counts l.after ≡ map l.counts l.before
+
 -- The list made q of p, by the profile without entries: there is a chain from p to q with one link for each name, made by the
 -- first pass that answers to it. Each tally is the one before the call, grown by the links, and no pass has changed its meaning.
 pub record IsMade (l : PassList) (p q : Prog) : Type 0 where
+  pub known : IsFirstUnknown l None
   pub profile : Profile
   pub empty : IsEmpty profile
   pub ran : Ran l.meaning l.before profile l.counts l.names p q l.after
@@ -40,10 +49,6 @@ AreFactorsOf l p q made factor = AreFactors l.meaning l.before made.profile l.na
 
 -- ---- why a list makes no program
 
--- from 1, the place of the first name to which no pass answers, None where there is none
-abbrev pub IsFirstUnknown : PassList → Option ℕ → Type 0
-IsFirstUnknown l place = (profile : Profile) → first_unknown l.meaning l.before profile l.names ≡ place
-
 -- The passes before a place ran, from p on, and the pass of that place refuses the program that they made, for its bound on items.
 pub record IsRefusedPass (l : PassList) (p : Prog) (place bound : ℕ) : Type 0 where
   pub known : IsFirstUnknown l None
@@ -52,11 +57,19 @@ pub record IsRefusedPass (l : PassList) (p : Prog) (place bound : ℕ) : Type 0 
   pub at : Prog
   pub stopped : StoppedAt l.meaning l.before profile l.counts l.names p place bound at l.after
 
+-- The passes of the first names of the list ran, from p on, and each tally is the one before the call, grown by their links. Each name
+-- of the list is answered.
+pub record IsCutOff (l : PassList) (p : Prog) : Type 0 where
+  pub known : IsFirstUnknown l None
+  pub profile : Profile
+  pub empty : IsEmpty profile
+  pub cut : CutOff l.meaning l.before profile l.counts l.names p l.after
+
 -- why a list makes no program of p; a name that no pass answers to is found before any pass ran
 abbrev pub RefusesList : Status → PassList → Prog → Type 0
-RefusesList (status.UnknownPass place) l p = IsFirstUnknown l (Some place) × (map l.counts l.after ≡ map l.counts l.before)
+RefusesList (status.UnknownPass place) l p = IsFirstUnknown l (Some place) × AreUnused l
 RefusesList (status.PassTooLarge place bound) l p = IsRefusedPass l p place bound
-RefusesList status.OutOfMemory l p = Unit {0}
+RefusesList status.OutOfMemory l p = IsCutOff l p
 RefusesList _ l p = ⊥
 
 -- ---- what is told of tallies

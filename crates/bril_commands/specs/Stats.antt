@@ -1,10 +1,7 @@
 -- What `run --stats` tells of a run on the error output, before the line of the status.
 use Rattle.std.specs.Prelude.{◌≡◌, ℕ, Bool, true, false, List, [], ◌++◌, Option, Some}
 use Rattle.std.specs.List.{flat_map}
-use Rattle.bril_outside.specs.Sink.{SinkSeen, joined}
-use Rattle.bril_report.specs.Report.{Says, SaysStatus, status_line}
 use Rattle.bril_report.specs.Stats.{words_pieces, guard_pieces, function_name}
-use Rattle.bril_report.specs.declared.status.Status.{Status}
 use Rattle.bril_tree.specs.Run.{state_after}
 use Rattle.bril_tree.specs.declared.limits.End.{End}
 use Rattle.bril_tree.specs.declared.limits.Limits.{Limits}
@@ -14,8 +11,6 @@ use Rattle.rv64_implements.specs.Implements.{ListsGuards, CountsFailures, image_
 use Rattle.rv64_words.specs.State.{State}
 use Rattle.rv64_words.specs.declared.image.GuardAt.{GuardAt}
 use Rattle.rv64_words.specs.declared.image.Image.{Image}
-
--- ---- the lines
 
 -- how often a guard's word was executed
 abbrev pub guard_told : Prog → State → GuardAt → List (List ℕ)
@@ -38,10 +33,3 @@ pub record TellsStats (stats : Bool) (image : Image) (p : Prog) (limits : Limits
   pub guards : ListsGuards image.guards p
   pub counts : (n : ℕ) (end : End) → ended ≡ Some end → (state_after p limits values n).ended ≡ Some end →
       CountsFailures image.guards (state_after p limits values n) (image_after image limits values words)
-
--- ---- on the error output
-
--- What is told was put, and then the line of a status, up to a put that failed.
-pub record SaysTold (told : List (List ℕ)) (how : Status) (path : List ℕ) (e f : SinkSeen) : Type 0 where
-  pub all : Says e (joined told ++ status_line how path) f
-  pub plain : told ≡ [] → SaysStatus how path e f

@@ -1,8 +1,9 @@
 -- When a command's work is done: once its file is read well, unless a stage has its cause.
 use Rattle.std.specs.Prelude.{ℕ, ◌≡◌, ◌⊎◌, ◌≤◌, Bool, true, false, List, [], length, Option, Some}
 use Rattle.bril_arguments.specs.Spelled.{AreSpelled}
-use Rattle.bril_outside.specs.Sink.{Rose, TookAll}
-use Rattle.bril_report.specs.Lines.{pass_line, unknown_pass_line}
+use Rattle.bril_outside.specs.Sink.{Rose}
+use Rattle.bril_report.specs.Puts.{WritesAll}
+use Rattle.bril_report.specs.Report.{pass_pieces, unknown_pass_pieces}
 use Rattle.bril_tree.specs.Accepted.{IsAccepted}
 use Rattle.bril_tree.specs.Run.{main_types}
 use Rattle.bril_tree.specs.declared.limits.End.{End}
@@ -34,7 +35,7 @@ pub record StopsUnknown (number : ℕ) (c : Call) : Type 0 where
   pub place : ℕ
   pub unknown : IsFirstUnknown c.passes (Some place)
   pub is : number ≡ 70
-  pub alone : SaysAlone c (unknown_pass_line place)
+  pub alone : SaysAlone c (unknown_pass_pieces place)
 
 -- The pass of the name at this place refuses the program that it was given, for its bound on items.
 pub record StopsTooLarge (number : ℕ) (c : Call) (p : Prog) : Type 0 where
@@ -42,7 +43,7 @@ pub record StopsTooLarge (number : ℕ) (c : Call) (p : Prog) : Type 0 where
   pub bound : ℕ
   pub refused : IsRefusedPass c.passes p place bound
   pub is : number ≡ 68
-  pub alone : SaysAlone c (pass_line place bound)
+  pub alone : SaysAlone c (pass_pieces place bound)
 
 -- why the list makes no program
 abbrev pub StopsMaking : Bool → ℕ → Call → Prog → Type 0
@@ -65,10 +66,10 @@ AfterEmission (ImageFor frames cells) number q Does =
 pub record IsDone (number : ℕ) (c : Call) (o : Outcome) : Type 0 where
   pub ended : Option End
   pub told : List (List ℕ)
-  pub output : List ℕ
+  pub output : List (List ℕ)
   pub shows : o.Shows ended told output
   pub says : TellsRun ended o.steps told number c
-  pub took : TookAll c.out_before output c.out_after
+  pub took : WritesAll c.out_before output c.out_after
 
 -- it is done where no write failed
 abbrev pub IsDoneUnless : ℕ → Call → Outcome → Type 0

@@ -1,5 +1,5 @@
 -- What contracts see of an interpreter.
-use Rattle.std.specs.Prelude.{ℕ, ◌≡◌, Bool, List, [], ◌∷◌, length, map, Option, Some, None, slice_index, slice_index_or}
+use Rattle.std.specs.Prelude.{ℕ, ◌≡◌, ◌-◌, ◌^◌, min, Bool, List, [], ◌∷◌, length, map, Option, Some, None, slice_index, slice_index_or}
 use Rattle.std.specs.List.{AllByRecursion}
 use Rattle.bril_tree.specs.declared.limits.End.{End}
 use Rattle.bril_tree.specs.declared.limits.Limits.{Limits}
@@ -61,9 +61,9 @@ running_frame (Some how) frames = None
 abbrev pub newest_frame : State → Option Frame
 newest_frame s = running_frame s.ended s.frames
 
--- where a frame stands, and how many saves it has
+-- where a frame stands, and how many saves it has, a number that stays at the greatest of 32 bits
 abbrev pub place_in : Frame → Here
-place_in f = record { func = f.function; item = f.point; depth = length f.saves }
+place_in f = record { func = f.function; item = f.point; depth = min (length f.saves) (2 ^ 32 - 1) }
 
 -- a variable of a frame
 abbrev pub value_in : ℕ → Option Frame → Option Value

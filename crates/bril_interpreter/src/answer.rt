@@ -16,7 +16,8 @@ pub enum StepAnswer {
 }
 
 /// Where a run stands: the newest frame's function, its point, which is the number of an item or, at the function's
-/// end, the number of items, and how many saves the frame has.
+/// end, the number of items, and how many saves the frame has, which stays at `u32::MAX`. In an accepted program no frame
+/// has more than eight.
 #[derive(Clone, Copy, PartialEq, Eq, Debug, Drop)]
 pub struct Here {
     pub func: u32,

@@ -98,7 +98,7 @@ impl<'a> Interp<'a> {
         Some(Here {
             func: self.newest.function(),
             item: self.newest.point() as u32,
-            depth: self.newest.depth() as u32,
+            depth: self.newest.depth().min(u32::MAX as usize) as u32,
         })
     }
 

@@ -21,16 +21,12 @@ impl<'a> Interp<'a> {
         self.newest.advance();
     }
 
-    // The locations as they are become the newest save. Nothing changes where memory is wanting, or where there would be
-    // more saves than `u32::MAX`.
+    // The locations as they are become the newest save. Nothing changes where memory is wanting.
     pub(crate) fn speculate(&mut self) -> Result<(), AllocError>
         requires { IsAtItem self.old }
         ensures ok { OnOk result (Makes self.old (under self.old speculates) self.new) }
         ensures err { OnErr result (self.new ≡ self.old) }
     {
-        if self.newest.depth() >= u32::MAX as usize {
-            return Err(AllocError);
-        }
         let alloc = *self.older.allocator();
         self.newest.save(alloc)?;
         self.newest.advance();

@@ -1,17 +1,11 @@
 -- What is told by pieces one after another.
 use Rattle.std.proofs.Common.{◌≡◌, ℕ, Bool, true, false, List, [], ◌∷◌, ◌++◌, refl, sym, ap, ◌∙◌, subst, inl, inr, true≢false}
-use Rattle.bril_outside.specs.Sink.{SinkSeen, Rose, TookSome, PutTimes, PutAll, PutSome, joined}
-use Rattle.bril_outside.proofs.SinkWrites.{PutAll-none, PutAll-append, PutSome-one, PutSome-longer, PutSome-after, PutSome-took}
-use Rattle.bril_report.specs.Report.{Says}
+use Rattle.bril_outside.specs.Sink.{SinkSeen, Rose, TookSome, PutTimes, PutAll, PutSome}
+use Rattle.bril_outside.proofs.SinkWrites.{PutAll-none, PutAll-append, PutSome-one, PutSome-longer, PutSome-after}
+use Rattle.bril_report.proofs.Puts.{no_pieces, a_piece}
+use Rattle.bril_report.specs.Puts.{Puts}
 use Rattle.bril_report.specs.Told.{Heard, Told, heard, Tells}
 use Rattle.bril_report.specs.declared.error_output.ErrorOutput.{ErrorOutput}
-
-no_pieces : (ps qs : List (List ℕ)) → ps ++ qs ≡ [] → (ps ≡ []) × (qs ≡ [])
-no_pieces [] qs e = (refl, e)
-no_pieces (p ∷ ps) qs e = cc
-
-a_piece : {p : List ℕ} {ps : List (List ℕ)} → p ∷ ps ≡ [] → ⊥
-a_piece e = cc
 
 module _ {e f g : Heard} {ps qs : List (List ℕ)} (one : Told e ps f) (two : Told f qs g) where
   all_of : (b : Bool) → f.failed ≡ b → e.failed ≡ false → g.failed ≡ false → PutAll e.seen (ps ++ qs) g.seen
@@ -51,16 +45,16 @@ Told-failure took times before failed = record {
   quiet = λ none. absurd (a_piece none);
 }
 
--- ---- what was said by it
+-- ---- what was put by it
 
 module _ {e f : Heard} {pieces : List (List ℕ)} (told : Told e pieces f) (before : e.failed ≡ false) where
-  says_by : (b : Bool) → f.failed ≡ b → Says e.seen (joined pieces) f.seen
-  says_by true failed = let some = told.some before failed in inr (PutSome-took some, some.rose)
-  says_by false failed = inl (told.all before failed).took
+  puts_by : (b : Bool) → f.failed ≡ b → Puts e.seen pieces f.seen
+  puts_by true failed = inr (told.some before failed)
+  puts_by false failed = inl (record { put = told.all before failed; quiet = λ none. ap (λ (h : Heard). h.seen) (told.quiet none) })
 
   -- from an output on which no put failed
-  pub Told-says : Says e.seen (joined pieces) f.seen
-  Told-says = says_by f.failed refl
+  pub Told-puts : Puts e.seen pieces f.seen
+  Told-puts = puts_by f.failed refl
 
 -- ---- by an output
 

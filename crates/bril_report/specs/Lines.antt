@@ -1,13 +1,11 @@
--- The lines on the error output.
-use Rattle.std.specs.Prelude.{ℕ, List, [], ◌++◌, Option, Some, None, codes, slice_get}
+-- What the lines on the error output are made of.
+use Rattle.std.specs.Prelude.{ℕ, List, [], Option, Some, None, codes, slice_get}
 use Rattle.std.specs.Fmt.{decimal}
 use Rattle.bril_tree.specs.declared.limits.Fault.{Fault}
 use Rattle.bril_tree.specs.declared.limits.Fault.TheVariants as fault
 use Rattle.bril_tree.specs.declared.numbered.VarInfo.{VarInfo}
 use Rattle.bril_tree.specs.declared.numbered_function.Func.{Func}
 use Rattle.bril_tree.specs.declared.program.Prog.{Prog}
-use Rattle.bril_checker.specs.declared.fault.CheckFault.{CheckFault}
-use Rattle.bril_checker.specs.declared.fault.CheckFault.TheVariants as check
 use Rattle.bril_json.specs.declared.fault.JsonFault.{JsonFault}
 use Rattle.bril_json.specs.declared.fault.JsonFault.TheVariants as json
 use Rattle.bril_names.specs.declared.fault.NameFault.{NameFault}
@@ -18,11 +16,6 @@ use Rattle.bril_words.specs.declared.misuse.Misuse.{Misuse}
 use Rattle.bril_words.specs.declared.misuse.Misuse.TheVariants.{Words, Value}
 use Rattle.bril_words.specs.declared.misuse.Setting.TheVariants.{Passes, Frames, Cells, Steps}
 use Rattle.bril_report.specs.declared.report.FaultPlace.{FaultPlace}
-use Rattle.bril_report.specs.declared.status.SourceFault.{SourceFault}
-use Rattle.bril_report.specs.declared.status.SourceFault.TheVariants.{Text, Json}
-
-abbrev pub form_line : List ℕ → List ℕ
-form_line path = path ++ codes ": form\n"
 
 -- the kind of a fault of the text, by its number
 abbrev pub text_front : TextFault → List ℕ
@@ -51,14 +44,6 @@ abbrev pub number_or_dash : Option ℕ → List ℕ
 number_or_dash None = codes "-"
 number_or_dash (Some n) = decimal n
 
--- a position, and what follows it on its line
-abbrev pub position_then : FaultPlace → List ℕ → List ℕ
-position_then position rest = number_or_dash position.func ++ codes " item " ++ (number_or_dash position.item ++ rest)
-
--- the end of a line that tells a position
-abbrev pub position_end : FaultPlace → List ℕ
-position_end position = position_then position (codes "\n")
-
 -- the kind of a fault of the JSON, by its number
 abbrev pub json_front : JsonFault → List ℕ
 json_front json.Syntax = codes ": json 1 function "
@@ -75,10 +60,6 @@ json_position (json.IntRange func item) = position_of (Some func) (Some item)
 json_position (json.Float func item) = position_of func item
 json_position (json.Deep func item) = position_of func item
 json_position json.Memory = position_of None None
-
-abbrev pub misread_line : List ℕ → SourceFault → List ℕ
-misread_line path (Text fault) = path ++ text_front fault ++ (decimal (text_position fault) ++ codes "\n")
-misread_line path (Json fault) = path ++ json_front fault ++ position_end (json_position fault)
 
 -- the kind of a fault of the names, by its number
 abbrev pub name_front : NameFault → List ℕ
@@ -99,10 +80,7 @@ name_position name.NoMain = position_of None None
 name_position (name.TwiceArg func) = position_of (Some func) None
 name_position name.Memory = position_of None None
 
-abbrev pub misnamed_line : NameFault → List ℕ
-misnamed_line fault = name_front fault ++ position_end (name_position fault)
-
--- ---- the line of a program that isn't accepted
+-- ---- names in the line of a program that isn't accepted
 
 abbrev pub name_of : Option VarInfo → List ℕ
 name_of None = []
@@ -115,36 +93,6 @@ name_in (Some f) variable = name_of (slice_get f.vars variable)
 -- the name of a variable of a function
 abbrev pub variable_name : Prog → ℕ → ℕ → List ℕ
 variable_name p func variable = name_in (slice_get p.funcs func) variable
-
--- the end of a line that tells a function and an item
-abbrev pub item_end : ℕ → ℕ → List ℕ
-item_end func item = position_end (position_of (Some func) (Some item))
-
--- the line of a variable of this name that may be unassigned
-abbrev pub unassigned_line : List ℕ → ℕ → ℕ → List ℕ
-unassigned_line name func item =
-    codes "check 3 function " ++ position_then (position_of (Some func) (Some item)) (codes " variable ") ++ (name ++ codes "\n")
-
--- the kind of a fault of the checker, by its number, and its position
-abbrev pub unaccepted_line : Prog → CheckFault → List ℕ
-unaccepted_line p (check.Types func item) = codes "check 1 function " ++ item_end func item
-unaccepted_line p (check.Arity func item) = codes "check 2 function " ++ item_end func item
-unaccepted_line p (check.MaybeUnassigned func item variable) = unassigned_line (variable_name p func variable) func item
-unaccepted_line p (check.Nest func item) = codes "check 4 function " ++ item_end func item
-unaccepted_line p (check.SpecCall func item) = codes "check 5 function " ++ item_end func item
-unaccepted_line p (check.NoReturn func item) = codes "check 6 function " ++ item_end func item
-unaccepted_line p check.MainType = codes "check 7 function " ++ position_end (position_of (Some p.main) None)
-unaccepted_line p (check.PrintPtr func item) = codes "check 8 function " ++ item_end func item
-unaccepted_line p check.Memory = codes "check 0 function - item -\n"
-
-abbrev pub unread_line : List ℕ → List ℕ
-unread_line path = codes "cannot read " ++ path ++ codes "\n"
-
-abbrev pub code_line : ℕ → List ℕ
-code_line words = codes "too large: code " ++ decimal words ++ codes "\n"
-
-abbrev pub stack_line : ℕ → List ℕ
-stack_line words = codes "too large: stack " ++ decimal words ++ codes "\n"
 
 -- a fault of a run, by its number and its name
 abbrev pub fault_line : Fault → List ℕ
@@ -159,26 +107,6 @@ fault_line fault.Frames = codes "fault 8 Frames\n"
 fault_line fault.Cells = codes "fault 9 Cells\n"
 fault_line fault.PtrRange = codes "fault 10 PtrRange\n"
 fault_line fault.Allocs = codes "fault 11 Allocs\n"
-
--- the steps that were made while the run goes on
-abbrev pub spent_line : ℕ → List ℕ
-spent_line steps = codes "spent " ++ decimal steps ++ codes "\n"
-
--- so many arguments, and how many `main` takes
-abbrev pub count_line : ℕ → ℕ → List ℕ
-count_line given wanted = (codes "arguments: " ++ decimal given) ++ (codes " given, " ++ decimal wanted ++ codes " wanted\n")
-
--- the position, from 1, of an argument that spells no value of its type
-abbrev pub spelling_line : ℕ → List ℕ
-spelling_line position = codes "argument " ++ decimal position ++ codes "\n"
-
--- the pass at a place, from 1, whose bound on items is too large
-abbrev pub pass_line : ℕ → ℕ → List ℕ
-pass_line place bound = (codes "too large: pass " ++ decimal place) ++ (codes " " ++ decimal bound ++ codes "\n")
-
--- the place, from 1, of a name that no pass answers to
-abbrev pub unknown_pass_line : ℕ → List ℕ
-unknown_pass_line place = codes "unknown pass " ++ decimal place ++ codes "\n"
 
 -- words that ask for nothing
 abbrev pub misuse_line : Misuse → List ℕ

@@ -1,10 +1,10 @@
 // What is told of how a command ended: its number, and its line on the error output.
 
-ghost use Rattle.std.specs.Prelude.{◌≡◌, false, [], ◌∷◌, ◌++◌, codes, None, Some};
+ghost use Rattle.std.specs.Prelude.{◌≡◌, [], ◌∷◌, ◌++◌, codes, None, Some};
 ghost use Rattle.std.specs.Fmt.{decimal};
 ghost use Rattle.bril_report.specs.Lines.{text_front, text_position, json_front, json_position, name_front, name_position, number_or_dash, position_of, variable_name, fault_line, misuse_line};
-ghost use Rattle.bril_report.specs.Report.{Says, status_number, SaysStatus, status_pieces, position_pieces, number_pieces, misread_pieces, misnamed_pieces, item_pieces, main_pieces, unassigned_pieces, unaccepted_pieces, count_pieces, pass_pieces};
-ghost use Rattle.bril_report.specs.Told.{Tells, heard};
+ghost use Rattle.bril_report.specs.Report.{status_number, status_pieces, position_pieces, number_pieces, misread_pieces, misnamed_pieces, item_pieces, main_pieces, unassigned_pieces, unaccepted_pieces, count_pieces, pass_pieces};
+ghost use Rattle.bril_report.specs.Told.{Tells};
 
 use crate::error_output::ErrorOutput;
 use crate::status::{SourceFault, Status};
@@ -51,20 +51,36 @@ pub fn status_number(status: &Status) -> u8
     }
 }
 
-/// Puts the line of a status, for the file at a path, on the error output: all of it, or the first of it where the output
-/// counts a fault, and nothing where a put failed before. Where all was done nothing is put.
+/// Puts the line of a status, for the file at a path, on the error output, in its pieces: all of them, or those up to one whose
+/// put fails, and nothing where a put failed before. Where all was done nothing is put.
 pub fn say<E: Sink>(err: &mut ErrorOutput<'_, E>, path: &Text, status: &Status)
-    ensures line { (heard E.seen err.old).failed ≡ false → SaysStatus status.now path.now (heard E.seen err.old).seen (heard E.seen err.new).seen }
-    ensures tells { Tells E.seen err.old (status_pieces status.now path.now) err.new }
+    ensures { Tells E.seen err.old (status_pieces status.now path.now) err.new }
 {
-    put_status(err, path, status);
+    match status {
+        Status::Done => {}
+        Status::Faulted { fault } => err.put(fault_line(*fault)),
+        Status::Spent { steps } => put_number(err, b"spent ", *steps),
+        Status::Misused { misuse } => err.put(misuse_line(*misuse)),
+        Status::Unsupported => err.put_all(&[path.as_bytes(), b": form\n"]),
+        Status::Misread { fault } => put_misread(err, path.as_bytes(), *fault),
+        Status::Misnamed { fault } => put_misnamed(err, *fault),
+        Status::Unaccepted { program, fault } => put_unaccepted(err, program, *fault),
+        Status::CannotRead => err.put_all(&[b"cannot read ", path.as_bytes(), b"\n"]),
+        Status::FileTooBig => err.put(b"too large: bytes\n"),
+        Status::CodeTooBig { words } => put_number(err, b"too large: code ", *words),
+        Status::StackTooBig { words } => put_number(err, b"too large: stack ", *words),
+        Status::PassTooLarge { place, bound } => put_bound(err, *place, *bound),
+        Status::ArgumentCount { given, wanted } => put_counts(err, *given, *wanted),
+        Status::BadArgument { position } => put_number(err, b"argument ", u64::from(*position)),
+        Status::UnknownPass { place } => put_number(err, b"unknown pass ", u64::from(*place)),
+        Status::OutOfMemory => err.put(b"out of memory\n"),
+        Status::CannotWrite => err.put(b"cannot write\n"),
+    }
 }
 
-/// Puts the line of words that ask for nothing on the error output: all of it, or the first of it where the output counts a
-/// fault, and nothing where a put failed before. The line is one put.
+/// Puts the line of words that ask for nothing on the error output by one put, and nothing where a put failed before.
 pub fn say_misuse<E: Sink>(err: &mut ErrorOutput<'_, E>, misuse: Misuse)
-    ensures line { (heard E.seen err.old).failed ≡ false → Says (heard E.seen err.old).seen (misuse_line misuse) (heard E.seen err.new).seen }
-    ensures tells { Tells E.seen err.old (misuse_line misuse ∷ []) err.new }
+    ensures { Tells E.seen err.old (misuse_line misuse ∷ []) err.new }
 {
     err.put(misuse_line(misuse));
 }
@@ -87,32 +103,6 @@ fn misuse_line(misuse: Misuse) -> &'static [u8]
         Misuse::Value {
             setting: Setting::Steps,
         } => b"usage: --steps\n",
-    }
-}
-
-// Puts the line of a status.
-fn put_status<E: Sink>(err: &mut ErrorOutput<'_, E>, path: &Text, status: &Status)
-    ensures { Tells E.seen err.old (status_pieces status.now path.now) err.new }
-{
-    match status {
-        Status::Done => {}
-        Status::Faulted { fault } => err.put(fault_line(*fault)),
-        Status::Spent { steps } => put_number(err, b"spent ", *steps),
-        Status::Misused { misuse } => err.put(misuse_line(*misuse)),
-        Status::Unsupported => err.put_all(&[path.as_bytes(), b": form\n"]),
-        Status::Misread { fault } => put_misread(err, path.as_bytes(), *fault),
-        Status::Misnamed { fault } => put_misnamed(err, *fault),
-        Status::Unaccepted { program, fault } => put_unaccepted(err, program, *fault),
-        Status::CannotRead => err.put_all(&[b"cannot read ", path.as_bytes(), b"\n"]),
-        Status::FileTooBig => err.put(b"too large: bytes\n"),
-        Status::CodeTooBig { words } => put_number(err, b"too large: code ", *words),
-        Status::StackTooBig { words } => put_number(err, b"too large: stack ", *words),
-        Status::PassTooLarge { place, bound } => put_bound(err, *place, *bound),
-        Status::ArgumentCount { given, wanted } => put_counts(err, *given, *wanted),
-        Status::BadArgument { position } => put_number(err, b"argument ", u64::from(*position)),
-        Status::UnknownPass { place } => put_number(err, b"unknown pass ", u64::from(*place)),
-        Status::OutOfMemory => err.put(b"out of memory\n"),
-        Status::CannotWrite => err.put(b"cannot write\n"),
     }
 }
 

@@ -11,7 +11,7 @@ use crate::branches::{Branches, all_branches};
 use crate::edges::{all_edges, all_preds};
 use crate::open_sites::all_sites;
 use crate::search::first_visits;
-use crate::sites::least_failing;
+use crate::sites::{Failing, judged};
 use bril_tree::edge::Edge;
 use bril_tree::numbered::Instr;
 use bril_tree::numbered_function::Func;
@@ -35,6 +35,16 @@ impl From<AllocError> for GraphFault {
 
     fn from(_fault: AllocError) -> GraphFault {
         GraphFault::Memory
+    }
+}
+
+impl From<Failing> for GraphFault {
+    ghost from_gives = { λ failing e. e ≡ Nest failing.point };
+
+    fn from(failing: Failing) -> GraphFault {
+        GraphFault::Nest {
+            point: failing.point,
+        }
     }
 }
 
@@ -104,9 +114,7 @@ impl Graph {
             → MatchResult result (λ _. ⊥) (λ fault. (fault ≡ Nest point) ⊎ (fault ≡ Memory)) }
     {
         let visits = first_visits(alloc, code, rows)?;
-        if let Some(point) = least_failing(code, rows, visits.as_slice()) {
-            return Err(GraphFault::Nest { point });
-        }
+        judged(code, rows, visits.as_slice())?;
         let sites = all_sites(alloc, visits.as_slice())?;
         let edges = all_edges(alloc, rows, sites.as_slice())?;
         let preds = all_preds(alloc, rows.len(), edges.as_slice())?;

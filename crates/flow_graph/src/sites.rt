@@ -1,6 +1,6 @@
 // Where the open sites fail.
 
-ghost use Rattle.std.specs.Prelude.{◌≡◌, ◌↔◌, ◌<◌, ◌^◌, ◌-◌, IsTrue, MatchOption, length, slice_get, Some};
+ghost use Rattle.std.specs.Prelude.{◌≡◌, ◌↔◌, ◌<◌, ◌^◌, ◌-◌, IsTrue, IfOk, IfErr, MatchOption, length, slice_get, Some};
 ghost use Rattle.bril_tree.specs.Sites.{AreSitesSound, needs_site};
 ghost use Rattle.flow_graph.specs.Graph.{IsLeastFailing};
 ghost use Rattle.flow_graph.specs.Faults.{IsLeastOf, lesser, Lacks, Brings, FailsAhead, FailsFrom};
@@ -12,9 +12,29 @@ use crate::visits::{MOST_SITES, Visit, visit_at, visit_behind};
 use bril_tree::numbered::Instr;
 use bril_tree::operation::Op;
 
-// The least point at which the open sites fail. `rows` are the branches from each point, and `visits` what the first
-// walk brings to each.
-pub fn least_failing(code: &[Instr], rows: &[Branches], visits: &[Option<Visit>]) -> Option<u32>
+/// The least point at which the open sites of a function fail.
+#[derive(Clone, Copy, Drop)]
+pub struct Failing {
+    pub point: u32,
+}
+
+/// Whether the open sites fail at no point; an error has the least point at which they do. `rows` are the branches from each
+/// point, and `visits` what the first walk brings to each. Takes no memory.
+pub fn judged(code: &[Instr], rows: &[Branches], visits: &[Option<Visit>]) -> Result<(), Failing>
+    requires rows { AreBranchRows code.now rows.now }
+    requires visits { AreVisits code.now visits.now }
+    requires few { length code.now < 2 ^ 32 - 1 }
+    ensures ok { IfOk result (λ _. AreSitesSound code.now) }
+    ensures err { IfErr result (λ failing. IsLeastFailing code.now failing.point) }
+{
+    match least_failing(code, rows, visits) {
+        None => Ok(()),
+        Some(point) => Err(Failing { point }),
+    }
+}
+
+// The least point at which the open sites fail.
+fn least_failing(code: &[Instr], rows: &[Branches], visits: &[Option<Visit>]) -> Option<u32>
     requires rows { AreBranchRows code.now rows.now }
     requires visits { AreVisits code.now visits.now }
     requires few { length code.now < 2 ^ 32 - 1 }

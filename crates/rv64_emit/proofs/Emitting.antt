@@ -16,6 +16,7 @@ use Rattle.slot_code.specs.Lowered.{IsLowered, IsLoweredFunction, lowered_item}
 use Rattle.rv64_layout.specs.Image.{joined, start_at, head_words, function_words_at, image_words, largest_frame, IsImageOf}
 use Rattle.rv64_layout.proofs.Bounding.{image_bounded, function_made}
 use Rattle.rv64_layout.proofs.Fitting.{item_fits, largest_is}
+use Rattle.rv64_layout.proofs.Guarding.{guards_counted}
 use Rattle.rv64_layout.proofs.Laid.{functions_length}
 use Rattle.rv64_emit_laws.proofs.Theorem.{implements}
 use Rattle.rv64_emit.specs.Tables.{SlotsFit}
@@ -24,6 +25,7 @@ use Rattle.rv64_emit.specs.Tables.{SlotsFit}
 pub record IsEmitted (p : Prog) (limits : Limits) (image : Image) : Type 0 where
   pub implements : Implements image p limits
   pub words : length image.words ≤ 250000
+  pub guards : length image.guards ≤ length image.words
   pub stack : IsStackSize p limits image.stack
 
 module _ (p : Prog) (slots : Slots) (limits : Limits) (accepted : IsAccepted p) (literals : AreLiteralsInRange p) (is : IsLowered p slots) (within : IsWithin p limits) where
@@ -42,12 +44,18 @@ module _ (p : Prog) (slots : Slots) (limits : Limits) (accepted : IsAccepted p) 
     few = few;
   }
 
-  -- the image has few words
-  words_few : (image : Image) → IsImageOf slots limits image → length image.words ≤ 250000
-  words_few image laid =
+  -- the image has few words, and no more guards
+  words_are : (image : Image) → IsImageOf slots limits image → length image.words ≡ start_at slots (length slots.funcs)
+  words_are image laid =
       let head = head_words limits (start_at slots slots.main) in
       let functions = joined (function_words_at slots) (length slots.funcs) in
-      omega (arith, few, ap length laid.words, length-map (image_words slots limits) encoded, length-append head functions, functions_length slots (length slots.funcs))
+      omega (arith, ap length laid.words, length-map (image_words slots limits) encoded, length-append head functions, functions_length slots (length slots.funcs))
+
+  words_few : (image : Image) → IsImageOf slots limits image → length image.words ≤ 250000
+  words_few image laid = omega (arith, few, words_are image laid)
+
+  guards_few : (image : Image) → IsImageOf slots limits image → length image.guards ≤ length image.words
+  guards_few image laid = omega (arith, words_are image laid, ap length laid.guards, guards_counted slots)
 
   -- the stack has the words of the largest frame, once for each frame
   pub stack_is : (stack : ℕ) → IsStackSize p limits stack → stack ≡ limits.frames * largest_frame slots
@@ -57,5 +65,6 @@ module _ (p : Prog) (slots : Slots) (limits : Limits) (accepted : IsAccepted p) 
   emitted stack size image laid = record {
     implements = implements p slots limits image accepted literals is within laid;
     words = words_few image laid;
+    guards = guards_few image laid;
     stack = subst (IsStackSize p limits) (sym (laid.stack ∙ sym (stack_is stack size))) size;
   }

@@ -12,11 +12,11 @@ use Rattle.bril_tree.specs.declared.program.Prog.{Prog}
 use Rattle.bril_tree.specs.FrameWords.{location_count}
 use Rattle.program_numbers.specs.ProgramNumbers.{IsLargestFrame}
 use Rattle.bril_tree.proofs.Elements.{zip-get, zip-long, get_inside, get_in, passes_in}
-use Rattle.rv64_implements.specs.WordBounds.{operation_bound, word_bound, word_bounds, IsStackSize, IsWithin}
+use Rattle.rv64_implements.specs.WordBounds.{has_fixed_bound, has_fixed_bounds, operation_bound, word_bound, word_bounds, IsStackSize, IsWithin}
 use Rattle.slot_code.specs.declared.slots.SlotFunction.{SlotFunction}
 use Rattle.slot_code.specs.declared.slots.Slots.{Slots}
 use Rattle.slot_code.specs.Lowered.{IsLowered, IsLoweredFunction}
-use Rattle.rv64_emit.specs.Bounds.{AreLocationsKnown, bound_with, locations_at, slot_count, is_told_item, is_told}
+use Rattle.rv64_emit.specs.Bounds.{AreLocationsKnown, bound_with, locations_at, slot_count}
 use Rattle.rv64_emit.specs.Refusal.{capped}
 use Rattle.std.proofs.lemmas.Option.{slice_get_within}
 
@@ -29,27 +29,27 @@ pub is_within : (p : Prog) (limits : Limits) (bound frame words : ℕ) → bound
 is_within p limits bound frame words bound_is few_words largest words_is few =
     record { code = omega arith; stack = words; size = stack_size p limits frame words largest words_is few; few = few }
 
--- ---- where bounds depend on no location
+-- ---- where bounds are one for all numbers of locations
 
-told_operation : (operation : Op) (dest : Option ℕ) (ty : _) (args funcs labels : List ℕ) (m n : ℕ) → is_told_item (Act dest ty operation args funcs labels) ≡ true → operation_bound operation m (length args) ≡ operation_bound operation n (length args)
-told_operation op.Speculate dest ty args funcs labels m n told = absurd (false≢true told)
-told_operation op.Guard dest ty args funcs labels m n told = absurd (false≢true told)
-told_operation _ dest ty args funcs labels m n told = refl
+fixed_operation : (operation : Op) (dest : Option ℕ) (ty : _) (args funcs labels : List ℕ) (m n : ℕ) → has_fixed_bound (Act dest ty operation args funcs labels) ≡ true → operation_bound operation m (length args) ≡ operation_bound operation n (length args)
+fixed_operation op.Speculate dest ty args funcs labels m n fixed = absurd (false≢true fixed)
+fixed_operation op.Guard dest ty args funcs labels m n fixed = absurd (false≢true fixed)
+fixed_operation _ dest ty args funcs labels m n fixed = refl
 
-told_item : (item : Instr) (m n : ℕ) → is_told_item item ≡ true → word_bound m item ≡ word_bound n item
-told_item (Label l) m n told = refl
-told_item (Const dest ty value) m n told = refl
-told_item (Act dest ty operation args funcs labels) m n told = told_operation operation dest ty args funcs labels m n told
+fixed_item : (item : Instr) (m n : ℕ) → has_fixed_bound item ≡ true → word_bound m item ≡ word_bound n item
+fixed_item (Label l) m n fixed = refl
+fixed_item (Const dest ty value) m n fixed = refl
+fixed_item (Act dest ty operation args funcs labels) m n fixed = fixed_operation operation dest ty args funcs labels m n fixed
 
-told_items : (items : List Instr) (m n : ℕ) → list_all is_told_item items ≡ true → sum_by (word_bound m) items ≡ sum_by (word_bound n) items
-told_items [] m n told = refl
-told_items (item ∷ items) m n told =
-    let parts = and_parts (is_told_item item) (list_all is_told_item items) told in
-    omega (arith, sum_by-cons (word_bound m) item items, sum_by-cons (word_bound n) item items, told_item item m n parts.0, told_items items m n parts.1)
+fixed_items : (items : List Instr) (m n : ℕ) → list_all has_fixed_bound items ≡ true → sum_by (word_bound m) items ≡ sum_by (word_bound n) items
+fixed_items [] m n fixed = refl
+fixed_items (item ∷ items) m n fixed =
+    let parts = and_parts (has_fixed_bound item) (list_all has_fixed_bound items) fixed in
+    omega (arith, sum_by-cons (word_bound m) item items, sum_by-cons (word_bound n) item items, fixed_item item m n parts.0, fixed_items items m n parts.1)
 
 -- without the numbers of locations
-pub told_known : (p : Prog) → is_told p ≡ true → (funcs : List SlotFunction) → AreLocationsKnown p funcs
-told_known p told funcs = λ k f at. (let all = passes_in (λ h. list_all is_told_item h.code) p.funcs f told (get_in p.funcs k f at) in let same = told_items f.code (locations_at funcs k) (location_count f) all in omega arith)
+pub fixed_known : (p : Prog) → has_fixed_bounds p ≡ true → (funcs : List SlotFunction) → AreLocationsKnown p funcs
+fixed_known p fixed funcs = λ k f at. (let all = passes_in (λ h. list_all has_fixed_bound h.code) p.funcs f fixed (get_in p.funcs k f at) in let same = fixed_items f.code (locations_at funcs k) (location_count f) all in omega arith)
 
 -- with the code over slots
 pub lowered_known : (p : Prog) (slots : Slots) → IsLowered p slots → AreLocationsKnown p slots.funcs

@@ -1,10 +1,7 @@
 -- The sum of the bounds on a program's words, as far as the numbers of its functions' locations are known.
-use Rattle.std.specs.Prelude.{◌≡◌, ℕ, ◌+◌, Bool, true, false, List, length, Option, Some, None, slice_get}
-use Rattle.std.specs.List.{list_all, sum_by}
-use Rattle.bril_tree.specs.declared.numbered.Instr.{Instr}
-use Rattle.bril_tree.specs.declared.numbered.Instr.TheVariants.{Act}
+use Rattle.std.specs.Prelude.{◌≡◌, ℕ, ◌+◌, List, length, Option, Some, None, slice_get}
+use Rattle.std.specs.List.{sum_by}
 use Rattle.bril_tree.specs.declared.numbered_function.Func.{Func}
-use Rattle.bril_tree.specs.declared.operation.Op.TheVariants as op
 use Rattle.bril_tree.specs.declared.program.Prog.{Prog}
 use Rattle.rv64_implements.specs.WordBounds.{word_bound, function_bound}
 use Rattle.slot_code.specs.declared.slots.SlotFunction.{SlotFunction}
@@ -24,13 +21,3 @@ bound_with locations f = 40 + sum_by (word_bound locations) f.code
 -- The bounds of all functions are those with these locations: all are known, or none matters.
 abbrev pub AreLocationsKnown : Prog → List SlotFunction → Type 0
 AreLocationsKnown p funcs = (k : ℕ) (f : Func) → slice_get p.funcs k ≡ Some f → bound_with (locations_at funcs k) f ≡ function_bound f
-
--- the bound of the item doesn't depend on the number of locations
-abbrev pub is_told_item : Instr → Bool
-is_told_item (Act dest ty op.Speculate args funcs labels) = false
-is_told_item (Act dest ty op.Guard args funcs labels) = false
-is_told_item _ = true
-
--- nor does that of any item of the program
-abbrev pub is_told : Prog → Bool
-is_told p = list_all (λ f. list_all is_told_item f.code) p.funcs

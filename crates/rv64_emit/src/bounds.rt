@@ -1,12 +1,13 @@
 // Whether a program's words and its stack are within their bounds.
 
-ghost use Rattle.std.specs.Prelude.{◌≡◌, ◌≢◌, ◌+◌, ◌*◌, ◌≤◌, ◌<◌, ℕ, List, Some, IsTrue, IfOk, IfErr, length, slice_get};
+ghost use Rattle.std.specs.Prelude.{◌≡◌, ◌≢◌, ◌+◌, ◌*◌, ◌≤◌, ◌<◌, ℕ, List, Some, IsTrue, IfOk, IfErr, OnOk, length, slice_get};
 ghost use Rattle.bril_tree.specs.declared.numbered_function.Func.{Func};
 ghost use Rattle.program_numbers.specs.ProgramNumbers.{IsLargestFrame};
 ghost use Rattle.std.specs.List.{list_all};
-ghost use Rattle.rv64_emit.specs.Bounds as bounds;
-ghost use Rattle.rv64_emit.specs.Bounds.{is_told_item, AreLocationsKnown, bound_with, locations_at};
+ghost use Rattle.rv64_emit.specs.Bounds.{AreLocationsKnown, bound_with, locations_at};
 ghost use Rattle.rv64_emit.specs.Refusal.{capped, EmitRefuses};
+ghost use Rattle.rv64_emit.specs.declared.EmitFault.TheVariants.{Memory};
+ghost use Rattle.rv64_implements.specs.WordBounds as bounds;
 ghost use Rattle.rv64_implements.specs.WordBounds.{operation_bound, word_bound, word_bounds, IsStackSize, IsWithin};
 
 use crate::EmitFault;
@@ -97,11 +98,11 @@ fn program_bound(prog: &Prog, funcs: &[SlotFunction]) -> u64
     bound
 }
 
-// ---- what is told without memory
+// ---- bounds that are one for all numbers of locations
 
-// Whether the bound of an item doesn't depend on the number of locations.
-fn is_item_told(item: &Instr) -> bool
-    ensures { result ≡ is_told_item item.now }
+// Whether the bound of an item is.
+fn has_fixed_bound(item: &Instr) -> bool
+    ensures { result ≡ bounds.has_fixed_bound item.now }
 {
     match item {
         Instr::Act { op, .. } => match op {
@@ -112,21 +113,24 @@ fn is_item_told(item: &Instr) -> bool
     }
 }
 
-// Whether no bound of a function's items does.
-fn is_function_told(func: &Func) -> bool
-    ensures { result ≡ list_all is_told_item func.now.code }
+// Whether those of a function's items are.
+fn has_fixed_items(func: &Func) -> bool
+    ensures { result ≡ list_all bounds.has_fixed_bound func.now.code }
 {
-    func.code.as_slice().iter().all(|item| is_item_told(item))
+    func.code
+        .as_slice()
+        .iter()
+        .all(|item| has_fixed_bound(item))
 }
 
-/// Whether no bound of a program's items depends on the numbers of locations.
-pub fn is_told(prog: &Prog) -> bool
-    ensures { result ≡ bounds.is_told prog.now }
+// Whether those of all items of a program are.
+fn has_fixed_bounds(prog: &Prog) -> bool
+    ensures { result ≡ bounds.has_fixed_bounds prog.now }
 {
     prog.funcs
         .as_slice()
         .iter()
-        .all(|func| is_function_told(func))
+        .all(|func| has_fixed_items(func))
 }
 
 // ---- the stack
@@ -143,7 +147,7 @@ fn largest_frame(checked: &Checked) -> u64
 }
 
 /// The words of the program's stack, if its words and its stack are within their bounds. The code over slots tells the numbers
-/// of locations, where bounds depend on them. Takes no memory.
+/// of locations, where bounds depend on them. Takes no memory, and so is never out of it.
 pub fn stack_within(
     checked: &Checked,
     funcs: &[SlotFunction],
@@ -153,6 +157,7 @@ pub fn stack_within(
     ensures within { IfOk result (λ _. IsWithin checked.now.prog limits) }
     ensures stack { IfOk result (IsStackSize checked.now.prog limits) }
     ensures fault { IfErr result (EmitRefuses checked.now.prog limits) }
+    ensures memory { IfErr result (λ fault. fault ≢ Memory) }
 {
     let words = program_bound(checked.prog(), funcs);
     if words > MOST_WORDS as u64 {
@@ -163,4 +168,17 @@ pub fn stack_within(
         return Err(EmitFault::StackTooBig { words });
     }
     Ok(words as u32)
+}
+
+/// Tells whether a program's words and its stack are within their bounds, if the bounds of its items are one for all numbers of
+/// locations. Of any other program it tells nothing. Takes no memory, and so is never out of it.
+pub fn fixed_bounds_within(checked: &Checked, limits: Limits) -> Result<(), EmitFault>
+    ensures within { OnOk result (IsTrue (bounds.has_fixed_bounds checked.now.prog) → IsWithin checked.now.prog limits) }
+    ensures fault { IfErr result (EmitRefuses checked.now.prog limits) }
+    ensures memory { IfErr result (λ fault. fault ≢ Memory) }
+{
+    if has_fixed_bounds(checked.prog()) {
+        stack_within(checked, &[], limits)?;
+    }
+    Ok(())
 }

@@ -24,7 +24,7 @@ mod registers;
 mod sequences;
 mod sizes;
 
-use crate::bounds::{is_told, stack_within};
+use crate::bounds::{fixed_bounds_within, stack_within};
 use crate::image::image_of;
 use bril_checker::Checked;
 use bril_tree::limits::Limits;
@@ -60,20 +60,19 @@ impl From<AllocError> for EmitFault {
 /// `rv64_words`. It has at most 250,000 words, and its stack has the words of the largest frame, `limits.frames` times.
 ///
 /// `CodeTooBig` comes exactly where the sum of the word bounds passes 250,000: 32, 40 for each function, and each item's.
-/// `StackTooBig` comes exactly where the code fits and the stack would pass 8,388,608 words. Where no bound depends on the
-/// number of a function's locations, as in programs without speculation, both are told before any memory is taken.
-/// `Memory` comes where memory ran out.
+/// `StackTooBig` comes exactly where the code fits and the stack would pass 8,388,608 words. `Memory` comes only where both are
+/// within their bounds, or where the program has a `speculate` or a `guard`: the bounds of these depend on the number of a
+/// function's locations, and memory is taken to count them. In any other program both bounds are told before any memory is taken.
 pub fn emit(alloc: Global, prog: &Checked, limits: Limits) -> Result<Image, EmitFault>
     ensures implements { IfOk result (λ image. Implements image prog.now.prog limits) }
     ensures words { IfOk result (λ image. length image.words ≤ most_words) }
+    ensures guards { IfOk result (λ image. length image.guards ≤ length image.words) }
     ensures stack { IfOk result (λ image. IsStackSize prog.now.prog limits image.stack) }
     ensures within { IfOk result (λ _. IsWithin prog.now.prog limits) }
     ensures fault { IfErr result (EmitRefuses prog.now.prog limits) }
 {
     literals_are_in_range(prog.prog());
-    if is_told(prog.prog()) {
-        stack_within(prog, &[], limits)?;
-    }
+    fixed_bounds_within(prog, limits)?;
     let slots = lower(alloc, prog)?;
     let stack = stack_within(prog, slots.funcs.as_slice(), limits)?;
     Ok(image_of(alloc, &slots, limits, stack)?)

@@ -12,6 +12,7 @@ pub mod GuardList
 pub mod Guarding
 pub mod Held
 pub mod Holding
+pub mod Homes
 pub mod Items
 pub mod Jumping
 pub mod Living

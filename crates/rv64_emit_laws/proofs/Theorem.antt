@@ -20,6 +20,7 @@ use Rattle.rv64_emit_laws.specs.Laws.{ImagesImplementPrograms}
 use Rattle.rv64_emit_laws.proofs.GuardList.{lists_guards}
 use Rattle.rv64_emit_laws.proofs.Setting.{Setting}
 use Rattle.rv64_emit_laws.proofs.Whole.{implements_run}
+use Rattle.rv64_emit_laws.proofs.Homes.{homes_within}
 
 module _ (p : Prog) (slots : Slots) (limits : Limits) (image : Image) (accepted : IsAccepted p) (literals : AreLiteralsInRange p) (lowered : IsLowered p slots) (within : IsWithin p limits) (is : IsImageOf slots limits image) where
   is_laid : IsLaid slots limits image
@@ -42,7 +43,7 @@ module _ (p : Prog) (slots : Slots) (limits : Limits) (image : Image) (accepted 
   }
 
   pub implements_at : ImplementsAt (homes_of slots) image p limits
-  implements_at = record { guards = lists_guards p slots limits image lowered is_laid; runs = λ args fit. implements_run (setting args fit) }
+  implements_at = record { guards = lists_guards p slots limits image lowered is_laid; within = homes_within p slots lowered; runs = λ args fit. implements_run (setting args fit) }
 
   -- what the code generator promises
   pub implements : Implements image p limits

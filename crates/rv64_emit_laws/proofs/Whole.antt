@@ -20,11 +20,11 @@ use Rattle.rv64_stretches.specs.Core.{machine}
 use Rattle.rv64_stretches.proofs.Steps.{stack_address}
 use Rattle.rv64_words.specs.Region.{address_at, stack_base}
 use Rattle.rv64_words.specs.State.{State, start}
-use Rattle.slot_code.specs.declared.slots.SlotFunction.{SlotFunction}
 use Rattle.slot_code.specs.Lowered.{IsLoweredFunction}
 use Rattle.rv64_emit_laws.specs.Homes.{home_in, homes_of}
 use Rattle.rv64_emit_laws.proofs.Arriving.{distance}
 use Rattle.rv64_emit_laws.proofs.Holding.{frame_reaches, source}
+use Rattle.rv64_emit_laws.proofs.Homes.{home_is}
 use Rattle.rv64_emit_laws.proofs.Frames.{slot_fits}
 use Rattle.rv64_emit_laws.proofs.Items.{simulation}
 use Rattle.rv64_emit_laws.proofs.Living.{live_slot, slot_of}
@@ -36,10 +36,6 @@ use Rattle.rv64_emit_laws.proofs.Starting.{main_room, start_related}
 value_of : (locations : bril.Locals) (location : Location) → slot_value locations (slot_of location) ≡ location_value locations location
 value_of locations (Variable x) = refl
 value_of locations (Shadow x) = refl
-
-home_is : (g : SlotFunction) (location : Location) → home_in (Some g) location ≡ InFrame (slot_word g (slot_of location))
-home_is g (Variable x) = refl
-home_is g (Shadow x) = refl
 
 module _ (S : Setting) where
   -- live locations are at their homes

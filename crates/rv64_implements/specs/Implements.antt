@@ -11,6 +11,7 @@ use Rattle.bril_tree.specs.declared.operation.Op.TheVariants as op
 use Rattle.bril_tree.specs.declared.program.Prog.{Prog}
 use Rattle.bril_tree.specs.declared.value.Value.{Value}
 use Rattle.program_numbers.specs.Cost.{IsCost}
+use Rattle.bril_tree.specs.FrameWords.{AreFrameWords}
 use Rattle.bril_tree.specs.Live.{IsLive}
 use Rattle.bril_tree.specs.Locals.{location_value}
 use Rattle.bril_tree.specs.Operand.{Location}
@@ -23,7 +24,7 @@ use Rattle.rv64_words.specs.declared.image.Image.{Image}
 use Rattle.rv64_words.specs.Machine.{machine_step}
 use Rattle.rv64_words.specs.Region.{sizes_of}
 use Rattle.rv64_words.specs.State as rv64
-use Rattle.rv64_implements.specs.Home.{Home, IsAt}
+use Rattle.rv64_implements.specs.Home.{Home, IsAt, IsHomeWithin, IsLocationOf}
 
 -- ---- the two systems
 
@@ -76,6 +77,11 @@ CountsFailures guards s t = (g : ℕ) (guard : GuardAt) → slice_get guards g �
 
 -- ---- homes
 
+-- The home of each location of a function is a register, or a word of the function's frame.
+abbrev pub AreHomesWithin : (ℕ → Location → Home) → Prog → Type 0
+AreHomesWithin homes p = (k : ℕ) (f : Func) (words : ℕ) (location : Location) →
+    slice_get p.funcs k ≡ Some f → AreFrameWords f words → IsLocationOf f location → IsHomeWithin words (homes k location)
+
 -- While the program runs, each location of the newest frame that is live at its point, and holds a value, has the value's
 -- word at its home.
 abbrev pub ShowsLive : (ℕ → Location → Home) → Image → Prog → Limits → bril.State → rv64.State → Type 0
@@ -111,6 +117,7 @@ pub record ImplementsRun (homes : ℕ → Location → Home) (image : Image) (p 
 -- The image does what the program does, with all arguments that fit and with the locations at these homes.
 pub record ImplementsAt (homes : ℕ → Location → Home) (image : Image) (p : Prog) (limits : Limits) : Type 0 where
   pub guards : ListsGuards image.guards p
+  pub within : AreHomesWithin homes p
   pub runs : (args : List Value) → FitMain p args → ImplementsRun homes image p limits args
 
 -- The image does what the program does: with all arguments that fit it prints the same and ends alike, and never traps.

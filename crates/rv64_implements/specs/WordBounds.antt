@@ -1,6 +1,6 @@
 -- How many words an image of a program has at most, and how large its stack is.
-use Rattle.std.specs.Prelude.{◌≡◌, ℕ, ◌+◌, ◌*◌, ◌≤◌, length}
-use Rattle.std.specs.List.{sum_by}
+use Rattle.std.specs.Prelude.{◌≡◌, ℕ, ◌+◌, ◌*◌, ◌≤◌, Bool, true, false, length}
+use Rattle.std.specs.List.{list_all, sum_by}
 use Rattle.bril_tree.specs.declared.limits.Limits.{Limits}
 use Rattle.bril_tree.specs.declared.numbered.Instr.{Instr}
 use Rattle.bril_tree.specs.declared.numbered.Instr.TheVariants.{Label, Const, Act}
@@ -51,6 +51,16 @@ function_bound f = 40 + sum_by (word_bound (location_count f)) f.code
 -- the most words of an image of the program
 abbrev pub word_bounds : Prog → ℕ
 word_bounds p = 32 + sum_by function_bound p.funcs
+
+-- the bound of the item is one for all numbers of locations
+abbrev pub has_fixed_bound : Instr → Bool
+has_fixed_bound (Act dest ty op.Speculate args funcs labels) = false
+has_fixed_bound (Act dest ty op.Guard args funcs labels) = false
+has_fixed_bound _ = true
+
+-- and so is that of each item of the program: its word bounds can be told before its locations are counted
+abbrev pub has_fixed_bounds : Prog → Bool
+has_fixed_bounds p = list_all (λ f. list_all has_fixed_bound f.code) p.funcs
 
 -- ---- the stack
 

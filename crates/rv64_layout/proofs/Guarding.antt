@@ -10,10 +10,10 @@ use Rattle.slot_code.specs.declared.item.SlotItem.{SlotItem}
 use Rattle.slot_code.specs.declared.item.SlotItem.TheVariants.{Pass, Constant, Copy, Unary, Binary, Jump, Branch, Call, Return, Print, Alloc, Free, Store, Load, Speculate, Commit, Guard}
 use Rattle.slot_code.specs.declared.slots.SlotFunction.{SlotFunction}
 use Rattle.slot_code.specs.declared.slots.Slots.{Slots}
-use Rattle.rv64_layout.specs.Image.{joined, depth_at, words_before, function_size, start_at, entry_at, guard_or_none, guard_at, function_guards_or_none, function_guards_at, image_guards}
+use Rattle.rv64_layout.specs.Image.{joined, depth_at, size_or_none, size_at, words_before, function_size, function_size_or_none, start_at, entry_at, guard_or_none, guard_at, function_guards_or_none, function_guards_at, image_guards}
 use Rattle.rv64_layout.specs.Items.{item_size, guard_front_size}
 use Rattle.rv64_layout.specs.Laid.{IsGuardAt}
-use Rattle.rv64_layout.proofs.Joining.{below_or}
+use Rattle.rv64_layout.proofs.Joining.{below_or, joined-most}
 use Rattle.rv64_layout.proofs.Placing.{entry_is, words_pass, starts_pass}
 
 -- ---- what is in a list of joined lists
@@ -208,3 +208,20 @@ module _ (slots : Slots) where
 
       itself : (n : ℕ) → eqb n n ≡ true
       itself n = grind (arith, nat_tests)
+
+  -- ---- how many guards there are
+
+  -- an item has no more guards than words
+  item_guards : (f : ℕ) (g : SlotFunction) (point : ℕ) (o : Option SlotItem) → length (guard_or_none slots f g point o) ≤ size_or_none g point o
+  item_guards f g point None = omega arith
+  item_guards f g point (Some (Guard condition abort_to)) = omega arith
+  item_guards f g point (Some _) = omega arith
+
+  function_guards_few : (f : ℕ) (o : Option SlotFunction) → length (function_guards_or_none slots f o) ≤ function_size_or_none o
+  function_guards_few f None = omega arith
+  function_guards_few f (Some g) = omega (arith, joined-most (guard_at slots f g) (size_at g) (λ point. item_guards f g point (slice_get g.code point)) (length g.code))
+
+  -- nor has the image
+  pub guards_counted : length (image_guards slots) ≤ start_at slots (length slots.funcs)
+  guards_counted =
+      omega (arith, joined-most (function_guards_at slots) (λ k. function_size_or_none (slice_get slots.funcs k)) (λ f. function_guards_few f (slice_get slots.funcs f)) (length slots.funcs))

@@ -44,6 +44,10 @@ pub joined-length : {X : Type 0} (lists : ℕ → List X) (counts : ℕ → ℕ)
 joined-length lists counts are zero = refl
 joined-length lists counts are (suc n) = omega (arith, length-append (joined lists n) (lists n), are n, joined-length lists counts are n)
 
+pub joined-most : {X : Type 0} (lists : ℕ → List X) (counts : ℕ → ℕ) → ((k : ℕ) → length (lists k) ≤ counts k) → (n : ℕ) → length (joined lists n) ≤ sum_below counts n
+joined-most lists counts most zero = omega arith
+joined-most lists counts most (suc n) = omega (arith, length-append (joined lists n) (lists n), most n, joined-most lists counts most n)
+
 -- ---- places in a list of words
 
 -- these words are in the list from word k on

@@ -48,7 +48,7 @@ module _ (f : Func) (x : ℕ) where
   item_uses (Const dest ty value) = refl
   item_uses (Act dest ty operation args funcs labels) = action_uses operation dest ty args funcs labels
 
-  code_uses : (items : List Instr) → is_used (map (lowered_item f) items) x ≡ list_any (names_shadow x) items
+  pub code_uses : (items : List Instr) → is_used (map (lowered_item f) items) x ≡ list_any (names_shadow x) items
   code_uses [] = refl
   code_uses (item ∷ items) = ap (λ b. b || is_used (map (lowered_item f) items) x) (item_uses item) ∙ ap (λ b. names_shadow x item || b) (code_uses items)
 

@@ -1,6 +1,5 @@
 -- `emit`: the machine words of an accepted program are written.
-use Rattle.std.specs.Prelude.{ℕ, ◌≡◌, ◌+◌, ◌/◌, ◌%◌, ◌^◌, nat_lt, true, List, [], ◌∷◌, if◌then◌else◌}
-use Rattle.std.specs.List.{flat_map}
+use Rattle.std.specs.Prelude.{ℕ, ◌≡◌, ◌+◌, ◌/◌, ◌%◌, ◌^◌, nat_lt, true, List, [], ◌∷◌, map, if◌then◌else◌}
 use Rattle.bril_tree.specs.declared.limits.Limits.{Limits}
 use Rattle.bril_tree.specs.declared.program.Prog.{Prog}
 use Rattle.bril_words.specs.Defaults.{default_cells}
@@ -21,18 +20,18 @@ word_line w =
     hex_digit (w / 2 ^ 28 % 16) ∷ hex_digit (w / 2 ^ 24 % 16) ∷ hex_digit (w / 2 ^ 20 % 16) ∷ hex_digit (w / 2 ^ 16 % 16) ∷
     hex_digit (w / 2 ^ 12 % 16) ∷ hex_digit (w / 2 ^ 8 % 16) ∷ hex_digit (w / 2 ^ 4 % 16) ∷ hex_digit (w % 16) ∷ 10 ∷ []
 
--- the lines of words
-abbrev pub listing : List ℕ → List ℕ
-listing words = flat_map word_line words
+-- the lines of words, a piece each
+abbrev pub listing : List ℕ → List (List ℕ)
+listing words = map word_line words
 
 -- an image as `emit` shows it
-abbrev pub shown : Image → List ℕ
+abbrev pub shown : Image → List (List ℕ)
 shown image = listing image.words
 
 -- ---- the command
 
--- The text shows an image that does what the program does.
-pub record ShowsImage (shows : Image → List ℕ) (q : Prog) (frames cells : ℕ) (output : List ℕ) : Type 0 where
+-- The output shows an image that does what the program does.
+pub record ShowsImage (shows : Image → List (List ℕ)) (q : Prog) (frames cells : ℕ) (output : List (List ℕ)) : Type 0 where
   pub limits : Limits
   pub are : AreLimitsOf (ImageFor frames cells) limits
   pub image : Image
@@ -40,7 +39,7 @@ pub record ShowsImage (shows : Image → List ℕ) (q : Prog) (frames cells : �
   pub text : output ≡ shows image
 
 -- The image of the program that the list makes, for limits of so many frames and cells, is written as `shows` has it.
-abbrev pub emits : (Image → List ℕ) → (frames cells : ℕ) → OfProgram
+abbrev pub emits : (Image → List (List ℕ)) → (frames cells : ℕ) → OfProgram
 emits shows frames cells = record {
   arguments = NoArguments;
   takes_passes = true;

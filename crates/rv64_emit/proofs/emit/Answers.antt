@@ -1,12 +1,12 @@
-use Rattle.std.proofs.Common.{◌≡◌, ◌*◌, [], sym, ap, ◌∙◌, subst}
+use Rattle.std.proofs.Common.{◌≡◌, ◌*◌, sym, subst}
 use Rattle.bril_tree.specs.Accepted.{IsAccepted}
 use Rattle.bril_tree.specs.Literals.{AreLiteralsInRange}
 use Rattle.bril_tree.specs.Size.{IsCounted}
 use Rattle.rv64_layout.specs.Image.{largest_frame}
-use Rattle.rv64_emit.specs.Bounds.{AreLocationsKnown, is_told}
+use Rattle.rv64_emit.specs.Bounds.{AreLocationsKnown}
 use Rattle.rv64_emit.specs.Tables.{SlotsFit}
 use Rattle.rv64_emit.proofs.Emitting.{IsEmitted, emitted, slots_fit, stack_is}
-use Rattle.rv64_emit.proofs.Within.{told_known, lowered_known}
+use Rattle.rv64_emit.proofs.Within.{lowered_known}
 use Rattle.rv64_emit.proofs.emit.Goals as goal
 
 -- what an image is made from
@@ -39,10 +39,7 @@ pub image_of-requires-clause-stack : goal.image_of-requires-clause-stack
 image_of-requires-clause-stack c = (ready c).1
 
 pub stack_within-requires : goal.stack_within-requires
-stack_within-requires c = told_known c.args.prog.now.prog (ap is_told (sym c.prog-2.ensures.value) ∙ sym c.is_told.ensures ∙ c.if-is_told.true) []
-
-pub stack_within-requires-2 : goal.stack_within-requires-2
-stack_within-requires-2 c =
+stack_within-requires c =
     let lowered = c.in_ok-slots.ensures {u = tt} in
     subst (AreLocationsKnown c.args.prog.now.prog) (sym c.as_slice.ensures) (lowered_known c.args.prog.now.prog c.in_ok-slots.slots lowered.code)
 
@@ -51,6 +48,9 @@ returns-clause-implements c = (made c).implements
 
 pub returns-clause-words : goal.returns-clause-words
 returns-clause-words c = (made c).words
+
+pub returns-clause-guards : goal.returns-clause-guards
+returns-clause-guards c = (made c).guards
 
 pub returns-clause-stack : goal.returns-clause-stack
 returns-clause-stack c = (made c).stack

@@ -17,18 +17,18 @@ use Rattle.bril_cli.proofs.driver.drive.Goals as goal
 pub returns-in_err-names-clause-does : goal.returns-in_err-names-clause-does
 returns-in_err-names-clause-does g c =
     let e = err_from_is_err_and c.from_residual.result c.from_residual.ensures.1 in
-    rw (e.1, e.2) (record { same_output = refl; told = []; does = inl (tt, (refl, refl)); tells = Tells-none g.E.Sink.seen c.args.outputs.now.err })
+    rw (e.1, e.2) (record { same_output = refl; told = []; does = inl (tt, ((refl, refl), refl)); tells = Tells-none g.E.Sink.seen c.args.outputs.now.err })
 
 pub returns-in_err-source-clause-does : goal.returns-in_err-source-clause-does
 returns-in_err-source-clause-does g c =
     let e = err_from_is_err_and c.from_residual-in_err-source.result c.from_residual-in_err-source.ensures.1 in
-    rw (e.1, e.2) (record { same_output = refl; told = []; does = inl (c.in_err-source.ensures.err, (refl, refl)); tells = Tells-none g.E.Sink.seen c.args.outputs.now.err })
+    rw (e.1, e.2) (record { same_output = refl; told = []; does = inl (c.in_err-source.ensures.err, ((refl, refl), refl)); tells = Tells-none g.E.Sink.seen c.args.outputs.now.err })
 
 pub returns-in_err-tree-clause-does : goal.returns-in_err-tree-clause-does
 returns-in_err-tree-clause-does g c =
     let e = err_from_is_err_and c.from_residual-in_err-tree.result c.from_residual-in_err-tree.ensures.1 in
     let refuses : RefusesTree c.in_err-tree.field-0.0 (format_of c.args.request.path.now) c.in_ok-source.source = search rules in
-    rw (e.1, e.2) (record { same_output = refl; told = []; does = inr (c.in_ok-source.source, c.in_ok-source.ensures.ok, inl (refuses, (refl, refl))); tells = Tells-none g.E.Sink.seen c.args.outputs.now.err })
+    rw (e.1, e.2) (record { same_output = refl; told = []; does = inr (c.in_ok-source.source, c.in_ok-source.ensures.ok, inl (refuses, ((refl, refl), refl))); tells = Tells-none g.E.Sink.seen c.args.outputs.now.err })
 
 pub returns-clause-does : goal.returns-clause-does
 returns-clause-does g c =

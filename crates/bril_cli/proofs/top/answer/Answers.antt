@@ -5,7 +5,7 @@ use Rattle.bril_words.specs.Names.{names_of}
 use Rattle.bril_commands.proofs.Keeping.{Keeps-same}
 use Rattle.bril_commands.proofs.Promises.{Promises-driven}
 use Rattle.bril_commands.proofs.Statuses.{Ends}
-use Rattle.bril_commands.proofs.Telling.{says_told}
+use Rattle.bril_commands.proofs.Telling.{puts_told}
 use Rattle.bril_commands.specs.Call.{call_of}
 use Rattle.bril_commands.specs.Command.{takes_passes}
 use Rattle.bril_commands.specs.CommandLine.{Asks, list_asked}
@@ -25,7 +25,7 @@ returns-clause-promises g c =
     (g.E.Sink.seen c.args.outputs.now.err.sink.now) (g.E.Sink.seen c.say.new.err.sink.now)
     (λ p. (goal.Pass-dyn g (p.vtable, p.value)).meaning p.value) (λ p. (goal.Pass-dyn g (p.vtable, p.value)).counts p.value) c.args.passes.now c.drive.new.passes in
     let does = c.drive.ensures.does in
-    let line = rw c.from-status.ensures at c.say.ensures.tells.told in
+    let line = rw c.from-status.ensures at c.say.ensures.told in
     let asks : Asks c.args.words.now = record { action = request.action; path = request.path.now; args = request.args.now; asked = (request.list.now, sym c.in-Ok.ensures.read) } in
     let ends : Ends call asks how = record {
       told = does.told;
@@ -33,7 +33,7 @@ returns-clause-promises g c =
           (pass_list (λ p. (goal.Pass-dyn g (p.vtable, p.value)).meaning p.value) (λ p. (goal.Pass-dyn g (p.vtable, p.value)).counts p.value) c.args.passes.now c.drive.new.passes names)
           (g.F.Files.seen c.args.files.now) (g.F.Files.seen c.drive.new.files) request.path.now request.args.now does.told (g.O.Sink.seen c.args.outputs.now.out.now) (g.O.Sink.seen c.drive.new.outputs.out.now))
           (ap (λ r. names_of (list_asked r)) c.in-Ok.ensures.read) does.does;
-      says = says_told does.told how request.path.now c.requires.sound does.tells.told line;
+      says = puts_told c.requires.sound does.tells.told line;
       keeps = c.drive.ensures.keeps;
     } in
     rw (c.status_number-2.ensures, c.from-status.ensures) (Promises-driven call asks how ends)

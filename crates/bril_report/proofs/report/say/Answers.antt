@@ -1,6 +1,23 @@
--- The pieces of a status are its line.
-use Rattle.bril_report.proofs.Pieces.{Told-status}
+-- The lines of the later statuses.
 use Rattle.bril_report.proofs.report.say.Goals as goal
 
-pub returns-clause-line : goal.returns-clause-line
-returns-clause-line g c = λ sound. Told-status c.args.status.now c.args.path.now c.put_status.ensures.told sound
+pub returns-in-CannotRead : goal.returns-in-CannotRead
+returns-in-CannotRead g c = rw c.in-CannotRead.is (rw (← c.as_bytes-in-CannotRead.ensures.value) c.put_all-in-CannotRead.ensures)
+
+pub returns-in-FileTooBig : goal.returns-in-FileTooBig
+returns-in-FileTooBig g c = rw c.in-FileTooBig.is c.put-in-FileTooBig.ensures
+
+pub returns-in-CodeTooBig : goal.returns-in-CodeTooBig
+returns-in-CodeTooBig g c = rw c.in-CodeTooBig.is c.put_number-in-CodeTooBig.ensures
+
+pub returns-in-StackTooBig : goal.returns-in-StackTooBig
+returns-in-StackTooBig g c = rw c.in-StackTooBig.is c.put_number-in-StackTooBig.ensures
+
+pub returns-in-UnknownPass : goal.returns-in-UnknownPass
+returns-in-UnknownPass g c = rw c.in-UnknownPass.is (rw (← c.from-in-UnknownPass.ensures) c.put_number-in-UnknownPass.ensures)
+
+pub returns-in-OutOfMemory : goal.returns-in-OutOfMemory
+returns-in-OutOfMemory g c = rw c.in-OutOfMemory.is c.put-in-OutOfMemory.ensures
+
+pub returns-in-CannotWrite : goal.returns-in-CannotWrite
+returns-in-CannotWrite g c = rw c.in-CannotWrite.is c.put-in-CannotWrite.ensures

@@ -2,7 +2,7 @@
 use Rattle.std.proofs.Common.{[], refl, inl, inr}
 use Rattle.std.proofs.lemmas.Result.{err_from_is_err_and}
 use Rattle.bril_report.specs.StageFaults.{status_of}
-use Rattle.bril_commands.proofs.Works.{Works-text}
+use Rattle.bril_commands.proofs.Works.{Works-put}
 use Rattle.bril_commands.specs.commands.Emit.{listing, shown, ShowsImage}
 use Rattle.bril_cli.proofs.commands.emit.put_image.Goals as goal
 
@@ -28,7 +28,7 @@ returns-clause-does g c =
         c.in_ok-made.ensures.ok,
         inr (
           (c.args.limits, (refl, refl), c.in_ok-image.ensures.within),
-          Works-text (ShowsImage shown c.in_ok-made.made.prog c.args.limits.frames c.args.limits.cells) (listing c.in_ok-image.image.words) shows (status_of c.put_words.result) _ _ put,
+          Works-put (ShowsImage shown c.in_ok-made.made.prog c.args.limits.frames c.args.limits.cells) (listing c.in_ok-image.image.words) shows (status_of c.put_words.result) _ _ put,
         ),
       ),
     )

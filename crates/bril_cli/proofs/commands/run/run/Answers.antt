@@ -15,7 +15,7 @@ use Rattle.bril_cli.proofs.commands.run.run.Goals as goal
 pub returns-in_err-values-clause-does : goal.returns-in_err-values-clause-does
 returns-in_err-values-clause-does g c =
     let e = err_from_is_err_and c.from_residual.result c.from_residual.ensures.1 in
-    rw (e.1, e.2) (record { same_output = refl; told = []; does = inl (rw c.prog.ensures.value at c.in_err-values.ensures.err, (refl, refl)); tells = Tells-none g.E.Sink.seen c.args.outputs.now.err })
+    rw (e.1, e.2) (record { same_output = refl; told = []; does = inl (rw c.prog.ensures.value at c.in_err-values.ensures.err, ((refl, refl), refl)); tells = Tells-none g.E.Sink.seen c.args.outputs.now.err })
 
 pub returns-in_err-made-clause-does : goal.returns-in_err-made-clause-does
 returns-in_err-made-clause-does g c =

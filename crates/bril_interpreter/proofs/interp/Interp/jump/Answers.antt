@@ -9,7 +9,6 @@ invariant_of-self c =
       frame = record {
         locations = kept.frame.locations;
         saves = kept.frame.saves;
-        few_saves = kept.frame.few_saves;
         few_items = kept.frame.few_items;
         point = rw (c.label_point-point.ensures, ← c.self.view_is) (point_inside _ _);
       };

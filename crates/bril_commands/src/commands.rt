@@ -1,0 +1,6 @@
+// The commands that need no machine words and take no list of passes, a file each.
+
+pub mod check;
+pub mod interp;
+pub mod json;
+pub mod text;
