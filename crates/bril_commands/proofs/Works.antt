@@ -1,5 +1,5 @@
 -- Work that is carried out as one outcome says is carried out as another says.
-use Rattle.std.proofs.Common.{◌≡◌, ◌≢◌, ℕ, List, [], Option, Some, None, refl, ◌∙◌, inl, inr, ⊎_elim}
+use Rattle.std.proofs.Common.{◌≡◌, ◌≢◌, true, ℕ, List, [], Option, Some, None, refl, ◌∙◌, inl, inr, ⊎_elim}
 use Rattle.bril_outside.specs.Sink.{SinkSeen, Rose, Flushed}
 use Rattle.bril_report.specs.declared.status.Status.TheVariants as status
 use Rattle.bril_report.specs.declared.status.Status.{Status}
@@ -51,8 +51,8 @@ Works-ended o None told s t whole = (refl, whole)
 -- ---- all was put, and then the output was to hand on what it held back
 
 module _ (o : Outcome) {ended : Option End} {told : List (List ℕ)} {s t u : SinkSeen} (put : ShowsPut o ended told s t) (flushed : Flushed t u) where
-  pub Shows-flushed : ShowsWhole o ended told s u
-  Shows-flushed = record { output = put.output; shows = put.shows; took = record { between = t; puts = put.puts; flushed = flushed } }
+  pub Shows-flushed : u.is_out ≡ true → ShowsWhole o ended told s u
+  Shows-flushed out = record { output = put.output; shows = put.shows; took = record { between = t; puts = put.puts; flushed = flushed; out = out } }
 
   pub Shows-unflushed : Rose t.faults u.faults → ShowsPartly o s u
-  Shows-unflushed rose = record { ended = ended; told = told; output = put.output; shows = put.shows; took = inr (record { between = t; puts = put.puts; flushed = flushed }, rose) }
+  Shows-unflushed rose = record { ended = ended; told = told; output = put.output; shows = put.shows; took = inr (record { between = t; puts = put.puts; flushed = flushed; rose = rose }) }

@@ -8,7 +8,7 @@ use Rattle.bril_checker.specs.declared.fault.CheckFault.{CheckFault}
 use Rattle.bril_names.specs.declared.fault.NameFault.{NameFault}
 use Rattle.bril_outside.specs.Files.{MayHold, MayFail}
 use Rattle.bril_report.specs.Lines.{fault_line}
-use Rattle.bril_report.specs.Puts.{Puts, WritesAll, WritesSome}
+use Rattle.bril_report.specs.Puts.{Puts, HoldsBack, WritesAll, WritesSome}
 use Rattle.bril_report.specs.Report.{form_pieces, misread_pieces, misnamed_pieces, unaccepted_pieces, unread_pieces, spent_pieces, code_pieces, stack_pieces, pass_pieces, unknown_pass_pieces}
 use Rattle.bril_report.specs.declared.status.SourceFault.{SourceFault}
 use Rattle.bril_tree.specs.Accepted.{IsAccepted}
@@ -194,7 +194,7 @@ pub record ListBegan (c : Call) (asks : Asks c.words) : Type 0 where
 -- before the first word was executed, and for `emit` before the first was written. No pass ran, or the list was begun.
 pub record Exhausted (c : Call) : Type 0 where
   pub tallies : AreUnused c.passes ⊎ ((asks : Asks c.words) × ListBegan c asks)
-  pub leaves : (c.out_after ≡ c.out_before) ⊎ ((asks : Asks c.words) × (output : List (List ℕ)) × ComesTo c asks (λ o. o.Exhausts output) × WritesAll c.out_before output c.out_after)
+  pub leaves : (c.out_after ≡ c.out_before) ⊎ ((asks : Asks c.words) × (output : List (List ℕ)) × ComesTo c asks (λ o. o.Exhausts output) × (WritesAll c.out_before output c.out_after ⊎ HoldsBack c.out_before output c.out_after))
   pub says : Puts c.err_before (codes "out of memory\n" ∷ []) c.err_after
 
 -- 74: a put on the output failed, the last of what the command put there; or it took all, and failed to hand on what it held back.

@@ -2,7 +2,7 @@
 -- each is one put.
 use Rattle.std.specs.Prelude.{ℕ, ◌≡◌, ◌⊎◌, List, [], ◌∷◌, Option, Some, None}
 use Rattle.bril_outside.specs.Sink.{SinkSeen}
-use Rattle.bril_report.specs.Puts.{PutsAll, WritesAll, WritesSome}
+use Rattle.bril_report.specs.Puts.{PutsAll, HoldsBack, WritesAll, WritesSome}
 use Rattle.bril_report.specs.declared.status.Status.TheVariants as status
 use Rattle.bril_report.specs.declared.status.Status.{Status}
 use Rattle.bril_tree.specs.declared.limits.End.TheVariants.{Ended, Faulted}
@@ -57,7 +57,7 @@ pub record ShowsPartly (o : Outcome) (s t : SinkSeen) : Type 0 where
 
 -- what is left on the output where memory ran out
 abbrev pub StopsShort : Outcome → SinkSeen → SinkSeen → Type 0
-StopsShort o s t = (t ≡ s) ⊎ ((output : List (List ℕ)) × o.Exhausts output × WritesAll s output t)
+StopsShort o s t = (t ≡ s) ⊎ ((output : List (List ℕ)) × o.Exhausts output × (WritesAll s output t ⊎ HoldsBack s output t))
 
 -- the status of a run that ended so, or goes on after so many steps, for None
 abbrev pub end_status : Option End → ℕ → Status

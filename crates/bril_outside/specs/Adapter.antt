@@ -6,10 +6,11 @@ use Rattle.bril_outside.specs.Files.{FilesSeen}
 use Rattle.bril_outside.specs.declared.files.FileFault.{FileFault}
 use Rattle.bril_outside.specs.declared.files.FileFault.TheVariants.{Failed, Memory}
 
--- a sink over a writer: the writer, and how many writes to the sink failed
+-- a sink over a writer: the writer, how many writes to the sink failed, and whether the writer was flushed after the last
 pub record SinkOver (W : Type 0) : Type 0 where
   pub out : W
   pub faults : ℕ
+  pub is_out : Bool
 
 -- known bytes grew by the first of these
 pub record AppendsFirst (old new : Option (List ℕ)) (bytes : List ℕ) : Type 0 where

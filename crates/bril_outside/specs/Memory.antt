@@ -20,7 +20,7 @@ pub record SinkMemory : Type 0 where
 
 -- it tells all that it holds
 abbrev pub sink_seen : SinkMemory → SinkSeen
-sink_seen m = record { written = Some m.held; amount = Some (length m.held); puts = m.puts; faults = m.faults }
+sink_seen m = record { written = Some m.held; amount = Some (length m.held); puts = m.puts; faults = m.faults; is_out = true }
 
 -- whether the number, where there is one, is on the list
 abbrev pub has_number : List ℕ → Option ℕ → Bool

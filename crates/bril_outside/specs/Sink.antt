@@ -1,15 +1,16 @@
 -- What contracts say of a sink of bytes.
-use Rattle.std.specs.Prelude.{ℕ, ◌≡◌, ◌+◌, ◌-◌, ◌^◌, ◌≤◌, min, nat_lt, nat_le, List, [], ◌∷◌, ◌++◌, length, Option, Some, None, if◌then◌else◌}
+use Rattle.std.specs.Prelude.{ℕ, ◌≡◌, ◌+◌, ◌-◌, ◌^◌, ◌≤◌, Bool, true, min, nat_lt, nat_le, List, [], ◌∷◌, ◌++◌, length, Option, Some, None, if◌then◌else◌}
 use Rattle.std.specs.Option.{option_map}
 
 -- What is told of a sink: the bytes that were written to it, how many they are, and by how many puts, those that
--- failed among them, where it tells these; and how many of its writes failed. The last never falls, and stays at the
--- end of its type.
+-- failed among them, where it tells these; how many of its writes failed; and whether all that was written is out, which
+-- is false where the sink may hold some of it back. The count of faults never falls, and stays at the end of its type.
 pub record SinkSeen : Type 0 where
   pub written : Option (List ℕ)
   pub amount : Option ℕ
   pub puts : Option ℕ
   pub faults : ℕ
+  pub is_out : Bool
 
 -- a count of faults rose, or stands at the end of its type
 abbrev pub Rose : ℕ → ℕ → Type 0
@@ -111,7 +112,7 @@ pub record Counted : Type 0 where
 
 -- it tells both
 abbrev pub count_seen : Counted → SinkSeen
-count_seen c = record { written = None; amount = c.amount; puts = c.puts; faults = 0 }
+count_seen c = record { written = None; amount = c.amount; puts = c.puts; faults = 0; is_out = true }
 
 -- after a put of so many bytes
 abbrev pub counted_after : Counted → ℕ → Counted

@@ -1,6 +1,6 @@
 // A sink over a writer of the system.
 
-ghost use Rattle.std.specs.Prelude.{◌≡◌, ◌≤◌, [], IfOk, OnOk, OnErr, None, is_ok, if◌then◌else◌, length, take};
+ghost use Rattle.std.specs.Prelude.{◌≡◌, ◌≤◌, [], IfOk, OnOk, OnErr, None, true, is_ok, if◌then◌else◌, length, take};
 ghost use Rattle.std.specs.Io.KnownBytes.{Appends, Keeps};
 ghost use Rattle.bril_outside.specs.Sink.{next_count};
 ghost use Rattle.bril_outside.specs.Adapter.{AppendsFirst};
@@ -16,6 +16,7 @@ pub struct OsSink<W> {
     out: W,
     by_line: bool,
     faults: u64,
+    is_out: bool,
 }
 
 impl<W> Model for OsSink<W> {
@@ -23,7 +24,7 @@ impl<W> Model for OsSink<W> {
 
     ghost Value = { SinkOver W };
 
-    ghost view = { λ s. record { out = s.out; faults = s.faults } };
+    ghost view = { λ s. record { out = s.out; faults = s.faults; is_out = s.is_out } };
 }
 
 impl<W: Write> OsSink<W> {
@@ -36,6 +37,7 @@ impl<W: Write> OsSink<W> {
             out,
             by_line: false,
             faults: 0,
+            is_out: true,
         }
     }
 
@@ -48,12 +50,13 @@ impl<W: Write> OsSink<W> {
             out,
             by_line: true,
             faults: 0,
+            is_out: true,
         }
     }
 }
 
 impl<W: Write> Sink for OsSink<W> {
-    ghost seen = { λ s. record { written = None; amount = None; puts = None; faults = s.faults } };
+    ghost seen = { λ s. record { written = None; amount = None; puts = None; faults = s.faults; is_out = s.is_out } };
 
     /// Writes the piece. Takes no memory of its own. Fails where the writer fails, other than by an interruption, or takes
     /// nothing of bytes that are left; and on a sink that goes by lines where the writer cannot be flushed. No clause says
@@ -66,6 +69,7 @@ impl<W: Write> Sink for OsSink<W> {
         ensures faults { self.new.faults
             ≡ (if is_ok result then self.old.faults else next_count self.old.faults) }
     {
+        self.is_out = false;
         let done = if self.by_line && piece.contains(&b'\n') {
             write_out(&mut self.out, piece)
         } else {
@@ -80,12 +84,14 @@ impl<W: Write> Sink for OsSink<W> {
     /// Flushes the writer. Takes no memory of its own. Fails where the writer cannot be flushed.
     fn flush(&mut self) -> Result<(), Failed>
         ensures bytes { Keeps (W.contents self.old.out) (W.contents self.new.out) }
+        ensures ok { OnOk result (self.new.is_out ≡ true) }
         ensures faults { self.new.faults
             ≡ (if is_ok result then self.old.faults else next_count self.old.faults) }
     {
         let done = flush_writer(&mut self.out);
-        if done.is_err() {
-            self.faults = self.faults.saturating_add(1);
+        match done {
+            Ok(()) => self.is_out = true,
+            Err(Failed) => self.faults = self.faults.saturating_add(1),
         }
         done
     }

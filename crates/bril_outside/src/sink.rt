@@ -1,6 +1,6 @@
 // Sinks: what bytes are written to.
 
-ghost use Rattle.std.specs.Prelude.{OnOk, OnErr, [], ◌∷◌};
+ghost use Rattle.std.specs.Prelude.{◌≡◌, true, OnOk, OnErr, [], ◌∷◌};
 ghost use Rattle.bril_outside.specs.Sink.{SinkSeen, Rose, Flushed, TookAll, TookSome, PutTimes, PutAll, PutSome, AmountIsLength};
 
 use thiserror::Error;
@@ -34,6 +34,7 @@ pub trait Sink {
     /// the sink tells stays, but for its faults. It is no put.
     fn flush(&mut self) -> Result<(), Failed>
         ensures kept { Flushed (seen self.old) (seen self.new) }
+        ensures ok { OnOk result ((seen self.new).is_out ≡ true) }
         ensures err { OnErr result (Rose (seen self.old).faults (seen self.new).faults) };
 
     /// The amount is the length of what was written, where both are told.

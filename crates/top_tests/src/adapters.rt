@@ -1,12 +1,16 @@
 // The adapters over the system's files and outputs, and over streams that fail.
 
 use crate::weak::{Failing, Weak, WeakFiles};
+use bril_outside::count_sink::CountSink;
 use bril_outside::files::{FileFault, Files};
+use bril_outside::mem_sink::MemSink;
 use bril_outside::os_files::OsFiles;
 use bril_outside::os_sink::OsSink;
 use bril_outside::sink::{Failed, Sink, put_three, put_two};
 use bril_tree::bytes::Bytes;
+use bril_tree::sequence::Seq;
 use bril_tree::text::Text;
+use std::io::BufWriter;
 use std::test::Fail;
 use std::{fs, io};
 
@@ -51,6 +55,52 @@ fn writes_system_files(rt: HostRuntime) -> Result<(), Fail> {
     fs::remove_file(&rt, name)?;
     let mut sink = OsSink::new(io::writer(&rt));
     assert_eq!(rt; sink.put(b"written to standard output\n"), Ok(()));
+    assert_eq!(rt; sink.flush(), Ok(()));
+    Ok(())
+}
+
+#[test]
+fn holds_back_until_it_is_flushed(rt: HostRuntime) -> Result<(), Fail> {
+    let alloc = rt.alloc();
+    let name = "top_tests holds.tmp";
+    let path = Text::of(alloc, name)?;
+    let mut sink = OsSink::new(BufWriter::with_capacity(alloc, 8, fs::create(&rt, name)?)?);
+    put_two(&mut sink, b"one\n", b"two")?;
+    let mut into = Bytes::new(alloc);
+    OsFiles::new(&rt).read(alloc, &path, 100, &mut into)?;
+    assert_eq!(rt; into.as_slice(), b"".as_slice());
+    // The buffer is full, and nothing is lost at its end.
+    put_two(&mut sink, b" three", b" and a piece that is longer than the buffer")?;
+    sink.flush()?;
+    OsFiles::new(&rt).read(alloc, &path, 100, &mut into)?;
+    assert_eq!(rt; into.as_slice(), b"one\ntwo three and a piece that is longer than the buffer".as_slice());
+    let mut lines = OsSink::by_line(BufWriter::new(alloc, fs::create(&rt, name)?)?);
+    put_three(&mut lines, b"a line", b" with its end\n", b"and the next")?;
+    let mut into = Bytes::new(alloc);
+    OsFiles::new(&rt).read(alloc, &path, 100, &mut into)?;
+    assert_eq!(rt; into.as_slice(), b"a line with its end\n".as_slice());
+    fs::remove_file(&rt, name)?;
+    Ok(())
+}
+
+#[test]
+fn tells_what_fails_at_the_last_write(rt: HostRuntime) -> Result<(), Fail> {
+    let alloc = rt.alloc();
+    let mut late = OsSink::new(BufWriter::new(alloc, Weak::new(Failing::After))?);
+    assert_eq!(rt; late.put(b"fours"), Ok(()));
+    assert_eq!(rt; late.flush(), Err(Failed));
+    let mut line = OsSink::by_line(BufWriter::new(alloc, Weak::new(Failing::After))?);
+    assert_eq!(rt; line.put(b"four"), Ok(()));
+    assert_eq!(rt; line.put(b"\n"), Err(Failed));
+    // An interruption is no fault.
+    let mut whole = OsSink::new(BufWriter::new(alloc, Weak::new(Failing::After))?);
+    assert_eq!(rt; whole.put(b"four"), Ok(()));
+    assert_eq!(rt; whole.flush(), Ok(()));
+    // What holds nothing back is flushed at once.
+    let mut memory = MemSink::new(alloc, 4, Seq::new(alloc))?;
+    assert_eq!(rt; memory.put(b"five!"), Err(Failed));
+    assert_eq!(rt; memory.flush(), Ok(()));
+    assert_eq!(rt; CountSink::new().flush(), Ok(()));
     Ok(())
 }
 
@@ -71,7 +121,8 @@ fn streams_that_fail(rt: HostRuntime) -> Result<(), Fail> {
     assert_eq!(rt; sink.put(b"four"), Ok(()));
     assert_eq!(rt; sink.put(b""), Ok(()));
     assert_eq!(rt; sink.put(b"more"), Err(Failed));
-    assert_eq!(rt; sink.put(b""), Err(Failed));
+    assert_eq!(rt; sink.put(b""), Ok(()));
+    assert_eq!(rt; sink.flush(), Err(Failed));
     // A failed read is no interruption, and a writer that takes nothing isn't tried again.
     let once = WeakFiles(Failing::Once);
     assert_eq!(rt;

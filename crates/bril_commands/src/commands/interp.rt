@@ -12,7 +12,7 @@ use crate::arguments::values_of;
 use crate::output::answer;
 use bril_checker::Checked;
 use bril_interpreter::{Interp, StepAnswer};
-use bril_outside::sink::Sink;
+use bril_outside::sink::{Failed, Sink};
 use bril_report::Status;
 use bril_tree::limits::{End, Limits};
 use bril_tree::program::Prog;
@@ -78,9 +78,9 @@ fn make_steps<O: Sink>(
         StepAnswer::Go => Ok(None),
         StepAnswer::End(end) => Ok(Some(end)),
         StepAnswer::WriteFault => Err(Status::CannotWrite),
-        StepAnswer::Memory => {
-            let _ = out.flush();
-            Err(Status::OutOfMemory)
-        }
+        StepAnswer::Memory => match out.flush() {
+            Ok(()) => Err(Status::OutOfMemory),
+            Err(Failed) => Err(Status::OutOfMemory),
+        },
     }
 }

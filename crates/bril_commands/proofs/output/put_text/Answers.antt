@@ -13,10 +13,10 @@ returns-in_err-put-clause-does g c =
 pub returns-in_err-flush-clause-does : goal.returns-in_err-flush-clause-does
 returns-in_err-flush-clause-does g c =
     let e = err_from_is_err_and c.from_residual-in_err-flush.result c.from_residual-in_err-flush.ensures.1 in
-    rw (e.1, e.2) (inr (record { between = _; puts = PutsAll-one c.in_ok-put.ensures.ok c.in_ok-put.ensures.times; flushed = c.in_err-flush.ensures.kept }, c.in_err-flush.ensures.err))
+    rw (e.1, e.2) (inr (record { between = _; puts = PutsAll-one c.in_ok-put.ensures.ok c.in_ok-put.ensures.times; flushed = c.in_err-flush.ensures.kept; rose = c.in_err-flush.ensures.err }))
 
 pub returns-clause-does : goal.returns-clause-does
-returns-clause-does g c = record { between = _; puts = PutsAll-one c.in_ok-put.ensures.ok c.in_ok-put.ensures.times; flushed = c.in_ok-flush.ensures.kept }
+returns-clause-does g c = record { between = _; puts = PutsAll-one c.in_ok-put.ensures.ok c.in_ok-put.ensures.times; flushed = c.in_ok-flush.ensures.kept; out = c.in_ok-flush.ensures.ok }
 
 pub returns-in_err-put-clause-memory : goal.returns-in_err-put-clause-memory
 returns-in_err-put-clause-memory g c =

@@ -26,9 +26,9 @@ pub returns-in_err-flush : goal.returns-in_err-flush
 returns-in_err-flush g c =
     let e = err_from_is_err_and c.from_residual-in_err-flush.result c.from_residual-in_err-flush.ensures.1 in
     let all = subst (λ ws. PutsAll (g.O.Sink.seen c.args.out.now) (listing ws) (g.O.Sink.seen c.loop-word.out)) (take_all c.loop-word.word-index c.args.words.now (omega arith)) c.loop-word.invariant in
-    rw (e.1, e.2) (inr (record { between = _; puts = all; flushed = c.in_err-flush.ensures.kept }, c.in_err-flush.ensures.err))
+    rw (e.1, e.2) (inr (record { between = _; puts = all; flushed = c.in_err-flush.ensures.kept; rose = c.in_err-flush.ensures.err }))
 
 pub returns : goal.returns
 returns g c =
     let all = subst (λ ws. PutsAll (g.O.Sink.seen c.args.out.now) (listing ws) (g.O.Sink.seen c.loop-word.out)) (take_all c.loop-word.word-index c.args.words.now (omega arith)) c.loop-word.invariant in
-    record { between = _; puts = all; flushed = c.in_ok-flush.ensures.kept }
+    record { between = _; puts = all; flushed = c.in_ok-flush.ensures.kept; out = c.in_ok-flush.ensures.ok }

@@ -24,5 +24,5 @@ pub returns : goal.returns
 returns g c =
     let told = rw c.as_slice-guards.ensures at c.tell_stats.ensures in
     let o = executed c.args.program.now c.args.settings.limits c.args.values.now c.args.settings.steps c.args.settings.stats in
-    let works = Works-ended o c.in_ok-ended.ended _ _ _ (Shows-flushed o c.in_ok-ended.ensures.ok c.in_ok-flush.ensures.kept) in
+    let works = Works-ended o c.in_ok-ended.ended _ _ _ (Shows-flushed o c.in_ok-ended.ensures.ok c.in_ok-flush.ensures.kept c.in_ok-flush.ensures.ok) in
     rw c.answer.ensures (record { same_output = refl; told = _; does = works; tells = told })

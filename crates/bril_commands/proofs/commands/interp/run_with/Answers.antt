@@ -33,4 +33,4 @@ pub returns : goal.returns
 returns g c =
     let o = interpreted c.args.checked.now.prog c.args.values.now c.args.limits.frames c.args.limits.cells c.args.steps in
     let put = rw c.prog.ensures.value at c.in_ok-ended.ensures.ok in
-    rw c.answer.ensures (Works-ended o c.in_ok-ended.ended _ _ _ (Shows-flushed o put c.in_ok-flush.ensures.kept))
+    rw c.answer.ensures (Works-ended o c.in_ok-ended.ended _ _ _ (Shows-flushed o put c.in_ok-flush.ensures.kept c.in_ok-flush.ensures.ok))
