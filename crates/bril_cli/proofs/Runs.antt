@@ -1,5 +1,5 @@
 -- What a run of an image leaves.
-use Rattle.std.proofs.Common.{◌≡◌, ◌≢◌, ℕ, zero, suc, ◌+◌, ◌-◌, ◌≤◌, Bool, true, false, List, [], ◌∷◌, ◌++◌, length, Option, Some, None, refl, sym, ap, ◌∙◌, subst, arith, ⊎_elim, true≢false, append-nil, append_assoc, length-append}
+use Rattle.std.proofs.Common.{◌≡◌, ◌≢◌, ℕ, zero, suc, ◌+◌, ◌-◌, ◌≤◌, Bool, true, false, List, [], ◌∷◌, ◌++◌, length, Option, Some, None, refl, sym, ap, ◌∙◌, subst, arith, inl, ⊎_elim, true≢false, append-nil, append_assoc, length-append}
 use Rattle.std.proofs.lemmas.List.{append_cancel_left}
 use Rattle.std.specs.Option.{option_map}
 use Rattle.bril_outside.proofs.SinkWrites.{PutSome-longer, joined-append}
@@ -27,7 +27,7 @@ use Rattle.bril_commands.proofs.Interpreting.{PutsAll-by}
 use Rattle.bril_commands.proofs.Prints.{pieces-grow}
 use Rattle.bril_commands.proofs.Running.{finished_one}
 use Rattle.bril_commands.proofs.WordPieces.{joined-words, piece-some, printed-more}
-use Rattle.bril_commands.specs.Outcome.{ShowsWhole, ShowsPartly}
+use Rattle.bril_commands.specs.Outcome.{ShowsPut, ShowsPartly}
 use Rattle.bril_commands.specs.Stats.{stats_told}
 use Rattle.bril_commands.specs.commands.Run.{ShowsRun, Executes, executed, piece_of, pieces_within, printed_next}
 
@@ -112,7 +112,7 @@ module _ (image : Image) (p : Prog) (limits : Limits) (values : List Value) (imp
     module _ (m' : Machine) (s t : SinkSeen) where
       -- the machine ended so, or goes on, and its counts were told
       pub whole : (ended : Option End) → (reached_after m words).stopped ≡ option_map Finished ended → Reached (reached_after m words) (puts_by m words) m m' s t
-          → (stats : Bool) → ShowsWhole (executed p limits values words stats) ended (stats_told stats p image.guards (state_of m')) s t
+          → (stats : Bool) → ShowsPut (executed p limits values words stats) ended (stats_told stats p image.guards (state_of m')) s t
       unfolding pieces
       whole ended ends ran stats =
           let here : (image_after image limits values words).stopped ≡ option_map Finished ended = ap (λ (u : State). u.stopped) (sym (reached words)) ∙ ends in
@@ -122,7 +122,7 @@ module _ (image : Image) (p : Prog) (limits : Limits) (values : List Value) (imp
           record {
             output = pieces;
             shows = subst (λ (ps : List (List ℕ)). Executes p limits values words stats ended ps pieces) (sym told) (executes_at stats ended here);
-            took = PutsAll-by (pieces_within image limits values words) (printed_at words) (many words) ran.printed;
+            puts = PutsAll-by (pieces_within image limits values words) (printed_at words) (many words) ran.printed;
           }
 
       pub no_trap : (trap : _) → Ran (run.Trap trap) words m m' s t → ⊥
@@ -179,7 +179,7 @@ module _ (image : Image) (p : Prog) (limits : Limits) (values : List Value) (imp
               told = stats_told stats p image.guards (image_after image limits values words);
               output = pieces;
               shows = executes_at stats there.0 there.1;
-              took = subst (λ ps. PutSome s ps t) (sym rest.1) (PutSome-longer rest.0 cut);
+              took = inl (subst (λ ps. PutSome s ps t) (sym rest.1) (PutSome-longer rest.0 cut));
             }
 
       pub partly : (stats : Bool) → Ran run.WriteFault words m m' s t → ShowsPartly (executed p limits values words stats) s t

@@ -2,8 +2,10 @@
 use Rattle.std.specs.Prelude.{◌≡◌, ℕ, true, List, [], ◌∷◌, codes}
 use Rattle.bril_profile.specs.declared.profile.Profile.{Profile}
 use Rattle.bril_tree.specs.declared.program.Prog.{Prog}
+use Rattle.constant_pass.specs.Const.{const_meaning}
 use Rattle.dead_code.specs.Dead.{dead_meaning}
 use Rattle.pass_law.specs.Meaning.{Meaning, SameMeaning}
+use Rattle.ssa_exit.specs.Unssa.{unssa_meaning}
 use Rattle.tidy_code.specs.Tidy.{tidy_meaning}
 
 -- a pass that is shipped: its name, and what it means
@@ -14,7 +16,9 @@ pub record Shipped : Type 1 where
 -- the shipped passes, in their order
 abbrev pub shipped : List Shipped
 shipped =
+    record { name = codes "const"; meaning = const_meaning } ∷
     record { name = codes "dead"; meaning = dead_meaning } ∷
+    record { name = codes "unssa"; meaning = unssa_meaning } ∷
     record { name = codes "tidy"; meaning = tidy_meaning } ∷ []
 
 -- whatever m makes of a program, n makes too

@@ -1,23 +1,23 @@
 -- What a run of an interpreter leaves.
-use Rattle.std.proofs.Common.{◌≡◌, ℕ, zero, suc, ◌+◌, ◌-◌, ◌≤◌, false, List, [], ◌∷◌, ◌++◌, length, Option, Some, None, refl, sym, ap, ◌∙◌, subst, arith, inr, ⊎_elim, true≢false, append_assoc, length-append}
+use Rattle.std.proofs.Common.{◌≡◌, ℕ, zero, suc, ◌+◌, ◌-◌, ◌≤◌, List, [], ◌∷◌, ◌++◌, length, Option, Some, None, refl, sym, ap, ◌∙◌, subst, arith, inl, inr, ⊎_elim, true≢false, append_assoc, length-append}
 use Rattle.bril_interpreter.specs.declared.answer.StepAnswer.TheVariants as run
 use Rattle.bril_interpreter.specs.Line.{next_print, pieces_of, puts_of}
 use Rattle.bril_interpreter.specs.StepAnswers.{Ran, RunFailed, WantsMemory, reached_after, print_at, puts_within}
-use Rattle.bril_interpreter.specs.Interpreter.{InterpView, state_of}
+use Rattle.bril_interpreter.specs.Interpreter.{InterpView}
 use Rattle.bril_outside.proofs.SinkWrites.{PutSome-longer, joined-append}
-use Rattle.bril_outside.specs.Sink.{SinkSeen, TookAll, TookBy, PutTimes, PutAll, PutSome, joined}
+use Rattle.bril_outside.specs.Sink.{SinkSeen, Flushed, TookAll, TookBy, PutTimes, PutAll, PutSome, joined}
 use Rattle.bril_report.specs.Puts.{PutsAll}
 use Rattle.bril_tree.specs.declared.limits.End.{End}
 use Rattle.bril_tree.specs.declared.limits.Limits.{Limits}
 use Rattle.bril_tree.specs.declared.program.Prog.{Prog}
 use Rattle.bril_tree.specs.declared.value.Value.{Value}
-use Rattle.bril_tree.specs.Run.{first_state, state_after}
+use Rattle.bril_tree.specs.Run.{state_after}
 use Rattle.bril_tree.specs.State.{State}
 use Rattle.bril_tree.specs.Step.{step}
 use Rattle.simulation.specs.System.{after}
 use Rattle.bril_commands.proofs.Prints.{joined-within, length-pieces, pieces-grow}
-use Rattle.bril_commands.specs.Outcome.{ShowsWhole, ShowsPartly, StopsShort}
-use Rattle.bril_commands.specs.commands.Interp.{interpreted, pieces_within}
+use Rattle.bril_commands.specs.Outcome.{ShowsPut, ShowsPartly, StopsShort}
+use Rattle.bril_commands.specs.commands.Interp.{IsFresh, interpreted, pieces_within}
 
 -- bytes that were taken by so many puts were put in as many pieces
 pub PutsAll-by : {s t : SinkSeen} {bytes : List ℕ} {puts : ℕ} (pieces : List (List ℕ)) → joined pieces ≡ bytes → length pieces ≡ puts → TookBy s bytes puts t → PutsAll s pieces t
@@ -25,13 +25,6 @@ PutsAll-by {s} {t} pieces is many took = record {
   put = record { took = subst (λ bytes. TookAll s bytes t) (sym is) took.took; times = subst (λ n. PutTimes s n t) (sym many) took.times };
   quiet = λ none. took.silent (sym is ∙ ap joined none);
 }
-
--- the interpreter was made for the program, the limits and the values, and has made no step
-pub record IsFresh (i : InterpView) (p : Prog) (limits : Limits) (values : List Value) : Type 0 where
-  pub state : state_of i ≡ first_state p limits values
-  pub of_program : i.checked.prog ≡ p
-  pub under : i.limits ≡ limits
-  pub sound : i.has_failed ≡ false
 
 module _ (i : InterpView) (p : Prog) (limits : Limits) (values : List Value) (fresh : IsFresh i p limits values) (steps : ℕ) where
   reached : (n : ℕ) → reached_after i n ≡ state_after p limits values n
@@ -59,7 +52,7 @@ module _ (i : InterpView) (p : Prog) (limits : Limits) (values : List Value) (fr
       (grown.0, ap (pieces_within p limits values) all ∙ grown.1)
 
   module _ (i' : InterpView) (s t : SinkSeen) where
-    whole : (ended : Option End) → (reached_after i steps).ended ≡ ended → TookBy s (reached_after i steps).printed (puts_within i steps) t → ShowsWhole (interpreted p values limits.frames limits.cells steps) ended [] s t
+    whole : (ended : Option End) → (reached_after i steps).ended ≡ ended → TookBy s (reached_after i steps).printed (puts_within i steps) t → ShowsPut (interpreted p values limits.frames limits.cells steps) ended [] s t
     whole ended ends took = record {
       output = pieces_within p limits values steps;
       shows = (
@@ -73,17 +66,17 @@ module _ (i : InterpView) (p : Prog) (limits : Limits) (values : List Value) (fr
           pieces = refl;
         },
       );
-      took = PutsAll-by (pieces_within p limits values steps) (printed_at steps) (many steps) took;
+      puts = PutsAll-by (pieces_within p limits values steps) (printed_at steps) (many steps) took;
     }
 
-    pub ended : (e : End) → Ran (run.End e) steps i i' s t → ShowsWhole (interpreted p values limits.frames limits.cells steps) (Some e) [] s t
+    pub ended : (e : End) → Ran (run.End e) steps i i' s t → ShowsPut (interpreted p values limits.frames limits.cells steps) (Some e) [] s t
     ended e ran = whole (Some e) ran.0 ran.1.printed
 
-    pub goes_on : Ran run.Go steps i i' s t → ShowsWhole (interpreted p values limits.frames limits.cells steps) None [] s t
+    pub goes_on : Ran run.Go steps i i' s t → ShowsPut (interpreted p values limits.frames limits.cells steps) None [] s t
     goes_on ran = whole None ran.0 ran.1.printed
 
-    pub exhausted : Ran run.Memory steps i i' s t → StopsShort (interpreted p values limits.frames limits.cells steps) s t
-    exhausted ran = inr (
+    pub exhausted : {u : SinkSeen} → Ran run.Memory steps i i' s t → Flushed t u → StopsShort (interpreted p values limits.frames limits.cells steps) s u
+    exhausted ran flushed = inr (
       pieces_within p limits values ran.made,
       record {
         limits = limits;
@@ -97,7 +90,7 @@ module _ (i : InterpView) (p : Prog) (limits : Limits) (values : List Value) (fr
         prints = sym (joined-within p limits values ran.made);
         pieces = refl;
       },
-      PutsAll-by (pieces_within p limits values ran.made) (printed_at ran.made) (many ran.made) ran.reached.printed,
+      record { between = t; puts = PutsAll-by (pieces_within p limits values ran.made) (printed_at ran.made) (many ran.made) ran.reached.printed; flushed = flushed },
     )
 
     -- the pieces of the print that failed come after those of the steps before it
@@ -129,7 +122,7 @@ module _ (i : InterpView) (p : Prog) (limits : Limits) (values : List Value) (fr
           told = [];
           output = pieces_within p limits values steps;
           shows = (refl, record { limits = limits; frames_are = refl; cells_are = refl; ends = refl; prints = sym (joined-within p limits values steps); pieces = refl });
-          took = subst (λ ps. PutSome s ps t) (sym rest.1) (PutSome-longer rest.0 (cut failed));
+          took = inl (subst (λ ps. PutSome s ps t) (sym rest.1) (PutSome-longer rest.0 (cut failed)));
         }
 
     pub failed : Ran run.WriteFault steps i i' s t → ShowsPartly (interpreted p values limits.frames limits.cells steps) s t

@@ -1,5 +1,6 @@
 -- When a command is done.
 use Rattle.std.proofs.Common.{◌≡◌, ℕ, ◌≤◌, ◌⊎◌, Bool, true, false, append-nil, ◌++◌, List, length, Some, None, refl, sym, ◌∙◌, subst, arith, inl, inr, ⊎_elim}
+use Rattle.bril_report.proofs.Puts.{WritesSome-rose}
 use Rattle.bril_report.specs.Puts.{Puts}
 use Rattle.bril_report.specs.Report.{status_number, status_pieces, spent_pieces}
 use Rattle.bril_report.specs.declared.status.Status.TheVariants as status
@@ -53,7 +54,7 @@ works_done c path o (status.Spent made) told says works = inr (λ sound. record 
   took = works.1.took;
 })
 works_done c path o status.OutOfMemory told says works = inl refl
-works_done c path o status.CannotWrite told says works = inr (λ sound. absurd (sound works.1.took.rose))
+works_done c path o status.CannotWrite told says works = inr (λ sound. absurd (sound (WritesSome-rose works.1.took)))
 works_done c path o _ told says works = absurd works
 
 -- ---- the stages before it

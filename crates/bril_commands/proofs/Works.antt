@@ -1,11 +1,11 @@
 -- Work that is carried out as one outcome says is carried out as another says.
-use Rattle.std.proofs.Common.{◌≡◌, ℕ, List, [], Option, Some, None, refl, ◌∙◌, inl, inr, ⊎_elim}
-use Rattle.bril_outside.specs.Sink.{SinkSeen}
+use Rattle.std.proofs.Common.{◌≡◌, ◌≢◌, ℕ, List, [], Option, Some, None, refl, ◌∙◌, inl, inr, ⊎_elim}
+use Rattle.bril_outside.specs.Sink.{SinkSeen, Rose, Flushed}
 use Rattle.bril_report.specs.declared.status.Status.TheVariants as status
 use Rattle.bril_report.specs.declared.status.Status.{Status}
 use Rattle.bril_tree.specs.declared.limits.End.TheVariants.{Ended, Faulted}
 use Rattle.bril_tree.specs.declared.limits.End.{End}
-use Rattle.bril_commands.specs.Outcome.{Outcome, PutsPieces, ShowsWhole, Works, end_status, writes}
+use Rattle.bril_commands.specs.Outcome.{Outcome, PutsPieces, ShowsPut, ShowsWhole, ShowsPartly, Works, end_status, writes}
 
 module _ (a b : Outcome) (steps : a.steps ≡ b.steps) (unwritten : a.unwritten ≡ b.unwritten) (shows : (ended : Option End) (told output : List (List ℕ)) → a.Shows ended told output → b.Shows ended told output) (exhausts : (output : List (List ℕ)) → a.Exhausts output → b.Exhausts output) (told : List (List ℕ)) (s t : SinkSeen) where
   whole : (ended : Option End) → ShowsWhole a ended told s t → ShowsWhole b ended told s t
@@ -35,8 +35,24 @@ Works-put IsOutput pieces is status.CannotWrite s t puts = (refl, record { ended
 Works-put IsOutput pieces is status.OutOfMemory s t puts = (refl, inl puts)
 Works-put IsOutput pieces is _ s t puts = absurd puts
 
+-- pieces were put, and this is told either way
+pub Works-told : (told : List (List ℕ)) (IsOutput : List (List ℕ) → Type 0) (pieces : List (List ℕ)) → IsOutput pieces → (how : Status) (s t : SinkSeen) → PutsPieces how pieces s t → how ≢ status.OutOfMemory → Works (writes told IsOutput) how told s t
+Works-told told IsOutput pieces is status.Done s t puts ample = record { output = pieces; shows = (refl, refl, is); took = puts }
+Works-told told IsOutput pieces is status.CannotWrite s t puts ample = (refl, record { ended = _; told = _; output = pieces; shows = (refl, refl, is); took = puts })
+Works-told told IsOutput pieces is status.OutOfMemory s t puts ample = absurd (ample refl)
+Works-told told IsOutput pieces is _ s t puts ample = absurd puts
+
 -- it ended so, or goes on after the steps
 pub Works-ended : (o : Outcome) (ended : Option End) (told : List (List ℕ)) (s t : SinkSeen) → ShowsWhole o ended told s t → Works o (end_status ended o.steps) told s t
 Works-ended o (Some Ended) told s t whole = whole
 Works-ended o (Some (Faulted fault)) told s t whole = whole
 Works-ended o None told s t whole = (refl, whole)
+
+-- ---- all was put, and then the output was to hand on what it held back
+
+module _ (o : Outcome) {ended : Option End} {told : List (List ℕ)} {s t u : SinkSeen} (put : ShowsPut o ended told s t) (flushed : Flushed t u) where
+  pub Shows-flushed : ShowsWhole o ended told s u
+  Shows-flushed = record { output = put.output; shows = put.shows; took = record { between = t; puts = put.puts; flushed = flushed } }
+
+  pub Shows-unflushed : Rose t.faults u.faults → ShowsPartly o s u
+  Shows-unflushed rose = record { ended = ended; told = told; output = put.output; shows = put.shows; took = inr (record { between = t; puts = put.puts; flushed = flushed }, rose) }

@@ -7,9 +7,8 @@ use Rattle.bril_checker.specs.Faults as checker
 use Rattle.bril_checker.specs.declared.fault.CheckFault.{CheckFault}
 use Rattle.bril_names.specs.declared.fault.NameFault.{NameFault}
 use Rattle.bril_outside.specs.Files.{MayHold, MayFail}
-use Rattle.bril_outside.specs.Sink.{PutSome}
 use Rattle.bril_report.specs.Lines.{fault_line}
-use Rattle.bril_report.specs.Puts.{Puts, PutsAll}
+use Rattle.bril_report.specs.Puts.{Puts, WritesAll, WritesSome}
 use Rattle.bril_report.specs.Report.{form_pieces, misread_pieces, misnamed_pieces, unaccepted_pieces, unread_pieces, spent_pieces, code_pieces, stack_pieces, pass_pieces, unknown_pass_pieces}
 use Rattle.bril_report.specs.declared.status.SourceFault.{SourceFault}
 use Rattle.bril_tree.specs.Accepted.{IsAccepted}
@@ -34,7 +33,7 @@ use Rattle.bril_commands.specs.Table.{command, KeepsPasses}
 use Rattle.bril_commands.specs.When.{DoneWhere}
 
 -- What is put on the output and on the error output is given in pieces, of which each is one put. Nothing is put on either after a put
--- on it that failed.
+-- on it that failed. Before a status is told, and before a command tells anything, the output has handed on all that it held back.
 
 -- 0: all was done, and the output took all that the command puts; the error output what it tells.
 pub record Finished (c : Call) : Type 0 where
@@ -42,7 +41,7 @@ pub record Finished (c : Call) : Type 0 where
   pub told : List (List ℕ)
   pub output : List (List ℕ)
   pub comes : ComesTo c asks (λ o. o.Shows (Some Ended) told output)
-  pub took : PutsAll c.out_before output c.out_after
+  pub took : WritesAll c.out_before output c.out_after
   pub says : Puts c.err_before told c.err_after
 
 -- 2: the program was run or interpreted and stopped with a fault, and the output took all that is put.
@@ -52,7 +51,7 @@ pub record Stopped (c : Call) : Type 0 where
   pub told : List (List ℕ)
   pub output : List (List ℕ)
   pub comes : ComesTo c asks (λ o. o.Shows (Some (Faulted fault)) told output)
-  pub took : PutsAll c.out_before output c.out_after
+  pub took : WritesAll c.out_before output c.out_after
   pub says : Puts c.err_before (told ++ fault_line fault ∷ []) c.err_after
 
 -- 3: the program was interpreted and goes on after the steps, or was run and the machine goes on after as many words, and the
@@ -63,7 +62,7 @@ pub record GoesOn (c : Call) : Type 0 where
   pub told : List (List ℕ)
   pub output : List (List ℕ)
   pub comes : ComesTo c asks (λ o. (steps ≡ o.steps) × o.Shows None told output)
-  pub took : PutsAll c.out_before output c.out_after
+  pub took : WritesAll c.out_before output c.out_after
   pub says : Puts c.err_before (told ++ spent_pieces steps) c.err_after
 
 -- 64: `clap` refuses the words, or takes them and the value of an option fails. No file was read.
@@ -195,10 +194,10 @@ pub record ListBegan (c : Call) (asks : Asks c.words) : Type 0 where
 -- before the first word was executed, and for `emit` before the first was written. No pass ran, or the list was begun.
 pub record Exhausted (c : Call) : Type 0 where
   pub tallies : AreUnused c.passes ⊎ ((asks : Asks c.words) × ListBegan c asks)
-  pub leaves : (c.out_after ≡ c.out_before) ⊎ ((asks : Asks c.words) × (output : List (List ℕ)) × ComesTo c asks (λ o. o.Exhausts output) × PutsAll c.out_before output c.out_after)
+  pub leaves : (c.out_after ≡ c.out_before) ⊎ ((asks : Asks c.words) × (output : List (List ℕ)) × ComesTo c asks (λ o. o.Exhausts output) × WritesAll c.out_before output c.out_after)
   pub says : Puts c.err_before (codes "out of memory\n" ∷ []) c.err_after
 
--- 74: a put on the output failed, the last of what the command put there.
+-- 74: a put on the output failed, the last of what the command put there; or it took all, and failed to hand on what it held back.
 pub record CannotWrite (c : Call) : Type 0 where
   pub asks : Asks c.words
   pub ended : Option End
@@ -206,7 +205,7 @@ pub record CannotWrite (c : Call) : Type 0 where
   pub told : List (List ℕ)
   pub output : List (List ℕ)
   pub comes : ComesTo c asks (λ o. (told ≡ o.unwritten) × o.Shows ended untold output)
-  pub took : PutSome c.out_before output c.out_after
+  pub took : WritesSome c.out_before output c.out_after
   pub says : Puts c.err_before (told ++ codes "cannot write\n" ∷ []) c.err_after
 
 -- What a status says of the call; there are no others.

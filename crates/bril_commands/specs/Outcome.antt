@@ -1,8 +1,8 @@
 -- What a command comes to: how its program ended, what is told on the error output, and what is put on the output, in pieces of which
 -- each is one put.
 use Rattle.std.specs.Prelude.{ℕ, ◌≡◌, ◌⊎◌, List, [], ◌∷◌, Option, Some, None}
-use Rattle.bril_outside.specs.Sink.{SinkSeen, PutSome}
-use Rattle.bril_report.specs.Puts.{PutsAll}
+use Rattle.bril_outside.specs.Sink.{SinkSeen}
+use Rattle.bril_report.specs.Puts.{PutsAll, WritesAll, WritesSome}
 use Rattle.bril_report.specs.declared.status.Status.TheVariants as status
 use Rattle.bril_report.specs.declared.status.Status.{Status}
 use Rattle.bril_tree.specs.declared.limits.End.TheVariants.{Ended, Faulted}
@@ -35,23 +35,29 @@ writes_text text = writes [] (λ output. output ≡ text ∷ [])
 
 -- ---- what carrying out a command's work answers
 
--- This is told, and the output took all that is put.
+-- This is told, and the output took all that is put. It may hold some of it back.
+pub record ShowsPut (o : Outcome) (ended : Option End) (told : List (List ℕ)) (s t : SinkSeen) : Type 0 where
+  pub output : List (List ℕ)
+  pub shows : o.Shows ended told output
+  pub puts : PutsAll s output t
+
+-- This is told, and the output took all that is put, and handed it on.
 pub record ShowsWhole (o : Outcome) (ended : Option End) (told : List (List ℕ)) (s t : SinkSeen) : Type 0 where
   pub output : List (List ℕ)
   pub shows : o.Shows ended told output
-  pub took : PutsAll s output t
+  pub took : WritesAll s output t
 
--- A write failed, the last of what was put.
+-- A put failed, the last of them; or all was put, and the output failed to hand on what it held back.
 pub record ShowsPartly (o : Outcome) (s t : SinkSeen) : Type 0 where
   pub ended : Option End
   pub told : List (List ℕ)
   pub output : List (List ℕ)
   pub shows : o.Shows ended told output
-  pub took : PutSome s output t
+  pub took : WritesSome s output t
 
 -- what is left on the output where memory ran out
 abbrev pub StopsShort : Outcome → SinkSeen → SinkSeen → Type 0
-StopsShort o s t = (t ≡ s) ⊎ ((output : List (List ℕ)) × o.Exhausts output × PutsAll s output t)
+StopsShort o s t = (t ≡ s) ⊎ ((output : List (List ℕ)) × o.Exhausts output × WritesAll s output t)
 
 -- the status of a run that ended so, or goes on after so many steps, for None
 abbrev pub end_status : Option End → ℕ → Status
@@ -70,7 +76,7 @@ Works o _ told s t = ⊥
 
 -- what putting pieces by itself answers
 abbrev pub PutsPieces : Status → List (List ℕ) → SinkSeen → SinkSeen → Type 0
-PutsPieces status.Done pieces s t = PutsAll s pieces t
-PutsPieces status.CannotWrite pieces s t = PutSome s pieces t
+PutsPieces status.Done pieces s t = WritesAll s pieces t
+PutsPieces status.CannotWrite pieces s t = WritesSome s pieces t
 PutsPieces status.OutOfMemory pieces s t = t ≡ s
 PutsPieces _ pieces s t = ⊥

@@ -2,7 +2,7 @@
 use Rattle.std.specs.Prelude.{ℕ, ◌≡◌, ◌⊎◌, ◌≤◌, Bool, true, false, List, [], length, Option, Some}
 use Rattle.bril_arguments.specs.Spelled.{AreSpelled}
 use Rattle.bril_outside.specs.Sink.{Rose}
-use Rattle.bril_report.specs.Puts.{PutsAll}
+use Rattle.bril_report.specs.Puts.{WritesAll}
 use Rattle.bril_report.specs.Report.{pass_pieces, unknown_pass_pieces}
 use Rattle.bril_tree.specs.Accepted.{IsAccepted}
 use Rattle.bril_tree.specs.Run.{main_types}
@@ -69,7 +69,7 @@ pub record IsDone (number : ℕ) (c : Call) (o : Outcome) : Type 0 where
   pub output : List (List ℕ)
   pub shows : o.Shows ended told output
   pub says : TellsRun ended o.steps told number c
-  pub took : PutsAll c.out_before output c.out_after
+  pub took : WritesAll c.out_before output c.out_after
 
 -- it is done where no write failed
 abbrev pub IsDoneUnless : ℕ → Call → Outcome → Type 0

@@ -1,16 +1,15 @@
 -- Locations as they are kept, and the locations of the semantics.
 use Rattle.std.proofs.Common.{◌≡◌, ℕ, zero, suc, ◌+◌, ◌-◌, ◌<◌, ◌≤◌, true, false, eqb, List, [], ◌∷◌, ◌++◌, length, map, replicate, Option, Some, None, refl, sym, ap, ◌∙◌, arith}
-use Rattle.std.specs.List.{AllByRecursion}
 use Rattle.std.proofs.lemmas.Bool.{eq-eqb, ne_eqb, cond-true, cond-false}
-use Rattle.std.proofs.lemmas.List.{length-set, length-map, length-append, length-replicate}
+use Rattle.std.proofs.lemmas.List.{length-map, length-append, length-replicate}
 use Rattle.bril_tree.specs.declared.limits.Limits.{Limits}
 use Rattle.bril_tree.specs.declared.program.Prog.{Prog}
 use Rattle.bril_tree.specs.declared.value.Value.{Value}
 use Rattle.bril_tree.specs.State.{Values, no_values, with_value}
-use Rattle.bril_tree.specs.Step.{assigned, shadowed, arguments_from, new_frame, dropped, saved, code_of}
+use Rattle.bril_tree.specs.Step.{assigned, arguments_from, new_frame, code_of}
 use Rattle.bril_heap.specs.Heap.{entries_of}
 use Rattle.bril_heap.proofs.Entries.{entries-set}
-use Rattle.bril_interpreter.specs.Frames.{LocalsView, locations_of, frame_of, with_dest, with_shadow, without_newest, newest_or, HasLocation, AreLocals, IsFrame, variable_count}
+use Rattle.bril_interpreter.specs.Frames.{LocalsView, locations_of, frame_of, with_dest, HasLocation, IsFrame, variable_count}
 
 -- ---- a value for a destination or a shadow
 
@@ -77,5 +76,3 @@ new_frame-kept p function vs locations vars shadows few =
       few_items = few;
       point = omega arith;
     }
-
--- ---- saves

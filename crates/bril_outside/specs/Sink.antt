@@ -37,6 +37,13 @@ pub record TookSome (s : SinkSeen) (bytes : List ℕ) (t : SinkSeen) : Type 0 wh
   pub whole : bytes ≡ part ++ rest
   pub took : TookAll s part t
 
+-- What was put is told as it was; the faults may have risen.
+pub record Flushed (s t : SinkSeen) : Type 0 where
+  pub written : t.written ≡ s.written
+  pub amount : t.amount ≡ s.amount
+  pub puts : t.puts ≡ s.puts
+  pub faults : s.faults ≤ t.faults
+
 -- ---- puts
 
 -- the sink was put to so many times

@@ -57,6 +57,14 @@ impl Sink for CountSink {
         Ok(())
     }
 
+    /// Does nothing: nothing is held back.
+    fn flush(&mut self) -> Result<(), Failed>
+        ensures answer { IsOk result }
+        ensures same { self.new ≡ self.old }
+    {
+        Ok(())
+    }
+
     ghost amount_is_length = { λ s. tt };
 }
 

@@ -1,6 +1,6 @@
 // A sink in memory.
 
-ghost use Rattle.std.specs.Prelude.{◌≡◌, ◌≤◌, ◌+◌, ◌++◌, [], ◌==◌, IfOk, OnOk, OnErr, Some, is_ok, refl, length, vec_len, vec_capacity};
+ghost use Rattle.std.specs.Prelude.{◌≡◌, ◌≤◌, ◌+◌, ◌++◌, [], ◌==◌, IfOk, IsOk, OnOk, OnErr, Some, is_ok, refl, length, vec_len, vec_capacity};
 ghost use Rattle.std.specs.List.{list_any};
 ghost use Rattle.bril_outside.specs.Sink.{TookAll, TookSome, PutTimes, Rose};
 ghost use Rattle.bril_outside.specs.Memory.{SinkMemory, sink_seen, has_number, takes_all, after_put};
@@ -90,6 +90,14 @@ impl Sink for MemSink {
             return Err(Failed);
         }
         append_within(&mut self.held, piece);
+        Ok(())
+    }
+
+    /// Does nothing: nothing is held back.
+    fn flush(&mut self) -> Result<(), Failed>
+        ensures answer { IsOk result }
+        ensures same { self.new ≡ self.old }
+    {
         Ok(())
     }
 

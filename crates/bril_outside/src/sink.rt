@@ -1,7 +1,7 @@
 // Sinks: what bytes are written to.
 
 ghost use Rattle.std.specs.Prelude.{OnOk, OnErr, [], ◌∷◌};
-ghost use Rattle.bril_outside.specs.Sink.{SinkSeen, Rose, TookAll, TookSome, PutTimes, PutAll, PutSome, AmountIsLength};
+ghost use Rattle.bril_outside.specs.Sink.{SinkSeen, Rose, Flushed, TookAll, TookSome, PutTimes, PutAll, PutSome, AmountIsLength};
 
 use thiserror::Error;
 
@@ -15,7 +15,7 @@ pub trait Sink {
     /// What is told of the sink.
     ghost seen: { Self → SinkSeen };
 
-    /// Writes the piece. Takes no memory.
+    /// Writes the piece. Takes no memory. What was written may be held back by the sink until `flush`.
     ///
     /// `Ok`: the whole piece was written. `Failed`: the sink counted a fault in this call, and the first
     /// bytes of the piece, perhaps none, were written. A sink that takes nothing of a piece that isn't
@@ -27,6 +27,14 @@ pub trait Sink {
         ensures err { OnErr result (TookSome (seen self.old) piece.now (seen self.new)
             × Rose (seen self.old).faults (seen self.new).faults) }
         ensures times { PutTimes (seen self.old) 1 (seen self.new) };
+
+    /// Hands on all that was written and is still held back. Takes no memory.
+    ///
+    /// `Ok`: all of it is out. `Failed`: the sink counted a fault in this call, and some of it may be lost. Either way what
+    /// the sink tells stays, but for its faults. It is no put.
+    fn flush(&mut self) -> Result<(), Failed>
+        ensures kept { Flushed (seen self.old) (seen self.new) }
+        ensures err { OnErr result (Rose (seen self.old).faults (seen self.new).faults) };
 
     /// The amount is the length of what was written, where both are told.
     ghost amount_is_length: { (s : Self) → AmountIsLength (seen s) };

@@ -1,8 +1,8 @@
 -- Pieces that are put one after another.
-use Rattle.std.proofs.Common.{◌≡◌, ℕ, List, [], ◌∷◌, ◌++◌, refl, ◌∙◌}
-use Rattle.bril_outside.proofs.SinkWrites.{PutAll-none, PutAll-one, PutAll-append}
-use Rattle.bril_outside.specs.Sink.{SinkSeen, TookAll, PutTimes}
-use Rattle.bril_report.specs.Puts.{PutsAll}
+use Rattle.std.proofs.Common.{◌≡◌, ℕ, List, [], ◌∷◌, ◌++◌, refl, ◌∙◌, ⊎_elim}
+use Rattle.bril_outside.proofs.SinkWrites.{PutAll-none, PutAll-one, PutAll-append, Rose-after}
+use Rattle.bril_outside.specs.Sink.{SinkSeen, Rose, TookAll, PutTimes}
+use Rattle.bril_report.specs.Puts.{PutsAll, WritesSome}
 
 pub no_pieces : (ps qs : List (List ℕ)) → ps ++ qs ≡ [] → (ps ≡ []) × (qs ≡ [])
 no_pieces [] qs e = (refl, e)
@@ -25,3 +25,7 @@ PutsAll-append {s} {t} {u} {ps} {qs} one two = record {
   put = PutAll-append one.put two.put;
   quiet = λ none. let each = no_pieces ps qs none in two.quiet each.1 ∙ one.quiet each.0;
 }
+
+-- a failure is counted
+pub WritesSome-rose : {s t : SinkSeen} {pieces : List (List ℕ)} → WritesSome s pieces t → Rose s.faults t.faults
+WritesSome-rose {s} {t} some = ⊎_elim (λ put. put.rose) (λ lost. Rose-after _ _ _ lost.0.puts.put.took.faults lost.1) some

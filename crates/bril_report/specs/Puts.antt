@@ -1,6 +1,6 @@
 -- Pieces that are put on a sink, each by one put.
 use Rattle.std.specs.Prelude.{ℕ, ◌≡◌, ◌⊎◌, List, []}
-use Rattle.bril_outside.specs.Sink.{SinkSeen, PutAll, PutSome}
+use Rattle.bril_outside.specs.Sink.{SinkSeen, Rose, Flushed, PutAll, PutSome}
 
 -- The pieces were put, each by one put, in this order, and the sink took all of them. It stays as it was where there are none.
 pub record PutsAll (s : SinkSeen) (pieces : List (List ℕ)) (t : SinkSeen) : Type 0 where
@@ -10,3 +10,13 @@ pub record PutsAll (s : SinkSeen) (pieces : List (List ℕ)) (t : SinkSeen) : Ty
 -- The pieces were put so: all of them, or those up to one whose put failed, and none after it.
 abbrev pub Puts : SinkSeen → List (List ℕ) → SinkSeen → Type 0
 Puts s pieces t = PutsAll s pieces t ⊎ PutSome s pieces t
+
+-- The pieces were put, and the sink took all of them and handed on what it held back.
+pub record WritesAll (s : SinkSeen) (pieces : List (List ℕ)) (t : SinkSeen) : Type 0 where
+  pub between : SinkSeen
+  pub puts : PutsAll s pieces between
+  pub flushed : Flushed between t
+
+-- A put of the pieces failed, the last of them; or the sink took all of them, and failed to hand on what it held back.
+abbrev pub WritesSome : SinkSeen → List (List ℕ) → SinkSeen → Type 0
+WritesSome s pieces t = PutSome s pieces t ⊎ ((all : WritesAll s pieces t) × Rose all.between.faults t.faults)

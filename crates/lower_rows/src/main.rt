@@ -9,6 +9,9 @@
 //     numbered SOURCE        the canonical text of the program that the source is numbered as
 //     graph SOURCE           of the first function's flow graph the edges, from, leaving and to; and of each point the open
 //                            sites, the newest first, and where the edges to it come from
+//     live SOURCE            of each point of the first function the variables and the shadows that are live there
+//     constants SOURCE       the table of constants of the first function: what each variable and its shadow hold, and which points
+//                            are reached
 //     steps SOURCE           the words of each function's frame; each step of the run of `main`: the answer, where the run then
 //                            is, and what the first variable holds; the guards of the first function that failed, and how
 //                            often; and the output
@@ -21,7 +24,9 @@
 // A source, a piece and an argument may have the escapes `\n`, `\r`, `\t`, `\\`, `\xHH` and `\e`.
 #![tactic(auto)]
 
+mod constants;
 mod graph;
+mod live;
 mod machine;
 mod program;
 mod row;

@@ -2,7 +2,9 @@
 
 ghost use Rattle.std.specs.Prelude.{◌<◌, ◌^◌, length};
 
+use crate::constants::add_constants;
 use crate::graph::add_graph;
+use crate::live::add_live;
 use crate::machine::{add_run, add_word};
 use crate::program::add_numbered;
 use crate::steps::add_steps;
@@ -54,6 +56,8 @@ fn add_answer(
         "tokens" => add_tokens(alloc, source, shown),
         "numbered" => add_numbered(alloc, source, shown),
         "graph" => add_graph(alloc, source, shown),
+        "live" => add_live(alloc, source, shown),
+        "constants" => add_constants(alloc, source, shown),
         "steps" => add_steps(alloc, source, shown),
         _ => Err(LineFault::Form),
     }

@@ -1,17 +1,15 @@
 // Runs, a step at a time.
 
-ghost use Rattle.std.specs.Prelude.{◌↔◌, ◌-◌, ◌<◌, ◌^◌, IfOk, IsTrue, length};
-ghost use Rattle.std.specs.List.{All};
+ghost use Rattle.std.specs.Prelude.{◌<◌, ◌^◌, IfOk, length};
 ghost use Rattle.bril_tree.specs.Run.{FitMain};
 
-use crate::program::program_of;
+use crate::program::checked_of;
 use crate::row::add_line;
 use bril_arguments::{ArgFault, read_args};
-use bril_checker::{Checked, check};
+use bril_checker::Checked;
 use bril_interpreter::{Interp, StepAnswer};
 use bril_outside::mem_sink::MemSink;
 use bril_tree::limits::Limits;
-use bril_tree::numbered_function::Func;
 use bril_tree::sequence::Seq;
 use bril_tree::value::Value;
 use row_text::{LineFault, add_lines};
@@ -33,21 +31,6 @@ pub fn add_steps(alloc: Global, source: &[u8], shown: &mut Vec<u8>) -> Result<()
     let values = values_of(alloc, &checked)?;
     add_run(alloc, &checked, values.as_slice(), shown)?;
     Ok(())
-}
-
-// The source's program, which is accepted.
-fn checked_of(alloc: Global, source: &[u8]) -> Result<Checked, LineFault>
-    requires { length source.now < 2 ^ 32 }
-{
-    let prog = program_of(alloc, source)?;
-    let functions = prog.funcs.as_slice();
-    if functions.len() > 1000 || !are_short(functions) {
-        return Err(LineFault::Form);
-    }
-    match check(alloc, prog) {
-        Ok(checked) => Ok(checked),
-        Err(_) => Err(LineFault::Form),
-    }
 }
 
 // The arguments of a program whose `main` has none.
@@ -80,15 +63,6 @@ fn add_run(
     }
     add_failures(alloc, &run, shown)?;
     add_lines(alloc, "", out.bytes(), shown)
-}
-
-// Whether the points of each function have numbers of 32 bits.
-fn are_short(functions: &[Func]) -> bool
-    ensures { IsTrue result ↔ All (λ f. length f.code < 2 ^ 32 - 1) functions.now }
-{
-    functions
-        .iter()
-        .all(|function| function.code.as_slice().len() < 4_294_967_295)
 }
 
 // Appends how many words a frame of each function has.

@@ -54,7 +54,7 @@ module _ (P Q : Prog) (heads : SameHeads P Q) (f : ℕ) (F G : Func) (p : slice_
       ∙ ap (variable_type G.vars) e
 
   -- arguments are assigned on both sides at the start
-  start-covers : (a b : Location) → SameLocation (variable_names F.vars) (variable_names G.vars) a b → In a (map Variable (range_with_len 0 F.args)) → In b (map Variable (range_with_len 0 G.args))
+  pub start-covers : (a b : Location) → SameLocation (variable_names F.vars) (variable_names G.vars) a b → In a (map Variable (range_with_len 0 F.args)) → In b (map Variable (range_with_len 0 G.args))
   start-covers (Variable x) (Variable y) h i = let less = argument-stays P Q heads f F G p q x y h (start-high F.args x i) in in_map Variable y (range_with_len 0 G.args) (in_range 0 G.args y (omega arith) (omega arith))
   start-covers (Variable x) (Shadow y) h i = absurd h
   start-covers (Shadow x) (Variable y) h i = absurd h

@@ -131,7 +131,7 @@ module _ (rename : List ℕ → List ℕ) (extra : List (List ℕ)) (F G : Func)
         same = of_items.stay y mine ∙ sym (get_or-take F.args V y [] mine) ∙ ap (λ l. get_or l y []) t ∙ get_or-take G.args W y [] low;
       }
 
-  variable-named : (y : ℕ) → y < length G.vars → IsNamed rename F G y ⊎ In (named W y) extra
+  pub variable-named : (y : ℕ) → y < length G.vars → IsNamed rename F G y ⊎ In (named W y) extra
   variable-named y low = ⊎_elim (λ l. inl (argument-named y l)) later (cases_lt y G.args)
     where
       later : G.args ≤ y → IsNamed rename F G y ⊎ In (named W y) extra

@@ -13,11 +13,13 @@ use bril_report::{Status, status_number};
 use bril_tree::sequence::Seq;
 use bril_tree::text::Text;
 use bril_words::Misuse;
+use constant_pass::Const;
 use dead_code::Dead;
 use pass_law::Pass;
+use ssa_exit::Unssa;
 use std::alloc::{AllocError, Global};
 use std::env::{self, Args};
-use std::io::{self, ErrorKind, Stderr, Stdout};
+use std::io::{self, BufWriter, ErrorKind, IsTerminal, Stderr, Stdout};
 use std::process::ExitCode;
 use tidy_code::Tidy;
 
@@ -25,7 +27,7 @@ fn main(rt: HostRuntime) -> ExitCode {
     ExitCode::from(exit_number(with_passes(&rt)))
 }
 
-// The exit status: what was answered, or 71 where there was no memory for the passes.
+// The exit status: what was answered, or 71 where there was no memory for the passes or for the buffer of standard output.
 fn exit_number(ended: Result<u8, AllocError>) -> u8
     ensures answered { IfOk ended (λ status. result ≡ status) }
     ensures memory { IfErr ended (λ _. result ≡ 71) }
@@ -36,18 +38,20 @@ fn exit_number(ended: Result<u8, AllocError>) -> u8
     }
 }
 
-// Does what the words of the command line ask for, with the shipped passes. Where there is no memory for these, nothing is
-// read or written.
+// Does what the words of the command line ask for, with the shipped passes. Where there is no memory for these, or for the buffer of
+// standard output, nothing is read or written.
 fn with_passes(rt: &HostRuntime) -> Result<u8, AllocError> {
     let alloc = rt.alloc();
+    let constant: Box<dyn Pass> = Box::new(alloc, Const::new())?;
     let dead: Box<dyn Pass> = Box::new(alloc, Dead::new())?;
+    let unssa: Box<dyn Pass> = Box::new(alloc, Unssa::new())?;
     let tidy: Box<dyn Pass> = Box::new(alloc, Tidy::new())?;
-    let mut passes = [dead, tidy];
+    let mut passes = [constant, dead, unssa, tidy];
     let words = given_words(alloc, env::args(rt));
     let mut files = OsFiles::new(rt);
-    let mut out = OsSink::new(rt.stdout());
+    let mut out = standard_output(rt)?;
     let mut err = OsSink::new(rt.stderr());
-    Ok(end::<OsFiles<HostRuntime>, OsSink<Stdout>, OsSink<Stderr>>(
+    Ok(end::<OsFiles<HostRuntime>, OsSink<BufWriter<Stdout>>, OsSink<Stderr>>(
         alloc,
         words,
         &mut files,
@@ -55,6 +59,17 @@ fn with_passes(rt: &HostRuntime) -> Result<u8, AllocError> {
         &mut err,
         passes.as_mut_slice(),
     ))
+}
+
+// Standard output behind a buffer, which is written when it is full, at the end of a command, and on a terminal at each LF.
+fn standard_output(rt: &HostRuntime) -> Result<OsSink<BufWriter<Stdout>>, AllocError> {
+    let stdout = rt.stdout();
+    let by_line = stdout.is_terminal();
+    match BufWriter::new(rt.alloc(), stdout) {
+        Ok(writer) if by_line => Ok(OsSink::by_line(writer)),
+        Ok(writer) => Ok(OsSink::new(writer)),
+        Err(_) => Err(AllocError),
+    }
 }
 
 // All words that the system gives, as text. `Err`: it gives none, or they don't fit into memory.

@@ -10,9 +10,11 @@ use bril_tree::bytes::Bytes;
 use bril_tree::sequence::Seq;
 use bril_tree::text::Text;
 use bril_tree::value::Value;
+use constant_pass::Const;
 use dead_code::Dead;
 use pass_law::Pass;
 use row_text::{LineFault, add_lines, add_unescaped};
+use ssa_exit::Unssa;
 use std::alloc::{AllocError, Global};
 use std::mem;
 use tidy_code::Tidy;
@@ -242,9 +244,11 @@ impl Case {
         out: &mut MemSink,
         err: &mut MemSink,
     ) -> Result<u8, AllocError> {
+        let constant: Box<dyn Pass> = Box::new(self.alloc, Const::new())?;
         let dead: Box<dyn Pass> = Box::new(self.alloc, Dead::new())?;
+        let unssa: Box<dyn Pass> = Box::new(self.alloc, Unssa::new())?;
         let tidy: Box<dyn Pass> = Box::new(self.alloc, Tidy::new())?;
-        let mut passes = [dead, tidy];
+        let mut passes = [constant, dead, unssa, tidy];
         let passes = passes.as_mut_slice();
         Ok(bril_top(self.alloc, words, &mut self.files, out, err, passes))
     }

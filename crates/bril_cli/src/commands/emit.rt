@@ -38,13 +38,14 @@ pub fn put_image<O: Sink>(
     put_words(image.words.as_slice(), out)
 }
 
-// Puts the line of each word. It takes no memory.
+// Puts the line of each word, and has the output hand on what it holds back. It takes no memory.
 fn put_words<O: Sink>(words: &[u32], out: &mut O) -> Result<(), Status>
     ensures { PutsPieces (status_of result) (listing words.now) (O.seen out.old) (O.seen out.new) }
 {
     for word in words {
         out.put(&word_line(*word))?;
     }
+    out.flush()?;
     Ok(())
 }
 

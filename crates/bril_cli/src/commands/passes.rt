@@ -11,6 +11,7 @@ ghost use Rattle.pass_law.specs.Chains.{AllSame};
 use crate::listed_passes::ListedPasses;
 use bril_checker::Checked;
 use bril_commands::list::{tell_tallies, transformed};
+use bril_commands::output::put_text;
 use bril_names::unnumber;
 use bril_outside::sink::Sink;
 use bril_report::{Outputs, Status};
@@ -36,11 +37,10 @@ pub fn put_transformed<O: Sink, E: Sink>(
 {
     let made = transformed(alloc, passes.boxes, passes.names, checked)?;
     let text = text_of(alloc, made.prog())?;
-    let put = outputs.out.put(text.as_slice());
+    let put = put_text(text.as_slice(), outputs.out);
     let boxes = &mut *passes.boxes;
     tell_tallies(boxes, passes.names.as_slice(), &mut outputs.err);
-    put?;
-    Ok(())
+    put
 }
 
 // The canonical text of a program.

@@ -4,7 +4,7 @@ ghost use Rattle.std.specs.Prelude.{◌≡◌, ◌⊎◌, ◌≤◌, [], length,
 ghost use Rattle.bril_commands.specs.Command.{ImageFor, Fits, RefusesEmission};
 ghost use Rattle.bril_commands.specs.Driver.{DoesProgram, IsSilent};
 ghost use Rattle.bril_cli.specs.Machines.{IsFresh};
-ghost use Rattle.bril_commands.specs.Outcome.{ShowsWhole, Works, end_status};
+ghost use Rattle.bril_commands.specs.Outcome.{ShowsPut, Works};
 ghost use Rattle.bril_commands.specs.PassList.{pass_list};
 ghost use Rattle.bril_commands.specs.Stats.{stats_told};
 ghost use Rattle.bril_commands.specs.commands.Run.{executed, runs};
@@ -22,6 +22,7 @@ use crate::stats::tell_stats;
 use bril_checker::Checked;
 use bril_commands::arguments::values_of;
 use bril_commands::list::transformed;
+use bril_commands::output::answer;
 use bril_outside::sink::Sink;
 use bril_report::{Outputs, Status};
 use bril_tree::limits::{End, Limits};
@@ -89,7 +90,8 @@ fn run_with<O: Sink, E: Sink>(
     )
 }
 
-// Runs an image that implements the program, and tells its counts once it has stopped or gone on to the end of the steps.
+// Runs an image that implements the program. Once it has stopped or gone on to the end of the steps, the output hands on what it holds
+// back, and the counts are told.
 fn run_image<O: Sink, E: Sink>(
     alloc: Global,
     image: &Image,
@@ -110,6 +112,7 @@ fn run_image<O: Sink, E: Sink>(
         return Err(Status::OutOfMemory);
     };
     let ended = execute(image, program, values, settings, &mut machine, outputs.out)?;
+    outputs.out.flush()?;
     tell_stats(settings.stats, program, guards, &machine, &mut outputs.err);
     answer(ended, settings.steps)
 }
@@ -127,7 +130,7 @@ fn execute<O: Sink>(
     requires fits { FitMain program.now values.now }
     requires fresh { IsFresh machine.old image.now settings.limits values.now }
     ensures image { image_in machine.new ≡ image_in machine.old }
-    ensures ok { IfOk result (λ ended. ShowsWhole (executed program.now settings.limits values.now settings.steps settings.stats) ended (stats_told settings.stats program.now image.now.guards (state_of machine.new)) (O.seen out.old) (O.seen out.new)) }
+    ensures ok { IfOk result (λ ended. ShowsPut (executed program.now settings.limits values.now settings.steps settings.stats) ended (stats_told settings.stats program.now image.now.guards (state_of machine.new)) (O.seen out.old) (O.seen out.new)) }
     ensures err { IfErr result (λ status. Works (executed program.now settings.limits values.now settings.steps settings.stats) status [] (O.seen out.old) (O.seen out.new)) }
 {
     match machine.run(settings.steps, out) {
@@ -135,16 +138,5 @@ fn execute<O: Sink>(
         RunAnswer::Spent => Ok(None),
         RunAnswer::WriteFault => Err(Status::CannotWrite),
         RunAnswer::Trap(_) => unreachable!(),
-    }
-}
-
-// What is answered where the machine ended so, or goes on after so many words.
-fn answer(ended: Option<End>, steps: u64) -> Result<(), Status>
-    ensures { status_of result ≡ end_status ended steps }
-{
-    match ended {
-        Some(End::Ended) => Ok(()),
-        Some(End::Faulted(fault)) => Err(Status::Faulted { fault }),
-        None => Err(Status::Spent { steps }),
     }
 }

@@ -1,15 +1,25 @@
 -- `interp`: an accepted program is interpreted with the arguments that the words spell.
 use Rattle.std.specs.Prelude.{ℕ, zero, suc, ◌≡◌, ◌<◌, false, List, [], ◌++◌, Option}
+use Rattle.bril_interpreter.specs.Interpreter.{InterpView, state_of}
 use Rattle.bril_interpreter.specs.Line.{next_print, pieces_of}
 use Rattle.bril_interpreter.specs.StepAnswers.{WantsMemory}
 use Rattle.bril_outside.specs.Sink.{joined}
-use Rattle.bril_tree.specs.Run.{state_after}
+use Rattle.bril_tree.specs.Run.{first_state, state_after}
 use Rattle.bril_tree.specs.declared.limits.End.{End}
 use Rattle.bril_tree.specs.declared.limits.Limits.{Limits}
 use Rattle.bril_tree.specs.declared.program.Prog.{Prog}
 use Rattle.bril_tree.specs.declared.value.Value.{Value}
 use Rattle.bril_commands.specs.Command.{OfProgram, OfMain, NoImage}
 use Rattle.bril_commands.specs.Outcome.{Outcome}
+
+-- ---- the run
+
+-- The interpreter was made for the program, the limits and the values, and has made no step.
+pub record IsFresh (i : InterpView) (p : Prog) (limits : Limits) (values : List Value) : Type 0 where
+  pub state : state_of i ≡ first_state p limits values
+  pub of_program : i.checked.prog ≡ p
+  pub under : i.limits ≡ limits
+  pub sound : i.has_failed ≡ false
 
 -- what the program's first steps print, in pieces of which each is one put: a value and the space or LF after it, or LF alone
 abbrev pub pieces_within : Prog → Limits → List Value → (steps : ℕ) → List (List ℕ)
@@ -36,6 +46,8 @@ pub record StopsForMemory (p : Prog) (values : List Value) (frames cells steps :
   pub wants : WantsMemory p limits (state_after p limits values made)
   pub prints : (state_after p limits values made).printed ≡ joined output
   pub pieces : output ≡ pieces_within p limits values made
+
+-- ---- the command
 
 -- What the program prints within so many steps, by its semantics.
 abbrev pub interpreted : Prog → List Value → (frames cells steps : ℕ) → Outcome

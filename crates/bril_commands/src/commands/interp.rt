@@ -1,19 +1,21 @@
 // `interp`: an accepted program is interpreted with the arguments that the words spell.
 
-ghost use Rattle.std.specs.Prelude.{[]};
+ghost use Rattle.std.specs.Prelude.{[], IfOk, IfErr};
 ghost use Rattle.bril_commands.specs.Arguments.{AreOnlyValues, RefusesArgs};
 ghost use Rattle.bril_commands.specs.Driver.{IsSilent, Stage};
-ghost use Rattle.bril_commands.specs.Outcome.{Works};
-ghost use Rattle.bril_commands.specs.commands.Interp.{interpreted};
+ghost use Rattle.bril_commands.specs.Outcome.{ShowsPut, Works};
+ghost use Rattle.bril_commands.specs.commands.Interp.{IsFresh, interpreted};
 ghost use Rattle.bril_report.specs.StageFaults.{status_of};
 ghost use Rattle.bril_tree.specs.Run.{FitMain};
 
 use crate::arguments::values_of;
+use crate::output::answer;
 use bril_checker::Checked;
 use bril_interpreter::{Interp, StepAnswer};
 use bril_outside::sink::Sink;
 use bril_report::Status;
 use bril_tree::limits::{End, Limits};
+use bril_tree::program::Prog;
 use bril_tree::text::Text;
 use bril_tree::value::Value;
 use std::alloc::Global;
@@ -23,7 +25,7 @@ use std::alloc::Global;
 ///
 /// `ArgumentCount`, `BadArgument`: the words spell no such values, and nothing is put. `Faulted`, `Spent`: the program stopped
 /// with a fault, or goes on after the steps. `CannotWrite`: a write failed. Out of memory, nothing is put, or what the
-/// program prints up to an item that takes memory.
+/// program prints up to an item that takes memory. What was put is handed on by the output before this is answered.
 pub fn interpret<O: Sink>(
     alloc: Global,
     checked: &Checked,
@@ -53,11 +55,32 @@ fn run_with<O: Sink>(
     let Ok(mut interp) = Interp::new(alloc, checked, limits, values) else {
         return Err(Status::OutOfMemory);
     };
+    let ended = make_steps(&mut interp, checked.prog(), limits, values, steps, out)?;
+    out.flush()?;
+    answer(ended, steps)
+}
+
+// Makes so many steps. `Ok`: how the program ended, or that it goes on, for `None`. Where memory ran out, the output has handed on
+// what it held back.
+fn make_steps<O: Sink>(
+    interp: &mut Interp<'_>,
+    program: &Prog,
+    limits: Limits,
+    values: &[Value],
+    steps: u64,
+    out: &mut O,
+) -> Result<Option<End>, Status>
+    requires { IsFresh interp.old program.now limits values.now }
+    ensures ok { IfOk result (λ ended. ShowsPut (interpreted program.now values.now limits.frames limits.cells steps) ended [] (O.seen out.old) (O.seen out.new)) }
+    ensures err { IfErr result (λ status. Works (interpreted program.now values.now limits.frames limits.cells steps) status [] (O.seen out.old) (O.seen out.new)) }
+{
     match interp.run(steps, out) {
-        StepAnswer::Go => Err(Status::Spent { steps }),
-        StepAnswer::End(End::Ended) => Ok(()),
-        StepAnswer::End(End::Faulted(fault)) => Err(Status::Faulted { fault }),
+        StepAnswer::Go => Ok(None),
+        StepAnswer::End(end) => Ok(Some(end)),
         StepAnswer::WriteFault => Err(Status::CannotWrite),
-        StepAnswer::Memory => Err(Status::OutOfMemory),
+        StepAnswer::Memory => {
+            let _ = out.flush();
+            Err(Status::OutOfMemory)
+        }
     }
 }

@@ -13,7 +13,17 @@ end-requires c = record {
       _,
       c.into_dyn_box-in_ok-new-2.ensures.0,
       (λ p a x. SameMeaning-refl _),
-      tt,
+      (
+        _,
+        c.into_dyn_box-in_ok-new-3.ensures.0,
+        (λ p a x. SameMeaning-refl _),
+        (
+          _,
+          c.into_dyn_box-in_ok-new-4.ensures.0,
+          (λ p a x. SameMeaning-refl _),
+          tt,
+        ),
+      ),
     ),
   );
 }

@@ -1,5 +1,5 @@
 -- The lines of the words were put one after another, up to one whose put failed.
-use Rattle.std.proofs.Common.{subst, arith}
+use Rattle.std.proofs.Common.{subst, arith, inl, inr}
 use Rattle.std.proofs.lemmas.Result.{err_from_is_err_and}
 use Rattle.std.proofs.lemmas.List.{take_all}
 use Rattle.bril_commands.specs.commands.Emit.{listing}
@@ -20,8 +20,15 @@ pub returns-in_err-put : goal.returns-in_err-put
 returns-in_err-put g c =
     let e = err_from_is_err_and c.from_residual.result c.from_residual.ensures.1 in
     let failed = rw c.word_line.ensures at c.in_err-put.ensures.err in
-    rw (e.1, e.2) (listing-failed c.args.words.now c.loop-word.word-index 0 c.loop-word-test.true c.loop-word.invariant c.in_err-put.ensures.times failed.0 failed.1)
+    rw (e.1, e.2) (inl (listing-failed c.args.words.now c.loop-word.word-index 0 c.loop-word-test.true c.loop-word.invariant c.in_err-put.ensures.times failed.0 failed.1))
+
+pub returns-in_err-flush : goal.returns-in_err-flush
+returns-in_err-flush g c =
+    let e = err_from_is_err_and c.from_residual-in_err-flush.result c.from_residual-in_err-flush.ensures.1 in
+    let all = subst (λ ws. PutsAll (g.O.Sink.seen c.args.out.now) (listing ws) (g.O.Sink.seen c.loop-word.out)) (take_all c.loop-word.word-index c.args.words.now (omega arith)) c.loop-word.invariant in
+    rw (e.1, e.2) (inr (record { between = _; puts = all; flushed = c.in_err-flush.ensures.kept }, c.in_err-flush.ensures.err))
 
 pub returns : goal.returns
 returns g c =
-    subst (λ ws. PutsAll (g.O.Sink.seen c.args.out.now) (listing ws) (g.O.Sink.seen c.loop-word.out)) (take_all c.loop-word.word-index c.args.words.now (omega arith)) c.loop-word.invariant
+    let all = subst (λ ws. PutsAll (g.O.Sink.seen c.args.out.now) (listing ws) (g.O.Sink.seen c.loop-word.out)) (take_all c.loop-word.word-index c.args.words.now (omega arith)) c.loop-word.invariant in
+    record { between = _; puts = all; flushed = c.in_ok-flush.ensures.kept }

@@ -1,43 +1,36 @@
--- A run of the interpreter makes the steps of the program, or a write fails, or memory runs out.
+-- The steps were made and what was put was handed on, or one of the two failed.
 use Rattle.std.proofs.Common.{refl, ap, inl}
+use Rattle.std.proofs.lemmas.Result.{err_from_is_err_and}
 use Rattle.bril_checker.specs.Checked.{CheckedView}
-use Rattle.bril_commands.proofs.Interpreting.{IsFresh, ended, goes_on, exhausted, failed}
-use Rattle.bril_commands.proofs.commands.interp.run_with.Given.{Over}
+use Rattle.bril_commands.proofs.Works.{Shows-flushed, Shows-unflushed, Works-ended}
 use Rattle.bril_commands.proofs.commands.interp.run_with.Goals as goal
-use Rattle.bril_commands.proofs.commands.interp.run_with.Goals.{After-run}
+use Rattle.bril_commands.specs.commands.Interp.{interpreted}
 
-fresh : (g : Over) (c : After-run g) → IsFresh c.in-Ok.interp c.args.checked.now.prog c.args.limits c.args.values.now
-fresh g c = record {
+pub make_steps-requires : goal.make_steps-requires
+make_steps-requires g c = rw c.prog.ensures.value (record {
   state = c.in-Ok.ensures.state;
   of_program = ap (λ (k : CheckedView). k.prog) c.in-Ok.ensures.checked;
   under = c.in-Ok.ensures.limits;
   sound = c.in-Ok.ensures.sound;
-}
-
-pub returns-in-Go : goal.returns-in-Go
-returns-in-Go g c =
-    let d = (goal.at.returns-in-Go g c).After-run in
-    (refl, goes_on c.in-Ok.interp c.args.checked.now.prog c.args.limits c.args.values.now (fresh g d) c.args.steps _ _ _ c.in-Go.ensures)
-
-pub returns-in-End-Ended : goal.returns-in-End-Ended
-returns-in-End-Ended g c =
-    let d = (goal.at.returns-in-End-Ended g c).After-run in
-    ended c.in-Ok.interp c.args.checked.now.prog c.args.limits c.args.values.now (fresh g d) c.args.steps _ _ _ _ (rw c.in-End-Ended.field-0-is at c.in-End-Ended.ensures)
-
-pub returns-in-End-Faulted : goal.returns-in-End-Faulted
-returns-in-End-Faulted g c =
-    let d = (goal.at.returns-in-End-Faulted g c).After-run in
-    ended c.in-Ok.interp c.args.checked.now.prog c.args.limits c.args.values.now (fresh g d) c.args.steps _ _ _ _ (rw c.in-End-Faulted.field-0-is at c.in-End-Faulted.ensures)
-
-pub returns-in-WriteFault : goal.returns-in-WriteFault
-returns-in-WriteFault g c =
-    let d = (goal.at.returns-in-WriteFault g c).After-run in
-    (refl, failed c.in-Ok.interp c.args.checked.now.prog c.args.limits c.args.values.now (fresh g d) c.args.steps _ _ _ c.in-WriteFault.ensures)
+})
 
 pub returns-in_default : goal.returns-in_default
 returns-in_default g c = (refl, inl refl)
 
+pub returns-in_err-ended : goal.returns-in_err-ended
+returns-in_err-ended g c =
+    let e = err_from_is_err_and c.from_residual.result c.from_residual.ensures.1 in
+    rw (e.1, e.2) (rw c.prog.ensures.value at c.in_err-ended.ensures.err)
+
+pub returns-in_err-flush : goal.returns-in_err-flush
+returns-in_err-flush g c =
+    let e = err_from_is_err_and c.from_residual-in_err-flush.result c.from_residual-in_err-flush.ensures.1 in
+    let o = interpreted c.args.checked.now.prog c.args.values.now c.args.limits.frames c.args.limits.cells c.args.steps in
+    let put = rw c.prog.ensures.value at c.in_ok-ended.ensures.ok in
+    rw (e.1, e.2) (refl, Shows-unflushed o put c.in_err-flush.ensures.kept c.in_err-flush.ensures.err)
+
 pub returns : goal.returns
 returns g c =
-    let d = (goal.at.returns g c).After-run in
-    (refl, exhausted c.in-Ok.interp c.args.checked.now.prog c.args.limits c.args.values.now (fresh g d) c.args.steps _ _ _ c.in-Memory.ensures)
+    let o = interpreted c.args.checked.now.prog c.args.values.now c.args.limits.frames c.args.limits.cells c.args.steps in
+    let put = rw c.prog.ensures.value at c.in_ok-ended.ensures.ok in
+    rw c.answer.ensures (Works-ended o c.in_ok-ended.ended _ _ _ (Shows-flushed o put c.in_ok-flush.ensures.kept))

@@ -1,0 +1,10 @@
+pub mod Along
+pub mod Fates
+pub mod Points
+pub mod Plans
+pub mod Refines
+pub mod Typed
+pub mod Accepted
+pub mod Made
+pub mod Numbers
+pub mod Editing

@@ -1,0 +1,11 @@
+pub mod Stems
+pub mod Items
+pub mod Loops
+pub mod Points
+pub mod Variables
+pub mod Refines
+pub mod Walks
+pub mod Types
+pub mod Accepted
+pub mod Numbers
+pub mod Made

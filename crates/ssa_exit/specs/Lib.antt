@@ -1,0 +1,4 @@
+pub mod Fresh
+pub mod Unssaed
+pub mod Unssa
+pub mod Laws

@@ -1,0 +1,21 @@
+//! The pass `unssa`, which leaves SSA form: each shadow becomes a variable of its own, and each `get` and `set` a copy.
+//!
+//! 1. Which names the shadows get (`specs/Fresh.antt`), what the pass makes, by trees (`specs/Unssaed.antt`), and what it
+//!    means (`specs/Unssa.antt`).
+//! 2. The code: a stem with which no name begins (`src/fresh.rt`), which shadows are written (`src/written.rt`), the edit of
+//!    the tree (`src/edit.rt`), and the pass around it (`src/unssa.rt`).
+//! 3. The same by points (`proofs/Points.antt`). Shadows and what stands for them hold the same, so matched states go on: the
+//!    result refines the program (`proofs/Plan.antt`, `proofs/Refines.antt`).
+//! 4. The types and the walks of the result: it is accepted (`proofs/Types.antt`, `proofs/Accepted.antt`).
+//! 5. From the tree to its program: the tree can be numbered, and is as long (`proofs/Made.antt`).
+//! 6. No `get` or `set` is left, and no number of the program grows (`src/laws.rt`, `proofs/Numbers.antt`).
+#![tactic(auto)]
+
+mod edit;
+mod fresh;
+mod laws;
+mod unssa;
+mod written;
+
+pub use laws::{unssa_keeps_numbers, unssa_leaves_no_shadow};
+pub use unssa::{Unssa, UnssaEdit};
