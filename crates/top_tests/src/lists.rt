@@ -173,6 +173,14 @@ fn tallies_go_on_from_call_to_call(rt: HostRuntime) -> Result<(), Fail> {
     let checked = call(alloc, &["check", "one.bril"], passes.as_mut_slice())?;
     assert_eq!(rt; checked.status, 0);
     assert_eq!(rt; passes[0].tally(), tally(2, 4, 6));
+    // Where the arguments are refused no pass runs.
+    let refused = call(
+        alloc,
+        &["run", "one.bril", "--passes", "pad", "--", "1"],
+        passes.as_mut_slice(),
+    )?;
+    assert_eq!(rt; refused.status, 69);
+    assert_eq!(rt; passes[0].tally(), tally(2, 4, 6));
     Ok(())
 }
 

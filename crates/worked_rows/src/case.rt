@@ -2,7 +2,7 @@
 
 use crate::guards::add_fails;
 use crate::listing::execute;
-use bril_cli::top::bril_top;
+use bril_cli::end::end;
 use bril_outside::files::{FileFault, Files};
 use bril_outside::mem_files::MemFiles;
 use bril_outside::mem_sink::MemSink;
@@ -181,7 +181,7 @@ impl Case {
         }
         let mut out = MemSink::new(alloc, ROOM, Seq::new(alloc))?;
         let mut err = MemSink::new(alloc, ROOM, Seq::new(alloc))?;
-        let _status = self.call(words.as_slice(), &mut out, &mut err)?;
+        let _status = self.call(words, &mut out, &mut err)?;
         execute(alloc, out.bytes(), args.as_slice(), shown)
     }
 
@@ -229,7 +229,7 @@ impl Case {
         let room = mem::replace(&mut self.room, ROOM);
         let mut out = MemSink::new(alloc, room, puts)?;
         let mut err = MemSink::new(alloc, ROOM, errs)?;
-        let status = self.call(words.as_slice(), &mut out, &mut err)?;
+        let status = self.call(words, &mut out, &mut err)?;
         let told = format!(in alloc; "status {status}")?;
         add_line(told.as_str(), shown)?;
         add_lines(alloc, "", out.bytes(), shown)?;
@@ -237,10 +237,10 @@ impl Case {
         Ok(())
     }
 
-    // Gives the words to the top call, with the passes of the program, of which none has run yet.
+    // Gives the words to the top call by `end`, as the program does, with its passes, of which none has run yet.
     fn call(
         &mut self,
-        words: &[Text],
+        words: Seq<Text>,
         out: &mut MemSink,
         err: &mut MemSink,
     ) -> Result<u8, AllocError> {
@@ -250,7 +250,7 @@ impl Case {
         let tidy: Box<dyn Pass> = Box::new(self.alloc, Tidy::new())?;
         let mut passes = [constant, dead, unssa, tidy];
         let passes = passes.as_mut_slice();
-        Ok(bril_top(self.alloc, words, &mut self.files, out, err, passes))
+        Ok(end(self.alloc, Ok(words), &mut self.files, out, err, passes))
     }
 }
 
