@@ -1,0 +1,4 @@
+pub mod Adding
+pub mod Linked
+pub mod Order
+pub mod Reading
