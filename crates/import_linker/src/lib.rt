@@ -6,10 +6,17 @@
 #![tactic(auto)]
 
 mod fault;
+mod fresh_run;
+mod linking;
+mod locals;
 mod paths;
 mod reading;
+mod renaming;
 mod sources;
+mod table;
+mod taken;
 
 pub use fault::LinkFault;
+pub use linking::link;
 pub use reading::read_sources;
 pub use sources::Source;

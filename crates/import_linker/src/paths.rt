@@ -59,8 +59,8 @@ fn is_known(known: &[Text], path: &Text) -> bool
         .any(|other| other.as_bytes() == path.as_bytes())
 }
 
-// The path that an import names in the file at a path: itself where it begins with `/`, and else after the folder of the file.
-fn joined(alloc: Global, importer: &Text, path: &Text) -> Result<Text, AllocError>
+/// The path that an import names in the file at a path: itself where it begins with `/`, and else after the folder of the file.
+pub(crate) fn joined(alloc: Global, importer: &Text, path: &Text) -> Result<Text, AllocError>
     ensures { IfOk result (λ made. made ≡ joined importer.now path.now) }
 {
     if begins_at_root(path.as_bytes()) {
