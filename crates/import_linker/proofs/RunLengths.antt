@@ -7,7 +7,7 @@ use Rattle.std.specs.List.{list_any}
 use Rattle.std.proofs.lemmas.Bool.{true≢false}
 use Rattle.std.proofs.lemmas.Bool.Decides.{Decides-eqb}
 use Rattle.std.proofs.lemmas.List.Folds.{list_any-append}
-use Rattle.std.proofs.lemmas.List.{drop_more, drop_all}
+use Rattle.std.proofs.lemmas.List.{drop_more}
 use Rattle.import_linker.specs.Linked.{begins_so}
 use Rattle.import_linker.specs.Runs.{run_of}
 
@@ -34,9 +34,6 @@ module _ (name : List ℕ) (i : ℕ) (lt : i < length name) where
       go : (b : Bool) → option_map (λ n. i + n) (if b then Some 0 else None) ≡ (if b then Some i else None)
       go true = let e : i + 0 ≡ i = omega arith in ap Some e
       go false = refl
-
-pub run_none : (name : List ℕ) (i : ℕ) → length name ≤ i → run_after i name ≡ None
-run_none name i le = ap (λ l. option_map (λ n. i + n) (run_of l)) (drop_all i name le)
 
 pub not_equal : (a b : ℕ) → ¬ (a ≡ b) → nat_eq a b ≡ false
 not_equal a b ne = go (nat_eq a b) refl

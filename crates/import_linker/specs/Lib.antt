@@ -1,4 +1,5 @@
 pub mod Adding
+pub mod Laws
 pub mod Linked
 pub mod Names
 pub mod Order

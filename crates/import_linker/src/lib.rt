@@ -7,6 +7,7 @@
 
 mod fault;
 mod fresh_run;
+mod laws;
 mod linking;
 mod locals;
 mod paths;
@@ -17,6 +18,6 @@ mod table;
 mod taken;
 
 pub use fault::LinkFault;
+pub use laws::linking_is_one;
 pub use linking::link;
-pub use reading::read_sources;
 pub use sources::Source;

@@ -23,7 +23,7 @@ const MOST_BYTES: u64 = 16777216;
 /// Each file is refused for the first of these reasons. `Read`: the file at the path is not there, or reading it failed.
 /// `TooManyBytes`: it and those before it have more than 16,777,216 bytes. `Bad`: its bytes read as no tree.
 /// `TooManyFiles`: one of its imports names a 257th file. `Memory` may come at any time.
-pub fn read_sources<F: Files>(
+pub(crate) fn read_sources<F: Files>(
     alloc: Global,
     files: &mut F,
     root: &Text,
