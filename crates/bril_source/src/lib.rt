@@ -1,0 +1,10 @@
+//! The tree that the bytes of a file read as, in the format that its path names.
+#![tactic(auto)]
+
+mod fault;
+mod format;
+mod reading;
+
+pub use fault::{ReadFault, TreeFault};
+pub use format::Format;
+pub use reading::read_tree;

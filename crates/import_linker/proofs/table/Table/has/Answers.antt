@@ -1,0 +1,8 @@
+-- A key has the name.
+use Rattle.std.proofs.Common.{◌∙◌, ap}
+use Rattle.import_linker.specs.Names.{contains}
+use Rattle.import_linker.proofs.Held.{contains_is}
+use Rattle.import_linker.proofs.table.Table.has.Goals as goal
+
+pub returns : goal.returns
+returns c = c.contains.ensures ∙ contains_is c.self.inside.held.keys c.args.name.now ∙ ap (λ n. contains n c.args.name.now) c.self.view_is

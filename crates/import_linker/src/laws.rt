@@ -1,0 +1,10 @@
+// Laws of linking, where the files are told. Each function states some, and does nothing when it is called.
+
+ghost use Rattle.import_linker.specs.Laws.{LinkedAreNotRefused, ProgramsHaveOneTree, RefusedOnce};
+
+/// A program has one tree at most and one refusal at most, and never both: a want of memory and reads that failed apart.
+pub fn linking_is_one()
+    ensures tree { ProgramsHaveOneTree }
+    ensures never_both { LinkedAreNotRefused }
+    ensures refusal { RefusedOnce }
+{}

@@ -1,0 +1,23 @@
+//! A file and all that it imports, as one tree.
+//!
+//! `specs/Order.antt` says which files there are and in which order, `Reading.antt` what each of them reads as and what stops the
+//! reading, `Names.antt` what a name of a function stands for in a file and what is wrong with names, and `Linked.antt` what the
+//! tree of all files is.
+#![tactic(auto)]
+
+mod fault;
+mod fresh_run;
+mod laws;
+mod linking;
+mod locals;
+mod paths;
+mod reading;
+mod renaming;
+mod sources;
+mod table;
+mod taken;
+
+pub use fault::LinkFault;
+pub use laws::linking_is_one;
+pub use linking::link;
+pub use sources::Source;

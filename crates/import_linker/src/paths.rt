@@ -1,0 +1,96 @@
+// The paths of files.
+
+ghost use Rattle.std.specs.Prelude.{◌≡◌, ◌≤◌, ◌++◌, ◌∷◌, [], length, IfOk, IfErr};
+ghost use Rattle.std.specs.String.{string_bytes};
+ghost use Rattle.import_linker.specs.Adding.{AddsTooMany};
+ghost use Rattle.import_linker.specs.Order.{joined, folder_of, begins_at_root, is_known, added, all_added, named_in, most_files};
+
+use crate::fault::LinkFault;
+use bril_tree::import::Import;
+use bril_tree::sequence::Seq;
+use bril_tree::text::Text;
+use std::alloc::{AllocError, Global};
+
+// The most files of a program.
+const MOST_FILES: usize = 256;
+
+/// Adds the files that imports of the file at a path name, each unless it is known.
+pub(crate) fn add_imports(
+    alloc: Global,
+    known: &mut Seq<Text>,
+    importer: &Text,
+    imports: &[Import],
+) -> Result<(), LinkFault>
+    requires { length known.old ≤ most_files }
+    ensures ok { IfOk result (λ _. known.new ≡ all_added known.old (named_in importer.now imports.now)) }
+    ensures few { IfOk result (λ _. length known.new ≤ most_files) }
+    ensures err { IfErr result (λ fault. AddsTooMany fault known.old (named_in importer.now imports.now)) }
+{
+    for import in imports {
+        let path = joined(alloc, importer, &import.path)?;
+        add_path(known, path)?;
+    }
+    Ok(())
+}
+
+// Adds a path unless it is known.
+fn add_path(known: &mut Seq<Text>, path: Text) -> Result<(), LinkFault>
+    requires { length known.old ≤ most_files }
+    ensures ok { IfOk result (λ _. known.new ≡ added known.old path) }
+    ensures few { IfOk result (λ _. length known.new ≤ most_files) }
+    ensures err { IfErr result (λ fault. AddsTooMany fault known.old (path ∷ [])) }
+{
+    if is_known(known.as_slice(), &path) {
+        return Ok(());
+    }
+    if known.as_slice().len() == MOST_FILES {
+        return Err(LinkFault::TooManyFiles);
+    }
+    known.push(path)?;
+    Ok(())
+}
+
+// Whether a path is known.
+fn is_known(known: &[Text], path: &Text) -> bool
+    ensures { result ≡ is_known path.now known.now }
+{
+    known
+        .iter()
+        .any(|other| other.as_bytes() == path.as_bytes())
+}
+
+/// The path that an import names in the file at a path: itself where it begins with `/`, and else after the folder of the file.
+pub(crate) fn joined(alloc: Global, importer: &Text, path: &Text) -> Result<Text, AllocError>
+    ensures { IfOk result (λ made. made ≡ joined importer.now path.now) }
+{
+    if begins_at_root(path.as_bytes()) {
+        return Text::of(alloc, path.as_str());
+    }
+    let mut text = folder_of(alloc, importer.as_str())?;
+    text.push_str(path.as_str())?;
+    Text::of(alloc, text.as_str())
+}
+
+// The folder of the file at a path: up to its last `/`, with it.
+fn folder_of(alloc: Global, path: &str) -> Result<String, AllocError>
+    ensures { IfOk result (λ folder. string_bytes folder ≡ folder_of path.now) }
+{
+    let mut folder = String::new(alloc);
+    let mut rest = path;
+    while let Some((part, others)) = rest.split_once('/') {
+        folder.push_str(part)?;
+        folder.push_str("/")?;
+        rest = others;
+    }
+    Ok(folder)
+}
+
+// Whether a path begins with `/`.
+fn begins_at_root(path: &[u8]) -> bool
+    ensures { result ≡ begins_at_root path.now }
+{
+    match path {
+        [] => false,
+        [first, ..] => *first == b'/',
+    }
+}
