@@ -1,11 +1,12 @@
 // What is put on the output, and what is answered of a run.
 
-ghost use Rattle.std.specs.Prelude.{◌≡◌, ◌≢◌, [], ◌∷◌};
+ghost use Rattle.std.specs.Prelude.{◌≡◌, ◌≢◌, true, [], ◌∷◌, OnOk, OnErr};
 ghost use Rattle.bril_commands.specs.Outcome.{PutsPieces, end_status};
+ghost use Rattle.bril_outside.specs.Sink.{Rose, Flushed};
 ghost use Rattle.bril_report.specs.StageFaults.{status_of};
 ghost use Rattle.bril_report.specs.declared.status.Status.TheVariants.{OutOfMemory};
 
-use bril_outside::sink::Sink;
+use bril_outside::sink::{Failed, Sink};
 use bril_report::Status;
 use bril_tree::limits::End;
 
@@ -17,8 +18,19 @@ pub fn put_text<O: Sink>(text: &[u8], out: &mut O) -> Result<(), Status>
     ensures memory { status_of result ≢ OutOfMemory }
 {
     out.put(text)?;
-    out.flush()?;
+    hand_on(out)?;
     Ok(())
+}
+
+/// Has the output hand on all that it holds back. Takes no memory.
+///
+/// `Failed`: it failed to, and counted a fault.
+pub fn hand_on<O: Sink>(out: &mut O) -> Result<(), Failed>
+    ensures kept { Flushed (O.seen out.old) (O.seen out.new) }
+    ensures ok { OnOk result ((O.seen out.new).is_out ≡ true) }
+    ensures err { OnErr result (Rose (O.seen out.old).faults (O.seen out.new).faults) }
+{
+    out.flush()
 }
 
 /// What is answered of a run that ended so, or goes on after so many steps, or words of the machine, for `None`.

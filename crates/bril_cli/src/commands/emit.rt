@@ -12,6 +12,7 @@ use crate::image::image_of;
 use crate::listed_passes::ListedPasses;
 use bril_checker::Checked;
 use bril_commands::list::transformed;
+use bril_commands::output::hand_on;
 use bril_outside::sink::Sink;
 use bril_report::Status;
 use bril_tree::limits::Limits;
@@ -45,7 +46,7 @@ fn put_words<O: Sink>(words: &[u32], out: &mut O) -> Result<(), Status>
     for word in words {
         out.put(&word_line(*word))?;
     }
-    out.flush()?;
+    hand_on(out)?;
     Ok(())
 }
 

@@ -22,7 +22,7 @@ use crate::stats::tell_stats;
 use bril_checker::Checked;
 use bril_commands::arguments::values_of;
 use bril_commands::list::transformed;
-use bril_commands::output::answer;
+use bril_commands::output::{answer, hand_on};
 use bril_outside::sink::Sink;
 use bril_report::{Outputs, Status};
 use bril_tree::limits::{End, Limits};
@@ -112,7 +112,7 @@ fn run_image<O: Sink, E: Sink>(
         return Err(Status::OutOfMemory);
     };
     let ended = execute(image, program, values, settings, &mut machine, outputs.out)?;
-    outputs.out.flush()?;
+    hand_on(outputs.out)?;
     tell_stats(settings.stats, program, guards, &machine, &mut outputs.err);
     answer(ended, settings.steps)
 }

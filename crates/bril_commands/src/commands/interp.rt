@@ -9,7 +9,7 @@ ghost use Rattle.bril_report.specs.StageFaults.{status_of};
 ghost use Rattle.bril_tree.specs.Run.{FitMain};
 
 use crate::arguments::values_of;
-use crate::output::answer;
+use crate::output::{answer, hand_on};
 use bril_checker::Checked;
 use bril_interpreter::{Interp, StepAnswer};
 use bril_outside::sink::{Failed, Sink};
@@ -56,7 +56,7 @@ fn run_with<O: Sink>(
         return Err(Status::OutOfMemory);
     };
     let ended = make_steps(&mut interp, checked.prog(), limits, values, steps, out)?;
-    out.flush()?;
+    hand_on(out)?;
     answer(ended, steps)
 }
 
@@ -78,7 +78,7 @@ fn make_steps<O: Sink>(
         StepAnswer::Go => Ok(None),
         StepAnswer::End(end) => Ok(Some(end)),
         StepAnswer::WriteFault => Err(Status::CannotWrite),
-        StepAnswer::Memory => match out.flush() {
+        StepAnswer::Memory => match hand_on(out) {
             Ok(()) => Err(Status::OutOfMemory),
             Err(Failed) => Err(Status::OutOfMemory),
         },

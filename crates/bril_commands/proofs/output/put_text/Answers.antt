@@ -10,22 +10,22 @@ returns-in_err-put-clause-does g c =
     let e = err_from_is_err_and c.from_residual.result c.from_residual.ensures.1 in
     rw (e.1, e.2) (inl (PutSome-one c.in_err-put.ensures.err.0 c.in_err-put.ensures.times c.in_err-put.ensures.err.1))
 
-pub returns-in_err-flush-clause-does : goal.returns-in_err-flush-clause-does
-returns-in_err-flush-clause-does g c =
-    let e = err_from_is_err_and c.from_residual-in_err-flush.result c.from_residual-in_err-flush.ensures.1 in
-    rw (e.1, e.2) (inr (record { between = _; puts = PutsAll-one c.in_ok-put.ensures.ok c.in_ok-put.ensures.times; flushed = c.in_err-flush.ensures.kept; rose = c.in_err-flush.ensures.err }))
+pub returns-in_err-hand_on-clause-does : goal.returns-in_err-hand_on-clause-does
+returns-in_err-hand_on-clause-does g c =
+    let e = err_from_is_err_and c.from_residual-in_err-hand_on.result c.from_residual-in_err-hand_on.ensures.1 in
+    rw (e.1, e.2) (inr (record { between = _; puts = PutsAll-one c.in_ok-put.ensures.ok c.in_ok-put.ensures.times; flushed = c.in_err-hand_on.ensures.kept; rose = c.in_err-hand_on.ensures.err }))
 
 pub returns-clause-does : goal.returns-clause-does
-returns-clause-does g c = record { between = _; puts = PutsAll-one c.in_ok-put.ensures.ok c.in_ok-put.ensures.times; flushed = c.in_ok-flush.ensures.kept; out = c.in_ok-flush.ensures.ok }
+returns-clause-does g c = record { between = _; puts = PutsAll-one c.in_ok-put.ensures.ok c.in_ok-put.ensures.times; flushed = c.in_ok-hand_on.ensures.kept; out = c.in_ok-hand_on.ensures.ok }
 
 pub returns-in_err-put-clause-memory : goal.returns-in_err-put-clause-memory
 returns-in_err-put-clause-memory g c =
     let e = err_from_is_err_and c.from_residual.result c.from_residual.ensures.1 in
     rw (e.1, e.2) (λ same. cc)
 
-pub returns-in_err-flush-clause-memory : goal.returns-in_err-flush-clause-memory
-returns-in_err-flush-clause-memory g c =
-    let e = err_from_is_err_and c.from_residual-in_err-flush.result c.from_residual-in_err-flush.ensures.1 in
+pub returns-in_err-hand_on-clause-memory : goal.returns-in_err-hand_on-clause-memory
+returns-in_err-hand_on-clause-memory g c =
+    let e = err_from_is_err_and c.from_residual-in_err-hand_on.result c.from_residual-in_err-hand_on.ensures.1 in
     rw (e.1, e.2) (λ same. cc)
 
 pub returns-clause-memory : goal.returns-clause-memory

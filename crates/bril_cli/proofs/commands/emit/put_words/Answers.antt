@@ -22,13 +22,13 @@ returns-in_err-put g c =
     let failed = rw c.word_line.ensures at c.in_err-put.ensures.err in
     rw (e.1, e.2) (inl (listing-failed c.args.words.now c.loop-word.word-index 0 c.loop-word-test.true c.loop-word.invariant c.in_err-put.ensures.times failed.0 failed.1))
 
-pub returns-in_err-flush : goal.returns-in_err-flush
-returns-in_err-flush g c =
-    let e = err_from_is_err_and c.from_residual-in_err-flush.result c.from_residual-in_err-flush.ensures.1 in
+pub returns-in_err-hand_on : goal.returns-in_err-hand_on
+returns-in_err-hand_on g c =
+    let e = err_from_is_err_and c.from_residual-in_err-hand_on.result c.from_residual-in_err-hand_on.ensures.1 in
     let all = subst (λ ws. PutsAll (g.O.Sink.seen c.args.out.now) (listing ws) (g.O.Sink.seen c.loop-word.out)) (take_all c.loop-word.word-index c.args.words.now (omega arith)) c.loop-word.invariant in
-    rw (e.1, e.2) (inr (record { between = _; puts = all; flushed = c.in_err-flush.ensures.kept; rose = c.in_err-flush.ensures.err }))
+    rw (e.1, e.2) (inr (record { between = _; puts = all; flushed = c.in_err-hand_on.ensures.kept; rose = c.in_err-hand_on.ensures.err }))
 
 pub returns : goal.returns
 returns g c =
     let all = subst (λ ws. PutsAll (g.O.Sink.seen c.args.out.now) (listing ws) (g.O.Sink.seen c.loop-word.out)) (take_all c.loop-word.word-index c.args.words.now (omega arith)) c.loop-word.invariant in
-    record { between = _; puts = all; flushed = c.in_ok-flush.ensures.kept; out = c.in_ok-flush.ensures.ok }
+    record { between = _; puts = all; flushed = c.in_ok-hand_on.ensures.kept; out = c.in_ok-hand_on.ensures.ok }

@@ -22,15 +22,15 @@ returns-in_err-ended g c =
     let e = err_from_is_err_and c.from_residual.result c.from_residual.ensures.1 in
     rw (e.1, e.2) (rw c.prog.ensures.value at c.in_err-ended.ensures.err)
 
-pub returns-in_err-flush : goal.returns-in_err-flush
-returns-in_err-flush g c =
-    let e = err_from_is_err_and c.from_residual-in_err-flush.result c.from_residual-in_err-flush.ensures.1 in
+pub returns-in_err-hand_on : goal.returns-in_err-hand_on
+returns-in_err-hand_on g c =
+    let e = err_from_is_err_and c.from_residual-in_err-hand_on.result c.from_residual-in_err-hand_on.ensures.1 in
     let o = interpreted c.args.checked.now.prog c.args.values.now c.args.limits.frames c.args.limits.cells c.args.steps in
     let put = rw c.prog.ensures.value at c.in_ok-ended.ensures.ok in
-    rw (e.1, e.2) (refl, Shows-unflushed o put c.in_err-flush.ensures.kept c.in_err-flush.ensures.err)
+    rw (e.1, e.2) (refl, Shows-unflushed o put c.in_err-hand_on.ensures.kept c.in_err-hand_on.ensures.err)
 
 pub returns : goal.returns
 returns g c =
     let o = interpreted c.args.checked.now.prog c.args.values.now c.args.limits.frames c.args.limits.cells c.args.steps in
     let put = rw c.prog.ensures.value at c.in_ok-ended.ensures.ok in
-    rw c.answer.ensures (Works-ended o c.in_ok-ended.ended _ _ _ (Shows-flushed o put c.in_ok-flush.ensures.kept c.in_ok-flush.ensures.ok))
+    rw c.answer.ensures (Works-ended o c.in_ok-ended.ended _ _ _ (Shows-flushed o put c.in_ok-hand_on.ensures.kept c.in_ok-hand_on.ensures.ok))
