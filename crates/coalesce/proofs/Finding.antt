@@ -9,31 +9,11 @@ use Rattle.bril_tree.specs.declared.numbered.Instr.{Instr}
 use Rattle.bril_tree.specs.Live.{IsLive}
 use Rattle.bril_tree.specs.Operand.{Variable, dest_of}
 use Rattle.bril_tree.specs.Walk.{IsReached}
-use Rattle.graph_search.specs.Path.{IsReached as IsFound}
-use Rattle.graph_search.specs.declared.graph.Arc.{Arc}
-use Rattle.live_sets.specs.Arcs.{AreBackArcs}
-use Rattle.flow_graph.specs.Accesses.{Accesses}
-use Rattle.flow_graph.specs.Reads.{reads_from}
-use Rattle.live_sets.specs.declared.accesses.Access.{Access}
-use Rattle.live_sets.proofs.Law.{AreReaders, live-reached, reached-live}
-use Rattle.live_sets.proofs.ReadLists.{readers_are}
 use Rattle.coalesce_laws.specs.Apart.{source_of}
 use Rattle.coalesce.specs.Classes.{AddsClashes, AreClashes, Clashes, HasBoth, IsClash, clash, is_marked}
 use Rattle.coalesce.specs.declared.clashes.Clash.{Clash}
 use Rattle.coalesce.proofs.Joining.{outside}
 use Rattle.coalesce.proofs.Looking.{take-next}
-
--- ---- where a variable is live
-
-module _ (code : List Instr) (list : List Access) (reads : list ≡ reads_from 0 code) (x location : ℕ) (number : location ≡ 2 * x) (items : List ℕ) (exact : (item : ℕ) → Contains items item ↔ Accesses list location item) (arcs : List Arc) (are : AreBackArcs code arcs) where
-  readers : AreReaders code (Variable x) items
-  readers = readers_are code (Variable x) items (λ item. subst (λ n. Contains items item ↔ Accesses (reads_from 0 code) n item) number (subst (λ l. Contains items item ↔ Accesses l location item) reads (exact item)))
-
-  pub found-is_live : (seeds found : List ℕ) → seeds ≡ items → ((point : ℕ) → Contains found point ↔ IsFound arcs seeds location point) → (point : ℕ) → Contains found point ↔ IsLive code (Variable x) point
-  found-is_live seeds found same searched point = (
-    (λ c. reached-live code arcs are (Variable x) items readers point (subst (λ n. IsFound arcs items n point) number (subst (λ s. IsFound arcs s location point) same ((searched point).0 c)))),
-    (λ live. (searched point).1 (subst (λ s. IsFound arcs s location point) (sym same) (subst (λ n. IsFound arcs items n point) (sym number) (live-reached code arcs are (Variable x) items readers point live)))),
-  )
 
 -- ---- one clash
 

@@ -7,7 +7,7 @@ use Rattle.std.proofs.lemmas.List.Elements.{Contains-get_or}
 use Rattle.bril_tree.specs.Membership.{In}
 use Rattle.bril_tree.proofs.Members.{contains_in, in_contains}
 use Rattle.flow_graph.specs.Accesses.{Accesses}
-use Rattle.live_sets.specs.declared.accesses.Access.{Access}
+use Rattle.flow_graph.specs.declared.reads.Access.{Access}
 use Rattle.coalesce.specs.Classes.{firsts_from}
 use Rattle.coalesce.specs.declared.clashes.Clash.{Clash}
 

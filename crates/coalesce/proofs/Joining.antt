@@ -12,10 +12,10 @@ use Rattle.coalesce.specs.declared.clashes.Clash.{Clash}
 
 -- ---- lists
 
-class-here : (class : List ℕ) (x k : ℕ) → x < length class → class_of (set class x k) x ≡ k
+pub class-here : (class : List ℕ) (x k : ℕ) → x < length class → class_of (set class x k) x ≡ k
 class-here class x k less = get_or-set_same class x k x less
 
-class-other : (class : List ℕ) (x k z : ℕ) → (z ≡ x → ⊥) → class_of (set class x k) z ≡ class_of class z
+pub class-other : (class : List ℕ) (x k z : ℕ) → (z ≡ x → ⊥) → class_of (set class x k) z ≡ class_of class z
 class-other class x k z n = get_or-set_other class x z k z n
 
 mark-other : (marks : List Bool) (x z : ℕ) (b : Bool) → (z ≡ x → ⊥) → is_marked (set marks x b) z ≡ is_marked marks z

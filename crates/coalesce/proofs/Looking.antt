@@ -9,9 +9,9 @@ use Rattle.std.proofs.Math.Seq.{take-suc}
 use Rattle.std.proofs.lemmas.Option.{slice_get-get_or, same_Some}
 use Rattle.bril_tree.specs.declared.numbered.Instr.{Instr}
 use Rattle.bril_tree.specs.declared.numbered_function.Func.{Func}
-use Rattle.coalesce.specs.Classes.{AreClashes, Fits, IsRoundState, NoneKeepsApart, SomeKeepsApart, class_of, is_marked, keeps_apart, shadows_joined}
+use Rattle.coalesce.specs.Classes.{AreClashes, Fits, Grows, IsRoundState, NoneKeepsApart, SomeKeepsApart, class_of, is_marked, keeps_apart, shadows_joined}
 use Rattle.coalesce.specs.declared.clashes.Clash.{Clash}
-use Rattle.coalesce.proofs.Joining.{put-state}
+use Rattle.coalesce.proofs.Joining.{class-here, class-other, put-state}
 
 module _ (F : Func) (related : List Bool) (list : List Clash) (clashes : AreClashes F.code related list) (class : List ℕ) (alone shadow : List Bool) (joined : Bool) (s : IsRoundState F related class alone shadow joined)
     (x y : ℕ) (there : is_marked alone x ≡ true) (behind : F.args ≤ x) (differ : x ≢ y) (low : y < length F.vars) (relates_x : is_marked related x ≡ true) (relates_y : is_marked related y ≡ true)
@@ -30,6 +30,14 @@ module _ (F : Func) (related : List Bool) (list : List Clash) (clashes : AreClas
       (subst (λ z. IsRoundState F related (set class x k) z shadow' joined') (sym b)
       (subst (λ z. IsRoundState F related (set class x k) (set (set alone x false) k false) z joined') (sym c)
       (subst (IsRoundState F related (set class x k) (set (set alone x false) k false) (shadows_joined shadow x k)) (sym d) joined-state)))
+
+  -- what is of one class stays so, and x is of the class of y
+  pub put-grows : (class' : List ℕ) → class' ≡ set class x k → Grows class class'
+  put-grows class' a p q e = subst (λ l. class_of l p ≡ class_of l q) (sym a) (⊎_elim (λ c. ⊎_elim (λ d. ap (class_of (set class x k)) (c ∙ sym d)) (λ n. absurd (n (s.single x q there (sym e ∙ ap (class_of class) c ∙ s.own x there)))) (cases_eq q x))
+      (λ n. ⊎_elim (λ d. absurd (n (s.single x p there (e ∙ ap (class_of class) d ∙ s.own x there)))) (λ m. class-other class x k p n ∙ e ∙ sym (class-other class x k q m)) (cases_eq q x)) (cases_eq p x))
+
+  pub put-within : (class' : List ℕ) → class' ≡ set class x k → x < length F.vars → class_of class' x ≡ class_of class' y
+  put-within class' a inside = subst (λ l. class_of l x ≡ class_of l y) (sym a) (class-here class x k (omega (arith, s.are.long)) ∙ is ∙ sym (class-other class x k y (λ e. differ (sym e))))
 
 -- ---- the loop over clashes
 

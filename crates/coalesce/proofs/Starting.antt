@@ -17,7 +17,8 @@ use Rattle.coalesce_laws.specs.Apart.{Copies, HasShadow, shadows_of}
 use Rattle.coalesce_laws.specs.Merged.{NoneApart}
 use Rattle.coalesce_laws.proofs.Copying.{copy-is}
 use Rattle.bril_tree.specs.Walk.{IsReached}
-use Rattle.coalesce.specs.Classes.{IsRelatedItem, IsRoundState, MarksShadow, NotApart, Relates, class_of, is_marked}
+use Rattle.coalesce.specs.Rounds.{CopyWithin, HasCopyWithin, IsCopyWithin}
+use Rattle.coalesce.specs.Classes.{Grows, IsRelatedItem, IsRoundState, MarksShadow, NotApart, Relates, class_of, is_marked}
 
 -- ---- numbers in order
 
@@ -130,6 +131,17 @@ looked-more F n items same item low is old new kept here before e point a less r
   where
     there : slice_get F.code n ≡ Some item
     there = ap (λ l. slice_get l n) (sym same) ∙ slice_get-get_or items n item low ∙ ap Some (sym is)
+
+-- where any were joined, a reached copy lies in a class
+pub copied-more : (F : Func) (n : ℕ) (items : List Instr) → items ≡ F.code → (item : Instr) → n < length items → item ≡ get_or items n item → (class more : List ℕ) (old new : Bool) → Grows class more
+    → (new ≡ true → (old ≡ true) ⊎ (IsReached F.code n × IsCopyWithin item more)) → HasCopyWithin F class old → HasCopyWithin F more new
+copied-more F n items same item low is class more old new grows within before e = ⊎_elim earlier here (within e)
+  where
+    earlier : old ≡ true → (point : ℕ) × CopyWithin F more point
+    earlier h = let k = before h in (k.0, record { reached = k.1.reached; item = k.1.item; at = k.1.at; x = k.1.x; y = k.1.y; copies = k.1.copies; same = grows k.1.x k.1.y k.1.same })
+
+    here : IsReached F.code n × IsCopyWithin item more → (point : ℕ) × CopyWithin F more point
+    here h = (n, record { reached = h.0; item = item; at = ap (λ l. slice_get l n) (sym same) ∙ slice_get-get_or items n item low ∙ ap Some (sym is); x = h.1.0; y = h.1.1; copies = h.1.2; same = h.1.3 })
 
 pub looked-all : (F : Func) (n : ℕ) (joined : Bool) → length F.code ≤ n → AreLookedAt F n joined → joined ≡ false → NoneApart F
 looked-all F n joined long looked e point item x y reached at c differ apart = let l = slice_get_within F.code point item at in looked e point item (omega arith) reached at x y c differ apart

@@ -7,7 +7,7 @@ use Rattle.bril_tree.specs.Live.{IsLive}
 use Rattle.bril_tree.specs.Operand.{Variable, dest_of}
 use Rattle.bril_tree.specs.Typing.{variable_type}
 use Rattle.bril_tree.specs.Walk.{IsReached}
-use Rattle.live_sets.specs.declared.accesses.Access.{Access}
+use Rattle.flow_graph.specs.declared.reads.Access.{Access}
 use Rattle.coalesce_laws.specs.Apart.{AreApart, Copies, HasShadow, shadows_of, source_of}
 use Rattle.coalesce.specs.declared.clashes.Clash.{Clash}
 
@@ -115,6 +115,10 @@ pub data Misfits (F : Func) (list : List Clash) (class : List ℕ) (shadow : Lis
 -- the marks of shadows, where x gets the name of the class k
 abbrev pub shadows_joined : List Bool → (x k : ℕ) → List Bool
 shadows_joined shadow x k = if is_marked shadow x then slice_set shadow k true else shadow
+
+-- what is of one class stays so
+abbrev pub Grows : (class more : List ℕ) → Type 0
+Grows class more = (x y : ℕ) → class_of class x ≡ class_of class y → class_of more x ≡ class_of more y
 
 -- the copies that were looked at aren't apart, where nothing was joined
 abbrev pub NotApart : Func → Instr → Type 0

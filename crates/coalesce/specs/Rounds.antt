@@ -56,3 +56,7 @@ pub record MarksFirst (F : Func) (class : List ℕ) (n : ℕ) (marks : List Bool
 -- the item copies a variable to one of its class
 abbrev pub IsCopyWithin : Instr → List ℕ → Type 0
 IsCopyWithin item class = (x : ℕ) × (y : ℕ) × Copies item x y × (class_of class x ≡ class_of class y)
+
+-- where any two variables were joined, a reached item copies a variable to one of its class
+abbrev pub HasCopyWithin : Func → List ℕ → Bool → Type 0
+HasCopyWithin F class joined = joined ≡ true → (point : ℕ) × CopyWithin F class point

@@ -6,16 +6,14 @@ ghost use Rattle.bril_tree.specs.Live.{IsLive};
 ghost use Rattle.bril_tree.specs.Operand.{Variable};
 ghost use Rattle.bril_tree.specs.Walk.{IsReached};
 ghost use Rattle.flow_graph.specs.Graph.{IsGraphOf};
-ghost use Rattle.live_sets.specs.Arcs.{AreBackArcs};
-ghost use Rattle.flow_graph.specs.Accesses.{Accesses};
-ghost use Rattle.flow_graph.specs.Reads.{reads_from};
+ghost use Rattle.live_sets.specs.Flow.{IsFlowOf};
 ghost use Rattle.coalesce_laws.specs.Apart.{source_of};
 ghost use Rattle.coalesce.specs.Classes.{AddsClashes, AreClashes, Clashes, is_marked};
 
 use crate::copies::{dest_of, source_of};
 use bril_tree::numbered::Instr;
 use bril_tree::numbered_function::Func;
-use flow_graph::Graph;
+use flow_graph::{Graph, variable_number};
 use graph_search::Reached;
 use live_sets::Flow;
 use std::alloc::{AllocError, Global};
@@ -28,27 +26,6 @@ pub struct Clash {
     pub other: u32,
 }
 
-// The number of the location of a variable in the analysis of what is live.
-fn location_of(x: u32) -> Result<u32, AllocError>
-    ensures { IfOk result (λ number. number ≡ 2 * x) }
-{
-    if x > u32::MAX / 2 {
-        return Err(AllocError);
-    }
-    Ok(2 * x)
-}
-
-// The items that read the location; none where no item reads one of a number as high.
-fn readers_of(alloc: Global, flow: &Flow, location: u32) -> Result<Vec<u32>, AllocError>
-    ensures { IfOk result (λ items. (item : ℕ) → Contains items.items item ↔ Accesses flow.now.reads.list location item) }
-{
-    let reads = flow.reads();
-    if location as usize >= reads.locations() {
-        return Ok(Vec::new(alloc));
-    }
-    reads.items(alloc, location)
-}
-
 // Finds where the variable is live.
 fn search(
     alloc: Global,
@@ -58,16 +35,13 @@ fn search(
     x: u32,
 ) -> Result<(), AllocError>
     requires points { reached.old.nodes ≡ flow.now.points }
-    requires total { flow.now.points ≡ length _func.now.code + 1 }
-    requires reads { flow.now.reads.list ≡ reads_from 0 _func.now.code }
-    requires arcs { AreBackArcs _func.now.code flow.now.arcs }
+    requires flow { IsFlowOf _func.now.code flow.now }
     ensures points { reached.new.nodes ≡ reached.old.nodes }
     ensures within { OnOk result (All (λ point. point < length _func.now.code + 1) reached.new.found) }
     ensures found { OnOk result ((point : ℕ) → Contains reached.new.found point ↔ IsLive _func.now.code (Variable x) point) }
 {
-    let location = location_of(x)?;
-    let items = readers_of(alloc, flow, location)?;
-    flow.search(reached, items.as_slice(), location)?;
+    let location = variable_number(x)?;
+    flow.search_live(alloc, reached, location)?;
     Ok(())
 }
 
@@ -176,9 +150,7 @@ fn push_variable(
 ) -> Result<(), AllocError>
     requires graph { IsGraphOf func.now.code graph.now }
     requires points { reached.old.nodes ≡ flow.now.points }
-    requires total { flow.now.points ≡ length func.now.code + 1 }
-    requires reads { flow.now.reads.list ≡ reads_from 0 func.now.code }
-    requires arcs { AreBackArcs func.now.code flow.now.arcs }
+    requires flow { IsFlowOf func.now.code flow.now }
     ensures points { reached.new.nodes ≡ reached.old.nodes }
     ensures adds { OnOk result (AddsClashes func.now.code related.now x (λ p. (is_marked related.now x ≡ true) × IsLive func.now.code (Variable x) p) list.old.items list.new.items) }
 {
@@ -198,9 +170,7 @@ pub(crate) fn clashes_of(
     related: &[bool],
 ) -> Result<Vec<Clash>, AllocError>
     requires graph { IsGraphOf func.now.code graph.now }
-    requires total { flow.now.points ≡ length func.now.code + 1 }
-    requires reads { flow.now.reads.list ≡ reads_from 0 func.now.code }
-    requires arcs { AreBackArcs func.now.code flow.now.arcs }
+    requires flow { IsFlowOf func.now.code flow.now }
     requires few { length related.now ≤ 2 ^ 32 }
     ensures { IfOk result (λ list. AreClashes func.now.code related.now list.items) }
 {

@@ -1,6 +1,6 @@
 // Classes of variables, which grow by one variable at a time.
 
-ghost use Rattle.std.specs.Prelude.{◌≡◌, ◌≢◌, Some, ◌<◌, ◌≤◌, ◌+◌, ◌^◌, ◌-◌, ◌&&◌, ℕ, true, false, None, is_some, IfOk, OnOk, length, slice_get, slice_set, vec_len};
+ghost use Rattle.std.specs.Prelude.{◌≡◌, ◌≢◌, ◌⊎◌, Some, ◌<◌, ◌≤◌, ◌+◌, ◌^◌, ◌-◌, ◌&&◌, ℕ, true, false, None, is_some, IfOk, OnOk, length, slice_get, slice_set, vec_len};
 ghost use Rattle.std.specs.List.{All, Contains};
 ghost use Rattle.bril_tree.specs.Typing.{variable_type};
 ghost use Rattle.bril_tree.specs.Shape.{shape_fault_of};
@@ -11,15 +11,16 @@ ghost use Rattle.flow_graph.specs.Graph.{IsGraphOf};
 ghost use Rattle.coalesce_laws.specs.Apart.{AreApart, HasShadow};
 ghost use Rattle.coalesce_laws.specs.Merged.{NoneApart};
 ghost use Rattle.coalesce.specs.declared.clashes.Clash.{Clash};
-ghost use Rattle.coalesce.specs.Classes.{AreAlone, AreClashes, AreClasses, Fits, MarksShadow, Relates, IsRelatedItem, IsRoundState, Misfits, NoneKeepsApart, NotApart, SomeKeepsApart, class_of, firsts_from, is_marked, is_source, keeps_apart, shadows_joined, source_at};
+ghost use Rattle.coalesce.specs.Rounds.{HasCopyWithin, IsCopyWithin};
+ghost use Rattle.coalesce.specs.Classes.{AreAlone, AreClashes, AreClasses, Fits, Grows, MarksShadow, Relates, IsRelatedItem, IsRoundState, Misfits, NoneKeepsApart, NotApart, SomeKeepsApart, class_of, firsts_from, is_marked, is_source, keeps_apart, shadows_joined, source_at};
 
 use crate::clashes::{Clash, clashes_of, is_marked};
 use crate::copies::{dest_of, shadow_of, source_of};
-use crate::types::same_result;
 use bril_tree::numbered::Instr;
 use bril_tree::numbered_function::Func;
-use flow_graph::Graph;
-use live_sets::{Access, AccessLists, Flow};
+use bril_tree::typing::same_result;
+use flow_graph::{Access, AccessLists, Graph};
+use live_sets::Flow;
 use std::alloc::{AllocError, Global};
 
 // The class of each variable, by the variable that names it; which variables are a class alone; which classes have a variable
@@ -74,9 +75,6 @@ impl ClashRows {
         ensures all { IfOk result (λ places. (place : ℕ) (c : Clash) → slice_get self.now.list.items place ≡ Some c → c.one ≡ x → Contains places.items place) }
         ensures only { IfOk result (λ places. (place : ℕ) (c : Clash) → slice_get self.now.list.items place ≡ Some c → Contains places.items place → c.one ≡ x) }
     {
-        if x as usize >= self.rows.locations() {
-            return Ok(Vec::new(alloc));
-        }
         let places = self.rows.items(alloc, x)?;
         Ok(places)
     }
@@ -181,6 +179,7 @@ pub(crate) fn classes_in(alloc: Global, func: &Func, graph: &Graph) -> Result<Cl
     ensures are { IfOk result (λ classes. AreClasses func.now classes.class.items) }
     ensures alone { IfOk result (λ classes. classes.joined ≡ false → AreAlone classes.class.items) }
     ensures none { IfOk result (λ classes. classes.joined ≡ false → NoneApart func.now) }
+    ensures copied { IfOk result (λ classes. HasCopyWithin func.now classes.class.items classes.joined) }
 {
     if func.vars.as_slice().len() > u32::MAX as usize {
         return Err(AllocError);
@@ -208,7 +207,8 @@ impl Classes {
     // Each variable alone.
     fn new(alloc: Global, func: &Func, _related: &[bool]) -> Result<Classes, AllocError>
         requires { length func.now.vars ≤ 2 ^ 32 }
-        ensures { IfOk result (λ classes. IsRoundState func.now _related.now classes.class.items classes.alone.items classes.shadow.items classes.joined) }
+        ensures state { IfOk result (λ classes. IsRoundState func.now _related.now classes.class.items classes.alone.items classes.shadow.items classes.joined) }
+        ensures none { IfOk result (λ classes. classes.joined ≡ false) }
     {
         let count = func.vars.as_slice().len();
         let class = numbers_below(alloc, count)?;
@@ -356,6 +356,8 @@ impl Classes {
         ensures state { OnOk result (IsRoundState func.now _related.now self.new.class.items self.new.alone.items self.new.shadow.items self.new.joined) }
         ensures kept { OnOk result (self.new.joined ≡ false → self.old.joined ≡ false) }
         ensures misfits { OnOk result (self.new.joined ≡ false → Misfits func.now clashes.now.list.items self.old.class.items self.old.shadow.items x (class_of self.old.class.items y)) }
+        ensures grows { OnOk result (Grows self.old.class.items self.new.class.items) }
+        ensures within { OnOk result (self.new.joined ≡ true → (self.old.joined ≡ true) ⊎ (class_of self.new.class.items x ≡ class_of self.new.class.items y)) }
     {
         let class = self.class_of(y);
         if self.fits(alloc, func, clashes, x, class)? {
@@ -385,6 +387,8 @@ impl Classes {
         ensures state { OnOk result (IsRoundState func.now related.now self.new.class.items self.new.alone.items self.new.shadow.items self.new.joined) }
         ensures kept { OnOk result (self.new.joined ≡ false → self.old.joined ≡ false) }
         ensures apart { OnOk result (self.new.joined ≡ false → AreApart func.now x y → ⊥) }
+        ensures grows { OnOk result (Grows self.old.class.items self.new.class.items) }
+        ensures within { OnOk result (self.new.joined ≡ true → (self.old.joined ≡ true) ⊎ (class_of self.new.class.items x ≡ class_of self.new.class.items y)) }
     {
         if self.may_move(func, x) {
             self.join(alloc, func, clashes, related, x, y)?;
@@ -411,6 +415,8 @@ impl Classes {
         ensures state { OnOk result (IsRoundState func.now related.now self.new.class.items self.new.alone.items self.new.shadow.items self.new.joined) }
         ensures kept { OnOk result (self.new.joined ≡ false → self.old.joined ≡ false) }
         ensures apart { OnOk result (self.new.joined ≡ false → NotApart func.now item.now) }
+        ensures grows { OnOk result (Grows self.old.class.items self.new.class.items) }
+        ensures within { OnOk result (self.new.joined ≡ true → (self.old.joined ≡ true) ⊎ IsCopyWithin item.now self.new.class.items) }
     {
         if let (Some(x), Some(y)) = (dest_of(item), source_of(item)) {
             if x != y {
@@ -439,6 +445,8 @@ impl Classes {
         ensures state { OnOk result (IsRoundState func.now related.now self.new.class.items self.new.alone.items self.new.shadow.items self.new.joined) }
         ensures kept { OnOk result (self.new.joined ≡ false → self.old.joined ≡ false) }
         ensures apart { OnOk result (self.new.joined ≡ false → IsReached func.now.code point → NotApart func.now item.now) }
+        ensures grows { OnOk result (Grows self.old.class.items self.new.class.items) }
+        ensures within { OnOk result (self.new.joined ≡ true → (self.old.joined ≡ true) ⊎ (IsReached func.now.code point × IsCopyWithin item.now self.new.class.items)) }
     {
         if !graph.reach(point) {
             return Ok(());

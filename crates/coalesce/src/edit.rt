@@ -16,10 +16,10 @@ use bril_tree::function_tree::{Dest, Item};
 use bril_tree::name::Name;
 use bril_tree::numbered::Instr;
 use bril_tree::numbered_function::Func;
-use bril_tree::operation::Op;
 use bril_tree::sequence::Seq;
 use bril_tree::types::Ty;
 use flow_graph::Graph;
+use pass_make::nop;
 use std::alloc::{AllocError, Global};
 
 // The class of a variable.
@@ -163,19 +163,6 @@ fn named_item(
             funcs: renamed(alloc, funcs, callees.as_slice())?,
             labels: renamed(alloc, labels_here, labels.as_slice())?,
         }),
-    }
-}
-
-// The item that does nothing.
-fn nop(alloc: Global) -> Item
-    ensures { result ≡ nop_item }
-{
-    Item::Act {
-        dest: None,
-        op: Op::Nop,
-        args: Seq::new(alloc),
-        funcs: Seq::new(alloc),
-        labels: Seq::new(alloc),
     }
 }
 

@@ -2,7 +2,7 @@ use Rattle.std.proofs.Common.{◌≡◌, length, Some, refl, sym, ap, subst, ari
 use Rattle.std.specs.Prelude.{slice_get}
 use Rattle.std.proofs.lemmas.Option.{slice_get_read}
 use Rattle.coalesce.specs.Classes.{IsRelatedItem, IsRoundState}
-use Rattle.coalesce.proofs.Starting.{looked-more, looked-all}
+use Rattle.coalesce.proofs.Starting.{copied-more, looked-more, looked-all}
 use Rattle.coalesce.proofs.classes.classes_in.Goals as goal
 
 pub look_at_point-requires-clause-item : goal.look_at_point-requires-clause-item
@@ -14,6 +14,8 @@ look_at_point-requires-clause-item c =
 pub loop-point-preserved : goal.loop-point-preserved
 loop-point-preserved c = record {
   state = subst (λ r. IsRoundState c.args.func.now r c.look_at_point.new.self.class.items c.look_at_point.new.self.alone.items c.look_at_point.new.self.shadow.items c.look_at_point.new.self.joined) c.as_slice-in-loop-point.ensures.value c.in_ok-look_at_point.ensures.state;
+  copied = copied-more c.args.func.now c.loop-point.point c.as_slice-item-items.result.now c.as_slice-item-items.ensures c.item-item.result c.loop-point-test.true c.item-item.is c.loop-point.classes.class.items c.look_at_point.new.self.class.items c.loop-point.classes.joined c.look_at_point.new.self.joined
+      c.in_ok-look_at_point.ensures.grows c.in_ok-look_at_point.ensures.within c.loop-point.invariant.copied;
   looked = looked-more c.args.func.now c.loop-point.point c.as_slice-item-items.result.now c.as_slice-item-items.ensures c.item-item.result c.loop-point-test.true c.item-item.is c.loop-point.classes.joined c.look_at_point.new.self.joined
       c.in_ok-look_at_point.ensures.kept c.in_ok-look_at_point.ensures.apart c.loop-point.invariant.looked;
 }
