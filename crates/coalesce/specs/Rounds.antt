@@ -10,6 +10,7 @@ use Rattle.bril_tree.specs.Numbered.{function_tree, item_tree, named, names_of_f
 use Rattle.bril_tree.specs.Walk.{IsReached}
 use Rattle.pass_plan.specs.Marked.{with_nops}
 use Rattle.coalesce_laws.specs.Apart.{Copies}
+use Rattle.coalesce_laws.specs.Merged.{NoneApart}
 use Rattle.coalesce.specs.Classes.{AreClasses, class_of, is_marked}
 
 -- the new names are those of the classes
@@ -60,3 +61,7 @@ IsCopyWithin item class = (x : ℕ) × (y : ℕ) × Copies item x y × (class_of
 -- where any two variables were joined, a reached item copies a variable to one of its class
 abbrev pub HasCopyWithin : Func → List ℕ → Bool → Type 0
 HasCopyWithin F class joined = joined ≡ true → (point : ℕ) × CopyWithin F class point
+
+-- in no function of the program a reached copy is left between two different variables that are apart
+abbrev pub HasNoneApart : Prog → Type 0
+HasNoneApart P = (f : ℕ) (F : Func) → slice_get P.funcs f ≡ Some F → NoneApart F
