@@ -43,7 +43,8 @@ use Rattle.bril_names.proofs.Variables.{arguments_of}
 use Rattle.coalesce_laws.specs.Merged.{IsMerged, IsRenamed, IsRenamedAt, IsRound, NoneApart, IsSelfCopy, renamed_dest, renamed_item}
 use Rattle.coalesce_laws.proofs.Accepted.{walks}
 use Rattle.coalesce_laws.proofs.Copying.{copy-is}
-use Rattle.coalesce_laws.proofs.Names.{named-map, renamed-found, tree-renamed}
+use Rattle.coalesce_laws.proofs.Names.{named-map}
+use Rattle.coalesce_laws.proofs.Points.{both, no-item, no-older}
 use Rattle.coalesce_laws.proofs.Refines.{copy-nop, merge_plan, preserves}
 
 -- ---- a round reaches the same points
@@ -152,26 +153,6 @@ module _ (P Q : Prog) (heads : SameHeads P Q) (accepted : IsAccepted P) (accepte
   abbrev fs : List (List ℕ)
   fs = names_of_functions P.funcs
 
-  record Both (a b : Instr) : Type 0 where
-    labels : List (List ℕ)
-    result_labels : List (List ℕ)
-    one : item_tree fs N labels a ≡ item_tree fs W result_labels b
-    range : IsInRange (length fs) (length N) (length labels) a
-    result_range : IsInRange (length fs) (length W) (length result_labels) b
-
-  both : (a b : Instr) → item_at P f i ≡ Some a → item_at Q f i ≡ Some b → Both a b
-  both a b at bt =
-      let fa = found P f i a at in
-      let fb = found Q f i b bt in
-      let under = found_under fs Q heads.names f i b fb in
-      record {
-        labels = fa.function.labels;
-        result_labels = fb.function.labels;
-        one = same_Some _ _ (sym (renamed-found P f i a at fa.function fa.there N) ∙ sym (tree-renamed P f i r) ∙ sym same ∙ under.tree);
-        range = subst (λ n. IsInRange (length fs) n (length fa.function.labels) a) (sym (length-map V r)) fa.range;
-        result_range = under.range;
-      }
-
   name-of : (x : ℕ) → x < length N → named N x ≡ r (named V x)
   name-of x less = named-map r V x (let l = length-map V r in omega arith)
 
@@ -188,11 +169,11 @@ module _ (P Q : Prog) (heads : SameHeads P Q) (accepted : IsAccepted P) (accepte
   copy-there a at x y c = by (item_at Q f i) refl
     where
       by : (o : Option Instr) → item_at Q f i ≡ o → CopyThere x y
-      by None bt = absurd (let h = sym (renamed-found P f i a at (found P f i a at).function (found P f i a at).there N) ∙ sym (tree-renamed P f i r) ∙ sym same ∙ nothing_at Q f i bt in cc)
+      by None bt = absurd (no-item P Q heads f i r same bt a at)
       by (Some b) bt =
-          let k = both a b at bt in
+          let k = both P Q heads f i r same a b at bt in
           let facts = shaped_here P accepted f i a at in
-          let h = item-shares fs N W k.labels k.result_labels (Differ-functions P) (λ z. Unit {0}) facts.ret a b facts.shaped k.one k.range k.result_range (λ z m. tt) in
+          let h = item-shares fs N W k.function.labels k.result.labels (Differ-functions P) (λ z. Unit {0}) facts.ret a b facts.shaped k.one k.range k.result_range (λ z m. tt) in
           let m = copy-beside _ N W a b h.same h.dests h.operands (one-argument facts.ret a x y facts.shaped c) x y c in
           record { b = b; bt = bt; x' = m.x'; y' = m.y'; copies = m.copies; dest = sym (name-of x m.dest.0) ∙ m.dest.2; source = sym (name-of y m.source.0) ∙ m.source.2 }
 
@@ -209,11 +190,11 @@ module _ (P Q : Prog) (heads : SameHeads P Q) (accepted : IsAccepted P) (accepte
   copy-back b bt x' y' c = by (item_at P f i) refl
     where
       by : (o : Option Instr) → item_at P f i ≡ o → CopyBack x' y'
-      by None at = absurd (let h = sym (found Q f i b bt).tree ∙ same ∙ ap (option_map (renamed_item r)) (nothing_at P f i at) in cc)
+      by None at = absurd (no-older P Q heads f i r same at b bt)
       by (Some a) at =
-          let k = both a b at bt in
+          let k = both P Q heads f i r same a b at bt in
           let facts = shaped_here Q accepted_q f i b bt in
-          let h = item-shares fs W N k.result_labels k.labels (Differ-functions P) (λ z. Unit {0}) facts.ret b a facts.shaped (sym k.one) k.result_range k.range (λ z m. tt) in
+          let h = item-shares fs W N k.result.labels k.function.labels (Differ-functions P) (λ z. Unit {0}) facts.ret b a facts.shaped (sym k.one) k.result_range k.range (λ z m. tt) in
           let m = copy-beside _ W N b a h.same h.dests h.operands (one-argument facts.ret b x' y' facts.shaped c) x' y' c in
           record { a = a; at = at; x = m.x'; y = m.y'; copies = m.copies; dest = sym (name-of m.x' m.dest.1) ∙ sym m.dest.2; source = sym (name-of m.y' m.source.1) ∙ sym m.source.2 }
 

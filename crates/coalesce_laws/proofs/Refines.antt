@@ -55,6 +55,7 @@ use Rattle.pass_steps.proofs.Refinement.{plan_refines}
 use Rattle.pass_steps.proofs.Shapes.{shaped_here}
 use Rattle.coalesce_laws.specs.Merged.{IsRound, IsSelfCopy, new_name, renamed_item}
 use Rattle.coalesce_laws.proofs.Copying.{Copy, copy-is, assigning-onward, assigned-shadow, live-shadow}
+use Rattle.coalesce_laws.proofs.Points.{label-kept, nop-there}
 use Rattle.coalesce_laws.proofs.Names.{named-map, renamed-none, tree-renamed}
 
 -- ---- numbers from 0
@@ -93,21 +94,8 @@ module _ (P Q : Prog) (rename : ℕ → List ℕ → List ℕ) (t : IsRound P Q 
   pub regular-tree : (f i : ℕ) → (IsSelfCopy P f (rename f) i → ⊥) → renamed_tree (names_of_functions P.funcs) (names f) (slice_get P.funcs f) i ≡ tree_at Q f i
   regular-tree f i regular = ⊎_elim (λ s. absurd (regular s.0)) (λ r. sym (tree-renamed P f i (rename f)) ∙ sym r.1) (t.points f i)
 
-  -- at a copy of a variable to one of its new name the result has a `nop`
   pub copy-nop : (f i : ℕ) → IsSelfCopy P f (rename f) i → item_at Q f i ≡ Some nop
-  copy-nop f i s = ⊎_elim (λ c. nop-at Q f i c.1) (λ r. absurd (r.0 s)) (t.points f i)
-
-  -- a label of the program is one of the result
-  no_label : (f i : ℕ) (name : List ℕ) → IsSelfCopy P f (rename f) i → tree_at P f i ≡ Some (item.Label name) → ⊥
-  no_label f i name s at =
-      let c = copy-is s.item s.x s.y s.copies in
-      let fa = found P f i s.item s.at in
-      let e : item_tree (names_of_functions P.funcs) (names_in (slice_get P.funcs f)) fa.function.labels s.item ≡ item.Label name = same_Some _ _ (sym fa.tree ∙ at) in
-      let k = sym (ap (item_tree (names_of_functions P.funcs) (names_in (slice_get P.funcs f)) fa.function.labels) c.is) ∙ e in
-      cc
-
-  pub kept_label : (f i : ℕ) (name : List ℕ) → tree_at P f i ≡ Some (item.Label name) → tree_at Q f i ≡ Some (item.Label name)
-  kept_label f i name at = ⊎_elim (λ s. absurd (no_label f i name s.0 at)) (λ r. r.1 ∙ ap (option_map (renamed_item (rename f))) at) (t.points f i)
+  copy-nop f i s = nop-there P Q f (rename f) (t.points f) i s
 
   -- the new name of a number
   pub name-is : (f x : ℕ) → x < length (names f) → named (names f) x ≡ new_name P f (rename f) x
@@ -213,7 +201,7 @@ module _ (P Q : Prog) (rename : ℕ → List ℕ → List ℕ) (t : IsRound P Q 
       fresh = λ f vs count a b h. fresh f vs count a b h.0 h.1;
       same = λ f i j reached points regular. regular-tree f i regular ∙ ap (tree_at Q f) points;
       next = λ f i j reached points regular among. ap suc points;
-      labels = λ f i j name reached at bt. label_once Q f i j name (kept_label f i name at) bt;
+      labels = λ f i j name reached at bt. label_once Q f i j name (label-kept P Q f (rename f) (t.points f) i name at) bt;
       reads = λ f i j a x reached points regular at h. live-reads (code_of P f) i a x at h;
       flows = λ f i w x reached among plain live none. live-flows (code_of P f) i w x among plain live none;
       apart = λ f i j w x y reached points regular among plain live named h. apart f i j regular reached (regular-tree f i regular ∙ ap (tree_at Q f) points) w x y among live named h;
