@@ -1,5 +1,5 @@
 -- Rounds that change a program leave fewer copies.
-use Rattle.std.proofs.Common.{◌≡◌, ℕ, zero, suc, ◌+◌, ◌<◌, ◌≤◌, Bool, true, false, cond, List, [], ◌∷◌, length, map, Some, refl, sym, ap, ◌∙◌, arith}
+use Rattle.std.proofs.Common.{◌≡◌, ℕ, zero, suc, ◌+◌, ◌<◌, ◌≤◌, Bool, true, false, List, [], ◌∷◌, map, Some, refl, ap, ◌∙◌, arith}
 use Rattle.std.specs.Prelude.{slice_get}
 use Rattle.std.proofs.lemmas.Option.{same_Some}
 use Rattle.bril_tree.specs.declared.function_tree.FuncTree.{FuncTree}
@@ -13,7 +13,7 @@ use Rattle.pass_plan.specs.Marked.{with_nops}
 use Rattle.coalesce_laws.proofs.Copying.{copy-is}
 use Rattle.coalesce.specs.Classes.{is_marked}
 use Rattle.coalesce.specs.Copies.{copies_in, item_copies}
-use Rattle.coalesce.specs.Rounds.{CopyWithin, IsRoundFunction, MarksCopies}
+use Rattle.coalesce.specs.Rounds.{IsRoundFunction, MarksCopies}
 
 -- other names of variables leave as many copies
 copies-renamed : (fs V W ls : List (List ℕ)) (code : List Instr) → copies_in (map (item_tree fs V ls) code) ≡ copies_in (map (item_tree fs W ls) code)

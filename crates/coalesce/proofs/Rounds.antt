@@ -114,8 +114,8 @@ module _ (P : Prog) (accepted : IsAccepted P) where
           by false e = inr (
             (λ s. m.round.marked.all i e (from-self i s)),
             tree-now i ∙ with_nops-alive nop_item m.round.marks (map (item_tree fs m.round.news F.labels) F.code) i e ∙ slice_get-map (item_tree fs m.round.news F.labels) F.code i
-            ∙ ap (λ l. option_map (item_tree fs l F.labels) (slice_get F.code i)) (sym (names-renamed P f F p m.round.class m.round.are m.round.news m.round.names))
-            ∙ ap (λ o. renamed_tree fs (map own (names_in o)) o i) (sym p) ∙ sym (tree-renamed P f i own),
+                ∙ ap (λ l. option_map (item_tree fs l F.labels) (slice_get F.code i)) (sym (names-renamed P f F p m.round.class m.round.are m.round.news m.round.names))
+                ∙ ap (λ o. renamed_tree fs (map own (names_in o)) o i) (sym p) ∙ sym (tree-renamed P f i own),
           )
 
     points : (f i : ℕ) → IsRenamedAt P f (rename f) Q i

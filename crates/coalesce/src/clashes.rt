@@ -1,10 +1,9 @@
 // Clashes of the variables that copies relate: one is assigned while the other is live.
 
-ghost use Rattle.std.specs.Prelude.{◌≡◌, ◌↔◌, ◌<◌, ◌≤◌, ◌+◌, ◌*◌, ◌^◌, ◌-◌, ◌⊎◌, ℕ, suc, true, false, Some, IfOk, OnOk, IfSome, IfNone, None, is_some, length, map, slice_get};
+ghost use Rattle.std.specs.Prelude.{◌≡◌, ◌↔◌, ◌<◌, ◌≤◌, ◌+◌, ◌*◌, ◌^◌, ◌-◌, ℕ, suc, true, false, Some, IfOk, OnOk, IfSome, IfNone, None, length};
 ghost use Rattle.std.specs.List.{All, Contains};
 ghost use Rattle.bril_tree.specs.Live.{IsLive};
 ghost use Rattle.bril_tree.specs.Operand.{Variable};
-ghost use Rattle.bril_tree.specs.Walk.{IsReached};
 ghost use Rattle.flow_graph.specs.Graph.{IsGraphOf};
 ghost use Rattle.live_sets.specs.Flow.{IsFlowOf};
 ghost use Rattle.coalesce_laws.specs.Apart.{source_of};
@@ -177,7 +176,16 @@ pub(crate) fn clashes_of(
     let mut reached = Reached::new(alloc, flow.points())?;
     let mut list = Vec::new(alloc);
     for x in 0..related.len() {
-        push_variable(alloc, &mut list, func, graph, flow, &mut reached, related, x as u32)?;
+        push_variable(
+            alloc,
+            &mut list,
+            func,
+            graph,
+            flow,
+            &mut reached,
+            related,
+            x as u32,
+        )?;
     }
     Ok(list)
 }

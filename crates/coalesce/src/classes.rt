@@ -1,6 +1,6 @@
 // Classes of variables, which grow by one variable at a time.
 
-ghost use Rattle.std.specs.Prelude.{◌≡◌, ◌≢◌, ◌⊎◌, Some, ◌<◌, ◌≤◌, ◌+◌, ◌^◌, ◌-◌, ◌&&◌, ℕ, true, false, None, is_some, IfOk, OnOk, length, slice_get, slice_set, vec_len};
+ghost use Rattle.std.specs.Prelude.{◌≡◌, ◌≢◌, ◌⊎◌, Some, ◌<◌, ◌≤◌, ◌^◌, ◌-◌, ◌&&◌, ℕ, true, false, None, is_some, IfOk, OnOk, length, slice_get, slice_set};
 ghost use Rattle.std.specs.List.{All, Contains};
 ghost use Rattle.bril_tree.specs.Typing.{variable_type};
 ghost use Rattle.bril_tree.specs.Shape.{shape_fault_of};

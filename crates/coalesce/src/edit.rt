@@ -1,13 +1,12 @@
 // The edit of the tree: new names, and `nop` for copies inside a class.
 
-ghost use Rattle.std.specs.Prelude.{◌≡◌, ◌<◌, ◌+◌, ◌^◌, ◌-◌, ℕ, List, true, false, Some, IfOk, if◌then◌else◌, length, map, slice_get};
+ghost use Rattle.std.specs.Prelude.{◌≡◌, ◌<◌, ◌^◌, ◌-◌, true, false, Some, IfOk, if◌then◌else◌, length, map, slice_get};
 ghost use Rattle.std.specs.List.{list_any};
 ghost use Rattle.bril_tree.specs.Numbered.{dest_tree, item_tree, named, nop_item, variable_names};
 ghost use Rattle.bril_names.specs.Range.{AreBelow, AreInRange, IsInRange};
 ghost use Rattle.pass_plan.specs.Marked.{with_nops};
-ghost use Rattle.bril_tree.specs.FunctionForm.{listed, variables_of};
+ghost use Rattle.bril_tree.specs.FunctionForm.{listed};
 ghost use Rattle.flow_graph.specs.Graph.{IsGraphOf};
-ghost use Rattle.coalesce_laws.specs.Apart.{Copies};
 ghost use Rattle.coalesce.specs.Classes.{AreClasses, class_of};
 ghost use Rattle.coalesce.specs.Rounds.{CopyWithin, IsCopyWithin, MarksCopies, NamesClasses};
 
@@ -27,7 +26,11 @@ use std::alloc::{AllocError, Global};
 fn class_of(class: &[u32], x: u32) -> u32
     ensures { result ≡ class_of class.now x }
 {
-    if (x as usize) < class.len() { class[x as usize] } else { x }
+    if (x as usize) < class.len() {
+        class[x as usize]
+    } else {
+        x
+    }
 }
 
 // Whether the item copies a variable to one of its class.

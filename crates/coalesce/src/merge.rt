@@ -1,6 +1,6 @@
 // The pass, in rounds until one changes nothing.
 
-ghost use Rattle.std.specs.Prelude.{◌≡◌, ◌<◌, ◌≤◌, IfOk, IfSome, IfNone};
+ghost use Rattle.std.specs.Prelude.{◌<◌, IfOk, IfSome, IfNone};
 ghost use Rattle.bril_tree.specs.Accepted.{IsAccepted};
 ghost use Rattle.bril_tree.specs.Numbered.{tree_of};
 ghost use Rattle.bril_tree.specs.Size.{IsCounted};

@@ -1,5 +1,5 @@
 -- What a round makes is accepted.
-use Rattle.std.proofs.Common.{◌≡◌, ℕ, suc, List, [], ◌∷◌, map, Option, Some, None, refl, sym, ap, subst, ◌∙◌, inl, inr, ⊎_elim, arith}
+use Rattle.std.proofs.Common.{◌≡◌, ℕ, suc, List, [], ◌∷◌, map, Some, refl, sym, ap, subst, ◌∙◌, inl, inr, ⊎_elim, arith}
 use Rattle.std.specs.Prelude.{slice_get, is_some}
 use Rattle.std.specs.List.{range_with_len}
 use Rattle.std.proofs.lemmas.Option.{same_Some}
@@ -26,42 +26,27 @@ use Rattle.bril_tree.proofs.Liveness.{live-flows, live_assigned}
 use Rattle.bril_tree.proofs.Members.{in_map}
 use Rattle.bril_names.proofs.Functions.{Differ-functions}
 use Rattle.pass_names.specs.Named.{SameLocation}
-use Rattle.pass_names.specs.NamedPlan.{SameHeads}
-use Rattle.pass_names.proofs.Heads.{main_same, partner, same_args, types_same}
+use Rattle.pass_names.proofs.Heads.{main_same, same_args, types_same}
 use Rattle.pass_names.proofs.Items.{item-shares}
+use Rattle.pass_accept.proofs.Heads.{start-high, start-shadow}
 use Rattle.pass_accept.proofs.Alone.{both_alone}
 use Rattle.pass_accept.specs.Stays.{FitsByItself, Stays}
-use Rattle.pass_accept.proofs.Accepted.{program_accepted}
+use Rattle.pass_accept.proofs.Accepted.{callee-result, callee-types, program_accepted}
 use Rattle.pass_accept.proofs.Fitting.{shape-same, call-same, typed-same}
 use Rattle.pass_walks.specs.Matched.{Covers, WalksMatch, MatchedWalk, IsHarmless, MatchesWalks}
 use Rattle.pass_walks.proofs.Accepting.{walks_accepted}
 use Rattle.pass_walks.proofs.Walks.{regular_branch_matched}
 use Rattle.coalesce_laws.specs.Merged.{IsRound, IsSelfCopy}
 use Rattle.coalesce_laws.proofs.Copying.{copy-is}
-use Rattle.coalesce_laws.proofs.Refines.{names, merge_plan, preserves, copy-nop, source-live, source-matches, start-high, start-shadow}
+use Rattle.coalesce_laws.proofs.Refines.{names, merge_plan, preserves, copy-nop, source-live, source-matches}
 use Rattle.coalesce_laws.proofs.Types.{argument-there, Stayed, stayed, types-kept}
 
 module _ (P Q : Prog) (rename : ℕ → List ℕ → List ℕ) (t : IsRound P Q rename) (accepted : IsAccepted P) where
-  by_callee : {X : Type 0} (g : ℕ) (of : Option Func → X) → ((F G : Func) → slice_get P.funcs g ≡ Some F → slice_get Q.funcs g ≡ Some G → of (Some F) ≡ of (Some G)) → of (slice_get P.funcs g) ≡ of (slice_get Q.funcs g)
-  by_callee {X} g of same = by (slice_get P.funcs g) (slice_get Q.funcs g) refl refl
-    where
-      lacks : slice_get P.funcs g ≡ None → (G : Func) → slice_get Q.funcs g ≡ Some G → ⊥
-      lacks n G q =
-          let back : SameHeads Q P = record { names = sym t.heads.names; args = λ f A B a b. sym (t.heads.args f B A b a); ret = λ f A B a b. sym (t.heads.ret f B A b a) } in
-          let F = partner Q P back g G q in
-          let h = sym n ∙ F.1 in cc
-
-      by : (o u : Option Func) → slice_get P.funcs g ≡ o → slice_get Q.funcs g ≡ u → of (slice_get P.funcs g) ≡ of (slice_get Q.funcs g)
-      by None None p q = ap of p ∙ sym (ap of q)
-      by None (Some G) p q = absurd (lacks p G q)
-      by (Some F) None p q = absurd (let h = partner P Q t.heads g F p in let k = sym q ∙ h.1 in cc)
-      by (Some F) (Some G) p q = ap of p ∙ same F G p q ∙ sym (ap of q)
-
   callees : (g : ℕ) → types_of (slice_get P.funcs g) ≡ types_of (slice_get Q.funcs g)
-  callees g = by_callee g types_of (λ F G p q. types_same P Q t.heads g F G p q)
+  callees g = callee-types P Q accepted t.heads (main_same P Q t.heads) (λ f F G p q. types_same P Q t.heads f F G p q) g
 
   results : (g : ℕ) → return_type (slice_get P.funcs g) ≡ return_type (slice_get Q.funcs g)
-  results g = by_callee g return_type (λ F G p q. t.heads.ret g F G p q)
+  results g = callee-result P Q accepted t.heads (main_same P Q t.heads) (λ f F G p q. types_same P Q t.heads f F G p q) g
 
   module _ (f : ℕ) (F G : Func) (p : slice_get P.funcs f ≡ Some F) (q : slice_get Q.funcs f ≡ Some G) where
     abbrev N : List (List ℕ)

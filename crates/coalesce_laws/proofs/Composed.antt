@@ -5,7 +5,6 @@ use Rattle.std.specs.Prelude.{slice_get, slice_index}
 use Rattle.std.specs.List.{AllZip}
 use Rattle.std.specs.Option.{option_map}
 use Rattle.std.proofs.lemmas.List.{get_or-take, length-map, take-map}
-use Rattle.std.proofs.lemmas.Option.{same_Some}
 use Rattle.bril_tree.specs.declared.function_tree.Dest.{Dest}
 use Rattle.bril_tree.specs.declared.function_tree.Item.{Item}
 use Rattle.bril_tree.specs.declared.function_tree.Item.TheVariants as item
@@ -19,27 +18,23 @@ use Rattle.bril_tree.specs.Accepted.{IsAccepted}
 use Rattle.bril_tree.specs.Edge.{Branch, branches_at, branches_from, onward}
 use Rattle.bril_tree.specs.FunctionForm.{listed}
 use Rattle.bril_tree.specs.Membership.{In}
-use Rattle.bril_tree.specs.Numbered.{item_tree, named, names_in, names_of_functions, nop_item, tree_at, variable_names}
+use Rattle.bril_tree.specs.Numbered.{named, names_in, names_of_functions, nop_item, tree_at, variable_names}
 use Rattle.bril_tree.specs.Operand.{Location, dest_of}
 use Rattle.bril_tree.specs.Shape.{is_shaped, shape_of}
 use Rattle.bril_tree.specs.Step.{code_of, item_at}
 use Rattle.bril_tree.specs.Walk.{IsReached}
 use Rattle.bril_tree.proofs.Branches.{reached_on}
 use Rattle.bril_tree.proofs.Shapes.{shape-parts}
-use Rattle.bril_tree.proofs.Trees.{nothing_at}
-use Rattle.bril_names.specs.Range.{IsInRange}
 use Rattle.bril_names.proofs.Functions.{Differ-functions}
 use Rattle.pass_accept.proofs.Reaching.{ReachedBeside, regular-reaches, reached_points}
 use Rattle.pass_names.specs.Named.{SameName}
 use Rattle.pass_names.specs.NamedPlan.{SameHeads}
 use Rattle.pass_names.proofs.Heads.{partner, same_args}
 use Rattle.pass_names.proofs.Items.{args_of, item-shares, zip-at}
-use Rattle.pass_names.proofs.Points.{found, found_under}
 use Rattle.pass_plan.specs.Plan.{ItemsMatch}
 use Rattle.pass_steps.proofs.Shapes.{shaped_here}
 use Rattle.pass_walks.proofs.Accepting.{matched}
 use Rattle.coalesce_laws.specs.Apart.{Copies, source_in}
-use Rattle.bril_names.proofs.Variables.{arguments_of}
 use Rattle.coalesce_laws.specs.Merged.{IsMerged, IsRenamed, IsRenamedAt, IsRound, NoneApart, IsSelfCopy, renamed_dest, renamed_item}
 use Rattle.coalesce_laws.proofs.Accepted.{walks}
 use Rattle.coalesce_laws.proofs.Copying.{copy-is}
@@ -115,8 +110,8 @@ module _ (P Q : Prog) (heads : SameHeads P Q) (f : ℕ) (F G : Func) (p : slice_
       let few : x < G.args = omega (arith, both.count) in (
         few,
         sym (get_or-take F.args (variable_names F.vars) x [] less)
-        ∙ ap (λ names. named names x) (take-map (λ (v : VarInfo). v.name) F.args F.vars ∙ ap (map (λ (v : VarInfo). v.name)) both.variables ∙ sym (take-map (λ (v : VarInfo). v.name) G.args G.vars))
-        ∙ get_or-take G.args (variable_names G.vars) x [] few,
+            ∙ ap (λ names. named names x) (take-map (λ (v : VarInfo). v.name) F.args F.vars ∙ ap (map (λ (v : VarInfo). v.name)) both.variables ∙ sym (take-map (λ (v : VarInfo). v.name) G.args G.vars))
+            ∙ get_or-take G.args (variable_names G.vars) x [] few,
       )
 
 -- ---- items
@@ -272,30 +267,6 @@ first-round P Q rename t accepted accepted_q = record {
   reaches = λ f i reached. round-reaches P Q rename t accepted f i reached;
   was = λ f F p i reached. let G = partner P Q t.heads f F p in round-was P Q rename t accepted f F G.0 p G.1 i reached;
   accepted = accepted_q;
-}
-
-own-dest : (d : Option Dest) → renamed_dest (λ n. n) d ≡ d
-own-dest None = refl
-own-dest (Some d) = refl
-
-own-names : (xs : List (List ℕ)) → map (λ n. n) xs ≡ xs
-own-names [] = refl
-own-names (x ∷ xs) = ap (λ l. x ∷ l) (own-names xs)
-
-own-item : (o : Option Item) → option_map (renamed_item (λ n. n)) o ≡ o
-own-item None = refl
-own-item (Some (item.Label n)) = refl
-own-item (Some (item.Const d ty v)) = refl
-own-item (Some (item.Act d o args fns ls)) = λ i. Some (item.Act (own-dest d i) o (own-names args i) fns ls)
-
--- a program without reached copies of variables to themselves is what the pass makes of it so far
-pub nothing-made : (P : Prog) → IsAccepted P → ((f i : ℕ) → IsSelfCopy P f (λ n. n) i → ⊥) → IsMadeSoFar P P
-nothing-made P accepted none = record {
-  heads = record { names = refl; args = λ f F G p q. ap (λ (H : Func). arguments_of H.args H.vars) (same_Some F G (sym p ∙ q)); ret = λ f F G p q. ap (λ (H : Func). H.ret) (same_Some F G (sym p ∙ q)) };
-  renamed = λ f F p. record { rename = λ n. n; arguments = λ x less. refl; points = λ i. inr (none f i, sym (own-item (tree_at P f i))) };
-  reaches = λ f i reached. reached;
-  was = λ f F p i reached. reached;
-  accepted = accepted;
 }
 
 -- where no copy is apart any more, it is what the pass makes

@@ -16,22 +16,21 @@ use Rattle.bril_tree.specs.declared.operation.Op.{Op}
 use Rattle.bril_tree.specs.declared.operation.Op.TheVariants as op
 use Rattle.bril_tree.specs.declared.program.Prog.{Prog}
 use Rattle.bril_tree.specs.Accepted.{IsAccepted}
-use Rattle.bril_tree.specs.Edge.{Branch, branches_at}
+use Rattle.bril_tree.specs.Edge.{Branch}
 use Rattle.bril_tree.specs.FrameWords.{IsDepth}
 use Rattle.bril_tree.specs.Leaving.{IsEdge, edge_of}
 use Rattle.bril_tree.specs.Membership.{In}
 use Rattle.bril_tree.specs.Numbered.{item_tree, named, names_in, names_of_functions, nop, nop_item, point_tree, tree_at, variable_names}
-use Rattle.bril_tree.specs.Sites.{change_of, sites_changed, sites_of}
+use Rattle.bril_tree.specs.Sites.{sites_changed, sites_of}
 use Rattle.bril_tree.specs.Step.{code_of, item_at, items_of}
 use Rattle.bril_tree.specs.Walk.{IsWalk, end_of}
 use Rattle.bril_tree.proofs.Elements.{get_in, in_get}
 use Rattle.pass_names.specs.NamedPlan.{SameHeads}
 use Rattle.pass_names.specs.Renaming.{renamed_tree}
-use Rattle.pass_names.proofs.Heads.{partner}
 use Rattle.pass_numbers.proofs.Arguments.{no-longer-arguments}
 use Rattle.pass_numbers.proofs.Edges.{label-tree}
 use Rattle.pass_numbers.proofs.Entering.{EntryMatched, fewer-entries, width-within}
-use Rattle.pass_numbers.proofs.ItemTrees.{dest_names, first_one, item_names, operation_count, shadow_names, shadow_names_of, tree_passes}
+use Rattle.pass_numbers.proofs.ItemTrees.{dest_names, item_names, operation_count, shadow_names, shadow_names_of, tree_passes}
 use Rattle.pass_numbers.proofs.Items.{IsItemOf, IsOfItems, nop-plain, plain-item, renamed-item}
 use Rattle.pass_numbers.proofs.Locations.{accepted-locations}
 use Rattle.pass_numbers.proofs.Programs.{by-functions, functions_bound}
@@ -40,7 +39,7 @@ use Rattle.program_numbers.specs.Entries.{Enters}
 use Rattle.coalesce_laws.specs.Merged.{IsRenamedAt, IsSelfCopy, renamed_dest, renamed_item}
 use Rattle.coalesce_laws.specs.Numbers.{MergeKeepsNumbers}
 use Rattle.coalesce_laws.proofs.Names.{tree-renamed}
-use Rattle.coalesce_laws.proofs.Points.{alike, both, no-older, nop-there}
+use Rattle.coalesce_laws.proofs.Points.{alike, no-older, nop-there}
 
 -- ---- names
 

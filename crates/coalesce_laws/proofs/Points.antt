@@ -11,8 +11,8 @@ use Rattle.bril_tree.specs.declared.numbered_function.Func.{Func}
 use Rattle.bril_tree.specs.declared.operation.Op.{Op}
 use Rattle.bril_tree.specs.declared.operation.Op.TheVariants as op
 use Rattle.bril_tree.specs.declared.program.Prog.{Prog}
-use Rattle.bril_tree.specs.Edge.{Branch, action_branches, branches_at, branches_from, item_branches, onward}
-use Rattle.bril_tree.specs.Numbered.{item_tree, named, names_in, names_of_functions, nop, nop_item, tree_at}
+use Rattle.bril_tree.specs.Edge.{Branch, action_branches, branches_from, onward}
+use Rattle.bril_tree.specs.Numbered.{item_tree, named, names_in, names_of_functions, nop, tree_at}
 use Rattle.bril_tree.specs.Sites.{item_change, operation_change}
 use Rattle.bril_tree.specs.Step.{code_of, item_at, point_of}
 use Rattle.bril_tree.proofs.Trees.{nop-at, nothing_at}

@@ -3,10 +3,7 @@
 use Rattle.std.proofs.Common.{◌≡◌, ℕ, suc, ◌<◌, true, false, List, [], ◌∷◌, length, map, Option, Some, None, refl, sym, ap, subst, ◌∙◌, inl, ⊎_elim, arith}
 use Rattle.std.specs.Prelude.{slice_get, slice_index, is_some}
 use Rattle.std.specs.List.{range_with_len}
-use Rattle.std.specs.Option.{option_map}
 use Rattle.std.proofs.lemmas.List.{length-map}
-use Rattle.std.proofs.lemmas.Option.{same_Some}
-use Rattle.bril_tree.specs.declared.function_tree.Item.TheVariants as item
 use Rattle.bril_tree.specs.declared.limits.Limits.{Limits}
 use Rattle.bril_tree.specs.declared.numbered.Instr.{Instr}
 use Rattle.bril_tree.specs.declared.numbered.Instr.TheVariants.{Act}
@@ -21,7 +18,7 @@ use Rattle.bril_tree.specs.Edge.{Branch, branches_at, branches_from, onward}
 use Rattle.bril_tree.specs.Live.{IsLive}
 use Rattle.bril_tree.specs.Locals.{value_at}
 use Rattle.bril_tree.specs.Membership.{In}
-use Rattle.bril_tree.specs.Numbered.{item_tree, named, names_in, names_of_functions, nop, tree_at}
+use Rattle.bril_tree.specs.Numbered.{named, names_in, names_of_functions, nop, tree_at}
 use Rattle.bril_tree.specs.Operand.{Location, Variable, Shadow, reads_of}
 use Rattle.bril_tree.specs.Outcome.{argument}
 use Rattle.bril_tree.specs.FunctionForm.{variables_of}
@@ -35,11 +32,9 @@ use Rattle.bril_tree.specs.Walk.{IsReached}
 use Rattle.bril_tree.proofs.Acceptance.{walks_of}
 use Rattle.bril_tree.proofs.Assignments.{assigns-dest, in_or_not, same_location, site_speculates}
 use Rattle.bril_tree.proofs.Elements.{zip-find}
-use Rattle.bril_tree.proofs.LabelPoints.{range_high}
 use Rattle.bril_tree.proofs.Liveness.{live-reads, live-flows, live-back, live_assigned}
-use Rattle.bril_tree.proofs.Members.{contains_in, in_map_source}
+use Rattle.bril_tree.proofs.Members.{contains_in}
 use Rattle.bril_tree.proofs.Shapes.{none_assigned, shape-parts}
-use Rattle.bril_tree.proofs.Trees.{nop-at}
 use Rattle.pass_names.specs.Named.{SameLocation}
 use Rattle.pass_names.specs.NamedPlan.{NamePlan}
 use Rattle.pass_names.specs.Renaming.{renamed_tree, renaming, Renames}
@@ -47,28 +42,17 @@ use Rattle.pass_names.proofs.Heads.{main_same, main_types_same, start_agrees}
 use Rattle.pass_names.proofs.Points.{found, label_once}
 use Rattle.pass_names.proofs.Preserving.{knows_nothing}
 use Rattle.pass_names.proofs.Renaming.{items_share, renaming_preserves}
+use Rattle.pass_accept.proofs.Heads.{start-high, start-shadow}
 use Rattle.pass_plan.specs.Plan.{Plan, Preserves, StatesMatch, ValuesMatch}
 use Rattle.pass_plan.proofs.Values.{assigned-same, assigned-other}
 use Rattle.pass_steps.specs.Refinement.{Progress, CatchUp, BothMove, Advances}
 use Rattle.pass_steps.proofs.Moves.{both_move}
 use Rattle.pass_steps.proofs.Refinement.{plan_refines}
 use Rattle.pass_steps.proofs.Shapes.{shaped_here}
-use Rattle.coalesce_laws.specs.Merged.{IsRound, IsSelfCopy, new_name, renamed_item}
+use Rattle.coalesce_laws.specs.Merged.{IsRound, IsSelfCopy, new_name}
 use Rattle.coalesce_laws.proofs.Copying.{Copy, copy-is, assigning-onward, assigned-shadow, live-shadow}
 use Rattle.coalesce_laws.proofs.Points.{label-kept, nop-there}
 use Rattle.coalesce_laws.proofs.Names.{named-map, renamed-none, tree-renamed}
-
--- ---- numbers from 0
-
-pub start-high : (n x : ℕ) → In (Variable x) (map Variable (range_with_len 0 n)) → x < n
-start-high n x i =
-    let s = in_map_source Variable (Variable x) (range_with_len 0 n) i in
-    let same : x ≡ s.0 = (let e = s.2 in cc) in
-    let h = range_high 0 n s.0 s.1 in
-    omega (arith, same, h)
-
-pub start-shadow : (n x : ℕ) → In (Shadow x) (map Variable (range_with_len 0 n)) → ⊥
-start-shadow n x i = let s = in_map_source Variable (Shadow x) (range_with_len 0 n) i in let e = s.2 in cc
 
 module _ (P Q : Prog) (rename : ℕ → List ℕ → List ℕ) (t : IsRound P Q rename) where
   abbrev pub names : ℕ → List (List ℕ)

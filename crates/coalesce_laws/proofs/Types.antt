@@ -1,17 +1,14 @@
 -- Variables keep their types in a round: those of one new name have one type, and one of them is an argument or a destination
 -- in the result where one of them was.
 use Rattle.std.proofs.Common.{◌≡◌, ◌⊎◌, ℕ, ◌<◌, ◌≤◌, Bool, true, false, List, [], ◌∷◌, length, map, Option, Some, None, refl, sym, ap, subst, ◌∙◌, inl, inr, ⊎_elim, arith}
-use Rattle.std.specs.Prelude.{slice_get, is_some, ◌&&◌}
-use Rattle.std.proofs.lemmas.Bool.{and_parts, cases_eq, cases_lt, not-true}
+use Rattle.std.specs.Prelude.{slice_get, is_some}
+use Rattle.std.proofs.lemmas.Bool.{cases_eq, cases_lt}
 use Rattle.std.proofs.lemmas.List.{get_or-take, length-map, take-map}
 use Rattle.std.proofs.lemmas.Option.{same_Some}
 use Rattle.bril_tree.specs.declared.numbered.Instr.{Instr}
-use Rattle.bril_tree.specs.declared.numbered.Instr.TheVariants.{Label, Const, Act}
 use Rattle.bril_tree.specs.declared.numbered.VarInfo.{VarInfo}
 use Rattle.bril_tree.specs.declared.numbered_function.Func.{Func}
-use Rattle.bril_tree.specs.declared.operation.Op.TheVariants as op
 use Rattle.bril_tree.specs.declared.program.Prog.{Prog}
-use Rattle.bril_tree.specs.declared.types.Ty.{Ty}
 use Rattle.bril_tree.specs.Accepted.{IsAccepted}
 use Rattle.bril_tree.specs.Assigned.{assigned_of, assigned_changed, assigns_at, newest_saved}
 use Rattle.bril_tree.specs.Edge.{Branch, branches_at}
@@ -19,10 +16,9 @@ use Rattle.bril_tree.specs.FunctionForm.{type_assigned}
 use Rattle.bril_tree.specs.Membership.{In}
 use Rattle.bril_tree.specs.Numbered.{item_tree, named, names_in, names_of_functions, nop, tree_at, variable_names}
 use Rattle.bril_tree.specs.Operand.{Location, Variable, dest_of}
-use Rattle.bril_tree.specs.Shape.{is_shaped}
 use Rattle.bril_tree.specs.Sites.{Change, Opens, Closes, Keeps, change_of, without_newest}
 use Rattle.bril_tree.specs.Step.{code_of, item_at, items_of}
-use Rattle.bril_tree.specs.Typing.{variable_type, same_type, both_typed, is_dest_typed, is_action_typed, is_literal_typed, type_fault}
+use Rattle.bril_tree.specs.Typing.{variable_type}
 use Rattle.bril_tree.specs.Walk.{IsWalk, end_of}
 use Rattle.bril_tree.proofs.Acceptance.{accepted_function, shaped_at, typed_at, walks_of}
 use Rattle.bril_tree.proofs.Assignments.{assigns-dest}
@@ -30,9 +26,8 @@ use Rattle.bril_tree.proofs.Branches.{branch_from}
 use Rattle.bril_tree.proofs.Elements.{in_get, get_in, get_inside}
 use Rattle.bril_tree.proofs.Liveness.{live_assigned}
 use Rattle.bril_tree.proofs.Members.{in_append_cases, in_contains}
-use Rattle.bril_tree.proofs.Shapes.{no_dest}
 use Rattle.bril_tree.proofs.Trees.{nothing_at}
-use Rattle.bril_tree.proofs.Typings.{IsDestination, both_typed-is, first_type-is, some_type, type-assigned, type-assigned_own, type_of, typed_by, variable-has}
+use Rattle.bril_tree.proofs.Typings.{IsDestination, first_type-is, some_type, type-assigned, type-assigned_own, type_of, typed_by, variable-has}
 use Rattle.bril_names.specs.Range.{IsInRange}
 use Rattle.bril_names.proofs.Functions.{Differ-variables}
 use Rattle.bril_names.proofs.Naming.{one_number}
@@ -40,19 +35,11 @@ use Rattle.pass_names.specs.Named.{SameName}
 use Rattle.pass_names.specs.Renaming.{renamed_tree}
 use Rattle.pass_names.proofs.Heads.{same_args}
 use Rattle.pass_names.proofs.Points.{found, found_under}
-use Rattle.pass_accept.proofs.Heads.{argument-typed}
-use Rattle.pass_accept.proofs.Staying.{same_destination}
-use Rattle.pass_accept.proofs.Typed.{typed-unless}
+use Rattle.pass_accept.proofs.Heads.{argument-typed, start-high}
+use Rattle.pass_accept.proofs.Staying.{dest-typed, same_destination}
 use Rattle.coalesce_laws.specs.Merged.{IsRound, IsSelfCopy, new_name}
 use Rattle.coalesce_laws.proofs.Names.{renamed-found, renamed-none}
-use Rattle.coalesce_laws.proofs.Refines.{names, sized, name-is, regular-tree, copy-nop, source-live, source-below, start-high}
-
--- the type of a destination is that of its variable
-dest-typed : (P : Prog) (F : Func) (ret : Bool) (a : Instr) (x : ℕ) (t : Ty) → is_shaped ret a ≡ true → type_fault P F a ≡ None → dest_of a ≡ Some x → type_of a ≡ Some t → variable_type F.vars x ≡ Some t
-dest-typed P F ret (Label l) x t s f d e = absurd cc
-dest-typed P F ret (Const y ty v) x t s f d e = both_typed-is t (variable_type F.vars x) (subst (λ u. both_typed same_type u (variable_type F.vars x) ≡ true) e (subst (λ n. is_dest_typed P F n (Some ty) ≡ true) d (and_parts (is_dest_typed P F (Some y) (Some ty)) (is_literal_typed v ty) (typed-unless (is_dest_typed P F (Some y) (Some ty) && is_literal_typed v ty) f)).0))
-dest-typed P F ret (Act y ty op.Print args fns ls) x t s f d e = absurd (let n = no_dest y (not-true _ (and_parts _ _ (and_parts _ _ s).0).0) in let h = sym n ∙ d in cc)
-dest-typed P F ret (Act y ty o args fns ls) x t s f d e = both_typed-is t (variable_type F.vars x) (subst (λ u. both_typed same_type u (variable_type F.vars x) ≡ true) e (subst (λ n. is_dest_typed P F n ty ≡ true) d (and_parts (is_dest_typed P F y ty) (is_action_typed P F o ty args fns) (typed-unless (is_dest_typed P F y ty && is_action_typed P F o ty args fns) f)).0))
+use Rattle.coalesce_laws.proofs.Refines.{names, sized, name-is, regular-tree, copy-nop, source-live, source-below}
 
 module _ (P Q : Prog) (rename : ℕ → List ℕ → List ℕ) (t : IsRound P Q rename) (accepted : IsAccepted P) (f : ℕ) (F G : Func) (p : slice_get P.funcs f ≡ Some F) (q : slice_get Q.funcs f ≡ Some G) where
   abbrev pub fs : List (List ℕ)

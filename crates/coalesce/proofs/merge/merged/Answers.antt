@@ -1,7 +1,7 @@
 use Rattle.std.proofs.Common.{IfSome, subst}
 use Rattle.bril_tree.specs.declared.program.Prog.{Prog}
 use Rattle.coalesce.specs.Merge.{IsNextRound}
-use Rattle.coalesce.proofs.Made.{first-farther, more-farther, made-by}
+use Rattle.coalesce.proofs.Made.{first-farther, more-farther}
 use Rattle.coalesce.proofs.merge.merged.Goals as goal
 
 pub loop-last-init : goal.loop-last-init

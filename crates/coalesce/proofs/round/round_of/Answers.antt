@@ -39,10 +39,10 @@ pub loop-number-preserved : goal.loop-number-preserved
 loop-number-preserved c =
     let tree = tree_there c.args.prog.now c.as_slice-func-items.result.now c.as_slice-func-items.ensures c.loop-number.number c.func-item.result c.loop-number-test.true c.func-item.is c.in_ok-function.function c.in_ok-function.ensures in
     let done = more-done c.args.prog.now c.as_slice-func-items.result.now c.as_slice-func-items.ensures c.loop-number.number c.func-item.result c.loop-number-test.true c.func-item.is c.loop-number.funcs c.push.new.self c.loop-number.changed c.in_ok-round.round.changed c.if-changed.changed c.in_ok-round.round.made
-      c.loop-number.invariant c.in_ok-round.ensures.made (λ e. subst (λ (g : FuncTree). copies_in c.in_ok-round.round.made.code < copies_in g.code) tree (c.in_ok-round.ensures.fewer e)) c.in_ok-round.ensures.none c.in_ok-push.ensures.ok in
+    c.loop-number.invariant c.in_ok-round.ensures.made (λ e. subst (λ (g : FuncTree). copies_in c.in_ok-round.round.made.code < copies_in g.code) tree (c.in_ok-round.ensures.fewer e)) c.in_ok-round.ensures.none c.in_ok-push.ensures.ok in
     elim c.if-changed.branch [
-      then-changed w ↦ done (w.changed-is ∙ w.if-changed.true ∙ sym (ap (λ b. b || c.in_ok-round.round.changed) w.if-changed.true))
-    | else-changed w ↦ done (w.changed-is ∙ sym (ap (λ b. b || c.in_ok-round.round.changed) w.if-changed.false))
+      | then-changed w ↦ done (w.changed-is ∙ w.if-changed.true ∙ sym (ap (λ b. b || c.in_ok-round.round.changed) w.if-changed.true))
+      | else-changed w ↦ done (w.changed-is ∙ sym (ap (λ b. b || c.in_ok-round.round.changed) w.if-changed.false))
     ]
 
 pub returns-clause-none : goal.returns-clause-none
