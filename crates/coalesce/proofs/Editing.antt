@@ -35,13 +35,6 @@ last-pushed : (xs : List Bool) (b : Bool) → get_or (xs ++ b ∷ []) (length xs
 last-pushed [] b = refl
 last-pushed (x ∷ xs) b = last-pushed xs b
 
-pub marks-none : (F : Func) (class : List ℕ) (marks : List Bool) → marks ≡ [] → MarksFirst F class 0 marks
-marks-none F class marks e = record {
-  long = ap length e;
-  only = λ point m. absurd (let h : true ≡ false = sym m ∙ outside marks point false (let l = ap length e in omega arith) in cc);
-  all = λ point less m c. absurd (omega arith);
-}
-
 pub marks-more : (F : Func) (class : List ℕ) (n : ℕ) (old new : List Bool) (b : Bool) → new ≡ old ++ b ∷ [] → (b ≡ true → CopyWithin F class n) → (b ≡ false → CopyWithin F class n → ⊥) → MarksFirst F class n old → MarksFirst F class (n + 1) new
 marks-more F class n old new b e within other m = record {
   long = ap length e ∙ length-append old (b ∷ []) ∙ ap (λ k. k + 1) m.long;
@@ -70,12 +63,6 @@ marks-all F class n marks same m = record {
 }
 
 -- ---- names
-
-pub names-of_classes : (F : Func) (class : List ℕ) (names : List (List ℕ)) → AreClasses F class → names ≡ map (named (variable_names F.vars)) class → NamesClasses F class names
-names-of_classes F class names are e = record {
-  long = ap length e ∙ length-map class (named (variable_names F.vars)) ∙ are.long;
-  names = λ x low. ap (λ l. named l x) e ∙ get_or-map (named (variable_names F.vars)) class x x [] (let l = are.long in omega arith);
-}
 
 -- ---- items
 

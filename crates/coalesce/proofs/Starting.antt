@@ -28,9 +28,6 @@ get-push [] y (suc k) d = inl refl
 get-push (x ∷ xs) y zero d = inl refl
 get-push (x ∷ xs) y (suc k) d = ⊎_elim inl (λ h. inr (ap suc h.0, h.1)) (get-push xs y k d)
 
-pub own-more : (xs more : List ℕ) (y : ℕ) → more ≡ xs ++ y ∷ [] → y ≡ length xs → ((k : ℕ) → class_of xs k ≡ k) → (k : ℕ) → class_of more k ≡ k
-own-more xs more y e is own k = subst (λ l. class_of l k ≡ k) (sym e) (⊎_elim (λ h. h ∙ own k) (λ h. h.1 ∙ is ∙ sym h.0) (get-push xs y k k))
-
 -- ---- related variables
 
 first_in : (xs : List ℕ) (y : ℕ) → slice_index xs 0 ≡ y → length xs ≡ 1 → In y xs
@@ -78,9 +75,6 @@ pub record AreMarked (F : Func) (n : ℕ) (marks : List Bool) : Type 0 where
 none-marked : (marks : List Bool) → ((x : ℕ) → is_marked marks x ≡ false) → (x : ℕ) → is_marked marks x ≡ true → ⊥
 none-marked marks none x e = let f : true ≡ false = sym e ∙ none x in cc
 
-pub first-marked : (F : Func) (marks : List Bool) → length marks ≡ length F.vars → ((x : ℕ) → is_marked marks x ≡ false) → AreMarked F 0 marks
-first-marked F marks long none = record { long = long; all = λ x point item less at i low. absurd (omega arith); only = λ x e. absurd (none-marked marks none x e) }
-
 pub more-marked : (F : Func) (old new : List Bool) (items : List Instr) → items ≡ F.code → (n : ℕ) (item : Instr) → n < length items → item ≡ get_or items n item → AreMarked F n old → MarksShadow item old new → AreMarked F (n + 1) new
 more-marked F old new items same n item low is a m = record {
   long = m.long ∙ a.long;
@@ -95,26 +89,7 @@ more-marked F old new items same n item low is a m = record {
     there : slice_get F.code n ≡ Some item
     there = ap (λ l. slice_get l n) (sym same) ∙ slice_get-get_or items n item low ∙ ap Some (sym is)
 
-pub all-marked : (F : Func) (n : ℕ) (marks : List Bool) → length F.code ≤ n → AreMarked F n marks → (x : ℕ) → x < length F.vars → HasShadow F.code x → is_marked marks x ≡ true
-all-marked F n marks long a x low h = let l = slice_get_within F.code h.point h.item h.at in a.all x h.point h.item (omega arith) h.at h.names low
-
 -- ---- the state
-
-pub first-state : (F : Func) (related : List Bool) (class : List ℕ) (alone shadow : List Bool) (joined : Bool) → length class ≡ length F.vars → ((x : ℕ) → class_of class x ≡ x) → length alone ≡ length F.vars → ((x : ℕ) → x < length F.vars → is_marked alone x ≡ true)
-    → length shadow ≡ length F.vars → ((x : ℕ) → x < length F.vars → HasShadow F.code x → is_marked shadow x ≡ true) → ((x : ℕ) → is_marked shadow x ≡ true → HasShadow F.code x) → IsRoundState F related class alone shadow joined
-first-state F related class alone shadow joined long own alone_long alone_all shadow_long all only = record {
-  are = record { long = long; inside = λ x low. subst (λ n. n < length F.vars) (sym (own x)) low; arguments = λ x low. own x; joined = λ x y differ same. absurd (differ (sym (own x) ∙ same ∙ own y)) };
-  alone_long = alone_long;
-  shadow_long = shadow_long;
-  own = λ x e. own x;
-  single = λ x y e c. sym (own y) ∙ c;
-  named = λ x. ap (class_of class) (own x);
-  relates = λ x y differ same. absurd (differ (sym (own x) ∙ same ∙ own y));
-  unshadowed = λ x e low h. let k = all x low h in let f : true ≡ false = sym k ∙ ap (is_marked shadow) (sym (own x)) ∙ e in cc;
-  apart = λ e x. own x;
-  all_alone = λ e x low. alone_all x low;
-  shadowed = λ e x k. only x k;
-}
 
 -- ---- the loop over the items
 
