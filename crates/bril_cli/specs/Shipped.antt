@@ -2,6 +2,7 @@
 use Rattle.std.specs.Prelude.{◌≡◌, ℕ, true, List, [], ◌∷◌, codes}
 use Rattle.bril_profile.specs.declared.profile.Profile.{Profile}
 use Rattle.bril_tree.specs.declared.program.Prog.{Prog}
+use Rattle.coalesce.specs.Merge.{merge_meaning}
 use Rattle.constant_pass.specs.Const.{const_meaning}
 use Rattle.dead_code.specs.Dead.{dead_meaning}
 use Rattle.pass_law.specs.Meaning.{Meaning, SameMeaning}
@@ -19,6 +20,7 @@ shipped =
     record { name = codes "const"; meaning = const_meaning } ∷
     record { name = codes "dead"; meaning = dead_meaning } ∷
     record { name = codes "unssa"; meaning = unssa_meaning } ∷
+    record { name = codes "merge"; meaning = merge_meaning } ∷
     record { name = codes "tidy"; meaning = tidy_meaning } ∷ []
 
 -- whatever m makes of a program, n makes too

@@ -13,6 +13,7 @@ use bril_report::{Status, status_number};
 use bril_tree::sequence::Seq;
 use bril_tree::text::Text;
 use bril_words::Misuse;
+use coalesce::Merge;
 use constant_pass::Const;
 use dead_code::Dead;
 use pass_law::Pass;
@@ -45,8 +46,9 @@ fn with_passes(rt: &HostRuntime) -> Result<u8, AllocError> {
     let constant: Box<dyn Pass> = Box::new(alloc, Const::new())?;
     let dead: Box<dyn Pass> = Box::new(alloc, Dead::new())?;
     let unssa: Box<dyn Pass> = Box::new(alloc, Unssa::new())?;
+    let merge: Box<dyn Pass> = Box::new(alloc, Merge::new())?;
     let tidy: Box<dyn Pass> = Box::new(alloc, Tidy::new())?;
-    let mut passes = [constant, dead, unssa, tidy];
+    let mut passes = [constant, dead, unssa, merge, tidy];
     let words = given_words(alloc, env::args(rt));
     let mut files = OsFiles::new(rt);
     let mut out = standard_output(rt)?;

@@ -10,6 +10,7 @@ use bril_tree::bytes::Bytes;
 use bril_tree::sequence::Seq;
 use bril_tree::text::Text;
 use bril_tree::value::Value;
+use coalesce::Merge;
 use constant_pass::Const;
 use dead_code::Dead;
 use pass_law::Pass;
@@ -247,8 +248,9 @@ impl Case {
         let constant: Box<dyn Pass> = Box::new(self.alloc, Const::new())?;
         let dead: Box<dyn Pass> = Box::new(self.alloc, Dead::new())?;
         let unssa: Box<dyn Pass> = Box::new(self.alloc, Unssa::new())?;
+        let merge: Box<dyn Pass> = Box::new(self.alloc, Merge::new())?;
         let tidy: Box<dyn Pass> = Box::new(self.alloc, Tidy::new())?;
-        let mut passes = [constant, dead, unssa, tidy];
+        let mut passes = [constant, dead, unssa, merge, tidy];
         let passes = passes.as_mut_slice();
         Ok(end(self.alloc, Ok(words), &mut self.files, out, err, passes))
     }

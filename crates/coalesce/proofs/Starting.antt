@@ -1,0 +1,122 @@
+-- Where a round begins: each variable is alone, and marks tell which are related and which have a shadow that items name.
+use Rattle.std.proofs.Common.{◌≡◌, ◌⊎◌, ℕ, zero, suc, ◌+◌, ◌<◌, ◌≤◌, Bool, true, false, List, [], ◌∷◌, ◌++◌, length, get_or, Some, None, refl, sym, ap, subst, ◌∙◌, inl, inr, ⊎_elim, arith}
+use Rattle.std.specs.Prelude.{slice_get, slice_index, is_some}
+use Rattle.std.specs.List.{Contains}
+use Rattle.std.proofs.lemmas.Bool.{cases_eq, cases_lt}
+use Rattle.std.proofs.lemmas.Option.{get_or_from_slice_get, slice_get_within, slice_get-get_or, same_Some}
+use Rattle.bril_tree.specs.declared.numbered.Instr.{Instr}
+use Rattle.bril_tree.specs.declared.numbered_function.Func.{Func}
+use Rattle.bril_tree.specs.declared.operation.Op.TheVariants as op
+use Rattle.bril_tree.specs.FunctionForm.{variables_of}
+use Rattle.bril_tree.specs.Membership.{In}
+use Rattle.bril_tree.specs.Shape.{is_shaped, shape_fault_of, shape_of}
+use Rattle.bril_tree.proofs.Formed.{variable_below}
+use Rattle.bril_tree.proofs.Shapes.{shape-parts}
+use Rattle.bril_checker.proofs.Positions.{all_pass}
+use Rattle.coalesce_laws.specs.Apart.{Copies, HasShadow, shadows_of}
+use Rattle.coalesce_laws.specs.Merged.{NoneApart}
+use Rattle.coalesce_laws.proofs.Copying.{copy-is}
+use Rattle.bril_tree.specs.Walk.{IsReached}
+use Rattle.coalesce.specs.Rounds.{CopyWithin, HasCopyWithin, IsCopyWithin}
+use Rattle.coalesce.specs.Classes.{Grows, IsRelatedItem, IsRoundState, MarksShadow, NotApart, Relates, class_of, is_marked}
+
+-- ---- numbers in order
+
+get-push : (xs : List ℕ) (y k d : ℕ) → (get_or (xs ++ y ∷ []) k d ≡ get_or xs k d) ⊎ ((k ≡ length xs) × (get_or (xs ++ y ∷ []) k d ≡ y))
+get-push [] y zero d = inr (refl, refl)
+get-push [] y (suc k) d = inl refl
+get-push (x ∷ xs) y zero d = inl refl
+get-push (x ∷ xs) y (suc k) d = ⊎_elim inl (λ h. inr (ap suc h.0, h.1)) (get-push xs y k d)
+
+-- ---- related variables
+
+first_in : (xs : List ℕ) (y : ℕ) → slice_index xs 0 ≡ y → length xs ≡ 1 → In y xs
+first_in [] y e n = absurd (omega arith)
+first_in (x ∷ xs) y e n = inl (sym e)
+
+-- the variables of a copy are the function's
+pub copy-below : (F : Func) → shape_fault_of (is_some F.ret) F.code ≡ None → (point : ℕ) (item : Instr) → slice_get F.code point ≡ Some item → (x y : ℕ) → Copies item x y → (x < length F.vars) × (y < length F.vars)
+copy-below F shaped point item at x y c =
+    let k = copy-is item x y c in
+    let s : is_shaped (is_some F.ret) item ≡ true = subst (λ a. is_shaped (is_some F.ret) a ≡ true) (get_or_from_slice_get F.code point item item at) (all_pass (is_shaped (is_some F.ret)) F.code (sym shaped) point item (slice_get_within F.code point item at)) in
+    let one : length k.args ≡ 1 = (shape-parts (shape_of (is_some F.ret) op.Id) true (length k.args) (length k.funcs) (length k.labels) (subst (λ (a : Instr). is_shaped (is_some F.ret) a ≡ true) k.is s)).args_are in
+    let vars : In x (variables_of item) × In y (variables_of item) = subst (λ (a : Instr). In x (variables_of a) × In y (variables_of a)) (sym k.is) (inl refl, inr (first_in k.args y k.source one)) in
+    (variable_below F point item at x vars.0, variable_below F point item at y vars.1)
+
+pub related-more : (F : Func) → shape_fault_of (is_some F.ret) F.code ≡ None → (old new : List Bool) (items : List Instr) → items ≡ F.code → (n : ℕ) (item : Instr) → n < length items → item ≡ get_or items n item → length old ≡ length F.vars → Relates item old new
+    → ((point : ℕ) (a : Instr) → point < n → slice_get F.code point ≡ Some a → IsRelatedItem F old a) → (point : ℕ) (a : Instr) → point < n + 1 → slice_get F.code point ≡ Some a → IsRelatedItem F new a
+related-more F shaped old new items same n item low is long r before point a less at x y c d = ⊎_elim here earlier (cases_eq point n)
+  where
+    below : (x < length F.vars) × (y < length F.vars)
+    below = copy-below F shaped point a at x y c
+
+    there : slice_get F.code n ≡ Some item
+    there = ap (λ l. slice_get l n) (sym same) ∙ slice_get-get_or items n item low ∙ ap Some (sym is)
+
+    here : point ≡ n → (x < length F.vars) × (y < length F.vars) × (is_marked new x ≡ true) × (is_marked new y ≡ true)
+    here e =
+        let one : a ≡ item = same_Some a item (sym at ∙ ap (slice_get F.code) e ∙ there) in
+        let b = r.both x y (subst (λ z. Copies z x y) one c) in
+        let bx = below.0 in
+        let by = below.1 in
+        (below.0, below.1, b.0 (omega (arith, long)), b.1 (omega (arith, long)))
+
+    earlier : (point ≡ n → ⊥) → (x < length F.vars) × (y < length F.vars) × (is_marked new x ≡ true) × (is_marked new y ≡ true)
+    earlier e = let h = before point a (⊎_elim (λ l. l) (λ high. absurd (e (omega arith))) (cases_lt point n)) at x y c d in (h.0, h.1, r.kept x h.2, r.kept y h.3)
+
+-- ---- shadows
+
+-- the marks after so many items
+pub record AreMarked (F : Func) (n : ℕ) (marks : List Bool) : Type 0 where
+  pub long : length marks ≡ length F.vars
+  pub all : (x point : ℕ) (item : Instr) → point < n → slice_get F.code point ≡ Some item → Contains (shadows_of item) x → x < length F.vars → is_marked marks x ≡ true
+  pub only : (x : ℕ) → is_marked marks x ≡ true → HasShadow F.code x
+
+none-marked : (marks : List Bool) → ((x : ℕ) → is_marked marks x ≡ false) → (x : ℕ) → is_marked marks x ≡ true → ⊥
+none-marked marks none x e = let f : true ≡ false = sym e ∙ none x in cc
+
+pub more-marked : (F : Func) (old new : List Bool) (items : List Instr) → items ≡ F.code → (n : ℕ) (item : Instr) → n < length items → item ≡ get_or items n item → AreMarked F n old → MarksShadow item old new → AreMarked F (n + 1) new
+more-marked F old new items same n item low is a m = record {
+  long = m.long ∙ a.long;
+  all = λ x point b less at i inside.
+      ⊎_elim
+      (λ e. let one : b ≡ item = same_Some b item (sym at ∙ ap (slice_get F.code) e ∙ there) in m.all x (subst (λ z. Contains (shadows_of z) x) one i) (omega (arith, a.long)))
+      (λ e. m.kept x (a.all x point b (⊎_elim (λ l. l) (λ high. absurd (e (omega arith))) (cases_lt point n)) at i inside))
+      (cases_eq point n);
+  only = λ x e. ⊎_elim (λ h. a.only x h) (λ i. record { point = n; item = item; at = there; names = i }) (m.only x e);
+}
+  where
+    there : slice_get F.code n ≡ Some item
+    there = ap (λ l. slice_get l n) (sym same) ∙ slice_get-get_or items n item low ∙ ap Some (sym is)
+
+-- ---- the state
+
+-- ---- the loop over the items
+
+-- where nothing was joined, the copies so far aren't apart
+abbrev pub AreLookedAt : Func → ℕ → Bool → Type 0
+AreLookedAt F n joined = joined ≡ false → (point : ℕ) (item : Instr) → point < n → IsReached F.code point → slice_get F.code point ≡ Some item → NotApart F item
+
+pub looked-more : (F : Func) (n : ℕ) (items : List Instr) → items ≡ F.code → (item : Instr) → n < length items → item ≡ get_or items n item → (old new : Bool) → (new ≡ false → old ≡ false) → (new ≡ false → IsReached F.code n → NotApart F item) → AreLookedAt F n old → AreLookedAt F (n + 1) new
+looked-more F n items same item low is old new kept here before e point a less reached at =
+    ⊎_elim
+    (λ s. let one : a ≡ item = same_Some a item (sym at ∙ ap (slice_get F.code) s ∙ there) in subst (NotApart F) (sym one) (here e (subst (IsReached F.code) s reached)))
+    (λ d. before (kept e) point a (⊎_elim (λ l. l) (λ high. absurd (d (omega arith))) (cases_lt point n)) reached at)
+    (cases_eq point n)
+  where
+    there : slice_get F.code n ≡ Some item
+    there = ap (λ l. slice_get l n) (sym same) ∙ slice_get-get_or items n item low ∙ ap Some (sym is)
+
+-- where any were joined, a reached copy lies in a class
+pub copied-more : (F : Func) (n : ℕ) (items : List Instr) → items ≡ F.code → (item : Instr) → n < length items → item ≡ get_or items n item → (class more : List ℕ) (old new : Bool) → Grows class more
+    → (new ≡ true → (old ≡ true) ⊎ (IsReached F.code n × IsCopyWithin item more)) → HasCopyWithin F class old → HasCopyWithin F more new
+copied-more F n items same item low is class more old new grows within before e = ⊎_elim earlier here (within e)
+  where
+    earlier : old ≡ true → (point : ℕ) × CopyWithin F more point
+    earlier h = let k = before h in (k.0, record { reached = k.1.reached; item = k.1.item; at = k.1.at; x = k.1.x; y = k.1.y; copies = k.1.copies; same = grows k.1.x k.1.y k.1.same })
+
+    here : IsReached F.code n × IsCopyWithin item more → (point : ℕ) × CopyWithin F more point
+    here h = (n, record { reached = h.0; item = item; at = ap (λ l. slice_get l n) (sym same) ∙ slice_get-get_or items n item low ∙ ap Some (sym is); x = h.1.0; y = h.1.1; copies = h.1.2; same = h.1.3 })
+
+pub looked-all : (F : Func) (n : ℕ) (joined : Bool) → length F.code ≤ n → AreLookedAt F n joined → joined ≡ false → NoneApart F
+looked-all F n joined long looked e point item x y reached at c differ apart = let l = slice_get_within F.code point item at in looked e point item (omega arith) reached at x y c differ apart

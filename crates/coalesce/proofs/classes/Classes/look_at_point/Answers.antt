@@ -1,0 +1,7 @@
+use Rattle.std.proofs.Common.{inl, inr, ⊎_elim}
+use Rattle.flow_graph.proofs.Told.{reach_tells}
+use Rattle.coalesce.proofs.classes.Classes.look_at_point.Goals as goal
+
+pub returns-clause-within : goal.returns-clause-within
+returns-clause-within c = λ e.
+    ⊎_elim inl (λ within. inr ((reach_tells c.args.func.now.code c.args.graph.now c.requires.graph c.args.point c.reach.result c.reach.ensures).0 c.if-not-reach.false, within)) (c.in_ok-look_at.ensures.within e)

@@ -1,0 +1,191 @@
+// Clashes of the variables that copies relate: one is assigned while the other is live.
+
+ghost use Rattle.std.specs.Prelude.{◌≡◌, ◌↔◌, ◌<◌, ◌≤◌, ◌+◌, ◌*◌, ◌^◌, ◌-◌, ℕ, suc, true, false, Some, IfOk, OnOk, IfSome, IfNone, None, length};
+ghost use Rattle.std.specs.List.{All, Contains};
+ghost use Rattle.bril_tree.specs.Live.{IsLive};
+ghost use Rattle.bril_tree.specs.Operand.{Variable};
+ghost use Rattle.flow_graph.specs.Graph.{IsGraphOf};
+ghost use Rattle.live_sets.specs.Flow.{IsFlowOf};
+ghost use Rattle.coalesce_laws.specs.Apart.{source_of};
+ghost use Rattle.coalesce.specs.Classes.{AddsClashes, AreClashes, Clashes, is_marked};
+
+use crate::copies::{dest_of, source_of};
+use bril_tree::numbered::Instr;
+use bril_tree::numbered_function::Func;
+use flow_graph::{Graph, variable_number};
+use graph_search::Reached;
+use live_sets::Flow;
+use std::alloc::{AllocError, Global};
+
+/// An item, and two variables: it assigns one while the other is live.
+#[derive(Clone, Copy, PartialEq, Eq, Debug, Drop)]
+pub struct Clash {
+    pub item: u32,
+    pub one: u32,
+    pub other: u32,
+}
+
+// Finds where the variable is live.
+fn search(
+    alloc: Global,
+    _func: &Func,
+    flow: &Flow,
+    reached: &mut Reached,
+    x: u32,
+) -> Result<(), AllocError>
+    requires points { reached.old.nodes ≡ flow.now.points }
+    requires flow { IsFlowOf _func.now.code flow.now }
+    ensures points { reached.new.nodes ≡ reached.old.nodes }
+    ensures within { OnOk result (All (λ point. point < length _func.now.code + 1) reached.new.found) }
+    ensures found { OnOk result ((point : ℕ) → Contains reached.new.found point ↔ IsLive _func.now.code (Variable x) point) }
+{
+    let location = variable_number(x)?;
+    flow.search_live(alloc, reached, location)?;
+    Ok(())
+}
+
+// Whether the variable is marked; none is that has no mark.
+pub(crate) fn is_marked(marks: &[bool], x: u32) -> bool
+    ensures { result ≡ is_marked marks.now x }
+{
+    (x as usize) < marks.len() && marks[x as usize]
+}
+
+// Whether the item copies x.
+fn is_copy_of(item: &Instr, x: u32) -> bool
+    ensures copies { result ≡ true → source_of item.now ≡ Some x }
+    ensures other { result ≡ false → source_of item.now ≡ Some x → ⊥ }
+{
+    match source_of(item) {
+        None => false,
+        Some(source) => source == x,
+    }
+}
+
+// The variable that the item before the point assigns, where that clashes with x, which is live at the point.
+fn clashing(func: &Func, graph: &Graph, related: &[bool], x: u32, point: u32) -> Option<u32>
+    requires graph { IsGraphOf func.now.code graph.now }
+    requires point { point < length func.now.code + 1 }
+    requires live { IsLive func.now.code (Variable x) point }
+    ensures some { IfSome result (λ dest. (item : ℕ) → suc item ≡ point → Clashes func.now.code item dest x) }
+    ensures after { IfSome result (λ dest. 1 ≤ point) }
+    ensures alone { IfSome result (λ dest. (item y : ℕ) → suc item ≡ point → Clashes func.now.code item y x → y ≡ dest) }
+    ensures none { IfNone result ((item y : ℕ) → suc item ≡ point → is_marked related.now y ≡ true → Clashes func.now.code item y x → ⊥) }
+{
+    if point == 0 || !graph.reach(point - 1) {
+        return None;
+    }
+    let item = &func.code.as_slice()[point as usize - 1];
+    let dest = dest_of(item)?;
+    if dest == x || is_copy_of(item, x) || !is_marked(related, dest) {
+        return None;
+    }
+    Some(dest)
+}
+
+// Adds the clash of the item before the point with x, which is live there, both ways round.
+fn push_clash(
+    list: &mut Vec<Clash>,
+    func: &Func,
+    graph: &Graph,
+    related: &[bool],
+    x: u32,
+    point: u32,
+) -> Result<(), AllocError>
+    requires graph { IsGraphOf func.now.code graph.now }
+    requires point { point < length func.now.code + 1 }
+    requires live { IsLive func.now.code (Variable x) point }
+    ensures { OnOk result (AddsClashes func.now.code related.now x (λ p. p ≡ point) list.old.items list.new.items) }
+{
+    match clashing(func, graph, related, x, point) {
+        None => Ok(()),
+        Some(dest) => {
+            let item = point - 1;
+            list.push(Clash {
+                item,
+                one: x,
+                other: dest,
+            })?;
+            list.push(Clash {
+                item,
+                one: dest,
+                other: x,
+            })?;
+            Ok(())
+        }
+    }
+}
+
+// Adds the clashes of items with x, which is live at these points.
+fn push_clashes(
+    list: &mut Vec<Clash>,
+    func: &Func,
+    graph: &Graph,
+    related: &[bool],
+    x: u32,
+    points: &[u32],
+) -> Result<(), AllocError>
+    requires graph { IsGraphOf func.now.code graph.now }
+    requires points { All (λ point. point < length func.now.code + 1) points.now }
+    requires live { (point : ℕ) → Contains points.now point → IsLive func.now.code (Variable x) point }
+    ensures { OnOk result (AddsClashes func.now.code related.now x (Contains points.now) list.old.items list.new.items) }
+{
+    for point in points {
+        push_clash(list, func, graph, related, x, *point)?;
+    }
+    Ok(())
+}
+
+// Adds the clashes with x, where it is marked.
+fn push_variable(
+    alloc: Global,
+    list: &mut Vec<Clash>,
+    func: &Func,
+    graph: &Graph,
+    flow: &Flow,
+    reached: &mut Reached,
+    related: &[bool],
+    x: u32,
+) -> Result<(), AllocError>
+    requires graph { IsGraphOf func.now.code graph.now }
+    requires points { reached.old.nodes ≡ flow.now.points }
+    requires flow { IsFlowOf func.now.code flow.now }
+    ensures points { reached.new.nodes ≡ reached.old.nodes }
+    ensures adds { OnOk result (AddsClashes func.now.code related.now x (λ p. (is_marked related.now x ≡ true) × IsLive func.now.code (Variable x) p) list.old.items list.new.items) }
+{
+    if is_marked(related, x) {
+        search(alloc, func, flow, reached, x)?;
+        push_clashes(list, func, graph, related, x, reached.found())?;
+    }
+    Ok(())
+}
+
+// The clashes of related variables.
+pub(crate) fn clashes_of(
+    alloc: Global,
+    func: &Func,
+    graph: &Graph,
+    flow: &Flow,
+    related: &[bool],
+) -> Result<Vec<Clash>, AllocError>
+    requires graph { IsGraphOf func.now.code graph.now }
+    requires flow { IsFlowOf func.now.code flow.now }
+    requires few { length related.now ≤ 2 ^ 32 }
+    ensures { IfOk result (λ list. AreClashes func.now.code related.now list.items) }
+{
+    let mut reached = Reached::new(alloc, flow.points())?;
+    let mut list = Vec::new(alloc);
+    for x in 0..related.len() {
+        push_variable(
+            alloc,
+            &mut list,
+            func,
+            graph,
+            flow,
+            &mut reached,
+            related,
+            x as u32,
+        )?;
+    }
+    Ok(list)
+}

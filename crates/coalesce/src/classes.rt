@@ -1,0 +1,457 @@
+// Classes of variables, which grow by one variable at a time.
+
+ghost use Rattle.std.specs.Prelude.{◌≡◌, ◌≢◌, ◌⊎◌, Some, ◌<◌, ◌≤◌, ◌^◌, ◌-◌, ◌&&◌, ℕ, true, false, None, is_some, IfOk, OnOk, length, slice_get, slice_set};
+ghost use Rattle.std.specs.List.{All, Contains};
+ghost use Rattle.bril_tree.specs.Typing.{variable_type};
+ghost use Rattle.bril_tree.specs.Shape.{shape_fault_of};
+ghost use Rattle.bril_tree.specs.Sites.{AreSitesSound};
+ghost use Rattle.bril_tree.specs.declared.numbered.Instr.{Instr};
+ghost use Rattle.bril_tree.specs.Walk.{IsReached};
+ghost use Rattle.flow_graph.specs.Graph.{IsGraphOf};
+ghost use Rattle.coalesce_laws.specs.Apart.{AreApart, HasShadow};
+ghost use Rattle.coalesce_laws.specs.Merged.{NoneApart};
+ghost use Rattle.coalesce.specs.declared.clashes.Clash.{Clash};
+ghost use Rattle.coalesce.specs.Rounds.{HasCopyWithin, IsCopyWithin};
+ghost use Rattle.coalesce.specs.Classes.{AreAlone, AreClashes, AreClasses, Fits, Grows, MarksShadow, Relates, IsRelatedItem, IsRoundState, Misfits, NoneKeepsApart, NotApart, SomeKeepsApart, class_of, firsts_from, is_marked, is_source, keeps_apart, shadows_joined, source_at};
+
+use crate::clashes::{Clash, clashes_of, is_marked};
+use crate::copies::{dest_of, shadow_of, source_of};
+use bril_tree::numbered::Instr;
+use bril_tree::numbered_function::Func;
+use bril_tree::typing::same_result;
+use flow_graph::{Access, AccessLists, Graph};
+use live_sets::Flow;
+use std::alloc::{AllocError, Global};
+
+// The class of each variable, by the variable that names it; which variables are a class alone; which classes have a variable
+// whose shadow some item names; and whether any two were joined.
+#[derive(Drop)]
+pub(crate) struct Classes {
+    pub class: Vec<u32>,
+    pub alone: Vec<bool>,
+    pub shadow: Vec<bool>,
+    pub joined: bool,
+}
+
+// Clashes, and their places by their first variables.
+#[derive(Drop)]
+pub(crate) struct ClashRows {
+    pub list: Vec<Clash>,
+    pub rows: AccessLists,
+    ghost keyed: { rows.list ≡ firsts_from 0 list.items },
+}
+
+// The places of clashes, by their first variables.
+fn first_variables(alloc: Global, list: &[Clash]) -> Result<Vec<Access>, AllocError>
+    requires { length list.now < 2 ^ 32 - 1 }
+    ensures { IfOk result (λ keys. keys.items ≡ firsts_from 0 list.now) }
+{
+    let mut keys = Vec::new(alloc);
+    for (place, clash) in list.iter().enumerate() {
+        keys.push(Access {
+            item: place as u32,
+            location: clash.one,
+        })?;
+    }
+    Ok(keys)
+}
+
+impl ClashRows {
+    // The clashes by their first variables. A function with 2^32 - 1 clashes or more is taken to need more memory than there is.
+    pub(crate) fn of(alloc: Global, list: Vec<Clash>) -> Result<ClashRows, AllocError>
+        ensures { IfOk result (λ rows. rows.list.items ≡ list.items) }
+    {
+        if list.len() >= u32::MAX as usize {
+            return Err(AllocError);
+        }
+        let keys = first_variables(alloc, list.as_slice())?;
+        let rows = AccessLists::of(alloc, keys)?;
+        Ok(ClashRows { list, rows })
+    }
+
+    // The places of the clashes with this first variable.
+    fn places(&self, alloc: Global, x: u32) -> Result<Vec<u32>, AllocError>
+        ensures within { IfOk result (λ places. All (λ place. place < length self.now.list.items) places.items) }
+        ensures all { IfOk result (λ places. (place : ℕ) (c : Clash) → slice_get self.now.list.items place ≡ Some c → c.one ≡ x → Contains places.items place) }
+        ensures only { IfOk result (λ places. (place : ℕ) (c : Clash) → slice_get self.now.list.items place ≡ Some c → Contains places.items place → c.one ≡ x) }
+    {
+        let places = self.rows.items(alloc, x)?;
+        Ok(places)
+    }
+}
+
+// The variable that the item at a point copies.
+fn source_at(func: &Func, item: u32) -> Option<u32>
+    ensures { result ≡ source_at (slice_get func.now.code item) }
+{
+    match func.code.as_slice().get(item as usize) {
+        None => None,
+        Some(item) => source_of(item),
+    }
+}
+
+// Whether the two variables are of one type.
+fn are_of_one_type(func: &Func, x: u32, y: u32) -> bool
+    requires x { x < length func.now.vars }
+    requires y { y < length func.now.vars }
+    ensures same { result ≡ true → variable_type func.now.vars x ≡ variable_type func.now.vars y }
+    ensures other { result ≡ false → variable_type func.now.vars x ≡ variable_type func.now.vars y → ⊥ }
+{
+    let vars = func.vars.as_slice();
+    same_result(vars[x as usize].ty, vars[y as usize].ty)
+}
+
+// Marks a variable, where it has a mark.
+fn mark(marks: &mut Vec<bool>, x: u32)
+    ensures { marks.new.items ≡ slice_set marks.old.items x true }
+{
+    let k = x as usize;
+    if k < marks.len() {
+        marks[k] = true;
+    }
+}
+
+// Marks the variables of an item, where it copies one to another.
+fn relate(related: &mut Vec<bool>, item: &Instr)
+    ensures { Relates item.now related.old.items related.new.items }
+{
+    if let (Some(x), Some(y)) = (dest_of(item), source_of(item)) {
+        mark(related, x);
+        mark(related, y);
+    }
+}
+
+// A mark for each variable that a copy relates to another.
+fn related_variables(alloc: Global, func: &Func) -> Result<Vec<bool>, AllocError>
+    requires { shape_fault_of (is_some func.now.ret) func.now.code ≡ None }
+    ensures long { IfOk result (λ related. length related.items ≡ length func.now.vars) }
+    ensures relates { IfOk result (λ related. (point : ℕ) (item : Instr) → slice_get func.now.code point ≡ Some item → IsRelatedItem func.now related.items item) }
+{
+    let mut related = vec![in alloc; false; func.vars.as_slice().len()]?;
+    for item in func.code.as_slice() {
+        relate(&mut related, item);
+    }
+    Ok(related)
+}
+
+// Marks the variable whose shadow the item names, where it names one.
+fn mark_shadow(marks: &mut Vec<bool>, item: &Instr)
+    ensures { MarksShadow item.now marks.old.items marks.new.items }
+{
+    if let Some(x) = shadow_of(item) {
+        mark(marks, x);
+    }
+}
+
+// A mark for each variable whose shadow some item names.
+fn shadowed_variables(alloc: Global, func: &Func) -> Result<Vec<bool>, AllocError>
+    ensures long { IfOk result (λ marks. length marks.items ≡ length func.now.vars) }
+    ensures all { IfOk result (λ marks. (x : ℕ) → x < length func.now.vars → HasShadow func.now.code x → is_marked marks.items x ≡ true) }
+    ensures only { IfOk result (λ marks. (x : ℕ) → is_marked marks.items x ≡ true → HasShadow func.now.code x) }
+{
+    let mut marks = vec![in alloc; false; func.vars.as_slice().len()]?;
+    for item in func.code.as_slice() {
+        mark_shadow(&mut marks, item);
+    }
+    Ok(marks)
+}
+
+// The numbers below a bound, in order.
+fn numbers_below(alloc: Global, count: usize) -> Result<Vec<u32>, AllocError>
+    requires { count ≤ 2 ^ 32 }
+    ensures long { IfOk result (λ numbers. length numbers.items ≡ count) }
+    ensures own { IfOk result (λ numbers. (x : ℕ) → class_of numbers.items x ≡ x) }
+{
+    let mut numbers = Vec::new(alloc);
+    for x in 0..count {
+        numbers.push(x as u32)?;
+    }
+    Ok(numbers)
+}
+
+// The classes of a function's variables: sound, and where no two were joined, no copy is apart. A function with 2^32 variables
+// or more is taken to need more memory than there is.
+pub(crate) fn classes_in(alloc: Global, func: &Func, graph: &Graph) -> Result<Classes, AllocError>
+    requires shaped { shape_fault_of (is_some func.now.ret) func.now.code ≡ None }
+    requires few { length func.now.code < 2 ^ 32 - 1 }
+    requires graph { IsGraphOf func.now.code graph.now }
+    requires sound { AreSitesSound func.now.code }
+    ensures are { IfOk result (λ classes. AreClasses func.now classes.class.items) }
+    ensures alone { IfOk result (λ classes. classes.joined ≡ false → AreAlone classes.class.items) }
+    ensures none { IfOk result (λ classes. classes.joined ≡ false → NoneApart func.now) }
+    ensures copied { IfOk result (λ classes. HasCopyWithin func.now classes.class.items classes.joined) }
+{
+    if func.vars.as_slice().len() > u32::MAX as usize {
+        return Err(AllocError);
+    }
+    let related = related_variables(alloc, func)?;
+    let flow = Flow::of(alloc, func, graph)?;
+    let list = clashes_of(alloc, func, graph, &flow, related.as_slice())?;
+    let clashes = ClashRows::of(alloc, list)?;
+    let mut classes = Classes::new(alloc, func, related.as_slice())?;
+    for (point, item) in func.code.as_slice().iter().enumerate() {
+        classes.look_at_point(
+            alloc,
+            func,
+            graph,
+            &clashes,
+            related.as_slice(),
+            item,
+            point as u32,
+        )?;
+    }
+    Ok(classes)
+}
+
+impl Classes {
+    // Each variable alone.
+    fn new(alloc: Global, func: &Func, _related: &[bool]) -> Result<Classes, AllocError>
+        requires { length func.now.vars ≤ 2 ^ 32 }
+        ensures state { IfOk result (λ classes. IsRoundState func.now _related.now classes.class.items classes.alone.items classes.shadow.items classes.joined) }
+        ensures none { IfOk result (λ classes. classes.joined ≡ false) }
+    {
+        let count = func.vars.as_slice().len();
+        let class = numbers_below(alloc, count)?;
+        let alone = vec![in alloc; true; count]?;
+        let shadow = shadowed_variables(alloc, func)?;
+        Ok(Classes {
+            class,
+            alone,
+            shadow,
+            joined: false,
+        })
+    }
+
+    // The class of a variable.
+    fn class_of(&self, x: u32) -> u32
+        ensures { result ≡ class_of self.now.class.items x }
+    {
+        if (x as usize) < self.class.len() {
+            self.class[x as usize]
+        } else {
+            x
+        }
+    }
+
+    // Whether the source is the variable x, or one of the class.
+    fn is_source(&self, source: Option<u32>, x: u32, class: u32) -> bool
+        ensures { result ≡ is_source self.now.class.items x class source }
+    {
+        match source {
+            None => false,
+            Some(source) => source == x || self.class_of(source) == class,
+        }
+    }
+
+    // Whether the clash is with a variable of the class, and its item is no copy that becomes one of a variable to itself.
+    fn keeps_apart(&self, func: &Func, clash: Clash, class: u32) -> bool
+        ensures { result ≡ keeps_apart func.now.code self.now.class.items class clash }
+    {
+        self.class_of(clash.other) == class
+            && !self.is_source(source_at(func, clash.item), clash.one, class)
+    }
+
+    // Whether a clash keeps x apart from the class.
+    fn clashes(
+        &self,
+        alloc: Global,
+        func: &Func,
+        clashes: &ClashRows,
+        x: u32,
+        class: u32,
+    ) -> Result<bool, AllocError>
+        ensures some { IfOk result (λ b. b ≡ true → SomeKeepsApart func.now.code clashes.now.list.items self.now.class.items x class) }
+        ensures none { IfOk result (λ b. b ≡ false → NoneKeepsApart func.now.code clashes.now.list.items self.now.class.items x class) }
+    {
+        let places = clashes.places(alloc, x)?;
+        for place in places.as_slice() {
+            if self.keeps_apart(func, clashes.list[*place as usize], class) {
+                return Ok(true);
+            }
+        }
+        Ok(false)
+    }
+
+    // Whether both classes have a variable whose shadow some item names.
+    fn are_shadowed(&self, x: u32, class: u32) -> bool
+        ensures { result ≡ is_marked self.now.shadow.items x && is_marked self.now.shadow.items class }
+    {
+        is_marked(self.shadow.as_slice(), x) && is_marked(self.shadow.as_slice(), class)
+    }
+
+    // Whether x may get the name of the class.
+    fn fits(
+        &self,
+        alloc: Global,
+        func: &Func,
+        clashes: &ClashRows,
+        x: u32,
+        class: u32,
+    ) -> Result<bool, AllocError>
+        requires x { x < length func.now.vars }
+        requires class { class < length func.now.vars }
+        ensures fits { IfOk result (λ b. b ≡ true → Fits func.now clashes.now.list.items self.now.class.items self.now.shadow.items x class) }
+        ensures misfits { IfOk result (λ b. b ≡ false → Misfits func.now clashes.now.list.items self.now.class.items self.now.shadow.items x class) }
+    {
+        if !are_of_one_type(func, x, class) {
+            return Ok(false);
+        }
+        if self.are_shadowed(x, class) {
+            return Ok(false);
+        }
+        if self.clashes(alloc, func, clashes, x, class)? {
+            return Ok(false);
+        }
+        Ok(true)
+    }
+
+    // Gives x, which is alone, the name of the class.
+    fn put(&mut self, x: u32, class: u32)
+        requires class_x { x < length self.old.class.items }
+        requires alone_x { x < length self.old.alone.items }
+        requires alone_class { class < length self.old.alone.items }
+        requires shadow_class { class < length self.old.shadow.items }
+        ensures class { self.new.class.items ≡ slice_set self.old.class.items x class }
+        ensures alone { self.new.alone.items ≡ slice_set (slice_set self.old.alone.items x false) class false }
+        ensures shadow { self.new.shadow.items ≡ shadows_joined self.old.shadow.items x class }
+        ensures joined { self.new.joined ≡ true }
+    {
+        self.class[x as usize] = class;
+        self.alone[x as usize] = false;
+        self.alone[class as usize] = false;
+        if is_marked(self.shadow.as_slice(), x) {
+            self.shadow[class as usize] = true;
+        }
+        self.joined = true;
+    }
+
+    // Whether the variable is alone and no argument, so that it may get the name of another.
+    fn may_move(&self, func: &Func, x: u32) -> bool
+        ensures alone { result ≡ true → is_marked self.now.alone.items x ≡ true }
+        ensures past { result ≡ true → func.now.args ≤ x }
+        ensures stays { result ≡ false → is_marked self.now.alone.items x ≡ true → x < func.now.args }
+    {
+        is_marked(self.alone.as_slice(), x) && x >= func.args
+    }
+
+    // Puts x, which is alone and no argument, into the class of y, where that may be.
+    fn join(
+        &mut self,
+        alloc: Global,
+        func: &Func,
+        clashes: &ClashRows,
+        _related: &[bool],
+        x: u32,
+        y: u32,
+    ) -> Result<(), AllocError>
+        requires clashes { AreClashes func.now.code _related.now clashes.now.list.items }
+        requires state { IsRoundState func.now _related.now self.old.class.items self.old.alone.items self.old.shadow.items self.old.joined }
+        requires alone { is_marked self.old.alone.items x ≡ true }
+        requires past { func.now.args ≤ x }
+        requires differ { x ≢ y }
+        requires x { x < length func.now.vars }
+        requires y { y < length func.now.vars }
+        requires relates_x { is_marked _related.now x ≡ true }
+        requires relates_y { is_marked _related.now y ≡ true }
+        ensures state { OnOk result (IsRoundState func.now _related.now self.new.class.items self.new.alone.items self.new.shadow.items self.new.joined) }
+        ensures kept { OnOk result (self.new.joined ≡ false → self.old.joined ≡ false) }
+        ensures misfits { OnOk result (self.new.joined ≡ false → Misfits func.now clashes.now.list.items self.old.class.items self.old.shadow.items x (class_of self.old.class.items y)) }
+        ensures grows { OnOk result (Grows self.old.class.items self.new.class.items) }
+        ensures within { OnOk result (self.new.joined ≡ true → (self.old.joined ≡ true) ⊎ (class_of self.new.class.items x ≡ class_of self.new.class.items y)) }
+    {
+        let class = self.class_of(y);
+        if self.fits(alloc, func, clashes, x, class)? {
+            self.put(x, class);
+        }
+        Ok(())
+    }
+
+    // Looks at a copy of y to x: one of them that is alone gets the name of the other's class, where that may be. Two classes
+    // that have grown wait for the next round.
+    fn look_at_copy(
+        &mut self,
+        alloc: Global,
+        func: &Func,
+        clashes: &ClashRows,
+        related: &[bool],
+        x: u32,
+        y: u32,
+    ) -> Result<(), AllocError>
+        requires clashes { AreClashes func.now.code related.now clashes.now.list.items }
+        requires state { IsRoundState func.now related.now self.old.class.items self.old.alone.items self.old.shadow.items self.old.joined }
+        requires differ { x ≢ y }
+        requires x { x < length func.now.vars }
+        requires y { y < length func.now.vars }
+        requires relates_x { is_marked related.now x ≡ true }
+        requires relates_y { is_marked related.now y ≡ true }
+        ensures state { OnOk result (IsRoundState func.now related.now self.new.class.items self.new.alone.items self.new.shadow.items self.new.joined) }
+        ensures kept { OnOk result (self.new.joined ≡ false → self.old.joined ≡ false) }
+        ensures apart { OnOk result (self.new.joined ≡ false → AreApart func.now x y → ⊥) }
+        ensures grows { OnOk result (Grows self.old.class.items self.new.class.items) }
+        ensures within { OnOk result (self.new.joined ≡ true → (self.old.joined ≡ true) ⊎ (class_of self.new.class.items x ≡ class_of self.new.class.items y)) }
+    {
+        if self.may_move(func, x) {
+            self.join(alloc, func, clashes, related, x, y)?;
+            return Ok(());
+        }
+        if self.may_move(func, y) {
+            self.join(alloc, func, clashes, related, y, x)?;
+        }
+        Ok(())
+    }
+
+    // Looks at an item, where it copies one variable to another.
+    pub(crate) fn look_at(
+        &mut self,
+        alloc: Global,
+        func: &Func,
+        clashes: &ClashRows,
+        related: &[bool],
+        item: &Instr,
+    ) -> Result<(), AllocError>
+        requires clashes { AreClashes func.now.code related.now clashes.now.list.items }
+        requires state { IsRoundState func.now related.now self.old.class.items self.old.alone.items self.old.shadow.items self.old.joined }
+        requires item { IsRelatedItem func.now related.now item.now }
+        ensures state { OnOk result (IsRoundState func.now related.now self.new.class.items self.new.alone.items self.new.shadow.items self.new.joined) }
+        ensures kept { OnOk result (self.new.joined ≡ false → self.old.joined ≡ false) }
+        ensures apart { OnOk result (self.new.joined ≡ false → NotApart func.now item.now) }
+        ensures grows { OnOk result (Grows self.old.class.items self.new.class.items) }
+        ensures within { OnOk result (self.new.joined ≡ true → (self.old.joined ≡ true) ⊎ IsCopyWithin item.now self.new.class.items) }
+    {
+        if let (Some(x), Some(y)) = (dest_of(item), source_of(item)) {
+            if x != y {
+                self.look_at_copy(alloc, func, clashes, related, x, y)?;
+            }
+        }
+        Ok(())
+    }
+
+    // Looks at the item at a point, where a walk leads there.
+    fn look_at_point(
+        &mut self,
+        alloc: Global,
+        func: &Func,
+        graph: &Graph,
+        clashes: &ClashRows,
+        related: &[bool],
+        item: &Instr,
+        point: u32,
+    ) -> Result<(), AllocError>
+        requires graph { IsGraphOf func.now.code graph.now }
+        requires point { point < length func.now.code }
+        requires clashes { AreClashes func.now.code related.now clashes.now.list.items }
+        requires state { IsRoundState func.now related.now self.old.class.items self.old.alone.items self.old.shadow.items self.old.joined }
+        requires item { IsRelatedItem func.now related.now item.now }
+        ensures state { OnOk result (IsRoundState func.now related.now self.new.class.items self.new.alone.items self.new.shadow.items self.new.joined) }
+        ensures kept { OnOk result (self.new.joined ≡ false → self.old.joined ≡ false) }
+        ensures apart { OnOk result (self.new.joined ≡ false → IsReached func.now.code point → NotApart func.now item.now) }
+        ensures grows { OnOk result (Grows self.old.class.items self.new.class.items) }
+        ensures within { OnOk result (self.new.joined ≡ true → (self.old.joined ≡ true) ⊎ (IsReached func.now.code point × IsCopyWithin item.now self.new.class.items)) }
+    {
+        if !graph.reach(point) {
+            return Ok(());
+        }
+        self.look_at(alloc, func, clashes, related, item)?;
+        Ok(())
+    }
+}
