@@ -5,7 +5,8 @@ use Rattle.std.specs.Option.{option_or}
 use Rattle.std.proofs.lemmas.List.{length-append, length-map}
 use Rattle.bril_tree.specs.declared.import.Import.{Import}
 use Rattle.import_linker.specs.Linked.{spelled}
-use Rattle.import_linker.specs.Names.{Function, NameFault, callees, clash, fault_of, first_lacking, first_unknown, function_names, functions_of, local_name, local_names, meanings, name_fault, names_taken, not_there, own_functions, own_names, paths_of, repeated_after, taken_function, taken_of}
+use Rattle.import_linker.specs.Names.{Function, NameFault, callees, clash, first_unknown, function_names, functions_of, local_name, local_names, meanings, names_taken, not_there, own_functions, own_names, repeated_after, taken_function, taken_of}
+use Rattle.import_linker.specs.Tables.{fault_by, first_absent}
 use Rattle.import_linker.specs.Refusing.{IsClash, IsLack, RefusesNames}
 use Rattle.import_linker.specs.declared.fault.LinkFault.{LinkFault}
 use Rattle.import_linker.specs.declared.fault.LinkFault.TheVariants as fault
@@ -30,18 +31,18 @@ as_many run paths number s =
 
 -- ---- the first fault of a file
 
-module _ (sources : List Source) (number : ℕ) (s : Source) where
+module _ (tables : List (List (List ℕ))) (paths : List (List ℕ)) (s : Source) where
   abbrev with_path : Option NameFault → Option (List ℕ × NameFault)
   with_path first = option_map (λ (f : NameFault). (s.path, f)) first
 
   -- what is sought after names that stand twice, and after taken functions
   abbrev of_taken : Option NameFault
-  of_taken = option_map not_there (first_lacking sources (taken_of (paths_of sources) s))
+  of_taken = option_map not_there (first_absent tables (taken_of paths s))
 
   abbrev of_callees : Option NameFault
   of_callees = option_map not_there (first_unknown (local_names s) (callees s.tree.funcs))
 
-  pub clashes : (e : LinkFault) → IsClash e s.path (repeated_after [] (local_names s)) → RefusesNames e (fault_of sources number s)
+  pub clashes : (e : LinkFault) → IsClash e s.path (repeated_after [] (local_names s)) → RefusesNames e (fault_by tables paths s)
   clashes (fault.Read other) h = h
   clashes (fault.Bad other why) h = h
   clashes (fault.NotThere other name) h = absurd h
@@ -52,10 +53,10 @@ module _ (sources : List Source) (number : ℕ) (s : Source) where
   clashes fault.Memory h = tt
 
   module _ (differ : repeated_after [] (local_names s) ≡ None) where
-    after_clash : fault_of sources number s ≡ with_path (option_or of_taken of_callees)
+    after_clash : fault_by tables paths s ≡ with_path (option_or of_taken of_callees)
     after_clash = ap (λ (first : Option (List ℕ)). with_path (option_or (option_map clash first) (option_or of_taken of_callees))) differ
 
-    pub lacks_taken : (e : LinkFault) → IsLack e s.path (first_lacking sources (taken_of (paths_of sources) s)) → RefusesNames e (fault_of sources number s)
+    pub lacks_taken : (e : LinkFault) → IsLack e s.path (first_absent tables (taken_of paths s)) → RefusesNames e (fault_by tables paths s)
     lacks_taken (fault.Read other) h = h
     lacks_taken (fault.Bad other why) h = h
     lacks_taken (fault.Clash other name) h = absurd h
@@ -65,11 +66,11 @@ module _ (sources : List Source) (number : ℕ) (s : Source) where
     lacks_taken fault.TooManyBytes h = h
     lacks_taken fault.Memory h = tt
 
-    module _ (taken : first_lacking sources (taken_of (paths_of sources) s) ≡ None) where
-      after_taken : fault_of sources number s ≡ with_path of_callees
+    module _ (taken : first_absent tables (taken_of paths s) ≡ None) where
+      after_taken : fault_by tables paths s ≡ with_path of_callees
       after_taken = after_clash ∙ ap (λ (first : Option (List ℕ)). with_path (option_or (option_map not_there first) of_callees)) taken
 
-      pub lacks_callee : (e : LinkFault) → IsLack e s.path (first_unknown (local_names s) (callees s.tree.funcs)) → RefusesNames e (fault_of sources number s)
+      pub lacks_callee : (e : LinkFault) → IsLack e s.path (first_unknown (local_names s) (callees s.tree.funcs)) → RefusesNames e (fault_by tables paths s)
       lacks_callee (fault.Read other) h = h
       lacks_callee (fault.Bad other why) h = h
       lacks_callee (fault.Clash other name) h = absurd h
@@ -79,5 +80,5 @@ module _ (sources : List Source) (number : ℕ) (s : Source) where
       lacks_callee fault.TooManyBytes h = h
       lacks_callee fault.Memory h = tt
 
-      pub is_faultless : first_unknown (local_names s) (callees s.tree.funcs) ≡ None → fault_of sources number s ≡ None
+      pub is_faultless : first_unknown (local_names s) (callees s.tree.funcs) ≡ None → fault_by tables paths s ≡ None
       is_faultless h = after_taken ∙ ap (λ (first : Option (List ℕ)). with_path (option_map not_there first)) h

@@ -2,9 +2,8 @@
 use Rattle.std.proofs.Common.{◌≡◌, ◌∙◌, refl, sym, ap, Bool, true, false, cond, ℕ, ◌+◌, ◌<◌, List, [], ◌∷◌, ◌++◌, length, take, drop, get_or, map, Option, Some, None, append_assoc}
 use Rattle.std.specs.Prelude.{flat_map, find, not, option_map}
 use Rattle.bril_tree.specs.declared.import.Taken.{Taken}
-use Rattle.import_linker.specs.Names.{Function, contains, first_lacking, first_unknown, is_there}
-use Rattle.import_linker.specs.Tables.{first_outside}
-use Rattle.import_linker.specs.declared.sources.Source.{Source}
+use Rattle.import_linker.specs.Names.{Function, contains, first_unknown}
+use Rattle.import_linker.specs.Tables.{first_absent, first_outside}
 use Rattle.import_linker.specs.Refusing.{IsLack}
 use Rattle.import_linker.specs.declared.fault.LinkFault.{LinkFault}
 use Rattle.import_linker.specs.declared.fault.LinkFault.TheVariants as fault
@@ -61,10 +60,10 @@ outside-append names xs ys =
     ap (option_map (λ (t : Taken). t.name)) (find-append (λ (t : Taken). not (contains names t.name)) xs ys)
     ∙ map-option_or (λ (t : Taken). t.name) (find (λ (t : Taken). not (contains names t.name)) xs) (find (λ (t : Taken). not (contains names t.name)) ys)
 
-pub lacking-append : (sources : List Source) (xs ys : List Function) → first_lacking sources (xs ++ ys) ≡ option_or (first_lacking sources xs) (first_lacking sources ys)
-lacking-append sources xs ys =
-    ap (option_map (λ (f : Function). f.name)) (find-append (λ (f : Function). not (is_there sources f)) xs ys)
-    ∙ map-option_or (λ (f : Function). f.name) (find (λ (f : Function). not (is_there sources f)) xs) (find (λ (f : Function). not (is_there sources f)) ys)
+pub absent-append : (tables : List (List (List ℕ))) (xs ys : List Function) → first_absent tables (xs ++ ys) ≡ option_or (first_absent tables xs) (first_absent tables ys)
+absent-append tables xs ys =
+    ap (option_map (λ (f : Function). f.name)) (find-append (λ (f : Function). not (contains (get_or tables f.file []) f.name)) xs ys)
+    ∙ map-option_or (λ (f : Function). f.name) (find (λ (f : Function). not (contains (get_or tables f.file []) f.name)) xs) (find (λ (f : Function). not (contains (get_or tables f.file []) f.name)) ys)
 
 -- ---- refusals
 

@@ -2,11 +2,12 @@
 use Rattle.std.proofs.Common.{◌≡◌, ◌∙◌, refl, sym, ap, Bool, true, false, cond, ◌||◌, ℕ, zero, suc, List, [], ◌∷◌, ◌++◌, map, get_or, length, Option, Some, None}
 use Rattle.std.specs.Prelude.{bytes_eq, find, if◌then◌else◌, not, option_map, slice_get}
 use Rattle.std.specs.List.{list_any}
+use Rattle.std.specs.Option.{option_or}
 use Rattle.std.proofs.lemmas.Slice.Eq.{bytes_eq-Decides}
 use Rattle.bril_tree.specs.declared.import.Taken.{Taken}
 use Rattle.import_linker.proofs.RunLengths.{any-push}
-use Rattle.import_linker.specs.Names.{Function, contains, first_lacking, is_there, names_at, own_names, taken_functions}
-use Rattle.import_linker.specs.Tables.{AreTables, HaveSame, first_outside}
+use Rattle.import_linker.specs.Names.{Function, NameFault, callees, clash, contains, fault_of, first_lacking, first_unknown, is_there, local_names, names_at, not_there, own_names, paths_of, repeated_after, taken_functions, taken_of}
+use Rattle.import_linker.specs.Tables.{AreTables, HaveSame, fault_by, first_absent, first_outside}
 use Rattle.import_linker.specs.declared.sources.Source.{Source}
 
 -- ---- membership
@@ -52,16 +53,29 @@ there_is (t ∷ tables) [] all number name = absurd all
 there_is (t ∷ tables) (s ∷ sources) all zero name = all.0 name
 there_is (t ∷ tables) (s ∷ sources) all (suc number) name = there_is tables sources all.1 number name
 
--- a taken function that isn't among the names of the table of its file isn't there
-pub lacking_is : (tables : List (List (List ℕ))) (sources : List Source) → AreTables tables sources → (file : ℕ) (taken : List Taken)
-    → first_outside (get_or tables file []) taken ≡ first_lacking sources (taken_functions file taken)
-lacking_is tables sources all file [] = refl
-lacking_is tables sources all file (t ∷ taken) =
-    ap (λ b. option_map (λ (x : Taken). x.name) (cond (not b) (Some t) (find (λ (x : Taken). not (contains (get_or tables file []) x.name)) taken))) (there_is tables sources all file t.name)
-    ∙ go (contains (names_at sources file) t.name) (lacking_is tables sources all file taken)
+-- a taken function that isn't among the names of the table of its file is absent
+pub outside_is : (tables : List (List (List ℕ))) (file : ℕ) (taken : List Taken)
+    → first_outside (get_or tables file []) taken ≡ first_absent tables (taken_functions file taken)
+outside_is tables file [] = refl
+outside_is tables file (t ∷ taken) = go (contains (get_or tables file []) t.name) (outside_is tables file taken)
   where
-    go : (b : Bool) → first_outside (get_or tables file []) taken ≡ first_lacking sources (taken_functions file taken)
+    go : (b : Bool) → first_outside (get_or tables file []) taken ≡ first_absent tables (taken_functions file taken)
         → option_map (λ (x : Taken). x.name) (cond (not b) (Some t) (find (λ (x : Taken). not (contains (get_or tables file []) x.name)) taken))
-        ≡ option_map (λ (f : Function). f.name) (cond (not b) (Some (record { file = file; name = t.name })) (find (λ f. not (is_there sources f)) (taken_functions file taken)))
+        ≡ option_map (λ (f : Function). f.name) (cond (not b) (Some (record { file = file; name = t.name })) (find (λ (f : Function). not (contains (get_or tables f.file []) f.name)) (taken_functions file taken)))
     go true e = e
     go false e = refl
+
+-- a function is absent exactly where it isn't there
+pub absent_is : (tables : List (List (List ℕ))) (sources : List Source) → AreTables tables sources → (functions : List Function)
+    → first_absent tables functions ≡ first_lacking sources functions
+absent_is tables sources all functions =
+    let test : (λ (f : Function). not (contains (get_or tables f.file []) f.name)) ≡ (λ (f : Function). not (is_there sources f)) =
+    λ i f. not (there_is tables sources all f.file f.name i) in
+    ap (λ p. option_map (λ (f : Function). f.name) (find p functions)) test
+
+pub fault_is : (tables : List (List (List ℕ))) (paths : List (List ℕ)) (sources : List Source) (number : ℕ) (s : Source) → AreTables tables sources → paths ≡ paths_of sources
+    → fault_by tables paths s ≡ fault_of sources number s
+fault_is tables paths sources number s all same =
+    ap (λ (first : Option (List ℕ)). option_map (λ (fault : NameFault). (s.path, fault))
+    (option_or (option_map clash (repeated_after [] (local_names s))) (option_or (option_map not_there first) (option_map not_there (first_unknown (local_names s) (callees s.tree.funcs))))))
+    (absent_is tables sources all (taken_of paths s) ∙ ap (λ (p : List (List ℕ)). first_lacking sources (taken_of p s)) same)

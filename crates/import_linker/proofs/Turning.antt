@@ -109,14 +109,3 @@ module _ (root : List ℕ) (sources : List Source) (known : List (List ℕ)) (is
       long = let same = total_is in omega (arith, h.2);
     }
     refuses_source middle after fault.Memory path total at holds_is le total_is short h = tt
-
-got_at : {X : Type 0} (xs : List X) (i : ℕ) (x : X) → i < length xs → x ≡ get_or xs i x → slice_get xs i ≡ Some x
-got_at [] i x lt e = absurd (omega arith)
-got_at (y ∷ ys) zero x lt e = ap Some (sym e)
-got_at (y ∷ ys) (suc i) x lt e = got_at ys i x (omega arith) e
-
--- the path that is next, by its lookup
-pub got_by : (known slice : List (List ℕ)) (sources held : List Source) (path found : List ℕ) → slice ≡ known → held ≡ sources → path ≡ found → length held < length slice
-    → found ≡ get_or slice (length held) found → slice_get known (length sources) ≡ Some path
-got_by known slice sources held path found slice_is held_is path_is lt e =
-    ap₂ (λ (k : List (List ℕ)) (l : List Source). slice_get k (length l)) (sym slice_is) (sym held_is) ∙ got_at slice (length held) found lt e ∙ ap Some (sym path_is)

@@ -1,13 +1,13 @@
 -- What a name of a function stands for in a file, and what is wrong with the names of a file.
 use Rattle.std.specs.Prelude.{ℕ, not, Bool, List, [], ◌∷◌, ◌++◌, map, flat_map, Option, Some, None, find, option_map, slice_get, bytes_eq, if◌then◌else◌, unwrap_or, ◌+◌}
-use Rattle.std.specs.List.{list_any, position_or_len}
+use Rattle.std.specs.List.{list_any}
 use Rattle.std.specs.Option.{option_map_or, option_or}
 use Rattle.bril_tree.specs.declared.function_tree.FuncTree.{FuncTree}
 use Rattle.bril_tree.specs.declared.function_tree.Item.{Item}
 use Rattle.bril_tree.specs.declared.function_tree.Item.TheVariants as item
 use Rattle.bril_tree.specs.declared.import.Import.{Import}
 use Rattle.bril_tree.specs.declared.import.Taken.{Taken}
-use Rattle.import_linker.specs.Order.{joined}
+use Rattle.import_linker.specs.Order.{file_at, joined}
 use Rattle.import_linker.specs.declared.sources.Source.{Source}
 
 -- ---- the functions of a program
@@ -28,10 +28,6 @@ own_names s = function_names s.tree.funcs
 -- the paths of files
 abbrev pub paths_of : List Source → List (List ℕ)
 paths_of sources = map (λ (s : Source). s.path) sources
-
--- the number of the file at a path
-abbrev pub file_at : List (List ℕ) → List ℕ → ℕ
-file_at paths path = position_or_len (bytes_eq path) paths
 
 -- the function that an import takes
 abbrev pub taken_function : ℕ → Taken → Function

@@ -1,6 +1,6 @@
 -- The files of a program, in the order in which they are first named.
 use Rattle.std.specs.Prelude.{ℕ, ◌==◌, ◌-◌, ◌||◌, Bool, true, false, List, [], ◌∷◌, ◌++◌, map, fold, flat_map, bytes_eq, if◌then◌else◌}
-use Rattle.std.specs.List.{list_any}
+use Rattle.std.specs.List.{list_any, position_or_len}
 use Rattle.bril_tree.specs.declared.import.Import.{Import}
 use Rattle.import_linker.specs.declared.sources.Source.{Source}
 
@@ -36,7 +36,7 @@ named_by s = named_in s.path s.tree.imports
 -- ---- files by number
 
 abbrev pub is_known : List ℕ → List (List ℕ) → Bool
-is_known path known = list_any (λ other. bytes_eq other path) known
+is_known path known = list_any (bytes_eq path) known
 
 -- a path that isn't known comes last
 abbrev pub added : List (List ℕ) → List ℕ → List (List ℕ)
@@ -48,3 +48,7 @@ all_added known paths = fold added known paths
 -- The paths of files by number, where these files were read: the root, then all that they name, in order.
 abbrev pub known_after : List ℕ → List Source → List (List ℕ)
 known_after root done = all_added (root ∷ []) (flat_map named_by done)
+
+-- the number of the file at a path, and the number of all where none is there
+abbrev pub file_at : List (List ℕ) → List ℕ → ℕ
+file_at paths path = position_or_len (bytes_eq path) paths

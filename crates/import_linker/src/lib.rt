@@ -7,6 +7,7 @@
 
 mod fault;
 mod fresh_run;
+mod known_paths;
 mod laws;
 mod linking;
 mod locals;

@@ -2,12 +2,13 @@
 
 ghost use Rattle.std.specs.Prelude.{◌≡◌, ◌<◌, ◌≤◌, ◌++◌, IfOk, IfErr, OnOk};
 ghost use Rattle.import_linker.specs.Linked.{linked_file, IsFreshRun, IsTreeOf, Linked};
-ghost use Rattle.import_linker.specs.Names.{fault_from, fault_of, names_at, paths_of};
+ghost use Rattle.import_linker.specs.Names.{fault_from, names_at, paths_of};
 ghost use Rattle.import_linker.specs.Refusing.{AreNamed, RefusesLink};
-ghost use Rattle.import_linker.specs.Tables.{AreTables};
+ghost use Rattle.import_linker.specs.Tables.{fault_by};
 
 use crate::fault::LinkFault;
 use crate::fresh_run::fresh_run;
+use crate::known_paths::KnownPaths;
 use crate::locals::local_names;
 use crate::reading::read_sources;
 use crate::renaming::rename_functions;
@@ -42,13 +43,14 @@ pub fn link<F: Files>(alloc: Global, files: &mut F, root: &Text) -> Result<Tree,
     ensures ok { IfOk result (Linked (F.seen files.old).holds root.now) }
     ensures err { IfErr result (λ fault. RefusesLink fault (F.seen files.old) (F.seen files.new) root.now) }
 {
-    let sources = read_sources(alloc, files, root)?;
-    let tree = linked_tree(alloc, sources.as_slice())?;
+    let read = read_sources(alloc, files, root)?;
+    let tree = linked_tree(alloc, &read.paths, read.sources.as_slice())?;
     Ok(tree)
 }
 
 // The tree of files, or the first fault of their names.
-fn linked_tree(alloc: Global, sources: &[Source]) -> Result<Tree, LinkFault>
+fn linked_tree(alloc: Global, paths: &KnownPaths, sources: &[Source]) -> Result<Tree, LinkFault>
+    requires { paths.now ≡ paths_of sources.now }
     ensures ok { IfOk result (IsTreeOf sources.now) }
     ensures named { AreNamed (fault_from sources.now 0 sources.now) result }
 {
@@ -58,7 +60,7 @@ fn linked_tree(alloc: Global, sources: &[Source]) -> Result<Tree, LinkFault>
     for (number, source) in sources.iter().enumerate() {
         link_file(
             alloc,
-            sources,
+            paths,
             tables.as_slice(),
             run,
             number,
@@ -85,20 +87,19 @@ fn first_run(alloc: Global, sources: &[Source]) -> Result<usize, AllocError>
 // Appends the functions of a file in the tree of all files.
 fn link_file(
     alloc: Global,
-    sources: &[Source],
+    paths: &KnownPaths,
     tables: &[Table<'_>],
     run: usize,
     number: usize,
     source: &Source,
     funcs: &mut Seq<FuncTree>,
 ) -> Result<(), LinkFault>
-    requires run { 0 < run }
-    requires tables { AreTables tables.now sources.now }
-    ensures ok { OnOk result (funcs.new ≡ funcs.old ++ linked_file run (paths_of sources.now) number source.now) }
-    ensures named { AreNamed (fault_of sources.now number source.now) result }
+    requires { 0 < run }
+    ensures ok { OnOk result (funcs.new ≡ funcs.old ++ linked_file run paths.now number source.now) }
+    ensures named { AreNamed (fault_by tables.now paths.now source.now) result }
 {
     let names = local_names(alloc, source)?;
-    let spelled = spelled_meanings(alloc, sources, tables, run, number, source)?;
+    let spelled = spelled_meanings(alloc, paths, tables, run, number, source)?;
     rename_functions(
         alloc,
         &source.path,

@@ -3,11 +3,11 @@
 ghost use Rattle.std.specs.Prelude.{◌≡◌, ◌≤◌, ◌++◌, ◌∷◌, [], length, IfOk, IfErr};
 ghost use Rattle.std.specs.String.{string_bytes};
 ghost use Rattle.import_linker.specs.Adding.{AddsTooMany};
-ghost use Rattle.import_linker.specs.Order.{joined, folder_of, begins_at_root, is_known, added, all_added, named_in, most_files};
+ghost use Rattle.import_linker.specs.Order.{joined, folder_of, begins_at_root, added, all_added, named_in, most_files};
 
 use crate::fault::LinkFault;
+use crate::known_paths::KnownPaths;
 use bril_tree::import::Import;
-use bril_tree::sequence::Seq;
 use bril_tree::text::Text;
 use std::alloc::{AllocError, Global};
 
@@ -17,7 +17,7 @@ const MOST_FILES: usize = 256;
 /// Adds the files that imports of the file at a path name, each unless it is known.
 pub(crate) fn add_imports(
     alloc: Global,
-    known: &mut Seq<Text>,
+    known: &mut KnownPaths,
     importer: &Text,
     imports: &[Import],
 ) -> Result<(), LinkFault>
@@ -28,35 +28,26 @@ pub(crate) fn add_imports(
 {
     for import in imports {
         let path = joined(alloc, importer, &import.path)?;
-        add_path(known, path)?;
+        add_path(alloc, known, &path)?;
     }
     Ok(())
 }
 
 // Adds a path unless it is known.
-fn add_path(known: &mut Seq<Text>, path: Text) -> Result<(), LinkFault>
+fn add_path(alloc: Global, known: &mut KnownPaths, path: &Text) -> Result<(), LinkFault>
     requires { length known.old ≤ most_files }
-    ensures ok { IfOk result (λ _. known.new ≡ added known.old path) }
+    ensures ok { IfOk result (λ _. known.new ≡ added known.old path.now) }
     ensures few { IfOk result (λ _. length known.new ≤ most_files) }
-    ensures err { IfErr result (λ fault. AddsTooMany fault known.old (path ∷ [])) }
+    ensures err { IfErr result (λ fault. AddsTooMany fault known.old (path.now ∷ [])) }
 {
-    if is_known(known.as_slice(), &path) {
+    if known.has(path.as_str()) {
         return Ok(());
     }
-    if known.as_slice().len() == MOST_FILES {
+    if known.count() == MOST_FILES {
         return Err(LinkFault::TooManyFiles);
     }
-    known.push(path)?;
+    known.add(alloc, path.as_str())?;
     Ok(())
-}
-
-// Whether a path is known.
-fn is_known(known: &[Text], path: &Text) -> bool
-    ensures { result ≡ is_known path.now known.now }
-{
-    known
-        .iter()
-        .any(|other| other.as_bytes() == path.as_bytes())
 }
 
 /// The path that an import names in the file at a path: itself where it begins with `/`, and else after the folder of the file.

@@ -1,12 +1,14 @@
 // The reading of a program's files, one after another.
 
 ghost use Rattle.std.specs.Prelude.{◌≡◌, ◌≤◌, IfOk, IfErr};
+ghost use Rattle.import_linker.specs.Names.{paths_of};
 ghost use Rattle.import_linker.specs.Reading.{AreFiles, RefusesReading, RefusesSource, IsRead};
 ghost use Rattle.bril_source.specs.Reading.{most_bytes};
 
 use crate::fault::LinkFault;
+use crate::known_paths::KnownPaths;
 use crate::paths::add_imports;
-use crate::sources::Source;
+use crate::sources::{ProgramFiles, Source};
 use bril_outside::files::{FileFault, Files};
 use bril_source::{TreeFault, read_tree};
 use bril_tree::bytes::Bytes;
@@ -17,7 +19,7 @@ use std::alloc::Global;
 // The most bytes that files have together.
 const MOST_BYTES: u64 = 16777216;
 
-/// The files of a program, by number. The root is file 0, and the others are numbered in the order in which they are
+/// The files of a program, by number, and their paths. The root is file 0, and the others are numbered in the order in which they are
 /// first named, by the imports of file 0, then of file 1, and so on; they are read in that order, each once.
 ///
 /// Each file is refused for the first of these reasons. `Read`: the file at the path is not there, or reading it failed.
@@ -27,18 +29,19 @@ pub(crate) fn read_sources<F: Files>(
     alloc: Global,
     files: &mut F,
     root: &Text,
-) -> Result<Seq<Source>, LinkFault>
+) -> Result<ProgramFiles, LinkFault>
     ensures holds { (F.seen files.new).holds ≡ (F.seen files.old).holds }
     ensures faults { (F.seen files.old).faults ≤ (F.seen files.new).faults }
-    ensures ok { IfOk result (AreFiles (F.seen files.old).holds root.now) }
+    ensures ok { IfOk result (λ read. AreFiles (F.seen files.old).holds root.now read.sources) }
+    ensures paths { IfOk result (λ read. read.paths ≡ paths_of read.sources) }
     ensures err { IfErr result (λ fault. RefusesReading fault (F.seen files.old) (F.seen files.new) root.now) }
 {
-    let mut known = Seq::new(alloc);
-    known.push(Text::of(alloc, root.as_str())?)?;
+    let mut known = KnownPaths::new(alloc);
+    known.add(alloc, root.as_str())?;
     let mut sources = Seq::new(alloc);
     let mut total: u64 = 0;
-    while let Some(path) = known.as_slice().get(sources.as_slice().len()) {
-        let path = Text::of(alloc, path.as_str())?;
+    while let Some(path) = known.get(sources.as_slice().len()) {
+        let path = Text::of(alloc, path)?;
         let source = read_source(alloc, files, path, MOST_BYTES - total)?;
         add_imports(
             alloc,
@@ -49,7 +52,10 @@ pub(crate) fn read_sources<F: Files>(
         total += source.size;
         sources.push(source)?;
     }
-    Ok(sources)
+    Ok(ProgramFiles {
+        paths: known,
+        sources,
+    })
 }
 
 // The file at the path, of at most `most` bytes.

@@ -2,12 +2,13 @@
 
 ghost use Rattle.std.specs.Prelude.{◌≡◌, ◌<◌, ◌++◌, [], map, get_or, IfOk, OnOk};
 ghost use Rattle.import_linker.specs.Linked.{spelled};
-ghost use Rattle.import_linker.specs.Names.{contains, file_at, first_lacking, function_names, meanings, own_functions, paths_of, taken_functions, taken_of};
+ghost use Rattle.import_linker.specs.Names.{contains, function_names, meanings, own_functions, taken_functions, taken_of};
 ghost use Rattle.import_linker.specs.Refusing.{HasAll};
-ghost use Rattle.import_linker.specs.Tables.{AreTables, HaveSame, first_outside};
+ghost use Rattle.import_linker.specs.Tables.{AreTables, HaveSame, first_absent, first_outside};
 
 use crate::fault::LinkFault;
 use crate::fresh_run::spelled_name;
+use crate::known_paths::KnownPaths;
 use crate::paths::joined;
 use crate::sources::Source;
 use crate::table::Table;
@@ -38,21 +39,20 @@ pub(crate) fn own_tables<'t>(
 /// `NotThere`: this is the first function that the file takes from a file which has none of its name.
 pub(crate) fn spelled_meanings(
     alloc: Global,
-    sources: &[Source],
+    paths: &KnownPaths,
     tables: &[Table<'_>],
     run: usize,
     number: usize,
     source: &Source,
 ) -> Result<Seq<Name>, LinkFault>
-    requires run { 0 < run }
-    requires tables { AreTables tables.now sources.now }
-    ensures ok { IfOk result (λ names. names ≡ map (spelled run) (meanings (paths_of sources.now) number source.now)) }
-    ensures all { HasAll source.now.path (first_lacking sources.now (taken_of (paths_of sources.now) source.now)) result }
+    requires { 0 < run }
+    ensures ok { IfOk result (λ names. names ≡ map (spelled run) (meanings paths.now number source.now)) }
+    ensures all { HasAll source.now.path (first_absent tables.now (taken_of paths.now source.now)) result }
 {
     let mut names = Seq::new(alloc);
     for import in source.tree.imports.as_slice() {
         let path = joined(alloc, &source.path, &import.path)?;
-        let file = file_at(sources, path.as_bytes());
+        let file = paths.number_of(path.as_str());
         spell_taken(
             alloc,
             tables,
@@ -76,18 +76,6 @@ fn own_table<'t>(alloc: Global, functions: &'t [FuncTree]) -> Result<Table<'t>, 
         table.add(function.name.as_bytes())?;
     }
     Ok(table)
-}
-
-// The number of the file at a path, and the number of all where none is there.
-fn file_at(sources: &[Source], path: &[u8]) -> usize
-    ensures { result ≡ file_at (paths_of sources.now) path.now }
-{
-    for (number, source) in sources.iter().enumerate() {
-        if path == source.path.as_bytes() {
-            return number;
-        }
-    }
-    sources.len()
 }
 
 // Appends the names in the tree of functions that the file at a path takes from the file of a number.

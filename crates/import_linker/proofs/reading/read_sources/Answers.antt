@@ -9,13 +9,14 @@ use Rattle.import_linker.specs.Reading.{AreNext, bytes_of}
 use Rattle.bril_source.specs.Reading.{most_bytes}
 use Rattle.import_linker.specs.declared.sources.Source.{Source}
 use Rattle.import_linker.proofs.Knowing.{bytes_more, next_more}
-use Rattle.import_linker.proofs.Turning.{got_by, is_next_path, knows, next_is, refuses_adding, refuses_source, started_more}
+use Rattle.import_linker.proofs.Numbering.{paths_are}
+use Rattle.import_linker.proofs.Turning.{all_read, is_next_path, knows, next_is, refuses_adding, refuses_source, started_more}
 use Rattle.import_linker.proofs.reading.read_sources.Goals as goal
 
 pub returns-in_err-add_imports-clause-err : goal.returns-in_err-add_imports-clause-err
 returns-in_err-add_imports-clause-err g c =
-    let at : slice_get c.loop-path.known (length c.loop-path.sources) ≡ Some c.in_ok-path.path = got_by c.loop-path.known c.as_slice.result.now c.loop-path.sources c.as_slice-in-loop-path.result.now c.in_ok-path.path c.in-Some.path.now
-    c.as_slice.ensures c.as_slice-in-loop-path.ensures (c.in_ok-path.ensures ∙ c.as_str-in-Some.ensures) c.in-Some.ensures.lookup.3.0 (c.in-Some.ensures.lookup.3.1 c.in-Some.path.now) in
+    let at : slice_get c.loop-path.known (length c.loop-path.sources) ≡ Some c.in_ok-path.path =
+    ap (λ (l : List Source). slice_get c.loop-path.known (length l)) (sym c.as_slice.ensures) ∙ c.in-Some.ensures ∙ ap Some (sym c.in_ok-path.ensures) in
     let short : c.loop-path.total + c.in_ok-source.source.size ≤ most_bytes = omega (arith, c.in_ok-source.ensures.short, c.loop-path.invariant.short) in
     let e = err_from_is_err_and c.from_residual-in_err-add_imports.result c.from_residual-in_err-add_imports.ensures.1 in
     rw (e.1, e.2)
@@ -26,12 +27,12 @@ returns-in_err-add_imports-clause-err g c =
 
 pub loop-path-preserved : goal.loop-path-preserved
 loop-path-preserved g c =
-    let at : slice_get c.loop-path.known (length c.loop-path.sources) ≡ Some c.in_ok-path.path = got_by c.loop-path.known c.as_slice.result.now c.loop-path.sources c.as_slice-in-loop-path.result.now c.in_ok-path.path c.in-Some.path.now
-    c.as_slice.ensures c.as_slice-in-loop-path.ensures (c.in_ok-path.ensures ∙ c.as_str-in-Some.ensures) c.in-Some.ensures.lookup.3.0 (c.in-Some.ensures.lookup.3.1 c.in-Some.path.now) in
+    let at : slice_get c.loop-path.known (length c.loop-path.sources) ≡ Some c.in_ok-path.path =
+    ap (λ (l : List Source). slice_get c.loop-path.known (length l)) (sym c.as_slice.ensures) ∙ c.in-Some.ensures ∙ ap Some (sym c.in_ok-path.ensures) in
     let short : c.loop-path.total + c.in_ok-source.source.size ≤ most_bytes = omega (arith, c.in_ok-source.ensures.short, c.loop-path.invariant.short) in
     let sources = c.loop-path.sources in
     let s = c.in_ok-source.source in
-    let pushed = c.in_ok-push-2.ensures.ok in
+    let pushed = c.in_ok-push.ensures.ok in
     let adds : c.add_imports.new.known ≡ all_added c.loop-path.known (named_by s) =
     c.in_ok-add_imports.ensures.ok ∙ ap (λ (i : List Import). all_added c.loop-path.known (named_in s.path i)) c.as_slice-in-Some.ensures in
     let next = next_is c.args.root.now sources c.loop-path.known c.loop-path.invariant.known (g.F.Files.seen c.args.files.now).holds (g.F.Files.seen c.loop-path.files).holds s c.in_ok-path.path
@@ -50,3 +51,19 @@ loop-path-preserved g c =
       read = subst (AreNext (g.F.Files.seen c.args.files.now).holds c.args.root.now []) (sym pushed)
           (next_more (g.F.Files.seen c.args.files.now).holds c.args.root.now [] sources s c.loop-path.invariant.read next);
     }
+
+pub returns-clause-ok : goal.returns-clause-ok
+returns-clause-ok g c =
+    let known = c.loop-path.known in
+    let none = ap (λ (l : List Source). slice_get known (length l)) (sym c.as_slice.ensures) ∙ c.in_default.ensures in
+    record {
+      read = c.loop-path.invariant.read;
+      all = all_read c.args.root.now c.loop-path.sources known c.loop-path.invariant.known none c.loop-path.invariant.started;
+    }
+
+pub returns-clause-paths : goal.returns-clause-paths
+returns-clause-paths g c =
+    let known = c.loop-path.known in
+    let none = ap (λ (l : List Source). slice_get known (length l)) (sym c.as_slice.ensures) ∙ c.in_default.ensures in
+    let all = all_read c.args.root.now c.loop-path.sources known c.loop-path.invariant.known none c.loop-path.invariant.started in
+    c.loop-path.invariant.known ∙ paths_are (g.F.Files.seen c.args.files.now).holds c.args.root.now c.loop-path.sources c.loop-path.invariant.read all

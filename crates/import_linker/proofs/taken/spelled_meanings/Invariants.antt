@@ -2,11 +2,12 @@
 use Rattle.std.proofs.Common.{◌≡◌, None, map, take}
 use Rattle.std.specs.Prelude.{flat_map}
 use Rattle.import_linker.specs.Linked.{spelled}
-use Rattle.import_linker.specs.Names.{first_lacking, functions_of, paths_of}
+use Rattle.import_linker.specs.Names.{functions_of}
+use Rattle.import_linker.specs.Tables.{first_absent}
 use Rattle.import_linker.proofs.taken.spelled_meanings.Given as goal
 
 abbrev pub invariant-loop-import : goal.invariant-loop-import
 invariant-loop-import l = record {
-  names : l.names ≡ map (spelled l.run) (flat_map (functions_of (paths_of l.sources) l.source.path) (take l.import-index l.source.tree.imports));
-  none : first_lacking l.sources (flat_map (functions_of (paths_of l.sources) l.source.path) (take l.import-index l.source.tree.imports)) ≡ None;
+  names : l.names ≡ map (spelled l.run) (flat_map (functions_of l.paths l.source.path) (take l.import-index l.source.tree.imports));
+  none : first_absent l.tables (flat_map (functions_of l.paths l.source.path) (take l.import-index l.source.tree.imports)) ≡ None;
 }
