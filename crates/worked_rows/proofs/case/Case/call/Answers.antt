@@ -21,7 +21,12 @@ end-requires c = record {
           _,
           c.into_dyn_box-in_ok-new-4.ensures.0,
           (λ p a x. SameMeaning-refl _),
-          tt,
+          (
+            _,
+            c.into_dyn_box-in_ok-new-5.ensures.0,
+            (λ p a x. SameMeaning-refl _),
+            tt,
+          ),
         ),
       ),
     ),
