@@ -12,7 +12,7 @@ use Rattle.bril_outside.specs.Sink.{SinkSeen}
 use Rattle.bril_report.specs.Puts.{Puts}
 use Rattle.bril_report.specs.Report.{form_pieces, misread_pieces, misnamed_pieces, unaccepted_pieces, status_number, status_pieces}
 use Rattle.bril_report.specs.StageFaults.{argument_status}
-use Rattle.bril_report.specs.declared.status.SourceFault.{SourceFault}
+use Rattle.bril_source.specs.declared.fault.ReadFault.{ReadFault}
 use Rattle.bril_report.specs.declared.status.Status.TheVariants as status
 use Rattle.bril_report.specs.declared.status.Status.{Status}
 use Rattle.bril_tree.specs.Accepted.{IsAccepted}
@@ -28,13 +28,15 @@ use Rattle.bril_commands.proofs.Statuses.{Ends, Numbered-source, has_in, plain}
 use Rattle.bril_commands.specs.Arguments.{argument_pieces, HasArgFault, HasOnlyArgFault, RefusesArgs}
 use Rattle.bril_commands.specs.Call.{Call, ReadsWell, AsksNone, UnlessMemory}
 use Rattle.bril_commands.specs.Command.{Command, OnTree, OnProgram, Arguments, NoArguments, OfMain, TakesArguments, AreGiven, RefusesGiven, NeedsProgram, GivesArguments}
-use Rattle.bril_commands.specs.CommandLine.{Asks, AsksFor, format_of}
+use Rattle.bril_commands.specs.CommandLine.{Asks, AsksFor}
+use Rattle.bril_source.specs.Format.{format_of}
 use Rattle.bril_commands.specs.Driver.{IsIdle, Stage, DoesProgram, DoesTree}
 use Rattle.bril_commands.specs.PassList.{PassList}
-use Rattle.bril_commands.specs.Source.{most_bytes, HoldsFile, HasFault, HasNameFault, HasOnlyCheckFault, HasImports, IsOnlyTree, IsOnlyFault, IsSource, IsLongFile}
+use Rattle.bril_commands.specs.Source.{HoldsFile, HasNameFault, HasOnlyCheckFault, HasImports, IsSource, IsLongFile}
+use Rattle.bril_source.specs.Reading.{most_bytes, HasFault, IsOnlyTree, IsOnlyFault}
 use Rattle.bril_commands.specs.Stages.{RefusesFile, RefusesTree, RefusesProgram, IsOnlyNameFault, IsOnlyProgram, IsAcceptedProgram, IsFaultless}
 use Rattle.bril_commands.specs.Table.{command}
-use Rattle.bril_commands.specs.declared.source.Format.{Format}
+use Rattle.bril_source.specs.declared.format.Format.{Format}
 
 -- ---- what the words ask for is one
 
@@ -88,7 +90,7 @@ read_fails status.OutOfMemory f g path refuses = inl refl
 read_fails _ f g path refuses = absurd refuses
 
 -- a fault of the bytes is the only cause of no tree but want of memory
-no_tree : (how : Status) (format : Format) (bytes : List ℕ) → RefusesTree how format bytes → (how ≡ status.OutOfMemory) ⊎ ((fault : SourceFault) × (how ≡ status.Misread fault) × IsOnlyFault format bytes fault)
+no_tree : (how : Status) (format : Format) (bytes : List ℕ) → RefusesTree how format bytes → (how ≡ status.OutOfMemory) ⊎ ((fault : ReadFault) × (how ≡ status.Misread fault) × IsOnlyFault format bytes fault)
 no_tree (status.Misread fault) format bytes refuses = inr (fault, refl, refuses)
 no_tree status.OutOfMemory format bytes refuses = inl refl
 no_tree _ format bytes refuses = absurd refuses
@@ -133,7 +135,7 @@ module _ (c : Call) (asks : Asks c.words) (how : Status) (ends : Ends c asks how
   these other may = held_told c.files_before.holds asks.path bytes other held may
 
   pub by_cases : (A : Type 0) → (how ≡ status.OutOfMemory → A) → (how ≡ status.FileTooBig → most_bytes < length bytes → A)
-      → ((fault : SourceFault) → how ≡ status.Misread fault → ends.told ≡ [] → IsOnlyFault (format_of asks.path) bytes fault → length bytes ≤ most_bytes → A)
+      → ((fault : ReadFault) → how ≡ status.Misread fault → ends.told ≡ [] → IsOnlyFault (format_of asks.path) bytes fault → length bytes ≤ most_bytes → A)
       → ((tree : Tree) → IsOnlyTree (format_of asks.path) bytes tree → DoesTree (command action) how c.passes tree asks.args ends.told c.out_before c.out_after → length bytes ≤ most_bytes → A) → A
   by_cases A memory long misread dealt =
       ⊎_elim (λ fails. ⊎_elim memory (⊎_elim (λ may. absurd (⊎_elim reads.sound (told_not_lacking c.files_before.holds asks.path bytes held) may.1)) (λ l. long l.0 (subst (λ b. most_bytes < length b) (these l.1.bytes l.1.held) l.1.long))) (read_fails how _ _ asks.path fails.0))
@@ -296,13 +298,13 @@ module _ (c : Call) (asks : Asks c.words) (how : Status) (ends : Ends c asks how
         (λ q program done. absurd (program.only.faultless fault (has_in (format_of asks.path) bytes tree only fault here))))
 
   -- the line of a fault of the bytes
-  line_of : (fault : SourceFault) (bytes : List ℕ) (reads : ReadsWell c action bytes) (found : SourceFault) → how ≡ status.Misread found → ends.told ≡ [] → found ≡ fault → Puts c.err_before (misread_pieces reads.path fault) c.err_after
+  line_of : (fault : ReadFault) (bytes : List ℕ) (reads : ReadsWell c action bytes) (found : ReadFault) → how ≡ status.Misread found → ends.told ≡ [] → found ≡ fault → Puts c.err_before (misread_pieces reads.path fault) c.err_after
   line_of fault bytes reads found e none same =
       let says : Puts c.err_before (misread_pieces asks.path found) c.err_after = said c asks how ends action bytes reads (status.Misread found) e none in
-      let here : Puts c.err_before (misread_pieces asks.path fault) c.err_after = subst (λ (k : SourceFault). Puts c.err_before (misread_pieces asks.path k) c.err_after) same says in
+      let here : Puts c.err_before (misread_pieces asks.path fault) c.err_after = subst (λ (k : ReadFault). Puts c.err_before (misread_pieces asks.path k) c.err_after) same says in
       subst (λ p. Puts c.err_before (misread_pieces p fault) c.err_after) (sym (same_path c asks how ends action bytes reads)) here
 
-  pub misread_where : (bytes : List ℕ) (fault : SourceFault) (reads : ReadsWell c action bytes) → length bytes ≤ most_bytes → HasFault (format_of reads.path) bytes fault
+  pub misread_where : (bytes : List ℕ) (fault : ReadFault) (reads : ReadsWell c action bytes) → length bytes ≤ most_bytes → HasFault (format_of reads.path) bytes fault
       → UnlessMemory (status_number how) ((status_number how ≡ 65) × Puts c.err_before (misread_pieces reads.path fault) c.err_after)
   misread_where bytes fault reads short is =
       let has : HasFault (format_of asks.path) bytes fault = subst (λ q. HasFault (format_of q) bytes fault) (same_path c asks how ends action bytes reads) is in

@@ -3,6 +3,10 @@ use Rattle.std.proofs.Common.{◌≡◌, ◌⊎◌, ℕ, List, [], refl, sym, su
 use Rattle.bril_outside.specs.Files.{FilesSeen, MayFail}
 use Rattle.bril_outside.specs.declared.files.FileFault.{FileFault}
 use Rattle.bril_outside.specs.declared.files.FileFault.TheVariants as file
+use Rattle.bril_source.specs.Reading as source
+use Rattle.bril_source.specs.declared.fault.TreeFault.{TreeFault}
+use Rattle.bril_source.specs.declared.fault.TreeFault.TheVariants as tree
+use Rattle.bril_source.specs.declared.format.Format.{Format}
 use Rattle.bril_tree.specs.declared.tree.Tree.{Tree}
 use Rattle.bril_tree.specs.Accepted.{IsAccepted}
 use Rattle.bril_tree.specs.declared.program.Prog.{Prog}
@@ -15,9 +19,9 @@ use Rattle.bril_names.specs.declared.fault.NameFault.{NameFault}
 use Rattle.bril_names.specs.declared.fault.NameFault.TheVariants as name
 use Rattle.bril_commands.specs.PassList.{pass_list, IsEmpty, RefusesList}
 use Rattle.bril_commands.specs.Source.{HasOnlyCheckFault}
-use Rattle.bril_commands.specs.Stages.{RefusesFile, RefusesNames, RefusesCheck, RefusesProgram, IsOnlyNameFault, IsOnlyProgram, IsAcceptedProgram}
+use Rattle.bril_commands.specs.Stages.{RefusesFile, RefusesTree, RefusesNames, RefusesCheck, RefusesProgram, IsOnlyNameFault, IsOnlyProgram, IsAcceptedProgram}
 use Rattle.bril_profile.specs.declared.profile.Profile.{Profile}
-use Rattle.bril_report.specs.StageFaults.{file_status, name_status, check_status, list_status}
+use Rattle.bril_report.specs.StageFaults.{file_status, tree_status, name_status, check_status, list_status}
 use Rattle.bril_report.specs.declared.status.Status.{Status}
 use Rattle.bril_report.specs.declared.status.Status.TheVariants as status
 use Rattle.pass_law.specs.Meaning.{Meaning}
@@ -31,6 +35,12 @@ use Rattle.pass_law.specs.declared.tally.Tally.{Tally}
 pub RefusesFile-of : (fault : FileFault) (f g : FilesSeen) (copied path : List ℕ) → copied ≡ path → (fault ≡ file.Failed → MayFail f g copied) → RefusesFile (file_status fault) f g path
 RefusesFile-of file.Failed f g copied path same failed = subst (λ p. MayFail f g p) same (failed refl)
 RefusesFile-of file.Memory f g copied path same failed = tt
+
+-- ---- What reading a tree answers.
+
+pub RefusesTree-of : (fault : TreeFault) (format : Format) (bytes : List ℕ) → source.RefusesTree fault format bytes → RefusesTree (tree_status fault) format bytes
+RefusesTree-of (tree.Misread fault) format bytes refuses = refuses
+RefusesTree-of tree.Memory format bytes refuses = tt
 
 -- ---- What numbering answers: its fault is the only one or out of memory.
 

@@ -14,10 +14,11 @@ use Rattle.bril_words.specs.declared.request.Action.{Action}
 use Rattle.bril_commands.specs.Answers.{Answers, Misused, Promises, SourceRefused, TooLarge}
 use Rattle.bril_commands.specs.Call.{Call, ReadsWell, SaysAlone, UnlessMemory}
 use Rattle.bril_commands.specs.Command.{Command, OnTree, OnProgram, takes_passes}
-use Rattle.bril_commands.specs.CommandLine.{Asks, AsksFor, AskNothing, IsToldOf, format_of}
+use Rattle.bril_commands.specs.CommandLine.{Asks, AsksFor, AskNothing, IsToldOf}
+use Rattle.bril_source.specs.Format.{format_of}
 use Rattle.bril_commands.specs.Table.{KeepsPasses, command}
 use Rattle.bril_commands.specs.When.{CommandDone}
-use Rattle.bril_commands.specs.declared.source.Format.{Format}
+use Rattle.bril_source.specs.declared.format.Format.{Format}
 use Rattle.bril_commands.proofs.Causes.{Ok_not_Err, request_of, asked_action, misargued_where, unchecked_where, formless_where, misnamed_where, misread_where, long_where, lacking_where}
 use Rattle.bril_commands.proofs.Keeping.{kept}
 use Rattle.bril_commands.proofs.When.{done_where}

@@ -21,17 +21,19 @@ use Rattle.bril_commands.specs.Answers.{Answers, HasLongCode, HasLongStack, List
 use Rattle.bril_commands.specs.Arguments.{argument_pieces, HasOnlyArgFault, RefusesArgs}
 use Rattle.bril_commands.specs.Call.{Call, CommandComesTo, ComesTo}
 use Rattle.bril_commands.specs.Command.{Command, OnTree, OnProgram, OfProgram, Arguments, NoArguments, OfMain, TakesArguments, AreGiven, RefusesGiven, Makes, RefusesMaking, AreLimitsOf, Fits, RefusesEmission, NeedsProgram, GivesArguments, MakesImage, takes_passes}
-use Rattle.bril_commands.specs.CommandLine.{Asks, format_of}
+use Rattle.bril_commands.specs.CommandLine.{Asks}
+use Rattle.bril_source.specs.Format.{format_of}
 use Rattle.bril_commands.specs.Driver.{IsSilent, subject, DoesProgram, DoesTree, DoesFile}
 use Rattle.bril_commands.specs.Images.{RefusesImage}
 use Rattle.bril_commands.specs.Outcome.{Outcome, Works}
 use Rattle.bril_commands.specs.PassList.{PassList, AreUnused, IsMade, IsCutOff, RefusesList}
-use Rattle.bril_commands.specs.Source.{IsFile, HasNameFault, HasOnlyNameFault, IsOnlyTree, IsSource, IsOnlySource, IsProgramFile}
+use Rattle.bril_commands.specs.Source.{IsFile, HasNameFault, HasOnlyNameFault, IsSource, IsOnlySource, IsProgramFile}
+use Rattle.bril_source.specs.Reading.{IsOnlyTree}
 use Rattle.bril_commands.specs.Stages.{IsOnlyNameFault, IsOnlyProgram, IsAcceptedProgram, RefusesFile, RefusesTree, RefusesProgram}
 use Rattle.bril_commands.specs.Table.{command, Keeps, KeepsPasses}
 use Rattle.bril_words.specs.declared.request.Action.{Action}
 use Rattle.pass_law.specs.Chains.{Ran}
-use Rattle.bril_commands.specs.declared.source.Format.{Format}
+use Rattle.bril_source.specs.declared.format.Format.{Format}
 
 -- ---- the program and the name fault of bytes are those of their tree
 

@@ -17,12 +17,13 @@ use Rattle.bril_commands.proofs.Causes.{DoesAccepted, args_fail, by_cases, exhau
 use Rattle.bril_commands.proofs.Statuses.{Ends, plain}
 use Rattle.bril_commands.specs.Call.{Call, ReadsWell, UnlessMemory}
 use Rattle.bril_commands.specs.Command.{Command, OnTree, OnProgram, OfProgram, Arguments, NoArguments, OfMain, Emission, NoImage, ImageFor, AreGiven, RefusesGiven, Makes, RefusesMaking, Fits, RefusesEmission, NeedsProgram}
-use Rattle.bril_commands.specs.CommandLine.{Asks, format_of}
+use Rattle.bril_commands.specs.CommandLine.{Asks}
+use Rattle.bril_source.specs.Format.{format_of}
 use Rattle.bril_commands.specs.Driver.{IsSilent, subject, DoesProgram, DoesTree}
 use Rattle.bril_commands.specs.Images.{RefusesImage}
 use Rattle.bril_commands.specs.Outcome.{Outcome, Works}
 use Rattle.bril_commands.specs.PassList.{RefusesList}
-use Rattle.bril_commands.specs.Source.{most_bytes, ReadsAs}
+use Rattle.bril_source.specs.Reading.{most_bytes, ReadsAs}
 use Rattle.bril_commands.specs.Table.{command}
 use Rattle.bril_commands.specs.When.{Spell, StopsMaking, AfterPasses, AfterEmission, IsDoneUnless, CommandDone}
 

@@ -10,7 +10,7 @@ use Rattle.bril_outside.specs.Files.{MayHold, MayFail}
 use Rattle.bril_report.specs.Lines.{fault_line}
 use Rattle.bril_report.specs.Puts.{Puts, HoldsBack, WritesAll, WritesSome}
 use Rattle.bril_report.specs.Report.{form_pieces, misread_pieces, misnamed_pieces, unaccepted_pieces, unread_pieces, spent_pieces, code_pieces, stack_pieces, pass_pieces, unknown_pass_pieces}
-use Rattle.bril_report.specs.declared.status.SourceFault.{SourceFault}
+use Rattle.bril_source.specs.declared.fault.ReadFault.{ReadFault}
 use Rattle.bril_tree.specs.Accepted.{IsAccepted}
 use Rattle.bril_tree.specs.Run.{main_types}
 use Rattle.bril_tree.specs.declared.limits.End.TheVariants.{Ended, Faulted}
@@ -26,9 +26,11 @@ use Rattle.rv64_words.specs.Region.{most_words, most_stack}
 use Rattle.bril_commands.specs.Arguments.{HasOnlyArgFault, argument_pieces}
 use Rattle.bril_commands.specs.Call.{Call, SaysAlone, ReadsWell, AsksNone, UnlessMemory, ComesTo}
 use Rattle.bril_commands.specs.Command.{Makes, NeedsProgram, GivesArguments, MakesImage, takes_passes}
-use Rattle.bril_commands.specs.CommandLine.{format_of, Asks, AsksFor, AskNothing, IsToldOf}
+use Rattle.bril_commands.specs.CommandLine.{Asks, AsksFor, AskNothing, IsToldOf}
+use Rattle.bril_source.specs.Format.{format_of}
 use Rattle.bril_commands.specs.PassList.{AreUnused, IsFirstUnknown, IsRefusedPass, IsCutOff}
-use Rattle.bril_commands.specs.Source.{most_bytes, HasFault, IsOnlyFault, IsSource, IsOnlySource, HasNameFault, HasOnlyNameFault, HasOnlyCheckFault, HasImports, IsFile, IsProgramFile}
+use Rattle.bril_commands.specs.Source.{IsSource, IsOnlySource, HasNameFault, HasOnlyNameFault, HasOnlyCheckFault, HasImports, IsFile, IsProgramFile}
+use Rattle.bril_source.specs.Reading.{most_bytes, HasFault, IsOnlyFault}
 use Rattle.bril_commands.specs.Table.{command, KeepsPasses}
 use Rattle.bril_commands.specs.When.{DoneWhere}
 
@@ -102,7 +104,7 @@ pub record UnacceptedFile (c : Call) (path : List ℕ) : Type 0 where
 pub record MisreadFile (c : Call) (path : List ℕ) : Type 0 where
   pub bytes : List ℕ
   pub file : IsFile c.files_before path bytes
-  pub fault : SourceFault
+  pub fault : ReadFault
   pub only : IsOnlyFault (format_of path) bytes fault
   pub alone : SaysAlone c (misread_pieces path fault)
 
@@ -228,7 +230,7 @@ Answers status c =
 -- The bytes' fault is told.
 abbrev pub MisreadWhere : ℕ → Call → Type 0
 MisreadWhere number c =
-    (action : Action) (bytes : List ℕ) (fault : SourceFault) (reads : ReadsWell c action bytes) → length bytes ≤ most_bytes → HasFault (format_of reads.path) bytes fault →
+    (action : Action) (bytes : List ℕ) (fault : ReadFault) (reads : ReadsWell c action bytes) → length bytes ≤ most_bytes → HasFault (format_of reads.path) bytes fault →
     UnlessMemory number ((number ≡ 65) × Puts c.err_before (misread_pieces reads.path fault) c.err_after)
 
 -- The names' fault is told.

@@ -16,11 +16,13 @@ use Rattle.bril_words.specs.Names.{names_of}
 use Rattle.pass_law.specs.Meaning.{Meaning}
 use Rattle.pass_law.specs.declared.tally.Tally.{Tally}
 use Rattle.bril_commands.specs.Command.{Command, OnTree, OnProgram, OfProgram, AreGiven, Makes, Fits}
-use Rattle.bril_commands.specs.CommandLine.{Asks, AsksFor, format_of, list_asked}
+use Rattle.bril_commands.specs.CommandLine.{Asks, AsksFor, list_asked}
+use Rattle.bril_source.specs.Format.{format_of}
 use Rattle.bril_commands.specs.Driver.{subject}
 use Rattle.bril_commands.specs.Outcome.{Outcome}
 use Rattle.bril_commands.specs.PassList.{PassList, pass_list}
-use Rattle.bril_commands.specs.Source.{HoldsFile, IsFile, IsOnlyTree, IsProgramFile}
+use Rattle.bril_commands.specs.Source.{HoldsFile, IsFile, IsProgramFile}
+use Rattle.bril_source.specs.Reading.{IsOnlyTree}
 use Rattle.bril_commands.specs.Table.{command}
 
 -- What is seen of a call: its words, and its files, its two outputs and the passes that it was lent before and after it.

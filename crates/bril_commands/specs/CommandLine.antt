@@ -1,13 +1,10 @@
--- What a command line asks for, and the format of its file.
-use Rattle.std.specs.Prelude.{◌≡◌, ℕ, Bool, nat_eq, List, [], Result, Ok, Err, if◌then◌else◌, codes}
-use Rattle.std.specs.List.{ends_with}
+-- What a command line asks for.
+use Rattle.std.specs.Prelude.{◌≡◌, ℕ, List, [], Result, Ok, Err}
 use Rattle.bril_words.specs.CommandLine.{Refusal, not_taken, bad_value, asked, words_ask}
 use Rattle.bril_report.specs.Lines.{misuse_line}
 use Rattle.bril_words.specs.Request.{Asked}
 use Rattle.bril_words.specs.declared.misuse.Misuse.TheVariants.{Value}
 use Rattle.bril_words.specs.declared.request.Action.{Action}
-use Rattle.bril_commands.specs.declared.source.Format.{Format}
-use Rattle.bril_commands.specs.declared.source.Format.TheVariants.{InText, InJson}
 
 -- the words ask for an action, the path of its file, and the arguments of the file's program
 abbrev pub AsksFor : List (List ℕ) → Action → List ℕ → List (List ℕ) → Type 0
@@ -33,11 +30,3 @@ AskNothing words = (refusal : Refusal) × (words_ask words ≡ Err refusal)
 abbrev pub IsToldOf : Refusal → List ℕ → Type 0
 IsToldOf not_taken line = Unit {0}
 IsToldOf (bad_value setting) line = line ≡ misuse_line (Value setting)
-
--- the path is that of a file in JSON
-abbrev pub is_json : List ℕ → Bool
-is_json path = ends_with nat_eq path (codes ".json")
-
--- the format of the file at a path
-abbrev pub format_of : List ℕ → Format
-format_of path = if is_json path then InJson else InText

@@ -7,10 +7,11 @@ use Rattle.bril_tree.specs.declared.program.Prog.{Prog}
 use Rattle.bril_tree.specs.declared.tree.Tree.{Tree}
 use Rattle.bril_tree.specs.declared.value.Value.{Value}
 use Rattle.bril_commands.specs.Command.{Command, OnTree, OnProgram, OfProgram, Subject, AreGiven, RefusesGiven, Makes, RefusesMaking, FactorOf, Fits, RefusesEmission}
-use Rattle.bril_commands.specs.CommandLine.{format_of}
+use Rattle.bril_source.specs.Format.{format_of}
 use Rattle.bril_commands.specs.Outcome.{Works}
 use Rattle.bril_commands.specs.PassList.{PassList, AreUnused}
-use Rattle.bril_commands.specs.Source.{IsOnlyTree, IsFile}
+use Rattle.bril_commands.specs.Source.{IsFile}
+use Rattle.bril_source.specs.Reading.{IsOnlyTree}
 use Rattle.bril_commands.specs.Stages.{RefusesFile, RefusesTree, RefusesProgram, IsAcceptedProgram}
 
 -- nothing is told, and nothing is put

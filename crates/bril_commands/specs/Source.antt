@@ -2,53 +2,21 @@
 use Rattle.std.specs.Prelude.{ℕ, ◌≡◌, ◌≢◌, ◌<◌, ◌≤◌, List, [], length, Option, Some, None}
 use Rattle.bril_checker.specs.Faults as checker
 use Rattle.bril_checker.specs.declared.fault.CheckFault.{CheckFault}
-use Rattle.bril_json.specs.Reading as json
 use Rattle.bril_names.specs.Faults as names
 use Rattle.bril_names.specs.declared.fault.NameFault.{NameFault}
 use Rattle.bril_outside.specs.Files.{FileMap, FilesSeen, MayHold}
-use Rattle.bril_report.specs.declared.status.SourceFault.TheVariants.{Text, Json}
-use Rattle.bril_report.specs.declared.status.SourceFault.{SourceFault}
-use Rattle.bril_text.specs.Reading as text
 use Rattle.bril_tree.specs.Accepted.{IsAccepted}
 use Rattle.bril_tree.specs.Numbered.{Numbered}
 use Rattle.bril_tree.specs.declared.program.Prog.{Prog}
 use Rattle.bril_tree.specs.declared.tree.Tree.{Tree}
-use Rattle.bril_commands.specs.CommandLine.{format_of}
-use Rattle.bril_commands.specs.declared.source.Format.TheVariants.{InText, InJson}
-use Rattle.bril_commands.specs.declared.source.Format.{Format}
-
--- a file has at most so many bytes
-abbrev pub most_bytes : ℕ
-most_bytes = 16777216
+use Rattle.bril_source.specs.Format.{format_of}
+use Rattle.bril_source.specs.Reading.{most_bytes, ReadsAs}
+use Rattle.bril_source.specs.declared.format.Format.{Format}
 
 -- the files are told, and these bytes are at the path
 abbrev pub HoldsFile : Option FileMap → List ℕ → List ℕ → Type 0
 HoldsFile None path bytes = ⊥
 HoldsFile (Some map) path bytes = map path ≡ Some bytes
-
--- in a format the bytes read as this tree
-abbrev pub ReadsAs : Format → List ℕ → Tree → Type 0
-ReadsAs InText bytes tree = text.Spells bytes tree
-ReadsAs InJson bytes tree = json.JsonOf bytes tree
-
--- in a format the bytes read as no tree, for this fault
-abbrev pub HasFault : Format → List ℕ → SourceFault → Type 0
-HasFault InText bytes (Text fault) = text.HasFault bytes fault
-HasFault InText bytes (Json fault) = ⊥
-HasFault InJson bytes (Text fault) = ⊥
-HasFault InJson bytes (Json fault) = json.HasFault bytes fault
-
--- The bytes read as this tree and no other, and have no fault.
-pub record IsOnlyTree (format : Format) (bytes : List ℕ) (tree : Tree) : Type 0 where
-  pub reads : ReadsAs format bytes tree
-  pub alone : (other : Tree) → ReadsAs format bytes other → tree ≡ other
-  pub faultless : (fault : SourceFault) → HasFault format bytes fault → ⊥
-
--- The bytes have this fault and no other, and read as no tree.
-pub record IsOnlyFault (format : Format) (bytes : List ℕ) (fault : SourceFault) : Type 0 where
-  pub has : HasFault format bytes fault
-  pub alone : (other : SourceFault) → HasFault format bytes other → fault ≡ other
-  pub unread : (tree : Tree) → ReadsAs format bytes tree → ⊥
 
 -- The bytes read as a tree without imports, and the program is its numbering.
 pub record IsSource (format : Format) (bytes : List ℕ) (p : Prog) : Type 0 where

@@ -12,8 +12,9 @@ use Rattle.bril_tree.specs.Numbered.{Numbered}
 use Rattle.bril_tree.specs.Size.{IsCounted}
 use Rattle.bril_tree.specs.declared.program.Prog.{Prog}
 use Rattle.bril_tree.specs.declared.tree.Tree.{Tree}
-use Rattle.bril_commands.specs.Source.{IsOnlyFault, HasOnlyCheckFault, IsLongFile}
-use Rattle.bril_commands.specs.declared.source.Format.{Format}
+use Rattle.bril_commands.specs.Source.{HasOnlyCheckFault, IsLongFile}
+use Rattle.bril_source.specs.Reading.{IsOnlyFault}
+use Rattle.bril_source.specs.declared.format.Format.{Format}
 
 -- why a file was not read
 abbrev pub RefusesFile : Status → FilesSeen → FilesSeen → List ℕ → Type 0

@@ -15,13 +15,14 @@ use Rattle.bril_words.specs.declared.request.Action.{Action}
 use Rattle.rv64_implements.specs.WordBounds.{IsWithin}
 use Rattle.bril_commands.specs.Call.{Call, SaysAlone, ReadsWell, UnlessMemory, TellsRun}
 use Rattle.bril_commands.specs.Command.{Command, OnTree, OnProgram, Arguments, NoArguments, OfMain, Makes, Emission, NoImage, ImageFor, AreLimitsOf}
-use Rattle.bril_commands.specs.CommandLine.{format_of}
+use Rattle.bril_source.specs.Format.{format_of}
 use Rattle.bril_commands.specs.Driver.{subject}
 use Rattle.bril_commands.specs.Outcome.{Outcome}
 use Rattle.bril_commands.specs.PassList.{IsFirstUnknown, IsRefusedPass}
-use Rattle.bril_commands.specs.Source.{most_bytes, ReadsAs, IsSource}
+use Rattle.bril_commands.specs.Source.{IsSource}
+use Rattle.bril_source.specs.Reading.{most_bytes, ReadsAs}
 use Rattle.bril_commands.specs.Table.{command}
-use Rattle.bril_commands.specs.declared.source.Format.{Format}
+use Rattle.bril_source.specs.declared.format.Format.{Format}
 
 -- ---- the stages
 

@@ -6,8 +6,8 @@ use Rattle.bril_checker.specs.declared.fault.CheckFault.{CheckFault}
 use Rattle.bril_checker.specs.declared.fault.CheckFault.TheVariants as check
 use Rattle.bril_names.specs.declared.fault.NameFault.{NameFault}
 use Rattle.bril_report.specs.declared.report.FaultPlace.{FaultPlace}
-use Rattle.bril_report.specs.declared.status.SourceFault.{SourceFault}
-use Rattle.bril_report.specs.declared.status.SourceFault.TheVariants.{Text, Json}
+use Rattle.bril_source.specs.declared.fault.ReadFault.{ReadFault}
+use Rattle.bril_source.specs.declared.fault.ReadFault.TheVariants.{Text, Json}
 use Rattle.bril_report.specs.declared.status.Status.{Status}
 use Rattle.bril_report.specs.declared.status.Status.TheVariants as status
 use Rattle.bril_report.specs.Lines.{text_front, text_position, position_of, number_or_dash, json_front, json_position, name_front, name_position, variable_name, fault_line, misuse_line}
@@ -46,7 +46,7 @@ abbrev pub form_pieces : List ℕ → List (List ℕ)
 form_pieces path = path ∷ codes ": form\n" ∷ []
 
 -- a fault of the bytes of the file at a path
-abbrev pub misread_pieces : List ℕ → SourceFault → List (List ℕ)
+abbrev pub misread_pieces : List ℕ → ReadFault → List (List ℕ)
 misread_pieces path (Text fault) = path ∷ text_front fault ∷ decimal (text_position fault) ∷ codes "\n" ∷ []
 misread_pieces path (Json fault) = path ∷ json_front fault ∷ position_pieces (json_position fault) (codes "\n")
 

@@ -4,17 +4,14 @@ use Rattle.bril_arguments.specs.declared.fault.ArgFault.{ArgFault}
 use Rattle.bril_arguments.specs.declared.fault.ArgFault.TheVariants as argument
 use Rattle.bril_checker.specs.declared.fault.CheckFault.{CheckFault}
 use Rattle.bril_checker.specs.declared.fault.CheckFault.TheVariants as check
-use Rattle.bril_json.specs.declared.fault.JsonFault.{JsonFault}
-use Rattle.bril_json.specs.declared.fault.JsonFault.TheVariants as json
 use Rattle.bril_names.specs.declared.fault.NameFault.{NameFault}
 use Rattle.bril_names.specs.declared.fault.NameFault.TheVariants as name
 use Rattle.bril_outside.specs.declared.files.FileFault.{FileFault}
 use Rattle.bril_outside.specs.declared.files.FileFault.TheVariants as file
 use Rattle.bril_report.specs.declared.status.Status.{Status}
 use Rattle.bril_report.specs.declared.status.Status.TheVariants as status
-use Rattle.bril_report.specs.declared.status.SourceFault.TheVariants.{Text, Json}
-use Rattle.bril_text.specs.declared.fault.TextFault.{TextFault}
-use Rattle.bril_text.specs.declared.fault.TextFault.TheVariants as text
+use Rattle.bril_source.specs.declared.fault.TreeFault.{TreeFault}
+use Rattle.bril_source.specs.declared.fault.TreeFault.TheVariants as tree
 use Rattle.bril_tree.specs.declared.program.Prog.{Prog}
 use Rattle.bril_words.specs.declared.misuse.Misuse.{Misuse}
 use Rattle.bril_words.specs.declared.misuse.Misuse.TheVariants as misuse
@@ -37,23 +34,10 @@ abbrev pub file_status : FileFault → Status
 file_status file.Failed = status.CannotRead
 file_status file.Memory = status.OutOfMemory
 
--- the status of a fault of the text
-abbrev pub text_status : TextFault → Status
-text_status (text.Lex at) = status.Misread (Text (text.Lex at))
-text_status (text.Grammar at) = status.Misread (Text (text.Grammar at))
-text_status (text.IntRange at) = status.Misread (Text (text.IntRange at))
-text_status (text.Float at) = status.Misread (Text (text.Float at))
-text_status (text.Deep at) = status.Misread (Text (text.Deep at))
-text_status text.Memory = status.OutOfMemory
-
--- the status of a fault of the JSON
-abbrev pub json_status : JsonFault → Status
-json_status json.Syntax = status.Misread (Json json.Syntax)
-json_status (json.Shape func item) = status.Misread (Json (json.Shape func item))
-json_status (json.IntRange func item) = status.Misread (Json (json.IntRange func item))
-json_status (json.Float func item) = status.Misread (Json (json.Float func item))
-json_status (json.Deep func item) = status.Misread (Json (json.Deep func item))
-json_status json.Memory = status.OutOfMemory
+-- the status of a fault of reading a tree
+abbrev pub tree_status : TreeFault → Status
+tree_status (tree.Misread fault) = status.Misread fault
+tree_status tree.Memory = status.OutOfMemory
 
 -- the status of a fault of the names
 abbrev pub name_status : NameFault → Status

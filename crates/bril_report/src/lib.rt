@@ -14,5 +14,5 @@ pub use error_output::ErrorOutput;
 pub use outputs::Outputs;
 pub use report::{say, status_number};
 pub use stats::{put_guard, put_words};
-pub use status::{SourceFault, Status};
+pub use status::Status;
 pub use tallies::put_tally;

@@ -7,11 +7,12 @@ ghost use Rattle.bril_report.specs.Report.{status_number, status_pieces, positio
 ghost use Rattle.bril_report.specs.Told.{Tells};
 
 use crate::error_output::ErrorOutput;
-use crate::status::{SourceFault, Status};
+use crate::status::Status;
 use bril_checker::CheckFault;
 use bril_json::JsonFault;
 use bril_names::NameFault;
 use bril_outside::sink::Sink;
+use bril_source::ReadFault;
 use bril_text::TextFault;
 use bril_tree::limits::Fault;
 use bril_tree::program::Prog;
@@ -149,12 +150,12 @@ fn put_counts<E: Sink>(err: &mut ErrorOutput<'_, E>, given: u32, wanted: u32)
 }
 
 // Puts the line of a fault of the bytes of the file at a path.
-fn put_misread<E: Sink>(err: &mut ErrorOutput<'_, E>, path: &[u8], fault: SourceFault)
+fn put_misread<E: Sink>(err: &mut ErrorOutput<'_, E>, path: &[u8], fault: ReadFault)
     ensures { Tells E.seen err.old (misread_pieces path.now fault) err.new }
 {
     match fault {
-        SourceFault::Text(fault) => put_text_fault(err, path, fault),
-        SourceFault::Json(fault) => put_after(err, path, json_front(fault), json_position(fault)),
+        ReadFault::Text(fault) => put_text_fault(err, path, fault),
+        ReadFault::Json(fault) => put_after(err, path, json_front(fault), json_position(fault)),
     }
 }
 
@@ -240,7 +241,7 @@ fn variable_name(program: &Prog, func: u32, var: u32) -> &[u8]
 
 // Puts the line of a fault of the text of the file at a path.
 fn put_text_fault<E: Sink>(err: &mut ErrorOutput<'_, E>, path: &[u8], fault: TextFault)
-    ensures { Tells E.seen err.old (misread_pieces path.now (SourceFault.Text fault)) err.new }
+    ensures { Tells E.seen err.old (misread_pieces path.now (ReadFault.Text fault)) err.new }
 {
     put_at(err, path, text_front(fault), text_position(fault));
 }

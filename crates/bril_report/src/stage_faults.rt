@@ -1,17 +1,16 @@
 // The status of each stage's fault, so that `?` hands it on, and of how a command ended.
 
 ghost use Rattle.std.specs.Prelude.{◌≡◌};
-ghost use Rattle.bril_report.specs.StageFaults.{status_of, misuse_status, file_status, text_status, json_status, name_status, check_status, argument_status, list_status};
+ghost use Rattle.bril_report.specs.StageFaults.{status_of, misuse_status, file_status, tree_status, name_status, check_status, argument_status, list_status};
 ghost use Rattle.bril_report.specs.declared.status.Status.TheVariants.{OutOfMemory, CannotWrite};
 
-use crate::status::{SourceFault, Status};
+use crate::status::Status;
 use bril_arguments::ArgFault;
 use bril_checker::CheckFault;
-use bril_json::JsonFault;
 use bril_names::NameFault;
 use bril_outside::files::FileFault;
 use bril_outside::sink::Failed;
-use bril_text::TextFault;
+use bril_source::TreeFault;
 use bril_tree::program::Prog;
 use bril_words::Misuse;
 use pass_law::ListFault;
@@ -73,36 +72,13 @@ impl From<FileFault> for Status {
     }
 }
 
-impl From<TextFault> for Status {
-    ghost from_gives = { λ fault status. status ≡ text_status fault };
+impl From<TreeFault> for Status {
+    ghost from_gives = { λ fault status. status ≡ tree_status fault };
 
-    fn from(fault: TextFault) -> Status {
+    fn from(fault: TreeFault) -> Status {
         match fault {
-            TextFault::Memory => Status::OutOfMemory,
-            TextFault::Lex { .. }
-            | TextFault::Grammar { .. }
-            | TextFault::IntRange { .. }
-            | TextFault::Float { .. }
-            | TextFault::Deep { .. } => Status::Misread {
-                fault: SourceFault::Text(fault),
-            },
-        }
-    }
-}
-
-impl From<JsonFault> for Status {
-    ghost from_gives = { λ fault status. status ≡ json_status fault };
-
-    fn from(fault: JsonFault) -> Status {
-        match fault {
-            JsonFault::Memory => Status::OutOfMemory,
-            JsonFault::Syntax
-            | JsonFault::Shape { .. }
-            | JsonFault::IntRange { .. }
-            | JsonFault::Float { .. }
-            | JsonFault::Deep { .. } => Status::Misread {
-                fault: SourceFault::Json(fault),
-            },
+            TreeFault::Misread { fault } => Status::Misread { fault },
+            TreeFault::Memory => Status::OutOfMemory,
         }
     }
 }

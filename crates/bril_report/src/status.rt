@@ -1,19 +1,11 @@
 // How a command ends.
 
 use bril_checker::CheckFault;
-use bril_json::JsonFault;
 use bril_names::NameFault;
-use bril_text::TextFault;
+use bril_source::ReadFault;
 use bril_tree::limits::Fault;
 use bril_tree::program::Prog;
 use bril_words::Misuse;
-
-/// Why a file's bytes read as no tree.
-#[derive(Clone, Copy, PartialEq, Eq, Debug, Drop)]
-pub enum SourceFault {
-    Text(TextFault),
-    Json(JsonFault),
-}
 
 /// How a command that was asked for ends.
 #[derive(Drop)]
@@ -29,7 +21,7 @@ pub enum Status {
     /// The file has imports.
     Unsupported,
     /// The file's bytes read as no tree.
-    Misread { fault: SourceFault },
+    Misread { fault: ReadFault },
     /// The names of the file's tree can't become numbers.
     Misnamed { fault: NameFault },
     /// The program isn't accepted.

@@ -2,12 +2,12 @@
 use Rattle.std.proofs.Common.{ℕ, List, [], refl, inl, inr, subst, rules}
 use Rattle.std.proofs.lemmas.Result.{err_from_is_err_and}
 use Rattle.bril_commands.proofs.Keeping.{kept}
+use Rattle.bril_commands.proofs.Outcomes.{RefusesTree-of}
 use Rattle.bril_commands.specs.Command.{takes_passes}
-use Rattle.bril_commands.specs.CommandLine.{format_of}
+use Rattle.bril_source.specs.Format.{format_of}
 use Rattle.bril_commands.specs.Driver.{DoesTree}
 use Rattle.bril_commands.specs.PassList.{pass_list}
-use Rattle.bril_commands.specs.Source.{IsOnlyTree}
-use Rattle.bril_commands.specs.Stages.{RefusesTree}
+use Rattle.bril_source.specs.Reading.{IsOnlyTree, RefusesTree}
 use Rattle.bril_commands.specs.Table.{command, KeepsPasses}
 use Rattle.bril_report.proofs.Telling.{Tells-none}
 use Rattle.bril_report.specs.StageFaults.{status_of}
@@ -28,7 +28,7 @@ pub returns-in_err-tree-clause-does : goal.returns-in_err-tree-clause-does
 returns-in_err-tree-clause-does g c =
     let e = err_from_is_err_and c.from_residual-in_err-tree.result c.from_residual-in_err-tree.ensures.1 in
     let refuses : RefusesTree c.in_err-tree.field-0.0 (format_of c.args.request.path.now) c.in_ok-source.source = search rules in
-    rw (e.1, e.2) (record { same_output = refl; told = []; does = inr (c.in_ok-source.source, c.in_ok-source.ensures.ok, inl (refuses, ((refl, refl), refl))); tells = Tells-none g.E.Sink.seen c.args.outputs.now.err })
+    rw (e.1, e.2) (record { same_output = refl; told = []; does = inr (c.in_ok-source.source, c.in_ok-source.ensures.ok, inl (RefusesTree-of c.in_err-tree.field-0.0 _ _ refuses, ((refl, refl), refl))); tells = Tells-none g.E.Sink.seen c.args.outputs.now.err })
 
 pub returns-clause-does : goal.returns-clause-does
 returns-clause-does g c =
