@@ -153,7 +153,7 @@ module _ (code : List Instr) (sound : AreSitesSound code) (n : Tables) (IsArgume
   -- ---- a `get` of a reachable label is set from another definition somewhere
 
   -- where a walk passes the definition there is a shorter walk to its label
-  own-only : (m : ℕ) (k y : ℕ) (a : Location) → n.gets k a ≡ Some y → (k ≡ 0 → ⊥)
+  pub own-only : (m : ℕ) (k y : ℕ) (a : Location) → n.gets k a ≡ Some y → (k ≡ 0 → ⊥)
       → ((walk : List Branch) (w : Branch) → IsWalk code walk → In w (branches_at code (end_of walk)) → w.aborts ≡ false → w.to ≡ k → behind code n (end_of walk) a ≡ Some y)
       → ((walk : List Branch) (w : Branch) → IsWalk code walk → In w (branches_at code (end_of walk)) → w.aborts ≡ true → w.to ≡ k → (s : ℕ) (sites : List ℕ) → sites_of code walk ≡ s ∷ sites → n.into s a ≡ Some y)
       → (walk : List Branch) → length walk ≤ m → IsWalk code walk → end_of walk ≡ k → ⊥

@@ -27,7 +27,7 @@ module _ (code : List Instr) (n : Tables) (IsArgument : ℕ → Type 0) (c : Are
       by true e = inl (eqb-true (find y) y e)
       by false e = inr (eqb-false (find y) y e)
 
-  is-true : (y : ℕ) → find y ≡ y → (find y == y) ≡ true
+  pub is-true : (y : ℕ) → find y ≡ y → (find y == y) ≡ true
   is-true y e = by (find y == y) refl
     where
       by : (d : Bool) → (find y == y) ≡ d → (find y == y) ≡ true
@@ -70,7 +70,7 @@ module _ (code : List Instr) (n : Tables) (IsArgument : ℕ → Type 0) (c : Are
           (λ s. inr (found-some (n.into i a) z (sym (ap (λ d. cond d (replaced find (n.into i a)) (Some (find y))) (is-true y s)) ∙ h)))
           (λ s. inl (y, g, s, same_Some _ _ (sym (ap (λ d. cond d (replaced find (n.into i a)) (Some (find y))) (is-false y s)) ∙ h))) (stays y)
 
-  into-else : (i u : ℕ) (a : Location) → n.gets i a ≡ None → n.into i a ≡ Some u → m.into i a ≡ Some (find u)
+  pub into-else : (i u : ℕ) (a : Location) → n.gets i a ≡ None → n.into i a ≡ Some u → m.into i a ≡ Some (find u)
   into-else i u a g e = ap (λ o. resolved find o (n.into i a)) g ∙ ap (replaced find) e
 
   -- only labels have `get`s
@@ -81,7 +81,7 @@ module _ (code : List Instr) (n : Tables) (IsArgument : ℕ → Type 0) (c : Are
       by None e = e
       by (Some y) e = absurd (let l = c.plain i y a reached e in k l.0 l.1)
 
-  behind-resolved : (i z : ℕ) (a : Location) → IsReached code i → behind code n i a ≡ Some z → behind code m i a ≡ Some (find z)
+  pub behind-resolved : (i z : ℕ) (a : Location) → IsReached code i → behind code n i a ≡ Some z → behind code m i a ≡ Some (find z)
   behind-resolved i z a reached h = by_get (n.gets i a) refl h
     where
       by_item : (d e : Bool) → is_copy (slice_get code i) ≡ d → is_dest (destination (slice_get code i)) a ≡ e → n.gets i a ≡ None → cond d (n.into i (source (slice_get code i) a)) (cond e (Some (n.writes i)) (n.into i a)) ≡ Some z

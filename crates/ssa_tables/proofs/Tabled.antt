@@ -11,11 +11,11 @@ use Rattle.ssa_tables.proofs.Resolving.{resolved-consistent}
 use Rattle.ssa_tables.proofs.Solved.{solved-resolves}
 use Rattle.ssa_tables.proofs.Types.{resolved-typed}
 
-begins : (args : ℕ) (a : Location) (y : ℕ) → argument args a ≡ Some y → IsArgument args y
+pub begins : (args : ℕ) (a : Location) (y : ℕ) → argument args a ≡ Some y → IsArgument args y
 begins args a y e = (a, e)
 
 -- an argument has a number of its own
-few : (args y : ℕ) → IsArgument args y → y < args
+pub few : (args y : ℕ) → IsArgument args y → y < args
 few args y (Variable x, e) = by (nat_lt x args) refl e
   where
     by : (b : Bool) → nat_lt x args ≡ b → cond b (Some x) None ≡ Some y → y < args
