@@ -2,10 +2,13 @@
 // it has any number, so it is never cleared.
 
 ghost use Rattle.std.specs.Prelude.{◌≡◌, ◌<◌, ◌≤◌, ◌+◌, ◌*◌, ◌^◌, ℕ, List, Option, Some, None, IfOk, length, slice_index, slice_set};
+ghost use Rattle.std.specs.List.{All};
 ghost use Rattle.bril_tree.specs.Operand.{Location};
 ghost use Rattle.bril_tree.specs.declared.numbered.Instr.TheVariants.{Act};
 ghost use Rattle.bril_tree.specs.declared.types.Ty.{Ty};
+ghost use Rattle.ssa_sweep.specs.Gets.{AreGetsOf};
 ghost use Rattle.ssa_sweep.specs.Tells.{TellsNow, IsDestWithin, IsSetWithin, ActsWithin, IsItemWithin, with_dest, with_got};
+ghost use Rattle.ssa_tables.specs.Tables.{else_passed};
 ghost use Rattle.ssa_tables.specs.Told.{argument, passed_by};
 
 use bril_tree::numbered::Instr;
@@ -86,5 +89,24 @@ pub fn pass(definitions: &mut [u32], item: &Instr, written: u32)
         Instr::Label(_) => {}
         Instr::Const { dest, .. } => assign(definitions, Some(*dest), written),
         Instr::Act { dest, op, args, .. } => act(definitions, *op, *dest, args.as_slice(), written),
+    }
+}
+
+/// A `get` behind a label: the number of its location, and that of its definition.
+#[derive(Clone, Copy, PartialEq, Eq, Debug, Drop)]
+pub struct WantedGet {
+    pub location: u32,
+    pub definition: u32,
+}
+
+/// Goes on past the `get`s behind a label: where the array told what is known before them, it tells what is known behind them.
+/// Takes no memory.
+pub fn enter(definitions: &mut [u32], gets: &[WantedGet])
+    requires within { All (λ get. get.location < length definitions.old) gets.now }
+    ensures long { length definitions.new ≡ length definitions.old }
+    ensures tells { (known got : Location → Option ℕ) → AreGetsOf got gets.now → TellsNow known definitions.old → TellsNow (λ a. else_passed (got a) (known a)) definitions.new }
+{
+    for get in gets {
+        definitions[get.location as usize] = get.definition;
     }
 }
