@@ -1,10 +1,10 @@
 -- An array that tells what is known goes on to tell it, past the `get`s behind a label.
-use Rattle.std.proofs.Common.{◌≡◌, ◌≢◌, ◌⊎◌, ℕ, zero, suc, ◌<◌, ◌≤◌, Bool, true, false, List, [], ◌∷◌, length, drop, Option, Some, None, refl, sym, ap, ◌∙◌, inl, inr, ⊎_elim, arith}
+use Rattle.std.proofs.Common.{◌≡◌, ◌≢◌, ◌⊎◌, ℕ, suc, ◌<◌, ◌≤◌, Bool, true, false, List, [], ◌∷◌, length, drop, Option, Some, None, refl, sym, ap, ◌∙◌, inl, inr, ⊎_elim, arith}
 use Rattle.std.specs.Prelude.{slice_index, ◌==◌}
 use Rattle.std.specs.List.{All}
 use Rattle.std.proofs.Math.ListN.{set, length-set}
 use Rattle.std.proofs.lemmas.Bool.{eqb-true, eqb-false}
-use Rattle.std.proofs.lemmas.List.{get_or-set_same, get_or-set_other}
+use Rattle.std.proofs.lemmas.List.{drop_all, get_or-set_same, get_or-set_other}
 use Rattle.std.proofs.lemmas.Option.{same_Some}
 use Rattle.bril_tree.specs.Membership.{In}
 use Rattle.bril_tree.specs.Operand.{Location}
@@ -60,7 +60,4 @@ gets-tell gets now within known got are tells a y told = by (got a) refl told (s
 
 -- past the last `get` all are set
 pub all-set : (gets : List WantedGet) (i : ℕ) (now : List ℕ) → length gets ≤ i → with_gets (drop i gets) now ≡ now
-all-set [] zero now high = refl
-all-set [] (suc i) now high = refl
-all-set (get ∷ gets) zero now high = absurd (omega arith)
-all-set (get ∷ gets) (suc i) now high = all-set gets i now (omega arith)
+all-set gets i now high = ap (λ l. with_gets l now) (drop_all i gets high)

@@ -1,8 +1,9 @@
 -- The blocks of a function as a graph, from a label back to the label of a block from which an edge to it leaves, and over which
 -- of its arcs the search for a location goes.
-use Rattle.std.specs.Prelude.{◌≡◌, ◌↔◌, ℕ, suc, Bool, true, nat_lt, List, Option, Some, None, slice_get, slice_index}
+use Rattle.std.specs.Prelude.{◌≡◌, zero, ◌↔◌, ℕ, suc, Bool, true, nat_lt, List, [], ◌∷◌, Option, Some, None, slice_get, slice_index}
 use Rattle.std.specs.List.{Contains}
 use Rattle.bril_tree.specs.declared.numbered.Instr.{Instr}
+use Rattle.bril_tree.specs.declared.edge.Edge.{Edge}
 use Rattle.bril_tree.specs.Edge.{Branch}
 use Rattle.bril_tree.specs.Leaving.{Leaves}
 use Rattle.bril_tree.specs.Live.{IsLive}
@@ -21,6 +22,11 @@ passes_to first (Some point) = nat_lt point first
 abbrev pub opens_at : List ℕ → Arc → Bool
 opens_at first arc = passes_to (slice_index first arc.to) arc.label
 
+-- the head of the point before this one
+abbrev pub head_before : List Instr → ℕ → ℕ
+head_before code zero = 0
+head_before code (suc i) = head_of code i
+
 -- the arc of an edge that leaves at a point
 abbrev pub block_arc : List Instr → ℕ → ℕ → Arc
 block_arc code k p = record { from = k; to = head_of code p; label = Some p }
@@ -37,6 +43,15 @@ pub record Enters (code : List Instr) (k p : ℕ) : Type 0 where
 pub record AreBlockArcs (code : List Instr) (arcs : List Arc) : Type 0 where
   pub there : (k p : ℕ) → Enters code k p → Contains arcs (block_arc code k p)
   pub only : (arc : Arc) → Contains arcs arc → (k : ℕ) × (p : ℕ) × Enters code k p × (arc ≡ block_arc code k p)
+
+-- one arc, where both tests hold
+abbrev pub arc_between : Bool → Bool → Arc → List Arc
+arc_between true true arc = arc ∷ []
+arc_between _ _ arc = []
+
+-- the arc of an edge, where it goes from a block with a label to a label
+abbrev pub edge_arcs : List Instr → Edge → List Arc
+edge_arcs code edge = arc_between (is_label (slice_get code edge.to)) (is_label (slice_get code (head_of code edge.leave))) (block_arc code edge.to edge.leave)
 
 -- the label's block reads the location before it assigns it
 pub record IsExposed (code : List Instr) (a : Location) (h : ℕ) : Type 0 where

@@ -8,6 +8,8 @@
 //! 2. The graph of blocks (`specs/Blocks.antt`) and the search (`src/search.rt`, `proofs/Found.antt`).
 #![tactic(auto)]
 
+mod blocks;
 mod search;
 
+pub use blocks::{block_arcs, heads};
 pub use search::live_labels;
