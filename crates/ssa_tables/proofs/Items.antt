@@ -1,5 +1,5 @@
 -- What items assign, and which of them stand at open sites.
-use Rattle.std.proofs.Common.{◌≡◌, ℕ, true, false, List, [], ◌∷◌, map, Option, Some, None, refl, sym, ap, ◌∙◌, inl, inr}
+use Rattle.std.proofs.Common.{◌≡◌, ℕ, true, false, List, map, Option, Some, None, refl, sym, ap, ◌∙◌, inl, inr}
 use Rattle.std.specs.Prelude.{slice_get}
 use Rattle.std.proofs.lemmas.Bool.{eqb-true, eqb-false}
 use Rattle.bril_tree.specs.declared.numbered.Instr.{Instr}
@@ -9,8 +9,9 @@ use Rattle.bril_tree.specs.Assigned.{assigns_at}
 use Rattle.bril_tree.specs.Edge.{Branch}
 use Rattle.bril_tree.specs.FunctionForm.{listed}
 use Rattle.bril_tree.specs.Operand.{Location, Variable, Shadow}
-use Rattle.bril_tree.specs.Sites.{Opens, Closes, Keeps, Change, change_of, item_change, sites_of, sites_changed, without_newest}
+use Rattle.bril_tree.specs.Sites.{Opens, item_change, sites_of}
 use Rattle.bril_tree.specs.Membership.{In}
+use Rattle.bril_tree.proofs.Assignments.{site_speculates}
 use Rattle.ssa_copies.specs.Inserted.{is_copy, destination}
 use Rattle.ssa_tables.specs.Tables.{is_dest}
 
@@ -35,15 +36,4 @@ assigned-plain (Some (Act d ty _ args fns ls)) c = refl
 
 -- an open site is no label
 pub label-no_site : (code : List Instr) (w : List Branch) (s l : ℕ) → In s (sites_of code w) → slice_get code s ≡ Some (Label l) → ⊥
-label-no_site code [] s l i at = i
-label-no_site code (x ∷ w) s l i at = by (change_of code x) refl (λ j. label-no_site code w s l j at) i
-  where
-    in_rest : (ss : List ℕ) → In s (without_newest ss) → In s ss
-    in_rest [] i = i
-    in_rest (t ∷ ss) i = inr i
-
-    by : (c : Change) → change_of code x ≡ c → (In s (sites_of code w) → ⊥) → In s (sites_changed c x.from (sites_of code w)) → ⊥
-    by Opens e rec (inl q) = let h : item_change (Some (Label l)) x.aborts ≡ Opens = ap (λ o. item_change o x.aborts) (sym at ∙ ap (slice_get code) q) ∙ e in cc
-    by Opens e rec (inr j) = rec j
-    by Closes e rec j = rec (in_rest (sites_of code w) j)
-    by Keeps e rec j = rec j
+label-no_site code w s l i at = let h : item_change (Some (Label l)) false ≡ Opens = ap (λ o. item_change o false) (sym at) ∙ site_speculates code w s i in cc
