@@ -3,7 +3,7 @@ use Rattle.std.proofs.Common.{◌≡◌, ◌≢◌, ◌⊎◌, ℕ, zero, suc, �
 use Rattle.std.specs.Prelude.{slice_index, slice_index_or, ◌==◌, if◌then◌else◌, All}
 use Rattle.std.specs.List.{Contains}
 use Rattle.std.proofs.Math.ListN.{set, length-set}
-use Rattle.std.proofs.lemmas.Bool.{eqb-true, eqb-false, eq-eqb, cases_lt}
+use Rattle.std.proofs.lemmas.Bool.{eq-eqb, cases_lt, cases_eq, ne_eqb}
 use Rattle.std.proofs.lemmas.List.{length-map}
 use Rattle.std.proofs.lemmas.List.Elements.{All-get_or}
 use Rattle.std.proofs.lemmas.List.{get_or-set_same, get_or-set_other}
@@ -11,14 +11,6 @@ use Rattle.ssa_classes.specs.declared.operands.Operand.{Operand}
 use Rattle.ssa_classes.specs.Classes.{ClassesView, count_of, find_in, SameClasses, Joined}
 use Rattle.graph_search.specs.Adjacency.{EndsRow}
 use Rattle.ssa_classes.specs.Trivial.{OperandsView, Sets, keys_of, sources_of, IsLooked, IsResolved, IsWork, HasTwo, Stays, standing, Passes, Own, First, Again, Differs}
-use Rattle.ssa_classes.proofs.Roots.{neq-eqb}
-
-same-or-not : (x y : ℕ) → (x ≡ y) ⊎ (x ≢ y)
-same-or-not x y = by (x == y) refl
-  where
-    by : (b : Bool) → (x == y) ≡ b → (x ≡ y) ⊎ (x ≢ y)
-    by true e = inl (eqb-true x y e)
-    by false e = inr (eqb-false x y e)
 
 module _ (v : OperandsView) (base : ℕ) (bounded : (t z : ℕ) → Sets v t z → z < base + v.gets) (placed : (place : ℕ) → place < length v.list → slice_index (sources_of v) place < base + v.gets) where
   -- what stands is told by a function of what stood
@@ -74,7 +66,7 @@ module _ (v : OperandsView) (base : ℕ) (bounded : (t z : ℕ) → Sets v t z �
       φ-own = ap (λ b. cond b z (base + t)) (eq-eqb (base + t) (base + t) refl)
 
       φ-other : (r : ℕ) → r ≢ base + t → φ r ≡ r
-      φ-other r n = ap (λ b. cond b z r) (neq-eqb r (base + t) n)
+      φ-other r n = ap (λ b. cond b z r) (ne_eqb r (base + t) n)
 
       z_now : find_in c' z ≡ z
       z_now = moved z inside ∙ ap φ z_stands ∙ φ-other z other
@@ -95,14 +87,14 @@ module _ (v : OperandsView) (base : ℕ) (bounded : (t z : ℕ) → Sets v t z �
         ends_long = h.ends_long;
         firsts_long = h.firsts_long;
         marks = λ u l e. ⊎_elim (λ k. absurd (let q : true ≡ false = sym marks-own ∙ ap (λ x. slice_index_or (set gone t true) x false) (sym k) ∙ e in cc))
-            (λ n. moved (base + u) (omega arith) ∙ ap φ (h.marks u l (sym (marks-other u n) ∙ e)) ∙ φ-other (base + u) (λ q. n (omega (arith, q)))) (same-or-not u t);
-        marked = λ u l e k. ⊎_elim (λ q. own-gone u q k) (λ n. other-gone u l (sym (marks-other u n) ∙ e) k) (same-or-not u t);
+            (λ n. moved (base + u) (omega arith) ∙ ap φ (h.marks u l (sym (marks-other u n) ∙ e)) ∙ φ-other (base + u) (λ q. n (omega (arith, q)))) (cases_eq u t);
+        marked = λ u l e k. ⊎_elim (λ q. own-gone u q k) (λ n. other-gone u l (sym (marks-other u n) ∙ e) k) (cases_eq u t);
         fixed = λ d l. moved d (omega arith) ∙ ap φ (h.fixed d l) ∙ φ-other d (λ q. omega (arith, q, l));
-        own = λ d l. owns d l (same-or-not (find_in c d) (base + t));
-        left_out = λ u d l e k. ⊎_elim (λ q. own-left d (subst (λ x. Sets v x d) q k) ∙ sym (ap (λ x. find_in c' (base + x)) q ∙ y-now)) (λ n. moved d (bounded u d k) ∙ ap φ (h.left_out u d l (sym (marks-other u n) ∙ e) k) ∙ sym (moved (base + u) (omega arith))) (same-or-not u t);
+        own = λ d l. owns d l (cases_eq (find_in c d) (base + t));
+        left_out = λ u d l e k. ⊎_elim (λ q. own-left d (subst (λ x. Sets v x d) q k) ∙ sym (ap (λ x. find_in c' (base + x)) q ∙ y-now)) (λ n. moved d (bounded u d k) ∙ ap φ (h.left_out u d l (sym (marks-other u n) ∙ e) k) ∙ sym (moved (base + u) (omega arith))) (cases_eq u t);
         looked = λ u l e. ⊎_elim (λ k. absurd (let q : true ≡ false = sym marks-own ∙ ap (λ x. slice_index_or (set gone t true) x false) (sym k) ∙ e in cc))
-            (λ n. looked-moved φ (find_in c) (find_in c') moved u (slice_index ends u) (slice_index_or firsts u None) (φ-other (base + u) (λ q. n (omega (arith, q)))) (h.looked u l (sym (marks-other u n) ∙ e))) (same-or-not u t);
-        found = λ d l. subst (λ r. r < base + v.gets) (sym (moved d l)) (within d l (same-or-not (find_in c d) (base + t)));
+            (λ n. looked-moved φ (find_in c) (find_in c') moved u (slice_index ends u) (slice_index_or firsts u None) (φ-other (base + u) (λ q. n (omega (arith, q)))) (h.looked u l (sym (marks-other u n) ∙ e))) (cases_eq u t);
+        found = λ d l. subst (λ r. r < base + v.gets) (sym (moved d l)) (within d l (cases_eq (find_in c d) (base + t)));
       }
         where
           y-now : find_in c' (base + t) ≡ z
@@ -112,7 +104,7 @@ module _ (v : OperandsView) (base : ℕ) (bounded : (t z : ℕ) → Sets v t z �
           own-gone u q k = other (sym y-now ∙ ap (λ x. find_in c' (base + x)) (sym q) ∙ k ∙ ap (λ x. base + x) q)
 
           other-gone : (u : ℕ) → u < v.gets → slice_index_or gone u false ≡ true → find_in c' (base + u) ≡ base + u → ⊥
-          other-gone u l e k = by (same-or-not (find_in c (base + u)) (base + t))
+          other-gone u l e k = by (cases_eq (find_in c (base + u)) (base + t))
             where
               was : find_in c (base + u) ≢ base + u
               was = h.marked u l e
@@ -281,7 +273,7 @@ module _ (v : OperandsView) (base : ℕ) (inside : All (λ from. from < base + v
     own = h.own;
     found = h.found;
     left_out = h.left_out;
-    looked = λ u l e. by u l e (same-or-not u t);
+    looked = λ u l e. by u l e (cases_eq u t);
   }
     where
       by : (u : ℕ) → u < v.gets → slice_index_or gone u false ≡ false → (u ≡ t) ⊎ (u ≢ t) → IsLooked v base (find_in c) u (slice_index (set ends t end) u) (slice_index_or (set firsts t first) u None)

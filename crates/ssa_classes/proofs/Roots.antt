@@ -3,7 +3,7 @@ use Rattle.std.proofs.Common.{◌≡◌, ◌≢◌, ◌⊎◌, ℕ, zero, suc, �
 use Rattle.std.specs.Prelude.{slice_index, ◌==◌, if◌then◌else◌}
 use Rattle.std.proofs.Math.ListN.{set, length-set}
 use Rattle.std.proofs.lemmas.List.{get_or-set_same, get_or-set_other}
-use Rattle.std.proofs.lemmas.Bool.{eqb-true, eqb-false, eq-eqb}
+use Rattle.std.proofs.lemmas.Bool.{eqb-true, eqb-false, eq-eqb, cases_eq, ne_eqb}
 use Rattle.ssa_classes.specs.Classes.{ClassesView, root_from, root_in, find_in, AreClasses, SameClasses, Joined}
 
 -- parents are lesser
@@ -15,13 +15,6 @@ pub data Leads (ps : List ℕ) (c : ℕ) : ℕ → Type 0 where
   Here : (d : ℕ) → d ≡ c → slice_index ps d ≡ d → Leads ps c d
   There : (d : ℕ) → slice_index ps d ≢ d → Leads ps c (slice_index ps d) → Leads ps c d
 
-pub neq-eqb : (x y : ℕ) → x ≢ y → (x == y) ≡ false
-neq-eqb x y n = by (x == y) refl
-  where
-    by : (b : Bool) → (x == y) ≡ b → (x == y) ≡ false
-    by false e = e
-    by true e = absurd (n (eqb-true x y e))
-
 -- enough steps find it
 leads-root : (ps : List ℕ) → Falls ps → (fuel d c : ℕ) → d ≤ fuel → d < length ps → Leads ps c d → root_from fuel ps d ≡ c
 leads-root ps falls zero d c enough less (Here _ s e) = s
@@ -29,7 +22,7 @@ leads-root ps falls zero d c enough less (There _ n h) = absurd (let l = falls d
 leads-root ps falls (suc fuel) d c enough less (Here _ s e) = ap (λ b. cond b d (root_from fuel ps (slice_index ps d))) (eq-eqb (slice_index ps d) d e) ∙ s
 leads-root ps falls (suc fuel) d c enough less (There _ n h) =
     let l = falls d less in
-    ap (λ b. cond b d (root_from fuel ps (slice_index ps d))) (neq-eqb (slice_index ps d) d n)
+    ap (λ b. cond b d (root_from fuel ps (slice_index ps d))) (ne_eqb (slice_index ps d) d n)
     ∙ leads-root ps falls fuel (slice_index ps d) c (omega (arith, l, n)) (omega (arith, l)) h
 
 -- and there is one
@@ -97,15 +90,8 @@ module _ (ps : List ℕ) (falls : Falls ps) (d : ℕ) (less : d < length ps) whe
   pub shorter-long : length shorter ≡ length ps
   shorter-long = length-set ps d above
 
-  same-or-not : (x y : ℕ) → (x ≡ y) ⊎ (x ≢ y)
-  same-or-not x y = by (x == y) refl
-    where
-      by : (b : Bool) → (x == y) ≡ b → (x ≡ y) ⊎ (x ≢ y)
-      by true e = inl (eqb-true x y e)
-      by false e = inr (eqb-false x y e)
-
   pub shorter-falls : Falls shorter
-  shorter-falls x l = by (same-or-not x d)
+  shorter-falls x l = by (cases_eq x d)
     where
       by : (x ≡ d) ⊎ (x ≢ d) → slice_index shorter x ≤ x
       by (inl e) = let h : slice_index shorter x ≡ above = ap (slice_index shorter) e ∙ at-d in let a = up-less in let b = above-less in omega (arith, h, a, b, e)
@@ -114,7 +100,7 @@ module _ (ps : List ℕ) (falls : Falls ps) (d : ℕ) (less : d < length ps) whe
   module _ (moves : up ≢ d) where
     shorter-leads : (c x : ℕ) → Leads ps c x → Leads shorter c x
     shorter-leads c x (Here _ s e) = Here x s (at-other x (λ k. moves (ap (slice_index ps) (sym k) ∙ e ∙ k)) ∙ e)
-    shorter-leads c x (There _ n h) = by (same-or-not x d) (shorter-leads c (slice_index ps x) h) h
+    shorter-leads c x (There _ n h) = by (cases_eq x d) (shorter-leads c (slice_index ps x) h) h
       where
         by : (x ≡ d) ⊎ (x ≢ d) → Leads shorter c (slice_index ps x) → Leads ps c (slice_index ps x) → Leads shorter c x
         by (inr m) rec h' = There x (λ e. n (sym (at-other x m) ∙ e)) (subst (Leads shorter c) (sym (at-other x m)) rec)
@@ -125,7 +111,7 @@ module _ (ps : List ℕ) (falls : Falls ps) (d : ℕ) (less : d < length ps) whe
             (subst (Leads shorter c) (sym (ap (slice_index shorter) m ∙ at-d)) (over rec))
           where
             over : Leads shorter c (slice_index ps x) → Leads shorter c above
-            over r = by_root (same-or-not above up)
+            over r = by_root (cases_eq above up)
               where
                 q : slice_index ps x ≡ up
                 q = ap (slice_index ps) m
@@ -162,15 +148,8 @@ module _ (ps : List ℕ) (falls : Falls ps) (a b : ℕ) (a_root : slice_index ps
   pub linked-long : length linked ≡ length ps
   linked-long = length-set ps b a
 
-  equal-or-not : (x y : ℕ) → (x ≡ y) ⊎ (x ≢ y)
-  equal-or-not x y = by (x == y) refl
-    where
-      by : (b : Bool) → (x == y) ≡ b → (x ≡ y) ⊎ (x ≢ y)
-      by true e = inl (eqb-true x y e)
-      by false e = inr (eqb-false x y e)
-
   pub linked-falls : Falls linked
-  linked-falls x l = by (equal-or-not x b)
+  linked-falls x l = by (cases_eq x b)
     where
       by : (x ≡ b) ⊎ (x ≢ b) → slice_index linked x ≤ x
       by (inl e) = let h : slice_index linked x ≡ a = ap (slice_index linked) e ∙ linked-b in omega (arith, h, below, e)
@@ -183,11 +162,11 @@ module _ (ps : List ℕ) (falls : Falls ps) (a b : ℕ) (a_root : slice_index ps
   b-leads = There b (λ e. let h : a ≡ b = sym linked-b ∙ e in omega (arith, below, h)) (subst (Leads linked a) (sym linked-b) a-leads)
 
   linked-leads : (c x : ℕ) → Leads ps c x → Leads linked (if c == b then a else c) x
-  linked-leads c x (Here _ s e) = by (equal-or-not x b)
+  linked-leads c x (Here _ s e) = by (cases_eq x b)
     where
       by : (x ≡ b) ⊎ (x ≢ b) → Leads linked (if c == b then a else c) x
       by (inl k) = subst (λ z. Leads linked z x) (sym (ap (λ t. cond t a c) (eq-eqb c b (sym s ∙ k)))) (subst (Leads linked a) (sym k) b-leads)
-      by (inr k) = subst (λ z. Leads linked z x) (sym (ap (λ t. cond t a c) (neq-eqb c b (λ e'. k (s ∙ e'))))) (Here x s (linked-other x k ∙ e))
+      by (inr k) = subst (λ z. Leads linked z x) (sym (ap (λ t. cond t a c) (ne_eqb c b (λ e'. k (s ∙ e'))))) (Here x s (linked-other x k ∙ e))
   linked-leads c x (There _ n h) =
       let m : x ≢ b = (λ k. n (ap (slice_index ps) k ∙ b_root ∙ sym k)) in
       There x (λ e. n (sym (linked-other x m) ∙ e)) (subst (Leads linked (if c == b then a else c)) (sym (linked-other x m)) (linked-leads c (slice_index ps x) h))
@@ -230,10 +209,10 @@ module _ (v : ClassesView) (h : AreClasses v) (y z lo hi : ℕ) (inside : hi < l
   φ-y r e = ap (λ b. cond b z r) (eq-eqb r y e)
 
   φ-z : (r : ℕ) → r ≡ z → φ r ≡ z
-  φ-z r e = ap (λ b. cond b z r) (neq-eqb r y (λ k. differ (sym k ∙ e))) ∙ e
+  φ-z r e = ap (λ b. cond b z r) (ne_eqb r y (λ k. differ (sym k ∙ e))) ∙ e
 
   φ-other : (r : ℕ) → r ≢ y → φ r ≡ r
-  φ-other r n = ap (λ b. cond b z r) (neq-eqb r y n)
+  φ-other r n = ap (λ b. cond b z r) (ne_eqb r y n)
 
   one-of : (r : ℕ) → (r ≡ lo) ⊎ (r ≡ hi) → φ (slice_index v.stands r) ≡ z
   one-of r k = by roots k
@@ -250,13 +229,6 @@ module _ (v : ClassesView) (h : AreClasses v) (y z lo hi : ℕ) (inside : hi < l
   stands-other : (r : ℕ) → r ≢ lo → slice_index w.stands r ≡ slice_index v.stands r
   stands-other r n = get_or-set_other v.stands lo r z 0 n
 
-  either : (x y : ℕ) → (x ≡ y) ⊎ (x ≢ y)
-  either x y = by (x == y) refl
-    where
-      by : (b : Bool) → (x == y) ≡ b → (x ≡ y) ⊎ (x ≢ y)
-      by true e = inl (eqb-true x y e)
-      by false e = inr (eqb-false x y e)
-
   abbrev new_root : (x : ℕ) → x < length v.parents → root_in w.parents x ≡ (if root_in v.parents x == hi then lo else root_in v.parents x)
   new_root x less = linked-root v.parents h.lesser lo hi lo_root hi_root below inside x less
 
@@ -271,26 +243,26 @@ module _ (v : ClassesView) (h : AreClasses v) (y z lo hi : ℕ) (inside : hi < l
   root-inside x less = let l = (root v.parents h.lesser x less).lesser in omega (arith, l, less)
 
   pub is-joined : Joined y z v joined_view
-  is-joined = record { count = linked-long v.parents h.lesser lo hi lo_root hi_root below inside; find = λ x less. ap (slice_index w.stands) (new_root x less) ∙ by x less (either (root_in v.parents x) hi) (either (root_in v.parents x) lo) }
+  is-joined = record { count = linked-long v.parents h.lesser lo hi lo_root hi_root below inside; find = λ x less. ap (slice_index w.stands) (new_root x less) ∙ by x less (cases_eq (root_in v.parents x) hi) (cases_eq (root_in v.parents x) lo) }
     where
       by : (x : ℕ) → x < length v.parents → (root_in v.parents x ≡ hi) ⊎ (root_in v.parents x ≢ hi) → (root_in v.parents x ≡ lo) ⊎ (root_in v.parents x ≢ lo) → slice_index w.stands (if root_in v.parents x == hi then lo else root_in v.parents x) ≡ φ (find_in v x)
       by x less (inl e) k = ap (λ b. slice_index w.stands (cond b lo (root_in v.parents x))) (eq-eqb (root_in v.parents x) hi e) ∙ stands-lo ∙ sym (one-of (root_in v.parents x) (inr e))
-      by x less (inr n) (inl e) = ap (λ b. slice_index w.stands (cond b lo (root_in v.parents x))) (neq-eqb (root_in v.parents x) hi n) ∙ ap (slice_index w.stands) e ∙ stands-lo ∙ sym (one-of (root_in v.parents x) (inl e))
-      by x less (inr n) (inr m) = ap (λ b. slice_index w.stands (cond b lo (root_in v.parents x))) (neq-eqb (root_in v.parents x) hi n) ∙ stands-other (root_in v.parents x) m
+      by x less (inr n) (inl e) = ap (λ b. slice_index w.stands (cond b lo (root_in v.parents x))) (ne_eqb (root_in v.parents x) hi n) ∙ ap (slice_index w.stands) e ∙ stands-lo ∙ sym (one-of (root_in v.parents x) (inl e))
+      by x less (inr n) (inr m) = ap (λ b. slice_index w.stands (cond b lo (root_in v.parents x))) (ne_eqb (root_in v.parents x) hi n) ∙ stands-other (root_in v.parents x) m
           ∙ sym (φ-other (find_in v x) (not-y (root_in v.parents x) (root-inside x less) (root v.parents h.lesser x less).is m n))
 
   pub joined-classes : AreClasses joined_view
   joined-classes = record {
     long = length-set v.stands lo z ∙ h.long ∙ sym (length-set v.parents hi lo);
     lesser = linked-falls v.parents h.lesser lo hi lo_root hi_root below inside;
-    own = λ c less e. by c (let l = length-set v.parents hi lo in omega (arith, less, l)) e (either c lo) (either c hi);
+    own = λ c less e. by c (let l = length-set v.parents hi lo in omega (arith, less, l)) e (cases_eq c lo) (cases_eq c hi);
   }
     where
       long' : length w.parents ≡ length v.parents
       long' = length-set v.parents hi lo
 
       root-z : root_in w.parents z ≡ lo
-      root-z = new_root z z_less ∙ ⊎_elim (λ k. ap (λ b. cond b lo (root_in v.parents z)) (eq-eqb (root_in v.parents z) hi k.1)) (λ k. ap (λ b. cond b lo (root_in v.parents z)) (neq-eqb (root_in v.parents z) hi (λ q. let s : lo ≡ hi = sym k.1 ∙ q in omega (arith, s, below))) ∙ k.1) roots
+      root-z = new_root z z_less ∙ ⊎_elim (λ k. ap (λ b. cond b lo (root_in v.parents z)) (eq-eqb (root_in v.parents z) hi k.1)) (λ k. ap (λ b. cond b lo (root_in v.parents z)) (ne_eqb (root_in v.parents z) hi (λ q. let s : lo ≡ hi = sym k.1 ∙ q in omega (arith, s, below))) ∙ k.1) roots
 
       by : (c : ℕ) → c < length v.parents → slice_index w.parents c ≡ c → (c ≡ lo) ⊎ (c ≢ lo) → (c ≡ hi) ⊎ (c ≢ hi) → (slice_index w.stands c < length w.parents) × (root_in w.parents (slice_index w.stands c) ≡ c)
       by c less e (inl k) d = let s : slice_index w.stands c ≡ z = ap (slice_index w.stands) k ∙ stands-lo in (omega (arith, s, z_less, long'), ap (root_in w.parents) s ∙ root-z ∙ sym k)
@@ -299,7 +271,7 @@ module _ (v : ClassesView) (h : AreClasses v) (y z lo hi : ℕ) (inside : hi < l
           let old : slice_index v.parents c ≡ c = sym (get_or-set_other v.parents hi c lo 0 m) ∙ e in
           let o = h.own c less old in
           let s : slice_index w.stands c ≡ slice_index v.stands c = stands-other c n in
-          (let a = o.0 in omega (arith, s, a, long'), ap (root_in w.parents) s ∙ new_root (slice_index v.stands c) o.0 ∙ ap (λ b. cond b lo (root_in v.parents (slice_index v.stands c))) (neq-eqb (root_in v.parents (slice_index v.stands c)) hi (λ q. m (sym o.1 ∙ q))) ∙ o.1)
+          (let a = o.0 in omega (arith, s, a, long'), ap (root_in w.parents) s ∙ new_root (slice_index v.stands c) o.0 ∙ ap (λ b. cond b lo (root_in v.parents (slice_index v.stands c))) (ne_eqb (root_in v.parents (slice_index v.stands c)) hi (λ q. m (sym o.1 ∙ q))) ∙ o.1)
 
 -- ---- the two branches of a join
 
