@@ -1,0 +1,4 @@
+pub mod Copies
+pub mod Renamed
+pub mod Refines
+pub mod Walks

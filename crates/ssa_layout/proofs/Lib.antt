@@ -1,0 +1,12 @@
+pub mod Slots
+pub mod Refines
+pub mod Available
+pub mod Assured
+pub mod Walks
+pub mod Fitting
+pub mod Pieces
+pub mod Given
+pub mod Stays
+pub mod Once
+pub mod Behind
+pub mod Accepted
