@@ -1,5 +1,5 @@
 -- Where the files are told, one thing at most stops the reading of a program's files.
-use Rattle.std.proofs.Common.{◌≡◌, ◌∙◌, ◌⊎◌, refl, sym, ap, ap₂, subst, ℕ, ◌+◌, ◌<◌, ◌≤◌, List, [], ◌∷◌, ◌++◌, length, arith, append_assoc, append-nil, Option, Some, None, inl, inr}
+use Rattle.std.proofs.Common.{◌≡◌, ◌∙◌, ◌⊎◌, refl, sym, ap, ap₂, subst, ℕ, ◌+◌, ◌<◌, ◌≤◌, List, [], ◌∷◌, ◌++◌, length, arith, append_assoc, append-nil, Some, None, inl, inr}
 use Rattle.bril_outside.specs.Files.{FileMap}
 use Rattle.import_linker.specs.Order.{known_after, most_files}
 use Rattle.import_linker.specs.Reading.{AreNext, IsNext, IsNextPath, IsRead, bytes_of}

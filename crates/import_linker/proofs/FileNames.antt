@@ -1,11 +1,11 @@
 -- The names of a file, and the first fault of them.
-use Rattle.std.proofs.Common.{◌≡◌, ◌∙◌, refl, sym, ap, ap₂, subst, ℕ, ◌+◌, List, [], ◌∷◌, ◌++◌, length, map, Option, Some, None, arith}
+use Rattle.std.proofs.Common.{◌≡◌, ◌∙◌, refl, sym, ap, ap₂, ℕ, ◌+◌, List, [], ◌∷◌, length, map, Option, Some, None}
 use Rattle.std.specs.Prelude.{flat_map, option_map}
 use Rattle.std.specs.Option.{option_or}
 use Rattle.std.proofs.lemmas.List.{length-append, length-map}
 use Rattle.bril_tree.specs.declared.import.Import.{Import}
 use Rattle.import_linker.specs.Linked.{spelled}
-use Rattle.import_linker.specs.Names.{Function, NameFault, callees, clash, first_unknown, function_names, functions_of, local_name, local_names, meanings, names_taken, not_there, own_functions, own_names, repeated_after, taken_function, taken_of}
+use Rattle.import_linker.specs.Names.{NameFault, callees, clash, first_unknown, functions_of, local_name, local_names, meanings, names_taken, not_there, own_functions, own_names, repeated_after, taken_function, taken_of}
 use Rattle.import_linker.specs.Tables.{fault_by, first_absent}
 use Rattle.import_linker.specs.Refusing.{IsClash, IsLack, RefusesNames}
 use Rattle.import_linker.specs.declared.fault.LinkFault.{LinkFault}

@@ -1,5 +1,5 @@
 -- The first item of a list that is sought, over parts of the list.
-use Rattle.std.proofs.Common.{◌≡◌, ◌∙◌, refl, sym, ap, Bool, true, false, cond, ℕ, ◌+◌, ◌<◌, List, [], ◌∷◌, ◌++◌, length, take, drop, get_or, map, Option, Some, None, append_assoc}
+use Rattle.std.proofs.Common.{◌≡◌, ◌∙◌, refl, sym, ap, ℕ, ◌+◌, ◌<◌, List, [], ◌∷◌, ◌++◌, length, take, drop, get_or, Option, Some, None, append_assoc}
 use Rattle.std.specs.Prelude.{flat_map, find, not, option_map}
 use Rattle.bril_tree.specs.declared.import.Taken.{Taken}
 use Rattle.import_linker.specs.Names.{Function, contains, first_unknown}

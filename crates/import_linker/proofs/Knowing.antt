@@ -1,5 +1,5 @@
 -- Paths that are known, and files that are read in order.
-use Rattle.std.proofs.Common.{◌≡◌, ◌∙◌, refl, sym, ap, ap₂, subst, Bool, true, false, cond, ℕ, zero, suc, ◌+◌, ◌<◌, ◌≤◌, List, [], ◌∷◌, ◌++◌, length, map, take, drop, get_or, arith, append_assoc, append-nil, Option, Some, None}
+use Rattle.std.proofs.Common.{◌≡◌, ◌∙◌, refl, sym, ap, subst, Bool, true, false, cond, ℕ, zero, suc, ◌+◌, ◌<◌, ◌≤◌, List, [], ◌∷◌, ◌++◌, length, map, take, drop, get_or, arith, append_assoc, append-nil, Option}
 use Rattle.std.specs.Prelude.{fold, flat_map}
 use Rattle.std.proofs.lemmas.List.{length-append, take_more, map_push, map-append, take-append-drop}
 use Rattle.std.proofs.lemmas.Grind.{flat_map-append}

@@ -1,12 +1,12 @@
 -- The files that were read have the paths that are known, in order.
-use Rattle.std.proofs.Common.{◌≡◌, ◌∙◌, refl, sym, ap, ap₂, subst, Bool, true, false, cond, ℕ, ◌+◌, ◌<◌, ◌≤◌, List, [], ◌∷◌, ◌++◌, length, map, take, get_or, arith, append_assoc, append-nil, Option, Some}
+use Rattle.std.proofs.Common.{◌≡◌, ◌∙◌, refl, sym, ap, ap₂, subst, Bool, true, false, cond, ℕ, ◌+◌, ◌<◌, ◌≤◌, List, [], ◌∷◌, ◌++◌, length, take, arith, append_assoc, append-nil, Option, Some}
 use Rattle.std.specs.Prelude.{slice_get}
 use Rattle.std.proofs.lemmas.List.{length-append, map_push, take-append-le, take_all, take_more}
 use Rattle.std.proofs.lemmas.Option.{get_or_from_slice_get}
 use Rattle.bril_outside.specs.Files.{FileMap}
 use Rattle.import_linker.specs.Names.{paths_of}
 use Rattle.import_linker.specs.Order.{added, all_added, is_known, known_after, named_by}
-use Rattle.import_linker.specs.Reading.{AreFiles, AreNext}
+use Rattle.import_linker.specs.Reading.{AreNext}
 use Rattle.import_linker.specs.declared.sources.Source.{Source}
 use Rattle.import_linker.proofs.Knowing.{known_more}
 use Rattle.import_linker.proofs.Turning.{got_inside}

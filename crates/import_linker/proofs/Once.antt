@@ -1,12 +1,10 @@
 -- Where the files are told, a program's files are the only ones, and no reading of them is refused.
-use Rattle.std.proofs.Common.{◌≡◌, ◌∙◌, refl, sym, ap, ap₂, subst, ℕ, ◌+◌, ◌<◌, ◌≤◌, List, [], ◌∷◌, ◌++◌, length, arith, append_assoc, append-nil, Option, Some, None}
-use Rattle.std.specs.Prelude.{slice_get}
-use Rattle.bril_outside.specs.Files.{FileMap, MayHold}
-use Rattle.bril_tree.specs.declared.tree.Tree.{Tree}
+use Rattle.std.proofs.Common.{◌≡◌, ◌∙◌, refl, sym, ap, ap₂, subst, ℕ, ◌≤◌, List, [], ◌∷◌, ◌++◌, length, arith, append_assoc, append-nil, Some, None}
+use Rattle.bril_outside.specs.Files.{FileMap}
 use Rattle.import_linker.specs.Order.{known_after, most_files}
-use Rattle.import_linker.specs.Reading.{AreFiles, AreNext, IsMisread, IsNext, IsNextPath, IsRead, PassesBytes, PassesFiles, bytes_of}
+use Rattle.import_linker.specs.Reading.{AreFiles, AreNext, IsMisread, IsNext, IsNextPath, IsRead, PassesBytes, PassesFiles}
 use Rattle.bril_source.specs.Format.{format_of}
-use Rattle.bril_source.specs.Reading.{ReadsAs, most_bytes}
+use Rattle.bril_source.specs.Reading.{ReadsAs}
 use Rattle.bril_source.specs.declared.fault.ReadFault.{ReadFault}
 use Rattle.import_linker.specs.declared.sources.Source.{Source}
 use Rattle.import_linker.proofs.Turning.{got_inside}

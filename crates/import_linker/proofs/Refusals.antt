@@ -1,5 +1,5 @@
 -- Why files are not linked, by what stopped.
-use Rattle.std.proofs.Common.{◌≡◌, ℕ, List, Option, Some}
+use Rattle.std.proofs.Common.{ℕ, List}
 use Rattle.bril_outside.specs.Files.{FilesSeen}
 use Rattle.import_linker.specs.Names.{fault_from}
 use Rattle.import_linker.specs.Reading.{AreFiles, RefusesReading}

@@ -1,5 +1,5 @@
 -- Names that are added one after another.
-use Rattle.std.proofs.Common.{subst, zero, suc, ◌+◌, ◌<◌, ◌≤◌, length, map, take, drop, get_or, arith, ◌≡◌, ◌∙◌, refl, sym, ap, Bool, true, false, cond, ℕ, List, [], ◌∷◌, ◌++◌, append_assoc, append-nil, Option, Some, None}
+use Rattle.std.proofs.Common.{subst, zero, suc, ◌+◌, ◌<◌, ◌≤◌, length, map, take, drop, get_or, arith, ◌≡◌, ◌∙◌, refl, sym, ap, Bool, true, false, cond, ℕ, List, [], ◌∷◌, ◌++◌, append_assoc, append-nil, Some, None}
 use Rattle.std.specs.Prelude.{flat_map}
 use Rattle.std.proofs.lemmas.List.{take_more, map_push, map-append, take-append-drop}
 use Rattle.std.proofs.lemmas.Grind.{flat_map-append}

@@ -1,7 +1,6 @@
 -- Tables of names, and what they say of functions.
-use Rattle.std.proofs.Common.{◌≡◌, ◌∙◌, refl, sym, ap, Bool, true, false, cond, ◌||◌, ℕ, zero, suc, List, [], ◌∷◌, ◌++◌, map, get_or, length, Option, Some, None}
-use Rattle.std.specs.Prelude.{bytes_eq, find, if◌then◌else◌, not, option_map, slice_get}
-use Rattle.std.specs.List.{list_any}
+use Rattle.std.proofs.Common.{◌≡◌, ◌∙◌, refl, sym, ap, Bool, true, false, cond, ◌||◌, ℕ, zero, suc, List, [], ◌∷◌, ◌++◌, get_or, Option, Some}
+use Rattle.std.specs.Prelude.{bytes_eq, find, if◌then◌else◌, not, option_map}
 use Rattle.std.specs.Option.{option_or}
 use Rattle.std.proofs.lemmas.Slice.Eq.{bytes_eq-Decides}
 use Rattle.bril_tree.specs.declared.import.Taken.{Taken}

@@ -1,11 +1,11 @@
 -- Where the files are told, a program has one tree or one refusal, and never both.
 use Rattle.std.proofs.Common.{◌≡◌, ◌∙◌, ◌⊎◌, refl, sym, ap, subst, ℕ, List, Option, Some, None, inl, inr}
-use Rattle.bril_outside.specs.Files.{FileMap, FilesSeen, LacksFile, MayFail, MayHold}
+use Rattle.bril_outside.specs.Files.{FileMap, FilesSeen}
 use Rattle.bril_outside.specs.Sink.{Rose}
 use Rattle.bril_tree.specs.declared.tree.Tree.{Tree}
-use Rattle.import_linker.specs.Linked.{IsTreeOf, Linked}
+use Rattle.import_linker.specs.Linked.{Linked}
 use Rattle.import_linker.specs.Names.{NameFault, clash, fault_from, not_there}
-use Rattle.import_linker.specs.Reading.{AreFiles, CannotReadNext, IsMisread, PassesBytes, PassesFiles, RefusesReading}
+use Rattle.import_linker.specs.Reading.{AreFiles, RefusesReading}
 use Rattle.import_linker.specs.Laws.{LinkedAreNotRefused, RefusedOnce}
 use Rattle.import_linker.specs.Refusing.{IsMisnamed, RefusesLink}
 use Rattle.import_linker.specs.declared.fault.LinkFault.{LinkFault}

@@ -1,5 +1,5 @@
 -- The files of a program, in the order in which they are first named.
-use Rattle.std.specs.Prelude.{ℕ, ◌==◌, ◌-◌, ◌||◌, Bool, true, false, List, [], ◌∷◌, ◌++◌, map, fold, flat_map, bytes_eq, if◌then◌else◌}
+use Rattle.std.specs.Prelude.{ℕ, ◌==◌, ◌||◌, Bool, false, List, [], ◌∷◌, ◌++◌, map, fold, flat_map, bytes_eq, if◌then◌else◌}
 use Rattle.std.specs.List.{list_any, position_or_len}
 use Rattle.bril_tree.specs.declared.import.Import.{Import}
 use Rattle.import_linker.specs.declared.sources.Source.{Source}

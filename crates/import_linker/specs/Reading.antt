@@ -1,8 +1,7 @@
 -- The reading of a program's files, one after another.
-use Rattle.std.specs.Prelude.{ℕ, ◌≡◌, ◌<◌, ◌≤◌, ◌+◌, List, [], ◌∷◌, ◌++◌, length, Option, Some, None, slice_get}
+use Rattle.std.specs.Prelude.{ℕ, ◌≡◌, ◌<◌, ◌≤◌, ◌+◌, List, [], ◌∷◌, ◌++◌, length, Option, Some, slice_get}
 use Rattle.std.specs.List.{sum_by}
 use Rattle.bril_outside.specs.Files.{FileMap, FilesSeen, MayHold, MayFail}
-use Rattle.bril_tree.specs.declared.tree.Tree.{Tree}
 use Rattle.import_linker.specs.Order.{known_after, most_files}
 use Rattle.bril_source.specs.Format.{format_of}
 use Rattle.bril_source.specs.Reading.{IsOnlyTree, IsOnlyFault, most_bytes}

@@ -1,7 +1,7 @@
 -- Why files are not linked.
-use Rattle.std.specs.Prelude.{ℕ, ◌≡◌, List, [], Option, Some, None, Result, Ok, Err}
+use Rattle.std.specs.Prelude.{ℕ, ◌≡◌, List, Option, Some, None, Result, Ok, Err}
 use Rattle.bril_outside.specs.Files.{FileMap, FilesSeen}
-use Rattle.import_linker.specs.Names.{NameFault, clash, not_there, fault_from, fault_of, repeated_after}
+use Rattle.import_linker.specs.Names.{NameFault, clash, not_there, fault_from, repeated_after}
 use Rattle.import_linker.specs.Reading.{AreFiles, RefusesReading}
 use Rattle.import_linker.specs.declared.fault.LinkFault.{LinkFault}
 use Rattle.import_linker.specs.declared.fault.LinkFault.TheVariants as fault

@@ -1,5 +1,5 @@
 -- The run of the name, if there is one.
-use Rattle.std.proofs.Common.{◌≡◌, ◌∙◌, ◌<◌, ap, sym, arith}
+use Rattle.std.proofs.Common.{◌∙◌, arith}
 use Rattle.import_linker.proofs.RunLengths.{begins_none, begins_some, none_added, not_equal, run_added}
 use Rattle.import_linker.proofs.fresh_run.add_run.Goals as goal
 

@@ -1,5 +1,5 @@
 -- One name more.
-use Rattle.std.proofs.Common.{◌≡◌, ◌∙◌, ◌<◌, ◌||◌, ap, ap₂, sym, subst, take, ◌+◌, ℕ, Bool, false, List}
+use Rattle.std.proofs.Common.{◌∙◌, ◌||◌, ap, ap₂, sym, take, ℕ, Bool, List}
 use Rattle.std.specs.List.{list_any}
 use Rattle.bril_tree.specs.declared.function_tree.FuncTree.{FuncTree}
 use Rattle.import_linker.specs.Linked.{begins_so}

@@ -1,5 +1,5 @@
 -- One byte more.
-use Rattle.std.proofs.Common.{◌≡◌, ◌∙◌, sym, ap, refl, true, false, Some, None}
+use Rattle.std.proofs.Common.{◌∙◌, sym, ap, refl, Some, None}
 use Rattle.std.specs.Prelude.{if◌then◌else◌}
 use Rattle.import_linker.proofs.RunLengths.{not_equal, run_ends, run_more}
 use Rattle.import_linker.proofs.fresh_run.run_of.Goals as goal

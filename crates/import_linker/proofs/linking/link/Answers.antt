@@ -1,5 +1,5 @@
 -- The files are read, and then linked.
-use Rattle.std.proofs.Common.{◌≡◌, ◌∙◌, ap, subst, List}
+use Rattle.std.proofs.Common.{subst, List}
 use Rattle.std.proofs.lemmas.Result.{err_from_is_err_and}
 use Rattle.import_linker.specs.Linked.{IsTreeOf}
 use Rattle.import_linker.specs.Names.{fault_from}

@@ -1,5 +1,5 @@
 -- The file's first fault, or its functions.
-use Rattle.std.proofs.Common.{◌≡◌, ◌∙◌, ◌++◌, ap, ap₂, sym, subst, length, map, List, ℕ}
+use Rattle.std.proofs.Common.{◌∙◌, ◌++◌, ap, ap₂, sym, subst, length, map, List, ℕ}
 use Rattle.std.proofs.lemmas.Result.{err_from_is_err_and}
 use Rattle.bril_tree.specs.declared.function_tree.FuncTree.{FuncTree}
 use Rattle.import_linker.specs.Linked.{beside, renamed_function}

@@ -1,9 +1,9 @@
 -- One file more.
-use Rattle.std.proofs.Common.{◌≡◌, ◌∙◌, ◌++◌, ap, ap₂, sym, subst, take, List, ℕ}
+use Rattle.std.proofs.Common.{◌∙◌, ◌++◌, ap, ap₂, sym, subst, List, ℕ}
 use Rattle.std.proofs.lemmas.Result.{err_from_is_err_and}
 use Rattle.bril_tree.specs.declared.function_tree.FuncTree.{FuncTree}
 use Rattle.import_linker.specs.Linked.{linked_file, linked_from}
-use Rattle.import_linker.specs.Names.{fault_from, paths_of}
+use Rattle.import_linker.specs.Names.{fault_from}
 use Rattle.import_linker.specs.declared.sources.Source.{Source}
 use Rattle.import_linker.specs.Refusing.{RefusesNames}
 use Rattle.import_linker.specs.Tables.{AreTables}

@@ -1,7 +1,6 @@
 -- One more name.
-use Rattle.std.proofs.Common.{◌≡◌, ◌∙◌, ◌<◌, ◌++◌, ◌∷◌, ap, sym, subst, arith, length, take, drop, map, [], List, ℕ, ◌+◌, None, refl}
+use Rattle.std.proofs.Common.{◌≡◌, ◌∙◌, ◌<◌, ◌++◌, ◌∷◌, ap, sym, subst, arith, length, take, drop, [], List, ℕ, ◌+◌, None}
 use Rattle.std.proofs.lemmas.Result.{err_from_is_err_and}
-use Rattle.bril_tree.specs.declared.function_tree.FuncTree.{FuncTree}
 use Rattle.import_linker.specs.Names.{names_taken, local_name, repeated_after}
 use Rattle.import_linker.proofs.Repeating.{Clashes, map_more, map_split, step_err, step_names, step_none}
 use Rattle.import_linker.proofs.locals.add_taken.Goals as goal

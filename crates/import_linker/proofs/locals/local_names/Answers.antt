@@ -1,5 +1,5 @@
 -- One more import, and then the functions.
-use Rattle.std.proofs.Common.{◌≡◌, ◌∙◌, ◌<◌, ◌≤◌, ◌++◌, ◌∷◌, ap, sym, subst, arith, length, take, drop, get_or, [], List, ℕ, ◌+◌, None, append_assoc, append-nil}
+use Rattle.std.proofs.Common.{◌≡◌, ◌∙◌, ◌<◌, ◌≤◌, ◌++◌, ap, sym, subst, length, take, drop, get_or, [], List, ℕ, ◌+◌, None, append_assoc, append-nil}
 use Rattle.std.specs.Prelude.{flat_map}
 use Rattle.std.proofs.lemmas.Result.{err_from_is_err_and}
 use Rattle.bril_tree.specs.declared.import.Import.{Import}

@@ -1,7 +1,7 @@
 -- One more import.
 use Rattle.std.proofs.Common.{◌∙◌, ◌<◌, ap, ap₂, sym, arith, length, take}
 use Rattle.std.proofs.lemmas.Result.{err_from_is_err_and}
-use Rattle.import_linker.specs.Order.{added, all_added, joined, named_in}
+use Rattle.import_linker.specs.Order.{added, all_added, named_in}
 use Rattle.import_linker.proofs.Knowing.{adds_too_many, all_added-append, named_more, named_taken}
 use Rattle.import_linker.proofs.paths.add_imports.Goals as goal
 

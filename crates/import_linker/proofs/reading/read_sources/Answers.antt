@@ -1,8 +1,8 @@
 -- One more file.
-use Rattle.std.proofs.Common.{rules, ◌≡◌, ◌∙◌, ◌≤◌, ◌+◌, ap, sym, subst, arith, length, [], ◌∷◌, ◌++◌, List, Some}
+use Rattle.std.proofs.Common.{◌≡◌, ◌∙◌, ◌≤◌, ◌+◌, ap, sym, subst, arith, length, [], List, Some}
 use Rattle.std.proofs.lemmas.Result.{err_from_is_err_and}
 use Rattle.std.specs.Prelude.{slice_get}
-use Rattle.import_linker.specs.Order.{all_added, known_after, most_files, named_by, named_in}
+use Rattle.import_linker.specs.Order.{all_added, known_after, named_by, named_in}
 use Rattle.import_linker.specs.Adding.{AddsTooMany}
 use Rattle.bril_tree.specs.declared.import.Import.{Import}
 use Rattle.import_linker.specs.Reading.{AreNext, bytes_of}
@@ -10,7 +10,7 @@ use Rattle.bril_source.specs.Reading.{most_bytes}
 use Rattle.import_linker.specs.declared.sources.Source.{Source}
 use Rattle.import_linker.proofs.Knowing.{bytes_more, next_more}
 use Rattle.import_linker.proofs.Numbering.{paths_are}
-use Rattle.import_linker.proofs.Turning.{all_read, is_next_path, knows, next_is, refuses_adding, refuses_source, started_more}
+use Rattle.import_linker.proofs.Turning.{all_read, knows, next_is, refuses_adding, started_more}
 use Rattle.import_linker.proofs.reading.read_sources.Goals as goal
 
 pub returns-in_err-add_imports-clause-err : goal.returns-in_err-add_imports-clause-err

@@ -1,5 +1,5 @@
 -- One name more.
-use Rattle.std.proofs.Common.{◌≡◌, ◌∙◌, ◌++◌, ◌∷◌, [], ap, ap₂, sym, subst, List, ℕ}
+use Rattle.std.proofs.Common.{◌∙◌, ◌++◌, ◌∷◌, [], ap₂, sym, subst, List, ℕ}
 use Rattle.std.proofs.lemmas.Result.{err_from_is_err_and}
 use Rattle.import_linker.specs.Linked.{beside}
 use Rattle.import_linker.specs.Names.{first_unknown}

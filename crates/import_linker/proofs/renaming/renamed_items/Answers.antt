@@ -1,5 +1,5 @@
 -- One item more.
-use Rattle.std.proofs.Common.{◌≡◌, ◌∙◌, ◌++◌, ◌∷◌, [], ap, ap₂, sym, subst, List}
+use Rattle.std.proofs.Common.{◌∙◌, ◌++◌, ◌∷◌, [], ap₂, sym, subst, List}
 use Rattle.std.proofs.lemmas.Result.{err_from_is_err_and}
 use Rattle.bril_tree.specs.declared.function_tree.Item.{Item}
 use Rattle.import_linker.specs.Linked.{beside, renamed_item}

@@ -1,5 +1,5 @@
 -- One name more.
-use Rattle.std.proofs.Common.{◌≡◌, ◌∙◌, ◌++◌, ◌∷◌, [], ap, sym, subst, take, ◌+◌}
+use Rattle.std.proofs.Common.{◌++◌, ◌∷◌, [], sym, subst, take}
 use Rattle.bril_tree.specs.declared.function_tree.FuncTree.{FuncTree}
 use Rattle.import_linker.specs.Names.{function_names}
 use Rattle.import_linker.specs.Tables.{HaveSame}

@@ -1,5 +1,5 @@
 -- One table more.
-use Rattle.std.proofs.Common.{◌≡◌, ◌∙◌, ◌++◌, ◌∷◌, [], ap, sym, subst, take, ◌+◌, List, ℕ}
+use Rattle.std.proofs.Common.{◌∙◌, ◌++◌, ◌∷◌, [], ap, sym, subst, take, List, ℕ}
 use Rattle.std.proofs.lemmas.List.{take_more}
 use Rattle.bril_tree.specs.declared.function_tree.FuncTree.{FuncTree}
 use Rattle.import_linker.specs.Names.{function_names}

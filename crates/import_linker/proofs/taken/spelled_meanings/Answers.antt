@@ -1,11 +1,10 @@
 -- One import more.
-use Rattle.std.proofs.Common.{◌≡◌, ◌∙◌, ◌<◌, ◌≤◌, ◌++◌, [], ap, ap₂, sym, subst, get_or, length, map, take, List, ℕ, None}
+use Rattle.std.proofs.Common.{◌≡◌, ◌∙◌, ◌<◌, ◌≤◌, ◌++◌, ap, ap₂, sym, subst, get_or, length, map, take, List, ℕ}
 use Rattle.std.specs.Prelude.{flat_map}
 use Rattle.std.proofs.lemmas.List.{map-append}
 use Rattle.std.proofs.lemmas.Result.{err_from_is_err_and}
 use Rattle.bril_tree.specs.declared.function_tree.FuncTree.{FuncTree}
 use Rattle.bril_tree.specs.declared.import.Import.{Import}
-use Rattle.bril_tree.specs.declared.import.Taken.{Taken}
 use Rattle.import_linker.specs.Linked.{spelled}
 use Rattle.import_linker.specs.Names.{Function, functions_of, own_functions, taken_functions, taken_of}
 use Rattle.import_linker.specs.Order.{file_at}

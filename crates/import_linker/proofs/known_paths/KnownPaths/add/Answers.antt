@@ -1,5 +1,5 @@
 -- The path is put last.
-use Rattle.std.proofs.Common.{◌≡◌, ◌∙◌, ap}
+use Rattle.std.proofs.Common.{◌∙◌, ap}
 use Rattle.std.specs.String.{string_bytes}
 use Rattle.import_linker.specs.Order.{added}
 use Rattle.import_linker.proofs.Held.{adds}

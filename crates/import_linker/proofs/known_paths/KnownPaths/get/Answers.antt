@@ -1,5 +1,5 @@
 -- The key of the number.
-use Rattle.std.proofs.Common.{◌≡◌, ◌∙◌, ap, sym, Some}
+use Rattle.std.proofs.Common.{◌∙◌, ap, sym, Some}
 use Rattle.std.specs.Prelude.{option_map, slice_get}
 use Rattle.std.specs.String.{string_bytes}
 use Rattle.import_linker.proofs.Held.{slice_get-map}

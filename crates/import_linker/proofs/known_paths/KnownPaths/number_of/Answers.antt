@@ -1,5 +1,5 @@
 -- The place of the key, or the number of all.
-use Rattle.std.proofs.Common.{◌≡◌, ◌∙◌, ap, bytes_eq}
+use Rattle.std.proofs.Common.{◌∙◌, ap, bytes_eq}
 use Rattle.std.specs.List.{position_or_len}
 use Rattle.std.specs.String.{string_bytes}
 use Rattle.import_linker.proofs.Held.{place_is, place_none, place_some}

@@ -1,5 +1,5 @@
 -- The key is put last.
-use Rattle.std.proofs.Common.{◌≡◌, ◌∙◌, ap, not, List, ℕ}
+use Rattle.std.proofs.Common.{◌∙◌, ap, not, List, ℕ}
 use Rattle.std.specs.Borrow.{Bor}
 use Rattle.import_linker.specs.Names.{contains}
 use Rattle.import_linker.proofs.Held.{adds, contains_is}
