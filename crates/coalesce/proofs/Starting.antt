@@ -18,7 +18,7 @@ use Rattle.coalesce_laws.specs.Merged.{NoneApart}
 use Rattle.coalesce_laws.proofs.Copying.{copy-is}
 use Rattle.bril_tree.specs.Walk.{IsReached}
 use Rattle.coalesce.specs.Rounds.{CopyWithin, HasCopyWithin, IsCopyWithin}
-use Rattle.coalesce.specs.Classes.{Grows, IsRelatedItem, IsRoundState, MarksShadow, NotApart, Relates, class_of, is_marked}
+use Rattle.coalesce.specs.Classes.{Grows, IsRelatedItem, MarksShadow, NotApart, Relates, is_marked}
 
 -- ---- numbers in order
 
