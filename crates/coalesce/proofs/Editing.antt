@@ -1,17 +1,15 @@
 -- Marks of copies and lists of new names.
 use Rattle.std.proofs.Common.{◌≡◌, ◌⊎◌, ℕ, zero, suc, ◌+◌, ◌<◌, Bool, true, false, List, [], ◌∷◌, ◌++◌, length, map, get_or, refl, sym, ap, subst, ◌∙◌, inl, inr, ⊎_elim, arith, cond, min, take}
 use Rattle.std.proofs.lemmas.Bool.{cases_eq, cases_lt}
-use Rattle.std.proofs.lemmas.List.{get_or-map, length-append, length-map, length-take, map-append}
+use Rattle.std.proofs.lemmas.List.{length-append, length-map, length-take, map-append}
 use Rattle.std.proofs.Math.Seq.{take-suc}
 use Rattle.pass_plan.specs.Marked.{with_nops}
 use Rattle.pass_plan.proofs.Marked.{nops-push}
 use Rattle.std.proofs.lemmas.Option.{slice_get_within}
 use Rattle.bril_tree.specs.declared.numbered_function.Func.{Func}
-use Rattle.bril_tree.specs.Numbered.{named, variable_names}
 use Rattle.bril_names.specs.Range.{AreBelow}
-use Rattle.coalesce.specs.Classes.{AreClasses, is_marked}
-use Rattle.coalesce.specs.Rounds.{CopyWithin, MarksCopies, MarksFirst, NamesClasses}
-use Rattle.coalesce.proofs.Joining.{outside}
+use Rattle.coalesce.specs.Classes.{is_marked}
+use Rattle.coalesce.specs.Rounds.{CopyWithin, MarksCopies, MarksFirst}
 
 pub below-at : (n : ℕ) (xs : List ℕ) (i d : ℕ) → AreBelow n xs → i < length xs → get_or xs i d < n
 below-at n [] i d below low = absurd (omega arith)

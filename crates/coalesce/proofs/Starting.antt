@@ -1,5 +1,5 @@
 -- Where a round begins: each variable is alone, and marks tell which are related and which have a shadow that items name.
-use Rattle.std.proofs.Common.{◌≡◌, ◌⊎◌, ℕ, zero, suc, ◌+◌, ◌<◌, ◌≤◌, Bool, true, false, List, [], ◌∷◌, ◌++◌, length, get_or, Some, None, refl, sym, ap, subst, ◌∙◌, inl, inr, ⊎_elim, arith}
+use Rattle.std.proofs.Common.{◌≡◌, ◌⊎◌, ℕ, ◌+◌, ◌<◌, ◌≤◌, Bool, true, false, List, [], ◌∷◌, length, get_or, Some, None, refl, sym, ap, subst, ◌∙◌, inl, inr, ⊎_elim, arith}
 use Rattle.std.specs.Prelude.{slice_get, slice_index, is_some}
 use Rattle.std.specs.List.{Contains}
 use Rattle.std.proofs.lemmas.Bool.{cases_eq, cases_lt}
@@ -18,15 +18,7 @@ use Rattle.coalesce_laws.specs.Merged.{NoneApart}
 use Rattle.coalesce_laws.proofs.Copying.{copy-is}
 use Rattle.bril_tree.specs.Walk.{IsReached}
 use Rattle.coalesce.specs.Rounds.{CopyWithin, HasCopyWithin, IsCopyWithin}
-use Rattle.coalesce.specs.Classes.{Grows, IsRelatedItem, IsRoundState, MarksShadow, NotApart, Relates, class_of, is_marked}
-
--- ---- numbers in order
-
-get-push : (xs : List ℕ) (y k d : ℕ) → (get_or (xs ++ y ∷ []) k d ≡ get_or xs k d) ⊎ ((k ≡ length xs) × (get_or (xs ++ y ∷ []) k d ≡ y))
-get-push [] y zero d = inr (refl, refl)
-get-push [] y (suc k) d = inl refl
-get-push (x ∷ xs) y zero d = inl refl
-get-push (x ∷ xs) y (suc k) d = ⊎_elim inl (λ h. inr (ap suc h.0, h.1)) (get-push xs y k d)
+use Rattle.coalesce.specs.Classes.{Grows, IsRelatedItem, MarksShadow, NotApart, Relates, is_marked}
 
 -- ---- related variables
 
@@ -72,9 +64,6 @@ pub record AreMarked (F : Func) (n : ℕ) (marks : List Bool) : Type 0 where
   pub all : (x point : ℕ) (item : Instr) → point < n → slice_get F.code point ≡ Some item → Contains (shadows_of item) x → x < length F.vars → is_marked marks x ≡ true
   pub only : (x : ℕ) → is_marked marks x ≡ true → HasShadow F.code x
 
-none-marked : (marks : List Bool) → ((x : ℕ) → is_marked marks x ≡ false) → (x : ℕ) → is_marked marks x ≡ true → ⊥
-none-marked marks none x e = let f : true ≡ false = sym e ∙ none x in cc
-
 pub more-marked : (F : Func) (old new : List Bool) (items : List Instr) → items ≡ F.code → (n : ℕ) (item : Instr) → n < length items → item ≡ get_or items n item → AreMarked F n old → MarksShadow item old new → AreMarked F (n + 1) new
 more-marked F old new items same n item low is a m = record {
   long = m.long ∙ a.long;
@@ -88,8 +77,6 @@ more-marked F old new items same n item low is a m = record {
   where
     there : slice_get F.code n ≡ Some item
     there = ap (λ l. slice_get l n) (sym same) ∙ slice_get-get_or items n item low ∙ ap Some (sym is)
-
--- ---- the state
 
 -- ---- the loop over the items
 

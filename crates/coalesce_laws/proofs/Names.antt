@@ -6,17 +6,17 @@ use Rattle.std.proofs.lemmas.List.{get_or-map}
 use Rattle.bril_tree.specs.declared.function_tree.Item.TheVariants as item
 use Rattle.bril_tree.specs.declared.numbered.Instr.{Instr}
 use Rattle.bril_tree.specs.declared.numbered.Instr.TheVariants.{Label, Const, Act}
-use Rattle.bril_tree.specs.declared.numbered_function.Func.{Func}
 use Rattle.bril_tree.specs.declared.program.Prog.{Prog}
 use Rattle.bril_tree.specs.declared.types.Ty.{Ty}
 use Rattle.bril_tree.specs.FunctionForm.{listed}
 use Rattle.bril_tree.specs.Numbered.{named, dest_tree, item_tree, names_in, names_of_functions, tree_at}
-use Rattle.bril_tree.specs.Step.{items_of, item_at}
+use Rattle.bril_tree.specs.Step.{item_at}
 use Rattle.bril_tree.proofs.Trees.{nothing_at}
 use Rattle.bril_names.specs.Range.{AreBelow, IsInRange}
 use Rattle.bril_names.proofs.Naming.{AreBelow-append}
 use Rattle.pass_names.specs.Renaming.{renamed_tree}
 use Rattle.pass_names.proofs.Points.{found}
+use Rattle.pass_names.proofs.Renaming.{renamed-found, renamed-none}
 use Rattle.coalesce_laws.specs.Merged.{renamed_dest, renamed_item}
 
 pub named-map : (rename : List ℕ → List ℕ) (V : List (List ℕ)) (x : ℕ) → x < length V → named (map rename V) x ≡ rename (named V x)
@@ -38,18 +38,6 @@ item-renamed rename fs V ls nf nl (Const d ty v) range = λ i. item.Const (sym (
 item-renamed rename fs V ls nf nl (Act d ty o args fns labels) range =
     let below = AreBelow-append (length V) (listed d) args range.variables in
     λ i. item.Act (dest-renamed rename V d ty below.0 i) o (sym (names-map rename V args below.1) i) (map (named fs) fns) (map (named ls) labels)
-
-pub renamed-found : (X : Prog) (f i : ℕ) (a : Instr) → item_at X f i ≡ Some a → (F : Func) → slice_get X.funcs f ≡ Some F → (vars : List (List ℕ)) → renamed_tree (names_of_functions X.funcs) vars (slice_get X.funcs f) i ≡ Some (item_tree (names_of_functions X.funcs) vars F.labels a)
-renamed-found X f i a at F there vars =
-    let here : slice_get F.code i ≡ Some a = ap (λ o. slice_get (items_of o) i) (sym there) ∙ at in
-    ap (λ o. renamed_tree (names_of_functions X.funcs) vars o i) there ∙ ap (option_map (item_tree (names_of_functions X.funcs) vars F.labels)) here
-
-pub renamed-none : (X : Prog) (f i : ℕ) → item_at X f i ≡ None → (vars : List (List ℕ)) → renamed_tree (names_of_functions X.funcs) vars (slice_get X.funcs f) i ≡ None
-renamed-none X f i at vars = by (slice_get X.funcs f) at
-  where
-    by : (o : Option Func) → slice_get (items_of o) i ≡ None → renamed_tree (names_of_functions X.funcs) vars o i ≡ None
-    by None e = refl
-    by (Some F) e = ap (option_map (item_tree (names_of_functions X.funcs) vars F.labels)) e
 
 -- a point under the new names
 pub tree-renamed : (P : Prog) (f i : ℕ) (rename : List ℕ → List ℕ) → option_map (renamed_item rename) (tree_at P f i) ≡ renamed_tree (names_of_functions P.funcs) (map rename (names_in (slice_get P.funcs f))) (slice_get P.funcs f) i

@@ -21,7 +21,8 @@ use Rattle.pass_names.specs.NamedPlan.{SameHeads}
 use Rattle.pass_names.proofs.Points.{found, found_under, label_found, label_once}
 use Rattle.coalesce_laws.specs.Merged.{IsRenamedAt, IsSelfCopy, renamed_item}
 use Rattle.coalesce_laws.proofs.Copying.{copy-is}
-use Rattle.coalesce_laws.proofs.Names.{renamed-found, tree-renamed}
+use Rattle.pass_names.proofs.Renaming.{renamed-found}
+use Rattle.coalesce_laws.proofs.Names.{tree-renamed}
 
 module _ (P Q : Prog) (f : ℕ) (r : List ℕ → List ℕ) (points : (i : ℕ) → IsRenamedAt P f r Q i) where
   -- at a copy of a variable to one of its new name the result has a `nop`

@@ -35,13 +35,13 @@ use Rattle.bril_tree.proofs.Elements.{zip-find}
 use Rattle.bril_tree.proofs.Liveness.{live-reads, live-flows, live-back, live_assigned}
 use Rattle.bril_tree.proofs.Members.{contains_in}
 use Rattle.bril_tree.proofs.Shapes.{none_assigned, shape-parts}
-use Rattle.pass_names.specs.Named.{SameLocation}
+use Rattle.pass_names.specs.Named.{SameLocation, SameName}
 use Rattle.pass_names.specs.NamedPlan.{NamePlan}
 use Rattle.pass_names.specs.Renaming.{renamed_tree, renaming, Renames}
 use Rattle.pass_names.proofs.Heads.{main_same, main_types_same, start_agrees}
 use Rattle.pass_names.proofs.Points.{found, label_once}
 use Rattle.pass_names.proofs.Preserving.{knows_nothing}
-use Rattle.pass_names.proofs.Renaming.{items_share, renaming_preserves}
+use Rattle.pass_names.proofs.Renaming.{items_share, renamed-none, renaming_preserves}
 use Rattle.pass_accept.proofs.Heads.{start-high, start-shadow}
 use Rattle.pass_plan.specs.Plan.{Plan, Preserves, StatesMatch, ValuesMatch}
 use Rattle.pass_plan.proofs.Values.{assigned-same, assigned-other}
@@ -52,7 +52,7 @@ use Rattle.pass_steps.proofs.Shapes.{shaped_here}
 use Rattle.coalesce_laws.specs.Merged.{IsRound, IsSelfCopy, new_name}
 use Rattle.coalesce_laws.proofs.Copying.{Copy, copy-is, assigning-onward, assigned-shadow, live-shadow}
 use Rattle.coalesce_laws.proofs.Points.{label-kept, nop-there}
-use Rattle.coalesce_laws.proofs.Names.{named-map, renamed-none, tree-renamed}
+use Rattle.coalesce_laws.proofs.Names.{named-map, tree-renamed}
 
 module _ (P Q : Prog) (rename : ℕ → List ℕ → List ℕ) (t : IsRound P Q rename) where
   abbrev pub names : ℕ → List (List ℕ)
@@ -126,34 +126,47 @@ module _ (P Q : Prog) (rename : ℕ → List ℕ → List ℕ) (t : IsRound P Q 
       abbrev W : List (List ℕ)
       W = names_in (slice_get Q.funcs f)
 
+      -- the function, and two variables of one new name
+      record OneName (x z : ℕ) : Type 0 where
+        function : Func
+        there : slice_get P.funcs f ≡ Some function
+        code : code_of P f ≡ function.code
+        first_low : x < length function.vars
+        second_low : z < length function.vars
+        one : new_name P f (rename f) z ≡ new_name P f (rename f) x
+
+      one-name : (a : Instr) → item_at P f i ≡ Some a → (x z y : ℕ) → SameName (names f) W x y → SameName (names f) W z y → OneName x z
+      one-name a at x z y h k =
+          let fa = found P f i a at in
+          let size : length (names_in (slice_get P.funcs f)) ≡ length fa.function.vars = ap (λ o. length (names_in o)) fa.there ∙ length-map fa.function.vars (λ (v : VarInfo). v.name) in
+          let s = sized f in
+          let hl = h.0 in
+          let kl = k.0 in
+          record {
+            function = fa.function;
+            there = fa.there;
+            code = ap items_of fa.there;
+            first_low = omega arith;
+            second_low = omega arith;
+            one = sym (name-is f z k.0) ∙ k.2 ∙ sym h.2 ∙ name-is f x h.0;
+          }
+
       -- two locations of one new name, the first assigned, the second live after it
       clash : (a : Instr) → item_at P f i ≡ Some a → (x z y : Location) → (x ≡ z → ⊥) → SameLocation (names f) W x y → SameLocation (names f) W z y → In z (assigns_of a) → IsLive (code_of P f) x (suc i) → ⊥
       clash a at (Variable x) (Variable z) (Variable y) differ h k assigns live =
-          let fa = found P f i a at in
-          let F = fa.function in
-          let code : code_of P f ≡ F.code = ap items_of fa.there in
-          let size : length (names_in (slice_get P.funcs f)) ≡ length F.vars = ap (λ o. length (names_in o)) fa.there ∙ length-map F.vars (λ (v : VarInfo). v.name) in
-          let s = sized f in
-          let hl = h.0 in
-          let kl = k.0 in
-          let one : new_name P f (rename f) z ≡ new_name P f (rename f) x = sym (name-is f z k.0) ∙ k.2 ∙ sym h.2 ∙ name-is f x h.0 in
+          let n = one-name a at x z y h k in
+          let F = n.function in
           let dest = assigns-dest a z assigns in
-          let sound = t.sound f F fa.there z x (omega arith) (omega arith) (λ e. differ (ap Variable (sym e))) one in
-          sound.spares i a (subst (λ c. IsReached c i) code reached) (ap (λ c. slice_get c i) (sym code) ∙ at) dest
+          let sound = t.sound f F n.there z x n.second_low n.first_low (λ e. differ (ap Variable (sym e))) n.one in
+          sound.spares i a (subst (λ c. IsReached c i) n.code reached) (ap (λ c. slice_get c i) (sym n.code) ∙ at) dest
           (λ u source e. regular (record { reached = reached; item = a; at = at; x = z; y = u; copies = (dest, source); same = sym e }))
-          (subst (λ c. IsLive c (Variable x) (suc i)) code live)
+          (subst (λ c. IsLive c (Variable x) (suc i)) n.code live)
       clash a at (Shadow x) (Shadow z) (Shadow y) differ h k assigns live =
-          let fa = found P f i a at in
-          let F = fa.function in
-          let code : code_of P f ≡ F.code = ap items_of fa.there in
-          let size : length (names_in (slice_get P.funcs f)) ≡ length F.vars = ap (λ o. length (names_in o)) fa.there ∙ length-map F.vars (λ (v : VarInfo). v.name) in
-          let s = sized f in
-          let hl = h.0 in
-          let kl = k.0 in
-          let one : new_name P f (rename f) z ≡ new_name P f (rename f) x = sym (name-is f z k.0) ∙ k.2 ∙ sym h.2 ∙ name-is f x h.0 in
-          let sound = t.sound f F fa.there z x (omega arith) (omega arith) (λ e. differ (ap Shadow (sym e))) one in
-          sound.shadows (record { point = i; item = a; at = ap (λ c. slice_get c i) (sym code) ∙ at; names = contains_in z _ (assigned-shadow a z assigns) })
-          (live-shadow F.code x (suc i) (subst (λ c. IsLive c (Shadow x) (suc i)) code live))
+          let n = one-name a at x z y h k in
+          let F = n.function in
+          let sound = t.sound f F n.there z x n.second_low n.first_low (λ e. differ (ap Shadow (sym e))) n.one in
+          sound.shadows (record { point = i; item = a; at = ap (λ c. slice_get c i) (sym n.code) ∙ at; names = contains_in z _ (assigned-shadow a z assigns) })
+          (live-shadow F.code x (suc i) (subst (λ c. IsLive c (Shadow x) (suc i)) n.code live))
       clash a at (Variable x) (Variable z) (Shadow y) differ h k assigns live = h
       clash a at (Variable x) (Shadow z) (Variable y) differ h k assigns live = k
       clash a at (Variable x) (Shadow z) (Shadow y) differ h k assigns live = h

@@ -38,7 +38,7 @@ use Rattle.pass_names.proofs.Points.{found, found_under}
 use Rattle.pass_accept.proofs.Heads.{argument-typed, start-high}
 use Rattle.pass_accept.proofs.Staying.{dest-typed, same_destination}
 use Rattle.coalesce_laws.specs.Merged.{IsRound, IsSelfCopy, new_name}
-use Rattle.coalesce_laws.proofs.Names.{renamed-found, renamed-none}
+use Rattle.pass_names.proofs.Renaming.{renamed-found, renamed-none}
 use Rattle.coalesce_laws.proofs.Refines.{names, sized, name-is, regular-tree, copy-nop, source-live, source-below}
 
 module _ (P Q : Prog) (rename : ℕ → List ℕ → List ℕ) (t : IsRound P Q rename) (accepted : IsAccepted P) (f : ℕ) (F G : Func) (p : slice_get P.funcs f ≡ Some F) (q : slice_get Q.funcs f ≡ Some G) where
