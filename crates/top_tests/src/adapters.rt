@@ -70,10 +70,17 @@ fn holds_back_until_it_is_flushed(rt: HostRuntime) -> Result<(), Fail> {
     OsFiles::new(&rt).read(alloc, &path, 100, &mut into)?;
     assert_eq!(rt; into.as_slice(), b"".as_slice());
     // The buffer is full, and nothing is lost at its end.
-    put_two(&mut sink, b" three", b" and a piece that is longer than the buffer")?;
+    put_two(
+        &mut sink,
+        b" three",
+        b" and a piece that is longer than the buffer",
+    )?;
     sink.flush()?;
     OsFiles::new(&rt).read(alloc, &path, 100, &mut into)?;
-    assert_eq!(rt; into.as_slice(), b"one\ntwo three and a piece that is longer than the buffer".as_slice());
+    assert_eq!(rt;
+        into.as_slice(),
+        b"one\ntwo three and a piece that is longer than the buffer".as_slice()
+    );
     let mut lines = OsSink::by_line(BufWriter::new(alloc, fs::create(&rt, name)?)?);
     put_three(&mut lines, b"a line", b" with its end\n", b"and the next")?;
     let mut into = Bytes::new(alloc);
