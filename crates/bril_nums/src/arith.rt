@@ -49,7 +49,7 @@ pub fn quot(a: i64, b: i64) -> Option<i64>
 
 /// The character with the number `n`, where `n` is a Unicode scalar value: 0 to 0xD7FF or 0xE000 to 0x10FFFF.
 ///
-/// `None` exactly where `n` is no scalar value (the Unicode Standard, definition D76).
+/// `None` exactly where `n` is no scalar value (the Unicode Standard, section 3.9, "Unicode scalar value").
 ///
 /// This is `int2char` of the Bril documentation, character extension.
 pub fn scalar(n: i64) -> Option<char>
