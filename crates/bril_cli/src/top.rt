@@ -123,11 +123,11 @@ fn answer<F: Files, O: Sink, E: Sink>(
         Ok(request) => request,
         Err(misuse) => {
             let status = Status::from(misuse);
-            say(&mut outputs.err, "", &status);
+            say(&mut outputs.err, &status);
             return status_number(&status);
         }
     };
     let status = Status::from(drive(alloc, request, files, passes, outputs));
-    say(&mut outputs.err, request.path, &status);
+    say(&mut outputs.err, &status);
     status_number(&status)
 }

@@ -19,6 +19,7 @@ mod table;
 mod taken;
 
 pub use fault::LinkFault;
-pub use laws::linking_is_one;
+pub use laws::{lacking_is_told, linking_is_one};
 pub use linking::link;
+pub use reading::read_source;
 pub use sources::Source;
