@@ -41,5 +41,6 @@ pub fn linked_tree<F: Files>(alloc: Global, path: &str, files: &mut F) -> Result
     ensures err { IfErr result (λ status. RefusesTree WithImports status (F.seen files.old) (F.seen files.new) path.now) }
 {
     let path = Text::of(alloc, path)?;
-    Ok(link(alloc, files, &path)?)
+    let tree = link(alloc, files, &path)?;
+    Ok(tree)
 }
