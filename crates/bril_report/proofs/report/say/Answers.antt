@@ -2,7 +2,7 @@
 use Rattle.bril_report.proofs.report.say.Goals as goal
 
 pub returns-in-CannotRead : goal.returns-in-CannotRead
-returns-in-CannotRead g c = rw c.in-CannotRead.is (rw (← c.as_bytes-in-CannotRead.ensures.value) c.put_all-in-CannotRead.ensures)
+returns-in-CannotRead g c = rw c.in-CannotRead.is (rw (← c.as_bytes-in-CannotRead.ensures.value) c.put_all.ensures)
 
 pub returns-in-TooManyBytes : goal.returns-in-TooManyBytes
 returns-in-TooManyBytes g c = rw c.in-TooManyBytes.is c.put-in-TooManyBytes.ensures
