@@ -259,6 +259,9 @@ module _ (c : Call) (asks : Asks c.words) (how : Status) (ends : Ends c asks how
 
 -- ---- a file that isn't there
 
+not_both : (n : ℕ) → n ≡ 66 → n ≡ 71 → ⊥
+not_both n a b = omega arith
+
 Read_ample : (path : List ℕ) → link.Read path ≢ link.Memory
 Read_ample path e = cc
 
@@ -275,12 +278,9 @@ module _ (c : Call) (asks : Asks c.words) (how : Status) (ends : Ends c asks how
       → Puts c.err_before (unread_pieces path) c.err_after
   line why is refuses none number sound =
       let told = lacking_told c.files_before.holds path here.lacks in
-      ⊎_elim (λ some. ⊎_elim (λ e. absurd (not_71 (sym number ∙ ap status_number (is ∙ ap link_status e)))) (λ e. absurd (Read_ample path e)) some)
+      ⊎_elim (λ some. ⊎_elim (λ e. absurd (not_both (status_number how) number (ap status_number (is ∙ ap link_status e)))) (λ e. absurd (Read_ample path e)) some)
       (λ more. ⊎_elim (λ rose. absurd (sound rose)) (λ e. said c asks how ends (link_status (link.Read path)) (is ∙ ap link_status e) none) more)
       (one_refusal c.files_before c.files_after told.0 told.1 asks.path Kind why (link.Read path) refuses (lacking_fault c.files_before c.files_after asks.path path Kind here))
-    where
-      not_71 : 66 ≡ 71 → ⊥
-      not_71 e = omega arith
 
   pub lacking_where : UnlessMemory (status_number how) ((status_number how ≡ 66) × (¬ Rose c.files_before.faults c.files_after.faults → Puts c.err_before (unread_pieces path) c.err_after))
   lacking_where =
