@@ -133,7 +133,8 @@ fn do_command<O: Sink, E: Sink>(
             let program = accepted_program(alloc, tree)?;
             put_counts(alloc, &program, outputs.out)
         }
-        Action::Link | Action::WriteText => put_text(alloc, tree, outputs.out),
+        Action::Link => put_text(alloc, tree, outputs.out),
+        Action::WriteText => put_text(alloc, tree, outputs.out),
         Action::WriteJson => put_json(alloc, tree, outputs.out),
     }
 }

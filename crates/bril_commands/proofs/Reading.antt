@@ -5,6 +5,7 @@ use Rattle.bril_outside.specs.Files.{FileMap, FilesSeen, LacksFile, MayFail, May
 use Rattle.bril_outside.specs.Sink.{Rose}
 use Rattle.bril_report.specs.StageFaults.{link_status}
 use Rattle.bril_report.specs.declared.status.Status.{Status}
+use Rattle.bril_report.specs.declared.status.Status.TheVariants as status
 use Rattle.bril_source.specs.Format.{format_of}
 use Rattle.bril_source.specs.Reading.{HasFault, IsOnlyFault, IsOnlyTree, ReadsAs, most_bytes}
 use Rattle.bril_source.specs.declared.fault.ReadFault.{ReadFault}
@@ -32,9 +33,9 @@ pub RefusesTree-of : (reach : Reach) (why : LinkFault) (how : Status) (before af
 RefusesTree-of reach why how before after path copied is status refuses = (why, status, subst (λ (p : List ℕ). RefusesFiles reach why before after p) is refuses)
 
 -- want of memory refuses all files
-pub memory_refuses : (reach : Reach) (before after : FilesSeen) (path : List ℕ) → RefusesFiles reach fault.Memory before after path
-memory_refuses Alone before after path = tt
-memory_refuses WithImports before after path = tt
+pub memory_refuses : (reach : Reach) (before after : FilesSeen) (path : List ℕ) → RefusesTree reach status.OutOfMemory before after path
+memory_refuses Alone before after path = (fault.Memory, refl, tt)
+memory_refuses WithImports before after path = (fault.Memory, refl, tt)
 
 -- the tree of a command that needs a program has no imports
 pub needs_alone : (k : Command) (holds : Option FileMap) (path : List ℕ) (tree : Tree) → IsTreeAt (reach k) holds path tree → NeedsProgram k → tree.imports ≡ []

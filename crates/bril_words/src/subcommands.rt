@@ -77,10 +77,8 @@ impl Subcommand {
             Subcommand::Interp => OF_INTERP.as_slice(),
             Subcommand::Passes => OF_PASSES.as_slice(),
             Subcommand::Emit => OF_EMIT.as_slice(),
-            Subcommand::Check
-            | Subcommand::Link
-            | Subcommand::WriteText
-            | Subcommand::WriteJson => NO_OPTIONS.as_slice(),
+            Subcommand::Check | Subcommand::Link | Subcommand::WriteText | Subcommand::WriteJson =>
+                NO_OPTIONS.as_slice(),
         }
     }
 

@@ -10,14 +10,13 @@ use Rattle.bril_commands.specs.Table.{command, KeepsPasses}
 use Rattle.bril_report.proofs.Telling.{Tells-none}
 use Rattle.bril_report.specs.StageFaults.{status_of}
 use Rattle.bril_words.specs.Names.{names_of}
-use Rattle.import_linker.specs.declared.fault.LinkFault.TheVariants as link
 use Rattle.bril_cli.proofs.driver.drive.Goals as goal
 
 pub returns-in_err-names-clause-does : goal.returns-in_err-names-clause-does
 returns-in_err-names-clause-does g c =
     let e = err_from_is_err_and c.from_residual.result c.from_residual.ensures.1 in
     let refuses = memory_refuses (reach (command c.args.request.action)) (g.F.Files.seen c.args.files.now) (g.F.Files.seen c.args.files.now) c.args.request.path.now in
-    rw (e.1, e.2) (record { same_output = refl; told = []; does = inl ((link.Memory, refl, refuses), ((refl, refl), refl)); tells = Tells-none g.E.Sink.seen c.args.outputs.now.err })
+    rw (e.1, e.2) (record { same_output = refl; told = []; does = inl (refuses, ((refl, refl), refl)); tells = Tells-none g.E.Sink.seen c.args.outputs.now.err })
 
 pub returns-in_err-tree-clause-does : goal.returns-in_err-tree-clause-does
 returns-in_err-tree-clause-does g c =
