@@ -6,6 +6,7 @@
 #![tactic(auto)]
 
 mod fault;
+mod file_numbers;
 mod fresh_run;
 mod known_paths;
 mod laws;
