@@ -1,9 +1,12 @@
-// The driver: the stages from a file to what a command does with it, in order. Each is a call that gives a result, and
+// The driver: the stages from the files to what a command does with them, in order. Each is a call that gives a result, and
 // `?` hands its refusal on.
 
-ghost use Rattle.std.specs.Prelude.{◌≡◌, ◌≤◌, length};
-ghost use Rattle.bril_commands.specs.Driver.{DoesTree, DoesFile};
+ghost use Rattle.std.specs.Prelude.{◌≡◌, ◌≤◌, [], length, IfOk, IfErr};
+ghost use Rattle.bril_commands.specs.Command.{NeedsProgram, reach};
+ghost use Rattle.bril_commands.specs.Driver.{DoesTree, DoesFiles};
 ghost use Rattle.bril_commands.specs.PassList.{pass_list};
+ghost use Rattle.bril_commands.specs.Source.{IsTreeAt};
+ghost use Rattle.bril_commands.specs.Stages.{RefusesTree};
 ghost use Rattle.bril_commands.specs.Table.{command, KeepsPasses};
 ghost use Rattle.bril_report.specs.StageFaults.{status_of};
 ghost use Rattle.bril_report.specs.Telling.{Telling};
@@ -19,22 +22,22 @@ use bril_commands::commands::interp::interpret;
 use bril_commands::commands::json::put_json;
 use bril_commands::commands::text::put_text;
 use bril_commands::program::accepted_program;
-use bril_commands::source::read_file;
+use bril_commands::source::{file_tree, linked_tree};
 use bril_outside::files::Files;
 use bril_outside::sink::Sink;
 use bril_report::{Outputs, Status};
-use bril_source::read_tree;
 use bril_tree::limits::Limits;
 use bril_tree::tree::Tree;
 use bril_words::{Action, CELLS, Request, names_of};
 use pass_law::Pass;
 use std::alloc::Global;
 
-/// Does what a request asks of its file: what the command puts goes to the output, and what it tells of a run or of passes to the error
-/// output.
+/// Does what a request asks of its files: what the command puts goes to the output, and what it tells of a run or of passes to the
+/// error output.
 ///
-/// The file has at most 16,777,216 bytes, which read as a tree: in JSON where the path ends in `.json`, and in text
-/// anywhere else. `Err`: the status that a stage, or the command, ended with. A stage that refuses puts nothing on the output.
+/// `text` and `json` read one file, and the other commands this and all that it imports; together they have at most 16,777,216 bytes.
+/// A file is in JSON where its path ends in `.json`, and in text anywhere else. `Err`: the status that a stage, or the command, ended
+/// with. A stage that refuses puts nothing on the output.
 pub fn drive<F: Files, O: Sink, E: Sink>(
     alloc: Global,
     request: Request,
@@ -46,12 +49,11 @@ pub fn drive<F: Files, O: Sink, E: Sink>(
     requires few { length (names_of request.list.now) ≤ 64 }
     ensures holds { (F.seen files.new).holds ≡ (F.seen files.old).holds }
     ensures faults { (F.seen files.old).faults ≤ (F.seen files.new).faults }
-    ensures does { Telling O.seen E.seen (λ told s t. DoesFile (command request.entry.action) (status_of result) (pass_list (λ p. meaning p) (λ p. counts p) passes.old passes.new (names_of request.entry.list.now)) (F.seen files.old) (F.seen files.new) request.entry.path.now request.entry.args.now told s t) outputs.old outputs.new }
+    ensures does { Telling O.seen E.seen (λ told s t. DoesFiles (command request.entry.action) (status_of result) (pass_list (λ p. meaning p) (λ p. counts p) passes.old passes.new (names_of request.entry.list.now)) (F.seen files.old) (F.seen files.new) request.entry.path.now request.entry.args.now told s t) outputs.old outputs.new }
     ensures keeps { KeepsPasses (λ p. meaning p) request.entry.action passes.old passes.new }
 {
     let names = names_of(alloc, request.list)?;
-    let source = read_file(alloc, request.path, files)?;
-    let tree = read_tree(alloc, request.path.as_bytes(), source.as_slice())?;
+    let tree = tree_of(alloc, request, files)?;
     let mut passes = ListedPasses {
         boxes: passes,
         names: &names,
@@ -59,7 +61,25 @@ pub fn drive<F: Files, O: Sink, E: Sink>(
     do_command(alloc, request, &tree, &mut passes, outputs)
 }
 
-// Does what a request asks of its file's tree. To check, interpret, transform, emit or run it, the tree has an accepted program.
+// The tree of a request's files.
+fn tree_of<F: Files>(alloc: Global, request: Request, files: &mut F) -> Result<Tree, Status>
+    ensures holds { (F.seen files.new).holds ≡ (F.seen files.old).holds }
+    ensures faults { (F.seen files.old).faults ≤ (F.seen files.new).faults }
+    ensures ok { IfOk result (IsTreeAt (reach (command request.entry.action)) (F.seen files.old).holds request.entry.path.now) }
+    ensures err { IfErr result (λ status. RefusesTree (reach (command request.entry.action)) status (F.seen files.old) (F.seen files.new) request.entry.path.now) }
+{
+    match request.action {
+        Action::WriteText | Action::WriteJson => file_tree(alloc, request.path, files),
+        Action::Run { .. }
+        | Action::Interpret { .. }
+        | Action::Emit { .. }
+        | Action::Passes
+        | Action::Check
+        | Action::Link => linked_tree(alloc, request.path, files),
+    }
+}
+
+// Does what a request asks of its files' tree. To check, interpret, transform, emit or run it, the tree has an accepted program.
 fn do_command<O: Sink, E: Sink>(
     alloc: Global,
     request: Request,
@@ -68,6 +88,7 @@ fn do_command<O: Sink, E: Sink>(
     outputs: &mut Outputs<'_, '_, O, E>,
 ) -> Result<(), Status>
     requires range { IsActionInRange request.action }
+    requires alone { NeedsProgram (command request.action) → tree.now.imports ≡ [] }
     ensures same_boxes { passes.new.boxes.ghost_name ≡ passes.old.boxes.ghost_name }
     ensures does { Telling O.seen E.seen (λ told s t. DoesTree (command request.entry.action) (status_of result) (pass_list (λ p. meaning p) (λ p. counts p) passes.old.boxes.now passes.new.boxes.now passes.old.names.now) tree.now request.entry.args.now told s t) outputs.old outputs.new }
     ensures keeps { KeepsPasses (λ p. meaning p) request.entry.action passes.old.boxes.now passes.new.boxes.now }
@@ -112,6 +133,7 @@ fn do_command<O: Sink, E: Sink>(
             let program = accepted_program(alloc, tree)?;
             put_counts(alloc, &program, outputs.out)
         }
+        Action::Link => put_text(alloc, tree, outputs.out),
         Action::WriteText => put_text(alloc, tree, outputs.out),
         Action::WriteJson => put_json(alloc, tree, outputs.out),
     }

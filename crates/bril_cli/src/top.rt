@@ -22,13 +22,15 @@ use std::alloc::Global;
 /// The words, which `bril_words::read_words` reads by `clap`, are the program's name, a command, and the path of a file. The commands
 /// are `run`, which makes the file's program into machine words and runs these, `interp`, which
 /// interprets it, `emit`, which writes its machine words, `passes`, which writes what a list of passes makes of it, `check`, which
-/// writes how many functions and items its accepted program has, and `text` and `json`, which write the file in canonical text, and
-/// in canonical JSON and LF. With `run` and `interp` there may be options, each with its number,
+/// writes how many functions and items its accepted program has, `link`, which writes the linked program in canonical text, and `text`
+/// and `json`, which write the one file in canonical text, and in canonical JSON and LF, with its imports. With `run` and `interp` there may be options, each with its number,
 /// `--frames` (from 1 to 65,536; 8,192 where it isn't given), `--cells` (to 4,194,304; 1,048,576) and `--steps` (to
 /// 1,000,000,000,000; 1,000,000,000), and then `--` and the arguments of `@main`; for `run` also `--passes`, with a list of passes, and
 /// `--stats`. With `emit` there may be `--frames` and `--passes`, and with `passes` there may be `--passes`. A list is the names of 64 passes at most, with a comma between each two; where it is empty or isn't given, there are
-/// none. A file whose path ends in `.json` is in the JSON form of the Bril documentation, and any other in its text form. To be
-/// checked, interpreted, transformed, emitted or run it has to be without imports.
+/// none. A file whose path ends in `.json` is in the JSON form of the Bril documentation, and any other in its text form.
+///
+/// All commands but `text` and `json` link first: the file's program is that of the file and of all that it imports, as
+/// `import_linker::link` says.
 ///
 /// `run`, `emit` and `passes` give the program to the list of passes: each name to the first of `passes` that answers to it, and each
 /// pass gets what the one before it made, with the profile without entries. What is said below of a program's words is said of the
@@ -50,20 +52,22 @@ use std::alloc::Global;
 /// | 2 | the program was run or interpreted and stopped with a fault; `out` took all that it printed | `fault K NAME` |
 /// | 3 | the program was interpreted and goes on after so many steps, or the machine after so many words; `out` took all that was printed | `spent STEPS` |
 /// | 64 | `clap` refuses the words, a request for help among them, or an option's number or list fails | the text of `clap`; `usage: OPTION` |
-/// | 65 | the file is no program in its form | `PATH: text K at AT`, `PATH: json K function F item I` |
-/// | 65 | the file is to be checked, interpreted, transformed, emitted or run and has imports | `PATH: form` |
-/// | 65 | the file is to be checked, interpreted, transformed, emitted or run, and a name in it stands twice or for nothing | `name K function F item I` |
-/// | 65 | the file is to be checked, interpreted, transformed, emitted or run, and its program isn't accepted | `check K function F item I`, for K = 3 with ` variable NAME` after it |
-/// | 66 | the file is not there, or reading it failed | `cannot read PATH` |
-/// | 68 | the file has more than 16,777,216 bytes, or the program's machine words may be more than 250,000, or its frames need more than 8,388,608 words | `too large: bytes`, `too large: code WORDS`, `too large: stack WORDS` |
+/// | 65 | the file at this path is no program in its form | `PATH: text K at AT`, `PATH: json K function F item I` |
+/// | 65 | files are linked, and the one at this path imports a function of this name that isn't there, or names one that stands for none | `link 3 PATH NAME` |
+/// | 65 | files are linked, and two functions have this name in the one at this path, imported or its own | `link 4 PATH NAME` |
+/// | 65 | the program is to be checked, interpreted, transformed, emitted or run, and a name in it stands twice or for nothing | `name K function F item I` |
+/// | 65 | the program is to be checked, interpreted, transformed, emitted or run, and isn't accepted | `check K function F item I`, for K = 3 with ` variable NAME` after it |
+/// | 66 | the file at this path is not there, or reading it failed | `cannot read PATH` |
+/// | 68 | the files have more than 16,777,216 bytes together, or are more than 256, or the program's machine words may be more than 250,000, or its frames need more than 8,388,608 words | `too large: bytes`, `too large: files`, `too large: code WORDS`, `too large: stack WORDS` |
 /// | 68 | the pass at this place of the list, from 1, may make more than 1,000,000 items, and more than it was given | `too large: pass PLACE BOUND` |
 /// | 69 | the program is to be run or interpreted, and the arguments are not as many as `@main` takes, or one spells no value of its type, the first of them at this place from 1 | `arguments: GIVEN given, WANTED wanted`, `argument PLACE` |
 /// | 70 | no pass answers to the name at this place of the list, the first such; no pass ran | `unknown pass PLACE` |
 /// | 71 | memory ran out, perhaps while the words were read, before anything was put on `out` or, for `interp`, at an item that takes memory, up to which `out` took what the program prints | `out of memory` |
 /// | 74 | a write to `out` failed, which took the first of what goes there | `cannot write`; for `passes` the lines of the passes before it |
 ///
-/// Where several causes stand together, the first in this order is answered: 64, 66, the file's size, 65 in the order of
-/// the table, 69, 70, the passes, and then the program's code and its stack.
+/// Where several causes stand together, the first in this order is answered: 64; for each file in the order in which they are named
+/// 66, its size, its form, and the number of files; file by file a name that two functions have, and then one that stands for none;
+/// the names of the program, the checker, 69, 70, the passes, and then the program's code and its stack.
 ///
 /// In text K is 1 where nothing begins at byte AT, 2 where no program goes on with the token there, 3 where a
 /// number is no int, 4 where a float stands, 5 at the 33rd `ptr` of a type. In JSON K is 1 where the bytes are no
@@ -75,7 +79,7 @@ use std::alloc::Global;
 /// speculations don't nest, 5 for a call, a return or an end while a speculation is open, 6 for a function that
 /// returns no value where it should, 7 where `main` returns a value or takes a pointer, 8 for a print of a pointer;
 /// it is the program's first fault, in the order of `bril_checker::check`. F and I are the numbers from 0 of the
-/// function and its item, and `-` where the fault stands in none. Of a run K is the number of the fault and NAME its
+/// function and its item, in the linked program or for JSON in the file, and `-` where the fault stands in none. Of a run K is the number of the fault and NAME its
 /// name, as in `bril_tree::limits::Fault`. At 64 to 70 `out` gets nothing. Each line ends with LF; a fault of `err`
 /// changes nothing else.
 pub fn bril_top<F: Files, O: Sink, E: Sink>(
@@ -123,11 +127,11 @@ fn answer<F: Files, O: Sink, E: Sink>(
         Ok(request) => request,
         Err(misuse) => {
             let status = Status::from(misuse);
-            say(&mut outputs.err, "", &status);
+            say(&mut outputs.err, &status);
             return status_number(&status);
         }
     };
     let status = Status::from(drive(alloc, request, files, passes, outputs));
-    say(&mut outputs.err, request.path, &status);
+    say(&mut outputs.err, &status);
     status_number(&status)
 }

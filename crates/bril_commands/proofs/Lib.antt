@@ -5,6 +5,7 @@ pub mod Keeping
 pub mod Outcomes
 pub mod Prints
 pub mod Promises
+pub mod Reading
 pub mod Running
 pub mod Sources
 pub mod Statuses

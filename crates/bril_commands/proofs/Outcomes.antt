@@ -1,12 +1,5 @@
--- What the steps of an action on a file come to.
-use Rattle.std.proofs.Common.{◌≡◌, ◌⊎◌, ℕ, List, [], refl, sym, subst, ⊎_elim, inr}
-use Rattle.bril_outside.specs.Files.{FilesSeen, MayFail}
-use Rattle.bril_outside.specs.declared.files.FileFault.{FileFault}
-use Rattle.bril_outside.specs.declared.files.FileFault.TheVariants as file
-use Rattle.bril_source.specs.Reading as source
-use Rattle.bril_source.specs.declared.fault.TreeFault.{TreeFault}
-use Rattle.bril_source.specs.declared.fault.TreeFault.TheVariants as tree
-use Rattle.bril_source.specs.declared.format.Format.{Format}
+-- What the steps of an action on its files come to.
+use Rattle.std.proofs.Common.{◌≡◌, ◌⊎◌, ℕ, List, refl, sym, subst, ⊎_elim, inr}
 use Rattle.bril_tree.specs.declared.tree.Tree.{Tree}
 use Rattle.bril_tree.specs.Accepted.{IsAccepted}
 use Rattle.bril_tree.specs.declared.program.Prog.{Prog}
@@ -18,10 +11,10 @@ use Rattle.bril_names.specs.Faults as names
 use Rattle.bril_names.specs.declared.fault.NameFault.{NameFault}
 use Rattle.bril_names.specs.declared.fault.NameFault.TheVariants as name
 use Rattle.bril_commands.specs.PassList.{pass_list, IsEmpty, RefusesList}
-use Rattle.bril_commands.specs.Source.{HasOnlyCheckFault}
-use Rattle.bril_commands.specs.Stages.{RefusesFile, RefusesTree, RefusesNames, RefusesCheck, RefusesProgram, IsOnlyNameFault, IsOnlyProgram, IsAcceptedProgram}
+use Rattle.bril_commands.specs.Source.{HasOnlyCheckFault, IsOnlyNameFault, IsOnlyProgram}
+use Rattle.bril_commands.specs.Stages.{RefusesNames, RefusesCheck, RefusesProgram, IsAcceptedProgram}
 use Rattle.bril_profile.specs.declared.profile.Profile.{Profile}
-use Rattle.bril_report.specs.StageFaults.{file_status, tree_status, name_status, check_status, list_status}
+use Rattle.bril_report.specs.StageFaults.{name_status, check_status, list_status}
 use Rattle.bril_report.specs.declared.status.Status.{Status}
 use Rattle.bril_report.specs.declared.status.Status.TheVariants as status
 use Rattle.pass_law.specs.Meaning.{Meaning}
@@ -29,18 +22,6 @@ use Rattle.pass_law.specs.Stops.{IsStopped}
 use Rattle.pass_law.specs.declared.fault.ListFault.{ListFault}
 use Rattle.pass_law.specs.declared.fault.ListFault.TheVariants as list
 use Rattle.pass_law.specs.declared.tally.Tally.{Tally}
-
--- ---- What reading a file answers.
-
-pub RefusesFile-of : (fault : FileFault) (f g : FilesSeen) (copied path : List ℕ) → copied ≡ path → (fault ≡ file.Failed → MayFail f g copied) → RefusesFile (file_status fault) f g path
-RefusesFile-of file.Failed f g copied path same failed = subst (λ p. MayFail f g p) same (failed refl)
-RefusesFile-of file.Memory f g copied path same failed = tt
-
--- ---- What reading a tree answers.
-
-pub RefusesTree-of : (fault : TreeFault) (format : Format) (bytes : List ℕ) → source.RefusesTree fault format bytes → RefusesTree (tree_status fault) format bytes
-RefusesTree-of (tree.Misread fault) format bytes refuses = refuses
-RefusesTree-of tree.Memory format bytes refuses = tt
 
 -- ---- What numbering answers: its fault is the only one or out of memory.
 
@@ -87,10 +68,10 @@ module _ (p : Prog) where
 -- ---- What asking a tree for its accepted program answers.
 
 -- a tree that isn't numbered has none
-pub RefusesProgram-names : (how : Status) (tree : Tree) → tree.imports ≡ [] → RefusesNames how tree → RefusesProgram how tree
-RefusesProgram-names (status.Misnamed fault) tree none refuses = (none, refuses)
-RefusesProgram-names status.OutOfMemory tree none refuses = tt
-RefusesProgram-names _ tree none refuses = absurd refuses
+pub RefusesProgram-names : (how : Status) (tree : Tree) → RefusesNames how tree → RefusesProgram how tree
+RefusesProgram-names (status.Misnamed fault) tree refuses = refuses
+RefusesProgram-names status.OutOfMemory tree refuses = tt
+RefusesProgram-names _ tree refuses = absurd refuses
 
 -- nor has one whose program isn't accepted
 pub RefusesProgram-check : (how : Status) (tree : Tree) (p : Prog) → IsOnlyProgram tree p → RefusesCheck how p → RefusesProgram how tree

@@ -10,34 +10,45 @@ use Rattle.bril_words.specs.Answers as words
 use Rattle.bril_words.specs.CommandLine.{Refusal, not_taken, bad_value, words_ask}
 use Rattle.bril_words.specs.declared.misuse.Misuse.{Misuse}
 use Rattle.bril_words.specs.declared.misuse.Misuse.TheVariants as misuse
+use Rattle.bril_tree.specs.declared.tree.Tree.{Tree}
 use Rattle.bril_words.specs.declared.request.Action.{Action}
+use Rattle.import_linker.specs.declared.fault.LinkFault.TheVariants as link
 use Rattle.bril_commands.specs.Answers.{Answers, Misused, Promises, SourceRefused, TooLarge}
 use Rattle.bril_commands.specs.Call.{Call, ReadsWell, SaysAlone, UnlessMemory}
-use Rattle.bril_commands.specs.Command.{Command, OnTree, OnProgram, takes_passes}
+use Rattle.bril_commands.specs.Command.{Command, OnFile, OnTree, OnProgram, takes_passes}
 use Rattle.bril_commands.specs.CommandLine.{Asks, AsksFor, AskNothing, IsToldOf}
-use Rattle.bril_source.specs.Format.{format_of}
 use Rattle.bril_commands.specs.Table.{KeepsPasses, command}
 use Rattle.bril_commands.specs.When.{CommandDone}
-use Rattle.bril_source.specs.declared.format.Format.{Format}
-use Rattle.bril_commands.proofs.Causes.{Ok_not_Err, request_of, asked_action, misargued_where, unchecked_where, formless_where, misnamed_where, misread_where, long_where, lacking_where}
+use Rattle.bril_commands.proofs.Causes.{Ok_not_Err, request_of, asked_action, misargued_where, unchecked_where, misnamed_where, told_where, lacking_where}
 use Rattle.bril_commands.proofs.Keeping.{kept}
 use Rattle.bril_commands.proofs.When.{done_where}
 use Rattle.bril_commands.proofs.Statuses.{Ends, Answers-of}
 
 refused_silent : (c : Call) → SourceRefused c → c.out_after ≡ c.out_before
-refused_silent c says = ⊎_elim (λ bytes. bytes.alone.silent) (λ program. ⊎_elim (λ form. form.alone.silent) (⊎_elim (λ name. name.alone.silent) (λ check. check.alone.silent)) program.1) says.because
+refused_silent c says =
+    ⊎_elim (λ bytes. bytes.refused.alone.silent)
+    (⊎_elim (λ lacks. lacks.refused.alone.silent)
+    (⊎_elim (λ repeats. repeats.refused.alone.silent)
+    (λ program. ⊎_elim (λ name. name.alone.silent) (λ check. check.alone.silent) program.1)))
+    says.because
 
 large_silent : (c : Call) → TooLarge c → c.out_after ≡ c.out_before
-large_silent c says = ⊎_elim (λ file. file.alone.silent) (⊎_elim (λ program. ⊎_elim (λ code. code.alone.silent) (λ stack. stack.alone.silent) program.because) (λ pass. pass.alone.silent)) says.because
+large_silent c says =
+    ⊎_elim (λ bytes. bytes.alone.silent)
+    (⊎_elim (λ files. files.alone.silent)
+    (⊎_elim (λ program. ⊎_elim (λ code. code.alone.silent) (λ stack. stack.alone.silent) program.because) (λ pass. pass.alone.silent)))
+    says.because
 
 -- from 64 to 70 nothing is put on the output
 silent_at : (how : Status) (c : Call) → Answers (status_number how) c → 64 ≤ status_number how → status_number how ≤ 70 → c.out_after ≡ c.out_before
-silent_at status.Unsupported c says low high = refused_silent c says
-silent_at (status.Misread fault) c says low high = refused_silent c says
+silent_at (status.Misread path fault) c says low high = refused_silent c says
+silent_at (status.NotThere path name) c says low high = refused_silent c says
+silent_at (status.Clash path name) c says low high = refused_silent c says
 silent_at (status.Misnamed fault) c says low high = refused_silent c says
 silent_at (status.Unaccepted p fault) c says low high = refused_silent c says
-silent_at status.CannotRead c says low high = says.alone.silent
-silent_at status.FileTooBig c says low high = large_silent c says
+silent_at (status.CannotRead path) c says low high = says.refused.alone.silent
+silent_at status.TooManyBytes c says low high = large_silent c says
+silent_at status.TooManyFiles c says low high = large_silent c says
 silent_at (status.CodeTooBig words) c says low high = large_silent c says
 silent_at (status.StackTooBig words) c says low high = large_silent c says
 silent_at (status.Misused misuse) c says low high = says.alone.silent
@@ -67,7 +78,7 @@ module _ (c : Call) (asks : Asks c.words) (how : Status) (ends : Ends c asks how
     done = at_status 0;
     faulted = at_status 2;
     spent = at_status 3;
-    form = at_status 65;
+    refused = at_status 65;
     read = at_status 66;
     size = at_status 68;
     argued = at_status 69;
@@ -78,12 +89,14 @@ module _ (c : Call) (asks : Asks c.words) (how : Status) (ends : Ends c asks how
     unasked = asked_something;
     does = done_where c asks how ends;
     misargued = misargued_where c asks how ends;
-    misread = misread_where c asks how ends;
-    misnamed = λ action needs bytes fault reads short has. misnamed_where c asks how ends action needs bytes reads short fault has;
-    unchecked = unchecked_where c asks how ends;
-    formless = formless_where c asks how ends;
+    misread = λ path fault action reads have. told_where c asks how ends action (link.Bad path fault) (λ e. cc) reads have;
+    misnamed = λ action needs reads tree fault linked has. misnamed_where c asks how ends action needs reads tree linked fault has;
+    unchecked = λ action needs reads tree p fault linked numbered has. unchecked_where c asks how ends action needs reads tree linked p fault numbered has;
+    not_there = λ path name action reads have. told_where c asks how ends action (link.NotThere path name) (λ e. cc) reads have;
+    clash = λ path name action reads have. told_where c asks how ends action (link.Clash path name) (λ e. cc) reads have;
     lacking = lacking_where c asks how ends;
-    long_file = long_where c asks how ends;
+    long_files = λ action reads have. told_where c asks how ends action link.TooManyBytes (λ e. cc) reads have;
+    many_files = λ action reads have. told_where c asks how ends action link.TooManyFiles (λ e. cc) reads have;
     keeps = λ action path args asked. subst (λ (a : Action). KeepsPasses c.passes.meaning a c.passes.before c.passes.after) (sym (asked_action c asks action path args asked)) ends.keeps;
   }
 
@@ -94,8 +107,8 @@ module _ (c : Call) (refusal : Refusal) (refused : words_ask c.words ≡ Err ref
   not_asked : {A : Type 0} (action : Action) (path : List ℕ) (args : List (List ℕ)) → AsksFor c.words action path args → A
   not_asked action path args asks = let e : Ok (request_of action path asks.0 args) ≡ Err refusal = sym asks.1 ∙ refused in absurd (Ok_not_Err e)
 
-  not_read : {A : Type 0} (action : Action) (bytes : List ℕ) → ReadsWell c action bytes → A
-  not_read action bytes reads = not_asked action reads.path reads.args reads.asked
+  not_read : {A : Type 0} (action : Action) → ReadsWell c action → A
+  not_read action reads = not_asked action reads.path reads.args reads.asked
 
   Promises-misused : c.files_after ≡ c.files_before → c.passes.after ≡ c.passes.before → (line : List ℕ) → IsToldOf refusal line → SaysAlone c (line ∷ []) → Promises 64 c
   Promises-misused unread kept line told alone = record {
@@ -103,7 +116,7 @@ module _ (c : Call) (refusal : Refusal) (refused : words_ask c.words ≡ Err ref
     done = λ e. absurd (omega arith);
     faulted = λ e. absurd (omega arith);
     spent = λ e. absurd (omega arith);
-    form = λ e. absurd (omega arith);
+    refused = λ e. absurd (omega arith);
     read = λ e. absurd (omega arith);
     size = λ e. absurd (omega arith);
     argued = λ e. absurd (omega arith);
@@ -112,21 +125,24 @@ module _ (c : Call) (refusal : Refusal) (refused : words_ask c.words ≡ Err ref
     silent = λ low high. alone.silent;
     misused = λ e. (refusal, refused);
     unasked = λ none. inr refl;
-    does = λ action bytes reads. not_read action bytes reads;
-    misargued = λ action gives bytes p fault reads short source accepted ample is. not_read action bytes reads;
-    misread = λ action bytes fault reads short has. not_read action bytes reads;
-    misnamed = λ action needs bytes fault reads short has. not_read action bytes reads;
-    unchecked = λ action needs bytes p fault reads short source has. not_read action bytes reads;
-    formless = λ action needs bytes reads short imports. not_read action bytes reads;
-    lacking = λ none. not_asked none.asks.action none.asks.path none.asks.args none.asks.asked;
-    long_file = λ action bytes reads long. not_read action bytes reads;
+    does = λ action reads tree have. not_read action reads;
+    misargued = λ action gives reads tree p fault linked numbered accepted ample is. not_read action reads;
+    misread = λ path fault action reads have. not_read action reads;
+    misnamed = λ action needs reads tree fault linked has. not_read action reads;
+    unchecked = λ action needs reads tree p fault linked numbered has. not_read action reads;
+    not_there = λ path name action reads have. not_read action reads;
+    clash = λ path name action reads have. not_read action reads;
+    lacking = λ asks path lack. not_asked asks.action asks.path asks.args asks.asked;
+    long_files = λ action reads have. not_read action reads;
+    many_files = λ action reads have. not_read action reads;
     keeps = λ action path args asks. not_asked action path args asks;
   }
 
 -- out of memory comes in place of all that a command does
-done_exhausted : (k : Command) (c : Call) (format : Format) (bytes : List ℕ) (args : List (List ℕ)) → CommandDone k 71 c format bytes args
-done_exhausted (OnTree outcome) c format bytes args = λ tree reads. inl refl
-done_exhausted (OnProgram does) c format bytes args = λ p values source accepted spelled. inl refl
+done_exhausted : (k : Command) (c : Call) (tree : Tree) (args : List (List ℕ)) → CommandDone k 71 c tree args
+done_exhausted (OnFile outcome) c tree args = inl refl
+done_exhausted (OnTree outcome) c tree args = inl refl
+done_exhausted (OnProgram does) c tree args = λ p values numbered accepted spelled. inl refl
 
 -- of words for whose reading memory ran out
 Promises-exhausted : (c : Call) → c.passes.after ≡ c.passes.before → c.out_after ≡ c.out_before → Puts c.err_before (codes "out of memory\n" ∷ []) c.err_after → Promises 71 c
@@ -135,7 +151,7 @@ Promises-exhausted c same silent says = record {
   done = λ e. absurd (omega arith);
   faulted = λ e. absurd (omega arith);
   spent = λ e. absurd (omega arith);
-  form = λ e. absurd (omega arith);
+  refused = λ e. absurd (omega arith);
   read = λ e. absurd (omega arith);
   size = λ e. absurd (omega arith);
   argued = λ e. absurd (omega arith);
@@ -144,21 +160,23 @@ Promises-exhausted c same silent says = record {
   silent = λ low high. absurd (omega arith);
   misused = λ e. absurd (omega arith);
   unasked = λ none. inl refl;
-  does = λ action bytes reads short. done_exhausted (command action) c (format_of reads.path) bytes reads.args;
-  misargued = λ action gives bytes p fault reads short source accepted ample is. inl refl;
-  misread = λ action bytes fault reads short has. inl refl;
-  misnamed = λ action needs bytes fault reads short has. inl refl;
-  unchecked = λ action needs bytes p fault reads short source has. inl refl;
-  formless = λ action needs bytes reads short imports. inl refl;
-  lacking = λ none. inl refl;
-  long_file = λ action bytes reads long. inl refl;
+  does = λ action reads tree have. done_exhausted (command action) c tree reads.args;
+  misargued = λ action gives reads tree p fault linked numbered accepted ample is. inl refl;
+  misread = λ path fault action reads have. inl refl;
+  misnamed = λ action needs reads tree fault linked has. inl refl;
+  unchecked = λ action needs reads tree p fault linked numbered has. inl refl;
+  not_there = λ path name action reads have. inl refl;
+  clash = λ path name action reads have. inl refl;
+  lacking = λ asks path lack. inl refl;
+  long_files = λ action reads have. inl refl;
+  many_files = λ action reads have. inl refl;
   keeps = λ action path args asks.
       subst (λ (after : List c.passes.Box). KeepsPasses c.passes.meaning action c.passes.before after) (sym same) (kept c.passes.meaning (takes_passes (command action)) c.passes.before);
 }
 
 -- of words that were not read
 pub Promises-unread : (c : Call) (misuse : Misuse) → words.Answers (words_ask c.words) (Err misuse) → c.files_after ≡ c.files_before → c.passes.after ≡ c.passes.before → c.out_after ≡ c.out_before
-    → (path : List ℕ) → Puts c.err_before (status_pieces (misuse_status misuse) path) c.err_after → Promises (status_number (misuse_status misuse)) c
-Promises-unread c (misuse.Words text) answers unread same silent path says = Promises-misused c not_taken answers unread same (misuse_line (misuse.Words text)) tt (record { silent = silent; says = says })
-Promises-unread c (misuse.Value setting) answers unread same silent path says = Promises-misused c (bad_value setting) answers unread same (misuse_line (misuse.Value setting)) refl (record { silent = silent; says = says })
-Promises-unread c misuse.Memory answers unread same silent path says = Promises-exhausted c same silent says
+    → Puts c.err_before (status_pieces (misuse_status misuse)) c.err_after → Promises (status_number (misuse_status misuse)) c
+Promises-unread c (misuse.Words text) answers unread same silent says = Promises-misused c not_taken answers unread same (misuse_line (misuse.Words text)) tt (record { silent = silent; says = says })
+Promises-unread c (misuse.Value setting) answers unread same silent says = Promises-misused c (bad_value setting) answers unread same (misuse_line (misuse.Value setting)) refl (record { silent = silent; says = says })
+Promises-unread c misuse.Memory answers unread same silent says = Promises-exhausted c same silent says

@@ -3,59 +3,35 @@ use Rattle.std.proofs.Common.{◌≡◌, ◌⊎◌, ℕ, Bool, true, false, appe
 use Rattle.std.proofs.Math.Seq.{take-length}
 use Rattle.bril_arguments.specs.declared.fault.ArgFault.TheVariants as argument
 use Rattle.bril_arguments.specs.declared.fault.ArgFault.{ArgFault}
-use Rattle.bril_names.specs.Faults as names
-use Rattle.bril_names.specs.declared.fault.NameFault.{NameFault}
 use Rattle.bril_outside.specs.Sink.{SinkSeen}
 use Rattle.bril_report.specs.Puts.{Puts}
-use Rattle.bril_report.specs.Report.{status_number, status_pieces, code_pieces, stack_pieces}
+use Rattle.bril_report.specs.Report.{status_number, status_pieces, code_pieces, stack_pieces, misread_pieces, not_there_pieces, clash_pieces, unread_pieces, many_bytes_pieces, many_files_pieces}
+use Rattle.bril_report.specs.StageFaults.{link_status}
 use Rattle.bril_report.specs.declared.status.Status.TheVariants as status
 use Rattle.bril_report.specs.declared.status.Status.{Status}
-use Rattle.bril_tree.specs.Numbered.{Numbered}
 use Rattle.bril_tree.specs.Run.{main_types}
 use Rattle.bril_tree.specs.declared.limits.End.TheVariants.{Ended, Faulted}
 use Rattle.bril_tree.specs.declared.limits.Limits.{Limits}
 use Rattle.bril_tree.specs.declared.program.Prog.{Prog}
 use Rattle.bril_tree.specs.declared.tree.Tree.{Tree}
 use Rattle.bril_tree.specs.declared.value.Value.{Value}
-use Rattle.bril_commands.specs.Answers.{Answers, HasLongCode, HasLongStack, ListBegan}
+use Rattle.bril_commands.specs.Answers.{Answers, FilesRefused, HasLongCode, HasLongStack, ListBegan}
 use Rattle.bril_commands.specs.Arguments.{argument_pieces, HasOnlyArgFault, RefusesArgs}
 use Rattle.bril_commands.specs.Call.{Call, CommandComesTo, ComesTo}
-use Rattle.bril_commands.specs.Command.{Command, OnTree, OnProgram, OfProgram, Arguments, NoArguments, OfMain, TakesArguments, AreGiven, RefusesGiven, Makes, RefusesMaking, AreLimitsOf, Fits, RefusesEmission, NeedsProgram, GivesArguments, MakesImage, takes_passes}
+use Rattle.bril_commands.specs.Command.{Command, OnFile, OnTree, OnProgram, OfProgram, Arguments, NoArguments, OfMain, TakesArguments, AreGiven, RefusesGiven, Makes, RefusesMaking, AreLimitsOf, Fits, RefusesEmission, NeedsProgram, GivesArguments, MakesImage, reach, takes_passes}
 use Rattle.bril_commands.specs.CommandLine.{Asks}
-use Rattle.bril_source.specs.Format.{format_of}
-use Rattle.bril_commands.specs.Driver.{IsSilent, subject, DoesProgram, DoesTree, DoesFile}
+use Rattle.bril_commands.specs.Driver.{IsSilent, subject, DoesProgram, DoesTree, DoesFiles}
 use Rattle.bril_commands.specs.Images.{RefusesImage}
 use Rattle.bril_commands.specs.Outcome.{Outcome, Works}
 use Rattle.bril_commands.specs.PassList.{PassList, AreUnused, IsMade, IsCutOff, RefusesList}
-use Rattle.bril_commands.specs.Source.{IsFile, HasNameFault, HasOnlyNameFault, IsSource, IsOnlySource, IsProgramFile}
-use Rattle.bril_source.specs.Reading.{IsOnlyTree}
-use Rattle.bril_commands.specs.Stages.{IsOnlyNameFault, IsOnlyProgram, IsAcceptedProgram, RefusesFile, RefusesTree, RefusesProgram}
+use Rattle.bril_commands.specs.Source.{IsProgramOf, IsTreeAt, RefusesFiles}
+use Rattle.bril_commands.specs.Stages.{IsAcceptedProgram, RefusesTree, RefusesProgram}
 use Rattle.bril_commands.specs.Table.{command, Keeps, KeepsPasses}
 use Rattle.bril_words.specs.declared.request.Action.{Action}
 use Rattle.pass_law.specs.Chains.{Ran}
-use Rattle.bril_source.specs.declared.format.Format.{Format}
-
--- ---- the program and the name fault of bytes are those of their tree
-
-module _ (format : Format) (bytes : List ℕ) (tree : Tree) (only : IsOnlyTree format bytes tree) where
-  pub Numbered-source : (p : Prog) → IsSource format bytes p → Numbered tree p
-  Numbered-source p source = let P : Tree → Type 0 = λ t. Numbered t p in subst P (sym (only.alone source.tree source.reads)) source.numbered
-
-  pub IsOnlySource-of : (p : Prog) → IsOnlyProgram tree p → IsOnlySource format bytes p
-  IsOnlySource-of p program = record {
-    source = record { tree = tree; reads = only.reads; numbered = program.numbered };
-    only = λ q source. sym (program.alone q (Numbered-source q source));
-  }
-
-  pub has_in : (other : NameFault) → HasNameFault format bytes other → names.HasFault tree other
-  has_in other h = let P : Tree → Type 0 = λ t. names.HasFault t other in subst P (sym (only.alone h.tree h.reads)) h.has
-
-  pub HasOnlyNameFault-of : (fault : NameFault) → tree.imports ≡ [] → IsOnlyNameFault tree fault → HasOnlyNameFault format bytes fault
-  HasOnlyNameFault-of fault alone has = record {
-    has = record { tree = tree; reads = only.reads; alone = alone; has = has.has };
-    only = λ other h. has.alone other (has_in other h);
-    unnumbered = λ p source. has.unnumbered p (Numbered-source p source);
-  }
+use Rattle.import_linker.specs.Linked.{Linked}
+use Rattle.import_linker.specs.declared.fault.LinkFault.{LinkFault}
+use Rattle.import_linker.specs.declared.fault.LinkFault.TheVariants as fault
 
 -- where nothing was told, the line stands alone
 pub plain : {s t : SinkSeen} (told line : List (List ℕ)) → told ≡ [] → Puts s (told ++ line) t → Puts s line t
@@ -77,8 +53,8 @@ IsMade-cut l p q made = record {
 -- The words of a call ask for a command, the status is what it answered, and it was said after what is told.
 pub record Ends (c : Call) (asks : Asks c.words) (how : Status) : Type 0 where
   pub told : List (List ℕ)
-  pub does : DoesFile (command asks.action) how c.passes c.files_before c.files_after asks.path asks.args told c.out_before c.out_after
-  pub says : Puts c.err_before (told ++ status_pieces how asks.path) c.err_after
+  pub does : DoesFiles (command asks.action) how c.passes c.files_before c.files_after asks.path asks.args told c.out_before c.out_after
+  pub says : Puts c.err_before (told ++ status_pieces how) c.err_after
   pub keeps : KeepsPasses c.passes.meaning asks.action c.passes.before c.passes.after
 
 -- a command that takes no list leaves the passes as they were
@@ -88,26 +64,41 @@ unused_by c action none keeps = ap (map c.passes.counts) (subst (λ by_list. Kee
 module _ (c : Call) (asks : Asks c.words) (keeps : KeepsPasses c.passes.meaning asks.action c.passes.before c.passes.after) where
   -- the line of a status is put
   abbrev Said : Status → Type 0
-  Said how = Puts c.err_before (status_pieces how asks.path) c.err_after
+  Said how = Puts c.err_before (status_pieces how) c.err_after
 
   -- memory ran out, and nothing was put
   Answers-exhausted : AreUnused c.passes ⊎ ListBegan c asks → Said status.OutOfMemory → c.out_after ≡ c.out_before → Answers 71 c
   Answers-exhausted tallies says silent = record { tallies = ⊎_elim inl (λ began. inr (asks, began)) tallies; leaves = inl silent; says = says }
 
-  -- the file was not read
-  Answers-file : (how : Status) → Said how → RefusesFile how c.files_before c.files_after asks.path → c.out_after ≡ c.out_before → AreUnused c.passes → Answers (status_number how) c
-  Answers-file status.CannotRead says refuses silent unused = record { asks = asks; unused = unused; fails = refuses; alone = record { silent = silent; says = says } }
-  Answers-file status.FileTooBig says refuses silent unused = record {
-    asks = asks;
-    because = inl (record { bytes = refuses.bytes; held = refuses.held; long = refuses.long; unused = unused; alone = record { silent = silent; says = says } });
-  }
-  Answers-file status.OutOfMemory says refuses silent unused = Answers-exhausted (inl unused) says silent
-  Answers-file _ says refuses silent unused = absurd refuses
+  -- the files have no tree
+  files_refused : (why : LinkFault) (line : List (List ℕ)) → RefusesFiles (reach (command asks.action)) why c.files_before c.files_after asks.path → Puts c.err_before line c.err_after → c.out_after ≡ c.out_before → AreUnused c.passes
+      → FilesRefused c asks why line
+  files_refused why line refuses says silent unused = record { unused = unused; refuses = refuses; alone = record { silent = silent; says = says } }
+
+  Answers-files : (why : LinkFault) → Said (link_status why) → RefusesFiles (reach (command asks.action)) why c.files_before c.files_after asks.path → c.out_after ≡ c.out_before → AreUnused c.passes → Answers (status_number (link_status why)) c
+  Answers-files (fault.Read path) says refuses silent unused =
+      record { asks = asks; path = path; refused = files_refused (fault.Read path) (unread_pieces path) refuses says silent unused }
+  Answers-files (fault.Bad path why) says refuses silent unused =
+      record { asks = asks; because = inl (record { path = path; fault = why; refused = files_refused (fault.Bad path why) (misread_pieces path why) refuses says silent unused }) }
+  Answers-files (fault.NotThere path name) says refuses silent unused =
+      record { asks = asks; because = inr (inl (record { path = path; name = name; refused = files_refused (fault.NotThere path name) (not_there_pieces path name) refuses says silent unused })) }
+  Answers-files (fault.Clash path name) says refuses silent unused =
+      record { asks = asks; because = inr (inr (inl (record { path = path; name = name; refused = files_refused (fault.Clash path name) (clash_pieces path name) refuses says silent unused }))) }
+  Answers-files fault.TooManyFiles says refuses silent unused =
+      record { asks = asks; because = inr (inl (files_refused fault.TooManyFiles many_files_pieces refuses says silent unused)) }
+  Answers-files fault.TooManyBytes says refuses silent unused =
+      record { asks = asks; because = inl (files_refused fault.TooManyBytes many_bytes_pieces refuses says silent unused) }
+  Answers-files fault.Memory says refuses silent unused = Answers-exhausted (inl unused) says silent
+
+  Answers-unread : (how : Status) → Said how → RefusesTree (reach (command asks.action)) how c.files_before c.files_after asks.path → c.out_after ≡ c.out_before → AreUnused c.passes → Answers (status_number how) c
+  Answers-unread how says refuses silent unused =
+      subst (λ (h : Status). Answers (status_number h) c) (sym refuses.1)
+      (Answers-files refuses.0 (subst (λ (h : Status). Said h) refuses.1 says) refuses.2 silent unused)
 
   -- ---- the work was carried out
 
   module _ (o : Outcome) (comes : (Is : Outcome → Type 0) → Is o → ComesTo c asks Is) (tallies : AreUnused c.passes ⊎ ListBegan c asks) where
-    Answers-works : (how : Status) (told : List (List ℕ)) → Puts c.err_before (told ++ status_pieces how asks.path) c.err_after → Works o how told c.out_before c.out_after → Answers (status_number how) c
+    Answers-works : (how : Status) (told : List (List ℕ)) → Puts c.err_before (told ++ status_pieces how) c.err_after → Works o how told c.out_before c.out_after → Answers (status_number how) c
     Answers-works status.Done told says works = record {
       asks = asks;
       told = told;
@@ -137,7 +128,7 @@ module _ (c : Call) (asks : Asks c.words) (keeps : KeepsPasses c.passes.meaning 
     Answers-works status.OutOfMemory told says works = record {
       tallies = ⊎_elim inl (λ began. inr (asks, began)) tallies;
       leaves = ⊎_elim inl (λ short. inr (asks, short.0, comes (λ o. o.Exhausts short.0) short.1, short.2)) works.1;
-      says = plain told (status_pieces status.OutOfMemory asks.path) works.0 says;
+      says = plain told (status_pieces status.OutOfMemory) works.0 says;
     }
     Answers-works status.CannotWrite told says works = record {
       asks = asks;
@@ -151,73 +142,43 @@ module _ (c : Call) (asks : Asks c.words) (keeps : KeepsPasses c.passes.meaning 
     }
     Answers-works _ told says works = absurd works
 
-  -- ---- the file has these bytes
+  -- ---- the files have this tree
 
-  module _ (bytes : List ℕ) (file : IsFile c.files_before asks.path bytes) where
-    -- they were not read as a tree
-    Answers-bytes : (how : Status) → Said how → RefusesTree how (format_of asks.path) bytes → c.out_after ≡ c.out_before → AreUnused c.passes → Answers (status_number how) c
-    Answers-bytes (status.Misread fault) says refuses silent unused = record {
-      asks = asks;
-      unused = unused;
-      because = inl (record { bytes = bytes; file = file; fault = fault; only = refuses; alone = record { silent = silent; says = says } });
-    }
-    Answers-bytes status.OutOfMemory says refuses silent unused = Answers-exhausted (inl unused) says silent
-    Answers-bytes _ says refuses silent unused = absurd refuses
+  module _ (tree : Tree) where
+    -- ---- the tree's program was asked for
 
-    module _ (tree : Tree) (only : IsOnlyTree (format_of asks.path) bytes tree) where
-      -- ---- the tree's program was asked for
-
+    module _ (linked : Linked c.files_before.holds asks.path tree) where
       -- it has none that is accepted
       Answers-refused : NeedsProgram (command asks.action) → (how : Status) → Said how → RefusesProgram how tree → c.out_after ≡ c.out_before → AreUnused c.passes → Answers (status_number how) c
-      Answers-refused needs status.Unsupported says refuses silent unused = record {
-        asks = asks;
-        unused = unused;
-        because = inr (
-          needs,
-          inl (record {
-            bytes = bytes;
-            file = file;
-            imports = record { tree = tree; reads = only.reads; imports = refuses };
-            alone = record { silent = silent; says = says };
-          }),
-        );
-      }
       Answers-refused needs (status.Misnamed fault) says refuses silent unused = record {
         asks = asks;
-        unused = unused;
-        because = inr (
+        because = inr (inr (inr (
           needs,
-          inr (inl (record {
-            bytes = bytes;
-            file = file;
-            fault = fault;
-            only = HasOnlyNameFault-of (format_of asks.path) bytes tree only fault refuses.0 refuses.1;
-            alone = record { silent = silent; says = says };
-          })),
-        );
+          inl (record { tree = tree; linked = linked; fault = fault; only = refuses; unused = unused; alone = record { silent = silent; says = says } }),
+        )));
       }
       Answers-refused needs (status.Unaccepted p fault) says refuses silent unused = record {
         asks = asks;
-        unused = unused;
-        because = inr (
+        because = inr (inr (inr (
           needs,
-          inr (inr (record {
-            bytes = bytes;
-            file = file;
+          inr (record {
+            tree = tree;
+            linked = linked;
             program = p;
-            source = IsOnlySource-of (format_of asks.path) bytes tree only p refuses.0;
+            source = refuses.0;
             fault = fault;
             only = refuses.1;
+            unused = unused;
             alone = record { silent = silent; says = says };
-          })),
-        );
+          }),
+        )));
       }
       Answers-refused needs status.OutOfMemory says refuses silent unused = Answers-exhausted (inl unused) says silent
       Answers-refused needs _ says refuses silent unused = absurd refuses
 
       module _ (p : Prog) (program : IsAcceptedProgram tree p) where
-        program_file : IsProgramFile c.files_before asks.path p
-        program_file = record { bytes = bytes; file = file; source = IsOnlySource-of (format_of asks.path) bytes tree only p program.only; accepted = program.sound.accepted }
+        program_file : IsProgramOf c.files_before.holds asks.path p
+        program_file = record { tree = tree; linked = linked; only = program.only; accepted = program.sound.accepted }
 
         -- the arguments don't fit it
         misargued : GivesArguments (command asks.action) → (fault : ArgFault) → HasOnlyArgFault (main_types p) asks.args fault → Puts c.err_before (argument_pieces fault) c.err_after → c.out_after ≡ c.out_before → AreUnused c.passes → Answers 69 c
@@ -260,7 +221,7 @@ module _ (c : Call) (asks : Asks c.words) (keeps : KeepsPasses c.passes.meaning 
         }
         Answers-list takes (status.PassTooLarge place bound) says refuses silent = record {
           asks = asks;
-          because = inr (inr (record {
+          because = inr (inr (inr (record {
             takes = takes;
             program = p;
             file = program_file;
@@ -268,7 +229,7 @@ module _ (c : Call) (asks : Asks c.words) (keeps : KeepsPasses c.passes.meaning 
             bound = bound;
             refused = refuses;
             alone = record { silent = silent; says = says };
-          }));
+          })));
         }
         Answers-list takes status.OutOfMemory says refuses silent = Answers-exhausted (inr (began takes refuses)) says silent
         Answers-list takes _ says refuses silent = absurd refuses
@@ -287,7 +248,7 @@ module _ (c : Call) (asks : Asks c.words) (keeps : KeepsPasses c.passes.meaning 
           long_program : HasLongCode c q ⊎ HasLongStack c q limits → Answers 68 c
           long_program because = record {
             asks = asks;
-            because = inr (inl (record { limits = limits; makes = makes; program = p; file = program_file; made = q; by = by; because = because }));
+            because = inr (inr (inl (record { limits = limits; makes = makes; program = p; file = program_file; made = q; by = by; because = because })));
           }
 
           Answers-image : (how : Status) → Said how → RefusesImage how q limits → c.out_after ≡ c.out_before → Answers (status_number how) c
@@ -330,36 +291,39 @@ module _ (c : Call) (asks : Asks c.words) (keeps : KeepsPasses c.passes.meaning 
         })
 
         Answers-made : (p : Prog) (program : IsAcceptedProgram tree p) (values : List Value) → AreGiven does.arguments p asks.args values → (q : Prog) (makes : Makes does.takes_passes c.passes p q)
-            → (how : Status) (told : List (List ℕ)) → Puts c.err_before (told ++ status_pieces how asks.path) c.err_after
+            → (how : Status) (told : List (List ℕ)) → Puts c.err_before (told ++ status_pieces how) c.err_after
             → (RefusesEmission does.emission how q × IsSilent told c.out_before c.out_after) ⊎ (Fits does.emission q × Works (does.outcome (subject does c.passes p q makes values)) how told c.out_before c.out_after)
             → Answers (status_number how) c
         Answers-made p program values given q makes how told says =
-            ⊎_elim (λ long. Answers-image p program q (made_by p q makes) long.0.0 (makes_image long.0.0 long.0.1) how (plain told (status_pieces how asks.path) long.1.0 says) long.0.2 long.1.1)
+            ⊎_elim (λ long. Answers-image p program q (made_by p q makes) long.0.0 (makes_image long.0.0 long.0.1) how (plain told (status_pieces how) long.1.0 says) long.0.2 long.1.1)
             (λ goes. Answers-works (does.outcome (subject does c.passes p q makes values)) (comes_to p program values given q makes goes.0) (tallies_of p program (takes_passes (command asks.action)) refl q (made_by p q makes)) how told says goes.1)
 
-        Answers-program : (p : Prog) (program : IsAcceptedProgram tree p) (how : Status) (told : List (List ℕ)) → Puts c.err_before (told ++ status_pieces how asks.path) c.err_after → DoesProgram does how c.passes p asks.args told c.out_before c.out_after → Answers (status_number how) c
+        Answers-program : (p : Prog) (program : IsAcceptedProgram tree p) (how : Status) (told : List (List ℕ)) → Puts c.err_before (told ++ status_pieces how) c.err_after → DoesProgram does how c.passes p asks.args told c.out_before c.out_after → Answers (status_number how) c
         Answers-program p program how told says =
-            ⊎_elim (λ refused. Answers-given p program does.arguments (λ takes. subst GivesArguments (sym is) takes) how (plain told (status_pieces how asks.path) refused.1.0.0 says) refused.0 refused.1.0.1 refused.1.1)
-            (λ values. ⊎_elim (λ refused. Answers-making p program does.takes_passes (λ takes. ap takes_passes is ∙ takes) how (plain told (status_pieces how asks.path) refused.1.0 says) refused.0 refused.1.1)
+            ⊎_elim (λ refused. Answers-given p program does.arguments (λ takes. subst GivesArguments (sym is) takes) how (plain told (status_pieces how) refused.1.0.0 says) refused.0 refused.1.0.1 refused.1.1)
+            (λ values. ⊎_elim (λ refused. Answers-making p program does.takes_passes (λ takes. ap takes_passes is ∙ takes) how (plain told (status_pieces how) refused.1.0 says) refused.0 refused.1.1)
             (λ made. Answers-made p program values.0 values.1 made.0 made.1 how told says made.2)
             values.2)
 
-      Answers-tree : (k : Command) → command asks.action ≡ k → (how : Status) (told : List (List ℕ)) → Puts c.err_before (told ++ status_pieces how asks.path) c.err_after → DoesTree k how c.passes tree asks.args told c.out_before c.out_after → Answers (status_number how) c
-      Answers-tree (OnTree outcome) is how told says =
-          Answers-works (outcome tree)
-          (λ Is holds. subst (λ k. CommandComesTo k c asks.path asks.args Is) (sym is) (record { bytes = bytes; file = file; tree = tree; only = only; is = holds }))
-          (inl (unused_by c asks.action (ap takes_passes is) keeps))
-          how told says
-      Answers-tree (OnProgram does) is how told says =
-          ⊎_elim (λ refused. Answers-refused (subst NeedsProgram (sym is) tt) how (plain told (status_pieces how asks.path) refused.1.0.0 says) refused.0 refused.1.0.1 refused.1.1)
-          (λ goes. Answers-program does is goes.0 goes.1 how told says goes.2)
+    -- ---- the command's work
+
+    works_on : (outcome : Tree → Outcome) → ((Is : Outcome → Type 0) → Is (outcome tree) → ComesTo c asks Is) → takes_passes (command asks.action) ≡ false
+        → (how : Status) (told : List (List ℕ)) → Puts c.err_before (told ++ status_pieces how) c.err_after → Works (outcome tree) how told c.out_before c.out_after → Answers (status_number how) c
+    works_on outcome comes none how told says works = Answers-works (outcome tree) comes (inl (unused_by c asks.action none keeps)) how told says works
+
+    Answers-tree : (k : Command) → command asks.action ≡ k → IsTreeAt (reach k) c.files_before.holds asks.path tree → (how : Status) (told : List (List ℕ)) → Puts c.err_before (told ++ status_pieces how) c.err_after
+        → DoesTree k how c.passes tree asks.args told c.out_before c.out_after → Answers (status_number how) c
+    Answers-tree (OnFile outcome) is at how told says =
+        works_on outcome (λ Is holds. subst (λ k. CommandComesTo k c asks.path asks.args Is) (sym is) (record { tree = tree; file = at; is = holds })) (ap takes_passes is) how told says
+    Answers-tree (OnTree outcome) is at how told says =
+        works_on outcome (λ Is holds. subst (λ k. CommandComesTo k c asks.path asks.args Is) (sym is) (record { tree = tree; file = at; is = holds })) (ap takes_passes is) how told says
+    Answers-tree (OnProgram does) is at how told says =
+        ⊎_elim (λ refused. Answers-refused at (subst NeedsProgram (sym is) tt) how (plain told (status_pieces how) refused.1.0.0 says) refused.0 refused.1.0.1 refused.1.1)
+        (λ goes. Answers-program at does is goes.0 goes.1 how told says goes.2)
 
 -- what each status says
 pub Answers-of : (c : Call) (asks : Asks c.words) (how : Status) → Ends c asks how → Answers (status_number how) c
 Answers-of c asks how ends =
-    let alone = plain ends.told (status_pieces how asks.path) in
-    ⊎_elim (λ refused. Answers-file c asks ends.keeps how (alone refused.1.0.0 ends.says) refused.0 refused.1.0.1 refused.1.1)
-    (λ read. ⊎_elim (λ refused. Answers-bytes c asks ends.keeps read.0 read.1 how (alone refused.1.0.0 ends.says) refused.0 refused.1.0.1 refused.1.1)
-    (λ tree. Answers-tree c asks ends.keeps read.0 read.1 tree.0 tree.1 (command asks.action) refl how ends.told ends.says tree.2)
-    read.2)
+    ⊎_elim (λ refused. Answers-unread c asks ends.keeps how (plain ends.told (status_pieces how) refused.1.0.0 ends.says) refused.0 refused.1.0.1 refused.1.1)
+    (λ tree. Answers-tree c asks ends.keeps tree.0 (command asks.action) refl tree.1 how ends.told ends.says tree.2)
     ends.does

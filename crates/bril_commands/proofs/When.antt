@@ -1,5 +1,5 @@
 -- When a command is done.
-use Rattle.std.proofs.Common.{◌≡◌, ℕ, ◌≤◌, ◌⊎◌, Bool, true, false, append-nil, ◌++◌, List, length, Some, None, refl, sym, ◌∙◌, subst, arith, inl, inr, ⊎_elim}
+use Rattle.std.proofs.Common.{◌≡◌, ℕ, ◌⊎◌, Bool, true, false, append-nil, ◌++◌, List, Some, None, refl, sym, ◌∙◌, subst, arith, inl, inr, ⊎_elim}
 use Rattle.bril_report.proofs.Puts.{WritesSome-rose}
 use Rattle.bril_report.specs.Puts.{Puts}
 use Rattle.bril_report.specs.Report.{status_number, status_pieces, spent_pieces}
@@ -13,24 +13,23 @@ use Rattle.bril_tree.specs.declared.value.Value.{Value}
 use Rattle.bril_words.specs.declared.request.Action.{Action}
 use Rattle.rv64_implements.proofs.Sizes.{within_not_beyond}
 use Rattle.rv64_implements.specs.WordBounds.{IsWithin}
-use Rattle.bril_commands.proofs.Causes.{DoesAccepted, args_fail, by_cases, exhausted, same_args, same_path, with_program}
+use Rattle.bril_commands.proofs.Causes.{DoesAccepted, args_fail, by_tree, exhausted, same_args, with_program}
 use Rattle.bril_commands.proofs.Statuses.{Ends, plain}
 use Rattle.bril_commands.specs.Call.{Call, ReadsWell, UnlessMemory}
-use Rattle.bril_commands.specs.Command.{Command, OnTree, OnProgram, OfProgram, Arguments, NoArguments, OfMain, Emission, NoImage, ImageFor, AreGiven, RefusesGiven, Makes, RefusesMaking, Fits, RefusesEmission, NeedsProgram}
+use Rattle.bril_commands.specs.Command.{Command, OnFile, OnTree, OnProgram, OfProgram, Arguments, NoArguments, OfMain, Emission, NoImage, ImageFor, AreGiven, RefusesGiven, Makes, RefusesMaking, Fits, RefusesEmission, NeedsProgram, reach}
 use Rattle.bril_commands.specs.CommandLine.{Asks}
-use Rattle.bril_source.specs.Format.{format_of}
 use Rattle.bril_commands.specs.Driver.{IsSilent, subject, DoesProgram, DoesTree}
 use Rattle.bril_commands.specs.Images.{RefusesImage}
 use Rattle.bril_commands.specs.Outcome.{Outcome, Works}
 use Rattle.bril_commands.specs.PassList.{RefusesList}
-use Rattle.bril_source.specs.Reading.{most_bytes, ReadsAs}
+use Rattle.bril_commands.specs.Source.{HaveTree}
 use Rattle.bril_commands.specs.Table.{command}
 use Rattle.bril_commands.specs.When.{Spell, StopsMaking, AfterPasses, AfterEmission, IsDoneUnless, CommandDone}
 
 -- the work is done, or memory ran out
-works_done : (c : Call) (path : List ℕ) (o : Outcome) (how : Status) (told : List (List ℕ)) → Puts c.err_before (told ++ status_pieces how path) c.err_after → Works o how told c.out_before c.out_after
+works_done : (c : Call) (o : Outcome) (how : Status) (told : List (List ℕ)) → Puts c.err_before (told ++ status_pieces how) c.err_after → Works o how told c.out_before c.out_after
     → UnlessMemory (status_number how) (IsDoneUnless (status_number how) c o)
-works_done c path o status.Done told says works = inr (λ sound. record {
+works_done c o status.Done told says works = inr (λ sound. record {
   ended = Some Ended;
   told = told;
   output = works.output;
@@ -38,7 +37,7 @@ works_done c path o status.Done told says works = inr (λ sound. record {
   says = (refl, subst (λ (ps : List (List ℕ)). Puts c.err_before ps c.err_after) (append-nil told) says);
   took = works.took;
 })
-works_done c path o (status.Faulted fault) told says works = inr (λ sound. record {
+works_done c o (status.Faulted fault) told says works = inr (λ sound. record {
   ended = Some (Faulted fault);
   told = told;
   output = works.output;
@@ -46,7 +45,7 @@ works_done c path o (status.Faulted fault) told says works = inr (λ sound. reco
   says = (refl, says);
   took = works.took;
 })
-works_done c path o (status.Spent made) told says works = inr (λ sound. record {
+works_done c o (status.Spent made) told says works = inr (λ sound. record {
   ended = None;
   told = told;
   output = works.1.output;
@@ -54,9 +53,9 @@ works_done c path o (status.Spent made) told says works = inr (λ sound. record 
   says = (refl, subst (λ n. Puts c.err_before (told ++ spent_pieces n) c.err_after) works.0 says);
   took = works.1.took;
 })
-works_done c path o status.OutOfMemory told says works = inl refl
-works_done c path o status.CannotWrite told says works = inr (λ sound. absurd (sound (WritesSome-rose works.1.took)))
-works_done c path o _ told says works = absurd works
+works_done c o status.OutOfMemory told says works = inl refl
+works_done c o status.CannotWrite told says works = inr (λ sound. absurd (sound (WritesSome-rose works.1.took)))
+works_done c o _ told says works = absurd works
 
 -- ---- the stages before it
 
@@ -70,17 +69,17 @@ same_values NoArguments p args given values are spelled = are ∙ sym spelled
 same_values OfMain p args given values are spelled = are.only values spelled
 
 -- the list makes no program, or memory ran out
-list_stops : (c : Call) (path : List ℕ) (p : Prog) (how : Status) → Puts c.err_before (status_pieces how path) c.err_after → RefusesList how c.passes p → c.out_after ≡ c.out_before → UnlessMemory (status_number how) (StopsMaking true (status_number how) c p)
-list_stops c path p (status.UnknownPass place) says refuses silent =
+list_stops : (c : Call) (p : Prog) (how : Status) → Puts c.err_before (status_pieces how) c.err_after → RefusesList how c.passes p → c.out_after ≡ c.out_before → UnlessMemory (status_number how) (StopsMaking true (status_number how) c p)
+list_stops c p (status.UnknownPass place) says refuses silent =
     inr (inl (record { place = place; unknown = refuses.0; is = refl; alone = record { silent = silent; says = says } }))
-list_stops c path p (status.PassTooLarge place bound) says refuses silent =
+list_stops c p (status.PassTooLarge place bound) says refuses silent =
     inr (inr (record { place = place; bound = bound; refused = refuses; is = refl; alone = record { silent = silent; says = says } }))
-list_stops c path p status.OutOfMemory says refuses silent = inl refl
-list_stops c path p _ says refuses silent = absurd refuses
+list_stops c p status.OutOfMemory says refuses silent = inl refl
+list_stops c p _ says refuses silent = absurd refuses
 
-stops : (by_list : Bool) (c : Call) (path : List ℕ) (p : Prog) (how : Status) → Puts c.err_before (status_pieces how path) c.err_after → RefusesMaking by_list how c.passes p → c.out_after ≡ c.out_before → UnlessMemory (status_number how) (StopsMaking by_list (status_number how) c p)
-stops false c path p how says refuses silent = absurd refuses
-stops true c path p how says refuses silent = list_stops c path p how says refuses silent
+stops : (by_list : Bool) (c : Call) (p : Prog) (how : Status) → Puts c.err_before (status_pieces how) c.err_after → RefusesMaking by_list how c.passes p → c.out_after ≡ c.out_before → UnlessMemory (status_number how) (StopsMaking by_list (status_number how) c p)
+stops false c p how says refuses silent = absurd refuses
+stops true c p how says refuses silent = list_stops c p how says refuses silent
 
 -- what it makes is too large, or memory ran out
 beyond : (how : Status) (q : Prog) (limits : Limits) → RefusesImage how q limits → UnlessMemory (status_number how) (¬ IsWithin q limits × (status_number how ≡ 68))
@@ -106,36 +105,35 @@ module _ (c : Call) (asks : Asks c.words) (how : Status) (ends : Ends c asks how
       → UnlessMemory (status_number how) (AfterEmission does.emission (status_number how) q (IsDoneUnless (status_number how) c (does.outcome (subject does c.passes p q makes values))))
   made_done does p q makes values =
       ⊎_elim (λ long. too_large does.emission how q _ long.0)
-      (λ goes. within_bounds does.emission (status_number how) q _ goes.0 (works_done c asks.path (does.outcome (subject does c.passes p q makes values)) how ends.told ends.says goes.1))
+      (λ goes. within_bounds does.emission (status_number how) q _ goes.0 (works_done c (does.outcome (subject does c.passes p q makes values)) how ends.told ends.says goes.1))
 
   program_done : (does : OfProgram) (p : Prog) (values : List Value) → Spell does.arguments p asks.args values → DoesProgram does how c.passes p asks.args ends.told c.out_before c.out_after
       → UnlessMemory (status_number how) (AfterPasses does.takes_passes (status_number how) c p (λ q makes. AfterEmission does.emission (status_number how) q (IsDoneUnless (status_number how) c (does.outcome (subject does c.passes p q makes values)))))
   program_done does p values spelled =
       ⊎_elim (λ refused. exhausted how _ (no_refusal does.arguments how p asks.args values spelled refused.0))
-      (λ goes. ⊎_elim (λ refused. ⊎_elim inl (λ stopped. inr (inl stopped)) (stops does.takes_passes c asks.path p how (plain ends.told (status_pieces how asks.path) refused.1.0 ends.says) refused.0 refused.1.1))
+      (λ goes. ⊎_elim (λ refused. ⊎_elim inl (λ stopped. inr (inl stopped)) (stops does.takes_passes c p how (plain ends.told (status_pieces how) refused.1.0 ends.says) refused.0 refused.1.1))
       (λ made. ⊎_elim inl (λ done. inr (inr (made.0, made.1, done)))
       (made_done does p made.0 made.1 values
       (subst (λ (vs : List Value). (RefusesEmission does.emission how made.0 × IsSilent ends.told c.out_before c.out_after) ⊎ (Fits does.emission made.0 × Works (does.outcome (subject does c.passes p made.0 made.1 vs)) how ends.told c.out_before c.out_after))
       (same_values does.arguments p asks.args goes.0 values goes.1 spelled) made.2)))
       goes.2)
 
-  module _ (action : Action) (bytes : List ℕ) (reads : ReadsWell c action bytes) (short : length bytes ≤ most_bytes) where
-    command_done : (k : Command) → command action ≡ k → CommandDone k (status_number how) c (format_of reads.path) bytes reads.args
-    command_done (OnTree outcome) is = λ tree spelled.
-        let here : ReadsAs (format_of asks.path) bytes tree = subst (λ q. ReadsAs (format_of q) bytes tree) (same_path c asks how ends action bytes reads) spelled in
-        by_cases c asks how ends action bytes reads _ (exhausted how _)
-        (λ e long. absurd (omega arith))
-        (λ fault e none only few. absurd (only.unread tree here))
-        (λ other only does few.
-        works_done c asks.path (outcome tree) how ends.told ends.says
-        (subst (λ (t : Tree). Works (outcome t) how ends.told c.out_before c.out_after) (only.alone tree here)
-        (subst (λ k. DoesTree k how c.passes other asks.args ends.told c.out_before c.out_after) is does)))
-    command_done (OnProgram does) is = λ p values source accepted spelled.
-        let here : Spell does.arguments p asks.args values = subst (λ a. Spell does.arguments p a values) (same_args c asks how ends action bytes reads) spelled in
-        with_program c asks how ends action (subst NeedsProgram (sym is) tt) _ bytes p reads short source (exhausted how _)
+  module _ (action : Action) (reads : ReadsWell c action) (tree : Tree) where
+    tree_done : (k : Command) → command action ≡ k → (outcome : Tree → Outcome) → ((how : Status) → DoesTree k how c.passes tree asks.args ends.told c.out_before c.out_after → Works (outcome tree) how ends.told c.out_before c.out_after)
+        → HaveTree (reach (command action)) c.files_before.holds reads.path tree → UnlessMemory (status_number how) (IsDoneUnless (status_number how) c (outcome tree))
+    tree_done k is outcome works have =
+        by_tree c asks how ends action reads _ tree have (exhausted how _)
+        (λ does. works_done c (outcome tree) how ends.told ends.says (works how (subst (λ k. DoesTree k how c.passes tree asks.args ends.told c.out_before c.out_after) is does)))
+
+    command_done : (k : Command) → command action ≡ k → HaveTree (reach (command action)) c.files_before.holds reads.path tree → CommandDone k (status_number how) c tree reads.args
+    command_done (OnFile outcome) is have = tree_done (OnFile outcome) is outcome (λ h does. does) have
+    command_done (OnTree outcome) is have = tree_done (OnTree outcome) is outcome (λ h does. does) have
+    command_done (OnProgram does) is have = λ p values numbered accepted spelled.
+        let here : Spell does.arguments p asks.args values = subst (λ a. Spell does.arguments p a values) (same_args c asks how ends action reads) spelled in
+        with_program c asks how ends action (subst NeedsProgram (sym is) tt) reads tree (subst (λ k. HaveTree (reach k) c.files_before.holds reads.path tree) is have) _ p numbered (exhausted how _)
         (λ fault e none has. absurd (has.unaccepted accepted))
         (λ faultless goes. program_done does p values here
         (subst (λ k. DoesAccepted k how c.passes p asks.args ends.told c.out_before c.out_after) is goes))
 
-    pub done_where : CommandDone (command action) (status_number how) c (format_of reads.path) bytes reads.args
+    pub done_where : HaveTree (reach (command action)) c.files_before.holds reads.path tree → CommandDone (command action) (status_number how) c tree reads.args
     done_where = command_done (command action) refl

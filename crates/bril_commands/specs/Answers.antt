@@ -1,36 +1,40 @@
 -- What the top call answers: its status, and what it does to the files and its two outputs.
-use Rattle.std.specs.Prelude.{ℕ, ◌≡◌, ◌≢◌, ◌⊎◌, ◌<◌, ◌≤◌, true, List, [], ◌∷◌, ◌++◌, length, Option, Some, None, codes, ◌==◌, Err, MatchBool}
+use Rattle.std.specs.Prelude.{ℕ, ◌≡◌, ◌≢◌, ◌⊎◌, ◌<◌, ◌≤◌, true, List, [], ◌∷◌, ◌++◌, Option, Some, None, codes, ◌==◌, Err, MatchBool}
 use Rattle.bril_arguments.specs.Faults.{IsFaultOf}
 use Rattle.bril_arguments.specs.declared.fault.ArgFault.TheVariants.{Memory}
 use Rattle.bril_arguments.specs.declared.fault.ArgFault.{ArgFault}
 use Rattle.bril_checker.specs.Faults as checker
 use Rattle.bril_checker.specs.declared.fault.CheckFault.{CheckFault}
+use Rattle.bril_names.specs.Faults as names
 use Rattle.bril_names.specs.declared.fault.NameFault.{NameFault}
-use Rattle.bril_outside.specs.Files.{MayHold, MayFail}
+use Rattle.bril_outside.specs.Sink.{Rose}
 use Rattle.bril_report.specs.Lines.{fault_line}
 use Rattle.bril_report.specs.Puts.{Puts, HoldsBack, WritesAll, WritesSome}
-use Rattle.bril_report.specs.Report.{form_pieces, misread_pieces, misnamed_pieces, unaccepted_pieces, unread_pieces, spent_pieces, code_pieces, stack_pieces, pass_pieces, unknown_pass_pieces}
+use Rattle.bril_report.specs.Report.{misread_pieces, not_there_pieces, clash_pieces, misnamed_pieces, unaccepted_pieces, unread_pieces, many_bytes_pieces, many_files_pieces, spent_pieces, code_pieces, stack_pieces, pass_pieces, unknown_pass_pieces}
 use Rattle.bril_source.specs.declared.fault.ReadFault.{ReadFault}
 use Rattle.bril_tree.specs.Accepted.{IsAccepted}
+use Rattle.bril_tree.specs.Numbered.{Numbered}
 use Rattle.bril_tree.specs.Run.{main_types}
 use Rattle.bril_tree.specs.declared.limits.End.TheVariants.{Ended, Faulted}
 use Rattle.bril_tree.specs.declared.limits.End.{End}
 use Rattle.bril_tree.specs.declared.limits.Fault.{Fault}
 use Rattle.bril_tree.specs.declared.limits.Limits.{Limits}
 use Rattle.bril_tree.specs.declared.program.Prog.{Prog}
+use Rattle.bril_tree.specs.declared.tree.Tree.{Tree}
 use Rattle.bril_words.specs.CommandLine.{Refusal, words_ask}
 use Rattle.bril_words.specs.declared.request.Action.{Action}
+use Rattle.import_linker.specs.Linked.{Linked}
+use Rattle.import_linker.specs.declared.fault.LinkFault.{LinkFault}
+use Rattle.import_linker.specs.declared.fault.LinkFault.TheVariants.{Read, Bad, NotThere, Clash, TooManyFiles, TooManyBytes}
 use Rattle.pass_law.specs.Bounds.{capped}
 use Rattle.rv64_implements.specs.WordBounds.{word_bounds, IsStackSize}
 use Rattle.rv64_words.specs.Region.{most_words, most_stack}
 use Rattle.bril_commands.specs.Arguments.{HasOnlyArgFault, argument_pieces}
-use Rattle.bril_commands.specs.Call.{Call, SaysAlone, ReadsWell, AsksNone, UnlessMemory, ComesTo}
-use Rattle.bril_commands.specs.Command.{Makes, NeedsProgram, GivesArguments, MakesImage, takes_passes}
+use Rattle.bril_commands.specs.Call.{Call, SaysAlone, ReadsWell, UnlessMemory, ComesTo}
+use Rattle.bril_commands.specs.Command.{Makes, NeedsProgram, GivesArguments, MakesImage, reach, takes_passes}
 use Rattle.bril_commands.specs.CommandLine.{Asks, AsksFor, AskNothing, IsToldOf}
-use Rattle.bril_source.specs.Format.{format_of}
 use Rattle.bril_commands.specs.PassList.{AreUnused, IsFirstUnknown, IsRefusedPass, IsCutOff}
-use Rattle.bril_commands.specs.Source.{IsSource, IsOnlySource, HasNameFault, HasOnlyNameFault, HasOnlyCheckFault, HasImports, IsFile, IsProgramFile}
-use Rattle.bril_source.specs.Reading.{most_bytes, HasFault, IsOnlyFault}
+use Rattle.bril_commands.specs.Source.{RefusesFiles, HaveFault, LackFile, IsOnlyNameFault, IsOnlyProgram, HasOnlyCheckFault, IsProgramOf}
 use Rattle.bril_commands.specs.Table.{command, KeepsPasses}
 use Rattle.bril_commands.specs.When.{DoneWhere}
 
@@ -77,62 +81,63 @@ pub record Misused (c : Call) : Type 0 where
   pub told : IsToldOf refusal line
   pub alone : SaysAlone c (line ∷ [])
 
--- 65: the file's bytes read as no tree; or the command needs a program, and the tree has imports, or a fault of a
--- name, or a program that isn't accepted. No pass ran.
-pub record FormlessFile (c : Call) (path : List ℕ) : Type 0 where
-  pub bytes : List ℕ
-  pub file : IsFile c.files_before path bytes
-  pub imports : HasImports (format_of path) bytes
-  pub alone : SaysAlone c (form_pieces path)
+-- 65, 66 and 68: the files have no tree, for this fault. No pass ran.
+pub record FilesRefused (c : Call) (asks : Asks c.words) (why : LinkFault) (line : List (List ℕ)) : Type 0 where
+  pub unused : AreUnused c.passes
+  pub refuses : RefusesFiles (reach (command asks.action)) why c.files_before c.files_after asks.path
+  pub alone : SaysAlone c line
 
-pub record MisnamedFile (c : Call) (path : List ℕ) : Type 0 where
-  pub bytes : List ℕ
-  pub file : IsFile c.files_before path bytes
+-- 65: the bytes of the file at this path read as no tree; or, where files are linked, a name stands for no function in it, or for two.
+pub record MisreadFile (c : Call) (asks : Asks c.words) : Type 0 where
+  pub path : List ℕ
+  pub fault : ReadFault
+  pub refused : FilesRefused c asks (Bad path fault) (misread_pieces path fault)
+
+pub record LacksFunction (c : Call) (asks : Asks c.words) : Type 0 where
+  pub path : List ℕ
+  pub name : List ℕ
+  pub refused : FilesRefused c asks (NotThere path name) (not_there_pieces path name)
+
+pub record RepeatsFunction (c : Call) (asks : Asks c.words) : Type 0 where
+  pub path : List ℕ
+  pub name : List ℕ
+  pub refused : FilesRefused c asks (Clash path name) (clash_pieces path name)
+
+-- 65: the command needs a program, and the tree of the linked files has a fault of a name, or a program that isn't accepted. No pass ran.
+pub record MisnamedTree (c : Call) (path : List ℕ) : Type 0 where
+  pub tree : Tree
+  pub linked : Linked c.files_before.holds path tree
   pub fault : NameFault
-  pub only : HasOnlyNameFault (format_of path) bytes fault
+  pub only : IsOnlyNameFault tree fault
+  pub unused : AreUnused c.passes
   pub alone : SaysAlone c (misnamed_pieces fault)
 
-pub record UnacceptedFile (c : Call) (path : List ℕ) : Type 0 where
-  pub bytes : List ℕ
-  pub file : IsFile c.files_before path bytes
+pub record UnacceptedTree (c : Call) (path : List ℕ) : Type 0 where
+  pub tree : Tree
+  pub linked : Linked c.files_before.holds path tree
   pub program : Prog
-  pub source : IsOnlySource (format_of path) bytes program
+  pub source : IsOnlyProgram tree program
   pub fault : CheckFault
   pub only : HasOnlyCheckFault program fault
+  pub unused : AreUnused c.passes
   pub alone : SaysAlone c (unaccepted_pieces program fault)
-
-pub record MisreadFile (c : Call) (path : List ℕ) : Type 0 where
-  pub bytes : List ℕ
-  pub file : IsFile c.files_before path bytes
-  pub fault : ReadFault
-  pub only : IsOnlyFault (format_of path) bytes fault
-  pub alone : SaysAlone c (misread_pieces path fault)
 
 pub record SourceRefused (c : Call) : Type 0 where
   pub asks : Asks c.words
-  pub unused : AreUnused c.passes
-  pub because : MisreadFile c asks.path ⊎ (NeedsProgram (command asks.action) × (FormlessFile c asks.path ⊎ (MisnamedFile c asks.path ⊎ UnacceptedFile c asks.path)))
+  pub because : MisreadFile c asks ⊎ (LacksFunction c asks ⊎ (RepeatsFunction c asks ⊎ (NeedsProgram (command asks.action) × (MisnamedTree c asks.path ⊎ UnacceptedTree c asks.path))))
 
--- 66: reading failed, or the files are told and lack the path. No pass ran.
+-- 66: the file at this path was not read: reading failed, or the files are told and lack it. Those before it were read. No pass ran.
 pub record CannotRead (c : Call) : Type 0 where
   pub asks : Asks c.words
-  pub unused : AreUnused c.passes
-  pub fails : MayFail c.files_before c.files_after asks.path
-  pub alone : SaysAlone c (unread_pieces asks.path)
+  pub path : List ℕ
+  pub refused : FilesRefused c asks (Read path) (unread_pieces path)
 
--- 68: the file has too many bytes, and no pass ran; or a pass may make too many items, or the program that is to be run or emitted has
--- too many words of code or of stack.
-pub record LongFile (c : Call) (path : List ℕ) : Type 0 where
-  pub bytes : List ℕ
-  pub held : MayHold c.files_before.holds path bytes
-  pub long : most_bytes < length bytes
-  pub unused : AreUnused c.passes
-  pub alone : SaysAlone c (codes "too large: bytes\n" ∷ [])
-
+-- 68: the files have too many bytes, or are too many, and no pass ran; or a pass may make too many items, or the program that is to be
+-- run or emitted has too many words of code or of stack.
 pub record LongPass (c : Call) (asks : Asks c.words) : Type 0 where
   pub takes : takes_passes (command asks.action) ≡ true
   pub program : Prog
-  pub file : IsProgramFile c.files_before asks.path program
+  pub file : IsProgramOf c.files_before.holds asks.path program
   pub place : ℕ
   pub bound : ℕ
   pub refused : IsRefusedPass c.passes program place bound
@@ -154,21 +159,21 @@ pub record LongProgram (c : Call) (asks : Asks c.words) : Type 0 where
   pub limits : Limits
   pub makes : MakesImage (command asks.action) limits
   pub program : Prog
-  pub file : IsProgramFile c.files_before asks.path program
+  pub file : IsProgramOf c.files_before.holds asks.path program
   pub made : Prog
   pub by : Makes (takes_passes (command asks.action)) c.passes program made
   pub because : HasLongCode c made ⊎ HasLongStack c made limits
 
 pub record TooLarge (c : Call) : Type 0 where
   pub asks : Asks c.words
-  pub because : LongFile c asks.path ⊎ (LongProgram c asks ⊎ LongPass c asks)
+  pub because : FilesRefused c asks TooManyBytes many_bytes_pieces ⊎ (FilesRefused c asks TooManyFiles many_files_pieces ⊎ (LongProgram c asks ⊎ LongPass c asks))
 
--- 69: the file reads as an accepted program, and the arguments don't fit it. No pass ran.
+-- 69: the files are linked into an accepted program, and the arguments don't fit it. No pass ran.
 pub record Misargued (c : Call) : Type 0 where
   pub asks : Asks c.words
   pub gives : GivesArguments (command asks.action)
   pub program : Prog
-  pub file : IsProgramFile c.files_before asks.path program
+  pub file : IsProgramOf c.files_before.holds asks.path program
   pub fault : ArgFault
   pub only : HasOnlyArgFault (main_types program) asks.args fault
   pub unused : AreUnused c.passes
@@ -179,7 +184,7 @@ pub record UnknownPass (c : Call) : Type 0 where
   pub asks : Asks c.words
   pub takes : takes_passes (command asks.action) ≡ true
   pub program : Prog
-  pub file : IsProgramFile c.files_before asks.path program
+  pub file : IsProgramOf c.files_before.holds asks.path program
   pub place : ℕ
   pub unknown : IsFirstUnknown c.passes (Some place)
   pub unused : AreUnused c.passes
@@ -189,7 +194,7 @@ pub record UnknownPass (c : Call) : Type 0 where
 pub record ListBegan (c : Call) (asks : Asks c.words) : Type 0 where
   pub takes : takes_passes (command asks.action) ≡ true
   pub program : Prog
-  pub file : IsProgramFile c.files_before asks.path program
+  pub file : IsProgramOf c.files_before.holds asks.path program
   pub cut : IsCutOff c.passes program
 
 -- 71: memory ran out, perhaps while the words were read, and nothing was put but what the command may have put by then; for `run`
@@ -227,44 +232,55 @@ Answers status c =
 
 -- ---- when a status comes to every command that has its cause
 
--- The bytes' fault is told.
-abbrev pub MisreadWhere : ℕ → Call → Type 0
-MisreadWhere number c =
-    (action : Action) (bytes : List ℕ) (fault : ReadFault) (reads : ReadsWell c action bytes) → length bytes ≤ most_bytes → HasFault (format_of reads.path) bytes fault →
-    UnlessMemory number ((number ≡ 65) × Puts c.err_before (misread_pieces reads.path fault) c.err_after)
+-- This comes, with this line, where the files have a fault.
+abbrev pub ToldWhere : LinkFault → ℕ → List (List ℕ) → ℕ → Call → Type 0
+ToldWhere why expected line number c =
+    (action : Action) (reads : ReadsWell c action) → HaveFault (reach (command action)) why c.files_before c.files_after reads.path →
+    UnlessMemory number ((number ≡ expected) × Puts c.err_before line c.err_after)
 
--- The names' fault is told.
+-- The fault of a file's bytes is told.
+abbrev pub MisreadWhere : ℕ → Call → Type 0
+MisreadWhere number c = (path : List ℕ) (fault : ReadFault) → ToldWhere (Bad path fault) 65 (misread_pieces path fault) number c
+
+-- A name that stands for no function in a file is told.
+abbrev pub NotThereWhere : ℕ → Call → Type 0
+NotThereWhere number c = (path name : List ℕ) → ToldWhere (NotThere path name) 65 (not_there_pieces path name) number c
+
+-- A name that stands for two is told.
+abbrev pub ClashWhere : ℕ → Call → Type 0
+ClashWhere number c = (path name : List ℕ) → ToldWhere (Clash path name) 65 (clash_pieces path name) number c
+
+-- Files that have too many bytes, or are too many, are told.
+abbrev pub LongFilesWhere : ℕ → Call → Type 0
+LongFilesWhere = ToldWhere TooManyBytes 68 many_bytes_pieces
+
+abbrev pub ManyFilesWhere : ℕ → Call → Type 0
+ManyFilesWhere = ToldWhere TooManyFiles 68 many_files_pieces
+
+-- The first file that isn't there is told; where a read failed, it may be the file that wasn't read.
+abbrev pub LackingWhere : ℕ → Call → Type 0
+LackingWhere number c =
+    (asks : Asks c.words) (path : List ℕ) → LackFile (reach (command asks.action)) c.files_before.holds asks.path path →
+    UnlessMemory number ((number ≡ 66) × (¬ Rose c.files_before.faults c.files_after.faults → Puts c.err_before (unread_pieces path) c.err_after))
+
+-- The fault of the tree's names is told.
 abbrev pub MisnamedWhere : ℕ → Call → Type 0
 MisnamedWhere number c =
-    (action : Action) → NeedsProgram (command action) → (bytes : List ℕ) (fault : NameFault) (reads : ReadsWell c action bytes) → length bytes ≤ most_bytes → HasNameFault (format_of reads.path) bytes fault →
+    (action : Action) → NeedsProgram (command action) → (reads : ReadsWell c action) (tree : Tree) (fault : NameFault) → Linked c.files_before.holds reads.path tree → names.HasFault tree fault →
     UnlessMemory number ((number ≡ 65) × Puts c.err_before (misnamed_pieces fault) c.err_after)
 
 -- The checker's fault is told.
 abbrev pub UncheckedWhere : ℕ → Call → Type 0
 UncheckedWhere number c =
-    (action : Action) → NeedsProgram (command action) → (bytes : List ℕ) (program : Prog) (fault : CheckFault) (reads : ReadsWell c action bytes) → length bytes ≤ most_bytes → IsSource (format_of reads.path) bytes program →
+    (action : Action) → NeedsProgram (command action) → (reads : ReadsWell c action) (tree : Tree) (program : Prog) (fault : CheckFault) → Linked c.files_before.holds reads.path tree → Numbered tree program →
     checker.HasFault program fault → UnlessMemory number ((number ≡ 65) × Puts c.err_before (unaccepted_pieces program fault) c.err_after)
-
--- A file with imports, whose program isn't built yet, is told.
-abbrev pub FormlessWhere : ℕ → Call → Type 0
-FormlessWhere number c =
-    (action : Action) → NeedsProgram (command action) → (bytes : List ℕ) (reads : ReadsWell c action bytes) → length bytes ≤ most_bytes → HasImports (format_of reads.path) bytes →
-    UnlessMemory number ((number ≡ 65) × Puts c.err_before (form_pieces reads.path) c.err_after)
 
 -- Arguments that don't fit an accepted program are told.
 abbrev pub MisarguedWhere : ℕ → Call → Type 0
 MisarguedWhere number c =
-    (action : Action) → GivesArguments (command action) → (bytes : List ℕ) (program : Prog) (fault : ArgFault) (reads : ReadsWell c action bytes) → length bytes ≤ most_bytes →
-    IsSource (format_of reads.path) bytes program → IsAccepted program → fault ≢ Memory → IsFaultOf (main_types program) reads.args fault →
+    (action : Action) → GivesArguments (command action) → (reads : ReadsWell c action) (tree : Tree) (program : Prog) (fault : ArgFault) → Linked c.files_before.holds reads.path tree → Numbered tree program →
+    IsAccepted program → fault ≢ Memory → IsFaultOf (main_types program) reads.args fault →
     UnlessMemory number ((number ≡ 69) × Puts c.err_before (argument_pieces fault) c.err_after)
-
--- No file is at the path.
-abbrev pub LackingWhere : ℕ → Call → Type 0
-LackingWhere number c = AsksNone c → UnlessMemory number (number ≡ 66)
-
--- The file has too many bytes.
-abbrev pub LongFileWhere : ℕ → Call → Type 0
-LongFileWhere number c = (action : Action) (bytes : List ℕ) → ReadsWell c action bytes → most_bytes < length bytes → UnlessMemory number (number ≡ 68)
 
 -- The passes stay as they are where the words ask for a command that takes no list of them; else they mean the same.
 abbrev pub KeepsWhere : Call → Type 0
@@ -277,7 +293,7 @@ pub record Promises (status : ℕ) (c : Call) : Type 0 where
   pub done : status ≡ 0 → Finished c
   pub faulted : status ≡ 2 → Stopped c
   pub spent : status ≡ 3 → GoesOn c
-  pub form : status ≡ 65 → SourceRefused c
+  pub refused : status ≡ 65 → SourceRefused c
   pub read : status ≡ 66 → CannotRead c
   pub size : status ≡ 68 → TooLarge c
   pub argued : status ≡ 69 → Misargued c
@@ -292,8 +308,10 @@ pub record Promises (status : ℕ) (c : Call) : Type 0 where
   pub misread : MisreadWhere status c
   pub misnamed : MisnamedWhere status c
   pub unchecked : UncheckedWhere status c
-  pub formless : FormlessWhere status c
+  pub not_there : NotThereWhere status c
+  pub clash : ClashWhere status c
   pub lacking : LackingWhere status c
-  pub long_file : LongFileWhere status c
+  pub long_files : LongFilesWhere status c
+  pub many_files : ManyFilesWhere status c
   -- what becomes of the passes
   pub keeps : KeepsWhere c

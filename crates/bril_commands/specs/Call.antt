@@ -1,6 +1,6 @@
--- What is seen of a call of the top call, and what it reads of its file.
+-- What is seen of a call of the top call, and what it reads of its files.
 use Rattle.std.specs.Prelude.{ℕ, ◌≡◌, ◌⊎◌, List, [], ◌∷◌, ◌++◌, Option, Some, None}
-use Rattle.bril_outside.specs.Files.{FilesSeen, LacksFile}
+use Rattle.bril_outside.specs.Files.{FileMap, FilesSeen}
 use Rattle.bril_outside.specs.Sink.{SinkSeen, Rose}
 use Rattle.bril_report.specs.Lines.{fault_line}
 use Rattle.bril_report.specs.Puts.{Puts}
@@ -15,14 +15,12 @@ use Rattle.bril_words.specs.CommandLine.{words_ask}
 use Rattle.bril_words.specs.Names.{names_of}
 use Rattle.pass_law.specs.Meaning.{Meaning}
 use Rattle.pass_law.specs.declared.tally.Tally.{Tally}
-use Rattle.bril_commands.specs.Command.{Command, OnTree, OnProgram, OfProgram, AreGiven, Makes, Fits}
+use Rattle.bril_commands.specs.Command.{Command, OnFile, OnTree, OnProgram, OfProgram, AreGiven, Makes, Fits}
 use Rattle.bril_commands.specs.CommandLine.{Asks, AsksFor, list_asked}
-use Rattle.bril_source.specs.Format.{format_of}
 use Rattle.bril_commands.specs.Driver.{subject}
 use Rattle.bril_commands.specs.Outcome.{Outcome}
 use Rattle.bril_commands.specs.PassList.{PassList, pass_list}
-use Rattle.bril_commands.specs.Source.{HoldsFile, IsFile, IsProgramFile}
-use Rattle.bril_source.specs.Reading.{IsOnlyTree}
+use Rattle.bril_commands.specs.Source.{Reach, Alone, WithImports, IsProgramOf, IsTreeAt}
 use Rattle.bril_commands.specs.Table.{command}
 
 -- What is seen of a call: its words, and its files, its two outputs and the passes that it was lent before and after it.
@@ -53,18 +51,14 @@ pub record SaysAlone (c : Call) (line : List (List ℕ)) : Type 0 where
   pub silent : c.out_after ≡ c.out_before
   pub says : Puts c.err_before line c.err_after
 
--- The words ask for this of a file that the files tell, with these bytes, and no read of it failed.
-pub record ReadsWell (c : Call) (action : Action) (bytes : List ℕ) : Type 0 where
+-- The words ask for this of files that are told, and no read of them failed.
+pub record ReadsWell (c : Call) (action : Action) : Type 0 where
   pub path : List ℕ
   pub args : List (List ℕ)
   pub asked : AsksFor c.words action path args
-  pub told : HoldsFile c.files_before.holds path bytes
+  pub map : FileMap
+  pub told : c.files_before.holds ≡ Some map
   pub sound : ¬ Rose c.files_before.faults c.files_after.faults
-
--- the words ask for a path, and the files are told and have none there
-pub record AsksNone (c : Call) : Type 0 where
-  pub asks : Asks c.words
-  pub lacks : LacksFile c.files_before.holds asks.path
 
 -- this status, unless memory ran out
 abbrev pub UnlessMemory : ℕ → Type 0 → Type 0
@@ -78,19 +72,17 @@ TellsRun (Some (Faulted fault)) steps told number c = (number ≡ 2) × Puts c.e
 
 -- ---- what a command comes to
 
--- The file at the path reads as a tree, and this holds of what it comes to.
-pub record TreeComesTo (outcome : Tree → Outcome) (c : Call) (path : List ℕ) (Is : Outcome → Type 0) : Type 0 where
-  pub bytes : List ℕ
-  pub file : IsFile c.files_before path bytes
+-- The files, of which the first is at the path, have a tree, and this holds of what it comes to.
+pub record TreeComesTo (reach : Reach) (outcome : Tree → Outcome) (c : Call) (path : List ℕ) (Is : Outcome → Type 0) : Type 0 where
   pub tree : Tree
-  pub only : IsOnlyTree (format_of path) bytes tree
+  pub file : IsTreeAt reach c.files_before.holds path tree
   pub is : Is (outcome tree)
 
--- The file at the path reads as an accepted program, the words spell its arguments, the list of passes makes a program of it that is
+-- The files are linked into an accepted program, the words spell its arguments, the list of passes makes a program of it that is
 -- within the bounds of an image, each where the command asks for it, and this holds of what it comes to.
 pub record ProgramComesTo (does : OfProgram) (c : Call) (path : List ℕ) (args : List (List ℕ)) (Is : Outcome → Type 0) : Type 0 where
   pub program : Prog
-  pub file : IsProgramFile c.files_before path program
+  pub file : IsProgramOf c.files_before.holds path program
   pub values : List Value
   pub given : AreGiven does.arguments program args values
   pub made : Prog
@@ -98,9 +90,10 @@ pub record ProgramComesTo (does : OfProgram) (c : Call) (path : List ℕ) (args 
   pub fits : Fits does.emission made
   pub is : Is (does.outcome (subject does c.passes program made makes values))
 
--- this holds of what a command comes to on the file at a path, with these arguments
+-- this holds of what a command comes to on the files of which the first is at a path, with these arguments
 abbrev pub CommandComesTo : Command → Call → List ℕ → List (List ℕ) → (Outcome → Type 0) → Type 0
-CommandComesTo (OnTree outcome) c path args Is = TreeComesTo outcome c path Is
+CommandComesTo (OnFile outcome) c path args Is = TreeComesTo Alone outcome c path Is
+CommandComesTo (OnTree outcome) c path args Is = TreeComesTo WithImports outcome c path Is
 CommandComesTo (OnProgram does) c path args Is = ProgramComesTo does c path args Is
 
 -- this holds of what the command comes to that the words ask for

@@ -10,6 +10,7 @@ use Rattle.bril_commands.specs.Arguments.{AreOnlyValues, RefusesArgs}
 use Rattle.bril_commands.specs.Images.{RefusesImage}
 use Rattle.bril_commands.specs.Outcome.{Outcome}
 use Rattle.bril_commands.specs.PassList.{PassList, IsMade, RefusesList, AreFactorsOf}
+use Rattle.bril_commands.specs.Source.{Reach, Alone, WithImports}
 
 -- ---- the arguments
 
@@ -76,8 +77,8 @@ RefusesEmission emission how q = (limits : Limits) × AreLimitsOf emission limit
 
 -- ---- the command
 
--- what a command works on that needs a program: the passes, its file's program, what the passes make of it and by which factors, and
--- the values of the arguments
+-- what a command works on that needs a program: the passes, the program of its files, what the passes make of it and by which factors,
+-- and the values of the arguments
 pub record Subject : Type 1 where
   pub passes : PassList
   pub source : Prog
@@ -85,34 +86,45 @@ pub record Subject : Type 1 where
   pub IsFactor : ℕ → Type 0
   pub values : List Value
 
--- A command on the accepted program of its file.
+-- A command on the accepted program of its files.
 pub record OfProgram : Type 1 where
   pub arguments : Arguments
   pub takes_passes : Bool
   pub emission : Emission
   pub outcome : Subject → Outcome
 
--- A command works on its file's tree alone, or on the tree's accepted program.
+-- A command works on the tree of its one file, on that of all files which are linked with it, or on the accepted program of the latter.
 pub data Command : Type 1 where
+  OnFile : (outcome : Tree → Outcome) → Command
   OnTree : (outcome : Tree → Outcome) → Command
   OnProgram : OfProgram → Command
 
+-- the files that it reads
+abbrev pub reach : Command → Reach
+reach (OnFile outcome) = Alone
+reach (OnTree outcome) = WithImports
+reach (OnProgram does) = WithImports
+
 -- it needs the accepted program
 abbrev pub NeedsProgram : Command → Type 0
+NeedsProgram (OnFile outcome) = ⊥
 NeedsProgram (OnTree outcome) = ⊥
 NeedsProgram (OnProgram does) = Unit {0}
 
 -- it gives the program arguments
 abbrev pub GivesArguments : Command → Type 0
+GivesArguments (OnFile outcome) = ⊥
 GivesArguments (OnTree outcome) = ⊥
 GivesArguments (OnProgram does) = TakesArguments does.arguments
 
 -- it takes a list of passes
 abbrev pub takes_passes : Command → Bool
+takes_passes (OnFile outcome) = false
 takes_passes (OnTree outcome) = false
 takes_passes (OnProgram does) = does.takes_passes
 
 -- it makes an image for these limits
 abbrev pub MakesImage : Command → Limits → Type 0
+MakesImage (OnFile outcome) limits = ⊥
 MakesImage (OnTree outcome) limits = ⊥
 MakesImage (OnProgram does) limits = AreLimitsOf does.emission limits

@@ -1,4 +1,4 @@
--- What a command does with its file, stage by stage.
+-- What a command does with its files, stage by stage.
 use Rattle.std.specs.Prelude.{ℕ, ◌≡◌, ◌⊎◌, List, []}
 use Rattle.bril_outside.specs.Files.{FilesSeen}
 use Rattle.bril_outside.specs.Sink.{SinkSeen}
@@ -6,13 +6,11 @@ use Rattle.bril_report.specs.declared.status.Status.{Status}
 use Rattle.bril_tree.specs.declared.program.Prog.{Prog}
 use Rattle.bril_tree.specs.declared.tree.Tree.{Tree}
 use Rattle.bril_tree.specs.declared.value.Value.{Value}
-use Rattle.bril_commands.specs.Command.{Command, OnTree, OnProgram, OfProgram, Subject, AreGiven, RefusesGiven, Makes, RefusesMaking, FactorOf, Fits, RefusesEmission}
-use Rattle.bril_source.specs.Format.{format_of}
+use Rattle.bril_commands.specs.Command.{Command, OnFile, OnTree, OnProgram, OfProgram, Subject, AreGiven, RefusesGiven, Makes, RefusesMaking, FactorOf, Fits, RefusesEmission, reach}
 use Rattle.bril_commands.specs.Outcome.{Works}
 use Rattle.bril_commands.specs.PassList.{PassList, AreUnused}
-use Rattle.bril_commands.specs.Source.{IsFile}
-use Rattle.bril_source.specs.Reading.{IsOnlyTree}
-use Rattle.bril_commands.specs.Stages.{RefusesFile, RefusesTree, RefusesProgram, IsAcceptedProgram}
+use Rattle.bril_commands.specs.Source.{IsTreeAt}
+use Rattle.bril_commands.specs.Stages.{RefusesTree, RefusesProgram, IsAcceptedProgram}
 
 -- nothing is told, and nothing is put
 abbrev pub IsSilent : List (List ℕ) → SinkSeen → SinkSeen → Type 0
@@ -45,13 +43,12 @@ DoesProgram does how l p args told s t =
 
 -- what a command answers on a tree
 abbrev pub DoesTree : Command → Status → PassList → Tree → List (List ℕ) → List (List ℕ) → SinkSeen → SinkSeen → Type 0
+DoesTree (OnFile outcome) how l tree args told s t = Works (outcome tree) how told s t
 DoesTree (OnTree outcome) how l tree args told s t = Works (outcome tree) how told s t
 DoesTree (OnProgram does) how l tree args told s t =
     Stage (RefusesProgram how tree) (IsIdle l told s t) (λ p. IsAcceptedProgram tree p) (λ p is. DoesProgram does how l p args told s t)
 
--- what a command answers on the file at a path
-abbrev pub DoesFile : Command → Status → PassList → FilesSeen → FilesSeen → List ℕ → List (List ℕ) → List (List ℕ) → SinkSeen → SinkSeen → Type 0
-DoesFile command how l f g path args told s t =
-    Stage (RefusesFile how f g path) (IsIdle l told s t) (λ bytes. IsFile f path bytes) (λ bytes file.
-    Stage (RefusesTree how (format_of path) bytes) (IsIdle l told s t) (λ tree. IsOnlyTree (format_of path) bytes tree) (λ tree only.
-    DoesTree command how l tree args told s t))
+-- what a command answers on its files, of which the first is at a path
+abbrev pub DoesFiles : Command → Status → PassList → FilesSeen → FilesSeen → List ℕ → List (List ℕ) → List (List ℕ) → SinkSeen → SinkSeen → Type 0
+DoesFiles command how l f g path args told s t =
+    Stage (RefusesTree (reach command) how f g path) (IsIdle l told s t) (λ tree. IsTreeAt (reach command) f.holds path tree) (λ tree is. DoesTree command how l tree args told s t)

@@ -1,73 +1,114 @@
--- The file of a command: the tree that its bytes read as, and the tree's program.
-use Rattle.std.specs.Prelude.{ℕ, ◌≡◌, ◌≢◌, ◌<◌, ◌≤◌, List, [], length, Option, Some, None}
+-- The files of a command: the tree that they have, and the tree's program.
+use Rattle.std.specs.Prelude.{ℕ, ◌≡◌, ◌≤◌, List, length, Option}
 use Rattle.bril_checker.specs.Faults as checker
 use Rattle.bril_checker.specs.declared.fault.CheckFault.{CheckFault}
 use Rattle.bril_names.specs.Faults as names
 use Rattle.bril_names.specs.declared.fault.NameFault.{NameFault}
-use Rattle.bril_outside.specs.Files.{FileMap, FilesSeen, MayHold}
+use Rattle.bril_outside.specs.Files.{FileMap, FilesSeen, LacksFile, MayHold}
+use Rattle.bril_source.specs.Format.{format_of}
+use Rattle.bril_source.specs.Reading.{HasFault, IsOnlyTree, ReadsAs, most_bytes}
+use Rattle.bril_source.specs.declared.fault.ReadFault.{ReadFault}
 use Rattle.bril_tree.specs.Accepted.{IsAccepted}
 use Rattle.bril_tree.specs.Numbered.{Numbered}
 use Rattle.bril_tree.specs.declared.program.Prog.{Prog}
 use Rattle.bril_tree.specs.declared.tree.Tree.{Tree}
-use Rattle.bril_source.specs.Format.{format_of}
-use Rattle.bril_source.specs.Reading.{most_bytes, ReadsAs}
-use Rattle.bril_source.specs.declared.format.Format.{Format}
+use Rattle.import_linker.specs.Linked.{Linked}
+use Rattle.import_linker.specs.Reading.{RefusesSource, StopsAt}
+use Rattle.import_linker.specs.Refusing.{RefusesLink}
+use Rattle.import_linker.specs.declared.fault.LinkFault.{LinkFault}
+use Rattle.import_linker.specs.declared.fault.LinkFault.TheVariants as fault
+use Rattle.import_linker.specs.declared.sources.Source.{Source}
 
--- the files are told, and these bytes are at the path
-abbrev pub HoldsFile : Option FileMap → List ℕ → List ℕ → Type 0
-HoldsFile None path bytes = ⊥
-HoldsFile (Some map) path bytes = map path ≡ Some bytes
+-- ---- the tree
 
--- The bytes read as a tree without imports, and the program is its numbering.
-pub record IsSource (format : Format) (bytes : List ℕ) (p : Prog) : Type 0 where
-  pub tree : Tree
-  pub reads : ReadsAs format bytes tree
+-- the files that a command reads
+pub data Reach : Type 0 where
+  -- the one at its path
+  Alone : Reach
+  -- that one, and all that it imports, and that these import
+  WithImports : Reach
+
+-- The bytes at the path, which are those that the files hold where they tell it, are few enough, and read as this tree and no other.
+pub record IsFileTree (holds : Option FileMap) (path : List ℕ) (tree : Tree) : Type 0 where
+  pub bytes : List ℕ
+  pub held : MayHold holds path bytes
+  pub short : length bytes ≤ most_bytes
+  pub only : IsOnlyTree (format_of path) bytes tree
+
+-- the tree is that of the files of a command with this path
+abbrev pub IsTreeAt : Reach → Option FileMap → List ℕ → Tree → Type 0
+IsTreeAt Alone holds path tree = IsFileTree holds path tree
+IsTreeAt WithImports holds path tree = Linked holds path tree
+
+-- why they have none
+abbrev pub RefusesFiles : Reach → LinkFault → FilesSeen → FilesSeen → List ℕ → Type 0
+RefusesFiles Alone why before after path = RefusesSource why before after path most_bytes
+RefusesFiles WithImports why before after path = RefusesLink why before after path
+
+-- ---- the same where the files are told
+
+-- few enough bytes are at the path, and read as this tree
+pub record HoldsTree (holds : Option FileMap) (path : List ℕ) (tree : Tree) : Type 0 where
+  pub bytes : List ℕ
+  pub held : MayHold holds path bytes
+  pub short : length bytes ≤ most_bytes
+  pub reads : ReadsAs (format_of path) bytes tree
+
+-- the files of a command with this path have the tree
+abbrev pub HaveTree : Reach → Option FileMap → List ℕ → Tree → Type 0
+HaveTree Alone holds path tree = HoldsTree holds path tree
+HaveTree WithImports holds path tree = Linked holds path tree
+
+-- few enough bytes are at the path, and have this fault
+pub record HoldsFault (holds : Option FileMap) (path : List ℕ) (why : ReadFault) : Type 0 where
+  pub bytes : List ℕ
+  pub held : MayHold holds path bytes
+  pub short : length bytes ≤ most_bytes
+  pub has : HasFault (format_of path) bytes why
+
+-- the one file at the path has this fault
+abbrev pub FileHasFault : LinkFault → FilesSeen → FilesSeen → List ℕ → Type 0
+FileHasFault (fault.Bad other why) before after path = (other ≡ path) × HoldsFault before.holds path why
+FileHasFault why before after path = RefusesSource why before after path most_bytes
+
+-- the files of a command with this path have the fault
+abbrev pub HaveFault : Reach → LinkFault → FilesSeen → FilesSeen → List ℕ → Type 0
+HaveFault Alone why before after path = FileHasFault why before after path
+HaveFault WithImports why before after path = RefusesLink why before after path
+
+-- the file at a path is the next to be read, by a command with this one
+abbrev pub IsNextFile : Reach → Option FileMap → (root path : List ℕ) → Type 0
+IsNextFile Alone holds root path = path ≡ root
+IsNextFile WithImports holds root path = (done : List Source) × StopsAt holds root path done
+
+-- The files are told; those before the one at a path were read, and it isn't there.
+pub record LackFile (reach : Reach) (holds : Option FileMap) (root path : List ℕ) : Type 0 where
+  pub next : IsNextFile reach holds root path
+  pub lacks : LacksFile holds path
+
+-- ---- the program of a tree
+
+-- The tree has this fault of a name and no other, and no numbering.
+pub record IsOnlyNameFault (tree : Tree) (why : NameFault) : Type 0 where
+  pub has : names.HasFault tree why
+  pub alone : (other : NameFault) → names.HasFault tree other → why ≡ other
+  pub unnumbered : (p : Prog) → Numbered tree p → ⊥
+
+-- The program is the tree's numbering and the only one, and the tree has no fault of a name.
+pub record IsOnlyProgram (tree : Tree) (p : Prog) : Type 0 where
   pub numbered : Numbered tree p
-
--- The bytes read as this program and no other.
-pub record IsOnlySource (format : Format) (bytes : List ℕ) (p : Prog) : Type 0 where
-  pub source : IsSource format bytes p
-  pub only : (q : Prog) → IsSource format bytes q → q ≡ p
-
--- The bytes read as a tree without imports whose names have this fault.
-pub record HasNameFault (format : Format) (bytes : List ℕ) (fault : NameFault) : Type 0 where
-  pub tree : Tree
-  pub reads : ReadsAs format bytes tree
-  pub alone : tree.imports ≡ []
-  pub has : names.HasFault tree fault
-
--- The bytes read as a tree whose names have this fault and no other, and as no program.
-pub record HasOnlyNameFault (format : Format) (bytes : List ℕ) (fault : NameFault) : Type 0 where
-  pub has : HasNameFault format bytes fault
-  pub only : (other : NameFault) → HasNameFault format bytes other → fault ≡ other
-  pub unnumbered : (p : Prog) → IsSource format bytes p → ⊥
-
--- The bytes read as a tree with imports.
-pub record HasImports (format : Format) (bytes : List ℕ) : Type 0 where
-  pub tree : Tree
-  pub reads : ReadsAs format bytes tree
-  pub imports : tree.imports ≢ []
+  pub alone : (q : Prog) → Numbered tree q → p ≡ q
+  pub faultless : (why : NameFault) → names.HasFault tree why → ⊥
 
 -- The program has this fault and no other, and isn't accepted.
-pub record HasOnlyCheckFault (p : Prog) (fault : CheckFault) : Type 0 where
-  pub has : checker.HasFault p fault
-  pub only : (other : CheckFault) → checker.HasFault p other → fault ≡ other
+pub record HasOnlyCheckFault (p : Prog) (why : CheckFault) : Type 0 where
+  pub has : checker.HasFault p why
+  pub only : (other : CheckFault) → checker.HasFault p other → why ≡ other
   pub unaccepted : ¬ IsAccepted p
 
--- The bytes at the path, which are those that the files hold where they tell it, are few enough.
-pub record IsFile (files : FilesSeen) (path bytes : List ℕ) : Type 0 where
-  pub held : MayHold files.holds path bytes
-  pub short : length bytes ≤ most_bytes
-
--- the bytes at the path are too many
-pub record IsLongFile (files : FilesSeen) (path : List ℕ) : Type 0 where
-  pub bytes : List ℕ
-  pub held : MayHold files.holds path bytes
-  pub long : most_bytes < length bytes
-
--- The file at the path reads as this program, which is accepted.
-pub record IsProgramFile (files : FilesSeen) (path : List ℕ) (p : Prog) : Type 0 where
-  pub bytes : List ℕ
-  pub file : IsFile files path bytes
-  pub source : IsOnlySource (format_of path) bytes p
+-- The files whose root is at the path are linked into a tree whose only program this is, which is accepted.
+pub record IsProgramOf (holds : Option FileMap) (path : List ℕ) (p : Prog) : Type 0 where
+  pub tree : Tree
+  pub linked : Linked holds path tree
+  pub only : IsOnlyProgram tree p
   pub accepted : IsAccepted p

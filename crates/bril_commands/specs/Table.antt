@@ -1,6 +1,6 @@
 -- The table of commands.
 use Rattle.std.specs.Prelude.{◌≡◌, Bool, true, false, List}
-use Rattle.bril_words.specs.declared.request.Action.TheVariants.{Run, Interpret, Emit, Passes, Check, WriteText, WriteJson}
+use Rattle.bril_words.specs.declared.request.Action.TheVariants.{Run, Interpret, Emit, Passes, Check, Link, WriteText, WriteJson}
 use Rattle.bril_words.specs.declared.request.Action.{Action}
 use Rattle.pass_law.specs.Chains.{AllSame}
 use Rattle.pass_law.specs.Meaning.{Meaning}
@@ -9,6 +9,7 @@ use Rattle.bril_commands.specs.commands.Check.{checks}
 use Rattle.bril_commands.specs.commands.Emit.{emits_words}
 use Rattle.bril_commands.specs.commands.Interp.{interprets}
 use Rattle.bril_commands.specs.commands.Json.{writes_as_json}
+use Rattle.bril_commands.specs.commands.Link.{writes_linked}
 use Rattle.bril_commands.specs.commands.Passes.{transforms}
 use Rattle.bril_commands.specs.commands.Run.{runs}
 use Rattle.bril_commands.specs.commands.Text.{writes_as_text}
@@ -20,6 +21,7 @@ command (Interpret frames cells steps) = OnProgram (interprets frames cells step
 command (Emit frames) = OnProgram (emits_words frames)
 command Passes = OnProgram transforms
 command Check = OnProgram checks
+command Link = writes_linked
 command WriteText = writes_as_text
 command WriteJson = writes_as_json
 

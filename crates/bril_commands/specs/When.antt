@@ -1,10 +1,11 @@
--- When a command's work is done: once its file is read well, unless a stage has its cause.
-use Rattle.std.specs.Prelude.{ℕ, ◌≡◌, ◌⊎◌, ◌≤◌, Bool, true, false, List, [], length, Option, Some}
+-- When a command's work is done: once its files have a tree, unless a stage has its cause.
+use Rattle.std.specs.Prelude.{ℕ, ◌≡◌, ◌⊎◌, Bool, true, false, List, [], Option, Some}
 use Rattle.bril_arguments.specs.Spelled.{AreSpelled}
 use Rattle.bril_outside.specs.Sink.{Rose}
 use Rattle.bril_report.specs.Puts.{WritesAll}
 use Rattle.bril_report.specs.Report.{pass_pieces, unknown_pass_pieces}
 use Rattle.bril_tree.specs.Accepted.{IsAccepted}
+use Rattle.bril_tree.specs.Numbered.{Numbered}
 use Rattle.bril_tree.specs.Run.{main_types}
 use Rattle.bril_tree.specs.declared.limits.End.{End}
 use Rattle.bril_tree.specs.declared.limits.Limits.{Limits}
@@ -14,15 +15,12 @@ use Rattle.bril_tree.specs.declared.value.Value.{Value}
 use Rattle.bril_words.specs.declared.request.Action.{Action}
 use Rattle.rv64_implements.specs.WordBounds.{IsWithin}
 use Rattle.bril_commands.specs.Call.{Call, SaysAlone, ReadsWell, UnlessMemory, TellsRun}
-use Rattle.bril_commands.specs.Command.{Command, OnTree, OnProgram, Arguments, NoArguments, OfMain, Makes, Emission, NoImage, ImageFor, AreLimitsOf}
-use Rattle.bril_source.specs.Format.{format_of}
+use Rattle.bril_commands.specs.Command.{Command, OnFile, OnTree, OnProgram, Arguments, NoArguments, OfMain, Makes, Emission, NoImage, ImageFor, AreLimitsOf, reach}
 use Rattle.bril_commands.specs.Driver.{subject}
 use Rattle.bril_commands.specs.Outcome.{Outcome}
 use Rattle.bril_commands.specs.PassList.{IsFirstUnknown, IsRefusedPass}
-use Rattle.bril_commands.specs.Source.{IsSource}
-use Rattle.bril_source.specs.Reading.{most_bytes, ReadsAs}
+use Rattle.bril_commands.specs.Source.{HaveTree}
 use Rattle.bril_commands.specs.Table.{command}
-use Rattle.bril_source.specs.declared.format.Format.{Format}
 
 -- ---- the stages
 
@@ -76,14 +74,15 @@ pub record IsDone (number : ℕ) (c : Call) (o : Outcome) : Type 0 where
 abbrev pub IsDoneUnless : ℕ → Call → Outcome → Type 0
 IsDoneUnless number c o = ¬ Rose c.out_before.faults c.out_after.faults → IsDone number c o
 
--- What a command does where its file has these bytes: the file's tree is worked on, or its accepted program with arguments that are
--- spelled is given to the list of passes; what this makes is told where it is too large, and else it is worked on.
-abbrev pub CommandDone : Command → ℕ → Call → Format → List ℕ → List (List ℕ) → Type 0
-CommandDone (OnTree outcome) number c format bytes args = (tree : Tree) → ReadsAs format bytes tree → UnlessMemory number (IsDoneUnless number c (outcome tree))
-CommandDone (OnProgram does) number c format bytes args =
-    (p : Prog) (values : List Value) → IsSource format bytes p → IsAccepted p → Spell does.arguments p args values →
+-- What a command does where its files have this tree: it is worked on, or its accepted program with arguments that are spelled is given
+-- to the list of passes; what this makes is told where it is too large, and else it is worked on.
+abbrev pub CommandDone : Command → ℕ → Call → Tree → List (List ℕ) → Type 0
+CommandDone (OnFile outcome) number c tree args = UnlessMemory number (IsDoneUnless number c (outcome tree))
+CommandDone (OnTree outcome) number c tree args = UnlessMemory number (IsDoneUnless number c (outcome tree))
+CommandDone (OnProgram does) number c tree args =
+    (p : Prog) (values : List Value) → Numbered tree p → IsAccepted p → Spell does.arguments p args values →
     UnlessMemory number (AfterPasses does.takes_passes number c p (λ q makes. AfterEmission does.emission number q (IsDoneUnless number c (does.outcome (subject does c.passes p q makes values)))))
 
--- The command that the words ask for is done, where its file is read well.
+-- The command that the words ask for is done, where its files have a tree.
 abbrev pub DoneWhere : ℕ → Call → Type 0
-DoneWhere number c = (action : Action) (bytes : List ℕ) (reads : ReadsWell c action bytes) → length bytes ≤ most_bytes → CommandDone (command action) number c (format_of reads.path) bytes reads.args
+DoneWhere number c = (action : Action) (reads : ReadsWell c action) (tree : Tree) → HaveTree (reach (command action)) c.files_before.holds reads.path tree → CommandDone (command action) number c tree reads.args

@@ -3,6 +3,7 @@ pub mod Check
 pub mod Emit
 pub mod Interp
 pub mod Json
+pub mod Link
 pub mod Passes
 pub mod Run
 pub mod Text

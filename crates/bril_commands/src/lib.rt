@@ -4,7 +4,7 @@
 //! table of all, `Outcome` what a command comes to, and `Answers` what each status says, and when it comes. `proofs/` shows once, for
 //! every command of this form, that what its stages answer adds up to what the top call promises.
 //!
-//! The functions are the stages from a file to an accepted program and its arguments, the list of passes, and the commands that take
+//! The functions are the stages from files to an accepted program and its arguments, the list of passes, and the commands that take
 //! no such list.
 #![tactic(auto)]
 

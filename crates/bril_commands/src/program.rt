@@ -1,6 +1,6 @@
-// The accepted program of a tree: the stages between a file's tree and what a command does with its program.
+// The accepted program of a tree: the stages between the tree of a command's files and what it does with their program.
 
-ghost use Rattle.std.specs.Prelude.{IfOk, IfErr};
+ghost use Rattle.std.specs.Prelude.{◌≡◌, [], IfOk, IfErr};
 ghost use Rattle.bril_commands.specs.Stages.{IsAcceptedProgram, RefusesProgram};
 
 use bril_checker::{Checked, check};
@@ -9,16 +9,14 @@ use bril_report::Status;
 use bril_tree::tree::Tree;
 use std::alloc::Global;
 
-/// The program of a tree, which has no imports, names without a fault, and a program that is accepted.
+/// The program of a tree without imports, which is accepted.
 ///
-/// `Unsupported`: the tree has imports. `Misnamed`: a name has this fault. `Unaccepted`: the program has this fault.
+/// `Misnamed`: a name has this fault. `Unaccepted`: the program has this fault.
 pub fn accepted_program(alloc: Global, tree: &Tree) -> Result<Checked, Status>
+    requires { tree.now.imports ≡ [] }
     ensures ok { IfOk result (λ checked. IsAcceptedProgram tree.now checked.prog) }
     ensures err { IfErr result (λ status. RefusesProgram status tree.now) }
 {
-    if !tree.imports.as_slice().is_empty() {
-        return Err(Status::Unsupported);
-    }
     let program = number(alloc, tree)?;
     // No file of the allowed size has as many functions or items.
     if !program.is_counted() {

@@ -18,12 +18,14 @@ status_number status.Done = 0
 status_number (status.Faulted fault) = 2
 status_number (status.Spent steps) = 3
 status_number (status.Misused misuse) = 64
-status_number status.Unsupported = 65
-status_number (status.Misread fault) = 65
+status_number (status.Misread path fault) = 65
+status_number (status.NotThere path name) = 65
+status_number (status.Clash path name) = 65
 status_number (status.Misnamed fault) = 65
 status_number (status.Unaccepted program fault) = 65
-status_number status.CannotRead = 66
-status_number status.FileTooBig = 68
+status_number (status.CannotRead path) = 66
+status_number status.TooManyBytes = 68
+status_number status.TooManyFiles = 68
 status_number (status.CodeTooBig words) = 68
 status_number (status.StackTooBig words) = 68
 status_number (status.PassTooLarge place bound) = 68
@@ -41,14 +43,17 @@ position_pieces position rest = number_or_dash position.func ∷ codes " item " 
 abbrev pub number_pieces : List ℕ → ℕ → List (List ℕ)
 number_pieces front number = front ∷ decimal number ∷ codes "\n" ∷ []
 
--- a file with imports, whose program isn't built yet
-abbrev pub form_pieces : List ℕ → List (List ℕ)
-form_pieces path = path ∷ codes ": form\n" ∷ []
-
 -- a fault of the bytes of the file at a path
 abbrev pub misread_pieces : List ℕ → ReadFault → List (List ℕ)
 misread_pieces path (Text fault) = path ∷ text_front fault ∷ decimal (text_position fault) ∷ codes "\n" ∷ []
 misread_pieces path (Json fault) = path ∷ json_front fault ∷ position_pieces (json_position fault) (codes "\n")
+
+-- a name that stands for no function in the file at a path, or for two
+abbrev pub not_there_pieces : List ℕ → List ℕ → List (List ℕ)
+not_there_pieces path name = codes "link 3 " ∷ path ∷ codes " " ∷ name ∷ codes "\n" ∷ []
+
+abbrev pub clash_pieces : List ℕ → List ℕ → List (List ℕ)
+clash_pieces path name = codes "link 4 " ∷ path ∷ codes " " ∷ name ∷ codes "\n" ∷ []
 
 -- a fault of the names
 abbrev pub misnamed_pieces : NameFault → List (List ℕ)
@@ -80,6 +85,13 @@ unaccepted_pieces p check.Memory = codes "check 0 function - item -\n" ∷ []
 abbrev pub unread_pieces : List ℕ → List (List ℕ)
 unread_pieces path = codes "cannot read " ∷ path ∷ codes "\n" ∷ []
 
+-- files with too many bytes, and too many files
+abbrev pub many_bytes_pieces : List (List ℕ)
+many_bytes_pieces = codes "too large: bytes\n" ∷ []
+
+abbrev pub many_files_pieces : List (List ℕ)
+many_files_pieces = codes "too large: files\n" ∷ []
+
 -- the words of code, and of stack, that a program would have
 abbrev pub code_pieces : ℕ → List (List ℕ)
 code_pieces words = number_pieces (codes "too large: code ") words
@@ -107,23 +119,25 @@ unknown_pass_pieces place = number_pieces (codes "unknown pass ") place
 abbrev pub spent_pieces : ℕ → List (List ℕ)
 spent_pieces steps = number_pieces (codes "spent ") steps
 
--- the line of a status, for the file at a path; none where all was done
-abbrev pub status_pieces : Status → List ℕ → List (List ℕ)
-status_pieces status.Done path = []
-status_pieces (status.Faulted fault) path = fault_line fault ∷ []
-status_pieces (status.Spent steps) path = spent_pieces steps
-status_pieces (status.Misused misuse) path = misuse_line misuse ∷ []
-status_pieces status.Unsupported path = form_pieces path
-status_pieces (status.Misread fault) path = misread_pieces path fault
-status_pieces (status.Misnamed fault) path = misnamed_pieces fault
-status_pieces (status.Unaccepted program fault) path = unaccepted_pieces program fault
-status_pieces status.CannotRead path = unread_pieces path
-status_pieces status.FileTooBig path = codes "too large: bytes\n" ∷ []
-status_pieces (status.CodeTooBig words) path = code_pieces words
-status_pieces (status.StackTooBig words) path = stack_pieces words
-status_pieces (status.PassTooLarge place bound) path = pass_pieces place bound
-status_pieces (status.ArgumentCount given wanted) path = count_pieces given wanted
-status_pieces (status.BadArgument position) path = spelling_pieces position
-status_pieces (status.UnknownPass place) path = unknown_pass_pieces place
-status_pieces status.OutOfMemory path = codes "out of memory\n" ∷ []
-status_pieces status.CannotWrite path = codes "cannot write\n" ∷ []
+-- the line of a status; none where all was done
+abbrev pub status_pieces : Status → List (List ℕ)
+status_pieces status.Done = []
+status_pieces (status.Faulted fault) = fault_line fault ∷ []
+status_pieces (status.Spent steps) = spent_pieces steps
+status_pieces (status.Misused misuse) = misuse_line misuse ∷ []
+status_pieces (status.Misread path fault) = misread_pieces path fault
+status_pieces (status.NotThere path name) = not_there_pieces path name
+status_pieces (status.Clash path name) = clash_pieces path name
+status_pieces (status.Misnamed fault) = misnamed_pieces fault
+status_pieces (status.Unaccepted program fault) = unaccepted_pieces program fault
+status_pieces (status.CannotRead path) = unread_pieces path
+status_pieces status.TooManyBytes = many_bytes_pieces
+status_pieces status.TooManyFiles = many_files_pieces
+status_pieces (status.CodeTooBig words) = code_pieces words
+status_pieces (status.StackTooBig words) = stack_pieces words
+status_pieces (status.PassTooLarge place bound) = pass_pieces place bound
+status_pieces (status.ArgumentCount given wanted) = count_pieces given wanted
+status_pieces (status.BadArgument position) = spelling_pieces position
+status_pieces (status.UnknownPass place) = unknown_pass_pieces place
+status_pieces status.OutOfMemory = codes "out of memory\n" ∷ []
+status_pieces status.CannotWrite = codes "cannot write\n" ∷ []

@@ -6,15 +6,13 @@ use Rattle.bril_checker.specs.declared.fault.CheckFault.{CheckFault}
 use Rattle.bril_checker.specs.declared.fault.CheckFault.TheVariants as check
 use Rattle.bril_names.specs.declared.fault.NameFault.{NameFault}
 use Rattle.bril_names.specs.declared.fault.NameFault.TheVariants as name
-use Rattle.bril_outside.specs.declared.files.FileFault.{FileFault}
-use Rattle.bril_outside.specs.declared.files.FileFault.TheVariants as file
 use Rattle.bril_report.specs.declared.status.Status.{Status}
 use Rattle.bril_report.specs.declared.status.Status.TheVariants as status
-use Rattle.bril_source.specs.declared.fault.TreeFault.{TreeFault}
-use Rattle.bril_source.specs.declared.fault.TreeFault.TheVariants as tree
 use Rattle.bril_tree.specs.declared.program.Prog.{Prog}
 use Rattle.bril_words.specs.declared.misuse.Misuse.{Misuse}
 use Rattle.bril_words.specs.declared.misuse.Misuse.TheVariants as misuse
+use Rattle.import_linker.specs.declared.fault.LinkFault.{LinkFault}
+use Rattle.import_linker.specs.declared.fault.LinkFault.TheVariants as link
 use Rattle.pass_law.specs.declared.fault.ListFault.{ListFault}
 use Rattle.pass_law.specs.declared.fault.ListFault.TheVariants as list
 
@@ -29,15 +27,15 @@ misuse_status (misuse.Words text) = status.Misused (misuse.Words text)
 misuse_status (misuse.Value setting) = status.Misused (misuse.Value setting)
 misuse_status misuse.Memory = status.OutOfMemory
 
--- the status of a fault of reading a file
-abbrev pub file_status : FileFault → Status
-file_status file.Failed = status.CannotRead
-file_status file.Memory = status.OutOfMemory
-
--- the status of a fault of reading a tree
-abbrev pub tree_status : TreeFault → Status
-tree_status (tree.Misread fault) = status.Misread fault
-tree_status tree.Memory = status.OutOfMemory
+-- the status of a fault of reading and linking files
+abbrev pub link_status : LinkFault → Status
+link_status (link.Read path) = status.CannotRead path
+link_status (link.Bad path fault) = status.Misread path fault
+link_status (link.NotThere path name) = status.NotThere path name
+link_status (link.Clash path name) = status.Clash path name
+link_status link.TooManyFiles = status.TooManyFiles
+link_status link.TooManyBytes = status.TooManyBytes
+link_status link.Memory = status.OutOfMemory
 
 -- the status of a fault of the names
 abbrev pub name_status : NameFault → Status

@@ -15,7 +15,9 @@ use bril_outside::sink::Sink;
 use bril_source::ReadFault;
 use bril_text::TextFault;
 use bril_tree::limits::Fault;
+use bril_tree::name::Name;
 use bril_tree::program::Prog;
+use bril_tree::text::Text;
 use bril_words::{Misuse, Setting};
 use itoa::Buffer;
 
@@ -35,12 +37,14 @@ pub fn status_number(status: &Status) -> u8
         Status::Faulted { .. } => 2,
         Status::Spent { .. } => 3,
         Status::Misused { .. } => 64,
-        Status::Unsupported
-        | Status::Misread { .. }
+        Status::Misread { .. }
+        | Status::NotThere { .. }
+        | Status::Clash { .. }
         | Status::Misnamed { .. }
         | Status::Unaccepted { .. } => 65,
-        Status::CannotRead => 66,
-        Status::FileTooBig
+        Status::CannotRead { .. } => 66,
+        Status::TooManyBytes
+        | Status::TooManyFiles
         | Status::CodeTooBig { .. }
         | Status::StackTooBig { .. }
         | Status::PassTooLarge { .. } => 68,
@@ -51,22 +55,24 @@ pub fn status_number(status: &Status) -> u8
     }
 }
 
-/// Puts the line of a status, for the file at a path, on the error output, in its pieces: all of them, or those up to one whose
-/// put fails, and nothing where a put failed before. Where all was done nothing is put. Only the lines of 65 and 66 tell the path.
-pub fn say<E: Sink>(err: &mut ErrorOutput<'_, E>, path: &str, status: &Status)
-    ensures { Tells E.seen err.old (status_pieces status.now path.now) err.new }
+/// Puts the line of a status on the error output, in its pieces: all of them, or those up to one whose put fails, and nothing where
+/// a put failed before. Where all was done nothing is put.
+pub fn say<E: Sink>(err: &mut ErrorOutput<'_, E>, status: &Status)
+    ensures { Tells E.seen err.old (status_pieces status.now) err.new }
 {
     match status {
         Status::Done => {}
         Status::Faulted { fault } => err.put(fault_line(*fault)),
         Status::Spent { steps } => put_number(err, b"spent ", *steps),
         Status::Misused { misuse } => err.put(misuse_line(misuse)),
-        Status::Unsupported => err.put_all(&[path.as_bytes(), b": form\n"]),
-        Status::Misread { fault } => put_misread(err, path.as_bytes(), *fault),
+        Status::Misread { path, fault } => put_misread(err, path.as_bytes(), *fault),
+        Status::NotThere { path, name } => put_name(err, b"link 3 ", path, name),
+        Status::Clash { path, name } => put_name(err, b"link 4 ", path, name),
         Status::Misnamed { fault } => put_misnamed(err, *fault),
         Status::Unaccepted { program, fault } => put_unaccepted(err, program, *fault),
-        Status::CannotRead => err.put_all(&[b"cannot read ", path.as_bytes(), b"\n"]),
-        Status::FileTooBig => err.put(b"too large: bytes\n"),
+        Status::CannotRead { path } => err.put_all(&[b"cannot read ", path.as_bytes(), b"\n"]),
+        Status::TooManyBytes => err.put(b"too large: bytes\n"),
+        Status::TooManyFiles => err.put(b"too large: files\n"),
         Status::CodeTooBig { words } => put_number(err, b"too large: code ", *words),
         Status::StackTooBig { words } => put_number(err, b"too large: stack ", *words),
         Status::PassTooLarge { place, bound } => put_bound(err, *place, *bound),
@@ -157,6 +163,13 @@ fn put_misread<E: Sink>(err: &mut ErrorOutput<'_, E>, path: &[u8], fault: ReadFa
         ReadFault::Text(fault) => put_text_fault(err, path, fault),
         ReadFault::Json(fault) => put_after(err, path, json_front(fault), json_position(fault)),
     }
+}
+
+// Puts a piece, a path, a name that is wrong in the file at the path, and LF.
+fn put_name<E: Sink>(err: &mut ErrorOutput<'_, E>, front: &[u8], path: &Text, name: &Name)
+    ensures { Tells E.seen err.old (front.now ∷ path.now ∷ codes " " ∷ name.now ∷ codes "\n" ∷ []) err.new }
+{
+    err.put_all(&[front, path.as_bytes(), b" ", name.as_bytes(), b"\n"]);
 }
 
 // Puts the line of a fault of the names.

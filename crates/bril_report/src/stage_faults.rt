@@ -1,18 +1,17 @@
 // The status of each stage's fault, so that `?` hands it on, and of how a command ended.
 
 ghost use Rattle.std.specs.Prelude.{◌≡◌};
-ghost use Rattle.bril_report.specs.StageFaults.{status_of, misuse_status, file_status, tree_status, name_status, check_status, argument_status, list_status};
+ghost use Rattle.bril_report.specs.StageFaults.{status_of, misuse_status, link_status, name_status, check_status, argument_status, list_status};
 ghost use Rattle.bril_report.specs.declared.status.Status.TheVariants.{OutOfMemory, CannotWrite};
 
 use crate::status::Status;
 use bril_arguments::ArgFault;
 use bril_checker::CheckFault;
 use bril_names::NameFault;
-use bril_outside::files::FileFault;
 use bril_outside::sink::Failed;
-use bril_source::TreeFault;
 use bril_tree::program::Prog;
 use bril_words::Misuse;
+use import_linker::LinkFault;
 use pass_law::ListFault;
 use std::alloc::AllocError;
 
@@ -61,24 +60,19 @@ impl From<Failed> for Status {
     }
 }
 
-impl From<FileFault> for Status {
-    ghost from_gives = { λ fault status. status ≡ file_status fault };
+/// The files of a program have no tree.
+impl From<LinkFault> for Status {
+    ghost from_gives = { λ fault status. status ≡ link_status fault };
 
-    fn from(fault: FileFault) -> Status {
+    fn from(fault: LinkFault) -> Status {
         match fault {
-            FileFault::Failed => Status::CannotRead,
-            FileFault::Memory => Status::OutOfMemory,
-        }
-    }
-}
-
-impl From<TreeFault> for Status {
-    ghost from_gives = { λ fault status. status ≡ tree_status fault };
-
-    fn from(fault: TreeFault) -> Status {
-        match fault {
-            TreeFault::Misread { fault } => Status::Misread { fault },
-            TreeFault::Memory => Status::OutOfMemory,
+            LinkFault::Read { path } => Status::CannotRead { path },
+            LinkFault::Bad { path, fault } => Status::Misread { path, fault },
+            LinkFault::NotThere { path, name } => Status::NotThere { path, name },
+            LinkFault::Clash { path, name } => Status::Clash { path, name },
+            LinkFault::TooManyFiles => Status::TooManyFiles,
+            LinkFault::TooManyBytes => Status::TooManyBytes,
+            LinkFault::Memory => Status::OutOfMemory,
         }
     }
 }

@@ -4,7 +4,9 @@ use bril_checker::CheckFault;
 use bril_names::NameFault;
 use bril_source::ReadFault;
 use bril_tree::limits::Fault;
+use bril_tree::name::Name;
 use bril_tree::program::Prog;
+use bril_tree::text::Text;
 use bril_words::Misuse;
 
 /// How a command that was asked for ends.
@@ -18,18 +20,22 @@ pub enum Status {
     Spent { steps: u64 },
     /// The words ask for nothing.
     Misused { misuse: Misuse },
-    /// The file has imports.
-    Unsupported,
-    /// The file's bytes read as no tree.
-    Misread { fault: ReadFault },
-    /// The names of the file's tree can't become numbers.
+    /// The bytes of the file at this path read as no tree.
+    Misread { path: Text, fault: ReadFault },
+    /// The file at this path takes a function of this name from a file that doesn't have it, or names one that stands for none.
+    NotThere { path: Text, name: Name },
+    /// Two functions have this name in the file at this path, taken or its own.
+    Clash { path: Text, name: Name },
+    /// The names of the tree can't become numbers.
     Misnamed { fault: NameFault },
     /// The program isn't accepted.
     Unaccepted { program: Prog, fault: CheckFault },
-    /// The file could not be read.
-    CannotRead,
-    /// The file has too many bytes.
-    FileTooBig,
+    /// The file at this path could not be read.
+    CannotRead { path: Text },
+    /// The files have too many bytes.
+    TooManyBytes,
+    /// The program has too many files.
+    TooManyFiles,
     /// The program has too many words of code, by this bound of them.
     CodeTooBig { words: u64 },
     /// The program needs too many words of stack, this many.

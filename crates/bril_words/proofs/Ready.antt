@@ -54,6 +54,7 @@ ready subcommand.Interp = record { name = refl; options = (record { long = refl;
 ready subcommand.Passes = record { name = refl; options = (record { long = refl; by_id = refl }, tt); flags = tt; operands = (record { by_index = refl; by_id = refl }, tt); harmless = refl; quiet = refl; others = λ id e. refl; check = λ rows given. rw given.0 refl }
 ready subcommand.Emit = record { name = refl; options = (record { long = refl; by_id = refl }, (record { long = refl; by_id = refl }, tt)); flags = tt; operands = (record { by_index = refl; by_id = refl }, tt); harmless = refl; quiet = refl; others = λ id e. refl; check = λ rows given. rw given.0 refl }
 ready subcommand.Check = record { name = refl; options = tt; flags = tt; operands = (record { by_index = refl; by_id = refl }, tt); harmless = refl; quiet = refl; others = λ id e. refl; check = λ rows given. rw given.0 refl }
+ready subcommand.Link = record { name = refl; options = tt; flags = tt; operands = (record { by_index = refl; by_id = refl }, tt); harmless = refl; quiet = refl; others = λ id e. refl; check = λ rows given. rw given.0 refl }
 ready subcommand.WriteText = record { name = refl; options = tt; flags = tt; operands = (record { by_index = refl; by_id = refl }, tt); harmless = refl; quiet = refl; others = λ id e. refl; check = λ rows given. rw given.0 refl }
 ready subcommand.WriteJson = record { name = refl; options = tt; flags = tt; operands = (record { by_index = refl; by_id = refl }, tt); harmless = refl; quiet = refl; others = λ id e. refl; check = λ rows given. rw given.0 refl }
 
@@ -82,5 +83,6 @@ meets subcommand.Interp = record { first = refl; free = refl; leaf = refl; defau
 meets subcommand.Passes = record { first = refl; free = refl; leaf = refl; defaults = refl; check = refl }
 meets subcommand.Emit = record { first = refl; free = refl; leaf = refl; defaults = refl; check = refl }
 meets subcommand.Check = record { first = refl; free = refl; leaf = refl; defaults = refl; check = refl }
+meets subcommand.Link = record { first = refl; free = refl; leaf = refl; defaults = refl; check = refl }
 meets subcommand.WriteText = record { first = refl; free = refl; leaf = refl; defaults = refl; check = refl }
 meets subcommand.WriteJson = record { first = refl; free = refl; leaf = refl; defaults = refl; check = refl }

@@ -32,7 +32,7 @@ IsCommand s = (c : Subcommand) × (subcommand_named s.name ≡ Some c)
 whole_commands : AllOf IsCommand (built whole_app).subs
 unfolding whole_app
 whole_commands =
-    ((subcommand.Run, refl), ((subcommand.Interp, refl), ((subcommand.Passes, refl), ((subcommand.Emit, refl), ((subcommand.Check, refl), ((subcommand.WriteText, refl), ((subcommand.WriteJson, refl), tt)))))))
+    ((subcommand.Run, refl), ((subcommand.Interp, refl), ((subcommand.Passes, refl), ((subcommand.Emit, refl), ((subcommand.Check, refl), ((subcommand.Link, refl), ((subcommand.WriteText, refl), ((subcommand.WriteJson, refl), tt))))))))
 
 whole_wants : ((built whole_app).top.subcommand_required ≡ true) × ((built whole_app).top.arg_required_else_help ≡ false)
 unfolding whole_app

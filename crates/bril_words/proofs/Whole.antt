@@ -138,6 +138,7 @@ operands_differ subcommand.Interp = (tt, tt)
 operands_differ subcommand.Passes = (tt, tt)
 operands_differ subcommand.Emit = (tt, tt)
 operands_differ subcommand.Check = (tt, tt)
+operands_differ subcommand.Link = (tt, tt)
 operands_differ subcommand.WriteText = (tt, tt)
 operands_differ subcommand.WriteJson = (tt, tt)
 
@@ -147,6 +148,7 @@ takes_args_is subcommand.Interp = refl
 takes_args_is subcommand.Passes = refl
 takes_args_is subcommand.Emit = refl
 takes_args_is subcommand.Check = refl
+takes_args_is subcommand.Link = refl
 takes_args_is subcommand.WriteText = refl
 takes_args_is subcommand.WriteJson = refl
 
@@ -156,6 +158,7 @@ named_is subcommand.Interp = refl
 named_is subcommand.Passes = refl
 named_is subcommand.Emit = refl
 named_is subcommand.Check = refl
+named_is subcommand.Link = refl
 named_is subcommand.WriteText = refl
 named_is subcommand.WriteJson = refl
 

@@ -100,6 +100,7 @@ action_of subcommand.Interp n = action.Interpret n.frames n.cells n.steps
 action_of subcommand.Passes n = action.Passes
 action_of subcommand.Emit n = action.Emit n.frames
 action_of subcommand.Check n = action.Check
+action_of subcommand.Link n = action.Link
 action_of subcommand.WriteText n = action.WriteText
 action_of subcommand.WriteJson n = action.WriteJson
 

@@ -1,7 +1,7 @@
 -- What words ask for.
 use Rattle.std.specs.Prelude.{ℕ, ◌≤◌, List}
 use Rattle.bril_words.specs.declared.request.Action.{Action}
-use Rattle.bril_words.specs.declared.request.Action.TheVariants.{Run, Interpret, Emit, Passes, Check, WriteText, WriteJson}
+use Rattle.bril_words.specs.declared.request.Action.TheVariants.{Run, Interpret, Emit, Passes, Check, Link, WriteText, WriteJson}
 
 -- an action, the path of its file, the list of passes, and the arguments of the file's program
 pub record Asked : Type 0 where
@@ -29,5 +29,6 @@ IsActionInRange (Interpret frames cells steps) = AreLimits frames cells steps
 IsActionInRange (Emit frames) = AreFrames frames
 IsActionInRange Passes = Unit {0}
 IsActionInRange Check = Unit {0}
+IsActionInRange Link = Unit {0}
 IsActionInRange WriteText = Unit {0}
 IsActionInRange WriteJson = Unit {0}

@@ -10,7 +10,7 @@ use Rattle.bril_words.specs.declared.subcommands.Subcommand.{Subcommand}
 use Rattle.bril_words.specs.declared.subcommands.Subcommand.TheVariants as subcommand
 
 abbrev pub subcommands : List Subcommand
-subcommands = subcommand.Run ∷ subcommand.Interp ∷ subcommand.Passes ∷ subcommand.Emit ∷ subcommand.Check ∷ subcommand.WriteText ∷ subcommand.WriteJson ∷ []
+subcommands = subcommand.Run ∷ subcommand.Interp ∷ subcommand.Passes ∷ subcommand.Emit ∷ subcommand.Check ∷ subcommand.Link ∷ subcommand.WriteText ∷ subcommand.WriteJson ∷ []
 
 -- the word of a command
 abbrev pub name_of : Subcommand → List ℕ
@@ -19,6 +19,7 @@ name_of subcommand.Interp = codes "interp"
 name_of subcommand.Passes = codes "passes"
 name_of subcommand.Emit = codes "emit"
 name_of subcommand.Check = codes "check"
+name_of subcommand.Link = codes "link"
 name_of subcommand.WriteText = codes "text"
 name_of subcommand.WriteJson = codes "json"
 
@@ -30,8 +31,9 @@ subcommand_named word =
     else (if bytes_eq word (codes "passes") then Some subcommand.Passes
     else (if bytes_eq word (codes "emit") then Some subcommand.Emit
     else (if bytes_eq word (codes "check") then Some subcommand.Check
+    else (if bytes_eq word (codes "link") then Some subcommand.Link
     else (if bytes_eq word (codes "text") then Some subcommand.WriteText
-    else (if bytes_eq word (codes "json") then Some subcommand.WriteJson else None))))))
+    else (if bytes_eq word (codes "json") then Some subcommand.WriteJson else None)))))))
 
 -- the options with a value that a command takes
 abbrev pub options_of : Subcommand → List Setting
@@ -40,6 +42,7 @@ options_of subcommand.Interp = Frames ∷ Cells ∷ Steps ∷ []
 options_of subcommand.Passes = Passes ∷ []
 options_of subcommand.Emit = Passes ∷ Frames ∷ []
 options_of subcommand.Check = []
+options_of subcommand.Link = []
 options_of subcommand.WriteText = []
 options_of subcommand.WriteJson = []
 
@@ -50,6 +53,7 @@ flags_of subcommand.Interp = []
 flags_of subcommand.Passes = []
 flags_of subcommand.Emit = []
 flags_of subcommand.Check = []
+flags_of subcommand.Link = []
 flags_of subcommand.WriteText = []
 flags_of subcommand.WriteJson = []
 
@@ -60,6 +64,7 @@ operands_of subcommand.Interp = File ∷ []
 operands_of subcommand.Passes = File ∷ []
 operands_of subcommand.Emit = File ∷ []
 operands_of subcommand.Check = File ∷ []
+operands_of subcommand.Link = File ∷ []
 operands_of subcommand.WriteText = File ∷ []
 operands_of subcommand.WriteJson = File ∷ []
 
@@ -70,5 +75,6 @@ has_args subcommand.Interp = true
 has_args subcommand.Passes = false
 has_args subcommand.Emit = false
 has_args subcommand.Check = false
+has_args subcommand.Link = false
 has_args subcommand.WriteText = false
 has_args subcommand.WriteJson = false

@@ -70,6 +70,7 @@ fn with_help<'a>(command: Command<'a>, subcommand: Subcommand) -> Command<'a>
         Subcommand::Passes
         | Subcommand::Emit
         | Subcommand::Check
+        | Subcommand::Link
         | Subcommand::WriteText
         | Subcommand::WriteJson => command,
     }

@@ -27,6 +27,8 @@ pub enum Action {
     Passes,
     /// Writes how many functions and items its program has, where it is accepted.
     Check,
+    /// Writes its program and all that this imports as one tree, in canonical text.
+    Link,
     /// Writes its canonical text.
     WriteText,
     /// Writes its canonical JSON.

@@ -13,17 +13,19 @@ pub(crate) enum Subcommand {
     Passes,
     Emit,
     Check,
+    Link,
     WriteText,
     WriteJson,
 }
 
 // All commands, in the order in which help lists them.
-pub(crate) const SUBCOMMANDS: [Subcommand; 7] = [
+pub(crate) const SUBCOMMANDS: [Subcommand; 8] = [
     Subcommand::Run,
     Subcommand::Interp,
     Subcommand::Passes,
     Subcommand::Emit,
     Subcommand::Check,
+    Subcommand::Link,
     Subcommand::WriteText,
     Subcommand::WriteJson,
 ];
@@ -60,6 +62,7 @@ impl Subcommand {
             Subcommand::Passes => "passes",
             Subcommand::Emit => "emit",
             Subcommand::Check => "check",
+            Subcommand::Link => "link",
             Subcommand::WriteText => "text",
             Subcommand::WriteJson => "json",
         }
@@ -74,7 +77,7 @@ impl Subcommand {
             Subcommand::Interp => OF_INTERP.as_slice(),
             Subcommand::Passes => OF_PASSES.as_slice(),
             Subcommand::Emit => OF_EMIT.as_slice(),
-            Subcommand::Check | Subcommand::WriteText | Subcommand::WriteJson =>
+            Subcommand::Check | Subcommand::Link | Subcommand::WriteText | Subcommand::WriteJson =>
                 NO_OPTIONS.as_slice(),
         }
     }
@@ -89,6 +92,7 @@ impl Subcommand {
             | Subcommand::Passes
             | Subcommand::Emit
             | Subcommand::Check
+            | Subcommand::Link
             | Subcommand::WriteText
             | Subcommand::WriteJson => NO_FLAGS.as_slice(),
         }
@@ -104,6 +108,7 @@ impl Subcommand {
             | Subcommand::Passes
             | Subcommand::Emit
             | Subcommand::Check
+            | Subcommand::Link
             | Subcommand::WriteText
             | Subcommand::WriteJson => FILE.as_slice(),
         }
@@ -124,6 +129,7 @@ impl Subcommand {
             Subcommand::Passes => "Write what a list of passes makes of a program",
             Subcommand::Emit => "Write the machine words of a program",
             Subcommand::Check => "Check a program and count its functions and items",
+            Subcommand::Link => "Link a program with its imports and write it as text",
             Subcommand::WriteText => "Write a file in the canonical text form",
             Subcommand::WriteJson => "Write a file in the canonical JSON form",
         }
@@ -142,6 +148,7 @@ impl Subcommand {
                 "Example: roolvist passes examples/leftovers.bril --passes dead,tidy",
             Subcommand::Emit => "Example: roolvist emit examples/empty.bril --frames 100",
             Subcommand::Check => "Example: roolvist check examples/fibonacci.bril",
+            Subcommand::Link => "Example: roolvist link examples/imports.bril",
             Subcommand::WriteText => "Example: roolvist text examples/one.json",
             Subcommand::WriteJson => "Example: roolvist json examples/fibonacci.bril",
         }
@@ -158,6 +165,7 @@ pub(crate) fn subcommand_named(word: &str) -> Option<Subcommand>
         "passes" => Some(Subcommand::Passes),
         "emit" => Some(Subcommand::Emit),
         "check" => Some(Subcommand::Check),
+        "link" => Some(Subcommand::Link),
         "text" => Some(Subcommand::WriteText),
         "json" => Some(Subcommand::WriteJson),
         _ => None,

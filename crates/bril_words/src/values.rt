@@ -119,6 +119,7 @@ fn action_of(subcommand: Subcommand, numbers: Numbers) -> Action
         },
         Subcommand::Passes => Action::Passes,
         Subcommand::Check => Action::Check,
+        Subcommand::Link => Action::Link,
         Subcommand::WriteText => Action::WriteText,
         Subcommand::WriteJson => Action::WriteJson,
     }

@@ -1,12 +1,13 @@
 -- Where the files are told, a program has one tree or one refusal, and never both.
 use Rattle.std.proofs.Common.{◌≡◌, ◌∙◌, ◌⊎◌, refl, sym, ap, subst, ℕ, List, Option, Some, None, inl, inr}
-use Rattle.bril_outside.specs.Files.{FileMap, FilesSeen}
+use Rattle.bril_outside.specs.Files.{FileMap, FilesSeen, LacksFile}
 use Rattle.bril_outside.specs.Sink.{Rose}
+use Rattle.bril_source.specs.declared.fault.ReadFault.{ReadFault}
 use Rattle.bril_tree.specs.declared.tree.Tree.{Tree}
 use Rattle.import_linker.specs.Linked.{Linked}
 use Rattle.import_linker.specs.Names.{NameFault, clash, fault_from, not_there}
-use Rattle.import_linker.specs.Reading.{AreFiles, RefusesReading}
-use Rattle.import_linker.specs.Laws.{LinkedAreNotRefused, RefusedOnce}
+use Rattle.import_linker.specs.Reading.{AreFiles, IsMisread, PassesBytes, PassesFiles, RefusesReading, StopsAt}
+use Rattle.import_linker.specs.Laws.{LackingAreNotLinked, LackingAreNotRead, LinkedAreNotRefused, RefusedOnce}
 use Rattle.import_linker.specs.Refusing.{IsMisnamed, RefusesLink}
 use Rattle.import_linker.specs.declared.fault.LinkFault.{LinkFault}
 use Rattle.import_linker.specs.declared.fault.LinkFault.TheVariants as fault
@@ -22,20 +23,26 @@ module _ (map : FileMap) (faults : ℕ) (after : FilesSeen) (root : List ℕ) wh
   abbrev HasRisen : Type 0
   HasRisen = Rose faults after.faults
 
+  misread_stops : (path : List ℕ) (why : ReadFault) → IsMisread (Some map) root path why → Stopped map root (fault.Bad path why)
+  misread_stops path why h = record { done = h.done; path = path; read = h.stops.read; next = h.stops.next; so = (refl, (h.bytes, h.held, h.short, h.has)) }
+
+  many_stop : PassesFiles (Some map) root → Stopped map root fault.TooManyFiles
+  many_stop h = record { done = h.done; path = h.last.path; read = h.stops.read; next = h.stops.next; so = (h.last, refl, h.read, h.short, h.many) }
+
+  long_stop : PassesBytes (Some map) root → Stopped map root fault.TooManyBytes
+  long_stop h = record { done = h.done; path = h.path; read = h.stops.read; next = h.stops.next; so = (h.bytes, h.held, h.long) }
+
   -- what stops the reading of a program's files, reads that failed apart
   stops : (f : LinkFault) → RefusesReading f before after root → (f ≡ Memory) ⊎ (HasRisen ⊎ Stopped map root f)
   stops (fault.Read path) h = elim h.fails [
     | inl rose ↦ inr (inl rose)
     | inr lacks ↦ inr (inr (record { done = h.done; path = path; read = h.stops.read; next = h.stops.next; so = (refl, lacks) }))
   ]
-  stops (fault.Bad path why) h =
-      inr (inr (record { done = h.done; path = path; read = h.stops.read; next = h.stops.next; so = (refl, (h.bytes, h.held, h.short, h.has)) }))
+  stops (fault.Bad path why) h = inr (inr (misread_stops path why h))
   stops (fault.NotThere path name) h = absurd h
   stops (fault.Clash path name) h = absurd h
-  stops fault.TooManyFiles h =
-      inr (inr (record { done = h.done; path = h.last.path; read = h.stops.read; next = h.stops.next; so = (h.last, refl, h.read, h.short, h.many) }))
-  stops fault.TooManyBytes h =
-      inr (inr (record { done = h.done; path = h.path; read = h.stops.read; next = h.stops.next; so = (h.bytes, h.held, h.long) }))
+  stops fault.TooManyFiles h = inr (inr (many_stop h))
+  stops fault.TooManyBytes h = inr (inr (long_stop h))
   stops fault.Memory h = inl refl
 
   -- where all files were read, only a failed read or want of memory refuses their reading
@@ -128,6 +135,24 @@ module _ (map : FileMap) (faults : ℕ) (after : FilesSeen) (root : List ℕ) wh
     ]
   ]
 
+  -- ---- a file that isn't there
+
+  module _ (done : List Source) (path : List ℕ) (at : StopsAt (Some map) root path done) (lacks : map path ≡ None) where
+    lacking_stops : Stopped map root (fault.Read path)
+    lacking_stops = record { done = done; path = path; read = at.read; next = at.next; so = (refl, lacks) }
+
+    abbrev IsUnread : LinkFault → Type 0
+    IsUnread f = (f ≡ Memory) ⊎ ((other : List ℕ) × (f ≡ fault.Read other))
+
+    pub lacking_unread : (f : LinkFault) → RefusesLink f before after root → IsUnread f
+    lacking_unread (fault.Read other) h = inr (other, refl)
+    lacking_unread (fault.Bad other why) h = inr (path, one_stop map root (fault.Bad other why) (fault.Read path) (misread_stops other why h) lacking_stops)
+    lacking_unread (fault.NotThere other name) h = absurd (none_lacking map root h.sources h.files done path at.read at.next lacks)
+    lacking_unread (fault.Clash other name) h = absurd (none_lacking map root h.sources h.files done path at.read at.next lacks)
+    lacking_unread fault.TooManyFiles h = inr (path, one_stop map root fault.TooManyFiles (fault.Read path) (many_stop h) lacking_stops)
+    lacking_unread fault.TooManyBytes h = inr (path, one_stop map root fault.TooManyBytes (fault.Read path) (long_stop h) lacking_stops)
+    lacking_unread fault.Memory h = inl refl
+
 -- ---- the laws
 
 -- files that are told
@@ -143,3 +168,13 @@ pub refused_once : RefusedOnce
 refused_once map before after root f g told a b =
     let same = told_as before map told in
     once map before.faults after root f g (subst (λ (s : FilesSeen). RefusesLink f s after root) same a) (subst (λ (s : FilesSeen). RefusesLink g s after root) same b)
+
+pub lacking_not_linked : LackingAreNotLinked
+lacking_not_linked map root path done tree at lacks linked = none_lacking map root linked.sources linked.files done path at.read at.next lacks
+
+pub lacking_not_read : LackingAreNotRead
+lacking_not_read map before after root path done f told at lacks h =
+    let same = told_as before map told in
+    lacking_unread map before.faults after root done path
+    (subst (λ (o : Option FileMap). StopsAt o root path done) told at) (subst (λ (o : Option FileMap). LacksFile o path) told lacks)
+    f (subst (λ (s : FilesSeen). RefusesLink f s after root) same h)

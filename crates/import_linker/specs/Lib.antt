@@ -1,6 +1,7 @@
 pub mod Adding
 pub mod Laws
 pub mod Linked
+pub mod Looked
 pub mod Names
 pub mod Order
 pub mod Reading

@@ -6,6 +6,7 @@
 #![tactic(auto)]
 
 mod fault;
+mod file_numbers;
 mod fresh_run;
 mod known_paths;
 mod laws;
@@ -19,6 +20,7 @@ mod table;
 mod taken;
 
 pub use fault::LinkFault;
-pub use laws::linking_is_one;
+pub use laws::{lacking_is_told, linking_is_one};
 pub use linking::link;
+pub use reading::read_source;
 pub use sources::Source;

@@ -1,12 +1,14 @@
 // The paths of files.
 
-ghost use Rattle.std.specs.Prelude.{◌≡◌, ◌≤◌, ◌++◌, ◌∷◌, [], length, IfOk, IfErr};
+ghost use Rattle.std.specs.Prelude.{◌≡◌, ◌≤◌, ◌++◌, ◌∷◌, [], length, IfOk, IfErr, OnOk};
 ghost use Rattle.std.specs.String.{string_bytes};
 ghost use Rattle.import_linker.specs.Adding.{AddsTooMany};
+ghost use Rattle.import_linker.specs.Looked.{AreKnown};
 ghost use Rattle.import_linker.specs.Order.{joined, folder_of, begins_at_root, added, all_added, named_in, most_files};
 
 use crate::fault::LinkFault;
 use crate::known_paths::KnownPaths;
+use crate::table::Table;
 use bril_tree::import::Import;
 use bril_tree::text::Text;
 use std::alloc::{AllocError, Global};
@@ -26,10 +28,35 @@ pub(crate) fn add_imports(
     ensures few { IfOk result (λ _. length known.new ≤ most_files) }
     ensures err { IfErr result (λ fault. AddsTooMany fault known.old (named_in importer.now imports.now)) }
 {
+    let mut seen = Table::new(alloc);
     for import in imports {
-        let path = joined(alloc, importer, &import.path)?;
-        add_path(alloc, known, &path)?;
+        add_import(alloc, known, importer, &import.path, &mut seen)?;
     }
+    Ok(())
+}
+
+// Adds the file that a path names in the file of the importer, unless it is known. The paths that were seen are: those are looked at
+// no more.
+fn add_import<'t>(
+    alloc: Global,
+    known: &mut KnownPaths,
+    importer: &Text,
+    path: &'t Text,
+    seen: &mut Table<'t>,
+) -> Result<(), LinkFault>
+    requires few { length known.old ≤ most_files }
+    requires known { AreKnown known.old importer.now seen.old }
+    ensures ok { IfOk result (λ _. known.new ≡ added known.old (joined importer.now path.now)) }
+    ensures few { IfOk result (λ _. length known.new ≤ most_files) }
+    ensures known { OnOk result (AreKnown known.new importer.now seen.new) }
+    ensures err { IfErr result (λ fault. AddsTooMany fault known.old (joined importer.now path.now ∷ [])) }
+{
+    if seen.has(path.as_bytes()) {
+        return Ok(());
+    }
+    let whole = joined(alloc, importer, path)?;
+    add_path(alloc, known, &whole)?;
+    seen.add(path.as_bytes())?;
     Ok(())
 }
 

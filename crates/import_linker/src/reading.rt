@@ -58,8 +58,11 @@ pub(crate) fn read_sources<F: Files>(
     })
 }
 
-// The file at the path, of at most `most` bytes.
-fn read_source<F: Files>(
+/// The file at the path, of at most `most` bytes, read alone.
+///
+/// The first of `Read`: it is not there, or reading it failed; `TooManyBytes`: it has more bytes; `Bad`: its bytes read as no tree.
+/// `Memory` may come at any time.
+pub fn read_source<F: Files>(
     alloc: Global,
     files: &mut F,
     path: Text,

@@ -7,9 +7,9 @@ ghost use Rattle.import_linker.specs.Refusing.{HasAll};
 ghost use Rattle.import_linker.specs.Tables.{AreTables, HaveSame, first_absent, first_outside};
 
 use crate::fault::LinkFault;
+use crate::file_numbers::FileNumbers;
 use crate::fresh_run::spelled_name;
 use crate::known_paths::KnownPaths;
-use crate::paths::joined;
 use crate::sources::Source;
 use crate::table::Table;
 use bril_tree::function_tree::FuncTree;
@@ -50,9 +50,9 @@ pub(crate) fn spelled_meanings(
     ensures all { HasAll source.now.path (first_absent tables.now (taken_of paths.now source.now)) result }
 {
     let mut names = Seq::new(alloc);
+    let mut files = FileNumbers::new(alloc);
     for import in source.tree.imports.as_slice() {
-        let path = joined(alloc, &source.path, &import.path)?;
-        let file = paths.number_of(path.as_str());
+        let file = files.number_of(alloc, paths, &source.path, &import.path)?;
         spell_taken(
             alloc,
             tables,

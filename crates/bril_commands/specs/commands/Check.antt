@@ -1,4 +1,4 @@
--- `check`: how many functions and items the accepted program of a file has.
+-- `check`: how many functions and items the accepted program of its files has.
 use Rattle.std.specs.Fmt.{decimal}
 use Rattle.std.specs.Prelude.{ℕ, false, List, ◌++◌, length, codes}
 use Rattle.bril_tree.specs.Size.{item_count}

@@ -87,9 +87,14 @@ returns-in_ok-program-in-Check-clause-does g c =
       tells = Tells-none g.E.Sink.seen c.args.outputs.now.err;
     })
 
+pub returns-in-Link-clause-does : goal.returns-in-Link-clause-does
+returns-in-Link-clause-does g c =
+    let works = Works-put (λ output. output ≡ canonical_text c.args.tree.now ∷ []) (canonical_text c.args.tree.now ∷ []) refl (status_of c.put_text.result) _ _ c.put_text.ensures in
+    rw c.in-Link.is (record { same_output = refl; told = []; does = works; tells = Tells-none g.E.Sink.seen c.args.outputs.now.err })
+
 pub returns-in-WriteText-clause-does : goal.returns-in-WriteText-clause-does
 returns-in-WriteText-clause-does g c =
-    let works = Works-put (λ output. output ≡ canonical_text c.args.tree.now ∷ []) (canonical_text c.args.tree.now ∷ []) refl (status_of c.put_text.result) _ _ c.put_text.ensures in
+    let works = Works-put (λ output. output ≡ canonical_text c.args.tree.now ∷ []) (canonical_text c.args.tree.now ∷ []) refl (status_of c.put_text-in-WriteText.result) _ _ c.put_text-in-WriteText.ensures in
     rw c.in-WriteText.is (record { same_output = refl; told = []; does = works; tells = Tells-none g.E.Sink.seen c.args.outputs.now.err })
 
 pub returns-in-WriteJson-clause-does : goal.returns-in-WriteJson-clause-does

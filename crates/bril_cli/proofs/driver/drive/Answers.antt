@@ -1,13 +1,11 @@
--- The file was not read, or not as a tree, or its tree was dealt with.
+-- The files have no tree, or their tree was dealt with.
 use Rattle.std.proofs.Common.{ℕ, List, [], refl, inl, inr, subst, rules}
 use Rattle.std.proofs.lemmas.Result.{err_from_is_err_and}
 use Rattle.bril_commands.proofs.Keeping.{kept}
-use Rattle.bril_commands.proofs.Outcomes.{RefusesTree-of}
-use Rattle.bril_commands.specs.Command.{takes_passes}
-use Rattle.bril_source.specs.Format.{format_of}
+use Rattle.bril_commands.proofs.Reading.{memory_refuses, needs_alone}
+use Rattle.bril_commands.specs.Command.{takes_passes, reach}
 use Rattle.bril_commands.specs.Driver.{DoesTree}
 use Rattle.bril_commands.specs.PassList.{pass_list}
-use Rattle.bril_source.specs.Reading.{IsOnlyTree, RefusesTree}
 use Rattle.bril_commands.specs.Table.{command, KeepsPasses}
 use Rattle.bril_report.proofs.Telling.{Tells-none}
 use Rattle.bril_report.specs.StageFaults.{status_of}
@@ -17,23 +15,23 @@ use Rattle.bril_cli.proofs.driver.drive.Goals as goal
 pub returns-in_err-names-clause-does : goal.returns-in_err-names-clause-does
 returns-in_err-names-clause-does g c =
     let e = err_from_is_err_and c.from_residual.result c.from_residual.ensures.1 in
-    rw (e.1, e.2) (record { same_output = refl; told = []; does = inl (tt, ((refl, refl), refl)); tells = Tells-none g.E.Sink.seen c.args.outputs.now.err })
-
-pub returns-in_err-source-clause-does : goal.returns-in_err-source-clause-does
-returns-in_err-source-clause-does g c =
-    let e = err_from_is_err_and c.from_residual-in_err-source.result c.from_residual-in_err-source.ensures.1 in
-    rw (e.1, e.2) (record { same_output = refl; told = []; does = inl (c.in_err-source.ensures.err, ((refl, refl), refl)); tells = Tells-none g.E.Sink.seen c.args.outputs.now.err })
+    let refuses = memory_refuses (reach (command c.args.request.action)) (g.F.Files.seen c.args.files.now) (g.F.Files.seen c.args.files.now) c.args.request.path.now in
+    rw (e.1, e.2) (record { same_output = refl; told = []; does = inl (refuses, ((refl, refl), refl)); tells = Tells-none g.E.Sink.seen c.args.outputs.now.err })
 
 pub returns-in_err-tree-clause-does : goal.returns-in_err-tree-clause-does
 returns-in_err-tree-clause-does g c =
     let e = err_from_is_err_and c.from_residual-in_err-tree.result c.from_residual-in_err-tree.ensures.1 in
-    let refuses : RefusesTree c.in_err-tree.field-0.0 (format_of c.args.request.path.now) c.in_ok-source.source = search rules in
-    rw (e.1, e.2) (record { same_output = refl; told = []; does = inr (c.in_ok-source.source, c.in_ok-source.ensures.ok, inl (RefusesTree-of c.in_err-tree.field-0.0 _ _ refuses, ((refl, refl), refl))); tells = Tells-none g.E.Sink.seen c.args.outputs.now.err })
+    rw (e.1, e.2) (record { same_output = refl; told = []; does = inl (c.in_err-tree.ensures.err, ((refl, refl), refl)); tells = Tells-none g.E.Sink.seen c.args.outputs.now.err })
+
+pub do_command-requires : goal.do_command-requires
+do_command-requires g c = record {
+  range = c.requires.range;
+  alone = needs_alone (command c.args.request.action) (g.F.Files.seen c.args.files.now).holds c.args.request.path.now c.in_ok-tree.tree c.in_ok-tree.ensures.ok;
+}
 
 pub returns-clause-does : goal.returns-clause-does
 returns-clause-does g c =
     let does = c.do_command.ensures.does in
-    let only : IsOnlyTree (format_of c.args.request.path.now) c.in_ok-source.source c.in_ok-tree.tree = search rules in
     let named = subst (λ (names : List (List ℕ)). DoesTree (command c.args.request.action) (status_of c.do_command.result)
     (pass_list (λ p. (goal.Pass-dyn g (p.vtable, p.value)).meaning p.value) (λ p. (goal.Pass-dyn g (p.vtable, p.value)).counts p.value) c.args.passes.now c.do_command.new.passes.boxes.now names)
     c.in_ok-tree.tree c.args.request.args.now does.told (g.O.Sink.seen c.args.outputs.now.out.now) (g.O.Sink.seen c.do_command.new.outputs.out.now)) c.in_ok-names.ensures does.does in
@@ -41,15 +39,11 @@ returns-clause-does g c =
       same_output = does.same_output;
       told = does.told;
       does = inr (
-        c.in_ok-source.source,
-        c.in_ok-source.ensures.ok,
-        inr (
-          c.in_ok-tree.tree,
-          only,
-          subst (λ after. DoesTree (command c.args.request.action) (status_of c.do_command.result)
-              (pass_list (λ p. (goal.Pass-dyn g (p.vtable, p.value)).meaning p.value) (λ p. (goal.Pass-dyn g (p.vtable, p.value)).counts p.value) c.args.passes.now after (names_of c.args.request.list.now))
-              c.in_ok-tree.tree c.args.request.args.now does.told (g.O.Sink.seen c.args.outputs.now.out.now) (g.O.Sink.seen c.do_command.new.outputs.out.now)) (search rules) named,
-        ),
+        c.in_ok-tree.tree,
+        c.in_ok-tree.ensures.ok,
+        subst (λ after. DoesTree (command c.args.request.action) (status_of c.do_command.result)
+            (pass_list (λ p. (goal.Pass-dyn g (p.vtable, p.value)).meaning p.value) (λ p. (goal.Pass-dyn g (p.vtable, p.value)).counts p.value) c.args.passes.now after (names_of c.args.request.list.now))
+            c.in_ok-tree.tree c.args.request.args.now does.told (g.O.Sink.seen c.args.outputs.now.out.now) (g.O.Sink.seen c.do_command.new.outputs.out.now)) (search rules) named,
       );
       tells = does.tells;
     }
@@ -57,9 +51,6 @@ returns-clause-does g c =
 pub returns-clause-keeps : goal.returns-clause-keeps
 returns-clause-keeps g c =
     subst (λ after. KeepsPasses (λ p. (goal.Pass-dyn g (p.vtable, p.value)).meaning p.value) c.args.request.action c.args.passes.now after) (search rules) c.do_command.ensures.keeps
-
-pub returns-in_err-source-clause-keeps : goal.returns-in_err-source-clause-keeps
-returns-in_err-source-clause-keeps g c = kept (λ p. (goal.Pass-dyn g (p.vtable, p.value)).meaning p.value) (takes_passes (command c.args.request.action)) c.args.passes.now
 
 pub returns-in_err-tree-clause-keeps : goal.returns-in_err-tree-clause-keeps
 returns-in_err-tree-clause-keeps g c = kept (λ p. (goal.Pass-dyn g (p.vtable, p.value)).meaning p.value) (takes_passes (command c.args.request.action)) c.args.passes.now

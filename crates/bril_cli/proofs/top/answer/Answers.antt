@@ -1,5 +1,5 @@
 -- What the command answers, from what its stages answered.
-use Rattle.std.proofs.Common.{ℕ, List, ap, codes, refl, sym, subst}
+use Rattle.std.proofs.Common.{ℕ, List, ap, refl, sym, subst}
 use Rattle.bril_report.specs.StageFaults.{status_of}
 use Rattle.bril_words.specs.Names.{names_of}
 use Rattle.bril_commands.proofs.Keeping.{Keeps-same}
@@ -10,7 +10,7 @@ use Rattle.bril_commands.proofs.Telling.{puts_told}
 use Rattle.bril_commands.specs.Call.{call_of}
 use Rattle.bril_commands.specs.Command.{takes_passes}
 use Rattle.bril_commands.specs.CommandLine.{Asks, list_asked}
-use Rattle.bril_commands.specs.Driver.{DoesFile}
+use Rattle.bril_commands.specs.Driver.{DoesFiles}
 use Rattle.bril_commands.specs.PassList.{pass_list}
 use Rattle.bril_commands.specs.Table.{command}
 use Rattle.pass_law.proofs.Same.{AllSame-refl}
@@ -30,7 +30,7 @@ returns-clause-promises g c =
     let asks : Asks c.args.words.now = record { action = request.action; path = request.path.now; args = request.args.now; asked = (request.list.now, c.in-Ok.ensures.asked) } in
     let ends : Ends call asks how = record {
       told = does.told;
-      does = subst (λ (names : List (List ℕ)). DoesFile (command request.action) how
+      does = subst (λ (names : List (List ℕ)). DoesFiles (command request.action) how
           (pass_list (λ p. (goal.Pass-dyn g (p.vtable, p.value)).meaning p.value) (λ p. (goal.Pass-dyn g (p.vtable, p.value)).counts p.value) c.args.passes.now c.drive.new.passes names)
           (g.F.Files.seen c.args.files.now) (g.F.Files.seen c.drive.new.files) request.path.now request.args.now does.told (g.O.Sink.seen c.args.outputs.now.out.now) (g.O.Sink.seen c.drive.new.outputs.out.now))
           (ap (λ r. names_of (list_asked r)) (sym c.in-Ok.ensures.asked)) does.does;
@@ -47,7 +47,7 @@ returns-in-Err-clause-promises g c =
     (g.E.Sink.seen c.args.outputs.now.err.sink.now) (g.E.Sink.seen c.say.new.err.sink.now)
     (λ p. (goal.Pass-dyn g (p.vtable, p.value)).meaning p.value) (λ p. (goal.Pass-dyn g (p.vtable, p.value)).counts p.value) c.args.passes.now c.args.passes.now in
     let line = rw c.from-status.ensures at c.say.ensures.told in
-    rw (c.status_number.ensures, c.from-status.ensures) (Promises-unread call c.in-Err.misuse c.in-Err.ensures.asked refl refl refl (codes "") (Told-puts line c.requires.sound))
+    rw (c.status_number.ensures, c.from-status.ensures) (Promises-unread call c.in-Err.misuse c.in-Err.ensures.asked refl refl refl (Told-puts line c.requires.sound))
 
 pub returns-in-Err-clause-same : goal.returns-in-Err-clause-same
 returns-in-Err-clause-same g c = AllSame-refl (λ p. (goal.Pass-dyn g (p.vtable, p.value)).meaning p.value) c.args.passes.now

@@ -1,24 +1,19 @@
 -- The tree isn't numbered, or its only program isn't accepted, or it is.
-use Rattle.std.proofs.Common.{◌≡◌, ◌∙◌, true, List, [], length, rules, sym, subst}
-use Rattle.std.specs.Prelude.{◌==◌}
-use Rattle.std.proofs.lemmas.List.{nil_from_length}
+use Rattle.std.proofs.Common.{sym, subst}
 use Rattle.std.proofs.lemmas.Result.{err_from_is_err_and}
 use Rattle.bril_tree.specs.declared.program.Prog.{Prog}
-use Rattle.bril_commands.specs.Stages.{RefusesCheck, IsOnlyProgram}
+use Rattle.bril_commands.specs.Source.{IsOnlyProgram}
+use Rattle.bril_commands.specs.Stages.{RefusesCheck}
 use Rattle.bril_report.specs.StageFaults.{name_status, check_status}
 use Rattle.bril_commands.proofs.Outcomes.{RefusesNames-of, RefusesCheck-of, RefusesProgram-names, RefusesProgram-check, IsAcceptedProgram-of}
 use Rattle.bril_commands.proofs.program.accepted_program.Goals as goal
-
-empty_at : {A : Type 0} (xs : List A) → (length xs == 0) ≡ true → xs ≡ []
-empty_at xs e = nil_from_length xs (search rules)
 
 pub returns-in_err-program-clause-err : goal.returns-in_err-program-clause-err
 returns-in_err-program-clause-err c =
     let e = err_from_is_err_and c.from_residual.result c.from_residual.ensures.1 in
     let fault = c.in_err-program.field-0.0 in
-    let alone = sym c.as_slice.ensures ∙ empty_at c.as_slice.result.now (sym c.is_empty.ensures ∙ c.if-not-is_empty.false) in
     rw (e.1, e.2)
-    (RefusesProgram-names (name_status fault) c.args.tree.now alone
+    (RefusesProgram-names (name_status fault) c.args.tree.now
     (RefusesNames-of c.args.tree.now fault c.in_err-program.ensures.fault c.in_err-program.ensures.faults c.in_err-program.ensures.numbers))
 
 pub returns-in_err-check-clause-err : goal.returns-in_err-check-clause-err

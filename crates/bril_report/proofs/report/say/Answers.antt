@@ -2,10 +2,13 @@
 use Rattle.bril_report.proofs.report.say.Goals as goal
 
 pub returns-in-CannotRead : goal.returns-in-CannotRead
-returns-in-CannotRead g c = rw c.in-CannotRead.is (rw (← c.as_bytes-in-CannotRead.ensures.value) c.put_all-in-CannotRead.ensures)
+returns-in-CannotRead g c = rw c.in-CannotRead.is (rw (← c.as_bytes-in-CannotRead.ensures.value) c.put_all.ensures)
 
-pub returns-in-FileTooBig : goal.returns-in-FileTooBig
-returns-in-FileTooBig g c = rw c.in-FileTooBig.is c.put-in-FileTooBig.ensures
+pub returns-in-TooManyBytes : goal.returns-in-TooManyBytes
+returns-in-TooManyBytes g c = rw c.in-TooManyBytes.is c.put-in-TooManyBytes.ensures
+
+pub returns-in-TooManyFiles : goal.returns-in-TooManyFiles
+returns-in-TooManyFiles g c = rw c.in-TooManyFiles.is c.put-in-TooManyFiles.ensures
 
 pub returns-in-CodeTooBig : goal.returns-in-CodeTooBig
 returns-in-CodeTooBig g c = rw c.in-CodeTooBig.is c.put_number-in-CodeTooBig.ensures

@@ -1,5 +1,6 @@
 -- The paths of the imports so far are known.
 use Rattle.std.proofs.Common.{◌≡◌, ◌≤◌, length, take}
+use Rattle.import_linker.specs.Looked.{AreKnown}
 use Rattle.import_linker.specs.Order.{all_added, named_in, most_files}
 use Rattle.import_linker.proofs.paths.add_imports.Given as goal
 
@@ -7,4 +8,5 @@ abbrev pub invariant-loop-import : goal.invariant-loop-import
 invariant-loop-import l = record {
   known : l.known ≡ all_added l.initial.known (named_in l.importer (take l.import-index l.imports));
   few : length l.known ≤ most_files;
+  seen : AreKnown l.known l.importer l.seen;
 }

@@ -7,7 +7,6 @@ use Rattle.bril_tree.specs.declared.function_tree.FuncTree.{FuncTree}
 use Rattle.bril_tree.specs.declared.import.Import.{Import}
 use Rattle.import_linker.specs.Linked.{spelled}
 use Rattle.import_linker.specs.Names.{Function, functions_of, own_functions, taken_functions, taken_of}
-use Rattle.import_linker.specs.Order.{file_at}
 use Rattle.import_linker.specs.Tables.{first_absent}
 use Rattle.import_linker.specs.Refusing.{IsLack}
 use Rattle.import_linker.proofs.Firsts.{found_here_in, lack_first, absent-append, none_more_in}
@@ -26,14 +25,15 @@ loop-import-preserved c =
     let x = c.import-item.result in
     let lt : i < length imports = subst (λ (l : List Import). i < length l) c.as_slice-import-items.ensures c.loop-import-test.true in
     let is : x ≡ get_or imports i x = subst (λ (l : List Import). x ≡ get_or l i x) c.as_slice-import-items.ensures c.import-item.is in
-    let file = c.number_of-file.ensures ∙ ap (file_at paths) (c.as_str.ensures ∙ c.in_ok-path.ensures) in
-    let here : taken_functions c.number_of-file.result c.as_slice.result.now ≡ g x = ap₂ taken_functions file c.as_slice.ensures in
+    let file = c.in_ok-file.ensures.number in
+    let here : taken_functions c.in_ok-file.file c.as_slice.result.now ≡ g x = ap₂ taken_functions file c.as_slice.ensures in
     let before = flat_map g (take i imports) in
-    let none = ap (first_absent tables) (sym here) ∙ sym (outside_is tables c.number_of-file.result c.as_slice.result.now) ∙ c.in_ok-spell_taken.ensures.all in
+    let none = ap (first_absent tables) (sym here) ∙ sym (outside_is tables c.in_ok-file.file c.as_slice.result.now) ∙ c.in_ok-spell_taken.ensures.all in
     record {
       names = c.in_ok-spell_taken.ensures.ok ∙ ap₂ (λ (a : List (List ℕ)) (b : List Function). a ++ map (spelled c.args.run) b) c.loop-import.invariant.names here
           ∙ sym (ap (map (spelled c.args.run)) (flat_more g imports i x lt is) ∙ map-append (spelled c.args.run) before (g x));
       none = none_more_in (first_absent tables) (absent-append tables) g imports i x lt is c.loop-import.invariant.none none;
+      files = c.in_ok-file.ensures.numbers;
     }
 
 pub returns-in_err-spell_taken-clause-all : goal.returns-in_err-spell_taken-clause-all
@@ -47,10 +47,10 @@ returns-in_err-spell_taken-clause-all c =
     let x = c.import-item.result in
     let lt : i < length imports = subst (λ (l : List Import). i < length l) c.as_slice-import-items.ensures c.loop-import-test.true in
     let is : x ≡ get_or imports i x = subst (λ (l : List Import). x ≡ get_or l i x) c.as_slice-import-items.ensures c.import-item.is in
-    let file = c.number_of-file.ensures ∙ ap (file_at paths) (c.as_str.ensures ∙ c.in_ok-path.ensures) in
-    let here : taken_functions c.number_of-file.result c.as_slice.result.now ≡ g x = ap₂ taken_functions file c.as_slice.ensures in
+    let file = c.in_ok-file.ensures.number in
+    let here : taken_functions c.in_ok-file.file c.as_slice.result.now ≡ g x = ap₂ taken_functions file c.as_slice.ensures in
     let fault = c.in_err-spell_taken.field-0.0 in
-    let lack = subst (IsLack fault s.path) (outside_is tables c.number_of-file.result c.as_slice.result.now ∙ ap (first_absent tables) here) c.in_err-spell_taken.ensures.all in
+    let lack = subst (IsLack fault s.path) (outside_is tables c.in_ok-file.file c.as_slice.result.now ∙ ap (first_absent tables) here) c.in_err-spell_taken.ensures.all in
     let e = err_from_is_err_and c.from_residual-in_err-spell_taken.result c.from_residual-in_err-spell_taken.ensures.1 in
     rw (e.1, e.2)
     (subst (IsLack fault s.path) (sym (found_here_in (first_absent tables) (absent-append tables) g imports i x lt is c.loop-import.invariant.none)) (lack_first fault s.path _ _ lack))

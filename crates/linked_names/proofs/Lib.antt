@@ -1,0 +1,4 @@
+pub mod Being
+pub mod Differing
+pub mod Faultless
+pub mod Spelling
