@@ -1,0 +1,4 @@
+pub mod Path
+pub mod Fits
+pub mod Meetings
+pub mod Laws
