@@ -3,6 +3,8 @@
 
 mod laws;
 mod met;
+mod walk;
 
 pub use laws::paths_are_short;
 pub use met::{Meeting, item_meeting};
+pub use walk::{Leg, Path, path_within};

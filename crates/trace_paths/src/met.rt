@@ -1,8 +1,10 @@
 // How a path meets an item.
 
-ghost use Rattle.std.specs.Prelude.{◌≡◌, Some, slice_index};
+ghost use Rattle.std.specs.Prelude.{◌≡◌, ◌<◌, ℕ, All, Some, length, slice_index};
+ghost use Rattle.flow_graph.specs.Branches.{HasLabels, label_count};
 ghost use Rattle.trace_paths.specs.Meetings.{meeting_of};
 ghost use Rattle.trace_paths.specs.Path.{item_met, operation_met};
+ghost use Rattle.trace_paths.specs.Walked.{AreKnown};
 
 use bril_tree::numbered::Instr;
 use bril_tree::operation::Op;
@@ -20,7 +22,9 @@ pub enum Meeting {
 
 /// How the path of an entry meets the item. A label that the item lacks counts as 0. Takes no memory.
 pub fn item_meeting(item: &Instr) -> Meeting
-    ensures { meeting_of result ≡ item_met (Some item.now) }
+    ensures met { meeting_of result ≡ item_met (Some item.now) }
+    // The labels are of those that the item goes to.
+    ensures known { (many : ℕ) → HasLabels many item.now → AreKnown many result }
 {
     match item {
         Instr::Label(_) => Meeting::Over,
@@ -31,7 +35,8 @@ pub fn item_meeting(item: &Instr) -> Meeting
 
 // How it meets an operation with these labels.
 fn operation_meeting(op: Op, labels: &[u32]) -> Meeting
-    ensures { meeting_of result ≡ operation_met op labels.now }
+    ensures met { meeting_of result ≡ operation_met op labels.now }
+    ensures known { (many : ℕ) → label_count op ≡ length labels.now → All (λ l. l < many) labels.now → AreKnown many result }
 {
     match op {
         Op::Nop => Meeting::Over,

@@ -3,7 +3,9 @@ use Rattle.std.proofs.Common.{◌≡◌, ◌≢◌, ◌⊎◌, inl, inr, ⊎_eli
 use Rattle.std.specs.Prelude.{◌==◌, slice_get, slice_set, slice_index, slice_index_or}
 use Rattle.std.specs.List.{flat_map, range_with_len}
 use Rattle.std.proofs.lemmas.Bool.{eqb-true, eqb-false, eq-eqb, ne_eqb}
+use Rattle.std.proofs.lemmas.List.{get_or-set_other, get_or-set_same, length-replicate, length-set}
 use Rattle.std.proofs.lemmas.Option.{same_Some}
+use Rattle.std.proofs.Math.Seq.{map-set_same}
 use Rattle.bril_tree.specs.declared.numbered.Instr.{Instr}
 use Rattle.bril_tree.specs.declared.numbered.Instr.TheVariants.{Label, Const, Act}
 use Rattle.bril_tree.specs.declared.numbered_function.Func.{Func}
@@ -95,13 +97,9 @@ zero-counts [] f l = refl
 zero-counts (g ∷ funcs) zero l = zeros-read (length g.labels) l
 zero-counts (g ∷ funcs) (suc f) l = zero-counts funcs f l
 
-zeros-length : (n : ℕ) → length {A = ℕ} (replicate n 0) ≡ n
-zeros-length zero = refl
-zeros-length (suc n) = ap suc (zeros-length n)
-
 zero-sized : (funcs : List Func) → map length (zero_counts funcs) ≡ map (λ (g : Func). length g.labels) funcs
 zero-sized [] = refl
-zero-sized (g ∷ funcs) = ap₂ (λ n (ns : List ℕ). n ∷ ns) (zeros-length (length g.labels)) (zero-sized funcs)
+zero-sized (g ∷ funcs) = ap₂ (λ n (ns : List ℕ). n ∷ ns) (length-replicate (length g.labels) 0) (zero-sized funcs)
 
 pub first_read : (P : Prog) (counts : List (List ℕ)) (first : Option (List (List ℕ))) → AreFirst P counts first → (f l : ℕ) → count_in (counts_from first counts) f l ≡ count_in counts f l
 first_read P counts None a f l = refl
@@ -114,29 +112,11 @@ first_sized P counts (Some t) a sized = ap (map length) a.1 ∙ zero-sized P.fun
 
 -- ---- one arrival more
 
-row-same : (row : List ℕ) (l v : ℕ) → l < length row → slice_index (slice_set row l v) l ≡ v
-row-same [] l v h = absurd (omega arith)
-row-same (x ∷ row) zero v h = refl
-row-same (x ∷ row) (suc l) v h = row-same row l v (omega arith)
-
-row-other : (row : List ℕ) (l m v : ℕ) → (l ≡ m → ⊥) → slice_index (slice_set row l v) m ≡ slice_index row m
-row-other [] l m v n = refl
-row-other (x ∷ row) zero zero v n = absurd (n refl)
-row-other (x ∷ row) zero (suc m) v n = refl
-row-other (x ∷ row) (suc l) zero v n = refl
-row-other (x ∷ row) (suc l) (suc m) v n = row-other row l m v (λ e. n (ap suc e))
-
 rows-same : (rows : List (List ℕ)) (f l : ℕ) (row : List ℕ) → f < length rows → count_in (slice_set rows f row) f l ≡ slice_index row l
-rows-same [] f l row h = absurd (omega arith)
-rows-same (x ∷ rows) zero l row h = refl
-rows-same (x ∷ rows) (suc f) l row h = rows-same rows f l row (omega arith)
+rows-same rows f l row h = ap (λ (r : List ℕ). slice_index r l) (get_or-set_same rows f row [] h)
 
 rows-other : (rows : List (List ℕ)) (f g l : ℕ) (row : List ℕ) → (f ≡ g → ⊥) → count_in (slice_set rows f row) g l ≡ count_in rows g l
-rows-other [] f g l row n = refl
-rows-other (x ∷ rows) zero zero l row n = absurd (n refl)
-rows-other (x ∷ rows) zero (suc g) l row n = refl
-rows-other (x ∷ rows) (suc f) zero l row n = refl
-rows-other (x ∷ rows) (suc f) (suc g) l row n = rows-other rows f g l row (λ e. n (ap suc e))
+rows-other rows f g l row n = ap (λ (r : List ℕ). slice_index r l) (get_or-set_other rows f g row [] (λ e. n (sym e)))
 
 -- the counts are those of a run, up to the end of their type
 module _ (counts : List (List ℕ)) (a : Arrival) (real : ℕ → ℕ → ℕ) (here : IsCounted counts a) (are : (f l : ℕ) → count_in counts f l ≡ min (real f l) (2 ^ 32 - 1)) where
@@ -146,7 +126,7 @@ module _ (counts : List (List ℕ)) (a : Arrival) (real : ℕ → ℕ → ℕ) (
       let sl : a.label ≡ l = eqb-true a.label l ed in
       ap₂ (λ g m. count_in (counted_in counts a) g m) (sym sf) (sym sl)
       ∙ rows-same counts a.func a.label (slice_set (slice_index_or counts a.func []) a.label (min (count_in counts a.func a.label + 1) (2 ^ 32 - 1))) here.func
-      ∙ row-same (slice_index_or counts a.func []) a.label (min (count_in counts a.func a.label + 1) (2 ^ 32 - 1)) here.label
+      ∙ get_or-set_same (slice_index_or counts a.func []) a.label (min (count_in counts a.func a.label + 1) (2 ^ 32 - 1)) 0 here.label
       ∙ ap (λ n. min (n + 1) (2 ^ 32 - 1)) (are a.func a.label)
       ∙ one (real a.func a.label)
       ∙ ap₂ (λ g m. min (suc (real g m)) (2 ^ 32 - 1)) sf sl
@@ -157,7 +137,7 @@ module _ (counts : List (List ℕ)) (a : Arrival) (real : ℕ → ℕ → ℕ) (
       let sf : a.func ≡ f = eqb-true a.func f eb in
       ap (λ g. count_in (counted_in counts a) g l) (sym sf)
       ∙ rows-same counts a.func l (slice_set (slice_index_or counts a.func []) a.label (min (count_in counts a.func a.label + 1) (2 ^ 32 - 1))) here.func
-      ∙ row-other (slice_index_or counts a.func []) a.label l (min (count_in counts a.func a.label + 1) (2 ^ 32 - 1)) (eqb-false a.label l ed)
+      ∙ get_or-set_other (slice_index_or counts a.func []) a.label l (min (count_in counts a.func a.label + 1) (2 ^ 32 - 1)) 0 (λ e. eqb-false a.label l ed (sym e))
       ∙ are a.func l ∙ ap (λ g. min (real g l) (2 ^ 32 - 1)) sf
   more f l false d eb ed =
       rows-other counts a.func f l (slice_set (slice_index_or counts a.func []) a.label (min (count_in counts a.func a.label + 1) (2 ^ 32 - 1))) (eqb-false a.func f eb) ∙ are f l
@@ -166,21 +146,11 @@ module _ (counts : List (List ℕ)) (a : Arrival) (real : ℕ → ℕ → ℕ) (
   counted_more f l = more f l (a.func == f) (a.label == l) refl refl
 
 -- the lengths stay
-set-lengths : (rows : List (List ℕ)) (f : ℕ) (row : List ℕ) → length row ≡ length (slice_index_or rows f []) → map length (slice_set rows f row) ≡ map length rows
-set-lengths [] f row e = refl
-set-lengths (x ∷ rows) zero row e = ap (λ n. n ∷ map length rows) e
-set-lengths (x ∷ rows) (suc f) row e = ap (λ z. length x ∷ z) (set-lengths rows f row e)
-
-row-length : (row : List ℕ) (l v : ℕ) → length (slice_set row l v) ≡ length row
-row-length [] l v = refl
-row-length (x ∷ row) zero v = refl
-row-length (x ∷ row) (suc l) v = ap suc (row-length row l v)
-
 pub counted_sized : (counts : List (List ℕ)) (a : Option Arrival) → map length (counted_at counts a) ≡ map length counts
 counted_sized counts None = refl
 counted_sized counts (Some a) =
-    set-lengths counts a.func (slice_set (slice_index_or counts a.func []) a.label (min (count_in counts a.func a.label + 1) (2 ^ 32 - 1)))
-    (row-length (slice_index_or counts a.func []) a.label (min (count_in counts a.func a.label + 1) (2 ^ 32 - 1)))
+    let row = slice_set (slice_index_or counts a.func []) a.label (min (count_in counts a.func a.label + 1) (2 ^ 32 - 1)) in
+    map-set_same length counts a.func row [] (length-set (slice_index_or counts a.func []) a.label (min (count_in counts a.func a.label + 1) (2 ^ 32 - 1)))
 
 -- where a count stays at its end the label is hot no more
 pub hot_same : (n hot : ℕ) → hot < 2 ^ 32 → (suc (min n (2 ^ 32 - 1)) == hot) ≡ (suc n == hot)

@@ -5,7 +5,8 @@ use Rattle.std.specs.List.{All}
 use Rattle.std.specs.Option.{option_map}
 use Rattle.std.proofs.lemmas.List.Elements.{All-nil, All-cons, All-head, All-tail}
 use Rattle.std.proofs.lemmas.Bool.{eqb-true, ltb-true, ltb-false}
-use Rattle.std.proofs.lemmas.Option.{same_Some, slice_get-map}
+use Rattle.std.proofs.lemmas.List.{get_or-map, map-set}
+use Rattle.std.proofs.lemmas.Option.{same_Some, slice_get-get_or, slice_get-map}
 use Rattle.bril_profile.specs.declared.profile.Entry.{Entry}
 use Rattle.bril_interpreter.specs.declared.answer.Here.{Here}
 use Rattle.bril_interpreter.specs.Interpreter.{place_in}
@@ -25,23 +26,8 @@ use Rattle.trace_recorder.specs.Kept.{held_of, any_open, IsKept}
 
 -- ---- lists
 
-get-at : {X : Type 0} (xs : List X) (k : ℕ) (d : X) → k < length xs → slice_get xs k ≡ Some (get_or xs k d)
-get-at [] k d less = absurd (omega arith)
-get-at (x ∷ xs) zero d less = refl
-get-at (x ∷ xs) (suc k) d less = get-at xs k d (omega arith)
-
 pub get-item : {X : Type 0} (xs : List X) (k : ℕ) (x : X) → true ≡ nat_lt k (length xs) → x ≡ get_or xs k x → slice_get xs k ≡ Some x
-get-item xs k x less at = get-at xs k x (ltb-true k (length xs) (sym less)) ∙ ap Some (sym at)
-
-map-set : {X Y : Type 0} (f : X → Y) (xs : List X) (k : ℕ) (y : X) → map f (slice_set xs k y) ≡ slice_set (map f xs) k (f y)
-map-set f [] k y = refl
-map-set f (x ∷ xs) zero y = refl
-map-set f (x ∷ xs) (suc k) y = ap (λ l. f x ∷ l) (map-set f xs k y)
-
-get-map : {X Y : Type 0} (f : X → Y) (xs : List X) (k : ℕ) (d : Y) (e : X) → k < length xs → get_or (map f xs) k d ≡ f (get_or xs k e)
-get-map f [] k d e less = absurd (omega arith)
-get-map f (x ∷ xs) zero d e less = refl
-get-map f (x ∷ xs) (suc k) d e less = get-map f xs k d e (omega arith)
+get-item xs k x less at = slice_get-get_or xs k x (ltb-true k (length xs) (sym less)) ∙ ap Some (sym at)
 
 -- ---- the item of a state
 
@@ -80,7 +66,7 @@ next s (suc k) (x ∷ hs) h e = ap (λ l. seeing s x ∷ l) (next s k hs h e)
 pub each_more : (s : Option Sight) (xs : List Kept) (k : ℕ) (old : List Held) (x new : Kept) → k < length xs → x ≡ get_or xs k x → map held_of xs ≡ first_seeing k s old → held_of new ≡ seeing s (held_of x)
     → map held_of (slice_set xs k new) ≡ first_seeing (k + 1) s old
 each_more s xs k old x new less at so made =
-    let here : slice_get xs k ≡ Some x = get-at xs k x less ∙ ap Some (sym at) in
+    let here : slice_get xs k ≡ Some x = slice_get-get_or xs k x less ∙ ap Some (sym at) in
     let one : suc k ≡ k + 1 = omega arith in
     map-set held_of xs k new ∙ ap₂ (λ l h. slice_set l k h) so made
     ∙ next s k old (held_of x) (ap (λ l. slice_get l k) (sym so) ∙ slice_get-map held_of xs k ∙ ap (option_map held_of) here)
@@ -110,13 +96,8 @@ all_ended s (suc n) (k ∷ held) none = by (nat_lt 0 k.mark.fuel) refl none (λ 
 pub count_row : {V : Type 0} (g : V → List ℕ) (rows : List V) (a : Arrival) (row new : V) → a.func < length rows → row ≡ get_or rows a.func row
     → g new ≡ slice_set (g row) a.label (min (slice_index (g row) a.label + 1) (2 ^ 32 - 1)) → map g (slice_set rows a.func new) ≡ counted_in (map g rows) a
 count_row g rows a row new less at made =
-    let here : get_or (map g rows) a.func [] ≡ g row = get-map g rows a.func [] row less ∙ ap g (sym at) in
+    let here : get_or (map g rows) a.func [] ≡ g row = get_or-map g rows a.func row [] less ∙ ap g (sym at) in
     map-set g rows a.func new ∙ ap (slice_set (map g rows) a.func) (made ∙ ap (λ r. slice_set r a.label (min (slice_index r a.label + 1) (2 ^ 32 - 1))) (sym here))
-
-pub set-length : {X : Type 0} (xs : List X) (k : ℕ) (x : X) → length (slice_set xs k x) ≡ length xs
-set-length [] k x = refl
-set-length (y ∷ xs) zero x = refl
-set-length (y ∷ xs) (suc k) x = ap suc (set-length xs k x)
 
 -- ---- the entries
 

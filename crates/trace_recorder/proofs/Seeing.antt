@@ -3,7 +3,7 @@ use Rattle.std.proofs.Common.{◌≡◌, ◌⊎◌, inl, inr, ⊎_elim, ℕ, zer
 use Rattle.std.specs.Prelude.{◌==◌, nat_lt}
 use Rattle.std.specs.List.{list_any}
 use Rattle.std.proofs.lemmas.Bool.{ltb-true, ltb-false}
-use Rattle.std.proofs.lemmas.List.{map-append}
+use Rattle.std.proofs.lemmas.List.{length-map, map-append, take-map}
 use Rattle.bril_tree.specs.declared.numbered_function.Func.{Func}
 use Rattle.bril_profile.specs.declared.profile.Entry.{Entry}
 use Rattle.bril_tree.specs.declared.program.Prog.{Prog}
@@ -28,11 +28,6 @@ take-none : {X : Type 0} (m : ℕ) → take {A = X} m [] ≡ []
 take-none zero = refl
 take-none (suc m) = refl
 
-take-map : {X Y : Type 0} (f : X → Y) (m : ℕ) (xs : List X) → take m (map f xs) ≡ map f (take m xs)
-take-map f zero xs = refl
-take-map f (suc m) [] = refl
-take-map f (suc m) (x ∷ xs) = ap (λ l. f x ∷ l) (take-map f m xs)
-
 take-fits : {X : Type 0} (m : ℕ) (xs : List X) (x : X) → length (take m xs) < m → take m (xs ++ x ∷ []) ≡ take m xs ++ x ∷ []
 take-fits zero xs x h = absurd (omega arith)
 take-fits (suc m) [] x h = ap (λ l. x ∷ l) (take-none m)
@@ -43,23 +38,13 @@ take-full zero xs x h = refl
 take-full (suc m) [] x h = absurd (omega arith)
 take-full (suc m) (y ∷ xs) x h = ap (λ l. y ∷ l) (take-full m xs x (omega arith))
 
-length-map' : {X Y : Type 0} (f : X → Y) (xs : List X) → length (map f xs) ≡ length xs
-length-map' f [] = refl
-length-map' f (x ∷ xs) = ap suc (length-map' f xs)
-
-lt-true : (a b : ℕ) → nat_lt a b ≡ true → a < b
-lt-true a b e = ltb-true a b e
-
-lt-false : (a b : ℕ) → nat_lt a b ≡ false → b ≤ a
-lt-false a b e = ltb-false a b e
-
 -- an entry more, where there is room
 module _ (s : Option Sight) (most : ℕ) (all held : List Held) (is : held ≡ take most all) where
   same : map (seeing s) held ≡ take most (map (seeing s) all)
   same = ap (map (seeing s)) is ∙ sym (take-map (seeing s) most all)
 
   size : length held ≡ length (take most (map (seeing s) all))
-  size = sym (length-map' (seeing s) held) ∙ ap length same
+  size = sym (length-map held (seeing s)) ∙ ap length same
 
   none_more : first_seeing (length held) s (held ++ []) ≡ take most (map (seeing s) all ++ [])
   none_more = first-append s held [] ∙ append-nil (map (seeing s) held) ∙ same ∙ ap (take most) (sym (append-nil (map (seeing s) all)))
@@ -67,10 +52,10 @@ module _ (s : Option Sight) (most : ℕ) (all held : List Held) (is : held ≡ t
   one_more : (b : Held) (o : Bool) → nat_lt (length held) most ≡ o → first_seeing (length held) s (held ++ cond o (b ∷ []) []) ≡ take most (map (seeing s) all ++ b ∷ [])
   one_more b true e =
       first-append s held (b ∷ []) ∙ ap (λ l. l ++ b ∷ []) same
-      ∙ sym (take-fits most (map (seeing s) all) b (let h = lt-true (length held) most e in let k = size in omega arith))
+      ∙ sym (take-fits most (map (seeing s) all) b (let h = ltb-true (length held) most e in let k = size in omega arith))
   one_more b false e =
       first-append s held [] ∙ append-nil (map (seeing s) held) ∙ same
-      ∙ sym (take-full most (map (seeing s) all) b (let h = lt-false (length held) most e in let k = size in omega arith))
+      ∙ sym (take-full most (map (seeing s) all) b (let h = ltb-false (length held) most e in let k = size in omega arith))
 
 -- ---- one state more
 
