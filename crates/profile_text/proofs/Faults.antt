@@ -1,5 +1,5 @@
 -- First lines that break the form, and texts.
-use Rattle.std.proofs.Common.{◌≡◌, ◌≢◌, ◌⊎◌, inl, inr, ⊎_elim, ℕ, zero, suc, ◌+◌, ◌<◌, ◌≤◌, List, [], ◌∷◌, ◌++◌, length, map, Result, Ok, Err, refl, sym, ap, subst, ◌∙◌, arith, append_assoc, append-nil, length-append}
+use Rattle.std.proofs.Common.{◌≡◌, ◌≢◌, ◌⊎◌, inl, inr, ⊎_elim, ℕ, zero, suc, ◌+◌, ◌<◌, ◌≤◌, List, [], ◌∷◌, ◌++◌, length, map, Result, Ok, Err, refl, sym, ap, subst, ◌∙◌, arith, append_assoc, append-nil}
 use Rattle.std.specs.Prelude.{IfOk, IfErr, MatchResult}
 use Rattle.std.specs.List.{All}
 use Rattle.std.proofs.lemmas.List.Elements.{All-head, All-tail, All-same}
@@ -10,7 +10,7 @@ use Rattle.profile_text.specs.declared.fault.ProfileFault.TheVariants.{Line, Mem
 use Rattle.profile_text.specs.Form.{Lacks, IsEntry, AreEntries, entry_line, first_line, profile_lines, profile_text, text_of}
 use Rattle.profile_text.specs.Fault.{AreFirstLines, IsFirstFault, IsFaultOf, HasNoEntry}
 use Rattle.profile_text.specs.Laws.{TextsDiffer, FaultsAreOne, TextsHaveNoFault}
-use Rattle.profile_text.proofs.Cuts.{Longer, line_front, lines_longer, all_front, cut_once, lacks_at}
+use Rattle.profile_text.proofs.Cuts.{line_front, lines_longer, all_front, cut_once, lacks_at}
 use Rattle.profile_text.proofs.Entries.{lines_lack, line_lacks, first_line_lacks, entries_same}
 
 -- ---- first lines

@@ -1,5 +1,5 @@
 -- The text of a profile, and what a profile keeps.
-use Rattle.std.specs.Prelude.{◌≡◌, ◌≢◌, ℕ, ◌≤◌, Bool, true, false, List, [], ◌∷◌, ◌++◌, All, IsTrue, codes, length, map}
+use Rattle.std.specs.Prelude.{◌≢◌, ℕ, ◌≤◌, Bool, true, false, List, [], ◌∷◌, ◌++◌, All, IsTrue, codes, length, map}
 use Rattle.std.specs.List.{flat_map}
 use Rattle.bril_tree.specs.Identifier.{is_identifier}
 use Rattle.bril_profile.specs.declared.profile.Entry.{Entry}

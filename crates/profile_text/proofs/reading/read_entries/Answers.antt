@@ -1,7 +1,6 @@
-use Rattle.std.proofs.Common.{arith, sym, ◌≡◌, ◌<◌, ◌+◌, length, length-append, ap, ◌∙◌, ◌++◌, ◌∷◌, [], ℕ}
+use Rattle.std.proofs.Common.{arith, ◌≡◌, ◌+◌, length, length-append, ap, ◌∙◌, ◌++◌, ◌∷◌, []}
 use Rattle.std.proofs.lemmas.List.Elements.{All-push, All-same}
 use Rattle.std.proofs.lemmas.Result.{err_from_is_err_and}
-use Rattle.bril_profile.specs.declared.profile.Entry.{Entry}
 use Rattle.profile_text.specs.Form.{IsEntry}
 use Rattle.profile_text.proofs.Cuts.{nonempty}
 use Rattle.profile_text.proofs.Entries.{source_more}

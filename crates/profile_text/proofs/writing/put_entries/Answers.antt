@@ -1,4 +1,4 @@
-use Rattle.std.proofs.Common.{◌≡◌, ◌≤◌, get_or, length, subst, sym, List}
+use Rattle.std.proofs.Common.{◌≤◌, length, subst, sym}
 use Rattle.std.proofs.lemmas.List.Elements.{All-more}
 use Rattle.bril_profile.specs.declared.profile.Entry.{Entry}
 use Rattle.profile_text.specs.Form.{IsEntry}
