@@ -17,7 +17,7 @@ use Rattle.bril_tree.specs.Step.{code_of, item_at, items_of}
 use Rattle.bril_tree.proofs.LabelPoints.{range_high}
 use Rattle.bril_interpreter.specs.Interpreter.{newest_frame}
 use Rattle.trace_recorder.specs.declared.arrival.Arrival.{Arrival}
-use Rattle.trace_recorder.specs.Sight.{Sight, sight, sight_in, sight_at, arrival, label_met, choice_at}
+use Rattle.trace_recorder.specs.Sight.{Sight, sight, sight_in, sight_at, arrival, choice_at}
 use Rattle.trace_recorder.specs.Recorded.{counted, labels_of}
 use Rattle.trace_recorder.specs.Standing.{count_in, HasCounts}
 use Rattle.trace_recorder.specs.Counts.{zero_counts, IsPlaceOf, IsCounted, counted_in, counted_at, counts_from, AreFirst}

@@ -1,6 +1,6 @@
 -- What one state does to the entries that were begun.
 use Rattle.std.proofs.Common.{◌≡◌, ℕ, zero, suc, ◌+◌, ◌-◌, ◌^◌, ◌<◌, ◌≤◌, min, ◌&&◌, ◌||◌, Bool, true, false, cond, List, [], ◌∷◌, ◌++◌, length, map, get_or, Option, Some, None, refl, sym, ap, ap₂, subst, ◌∙◌, arith, append-nil}
-use Rattle.std.specs.Prelude.{◌==◌, nat_lt, slice_get, slice_set, slice_index, slice_index_or}
+use Rattle.std.specs.Prelude.{◌==◌, is_some, not, nat_lt, slice_get, slice_set, slice_index, slice_index_or}
 use Rattle.std.specs.List.{All}
 use Rattle.std.specs.Option.{option_map}
 use Rattle.std.proofs.lemmas.List.Elements.{All-nil, All-cons, All-head, All-tail}
@@ -17,7 +17,7 @@ use Rattle.bril_tree.specs.Step.{item_at}
 use Rattle.trace_paths.specs.Path.{item_met}
 use Rattle.trace_recorder.specs.declared.arrival.Arrival.{Arrival}
 use Rattle.trace_recorder.specs.declared.kept.Kept.{Kept}
-use Rattle.trace_recorder.specs.Sight.{Sight, sight_in, sight_at, choice_at}
+use Rattle.trace_recorder.specs.Sight.{Sight, sight_in, sight_at, choice_at, arrival, label_at}
 use Rattle.trace_recorder.specs.declared.kept.Move.TheVariants.{Ends}
 use Rattle.trace_recorder.specs.Recorded.{Own, move, met}
 use Rattle.trace_recorder.specs.Standing.{Mark, Held, count_in, seeing, first_seeing}
@@ -41,6 +41,26 @@ seen_is P (Some f) h item choice here at goes =
     let there : item_at P f.function f.point ≡ Some item = ap₂ (λ a b. item_at P a b) (sym func) (sym point) ∙ at in
     let goes_so : choice ≡ choice_at item f.locations = goes f refl in
     (λ i. Some (record { function = func i; point = point i; item = item; choice = goes_so i })) ∙ sym (ap (sight_at f) there)
+
+-- the arrival of a state
+pub no_frame : (P : Prog) (o : Option Frame) → None ≡ option_map place_in o → None ≡ arrival (sight_in P o)
+no_frame P None here = refl
+no_frame P (Some f) here = absurd (let n : None ≡ Some (place_in f) = here in cc)
+
+module _ (P : Prog) (f : Frame) (h : Here) (here : h ≡ place_in f) where
+  pub item_there : item_at P f.function f.point ≡ item_at P h.func h.item
+  item_there = ap₂ (λ a b. item_at P a b) (sym (ap (λ (z : Here). z.func) here)) (sym (ap (λ (z : Here). z.item) here))
+
+pub no_item : (P : Prog) (o : Option Frame) (h : Here) → Some h ≡ option_map place_in o → item_at P h.func h.item ≡ None → None ≡ arrival (sight_in P o)
+no_item P None h here at = refl
+no_item P (Some f) h here at = sym (ap (λ i. arrival (sight_at f i)) (item_there P f h (same_Some h (place_in f) here) ∙ at))
+
+pub arrival_is : (P : Prog) (o : Option Frame) (h : Here) (item : Instr) → Some h ≡ option_map place_in o → item_at P h.func h.item ≡ Some item → label_at h.func h.item item ≡ arrival (sight_in P o)
+arrival_is P None h item here at = absurd (let n : Some h ≡ None = here in cc)
+arrival_is P (Some f) h item here at =
+    let same : h ≡ place_in f = same_Some h (place_in f) here in
+    ap₂ (λ a b. label_at a b item) (ap (λ (z : Here). z.func) same) (ap (λ (z : Here). z.item) same)
+    ∙ sym (ap (λ i. arrival (sight_at f i)) (item_there P f h same ∙ at))
 
 -- ---- the move of one path
 
@@ -114,3 +134,7 @@ entries-short (k ∷ held) all =
 pub entries-length : (held : List Kept) → length (map (λ k. (held_of k).entry) held) ≡ length held
 entries-length [] = refl
 entries-length (k ∷ held) = ap suc (entries-length held)
+
+pub none_from : {X : Type 0} (o : Option X) (b : Bool) → is_some o ≡ not b → b ≡ true → o ≡ None
+none_from None b e t = refl
+none_from (Some x) b e t = absurd (let h : true ≡ false = e ∙ ap not t in cc)

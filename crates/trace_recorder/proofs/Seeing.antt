@@ -71,7 +71,7 @@ begun-is : (P : Prog) (a : Option Arrival) → held_at P a [] ≡ begun_at P a
 begun-is P None = refl
 begun-is P (Some a) = refl
 
-module _ (P : Prog) (r : RecorderView) (hot most : ℕ) (run : List State) (stands : StandsFor r P hot most run) (few : r.hot < 2 ^ 32) (st : State) (first : Option (List (List ℕ))) (tables : AreFirst P r.counts first) where
+module _ (P : Prog) (r : RecorderView) (hot most : ℕ) (run : List State) (stands : StandsFor r P hot most run) (few : r.hot < 2 ^ 32) (st : State) where
   abbrev all : List (Option Sight)
   all = map (sight P) run
 
@@ -119,23 +119,36 @@ module _ (P : Prog) (r : RecorderView) (hot most : ℕ) (run : List State) (stan
       ∙ ap (λ l. take most (map (seeing s) held_so ++ l)) (sym (begun-is P (is_hot hot (counts_on no_counts all) (arrival s))))
       ∙ ap (take most) (sym (held-append P hot all no_counts s) ∙ ap (held_on P hot no_counts) (sym longer))
 
-  sized_after : map length (counts_from first r.counts) ≡ map (λ (f : Func). length f.labels) P.funcs
-  sized_after = first_sized P r.counts first tables stands.sized
-
-  counts_by : (a : Option Arrival) → arrival s ≡ a → (f l : ℕ) → count_in (counted_at (counts_from first r.counts) a) f l ≡ min (counted a (counts_on no_counts all) f l) (2 ^ 32 - 1)
-  counts_by None e f l = first_read P r.counts first tables f l ∙ stands.counts f l
-  counts_by (Some a) e f l =
-      counted_more (counts_from first r.counts) a (counts_on no_counts all) (place_counted P (counts_from first r.counts) a sized_after (place_of P st a e))
-      (λ g m. first_read P r.counts first tables g m ∙ stands.counts g m) f l
-
-  pub stands_after : StandsFor (after P s first r) P hot most (run ++ st ∷ [])
-  stands_after = record {
+  -- where no path goes on, and the state is no arrival
+  pub quiet : arrival s ≡ None → first_seeing (length r.held) s r.held ≡ r.held → StandsFor r P hot most (run ++ st ∷ [])
+  quiet none ended = record {
     hot_is = stands.hot_is;
     most_is = stands.most_is;
-    held = held_after;
-    sized = inr (counted_sized (counts_from first r.counts) (arrival s) ∙ sized_after);
-    counts = λ f l. counts_by (arrival s) refl f l ∙ ap (λ (c : ℕ → ℕ → ℕ). min (c f l) (2 ^ 32 - 1)) (sym (counts-append all no_counts s) ∙ ap (counts_on no_counts) (sym longer));
+    held = sym (ap (λ a. first_seeing (length r.held) s (r.held ++ begun_at P (begins r a))) none ∙ ap (first_seeing (length r.held) s) (append-nil r.held) ∙ ended) ∙ held_after;
+    sized = stands.sized;
+    counts = λ f l.
+        stands.counts f l ∙ ap (λ a. min (counted a (counts_on no_counts all) f l) (2 ^ 32 - 1)) (sym none)
+        ∙ ap (λ (c : ℕ → ℕ → ℕ). min (c f l) (2 ^ 32 - 1)) (sym (counts-append all no_counts s) ∙ ap (counts_on no_counts) (sym longer));
   }
+
+  module _ (first : Option (List (List ℕ))) (tables : AreFirst P r.counts first) where
+    sized_after : map length (counts_from first r.counts) ≡ map (λ (f : Func). length f.labels) P.funcs
+    sized_after = first_sized P r.counts first tables stands.sized
+
+    counts_by : (a : Option Arrival) → arrival s ≡ a → (f l : ℕ) → count_in (counted_at (counts_from first r.counts) a) f l ≡ min (counted a (counts_on no_counts all) f l) (2 ^ 32 - 1)
+    counts_by None e f l = first_read P r.counts first tables f l ∙ stands.counts f l
+    counts_by (Some a) e f l =
+        counted_more (counts_from first r.counts) a (counts_on no_counts all) (place_counted P (counts_from first r.counts) a sized_after (place_of P st a e))
+        (λ g m. first_read P r.counts first tables g m ∙ stands.counts g m) f l
+
+    pub stands_after : StandsFor (after P s first r) P hot most (run ++ st ∷ [])
+    stands_after = record {
+      hot_is = stands.hot_is;
+      most_is = stands.most_is;
+      held = held_after;
+      sized = inr (counted_sized (counts_from first r.counts) (arrival s) ∙ sized_after);
+      counts = λ f l. counts_by (arrival s) refl f l ∙ ap (λ (c : ℕ → ℕ → ℕ). min (c f l) (2 ^ 32 - 1)) (sym (counts-append all no_counts s) ∙ ap (counts_on no_counts) (sym longer));
+    }
 
 -- the same, where the recorder changes step by step
 pub seeing_on : (P Q : Prog) (r begun_r seen_r counted_r : RecorderView) (n : ℕ) (st : State) (first : Option (List (List ℕ))) (s : Option Sight) (a : Option Arrival)

@@ -40,11 +40,11 @@ abbrev pub sight : Prog → State → Option Sight
 sight P s = sight_in P (newest_frame s)
 
 -- a state whose newest frame stands at a label is an arrival at it
-abbrev pub label_met : Sight → Instr → Option Arrival
-label_met s (Label l) = Some (record { func = s.function; label = l; point = s.point })
-label_met s (Const dest ty value) = None
-label_met s (Act dest ty operation args funcs labels) = None
+abbrev pub label_at : (function point : ℕ) → Instr → Option Arrival
+label_at function point (Label l) = Some (record { func = function; label = l; point = point })
+label_at function point (Const dest ty value) = None
+label_at function point (Act dest ty operation args funcs labels) = None
 
 abbrev pub arrival : Option Sight → Option Arrival
 arrival None = None
-arrival (Some s) = label_met s s.item
+arrival (Some s) = label_at s.function s.point s.item

@@ -7,6 +7,7 @@ ghost use Rattle.bril_tree.specs.State.{State};
 ghost use Rattle.trace_recorder.specs.declared.arrival.Arrival.{Arrival as Arrived};
 ghost use Rattle.trace_recorder.specs.Counts.{AreFirst, IsPlaceOf, counted_at, counts_from};
 ghost use Rattle.trace_recorder.specs.Kept.{view_of, held_of, sight_seen, any_open, IsKept, IsSound};
+ghost use Rattle.trace_recorder.specs.Sight.{sight, arrival as arrival_of};
 ghost use Rattle.trace_recorder.specs.Standing.{StandsFor, begins, begun, begun_at, first_seeing};
 
 use crate::arrival::{Arrival, arrival_at};
@@ -33,7 +34,7 @@ pub struct Parts {
 }
 
 impl Parts {
-    // Sees the state before a step. All memory is taken before anything changes.
+    // Sees the state before a step. Most states are no arrivals, and no path goes on: nothing is to be done at them.
     pub fn see(&mut self, now: &Interp<'_>) -> Result<(), AllocError>
         requires { IsSound self.old }
         ensures sound { IsSound self.new }
@@ -41,13 +42,27 @@ impl Parts {
             → StandsFor (view_of self.new) now.now.checked.prog hot most (run ++ state_of now.now ∷ [])) }
         ensures err { OnErr result (view_of self.new ≡ view_of self.old) }
     {
+        let arrival = arrival_at(now);
+        if !self.open && arrival.is_none() {
+            return Ok(());
+        }
+        self.see_all(now, arrival)
+    }
+
+    // Sees any state. All memory is taken before anything changes.
+    fn see_all(&mut self, now: &Interp<'_>, arrival: Option<Arrival>) -> Result<(), AllocError>
+        requires sound { IsSound self.old }
+        requires arrival { arrival ≡ arrival_of (sight now.now.checked.prog (state_of now.now)) }
+        ensures sound { IsSound self.new }
+        ensures ok { OnOk result ((hot most : ℕ) (run : List State) → StandsFor (view_of self.old) now.now.checked.prog hot most run
+            → StandsFor (view_of self.new) now.now.checked.prog hot most (run ++ state_of now.now ∷ [])) }
+        ensures err { OnErr result (view_of self.new ≡ view_of self.old) }
+    {
         let prog = now.prog().prog();
-        let seen = seen_at(now);
-        let arrival = arrival_at(&seen);
         let first = self.first_counts(prog)?;
         let before = self.held.len();
         self.begin_if_hot(prog, arrival)?;
-        self.follow(before, &seen);
+        self.follow(before, now);
         self.count(first, arrival);
         Ok(())
     }
@@ -102,15 +117,28 @@ impl Parts {
     }
 
     // The run makes the next state in the paths of the entries before the last ones. Takes no memory.
-    fn follow(&mut self, before: usize, seen: &Option<Seen<'_>>)
+    fn follow(&mut self, before: usize, now: &Interp<'_>)
+        requires sound { IsSound self.old }
+        requires before { before ≤ length self.old.held.items }
+        ensures sound { IsSound self.new }
+        ensures view { view_of self.new ≡ record (view_of self.old) {
+          held = first_seeing before (sight now.now.checked.prog (state_of now.now)) (view_of self.old).held;
+        } }
+    {
+        if !self.open {
+            return;
+        }
+        let seen = seen_at(now);
+        self.follow_each(before, &seen);
+    }
+
+    // The same, by what the state shows.
+    fn follow_each(&mut self, before: usize, seen: &Option<Seen<'_>>)
         requires sound { IsSound self.old }
         requires before { before ≤ length self.old.held.items }
         ensures sound { IsSound self.new }
         ensures view { view_of self.new ≡ record (view_of self.old) { held = first_seeing before (sight_seen seen.now) (view_of self.old).held } }
     {
-        if !self.open {
-            return;
-        }
         see_each(&mut self.held, before, seen);
         self.open = still_open(self.held.as_slice());
     }

@@ -43,7 +43,7 @@ pub fn seen_at<'a>(now: &'a Interp<'_>) -> Option<Seen<'a>>
 }
 
 // The items of a function; none where the program lacks it.
-fn items_of(prog: &Prog, func: u32) -> &[Instr]
+pub fn items_of(prog: &Prog, func: u32) -> &[Instr]
     ensures { result.now ≡ code_of prog.now func }
 {
     match prog.funcs.as_slice().get(func as usize) {
