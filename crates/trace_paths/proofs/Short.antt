@@ -1,10 +1,10 @@
 -- Paths lay few items.
-use Rattle.std.proofs.Common.{◌≡◌, ℕ, zero, suc, ◌<◌, ◌≤◌, Bool, true, false, List, [], ◌∷◌, length, refl, sym, subst, arith, cond}
+use Rattle.std.proofs.Common.{◌≡◌, ℕ, zero, suc, ◌≤◌, Bool, true, false, List, [], ◌∷◌, length, refl, sym, subst, arith, cond}
 use Rattle.std.specs.Prelude.{slice_get, ◌==◌}
 use Rattle.bril_tree.specs.declared.numbered.Instr.{Instr}
 use Rattle.bril_tree.specs.Step.{point_of}
-use Rattle.trace_paths.specs.Path.{Path, Leg, Straight, Turn, Meeting, Over, To, Lays, Turns, Stops, stopped, with_leg, turns, chosen, path_by, path_from, path_of, item_met}
-use Rattle.trace_paths.specs.Laws.{IsShort, PathsAreShort}
+use Rattle.trace_paths.specs.Path.{Path, Meeting, Over, To, Lays, Turns, Stops, stopped, turns, chosen, path_by, path_from, path_of, item_met}
+use Rattle.trace_paths.specs.Laws.{PathsAreShort}
 
 -- What a path lays and takes, where so many items may be laid.
 record Few (p : Path) (room : ℕ) (choices : List Bool) : Type 0 where

@@ -1,15 +1,14 @@
 -- One step of a path.
-use Rattle.std.proofs.Common.{◌≡◌, ℕ, zero, suc, ◌<◌, ◌≤◌, ◌-◌, ◌+◌, ◌⊎◌, inl, inr, Bool, true, false, List, [], ◌∷◌, ◌++◌, length, map, drop, append_assoc, append-nil, Option, Some, None, refl, sym, ap, ◌∙◌, cond, arith}
-use Rattle.std.specs.Prelude.{slice_get, slice_index, ◌==◌}
-use Rattle.std.proofs.lemmas.Bool.{eqb-false, ne_eqb, eq-eqb}
+use Rattle.std.proofs.Common.{◌≡◌, ℕ, zero, suc, ◌<◌, ◌≤◌, ◌-◌, ◌+◌, ◌⊎◌, inl, inr, Bool, List, [], ◌∷◌, ◌++◌, length, drop, append_assoc, append-nil, Option, Some, None, refl, sym, ap, ◌∙◌, cond, arith}
+use Rattle.std.specs.Prelude.{slice_get, slice_index}
+use Rattle.std.proofs.lemmas.Bool.{ne_eqb, eq-eqb}
 use Rattle.std.proofs.lemmas.Option.{get_or_from_slice_get, same_Some}
 use Rattle.bril_tree.specs.declared.numbered.Instr.{Instr}
-use Rattle.bril_tree.specs.Step.{point_of, is_label}
-use Rattle.trace_paths.specs.Path.{Path, Leg, Straight, Turn, Meeting, Lays, Turns, Stops, chosen, stopped, with_leg, path_from, path_by, item_met}
+use Rattle.bril_tree.specs.Step.{point_of}
+use Rattle.trace_paths.specs.Path.{Path, Leg, Straight, Turn, Meeting, Lays, Turns, chosen, stopped, with_leg, path_from, path_by, item_met}
 use Rattle.trace_paths.specs.Meetings.{meeting_of}
-use Rattle.trace_paths.specs.Walked.{behind_legs, leg_of, later}
+use Rattle.trace_paths.specs.Walked.{behind_legs, later}
 use Rattle.bril_tree.specs.Labels.{IsLabelTable}
-use Rattle.trace_paths.specs.declared.walk.Leg as kept
 use Rattle.trace_paths.specs.declared.met.Meeting as kept_met
 use Rattle.trace_paths.specs.declared.met.Meeting.TheVariants as is
 

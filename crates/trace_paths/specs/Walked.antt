@@ -1,5 +1,5 @@
 -- What a walk along a path does at a point, as it is kept.
-use Rattle.std.specs.Prelude.{◌≡◌, ℕ, ◌<◌, ◌≤◌, ◌-◌, Bool, List, [], ◌∷◌, ◌++◌, length}
+use Rattle.std.specs.Prelude.{ℕ, ◌<◌, ◌≤◌, ◌-◌, Bool, List, [], ◌∷◌, ◌++◌, length}
 use Rattle.trace_paths.specs.declared.met.Meeting.{Meeting}
 use Rattle.trace_paths.specs.declared.met.Meeting.TheVariants as met
 use Rattle.trace_paths.specs.declared.walk.Leg.{Leg}

@@ -1,13 +1,12 @@
 -- One state more at the end of a run.
-use Rattle.std.proofs.Common.{◌≡◌, ℕ, zero, suc, ◌&&◌, ◌==◌, Bool, true, false, cond, List, [], ◌∷◌, ◌++◌, length, map, Option, Some, None, refl, sym, ap, ◌∙◌, append_assoc, append-nil}
-use Rattle.bril_profile.specs.declared.profile.Entry.{Entry}
+use Rattle.std.proofs.Common.{◌≡◌, ℕ, List, [], ◌∷◌, ◌++◌, map, Option, Some, None, refl, ap, append-nil}
 use Rattle.bril_tree.specs.declared.program.Prog.{Prog}
 use Rattle.trace_recorder.specs.declared.arrival.Arrival.{Arrival}
 use Rattle.trace_recorder.specs.declared.kept.Move.{Move}
 use Rattle.trace_recorder.specs.declared.kept.Move.TheVariants.{Ends, Goes, Chooses}
 use Rattle.trace_recorder.specs.Sight.{Sight, arrival}
 use Rattle.trace_recorder.specs.Recorded.{Own, move, chosen_on, choices_on, counted, is_hot, entry_at, own_of, entry_on, entries_on}
-use Rattle.trace_recorder.specs.Standing.{Mark, Held, rest_of, left_on, left_after, held_at, held_on, counts_on, added, seeing}
+use Rattle.trace_recorder.specs.Standing.{Held, rest_of, left_on, left_after, held_at, held_on, counts_on, added, seeing}
 
 -- the choices of one entry
 pub choices-append : (own : Own) (run : List (Option Sight)) (fuel room : ℕ) (s : Option Sight)

@@ -1,7 +1,7 @@
 -- Counts of arrivals.
-use Rattle.std.proofs.Common.{◌≡◌, ◌≢◌, ◌⊎◌, inl, inr, ⊎_elim, ℕ, zero, suc, ◌+◌, ◌-◌, ◌^◌, ◌<◌, ◌≤◌, min, ◌&&◌, Bool, true, false, not, cond, List, [], ◌∷◌, ◌++◌, length, map, get_or, replicate, Option, Some, None, refl, sym, ap, ap₂, subst, ◌∙◌, arith}
+use Rattle.std.proofs.Common.{◌≡◌, inl, inr, ℕ, zero, suc, ◌+◌, ◌-◌, ◌^◌, ◌<◌, min, ◌&&◌, Bool, true, false, cond, List, [], ◌∷◌, length, map, replicate, Option, Some, None, refl, sym, ap, ap₂, subst, ◌∙◌, arith}
 use Rattle.std.specs.Prelude.{◌==◌, slice_get, slice_set, slice_index, slice_index_or}
-use Rattle.std.specs.List.{flat_map, range_with_len}
+use Rattle.std.specs.List.{flat_map}
 use Rattle.std.proofs.lemmas.Bool.{eqb-true, eqb-false, eq-eqb, ne_eqb}
 use Rattle.std.proofs.lemmas.List.{get_or-set_other, get_or-set_same, length-replicate, length-set}
 use Rattle.std.proofs.lemmas.Option.{same_Some}
@@ -13,11 +13,11 @@ use Rattle.bril_tree.specs.declared.program.Prog.{Prog}
 use Rattle.bril_tree.specs.FunctionForm.{label_at}
 use Rattle.bril_tree.specs.Membership.{In}
 use Rattle.bril_tree.specs.State.{Frame, State}
-use Rattle.bril_tree.specs.Step.{code_of, item_at, items_of}
+use Rattle.bril_tree.specs.Step.{item_at, items_of}
 use Rattle.bril_tree.proofs.LabelPoints.{range_high}
 use Rattle.bril_interpreter.specs.Interpreter.{newest_frame}
 use Rattle.trace_recorder.specs.declared.arrival.Arrival.{Arrival}
-use Rattle.trace_recorder.specs.Sight.{Sight, sight, sight_in, sight_at, arrival, choice_at}
+use Rattle.trace_recorder.specs.Sight.{sight, sight_in, sight_at, arrival}
 use Rattle.trace_recorder.specs.Recorded.{counted, labels_of}
 use Rattle.trace_recorder.specs.Standing.{count_in, HasCounts}
 use Rattle.trace_recorder.specs.Counts.{zero_counts, IsPlaceOf, IsCounted, counted_in, counted_at, counts_from, AreFirst}

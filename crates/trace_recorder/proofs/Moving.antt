@@ -1,6 +1,6 @@
 -- What one state does to the entries that were begun.
-use Rattle.std.proofs.Common.{◌≡◌, ℕ, zero, suc, ◌+◌, ◌-◌, ◌^◌, ◌<◌, ◌≤◌, min, ◌&&◌, ◌||◌, Bool, true, false, cond, List, [], ◌∷◌, ◌++◌, length, map, get_or, Option, Some, None, refl, sym, ap, ap₂, subst, ◌∙◌, arith, append-nil}
-use Rattle.std.specs.Prelude.{◌==◌, is_some, not, nat_lt, slice_get, slice_set, slice_index, slice_index_or}
+use Rattle.std.proofs.Common.{◌≡◌, ℕ, zero, suc, ◌+◌, ◌-◌, ◌^◌, ◌<◌, ◌≤◌, min, ◌&&◌, ◌||◌, Bool, true, false, cond, List, [], ◌∷◌, length, map, get_or, Option, Some, None, refl, sym, ap, ap₂, ◌∙◌, arith, append-nil}
+use Rattle.std.specs.Prelude.{◌==◌, is_some, not, nat_lt, slice_get, slice_set, slice_index}
 use Rattle.std.specs.List.{All}
 use Rattle.std.specs.Option.{option_map}
 use Rattle.std.proofs.lemmas.List.Elements.{All-nil, All-cons, All-head, All-tail}
@@ -20,7 +20,7 @@ use Rattle.trace_recorder.specs.declared.kept.Kept.{Kept}
 use Rattle.trace_recorder.specs.Sight.{Sight, sight_in, sight_at, choice_at, arrival, label_at}
 use Rattle.trace_recorder.specs.declared.kept.Move.TheVariants.{Ends}
 use Rattle.trace_recorder.specs.Recorded.{Own, move, met}
-use Rattle.trace_recorder.specs.Standing.{Mark, Held, count_in, seeing, first_seeing}
+use Rattle.trace_recorder.specs.Standing.{Held, seeing, first_seeing}
 use Rattle.trace_recorder.specs.Counts.{counted_in}
 use Rattle.trace_recorder.specs.Kept.{held_of, any_open, IsKept}
 

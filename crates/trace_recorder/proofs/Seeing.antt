@@ -1,18 +1,16 @@
 -- A recorder that sees one state more.
-use Rattle.std.proofs.Common.{◌≡◌, ◌⊎◌, inl, inr, ⊎_elim, ℕ, zero, suc, ◌+◌, ◌-◌, ◌^◌, ◌<◌, ◌≤◌, min, ◌&&◌, Bool, true, false, cond, List, [], ◌∷◌, ◌++◌, length, map, take, Option, Some, None, refl, sym, ap, ap₂, subst, ◌∙◌, arith, append-nil}
+use Rattle.std.proofs.Common.{◌≡◌, inr, ℕ, zero, suc, ◌-◌, ◌^◌, ◌<◌, ◌≤◌, min, ◌&&◌, Bool, true, false, cond, List, [], ◌∷◌, ◌++◌, length, map, take, Option, Some, None, refl, sym, ap, ap₂, subst, ◌∙◌, arith, append-nil}
 use Rattle.std.specs.Prelude.{◌==◌, nat_lt}
-use Rattle.std.specs.List.{list_any}
 use Rattle.std.proofs.lemmas.Bool.{ltb-true, ltb-false}
 use Rattle.std.proofs.lemmas.List.{length-map, map-append, take-map}
 use Rattle.bril_tree.specs.declared.numbered_function.Func.{Func}
-use Rattle.bril_profile.specs.declared.profile.Entry.{Entry}
 use Rattle.bril_tree.specs.declared.program.Prog.{Prog}
 use Rattle.bril_tree.specs.State.{State}
 use Rattle.trace_recorder.specs.declared.arrival.Arrival.{Arrival}
 use Rattle.trace_recorder.specs.Sight.{Sight, sight, arrival}
-use Rattle.trace_recorder.specs.Recorded.{no_counts, counted, is_hot, recorded, entries_on}
-use Rattle.trace_recorder.specs.Standing.{Held, held_at, held_on, counts_on, count_in, seeing, first_seeing, RecorderView, StandsFor, HasCounts, begun, begun_at, begins}
-use Rattle.trace_recorder.specs.Counts.{counted_at, counts_from, AreFirst, IsPlaceOf}
+use Rattle.trace_recorder.specs.Recorded.{no_counts, counted, is_hot, recorded}
+use Rattle.trace_recorder.specs.Standing.{Held, held_at, held_on, counts_on, count_in, seeing, first_seeing, RecorderView, StandsFor, begun, begun_at, begins}
+use Rattle.trace_recorder.specs.Counts.{counted_at, counts_from, AreFirst}
 use Rattle.trace_recorder.proofs.Appending.{counts-append, held-append, held-entries}
 use Rattle.trace_recorder.proofs.Counting.{first_read, first_sized, place_counted, place_of, counted_more, counted_sized, hot_same}
 

@@ -1,5 +1,5 @@
 -- What the parts of a recorder are, and what they keep.
-use Rattle.std.specs.Prelude.{◌≡◌, ℕ, ◌+◌, ◌^◌, ◌<◌, ◌≤◌, Bool, false, All, List, [], ◌∷◌, length, map, nat_lt, vec_capacity, Option}
+use Rattle.std.specs.Prelude.{◌≡◌, ℕ, ◌+◌, ◌^◌, ◌<◌, ◌≤◌, Bool, false, All, List, [], length, map, nat_lt, vec_capacity, Option}
 use Rattle.std.specs.List.{list_any}
 use Rattle.std.specs.Option.{option_map}
 use Rattle.trace_recorder.specs.declared.kept.Kept.{Kept}

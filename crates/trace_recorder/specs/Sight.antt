@@ -1,5 +1,5 @@
 -- What a state of a run shows of the paths through it.
-use Rattle.std.specs.Prelude.{ℕ, Bool, false, List, Option, Some, None, slice_get}
+use Rattle.std.specs.Prelude.{ℕ, Bool, false, List, Option, Some, None}
 use Rattle.bril_tree.specs.declared.numbered.Instr.{Instr}
 use Rattle.bril_tree.specs.declared.numbered.Instr.TheVariants.{Label, Const, Act}
 use Rattle.bril_tree.specs.declared.operation.Op.{Op}

@@ -1,5 +1,5 @@
-use Rattle.std.proofs.Common.{◌≡◌, ◌≤◌, ◌<◌, ◌-◌, suc, length, map, drop}
-use Rattle.trace_paths.specs.Path.{Path, path_from}
+use Rattle.std.proofs.Common.{◌≡◌, ◌≤◌, suc, length, map, drop}
+use Rattle.trace_paths.specs.Path.{path_from}
 use Rattle.trace_paths.specs.Walked.{leg_of, behind_legs}
 use Rattle.trace_paths.proofs.walk.path_within.Given as goal
 

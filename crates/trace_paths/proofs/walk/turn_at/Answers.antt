@@ -1,4 +1,4 @@
-use Rattle.std.proofs.Common.{rules, ◌≡◌, ℕ, ◌<◌, ◌≤◌, ◌-◌, ◌+◌, Bool, List, [], Some, None, length, map, drop, suc, refl, sym, ap, subst, ◌∙◌, arith}
+use Rattle.std.proofs.Common.{◌≡◌, ◌≤◌, ◌-◌, Some, length, drop, refl, sym, ap, subst, ◌∙◌, arith}
 use Rattle.std.specs.Prelude.{slice_get}
 use Rattle.std.proofs.lemmas.List.{drop_all}
 use Rattle.std.proofs.lemmas.Option.{slice_get_read, slice_get-get_or}
@@ -8,7 +8,6 @@ use Rattle.bril_tree.specs.Step.{point_of}
 use Rattle.flow_graph.specs.Branches.{HasLabels}
 use Rattle.trace_paths.specs.Path as path
 use Rattle.trace_paths.specs.Path.{path_by, item_met}
-use Rattle.trace_paths.specs.Meetings.{meeting_of}
 use Rattle.trace_paths.specs.Walked.{later}
 use Rattle.trace_paths.proofs.Steps.{lays-on, full-on, stops-on, none-on, choose-on, drop-first, point-inside}
 use Rattle.trace_paths.proofs.walk.turn_at.Goals as goal

@@ -1,9 +1,9 @@
-use Rattle.std.proofs.Common.{◌≡◌, None, Some, sym, ap, ◌∙◌}
+use Rattle.std.proofs.Common.{◌≡◌, Some, sym, ap, ◌∙◌}
 use Rattle.std.specs.Prelude.{slice_get}
 use Rattle.bril_checker.specs.Checked.{CheckedView}
 use Rattle.bril_interpreter.specs.Interpreter.{state_of, newest_frame}
 use Rattle.bril_tree.specs.Step.{code_of, item_at}
-use Rattle.trace_recorder.proofs.Moving.{get-item, no_frame, no_item, arrival_is}
+use Rattle.trace_recorder.proofs.Moving.{get-item, arrival_is}
 use Rattle.trace_recorder.proofs.arrival.arrival_at.Goals as goal
 
 pub returns : goal.returns

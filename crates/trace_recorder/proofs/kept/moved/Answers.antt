@@ -1,4 +1,4 @@
-use Rattle.std.proofs.Common.{◌≡◌, Some, sym, ap, ◌∙◌}
+use Rattle.std.proofs.Common.{◌≡◌, sym, ap, ◌∙◌}
 use Rattle.trace_recorder.specs.Kept.{sight_of, sight_seen}
 use Rattle.trace_recorder.specs.Recorded.{move}
 use Rattle.trace_recorder.proofs.Moving.{moved_on}

@@ -1,6 +1,6 @@
 use Rattle.std.proofs.Common.{sym, ◌∙◌}
 use Rattle.bril_interpreter.specs.Interpreter.{state_of}
-use Rattle.trace_recorder.specs.Kept.{view_of, held_of, sight_seen}
+use Rattle.trace_recorder.specs.Kept.{view_of}
 use Rattle.trace_recorder.specs.Sight.{sight}
 use Rattle.trace_recorder.specs.Standing.{first_seeing}
 use Rattle.trace_recorder.proofs.Moving.{all_ended}
