@@ -1,0 +1,10 @@
+use Rattle.std.proofs.Common.{inr, refl}
+use Rattle.profile_text.proofs.Faults.{no_line, no_entry}
+use Rattle.profile_text.proofs.reading.next_entry.Goals as goal
+
+pub returns-in_default-clause-fault : goal.returns-in_default-clause-fault
+returns-in_default-clause-fault c = inr (refl, λ _. no_line c.args.rest.now c.in_default.ensures)
+
+pub returns-in_default-2-clause-fault : goal.returns-in_default-2-clause-fault
+returns-in_default-2-clause-fault c =
+    inr (refl, λ _. no_entry c.args.rest.now c.in-Some.next.now c.in-Some.after.now c.in-Some.ensures.0 c.in-Some.ensures.1 (rw c.in_default-2.is at c.in_ok-entry.ensures.none))

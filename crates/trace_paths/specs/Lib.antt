@@ -1,0 +1,5 @@
+pub mod Path
+pub mod Fits
+pub mod Meetings
+pub mod Walked
+pub mod Laws

@@ -1,0 +1,4 @@
+pub mod Appending
+pub mod Counting
+pub mod Moving
+pub mod Seeing

@@ -1,0 +1,5 @@
+pub mod Sight
+pub mod Recorded
+pub mod Standing
+pub mod Counts
+pub mod Kept

@@ -1,0 +1,79 @@
+// The recorder.
+
+ghost use Rattle.std.specs.Prelude.{◌≡◌, ◌≤◌, ◌++◌, ◌∷◌, [], ℕ, List, OnOk, OnErr};
+ghost use Rattle.bril_interpreter.specs.Interpreter.{state_of};
+ghost use Rattle.bril_tree.specs.State.{State};
+ghost use Rattle.bril_tree.specs.declared.program.Prog.{Prog};
+ghost use Rattle.trace_recorder.specs.Recorded.{recorded};
+ghost use Rattle.trace_recorder.specs.Standing.{StandsFor};
+
+use crate::parts::Parts;
+use bril_interpreter::Interp;
+use bril_profile::Profile;
+use bril_tree::sequence::Seq;
+use std::alloc::{AllocError, Global};
+use std::marker::Model;
+
+/// A recorder of one run: the entries of its profile as far as the run went.
+///
+/// An entry belongs to a label that was arrived at `hot` times, in all frames together. It has the choices of each `br`
+/// from there on, true where the first label was taken, until the path of the entry ends (see `trace_paths`) or the run
+/// does.
+#[derive(Drop)]
+pub struct Recorder {
+    parts: Parts,
+}
+
+impl Model for Recorder {
+    ghost use Rattle.trace_recorder.specs.Standing.{RecorderView};
+    ghost use Rattle.trace_recorder.specs.Kept.{view_of, IsSound};
+
+    ghost Value = { RecorderView };
+
+    ghost view = { λ r. view_of r.parts };
+
+    ghost invariant = { λ r. IsSound r.parts };
+}
+
+impl Recorder {
+    /// A recorder of a run of any program, before its first state: `hot` arrivals make a label hot, and the profile has at
+    /// most so many entries. Takes no memory.
+    pub fn new(alloc: Global, hot: u32, most: u32) -> Recorder
+        requires { most ≤ 64 }
+        ensures { (P : Prog) → StandsFor result P hot most [] }
+    {
+        Recorder {
+            parts: Parts {
+                alloc,
+                hot,
+                most,
+                counts: Vec::new(alloc),
+                held: Vec::new(alloc),
+                slots: Vec::new(alloc),
+                open: false,
+            },
+        }
+    }
+
+    /// Sees the state of a run before a step: to be called before each step that is made, of one run.
+    ///
+    /// An error means out of memory, and leaves the recorder as it was. Takes time for a look-up; while the path of an
+    /// entry goes on, in proportion to the entries.
+    pub fn see(&mut self, now: &Interp<'_>) -> Result<(), AllocError>
+        ensures ok { OnOk result ((hot most : ℕ) (run : List State) → StandsFor self.old now.now.checked.prog hot most run
+            → StandsFor self.new now.now.checked.prog hot most (run ++ state_of now.now ∷ [])) }
+        ensures err { OnErr result (self.new ≡ self.old) }
+    {
+        self.parts.see(now)
+    }
+
+    /// The profile of the run: the entries stand in the order of the arrivals that made their labels hot. Takes no memory.
+    pub fn into_profile(self) -> Profile
+        ensures { (P : Prog) (hot most : ℕ) (run : List State) → StandsFor self P hot most run → result.entries ≡ recorded P hot most run }
+    {
+        let Recorder { parts } = self;
+        Profile {
+            entries: Seq::of_items(parts.into_entries()),
+        }
+    }
+}
