@@ -1,25 +1,22 @@
 -- Where the files are told, a command's files have one tree or one fault, and never both: reads that failed and want of memory apart.
 use Rattle.std.proofs.Common.{◌≡◌, ◌⊎◌, ℕ, ◌≤◌, List, [], length, Option, Some, None, refl, sym, ap, ap₂, ◌∙◌, subst, arith, inl, inr, ⊎_elim}
-use Rattle.std.specs.Prelude.{◌≢◌}
 use Rattle.bril_outside.specs.Files.{FileMap, FilesSeen, LacksFile, MayFail, MayHold}
 use Rattle.bril_outside.specs.Sink.{Rose}
 use Rattle.bril_report.specs.StageFaults.{link_status}
 use Rattle.bril_report.specs.declared.status.Status.{Status}
 use Rattle.bril_report.specs.declared.status.Status.TheVariants as status
 use Rattle.bril_source.specs.Format.{format_of}
-use Rattle.bril_source.specs.Reading.{HasFault, IsOnlyFault, IsOnlyTree, ReadsAs, most_bytes}
-use Rattle.bril_source.specs.declared.fault.ReadFault.{ReadFault}
+use Rattle.bril_source.specs.Reading.{HasFault, ReadsAs, most_bytes}
 use Rattle.bril_tree.specs.declared.tree.Tree.{Tree}
 use Rattle.import_linker.proofs.Trees.{linked_once}
 use Rattle.import_linker.proofs.Uniqueness.{lacking_not_linked, lacking_not_read, linked_not_refused, refused_once}
 use Rattle.import_linker.specs.Linked.{Linked}
 use Rattle.import_linker.specs.Reading.{IsRead, RefusesSource, StopsAt}
-use Rattle.import_linker.specs.Refusing.{RefusesLink}
 use Rattle.import_linker.specs.declared.fault.LinkFault.{LinkFault}
 use Rattle.import_linker.specs.declared.fault.LinkFault.TheVariants as fault
 use Rattle.import_linker.specs.declared.sources.Source.{Source}
 use Rattle.bril_commands.specs.Command.{Command, OnFile, OnTree, OnProgram, NeedsProgram, reach}
-use Rattle.bril_commands.specs.Source.{Reach, Alone, WithImports, FileHasFault, HaveFault, HaveTree, HoldsFault, HoldsTree, IsFileTree, IsNextFile, IsTreeAt, LackFile, RefusesFiles}
+use Rattle.bril_commands.specs.Source.{Reach, Alone, WithImports, FileHasFault, HaveFault, HaveTree, HoldsTree, IsFileTree, IsTreeAt, LackFile, RefusesFiles}
 use Rattle.bril_commands.specs.Stages.{RefusesTree}
 
 -- ---- what is read of one file

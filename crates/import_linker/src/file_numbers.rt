@@ -1,6 +1,6 @@
 // The files that the imports of one file name, each path looked up once.
 
-ghost use Rattle.std.specs.Prelude.{◌≡◌, [], length, map, IfOk, OnOk};
+ghost use Rattle.std.specs.Prelude.{◌≡◌, [], IfOk, OnOk};
 ghost use Rattle.import_linker.specs.Looked.{AreNumbers};
 ghost use Rattle.import_linker.specs.Order.{file_at, joined};
 

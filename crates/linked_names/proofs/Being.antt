@@ -1,22 +1,20 @@
 -- Each function that an item of a linked tree names is there.
-use Rattle.std.proofs.Common.{◌≡◌, ◌∙◌, refl, sym, ap, subst, Bool, true, false, not, ℕ, zero, suc, ◌+◌, ◌<◌, List, [], ◌∷◌, ◌++◌, length, map, get_or, arith, Option, Some, None, inl, inr, ⊎_elim, cond}
-use Rattle.std.specs.Prelude.{bytes_eq, find, slice_get, flat_map}
-use Rattle.std.specs.List.{All, Contains, position_or_len}
+use Rattle.std.proofs.Common.{◌≡◌, ◌∙◌, refl, sym, ap, subst, Bool, true, false, not, ℕ, zero, suc, ◌+◌, ◌<◌, List, [], ◌∷◌, length, map, get_or, arith, Option, Some, None, inl, inr, ⊎_elim, cond}
+use Rattle.std.specs.Prelude.{bytes_eq, find, slice_get}
+use Rattle.std.specs.List.{position_or_len}
 use Rattle.std.specs.Option.{option_map_or}
 use Rattle.std.proofs.lemmas.Bool.{true≢false}
 use Rattle.std.proofs.lemmas.List.Elements.{Contains-get_or}
 use Rattle.bril_names.specs.Faults as names
-use Rattle.bril_names.specs.declared.fault.NameFault.TheVariants.{NoFunction}
 use Rattle.bril_tree.proofs.Members.{contains_in, in_append_cases, in_append_left, in_append_right, in_contains, in_flat_map, in_map, in_map_source}
 use Rattle.bril_tree.specs.Membership.{In}
 use Rattle.bril_tree.specs.declared.function_tree.FuncTree.{FuncTree}
 use Rattle.bril_tree.specs.declared.function_tree.Item.{Item}
 use Rattle.bril_tree.specs.declared.function_tree.Item.TheVariants as item
-use Rattle.bril_tree.specs.declared.tree.Tree.{Tree}
 use Rattle.import_linker.proofs.FileNames.{as_many}
 use Rattle.import_linker.proofs.LookedUp.{place_inside}
-use Rattle.import_linker.specs.Linked.{Linked, beside, linked_file, linked_from, linked_name, renamed_function, renamed_item, spelled}
-use Rattle.import_linker.specs.Names.{Function, callees, callees_of, contains, first_unknown, function_names, is_there, item_callees, local_names, meanings, names_at, own_functions, own_names, paths_of, taken_of}
+use Rattle.import_linker.specs.Linked.{beside, linked_file, linked_from, linked_name, renamed_function, renamed_item, spelled}
+use Rattle.import_linker.specs.Names.{Function, callees, callees_of, contains, is_there, item_callees, local_names, meanings, own_functions, own_names, paths_of, taken_of}
 use Rattle.import_linker.specs.declared.sources.Source.{Source}
 use Rattle.linked_names.proofs.Differing.{contained_in, in_contained, names_are, names_from}
 use Rattle.linked_names.proofs.Faultless.{AreSoundFiles, IsSoundFile, map_none, sound_files}

@@ -1,26 +1,22 @@
 -- No two functions of a linked tree have one name.
-use Rattle.std.proofs.Common.{◌≡◌, ◌∙◌, ◌⊎◌, refl, sym, ap, ap₂, subst, Bool, true, false, cond, ◌||◌, ℕ, zero, suc, ◌+◌, ◌<◌, ◌≤◌, ◌^◌, List, [], ◌∷◌, ◌++◌, length, map, take, arith, append-nil, append_assoc, Option, Some, None, inl, inr, ⊎_elim}
+use Rattle.std.proofs.Common.{◌≡◌, ◌∙◌, ◌⊎◌, refl, sym, ap, ap₂, subst, Bool, true, false, cond, ◌||◌, ℕ, zero, suc, ◌+◌, ◌<◌, ◌≤◌, ◌^◌, List, [], ◌∷◌, ◌++◌, length, map, take, arith, append-nil, append_assoc, Some, None, inl, inr, ⊎_elim}
 use Rattle.std.specs.Prelude.{bytes_eq, slice_get}
-use Rattle.std.specs.List.{Contains, list_any}
+use Rattle.std.specs.List.{list_any}
 use Rattle.std.proofs.lemmas.Bool.{true≢false}
-use Rattle.std.proofs.lemmas.List.{length-append, map-append, map_push}
+use Rattle.std.proofs.lemmas.List.{map-append, map_push}
 use Rattle.std.proofs.lemmas.List.Folds.{list_any-append}
 use Rattle.std.proofs.lemmas.Slice.Eq.{bytes_eq-Decides}
-use Rattle.bril_names.specs.Faults.{HasFault, RepeatsName}
-use Rattle.bril_names.specs.declared.fault.NameFault.TheVariants.{TwiceFunction}
-use Rattle.bril_outside.specs.Files.{FileMap}
 use Rattle.bril_tree.proofs.Members.{in_contains, in_map_source}
 use Rattle.bril_tree.specs.Membership.{In}
 use Rattle.bril_tree.specs.declared.function_tree.FuncTree.{FuncTree}
-use Rattle.bril_tree.specs.declared.tree.Tree.{Tree}
 use Rattle.import_linker.proofs.Repeating.{repeated_more}
-use Rattle.import_linker.specs.Linked.{Linked, begins_so, linked_file, linked_from, renamed_function}
+use Rattle.import_linker.specs.Linked.{begins_so, linked_file, linked_from, renamed_function}
 use Rattle.import_linker.specs.Names.{contains, function_names, local_names, names_at, names_taken, own_names, paths_of, repeated_after}
 use Rattle.import_linker.specs.Order.{most_files}
 use Rattle.import_linker.specs.declared.sources.Source.{Source}
 use Rattle.bril_tree.specs.declared.import.Import.{Import}
 use Rattle.std.specs.Prelude.{flat_map}
-use Rattle.linked_names.proofs.Faultless.{AreSoundFiles, IsSoundFile, drop_first, few_files, sound_files}
+use Rattle.linked_names.proofs.Faultless.{AreSoundFiles, drop_first, few_files, sound_files}
 use Rattle.linked_names.proofs.Spelling.{apart_in, name_in, same_in}
 use Rattle.linked_names.specs.Laws.{LinkedFunctionsDiffer}
 

@@ -1,11 +1,9 @@
 -- Files whose names are not at fault.
-use Rattle.std.proofs.Common.{◌≡◌, ◌∙◌, refl, sym, ap, subst, Bool, true, false, cond, ◌||◌, ℕ, zero, suc, ◌+◌, ◌<◌, ◌≤◌, List, [], ◌∷◌, ◌++◌, length, arith, append-nil, append_assoc, Option, Some, None}
-use Rattle.std.specs.Prelude.{find, option_map, slice_get}
+use Rattle.std.proofs.Common.{◌≡◌, ◌∙◌, refl, sym, ap, subst, Bool, true, false, cond, ℕ, ◌+◌, ◌≤◌, List, [], ◌∷◌, ◌++◌, length, arith, append-nil, append_assoc, Option, Some, None}
+use Rattle.std.specs.Prelude.{option_map}
 use Rattle.std.specs.Option.{option_or}
 use Rattle.bril_outside.specs.Files.{FileMap}
-use Rattle.bril_tree.specs.Membership.{In}
-use Rattle.import_linker.proofs.Repeating.{repeated_more}
-use Rattle.import_linker.specs.Names.{callees, clash, contains, fault_from, fault_of, first_lacking, first_unknown, local_names, name_fault, not_there, own_names, paths_of, repeated_after, taken_of}
+use Rattle.import_linker.specs.Names.{callees, clash, contains, fault_from, fault_of, first_lacking, first_unknown, local_names, name_fault, not_there, paths_of, repeated_after, taken_of}
 use Rattle.import_linker.specs.Order.{known_after, most_files}
 use Rattle.import_linker.specs.Reading.{AreFiles, AreNext}
 use Rattle.import_linker.specs.declared.sources.Source.{Source}
@@ -47,9 +45,10 @@ AreSoundFiles sources (s ∷ rest) = IsSoundFile sources s × AreSoundFiles sour
 
 pub sound_files : (sources : List Source) (number : ℕ) (rest : List Source) → fault_from sources number rest ≡ None → AreSoundFiles sources rest
 sound_files sources number [] e = tt
-sound_files sources number (s ∷ rest) e =
-    (sound_file sources number s (first_none (fault_of sources number s) (fault_from sources (number + 1) rest) e),
-    sound_files sources (number + 1) rest (second_none (fault_of sources number s) (fault_from sources (number + 1) rest) e))
+sound_files sources number (s ∷ rest) e = (
+  sound_file sources number s (first_none (fault_of sources number s) (fault_from sources (number + 1) rest) e),
+  sound_files sources (number + 1) rest (second_none (fault_of sources number s) (fault_from sources (number + 1) rest) e),
+)
 
 -- ---- there are few files
 

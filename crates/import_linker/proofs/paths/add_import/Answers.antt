@@ -1,5 +1,5 @@
 -- A path more was seen.
-use Rattle.std.proofs.Common.{◌≡◌, ◌∙◌, true, false, ℕ, List, [], ◌∷◌, ◌++◌, sym, ap, subst}
+use Rattle.std.proofs.Common.{◌≡◌, ◌∙◌, false, ℕ, List, [], ◌∷◌, ◌++◌, sym, ap, subst}
 use Rattle.std.specs.Prelude.{if◌then◌else◌}
 use Rattle.import_linker.proofs.LookedUp.{known_more}
 use Rattle.import_linker.specs.Looked.{AreKnown}

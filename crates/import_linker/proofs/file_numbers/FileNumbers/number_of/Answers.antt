@@ -1,9 +1,9 @@
 -- The number was found before, or is one more.
-use Rattle.std.proofs.Common.{◌≡◌, ◌∙◌, true, false, ℕ, List, [], ◌∷◌, ◌++◌, sym, ap, ap₂, subst, get_or, map}
+use Rattle.std.proofs.Common.{◌≡◌, ◌∙◌, true, false, ℕ, List, [], ◌∷◌, ◌++◌, sym, ap, subst, get_or, map}
 use Rattle.std.specs.Prelude.{bytes_eq, if◌then◌else◌}
 use Rattle.std.specs.List.{position_or_len}
 use Rattle.import_linker.proofs.Held.{place_some}
-use Rattle.import_linker.proofs.LookedUp.{numbers_more, place_inside, value_there}
+use Rattle.import_linker.proofs.LookedUp.{numbers_more, value_there}
 use Rattle.import_linker.specs.Looked.{AreNumbers}
 use Rattle.import_linker.specs.Names.{contains}
 use Rattle.import_linker.specs.Order.{file_at, joined}
