@@ -21,7 +21,7 @@ abbrev pub LiveEntryCountsAreOne : Type 0
 LiveEntryCountsAreOne = (code : List Instr) (m n : ℕ) → IsLiveEntryCount code m → IsLiveEntryCount code n → m ≡ n
 
 abbrev pub LiveEntryCountsAreThere : Type 0
-LiveEntryCountsAreThere = (code : List Instr) → AreSitesSound code → (n : ℕ) × IsLiveEntryCount code n
+LiveEntryCountsAreThere = (F : Func) → AreSitesSound F.code → (n : ℕ) × IsLiveEntryCount F.code n
 
 -- An accepted program has a greatest width of entries.
 abbrev pub WidthsAreThere : Type 0

@@ -1,6 +1,7 @@
 // The wanted `get`s of a function, by their labels.
 
-ghost use Rattle.std.specs.Prelude.{◌≡◌, ◌<◌, ◌+◌, ◌^◌, ◌-◌, IfOk, length};
+ghost use Rattle.std.specs.Prelude.{◌≡◌, ◌<◌, ◌+◌, ◌^◌, ◌-◌, IfOk, None, is_some, length};
+ghost use Rattle.bril_tree.specs.Shape.{shape_fault_of};
 ghost use Rattle.bril_tree.specs.Sites.{AreSitesSound};
 ghost use Rattle.flow_graph.specs.Graph.{IsGraphOf};
 ghost use Rattle.ssa_gets.specs.Wants.{AreWantsOf, row_of};
@@ -49,11 +50,12 @@ impl Wants {
     }
 }
 
-/// The wanted `get`s of a function whose open sites are sound: one for each pair of a reached label and a location that is live
+/// The wanted `get`s of a function whose items have the shapes of their operations and whose open sites are sound: one for each pair of a reached label and a location that is live
 /// there. Takes time and memory in proportion to the items, their arguments and the branches that lead to what is found. The
 /// only error is want of memory, which a function is taken to have where arguments, items and `get`s are 2^32 or more together,
 /// or that names a variable of a number from 2^31 on.
 pub fn wanted_gets(alloc: Global, func: &Func, graph: &Graph) -> Result<Wants, AllocError>
+    requires shaped { shape_fault_of (is_some func.now.ret) func.now.code ≡ None }
     requires few { length func.now.code < 2 ^ 32 - 1 }
     requires graph { IsGraphOf func.now.code graph.now }
     requires sound { AreSitesSound func.now.code }

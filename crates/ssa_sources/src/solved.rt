@@ -1,6 +1,7 @@
 // Which definition stands for each once the trivial `get`s are left out.
 
-ghost use Rattle.std.specs.Prelude.{◌≡◌, ◌<◌, ◌+◌, ◌^◌, ◌-◌, IfOk, length, slice_index};
+ghost use Rattle.std.specs.Prelude.{◌≡◌, ◌<◌, ◌+◌, ◌^◌, ◌-◌, IfOk, None, is_some, length, slice_index};
+ghost use Rattle.bril_tree.specs.Shape.{shape_fault_of};
 ghost use Rattle.bril_tree.specs.Sites.{AreSitesSound};
 ghost use Rattle.flow_graph.specs.Graph.{IsGraphOf};
 ghost use Rattle.ssa_gets.specs.Wants.{AreWantsOf, gets_of};
@@ -24,6 +25,7 @@ pub fn solved_gets(
     graph: &Graph,
     wants: &Wants,
 ) -> Result<Vec<u32>, AllocError>
+    requires shaped { shape_fault_of (is_some func.now.ret) func.now.code ≡ None }
     requires few { length func.now.code < 2 ^ 32 - 1 }
     requires graph { IsGraphOf func.now.code graph.now }
     requires sound { AreSitesSound func.now.code }

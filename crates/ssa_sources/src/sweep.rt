@@ -1,7 +1,8 @@
 // The operands of the wanted `get`s, by a sweep over all items.
 
-ghost use Rattle.std.specs.Prelude.{◌≡◌, ◌<◌, ◌+◌, ◌^◌, ◌-◌, IfOk, length};
+ghost use Rattle.std.specs.Prelude.{◌≡◌, ◌<◌, ◌+◌, ◌^◌, ◌-◌, IfOk, None, is_some, length};
 ghost use Rattle.std.specs.List.{All};
+ghost use Rattle.bril_tree.specs.Shape.{shape_fault_of};
 ghost use Rattle.bril_tree.specs.Sites.{AreSitesSound};
 ghost use Rattle.flow_graph.specs.Graph.{IsGraphOf};
 ghost use Rattle.ssa_classes.specs.Trivial.{sources_of};
@@ -24,6 +25,7 @@ pub fn operands_of(
     graph: &Graph,
     wants: &Wants,
 ) -> Result<Operands, AllocError>
+    requires shaped { shape_fault_of (is_some func.now.ret) func.now.code ≡ None }
     requires few { length func.now.code < 2 ^ 32 - 1 }
     requires graph { IsGraphOf func.now.code graph.now }
     requires sound { AreSitesSound func.now.code }
