@@ -1,0 +1,4 @@
+pub mod Within
+pub mod Tracking
+pub mod Labels
+pub mod Heads
