@@ -6,15 +6,13 @@ use Rattle.std.proofs.lemmas.List.{get_or_default}
 use Rattle.std.proofs.lemmas.List.Elements.{Contains-get_or}
 use Rattle.bril_tree.specs.declared.numbered.Instr.{Instr}
 use Rattle.flow_graph.specs.declared.reads.Access.{Access}
-use Rattle.flow_graph.specs.Location.{number_of}
 use Rattle.graph_search.specs.declared.graph.Arc.{Arc}
 use Rattle.graph_search.specs.Path.{IsBetween}
 use Rattle.ssa_accesses.specs.Accesses.{AreBlockAccesses}
 use Rattle.ssa_accesses.proofs.Labels.{label-within}
 use Rattle.ssa_accesses.proofs.Tracking.{assigned-within, location-of}
-use Rattle.ssa_tables.specs.Told.{LeadToLabels}
-use Rattle.ssa_wants.specs.Blocks.{AreBlockArcs, block_arc}
-use Rattle.ssa_wants.specs.Wanted.{head_of, is_label}
+use Rattle.ssa_wants.specs.Blocks.{AreBlockArcs}
+use Rattle.ssa_wants.specs.Wanted.{head_of}
 use Rattle.ssa_wants.proofs.Wanted.{head-le}
 
 module _ (code : List Instr) where

@@ -1,5 +1,5 @@
 -- The entries of labels, label by label.
-use Rattle.std.proofs.Common.{◌≡◌, ◌≢◌, ◌↔◌, ◌⊎◌, ℕ, suc, ◌<◌, ◌≤◌, Bool, true, false, List, [], ◌∷◌, ◌++◌, length, map, get_or, Option, Some, None, refl, sym, ap, subst, ◌∙◌, inl, inr, ⊎_elim, arith}
+use Rattle.std.proofs.Common.{◌≡◌, ◌≢◌, ◌↔◌, ◌⊎◌, ℕ, suc, ◌<◌, ◌≤◌, Bool, true, false, List, [], ◌∷◌, length, map, get_or, Option, Some, None, refl, sym, ap, subst, ◌∙◌, inl, inr, ⊎_elim, arith}
 use Rattle.std.specs.Prelude.{◌==◌, slice_get}
 use Rattle.std.specs.List.{All, AllPairs, Contains, filter}
 use Rattle.std.proofs.lemmas.Bool.{cases_eq, eq-eqb, eqb-true}
@@ -24,7 +24,7 @@ use Rattle.ssa_wants.proofs.Arcs.{edge-within}
 -- without arcs the seeds alone are reached
 pub only-seeds : (arcs : List Arc) → arcs ≡ [] → (seeds : List ℕ) (gate : Arc → Bool) (node : ℕ) → IsReached arcs seeds gate node ↔ Contains seeds node
 only-seeds arcs none seeds gate node = (
-  reached_all arcs seeds gate (Contains seeds) (λ n c. c) (λ m n c l. absurd (in_contains l.arc [] (subst (λ as. Contains as l.arc) none l.there))) node,
+  reached_all arcs seeds gate (Contains seeds) (λ n c. c) (λ m n c l. absurd (in_contains l.arc [] (subst (λ list. Contains list l.arc) none l.there))) node,
   reached_seed arcs seeds gate node,
 )
 
@@ -33,23 +33,22 @@ module _ (code : List Instr) (graph : GraphView) (is : IsGraphOf code graph) (so
   preds = filter (λ e. e.to == k) graph.edges
 
   pub preds-within : (edges : List Edge) → edges ≡ preds → All (λ p. p < length code) (map (λ e. e.leave) edges)
-  pub preds-enter : (edges : List Edge) → edges ≡ preds → is_label (slice_get code k) ≡ true → (p : ℕ) → Contains (map (λ e. e.leave) edges) p ↔ EntersAt code (Some p) k
-
   preds-within edges same i d low =
       let c = in_map_source (λ (e : Edge). e.leave) (get_or (map (λ e. e.leave) edges) i d) edges (in_contains _ (map (λ e. e.leave) edges) (Contains-get_or (map (λ e. e.leave) edges) i d low)) in
       let listed = (filter_in (λ (e : Edge). e.to == k) graph.edges c.0 (subst (In c.0) same c.1)).0 in
       subst (λ p. p < length code) (sym c.2) (edge-within code graph is sound c.0 (contains_in c.0 graph.edges listed))
 
+  pub preds-enter : (edges : List Edge) → edges ≡ preds → is_label (slice_get code k) ≡ true → (p : ℕ) → Contains (map (λ e. e.leave) edges) p ↔ EntersAt code (Some p) k
   preds-enter edges same label p = (
     (λ c.
-    let s = in_map_source (λ (e : Edge). e.leave) p edges (in_contains p (map (λ e. e.leave) edges) c) in
-    let f = filter_in (λ (e : Edge). e.to == k) graph.edges s.0 (subst (In s.0) same s.1) in
-    (label, (s.0, edge_told code graph is s.0 (contains_in s.0 graph.edges f.0), sym s.2, eqb-true s.0.to k f.1))),
+        let s = in_map_source (λ (e : Edge). e.leave) p edges (in_contains p (map (λ e. e.leave) edges) c) in
+        let f = filter_in (λ (e : Edge). e.to == k) graph.edges s.0 (subst (In s.0) same s.1) in
+        (label, (s.0, edge_told code graph is s.0 (contains_in s.0 graph.edges f.0), sym s.2, eqb-true s.0.to k f.1))),
     (λ e.
-    let edge = e.1.0 in
-    let listed = in_contains edge graph.edges (edge_listed code graph is sound edge e.1.1) in
-    let among : In edge edges = subst (In edge) (sym same) (in_filter (λ (e : Edge). e.to == k) graph.edges edge listed (eq-eqb edge.to k e.1.3)) in
-    contains_in p (map (λ e. e.leave) edges) (subst (λ q. In q (map (λ e. e.leave) edges)) e.1.2 (in_map (λ (e : Edge). e.leave) edge edges among))),
+        let edge = e.1.0 in
+        let listed = in_contains edge graph.edges (edge_listed code graph is sound edge e.1.1) in
+        let among : In edge edges = subst (In edge) (sym same) (in_filter (λ (e : Edge). e.to == k) graph.edges edge listed (eq-eqb edge.to k e.1.3)) in
+        contains_in p (map (λ e. e.leave) edges) (subst (λ q. In q (map (λ e. e.leave) edges)) e.1.2 (in_map (λ (e : Edge). e.leave) edge edges among))),
   )
 
 module _ (code : List Instr) where
@@ -116,7 +115,7 @@ module _ (code : List Instr) where
     only = λ x c. ⊎_elim (λ s. subst (λ (y : Entry). EntersAt code y.leave y.label × ((y.label < 0) ⊎ (y.leave ≡ None))) (sym s) ((e, refl), inr refl)) (λ n. absurd n) (in_contains x (record { leave = None; label = 0 } ∷ []) c);
   }
     where
-      by : (leave : Option ℕ) (k : ℕ) → EntersAt code leave k → (k < 0) ⊎ (leave ≡ None) → Contains (record { leave = None; label = 0 } ∷ []) (record { leave = leave; label = k })
+      by : (leave : Option ℕ) (k : ℕ) → EntersAt code leave k → (k < 0) ⊎ (leave ≡ None) → Contains {X = Entry} (record { leave = None; label = 0 } ∷ []) (record { leave = leave; label = k })
       by None k en h = contains_in _ (record { leave = None; label = 0 } ∷ []) (inl (ap (λ i. record { leave = None; label = i }) en.1))
       by (Some p) k en (inl less) = absurd (omega (arith, less))
       by (Some p) k en (inr n) = absurd (let x : Some p ≡ None = n in cc)
@@ -126,7 +125,7 @@ module _ (code : List Instr) where
     only = λ x c. absurd (in_contains x [] c);
   }
     where
-      by : (leave : Option ℕ) (k : ℕ) → EntersAt code leave k → (k < 0) ⊎ (leave ≡ None) → Contains [] (record { leave = leave; label = k })
+      by : (leave : Option ℕ) (k : ℕ) → EntersAt code leave k → (k < 0) ⊎ (leave ≡ None) → Contains {X = Entry} [] (record { leave = leave; label = k })
       by None k en h = absurd (let x : true ≡ false = sym en.0 ∙ ap (λ i. is_label (slice_get code i)) en.1 ∙ e in cc)
       by (Some p) k en (inl less) = absurd (omega (arith, less))
       by (Some p) k en (inr n) = absurd (let x : Some p ≡ None = n in cc)

@@ -1,5 +1,5 @@
 -- What is found of the points before a bound, and of one more.
-use Rattle.std.proofs.Common.{◌≡◌, ◌≢◌, ◌↔◌, ◌⊎◌, ℕ, zero, suc, ◌+◌, ◌-◌, ◌<◌, ◌≤◌, Bool, true, false, List, [], ◌∷◌, ◌++◌, length, Option, Some, None, refl, sym, ap, subst, ◌∙◌, inl, inr, ⊎_elim, cond, set, arith}
+use Rattle.std.proofs.Common.{◌≡◌, ◌≢◌, ◌⊎◌, ℕ, zero, suc, ◌<◌, ◌≤◌, Bool, true, false, List, [], ◌∷◌, ◌++◌, length, Option, Some, None, refl, sym, ap, subst, ◌∙◌, inl, inr, ⊎_elim, cond, set, arith}
 use Rattle.std.specs.Prelude.{nat_le, slice_get, slice_index}
 use Rattle.std.specs.List.{Contains}
 use Rattle.std.proofs.lemmas.Bool.{cases_eq, cases_lt, leb-true, leb-false}
@@ -100,7 +100,7 @@ module _ (code : List Instr) (p : ℕ) (item : Instr) (at : slice_get code p ≡
     one-read true read y e (inr i) = absurd i
     one-read false read y e i = absurd i
 
-    here-only : (a : Location) (h : ℕ) → In (record { item = h; location = number_of a }) (exposed_reads head last (item_reads p item)) → ExposedHere a h
+    here-only : (a : Location) (h : ℕ) → In {A = Access} (record { item = h; location = number_of a }) (exposed_reads head last (item_reads p item)) → ExposedHere a h
     here-only a h i =
         let y : Access = record { item = h; location = number_of a } in
         let s = in_flat_map_source (exposed_read head last) y (item_reads p item) i in
@@ -110,13 +110,13 @@ module _ (code : List Instr) (p : ℕ) (item : Instr) (at : slice_get code p ≡
         let same : r.0 ≡ a = number-one r.0 a (sym number ∙ sym o.1) in
         record { is = o.0; among = subst (λ b. In b (reads_of item)) same r.1; low = subst (λ n. slice_index last n ≤ head) (sym o.1) o.2 }
 
-    here-there : (a : Location) → In a (reads_of item) → slice_index last (number_of a) ≤ head → In (record { item = head; location = number_of a }) (exposed_reads head last (item_reads p item))
+    here-there : (a : Location) → In a (reads_of item) → slice_index last (number_of a) ≤ head → In {A = Access} (record { item = head; location = number_of a }) (exposed_reads head last (item_reads p item))
     here-there a among low =
         in_flat_map (exposed_read head last) (access_at p a) (record { item = head; location = number_of a }) (item_reads p item) (in_map (access_at p) a (reads_of item) among)
         (by (nat_le (slice_index last (number_of a)) head) refl)
       where
-        by : (b : Bool) → nat_le (slice_index last (number_of a)) head ≡ b → In (record { item = head; location = number_of a }) (cond (nat_le (slice_index last (number_of a)) head) (record { item = head; location = number_of a } ∷ []) [])
-        by true e = subst (λ b. In (record { item = head; location = number_of a }) (cond b (record { item = head; location = number_of a } ∷ []) [])) (sym e) (inl refl)
+        by : (b : Bool) → nat_le (slice_index last (number_of a)) head ≡ b → In {A = Access} (record { item = head; location = number_of a }) (cond (nat_le (slice_index last (number_of a)) head) (record { item = head; location = number_of a } ∷ []) [])
+        by true e = subst (λ b. In {A = Access} (record { item = head; location = number_of a }) (cond b (record { item = head; location = number_of a } ∷ []) [])) (sym e) (inl refl)
         by false e = absurd (let n = leb-false (slice_index last (number_of a)) head e in omega (arith, n, low))
 
     read-unassigned : (a : Location) → In a (reads_of item) → slice_index last (number_of a) ≤ head → Unassigned code a head p
@@ -124,20 +124,22 @@ module _ (code : List Instr) (p : ℕ) (item : Instr) (at : slice_get code p ≡
 
     module _ (counts : Bool) (reached : counts ≡ true → IsReached code p) (label : counts ≡ true → is_label (slice_get code head) ≡ true)
         (both : IsReached code p → is_label (slice_get code head) ≡ true → counts ≡ true) where
-      more-only : (a : Location) (h : ℕ) (b : Bool) → counts ≡ b → In (record { item = h; location = number_of a }) (exposed_if b head last (item_reads p item)) → (x : IsExposed code a h) × (x.point < suc p)
+      more-only : (a : Location) (h : ℕ) (b : Bool) → counts ≡ b → In {A = Access} (record { item = h; location = number_of a }) (exposed_if b head last (item_reads p item)) → (x : IsExposed code a h) × (x.point < suc p)
       more-only a h false e i = absurd i
       more-only a h true e i =
-          let w = here-only a h i in
-          (record {
-            label = subst (λ k. is_label (slice_get code k) ≡ true) (sym w.is) (label e);
-            point = p;
-            item = item;
-            head = w.is;
-            reached = reached e;
-            at = at;
-            reads = contains_in a (reads_of item) w.among;
-            unassigned = subst (λ k. Unassigned code a k p) (sym w.is) (read-unassigned a w.among w.low);
-          }, omega arith)
+          let w = here-only a h i in (
+            record {
+              label = subst (λ k. is_label (slice_get code k) ≡ true) (sym w.is) (label e);
+              point = p;
+              item = item;
+              head = w.is;
+              reached = reached e;
+              at = at;
+              reads = contains_in a (reads_of item) w.among;
+              unassigned = subst (λ k. Unassigned code a k p) (sym w.is) (read-unassigned a w.among w.low);
+            },
+            omega arith,
+          )
 
       pub exposed-only : (a : Location) (h : ℕ) → Accesses (exposed ++ exposed_if counts head last (item_reads p item)) (number_of a) h → (x : IsExposed code a h) × (x.point < suc p)
       exposed-only a h c = ⊎_elim
@@ -153,7 +155,7 @@ module _ (code : List Instr) (p : ℕ) (item : Instr) (at : slice_get code p ≡
           let u : Unassigned code a head p = subst (λ k. Unassigned code a k p) is (subst (Unassigned code a h) e x.unassigned) in
           let low = unassigned-last code a p (slice_index last (number_of a)) head (before.last_write a (reads-within a among)) u in
           let yes : counts ≡ true = both (subst (IsReached code) e x.reached) (subst (λ k. is_label (slice_get code k) ≡ true) is x.label) in
-          let there : In (record { item = head; location = number_of a }) (exposed_if counts head last (item_reads p item)) = subst (λ b. In (record { item = head; location = number_of a }) (exposed_if b head last (item_reads p item))) (sym yes) (here-there a among low) in
+          let there : In {A = Access} (record { item = head; location = number_of a }) (exposed_if counts head last (item_reads p item)) = subst (λ b. In {A = Access} (record { item = head; location = number_of a }) (exposed_if b head last (item_reads p item))) (sym yes) (here-there a among low) in
           subst (λ k. Accesses (exposed ++ exposed_if counts head last (item_reads p item)) (number_of a) k) (sym is)
           (Contains-append_right exposed (exposed_if counts head last (item_reads p item)) (record { item = head; location = number_of a }) (contains_in (record { item = head; location = number_of a }) (exposed_if counts head last (item_reads p item)) there))
 
@@ -169,20 +171,22 @@ module _ (code : List Instr) (p : ℕ) (item : Instr) (at : slice_get code p ≡
       own-within : (a : Location) → x ≡ Some (number_of a) → number_of a < length last
       own-within a e = write-within a (number-assigned (Some item) a (sym is ∙ e))
 
-      write-only : (a : Location) (q : ℕ) (o : Option ℕ) → x ≡ o → In (record { item = q; location = number_of a }) (first_write p head last o) → AssignsFirst code a q × (q < suc p)
+      write-only : (a : Location) (q : ℕ) (o : Option ℕ) → x ≡ o → In {A = Access} (record { item = q; location = number_of a }) (first_write p head last o) → AssignsFirst code a q × (q < suc p)
       write-only a q None e i = absurd i
       write-only a q (Some y) e i = by (nat_le (slice_index last y) head) refl i
         where
-          by : (b : Bool) → nat_le (slice_index last y) head ≡ b → In (record { item = q; location = number_of a }) (cond b (record { item = p; location = y } ∷ []) []) → AssignsFirst code a q × (q < suc p)
+          by : (b : Bool) → nat_le (slice_index last y) head ≡ b → In {A = Access} (record { item = q; location = number_of a }) (cond b (record { item = p; location = y } ∷ []) []) → AssignsFirst code a q × (q < suc p)
           by true t (inl s) =
               let here : q ≡ p = ap (λ (z : Access). z.item) s in
               let number : number_of a ≡ y = ap (λ (z : Access). z.location) s in
               let own : x ≡ Some (number_of a) = e ∙ ap Some (sym number) in
-              let low : slice_index last (number_of a) ≤ head = subst (λ n. slice_index last n ≤ head) (sym number) (leb-true (slice_index last y) head t) in
-              (subst (AssignsFirst code a) (sym here) (record {
-                assigns = number-assigns_at x is a own;
-                unassigned = last-unassigned code a p (slice_index last (number_of a)) head (before.last_write a (own-within a own)) low;
-              }), omega (arith, here))
+              let low : slice_index last (number_of a) ≤ head = subst (λ n. slice_index last n ≤ head) (sym number) (leb-true (slice_index last y) head t) in (
+                subst (AssignsFirst code a) (sym here) (record {
+                  assigns = number-assigns_at x is a own;
+                  unassigned = last-unassigned code a p (slice_index last (number_of a)) head (before.last_write a (own-within a own)) low;
+                }),
+                omega (arith, here),
+              )
           by true t (inr n) = absurd n
           by false t i = absurd i
 
@@ -192,15 +196,15 @@ module _ (code : List Instr) (p : ℕ) (item : Instr) (at : slice_get code p ≡
           (λ new. write-only a q x refl (in_contains _ (first_write p head last x) new))
           (Contains-append_cases firsts (first_write p head last x) (record { item = q; location = number_of a }) c)
 
-      write-there : (a : Location) (o : Option ℕ) → x ≡ o → o ≡ Some (number_of a) → slice_index last (number_of a) ≤ head → In (record { item = p; location = number_of a }) (first_write p head last o)
+      write-there : (a : Location) (o : Option ℕ) → x ≡ o → o ≡ Some (number_of a) → slice_index last (number_of a) ≤ head → In {A = Access} (record { item = p; location = number_of a }) (first_write p head last o)
       write-there a None e own low = absurd cc
       write-there a (Some y) e own low = by (nat_le (slice_index last y) head) refl
         where
           number : y ≡ number_of a
           number = same_Some y (number_of a) own
 
-          by : (b : Bool) → nat_le (slice_index last y) head ≡ b → In (record { item = p; location = number_of a }) (cond (nat_le (slice_index last y) head) (record { item = p; location = y } ∷ []) [])
-          by true t = subst (λ b. In (record { item = p; location = number_of a }) (cond b (record { item = p; location = y } ∷ []) [])) (sym t) (inl (ap (λ n. record { item = p; location = n }) (sym number)))
+          by : (b : Bool) → nat_le (slice_index last y) head ≡ b → In {A = Access} (record { item = p; location = number_of a }) (cond (nat_le (slice_index last y) head) (record { item = p; location = y } ∷ []) [])
+          by true t = subst (λ b. In {A = Access} (record { item = p; location = number_of a }) (cond b (record { item = p; location = y } ∷ []) [])) (sym t) (inl (ap (λ n. record { item = p; location = n }) (sym number)))
           by false t = absurd (let n = leb-false (slice_index last y) head t in let m = ap (slice_index last) number in omega (arith, n, low, m))
 
       pub firsts-there : (a : Location) (q : ℕ) → AssignsFirst code a q → q < suc p → Accesses (firsts ++ first_write p head last x) (number_of a) q

@@ -1,7 +1,6 @@
 -- The locations that an item reads and assigns have numbers below twice the number of variables.
-use Rattle.std.proofs.Common.{◌≡◌, ℕ, suc, ◌+◌, ◌*◌, ◌<◌, Bool, true, List, [], ◌∷◌, ◌++◌, length, Option, Some, None, refl, sym, ap, subst, ◌∙◌, inl, inr, arith}
+use Rattle.std.proofs.Common.{◌≡◌, ℕ, ◌*◌, ◌<◌, Bool, true, List, length, Option, Some, None, refl, sym, subst, inl, inr, arith}
 use Rattle.std.specs.Prelude.{is_some, slice_get, slice_index}
-use Rattle.std.specs.Option.{option_map}
 use Rattle.std.proofs.lemmas.Option.{same_Some}
 use Rattle.bril_tree.specs.Assigned.{assigns_of, operation_assigns}
 use Rattle.bril_tree.specs.declared.numbered.Instr.{Instr}
@@ -12,11 +11,11 @@ use Rattle.bril_tree.specs.declared.operation.Op.TheVariants as op
 use Rattle.bril_tree.specs.declared.types.Ty.{Ty}
 use Rattle.bril_tree.specs.FunctionForm.{listed, variables_of}
 use Rattle.bril_tree.specs.Membership.{In}
-use Rattle.bril_tree.specs.Operand.{Location, Variable, Shadow, reads_of, shadow_of}
+use Rattle.bril_tree.specs.Operand.{Location, Variable, reads_of}
 use Rattle.bril_tree.specs.Shape.{is_shaped, shape_fault_of, shape_of}
 use Rattle.bril_tree.proofs.Elements.{get_in, in_index, passes_in}
 use Rattle.bril_tree.proofs.Formed.{variable_below}
-use Rattle.bril_tree.proofs.Members.{in_append_left, in_append_right, in_map_source}
+use Rattle.bril_tree.proofs.Members.{in_append_right, in_map_source}
 use Rattle.bril_tree.proofs.Shapes.{shape-parts}
 use Rattle.flow_graph.proofs.BranchRows.{all_shaped}
 use Rattle.flow_graph.specs.Location.{number_of}

@@ -18,9 +18,9 @@ pub record AssignsFirst (code : List Instr) (a : Location) (point : ℕ) : Type 
 
 -- For each location: the labels of the blocks that read it before they assign it, and the points that assign it first in their
 -- blocks.
-pub record AreBlockAccesses (code : List Instr) (exposed firsts : List Access) : Type 0 where
-  pub exposed : (a : Location) (h : ℕ) → Accesses exposed (number_of a) h ↔ IsExposed code a h
-  pub firsts : (a : Location) (point : ℕ) → Accesses firsts (number_of a) point ↔ AssignsFirst code a point
+pub record AreBlockAccesses (code : List Instr) (reads writes : List Access) : Type 0 where
+  pub exposed : (a : Location) (h : ℕ) → Accesses reads (number_of a) h ↔ IsExposed code a h
+  pub firsts : (a : Location) (point : ℕ) → Accesses writes (number_of a) point ↔ AssignsFirst code a point
 
 -- ---- how they are found: the array has one past the last point that assigns each location, 0 where none does
 
@@ -63,9 +63,9 @@ pub record AreAccessesBefore (code : List Instr) (bound : ℕ) (last : List ℕ)
 -- ---- the blocks of a function
 
 -- what is asked of them: heads, the arcs between them, and their accesses
-pub record AreBlocksOf (code : List Instr) (heads : List ℕ) (arcs : GraphView) (exposed firsts : List Access) : Type 0 where
-  pub long : length heads ≡ length code
-  pub heads : (point : ℕ) → point < length code → slice_index heads point ≡ head_of code point
-  pub nodes : arcs.nodes ≡ length code
-  pub arcs : AreBlockArcs code arcs.arcs
-  pub accesses : AreBlockAccesses code exposed firsts
+pub record AreBlocksOf (code : List Instr) (begins : List ℕ) (graph : GraphView) (reads writes : List Access) : Type 0 where
+  pub long : length begins ≡ length code
+  pub heads : (point : ℕ) → point < length code → slice_index begins point ≡ head_of code point
+  pub nodes : graph.nodes ≡ length code
+  pub arcs : AreBlockArcs code graph.arcs
+  pub accesses : AreBlockAccesses code reads writes

@@ -172,7 +172,8 @@ fn pass_item(
     let counts = counts_at(code, graph, point, head);
     push_exposed(exposed, counts, reads.as_slice(), last.as_slice(), head)?;
     let location = assigned_number(item)?;
-    note_assigned(firsts, last, location, point, head)
+    note_assigned(firsts, last, location, point, head)?;
+    Ok(())
 }
 
 /// What the blocks of a function read before they assign it, and what they assign first. `heads` has the head of each point's

@@ -12,7 +12,7 @@ use crate::accesses::{BlockAccesses, block_accesses};
 use bril_tree::numbered::Instr;
 use bril_tree::numbered_function::Func;
 use flow_graph::Graph;
-use graph_search::{ArcGraph, Arc};
+use graph_search::{Arc, ArcGraph};
 use ssa_wants::{block_arcs, heads};
 use std::alloc::{AllocError, Global};
 

@@ -40,26 +40,19 @@ fn leaves_of(alloc: Global, edges: &[Edge]) -> Result<Vec<u32>, AllocError>
 
 /// Makes a table of reached have these nodes, each once. `none` is a graph without arcs. Takes time in proportion to the nodes that
 /// are given. The only error is want of memory, after which nothing is told of the table.
-pub fn distinct(
-    reached: &mut Reached,
-    none: &ArcGraph,
-    nodes: &[u32],
-) -> Result<(), AllocError>
+pub fn distinct(reached: &mut Reached, none: &ArcGraph, nodes: &[u32]) -> Result<(), AllocError>
     requires nodes { reached.old.nodes ≡ none.now.nodes }
     requires within { All (λ node. node < none.now.nodes) nodes.now }
     requires none { none.now.arcs ≡ [] }
     ensures nodes { reached.new.nodes ≡ reached.old.nodes }
     ensures found { OnOk result ((node : ℕ) → Contains reached.new.found node ↔ Contains nodes.now node) }
 {
-    reached.search(none, nodes, &OtherThan { label: 0 })
+    reached.search(none, nodes, &OtherThan { label: 0 })?;
+    Ok(())
 }
 
 // Adds an entry of a label for each of these points.
-fn push_entries(
-    entries: &mut Vec<Entry>,
-    leaves: &[u32],
-    label: u32,
-) -> Result<(), AllocError>
+fn push_entries(entries: &mut Vec<Entry>, leaves: &[u32], label: u32) -> Result<(), AllocError>
     ensures { OnOk result (entries.new.items ≡ entries.old.items ++ map (entry_of label) leaves.now) }
 {
     for leave in leaves {
@@ -93,7 +86,8 @@ fn add_entries(
 {
     let leaves = leaves_of(alloc, graph.preds(label))?;
     distinct(reached, none, leaves.as_slice())?;
-    push_entries(entries, reached.found(), label)
+    push_entries(entries, reached.found(), label)?;
+    Ok(())
 }
 
 // Adds the entries of the label at a point, where one stands there, but for that from the start of the function.
@@ -119,7 +113,8 @@ fn push_label(
     if !is_label_at(code, point) {
         return Ok(());
     }
-    add_entries(alloc, entries, code, graph, reached, none, point)
+    add_entries(alloc, entries, code, graph, reached, none, point)?;
+    Ok(())
 }
 
 // The entry of the first item from the start of the function, where a label stands there.

@@ -50,9 +50,6 @@ part-new xs ys i j from to = ap (take (j - i)) (drop_at xs ys i (sym from)) ∙ 
 
 module _ (Has : ℕ → ℕ → Type 0) (base : ℕ) where
   pub no-rows : (starts : List ℕ) → starts ≡ 0 ∷ [] → AreRowsBefore Has base 0 starts []
-  pub rows-more : (bound : ℕ) (starts starts' : List ℕ) (list list' : List WantedGet) (xs : List ℕ) → AreRowsBefore Has base bound starts list → AllPairs (λ x y. x ≢ y) xs → ((x : ℕ) → Contains xs x ↔ Has bound x)
-      → list' ≡ list ++ gets_from (base + length list) xs → starts' ≡ starts ++ length list' ∷ [] → AreRowsBefore Has base (suc bound) starts' list'
-
   no-rows starts e = subst (λ s. AreRowsBefore Has base 0 s []) (sym e) (record {
     long = refl;
     first = refl;
@@ -67,6 +64,8 @@ module _ (Has : ℕ → ℕ → Type 0) (base : ℕ) where
       within zero = omega arith
       within (suc k) = omega arith
 
+  pub rows-more : (bound : ℕ) (starts starts' : List ℕ) (list list' : List WantedGet) (xs : List ℕ) → AreRowsBefore Has base bound starts list → AllPairs (λ x y. x ≢ y) xs → ((x : ℕ) → Contains xs x ↔ Has bound x)
+      → list' ≡ list ++ gets_from (base + length list) xs → starts' ≡ starts ++ length list' ∷ [] → AreRowsBefore Has base (suc bound) starts' list'
   rows-more bound starts starts' list list' xs b differ exact grew started = record {
     long = ap length started ∙ length_push starts (length list') ∙ (let l = b.long in let z : length starts + 1 ≡ suc (suc bound) = omega (arith, l) in z);
     first = old 0 (omega arith) ∙ b.first;
@@ -77,7 +76,7 @@ module _ (Has : ℕ → ℕ → Type 0) (base : ℕ) where
     numbered = numbered;
   }
     where
-      row : List WantedGet
+      abbrev row : List WantedGet
       row = gets_from (base + length list) xs
 
       size : length list' ≡ length list + length row
@@ -106,9 +105,6 @@ module _ (Has : ℕ → ℕ → Type 0) (base : ℕ) where
           (λ differs. let past = get_or_past starts' k 0 (let l = ap length started ∙ length_push starts (length list') in omega (arith, l, long, over, differs)) in omega (arith, past))
           (cases_eq k (suc bound)))
           (cases_lt k (suc bound))
-
-      whole : {A : Type 0} → A → A
-      whole x = x
 
       kept : (k : ℕ) → k < bound → slice_range list' (slice_index starts' k) (slice_index starts' (suc k)) ≡ slice_range list (slice_index starts k) (slice_index starts (suc k))
       kept k before =

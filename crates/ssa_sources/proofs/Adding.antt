@@ -29,9 +29,6 @@ use Rattle.ssa_tables.specs.Laws.{IsTabled}
 -- ---- a row of entries
 
 module _ (entries : List Entry) (wants : WantsView) (now : List ℕ) (base key : ℕ) where
-  keys : List ℕ
-  keys = map entry_key entries
-
   -- the entries of the row from a place on were passed
   pub record RowPassed (end : ℕ) (old new : List Operand) : Type 0 where
     pub bound : ℕ

@@ -31,11 +31,9 @@ no-operands code args gets = record { there = λ key t z less x. absurd (omega (
 
 module _ (code : List Instr) (args : ℕ) (gets : ℕ → Location → Option ℕ) (bound : ℕ) (high : base_of code args ≤ bound) (got : (k y : ℕ) (a : Location) → gets k a ≡ Some y → y < bound) where
   argument-below : (a : Location) (y : ℕ) → argument args a ≡ Some y → y < bound
-  behind-below : (i : ℕ) (o : Option Instr) → slice_get code i ≡ o → ((a : Location) (y : ℕ) → into_at code args gets i a ≡ Some y → y < bound) → (a : Location) (y : ℕ) → else_passed (gets i a) (passed_by o (args + i) (into_at code args gets i) a) ≡ Some y → y < bound
-  pub into-below : (i : ℕ) (a : Location) (y : ℕ) → into_at code args gets i a ≡ Some y → y < bound
-
   argument-below a y e = let l = few args y (a, e) in omega (arith, l, high)
 
+  behind-below : (i : ℕ) (o : Option Instr) → slice_get code i ≡ o → ((a : Location) (y : ℕ) → into_at code args gets i a ≡ Some y → y < bound) → (a : Location) (y : ℕ) → else_passed (gets i a) (passed_by o (args + i) (into_at code args gets i) a) ≡ Some y → y < bound
   behind-below i o at before a y e = by (gets i a) refl e
     where
       written-below : (x : ℕ) → destination o ≡ Some x → args + i < bound
@@ -58,6 +56,7 @@ module _ (code : List Instr) (args : ℕ) (gets : ℕ → Location → Option �
       by None g h = passed (is_copy o) (is_dest (destination o) a) refl refl h
       by (Some z) g h = got i y a (g ∙ h)
 
+  pub into-below : (i : ℕ) (a : Location) (y : ℕ) → into_at code args gets i a ≡ Some y → y < bound
   into-below zero a y e = argument-below a y (told-before (slice_get code 0) (argument args a) y e)
   into-below (suc i) a y e = behind-below i (slice_get code i) refl (into-below i) a y (told-before (slice_get code (suc i)) (else_passed (gets i a) (passed_by (slice_get code i) (args + i) (into_at code args gets i) a)) y e)
 

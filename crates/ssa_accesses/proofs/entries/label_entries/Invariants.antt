@@ -4,6 +4,6 @@ use Rattle.ssa_accesses.proofs.entries.label_entries.Given as goal
 
 abbrev pub invariant-loop-point : goal.invariant-loop-point
 invariant-loop-point l = record {
-  nodes : l.reached.nodes ≡ l.none.nodes;
+  nodes : l.reached.nodes ≡ length l.code;
   before : AreEntriesBefore l.code l.point l.entries.items;
 }
