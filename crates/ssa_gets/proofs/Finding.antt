@@ -1,9 +1,9 @@
 -- The pairs of a label and a location that is live there, location by location.
-use Rattle.std.proofs.Common.{◌≡◌, ◌↔◌, ◌⊎◌, ℕ, suc, ◌+◌, ◌*◌, ◌<◌, ◌≤◌, true, List, [], ◌∷◌, ◌++◌, length, map, get_or, Option, Some, None, refl, sym, ap, subst, ◌∙◌, inl, inr, ⊎_elim, arith}
-use Rattle.std.specs.Prelude.{is_some, slice_get, slice_index}
-use Rattle.std.specs.List.{All, Contains}
+use Rattle.std.proofs.Common.{◌≡◌, ◌↔◌, ℕ, suc, ◌+◌, ◌*◌, ◌<◌, List, [], ◌++◌, length, map, Some, None, sym, subst, ◌∙◌, ⊎_elim, arith}
+use Rattle.std.specs.Prelude.{is_some, slice_get}
+use Rattle.std.specs.List.{Contains}
 use Rattle.std.proofs.lemmas.Bool.{cases_eq}
-use Rattle.std.proofs.lemmas.List.Elements.{Contains-append_cases, Contains-append_left, Contains-append_right, Contains-get_or}
+use Rattle.std.proofs.lemmas.List.Elements.{Contains-append_cases, Contains-append_left, Contains-append_right}
 use Rattle.bril_tree.specs.declared.numbered.Instr.{Instr}
 use Rattle.bril_tree.specs.declared.numbered_function.Func.{Func}
 use Rattle.bril_tree.specs.Live.{IsLive, Here, Later}
@@ -16,7 +16,7 @@ use Rattle.flow_graph.specs.Location.{number_of}
 use Rattle.flow_graph.specs.declared.reads.Access.{Access}
 use Rattle.flow_graph.proofs.Locations.{number-one}
 use Rattle.graph_search.specs.Path.{GraphView}
-use Rattle.ssa_accesses.specs.Accesses.{AreBlocksOf, AssignsFirst}
+use Rattle.ssa_accesses.specs.Accesses.{AreBlocksOf}
 use Rattle.ssa_accesses.proofs.Tracking.{location-of}
 use Rattle.ssa_accesses.proofs.Within.{function-below, reads-below, shaped-at}
 use Rattle.ssa_gets.specs.Found.{AddsFound, AreFoundBefore, IsBlank, IsLiveNumber, found_at, with_values}

@@ -1,14 +1,13 @@
 -- The array of first points: written at the heads of blocks, and blank again.
-use Rattle.std.proofs.Common.{◌≡◌, ◌≢◌, ◌↔◌, ◌⊎◌, ℕ, zero, suc, ◌+◌, ◌-◌, ◌<◌, ◌≤◌, Bool, true, false, List, [], ◌∷◌, length, drop, Option, Some, None, refl, sym, ap, subst, ◌∙◌, inl, inr, ⊎_elim, set, arith}
+use Rattle.std.proofs.Common.{◌≡◌, ◌↔◌, ◌⊎◌, ℕ, zero, suc, ◌+◌, ◌-◌, ◌<◌, ◌≤◌, true, List, [], ◌∷◌, length, drop, refl, sym, ap, subst, ◌∙◌, inl, inr, ⊎_elim, set, arith}
 use Rattle.std.specs.Prelude.{nat_lt, slice_get, slice_index}
-use Rattle.std.specs.List.{All, Contains}
+use Rattle.std.specs.List.{Contains}
 use Rattle.std.proofs.lemmas.Bool.{cases_eq, cases_lt, lt-ltb, ltb-true}
 use Rattle.std.proofs.lemmas.List.{drop_all, get_or-set_same, get_or-set_other, length-set}
 use Rattle.bril_tree.specs.Assigned.{assigns_at}
 use Rattle.bril_tree.specs.declared.numbered.Instr.{Instr}
 use Rattle.bril_tree.specs.Membership.{In}
 use Rattle.bril_tree.specs.Operand.{Location}
-use Rattle.bril_tree.specs.Walk.{IsReached}
 use Rattle.bril_tree.proofs.Assignments.{in_or_not}
 use Rattle.bril_tree.proofs.Branches.{walk_within}
 use Rattle.bril_tree.proofs.Members.{contains_in, in_contains}
@@ -131,8 +130,8 @@ module _ (code : List Instr) (a : Location) where
             le = head-le code q
         by (inr (none, is)) = (
           (λ e s from less c.
-          let w = first-in_block s c in
-          let within = head-between code p s from (omega (arith, less)) in
-          none w.0 (in_contains w.0 points ((exact w.0).1 w.1)) (are w.0 (assigned-within code a w.0 w.1.assigns) ∙ w.2 ∙ within)),
+              let w = first-in_block s c in
+              let within = head-between code p s from (omega (arith, less)) in
+              none w.0 (in_contains w.0 points ((exact w.0).1 w.1)) (are w.0 (assigned-within code a w.0 w.1.assigns) ∙ w.2 ∙ within)),
           (λ u. lt-ltb p (slice_index written i) (let b = is ∙ blank i inside in omega (arith, b, high, few))),
         )

@@ -1,11 +1,10 @@
 -- Rows of `get`s in one list, point by point.
-use Rattle.std.proofs.Common.{◌≡◌, ◌≢◌, ◌↔◌, ◌⊎◌, ℕ, zero, suc, ◌+◌, ◌-◌, ◌<◌, ◌≤◌, List, [], ◌∷◌, ◌++◌, length, map, take, drop, Option, Some, None, refl, sym, ap, subst, ◌∙◌, inl, inr, ⊎_elim, arith}
+use Rattle.std.proofs.Common.{◌≡◌, ◌≢◌, ◌↔◌, ◌⊎◌, ℕ, zero, suc, ◌+◌, ◌-◌, ◌<◌, ◌≤◌, List, [], ◌∷◌, ◌++◌, length, take, drop, Some, None, refl, sym, ap, subst, ◌∙◌, inl, inr, ⊎_elim, arith}
 use Rattle.std.specs.Prelude.{slice_get, slice_index, slice_range}
 use Rattle.std.specs.List.{AllPairs, Contains}
 use Rattle.std.proofs.lemmas.Bool.{cases_eq, cases_lt}
 use Rattle.std.proofs.lemmas.List.{drop-append-le, drop_at, get_or_append_left, get_or_past, get_or_push, length-append, length_push, take-append-le, take_all, length-drop}
-use Rattle.std.proofs.lemmas.Option.{same_Some, slice_get_within}
-use Rattle.bril_tree.proofs.Members.{contains_in, in_contains}
+use Rattle.std.proofs.lemmas.Option.{same_Some}
 use Rattle.ssa_sweep.specs.declared.now.WantedGet.{WantedGet}
 use Rattle.ssa_gets.specs.Rows.{AreParts, AreRowsBefore, IsRow, gets_from, locations_of}
 
@@ -76,7 +75,7 @@ module _ (Has : ℕ → ℕ → Type 0) (base : ℕ) where
     numbered = numbered;
   }
     where
-      abbrev row : List WantedGet
+      row : List WantedGet
       row = gets_from (base + length list) xs
 
       size : length list' ≡ length list + length row

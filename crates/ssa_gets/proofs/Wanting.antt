@@ -1,7 +1,7 @@
 -- Rows of `get`s, one for each location that is live at a reached label, are the wanted `get`s.
-use Rattle.std.proofs.Common.{◌≡◌, ◌≢◌, ◌↔◌, ◌⊎◌, ℕ, zero, suc, ◌+◌, ◌-◌, ◌*◌, ◌^◌, ◌<◌, ◌≤◌, Bool, true, false, cond, List, [], ◌∷◌, ◌++◌, length, map, take, drop, get_or, Option, Some, None, refl, sym, ap, subst, ◌∙◌, inl, inr, ⊎_elim, arith}
+use Rattle.std.proofs.Common.{◌≡◌, ◌≢◌, ◌↔◌, ℕ, zero, suc, ◌+◌, ◌-◌, ◌*◌, ◌<◌, ◌≤◌, Bool, true, false, cond, List, [], ◌∷◌, length, take, drop, get_or, Option, Some, None, refl, sym, ap, subst, ◌∙◌, inl, inr, ⊎_elim, arith}
 use Rattle.std.specs.Prelude.{◌==◌, is_some, slice_get, slice_index, slice_range}
-use Rattle.std.specs.List.{All, AllPairs, Contains}
+use Rattle.std.specs.List.{All, AllPairs}
 use Rattle.std.proofs.lemmas.Bool.{cases_eq, cases_lt, eq-eqb, eqb-true}
 use Rattle.std.proofs.lemmas.List.{get_or_past}
 use Rattle.std.proofs.lemmas.List.Elements.{Contains-get_or}
@@ -18,8 +18,10 @@ use Rattle.bril_tree.proofs.Elements.{get_in, in_get}
 use Rattle.bril_tree.proofs.Members.{contains_in, in_contains, in_map, in_map_source}
 use Rattle.flow_graph.specs.Location.{number_of}
 use Rattle.flow_graph.proofs.Locations.{number-one}
-use Rattle.ssa_accesses.proofs.Labels.{label-within}
-use Rattle.ssa_gets.specs.Found.{IsLiveNumber}
+use Rattle.flow_graph.specs.Accesses.{Accesses}
+use Rattle.flow_graph.specs.declared.reads.Access.{Access}
+use Rattle.ssa_gets.specs.Found.{AreFoundBefore, IsLiveNumber, found_at}
+use Rattle.ssa_wants.specs.Blocks.{IsLiveLabel}
 use Rattle.ssa_gets.specs.Rows.{AreRowsBefore, IsRow, locations_of}
 use Rattle.ssa_gets.specs.Wants.{AreWantsOf, WantsView, definition_in, gets_of, row_of}
 use Rattle.ssa_gets.proofs.Finding.{live-below}
@@ -29,13 +31,13 @@ use Rattle.ssa_wants.specs.Wanted.{is_label}
 
 -- ---- the definition of a location's `get`
 
-pub definition-there : (gets : List WantedGet) (n y : ℕ) → definition_in gets n ≡ Some y → In (record { location = n; definition = y }) gets
+pub definition-there : (gets : List WantedGet) (n y : ℕ) → definition_in gets n ≡ Some y → In {A = WantedGet} (record { location = n; definition = y }) gets
 definition-there [] n y e = absurd (let h : None ≡ Some y = e in cc)
-definition-there (get ∷ gets) n y e = by (get.location == n) refl e
+definition-there (get ∷ gets) n y e = by (λ k. definition-there gets n y k) (get.location == n) refl e
   where
-    by : (b : Bool) → (get.location == n) ≡ b → cond b (Some get.definition) (definition_in gets n) ≡ Some y → In (record { location = n; definition = y }) (get ∷ gets)
-    by true t k = inl (ap (λ m. record { location = m; definition = y }) (sym (eqb-true get.location n t)) ∙ ap (λ d. record { location = get.location; definition = d }) (sym (same_Some get.definition y k)))
-    by false t k = inr (definition-there gets n y k)
+    by : (definition_in gets n ≡ Some y → In {A = WantedGet} (record { location = n; definition = y }) gets) → (b : Bool) → (get.location == n) ≡ b → cond b (Some get.definition) (definition_in gets n) ≡ Some y → In {A = WantedGet} (record { location = n; definition = y }) (get ∷ gets)
+    by rest true t k = inl (ap (λ m. record { location = m; definition = y }) (sym (eqb-true get.location n t)) ∙ ap (λ d. record { location = get.location; definition = d }) (sym (same_Some get.definition y k)))
+    by rest false t k = inr (rest k)
 
 pub definition-only : (gets : List WantedGet) → AllPairs (λ x y. x ≢ y) (locations_of gets) → (get : WantedGet) → In get gets → definition_in gets get.location ≡ Some get.definition
 definition-only [] differ get i = absurd i
@@ -43,11 +45,11 @@ definition-only (first ∷ gets) differ get (inl e) =
     ap (λ (g : WantedGet). definition_in (first ∷ gets) g.location) e
     ∙ ap (λ b. cond b (Some first.definition) (definition_in gets first.location)) (eq-eqb first.location first.location refl)
     ∙ ap (λ (g : WantedGet). Some g.definition) (sym e)
-definition-only (first ∷ gets) differ get (inr i) = by (first.location == get.location) refl
+definition-only (first ∷ gets) differ get (inr i) = by (definition-only gets (differ-rest first.location (locations_of gets) differ) get i) (first.location == get.location) refl
   where
-    by : (b : Bool) → (first.location == get.location) ≡ b → definition_in (first ∷ gets) get.location ≡ Some get.definition
-    by true t = absurd (differ-first first.location (locations_of gets) differ get.location (in_map (λ (g : WantedGet). g.location) get gets i) (eqb-true first.location get.location t))
-    by false t = ap (λ b. cond b (Some first.definition) (definition_in gets get.location)) t ∙ definition-only gets (differ-rest first.location (locations_of gets) differ) get i
+    by : definition_in gets get.location ≡ Some get.definition → (b : Bool) → (first.location == get.location) ≡ b → definition_in (first ∷ gets) get.location ≡ Some get.definition
+    by rest true t = absurd (differ-first first.location (locations_of gets) differ get.location (in_map (λ (g : WantedGet). g.location) get gets i) (eqb-true first.location get.location t))
+    by rest false t = ap (λ b. cond b (Some first.definition) (definition_in gets get.location)) t ∙ rest
 
 -- ---- parts of a list, by places
 
@@ -117,7 +119,7 @@ module _ (F : Func) (shaped : shape_fault_of (is_some F.ret) F.code ≡ None) (v
   live-at k get i = ((row-at k (get-within k get i)).exact get.location).0 (contains_in get.location (locations_of (row_of v k)) (in_map (λ (g : WantedGet). g.location) get (row_of v k) i))
 
   -- the `get` that the table tells
-  got : (k y : ℕ) (a : Location) → gets_of v k a ≡ Some y → In (record { location = number_of a; definition = y }) (row_of v k)
+  got : (k y : ℕ) (a : Location) → gets_of v k a ≡ Some y → In {A = WantedGet} (record { location = number_of a; definition = y }) (row_of v k)
   got k y a e = definition-there (row_of v k) (number_of a) y e
 
   place-of : (k y : ℕ) (a : Location) → gets_of v k a ≡ Some y → (t : ℕ) × (slice_get v.list t ≡ Some (record { location = number_of a; definition = y })) × (start k ≤ t) × (t < start (suc k))
@@ -187,9 +189,10 @@ module _ (F : Func) (shaped : shape_fault_of (is_some F.ret) F.code ≡ None) (v
           let m = rows.numbered p.0 (record { location = number_of a; definition = y }) p.1 in
           let n = rows.numbered q.0 (record { location = number_of b; definition = y }) q.1 in
           let same : p.0 ≡ q.0 = omega (arith, m, n) in
-          let both : Some (record { location = number_of a; definition = y }) ≡ Some (record { location = number_of b; definition = y }) = sym p.1 ∙ ap (slice_get v.list) same ∙ q.1 in
-          (one-row j k p.0 (get-within j _ (got j y a g)) (get-within k _ (got k y b h)) p.2 p.3 (let l = q.2 in omega (arith, same, l)) (let l = q.3 in omega (arith, same, l)),
-          number-one a b (ap (λ (x : WantedGet). x.location) (same_Some _ _ both)))
+          let both : Some (record { location = number_of a; definition = y }) ≡ Some (record { location = number_of b; definition = y }) = sym p.1 ∙ ap (slice_get v.list) same ∙ q.1 in (
+            one-row j k p.0 (get-within j _ (got j y a g)) (get-within k _ (got k y b h)) p.2 p.3 (let l = q.2 in omega (arith, same, l)) (let l = q.3 in omega (arith, same, l)),
+            number-one a b (ap (λ (x : WantedGet). x.location) (same_Some _ _ both)),
+          )
 
   -- the row in which a place stands
   row-of_place : (n t : ℕ) → n ≤ length F.code → t < start n → (k : ℕ) × (k < n) × (start k ≤ t) × (t < start (suc k))
@@ -231,3 +234,14 @@ module _ (F : Func) (shaped : shape_fault_of (is_some F.ret) F.code ≡ None) (v
           let b = live-below F shaped l.location r.0 l.live.live in
           let n = l.number in
           omega (arith, b, n)
+
+-- what was found at a point
+pub found-row : (code : List Instr) (bound : ℕ) (found : List Access) → AreFoundBefore code bound found → ((a : Location) (k : ℕ) → IsLiveLabel code a k → number_of a < bound) → (k x : ℕ) → Accesses found k x ↔ IsLiveNumber code k x
+found-row code bound found b low k x = (
+  (λ c. (b.only (found_at x k) c).0),
+  (λ l. b.there k x (let n = l.number in let s = low l.location k l.live in omega (arith, n, s)) l),
+)
+
+-- and its items are locations
+pub found-within : (code : List Instr) (bound : ℕ) (found : List Access) → AreFoundBefore code bound found → All (λ (access : Access). access.item < bound) found
+found-within code bound found b i d low = (b.only (get_or found i d) (Contains-get_or found i d low)).1

@@ -1,6 +1,6 @@
 -- Rows of `get`s, one for each point, in one list.
-use Rattle.std.specs.Prelude.{◌≡◌, ◌≢◌, ◌↔◌, ℕ, zero, suc, ◌+◌, ◌<◌, ◌≤◌, List, [], ◌∷◌, length, map, Some, slice_get, slice_index, slice_range}
-use Rattle.std.specs.List.{All, AllPairs, Contains}
+use Rattle.std.specs.Prelude.{◌≡◌, ◌≢◌, ◌↔◌, ℕ, suc, ◌+◌, ◌<◌, ◌≤◌, List, [], ◌∷◌, length, map, Some, slice_get, slice_index, slice_range}
+use Rattle.std.specs.List.{AllPairs, Contains}
 use Rattle.ssa_sweep.specs.declared.now.WantedGet.{WantedGet}
 
 -- `get`s of these locations, with definitions from a number on

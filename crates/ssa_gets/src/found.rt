@@ -127,5 +127,6 @@ pub(crate) fn live_pairs(
             location,
         )?;
     }
-    label_rows(alloc, found)
+    let rows = label_rows(alloc, found)?;
+    Ok(rows)
 }

@@ -73,7 +73,8 @@ fn find_row(
     ensures found { OnOk result ((x : ℕ) → Contains reached.new.found x ↔ Accesses found.now.list point x) }
 {
     let items = found.items(alloc, point)?;
-    distinct(reached, none, items.as_slice())
+    distinct(reached, none, items.as_slice())?;
+    Ok(())
 }
 
 // The rows of all points. `found` has the pairs of a reached label and a location that is live there, `base` the number of
@@ -118,5 +119,6 @@ pub fn wanted_gets(alloc: Global, func: &Func, graph: &Graph) -> Result<Wants, A
     let base = base_of(func.args, func.code.as_slice().len())?;
     let locations = location_count(func.vars.as_slice().len())?;
     let found = live_pairs(alloc, func, graph, locations)?;
-    rows_of(alloc, func, base, locations, &found)
+    let wants = rows_of(alloc, func, base, locations, &found)?;
+    Ok(wants)
 }

@@ -127,14 +127,18 @@ module _ (code : List Instr) (args : ℕ) (gets : ℕ → Location → Option �
   pub source-set : (k t z : ℕ) (a : Location) → gets k a ≡ Some (base_of code args + t) → Source code n args k a z → (key : ℕ) × (key < suc (length code)) × IsSetAt code args gets key t z
   source-set k t z a get (FromStart first told) = (0, omega arith, record { label = k; location = a; enters = (enters-is k (base_of code args + t) a get, first); get = get; told = told })
   source-set k t z a get (FromNext walk w is among ab to told) =
-      let leaves : leave_of w.aborts w.from (sites_of code walk) ≡ end_of walk = ap (λ b. leave_of b w.from (sites_of code walk)) ab ∙ branch_from code (end_of walk) w among in
-      (suc (end_of walk), (let l = item-within code (end_of walk) w among in omega (arith, l)),
-      record { label = k; location = a; enters = edge-by walk w k (end_of walk) (base_of code args + t) a get is among to leaves; get = get; told = told })
+      let leaves : leave_of w.aborts w.from (sites_of code walk) ≡ end_of walk = ap (λ b. leave_of b w.from (sites_of code walk)) ab ∙ branch_from code (end_of walk) w among in (
+        suc (end_of walk),
+        (let l = item-within code (end_of walk) w among in omega (arith, l)),
+        record { label = k; location = a; enters = edge-by walk w k (end_of walk) (base_of code args + t) a get is among to leaves; get = get; told = told },
+      )
   source-set k t z a get (FromBack walk w s sites is among ab to are told) =
       let leaves : leave_of w.aborts w.from (sites_of code walk) ≡ s = ap (λ b. leave_of b w.from (sites_of code walk)) ab ∙ ap (leave_of true w.from) are in
-      let inside = first-site walk s sites are in
-      (suc s, (let l = site-within code walk s inside in omega (arith, l)),
-      record { label = k; location = a; enters = edge-by walk w k s (base_of code args + t) a get is among to leaves; get = get; told = site-behind walk is s inside a ∙ told })
+      let inside = first-site walk s sites are in (
+        suc s,
+        (let l = site-within code walk s inside in omega (arith, l)),
+        record { label = k; location = a; enters = edge-by walk w k s (base_of code args + t) a get is among to leaves; get = get; told = site-behind walk is s inside a ∙ told },
+      )
 
   -- where an edge leaves to a label, the tables tell of what it sets there
   pub told-there : (key k y : ℕ) (a : Location) → EntersAt code (leave_at key) k → gets k a ≡ Some y → (z : ℕ) × (told_at code args gets key a ≡ Some z)

@@ -101,10 +101,10 @@ module _ (F : Func) (wants : WantsView) (is : AreWantsOf F wants) where
       sources = λ k t z a get. (
         (λ s. let x = source-set F.code F.args (gets_of wants) sound tabled k t z a get s in subst (λ l. Contains l (record { get = t; from = z })) (sym same) (all.there x.0 t z x.1 x.2)),
         (λ c.
-        let x = all.only (record { get = t; from = z }) (subst (λ l. Contains l (record { get = t; from = z })) same c) in
-        let own = tabled.wanted.once x.2.label k (base_of F.code F.args + t) x.2.location a x.2.get get in
-        subst (λ b. Source F.code (table_of F.code F.args (gets_of wants)) F.args k b z) own.1
-        (subst (λ j. Source F.code (table_of F.code F.args (gets_of wants)) F.args j x.2.location z) own.0
-        (set-source F.code F.args (gets_of wants) sound tabled x.0 t z x.2))),
+            let x = all.only (record { get = t; from = z }) (subst (λ l. Contains l (record { get = t; from = z })) same c) in
+            let own = tabled.wanted.once x.2.label k (base_of F.code F.args + t) x.2.location a x.2.get get in
+            subst (λ b. Source F.code (table_of F.code F.args (gets_of wants)) F.args k b z) own.1
+            (subst (λ j. Source F.code (table_of F.code F.args (gets_of wants)) F.args j x.2.location z) own.0
+            (set-source F.code F.args (gets_of wants) sound tabled x.0 t z x.2))),
       );
     }

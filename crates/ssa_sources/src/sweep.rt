@@ -5,7 +5,6 @@ ghost use Rattle.std.specs.List.{All};
 ghost use Rattle.bril_tree.specs.Shape.{shape_fault_of};
 ghost use Rattle.bril_tree.specs.Sites.{AreSitesSound};
 ghost use Rattle.flow_graph.specs.Graph.{IsGraphOf};
-
 ghost use Rattle.ssa_classes.specs.Trivial.{sources_of};
 ghost use Rattle.ssa_gets.specs.Wants.{AreWantsOf, gets_of, row_of};
 ghost use Rattle.ssa_operands.specs.Operands.{AreOperands, base_of};
@@ -116,7 +115,8 @@ fn push_row(
     let mut end = rows.end(key);
     while end > 0 {
         let place = end - 1;
-        push_entry(operands, wants, entries[place as usize].label, now, base)?;
+        let entry = entries[place as usize];
+        push_entry(operands, wants, entry.label, now, base)?;
         end = rows.before(place);
     }
     Ok(())
@@ -189,7 +189,8 @@ fn leave(
         now,
         edges.base,
         key,
-    )
+    )?;
+    Ok(())
 }
 
 // Goes on past an item and the `get`s behind it.
@@ -226,9 +227,15 @@ fn swept(
     let mut now = begin(alloc, func.args, variable_count(func)?)?;
     leave(func, edges, wants, now.as_slice(), &mut operands, 0)?;
     for point in 0..func.code.as_slice().len() {
-        let point = point as u32;
-        go_on(func, wants, &mut now, point);
-        leave(func, edges, wants, now.as_slice(), &mut operands, point + 1)?;
+        go_on(func, wants, &mut now, point as u32);
+        leave(
+            func,
+            edges,
+            wants,
+            now.as_slice(),
+            &mut operands,
+            point as u32 + 1,
+        )?;
     }
     Ok(operands)
 }
@@ -265,5 +272,6 @@ pub fn operands_of(
 {
     let edges = edges_of(alloc, func, graph)?;
     let list = swept(alloc, func, &edges, wants)?;
-    operand_rows(alloc, wants.list().len(), list)
+    let operands = operand_rows(alloc, wants.list().len(), list)?;
+    Ok(operands)
 }
