@@ -1,5 +1,5 @@
 -- How many bits of a word are 1.
-use Rattle.std.proofs.Common.{◌≡◌, ◌⊎◌, ℕ, zero, suc, ◌+◌, ◌/◌, ◌%◌, ◌^◌, ◌<◌, [], ◌∷◌, refl, sym, ap, subst, ◌∙◌, inl, inr, ⊎_elim, true, arith}
+use Rattle.std.proofs.Common.{◌≡◌, ◌⊎◌, ℕ, zero, suc, ◌/◌, ◌%◌, ◌^◌, ◌<◌, [], ◌∷◌, refl, sym, ap, subst, ◌∙◌, inl, inr, ⊎_elim, true, arith}
 use Rattle.std.proofs.Math.Nat.{pow-suc}
 use Rattle.std.proofs.lemmas.Nat.Bits.{bit_at-lt, bit_at-suc, bit_at_lowest}
 use Rattle.std.specs.Int.{bit_at}
@@ -56,7 +56,7 @@ bits-set (suc width) word low = join (bits-set width (word / 2) (half-low width 
     join : AreSoMany (IsSet (word / 2) width) (count_ones (word / 2)) → AreSoMany (IsSet word (suc width)) (count_ones word)
     join rest =
         let upper = so-made (IsSet (word / 2) width) (λ k. (0 < k) × IsSet word (suc width) k) (λ k. suc k) (count_ones (word / 2)) rest
-        (λ x y e. omega (arith, e)) (λ k h. (omega arith, ((let l = h.0 in omega (arith, l)), bit_at-suc word k ∙ h.1))) from in
+        (λ x y p q e. omega (arith, e)) (λ k h. (omega arith, ((let l = h.0 in omega (arith, l)), bit_at-suc word k ∙ h.1))) from in
         subst (AreSoMany (IsSet word (suc width))) (sym (ones_step word))
         (so-both (IsLowest word) (λ k. (0 < k) × IsSet word (suc width) k) (IsSet word (suc width)) (word % 2) (count_ones (word / 2)) (lowest-set word) upper
         (λ k h g. let a = h.0 in let b = g.0 in omega (arith, a, b))

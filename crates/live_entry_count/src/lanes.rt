@@ -21,6 +21,20 @@ pub(crate) struct Lanes {
     ghost low: { (head lane : ℕ) → head < length lows.items → lane < 64 → slice_index lows.items head ≤ slice_index points.items (64 * head + lane) },
 }
 
+// The bit of a lane, where the point stands before the lane's first point.
+fn lane_bit(points: &[u32], head: u32, lane: u32, point: u32) -> u64
+    requires few { lane < 64 }
+    requires within { 64 * head + 64 ≤ length points.now }
+    ensures only { (j : ℕ) → has_bit result j ≡ true → (j ≡ lane) × (point < slice_index points.now (64 * head + lane)) }
+    ensures there { point < slice_index points.now (64 * head + lane) → has_bit result lane ≡ true }
+{
+    if point < points[64 * head as usize + lane as usize] {
+        one_bit(lane)
+    } else {
+        0
+    }
+}
+
 // The lanes whose points are behind this one.
 fn lanes_behind(points: &[u32], head: u32, point: u32) -> u64
     requires { 64 * head + 64 ≤ length points.now }
@@ -28,9 +42,7 @@ fn lanes_behind(points: &[u32], head: u32, point: u32) -> u64
 {
     let mut bits = 0;
     for k in 0..LANES {
-        if point < points[64 * head as usize + k as usize] {
-            bits |= one_bit(k);
-        }
+        bits |= lane_bit(points, head, k, point);
     }
     bits
 }
@@ -67,7 +79,7 @@ impl Lanes {
         ensures heads { length self.new.lows.items ≡ length self.old.lows.items }
         ensures points { self.new.points.items ≡ slice_set self.old.points.items (64 * head + lane) 4294967295 }
     {
-        self.points[64 * head as usize + lane as usize] = u32::MAX;
+        self.write(head, lane, u32::MAX);
     }
 
     // Notes that no lane has a point at a head.

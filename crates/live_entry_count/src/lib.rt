@@ -7,5 +7,6 @@
 
 mod count;
 mod lanes;
+mod search;
 
 pub use count::count_live_entries;

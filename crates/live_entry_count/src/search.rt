@@ -108,12 +108,7 @@ fn fill(
 }
 
 // Takes the points of all lanes out.
-fn take_out(
-    alloc: Global,
-    blocks: &Blocks,
-    lanes: &mut Lanes,
-    base: u32,
-) -> Result<(), AllocError>
+fn take_out(alloc: Global, blocks: &Blocks, lanes: &mut Lanes, base: u32) -> Result<(), AllocError>
     requires few { base + 64 < 2 ^ 32 }
     requires heads { length lanes.old.lows.items ≡ blocks.now.arcs.nodes }
     requires filled { (lane : ℕ) → lane < 64 → IsLaneOf blocks.now.heads.items blocks.now.accesses.firsts.list (base + lane) lane blocks.now.arcs.nodes lanes.old.points.items }
