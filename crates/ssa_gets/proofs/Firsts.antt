@@ -111,8 +111,8 @@ module _ (code : List Instr) (a : Location) where
   first-told few p v r (inr (none, is)) =
       let high : p ≤ length code = subst (λ k. k ≤ length code) r.ends (walk_within code r.walk r.is) in (
         (λ e s from less c.
-        let w = first-in_block s c in
-        none w.0 w.1 (w.2 ∙ head-between code p s from (omega (arith, less)))),
+            let w = first-in_block s c in
+            none w.0 w.1 (w.2 ∙ head-between code p s from (omega (arith, less)))),
         (λ u. lt-ltb p v (omega (arith, is, high, few))),
       )
 
