@@ -1,10 +1,10 @@
 -- No two definitions have one name, and names don't grow.
-use Rattle.std.proofs.Common.{◌≡◌, ℕ, ◌+◌, ◌-◌, ◌<◌, ◌≤◌, Bool, true, false, cond, List, ◌∷◌, ◌++◌, ltb, refl, sym, ap, ◌∙◌, arith, append_assoc}
+use Rattle.std.proofs.Common.{◌≡◌, ℕ, ◌+◌, ◌-◌, ◌≤◌, Bool, true, false, cond, List, ◌∷◌, ◌++◌, ltb, refl, sym, ap, ◌∙◌, arith}
 use Rattle.std.specs.Prelude.{replicate}
-use Rattle.std.proofs.lemmas.Bool.{ltb-true, ltb-false}
+use Rattle.std.proofs.lemmas.Bool.{ltb-true}
 use Rattle.bril_tree.specs.Numbered.{named}
 use Rattle.ssa_names.specs.Laws.{NamesDiffer, NamesStayShort}
-use Rattle.ssa_names.specs.Names.{definition_name, front_of, has_dot, made_name, marks, number_text, stem_of}
+use Rattle.ssa_names.specs.Names.{base_name, front_of, has_dot, made_name, marks, number_text, stem_of}
 use Rattle.ssa_names.proofs.Texts.{after-dot, dotted, marks-more, marks-replicate, one-number, plain-number, stem-cut}
 
 -- what stands before the `.`
@@ -33,11 +33,11 @@ no-argument front argument name y less e =
 pub names-differ : NamesDiffer
 names-differ names args front variable one less y z e = by (ltb y args) (ltb z args) refl refl e
   where
-    by : (b c : Bool) → ltb y args ≡ b → ltb z args ≡ c → cond b (named names y) (made_name front (named names (variable y)) y) ≡ cond c (named names z) (made_name front (named names (variable z)) z) → y ≡ z
+    by : (b c : Bool) → ltb y args ≡ b → ltb z args ≡ c → cond b (named names y) (made_name front (base_name names (variable y)) y) ≡ cond c (named names z) (made_name front (base_name names (variable z)) z) → y ≡ z
     by true true p q h = one y z (ltb-true y args p) (ltb-true z args q) h
-    by true false p q h = absurd (no-argument front (named names y) (named names (variable z)) z (less y (ltb-true y args p)) h)
-    by false true p q h = absurd (no-argument front (named names z) (named names (variable y)) y (less z (ltb-true z args q)) (sym h))
-    by false false p q h = one-made front (named names (variable y)) (named names (variable z)) y z h
+    by true false p q h = absurd (no-argument front (named names y) (base_name names (variable z)) z (less y (ltb-true y args p)) h)
+    by false true p q h = absurd (no-argument front (named names z) (base_name names (variable y)) y (less z (ltb-true z args q)) (sym h))
+    by false false p q h = one-made front (base_name names (variable y)) (base_name names (variable z)) y z h
 
 pub names-stay_short : NamesStayShort
 unfolding before

@@ -1,5 +1,5 @@
 -- The names of definitions.
-use Rattle.std.specs.Prelude.{ℕ, zero, suc, ◌+◌, ◌-◌, ◌==◌, Bool, List, [], ◌∷◌, ◌++◌, length, map, take, replicate, nat_lt, if◌then◌else◌}
+use Rattle.std.specs.Prelude.{ℕ, zero, suc, ◌+◌, ◌-◌, ◌==◌, Bool, List, [], ◌∷◌, ◌++◌, length, map, take, replicate, nat_lt, slice_index_or, if◌then◌else◌}
 use Rattle.std.specs.Int.Digits.{digits_of}
 use Rattle.std.specs.List.{list_any}
 use Rattle.bril_tree.specs.Numbered.{named}
@@ -40,7 +40,11 @@ front_of name = if has_dot name then marks name + 1 else 0
 abbrev pub made_name : ℕ → List ℕ → ℕ → List ℕ
 made_name front name y = replicate (front - marks (stem_of name)) 95 ++ stem_of name ++ 46 ∷ number_text y
 
+-- the name of a variable; `v` for a number that no variable has
+abbrev pub base_name : List (List ℕ) → ℕ → List ℕ
+base_name names x = slice_index_or names x (118 ∷ [])
+
 -- The name of any definition, where these are the names of variables and the first `args` of them arguments. `variable` has the
 -- variable of each other definition.
 abbrev pub definition_name : List (List ℕ) → ℕ → ℕ → (ℕ → ℕ) → ℕ → List ℕ
-definition_name names args front variable y = if nat_lt y args then named names y else made_name front (named names (variable y)) y
+definition_name names args front variable y = if nat_lt y args then named names y else made_name front (base_name names (variable y)) y

@@ -1,7 +1,7 @@
 // Names of definitions.
 
-ghost use Rattle.std.specs.Prelude.{◌≡◌, ◌==◌, ◌<◌, ◌≤◌, ◌+◌, ◌-◌, ◌^◌, ℕ, IfOk, length, slice_index};
-ghost use Rattle.std.specs.List.{All, list_any};
+ghost use Rattle.std.specs.Prelude.{◌≡◌, ◌==◌, ◌<◌, ◌≤◌, ◌+◌, ◌-◌, ◌^◌, ℕ, IfOk, IsTrue, length, slice_index};
+ghost use Rattle.bril_tree.specs.Identifier.{is_identifier};
 ghost use Rattle.bril_tree.specs.Numbered.{named, variable_names};
 ghost use Rattle.ssa_names.specs.Names.{definition_name, front_of, has_dot, made_name, marks, stem_end};
 
@@ -82,11 +82,12 @@ fn made_bytes(alloc: Global, front: usize, name: &[u8], number: u32) -> Result<V
     Ok(bytes)
 }
 
-// The same as a name.
-fn made_name(alloc: Global, front: usize, name: &Name, number: u32) -> Result<Name, AllocError>
+// The same as a name, where this is an identifier.
+fn made_name(alloc: Global, front: usize, name: &[u8], number: u32) -> Result<Name, AllocError>
+    requires { IsTrue (is_identifier name.now) }
     ensures { IfOk result (λ made. made ≡ made_name front name.now number) }
 {
-    let bytes = made_bytes(alloc, front, name.as_bytes(), number)?;
+    let bytes = made_bytes(alloc, front, name, number)?;
     match Name::ident(alloc, bytes.as_slice()) {
         Ok(made) => Ok(made),
         Err(IdentFault::Memory) => Err(AllocError),
@@ -95,7 +96,8 @@ fn made_name(alloc: Global, front: usize, name: &Name, number: u32) -> Result<Na
 }
 
 /// The name of a definition. The first `args` variables are the arguments, and definitions by these numbers; of each further
-/// one `variables` has the variable. `front` is what the function of that name gives. The only error is out of memory.
+/// one `variables` has the variable, or a number that none has. `front` is what the function of that name gives. The only error
+/// is out of memory.
 pub fn definition_name(
     alloc: Global,
     vars: &[VarInfo],
@@ -106,12 +108,15 @@ pub fn definition_name(
 ) -> Result<Name, AllocError>
     requires arguments { args ≤ length vars.now }
     requires within { definition < args + length variables.now }
-    requires known { All (λ x. x < length vars.now) variables.now }
     ensures { IfOk result (λ name. name ≡ definition_name (variable_names vars.now) args front (λ y. slice_index variables.now (y - args)) definition) }
 {
     if definition < args {
         return vars[definition as usize].name.copied(alloc);
     }
-    let variable = variables[(definition - args) as usize];
-    made_name(alloc, front, &vars[variable as usize].name, definition)
+    let variable = variables[(definition - args) as usize] as usize;
+    if variable < vars.len() {
+        made_name(alloc, front, vars[variable].name.as_bytes(), definition)
+    } else {
+        made_name(alloc, front, b"v".as_slice(), definition)
+    }
 }

@@ -1,6 +1,6 @@
-use Rattle.std.proofs.Common.{◌≡◌, ℕ, ◌<◌, ◌^◌, ◌-◌, ◌∙◌, ◌++◌, ◌∷◌, [], take, length, ap, ap₂, sym, List, arith, append_assoc}
+use Rattle.std.proofs.Common.{◌≡◌, ℕ, ◌<◌, ◌^◌, ◌-◌, ◌∙◌, ◌++◌, ◌∷◌, [], take, ap, ap₂, sym, List, arith, append_assoc}
 use Rattle.std.specs.Prelude.{replicate}
-use Rattle.ssa_names.specs.Names.{made_name, marks, number_text, stem_end, stem_of}
+use Rattle.ssa_names.specs.Names.{marks, number_text, stem_of}
 use Rattle.ssa_names.proofs.Texts.{number-decimal}
 use Rattle.ssa_names.proofs.names.made_bytes.Goals as goal
 
