@@ -1,16 +1,16 @@
 // The layout of a function's code, by one sweep over its items.
 
-ghost use Rattle.std.specs.Prelude.{◌≡◌, ◌<◌, ◌≤◌, ◌+◌, ◌*◌, ◌^◌, ◌-◌, ◌++◌, [], ℕ, List, Some, None, Option, IfOk, OnOk, is_some, length, slice_get, slice_index, slice_index_or};
+ghost use Rattle.std.specs.Prelude.{◌≡◌, ◌<◌, ◌≤◌, ◌+◌, ◌*◌, ◌^◌, ◌-◌, ◌++◌, ◌∷◌, [], ℕ, List, Some, None, Option, IfOk, OnOk, is_some, length, slice_get, slice_index, slice_index_or};
 ghost use Rattle.std.specs.List.{All};
 ghost use Rattle.bril_tree.specs.declared.numbered.VarInfo.{VarInfo};
 ghost use Rattle.bril_tree.specs.Operand.{Location};
 ghost use Rattle.bril_tree.specs.Shape.{shape_fault_of};
-ghost use Rattle.ssa_code.specs.Sweep.{AreGets, IsLaidCode, before_at, falls_at, gets_before, goes_on, item_args, item_at, layout_of, reached_at, row_in, sets_falling, sets_leaving, sets_to};
+ghost use Rattle.ssa_code.specs.Sweep.{AreGets, IsLaidCode, IsLaidSoFar, before_at, falls_at, gets_before, goes_on, item_args, item_at, layout_of, reached_at, row_in, sets_falling, sets_leaving, sets_to};
 ghost use Rattle.ssa_sweep.specs.Gets.{AreGetsOf};
 ghost use Rattle.ssa_sweep.specs.Tells.{IsItemWithin, TellsNow};
 ghost use Rattle.ssa_sweep.specs.declared.now.WantedGet.{WantedGet};
 ghost use Rattle.ssa_tables.specs.Tables.{else_passed};
-ghost use Rattle.ssa_tables.specs.Told.{passed_by};
+ghost use Rattle.ssa_tables.specs.Told.{argument, passed_by};
 
 use crate::copies::{kept, push_gets, push_sets};
 use crate::items::{at, laid_item};
@@ -92,7 +92,8 @@ fn push_falling(
     if !falls {
         return Ok(());
     }
-    push_sets_to(alloc, code, names, find, now, starts, list, point)
+    push_sets_to(alloc, code, names, find, now, starts, list, point)?;
+    Ok(())
 }
 
 // Adds those of some labels.
@@ -188,10 +189,14 @@ fn push_before(
     requires point { point ≤ length func.now.code }
     ensures { OnOk result (made.new ≡ made.old ++ before_at func.now graph.now.sites (layout_of func.now.vars names.now find.now starts.now list.now rows.now) now.now point) }
 {
-    push_gets_before(alloc, made, func.vars.as_slice(), names, find, starts, list, point)?;
-    let falls = falls_at(func.code.as_slice(), graph, point);
+    let vars = func.vars.as_slice();
+    let code = func.code.as_slice();
+    let falls = falls_at(code, graph, point);
+    let labels = labels_at(rows, point as usize);
+    push_gets_before(alloc, made, vars, names, find, starts, list, point)?;
     push_falling(alloc, made, names, find, now, starts, list, falls, point)?;
-    push_leaving(alloc, made, names, find, now, starts, list, labels_at(rows, point as usize))
+    push_leaving(alloc, made, names, find, now, starts, list, labels)?;
+    Ok(())
 }
 
 // What stands in place of an item of the function.
@@ -212,5 +217,154 @@ fn item_at(
 {
     let instr = &func.code.as_slice()[point as usize];
     let reached = reached_at(graph, point);
-    laid_item(alloc, names, find, now, reached, func.args + point, args_of(instr), item)
+    let args = args_of(instr);
+    let made = laid_item(
+        alloc,
+        names,
+        find,
+        now,
+        reached,
+        func.args + point,
+        args,
+        item,
+    )?;
+    Ok(made)
+}
+
+// Adds what stands before an item, and what stands in its place.
+fn lay_one(
+    alloc: Global,
+    made: &mut Seq<Item>,
+    func: &Func,
+    graph: &Graph,
+    names: &[Name],
+    find: &[u32],
+    now: &[u32],
+    starts: &[u32],
+    list: &[WantedGet],
+    rows: &[Seq<u32>],
+    point: u32,
+    item: Item,
+) -> Result<(), AllocError>
+    requires points { length graph.now.sites ≡ length func.now.code + 1 }
+    requires point { point < length func.now.code }
+    requires few { func.now.args + length func.now.code < 2 ^ 32 }
+    ensures { OnOk result (made.new ≡ made.old ++ (before_at func.now graph.now.sites (layout_of func.now.vars names.now find.now starts.now list.now rows.now) now.now point ++ item_at func.now graph.now.sites (layout_of func.now.vars names.now find.now starts.now list.now rows.now) now.now point item ∷ [])) }
+{
+    push_before(
+        alloc, made, func, graph, names, find, now, starts, list, rows, point,
+    )?;
+    let laid = item_at(alloc, func, graph, names, find, now, point, item)?;
+    made.push(laid)?;
+    Ok(())
+}
+
+// The array of definitions goes on past an item and the `get`s behind it.
+fn go_on(now: &mut [u32], func: &Func, starts: &[u32], list: &[WantedGet], point: u32)
+    requires shaped { shape_fault_of (is_some func.now.ret) func.now.code ≡ None }
+    requires point { point < length func.now.code }
+    requires few { func.now.args + length func.now.code < 2 ^ 32 }
+    requires wide { length now.old ≡ 2 * length func.now.vars }
+    requires locations { All (λ get. get.location < 2 * length func.now.vars) (row_in starts.now list.now point) }
+    ensures { (known got : Location → Option ℕ) → AreGetsOf got (row_in starts.now list.now point) → TellsNow known now.old → TellsNow (λ a. else_passed (got a) (passed_by (slice_get func.now.code point) (func.now.args + point) known a)) now.new }
+{
+    let code = func.code.as_slice();
+    let item = &code[point as usize];
+    let gets = row(starts, list, point as usize);
+    pass(now, item, func.args + point);
+    enter(now, gets);
+}
+
+// Lays out all items, with an array that tells the definitions where the function begins.
+fn lay_all(
+    alloc: Global,
+    made: &mut Seq<Item>,
+    now: &mut [u32],
+    func: &Func,
+    graph: &Graph,
+    items: Seq<Item>,
+    names: &[Name],
+    find: &[u32],
+    starts: &[u32],
+    list: &[WantedGet],
+    rows: &[Seq<u32>],
+) -> Result<(), AllocError>
+    requires none { made.old ≡ [] }
+    requires tells { TellsNow (argument func.now.args) now.old }
+    requires wide { length now.old ≡ 2 * length func.now.vars }
+    requires shaped { shape_fault_of (is_some func.now.ret) func.now.code ≡ None }
+    requires points { length graph.now.sites ≡ length func.now.code + 1 }
+    requires few { func.now.args + length func.now.code < 2 ^ 32 }
+    requires items { length items ≡ length func.now.code }
+    requires locations { (k : ℕ) → All (λ get. get.location < 2 * length func.now.vars) (row_in starts.now list.now k) }
+    ensures { OnOk result ((gets : ℕ → Location → Option ℕ) → AreGets func.now graph.now.sites (layout_of func.now.vars names.now find.now starts.now list.now rows.now) gets → IsLaidSoFar func.now graph.now.sites (layout_of func.now.vars names.now find.now starts.now list.now rows.now) gets (length items) items made.new now.new) }
+{
+    let mut point = 0;
+    for item in items.into_items() {
+        lay_one(
+            alloc, made, func, graph, names, find, now, starts, list, rows, point, item,
+        )?;
+        go_on(now, func, starts, list, point);
+        point += 1;
+    }
+    Ok(())
+}
+
+/// The code of a function in SSA form, which has these items, by names: each item under the names of definitions, the `get`s that
+/// stay behind their labels, and `set`s before the items where edges leave. `names` has the names of all definitions, and `find`
+/// what stands for each. For each point `starts` has where the wanted `get`s behind it begin in `list`, and `rows` the labels for
+/// which `set`s stand before it. The only error is out of memory, which a function of 2^32 variables is taken to have.
+pub fn laid_code(
+    alloc: Global,
+    func: &Func,
+    graph: &Graph,
+    items: Seq<Item>,
+    names: &[Name],
+    find: &[u32],
+    starts: &[u32],
+    list: &[WantedGet],
+    rows: &[Seq<u32>],
+) -> Result<Seq<Item>, AllocError>
+    requires shaped { shape_fault_of (is_some func.now.ret) func.now.code ≡ None }
+    requires points { length graph.now.sites ≡ length func.now.code + 1 }
+    requires few { func.now.args + length func.now.code < 2 ^ 32 }
+    requires items { length items ≡ length func.now.code }
+    requires locations { (k : ℕ) → All (λ get. get.location < 2 * length func.now.vars) (row_in starts.now list.now k) }
+    ensures { IfOk result (λ made. (gets : ℕ → Location → Option ℕ) → AreGets func.now graph.now.sites (layout_of func.now.vars names.now find.now starts.now list.now rows.now) gets → IsLaidCode func.now graph.now.sites (layout_of func.now.vars names.now find.now starts.now list.now rows.now) gets items made) }
+{
+    let vars = func.vars.as_slice();
+    let code = func.code.as_slice();
+    if vars.len() > u32::MAX as usize {
+        return Err(AllocError);
+    }
+    let mut now = begin(alloc, func.args, vars.len() as u32)?;
+    let mut made = Seq::new(alloc);
+    lay_all(
+        alloc,
+        &mut made,
+        now.as_mut_slice(),
+        func,
+        graph,
+        items,
+        names,
+        find,
+        starts,
+        list,
+        rows,
+    )?;
+    let end = code.len() as u32;
+    push_before(
+        alloc,
+        &mut made,
+        func,
+        graph,
+        names,
+        find,
+        now.as_slice(),
+        starts,
+        list,
+        rows,
+        end,
+    )?;
+    Ok(made)
 }
