@@ -1,11 +1,10 @@
 -- Laws of the number of live entries: there is exactly one.
-use Rattle.std.specs.Prelude.{◌≡◌, ℕ, ◌*◌, ◌≤◌, List}
+use Rattle.std.specs.Prelude.{◌≡◌, ℕ, List}
 use Rattle.bril_tree.specs.Accepted.{IsAccepted}
 use Rattle.bril_tree.specs.declared.numbered.Instr.{Instr}
 use Rattle.bril_tree.specs.declared.numbered_function.Func.{Func}
 use Rattle.bril_tree.specs.declared.program.Prog.{Prog}
 use Rattle.bril_tree.specs.Sites.{AreSitesSound}
-use Rattle.program_numbers.specs.Entries.{IsEntryWidth}
 use Rattle.program_numbers.specs.ProgramNumbers.{IsGreatestWidth}
 use Rattle.live_entries.specs.LiveEntries.{AreLiveEntries, IsLiveEntryCount}
 

@@ -1,13 +1,11 @@
 // What the blocks of a function read before they assign it, and what they assign first.
 
-ghost use Rattle.std.specs.Prelude.{◌≡◌, ◌≤◌, ◌<◌, ◌*◌, ◌^◌, ◌-◌, ◌++◌, ℕ, List, None, Some, is_some, length, slice_index, slice_get, MatchOption, IfOk, OnOk, true};
+ghost use Rattle.std.specs.Prelude.{◌≡◌, ◌<◌, ◌*◌, ◌^◌, ◌-◌, ◌++◌, ℕ, suc, None, Some, is_some, length, slice_index, slice_get, MatchOption, IfOk, OnOk, true};
 ghost use Rattle.std.specs.List.{All};
 ghost use Rattle.bril_tree.specs.Shape.{shape_fault_of};
 ghost use Rattle.bril_tree.specs.Walk.{IsReached};
 ghost use Rattle.flow_graph.specs.Graph.{IsGraphOf};
-ghost use Rattle.flow_graph.specs.Location.{number_at};
-ghost use Rattle.flow_graph.specs.Reads.{item_reads};
-ghost use Rattle.ssa_accesses.specs.Accesses.{AreBlockAccesses, exposed_if, exposed_read, exposed_reads, first_write, last_behind};
+ghost use Rattle.ssa_accesses.specs.Accesses.{AreAccessesBefore, AreBlockAccesses, exposed_if, exposed_read, exposed_reads, first_write, last_behind};
 ghost use Rattle.ssa_wants.specs.Wanted.{head_of, is_label};
 
 use bril_tree::numbered::Instr;
@@ -78,15 +76,15 @@ fn push_exposed(
 // Adds an assignment, where the location wasn't assigned from the head on, and notes it.
 fn note_assigned(
     firsts: &mut Vec<Access>,
-    last: &mut [u32],
+    last: &mut Vec<u32>,
     location: Option<u32>,
     point: u32,
     head: u32,
 ) -> Result<(), AllocError>
-    requires within { MatchOption location (Unit {0}) (λ x. x < length last.old) }
+    requires within { MatchOption location (Unit {0}) (λ x. x < length last.old.items) }
     requires few { point < 2 ^ 32 - 1 }
-    ensures firsts { OnOk result (firsts.new.items ≡ firsts.old.items ++ first_write point head last.old location) }
-    ensures last { OnOk result (last.new ≡ last_behind point last.old location) }
+    ensures firsts { OnOk result (firsts.new.items ≡ firsts.old.items ++ first_write point head last.old.items location) }
+    ensures last { OnOk result (last.new.items ≡ last_behind point last.old.items location) }
 {
     if let Some(x) = location {
         if last[x as usize] <= head {
@@ -147,10 +145,41 @@ fn access_lists(alloc: Global, list: Vec<Access>) -> Result<AccessLists, AllocEr
     AccessLists::of(alloc, list)
 }
 
+// Passes an item: its reads, and then its assignment.
+fn pass_item(
+    alloc: Global,
+    func: &Func,
+    graph: &Graph,
+    point: u32,
+    head: u32,
+    last: &mut Vec<u32>,
+    exposed: &mut Vec<Access>,
+    firsts: &mut Vec<Access>,
+) -> Result<(), AllocError>
+    requires shaped { shape_fault_of (is_some func.now.ret) func.now.code ≡ None }
+    requires few { length func.now.code < 2 ^ 32 - 1 }
+    requires graph { IsGraphOf func.now.code graph.now }
+    requires point { point < length func.now.code }
+    requires head { head ≡ head_of func.now.code point }
+    requires long { length last.old.items ≡ 2 * length func.now.vars }
+    requires before { AreAccessesBefore func.now.code point last.old.items exposed.old.items firsts.old.items }
+    ensures long { OnOk result (length last.new.items ≡ 2 * length func.now.vars) }
+    ensures behind { OnOk result (AreAccessesBefore func.now.code (suc point) last.new.items exposed.new.items firsts.new.items) }
+{
+    let code = func.code.as_slice();
+    let item = &code[point as usize];
+    let reads = item_reads(alloc, point, item)?;
+    let counts = counts_at(code, graph, point, head);
+    push_exposed(exposed, counts, reads.as_slice(), last.as_slice(), head)?;
+    let location = assigned_number(item)?;
+    note_assigned(firsts, last, location, point, head)?;
+    Ok(())
+}
+
 /// What the blocks of a function read before they assign it, and what they assign first. `heads` has the head of each point's
 /// block. Takes time and memory in proportion to the items, their arguments and the variables. The only error is want of memory,
 /// which a function is taken to have that names a variable of a number from 2^31 on, or has 2^32 - 1 of these accesses or more.
-pub fn block_accesses(
+pub(crate) fn block_accesses(
     alloc: Global,
     func: &Func,
     graph: &Graph,
@@ -163,18 +192,20 @@ pub fn block_accesses(
     requires heads { (point : ℕ) → point < length func.now.code → slice_index heads.now point ≡ head_of func.now.code point }
     ensures { IfOk result (λ accesses. AreBlockAccesses func.now.code accesses.exposed.list accesses.firsts.list) }
 {
-    let code = func.code.as_slice();
     let mut last = none_assigned(alloc, func.vars.as_slice().len())?;
     let mut exposed = Vec::new(alloc);
     let mut firsts = Vec::new(alloc);
-    for (point, item) in code.iter().enumerate() {
-        let head = heads[point];
-        let point = point as u32;
-        let reads = item_reads(alloc, point, item)?;
-        let counts = counts_at(code, graph, point, head);
-        push_exposed(&mut exposed, counts, reads.as_slice(), last.as_slice(), head)?;
-        let location = assigned_number(item)?;
-        note_assigned(&mut firsts, last.as_mut_slice(), location, point, head)?;
+    for point in 0..heads.len() {
+        pass_item(
+            alloc,
+            func,
+            graph,
+            point as u32,
+            heads[point],
+            &mut last,
+            &mut exposed,
+            &mut firsts,
+        )?;
     }
     Ok(BlockAccesses {
         exposed: access_lists(alloc, exposed)?,

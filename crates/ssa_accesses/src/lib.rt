@@ -6,7 +6,9 @@
 #![tactic(auto)]
 
 mod accesses;
+mod blocks;
 mod entries;
 
-pub use accesses::{BlockAccesses, block_accesses};
-pub use entries::{Entry, entries};
+pub use accesses::BlockAccesses;
+pub use blocks::{Blocks, blocks_of};
+pub use entries::{Entry, distinct, label_entries};

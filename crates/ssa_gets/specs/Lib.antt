@@ -1,1 +1,3 @@
+pub mod Found
+pub mod Rows
 pub mod Wants

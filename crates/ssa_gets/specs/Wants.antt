@@ -1,5 +1,5 @@
 -- The `get`s that are wanted in a function, as they are kept: in one list by their labels, and where each label's begin.
-use Rattle.std.specs.Prelude.{◌≡◌, ℕ, suc, ◌+◌, ◌*◌, ◌^◌, ◌<◌, ◌≤◌, ◌==◌, List, [], ◌∷◌, length, Option, Some, None, slice_get, slice_index, slice_range, if◌then◌else◌}
+use Rattle.std.specs.Prelude.{◌≡◌, ℕ, suc, ◌+◌, ◌*◌, ◌^◌, ◌<◌, ◌==◌, List, [], ◌∷◌, length, Option, Some, None, slice_get, slice_index, slice_range, if◌then◌else◌}
 use Rattle.std.specs.List.{All, Contains}
 use Rattle.bril_tree.specs.declared.numbered_function.Func.{Func}
 use Rattle.bril_tree.specs.Operand.{Location}
@@ -39,8 +39,3 @@ pub record AreWantsOf (F : Func) (v : WantsView) : Type 0 where
   pub placed : (t : ℕ) (get : WantedGet) → slice_get v.list t ≡ Some get → (k : ℕ) × Contains (row_of v k) get
   pub listed : (k : ℕ) (get : WantedGet) → Contains (row_of v k) get → (t : ℕ) × (slice_get v.list t ≡ Some get)
   pub locations : All (λ get. get.location < 2 * length F.vars) v.list
-
--- each row is a part of the list
-pub record AreRows (starts : List ℕ) (list : List WantedGet) : Type 0 where
-  pub within : All (λ start. start ≤ length list) starts
-  pub rising : (k : ℕ) → suc k < length starts → slice_index starts k ≤ slice_index starts (suc k)

@@ -7,7 +7,7 @@ use Rattle.ssa_tables.specs.Tables.{else_passed}
 use Rattle.ssa_tables.specs.Told.{argument, entered, into_at, passed_by}
 use Rattle.ssa_sweep.specs.Swept.{SweepTellsTables}
 
-told-before : (o : Option Instr) (x : Option ℕ) (y : ℕ) → entered o x ≡ Some y → x ≡ Some y
+pub told-before : (o : Option Instr) (x : Option ℕ) (y : ℕ) → entered o x ≡ Some y → x ≡ Some y
 told-before None x y e = e
 told-before (Some (Label l)) x y e = absurd cc
 told-before (Some (Const d ty v)) x y e = e

@@ -1,0 +1,4 @@
+pub mod Selecting
+pub mod Reaching
+pub mod Deciding
+pub mod Existing

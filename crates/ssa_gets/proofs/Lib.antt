@@ -1,0 +1,4 @@
+pub mod Firsts
+pub mod Finding
+pub mod Lining
+pub mod Wanting
