@@ -13,6 +13,8 @@ use Rattle.bril_tree.specs.declared.program.Prog.{Prog}
 use Rattle.bril_tree.specs.Numbered.{tree_of}
 use Rattle.bril_tree.specs.Step.{code_of, item_at}
 use Rattle.bril_tree.specs.Walk.{IsReached}
+use Rattle.braun_ssa.specs.Numbers.{IsSsaBound, ssa_growth}
+use Rattle.pass_numbers.specs.Numbers.{NumbersGrow}
 use Rattle.ssa_layout.specs.Form.{FollowsLabel, IsGetAt, dest_name}
 use Rattle.ssa_layout.specs.Laid.{set_tree}
 
@@ -59,9 +61,11 @@ IsSilent (Const dest ty value) = ⊥
 IsSilent (Act dest ty op.Nop args funcs labels) = Unit {0}
 IsSilent (Act dest ty _ args funcs labels) = ⊥
 
--- Q is in SSA form, with the heads and labels of P, and nothing stays that no walk reaches but labels and `nop`s.
+-- Q is in SSA form, with the heads and labels of P; nothing stays that no walk reaches but labels and `nop`s; and its numbers grow
+-- by no more than the bound on its items allows.
 pub record IsSsa (P Q : Prog) : Type 0 where
   pub heads : AllZip SameHead (tree_of P).funcs (tree_of Q).funcs
   pub labels : AllZip (λ f g. labels_of f.code ≡ labels_of g.code) (tree_of P).funcs (tree_of Q).funcs
   pub form : All IsSsaForm (tree_of Q).funcs
   pub silent : (f i : ℕ) (item : Instr) → item_at Q f i ≡ Some item → IsSilent item ⊎ IsReached (code_of Q f) i
+  pub numbers : (bound : ℕ) → IsSsaBound P bound → NumbersGrow P Q (ssa_growth bound)

@@ -1,4 +1,4 @@
-pub mod Form
 pub mod Numbers
+pub mod Form
 pub mod Ssa
 pub mod Laws

@@ -1,40 +1,24 @@
--- How much longer a program runs in SSA form, and how many items it gets.
-use Rattle.std.specs.Prelude.{◌≡◌, ℕ, ◌+◌, ◌*◌, List, Option, Some, slice_get}
-use Rattle.bril_tree.specs.declared.numbered.Instr.{Instr}
-use Rattle.bril_tree.specs.declared.numbered.Instr.TheVariants.{Label}
-use Rattle.bril_tree.specs.declared.numbered_function.Func.{Func}
+-- How much longer a program runs in SSA form, how many items it gets, and how its numbers grow.
+use Rattle.std.specs.Prelude.{◌≡◌, ℕ, ◌+◌, ◌*◌}
 use Rattle.bril_tree.specs.declared.program.Prog.{Prog}
-use Rattle.bril_tree.specs.Live.{IsLive}
-use Rattle.bril_tree.specs.Operand.{Location}
 use Rattle.bril_tree.specs.Size.{item_count}
-use Rattle.program_numbers.specs.Entries.{AreSoMany, Enters}
-use Rattle.program_numbers.specs.ProgramNumbers.{IsGreatestWidth, IsSum, most_locations}
+use Rattle.live_entries.specs.LiveEntries.{AreLiveEntries}
+use Rattle.pass_numbers.specs.Numbers.{Growth}
+use Rattle.program_numbers.specs.ProgramNumbers.{IsGreatestWidth, most_locations}
 
--- the location is live at the label
-abbrev pub IsLiveAtLabel : List Instr → (label : ℕ) → Location → Type 0
-IsLiveAtLabel code label a = (point : ℕ) × (slice_get code point ≡ Some (Label label)) × IsLive code a point
-
--- an edge goes from a leave point to a label, at which a location is live
-pub record Brings (code : List Instr) (leave : Option ℕ) (label : ℕ) (a : Location) : Type 0 where
-  pub enters : Enters code leave label
-  pub live : IsLiveAtLabel code label a
-
--- So many different combinations there are of a leave point, a label to which an edge goes from it, and a location that is live
--- at the label: for each at most a `get` and a `set` is put in.
-abbrev pub IsBringCount : Func → ℕ → Type 0
-IsBringCount F count = AreSoMany (λ (c : Option ℕ × ℕ × Location). Brings F.code c.0 c.1 c.2) count
-
--- the sum of these over the functions
-abbrev pub AreBrings : Prog → ℕ → Type 0
-AreBrings P count = IsSum IsBringCount P.funcs count
-
--- Before an item stand a `get` and a `set` at most for each location, and for each label that is entered from there a `set`.
+-- Before an item stand a `get` and a `set` at most for each location, and a `set` for each label that is entered from there.
 pub record IsSsaFactor (P : Prog) (k : ℕ) : Type 0 where
   pub width : ℕ
   pub is_width : IsGreatestWidth P width
   pub is : k ≡ 1 + 2 * most_locations P * (width + 1)
 
+-- A `get` and a `set` at most are put in for each live entry: a leave point, a label that an edge joins to it, and a location that is
+-- live at the label.
 pub record IsSsaBound (P : Prog) (k : ℕ) : Type 0 where
-  pub brings : ℕ
-  pub are : AreBrings P brings
-  pub is : k ≡ item_count P + 2 * brings
+  pub entries : ℕ
+  pub are : AreLiveEntries P entries
+  pub is : k ≡ item_count P + 2 * entries
+
+-- A variable of the result was one before, or an item of the result assigns it; and each may have a shadow. Nothing else grows.
+abbrev pub ssa_growth : (bound : ℕ) → Growth
+ssa_growth bound = record { locations = λ n. 2 * (bound + n); arguments = λ n. n; depth = λ n. n; entries = λ n. n; width = λ n. n }
