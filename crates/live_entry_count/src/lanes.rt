@@ -1,65 +1,100 @@
-// The search for the labels where each of 64 locations is live.
+// The first points of 64 locations at once, and the gates of their searches.
 
-ghost use Rattle.std.specs.Prelude.{◌≡◌, ◌<◌, ◌≤◌, ◌+◌, ◌*◌, ◌^◌, ◌-◌, ◌↔◌, ℕ, [], suc, Bool, true, length, slice_index, IfOk, OnOk};
-ghost use Rattle.std.specs.List.{All, Contains};
+ghost use Rattle.std.specs.Prelude.{◌≡◌, ◌<◌, ◌≤◌, ◌+◌, ◌*◌, ◌^◌, ◌↔◌, ℕ, Some, true, length, slice_index, slice_set, IfOk};
 ghost use Rattle.graph_search.specs.Sets.{has_bit};
-ghost use Rattle.live_entry_count.specs.Lanes.{AreLanesBefore, IsUnmarked, opens_in, passes_marked};
+ghost use Rattle.live_entry_count.specs.Lanes.{AreAbove, opens_in};
+ghost use Rattle.ssa_wants.specs.Blocks.{passes_to};
 
-use graph_search::{Arc, Gates, ReachedSets, Seed, all_bits, all_but, one_bit};
-use ssa_accesses::Blocks;
+use graph_search::{Arc, Gates, all_bits, one_bit};
 use std::alloc::{AllocError, Global};
 
 // How many locations are searched at once.
 pub(crate) const LANES: u32 = 64;
 
-// By the heads of blocks the lanes whose locations the block assigns, and the first point for each lane.
+// For each lane and head the first point of the block that assigns the lane's location, above all points where none does; and for
+// each head a point that is no greater than those of all lanes.
 #[derive(Drop)]
-pub(crate) struct Firsts {
-    pub marks: Vec<u64>,
+pub(crate) struct Lanes {
     pub points: Vec<u32>,
-    ghost long: { length points.items ≡ 64 * length marks.items },
+    pub lows: Vec<u32>,
+    ghost long: { length points.items ≡ 64 * length lows.items },
+    ghost low: { (head lane : ℕ) → head < length lows.items → lane < 64 → slice_index lows.items head ≤ slice_index points.items (64 * head + lane) },
 }
 
-// Whether bit k of the word is 1.
-fn tests_bit(word: u64, k: u32) -> bool
-    requires { k < 64 }
-    ensures { result ≡ has_bit word k }
-{
-    (word >> k) & 1 == 1
-}
-
-// The lanes of these that are marked are shut, unless the edge leaves before their first points.
-fn open_bits_of(mark: u64, points: &[u32], head: u32, point: u32) -> u64
+// The lanes whose points are behind this one.
+fn lanes_behind(points: &[u32], head: u32, point: u32) -> u64
     requires { 64 * head + 64 ≤ length points.now }
-    ensures { (k : ℕ) → k < 64 → (has_bit result k ≡ true) ↔ (passes_marked (has_bit mark k) (slice_index points.now (64 * head + k)) (Some point) ≡ true) }
+    ensures { (k : ℕ) → k < 64 → (has_bit result k ≡ true) ↔ (passes_to (slice_index points.now (64 * head + k)) (Some point) ≡ true) }
 {
-    let mut bits = all_bits();
-    if mark == 0 {
-        return bits;
-    }
+    let mut bits = 0;
     for k in 0..LANES {
-        if tests_bit(mark, k) && points[64 * head as usize + k as usize] <= point {
-            bits &= all_but(k);
+        if point < points[64 * head as usize + k as usize] {
+            bits |= one_bit(k);
         }
     }
     bits
 }
 
-impl Gates for Firsts {
-    ghost opens = { λ f lane arc. opens_in f.marks.items f.points.items lane arc };
+impl Lanes {
+    // No point for any lane, for so many heads.
+    pub fn new(alloc: Global, heads: usize) -> Result<Lanes, AllocError>
+        requires { heads < 2 ^ 32 }
+        ensures heads { IfOk result (λ lanes. length lanes.lows.items ≡ heads) }
+        ensures above { IfOk result (λ lanes. (i : ℕ) → i < 64 * heads → slice_index lanes.points.items i ≡ 4294967295) }
+    {
+        Ok(Lanes {
+            points: vec![in alloc; u32::MAX; 64 * heads]?,
+            lows: vec![in alloc; u32::MAX; heads]?,
+        })
+    }
+
+    // Writes the point of a lane at a head.
+    pub fn write(&mut self, head: u32, lane: u32, point: u32)
+        requires head { head < length self.old.lows.items }
+        requires lane { lane < 64 }
+        ensures heads { length self.new.lows.items ≡ length self.old.lows.items }
+        ensures points { self.new.points.items ≡ slice_set self.old.points.items (64 * head + lane) point }
+    {
+        let place = 64 * head as usize + lane as usize;
+        self.lows[head as usize] = self.lows[head as usize].min(point);
+        self.points[place] = point;
+    }
+
+    // Takes the point of a lane at a head out.
+    pub fn erase(&mut self, head: u32, lane: u32)
+        requires head { head < length self.old.lows.items }
+        requires lane { lane < 64 }
+        ensures heads { length self.new.lows.items ≡ length self.old.lows.items }
+        ensures points { self.new.points.items ≡ slice_set self.old.points.items (64 * head + lane) 4294967295 }
+    {
+        self.points[64 * head as usize + lane as usize] = u32::MAX;
+    }
+
+    // Notes that no lane has a point at a head.
+    pub fn forget(&mut self, head: u32)
+        requires head { head < length self.old.lows.items }
+        requires above { AreAbove self.old.points.items (length self.old.lows.items) }
+        ensures heads { length self.new.lows.items ≡ length self.old.lows.items }
+        ensures points { self.new.points.items ≡ self.old.points.items }
+    {
+        self.lows[head as usize] = u32::MAX;
+    }
+}
+
+impl Gates for Lanes {
+    ghost opens = { λ lanes lane arc. opens_in lanes.points.items lane arc };
 
     fn open_bits(&self, arc: Arc) -> u64 {
-        if arc.to as usize >= self.marks.len() {
+        let point = match arc.label {
+            None => return all_bits(),
+            Some(point) => point,
+        };
+        if arc.to as usize >= self.lows.len() {
+            return 0;
+        }
+        if point < self.lows[arc.to as usize] {
             return all_bits();
         }
-        match arc.label {
-            None => all_bits(),
-            Some(point) => open_bits_of(
-                self.marks[arc.to as usize],
-                self.points.as_slice(),
-                arc.to,
-                point,
-            ),
-        }
+        lanes_behind(self.points.as_slice(), arc.to, point)
     }
 }

@@ -8,6 +8,7 @@ use Rattle.bril_tree.specs.Assigned.{assigns_at}
 use Rattle.bril_tree.specs.declared.numbered.Instr.{Instr}
 use Rattle.bril_tree.specs.Membership.{In}
 use Rattle.bril_tree.specs.Operand.{Location}
+use Rattle.bril_tree.specs.Walk.{IsReached}
 use Rattle.bril_tree.proofs.Assignments.{in_or_not}
 use Rattle.bril_tree.proofs.Branches.{walk_within}
 use Rattle.bril_tree.proofs.Members.{contains_in, in_contains}
@@ -97,41 +98,38 @@ module _ (code : List Instr) (a : Location) where
           let same = head-between code r f.point f.from (omega (arith, before)) in
           (f.point, record { assigns = f.assigns; unassigned = subst (λ h. Unassigned code a h f.point) (sym same) f.unassigned }, same, omega (arith, before))
 
+  -- a number tells the first point in the block of another that assigns the location, or is above all points
+  abbrev pub FirstTold : ℕ → ℕ → Type 0
+  FirstTold p v = ((q : ℕ) × AssignsFirst code a q × (head_of code q ≡ head_of code p) × (v ≡ q)) ⊎ (((q : ℕ) → AssignsFirst code a q → head_of code q ≡ head_of code p → ⊥) × (v ≡ 4294967295))
+
+  pub first-told : length code < 4294967295 → (p v : ℕ) → IsReached code p → FirstTold p v → (nat_lt p v ≡ true) ↔ Unassigned code a (head_of code p) (suc p)
+  first-told few p v r (inl (q, f, same, is)) =
+      let le = head-le code q in (
+        (λ e s from less. let l = ltb-true p v e in f.unassigned s (omega (arith, same, from)) (omega (arith, l, is, less))),
+        (λ u. lt-ltb p v (⊎_elim (λ l. omega (arith, l, is)) (λ over. absurd (u q (omega (arith, same, le)) (omega (arith, over)) f.assigns)) (cases_lt p q))),
+      )
+  first-told few p v r (inr (none, is)) =
+      let high : p ≤ length code = subst (λ k. k ≤ length code) r.ends (walk_within code r.walk r.is) in (
+        (λ e s from less c.
+        let w = first-in_block s c in
+        none w.0 w.1 (w.2 ∙ head-between code p s from (omega (arith, less)))),
+        (λ u. lt-ltb p v (omega (arith, is, high, few))),
+      )
+
   module _ (heads : List ℕ) (are : (p : ℕ) → p < length code → slice_index heads p ≡ head_of code p) (points : List ℕ) (exact : (q : ℕ) → Contains points q ↔ AssignsFirst code a q)
       (first : List ℕ) (long : length first ≡ length code + 1) (few : length code < 4294967295) (blank : IsBlank first) where
     abbrev written : List ℕ
     written = with_values (λ p. p) heads points first
 
     pub firsts-are : AreFirsts code a written
-    firsts-are p r = by (written_by (λ p. p) heads points first i inside)
+    firsts-are p r = first-told few p (slice_index written (head_of code p)) r (by (written_by (λ p. p) heads points first (head_of code p) inside))
       where
-        i : ℕ
-        i = head_of code p
-
         high : p ≤ length code
         high = subst (λ k. k ≤ length code) r.ends (walk_within code r.walk r.is)
 
-        inside : i < length first
+        inside : head_of code p < length first
         inside = let le = head-le code p in omega (arith, le, high, long)
 
-        by : WrittenBy (λ p. p) heads points first i ⊎ WrittenByNone (λ p. p) heads points first i → (nat_lt p (slice_index written i) ≡ true) ↔ Unassigned code a i (suc p)
-        by (inl (q, j, at, is)) = (
-          (λ e s from less. let l = ltb-true p (slice_index written i) e in f.unassigned s (omega (arith, same, from)) (omega (arith, l, is, less))),
-          (λ u. lt-ltb p (slice_index written i) (⊎_elim (λ l. omega (arith, l, is)) (λ over. absurd (u q (omega (arith, same, le)) (omega (arith, over)) f.assigns)) (cases_lt p q))),
-        )
-          where
-            f : AssignsFirst code a q
-            f = (exact q).0 (contains_in q points j)
-
-            same : head_of code q ≡ i
-            same = sym (are q (assigned-within code a q f.assigns)) ∙ at
-
-            le : head_of code q ≤ q
-            le = head-le code q
-        by (inr (none, is)) = (
-          (λ e s from less c.
-              let w = first-in_block s c in
-              let within = head-between code p s from (omega (arith, less)) in
-              none w.0 (in_contains w.0 points ((exact w.0).1 w.1)) (are w.0 (assigned-within code a w.0 w.1.assigns) ∙ w.2 ∙ within)),
-          (λ u. lt-ltb p (slice_index written i) (let b = is ∙ blank i inside in omega (arith, b, high, few))),
-        )
+        by : WrittenBy (λ p. p) heads points first (head_of code p) ⊎ WrittenByNone (λ p. p) heads points first (head_of code p) → FirstTold p (slice_index written (head_of code p))
+        by (inl (q, j, at, is)) = let f = (exact q).0 (contains_in q points j) in inl (q, f, sym (are q (assigned-within code a q f.assigns)) ∙ at, is)
+        by (inr (none, is)) = inr ((λ q f same. none q (in_contains q points ((exact q).1 f)) (are q (assigned-within code a q f.assigns) ∙ same)), is ∙ blank (head_of code p) inside)

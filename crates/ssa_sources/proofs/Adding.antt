@@ -1,6 +1,6 @@
 -- The operands of one place of the sweep.
-use Rattle.std.proofs.Common.{◌≡◌, ◌⊎◌, ℕ, zero, suc, ◌+◌, ◌-◌, ◌*◌, ◌<◌, ◌≤◌, List, [], ◌∷◌, ◌++◌, length, map, get_or, Option, Some, None, refl, sym, ap, subst, ◌∙◌, inl, inr, ⊎_elim, arith}
-use Rattle.std.specs.Prelude.{is_some, slice_get, slice_index}
+use Rattle.std.proofs.Common.{◌≡◌, ◌⊎◌, ℕ, zero, suc, ◌+◌, ◌-◌, ◌*◌, ◌<◌, ◌≤◌, List, ◌++◌, length, map, get_or, Option, Some, None, refl, sym, ap, subst, ◌∙◌, inl, inr, ⊎_elim, arith}
+use Rattle.std.specs.Prelude.{slice_get, slice_index}
 use Rattle.std.specs.List.{All, Contains}
 use Rattle.std.proofs.lemmas.Bool.{cases_eq, cases_lt}
 use Rattle.std.proofs.lemmas.List.{get_or-map}
@@ -8,7 +8,6 @@ use Rattle.std.proofs.lemmas.List.Elements.{Contains-append_cases, Contains-appe
 use Rattle.std.proofs.lemmas.Option.{get_or_from_slice_get, same_Some, slice_get-get_or, slice_get_within}
 use Rattle.bril_tree.specs.declared.numbered.Instr.{Instr}
 use Rattle.bril_tree.specs.declared.numbered_function.Func.{Func}
-use Rattle.bril_tree.specs.Membership.{In}
 use Rattle.bril_tree.specs.Operand.{Location}
 use Rattle.bril_tree.specs.Sites.{AreSitesSound}
 use Rattle.bril_tree.proofs.Elements.{get_in, in_get}
@@ -16,7 +15,11 @@ use Rattle.bril_tree.proofs.Members.{contains_in, in_contains, in_map, in_map_so
 use Rattle.flow_graph.specs.Location.{number_of}
 use Rattle.graph_search.specs.Adjacency.{EndsRow}
 use Rattle.ssa_accesses.specs.declared.entries.Entry.{Entry}
-use Rattle.ssa_accesses.specs.Entries.{EntersAt}
+use Rattle.flow_graph.specs.Graph.{GraphView, IsGraphOf}
+use Rattle.flow_graph.proofs.Told.{edge_listed}
+use Rattle.ssa_accesses.specs.Entries.{AreEntriesOf, EntersAt}
+use Rattle.ssa_accesses.proofs.Labels.{label-within}
+use Rattle.ssa_wants.proofs.Arcs.{edge-within}
 use Rattle.ssa_classes.specs.declared.operands.Operand.{Operand}
 use Rattle.ssa_gets.specs.Wants.{AreWantsOf, WantsView, gets_of, row_of}
 use Rattle.ssa_operands.specs.Operands.{base_of}
@@ -174,3 +177,30 @@ wants-within F wants is long e i d low = let l = is.locations i d low in omega (
 
 pub wants-above : (F : Func) (wants : WantsView) → AreWantsOf F wants → (base : ℕ) → base ≡ base_of F.code F.args → All (λ (get : WantedGet). base ≤ get.definition) wants.list
 wants-above F wants is base e i d low = let n = is.numbered i (get_or wants.list i d) (slice_get-get_or wants.list i d low) in omega (arith, e, n)
+
+-- the places of entries in the order of the sweep, and their labels
+pub entries-keys : (code : List Instr) (graph : GraphView) → IsGraphOf code graph → AreSitesSound code → (entries : List Entry) → AreEntriesOf code entries → All (λ entry. entry_key entry < length code + 1) entries
+entries-keys code graph is sound entries are i d low = by (get_or entries i d).leave refl
+  where
+    enters : EntersAt code (get_or entries i d).leave (get_or entries i d).label
+    enters = are.only (get_or entries i d) (Contains-get_or entries i d low)
+
+    leave-low : (p : ℕ) → EntersAt code (Some p) (get_or entries i d).label → suc p < length code + 1
+    leave-low p en = let l = edge-within code graph is sound en.1.0 (edge_listed code graph is sound en.1.0 en.1.1) in let e = en.1.2 in omega (arith, l, e)
+
+    by : (leave : Option ℕ) → (get_or entries i d).leave ≡ leave → key_of (get_or entries i d).leave < length code + 1
+    by None e = let z = ap key_of e in omega (arith, z)
+    by (Some p) e = let z = ap key_of e in let l = leave-low p (subst (λ o. EntersAt code o (get_or entries i d).label) e enters) in omega (arith, z, l)
+
+pub entries-labels : (code : List Instr) (entries : List Entry) → AreEntriesOf code entries → (many : ℕ) → many ≡ length code + 1 → All (λ (entry : Entry). entry.label + 1 < many) entries
+entries-labels code entries are many e i d low =
+    let entry = get_or entries i d in
+    let w = label-of (are.only entry (Contains-get_or entries i d low)) in
+    omega (arith, e, w)
+  where
+    label-of : EntersAt code (get_or entries i d).leave (get_or entries i d).label → (get_or entries i d).label < length code
+    label-of en = by (get_or entries i d).leave en
+      where
+        by : (leave : Option ℕ) → EntersAt code leave (get_or entries i d).label → (get_or entries i d).label < length code
+        by None en = label-within code (slice_get code (get_or entries i d).label) (get_or entries i d).label refl en.0
+        by (Some p) en = label-within code (slice_get code (get_or entries i d).label) (get_or entries i d).label refl en.0

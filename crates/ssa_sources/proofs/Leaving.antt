@@ -1,8 +1,7 @@
 -- What a `get` is set from is what the tables tell where edges to its label leave.
-use Rattle.std.proofs.Common.{◌≡◌, ◌⊎◌, ℕ, zero, suc, ◌+◌, ◌<◌, ◌≤◌, Bool, true, false, cond, List, [], ◌∷◌, length, Option, Some, None, refl, sym, ap, subst, ◌∙◌, inl, inr, ⊎_elim, arith}
+use Rattle.std.proofs.Common.{◌≡◌, ℕ, zero, suc, ◌+◌, ◌<◌, Bool, true, false, cond, List, [], ◌∷◌, length, Option, Some, None, refl, sym, ap, subst, ◌∙◌, inl, arith}
 use Rattle.std.specs.Prelude.{slice_get}
-use Rattle.std.proofs.lemmas.Option.{same_Some, slice_get_within}
-use Rattle.bril_tree.specs.Assigned.{assigns_at}
+use Rattle.std.proofs.lemmas.Option.{slice_get_within}
 use Rattle.bril_tree.specs.declared.edge.Edge.{Edge}
 use Rattle.bril_tree.specs.declared.numbered.Instr.{Instr}
 use Rattle.bril_tree.specs.declared.numbered.Instr.TheVariants.{Label, Const, Act}
@@ -11,7 +10,7 @@ use Rattle.bril_tree.specs.Edge.{Branch, branches_at, branches_from}
 use Rattle.bril_tree.specs.Leaving.{IsEdge, edge_of, leave_of}
 use Rattle.bril_tree.specs.Membership.{In}
 use Rattle.bril_tree.specs.Operand.{Location}
-use Rattle.bril_tree.specs.Sites.{AreSitesSound, Closes, Opens, item_change, sites_of}
+use Rattle.bril_tree.specs.Sites.{AreSitesSound, Opens, item_change, sites_of}
 use Rattle.bril_tree.specs.Walk.{IsWalk, end_of}
 use Rattle.bril_tree.proofs.Assignments.{site_speculates}
 use Rattle.bril_tree.proofs.Branches.{aborts-close, branch_from}
@@ -28,7 +27,7 @@ use Rattle.ssa_tables.proofs.Solved.{back-told}
 use Rattle.ssa_tables.proofs.Tabled.{begins, few}
 use Rattle.ssa_tables.specs.Laws.{IsArgument, IsTabled}
 use Rattle.ssa_tables.specs.Tables.{Tables, behind, else_passed, is_dest, passed}
-use Rattle.ssa_tables.specs.Told.{FromBack, FromNext, FromStart, Source, argument, table_of}
+use Rattle.ssa_tables.specs.Told.{FromBack, FromNext, FromStart, Source, table_of}
 use Rattle.ssa_wants.specs.Wanted.{is_label}
 
 -- what opens a site copies nothing

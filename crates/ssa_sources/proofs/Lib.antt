@@ -1,3 +1,4 @@
 pub mod Leaving
 pub mod Adding
+pub mod Items
 pub mod Swept

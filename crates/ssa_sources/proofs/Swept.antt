@@ -1,6 +1,6 @@
 -- All operands of a function.
-use Rattle.std.proofs.Common.{◌≡◌, ◌⊎◌, ◌↔◌, ℕ, zero, suc, ◌+◌, ◌<◌, ◌≤◌, Bool, true, false, cond, List, [], ◌∷◌, length, map, get_or, Option, Some, None, refl, sym, ap, subst, ◌∙◌, inl, inr, ⊎_elim, arith}
-use Rattle.std.specs.Prelude.{is_some, slice_get}
+use Rattle.std.proofs.Common.{◌≡◌, ℕ, zero, suc, ◌+◌, ◌<◌, ◌≤◌, Bool, true, false, cond, List, [], length, get_or, Option, Some, None, refl, sym, subst, ◌∙◌, arith}
+use Rattle.std.specs.Prelude.{slice_get}
 use Rattle.std.specs.List.{All, Contains}
 use Rattle.std.proofs.lemmas.List.Elements.{All-map, Contains-get_or}
 use Rattle.std.proofs.lemmas.Option.{same_Some, slice_get_within}
@@ -11,16 +11,15 @@ use Rattle.bril_tree.specs.Sites.{AreSitesSound}
 use Rattle.bril_tree.proofs.Members.{in_contains}
 use Rattle.flow_graph.specs.Location.{number_of}
 use Rattle.ssa_classes.specs.declared.operands.Operand.{Operand}
-use Rattle.ssa_classes.specs.Trivial.{OperandsView, Sets, sources_of}
+use Rattle.ssa_classes.specs.Trivial.{OperandsView, sources_of}
 use Rattle.ssa_copies.specs.Inserted.{is_copy, destination, source}
-use Rattle.ssa_gets.specs.Wants.{AreWantsOf, WantsView, gets_of, row_of}
+use Rattle.ssa_gets.specs.Wants.{AreWantsOf, WantsView, gets_of}
 use Rattle.ssa_operands.specs.Operands.{AreOperands, base_of}
-use Rattle.ssa_sources.specs.Sweeping.{AreOperandsBefore, IsSetAt, told_at}
+use Rattle.ssa_sources.specs.Sweeping.{AreOperandsBefore, told_at}
 use Rattle.ssa_sources.proofs.Leaving.{set-source, source-set}
-use Rattle.ssa_sweep.specs.declared.now.WantedGet.{WantedGet}
 use Rattle.ssa_tables.specs.Laws.{IsTabled}
 use Rattle.ssa_tables.specs.Tables.{else_passed, is_dest}
-use Rattle.ssa_tables.specs.Told.{Source, argument, entered, into_at, passed_by, table_of}
+use Rattle.ssa_tables.specs.Told.{Source, argument, into_at, passed_by, table_of}
 use Rattle.ssa_sweep.proofs.Sweeping.{told-before}
 use Rattle.ssa_tables.proofs.Tabled.{few}
 

@@ -1,5 +1,5 @@
 -- What stands for the definitions of a function once its trivial `get`s are left out.
-use Rattle.std.specs.Prelude.{◌≡◌, ℕ, ◌+◌, ◌<◌, List, length, Option, Some}
+use Rattle.std.specs.Prelude.{◌≡◌, ℕ, ◌<◌, List, Option, Some}
 use Rattle.bril_tree.specs.declared.numbered.Instr.{Instr}
 use Rattle.bril_tree.specs.Operand.{Location}
 use Rattle.ssa_operands.specs.Operands.{HasTwoSources, base_of}

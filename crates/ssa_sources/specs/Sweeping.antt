@@ -65,7 +65,7 @@ pub record AddsRow (entries : List Entry) (wants : WantsView) (now : List ℕ) (
   pub only : (o : Operand) → Contains new o → Contains old o ⊎ IsGiven entries wants now base key o
 
 -- the entries of a function, and the bounds of what the sweep counts
-pub record AreEdgesOf (code : List Instr) (args : ℕ) (entries : List Entry) (keys base : ℕ) : Type 0 where
-  pub entries : AreEntriesOf code entries
-  pub keys : keys ≡ suc (length code)
-  pub base : base ≡ base_of code args
+pub record AreEdgesOf (code : List Instr) (args : ℕ) (list : List Entry) (count base_number : ℕ) : Type 0 where
+  pub entries : AreEntriesOf code list
+  pub keys : count ≡ suc (length code)
+  pub base : base_number ≡ base_of code args

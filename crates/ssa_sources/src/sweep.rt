@@ -194,18 +194,43 @@ fn leave(
 }
 
 // Goes on past an item and the `get`s behind it.
-fn go_on(func: &Func, wants: &Wants, now: &mut Vec<u32>, point: u32)
+fn go_on(func: &Func, wants: &Wants, now: &mut [u32], point: u32)
     requires shaped { shape_fault_of (is_some func.now.ret) func.now.code ≡ None }
     requires point { point < length func.now.code }
     requires wants { AreWantsOf func.now wants.now }
-    requires long { length now.old.items ≡ 2 * length func.now.vars }
-    requires tells { TellsNow (into_at func.now.code func.now.args (gets_of wants.now) point) now.old.items }
-    ensures long { length now.new.items ≡ 2 * length func.now.vars }
-    ensures tells { TellsNow (told_at func.now.code func.now.args (gets_of wants.now) (suc point)) now.new.items }
+    requires long { length now.old ≡ 2 * length func.now.vars }
+    requires tells { TellsNow (into_at func.now.code func.now.args (gets_of wants.now) point) now.old }
+    ensures { TellsNow (told_at func.now.code func.now.args (gets_of wants.now) (suc point)) now.new }
 {
     let item = &func.code.as_slice()[point as usize];
-    pass(now.as_mut_slice(), item, func.args + point);
-    enter(now.as_mut_slice(), wants.behind(point));
+    pass(now, item, func.args + point);
+    enter(now, wants.behind(point));
+}
+
+// Adds the operands of the edges that leave behind the items, in order.
+fn sweep_items(
+    func: &Func,
+    edges: &Edges,
+    wants: &Wants,
+    now: &mut [u32],
+    operands: &mut Vec<Operand>,
+) -> Result<(), AllocError>
+    requires shaped { shape_fault_of (is_some func.now.ret) func.now.code ≡ None }
+    requires few { length func.now.code < 2 ^ 32 - 1 }
+    requires sound { AreSitesSound func.now.code }
+    requires edges { AreEdgesOf func.now.code func.now.args edges.now.entries.items edges.now.rows.count edges.now.base }
+    requires wants { AreWantsOf func.now wants.now }
+    requires tabled { IsTabled func.now.code func.now.args (gets_of wants.now) }
+    requires long { length now.old ≡ 2 * length func.now.vars }
+    requires tells { TellsNow (into_at func.now.code func.now.args (gets_of wants.now) 0) now.old }
+    requires before { AreOperandsBefore func.now.code func.now.args (gets_of wants.now) 1 operands.old.items }
+    ensures { OnOk result (AreOperandsBefore func.now.code func.now.args (gets_of wants.now) (suc (length func.now.code)) operands.new.items) }
+{
+    for point in 0..func.code.as_slice().len() {
+        go_on(func, wants, now, point as u32);
+        leave(func, edges, wants, now, operands, point as u32 + 1)?;
+    }
+    Ok(())
 }
 
 // The operands of all edges, as a list.
@@ -226,17 +251,7 @@ fn swept(
     let mut operands = Vec::new(alloc);
     let mut now = begin(alloc, func.args, variable_count(func)?)?;
     leave(func, edges, wants, now.as_slice(), &mut operands, 0)?;
-    for point in 0..func.code.as_slice().len() {
-        go_on(func, wants, &mut now, point as u32);
-        leave(
-            func,
-            edges,
-            wants,
-            now.as_slice(),
-            &mut operands,
-            point as u32 + 1,
-        )?;
-    }
+    sweep_items(func, edges, wants, now.as_mut_slice(), &mut operands)?;
     Ok(operands)
 }
 
