@@ -12,7 +12,9 @@ use Rattle.bril_tree.specs.declared.numbered_function.Func.{Func}
 use Rattle.bril_tree.specs.Operand.{Location, dest_of}
 use Rattle.bril_tree.proofs.Elements.{All-at}
 use Rattle.ssa_code.specs.Names.{or_none, variables_written}
-use Rattle.ssa_code.specs.Sweep.{AreGets, layout_of, part, row_in}
+use Rattle.bril_tree.specs.declared.function_tree.Item.{Item}
+use Rattle.ssa_code.specs.Sweep.{AreGets, IsLaidCode, layout_of, part, row_in}
+use Rattle.ssa_sources.specs.Sources.{AreRepresentatives}
 use Rattle.ssa_gets.specs.Wants.{AreWantsOf, WantsView, gets_of, row_of}
 use Rattle.ssa_sweep.specs.Gets.{AreGetsOf}
 use Rattle.ssa_sweep.specs.declared.now.WantedGet.{WantedGet}
@@ -62,3 +64,16 @@ written-long code list =
 -- the function at a number, of the slice of all functions
 pub there : (P : Prog) (funcs : List Func) → funcs ≡ P.funcs → (at : ℕ) (F : Func) → at < length funcs → F ≡ get_or funcs at F → slice_get P.funcs at ≡ Some F
 there P funcs all at F within is = subst (λ (fs : List Func). slice_get fs at ≡ Some F) all (slice_get-get_or funcs at F within ∙ ap Some (sym is))
+
+-- what stands for definitions, in a slice
+pub solved-in : (F : Func) (v : WantsView) (items find : List ℕ) → find ≡ items → AreRepresentatives F.code F.args (gets_of v) (length items) (λ d. slice_index items d) → AreRepresentatives F.code F.args (gets_of v) (length find) (λ d. slice_index find d)
+solved-in F v items find same solved = subst (λ (l : List ℕ). AreRepresentatives F.code F.args (gets_of v) (length l) (λ d. slice_index l d)) (sym same) solved
+
+-- code that is laid out by the rows of wanted `get`s in slices
+pub laid-in : (F : Func) (v : WantsView) (sites : List (Option (List ℕ))) (names : List (List ℕ)) (find : List ℕ) (rows : List (List ℕ)) (starts : List ℕ) (list : List WantedGet) → starts ≡ v.starts → list ≡ v.list → (items made : List Item)
+    → AreGets F sites (layout_of F.vars names find v.starts v.list rows) (gets_of v)
+    → (AreGets F sites (layout_of F.vars names find starts list rows) (gets_of v) → IsLaidCode F sites (layout_of F.vars names find starts list rows) (gets_of v) items made) → IsLaidCode F sites (layout_of F.vars names find v.starts v.list rows) (gets_of v) items made
+laid-in F v sites names find rows starts list s l items made gets laid =
+    subst (λ (x : List ℕ). IsLaidCode F sites (layout_of F.vars names find x v.list rows) (gets_of v) items made) s
+    (subst (λ (x : List WantedGet). IsLaidCode F sites (layout_of F.vars names find starts x rows) (gets_of v) items made) l
+    (laid (subst (λ (x : List WantedGet). AreGets F sites (layout_of F.vars names find starts x rows) (gets_of v)) (sym l) (subst (λ (x : List ℕ). AreGets F sites (layout_of F.vars names find x v.list rows) (gets_of v)) (sym s) gets))))

@@ -41,26 +41,30 @@ module _ (b : ℕ → List Item) (f : ℕ → Item → Item) where
       append_assoc (b k ++ f k x ∷ []) (laid_items piece (k + 1) xs) (b (k + length (x ∷ xs))) ∙ append_assoc (b k) (f k x ∷ []) (laid_items piece (k + 1) xs ++ b (k + length (x ∷ xs)))
           ∙ ap (λ (r : List Item). b k ++ f k x ∷ r) rest
 
+module _ (F : Func) (sites : List (Option (List ℕ))) (l : LayoutView) (nows : List (List ℕ)) where
+  abbrev b : ℕ → List Item
+  b i = before_in F sites l nows i
+
+  abbrev f : ℕ → Item → Item
+  f i x = item_at F sites l (now_at nows i) i x
+
+  start : (i : ℕ) → 0 + i ≡ i
+  start i = omega arith
+
+  law : ItemsSpliced Item
+  law = items_spliced Item
+
+  laid-at : (items made : List Item) → made ≡ spliced b nothing 0 (mapped f 0 items) → ItemsStand F sites l nows items made
+  laid-at items made whole = record {
+    there = λ i x at.
+        ap (λ (m : List Item). slice_get m (position_of b nothing i)) whole ∙ law.there b nothing (mapped f 0 items) i (let h = slice_get_within items i x at in let m = mapped-long f 0 items in omega (arith, h, m)) ∙ mapped-get f 0 items i x at
+            ∙ ap (λ n. Some (f n x)) (start i);
+    in_front = λ i n low less.
+        ap (λ (m : List Item). slice_get m (start_of b nothing i + n)) whole ∙ law.in_front b nothing (mapped f 0 items) i n (let m = mapped-long f 0 items in omega (arith, low, m)) less;
+  }
+
+  laid-whole : (items made : List Item) → length items ≡ length F.code → made ≡ laid_items (piece_at F sites l nows) 0 items ++ b (length F.code) → made ≡ spliced b nothing 0 (mapped f 0 items)
+  laid-whole items made long is = is ∙ ap (λ n. laid_items (piece_at F sites l nows) 0 items ++ b n) (sym long ∙ sym (start (length items))) ∙ pieces-spliced b f 0 items
+
 pub laid-stand : LaidItemsStand
-laid-stand F sites l gets items made long t = record {
-  there = λ i x at.
-      ap (λ (m : List Item). slice_get m (position_of b nothing i)) whole ∙ law.there b nothing (mapped f 0 items) i (let h = slice_get_within items i x at in let m = mapped-long f 0 items in omega (arith, h, m)) ∙ mapped-get f 0 items i x at
-          ∙ ap (λ n. Some (f n x)) (start i);
-  in_front = λ i n low less.
-      ap (λ (m : List Item). slice_get m (start_of b nothing i + n)) whole ∙ law.in_front b nothing (mapped f 0 items) i n (let m = mapped-long f 0 items in omega (arith, low, m)) less;
-}
-  where
-    abbrev b : ℕ → List Item
-    b i = before_in F sites l t.nows i
-
-    abbrev f : ℕ → Item → Item
-    f i x = item_at F sites l (now_at t.nows i) i x
-
-    law : ItemsSpliced Item
-    law = items_spliced Item
-
-    start : (i : ℕ) → 0 + i ≡ i
-    start i = omega arith
-
-    whole : made ≡ spliced b nothing 0 (mapped f 0 items)
-    whole = t.is ∙ ap (λ n. laid_items (piece_at F sites l t.nows) 0 items ++ b n) (sym long ∙ sym (start (length items))) ∙ pieces-spliced b f 0 items
+laid-stand F sites l gets items made long t = laid-at F sites l t.nows items made (laid-whole F sites l t.nows items made long t.is)

@@ -33,22 +33,26 @@ pub(crate) fn laid_function(
     let code = func.code.as_slice();
     let graph = Graph::of_sound(alloc, func)?;
     let wants = wanted_gets(alloc, func, &graph)?;
-    let find = solved_gets(alloc, func, &graph, &wants)?;
+    let found = solved_gets(alloc, func, &graph, &wants)?;
+    let find = found.as_slice();
     let starts = wants.starts();
     let list = wants.list();
-    let variables = variables_written(alloc, code, list)?;
-    let names = all_names(alloc, vars, func.args, variables.as_slice())?;
-    let rows = leaving_rows(alloc, code, &graph)?;
+    let written = variables_written(alloc, code, list)?;
+    let variables = written.as_slice();
+    let named = all_names(alloc, vars, func.args, variables)?;
+    let names = named.as_slice();
+    let left = leaving_rows(alloc, code, &graph)?;
+    let rows = left.as_slice();
     let made = laid_code(
         alloc,
         func,
         &graph,
         function.code,
-        names.as_slice(),
-        find.as_slice(),
+        names,
+        find,
         starts,
         list,
-        rows.as_slice(),
+        rows,
     )?;
     Ok(FuncTree {
         name: function.name,
