@@ -35,7 +35,7 @@ module _ (F : Func) (v : WantsView) (starts : List ℕ) (list : List WantedGet) 
   pub same-row : (k : ℕ) → row_in v.starts v.list k ≡ row_of v k
   same-row k =
       same-part v.list (slice_index v.starts k) (slice_index v.starts (k + 1)) (subst (λ (x : List ℕ). slice_index x (k + 1) ≤ length v.list) s (within (k + 1)))
-          ∙ ap (λ n. slice_range v.list (slice_index v.starts k) (slice_index v.starts n)) (add-one k)
+      ∙ ap (λ n. slice_range v.list (slice_index v.starts k) (slice_index v.starts n)) (add-one k)
 
   module _ (is : AreWantsOf F v) where
     pub are-gets : (k : ℕ) → AreGetsOf (gets_of v k) (row_in v.starts v.list k)

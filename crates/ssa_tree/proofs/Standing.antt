@@ -39,7 +39,7 @@ module _ (b : ℕ → List Item) (f : ℕ → Item → Item) where
       let rest : laid_items piece (k + 1) xs ++ b (k + length (x ∷ xs)) ≡ spliced b nothing (suc k) (mapped f (suc k) xs) =
       ap (λ n. laid_items piece n xs ++ b (k + length (x ∷ xs))) (add-one k) ∙ ap (λ n. laid_items piece (suc k) xs ++ b n) end ∙ pieces-spliced (suc k) xs in
       append_assoc (b k ++ f k x ∷ []) (laid_items piece (k + 1) xs) (b (k + length (x ∷ xs))) ∙ append_assoc (b k) (f k x ∷ []) (laid_items piece (k + 1) xs ++ b (k + length (x ∷ xs)))
-          ∙ ap (λ (r : List Item). b k ++ f k x ∷ r) rest
+      ∙ ap (λ (r : List Item). b k ++ f k x ∷ r) rest
 
 module _ (F : Func) (sites : List (Option (List ℕ))) (l : LayoutView) (nows : List (List ℕ)) where
   abbrev b : ℕ → List Item
@@ -58,7 +58,7 @@ module _ (F : Func) (sites : List (Option (List ℕ))) (l : LayoutView) (nows : 
   laid-at items made whole = record {
     there = λ i x at.
         ap (λ (m : List Item). slice_get m (position_of b nothing i)) whole ∙ law.there b nothing (mapped f 0 items) i (let h = slice_get_within items i x at in let m = mapped-long f 0 items in omega (arith, h, m)) ∙ mapped-get f 0 items i x at
-            ∙ ap (λ n. Some (f n x)) (start i);
+        ∙ ap (λ n. Some (f n x)) (start i);
     in_front = λ i n low less.
         ap (λ (m : List Item). slice_get m (start_of b nothing i + n)) whole ∙ law.in_front b nothing (mapped f 0 items) i n (let m = mapped-long f 0 items in omega (arith, low, m)) less;
   }
