@@ -1,6 +1,6 @@
 // The wanted `get`s of a function, by their labels.
 
-ghost use Rattle.std.specs.Prelude.{◌≡◌, ◌<◌, ◌+◌, ◌*◌, ◌↔◌, ◌^◌, ◌-◌, [], ℕ, IfOk, OnOk, None, is_some, length};
+ghost use Rattle.std.specs.Prelude.{◌≡◌, ◌<◌, ◌≤◌, ◌+◌, ◌*◌, ◌↔◌, ◌^◌, ◌-◌, [], ℕ, IfOk, OnOk, None, is_some, length, slice_index};
 ghost use Rattle.std.specs.List.{All, Contains};
 ghost use Rattle.bril_tree.specs.Shape.{shape_fault_of};
 ghost use Rattle.bril_tree.specs.Sites.{AreSitesSound};
@@ -44,6 +44,14 @@ impl Wants {
         ensures { result.now ≡ self.now.list }
     {
         self.list.as_slice()
+    }
+
+    /// For each point where those behind it begin in the list; they end where those behind the next point begin. Takes no memory.
+    pub fn starts(&self) -> &[u32]
+        ensures value { result.now ≡ self.now.starts }
+        ensures within { (k : ℕ) → slice_index result.now k ≤ length self.now.list }
+    {
+        self.starts.as_slice()
     }
 
     /// The `get`s behind the label at a point; there are none where no label stands. Takes no memory.

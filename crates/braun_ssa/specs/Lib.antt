@@ -1,0 +1,4 @@
+pub mod Numbers
+pub mod Form
+pub mod Ssa
+pub mod Laws

@@ -1,0 +1,4 @@
+pub mod Items
+pub mod Sweep
+pub mod Rows
+pub mod Names
