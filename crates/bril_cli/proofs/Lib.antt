@@ -1,3 +1,4 @@
+pub mod Demos
 pub mod Listings
 pub mod Runs
 pub mod Shipped

@@ -3,7 +3,7 @@ use Rattle.std.proofs.Common.{◌≡◌, ◌≢◌, ℕ, zero, suc, ◌+◌, ◌
 use Rattle.std.proofs.lemmas.List.{append_cancel_left}
 use Rattle.std.specs.Option.{option_map}
 use Rattle.bril_outside.proofs.SinkWrites.{PutSome-longer, joined-append}
-use Rattle.bril_outside.specs.Sink.{SinkSeen, TookAll, PutTimes, PutSome, joined}
+use Rattle.bril_outside.specs.Sink.{SinkSeen, TookAll, PutTimes, PutSome, amount_after, joined}
 use Rattle.bril_tree.specs.Run.{FitMain}
 use Rattle.bril_tree.specs.declared.limits.End.{End}
 use Rattle.bril_tree.specs.declared.limits.Limits.{Limits}
@@ -124,6 +124,17 @@ module _ (image : Image) (p : Prog) (limits : Limits) (values : List Value) (imp
             shows = subst (λ (ps : List (List ℕ)). Executes p limits values words stats ended ps pieces) (sym told) (executes_at stats ended here);
             puts = PutsAll-by (pieces_within image limits values words) (printed_at words) (many words) ran.printed;
           }
+
+      -- what was printed was counted
+      pub counted : (ended : Option End) → (reached_after m words).stopped ≡ option_map Finished ended → Reached (reached_after m words) (puts_by m words) m m' s t
+          → (printed : List (List ℕ)) × ((executes : Executes p limits values words false ended [] printed) × ((state_of m').done ≡ (image_after executes.shows.machine.image limits values words).done)) × (t.amount ≡ amount_after s.amount (length (joined printed)))
+      unfolding pieces executes_at shows_at
+      counted ended ends ran =
+          let here : (image_after image limits values words).stopped ≡ option_map Finished ended = ap (λ (u : State). u.stopped) (sym (reached words)) ∙ ends in (
+            pieces,
+            (executes_at false ended here, ap (λ (u : State). u.done) ran.became.state ∙ ap (λ (u : State). u.done) (reached words)),
+            ran.printed.took.amount ∙ ap (λ bytes. amount_after s.amount (length bytes)) (sym (printed_at words)),
+          )
 
       pub no_trap : (trap : _) → Ran (run.Trap trap) words m m' s t → ⊥
       no_trap trap ran =

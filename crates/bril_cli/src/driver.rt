@@ -2,6 +2,7 @@
 // `?` hands its refusal on.
 
 ghost use Rattle.std.specs.Prelude.{◌≡◌, ◌≤◌, [], length, IfOk, IfErr};
+ghost use Rattle.bril_cli.specs.Demo.{IsOwnTree};
 ghost use Rattle.bril_commands.specs.Command.{NeedsProgram, reach};
 ghost use Rattle.bril_commands.specs.Driver.{DoesTree, DoesFiles};
 ghost use Rattle.bril_commands.specs.PassList.{pass_list};
@@ -13,6 +14,7 @@ ghost use Rattle.bril_report.specs.Telling.{Telling};
 ghost use Rattle.bril_words.specs.Names.{names_of};
 ghost use Rattle.bril_words.specs.Request.{IsActionInRange};
 
+use crate::commands::demo::demo;
 use crate::commands::emit::put_image;
 use crate::commands::passes::put_transformed;
 use crate::commands::run::{RunSettings, run};
@@ -23,6 +25,7 @@ use bril_commands::commands::json::put_json;
 use bril_commands::commands::text::put_text;
 use bril_commands::program::accepted_program;
 use bril_commands::source::{file_tree, linked_tree};
+use bril_demo::demo_tree;
 use bril_outside::files::Files;
 use bril_outside::sink::Sink;
 use bril_report::{Outputs, Status};
@@ -61,8 +64,9 @@ pub fn drive<F: Files, O: Sink, E: Sink>(
     do_command(alloc, request, &tree, &mut passes, outputs)
 }
 
-// The tree of a request's files.
+// The tree of a request's files, or the demo's.
 fn tree_of<F: Files>(alloc: Global, request: Request, files: &mut F) -> Result<Tree, Status>
+    requires range { IsActionInRange request.action }
     ensures holds { (F.seen files.new).holds ≡ (F.seen files.old).holds }
     ensures faults { (F.seen files.old).faults ≤ (F.seen files.new).faults }
     ensures ok { IfOk result (IsTreeAt (reach (command request.entry.action)) (F.seen files.old).holds request.entry.path.now) }
@@ -76,6 +80,7 @@ fn tree_of<F: Files>(alloc: Global, request: Request, files: &mut F) -> Result<T
         | Action::Passes
         | Action::Check
         | Action::Link => linked_tree(alloc, request.path, files),
+        Action::Demo { functions } => Ok(demo_tree(alloc, functions)?),
     }
 }
 
@@ -89,6 +94,7 @@ fn do_command<O: Sink, E: Sink>(
 ) -> Result<(), Status>
     requires range { IsActionInRange request.action }
     requires alone { NeedsProgram (command request.action) → tree.now.imports ≡ [] }
+    requires own { IsOwnTree request.action tree.now }
     ensures same_boxes { passes.new.boxes.ghost_name ≡ passes.old.boxes.ghost_name }
     ensures does { Telling O.seen E.seen (λ told s t. DoesTree (command request.entry.action) (status_of result) (pass_list (λ p. meaning p) (λ p. counts p) passes.old.boxes.now passes.new.boxes.now passes.old.names.now) tree.now request.entry.args.now told s t) outputs.old outputs.new }
     ensures keeps { KeepsPasses (λ p. meaning p) request.entry.action passes.old.boxes.now passes.new.boxes.now }
@@ -136,5 +142,9 @@ fn do_command<O: Sink, E: Sink>(
         Action::Link => put_text(alloc, tree, outputs.out),
         Action::WriteText => put_text(alloc, tree, outputs.out),
         Action::WriteJson => put_json(alloc, tree, outputs.out),
+        Action::Demo { functions } => {
+            let program = accepted_program(alloc, tree)?;
+            demo(alloc, functions, program, passes, outputs)
+        }
     }
 }

@@ -19,20 +19,21 @@ use std::alloc::Global;
 
 /// Does what the words ask for, and answers the exit status.
 ///
-/// The words, which `bril_words::read_words` reads by `clap`, are the program's name, a command, and the path of a file. The commands
-/// are `run`, which makes the file's program into machine words and runs these, `interp`, which
+/// The words, which `bril_words::read_words` reads by `clap`, are the program's name, a command, and the path of a file, or for `demo` a
+/// number N from 1 to 150. The commands are `run`, which makes the file's program into machine words and runs these, `interp`, which
 /// interprets it, `emit`, which writes its machine words, `passes`, which writes what a list of passes makes of it, `check`, which
 /// writes how many functions and items its accepted program has, `link`, which writes the linked program in canonical text, and `text`
-/// and `json`, which write the one file in canonical text, and in canonical JSON and LF, with its imports. With `run` and `interp` there may be options, each with its number,
+/// and `json`, which write the one file in canonical text, and in canonical JSON and LF, with its imports, and `demo`, which makes the
+/// demo program of N functions (`bril_demo::demo_tree`) into machine words and runs these. With `run` and `interp` there may be options, each with its number,
 /// `--frames` (from 1 to 65,536; 8,192 where it isn't given), `--cells` (to 4,194,304; 1,048,576) and `--steps` (to
 /// 1,000,000,000,000; 1,000,000,000), and then `--` and the arguments of `@main`; for `run` also `--passes`, with a list of passes, and
 /// `--stats`. With `emit` there may be `--frames` and `--passes`, and with `passes` there may be `--passes`. A list is the names of 64 passes at most, with a comma between each two; where it is empty or isn't given, there are
 /// none. A file whose path ends in `.json` is in the JSON form of the Bril documentation, and any other in its text form.
 ///
-/// All commands but `text` and `json` link first: the file's program is that of the file and of all that it imports, as
+/// All commands with a file but `text` and `json` link first: the file's program is that of the file and of all that it imports, as
 /// `import_linker::link` says.
 ///
-/// `run`, `emit` and `passes` give the program to the list of passes: each name to the first of `passes` that answers to it, and each
+/// `run`, `emit`, `passes` and `demo` give the program to the list of passes: each name to the first of `passes` that answers to it, and each
 /// pass gets what the one before it made, with the profile without entries. What is said below of a program's words is said of the
 /// program after the passes. It comes from the source by a chain of links, and the passes' tallies grow by these; no other command
 /// changes the passes. One that answers to the name of a pass that the program is shipped with (`specs/Shipped.antt`) is to make only
@@ -46,12 +47,17 @@ use std::alloc::Global;
 /// for each guard of the program, in the order of functions and items, the line `guard @F I fails K`: its function, its item from 0,
 /// and how often it failed; then the line of the status.
 ///
+/// `demo` gives its program to the list `const,dead,tidy`, and executes 1,000,000,000,000 words at most, with 8,192 frames and 1,048,576
+/// cells. What they print is counted, and `out` gets one line: `demo N: F functions, I items, B bytes, status S`, F and I being of the
+/// program as it was made, B the number of bytes, or 2^64 - 1 where they are more, and S 0, or 2 where the program stopped with a
+/// fault. Where it has ended without one, `err` gets the line `words W`, W being the words that were executed.
+///
 /// | Status | Comes | Line on `err` |
 /// |---|---|---|
-/// | 0 | all was done: `out` took all that the program prints up to its end, or its machine words, each in eight hexadecimal digits and LF, or `ok FUNCTIONS ITEMS` and LF, or the canonical text or JSON | none; for `passes` the line `NAME runs R seen S made M` of each pass that the list used, in their order, NAME being the first name of the list that the pass answers to |
+/// | 0 | all was done: `out` took all that the program prints up to its end, or its machine words, each in eight hexadecimal digits and LF, or `ok FUNCTIONS ITEMS` and LF, or the canonical text or JSON, or the line of `demo` | none; for `demo` the line `words W`, unless its program stopped with a fault; for `passes` the line `NAME runs R seen S made M` of each pass that the list used, in their order, NAME being the first name of the list that the pass answers to |
 /// | 2 | the program was run or interpreted and stopped with a fault; `out` took all that it printed | `fault K NAME` |
-/// | 3 | the program was interpreted and goes on after so many steps, or the machine after so many words; `out` took all that was printed | `spent STEPS` |
-/// | 64 | `clap` refuses the words, a request for help among them, or an option's number or list fails | the text of `clap`; `usage: OPTION` |
+/// | 3 | the program was interpreted and goes on after so many steps, or the machine after so many words; `out` took all that was printed, and for `demo` nothing | `spent STEPS` |
+/// | 64 | `clap` refuses the words, a request for help among them, or an option's number or list, or the number of `demo`, fails | the text of `clap`; `usage: OPTION`, `usage: N` |
 /// | 65 | the file at this path is no program in its form | `PATH: text K at AT`, `PATH: json K function F item I` |
 /// | 65 | files are linked, and the one at this path imports a function of this name that isn't there, or names one that stands for none | `link 3 PATH NAME` |
 /// | 65 | files are linked, and two functions have this name in the one at this path, imported or its own | `link 4 PATH NAME` |

@@ -24,10 +24,9 @@ use Rattle.bril_tree.specs.declared.value.Value.{Value}
 use Rattle.bril_words.specs.Request.{Asked}
 use Rattle.bril_words.specs.CommandLine.{Refusal}
 use Rattle.bril_words.specs.declared.request.Action.{Action}
-use Rattle.import_linker.specs.Linked.{Linked}
 use Rattle.import_linker.specs.declared.fault.LinkFault.{LinkFault}
 use Rattle.import_linker.specs.declared.fault.LinkFault.TheVariants as link
-use Rattle.bril_commands.proofs.Reading.{faultless, lacking_fault, lacking_no_tree, lacking_told, lacking_unread, not_refused, one_refusal, one_tree}
+use Rattle.bril_commands.proofs.Reading.{faultless, lacking_fault, lacking_no_tree, lack_told, lacking_unread, not_refused, one_refusal, one_tree}
 use Rattle.bril_commands.proofs.Statuses.{Ends, plain}
 use Rattle.bril_commands.specs.Arguments.{argument_pieces, HasArgFault, HasOnlyArgFault, RefusesArgs}
 use Rattle.bril_commands.specs.Call.{Call, ReadsWell, UnlessMemory}
@@ -35,7 +34,7 @@ use Rattle.bril_commands.specs.Command.{Command, OnFile, OnTree, OnProgram, Argu
 use Rattle.bril_commands.specs.CommandLine.{Asks, AsksFor}
 use Rattle.bril_commands.specs.Driver.{IsIdle, Stage, DoesProgram, DoesTree}
 use Rattle.bril_commands.specs.PassList.{PassList}
-use Rattle.bril_commands.specs.Source.{Reach, HaveFault, HaveTree, HasOnlyCheckFault, IsOnlyNameFault, IsOnlyProgram, LackFile, RefusesFiles}
+use Rattle.bril_commands.specs.Source.{AreTold, Reach, HaveFault, HaveTree, HasOnlyCheckFault, IsOnlyNameFault, IsOnlyProgram, LackFile, RefusesFiles}
 use Rattle.bril_commands.specs.Stages.{RefusesProgram, IsAcceptedProgram, IsFaultless}
 use Rattle.bril_commands.specs.Table.{command}
 
@@ -103,6 +102,9 @@ module _ (c : Call) (asks : Asks c.words) (how : Status) (ends : Ends c asks how
   same_action : action ≡ asks.action
   same_action = asked_action c asks action reads.path reads.args reads.asked
 
+  told_here : AreTold (reach (command asks.action)) c.files_before.holds
+  told_here = subst (λ (a : Action). AreTold (reach (command a)) c.files_before.holds) same_action reads.told
+
   memory : (why : LinkFault) → how ≡ link_status why → (why ≡ link.Memory) ⊎ Rose c.files_before.faults c.files_after.faults → how ≡ status.OutOfMemory
   memory why is either = ⊎_elim (λ e. is ∙ ap link_status e) (λ rose. absurd (reads.sound rose)) either
 
@@ -111,22 +113,31 @@ module _ (c : Call) (asks : Asks c.words) (how : Status) (ends : Ends c asks how
   by_tree A tree have none goes =
       let here : HaveTree (reach (command asks.action)) c.files_before.holds asks.path tree =
       subst (λ (a : Action). HaveTree (reach (command a)) c.files_before.holds asks.path tree) same_action (subst (λ (p : List ℕ). HaveTree (reach (command action)) c.files_before.holds p tree) same_path have) in
-      ⊎_elim (λ refused. none (memory refused.0.0 refused.0.1 (not_refused c.files_before c.files_after reads.map reads.told asks.path (reach (command asks.action)) tree refused.0.0 here refused.0.2)))
+      ⊎_elim (λ refused. none (memory refused.0.0 refused.0.1 (not_refused c.files_before c.files_after asks.path (reach (command asks.action)) tree refused.0.0 told_here here refused.0.2)))
       (λ deals. goes
       (subst (λ (t : Tree). DoesTree (command action) how c.passes t asks.args ends.told c.out_before c.out_after)
-      (one_tree c.files_before c.files_after reads.map reads.told asks.path (reach (command asks.action)) deals.0 tree deals.1 here)
+      (one_tree c.files_before c.files_after asks.path (reach (command asks.action)) deals.0 tree told_here deals.1 here)
       (subst (λ a. DoesTree (command a) how c.passes deals.0 asks.args ends.told c.out_before c.out_after) (sym same_action) deals.2)))
       ends.does
+
+  -- a fault was answered, where the files have this one
+  fault_answered : (A : Type 0) (why other : LinkFault) → why ≢ link.Memory → how ≡ link_status other → ends.told ≡ [] → (how ≡ status.OutOfMemory → A) → (how ≡ link_status why → ends.told ≡ [] → A)
+      → ((other ≡ link.Memory) ⊎ (why ≡ link.Memory)) ⊎ (Rose c.files_before.faults c.files_after.faults ⊎ (other ≡ why)) → A
+  fault_answered A why other ample is none exhausted_ answered (inl (inl e)) = exhausted_ (memory other is (inl e))
+  fault_answered A why other ample is none exhausted_ answered (inl (inr e)) = absurd (ample e)
+  fault_answered A why other ample is none exhausted_ answered (inr (inl rose)) = absurd (reads.sound rose)
+  fault_answered A why other ample is none exhausted_ answered (inr (inr e)) = answered (is ∙ ap link_status e) none
+
+  fault_here : (why : LinkFault) → HaveFault (reach (command action)) why c.files_before c.files_after reads.path → HaveFault (reach (command asks.action)) why c.files_before c.files_after asks.path
+  fault_here why have =
+      subst (λ (a : Action). HaveFault (reach (command a)) why c.files_before c.files_after asks.path) same_action (subst (λ (p : List ℕ). HaveFault (reach (command action)) why c.files_before c.files_after p) same_path have)
 
   pub by_fault : (A : Type 0) (why : LinkFault) → why ≢ link.Memory → HaveFault (reach (command action)) why c.files_before c.files_after reads.path → (how ≡ status.OutOfMemory → A)
       → (how ≡ link_status why → ends.told ≡ [] → A) → A
   by_fault A why ample have none answered =
-      let here : HaveFault (reach (command asks.action)) why c.files_before c.files_after asks.path =
-      subst (λ (a : Action). HaveFault (reach (command a)) why c.files_before c.files_after asks.path) same_action (subst (λ (p : List ℕ). HaveFault (reach (command action)) why c.files_before c.files_after p) same_path have) in
-      ⊎_elim (λ refused. ⊎_elim (λ some. ⊎_elim (λ e. none (memory refused.0.0 refused.0.1 (inl e))) (λ e. absurd (ample e)) some)
-      (λ more. ⊎_elim (λ rose. absurd (reads.sound rose)) (λ e. answered (refused.0.1 ∙ ap link_status e) refused.1.0.0) more)
-      (one_refusal c.files_before c.files_after reads.map reads.told asks.path (reach (command asks.action)) refused.0.0 why refused.0.2 here))
-      (λ deals. absurd (⊎_elim ample reads.sound (faultless c.files_before c.files_after reads.map reads.told asks.path (reach (command asks.action)) deals.0 why deals.1 here)))
+      ⊎_elim (λ refused. fault_answered A why refused.0.0 ample refused.0.1 refused.1.0.0 none answered
+      (one_refusal c.files_before c.files_after asks.path (reach (command asks.action)) refused.0.0 why told_here refused.0.2 (fault_here why have)))
+      (λ deals. absurd (⊎_elim ample reads.sound (faultless c.files_before c.files_after asks.path (reach (command asks.action)) deals.0 why told_here deals.1 (fault_here why have))))
       ends.does
 
 -- ---- a command that needs a program
@@ -150,11 +161,6 @@ needs_program (OnFile outcome) gives = absurd gives
 needs_program (OnTree outcome) gives = absurd gives
 needs_program (OnProgram does) gives = tt
 
--- such a command links
-linked_tree : (k : Command) → NeedsProgram k → (holds : Option FileMap) (path : List ℕ) (tree : Tree) → Linked holds path tree → HaveTree (reach k) holds path tree
-linked_tree (OnFile outcome) needs holds path tree linked = absurd needs
-linked_tree (OnTree outcome) needs holds path tree linked = absurd needs
-linked_tree (OnProgram does) needs holds path tree linked = linked
 
 -- From asking for a program: memory ran out, or the tree has a fault of a name, or a program with a fault of the checker, or its accepted program was dealt with.
 module _ (how : Status) (tree : Tree) (Silent : Type 0) (Goes : Prog → Type 0) (asks : Stage (RefusesProgram how tree) Silent (λ p. IsAcceptedProgram tree p) (λ p is. Goes p)) where
@@ -197,13 +203,13 @@ module _ (c : Call) (asks : Asks c.words) (how : Status) (ends : Ends c asks how
       (λ e none. inr (ap status_number e, said c asks how ends (link_status why) e none))
 
   -- what a tree's program answers: memory ran out, or the tree has a fault of a name, or a program with a fault of the checker, or it was dealt with
-  module _ (needs : NeedsProgram (command action)) (reads : ReadsWell c action) (tree : Tree) (linked : Linked c.files_before.holds reads.path tree) where
+  module _ (needs : NeedsProgram (command action)) (reads : ReadsWell c action) (tree : Tree) (linked : HaveTree (reach (command action)) c.files_before.holds reads.path tree) where
     by_program : (A : Type 0) → (how ≡ status.OutOfMemory → A)
         → (ends.told ≡ [] → (fault : NameFault) → how ≡ status.Misnamed fault → IsOnlyNameFault tree fault → A)
         → (ends.told ≡ [] → (p : Prog) (fault : CheckFault) → how ≡ status.Unaccepted p fault → IsOnlyProgram tree p → HasOnlyCheckFault p fault → A)
         → ((p : Prog) → IsAcceptedProgram tree p → DoesAccepted (command action) how c.passes p asks.args ends.told c.out_before c.out_after → A) → A
     by_program A memory misnamed unaccepted goes =
-        by_tree c asks how ends action reads A tree (linked_tree (command action) needs c.files_before.holds reads.path tree linked) memory
+        by_tree c asks how ends action reads A tree linked memory
         (λ does. by_names how tree (IsIdle c.passes ends.told c.out_before c.out_after) (λ q. DoesAccepted (command action) how c.passes q asks.args ends.told c.out_before c.out_after)
         (asks_program (command action) how c.passes tree asks.args ends.told c.out_before c.out_after needs does) A memory
         (λ none. misnamed none.0.0) (λ none. unaccepted none.0.0) goes)
@@ -240,7 +246,7 @@ module _ (c : Call) (asks : Asks c.words) (how : Status) (ends : Ends c asks how
         ))
         (λ sound does. absurd (sound.faultless fault has))
 
-  pub misargued_where : GivesArguments (command action) → (reads : ReadsWell c action) (tree : Tree) (p : Prog) (fault : ArgFault) → Linked c.files_before.holds reads.path tree → Numbered tree p → IsAccepted p
+  pub misargued_where : GivesArguments (command action) → (reads : ReadsWell c action) (tree : Tree) (p : Prog) (fault : ArgFault) → HaveTree (reach (command action)) c.files_before.holds reads.path tree → Numbered tree p → IsAccepted p
       → fault ≢ argument.Memory → IsFaultOf (main_types p) reads.args fault
       → UnlessMemory (status_number how) ((status_number how ≡ 69) × Puts c.err_before (argument_pieces fault) c.err_after)
   misargued_where gives reads tree p fault linked numbered accepted ample is =
@@ -277,10 +283,10 @@ module _ (c : Call) (asks : Asks c.words) (how : Status) (ends : Ends c asks how
   line : (why : LinkFault) → how ≡ link_status why → RefusesFiles Kind why c.files_before c.files_after asks.path → ends.told ≡ [] → status_number how ≡ 66 → ¬ Rose c.files_before.faults c.files_after.faults
       → Puts c.err_before (unread_pieces path) c.err_after
   line why is refuses none number sound =
-      let told = lacking_told c.files_before.holds path here.lacks in
+      let told = lack_told c.files_before.holds asks.path path Kind here in
       ⊎_elim (λ some. ⊎_elim (λ e. absurd (not_both (status_number how) number (ap status_number (is ∙ ap link_status e)))) (λ e. absurd (Read_ample path e)) some)
       (λ more. ⊎_elim (λ rose. absurd (sound rose)) (λ e. said c asks how ends (link_status (link.Read path)) (is ∙ ap link_status e) none) more)
-      (one_refusal c.files_before c.files_after told.0 told.1 asks.path Kind why (link.Read path) refuses (lacking_fault c.files_before c.files_after asks.path path Kind here))
+      (one_refusal c.files_before c.files_after asks.path Kind why (link.Read path) told refuses (lacking_fault c.files_before c.files_after asks.path path Kind here))
 
   pub lacking_where : UnlessMemory (status_number how) ((status_number how ≡ 66) × (¬ Rose c.files_before.faults c.files_after.faults → Puts c.err_before (unread_pieces path) c.err_after))
   lacking_where =

@@ -1,5 +1,5 @@
 -- All that the top call promises.
-use Rattle.std.proofs.Common.{◌≡◌, ℕ, ◌≤◌, List, [], ◌∷◌, Ok, Err, ap, map, codes, inl, inr, refl, sym, ◌∙◌, subst, arith, ⊎_elim}
+use Rattle.std.proofs.Common.{◌≡◌, ◌≢◌, ℕ, ◌<◌, ◌≤◌, ◌^◌, List, [], ◌∷◌, Ok, Err, ap, map, codes, inl, inr, refl, sym, ◌∙◌, subst, arith, ⊎_elim}
 use Rattle.bril_report.specs.Lines.{misuse_line}
 use Rattle.bril_report.specs.Puts.{Puts}
 use Rattle.bril_report.specs.Report.{status_number, status_pieces}
@@ -7,16 +7,23 @@ use Rattle.bril_report.specs.StageFaults.{misuse_status}
 use Rattle.bril_report.specs.declared.status.Status.{Status}
 use Rattle.bril_report.specs.declared.status.Status.TheVariants as status
 use Rattle.bril_words.specs.Answers as words
-use Rattle.bril_words.specs.CommandLine.{Refusal, not_taken, bad_value, words_ask}
+use Rattle.bril_words.specs.CommandLine.{Refusal, bad_functions, not_taken, bad_value, words_ask}
 use Rattle.bril_words.specs.declared.misuse.Misuse.{Misuse}
 use Rattle.bril_words.specs.declared.misuse.Misuse.TheVariants as misuse
 use Rattle.bril_tree.specs.declared.tree.Tree.{Tree}
 use Rattle.bril_words.specs.declared.request.Action.{Action}
+use Rattle.bril_words.specs.declared.request.Action.TheVariants as action
+use Rattle.bril_tree.specs.Numbered.{Numbered}
+use Rattle.bril_names.specs.Faults as names
+use Rattle.bril_demo.proofs.Acceptance.{demo_faultless, demo_is_accepted}
+use Rattle.bril_demo.specs.Demo.{demo_tree}
+use Rattle.import_linker.specs.declared.fault.LinkFault.{LinkFault}
 use Rattle.import_linker.specs.declared.fault.LinkFault.TheVariants as link
-use Rattle.bril_commands.specs.Answers.{Answers, Misused, Promises, SourceRefused, TooLarge}
+use Rattle.bril_commands.specs.Answers.{Answers, FilesRefused, Misused, Promises, SourceRefused, TooLarge}
 use Rattle.bril_commands.specs.Call.{Call, ReadsWell, SaysAlone, UnlessMemory}
-use Rattle.bril_commands.specs.Command.{Command, OnFile, OnTree, OnProgram, takes_passes}
+use Rattle.bril_commands.specs.Command.{Command, OnFile, OnTree, OnProgram, reach, takes_passes}
 use Rattle.bril_commands.specs.CommandLine.{Asks, AsksFor, AskNothing, IsToldOf}
+use Rattle.bril_commands.specs.Source.{IsTreeAt, RefusesFiles}
 use Rattle.bril_commands.specs.Table.{KeepsPasses, command}
 use Rattle.bril_commands.specs.When.{CommandDone}
 use Rattle.bril_commands.proofs.Causes.{Ok_not_Err, request_of, asked_action, misargued_where, unchecked_where, misnamed_where, told_where, lacking_where}
@@ -58,6 +65,26 @@ silent_at (status.ArgumentCount given wanted) c says low high = says.alone.silen
 silent_at (status.BadArgument position) c says low high = says.alone.silent
 silent_at _ c says low high = absurd (omega arith)
 
+-- the program of the demo is accepted
+demo_unrefused : (c : Call) (asks : Asks c.words) (functions : ℕ) → action.Demo functions ≡ asks.action → (why : LinkFault) (line : List (List ℕ)) → why ≢ link.Memory → FilesRefused c asks why line → ⊥
+demo_unrefused c asks functions is why line ample refused = ample (subst (λ (a : Action). RefusesFiles (reach (command a)) why c.files_before c.files_after asks.path) (sym is) refused.refuses)
+
+demo_tree_at : (c : Call) (asks : Asks c.words) (functions : ℕ) → action.Demo functions ≡ asks.action → (tree : Tree) → IsTreeAt (reach (command asks.action)) c.files_before.holds asks.path tree → tree ≡ demo_tree functions
+demo_tree_at c asks functions is tree file = subst (λ (a : Action). IsTreeAt (reach (command a)) c.files_before.holds asks.path tree) (sym is) file
+
+demo_accepted : (c : Call) (functions : ℕ) → functions ≤ 150 → (refused : SourceRefused c) → action.Demo functions ≡ refused.asks.action → ⊥
+demo_accepted c functions few refused is =
+    ⊎_elim (λ misread. demo_unrefused c refused.asks functions is (link.Bad misread.path misread.fault) _ (λ e. cc) misread.refused)
+    (⊎_elim (λ lacks. demo_unrefused c refused.asks functions is (link.NotThere lacks.path lacks.name) _ (λ e. cc) lacks.refused)
+    (⊎_elim (λ repeats. demo_unrefused c refused.asks functions is (link.Clash repeats.path repeats.name) _ (λ e. cc) repeats.refused)
+    (λ program. ⊎_elim (λ name. demo_faultless functions name.fault small (subst (λ (t : Tree). names.HasFault t name.fault) (demo_tree_at c refused.asks functions is name.tree name.file) name.only.has))
+    (λ check. check.only.unaccepted (demo_is_accepted functions check.program small (subst (λ (t : Tree). Numbered t check.program) (demo_tree_at c refused.asks functions is check.tree check.file) check.source.numbered)))
+    program.1)))
+    refused.because
+  where
+    small : functions < 2 ^ 64
+    small = omega arith
+
 -- of a request, once it was driven
 module _ (c : Call) (asks : Asks c.words) (how : Status) (ends : Ends c asks how) where
   told : Answers (status_number how) c
@@ -97,6 +124,7 @@ module _ (c : Call) (asks : Asks c.words) (how : Status) (ends : Ends c asks how
     lacking = lacking_where c asks how ends;
     long_files = λ action reads have. told_where c asks how ends action link.TooManyBytes (λ e. cc) reads have;
     many_files = λ action reads have. told_where c asks how ends action link.TooManyFiles (λ e. cc) reads have;
+    demo = λ functions path args few asked number. demo_accepted c functions few (at_status 65 number) (asked_action c (at_status 65 number).asks (action.Demo functions) path args asked);
     keeps = λ action path args asked. subst (λ (a : Action). KeepsPasses c.passes.meaning a c.passes.before c.passes.after) (sym (asked_action c asks action path args asked)) ends.keeps;
   }
 
@@ -135,6 +163,7 @@ module _ (c : Call) (refusal : Refusal) (refused : words_ask c.words ≡ Err ref
     lacking = λ asks path lack. not_asked asks.action asks.path asks.args asks.asked;
     long_files = λ action reads have. not_read action reads;
     many_files = λ action reads have. not_read action reads;
+    demo = λ functions path args few asked number. absurd (omega arith);
     keeps = λ action path args asks. not_asked action path args asks;
   }
 
@@ -170,6 +199,7 @@ Promises-exhausted c same silent says = record {
   lacking = λ asks path lack. inl refl;
   long_files = λ action reads have. inl refl;
   many_files = λ action reads have. inl refl;
+  demo = λ functions path args few asked number. absurd (omega arith);
   keeps = λ action path args asks.
       subst (λ (after : List c.passes.Box). KeepsPasses c.passes.meaning action c.passes.before after) (sym same) (kept c.passes.meaning (takes_passes (command action)) c.passes.before);
 }
@@ -179,4 +209,5 @@ pub Promises-unread : (c : Call) (misuse : Misuse) → words.Answers (words_ask 
     → Puts c.err_before (status_pieces (misuse_status misuse)) c.err_after → Promises (status_number (misuse_status misuse)) c
 Promises-unread c (misuse.Words text) answers unread same silent says = Promises-misused c not_taken answers unread same (misuse_line (misuse.Words text)) tt (record { silent = silent; says = says })
 Promises-unread c (misuse.Value setting) answers unread same silent says = Promises-misused c (bad_value setting) answers unread same (misuse_line (misuse.Value setting)) refl (record { silent = silent; says = says })
+Promises-unread c misuse.Functions answers unread same silent says = Promises-misused c bad_functions answers unread same (misuse_line misuse.Functions) refl (record { silent = silent; says = says })
 Promises-unread c misuse.Memory answers unread same silent says = Promises-exhausted c same silent says

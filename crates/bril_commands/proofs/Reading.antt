@@ -15,8 +15,8 @@ use Rattle.import_linker.specs.Reading.{IsRead, RefusesSource, StopsAt}
 use Rattle.import_linker.specs.declared.fault.LinkFault.{LinkFault}
 use Rattle.import_linker.specs.declared.fault.LinkFault.TheVariants as fault
 use Rattle.import_linker.specs.declared.sources.Source.{Source}
-use Rattle.bril_commands.specs.Command.{Command, OnFile, OnTree, OnProgram, NeedsProgram, reach}
-use Rattle.bril_commands.specs.Source.{Reach, Alone, WithImports, FileHasFault, HaveFault, HaveTree, HoldsTree, IsFileTree, IsTreeAt, LackFile, RefusesFiles}
+use Rattle.bril_commands.specs.Command.{Command, OnFile, OnTree, OnProgram, Origin, LinkedFiles, Demo, NeedsProgram, reach, reach_of}
+use Rattle.bril_commands.specs.Source.{Reach, Alone, WithImports, OfDemo, AreTold, FileHasFault, HaveFault, HaveTree, HoldsTree, IsFileTree, IsTreeAt, LackFile, RefusesFiles}
 use Rattle.bril_commands.specs.Stages.{RefusesTree}
 
 -- ---- what is read of one file
@@ -33,12 +33,17 @@ RefusesTree-of reach why how before after path copied is status refuses = (why, 
 pub memory_refuses : (reach : Reach) (before after : FilesSeen) (path : List ℕ) → RefusesTree reach status.OutOfMemory before after path
 memory_refuses Alone before after path = (fault.Memory, refl, tt)
 memory_refuses WithImports before after path = (fault.Memory, refl, tt)
+memory_refuses (OfDemo functions) before after path = (fault.Memory, refl, refl)
 
 -- the tree of a command that needs a program has no imports
 pub needs_alone : (k : Command) (holds : Option FileMap) (path : List ℕ) (tree : Tree) → IsTreeAt (reach k) holds path tree → NeedsProgram k → tree.imports ≡ []
 needs_alone (OnFile outcome) holds path tree at needs = absurd needs
 needs_alone (OnTree outcome) holds path tree at needs = absurd needs
-needs_alone (OnProgram does) holds path tree linked needs = linked.links.imports
+needs_alone (OnProgram does) holds path tree at needs = by does.origin at
+  where
+    by : (o : Origin) → IsTreeAt (reach_of o) holds path tree → tree.imports ≡ []
+    by LinkedFiles linked = linked.links.imports
+    by (Demo functions) is = ap (λ (t : Tree). t.imports) is
 
 -- ---- one file
 
@@ -131,21 +136,27 @@ module _ (before after : FilesSeen) (map : FileMap) (told : before.holds ≡ Som
 
   -- ---- the files of a command
 
-  pub one_tree : (reach : Reach) (t u : Tree) → IsTreeAt reach before.holds path t → HaveTree reach before.holds path u → t ≡ u
-  one_tree Alone t u a b = file_once t u a b
-  one_tree WithImports t u a b = linked_once map path t u (subst (λ (o : Option FileMap). Linked o path t) told a) (subst (λ (o : Option FileMap). Linked o path u) told b)
+module _ (before after : FilesSeen) (path : List ℕ) where
+  pub one_tree : (reach : Reach) (t u : Tree) → AreTold reach before.holds → IsTreeAt reach before.holds path t → HaveTree reach before.holds path u → t ≡ u
+  one_tree Alone t u told a b = file_once before after told.0 told.1 path t u a b
+  one_tree WithImports t u told a b = linked_once told.0 path t u (subst (λ (o : Option FileMap). Linked o path t) told.1 a) (subst (λ (o : Option FileMap). Linked o path u) told.1 b)
+  one_tree (OfDemo functions) t u told a b = a ∙ sym b
 
-  pub not_refused : (reach : Reach) (t : Tree) (f : LinkFault) → HaveTree reach before.holds path t → RefusesFiles reach f before after path → (f ≡ fault.Memory) ⊎ HasRisen
-  not_refused Alone t f a h = file_not_refused t f a h
-  not_refused WithImports t f a h = linked_not_refused map before after path t f told a h
+  pub not_refused : (reach : Reach) (t : Tree) (f : LinkFault) → AreTold reach before.holds → HaveTree reach before.holds path t → RefusesFiles reach f before after path → (f ≡ fault.Memory) ⊎ Rose before.faults after.faults
+  not_refused Alone t f told a h = file_not_refused before after told.0 told.1 path t f a h
+  not_refused WithImports t f told a h = linked_not_refused told.0 before after path t f told.1 a h
+  not_refused (OfDemo functions) t f told a h = inl h
 
-  pub faultless : (reach : Reach) (t : Tree) (f : LinkFault) → IsTreeAt reach before.holds path t → HaveFault reach f before after path → (f ≡ fault.Memory) ⊎ HasRisen
-  faultless Alone t f a h = file_faultless t f a h
-  faultless WithImports t f a h = linked_not_refused map before after path t f told a h
+  pub faultless : (reach : Reach) (t : Tree) (f : LinkFault) → AreTold reach before.holds → IsTreeAt reach before.holds path t → HaveFault reach f before after path → (f ≡ fault.Memory) ⊎ Rose before.faults after.faults
+  faultless Alone t f told a h = file_faultless before after told.0 told.1 path t f a h
+  faultless WithImports t f told a h = linked_not_refused told.0 before after path t f told.1 a h
+  faultless (OfDemo functions) t f told a h = absurd h
 
-  pub one_refusal : (reach : Reach) (f g : LinkFault) → RefusesFiles reach f before after path → HaveFault reach g before after path → IsOne f g
-  one_refusal Alone f g a b = file_refused_once f g a b
-  one_refusal WithImports f g a b = refused_once map before after path f g told a b
+  pub one_refusal : (reach : Reach) (f g : LinkFault) → AreTold reach before.holds → RefusesFiles reach f before after path → HaveFault reach g before after path
+      → ((f ≡ fault.Memory) ⊎ (g ≡ fault.Memory)) ⊎ (Rose before.faults after.faults ⊎ (f ≡ g))
+  one_refusal Alone f g told a b = file_refused_once before after told.0 told.1 path f g a b
+  one_refusal WithImports f g told a b = refused_once told.0 before after path f g told.1 a b
+  one_refusal (OfDemo functions) f g told a b = absurd b
 
 -- ---- a file that isn't there
 
@@ -154,11 +165,18 @@ pub lacking_told : (holds : Option FileMap) (path : List ℕ) → LacksFile hold
 lacking_told None path lacks = absurd lacks
 lacking_told (Some map) path lacks = (map, refl)
 
+-- so are the files of a command that lacks one
+pub lack_told : (holds : Option FileMap) (root path : List ℕ) (reach : Reach) → LackFile reach holds root path → AreTold reach holds
+lack_told holds root path Alone h = lacking_told holds path h.lacks
+lack_told holds root path WithImports h = lacking_told holds path h.lacks
+lack_told holds root path (OfDemo functions) h = tt
+
 module _ (before after : FilesSeen) (root path : List ℕ) where
   -- it is the fault of the files
   pub lacking_fault : (reach : Reach) → LackFile reach before.holds root path → HaveFault reach (fault.Read path) before after root
   lacking_fault Alone h = (h.next, subst (λ (p : List ℕ). MayFail before after p) h.next (inr h.lacks))
   lacking_fault WithImports h = record { done = h.next.0; stops = h.next.1; fails = inr h.lacks }
+  lacking_fault (OfDemo functions) h = absurd h.next
 
   pub lacking_unread : (reach : Reach) (f : LinkFault) → LackFile reach before.holds root path → RefusesFiles reach f before after root → (f ≡ fault.Memory) ⊎ ((other : List ℕ) × (f ≡ fault.Read other))
   lacking_unread Alone f h refuses =
@@ -167,6 +185,7 @@ module _ (before after : FilesSeen) (root path : List ℕ) where
   lacking_unread WithImports f h refuses =
       let told = lacking_told before.holds path h.lacks in
       lacking_not_read told.0 before after root path h.next.0 f told.1 h.next.1 h.lacks refuses
+  lacking_unread (OfDemo functions) f h refuses = absurd h.next
 
   pub lacking_no_tree : (reach : Reach) (t : Tree) → LackFile reach before.holds root path → IsTreeAt reach before.holds root t → ⊥
   lacking_no_tree Alone t h a = held_not_lacking before.holds root a.bytes a.held (subst (λ (p : List ℕ). LacksFile before.holds p) h.next h.lacks)
@@ -176,3 +195,4 @@ module _ (before after : FilesSeen) (root path : List ℕ) where
       (subst (λ (o : Option FileMap). StopsAt o root path h.next.0) told.1 h.next.1)
       (subst (λ (o : Option FileMap). LacksFile o path) told.1 h.lacks)
       (subst (λ (o : Option FileMap). Linked o root t) told.1 a)
+  lacking_no_tree (OfDemo functions) t h a = absurd h.next

@@ -27,15 +27,15 @@ finished_one (Some x) (Some y) e = cc
 -- ---- a machine that shows a run has the program's end in time
 
 module _ (p : Prog) (limits : Limits) (values : List Value) (words : ℕ) (ended : Option End) (output : List ℕ) (shows : MachineShows p limits values words ended output) (fits : FitMain p values) (n cost : ℕ) (end : End) (is_cost : IsCost p cost) (enough : cost * (n + 1) ≤ words) (ends : (state_after p limits values n).ended ≡ Some end) where
-  same_end : ended ≡ Some end
+  pub same_end : ended ≡ Some end
   same_end = finished_one ended (Some end) (sym shows.ends ∙ stopped_in_time shows.implements.homes shows.image p limits values (shows.implements.implements.runs values fits) n cost words end is_cost enough ends)
 
-  same_output : output ≡ (state_after p limits values n).printed
+  pub same_output : output ≡ (state_after p limits values n).printed
   same_output = sym shows.prints ∙ printed_in_time shows.implements.homes shows.image p limits values (shows.implements.implements.runs values fits) n cost words end is_cost enough ends
 
 -- what is executed of a program that a list made says this of the source
 module _ (l : PassList) (p q : Prog) (made : IsMade l p q) (accepted : IsAccepted p) (limits : Limits) (frames cells : ℕ) (are : AreLimitsOf (ImageFor frames cells) limits) (values : List Value) (fits : FitMain p values) (words : ℕ) (stats : Bool) where
-  pub run_shows : (ended : Option End) (told output : List (List ℕ)) → Executes q limits values words stats ended told output → RunShows p q (AreFactorsOf l p q made) values frames cells words stats ended told output
+  unfoldable pub run_shows : (ended : Option End) (told output : List (List ℕ)) → Executes q limits values words stats ended told output → RunShows p q (AreFactorsOf l p q made) values frames cells words stats ended told output
   run_shows ended told output executes =
       let chain = made_chain l p q made accepted in
       let Is = AreFactorsOf l p q made in

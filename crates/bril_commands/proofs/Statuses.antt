@@ -29,7 +29,6 @@ use Rattle.bril_commands.specs.Stages.{IsAcceptedProgram, RefusesTree, RefusesPr
 use Rattle.bril_commands.specs.Table.{command, Keeps, KeepsPasses}
 use Rattle.bril_words.specs.declared.request.Action.{Action}
 use Rattle.pass_law.specs.Chains.{Ran}
-use Rattle.import_linker.specs.Linked.{Linked}
 use Rattle.import_linker.specs.declared.fault.LinkFault.{LinkFault}
 use Rattle.import_linker.specs.declared.fault.LinkFault.TheVariants as fault
 
@@ -147,14 +146,14 @@ module _ (c : Call) (asks : Asks c.words) (keeps : KeepsPasses c.passes.meaning 
   module _ (tree : Tree) where
     -- ---- the tree's program was asked for
 
-    module _ (linked : Linked c.files_before.holds asks.path tree) where
+    module _ (file : IsTreeAt (reach (command asks.action)) c.files_before.holds asks.path tree) where
       -- it has none that is accepted
       Answers-refused : NeedsProgram (command asks.action) → (how : Status) → Said how → RefusesProgram how tree → c.out_after ≡ c.out_before → AreUnused c.passes → Answers (status_number how) c
       Answers-refused needs (status.Misnamed fault) says refuses silent unused = record {
         asks = asks;
         because = inr (inr (inr (
           needs,
-          inl (record { tree = tree; linked = linked; fault = fault; only = refuses; unused = unused; alone = record { silent = silent; says = says } }),
+          inl (record { tree = tree; file = file; fault = fault; only = refuses; unused = unused; alone = record { silent = silent; says = says } }),
         )));
       }
       Answers-refused needs (status.Unaccepted p fault) says refuses silent unused = record {
@@ -163,7 +162,7 @@ module _ (c : Call) (asks : Asks c.words) (keeps : KeepsPasses c.passes.meaning 
           needs,
           inr (record {
             tree = tree;
-            linked = linked;
+            file = file;
             program = p;
             source = refuses.0;
             fault = fault;
@@ -177,8 +176,8 @@ module _ (c : Call) (asks : Asks c.words) (keeps : KeepsPasses c.passes.meaning 
       Answers-refused needs _ says refuses silent unused = absurd refuses
 
       module _ (p : Prog) (program : IsAcceptedProgram tree p) where
-        program_file : IsProgramOf c.files_before.holds asks.path p
-        program_file = record { tree = tree; linked = linked; only = program.only; accepted = program.sound.accepted }
+        program_file : IsProgramOf (reach (command asks.action)) c.files_before.holds asks.path p
+        program_file = record { tree = tree; file = file; only = program.only; accepted = program.sound.accepted }
 
         -- the arguments don't fit it
         misargued : GivesArguments (command asks.action) → (fault : ArgFault) → HasOnlyArgFault (main_types p) asks.args fault → Puts c.err_before (argument_pieces fault) c.err_after → c.out_after ≡ c.out_before → AreUnused c.passes → Answers 69 c
@@ -281,7 +280,7 @@ module _ (c : Call) (asks : Asks c.words) (keeps : KeepsPasses c.passes.meaning 
             → (Is : Outcome → Type 0) → Is (does.outcome (subject does c.passes p q makes values)) → ComesTo c asks Is
         comes_to p program values given q makes fits Is holds = subst (λ k. CommandComesTo k c asks.path asks.args Is) (sym is) (record {
           program = p;
-          file = program_file p program;
+          file = subst (λ k. IsProgramOf (reach k) c.files_before.holds asks.path p) is (program_file p program);
           values = values;
           given = given;
           made = q;
@@ -318,8 +317,8 @@ module _ (c : Call) (asks : Asks c.words) (keeps : KeepsPasses c.passes.meaning 
     Answers-tree (OnTree outcome) is at how told says =
         works_on outcome (λ Is holds. subst (λ k. CommandComesTo k c asks.path asks.args Is) (sym is) (record { tree = tree; file = at; is = holds })) (ap takes_passes is) how told says
     Answers-tree (OnProgram does) is at how told says =
-        ⊎_elim (λ refused. Answers-refused at (subst NeedsProgram (sym is) tt) how (plain told (status_pieces how) refused.1.0.0 says) refused.0 refused.1.0.1 refused.1.1)
-        (λ goes. Answers-program at does is goes.0 goes.1 how told says goes.2)
+        ⊎_elim (λ refused. Answers-refused (subst (λ k. IsTreeAt (reach k) c.files_before.holds asks.path tree) (sym is) at) (subst NeedsProgram (sym is) tt) how (plain told (status_pieces how) refused.1.0.0 says) refused.0 refused.1.0.1 refused.1.1)
+        (λ goes. Answers-program (subst (λ k. IsTreeAt (reach k) c.files_before.holds asks.path tree) (sym is) at) does is goes.0 goes.1 how told says goes.2)
 
 -- what each status says
 pub Answers-of : (c : Call) (asks : Asks c.words) (how : Status) → Ends c asks how → Answers (status_number how) c

@@ -130,7 +130,7 @@ module _ (c : Call) (asks : Asks c.words) (how : Status) (ends : Ends c asks how
     command_done (OnTree outcome) is have = tree_done (OnTree outcome) is outcome (λ h does. does) have
     command_done (OnProgram does) is have = λ p values numbered accepted spelled.
         let here : Spell does.arguments p asks.args values = subst (λ a. Spell does.arguments p a values) (same_args c asks how ends action reads) spelled in
-        with_program c asks how ends action (subst NeedsProgram (sym is) tt) reads tree (subst (λ k. HaveTree (reach k) c.files_before.holds reads.path tree) is have) _ p numbered (exhausted how _)
+        with_program c asks how ends action (subst NeedsProgram (sym is) tt) reads tree have _ p numbered (exhausted how _)
         (λ fault e none has. absurd (has.unaccepted accepted))
         (λ faultless goes. program_done does p values here
         (subst (λ k. DoesAccepted k how c.passes p asks.args ends.told c.out_before c.out_after) is goes))

@@ -23,7 +23,7 @@ use Rattle.bril_tree.specs.declared.program.Prog.{Prog}
 use Rattle.bril_tree.specs.declared.tree.Tree.{Tree}
 use Rattle.bril_words.specs.CommandLine.{Refusal, words_ask}
 use Rattle.bril_words.specs.declared.request.Action.{Action}
-use Rattle.import_linker.specs.Linked.{Linked}
+use Rattle.bril_words.specs.declared.request.Action.TheVariants as action
 use Rattle.import_linker.specs.declared.fault.LinkFault.{LinkFault}
 use Rattle.import_linker.specs.declared.fault.LinkFault.TheVariants.{Read, Bad, NotThere, Clash, TooManyFiles, TooManyBytes}
 use Rattle.pass_law.specs.Bounds.{capped}
@@ -34,7 +34,7 @@ use Rattle.bril_commands.specs.Call.{Call, SaysAlone, ReadsWell, UnlessMemory, C
 use Rattle.bril_commands.specs.Command.{Makes, NeedsProgram, GivesArguments, MakesImage, reach, takes_passes}
 use Rattle.bril_commands.specs.CommandLine.{Asks, AsksFor, AskNothing, IsToldOf}
 use Rattle.bril_commands.specs.PassList.{AreUnused, IsFirstUnknown, IsRefusedPass, IsCutOff}
-use Rattle.bril_commands.specs.Source.{RefusesFiles, HaveFault, LackFile, IsOnlyNameFault, IsOnlyProgram, HasOnlyCheckFault, IsProgramOf}
+use Rattle.bril_commands.specs.Source.{RefusesFiles, HaveFault, HaveTree, IsTreeAt, LackFile, IsOnlyNameFault, IsOnlyProgram, HasOnlyCheckFault, IsProgramOf}
 use Rattle.bril_commands.specs.Table.{command, KeepsPasses}
 use Rattle.bril_commands.specs.When.{DoneWhere}
 
@@ -104,17 +104,17 @@ pub record RepeatsFunction (c : Call) (asks : Asks c.words) : Type 0 where
   pub refused : FilesRefused c asks (Clash path name) (clash_pieces path name)
 
 -- 65: the command needs a program, and the tree of the linked files has a fault of a name, or a program that isn't accepted. No pass ran.
-pub record MisnamedTree (c : Call) (path : List ℕ) : Type 0 where
+pub record MisnamedTree (c : Call) (asks : Asks c.words) : Type 0 where
   pub tree : Tree
-  pub linked : Linked c.files_before.holds path tree
+  pub file : IsTreeAt (reach (command asks.action)) c.files_before.holds asks.path tree
   pub fault : NameFault
   pub only : IsOnlyNameFault tree fault
   pub unused : AreUnused c.passes
   pub alone : SaysAlone c (misnamed_pieces fault)
 
-pub record UnacceptedTree (c : Call) (path : List ℕ) : Type 0 where
+pub record UnacceptedTree (c : Call) (asks : Asks c.words) : Type 0 where
   pub tree : Tree
-  pub linked : Linked c.files_before.holds path tree
+  pub file : IsTreeAt (reach (command asks.action)) c.files_before.holds asks.path tree
   pub program : Prog
   pub source : IsOnlyProgram tree program
   pub fault : CheckFault
@@ -124,7 +124,7 @@ pub record UnacceptedTree (c : Call) (path : List ℕ) : Type 0 where
 
 pub record SourceRefused (c : Call) : Type 0 where
   pub asks : Asks c.words
-  pub because : MisreadFile c asks ⊎ (LacksFunction c asks ⊎ (RepeatsFunction c asks ⊎ (NeedsProgram (command asks.action) × (MisnamedTree c asks.path ⊎ UnacceptedTree c asks.path))))
+  pub because : MisreadFile c asks ⊎ (LacksFunction c asks ⊎ (RepeatsFunction c asks ⊎ (NeedsProgram (command asks.action) × (MisnamedTree c asks ⊎ UnacceptedTree c asks))))
 
 -- 66: the file at this path was not read: reading failed, or the files are told and lack it. Those before it were read. No pass ran.
 pub record CannotRead (c : Call) : Type 0 where
@@ -137,7 +137,7 @@ pub record CannotRead (c : Call) : Type 0 where
 pub record LongPass (c : Call) (asks : Asks c.words) : Type 0 where
   pub takes : takes_passes (command asks.action) ≡ true
   pub program : Prog
-  pub file : IsProgramOf c.files_before.holds asks.path program
+  pub file : IsProgramOf (reach (command asks.action)) c.files_before.holds asks.path program
   pub place : ℕ
   pub bound : ℕ
   pub refused : IsRefusedPass c.passes program place bound
@@ -159,7 +159,7 @@ pub record LongProgram (c : Call) (asks : Asks c.words) : Type 0 where
   pub limits : Limits
   pub makes : MakesImage (command asks.action) limits
   pub program : Prog
-  pub file : IsProgramOf c.files_before.holds asks.path program
+  pub file : IsProgramOf (reach (command asks.action)) c.files_before.holds asks.path program
   pub made : Prog
   pub by : Makes (takes_passes (command asks.action)) c.passes program made
   pub because : HasLongCode c made ⊎ HasLongStack c made limits
@@ -173,7 +173,7 @@ pub record Misargued (c : Call) : Type 0 where
   pub asks : Asks c.words
   pub gives : GivesArguments (command asks.action)
   pub program : Prog
-  pub file : IsProgramOf c.files_before.holds asks.path program
+  pub file : IsProgramOf (reach (command asks.action)) c.files_before.holds asks.path program
   pub fault : ArgFault
   pub only : HasOnlyArgFault (main_types program) asks.args fault
   pub unused : AreUnused c.passes
@@ -184,7 +184,7 @@ pub record UnknownPass (c : Call) : Type 0 where
   pub asks : Asks c.words
   pub takes : takes_passes (command asks.action) ≡ true
   pub program : Prog
-  pub file : IsProgramOf c.files_before.holds asks.path program
+  pub file : IsProgramOf (reach (command asks.action)) c.files_before.holds asks.path program
   pub place : ℕ
   pub unknown : IsFirstUnknown c.passes (Some place)
   pub unused : AreUnused c.passes
@@ -194,7 +194,7 @@ pub record UnknownPass (c : Call) : Type 0 where
 pub record ListBegan (c : Call) (asks : Asks c.words) : Type 0 where
   pub takes : takes_passes (command asks.action) ≡ true
   pub program : Prog
-  pub file : IsProgramOf c.files_before.holds asks.path program
+  pub file : IsProgramOf (reach (command asks.action)) c.files_before.holds asks.path program
   pub cut : IsCutOff c.passes program
 
 -- 71: memory ran out, perhaps while the words were read, and nothing was put but what the command may have put by then; for `run`
@@ -266,25 +266,29 @@ LackingWhere number c =
 -- The fault of the tree's names is told.
 abbrev pub MisnamedWhere : ℕ → Call → Type 0
 MisnamedWhere number c =
-    (action : Action) → NeedsProgram (command action) → (reads : ReadsWell c action) (tree : Tree) (fault : NameFault) → Linked c.files_before.holds reads.path tree → names.HasFault tree fault →
+    (action : Action) → NeedsProgram (command action) → (reads : ReadsWell c action) (tree : Tree) (fault : NameFault) → HaveTree (reach (command action)) c.files_before.holds reads.path tree → names.HasFault tree fault →
     UnlessMemory number ((number ≡ 65) × Puts c.err_before (misnamed_pieces fault) c.err_after)
 
 -- The checker's fault is told.
 abbrev pub UncheckedWhere : ℕ → Call → Type 0
 UncheckedWhere number c =
-    (action : Action) → NeedsProgram (command action) → (reads : ReadsWell c action) (tree : Tree) (program : Prog) (fault : CheckFault) → Linked c.files_before.holds reads.path tree → Numbered tree program →
+    (action : Action) → NeedsProgram (command action) → (reads : ReadsWell c action) (tree : Tree) (program : Prog) (fault : CheckFault) → HaveTree (reach (command action)) c.files_before.holds reads.path tree → Numbered tree program →
     checker.HasFault program fault → UnlessMemory number ((number ≡ 65) × Puts c.err_before (unaccepted_pieces program fault) c.err_after)
 
 -- Arguments that don't fit an accepted program are told.
 abbrev pub MisarguedWhere : ℕ → Call → Type 0
 MisarguedWhere number c =
-    (action : Action) → GivesArguments (command action) → (reads : ReadsWell c action) (tree : Tree) (program : Prog) (fault : ArgFault) → Linked c.files_before.holds reads.path tree → Numbered tree program →
+    (action : Action) → GivesArguments (command action) → (reads : ReadsWell c action) (tree : Tree) (program : Prog) (fault : ArgFault) → HaveTree (reach (command action)) c.files_before.holds reads.path tree → Numbered tree program →
     IsAccepted program → fault ≢ Memory → IsFaultOf (main_types program) reads.args fault →
     UnlessMemory number ((number ≡ 69) × Puts c.err_before (argument_pieces fault) c.err_after)
 
 -- The passes stay as they are where the words ask for a command that takes no list of them; else they mean the same.
 abbrev pub KeepsWhere : Call → Type 0
 KeepsWhere c = (action : Action) (path : List ℕ) (args : List (List ℕ)) → AsksFor c.words action path args → KeepsPasses c.passes.meaning action c.passes.before c.passes.after
+
+-- The demo's program is accepted.
+abbrev pub DemoAccepted : ℕ → Call → Type 0
+DemoAccepted number c = (functions : ℕ) (path : List ℕ) (args : List (List ℕ)) → functions ≤ 150 → AsksFor c.words (action.Demo functions) path args → number ≢ 65
 
 -- What the top call promises of its status.
 pub record Promises (status : ℕ) (c : Call) : Type 0 where
@@ -313,5 +317,6 @@ pub record Promises (status : ℕ) (c : Call) : Type 0 where
   pub lacking : LackingWhere status c
   pub long_files : LongFilesWhere status c
   pub many_files : ManyFilesWhere status c
+  pub demo : DemoAccepted status c
   -- what becomes of the passes
   pub keeps : KeepsWhere c

@@ -1,6 +1,6 @@
 -- What is seen of a call of the top call, and what it reads of its files.
 use Rattle.std.specs.Prelude.{ℕ, ◌≡◌, ◌⊎◌, List, [], ◌∷◌, ◌++◌, Option, Some, None}
-use Rattle.bril_outside.specs.Files.{FileMap, FilesSeen}
+use Rattle.bril_outside.specs.Files.{FilesSeen}
 use Rattle.bril_outside.specs.Sink.{SinkSeen, Rose}
 use Rattle.bril_report.specs.Lines.{fault_line}
 use Rattle.bril_report.specs.Puts.{Puts}
@@ -15,12 +15,12 @@ use Rattle.bril_words.specs.CommandLine.{words_ask}
 use Rattle.bril_words.specs.Names.{names_of}
 use Rattle.pass_law.specs.Meaning.{Meaning}
 use Rattle.pass_law.specs.declared.tally.Tally.{Tally}
-use Rattle.bril_commands.specs.Command.{Command, OnFile, OnTree, OnProgram, OfProgram, AreGiven, Makes, Fits}
+use Rattle.bril_commands.specs.Command.{Command, OnFile, OnTree, OnProgram, OfProgram, AreGiven, Makes, Fits, reach, reach_of}
 use Rattle.bril_commands.specs.CommandLine.{Asks, AsksFor, list_asked}
 use Rattle.bril_commands.specs.Driver.{subject}
 use Rattle.bril_commands.specs.Outcome.{Outcome}
 use Rattle.bril_commands.specs.PassList.{PassList, pass_list}
-use Rattle.bril_commands.specs.Source.{Reach, Alone, WithImports, IsProgramOf, IsTreeAt}
+use Rattle.bril_commands.specs.Source.{Reach, Alone, WithImports, AreTold, IsProgramOf, IsTreeAt}
 use Rattle.bril_commands.specs.Table.{command}
 
 -- What is seen of a call: its words, and its files, its two outputs and the passes that it was lent before and after it.
@@ -51,13 +51,12 @@ pub record SaysAlone (c : Call) (line : List (List ℕ)) : Type 0 where
   pub silent : c.out_after ≡ c.out_before
   pub says : Puts c.err_before line c.err_after
 
--- The words ask for this of files that are told, and no read of them failed.
+-- The words ask for this of files that are told, where it reads some, and no read of them failed.
 pub record ReadsWell (c : Call) (action : Action) : Type 0 where
   pub path : List ℕ
   pub args : List (List ℕ)
   pub asked : AsksFor c.words action path args
-  pub map : FileMap
-  pub told : c.files_before.holds ≡ Some map
+  pub told : AreTold (reach (command action)) c.files_before.holds
   pub sound : ¬ Rose c.files_before.faults c.files_after.faults
 
 -- this status, unless memory ran out
@@ -78,11 +77,11 @@ pub record TreeComesTo (reach : Reach) (outcome : Tree → Outcome) (c : Call) (
   pub file : IsTreeAt reach c.files_before.holds path tree
   pub is : Is (outcome tree)
 
--- The files are linked into an accepted program, the words spell its arguments, the list of passes makes a program of it that is
+-- The files are linked into an accepted program, or the demo is one, the words spell its arguments, the list of passes makes a program of it that is
 -- within the bounds of an image, each where the command asks for it, and this holds of what it comes to.
 pub record ProgramComesTo (does : OfProgram) (c : Call) (path : List ℕ) (args : List (List ℕ)) (Is : Outcome → Type 0) : Type 0 where
   pub program : Prog
-  pub file : IsProgramOf c.files_before.holds path program
+  pub file : IsProgramOf (reach_of does.origin) c.files_before.holds path program
   pub values : List Value
   pub given : AreGiven does.arguments program args values
   pub made : Prog

@@ -10,7 +10,7 @@ use Rattle.bril_commands.specs.Arguments.{AreOnlyValues, RefusesArgs}
 use Rattle.bril_commands.specs.Images.{RefusesImage}
 use Rattle.bril_commands.specs.Outcome.{Outcome}
 use Rattle.bril_commands.specs.PassList.{PassList, IsMade, RefusesList, AreFactorsOf}
-use Rattle.bril_commands.specs.Source.{Reach, Alone, WithImports}
+use Rattle.bril_commands.specs.Source.{Reach, Alone, WithImports, OfDemo}
 
 -- ---- the arguments
 
@@ -86,8 +86,20 @@ pub record Subject : Type 1 where
   pub IsFactor : ℕ → Type 0
   pub values : List Value
 
--- A command on the accepted program of its files.
+-- where a command has its program from
+pub data Origin : Type 0 where
+  -- the linked files
+  LinkedFiles : Origin
+  -- it makes the demo program of so many functions
+  Demo : (functions : ℕ) → Origin
+
+abbrev pub reach_of : Origin → Reach
+reach_of LinkedFiles = WithImports
+reach_of (Demo functions) = OfDemo functions
+
+-- A command on an accepted program.
 pub record OfProgram : Type 1 where
+  pub origin : Origin
   pub arguments : Arguments
   pub takes_passes : Bool
   pub emission : Emission
@@ -103,7 +115,7 @@ pub data Command : Type 1 where
 abbrev pub reach : Command → Reach
 reach (OnFile outcome) = Alone
 reach (OnTree outcome) = WithImports
-reach (OnProgram does) = WithImports
+reach (OnProgram does) = reach_of does.origin
 
 -- it needs the accepted program
 abbrev pub NeedsProgram : Command → Type 0

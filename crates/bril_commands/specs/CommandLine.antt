@@ -1,9 +1,9 @@
 -- What a command line asks for.
 use Rattle.std.specs.Prelude.{◌≡◌, ℕ, List, [], Result, Ok, Err}
-use Rattle.bril_words.specs.CommandLine.{Refusal, not_taken, bad_value, asked, words_ask}
+use Rattle.bril_words.specs.CommandLine.{Refusal, bad_functions, not_taken, bad_value, asked, words_ask}
 use Rattle.bril_report.specs.Lines.{misuse_line}
 use Rattle.bril_words.specs.Request.{Asked}
-use Rattle.bril_words.specs.declared.misuse.Misuse.TheVariants.{Value}
+use Rattle.bril_words.specs.declared.misuse.Misuse.TheVariants.{Functions, Value}
 use Rattle.bril_words.specs.declared.request.Action.{Action}
 
 -- the words ask for an action, the path of its file, and the arguments of the file's program
@@ -30,3 +30,4 @@ AskNothing words = (refusal : Refusal) × (words_ask words ≡ Err refusal)
 abbrev pub IsToldOf : Refusal → List ℕ → Type 0
 IsToldOf not_taken line = Unit {0}
 IsToldOf (bad_value setting) line = line ≡ misuse_line (Value setting)
+IsToldOf bad_functions line = line ≡ misuse_line Functions

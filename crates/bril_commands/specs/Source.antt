@@ -1,7 +1,8 @@
 -- The files of a command: the tree that they have, and the tree's program.
-use Rattle.std.specs.Prelude.{ℕ, ◌≡◌, ◌≤◌, List, length, Option}
+use Rattle.std.specs.Prelude.{ℕ, ◌≡◌, ◌≤◌, List, length, Option, Some}
 use Rattle.bril_checker.specs.Faults as checker
 use Rattle.bril_checker.specs.declared.fault.CheckFault.{CheckFault}
+use Rattle.bril_demo.specs.Demo.{demo_tree}
 use Rattle.bril_names.specs.Faults as names
 use Rattle.bril_names.specs.declared.fault.NameFault.{NameFault}
 use Rattle.bril_outside.specs.Files.{FileMap, FilesSeen, LacksFile, MayHold}
@@ -27,6 +28,8 @@ pub data Reach : Type 0 where
   Alone : Reach
   -- that one, and all that it imports, and that these import
   WithImports : Reach
+  -- none: it makes the demo program of so many functions
+  OfDemo : (functions : ℕ) → Reach
 
 -- The bytes at the path, which are those that the files hold where they tell it, are few enough, and read as this tree and no other.
 pub record IsFileTree (holds : Option FileMap) (path : List ℕ) (tree : Tree) : Type 0 where
@@ -35,17 +38,25 @@ pub record IsFileTree (holds : Option FileMap) (path : List ℕ) (tree : Tree) :
   pub short : length bytes ≤ most_bytes
   pub only : IsOnlyTree (format_of path) bytes tree
 
--- the tree is that of the files of a command with this path
+-- the tree is that of the files of a command with this path, or the demo's
 abbrev pub IsTreeAt : Reach → Option FileMap → List ℕ → Tree → Type 0
 IsTreeAt Alone holds path tree = IsFileTree holds path tree
 IsTreeAt WithImports holds path tree = Linked holds path tree
+IsTreeAt (OfDemo functions) holds path tree = tree ≡ demo_tree functions
 
 -- why they have none
 abbrev pub RefusesFiles : Reach → LinkFault → FilesSeen → FilesSeen → List ℕ → Type 0
 RefusesFiles Alone why before after path = RefusesSource why before after path most_bytes
 RefusesFiles WithImports why before after path = RefusesLink why before after path
+RefusesFiles (OfDemo functions) why before after path = why ≡ fault.Memory
 
 -- ---- the same where the files are told
+
+-- the files that a command reads are told
+abbrev pub AreTold : Reach → Option FileMap → Type 0
+AreTold Alone holds = (map : FileMap) × (holds ≡ Some map)
+AreTold WithImports holds = (map : FileMap) × (holds ≡ Some map)
+AreTold (OfDemo functions) holds = Unit {0}
 
 -- few enough bytes are at the path, and read as this tree
 pub record HoldsTree (holds : Option FileMap) (path : List ℕ) (tree : Tree) : Type 0 where
@@ -58,6 +69,7 @@ pub record HoldsTree (holds : Option FileMap) (path : List ℕ) (tree : Tree) : 
 abbrev pub HaveTree : Reach → Option FileMap → List ℕ → Tree → Type 0
 HaveTree Alone holds path tree = HoldsTree holds path tree
 HaveTree WithImports holds path tree = Linked holds path tree
+HaveTree (OfDemo functions) holds path tree = tree ≡ demo_tree functions
 
 -- few enough bytes are at the path, and have this fault
 pub record HoldsFault (holds : Option FileMap) (path : List ℕ) (why : ReadFault) : Type 0 where
@@ -75,11 +87,13 @@ FileHasFault why before after path = RefusesSource why before after path most_by
 abbrev pub HaveFault : Reach → LinkFault → FilesSeen → FilesSeen → List ℕ → Type 0
 HaveFault Alone why before after path = FileHasFault why before after path
 HaveFault WithImports why before after path = RefusesLink why before after path
+HaveFault (OfDemo functions) why before after path = ⊥
 
 -- the file at a path is the next to be read, by a command with this one
 abbrev pub IsNextFile : Reach → Option FileMap → (root path : List ℕ) → Type 0
 IsNextFile Alone holds root path = path ≡ root
 IsNextFile WithImports holds root path = (done : List Source) × StopsAt holds root path done
+IsNextFile (OfDemo functions) holds root path = ⊥
 
 -- The files are told; those before the one at a path were read, and it isn't there.
 pub record LackFile (reach : Reach) (holds : Option FileMap) (root path : List ℕ) : Type 0 where
@@ -106,9 +120,9 @@ pub record HasOnlyCheckFault (p : Prog) (why : CheckFault) : Type 0 where
   pub only : (other : CheckFault) → checker.HasFault p other → why ≡ other
   pub unaccepted : ¬ IsAccepted p
 
--- The files whose root is at the path are linked into a tree whose only program this is, which is accepted.
-pub record IsProgramOf (holds : Option FileMap) (path : List ℕ) (p : Prog) : Type 0 where
+-- The files of a command with this path have a tree whose only program this is, which is accepted.
+pub record IsProgramOf (reach : Reach) (holds : Option FileMap) (path : List ℕ) (p : Prog) : Type 0 where
   pub tree : Tree
-  pub linked : Linked holds path tree
+  pub file : IsTreeAt reach holds path tree
   pub only : IsOnlyProgram tree p
   pub accepted : IsAccepted p

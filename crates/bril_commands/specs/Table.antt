@@ -1,11 +1,12 @@
 -- The table of commands.
 use Rattle.std.specs.Prelude.{◌≡◌, Bool, true, false, List}
-use Rattle.bril_words.specs.declared.request.Action.TheVariants.{Run, Interpret, Emit, Passes, Check, Link, WriteText, WriteJson}
+use Rattle.bril_words.specs.declared.request.Action.TheVariants.{Run, Interpret, Emit, Passes, Check, Link, WriteText, WriteJson, Demo}
 use Rattle.bril_words.specs.declared.request.Action.{Action}
 use Rattle.pass_law.specs.Chains.{AllSame}
 use Rattle.pass_law.specs.Meaning.{Meaning}
 use Rattle.bril_commands.specs.Command.{Command, OnProgram, takes_passes}
 use Rattle.bril_commands.specs.commands.Check.{checks}
+use Rattle.bril_commands.specs.commands.Demo.{demonstrates}
 use Rattle.bril_commands.specs.commands.Emit.{emits_words}
 use Rattle.bril_commands.specs.commands.Interp.{interprets}
 use Rattle.bril_commands.specs.commands.Json.{writes_as_json}
@@ -24,6 +25,7 @@ command Check = OnProgram checks
 command Link = writes_linked
 command WriteText = writes_as_text
 command WriteJson = writes_as_json
+command (Demo functions) = OnProgram (demonstrates functions)
 
 -- passes are left as they are, or with what they mean where a list of them is taken
 abbrev pub Keeps : {B : Type 0} → (B → Meaning) → Bool → List B → List B → Type 0

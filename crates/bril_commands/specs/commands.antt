@@ -1,5 +1,6 @@
 -- What each command does, a value each.
 pub mod Check
+pub mod Demo
 pub mod Emit
 pub mod Interp
 pub mod Json

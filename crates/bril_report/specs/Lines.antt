@@ -13,7 +13,7 @@ use Rattle.bril_names.specs.declared.fault.NameFault.TheVariants as name
 use Rattle.bril_text.specs.declared.fault.TextFault.{TextFault}
 use Rattle.bril_text.specs.declared.fault.TextFault.TheVariants as text
 use Rattle.bril_words.specs.declared.misuse.Misuse.{Misuse}
-use Rattle.bril_words.specs.declared.misuse.Misuse.TheVariants.{Words, Value, Memory}
+use Rattle.bril_words.specs.declared.misuse.Misuse.TheVariants.{Words, Value, Functions, Memory}
 use Rattle.bril_words.specs.declared.options.Setting.TheVariants.{Passes, Frames, Cells, Steps}
 use Rattle.bril_report.specs.declared.report.FaultPlace.{FaultPlace}
 
@@ -115,4 +115,5 @@ misuse_line (Value Passes) = codes "usage: --passes\n"
 misuse_line (Value Frames) = codes "usage: --frames\n"
 misuse_line (Value Cells) = codes "usage: --cells\n"
 misuse_line (Value Steps) = codes "usage: --steps\n"
+misuse_line Functions = codes "usage: N\n"
 misuse_line Memory = codes "out of memory\n"

@@ -25,6 +25,7 @@ status_of (Err how) = how
 abbrev pub misuse_status : Misuse → Status
 misuse_status (misuse.Words text) = status.Misused (misuse.Words text)
 misuse_status (misuse.Value setting) = status.Misused (misuse.Value setting)
+misuse_status misuse.Functions = status.Misused misuse.Functions
 misuse_status misuse.Memory = status.OutOfMemory
 
 -- the status of a fault of reading and linking files

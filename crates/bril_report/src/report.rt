@@ -102,6 +102,7 @@ fn misuse_line(misuse: &Misuse) -> &[u8]
         Misuse::Value {
             setting: Setting::Steps,
         } => b"usage: --steps\n",
+        Misuse::Functions => b"usage: N\n",
         Misuse::Memory => b"out of memory\n",
     }
 }

@@ -46,6 +46,9 @@ impl From<Misuse> for Status {
             Misuse::Value { setting } => Status::Misused {
                 misuse: Misuse::Value { setting },
             },
+            Misuse::Functions => Status::Misused {
+                misuse: Misuse::Functions,
+            },
             Misuse::Memory => Status::OutOfMemory,
         }
     }

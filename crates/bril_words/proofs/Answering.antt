@@ -56,6 +56,7 @@ unfolding is_refused
 refused_by given e (misuse.Words text) has is =
     ap not (⊎_elim (λ (h : kind_of e ≡ _). absurd (is h)) (λ (h : IsAmong (kind_of e) (fault_of whole_app given)). some_among (kind_of e) (fault_of whole_app given) h) has)
 refused_by given e (misuse.Value setting) has is = is
+refused_by given e misuse.Functions has is = is
 refused_by given e misuse.Memory has is = tt
 
 -- ---- requests
@@ -64,6 +65,7 @@ pub answers_from : (asked : Result Asked Refusal) (r : Result Request Misuse) �
 answers_from asked (Ok request) e = sym e
 answers_from asked (Err (misuse.Words text)) e = sym e
 answers_from asked (Err (misuse.Value setting)) e = sym e
+answers_from asked (Err misuse.Functions) e = sym e
 answers_from asked (Err misuse.Memory) e = tt
 
 pub asks_when : (words given args : List Text) (rows : Option (Text × List Row)) → given ≡ given_words words → args ≡ arg_words words → is_refused given ≡ false
@@ -78,6 +80,7 @@ unfolding words_ask
 refused_asks words given (misuse.Words text) given_ refused =
     let here : is_refused (given_words words) ≡ true = ap is_refused (sym given_) ∙ refused in rw here refl
 refused_asks words given (misuse.Value setting) given_ refused = absurd refused
+refused_asks words given misuse.Functions given_ refused = absurd refused
 refused_asks words given misuse.Memory given_ refused = tt
 
 module _ {Z : Type 0} where

@@ -8,7 +8,7 @@ use Rattle.clap.specs.Facts.{explicit_source}
 use Rattle.clap.specs.Walk.{Row, Text, first_of, has_row}
 use Rattle.clap.specs.Takes.{is_given}
 use Rattle.bril_words.specs.declared.options.Operand.{Operand}
-use Rattle.bril_words.specs.declared.options.Operand.TheVariants.{File}
+use Rattle.bril_words.specs.declared.options.Operand.TheVariants.{File, Functions}
 use Rattle.bril_words.specs.Options.{option_name, flag_name, operand_id}
 use Rattle.bril_words.specs.Plain.{Piece, apart, joined, flag, operand, found_in, operands_in}
 use Rattle.bril_words.proofs.Defaults.{find_id}
@@ -55,6 +55,7 @@ or_right false b e = e
 
 same_operand : (o : Operand) → bytes_eq (operand_id o) (operand_id o) ≡ true
 same_operand File = refl
+same_operand Functions = refl
 
 -- each operand has a row
 pub operand_there : (os : List Operand) (ps : List Piece) (o : Operand) → In o os → length (operands_in ps) ≡ length os → has_row (operand_id o) (rows_in os ps) ≡ true

@@ -6,7 +6,7 @@ use Rattle.bril_words.specs.declared.options.Setting.TheVariants.{Passes, Frames
 use Rattle.bril_words.specs.declared.options.Flag.{Flag}
 use Rattle.bril_words.specs.declared.options.Flag.TheVariants.{Stats}
 use Rattle.bril_words.specs.declared.options.Operand.{Operand}
-use Rattle.bril_words.specs.declared.options.Operand.TheVariants.{File}
+use Rattle.bril_words.specs.declared.options.Operand.TheVariants.{File, Functions}
 use Rattle.bril_words.specs.Options.{option_name, flag_name, operand_id}
 use Rattle.bril_words.specs.Plain.{dashed}
 use Rattle.bril_words.proofs.Steps.{NamesOption}
@@ -38,15 +38,25 @@ option_apart File Passes = refl
 option_apart File Frames = refl
 option_apart File Cells = refl
 option_apart File Steps = refl
+option_apart Functions Passes = refl
+option_apart Functions Frames = refl
+option_apart Functions Cells = refl
+option_apart Functions Steps = refl
 
 pub operand_apart : (o : Operand) (x : Setting) → bytes_eq (option_name x) (operand_id o) ≡ false
 operand_apart File Passes = refl
 operand_apart File Frames = refl
 operand_apart File Cells = refl
 operand_apart File Steps = refl
+operand_apart Functions Passes = refl
+operand_apart Functions Frames = refl
+operand_apart Functions Cells = refl
+operand_apart Functions Steps = refl
 
 pub flag_apart : (o : Operand) (x : Flag) → bytes_eq (operand_id o) (flag_name x) ≡ false
 flag_apart File Stats = refl
+flag_apart Functions Stats = refl
 
 pub operand_of_flag : (o : Operand) (x : Flag) → bytes_eq (flag_name x) (operand_id o) ≡ false
 operand_of_flag File Stats = refl
+operand_of_flag Functions Stats = refl

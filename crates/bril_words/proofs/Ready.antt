@@ -57,6 +57,7 @@ ready subcommand.Check = record { name = refl; options = tt; flags = tt; operand
 ready subcommand.Link = record { name = refl; options = tt; flags = tt; operands = (record { by_index = refl; by_id = refl }, tt); harmless = refl; quiet = refl; others = λ id e. refl; check = λ rows given. rw given.0 refl }
 ready subcommand.WriteText = record { name = refl; options = tt; flags = tt; operands = (record { by_index = refl; by_id = refl }, tt); harmless = refl; quiet = refl; others = λ id e. refl; check = λ rows given. rw given.0 refl }
 ready subcommand.WriteJson = record { name = refl; options = tt; flags = tt; operands = (record { by_index = refl; by_id = refl }, tt); harmless = refl; quiet = refl; others = λ id e. refl; check = λ rows given. rw given.0 refl }
+ready subcommand.Demo = record { name = refl; options = tt; flags = tt; operands = (record { by_index = refl; by_id = refl }, tt); harmless = refl; quiet = refl; others = λ id e. refl; check = λ rows given. rw given.0 refl }
 
 -- ---- all commands
 
@@ -86,3 +87,4 @@ meets subcommand.Check = record { first = refl; free = refl; leaf = refl; defaul
 meets subcommand.Link = record { first = refl; free = refl; leaf = refl; defaults = refl; check = refl }
 meets subcommand.WriteText = record { first = refl; free = refl; leaf = refl; defaults = refl; check = refl }
 meets subcommand.WriteJson = record { first = refl; free = refl; leaf = refl; defaults = refl; check = refl }
+meets subcommand.Demo = record { first = refl; free = refl; leaf = refl; defaults = refl; check = refl }

@@ -10,12 +10,12 @@ use Rattle.clap.specs.declared.error.kind.ErrorKind.TheVariants as kind
 use Rattle.clap.specs.Walk.{first_of}
 use Rattle.clap.proofs.SimpleLemmas.{is_nil}
 use Rattle.bril_words.specs.App.{whole_app}
-use Rattle.bril_words.specs.CommandLine.{Refusal, or_bad, Texts, arg_words, given_words, is_refused, list_of, matched, matches_ask, not_taken, texts_ask, texts_found, value_of, words_ask}
+use Rattle.bril_words.specs.CommandLine.{Refusal, or_bad, or_bad_functions, Texts, arg_words, given_words, is_refused, list_of, matched, matches_ask, not_taken, texts_ask, texts_found, value_of, words_ask}
 use Rattle.bril_words.specs.Request.{Asked}
 use Rattle.bril_words.specs.Subcommands.{subcommand_named}
 use Rattle.bril_words.specs.declared.subcommands.Subcommand.{Subcommand}
 use Rattle.bril_words.specs.declared.subcommands.Subcommand.TheVariants as subcommand
-use Rattle.bril_words.specs.Defaults.{most_frames, most_cells, most_steps, default_frames, default_cells, default_steps}
+use Rattle.bril_words.specs.Defaults.{most_frames, most_functions, most_cells, most_steps, default_frames, default_cells, default_steps}
 use Rattle.bril_words.specs.declared.options.Setting.{Setting}
 use Rattle.bril_words.specs.declared.options.Setting.TheVariants.{Passes, Frames, Cells, Steps}
 use Rattle.bril_words.proofs.Pieces.{AllOf}
@@ -32,7 +32,7 @@ IsCommand s = (c : Subcommand) × (subcommand_named s.name ≡ Some c)
 whole_commands : AllOf IsCommand (built whole_app).subs
 unfolding whole_app
 whole_commands =
-    ((subcommand.Run, refl), ((subcommand.Interp, refl), ((subcommand.Passes, refl), ((subcommand.Emit, refl), ((subcommand.Check, refl), ((subcommand.Link, refl), ((subcommand.WriteText, refl), ((subcommand.WriteJson, refl), tt))))))))
+    ((subcommand.Run, refl), ((subcommand.Interp, refl), ((subcommand.Passes, refl), ((subcommand.Emit, refl), ((subcommand.Check, refl), ((subcommand.Link, refl), ((subcommand.WriteText, refl), ((subcommand.WriteJson, refl), ((subcommand.Demo, refl), tt)))))))))
 
 whole_wants : ((built whole_app).top.subcommand_required ≡ true) × ((built whole_app).top.arg_required_else_help ≡ false)
 unfolding whole_app
@@ -92,12 +92,17 @@ never : {X : Type 0} (setting : Setting) (o : Option X) (next : X → Result Ask
 never setting None next rest e = cc
 never setting (Some x) next rest e = rest x e
 
+never_functions : {X : Type 0} (o : Option X) (next : X → Result Asked Refusal) → ((x : X) → next x ≡ Err not_taken → ⊥) → or_bad_functions o next ≡ Err not_taken → ⊥
+never_functions None next rest e = cc
+never_functions (Some x) next rest e = rest x e
+
 texts_never : (c : Subcommand) (args : List Text) (t : Texts) → texts_ask c args t ≡ Err not_taken → ⊥
 texts_never c args t =
     never Passes (list_of t.passes) _ (λ list.
     never Frames (value_of most_frames default_frames t.frames) _ (λ frames.
     never Cells (value_of most_cells default_cells t.cells) _ (λ cells.
-    never Steps (value_of most_steps default_steps t.steps) _ (λ steps h. cc))))
+    never Steps (value_of most_steps default_steps t.steps) _ (λ steps.
+    never_functions (value_of most_functions 1 t.functions) _ (λ functions h. cc)))))
 
 asks_never : (args : List Text) (m : Text × List Row) (c : Subcommand) → subcommand_named m.0 ≡ Some c → matches_ask args (Some m) ≡ Err not_taken → ⊥
 asks_never args m c is e =

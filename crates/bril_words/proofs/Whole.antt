@@ -19,7 +19,7 @@ use Rattle.bril_words.specs.Request.{Asked}
 use Rattle.bril_words.specs.Options.{flag_name, operand_id, option_name}
 use Rattle.bril_words.specs.Subcommands.{has_args, name_of, operands_of, subcommand_named}
 use Rattle.bril_words.specs.declared.options.Operand.{Operand}
-use Rattle.bril_words.specs.declared.options.Operand.TheVariants.{File}
+use Rattle.bril_words.specs.declared.options.Operand.TheVariants.{File, Functions}
 use Rattle.bril_words.specs.declared.options.Setting.TheVariants.{Passes, Frames, Cells, Steps}
 use Rattle.bril_words.specs.declared.subcommands.Subcommand.{Subcommand}
 use Rattle.bril_words.specs.declared.subcommands.Subcommand.TheVariants as subcommand
@@ -141,6 +141,7 @@ operands_differ subcommand.Check = (tt, tt)
 operands_differ subcommand.Link = (tt, tt)
 operands_differ subcommand.WriteText = (tt, tt)
 operands_differ subcommand.WriteJson = (tt, tt)
+operands_differ subcommand.Demo = (tt, tt)
 
 takes_args_is : (c : Subcommand) → takes_args (name_of c) ≡ has_args c
 takes_args_is subcommand.Run = refl
@@ -151,6 +152,7 @@ takes_args_is subcommand.Check = refl
 takes_args_is subcommand.Link = refl
 takes_args_is subcommand.WriteText = refl
 takes_args_is subcommand.WriteJson = refl
+takes_args_is subcommand.Demo = refl
 
 named_is : (c : Subcommand) → subcommand_named (name_of c) ≡ Some c
 named_is subcommand.Run = refl
@@ -161,6 +163,7 @@ named_is subcommand.Check = refl
 named_is subcommand.Link = refl
 named_is subcommand.WriteText = refl
 named_is subcommand.WriteJson = refl
+named_is subcommand.Demo = refl
 
 -- ---- the cut
 
@@ -260,6 +263,7 @@ module _ (c : Subcommand) (ps : List Piece) (fit : FitPieces c ps) (once : are_d
       let frames_ = found (option_name Frames) refl in
       let cells_ = found (option_name Cells) refl in
       let steps_ = found (option_name Steps) refl in
+      let functions_ = found (operand_id Functions) refl in
       let stats_ = flag_is (ready_shape c) c (ready c) ps fit once (operands_differ c) count (flag_name Stats) in
       λ i. record {
         file = file_ i;
@@ -268,6 +272,7 @@ module _ (c : Subcommand) (ps : List Piece) (fit : FitPieces c ps) (once : are_d
         cells = cells_ i;
         steps = steps_ i;
         stats = stats_ i;
+        functions = functions_ i;
       }
 
   taken : (program : List ℕ) → is_refused (program ∷ name_of c ∷ written ps) ≡ false

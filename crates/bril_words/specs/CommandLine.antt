@@ -7,13 +7,13 @@ use Rattle.clap.specs.Faults.{fault_of}
 use Rattle.clap.specs.Simple.{subcommand_of}
 use Rattle.clap.specs.Walk.{Row, Text, first_of, is_empty}
 use Rattle.bril_words.specs.App.{whole_app}
-use Rattle.bril_words.specs.Defaults.{most_frames, most_cells, most_steps, default_frames, default_cells, default_steps}
+use Rattle.bril_words.specs.Defaults.{most_frames, most_cells, most_functions, most_steps, default_frames, default_cells, default_steps}
 use Rattle.bril_words.specs.Names.{has_few_names}
 use Rattle.bril_words.specs.Options.{option_name, flag_name, operand_id}
 use Rattle.bril_words.specs.Request.{Asked}
 use Rattle.bril_words.specs.Subcommands.{has_args, subcommand_named}
 use Rattle.bril_words.specs.declared.options.Flag.TheVariants.{Stats}
-use Rattle.bril_words.specs.declared.options.Operand.TheVariants.{File}
+use Rattle.bril_words.specs.declared.options.Operand.TheVariants.{File, Functions}
 use Rattle.bril_words.specs.declared.options.Setting.{Setting}
 use Rattle.bril_words.specs.declared.options.Setting.TheVariants.{Passes, Frames, Cells, Steps}
 use Rattle.bril_words.specs.declared.request.Action.{Action}
@@ -76,6 +76,7 @@ pub record Texts : Type 0 where
   pub cells : Option (List ℕ)
   pub steps : Option (List ℕ)
   pub stats : Bool
+  pub functions : Option (List ℕ)
 
 -- the texts, by what is found under each name
 abbrev pub texts_found : (List ℕ → Option (List ℕ)) → Texts
@@ -86,12 +87,14 @@ texts_found get = record {
   cells = get (option_name Cells);
   steps = get (option_name Steps);
   stats = is_true (get (flag_name Stats));
+  functions = get (operand_id Functions);
 }
 
--- why words ask for nothing: they aren't taken, or the value of an option fails
+-- why words ask for nothing: they aren't taken, or the value of an option fails, or the number of functions
 pub data Refusal : Type 0 where
   not_taken : Refusal
   bad_value : Setting → Refusal
+  bad_functions : Refusal
 
 -- what a command does with these numbers
 abbrev pub action_of : Subcommand → Numbers → Action
@@ -103,6 +106,12 @@ action_of subcommand.Check n = action.Check
 action_of subcommand.Link n = action.Link
 action_of subcommand.WriteText n = action.WriteText
 action_of subcommand.WriteJson n = action.WriteJson
+action_of subcommand.Demo n = action.Demo n.functions
+
+-- the list of passes that a command applies: the demo has one of its own
+abbrev pub list_for : Subcommand → List ℕ → List ℕ
+list_for subcommand.Demo list = codes "const,dead,tidy"
+list_for _ list = list
 
 -- an action on the file at a path, with this list of passes and these arguments
 abbrev pub asked : Action → List ℕ → List ℕ → List (List ℕ) → Result Asked Refusal
@@ -113,6 +122,10 @@ abbrev pub or_bad : {X : Type 0} → Setting → Option X → (X → Result Aske
 or_bad setting None next = Err (bad_value setting)
 or_bad setting (Some x) next = next x
 
+abbrev pub or_bad_functions : {X : Type 0} → Option X → (X → Result Asked Refusal) → Result Asked Refusal
+or_bad_functions None next = Err bad_functions
+or_bad_functions (Some x) next = next x
+
 -- What the texts ask for; the first value that fails, in this order, is the refusal.
 abbrev pub texts_ask : Subcommand → List (List ℕ) → Texts → Result Asked Refusal
 texts_ask c args t =
@@ -120,7 +133,8 @@ texts_ask c args t =
     or_bad Frames (value_of most_frames default_frames t.frames) (λ frames.
     or_bad Cells (value_of most_cells default_cells t.cells) (λ cells.
     or_bad Steps (value_of most_steps default_steps t.steps) (λ steps.
-    asked (action_of c (record { frames = frames; cells = cells; steps = steps; stats = t.stats })) (unwrap_or t.file []) list args))))
+    or_bad_functions (value_of most_functions 1 t.functions) (λ functions.
+    asked (action_of c (record { frames = frames; cells = cells; steps = steps; stats = t.stats; functions = functions })) (unwrap_or t.file []) (list_for c list) args)))))
 
 -- ---- what the matches of `clap` ask for
 

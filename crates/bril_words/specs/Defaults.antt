@@ -10,6 +10,10 @@ most_cells = 4194304
 abbrev pub most_steps : ℕ
 most_steps = 1000000000000
 
+-- the most functions of the demo program
+abbrev pub most_functions : ℕ
+most_functions = 150
+
 abbrev pub default_frames : ℕ
 default_frames = 8192
 

@@ -5,7 +5,7 @@ use Rattle.bril_words.specs.declared.options.Setting.TheVariants.{Passes, Frames
 use Rattle.bril_words.specs.declared.options.Flag.{Flag}
 use Rattle.bril_words.specs.declared.options.Flag.TheVariants.{Stats}
 use Rattle.bril_words.specs.declared.options.Operand.{Operand}
-use Rattle.bril_words.specs.declared.options.Operand.TheVariants.{File}
+use Rattle.bril_words.specs.declared.options.Operand.TheVariants.{File, Functions}
 
 -- the name of an option, under which its value is kept
 abbrev pub option_name : Setting → List ℕ
@@ -21,3 +21,4 @@ flag_name Stats = codes "stats"
 -- the id under which an operand's word is kept
 abbrev pub operand_id : Operand → List ℕ
 operand_id File = codes "file"
+operand_id Functions = codes "functions"

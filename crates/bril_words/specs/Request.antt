@@ -1,9 +1,9 @@
 -- What words ask for.
 use Rattle.std.specs.Prelude.{ℕ, ◌≤◌, List}
 use Rattle.bril_words.specs.declared.request.Action.{Action}
-use Rattle.bril_words.specs.declared.request.Action.TheVariants.{Run, Interpret, Emit, Passes, Check, Link, WriteText, WriteJson}
+use Rattle.bril_words.specs.declared.request.Action.TheVariants.{Run, Interpret, Emit, Passes, Check, Link, WriteText, WriteJson, Demo}
 
--- an action, the path of its file, the list of passes, and the arguments of the file's program
+-- an action, the path of its file, empty where it has none, the list of passes, and the arguments of the file's program
 pub record Asked : Type 0 where
   pub action : Action
   pub path : List ℕ
@@ -23,6 +23,10 @@ pub record AreFrames (frames : ℕ) : Type 0 where
   pub some : 1 ≤ frames
   pub few : frames ≤ 65536
 
+pub record AreFunctions (functions : ℕ) : Type 0 where
+  pub some : 1 ≤ functions
+  pub few : functions ≤ 150
+
 abbrev pub IsActionInRange : Action → Type 0
 IsActionInRange (Run frames cells steps stats) = AreLimits frames cells steps
 IsActionInRange (Interpret frames cells steps) = AreLimits frames cells steps
@@ -32,3 +36,4 @@ IsActionInRange Check = Unit {0}
 IsActionInRange Link = Unit {0}
 IsActionInRange WriteText = Unit {0}
 IsActionInRange WriteJson = Unit {0}
+IsActionInRange (Demo functions) = AreFunctions functions

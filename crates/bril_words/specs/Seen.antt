@@ -2,7 +2,7 @@
 use denote.Ref.{Bor}
 use Rattle.std.specs.Prelude.{ℕ, List, Option}
 use Rattle.std.specs.Option.{option_map}
-use Rattle.bril_words.specs.CommandLine.{Refusal, not_taken, bad_value}
+use Rattle.bril_words.specs.CommandLine.{bad_functions, Refusal, not_taken, bad_value}
 use Rattle.bril_words.specs.Request.{Asked}
 use Rattle.bril_words.specs.declared.misuse.Misuse.{Misuse}
 use Rattle.bril_words.specs.declared.misuse.Misuse.TheVariants as misuse
@@ -14,6 +14,7 @@ request_seen r = record { action = r.action; path = r.path.now; list = r.list.no
 abbrev pub misuse_seen : Misuse → Refusal
 misuse_seen (misuse.Words text) = not_taken
 misuse_seen (misuse.Value setting) = bad_value setting
+misuse_seen misuse.Functions = bad_functions
 misuse_seen misuse.Memory = not_taken
 
 abbrev pub text_seen : Option (Bor (List ℕ)) → Option (List ℕ)

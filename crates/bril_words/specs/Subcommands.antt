@@ -3,14 +3,14 @@ use Rattle.std.specs.Prelude.{ℕ, Bool, true, false, List, [], ◌∷◌, Optio
 use Rattle.bril_words.specs.declared.options.Flag.{Flag}
 use Rattle.bril_words.specs.declared.options.Flag.TheVariants.{Stats}
 use Rattle.bril_words.specs.declared.options.Operand.{Operand}
-use Rattle.bril_words.specs.declared.options.Operand.TheVariants.{File}
+use Rattle.bril_words.specs.declared.options.Operand.TheVariants.{File, Functions}
 use Rattle.bril_words.specs.declared.options.Setting.{Setting}
 use Rattle.bril_words.specs.declared.options.Setting.TheVariants.{Passes, Frames, Cells, Steps}
 use Rattle.bril_words.specs.declared.subcommands.Subcommand.{Subcommand}
 use Rattle.bril_words.specs.declared.subcommands.Subcommand.TheVariants as subcommand
 
 abbrev pub subcommands : List Subcommand
-subcommands = subcommand.Run ∷ subcommand.Interp ∷ subcommand.Passes ∷ subcommand.Emit ∷ subcommand.Check ∷ subcommand.Link ∷ subcommand.WriteText ∷ subcommand.WriteJson ∷ []
+subcommands = subcommand.Run ∷ subcommand.Interp ∷ subcommand.Passes ∷ subcommand.Emit ∷ subcommand.Check ∷ subcommand.Link ∷ subcommand.WriteText ∷ subcommand.WriteJson ∷ subcommand.Demo ∷ []
 
 -- the word of a command
 abbrev pub name_of : Subcommand → List ℕ
@@ -22,6 +22,7 @@ name_of subcommand.Check = codes "check"
 name_of subcommand.Link = codes "link"
 name_of subcommand.WriteText = codes "text"
 name_of subcommand.WriteJson = codes "json"
+name_of subcommand.Demo = codes "demo"
 
 -- the command of a word
 abbrev pub subcommand_named : List ℕ → Option Subcommand
@@ -33,7 +34,8 @@ subcommand_named word =
     else (if bytes_eq word (codes "check") then Some subcommand.Check
     else (if bytes_eq word (codes "link") then Some subcommand.Link
     else (if bytes_eq word (codes "text") then Some subcommand.WriteText
-    else (if bytes_eq word (codes "json") then Some subcommand.WriteJson else None)))))))
+    else (if bytes_eq word (codes "json") then Some subcommand.WriteJson
+    else (if bytes_eq word (codes "demo") then Some subcommand.Demo else None))))))))
 
 -- the options with a value that a command takes
 abbrev pub options_of : Subcommand → List Setting
@@ -45,6 +47,7 @@ options_of subcommand.Check = []
 options_of subcommand.Link = []
 options_of subcommand.WriteText = []
 options_of subcommand.WriteJson = []
+options_of subcommand.Demo = []
 
 -- the flags that it takes
 abbrev pub flags_of : Subcommand → List Flag
@@ -56,6 +59,7 @@ flags_of subcommand.Check = []
 flags_of subcommand.Link = []
 flags_of subcommand.WriteText = []
 flags_of subcommand.WriteJson = []
+flags_of subcommand.Demo = []
 
 -- the words that it wants by themselves, in their order
 abbrev pub operands_of : Subcommand → List Operand
@@ -67,6 +71,7 @@ operands_of subcommand.Check = File ∷ []
 operands_of subcommand.Link = File ∷ []
 operands_of subcommand.WriteText = File ∷ []
 operands_of subcommand.WriteJson = File ∷ []
+operands_of subcommand.Demo = Functions ∷ []
 
 -- it takes `--` and the arguments of a program
 abbrev pub has_args : Subcommand → Bool
@@ -78,3 +83,4 @@ has_args subcommand.Check = false
 has_args subcommand.Link = false
 has_args subcommand.WriteText = false
 has_args subcommand.WriteJson = false
+has_args subcommand.Demo = false

@@ -72,7 +72,8 @@ fn with_help<'a>(command: Command<'a>, subcommand: Subcommand) -> Command<'a>
         | Subcommand::Check
         | Subcommand::Link
         | Subcommand::WriteText
-        | Subcommand::WriteJson => command,
+        | Subcommand::WriteJson
+        | Subcommand::Demo => command,
     }
 }
 

@@ -13,6 +13,8 @@ pub enum Misuse {
     Words { text: String },
     /// The option's value is no number or out of its range, or names too many passes.
     Value { setting: Setting },
+    /// The number of functions of the demo program is no number, or isn't from 1 to 150.
+    Functions,
     /// Memory was wanting.
     Memory,
 }

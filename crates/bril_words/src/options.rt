@@ -80,6 +80,8 @@ impl Flag {
 pub(crate) enum Operand {
     // FILE: the path of a file.
     File,
+    // N: how many functions the demo program has.
+    Functions,
 }
 
 impl Operand {
@@ -89,6 +91,7 @@ impl Operand {
     {
         match self {
             Operand::File => "file",
+            Operand::Functions => "functions",
         }
     }
 
@@ -96,6 +99,7 @@ impl Operand {
     pub(crate) fn value_name<'a>(self) -> &'a str {
         match self {
             Operand::File => "FILE",
+            Operand::Functions => "N",
         }
     }
 
@@ -103,6 +107,7 @@ impl Operand {
     pub(crate) fn help<'a>(self) -> &'a str {
         match self {
             Operand::File => "Bril program: JSON where the name ends in .json, else text",
+            Operand::Functions => "Functions of the demo program beside main, 1 to 150",
         }
     }
 }

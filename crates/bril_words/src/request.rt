@@ -29,13 +29,17 @@ pub enum Action {
     Check,
     /// Writes its program and all that this imports as one tree, in canonical text.
     Link,
+    /// Makes the demo program of so many functions, compiles it and runs it, and writes how that went. It has no file.
+    Demo {
+        functions: u32,
+    },
     /// Writes its canonical text.
     WriteText,
     /// Writes its canonical JSON.
     WriteJson,
 }
 
-/// An action, the path of its file, the list of passes, and the arguments of the file's program.
+/// An action, the path of its file, empty where it has none, the list of passes, and the arguments of the file's program.
 #[derive(Clone, Copy, Drop)]
 pub struct Request<'a> {
     pub action: Action,

@@ -16,10 +16,11 @@ pub(crate) enum Subcommand {
     Link,
     WriteText,
     WriteJson,
+    Demo,
 }
 
 // All commands, in the order in which help lists them.
-pub(crate) const SUBCOMMANDS: [Subcommand; 8] = [
+pub(crate) const SUBCOMMANDS: [Subcommand; 9] = [
     Subcommand::Run,
     Subcommand::Interp,
     Subcommand::Passes,
@@ -28,6 +29,7 @@ pub(crate) const SUBCOMMANDS: [Subcommand; 8] = [
     Subcommand::Link,
     Subcommand::WriteText,
     Subcommand::WriteJson,
+    Subcommand::Demo,
 ];
 
 static OF_RUN: [Setting; 4] = [
@@ -51,6 +53,8 @@ static NO_FLAGS: [Flag; 0] = [];
 
 static FILE: [Operand; 1] = [Operand::File];
 
+static FUNCTIONS: [Operand; 1] = [Operand::Functions];
+
 impl Subcommand {
     // Its word.
     pub(crate) fn name<'a>(self) -> &'a str
@@ -65,6 +69,7 @@ impl Subcommand {
             Subcommand::Link => "link",
             Subcommand::WriteText => "text",
             Subcommand::WriteJson => "json",
+            Subcommand::Demo => "demo",
         }
     }
 
@@ -77,8 +82,11 @@ impl Subcommand {
             Subcommand::Interp => OF_INTERP.as_slice(),
             Subcommand::Passes => OF_PASSES.as_slice(),
             Subcommand::Emit => OF_EMIT.as_slice(),
-            Subcommand::Check | Subcommand::Link | Subcommand::WriteText | Subcommand::WriteJson =>
-                NO_OPTIONS.as_slice(),
+            Subcommand::Check
+            | Subcommand::Link
+            | Subcommand::WriteText
+            | Subcommand::WriteJson
+            | Subcommand::Demo => NO_OPTIONS.as_slice(),
         }
     }
 
@@ -94,7 +102,8 @@ impl Subcommand {
             | Subcommand::Check
             | Subcommand::Link
             | Subcommand::WriteText
-            | Subcommand::WriteJson => NO_FLAGS.as_slice(),
+            | Subcommand::WriteJson
+            | Subcommand::Demo => NO_FLAGS.as_slice(),
         }
     }
 
@@ -111,6 +120,7 @@ impl Subcommand {
             | Subcommand::Link
             | Subcommand::WriteText
             | Subcommand::WriteJson => FILE.as_slice(),
+            Subcommand::Demo => FUNCTIONS.as_slice(),
         }
     }
 
@@ -132,6 +142,7 @@ impl Subcommand {
             Subcommand::Link => "Link a program with its imports and write it as text",
             Subcommand::WriteText => "Write a file in the canonical text form",
             Subcommand::WriteJson => "Write a file in the canonical JSON form",
+            Subcommand::Demo => "Make a program, compile it and run it",
         }
     }
 
@@ -151,6 +162,7 @@ impl Subcommand {
             Subcommand::Link => "Example: roolvist link examples/imports.bril",
             Subcommand::WriteText => "Example: roolvist text examples/one.json",
             Subcommand::WriteJson => "Example: roolvist json examples/fibonacci.bril",
+            Subcommand::Demo => "Example: roolvist demo 150",
         }
     }
 }
@@ -168,6 +180,7 @@ pub(crate) fn subcommand_named(word: &str) -> Option<Subcommand>
         "link" => Some(Subcommand::Link),
         "text" => Some(Subcommand::WriteText),
         "json" => Some(Subcommand::WriteJson),
+        "demo" => Some(Subcommand::Demo),
         _ => None,
     }
 }

@@ -5,10 +5,10 @@ ghost use Rattle.std.specs.Option.{option_map};
 ghost use Rattle.std.specs.Result.{result_map_both};
 ghost use Rattle.clap.specs.Matches.{found_of};
 ghost use Rattle.clap.specs.Walk.{first_of, rows_of};
-ghost use Rattle.bril_words.specs.CommandLine.{action_of, in_range, is_true, list_of, texts_ask, texts_found, value_of};
+ghost use Rattle.bril_words.specs.CommandLine.{action_of, in_range, is_true, list_for, list_of, texts_ask, texts_found, value_of};
 ghost use Rattle.bril_words.specs.Names.{names_of};
 ghost use Rattle.bril_words.specs.Options.{option_name};
-ghost use Rattle.bril_words.specs.Request.{AreLimits, IsActionInRange};
+ghost use Rattle.bril_words.specs.Request.{AreFunctions, AreLimits, IsActionInRange};
 ghost use Rattle.bril_words.specs.Seen.{misuse_seen, request_seen, text_seen};
 ghost use Rattle.bril_words.specs.declared.misuse.Misuse.TheVariants.{Value};
 
@@ -28,6 +28,9 @@ const MOST_CELLS: u64 = 4_194_304;
 
 const MOST_STEPS: u64 = 1_000_000_000_000;
 
+// The most functions of the demo program.
+const MOST_FUNCTIONS: u64 = 150;
+
 /// The frames that a run has at most, where no option says otherwise.
 pub const FRAMES: u32 = 8_192;
 
@@ -37,6 +40,9 @@ pub const CELLS: u32 = 1_048_576;
 /// The steps that a run makes at most, where no option says otherwise.
 pub const STEPS: u64 = 1_000_000_000;
 
+// The passes of the demo.
+const DEMO_PASSES: &str = "const,dead,tidy";
+
 // The numbers of a run, and whether its counts are told.
 #[derive(Clone, Copy, Drop)]
 pub(crate) struct Numbers {
@@ -44,13 +50,14 @@ pub(crate) struct Numbers {
     pub(crate) cells: u32,
     pub(crate) steps: u64,
     pub(crate) stats: bool,
+    pub(crate) functions: u32,
 }
 
 // What a command asks for, with what `clap` found for it and these arguments: its list of passes and its numbers, each what it is
 // by default where its option doesn't stand.
 //
 // `Value`: the first of passes, frames, cells and steps whose value has more than 64 names, is no number as `bril_nums::read_int`
-// reads it, or is out of its range.
+// reads it, or is out of its range. `Functions`: these are as they should be, and the number of functions isn't.
 pub(crate) fn read_found<'a>(
     subcommand: Subcommand,
     found: &ArgMatches<'a>,
@@ -68,16 +75,20 @@ pub(crate) fn read_found<'a>(
         Setting::Cells,
     ))?;
     let steps = value_of(found, Setting::Steps, MOST_STEPS, STEPS).ok_or(faulty(Setting::Steps))?;
+    let functions = number_of(found_text(found, Operand::Functions.id()), MOST_FUNCTIONS, 1).ok_or(
+        Misuse::Functions,
+    )?;
     let numbers = Numbers {
         frames: frames as u32,
         cells: cells as u32,
         steps,
         stats: is_true(found_text(found, Flag::Stats.name())),
+        functions: functions as u32,
     };
     Ok(Request {
         action: action_of(subcommand, numbers),
         path: found_text(found, Operand::File.id()).unwrap_or(""),
-        list,
+        list: list_for(subcommand, list),
         args,
     })
 }
@@ -98,7 +109,8 @@ fn found_text<'a>(found: &ArgMatches<'a>, id: &str) -> Option<&'a str>
 
 // The action of a command with these numbers.
 fn action_of(subcommand: Subcommand, numbers: Numbers) -> Action
-    requires { AreLimits numbers.frames numbers.cells numbers.steps }
+    requires limits { AreLimits numbers.frames numbers.cells numbers.steps }
+    requires functions { AreFunctions numbers.functions }
     ensures is { result ≡ action_of subcommand numbers }
     ensures range { IsActionInRange result }
 {
@@ -122,6 +134,21 @@ fn action_of(subcommand: Subcommand, numbers: Numbers) -> Action
         Subcommand::Link => Action::Link,
         Subcommand::WriteText => Action::WriteText,
         Subcommand::WriteJson => Action::WriteJson,
+        Subcommand::Demo => Action::Demo {
+            functions: numbers.functions,
+        },
+    }
+}
+
+// The list of passes that a command applies: the demo has one of its own.
+fn list_for<'a>(subcommand: Subcommand, list: &'a str) -> &'a str
+    requires { length (names_of list.now) ≤ 64 }
+    ensures is { result.now ≡ list_for subcommand list.now }
+    ensures few { length (names_of result.now) ≤ 64 }
+{
+    match subcommand {
+        Subcommand::Demo => DEMO_PASSES,
+        _ => list,
     }
 }
 
@@ -145,7 +172,18 @@ fn value_of(found: &ArgMatches<'_>, setting: Setting, most: u64, default: u64) -
     ensures low { IfSome result (λ n. 1 ≤ n) }
     ensures high { IfSome result (λ n. n ≤ most) }
 {
-    match found_text(found, setting.name()) {
+    number_of(found_text(found, setting.name()), most, default)
+}
+
+// The number that a text spells, or what it is where there is none.
+fn number_of(text: Option<&str>, most: u64, default: u64) -> Option<u64>
+    requires low { 1 ≤ default }
+    requires high { default ≤ most }
+    ensures value { result ≡ value_of most default (text_seen text.entry) }
+    ensures low { IfSome result (λ n. 1 ≤ n) }
+    ensures high { IfSome result (λ n. n ≤ most) }
+{
+    match text {
         None => Some(default),
         Some(text) => in_range(most, read_int(text.as_bytes())),
     }

@@ -6,6 +6,8 @@
 #[cfg(test)]
 mod adapters;
 #[cfg(test)]
+mod demos;
+#[cfg(test)]
 mod laws;
 #[cfg(test)]
 mod lists;

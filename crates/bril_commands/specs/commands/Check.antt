@@ -3,7 +3,7 @@ use Rattle.std.specs.Fmt.{decimal}
 use Rattle.std.specs.Prelude.{ℕ, false, List, ◌++◌, length, codes}
 use Rattle.bril_tree.specs.Size.{item_count}
 use Rattle.bril_tree.specs.declared.program.Prog.{Prog}
-use Rattle.bril_commands.specs.Command.{OfProgram, NoArguments, NoImage}
+use Rattle.bril_commands.specs.Command.{LinkedFiles, OfProgram, NoArguments, NoImage}
 use Rattle.bril_commands.specs.Outcome.{writes_text}
 
 -- the line of an accepted program: how many functions and items it has
@@ -12,4 +12,4 @@ accepted_line p = codes "ok " ++ decimal (length p.funcs) ++ codes " " ++ decima
 
 -- The line of the accepted program is written.
 abbrev pub checks : OfProgram
-checks = record { arguments = NoArguments; takes_passes = false; emission = NoImage; outcome = λ on. writes_text (accepted_line on.source) }
+checks = record { origin = LinkedFiles; arguments = NoArguments; takes_passes = false; emission = NoImage; outcome = λ on. writes_text (accepted_line on.source) }

@@ -5,7 +5,7 @@ use Rattle.bril_tree.specs.declared.program.Prog.{Prog}
 use Rattle.bril_words.specs.Defaults.{default_cells}
 use Rattle.rv64_implements.specs.Implements.{Implements}
 use Rattle.rv64_words.specs.declared.image.Image.{Image}
-use Rattle.bril_commands.specs.Command.{OfProgram, NoArguments, ImageFor, AreLimitsOf}
+use Rattle.bril_commands.specs.Command.{LinkedFiles, OfProgram, NoArguments, ImageFor, AreLimitsOf}
 use Rattle.bril_commands.specs.Outcome.{writes}
 
 -- ---- the text of words
@@ -41,6 +41,7 @@ pub record ShowsImage (shows : Image → List (List ℕ)) (q : Prog) (frames cel
 -- The image of the program that the list makes, for limits of so many frames and cells, is written as `shows` has it.
 abbrev pub emits : (Image → List (List ℕ)) → (frames cells : ℕ) → OfProgram
 emits shows frames cells = record {
+  origin = LinkedFiles;
   arguments = NoArguments;
   takes_passes = true;
   emission = ImageFor frames cells;

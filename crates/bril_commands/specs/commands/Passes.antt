@@ -4,7 +4,7 @@ use Rattle.bril_text.specs.Canonical.{canonical_text}
 use Rattle.bril_tree.specs.Numbered.{Numbered}
 use Rattle.bril_tree.specs.declared.program.Prog.{Prog}
 use Rattle.bril_tree.specs.declared.tree.Tree.{Tree}
-use Rattle.bril_commands.specs.Command.{OfProgram, NoArguments, NoImage}
+use Rattle.bril_commands.specs.Command.{LinkedFiles, OfProgram, NoArguments, NoImage}
 use Rattle.bril_commands.specs.Outcome.{writes}
 use Rattle.bril_commands.specs.PassList.{tallies_told}
 
@@ -22,4 +22,4 @@ pub record PutsTextOf (q : Prog) (output : List (List ℕ)) : Type 0 where
 
 -- The text of the program that the list makes is written, and the tallies of the passes that it used are told.
 abbrev pub transforms : OfProgram
-transforms = record { arguments = NoArguments; takes_passes = true; emission = NoImage; outcome = λ on. writes (tallies_told on.passes) (PutsTextOf on.made) }
+transforms = record { origin = LinkedFiles; arguments = NoArguments; takes_passes = true; emission = NoImage; outcome = λ on. writes (tallies_told on.passes) (PutsTextOf on.made) }

@@ -1,5 +1,5 @@
 -- The tree's accepted program was dealt with, or it has none.
-use Rattle.std.proofs.Common.{◌≡◌, [], ◌∷◌, inl, inr, refl, ⊎_elim}
+use Rattle.std.proofs.Common.{◌≡◌, [], ◌∷◌, inl, inr, refl, subst, ⊎_elim}
 use Rattle.std.proofs.lemmas.Result.{err_from_is_err_and}
 use Rattle.bril_report.proofs.Telling.{Tells-none}
 use Rattle.bril_report.specs.StageFaults.{status_of}
@@ -10,6 +10,11 @@ use Rattle.bril_commands.specs.Command.{takes_passes}
 use Rattle.bril_commands.specs.Table.{command}
 use Rattle.bril_commands.specs.commands.Check.{accepted_line}
 use Rattle.bril_commands.specs.commands.Json.{json_line}
+use Rattle.bril_demo.specs.Demo.{demo_tree}
+use Rattle.bril_tree.specs.Numbered.{Numbered}
+use Rattle.bril_tree.specs.declared.tree.Tree.{Tree}
+use Rattle.bril_words.specs.declared.request.Action.{Action}
+use Rattle.bril_cli.specs.Demo.{IsOwnTree}
 use Rattle.bril_cli.proofs.driver.do_command.Goals as goal
 
 pub returns-in_err-program-in-Run-clause-does : goal.returns-in_err-program-in-Run-clause-does
@@ -37,6 +42,11 @@ returns-in_err-program-in-Check-clause-does g c =
     let e = err_from_is_err_and c.from_residual-in_err-program-in-Check.result c.from_residual-in_err-program-in-Check.ensures.1 in
     rw (c.in-Check.is, e.1, e.2) (record { same_output = refl; told = []; does = inl (c.in_err-program-in-Check.ensures.err, ((refl, refl), refl)); tells = Tells-none g.E.Sink.seen c.args.outputs.now.err })
 
+pub returns-in_err-program-in-Demo-clause-does : goal.returns-in_err-program-in-Demo-clause-does
+returns-in_err-program-in-Demo-clause-does g c =
+    let e = err_from_is_err_and c.from_residual-in_err-program-in-Demo.result c.from_residual-in_err-program-in-Demo.ensures.1 in
+    rw (c.in-Demo.is, e.1, e.2) (record { same_output = refl; told = []; does = inl (c.in_err-program-in-Demo.ensures.err, ((refl, refl), refl)); tells = Tells-none g.E.Sink.seen c.args.outputs.now.err })
+
 pub returns-in_ok-program-in-Run-clause-does : goal.returns-in_ok-program-in-Run-clause-does
 returns-in_ok-program-in-Run-clause-does g c =
     let did = c.run.ensures.does in
@@ -44,6 +54,21 @@ returns-in_ok-program-in-Run-clause-does g c =
       same_output = did.same_output;
       told = did.told;
       does = inr (c.in_ok-program-in-Run.program.prog, c.in_ok-program-in-Run.ensures.ok, did.does);
+      tells = did.tells;
+    })
+
+pub demo-requires : goal.demo-requires
+demo-requires g c =
+    let own : c.args.tree.now ≡ demo_tree c.in-Demo.functions = subst (λ (a : Action). IsOwnTree a c.args.tree.now) c.in-Demo.is c.requires.own in
+    subst (λ (t : Tree). Numbered t c.in_ok-program-in-Demo.program.prog) own c.in_ok-program-in-Demo.ensures.ok.only.numbered
+
+pub returns-in_ok-program-in-Demo-clause-does : goal.returns-in_ok-program-in-Demo-clause-does
+returns-in_ok-program-in-Demo-clause-does g c =
+    let did = c.demo.ensures.does in
+    rw c.in-Demo.is (record {
+      same_output = did.same_output;
+      told = did.told;
+      does = inr (c.in_ok-program-in-Demo.program.prog, c.in_ok-program-in-Demo.ensures.ok, did.does);
       tells = did.tells;
     })
 
@@ -104,6 +129,9 @@ returns-in-WriteJson-clause-does g c =
 
 pub returns-in_err-program-in-Run-clause-keeps : goal.returns-in_err-program-in-Run-clause-keeps
 returns-in_err-program-in-Run-clause-keeps g c = kept (λ p. (goal.Pass-dyn g (p.vtable, p.value)).meaning p.value) (takes_passes (command c.args.request.action)) c.args.passes.now.boxes.now
+
+pub returns-in_err-program-in-Demo-clause-keeps : goal.returns-in_err-program-in-Demo-clause-keeps
+returns-in_err-program-in-Demo-clause-keeps g c = kept (λ p. (goal.Pass-dyn g (p.vtable, p.value)).meaning p.value) (takes_passes (command c.args.request.action)) c.args.passes.now.boxes.now
 
 pub returns-in_err-program-in-Emit-clause-keeps : goal.returns-in_err-program-in-Emit-clause-keeps
 returns-in_err-program-in-Emit-clause-keeps g c = kept (λ p. (goal.Pass-dyn g (p.vtable, p.value)).meaning p.value) (takes_passes (command c.args.request.action)) c.args.passes.now.boxes.now

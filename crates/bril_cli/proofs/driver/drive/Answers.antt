@@ -10,6 +10,7 @@ use Rattle.bril_commands.specs.Table.{command, KeepsPasses}
 use Rattle.bril_report.proofs.Telling.{Tells-none}
 use Rattle.bril_report.specs.StageFaults.{status_of}
 use Rattle.bril_words.specs.Names.{names_of}
+use Rattle.bril_cli.proofs.Demos.{own_tree}
 use Rattle.bril_cli.proofs.driver.drive.Goals as goal
 
 pub returns-in_err-names-clause-does : goal.returns-in_err-names-clause-does
@@ -27,6 +28,7 @@ pub do_command-requires : goal.do_command-requires
 do_command-requires g c = record {
   range = c.requires.range;
   alone = needs_alone (command c.args.request.action) (g.F.Files.seen c.args.files.now).holds c.args.request.path.now c.in_ok-tree.tree c.in_ok-tree.ensures.ok;
+  own = own_tree c.args.request.action (g.F.Files.seen c.args.files.now).holds c.args.request.path.now c.in_ok-tree.tree c.in_ok-tree.ensures.ok;
 }
 
 pub returns-clause-does : goal.returns-clause-does

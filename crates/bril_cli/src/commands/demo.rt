@@ -1,0 +1,233 @@
+// `demo`: the demo program is made into machine words, which the machine executes.
+
+ghost use Rattle.std.specs.Fmt.{decimal};
+ghost use Rattle.std.specs.Prelude.{◌≡◌, ◌≤◌, ◌⊎◌, [], ◌++◌, length, IfOk, OnOk, Some};
+ghost use Rattle.bril_cli.specs.Demo.{CountsPrinted, shows_line, size_seen};
+ghost use Rattle.bril_cli.specs.Machines.{IsFresh};
+ghost use Rattle.bril_commands.specs.Command.{AreLimitsOf, ImageFor, RefusesEmission};
+ghost use Rattle.bril_commands.specs.Driver.{DoesProgram, IsSilent};
+ghost use Rattle.bril_commands.specs.Outcome.{Works};
+ghost use Rattle.bril_commands.specs.PassList.{pass_list};
+ghost use Rattle.bril_commands.specs.commands.Demo.{MadeRuns, demo_cells, demo_frames, demonstrated, demonstrates, line_of, shown_status, size_of, words_told};
+ghost use Rattle.bril_demo.specs.Demo.{demo_tree};
+ghost use Rattle.bril_report.specs.StageFaults.{status_of};
+ghost use Rattle.bril_report.specs.Telling.{Telling};
+ghost use Rattle.bril_report.specs.Told.{Tells};
+ghost use Rattle.bril_tree.specs.Numbered.{Numbered};
+ghost use Rattle.bril_tree.specs.Run.{FitMain};
+ghost use Rattle.bril_tree.specs.Size.{IsCounted};
+ghost use Rattle.bril_tree.specs.declared.limits.Limits.{Limits};
+ghost use Rattle.pass_law.specs.Chains.{AllSame};
+ghost use Rattle.rv64_implements.specs.Implements.{Implements};
+ghost use Rattle.rv64_implements.specs.WordBounds.{IsWithin};
+ghost use Rattle.rv64_machine.specs.MachineView.{state_of};
+ghost use Rattle.rv64_words.specs.Region.{most_words, most_stack};
+
+use crate::image::image_of;
+use crate::listed_passes::ListedPasses;
+use bril_checker::Checked;
+use bril_commands::list::transformed;
+use bril_commands::output::hand_on;
+use bril_outside::count_sink::CountSink;
+use bril_outside::sink::Sink;
+use bril_report::{ErrorOutput, Outputs, Status, put_words};
+use bril_tree::bytes::Bytes;
+use bril_tree::limits::{End, Limits};
+use bril_tree::program::Prog;
+use itoa::Buffer;
+use rv64_machine::answer::RunAnswer;
+use rv64_machine::machine::Machine;
+use rv64_words::image::Image;
+use std::alloc::{AllocError, Global};
+
+// The most words that are executed.
+const WORDS: u64 = 1_000_000_000_000;
+
+// The limits of the run.
+const FRAMES: u32 = 8_192;
+
+const CELLS: u32 = 1_048_576;
+
+/// Of a demo of so many functions, how many functions and items its program has.
+#[derive(Clone, Copy, Drop)]
+pub struct DemoCounts {
+    pub functions: u32,
+    pub all: u64,
+    pub items: u64,
+}
+
+/// Gives the demo program of so many functions to the list of passes, and runs what this makes on the machine, for 10^12 words, with
+/// 8,192 frames and 1,048,576 cells. What it prints is counted alone. Its line goes to the output by one put: how many functions and
+/// items the program has, how many bytes it printed, and 0, or 2 where it stopped with a fault. Where it has ended, the number of words
+/// that were executed is told on the error output.
+///
+/// `UnknownPass`, `PassTooLarge`: the list makes no program. `CodeTooBig`, `StackTooBig`: what it makes may have more than 250,000
+/// words, or needs more than 8,388,608 words of stack. `Spent`: the machine goes on after so many words. With these, and out of memory,
+/// nothing is put. `CannotWrite`: the write failed, and nothing is told.
+pub fn demo<O: Sink, E: Sink>(
+    alloc: Global,
+    functions: u32,
+    checked: Checked,
+    passes: &mut ListedPasses<'_, '_>,
+    outputs: &mut Outputs<'_, '_, O, E>,
+) -> Result<(), Status>
+    requires { Numbered (demo_tree functions) checked.prog }
+    ensures same_boxes { passes.new.boxes.ghost_name ≡ passes.old.boxes.ghost_name }
+    ensures does { Telling O.seen E.seen (λ told s t. DoesProgram (demonstrates functions) (status_of result) (pass_list (λ p. meaning p) (λ p. counts p) passes.old.boxes.now passes.new.boxes.now passes.old.names.now) checked.prog [] told s t) outputs.old outputs.new }
+    ensures same { AllSame (λ p. meaning p) passes.old.boxes.now passes.new.boxes.now }
+{
+    let counts = counts_of(functions, checked.prog());
+    let made = transformed(alloc, passes.boxes, passes.names, checked)?;
+    run_made(alloc, counts, &made, outputs)
+}
+
+// The counts of the program of a demo.
+fn counts_of(functions: u32, program: &Prog) -> DemoCounts
+    requires { IsCounted program.now }
+    ensures { size_seen result ≡ size_of functions program.now }
+{
+    DemoCounts {
+        functions,
+        all: program.funcs.as_slice().len() as u64,
+        items: program.size(),
+    }
+}
+
+// Makes the image of what the passes made, and runs it.
+fn run_made<O: Sink, E: Sink>(
+    alloc: Global,
+    counts: DemoCounts,
+    made: &Checked,
+    outputs: &mut Outputs<'_, '_, O, E>,
+) -> Result<(), Status>
+    requires { FitMain made.now.prog [] }
+    ensures { Telling O.seen E.seen (λ told s t. (RefusesEmission (ImageFor demo_frames demo_cells) (status_of result) made.now.prog × IsSilent told s t) ⊎ ((limits : Limits) × AreLimitsOf (ImageFor demo_frames demo_cells) limits × IsWithin made.now.prog limits × Works (demonstrated (size_seen counts) (MadeRuns made.now.prog limits)) (status_of result) told s t)) outputs.old outputs.new }
+{
+    let limits = demo_limits();
+    let image = image_of(alloc, made, limits)?;
+    run_image(alloc, &image, made.prog(), counts, limits, outputs)
+}
+
+// The limits of a demo.
+fn demo_limits() -> Limits
+    ensures { AreLimitsOf (ImageFor demo_frames demo_cells) result }
+{
+    Limits {
+        frames: FRAMES,
+        cells: CELLS,
+    }
+}
+
+// Runs an image that implements the program. Once it has ended, its line is put, and the number of words is told.
+fn run_image<O: Sink, E: Sink>(
+    alloc: Global,
+    image: &Image,
+    program: &Prog,
+    counts: DemoCounts,
+    limits: Limits,
+    outputs: &mut Outputs<'_, '_, O, E>,
+) -> Result<(), Status>
+    requires implements { Implements image.now program.now limits }
+    requires fits { FitMain program.now [] }
+    requires words { length image.now.words ≤ most_words }
+    requires guards { length image.now.guards ≤ length image.now.words }
+    requires stack { image.now.stack ≤ most_stack }
+    ensures { Telling O.seen E.seen (λ told s t. Works (demonstrated (size_seen counts) (MadeRuns program.now limits)) (status_of result) told s t) outputs.old outputs.new }
+{
+    let Ok(mut machine) = Machine::new(alloc, image, &[], limits) else {
+        return Err(Status::OutOfMemory);
+    };
+    let mut printed = CountSink::new();
+    match count_printed(image, program, limits, &mut machine, &mut printed) {
+        Some(end) => show(alloc, counts, printed.bytes(), end, machine.done(), outputs),
+        None => {
+            hand_on(outputs.out)?;
+            Err(Status::Spent { steps: WORDS })
+        }
+    }
+}
+
+// Executes the image, and counts what it prints. How the machine ended, or that it goes on, for `None`.
+fn count_printed(
+    image: &Image,
+    program: &Prog,
+    limits: Limits,
+    machine: &mut Machine,
+    printed: &mut CountSink,
+) -> Option<End>
+    requires implements { Implements image.now program.now limits }
+    requires fits { FitMain program.now [] }
+    requires fresh { IsFresh machine.old image.now limits [] }
+    requires none { printed.old ≡ record { amount = Some 0; puts = Some 0 } }
+    ensures { CountsPrinted program.now limits result (state_of machine.new).done printed.new }
+{
+    match machine.run(WORDS, printed) {
+        RunAnswer::End(end) => Some(end),
+        RunAnswer::Spent => None,
+        RunAnswer::WriteFault => unreachable!(),
+        RunAnswer::Trap(_) => unreachable!(),
+    }
+}
+
+// Puts the line of a demo that printed so many bytes and ended so, and tells how many words were executed.
+fn show<O: Sink, E: Sink>(
+    alloc: Global,
+    counts: DemoCounts,
+    bytes: u64,
+    end: End,
+    words: u64,
+    outputs: &mut Outputs<'_, '_, O, E>,
+) -> Result<(), Status>
+    ensures { Telling O.seen E.seen (λ told s t. Works (shows_line (size_seen counts) bytes end words) (status_of result) told s t) outputs.old outputs.new }
+{
+    let line = demo_line(alloc, counts, bytes, end)?;
+    outputs.out.put(line.as_slice())?;
+    hand_on(outputs.out)?;
+    tell_words(end, words, &mut outputs.err);
+    Ok(())
+}
+
+// Tells the number of words where the program has ended.
+fn tell_words<E: Sink>(end: End, words: u64, err: &mut ErrorOutput<'_, E>)
+    ensures { Tells E.seen err.old (words_told end words) err.new }
+{
+    match end {
+        End::Ended => put_words(err, words),
+        End::Faulted(_) => {}
+    }
+}
+
+// The line of a demo that printed so many bytes and ended so.
+fn demo_line(alloc: Global, counts: DemoCounts, bytes: u64, end: End) -> Result<Bytes, AllocError>
+    ensures { IfOk result (λ line. line ≡ line_of (size_seen counts) bytes end) }
+{
+    let mut line = Bytes::new(alloc);
+    line.add(b"demo ")?;
+    add_count(&mut line, counts.functions as u64, b": ")?;
+    add_count(&mut line, counts.all, b" functions, ")?;
+    add_count(&mut line, counts.items, b" items, ")?;
+    add_count(&mut line, bytes, b" bytes, status ")?;
+    line.add(shown_status(end))?;
+    line.add(b"\n")?;
+    Ok(line)
+}
+
+// Adds a number, and a text after it.
+fn add_count(line: &mut Bytes, number: u64, text: &[u8]) -> Result<(), AllocError>
+    ensures { OnOk result (line.new ≡ line.old ++ decimal number ++ text.now) }
+{
+    let mut buffer = Buffer::new();
+    line.add(buffer.format(number).as_bytes())?;
+    line.add(text)?;
+    Ok(())
+}
+
+// How the demo's program ended, by a number.
+fn shown_status(end: End) -> &'static [u8]
+    ensures { result.now ≡ shown_status end }
+{
+    match end {
+        End::Ended => b"0",
+        End::Faulted(_) => b"2",
+    }
+}

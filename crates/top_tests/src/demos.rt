@@ -1,0 +1,113 @@
+// The demo: the number of words that it tells, and the passes that it needs.
+
+use crate::lists::{Ended, call};
+use crate::passes::{boxed_pad, tally};
+use bril_checker::check;
+use bril_cli::end::end;
+use bril_demo::demo_tree;
+use bril_names::number;
+use bril_outside::count_sink::CountSink;
+use bril_outside::mem_files::MemFiles;
+use bril_outside::mem_sink::MemSink;
+use bril_profile::Profile;
+use bril_tree::limits::{End, Limits};
+use bril_tree::sequence::Seq;
+use bril_tree::text::Text;
+use coalesce::Merge;
+use constant_pass::Const;
+use dead_code::Dead;
+use pass_law::{Pass, run_list};
+use rv64_emit::emit;
+use rv64_machine::answer::RunAnswer;
+use rv64_machine::machine::Machine;
+use ssa_exit::Unssa;
+use std::alloc::{AllocError, Global};
+use std::test::Fail;
+use tidy_code::Tidy;
+
+#[test]
+fn the_demo_tells_how_many_words_the_machine_executes(rt: HostRuntime) -> Result<(), Fail> {
+    let alloc = rt.alloc();
+    let ended = demo_by_words(alloc)?;
+    assert_eq!(rt; ended.status, 0);
+    assert_eq!(rt;
+        ended.out.bytes(),
+        b"demo 1: 2 functions, 24 items, 5 bytes, status 0\n".as_slice()
+    );
+    let executed = demo_by_calls(alloc);
+    assert!(rt; executed.is_some());
+    let line = format!(in alloc; "words {}\n", executed.unwrap_or(0))?;
+    assert_eq!(rt; ended.err.bytes(), line.as_bytes());
+    Ok(())
+}
+
+#[test]
+fn the_demo_uses_the_passes_that_were_lent(rt: HostRuntime) -> Result<(), Fail> {
+    let alloc = rt.alloc();
+    let mut passes = [boxed_pad(alloc)?];
+    let ended = call(alloc, &["demo", "1"], passes.as_mut_slice())?;
+    assert_eq!(rt; ended.status, 70);
+    assert!(rt; ended.out.bytes().is_empty());
+    assert_eq!(rt; ended.err.bytes(), b"unknown pass 1\n".as_slice());
+    assert_eq!(rt; passes[0].tally(), tally(0, 0, 0));
+    Ok(())
+}
+
+// Calls the command line with `demo 1` and the shipped passes.
+fn demo_by_words(alloc: Global) -> Result<Ended, AllocError> {
+    let constant: Box<dyn Pass> = Box::new(alloc, Const::new())?;
+    let dead: Box<dyn Pass> = Box::new(alloc, Dead::new())?;
+    let unssa: Box<dyn Pass> = Box::new(alloc, Unssa::new())?;
+    let merge: Box<dyn Pass> = Box::new(alloc, Merge::new())?;
+    let tidy: Box<dyn Pass> = Box::new(alloc, Tidy::new())?;
+    let mut passes = [constant, dead, unssa, merge, tidy];
+    let passes = passes.as_mut_slice();
+    let mut files = MemFiles::new(alloc, Seq::new(alloc));
+    let mut words = Seq::new(alloc);
+    for word in ["roolvist", "demo", "1"] {
+        words.push(Text::of(alloc, word)?)?;
+    }
+    let mut out = MemSink::new(alloc, 4096, Seq::new(alloc))?;
+    let mut err = MemSink::new(alloc, 4096, Seq::new(alloc))?;
+    let status = end(alloc, Ok(words), &mut files, &mut out, &mut err, passes);
+    Ok(Ended { status, out, err })
+}
+
+// How many words the machine executes on the image of what the passes of the demo make of the demo program of one function.
+fn demo_by_calls(alloc: Global) -> Option<u64> {
+    let tree = demo_tree(alloc, 1).ok()?;
+    if !tree.imports.as_slice().is_empty() {
+        return None;
+    }
+    let prog = number(alloc, &tree).ok()?;
+    if !prog.is_counted() {
+        return None;
+    }
+    let checked = check(alloc, prog).ok()?;
+    let constant: Box<dyn Pass> = Box::new(alloc, Const::new()).ok()?;
+    let dead: Box<dyn Pass> = Box::new(alloc, Dead::new()).ok()?;
+    let tidy: Box<dyn Pass> = Box::new(alloc, Tidy::new()).ok()?;
+    let mut passes = [constant, dead, tidy];
+    let mut names = Seq::new(alloc);
+    names.push(Text::of(alloc, "const").ok()?).ok()?;
+    names.push(Text::of(alloc, "dead").ok()?).ok()?;
+    names.push(Text::of(alloc, "tidy").ok()?).ok()?;
+    if names.as_slice().len() > 64 {
+        return None;
+    }
+    let profile = Profile::without_entries(alloc);
+    let made = run_list(alloc, passes.as_mut_slice(), &names, checked, &profile).ok()?;
+    let limits = Limits {
+        frames: 8192,
+        cells: 1_048_576,
+    };
+    let image = emit(alloc, &made, limits).ok()?;
+    if image.stack < 2 {
+        return None;
+    }
+    let mut machine = Machine::new(alloc, &image, &[], limits).ok()?;
+    match machine.run(1_000_000_000_000, &mut CountSink::new()) {
+        RunAnswer::End(End::Ended) => Some(machine.done()),
+        _ => None,
+    }
+}
