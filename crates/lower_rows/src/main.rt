@@ -1,7 +1,7 @@
 // Makes the calls of standard input that no command line makes or shows, and shows what they answer.
 //
 // Standard input is lines of text, each with a call; `stdin` beside src/ has all of them, and `stdout` what they must come
-// to, by hand.
+// to, by hand; of profiles, by a reader and a recorder in another language.
 //
 //     # a comment
 //     == what the rows show
