@@ -1,7 +1,7 @@
 // Makes the calls of standard input that no command line makes or shows, and shows what they answer.
 //
 // Standard input is lines of text, each with a call; `stdin` beside src/ has all of them, and `stdout` what they must come
-// to, by hand.
+// to, by hand; of profiles, by a reader and a recorder in another language.
 //
 //     # a comment
 //     == what the rows show
@@ -15,6 +15,10 @@
 //     steps SOURCE           the words of each function's frame; each step of the run of `main`: the answer, where the run then
 //                            is, and what the first variable holds; the guards of the first function that failed, and how
 //                            often; and the output
+//     profile TEXT           the entries of the text's profile, each with its choices, 1 for a first label and 0 for a second,
+//                            and the text that is written of them; or the first line that isn't of the form
+//     record HOT MOST SOURCE the text of what a recorder takes of the run of `main`: HOT arrivals make a label hot, and there
+//                            are at most MOST entries
 //     count PIECE PIECE ..   how many bytes a sink that counts took, after each piece
 //     decode BITS            the machine word of eight hexadecimal digits
 //     machine STEPS PUT ARG BITS BITS ..
@@ -28,6 +32,7 @@ mod constants;
 mod graph;
 mod live;
 mod machine;
+mod profiles;
 mod program;
 mod row;
 mod steps;

@@ -6,6 +6,7 @@ use crate::constants::add_constants;
 use crate::graph::add_graph;
 use crate::live::add_live;
 use crate::machine::{add_run, add_word};
+use crate::profiles::{add_profile, add_record};
 use crate::program::add_numbered;
 use crate::steps::add_steps;
 use bril_lex::{LexFault, tokens};
@@ -26,6 +27,7 @@ pub fn add_row(alloc: Global, line: &str, shown: &mut Vec<u8>) -> Result<(), Lin
         "decode" => add_word(alloc, rest, shown),
         "machine" => add_run(alloc, rest, shown),
         "count" => add_counts(alloc, rest, shown),
+        "record" => add_record(alloc, rest, shown),
         _ => {
             let mut source = Vec::new(alloc);
             add_unescaped(alloc, rest, 0, &mut source)?;
@@ -59,6 +61,7 @@ fn add_answer(
         "live" => add_live(alloc, source, shown),
         "constants" => add_constants(alloc, source, shown),
         "steps" => add_steps(alloc, source, shown),
+        "profile" => add_profile(alloc, source, shown),
         _ => Err(LineFault::Form),
     }
 }

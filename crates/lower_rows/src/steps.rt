@@ -33,8 +33,8 @@ pub fn add_steps(alloc: Global, source: &[u8], shown: &mut Vec<u8>) -> Result<()
     Ok(())
 }
 
-// The arguments of a program whose `main` has none.
-fn values_of(alloc: Global, checked: &Checked) -> Result<Seq<Value>, LineFault>
+/// The arguments of a program whose `main` has none.
+pub fn values_of(alloc: Global, checked: &Checked) -> Result<Seq<Value>, LineFault>
     ensures { IfOk result (λ values. FitMain checked.now.prog values) }
 {
     match read_args(alloc, checked.prog(), &[]) {
