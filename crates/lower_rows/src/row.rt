@@ -7,6 +7,7 @@ use crate::graph::add_graph;
 use crate::live::add_live;
 use crate::machine::{add_run, add_word};
 use crate::program::add_numbered;
+use crate::ssa::add_ssa;
 use crate::steps::add_steps;
 use bril_lex::{LexFault, tokens};
 use bril_outside::count_sink::CountSink;
@@ -26,6 +27,7 @@ pub fn add_row(alloc: Global, line: &str, shown: &mut Vec<u8>) -> Result<(), Lin
         "decode" => add_word(alloc, rest, shown),
         "machine" => add_run(alloc, rest, shown),
         "count" => add_counts(alloc, rest, shown),
+        "ssa" => add_ssa(alloc, rest, shown),
         _ => {
             let mut source = Vec::new(alloc);
             add_unescaped(alloc, rest, 0, &mut source)?;
