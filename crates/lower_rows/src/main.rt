@@ -21,6 +21,8 @@
 //                            are at most MOST entries
 //     count PIECE PIECE ..   how many bytes a sink that counts took, after each piece
 //     decode BITS            the machine word of eight hexadecimal digits
+//     ssa ARG ARG .. SOURCE  the canonical text of the source's program in SSA form, how a run of it with these arguments ends and what
+//                            it prints, and whether the program in SSA form does the same
 //     machine STEPS PUT ARG BITS BITS ..
 //                            a run of so many steps of the image with one argument, where the put of that number, from 1, fails,
 //                            and another run after it: each answer, and how many words were executed; and the output
@@ -35,6 +37,7 @@ mod machine;
 mod profiles;
 mod program;
 mod row;
+mod ssa;
 mod steps;
 
 use anyhow::Context;

@@ -8,6 +8,7 @@ use crate::live::add_live;
 use crate::machine::{add_run, add_word};
 use crate::profiles::{add_profile, add_record};
 use crate::program::add_numbered;
+use crate::ssa::add_ssa;
 use crate::steps::add_steps;
 use bril_lex::{LexFault, tokens};
 use bril_outside::count_sink::CountSink;
@@ -28,6 +29,7 @@ pub fn add_row(alloc: Global, line: &str, shown: &mut Vec<u8>) -> Result<(), Lin
         "machine" => add_run(alloc, rest, shown),
         "count" => add_counts(alloc, rest, shown),
         "record" => add_record(alloc, rest, shown),
+        "ssa" => add_ssa(alloc, rest, shown),
         _ => {
             let mut source = Vec::new(alloc);
             add_unescaped(alloc, rest, 0, &mut source)?;
