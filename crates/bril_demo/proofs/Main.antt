@@ -1,9 +1,9 @@
 -- The numbered `main` of the demo program.
-use Rattle.std.proofs.Common.{◌≡◌, ◌≢◌, ◌∙◌, ◌⊎◌, inl, inr, refl, sym, ap, ap₂, subst, Bool, true, false, ◌&&◌, ℕ, zero, suc, ◌+◌, ◌*◌, ◌<◌, ◌≤◌, ◌^◌, List, [], ◌∷◌, ◌++◌, length, map, get_or, nat_eq, nat_lt, eq-eqb, Option, Some, None, arith, rules}
-use Rattle.std.specs.Prelude.{◌==◌, pos, slice_get, codes, All}
+use Rattle.std.proofs.Common.{◌≡◌, ◌≢◌, ◌∙◌, ◌⊎◌, inl, inr, refl, sym, ap, subst, true, false, ℕ, zero, suc, ◌+◌, ◌*◌, ◌<◌, ◌≤◌, ◌^◌, List, [], ◌∷◌, length, map, get_or, nat_eq, nat_lt, eq-eqb, Option, Some, None, arith, rules}
+use Rattle.std.specs.Prelude.{◌==◌, slice_get, codes, All}
 use Rattle.std.specs.Fmt.{decimal}
 use Rattle.std.specs.List.{AllPairs, flat_map, list_all, range_with_len}
-use Rattle.std.proofs.lemmas.Bool.{cases_lt, cases_order}
+use Rattle.std.proofs.lemmas.Bool.{cases_order}
 use Rattle.std.proofs.lemmas.Bool.Decides.{nat_tests}
 use Rattle.std.proofs.lemmas.Fmt.{decimal_injective}
 use Rattle.std.proofs.lemmas.List.Elements.{All-cons, All-map, All-nil}
@@ -11,7 +11,7 @@ use Rattle.std.proofs.lemmas.List.FromFn.{get_or-map-range_with_len, length-map-
 use Rattle.std.proofs.lemmas.List.Kept.{AllPairs-cons}
 use Rattle.std.proofs.lemmas.Option.{slice_get-get_or, slice_get_within}
 use Rattle.bril_tree.specs.declared.numbered.Instr.{Instr}
-use Rattle.bril_tree.specs.declared.numbered.Instr.TheVariants.{Label, Const, Act}
+use Rattle.bril_tree.specs.declared.numbered.Instr.TheVariants.{Act}
 use Rattle.bril_tree.specs.declared.numbered.VarInfo.{VarInfo}
 use Rattle.bril_tree.specs.declared.operation.Op.TheVariants as op
 use Rattle.bril_tree.specs.declared.types.Base.TheVariants as base

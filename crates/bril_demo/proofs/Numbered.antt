@@ -1,7 +1,7 @@
 -- The numbered functions of the demo program, other than `main`: their form, and why they are accepted in any program.
-use Rattle.std.proofs.Common.{◌≡◌, ◌≢◌, ◌∙◌, ◌⊎◌, inl, inr, refl, sym, ap, subst, Bool, true, false, ℕ, zero, suc, ◌+◌, ◌<◌, ◌≤◌, List, [], ◌∷◌, length, map, Option, Some, None, arith, rules}
-use Rattle.std.specs.Prelude.{pos, slice_get, slice_index_or, codes, is_none, is_some, IsSome, IsTrue}
-use Rattle.std.specs.List.{list_all, range_with_len}
+use Rattle.std.proofs.Common.{◌≡◌, ◌∙◌, refl, sym, ap, subst, true, false, ℕ, zero, suc, ◌<◌, ◌≤◌, List, [], ◌∷◌, map, Option, Some, None, arith}
+use Rattle.std.specs.Prelude.{pos, slice_get, slice_index_or, codes, is_none, IsSome, IsTrue}
+use Rattle.std.specs.List.{range_with_len}
 use Rattle.bril_tree.specs.declared.numbered.Instr.{Instr}
 use Rattle.bril_tree.specs.declared.numbered.Instr.TheVariants.{Label, Const, Act}
 use Rattle.bril_tree.specs.declared.numbered.VarInfo.{VarInfo}
@@ -14,13 +14,11 @@ use Rattle.bril_tree.specs.declared.types.Base.TheVariants as base
 use Rattle.bril_tree.specs.declared.types.Ty.{Ty}
 use Rattle.bril_tree.specs.declared.value.Lit.TheVariants as lit
 use Rattle.bril_tree.specs.Accepted.{AreWalksAccepted, IsAcceptedFunction}
-use Rattle.bril_tree.specs.Edge.{Branch, branches_at}
 use Rattle.bril_tree.specs.FunctionForm.{IsFunctionForm, first_type}
 use Rattle.bril_tree.specs.Numbered.{function_tree}
 use Rattle.bril_tree.specs.Operand.{Location, Variable}
 use Rattle.bril_tree.specs.Shape.{is_shaped}
 use Rattle.bril_tree.specs.Typing.{is_call_shaped, type_fault, TypeFault}
-use Rattle.bril_tree.specs.Walk.{IsReached, IsWalk, end_of}
 use Rattle.bril_demo.specs.Demo.{demo_function, divisor_of, factor_of, function_name, plain}
 use Rattle.bril_demo.proofs.Quiet.{is_quiet, quiet_accepted}
 use Rattle.bril_demo.proofs.Tested.{Tabled, all_tested, differ_pairs, flows_tabled, never_reached, quiet_tested, reads_tabled}

@@ -1,18 +1,18 @@
 -- Functions without speculation: their walks have no open sites, and what is assigned on each walk to a point follows from what each
 -- item assigns.
-use Rattle.std.proofs.Common.{◌≡◌, ◌≢◌, ◌∙◌, ◌⊎◌, inl, inr, refl, sym, ap, subst, Bool, true, false, ℕ, zero, suc, ◌<◌, List, [], ◌∷◌, ◌++◌, length, map, Option, Some, None, arith}
+use Rattle.std.proofs.Common.{◌≡◌, ◌∙◌, ◌⊎◌, inl, inr, refl, sym, ap, subst, Bool, true, false, ℕ, List, [], ◌∷◌, ◌++◌, length, map, Option, Some, None, arith}
 use Rattle.std.specs.Prelude.{slice_get, IsTrue}
-use Rattle.std.specs.List.{Contains, range_with_len}
+use Rattle.std.specs.List.{range_with_len}
 use Rattle.bril_tree.specs.declared.numbered.Instr.{Instr}
 use Rattle.bril_tree.specs.declared.numbered.Instr.TheVariants.{Label, Const, Act}
 use Rattle.bril_tree.specs.declared.operation.Op.{Op}
 use Rattle.bril_tree.specs.declared.operation.Op.TheVariants as op
-use Rattle.bril_tree.specs.Accepted.{AreWalksAccepted, leaves_frame}
-use Rattle.bril_tree.specs.Assigned.{assigned_of, assigned_changed, assigns_at, IsMaybeUnassigned}
+use Rattle.bril_tree.specs.Accepted.{AreWalksAccepted}
+use Rattle.bril_tree.specs.Assigned.{assigned_of, assigned_changed, assigns_at}
 use Rattle.bril_tree.specs.Edge.{Branch, branches_at}
 use Rattle.bril_tree.specs.Membership.{In}
 use Rattle.bril_tree.specs.Operand.{Location, Variable, reads_of}
-use Rattle.bril_tree.specs.Sites.{Change, Keeps, AreSitesSound, SitesFail, TooMany, NoSite, Others, AreFirstSites, change_of, item_change, needs_site, operation_change, sites_behind, sites_changed, sites_of}
+use Rattle.bril_tree.specs.Sites.{Change, Keeps, SitesFail, TooMany, NoSite, Others, AreFirstSites, change_of, item_change, needs_site, operation_change, sites_behind, sites_changed, sites_of}
 use Rattle.bril_tree.specs.Walk.{IsWalk, IsReached, end_of}
 use Rattle.bril_tree.proofs.Branches.{branch_from}
 use Rattle.bril_tree.proofs.Members.{in_contains, contains_in, in_append_left, in_append_right}

@@ -1,4 +1,4 @@
-use Rattle.std.proofs.Common.{◌≡◌, ◌∷◌, ◌++◌, codes}
+use Rattle.std.proofs.Common.{◌≡◌, ◌∷◌, codes}
 use Rattle.std.specs.List.{flat_map, range_with_len}
 use Rattle.bril_demo.specs.Demo.{calling, constant}
 use Rattle.bril_demo.proofs.demo.demo_main.Given as goal

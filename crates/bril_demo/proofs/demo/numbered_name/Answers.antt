@@ -1,4 +1,4 @@
-use Rattle.std.proofs.Common.{◌≡◌, ◌∙◌, ap, true, List, ℕ, ◌∷◌, [], ◌++◌, ◌<◌, ◌^◌, rules}
+use Rattle.std.proofs.Common.{◌≡◌, ◌∙◌, ap, true, List, ℕ, ◌∷◌, ◌++◌, ◌<◌, ◌^◌, rules}
 use Rattle.std.specs.Fmt.{decimal}
 use Rattle.bril_tree.specs.Identifier.{is_identifier}
 use Rattle.bril_demo.proofs.Names.{is_name}

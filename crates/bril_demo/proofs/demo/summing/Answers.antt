@@ -1,4 +1,4 @@
-use Rattle.std.proofs.Common.{◌≡◌, ◌∙◌, refl, ap₂, List, ◌∷◌, []}
+use Rattle.std.proofs.Common.{◌≡◌, ◌∙◌, refl, ap₂, List, ◌∷◌}
 use Rattle.bril_tree.specs.declared.function_tree.Item.{Item}
 use Rattle.bril_demo.proofs.demo.summing.Goals as goal
 
