@@ -1,13 +1,12 @@
 -- Laid code is a list with others put in before its items, so each item stands at its position.
-use Rattle.std.proofs.Common.{◌≡◌, ℕ, zero, suc, ◌+◌, ◌<◌, ◌≤◌, List, [], ◌∷◌, ◌++◌, length, Option, Some, None, refl, sym, ap, subst, ◌∙◌, arith, add-one, append_assoc}
+use Rattle.std.proofs.Common.{◌≡◌, ℕ, zero, suc, ◌+◌, List, [], ◌∷◌, ◌++◌, length, Option, Some, refl, sym, ap, ◌∙◌, arith, add-one, append_assoc}
 use Rattle.std.specs.Prelude.{slice_get}
 use Rattle.std.proofs.lemmas.Option.{slice_get_within}
 use Rattle.bril_tree.specs.declared.function_tree.Item.{Item}
 use Rattle.bril_tree.specs.declared.numbered_function.Func.{Func}
-use Rattle.bril_tree.specs.Operand.{Location}
 use Rattle.pass_plan.specs.Spliced.{ItemsSpliced, position_of, spliced, start_of}
 use Rattle.pass_plan.proofs.Splicing.{items_spliced}
-use Rattle.ssa_code.specs.Sweep.{IsLaidCode, LayoutView, item_at, laid_items, now_at, piece_at}
+use Rattle.ssa_code.specs.Sweep.{LayoutView, item_at, laid_items, now_at, piece_at}
 use Rattle.ssa_tree.specs.Standing.{ItemsStand, LaidItemsStand, before_in, nothing}
 
 -- ---- pieces as a spliced list

@@ -1,9 +1,9 @@
-use Rattle.std.proofs.Common.{◌≡◌, ◌<◌, ◌∙◌, ℕ, List, [], length, get_or, sym, subst, ap}
+use Rattle.std.proofs.Common.{◌<◌, ◌∙◌, List, [], get_or, sym, subst, ap}
 use Rattle.std.specs.List.{Contains}
 use Rattle.std.proofs.lemmas.List.Elements.{Contains-get_or}
 use Rattle.bril_tree.specs.declared.edge.Edge.{Edge}
 use Rattle.flow_graph.specs.declared.reads.Access.{Access}
-use Rattle.ssa_code.specs.Rows.{AreRows, IsRow, leaves_of}
+use Rattle.ssa_code.specs.Rows.{IsRow, leaves_of}
 use Rattle.ssa_code.proofs.Growing.{leaves-within}
 use Rattle.ssa_code.proofs.rows.leaving_rows.Goals as goal
 

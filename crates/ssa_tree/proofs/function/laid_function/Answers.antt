@@ -3,10 +3,8 @@ use Rattle.bril_tree.specs.declared.numbered.Instr.{Instr}
 use Rattle.bril_tree.specs.declared.numbered.VarInfo.{VarInfo}
 use Rattle.ssa_code.specs.Names.{AreNames, variables_written}
 use Rattle.ssa_code.specs.Rows.{AreRows}
-use Rattle.ssa_code.specs.Sweep.{AreGets, IsLaidCode, layout_of, row_in}
 use Rattle.ssa_gets.specs.Wants.{gets_of}
 use Rattle.ssa_sweep.specs.declared.now.WantedGet.{WantedGet}
-use Rattle.ssa_sweep.specs.Gets.{AreGetsOf}
 use Rattle.ssa_tree.proofs.Parts.{are-gets, located-in, solved-in, laid-in}
 use Rattle.ssa_tree.proofs.function.laid_function.Goals as goal
 

@@ -1,9 +1,8 @@
-use Rattle.std.proofs.Common.{sym, ap, subst, ◌∙◌}
+use Rattle.std.proofs.Common.{subst}
 use Rattle.bril_tree.specs.declared.function_tree.FuncTree.{FuncTree}
 use Rattle.bril_tree.specs.declared.numbered_function.Func.{Func}
 use Rattle.bril_tree.specs.Numbered.{function_tree, names_of_functions}
 use Rattle.pass_make.proofs.Functions.{number_within, shaped_there, sound_there, few_there, tree_there, long_there, more_there}
-use Rattle.std.proofs.lemmas.Option.{slice_get-get_or}
 use Rattle.ssa_operands.proofs.Accepted.{accepted-tabled}
 use Rattle.ssa_tree.specs.Made.{IsLaidFunction}
 use Rattle.ssa_tree.proofs.Parts.{there}
