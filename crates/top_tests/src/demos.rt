@@ -102,7 +102,7 @@ fn demo_by_calls(alloc: Global) -> Option<u64> {
         cells: 1_048_576,
     };
     let image = emit(alloc, &made, limits).ok()?;
-    if image.stack < 2 {
+    if image.stack < 2 || image.stack > 8_388_608 {
         return None;
     }
     let mut machine = Machine::new(alloc, &image, &[], limits).ok()?;

@@ -3,8 +3,8 @@ use Rattle.bril_cli.proofs.Shipped.{boxes-shipped}
 use Rattle.pass_law.proofs.Same.{SameMeaning-refl}
 use Rattle.top_tests.proofs.demos.demo_by_words.Goals as goal
 
-pub end-requires : goal.end-requires
-end-requires c = record {
+pub end-status-requires : goal.end-status-requires
+end-status-requires c = record {
   shipped = boxes-shipped _ _ _ c.as_mut_slice-passes.ensures.value (
     _,
     c.into_dyn_box.ensures.0,
