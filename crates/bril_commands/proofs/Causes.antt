@@ -161,7 +161,6 @@ needs_program (OnFile outcome) gives = absurd gives
 needs_program (OnTree outcome) gives = absurd gives
 needs_program (OnProgram does) gives = tt
 
-
 -- From asking for a program: memory ran out, or the tree has a fault of a name, or a program with a fault of the checker, or its accepted program was dealt with.
 module _ (how : Status) (tree : Tree) (Silent : Type 0) (Goes : Prog → Type 0) (asks : Stage (RefusesProgram how tree) Silent (λ p. IsAcceptedProgram tree p) (λ p is. Goes p)) where
   by_names : (A : Type 0) → (how ≡ status.OutOfMemory → A)

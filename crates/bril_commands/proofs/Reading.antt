@@ -134,7 +134,7 @@ module _ (before after : FilesSeen) (map : FileMap) (told : before.holds ≡ Som
   file_lacking fault.TooManyBytes lacks h = absurd (held_not_lacking before.holds path h.0 h.1 lacks)
   file_lacking fault.Memory lacks h = inl refl
 
-  -- ---- the files of a command
+-- ---- the files of a command
 
 module _ (before after : FilesSeen) (path : List ℕ) where
   pub one_tree : (reach : Reach) (t u : Tree) → AreTold reach before.holds → IsTreeAt reach before.holds path t → HaveTree reach before.holds path u → t ≡ u

@@ -75,9 +75,12 @@ pub(crate) fn read_found<'a>(
         Setting::Cells,
     ))?;
     let steps = value_of(found, Setting::Steps, MOST_STEPS, STEPS).ok_or(faulty(Setting::Steps))?;
-    let functions = number_of(found_text(found, Operand::Functions.id()), MOST_FUNCTIONS, 1).ok_or(
-        Misuse::Functions,
-    )?;
+    let functions = number_of(
+        found_text(found, Operand::Functions.id()),
+        MOST_FUNCTIONS,
+        1,
+    )
+    .ok_or(Misuse::Functions)?;
     let numbers = Numbers {
         frames: frames as u32,
         cells: cells as u32,

@@ -185,7 +185,11 @@ fn tallies_go_on_from_call_to_call(rt: HostRuntime) -> Result<(), Fail> {
 }
 
 // Calls the top call with these words after the program's name, and lends it the passes, which can be lent again.
-pub(crate) fn call(alloc: Global, words: &[&str], passes: &mut [Box<dyn Pass>]) -> Result<Ended, AllocError>
+pub(crate) fn call(
+    alloc: Global,
+    words: &[&str],
+    passes: &mut [Box<dyn Pass>],
+) -> Result<Ended, AllocError>
     requires { All (λ p. MakesAsShipped (meaning p)) passes.old }
     ensures { All (λ p. MakesAsShipped (meaning p)) passes.new }
 {
