@@ -100,7 +100,7 @@ fn demo_main(alloc: Global, n: u32) -> Result<FuncTree, AllocError>
     })
 }
 
-/// The demo program of n functions, `f0` to `f` and the decimal of n - 1, and `main`: n + 1 functions with 23 n + 1 items. Each
+/// The demo program of n functions, 150 at most: `f0` to `f` and the decimal of n - 1, and `main`, which have 23 n + 1 items. Each
 /// function has an int argument and a loop with constants of its own (`specs/Demo.antt`), and `main` calls them in order with 40
 /// and prints what each returns. Fails where memory is lacking.
 pub fn demo_tree(alloc: Global, n: u32) -> Result<Tree, AllocError>
