@@ -1,5 +1,5 @@
 -- What stands before the items of laid code: `get`s that stay, behind their labels, and `set`s of these.
-use Rattle.std.proofs.Common.{◌≡◌, ◌≢◌, ◌⊎◌, ℕ, zero, suc, ◌+◌, ◌-◌, ◌<◌, ◌≤◌, ◌/◌, Bool, true, false, cond, ◌&&◌, List, [], ◌∷◌, ◌++◌, length, map, take, drop, get_or, Option, Some, None, refl, sym, ap, subst, ◌∙◌, inl, inr, ⊎_elim, arith}
+use Rattle.std.proofs.Common.{◌≡◌, ◌≢◌, ◌⊎◌, ℕ, zero, suc, ◌+◌, ◌-◌, ◌<◌, ◌≤◌, ◌/◌, Bool, true, false, cond, ◌&&◌, List, [], ◌∷◌, ◌++◌, length, map, take, drop, get_or, Option, Some, None, refl, sym, ap, subst, ◌∙◌, inl, inr, ⊎_elim, arith, append_assoc}
 use Rattle.std.specs.Prelude.{nat_le, slice_get, slice_index, slice_index_or, slice_range}
 use Rattle.std.specs.List.{AllPairs, Contains, flat_map}
 use Rattle.std.proofs.lemmas.Bool.{cases_lt, eqb-true}
@@ -15,10 +15,11 @@ use Rattle.bril_tree.specs.Membership.{In}
 use Rattle.bril_tree.specs.Numbered.{function_tree}
 use Rattle.bril_tree.specs.Operand.{Location}
 use Rattle.bril_tree.specs.Typing.{variable_type}
-use Rattle.bril_tree.proofs.Elements.{get_in}
-use Rattle.bril_tree.proofs.Members.{contains_in, in_append_cases, in_contains, in_flat_map_source, in_map_source}
+use Rattle.bril_tree.proofs.Elements.{get_in, in_get}
+use Rattle.bril_tree.proofs.Members.{contains_in, in_append_cases, in_append_left, in_append_right, in_contains, in_flat_map_source, in_map_source}
 use Rattle.flow_graph.specs.Location.{number_of}
 use Rattle.pass_numbers.proofs.Different.{filter_in}
+use Rattle.pass_plan.proofs.Splicing.{get-left, get-right}
 use Rattle.ssa_code.specs.Items.{get_item, get_items, got_item, name_in, put_item, set_item, standing, stays, typed_get}
 use Rattle.ssa_code.specs.Sweep.{falls_at, gets_before, kept_at, part, row_in, sets_falling, sets_leaving, sets_to}
 use Rattle.ssa_gets.specs.Wants.{gets_of, row_of}
@@ -177,3 +178,52 @@ module _ (fs : List (List ℕ)) (F : Func) (g : FuncTree) (x : IsLaidFunction F 
   in-front i y among = ⊎_elim
       (λ h. ⊎_elim (in-gets i y) (in-falls i y (falls_at F.code x.graph.sites i) refl) (in_append_cases y (gets-part i) (falls-part i) h))
       (in-leaves i y) (in_append_cases y (gets-part i ++ falls-part i) (leaves-part i) among)
+
+  -- a `set` is put in
+  abbrev pub IsPutIn : Item → Type 0
+  IsPutIn y = (name : List ℕ) × (from : List ℕ) × (y ≡ put_item name from)
+
+  -- the `get`s come first, in their order
+  pub data FrontAt (i n : ℕ) (y : Item) : Type 0 where
+    GotAt : (k : ℕ) → i ≡ suc k → slice_get (gets-part (suc k)) n ≡ Some y → FrontAt i n y
+    PutAt : IsPutIn y → FrontAt i n y
+
+  put-in : (names : List (List ℕ)) (find now : List ℕ) (gets : List WantedGet) (y : Item) → IsPut names find now gets y → IsPutIn y
+  put-in names find now gets y p = (name_in names p.get.definition, name_in names (standing find now p.get.location), p.is)
+
+  put-falls : (i : ℕ) (y : Item) (b : Bool) → In y (sets_falling (layout fs F g x) (now fs F g x i) b i) → IsPutIn y
+  put-falls i y true among = put-in x.names x.find (now fs F g x i) (staying i) y (is-put x.names x.find (now fs F g x i) (staying i) y among)
+  put-falls i y false among = absurd among
+
+  put-leaves : (i : ℕ) (y : Item) → In y (leaves-part i) → IsPutIn y
+  put-leaves i y among =
+      let s = in_flat_map_source (sets_to (layout fs F g x) (now fs F g x i)) y (slice_index_or x.rows i []) among in
+      put-in x.names x.find (now fs F g x i) (staying s.0) y (is-put x.names x.find (now fs F g x i) (staying s.0) y s.2)
+
+  got-at : (i n : ℕ) (y : Item) → slice_get (gets-part i) n ≡ Some y → FrontAt i n y
+  got-at zero n y at = absurd (let h : None ≡ Some y = at in cc)
+  got-at (suc k) n y at = GotAt k refl at
+
+  pub front-at : (i n : ℕ) (y : Item) → slice_get (front fs F g x i) n ≡ Some y → FrontAt i n y
+  front-at i n y at = ⊎_elim
+      (λ less. got-at i n y (sym (get-left (gets-part i) (falls-part i ++ leaves-part i) n less) ∙ whole))
+      (λ ge. later (n - length (gets-part i)) (omega arith)) (cases_lt n (length (gets-part i)))
+    where
+      whole : slice_get (gets-part i ++ (falls-part i ++ leaves-part i)) n ≡ Some y
+      whole = ap (λ (l : List Item). slice_get l n) (sym (append_assoc (gets-part i) (falls-part i) (leaves-part i))) ∙ at
+
+      later : (m : ℕ) → n ≡ length (gets-part i) + m → FrontAt i n y
+      later m e =
+          let rest : slice_get (falls-part i ++ leaves-part i) m ≡ Some y = sym (get-right (gets-part i) (falls-part i ++ leaves-part i) m) ∙ ap (slice_get (gets-part i ++ (falls-part i ++ leaves-part i))) (sym e) ∙ whole in
+          PutAt (⊎_elim (put-falls i y (falls_at F.code x.graph.sites i)) (put-leaves i y) (in_append_cases y (falls-part i) (leaves-part i) (get_in (falls-part i ++ leaves-part i) m y rest)))
+
+  -- and an item of the `get`s stands there
+  pub got-front : (k n : ℕ) (y : Item) → slice_get (gets-part (suc k)) n ≡ Some y → slice_get (front fs F g x (suc k)) n ≡ Some y
+  got-front k n y at =
+      ap (λ (l : List Item). slice_get l n) (append_assoc (gets-part (suc k)) (falls-part (suc k)) (leaves-part (suc k)))
+      ∙ get-left (gets-part (suc k)) (falls-part (suc k) ++ leaves-part (suc k)) n (slice_get_within (gets-part (suc k)) n y at) ∙ at
+
+  -- so do the `set`s
+  pub put-front : (i : ℕ) (y : Item) → In y (falls-part i) ⊎ In y (leaves-part i) → (n : ℕ) × (slice_get (front fs F g x i) n ≡ Some y)
+  put-front i y (inl among) = in_get y (front fs F g x i) (in_append_left y (gets-part i ++ falls-part i) (leaves-part i) (in_append_right y (gets-part i) (falls-part i) among))
+  put-front i y (inr among) = in_get y (front fs F g x i) (in_append_right y (gets-part i ++ falls-part i) (leaves-part i) among)
