@@ -1,8 +1,8 @@
 -- Where edges leave to a label: each has `set`s before the item from which it leaves, or behind that, before the label.
-use Rattle.std.proofs.Common.{◌≡◌, ◌⊎◌, ℕ, zero, suc, ◌+◌, ◌<◌, ◌&&◌, ◌||◌, Bool, true, false, cond, List, [], ◌∷◌, length, map, Option, Some, None, refl, sym, ap, subst, ◌∙◌, inl, inr, ⊎_elim, arith}
+use Rattle.std.proofs.Common.{◌≡◌, ◌⊎◌, ℕ, zero, suc, ◌+◌, ◌<◌, ◌≤◌, ◌&&◌, ◌||◌, Bool, true, false, cond, List, [], ◌∷◌, length, map, Option, Some, None, refl, sym, ap, subst, ◌∙◌, inl, inr, ⊎_elim, arith}
 use Rattle.std.specs.Prelude.{slice_get, slice_index_or, ◌==◌, not}
 use Rattle.std.specs.List.{Contains}
-use Rattle.std.proofs.lemmas.Bool.{eqb-true}
+use Rattle.std.proofs.lemmas.Bool.{cases_lt, eqb-true}
 use Rattle.std.proofs.lemmas.Bool.Decides.{eqb_tells}
 use Rattle.std.proofs.lemmas.Option.{same_Some, slice_get_within}
 use Rattle.bril_tree.specs.declared.edge.Edge.{Edge}
@@ -194,3 +194,19 @@ module _ (code : List Instr) (graph : GraphView) (is_graph : IsGraphOf code grap
                   let q : p ≡ end_of e.walk = sym en.1.2 ∙ eqb-true en.1.0.leave en.1.0.from same ∙ edge-from in
                   absurd (opens-or_closes (slice_get code p) speculates (ap (λ n. item_change (slice_get code n) true) q ∙ closes))
               tells false differ = ap not differ
+
+  -- a label of a point's row is entered from there
+  pub row-edge : (rows : List (List ℕ)) → AreRows code graph.edges rows → (p k : ℕ) → In k (slice_index_or rows p []) → (edge : Edge) × IsEdge code edge × (edge.leave ≡ p) × (edge.to ≡ k)
+  row-edge rows are p k among = ⊎_elim there (λ past. absurd (none rows p (let l = are.long in omega arith) among)) (cases_lt p (length code))
+    where
+      none : (xs : List (List ℕ)) (i : ℕ) → length xs ≤ i → In k (slice_index_or xs i []) → ⊥
+      none [] i h j = j
+      none (y ∷ ys) zero h j = omega arith
+      none (y ∷ ys) (suc i) h j = none ys i (omega arith) j
+
+      there : p < length code → (edge : Edge) × IsEdge code edge × (edge.leave ≡ p) × (edge.to ≡ k)
+      there low =
+          let c = ((are.each p low).exact k).0 (contains_in k (slice_index_or rows p []) among) in
+          let s = in_map_source access_of (record { item = k; location = p }) _ (in_contains (record { item = k; location = p }) (leaves_of code graph.edges) c) in
+          let f = filter_in (leaves_before code) graph.edges s.0 s.1 in
+          (s.0, edge_told code graph is_graph s.0 (contains_in s.0 graph.edges f.0), ap (λ (a : Access). a.location) (sym s.2), ap (λ (a : Access). a.item) (sym s.2))

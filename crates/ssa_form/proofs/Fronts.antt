@@ -48,6 +48,17 @@ Apart gets = AllPairs (λ (a b : WantedGet). a.definition ≢ b.definition) gets
 apart-none : Apart []
 apart-none = λ i j d less inside. absurd (omega arith)
 
+pub apart-rest : (w : WantedGet) (gets : List WantedGet) → Apart (w ∷ gets) → Apart gets
+apart-rest w gets apart i j d less inside = apart (suc i) (suc j) d (omega arith) (omega arith)
+
+pub apart-first : (w : WantedGet) (gets : List WantedGet) → Apart (w ∷ gets) → (v : WantedGet) → In v gets → w.definition ≡ v.definition → ⊥
+apart-first w gets apart v i e = let c = at v gets i in apart 0 (suc c.0) w (omega arith) (omega (arith, c.1)) (e ∙ ap (λ (u : WantedGet). u.definition) (sym c.2))
+  where
+    at : (v : WantedGet) (list : List WantedGet) → In v list → (k : ℕ) × (k < length list) × (get_or list k w ≡ v)
+    at v [] i = absurd i
+    at v (u ∷ list) (inl e) = (0, omega arith, sym e)
+    at v (u ∷ list) (inr i) = let r = at v list i in (suc r.0, omega (arith, r.1), r.2)
+
 apart-range : (list : List WantedGet) (from to : ℕ) → Apart list → Apart (slice_range list from to)
 apart-range list from to apart i j d less inside =
     let size = length-take (to - from) (drop from list) in

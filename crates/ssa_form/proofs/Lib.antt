@@ -5,3 +5,4 @@ pub mod Following
 pub mod Edges
 pub mod Needed
 pub mod Edits
+pub mod Sizes

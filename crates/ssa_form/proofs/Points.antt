@@ -21,7 +21,7 @@ use Rattle.ssa_tree.proofs.Standing.{laid-stand}
 -- ---- pieces, one for each item
 
 module _ (b : ℕ → List Item) (f : ℕ → Item → Item) where
-  abbrev piece : ℕ → Item → List Item
+  abbrev pub piece : ℕ → Item → List Item
   piece i x = b i ++ f i x ∷ []
 
   -- what stands at a place of the pieces from item k on
@@ -48,7 +48,7 @@ module _ (b : ℕ → List Item) (f : ℕ → Item → Item) where
 
   stands : (k : ℕ) (xs : List Item) (j : ℕ) (y : Item) → slice_get (laid_items piece k xs ++ b (k + length xs)) j ≡ Some y → Stands k xs j y
   stands k [] j y at = let e : k + 0 ≡ k = omega arith in Ahead 0 j (omega arith) at (ap (λ m. start_of b nothing m + j) (sym e))
-  stands k (x ∷ xs) j y at = ⊎_elim ahead (λ ge. by (j - length (b k)) (omega arith)) (cases_lt j (length (b k)))
+  stands k (x ∷ xs) j y at = ⊎_elim ahead (λ ge. by (j - length (b k)) (omega arith) (λ m. stands (suc k) xs m y)) (cases_lt j (length (b k)))
     where
       whole : slice_get (b k ++ f k x ∷ (laid_items piece (suc k) xs ++ b (suc k + length xs))) j ≡ Some y
       whole = ap (λ (l : List Item). slice_get l j) (sym (unrolled k x xs)) ∙ at
@@ -59,15 +59,15 @@ module _ (b : ℕ → List Item) (f : ℕ → Item → Item) where
       ahead : j < length (b k) → Stands k (x ∷ xs) j y
       ahead less = Ahead 0 j (omega arith) (ap (λ m. slice_get (b m) j) same ∙ sym (get-left (b k) (f k x ∷ (laid_items piece (suc k) xs ++ b (suc k + length xs))) j less) ∙ whole) (ap (λ m. start_of b nothing m + j) (sym same))
 
-      by : (m : ℕ) → j ≡ length (b k) + m → Stands k (x ∷ xs) j y
-      by zero e =
+      by : (m : ℕ) → j ≡ length (b k) + m → ((m : ℕ) → slice_get (laid_items piece (suc k) xs ++ b (suc k + length xs)) m ≡ Some y → Stands (suc k) xs m y) → Stands k (x ∷ xs) j y
+      by zero e again =
           let here : Some (f k x) ≡ Some y = sym (get-right (b k) (f k x ∷ (laid_items piece (suc k) xs ++ b (suc k + length xs))) 0) ∙ ap (slice_get (b k ++ f k x ∷ (laid_items piece (suc k) xs ++ b (suc k + length xs)))) (sym e) ∙ whole in
           let there : start_of b nothing k + j ≡ position_of b nothing k = omega (arith, e) in
           Own 0 x refl (there ∙ ap (position_of b nothing) (sym same)) (sym (same_Some _ _ here) ∙ ap (λ n. f n x) (sym same))
-      by (suc m) e =
+      by (suc m) e again =
           let rest : slice_get (laid_items piece (suc k) xs ++ b (suc k + length xs)) m ≡ Some y =
           sym (get-right (b k) (f k x ∷ (laid_items piece (suc k) xs ++ b (suc k + length xs))) (suc m)) ∙ ap (slice_get (b k ++ f k x ∷ (laid_items piece (suc k) xs ++ b (suc k + length xs)))) (sym e) ∙ whole in
-          further k x xs j m y e (stands (suc k) xs m y rest)
+          further k x xs j m y e (again m rest)
 
 -- ---- a laid function
 

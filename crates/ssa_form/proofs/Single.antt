@@ -38,7 +38,7 @@ use Rattle.ssa_sweep.specs.declared.now.WantedGet.{WantedGet}
 use Rattle.ssa_tree.specs.Made.{IsLaidFunction}
 use Rattle.ssa_tree.proofs.Parts.{written-long}
 use Rattle.ssa_form.specs.Form.{Assigns, assigned_name}
-use Rattle.ssa_form.proofs.Fronts.{Apart, FrontAt, GotAt, IsStaying, PutAt, front-at, gets-part, is-got, is-staying, staying, staying-apart, total}
+use Rattle.ssa_form.proofs.Fronts.{Apart, FrontAt, GotAt, IsStaying, PutAt, apart-first, apart-rest, front-at, gets-part, is-got, is-staying, staying, staying-apart, total}
 use Rattle.ssa_form.proofs.Points.{Front, Home, Point, begin, front, home, layout, now, own, point, tree_in}
 
 -- ---- what a laid item assigns
@@ -97,30 +97,18 @@ module _ (fs : List (List ℕ)) (F : Func) (g : FuncTree) (x : IsLaidFunction F 
 
   got-apart : (gets : List WantedGet) → Apart gets → ((get : WantedGet) → In get gets → get.definition < total fs F g x) → AllPairs OtherNames (get_items F.vars x.names gets)
   got-apart [] apart low = λ i j d less inside. absurd (omega arith)
-  got-apart (w ∷ gets) apart low = by (variable_type F.vars (w.location / 2)) refl
+  got-apart (w ∷ gets) apart low = by (variable_type F.vars (w.location / 2)) refl (got-apart gets (apart-rest w gets apart) (λ get i. low get (inr i)))
     where
-      rest : AllPairs OtherNames (get_items F.vars x.names gets)
-      rest = got-apart gets (differ-apart w gets apart) (λ get i. low get (inr i))
-        where
-          differ-apart : (w : WantedGet) (gets : List WantedGet) → Apart (w ∷ gets) → Apart gets
-          differ-apart w gets apart i j d less inside = apart (suc i) (suc j) d (omega arith) (omega arith)
-
       other : (z : Item) → In z (get_items F.vars x.names gets) → (ty : Ty) → OtherNames (got_item (name_in x.names w.definition) ty) z
       other z i ty e =
           let s = is-got F.vars x.names gets z i in
           let same : name_in x.names w.definition ≡ name_in x.names s.get.definition = same_Some _ _ (e ∙ ap assigned_name s.is) in
           let one = names-one w.definition s.get.definition (low w (inl refl)) (low s.get (inr s.among)) same in
-          let c = in_contains_at s.get gets s.among in
-          apart 0 (suc c.0) w (omega arith) (omega (arith, c.1)) (one ∙ ap (λ (v : WantedGet). v.definition) (sym c.2))
-        where
-          in_contains_at : (v : WantedGet) (gets : List WantedGet) → In v gets → (k : ℕ) × (k < length gets) × (get_or gets k w ≡ v)
-          in_contains_at v [] i = absurd i
-          in_contains_at v (u ∷ gets) (inl e) = (0, omega arith, sym e)
-          in_contains_at v (u ∷ gets) (inr i) = let r = in_contains_at v gets i in (suc r.0, omega (arith, r.1), r.2)
+          apart-first w gets apart s.get s.among one
 
-      by : (o : Option Ty) → variable_type F.vars (w.location / 2) ≡ o → AllPairs OtherNames (get_items F.vars x.names (w ∷ gets))
-      by None e = subst (λ o. AllPairs OtherNames (typed_get o (name_in x.names w.definition) ++ get_items F.vars x.names gets)) (sym e) rest
-      by (Some ty) e =
+      by : (o : Option Ty) → variable_type F.vars (w.location / 2) ≡ o → AllPairs OtherNames (get_items F.vars x.names gets) → AllPairs OtherNames (get_items F.vars x.names (w ∷ gets))
+      by None e rest = subst (λ o. AllPairs OtherNames (typed_get o (name_in x.names w.definition) ++ get_items F.vars x.names gets)) (sym e) rest
+      by (Some ty) e rest =
           subst (λ o. AllPairs OtherNames (typed_get o (name_in x.names w.definition) ++ get_items F.vars x.names gets)) (sym e)
           (AllPairs-cons OtherNames (got_item (name_in x.names w.definition) ty) (get_items F.vars x.names gets) (in_all (OtherNames (got_item (name_in x.names w.definition) ty)) (get_items F.vars x.names gets) (λ z i. other z i ty)) rest)
 
