@@ -1,4 +1,0 @@
-pub mod Numbers
-pub mod Form
-pub mod Ssa
-pub mod Laws

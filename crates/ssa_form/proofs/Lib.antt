@@ -6,3 +6,5 @@ pub mod Edges
 pub mod Needed
 pub mod Edits
 pub mod Sizes
+pub mod Trees
+pub mod Having
