@@ -1,8 +1,8 @@
 -- Where edges leave to a label: each has `set`s before the item from which it leaves, or behind that, before the label.
-use Rattle.std.proofs.Common.{◌≡◌, ◌⊎◌, ℕ, zero, suc, ◌+◌, ◌<◌, ◌≤◌, ◌&&◌, ◌||◌, Bool, true, false, cond, List, [], ◌∷◌, length, map, Option, Some, None, refl, sym, ap, subst, ◌∙◌, inl, inr, ⊎_elim, arith}
+use Rattle.std.proofs.Common.{◌≡◌, ◌⊎◌, ℕ, zero, suc, ◌+◌, ◌<◌, ◌≤◌, ◌&&◌, ◌||◌, Bool, true, false, cond, List, [], ◌∷◌, length, map, Option, Some, None, refl, sym, ap, subst, ◌∙◌, inl, inr, ⊎_elim, arith, eq-eqb}
 use Rattle.std.specs.Prelude.{slice_get, slice_index_or, ◌==◌, not}
 use Rattle.std.specs.List.{Contains}
-use Rattle.std.proofs.lemmas.Bool.{cases_lt, eqb-true}
+use Rattle.std.proofs.lemmas.Bool.{and_parts, cases_lt, eqb-true}
 use Rattle.std.proofs.lemmas.Bool.Decides.{eqb_tells}
 use Rattle.std.proofs.lemmas.Option.{same_Some, slice_get_within}
 use Rattle.bril_tree.specs.declared.edge.Edge.{Edge}
@@ -210,3 +210,41 @@ module _ (code : List Instr) (graph : GraphView) (is_graph : IsGraphOf code grap
           let s = in_map_source access_of (record { item = k; location = p }) _ (in_contains (record { item = k; location = p }) (leaves_of code graph.edges) c) in
           let f = filter_in (leaves_before code) graph.edges s.0 s.1 in
           (s.0, edge_told code graph is_graph s.0 (contains_in s.0 graph.edges f.0), ap (λ (a : Access). a.location) (sym s.2), ap (λ (a : Access). a.item) (sym s.2))
+
+  -- and edges leave from such a point before it is passed: it is a jump, or opens a site
+  pub row-departs : (rows : List (List ℕ)) → AreRows code graph.edges rows → (p k : ℕ) → In k (slice_index_or rows p []) → (is_jump (slice_get code p) ≡ true) ⊎ (item_change (slice_get code p) false ≡ Opens)
+  row-departs rows are p k among = ⊎_elim there (λ past. absurd (none rows p (let l = are.long in omega arith) among)) (cases_lt p (length code))
+    where
+      none : (xs : List (List ℕ)) (i : ℕ) → length xs ≤ i → In k (slice_index_or xs i []) → ⊥
+      none [] i h j = j
+      none (y ∷ ys) zero h j = omega arith
+      none (y ∷ ys) (suc i) h j = none ys i (omega arith) j
+
+      by : (edge : Edge) (e : IsEdge code edge) → edge.leave ≡ p → not (edge.leave == edge.from) ≡ true → item_change (slice_get code p) false ≡ Opens
+      by edge e here differ = from e.branch.aborts refl (sites_of code e.walk) refl
+        where
+          own : edge.leave ≡ edge.from → item_change (slice_get code p) false ≡ Opens
+          own same = absurd (let h : not true ≡ true = ap not (sym (eq-eqb edge.leave edge.from same)) ∙ differ in cc)
+
+          leave : (b : Bool) → e.branch.aborts ≡ b → (sites : List ℕ) → sites_of code e.walk ≡ sites → edge.leave ≡ leave_of b e.branch.from sites
+          leave b aborts sites open_sites = ap (λ (x : Edge). x.leave) e.are ∙ ap (λ b. leave_of b e.branch.from (sites_of code e.walk)) aborts ∙ ap (leave_of b e.branch.from) open_sites
+
+          from : (b : Bool) → e.branch.aborts ≡ b → (sites : List ℕ) → sites_of code e.walk ≡ sites → item_change (slice_get code p) false ≡ Opens
+          from false keeps sites open_sites = own (leave false keeps sites open_sites ∙ ap (λ (x : Edge). x.from) (sym e.are))
+          from true aborts [] open_sites = own (leave true aborts [] open_sites ∙ ap (λ (x : Edge). x.from) (sym e.are))
+          from true aborts (s ∷ older) open_sites =
+              let at : s ≡ p = sym (leave true aborts (s ∷ older) open_sites) ∙ here in
+              ap (λ q. item_change (slice_get code q) false) (sym at) ∙ site_speculates code e.walk s (subst (In s) (sym open_sites) (inl refl))
+
+      either : (a b : Bool) → (a || b) ≡ true → (a ≡ true) ⊎ (b ≡ true)
+      either true b e = inl refl
+      either false b e = inr e
+
+      there : p < length code → (is_jump (slice_get code p) ≡ true) ⊎ (item_change (slice_get code p) false ≡ Opens)
+      there low =
+          let c = ((are.each p low).exact k).0 (contains_in k (slice_index_or rows p []) among) in
+          let s = in_map_source access_of (record { item = k; location = p }) _ (in_contains (record { item = k; location = p }) (leaves_of code graph.edges) c) in
+          let f = filter_in (leaves_before code) graph.edges s.0 s.1 in
+          let here : s.0.leave ≡ p = ap (λ (a : Access). a.location) (sym s.2) in
+          let test = (and_parts (is_label (slice_get code s.0.to)) _ f.1).1 in
+          ⊎_elim (λ j. inl (ap (λ q. is_jump (slice_get code q)) (sym here) ∙ j)) (λ d. inr (by s.0 (edge_told code graph is_graph s.0 (contains_in s.0 graph.edges f.0)) here d)) (either (is_jump (slice_get code s.0.leave)) _ test)

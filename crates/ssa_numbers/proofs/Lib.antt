@@ -1,0 +1,4 @@
+pub mod Leading
+pub mod Beside
+pub mod Sites
+pub mod Silent

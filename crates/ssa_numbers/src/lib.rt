@@ -1,0 +1,2 @@
+//! Laws alone.
+#![tactic(auto)]
