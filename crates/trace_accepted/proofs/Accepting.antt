@@ -1,4 +1,6 @@
 -- A program with laid traces is accepted.
+use Rattle.bril_tree.specs.declared.function_tree.FuncTree.{FuncTree}
+use Rattle.pass_names.proofs.Standing.{ActionAt, action_at}
 use Rattle.bril_tree.specs.declared.function_tree.Item.TheVariants as item
 use Rattle.bril_tree.specs.declared.operation.Op.TheVariants as op
 use Rattle.bril_tree.specs.declared.types.Base.TheVariants as base
@@ -32,18 +34,18 @@ use Rattle.bril_names.proofs.Naming.{one_number, AreBelow-append}
 use Rattle.pass_names.specs.Named.{SameName}
 use Rattle.pass_names.specs.NamedPlan.{SameHeads}
 use Rattle.pass_accept.proofs.Accepted.{program_accepted}
-use Rattle.bril_tree.proofs.Trees.{tree_at-function, nothing_at}
+use Rattle.bril_tree.proofs.Trees.{function_at, tree_at-function, nothing_at}
 use Rattle.trace_paths.specs.Path.{Turns, item_met, path_of}
 use Rattle.trace_lines.specs.Lines.{not_line, args_in, trace_lines}
 use Rattle.pass_plan.specs.Spliced.{spliced, position_of}
 use Rattle.trace_lines.specs.Traced.{Trace, Laying, stop_lines, trace_at, lines_behind, IsLaidTree}
 use Rattle.trace_refines.specs.Stitched.{Stitched}
-use Rattle.trace_refines.proofs.Items.{Numbers, numbers, label_at}
+use Rattle.trace_refines.proofs.Items.{label_at}
 use Rattle.trace_refines.proofs.Straight.{turns-br}
 use Rattle.trace_refines.proofs.Plans.{tracing}
 use Rattle.trace_refines.proofs.Along.{first_same, first_named}
 use Rattle.trace_lines.proofs.Layings.{IsLayable, located, stop_line}
-use Rattle.trace_refines.proofs.Laying.{stitched, traces-are, traced, kept-at, heads, tree_there, stands-in}
+use Rattle.trace_refines.proofs.Laying.{stitched, traces-are, traced, kept-at, heads, stands-in}
 use Rattle.trace_accepted.proofs.Placing.{stitched-walks}
 use Rattle.pass_accept.proofs.Heads.{start_matched}
 use Rattle.pass_names.proofs.Heads.{first_names}
@@ -111,14 +113,14 @@ module _ (P Q : Prog) (bool : Ty) (same : same_type bool bool ≡ true) (plain :
     pub sort : (j : ℕ) (a : Item) → tree_at Q f j ≡ Some a → Sort j a
     sort j a at = by (in-spliced (stop_lines P laid f) (λ i. lines_behind P bool f i (trace_at laid f i)) a 0 tP.code (get_in (spliced (stop_lines P laid f) (λ i. lines_behind P bool f i (trace_at laid f i)) 0 tP.code) j a here))
       where
-        tP : Rattle.bril_tree.specs.declared.function_tree.FuncTree.FuncTree
+        tP : FuncTree
         tP = function_tree (names_of_functions P.funcs) F
 
         hP : slice_get (tree_of P).funcs f ≡ Some (function_tree (names_of_functions P.funcs) F)
-        hP = tree_there P Q bool laid layable most sp P f F p
+        hP = function_at P f F p
 
         hQ : slice_get (tree_of Q).funcs f ≡ Some (function_tree (names_of_functions Q.funcs) G)
-        hQ = tree_there P Q bool laid layable most sp Q f G q
+        hQ = function_at Q f G q
 
         here : slice_get (spliced (stop_lines P laid f) (λ i. lines_behind P bool f i (trace_at laid f i)) 0 (function_tree (names_of_functions P.funcs) F).code) j ≡ Some a
         here = sym (tree_at-function Q f j (function_tree (names_of_functions Q.funcs) G) hQ ∙ ap (λ l. slice_get l j) (sp.functions f (function_tree (names_of_functions P.funcs) F) (function_tree (names_of_functions Q.funcs) G) hP hQ).code) ∙ at
@@ -262,10 +264,10 @@ module _ (P Q : Prog) (bool : Ty) (same : same_type bool bool ≡ true) (plain :
     bare : (o : Op) (fns ls : List ℕ) (d : Option ℕ) (ty : Option Ty) (xs : List ℕ) → d ≡ None → ty ≡ None → xs ≡ [] → fns ≡ [] → ls ≡ [] → FitsByItself Q G (Act None None o [] [] []) → FitsByItself Q G (Act d ty o xs fns ls)
     bare o fns ls d ty xs ed et ex ef el h = subst (FitsByItself Q G) (λ i. Act (sym ed i) (sym et i) o (sym ex i) (sym ef i) (sym el i)) h
 
-    exact : (o : Op) (j : ℕ) (args labels : List (List ℕ)) (n : Numbers Q f j None o args [] labels) (xs ls : List ℕ) → n.xs ≡ xs → n.ls ≡ ls → item_at Q f j ≡ Some (Act None None o xs [] ls)
+    exact : (o : Op) (j : ℕ) (args labels : List (List ℕ)) (n : ActionAt Q f j None o args [] labels) (xs ls : List ℕ) → n.arguments ≡ xs → n.targets ≡ ls → item_at Q f j ≡ Some (Act None None o xs [] ls)
     exact o j args labels n xs ls ex el =
-        let d = no-dest (names_in (slice_get Q.funcs f)) n.d n.ty n.range.typed n.dest_is in
-        n.at ∙ (λ i. Some (Act (d.0 i) (d.1 i) o (ex i) (nil-of (named (names_of_functions Q.funcs)) n.fns n.funcs_are i) (el i)))
+        let d = no-dest (names_in (slice_get Q.funcs f)) n.assigned n.ty n.range.typed n.has_dest in
+        n.at ∙ (λ i. Some (Act (d.0 i) (d.1 i) o (ex i) (nil-of (named (names_of_functions Q.funcs)) n.callees n.has_funcs i) (el i)))
 
     guard-alone : (y l : ℕ) → if_typed (is_plain base.Bool) (variable_type G.vars y) ≡ true → FitsByItself Q G (Act None None op.Guard (y ∷ []) [] (l ∷ []))
     guard-alone y l t = record { shaped = refl; calls = refl; typed = ap (λ c. wrong_unless (true && c)) t }
@@ -299,8 +301,8 @@ module _ (P Q : Prog) (bool : Ty) (same : same_type bool bool ≡ true) (plain :
             single (z ∷ []) n = refl
             single (z ∷ w ∷ zs) n = absurd (omega arith)
 
-    below_args : (j : ℕ) (d : Option Dest) (o : Op) (args labels : List (List ℕ)) (n : Numbers Q f j d o args [] labels) → AreBelow (length (names_in (slice_get Q.funcs f))) n.xs
-    below_args j d o args labels n = (AreBelow-append (length (names_in (slice_get Q.funcs f))) (listed n.d) n.xs n.range.variables).1
+    below_args : (j : ℕ) (d : Option Dest) (o : Op) (args labels : List (List ℕ)) (n : ActionAt Q f j d o args [] labels) → AreBelow (length (names_in (slice_get Q.funcs f))) n.arguments
+    below_args j d o args labels n = (AreBelow-append (length (names_in (slice_get Q.funcs f))) (listed n.assigned) n.arguments n.range.variables).1
 
     record NotDest (d : Option ℕ) (ty' : Option Ty) (name : List ℕ) : Type 0 where
       x : ℕ
@@ -309,8 +311,8 @@ module _ (P Q : Prog) (bool : Ty) (same : same_type bool bool ≡ true) (plain :
       within : x < length (variable_names G.vars)
       named_so : named (variable_names G.vars) x ≡ name
 
-    not-dest : (j : ℕ) (args : List (List ℕ)) (name : List ℕ) (n : Numbers Q f j (Some (record { name = name; ty = bool })) op.Not args [] []) → NotDest n.d n.ty name
-    not-dest j args name n = by n.d n.ty n.dest_is (AreBelow-append (length (names_in (slice_get Q.funcs f))) (listed n.d) n.xs n.range.variables).0
+    not-dest : (j : ℕ) (args : List (List ℕ)) (name : List ℕ) (n : ActionAt Q f j (Some (record { name = name; ty = bool })) op.Not args [] []) → NotDest n.assigned n.ty name
+    not-dest j args name n = by n.assigned n.ty n.has_dest (AreBelow-append (length (names_in (slice_get Q.funcs f))) (listed n.assigned) n.arguments n.range.variables).0
       where
         by : (d : Option ℕ) (t : Option Ty) → dest_tree (names_in (slice_get Q.funcs f)) d t ≡ Some (record { name = name; ty = bool }) → AreBelow (length (names_in (slice_get Q.funcs f))) (listed d) → NotDest d t name
         by None t e b = absurd cc
@@ -322,54 +324,54 @@ module _ (P Q : Prog) (bool : Ty) (same : same_type bool bool ≡ true) (plain :
     fits-line : (j : ℕ) (b : Instr) (a : Item) → item_at Q f j ≡ Some b → tree_at Q f j ≡ Some a → (x : Laying) → In x laid → x.fit.function ≡ f → (whole : List Item) → ((c : Item) → In c whole → (k : ℕ) × (tree_at Q f k ≡ Some c)) → Line bool (tree_at P f) x.names (code_of P f) whole a → FitsByItself Q G b ⊎ ((i : ℕ) × (tree_at Q f j ≡ tree_at P f i))
     fits-line j b a at ta x among ef whole placed (Copy i met e) = inr (i, ta ∙ sym e)
     fits-line j b a at ta x among ef whole placed (Bare o (inl k) e) =
-        let n = numbers Q f j None op.Speculate [] [] [] (ta ∙ ap Some (e ∙ ap (λ z. item.Act None z [] [] []) k)) in
-        inl (alone-at j b (Act None None op.Speculate [] [] []) at (exact op.Speculate j [] [] n [] [] (nil-of (named (names_in (slice_get Q.funcs f))) n.xs n.args_are) (nil-of (named n.function.labels) n.ls n.labels_are)) (record { shaped = refl; calls = refl; typed = refl }))
+        let n = action_at Q f j None op.Speculate [] [] [] (ta ∙ ap Some (e ∙ ap (λ z. item.Act None z [] [] []) k)) in
+        inl (alone-at j b (Act None None op.Speculate [] [] []) at (exact op.Speculate j [] [] n [] [] (nil-of (named (names_in (slice_get Q.funcs f))) n.arguments n.has_args) (nil-of (named n.function.labels) n.targets n.has_labels)) (record { shaped = refl; calls = refl; typed = refl }))
     fits-line j b a at ta x among ef whole placed (Bare o (inr k) e) =
-        let n = numbers Q f j None op.Commit [] [] [] (ta ∙ ap Some (e ∙ ap (λ z. item.Act None z [] [] []) k)) in
-        inl (alone-at j b (Act None None op.Commit [] [] []) at (exact op.Commit j [] [] n [] [] (nil-of (named (names_in (slice_get Q.funcs f))) n.xs n.args_are) (nil-of (named n.function.labels) n.ls n.labels_are)) (record { shaped = refl; calls = refl; typed = refl }))
+        let n = action_at Q f j None op.Commit [] [] [] (ta ∙ ap Some (e ∙ ap (λ z. item.Act None z [] [] []) k)) in
+        inl (alone-at j b (Act None None op.Commit [] [] []) at (exact op.Commit j [] [] n [] [] (nil-of (named (names_in (slice_get Q.funcs f))) n.arguments n.has_args) (nil-of (named n.function.labels) n.targets n.has_labels)) (record { shaped = refl; calls = refl; typed = refl }))
     fits-line j b a at ta x among ef whole placed (Goto l e) =
-        let n = numbers Q f j None op.Jmp [] [] (l ∷ []) (ta ∙ ap Some e) in
-        inl (alone-at j b (Act None None op.Jmp [] [] (slice_index n.ls 0 ∷ [])) at (exact op.Jmp j [] (l ∷ []) n [] (slice_index n.ls 0 ∷ []) (nil-of (named (names_in (slice_get Q.funcs f))) n.xs n.args_are) (one-of (named n.function.labels) n.ls l n.labels_are)) (record { shaped = refl; calls = refl; typed = refl }))
+        let n = action_at Q f j None op.Jmp [] [] (l ∷ []) (ta ∙ ap Some e) in
+        inl (alone-at j b (Act None None op.Jmp [] [] (slice_index n.targets 0 ∷ [])) at (exact op.Jmp j [] (l ∷ []) n [] (slice_index n.targets 0 ∷ []) (nil-of (named (names_in (slice_get Q.funcs f))) n.arguments n.has_args) (one-of (named n.function.labels) n.targets l n.has_labels)) (record { shaped = refl; calls = refl; typed = refl }))
     fits-line j b a at ta x among ef whole placed (Mark l e) = let n = label_at Q f j l (ta ∙ ap Some e) in inl (alone-at j b (Label n.number) at n.at (record { shaped = refl; calls = refl; typed = refl }))
     fits-line j b a at ta x among ef whole placed (Checks i on off met e) =
-        let n = numbers Q f j None op.Guard (args_in (tree_at P f i)) [] (x.names.bail ∷ []) (ta ∙ ap Some e) in
-        let c = condition-typed i on off met n.xs n.args_are (below_args j None op.Guard (args_in (tree_at P f i)) (x.names.bail ∷ []) n) in
-        inl (alone-at j b (Act None None op.Guard (slice_index n.xs 0 ∷ []) [] (slice_index n.ls 0 ∷ [])) at
-        (exact op.Guard j (args_in (tree_at P f i)) (x.names.bail ∷ []) n (slice_index n.xs 0 ∷ []) (slice_index n.ls 0 ∷ []) c.0 (one-of (named n.function.labels) n.ls x.names.bail n.labels_are)) (guard-alone (slice_index n.xs 0) (slice_index n.ls 0) c.1))
-    fits-line j b a at ta x among ef whole placed (ChecksNot i on off m met neg e) = checks-not (numbers Q f j None op.Guard (x.names.nots m ∷ []) [] (x.names.bail ∷ []) (ta ∙ ap Some e))
+        let n = action_at Q f j None op.Guard (args_in (tree_at P f i)) [] (x.names.bail ∷ []) (ta ∙ ap Some e) in
+        let c = condition-typed i on off met n.arguments n.has_args (below_args j None op.Guard (args_in (tree_at P f i)) (x.names.bail ∷ []) n) in
+        inl (alone-at j b (Act None None op.Guard (slice_index n.arguments 0 ∷ []) [] (slice_index n.targets 0 ∷ [])) at
+        (exact op.Guard j (args_in (tree_at P f i)) (x.names.bail ∷ []) n (slice_index n.arguments 0 ∷ []) (slice_index n.targets 0 ∷ []) c.0 (one-of (named n.function.labels) n.targets x.names.bail n.has_labels)) (guard-alone (slice_index n.arguments 0) (slice_index n.targets 0) c.1))
+    fits-line j b a at ta x among ef whole placed (ChecksNot i on off m met neg e) = checks-not (action_at Q f j None op.Guard (x.names.nots m ∷ []) [] (x.names.bail ∷ []) (ta ∙ ap Some e))
       where
         -- it stands behind the `not`, whose destination it reads
-        checks-not : Numbers Q f j None op.Guard (x.names.nots m ∷ []) [] (x.names.bail ∷ []) → FitsByItself Q G b ⊎ ((i : ℕ) × (tree_at Q f j ≡ tree_at P f i))
+        checks-not : ActionAt Q f j None op.Guard (x.names.nots m ∷ []) [] (x.names.bail ∷ []) → FitsByItself Q G b ⊎ ((i : ℕ) × (tree_at Q f j ≡ tree_at P f i))
         checks-not n =
-            let one = one-of (named (names_in (slice_get Q.funcs f))) n.xs (x.names.nots m) n.args_are in
-            let first = first_named (names_in (slice_get Q.funcs f)) n.xs (x.names.nots m) n.args_are (below_args j None op.Guard (x.names.nots m ∷ []) (x.names.bail ∷ []) n) in
-            let less : slice_index n.xs 0 < length (variable_names G.vars) = subst (λ l. slice_index n.xs 0 < length l) inQ first.0 in
-            let name : named (variable_names G.vars) (slice_index n.xs 0) ≡ x.names.nots m = ap (λ l. named l (slice_index n.xs 0)) (sym inQ) ∙ first.1 in
-            let t : variable_type G.vars (slice_index n.xs 0) ≡ Some bool = given (slice_index n.xs 0) less name in
-            inl (alone-at j b (Act None None op.Guard (slice_index n.xs 0 ∷ []) [] (slice_index n.ls 0 ∷ [])) at
-            (exact op.Guard j (x.names.nots m ∷ []) (x.names.bail ∷ []) n (slice_index n.xs 0 ∷ []) (slice_index n.ls 0 ∷ []) one (one-of (named n.function.labels) n.ls x.names.bail n.labels_are))
-            (guard-alone (slice_index n.xs 0) (slice_index n.ls 0) (ap (if_typed (is_plain base.Bool)) t ∙ plain)))
+            let one = one-of (named (names_in (slice_get Q.funcs f))) n.arguments (x.names.nots m) n.has_args in
+            let first = first_named (names_in (slice_get Q.funcs f)) n.arguments (x.names.nots m) n.has_args (below_args j None op.Guard (x.names.nots m ∷ []) (x.names.bail ∷ []) n) in
+            let less : slice_index n.arguments 0 < length (variable_names G.vars) = subst (λ l. slice_index n.arguments 0 < length l) inQ first.0 in
+            let name : named (variable_names G.vars) (slice_index n.arguments 0) ≡ x.names.nots m = ap (λ l. named l (slice_index n.arguments 0)) (sym inQ) ∙ first.1 in
+            let t : variable_type G.vars (slice_index n.arguments 0) ≡ Some bool = given (slice_index n.arguments 0) less name in
+            inl (alone-at j b (Act None None op.Guard (slice_index n.arguments 0 ∷ []) [] (slice_index n.targets 0 ∷ [])) at
+            (exact op.Guard j (x.names.nots m ∷ []) (x.names.bail ∷ []) n (slice_index n.arguments 0 ∷ []) (slice_index n.targets 0 ∷ []) one (one-of (named n.function.labels) n.targets x.names.bail n.has_labels))
+            (guard-alone (slice_index n.arguments 0) (slice_index n.targets 0) (ap (if_typed (is_plain base.Bool)) t ∙ plain)))
           where
             given : (y : ℕ) → y < length (variable_names G.vars) → named (variable_names G.vars) y ≡ x.names.nots m → variable_type G.vars y ≡ Some bool
             given y less name =
                 let k = placed (not_line bool (x.names.nots m) (args_in (tree_at P f i))) neg in
-                let o = numbers Q f k.0 (Some (record { name = x.names.nots m; ty = bool })) op.Not (args_in (tree_at P f i)) [] [] k.1 in
+                let o = action_at Q f k.0 (Some (record { name = x.names.nots m; ty = bool })) op.Not (args_in (tree_at P f i)) [] [] k.1 in
                 let d = not-dest k.0 (args_in (tree_at P f i)) (x.names.nots m) o in
                 let one : d.x ≡ y = one_number (variable_names G.vars) (Differ-variables G) d.x y d.within less (d.named_so ∙ sym name) in
-                not-typed x among ef m y less name k.0 (Act o.d o.ty op.Not o.xs o.fns o.ls) o.at (d.is ∙ ap Some one)
+                not-typed x among ef m y less name k.0 (Act o.assigned o.ty op.Not o.arguments o.callees o.targets) o.at (d.is ∙ ap Some one)
     fits-line j b a at ta x among ef whole placed (Negates i on off m met e) =
-        let n = numbers Q f j (Some (record { name = x.names.nots m; ty = bool })) op.Not (args_in (tree_at P f i)) [] [] (ta ∙ ap Some e) in
-        let c = condition-typed i on off met n.xs n.args_are (below_args j (Some (record { name = x.names.nots m; ty = bool })) op.Not (args_in (tree_at P f i)) [] n) in
+        let n = action_at Q f j (Some (record { name = x.names.nots m; ty = bool })) op.Not (args_in (tree_at P f i)) [] [] (ta ∙ ap Some e) in
+        let c = condition-typed i on off met n.arguments n.has_args (below_args j (Some (record { name = x.names.nots m; ty = bool })) op.Not (args_in (tree_at P f i)) [] n) in
         let d = not-dest j (args_in (tree_at P f i)) (x.names.nots m) n in
-        let t = not-typed x among ef m d.x d.within d.named_so j (Act n.d n.ty op.Not n.xs n.fns n.ls) n.at d.is in
-        let item : item_at Q f j ≡ Some (Act (Some d.x) (Some bool) op.Not (slice_index n.xs 0 ∷ []) [] []) =
-        n.at ∙ (λ z. Some (Act (d.is z) (d.ty z) op.Not (c.0 z) (nil-of (named (names_of_functions Q.funcs)) n.fns n.funcs_are z) (nil-of (named n.function.labels) n.ls n.labels_are z))) in
-        inl (alone-at j b (Act (Some d.x) (Some bool) op.Not (slice_index n.xs 0 ∷ []) [] []) at item
+        let t = not-typed x among ef m d.x d.within d.named_so j (Act n.assigned n.ty op.Not n.arguments n.callees n.targets) n.at d.is in
+        let item : item_at Q f j ≡ Some (Act (Some d.x) (Some bool) op.Not (slice_index n.arguments 0 ∷ []) [] []) =
+        n.at ∙ (λ z. Some (Act (d.is z) (d.ty z) op.Not (c.0 z) (nil-of (named (names_of_functions Q.funcs)) n.callees n.has_funcs z) (nil-of (named n.function.labels) n.targets n.has_labels z))) in
+        inl (alone-at j b (Act (Some d.x) (Some bool) op.Not (slice_index n.arguments 0 ∷ []) [] []) at item
         (record {
           shaped = refl;
           calls = refl;
-          typed = ap (λ z. wrong_unless (both_typed same_type (Some bool) z && (if_typed (is_plain base.Bool) (variable_type G.vars (slice_index n.xs 0)) && is_plain base.Bool bool))) t
-              ∙ ap (λ z. wrong_unless (z && (if_typed (is_plain base.Bool) (variable_type G.vars (slice_index n.xs 0)) && is_plain base.Bool bool))) same
+          typed = ap (λ z. wrong_unless (both_typed same_type (Some bool) z && (if_typed (is_plain base.Bool) (variable_type G.vars (slice_index n.arguments 0)) && is_plain base.Bool bool))) t
+              ∙ ap (λ z. wrong_unless (z && (if_typed (is_plain base.Bool) (variable_type G.vars (slice_index n.arguments 0)) && is_plain base.Bool bool))) same
               ∙ ap (λ z. wrong_unless (true && (z && is_plain base.Bool bool))) c.1 ∙ ap (λ z. wrong_unless (true && (true && z))) plain;
         }))
 

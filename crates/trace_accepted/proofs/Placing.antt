@@ -1,7 +1,9 @@
 -- The walks of a function with laid traces are accepted.
-use Rattle.trace_accepted.proofs.Standing.{bailed, Lines}
+use Rattle.trace_accepted.proofs.Standing.{laid-item}
+use Rattle.pass_names.proofs.Standing.{ActionAt, action_at}
+use Rattle.trace_accepted.proofs.Standing.{bailed}
 use Rattle.bril_tree.specs.declared.operation.Op.TheVariants as op
-use Rattle.std.proofs.Common.{◌≡◌, ◌⊎◌, ℕ, zero, suc, ◌+◌, ◌-◌, ◌<◌, ◌≤◌, Bool, true, false, List, [], ◌∷◌, ◌++◌, length, map, Option, Some, None, refl, sym, ap, subst, ◌∙◌, inl, inr, ⊎_elim, arith, true≢false}
+use Rattle.std.proofs.Common.{◌≡◌, ◌⊎◌, ℕ, zero, suc, ◌+◌, ◌-◌, ◌<◌, ◌≤◌, Bool, true, false, List, [], ◌∷◌, length, map, Option, Some, None, refl, sym, ap, subst, ◌∙◌, inl, inr, ⊎_elim, arith, true≢false}
 use Rattle.std.specs.Prelude.{slice_get, IsTrue}
 use Rattle.std.proofs.lemmas.Bool.{cases_eq, cases_lt}
 use Rattle.std.proofs.lemmas.List.{length-append}
@@ -26,12 +28,12 @@ use Rattle.bril_names.proofs.Naming.{AreBelow-append}
 use Rattle.pass_walks.specs.Matched.{SavedSetsMatch, MatchedWalk}
 use Rattle.pass_names.specs.Named.{SameName}
 use Rattle.trace_paths.specs.Path.{Straight, Turn, Path, with_leg, Lays, Turns, item_met, chosen, path_from}
-use Rattle.trace_lines.specs.Lines.{args_in, listed_item, leg_lines, end_lines}
+use Rattle.trace_lines.specs.Lines.{args_in, leg_lines, end_lines}
 use Rattle.trace_lines.specs.Traced.{Trace}
 use Rattle.trace_refines.specs.Stitched.{IsTracedAt, Stitched}
-use Rattle.trace_refines.proofs.Items.{Numbers, numbers, label_at}
+use Rattle.trace_refines.proofs.Items.{label_at}
 use Rattle.trace_refines.proofs.Straight.{turns-br, same-lays}
-use Rattle.trace_refines.proofs.Plans.{PointsMatch, IsRegular, M, A, preserves, shared}
+use Rattle.trace_refines.proofs.Plans.{PointsMatch, IsRegular, M, A, preserves}
 use Rattle.pass_walks.proofs.Based.{Fine, Based, few_sites, regular-fine, based_walks_accepted}
 use Rattle.trace_accepted.proofs.Standing.{Under, bail, behind, Inner, tail_lines, InTrace, Door, OnPath, AtGuard, AtJmp, AtBail, Normal, Ended, Lay, Choose, normal}
 use Rattle.trace_accepted.proofs.Walking.{At, Outside, Within, all-at}
@@ -219,8 +221,8 @@ module _ (P Q : Prog) (bool : Ty) (accepted : IsAccepted P) (st : Stitched P Q b
     some-site v w i none = let e : suc (st.old f p) ∷ i.ss ≡ [] = sym i.sites ∙ none in cc
 
     -- an act without arguments
-    no-args : (v : List Branch) (o : Op) (labels : List (List ℕ)) (n : Numbers Q f (end_of v) None o [] [] labels) (x : Location) → In x (map Variable n.xs) → In x (assigned_of (code_of Q f) result_args v).locations
-    no-args v o labels n x i = let s = in_map_source Variable x n.xs i in absurd (name-none W n.xs n.args_are s.0 s.1)
+    no-args : (v : List Branch) (o : Op) (labels : List (List ℕ)) (n : ActionAt Q f (end_of v) None o [] [] labels) (x : Location) → In x (map Variable n.arguments) → In x (assigned_of (code_of Q f) result_args v).locations
+    no-args v o labels n x i = let s = in_map_source Variable x n.arguments i in absurd (name-none W n.arguments n.has_args s.0 s.1)
 
     -- what a br's condition is called is assigned
     condition-read : (v w : List Branch) (i : Inner P Q bool accepted st f args result_args p t is v w) (a : Instr) → item_at P f (end_of w) ≡ Some a → (on off : ℕ) → item_met (Some a) ≡ Turns on off → (xs : List ℕ) → map (named W) xs ≡ args_in (tree_at P f (end_of w)) → AreBelow (length W) xs
@@ -245,53 +247,50 @@ module _ (P Q : Prog) (bool : Ty) (accepted : IsAccepted P) (st : Stitched P Q b
 
     normal-summed : (v : List Branch) → Normal P Q bool accepted st f args result_args p t is v → Summed v
     normal-summed v (Ended w i lines stop) =
-        let o = numbers Q f (end_of v) None op.Commit [] [] [] lines.stands.0 in
+        let o = action_at Q f (end_of v) None op.Commit [] [] [] lines.stands.0 in
         own-site v w i lines.low (let g = lines.high in omega arith)
-        (fine-at v (Act o.d o.ty op.Commit o.xs o.fns o.ls) o.at (λ _ s. some-site v w i s) refl (no-args v op.Commit [] o))
+        (fine-at v (Act o.assigned o.ty op.Commit o.arguments o.callees o.targets) o.at (λ _ s. some-site v w i s) refl (no-args v op.Commit [] o))
     normal-summed v (Lay w i fuel room choices n a at met lines stop) =
-        let g = found P f (end_of w) a at in
-        let path = path_from (code_of P f) p fuel room choices (suc (end_of w)) in
-        let lines' : Lines P Q bool accepted st f args result_args p t is (end_of v) (item_tree (names_of_functions P.funcs) (names_in (slice_get P.funcs f)) g.function.labels a ∷ tail_lines P Q bool accepted st f args result_args p t is n (path_from (code_of P f) p fuel room choices (suc (end_of w)))) =
-        subst (λ o. Lines P Q bool accepted st f args result_args p t is (end_of v) ((listed_item o ++ leg_lines bool (tree_at P f) t.names n (path_from (code_of P f) p fuel room choices (suc (end_of w))).legs) ++ end_lines bool (tree_at P f) t.names)) g.tree lines in
-        let both = shared P Q bool accepted st f (end_of w) (end_of v) a at (g.tree ∙ sym lines'.stands.0) in
-        let lays = same-lays (A P Q bool accepted st f) a both.b both.same met in
+        let here = laid-item P Q bool accepted st f args result_args p t is (end_of v) n (end_of w) a (path_from (code_of P f) p fuel room choices (suc (end_of w))) at lines in
+        let both = here.both in
+        let lays = same-lays (A P Q bool accepted st f) a both.item both.same met in
         own-site v w i lines.low (three n (with_leg (Straight (end_of w)) (path_from (code_of P f) p fuel room choices (suc (end_of w)))) (end_of v) lines.high)
-        (fine-at v both.b both.at (λ _ s. some-site v w i s) (lays-stays both.b lays)
-        (λ x among. let q = reads_same (A P Q bool accepted st f) (Some a) both.b x both.same among in
+        (fine-at v both.item both.at (λ _ s. some-site v w i s) (lays-stays both.item lays)
+        (λ x among. let q = reads_same (A P Q bool accepted st f) (Some a) both.item x both.same among in
         read-under v w i.ss i.ys i.under q.0 (at ∙ q.2) q.1 x q.4 q.3))
     normal-summed v (Choose w i fuel room choices n a at on off met true lines stop) =
-        let o = numbers Q f (end_of v) None op.Guard (args_in (tree_at P f (end_of w))) [] (t.names.bail ∷ []) lines.stands.0 in
+        let o = action_at Q f (end_of v) None op.Guard (args_in (tree_at P f (end_of w))) [] (t.names.bail ∷ []) lines.stands.0 in
         own-site v w i lines.low (three n (with_leg (Turn (end_of w) true) (path_from (code_of P f) p fuel room choices (point_of (chosen true on off) (code_of P f)))) (end_of v) lines.high)
-        (fine-at v (Act o.d o.ty op.Guard o.xs o.fns o.ls) o.at (λ _ s. some-site v w i s) refl
-        (condition-read v w i a at on off met o.xs o.args_are (AreBelow-append (length W) (listed o.d) o.xs o.range.variables).1))
+        (fine-at v (Act o.assigned o.ty op.Guard o.arguments o.callees o.targets) o.at (λ _ s. some-site v w i s) refl
+        (condition-read v w i a at on off met o.arguments o.has_args (AreBelow-append (length W) (listed o.assigned) o.arguments o.range.variables).1))
     normal-summed v (Choose w i fuel room choices n a at on off met false lines stop) =
-        let o = numbers Q f (end_of v) (Some (record { name = t.names.nots n; ty = bool })) op.Not (args_in (tree_at P f (end_of w))) [] [] lines.stands.0 in
+        let o = action_at Q f (end_of v) (Some (record { name = t.names.nots n; ty = bool })) op.Not (args_in (tree_at P f (end_of w))) [] [] lines.stands.0 in
         own-site v w i lines.low (three n (with_leg (Turn (end_of w) false) (path_from (code_of P f) p fuel room choices (point_of (chosen false on off) (code_of P f)))) (end_of v) lines.high)
-        (fine-at v (Act o.d o.ty op.Not o.xs o.fns o.ls) o.at (λ _ s. some-site v w i s) refl
-        (condition-read v w i a at on off met o.xs o.args_are (AreBelow-append (length W) (listed o.d) o.xs o.range.variables).1))
+        (fine-at v (Act o.assigned o.ty op.Not o.arguments o.callees o.targets) o.at (λ _ s. some-site v w i s) refl
+        (condition-read v w i a at on off met o.arguments o.has_args (AreBelow-append (length W) (listed o.assigned) o.arguments o.range.variables).1))
 
     trace-summed : (v : List Branch) → InTrace P Q bool accepted st f args result_args p t is v → Summed v
     trace-summed v (Door w ew ev few u) =
-        let o = numbers Q f (suc (st.old f p)) None op.Speculate [] [] [] h.lines.0 in
-        let o' = numbers Q f (end_of v) None op.Speculate [] [] [] (ap (tree_at Q f) ev ∙ h.lines.0) in
+        let o = action_at Q f (suc (st.old f p)) None op.Speculate [] [] [] h.lines.0 in
+        let o' = action_at Q f (end_of v) None op.Speculate [] [] [] (ap (tree_at Q f) ev ∙ h.lines.0) in
         edge v w u.is ew (assigned_of (code_of P f) args w).saved (assigned_of (code_of Q f) result_args v).saved u.saved (omega arith) (omega arith) (inl ev)
-        (fine-at v (Act o'.d o'.ty op.Speculate o'.xs o'.fns o'.ls) o'.at (λ n s. true≢false (sym n)) refl (no-args v op.Speculate [] o'))
+        (fine-at v (Act o'.assigned o'.ty op.Speculate o'.arguments o'.callees o'.targets) o'.at (λ n s. true≢false (sym n)) refl (no-args v op.Speculate [] o'))
     trace-summed v (OnPath w i fuel room choices n lines stop) = normal-summed v (normal P Q bool accepted st f args result_args p t is fuel v w i room choices n lines stop)
     trace-summed v (AtGuard w i fuel room choices n lines stop reads) =
-        let o = numbers Q f (end_of v) None op.Guard (t.names.nots n ∷ []) [] (t.names.bail ∷ []) lines.stands.0 in
+        let o = action_at Q f (end_of v) None op.Guard (t.names.nots n ∷ []) [] (t.names.bail ∷ []) lines.stands.0 in
         let path = path_from (code_of P f) p fuel room choices (end_of w) in
         let l = length-append (leg_lines bool (tree_at P f) t.names (suc n) (path_from (code_of P f) p fuel room choices (end_of w)).legs) (end_lines bool (tree_at P f) t.names) in
         let g = lines.high in
         own-site v w i lines.low (omega arith)
-        (fine-at v (Act o.d o.ty op.Guard o.xs o.fns o.ls) o.at (λ _ s. some-site v w i s) refl
-        (λ x among. let s = in_map_source Variable x o.xs among in
-        let q = name-only W o.xs (t.names.nots n) o.args_are (AreBelow-append (length W) (listed o.d) o.xs o.range.variables).1 s.0 s.1 in
+        (fine-at v (Act o.assigned o.ty op.Guard o.arguments o.callees o.targets) o.at (λ _ s. some-site v w i s) refl
+        (λ x among. let s = in_map_source Variable x o.arguments among in
+        let q = name-only W o.arguments (t.names.nots n) o.has_args (AreBelow-append (length W) (listed o.assigned) o.arguments o.range.variables).1 s.0 s.1 in
         subst (λ z. In z (assigned_of (code_of Q f) result_args v).locations) (sym s.2) (reads s.0 q.0 q.1)))
     trace-summed v (AtJmp w w0 is0 end0 xs ys zip near stop line u) =
-        let o = numbers Q f (end_of v) None op.Jmp [] [] (t.names.stop ∷ []) line in
+        let o = action_at Q f (end_of v) None op.Jmp [] [] (t.names.stop ∷ []) line in
         let b = B_old in
         edge v w0 is0 end0 xs ys zip (omega arith) (omega arith) (inr (omega arith))
-        (fine-at v (Act o.d o.ty op.Jmp o.xs o.fns o.ls) o.at (λ n s. true≢false (sym n)) refl (no-args v op.Jmp (t.names.stop ∷ []) o))
+        (fine-at v (Act o.assigned o.ty op.Jmp o.arguments o.callees o.targets) o.at (λ n s. true≢false (sym n)) refl (no-args v op.Jmp (t.names.stop ∷ []) o))
     trace-summed v (AtBail w ew ev u) =
         let l = label_at Q f (bail P Q bool accepted st f args result_args p t is) t.names.bail (bailed P Q bool accepted st f args result_args p t is) in
         let b = B_old in

@@ -1,5 +1,9 @@
 -- Each walk of the result stands over a walk of the given function: at old items, at the labels put before them, or inside
 -- a trace, where one more site is open.
+use Rattle.pass_names.proofs.Standing.{SameItem, same_item}
+use Rattle.pass_names.proofs.Points.{found}
+use Rattle.trace_lines.specs.Lines.{listed_item}
+use Rattle.bril_tree.specs.Numbered.{item_tree, names_of_functions}
 use Rattle.bril_tree.specs.declared.function_tree.Item.TheVariants as item
 use Rattle.bril_tree.specs.declared.operation.Op.TheVariants as op
 use Rattle.pass_walks.proofs.Under as under
@@ -29,7 +33,7 @@ use Rattle.trace_lines.specs.Traced.{Trace}
 use Rattle.trace_refines.specs.Stitched.{Stands, StopsAt, trace_path, IsTracedAt, Stitched}
 use Rattle.trace_refines.proofs.Straight.{over-goes, to-jmp}
 use Rattle.trace_refines.proofs.Plans.{M, A}
-use Rattle.trace_refines.proofs.Along.{in_index}
+use Rattle.bril_tree.proofs.Elements.{in_index}
 use Rattle.trace_refines.proofs.Refining.{stands_append}
 use Rattle.bril_tree.specs.Membership.{In}
 use Rattle.bril_tree.proofs.Members.{in_map}
@@ -97,6 +101,18 @@ module _ (P Q : Prog) (bool : Ty) (accepted : IsAccepted P) (st : Stitched P Q b
 
     abbrev pub tail_lines : ℕ → Path → List Item
     tail_lines n path = leg_lines bool (tree_at P f) t.names n path.legs ++ end_lines bool (tree_at P f) t.names
+
+    -- a laid item in Q, and the lines behind it
+    pub record LaidItem (j n : ℕ) (a : Instr) (rest : Path) : Type 0 where
+      pub both : SameItem P Q f j a
+      pub after : Lines (suc j) (tail_lines n rest)
+
+    pub laid-item : (j n i : ℕ) (a : Instr) (rest : Path) → item_at P f i ≡ Some a → Lines j (tail_lines n (with_leg (Straight i) rest)) → LaidItem j n a rest
+    laid-item j n i a rest at lines =
+        let g = found P f i a at in
+        let item : Item = item_tree (names_of_functions P.funcs) (names_in (slice_get P.funcs f)) g.function.labels a in
+        let here : Lines j (item ∷ tail_lines n rest) = subst (λ o. Lines j ((listed_item o ++ leg_lines bool (tree_at P f) t.names n rest.legs) ++ end_lines bool (tree_at P f) t.names)) g.tree lines in
+        record { both = same_item P Q accepted st.heads.names f i j a at (g.tree ∙ sym here.stands.0); after = next-lines j item (tail_lines n rest) here }
 
     -- where a walk of Q stands, inside the trace
     pub data InTrace (v : List Branch) : Type 0 where

@@ -1,4 +1,6 @@
 -- Each branch of the result keeps what its walks stand over.
+use Rattle.trace_accepted.proofs.Standing.{laid-item}
+use Rattle.pass_names.proofs.Standing.{ActionAt, action_at, one_target, SameItem}
 use Rattle.trace_accepted.proofs.Standing.{bailed, Lines}
 use Rattle.bril_tree.specs.declared.function_tree.Item.TheVariants as item
 use Rattle.bril_tree.specs.declared.operation.Op.TheVariants as op
@@ -14,7 +16,7 @@ use Rattle.bril_tree.specs.Accepted.{IsAccepted}
 use Rattle.bril_tree.specs.Assigned.{Assigned, assigned_of, assigns_of, newest_saved}
 use Rattle.bril_tree.specs.Edge.{Branch, branches_at, branches_from, item_branches, onward, jump, abort}
 use Rattle.bril_tree.specs.FunctionForm.{listed}
-use Rattle.bril_tree.specs.Numbered.{item_tree, names_of_functions, names_in, tree_at}
+use Rattle.bril_tree.specs.Numbered.{names_in, tree_at}
 use Rattle.bril_tree.specs.Operand.{Location, Variable}
 use Rattle.bril_tree.specs.Shape.{shape_of}
 use Rattle.bril_tree.specs.Sites.{Keeps, item_change, sites_of, most_sites, without_newest}
@@ -25,20 +27,21 @@ use Rattle.pass_plan.specs.Plan.{StaysMatched}
 use Rattle.pass_walks.specs.Matched.{Covers, SavedSetsMatch, MatchedWalk}
 use Rattle.pass_walks.proofs.Walks.{regular_branch_matched}
 use Rattle.trace_paths.specs.Path.{Straight, Turn, Path, with_leg, Lays, Turns, item_met, chosen, path_from}
-use Rattle.trace_lines.specs.Lines.{guard_line, not_line, args_in, listed_item, leg_lines, end_lines}
+use Rattle.trace_lines.specs.Lines.{guard_line, not_line, args_in, leg_lines, end_lines}
 use Rattle.trace_lines.specs.Traced.{Trace}
 use Rattle.trace_refines.specs.Stitched.{StopsAt, Near, trace_path, IsTracedAt, Stitched}
-use Rattle.trace_refines.proofs.Items.{Numbers, numbers, any_target, label_at}
+use Rattle.trace_refines.proofs.Items.{label_at}
 use Rattle.trace_refines.proofs.Straight.{lays-goes, IsBr, turns-br, same-lays}
-use Rattle.trace_refines.proofs.Plans.{M, A, preserves, Shared, shared}
-use Rattle.trace_refines.proofs.Along.{in_index, dest_named}
+use Rattle.trace_refines.proofs.Plans.{M, A, preserves}
+use Rattle.bril_tree.proofs.Elements.{in_index}
+use Rattle.trace_refines.proofs.Along.{dest_named}
 use Rattle.pass_walks.proofs.Under.{Keeping, keeping-sites, keeping-assigned, sites-effect, assigned-effect, under-both, under-P, under-Q}
 use Rattle.trace_accepted.proofs.Standing.{Under, bail, behind, next-lines, Inner, tail_lines, InTrace, Door, OnPath, AtGuard, AtJmp, AtBail, Normal, Ended, Lay, Choose, normal}
 use Rattle.bril_tree.specs.Membership.{In}
 use Rattle.bril_tree.proofs.Members.{in_map, in_map_source, in_contains, in_append_left, in_append_right, in_append_cases}
 use Rattle.bril_tree.proofs.Shapes.{shape-parts, dest_none}
 use Rattle.pass_steps.proofs.Shapes.{Shaped, shaped_here}
-use Rattle.pass_names.proofs.Points.{found, Differ-in}
+use Rattle.pass_names.proofs.Points.{Differ-in}
 
 one-branch : (b c : Branch) → In b (c ∷ []) → b ≡ c
 one-branch b c (inl e) = e
@@ -103,11 +106,11 @@ module _ (P Q : Prog) (bool : Ty) (accepted : IsAccepted P) (st : Stitched P Q b
     -- at the speculate
     door-on : (v : List Branch) (b : Branch) (w : List Branch) → end_of w ≡ suc p → end_of v ≡ suc (st.old f p) → length (sites_of C w) < most_sites → U w v (sites_of D v) (assigned_of D result_args v).saved → In b (branches_at D (end_of v)) → At (b ∷ v)
     door-on v b w ew ev few u among =
-        let o = numbers Q f (suc (st.old f p)) None op.Speculate [] [] [] h.lines.0 in
-        let at : item_at Q f (end_of v) ≡ Some (Act o.d o.ty op.Speculate o.xs o.fns o.ls) = ap (item_at Q f) ev ∙ o.at in
-        let e = only-onward v b (Act o.d o.ty op.Speculate o.xs o.fns o.ls) at refl among in
-        let es = sites-effect D v (onward (end_of v)) (Some (Act o.d o.ty op.Speculate o.xs o.fns o.ls)) at refl in
-        let ea = assigned-effect D result_args v (onward (end_of v)) (Some (Act o.d o.ty op.Speculate o.xs o.fns o.ls)) at refl in
+        let o = action_at Q f (suc (st.old f p)) None op.Speculate [] [] [] h.lines.0 in
+        let at : item_at Q f (end_of v) ≡ Some (Act o.assigned o.ty op.Speculate o.arguments o.callees o.targets) = ap (item_at Q f) ev ∙ o.at in
+        let e = only-onward v b (Act o.assigned o.ty op.Speculate o.arguments o.callees o.targets) at refl among in
+        let es = sites-effect D v (onward (end_of v)) (Some (Act o.assigned o.ty op.Speculate o.arguments o.callees o.targets)) at refl in
+        let ea = assigned-effect D result_args v (onward (end_of v)) (Some (Act o.assigned o.ty op.Speculate o.arguments o.callees o.targets)) at refl in
         let inner : Inner P Q bool accepted st f args result_args p t is (onward (end_of v) ∷ v) w = record {
           w0 = w;
           is0 = u.is;
@@ -133,10 +136,10 @@ module _ (P Q : Prog) (bool : Ty) (accepted : IsAccepted P) (st : Stitched P Q b
     -- at the commit
     ended-on : (v : List Branch) (b : Branch) (w : List Branch) → Inner P Q bool accepted st f args result_args p t is v w → Lines P Q bool accepted st f args result_args p t is (end_of v) (end_lines bool (tree_at P f) t.names) → StopsAt P Q bool st.old st.stops f (end_of w) t.names.stop → In b (branches_at D (end_of v)) → At (b ∷ v)
     ended-on v b w i lines stop among =
-        let o = numbers Q f (end_of v) None op.Commit [] [] [] lines.stands.0 in
-        let e = only-onward v b (Act o.d o.ty op.Commit o.xs o.fns o.ls) o.at refl among in
-        let es = sites-effect D v (onward (end_of v)) (Some (Act o.d o.ty op.Commit o.xs o.fns o.ls)) o.at refl ∙ ap without_newest i.sites in
-        let ea = assigned-effect D result_args v (onward (end_of v)) (Some (Act o.d o.ty op.Commit o.xs o.fns o.ls)) o.at refl in
+        let o = action_at Q f (end_of v) None op.Commit [] [] [] lines.stands.0 in
+        let e = only-onward v b (Act o.assigned o.ty op.Commit o.arguments o.callees o.targets) o.at refl among in
+        let es = sites-effect D v (onward (end_of v)) (Some (Act o.assigned o.ty op.Commit o.arguments o.callees o.targets)) o.at refl ∙ ap without_newest i.sites in
+        let ea = assigned-effect D result_args v (onward (end_of v)) (Some (Act o.assigned o.ty op.Commit o.arguments o.callees o.targets)) o.at refl in
         let sv : (assigned_of D result_args (onward (end_of v) ∷ v)).saved ≡ i.ys = ap (λ (z : Assigned). z.saved) ea ∙ ap without_newest i.saved in
         let under : U w (onward (end_of v) ∷ v) i.ss i.ys = record { is = i.under.is; locations = subst (λ (z : Assigned). Covers (A P Q bool accepted st f) (assigned_of (code_of P f) args w).locations z.locations) (sym ea) i.under.locations; saved = i.under.saved } in
         let high = lines.high in
@@ -148,18 +151,18 @@ module _ (P Q : Prog) (bool : Ty) (accepted : IsAccepted P) (st : Stitched P Q b
     -- at the jmp
     jmp-on : (v : List Branch) (b : Branch) (w : List Branch) → StopsAt P Q bool st.old st.stops f (end_of w) t.names.stop → tree_at Q f (end_of v) ≡ Some (item.Act None op.Jmp [] [] (t.names.stop ∷ [])) → U w v (sites_of D v) (assigned_of D result_args v).saved → In b (branches_at D (end_of v)) → At (b ∷ v)
     jmp-on v b w stop line u among =
-        let o = numbers Q f (end_of v) None op.Jmp [] [] (t.names.stop ∷ []) line in
+        let o = action_at Q f (end_of v) None op.Jmp [] [] (t.names.stop ∷ []) line in
         let h = subst (λ z. In b (branches_from D (end_of v) z)) o.at among in
-        let s = in_map_source (jump D (end_of v)) b o.ls h in
-        let to = any_target Q f (end_of v) None op.Jmp [] [] t.names.stop o stop.point stop.at s.0 s.1 in
-        let shaped = numbers Q f (end_of v) None op.Jmp [] [] (t.names.stop ∷ []) line in
+        let s = in_map_source (jump D (end_of v)) b o.targets h in
+        let to = one_target Q f (end_of v) None op.Jmp [] [] t.names.stop o stop.point stop.at s.0 s.1 in
+        let shaped = action_at Q f (end_of v) None op.Jmp [] [] (t.names.stop ∷ []) line in
         let branch : Branch = jump D (end_of v) s.0 in
-        let k : Keeping D v (jump D (end_of v) s.0) (Act o.d o.ty op.Jmp o.xs o.fns o.ls) = record { at = o.at; from = refl; goes = refl; keeps = refl } in
-        let eb = keeping-assigned D result_args v (jump D (end_of v) s.0) (Act o.d o.ty op.Jmp o.xs o.fns o.ls) k in
+        let k : Keeping D v (jump D (end_of v) s.0) (Act o.assigned o.ty op.Jmp o.arguments o.callees o.targets) = record { at = o.at; from = refl; goes = refl; keeps = refl } in
+        let eb = keeping-assigned D result_args v (jump D (end_of v) s.0) (Act o.assigned o.ty op.Jmp o.arguments o.callees o.targets) k in
         let under : U w (jump D (end_of v) s.0 ∷ v) (sites_of D (jump D (end_of v) s.0 ∷ v)) (assigned_of D result_args (jump D (end_of v) s.0 ∷ v)).saved =
-        subst (λ ss. U w (jump D (end_of v) s.0 ∷ v) ss (assigned_of D result_args (jump D (end_of v) s.0 ∷ v)).saved) (sym (keeping-sites D v (jump D (end_of v) s.0) (Act o.d o.ty op.Jmp o.xs o.fns o.ls) k))
+        subst (λ ss. U w (jump D (end_of v) s.0 ∷ v) ss (assigned_of D result_args (jump D (end_of v) s.0 ∷ v)).saved) (sym (keeping-sites D v (jump D (end_of v) s.0) (Act o.assigned o.ty op.Jmp o.arguments o.callees o.targets) k))
         (subst (λ (z : Assigned). U w (jump D (end_of v) s.0 ∷ v) (sites_of D v) z.saved) (sym eb)
-        (under-Q (M P Q bool accepted st) (A P Q bool accepted st f) P Q f args result_args w v (sites_of D v) (assigned_of D result_args v).saved u (jump D (end_of v) s.0) (Act o.d o.ty op.Jmp o.xs o.fns o.ls) k)) in
+        (under-Q (M P Q bool accepted st) (A P Q bool accepted st f) P Q f args result_args w v (sites_of D v) (assigned_of D result_args v).saved u (jump D (end_of v) s.0) (Act o.assigned o.ty op.Jmp o.arguments o.callees o.targets) k)) in
         subst (λ z. At (z ∷ v)) (sym s.2) (outside w (jump D (end_of v) s.0 ∷ v) (subst (λ n. Near P Q bool st.old st.stops f (end_of w) n) (sym to) stop.near) under)
 
     -- at the last label
@@ -173,12 +176,12 @@ module _ (P Q : Prog) (bool : Ty) (accepted : IsAccepted P) (st : Stitched P Q b
         subst (λ z. At (z ∷ v)) (sym e) (outside w (onward (end_of v) ∷ v) near (onward-Q w v (Label l.number) at refl refl u))
 
     -- a guard's abort
-    abort-on : (v : List Branch) (w : List Branch) → Inner P Q bool accepted st f args result_args p t is v w → (gargs : List (List ℕ)) (o : Numbers Q f (end_of v) None op.Guard gargs [] (t.names.bail ∷ [])) (b : Branch) → In b (map (abort D (end_of v)) o.ls) → At (b ∷ v)
+    abort-on : (v : List Branch) (w : List Branch) → Inner P Q bool accepted st f args result_args p t is v w → (gargs : List (List ℕ)) (o : ActionAt Q f (end_of v) None op.Guard gargs [] (t.names.bail ∷ [])) (b : Branch) → In b (map (abort D (end_of v)) o.targets) → At (b ∷ v)
     abort-on v w i gargs o b among =
-        let s = in_map_source (abort D (end_of v)) b o.ls among in
-        let to = any_target Q f (end_of v) None op.Guard gargs [] t.names.bail o (bail P Q bool accepted st f args result_args p t is) (bailed P Q bool accepted st f args result_args p t is) s.0 s.1 in
-        let es = sites-effect D v (abort D (end_of v) s.0) (Some (Act o.d o.ty op.Guard o.xs o.fns o.ls)) o.at refl ∙ ap without_newest i.sites in
-        let ea = assigned-effect D result_args v (abort D (end_of v) s.0) (Some (Act o.d o.ty op.Guard o.xs o.fns o.ls)) o.at refl in
+        let s = in_map_source (abort D (end_of v)) b o.targets among in
+        let to = one_target Q f (end_of v) None op.Guard gargs [] t.names.bail o (bail P Q bool accepted st f args result_args p t is) (bailed P Q bool accepted st f args result_args p t is) s.0 s.1 in
+        let es = sites-effect D v (abort D (end_of v) s.0) (Some (Act o.assigned o.ty op.Guard o.arguments o.callees o.targets)) o.at refl ∙ ap without_newest i.sites in
+        let ea = assigned-effect D result_args v (abort D (end_of v) s.0) (Some (Act o.assigned o.ty op.Guard o.arguments o.callees o.targets)) o.at refl in
         let sv : (assigned_of D result_args (abort D (end_of v) s.0 ∷ v)).saved ≡ i.ys = ap (λ (z : Assigned). z.saved) ea ∙ ap without_newest i.saved in
         let back : (assigned_of D result_args (abort D (end_of v) s.0 ∷ v)).locations ≡ i.y0 = ap (λ (z : Assigned). z.locations) ea ∙ ap (newest_saved (assigned_of D result_args v).locations) i.saved in
         let under : U i.w0 (abort D (end_of v) s.0 ∷ v) i.ss i.ys = record { is = i.is0; locations = subst (λ l. Covers (A P Q bool accepted st f) (assigned_of (code_of P f) args i.w0).locations l) (sym back) i.covers0; saved = i.zip0 } in
@@ -208,27 +211,24 @@ module _ (P Q : Prog) (bool : Ty) (accepted : IsAccepted P) (st : Stitched P Q b
         → Lines P Q bool accepted st f args result_args p t is (end_of v) (tails n (with_leg (Straight (end_of w)) (path_from (code_of P f) p fuel room choices (suc (end_of w)))))
         → StopsAt P Q bool st.old st.stops f (path_from (code_of P f) p fuel room choices (suc (end_of w))).stop t.names.stop → In b (branches_at D (end_of v)) → At (b ∷ v)
     lay-on v b w i fuel room choices n a at met lines stop among =
-        let g = found P f (end_of w) a at in
-        let path = path_from (code_of P f) p fuel room choices (suc (end_of w)) in
-        let lines' : Lines P Q bool accepted st f args result_args p t is (end_of v) (item_tree (names_of_functions P.funcs) (names_in (slice_get P.funcs f)) g.function.labels a ∷ tail_lines P Q bool accepted st f args result_args p t is n (path_from (code_of P f) p fuel room choices (suc (end_of w)))) =
-        subst (λ o. Lines P Q bool accepted st f args result_args p t is (end_of v) ((listed_item o ++ leg_lines bool (tree_at P f) t.names n (path_from (code_of P f) p fuel room choices (suc (end_of w))).legs) ++ end_lines bool (tree_at P f) t.names)) g.tree lines in
-        let both = shared P Q bool accepted st f (end_of w) (end_of v) a at (g.tree ∙ sym lines'.stands.0) in
+        let here = laid-item P Q bool accepted st f args result_args p t is (end_of v) n (end_of w) a (path_from (code_of P f) p fuel room choices (suc (end_of w))) at lines in
+        let both = here.both in
         let ga = lays-goes a met in
-        let gb = lays-goes both.b (same-lays (A P Q bool accepted st f) a both.b both.same met) in
-        let e = only-onward v b both.b both.at (gb.branches D (end_of v)) among in
+        let gb = lays-goes both.item (same-lays (A P Q bool accepted st f) a both.item both.same met) in
+        let e = only-onward v b both.item both.at (gb.branches D (end_of v)) among in
         let ka : Keeping C w (onward (end_of w)) a = record { at = at; from = refl; goes = refl; keeps = ga.keeps } in
-        let kb : Keeping D v (onward (end_of v)) both.b = record { at = both.at; from = refl; goes = refl; keeps = gb.keeps } in
-        let u = under-both (M P Q bool accepted st) (A P Q bool accepted st f) P Q f args result_args w v i.ss i.ys i.under (onward (end_of w)) (onward (end_of v)) a both.b ka (subst (λ l. In (onward (end_of w)) l) (sym (ga.branches C (end_of w))) (inl refl)) kb (covers both) in
+        let kb : Keeping D v (onward (end_of v)) both.item = record { at = both.at; from = refl; goes = refl; keeps = gb.keeps } in
+        let u = under-both (M P Q bool accepted st) (A P Q bool accepted st f) P Q f args result_args w v i.ss i.ys i.under (onward (end_of w)) (onward (end_of v)) a both.item ka (subst (λ l. In (onward (end_of w)) l) (sym (ga.branches C (end_of w))) (inl refl)) kb (covers both) in
         subst (λ z. At (z ∷ v)) (sym e) (Within p t is
-        (OnPath (onward (end_of w) ∷ w) (inner-both v w (onward (end_of w) ∷ w) i both.b kb u) fuel room choices n
-        (next-lines P Q bool accepted st f args result_args p t is (end_of v) (item_tree (names_of_functions P.funcs) (names_in (slice_get P.funcs f)) g.function.labels a) (tails n (path_from (code_of P f) p fuel room choices (suc (end_of w)))) lines') stop))
+        (OnPath (onward (end_of w) ∷ w) (inner-both v w (onward (end_of w) ∷ w) i both.item kb u) fuel room choices n
+        here.after stop))
       where
-        covers : (both : Shared P Q bool accepted st f (end_of v) a) → Covers (A P Q bool accepted st f) (assigns_of a ++ (assigned_of (code_of P f) args w).locations) (assigns_of both.b ++ (assigned_of (code_of Q f) result_args v).locations)
+        covers : (both : SameItem P Q f (end_of v) a) → Covers (A P Q bool accepted st f) (assigns_of a ++ (assigned_of (code_of P f) args w).locations) (assigns_of both.item ++ (assigned_of (code_of Q f) result_args v).locations)
         covers both x y matches among' = by (both.kept x y matches)
           where
-            by : StaysMatched (assigns_of a) (assigns_of both.b) (A P Q bool accepted st f) x y → In y (assigns_of both.b ++ (assigned_of (code_of Q f) result_args v).locations)
-            by (inl k) = in_append_left y (assigns_of both.b) (assigned_of (code_of Q f) result_args v).locations k.1
-            by (inr k) = in_append_right y (assigns_of both.b) (assigned_of (code_of Q f) result_args v).locations (i.under.locations x y k.2 (⊎_elim (λ j. absurd (k.0 j)) (λ j. j) (in_append_cases x (assigns_of a) (assigned_of (code_of P f) args w).locations among')))
+            by : StaysMatched (assigns_of a) (assigns_of both.item) (A P Q bool accepted st f) x y → In y (assigns_of both.item ++ (assigned_of (code_of Q f) result_args v).locations)
+            by (inl k) = in_append_left y (assigns_of both.item) (assigned_of (code_of Q f) result_args v).locations k.1
+            by (inr k) = in_append_right y (assigns_of both.item) (assigned_of (code_of Q f) result_args v).locations (i.under.locations x y k.2 (⊎_elim (λ j. absurd (k.0 j)) (λ j. j) (in_append_cases x (assigns_of a) (assigned_of (code_of P f) args w).locations among')))
 
     -- a guard that holds: P takes the branch of the choice
     record Turned (w : List Branch) (a : Instr) (l : ℕ) : Type 0 where
@@ -261,14 +261,14 @@ module _ (P Q : Prog) (bool : Ty) (accepted : IsAccepted P) (st : Stitched P Q b
         → StopsAt P Q bool st.old st.stops f (path_from (code_of P f) p fuel room choices (end_of w')).stop t.names.stop → In b (branches_at D (end_of v)) → At (b ∷ v)
     guard-on v b w w' i u gargs fuel room choices n lines stop among = by (subst (λ z. In b (branches_from D (end_of v) z)) (o).at among)
       where
-        o : Numbers Q f (end_of v) None op.Guard gargs [] (t.names.bail ∷ [])
-        o = numbers Q f (end_of v) None op.Guard gargs [] (t.names.bail ∷ []) lines.stands.0
+        o : ActionAt Q f (end_of v) None op.Guard gargs [] (t.names.bail ∷ [])
+        o = action_at Q f (end_of v) None op.Guard gargs [] (t.names.bail ∷ []) lines.stands.0
 
-        by : In b (onward (end_of v) ∷ map (abort D (end_of v)) o.ls) → At (b ∷ v)
+        by : In b (onward (end_of v) ∷ map (abort D (end_of v)) o.targets) → At (b ∷ v)
         by (inl e) =
-            let k : Keeping D v (onward (end_of v)) (Act o.d o.ty op.Guard o.xs o.fns o.ls) = record { at = o.at; from = refl; goes = refl; keeps = refl } in
+            let k : Keeping D v (onward (end_of v)) (Act o.assigned o.ty op.Guard o.arguments o.callees o.targets) = record { at = o.at; from = refl; goes = refl; keeps = refl } in
             subst (λ z. At (z ∷ v)) (sym e) (Within p t is
-            (OnPath w' (inner-both v w w' i (Act o.d o.ty op.Guard o.xs o.fns o.ls) k (under-Q (M P Q bool accepted st) (A P Q bool accepted st f) P Q f args result_args w' v i.ss i.ys u (onward (end_of v)) (Act o.d o.ty op.Guard o.xs o.fns o.ls) k)) fuel room choices n
+            (OnPath w' (inner-both v w w' i (Act o.assigned o.ty op.Guard o.arguments o.callees o.targets) k (under-Q (M P Q bool accepted st) (A P Q bool accepted st f) P Q f args result_args w' v i.ss i.ys u (onward (end_of v)) (Act o.assigned o.ty op.Guard o.arguments o.callees o.targets) k)) fuel room choices n
             (next-lines P Q bool accepted st f args result_args p t is (end_of v) (guard_line gargs t.names.bail) (tails n (path_from (code_of P f) p fuel room choices (end_of w'))) lines) stop))
         by (inr m) = abort-on v w i gargs o b m
 
@@ -282,18 +282,18 @@ module _ (P Q : Prog) (bool : Ty) (accepted : IsAccepted P) (st : Stitched P Q b
         guard-on v b w (jump C (end_of w) (chosen true on off) ∷ w) i (under-P (M P Q bool accepted st) (A P Q bool accepted st f) P Q f args result_args w v i.ss i.ys i.under (jump C (end_of w) (chosen true on off)) a r.keeping r.among r.none) (args_in (tree_at P f (end_of w))) fuel room choices n lines stop among
     choose-on v b w i fuel room choices n a at on off met false lines stop among =
         let r = turned w a at on off met false in
-        let o = numbers Q f (end_of v) (Some (record { name = t.names.nots n; ty = bool })) op.Not (args_in (tree_at P f (end_of w))) [] [] lines.stands.0 in
-        let y : Instr = Act o.d o.ty op.Not o.xs o.fns o.ls in
-        let e = only-onward v b (Act o.d o.ty op.Not o.xs o.fns o.ls) o.at refl among in
-        let k : Keeping D v (onward (end_of v)) (Act o.d o.ty op.Not o.xs o.fns o.ls) = record { at = o.at; from = refl; goes = refl; keeps = refl } in
+        let o = action_at Q f (end_of v) (Some (record { name = t.names.nots n; ty = bool })) op.Not (args_in (tree_at P f (end_of w))) [] [] lines.stands.0 in
+        let y : Instr = Act o.assigned o.ty op.Not o.arguments o.callees o.targets in
+        let e = only-onward v b (Act o.assigned o.ty op.Not o.arguments o.callees o.targets) o.at refl among in
+        let k : Keeping D v (onward (end_of v)) (Act o.assigned o.ty op.Not o.arguments o.callees o.targets) = record { at = o.at; from = refl; goes = refl; keeps = refl } in
         let u = under-P (M P Q bool accepted st) (A P Q bool accepted st f) P Q f args result_args w v i.ss i.ys i.under (jump C (end_of w) (chosen false on off)) a r.keeping r.among r.none in
-        let u' = under-Q (M P Q bool accepted st) (A P Q bool accepted st f) P Q f args result_args (jump C (end_of w) (chosen false on off) ∷ w) v i.ss i.ys u (onward (end_of v)) (Act o.d o.ty op.Not o.xs o.fns o.ls) k in
-        let d = dest_named (names_in (slice_get Q.funcs f)) o.d o.ty (t.names.nots n) bool o.dest_is (AreBelow-append (length (names_in (slice_get Q.funcs f))) (listed o.d) o.xs o.range.variables).0 in
+        let u' = under-Q (M P Q bool accepted st) (A P Q bool accepted st f) P Q f args result_args (jump C (end_of w) (chosen false on off) ∷ w) v i.ss i.ys u (onward (end_of v)) (Act o.assigned o.ty op.Not o.arguments o.callees o.targets) k in
+        let d = dest_named (names_in (slice_get Q.funcs f)) o.assigned o.ty (t.names.nots n) bool o.has_dest (AreBelow-append (length (names_in (slice_get Q.funcs f))) (listed o.assigned) o.arguments o.range.variables).0 in
         subst (λ z. At (z ∷ v)) (sym e) (Within p t is
-        (AtGuard (jump C (end_of w) (chosen false on off) ∷ w) (inner-both v w (jump C (end_of w) (chosen false on off) ∷ w) i (Act o.d o.ty op.Not o.xs o.fns o.ls) k u') fuel room choices n
+        (AtGuard (jump C (end_of w) (chosen false on off) ∷ w) (inner-both v w (jump C (end_of w) (chosen false on off) ∷ w) i (Act o.assigned o.ty op.Not o.arguments o.callees o.targets) k u') fuel room choices n
         (next-lines P Q bool accepted st f args result_args p t is (end_of v) (not_line bool (t.names.nots n) (args_in (tree_at P f (end_of w)))) (guard_line (t.names.nots n ∷ []) t.names.bail ∷ tails (suc n) (path_from (code_of P f) p fuel room choices (point_of (chosen false on off) (code_of P f)))) lines) stop
-        (λ z within name. subst (λ (q : Assigned). In (Variable z) q.locations) (sym (keeping-assigned D result_args v (onward (end_of v)) (Act o.d o.ty op.Not o.xs o.fns o.ls) k))
-        (in_append_left (Variable z) (map Variable (listed o.d)) (assigned_of D result_args v).locations
+        (λ z within name. subst (λ (q : Assigned). In (Variable z) q.locations) (sym (keeping-assigned D result_args v (onward (end_of v)) (Act o.assigned o.ty op.Not o.arguments o.callees o.targets) k))
+        (in_append_left (Variable z) (map Variable (listed o.assigned)) (assigned_of D result_args v).locations
         (subst (λ q. In (Variable z) (map Variable (listed q))) (sym d.is) (inl (ap Variable (one_number (names_in (slice_get Q.funcs f)) (Differ-in (slice_get Q.funcs f)) z d.x within d.within (name ∙ sym d.named_so)))))))))
 
     normal-on : (v : List Branch) (b : Branch) → Normal P Q bool accepted st f args result_args p t is v → In b (branches_at D (end_of v)) → At (b ∷ v)

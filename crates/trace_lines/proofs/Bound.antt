@@ -1,4 +1,6 @@
 -- A program with laid traces has at most twice what each entry lays and five items more.
+use Rattle.std.proofs.lemmas.Bool.{eqb-false}
+use Rattle.bril_tree.specs.declared.function_tree.Item.TheVariants as item
 use Rattle.bril_tree.specs.declared.tree.Tree.{Tree}
 use Rattle.trace_lines.specs.Bound.{bound_with}
 use Rattle.trace_lines.specs.Lines.{TraceNames, end_lines, leg_lines, listed_item}
@@ -73,7 +75,7 @@ grows-once p w size more same grows (suc n) k = by (k == p) refl (grows-once p w
   where
     by : (b : Bool) → (k == p) ≡ b → run_of more (suc k) n ≤ w + run_of size (suc k) n → more k + run_of more (suc k) n ≤ w + (size k + run_of size (suc k) n)
     by true e rest = let here : k ≡ p = eqb-true k p e in let a = grows k in let r = grows-none p w size more same n (suc k) (omega (arith, here)) in omega arith
-    by false e rest = let a = same k (λ s. Rattle.std.proofs.lemmas.Bool.eqb-false k p e s) in omega arith
+    by false e rest = let a = same k (λ s. eqb-false k p e s) in omega arith
 
 -- ---- what is put into one function
 
@@ -103,18 +105,18 @@ module _ (P : Prog) (bool : Ty) (f : ℕ) where
       with-x : (b : Bool) → (i : ℕ) → (x.fit.function == f) ≡ b → length (stop_lines P (x ∷ laid) f i) ≤ cond b 1 0 + length (stop_lines P laid f i)
       with-x true i e = one (stops_before P x f i)
         where
-          one : (c : Bool) → length (cond c (Rattle.bril_tree.specs.declared.function_tree.Item.TheVariants.Label x.names.stop ∷ stop_lines P laid f i) (stop_lines P laid f i)) ≤ 1 + length (stop_lines P laid f i)
+          one : (c : Bool) → length (cond c (item.Label x.names.stop ∷ stop_lines P laid f i) (stop_lines P laid f i)) ≤ 1 + length (stop_lines P laid f i)
           one true = omega arith
           one false = omega arith
       with-x false i e =
           let no : stops_before P x f i ≡ false = ap (λ b. b && (((fit_path P x.fit).stop == i) && not (is_label_item (item_at P f i)))) e in
-          let long = ap (λ c. length (cond c (Rattle.bril_tree.specs.declared.function_tree.Item.TheVariants.Label x.names.stop ∷ stop_lines P laid f i) (stop_lines P laid f i))) no in
+          let long = ap (λ c. length (cond c (item.Label x.names.stop ∷ stop_lines P laid f i) (stop_lines P laid f i))) no in
           omega arith
 
       apart : (i : ℕ) → (i ≡ (fit_path P x.fit).stop → ⊥) → length (stop_lines P (x ∷ laid) f i) ≤ length (stop_lines P laid f i)
       apart i n = one (stops_before P x f i) refl
         where
-          one : (c : Bool) → stops_before P x f i ≡ c → length (cond c (Rattle.bril_tree.specs.declared.function_tree.Item.TheVariants.Label x.names.stop ∷ stop_lines P laid f i) (stop_lines P laid f i)) ≤ length (stop_lines P laid f i)
+          one : (c : Bool) → stops_before P x f i ≡ c → length (cond c (item.Label x.names.stop ∷ stop_lines P laid f i) (stop_lines P laid f i)) ≤ length (stop_lines P laid f i)
           one true e =
               let a = and_parts (x.fit.function == f) (((fit_path P x.fit).stop == i) && not (is_label_item (item_at P f i))) e in
               let b = and_parts ((fit_path P x.fit).stop == i) (not (is_label_item (item_at P f i))) a.1 in

@@ -1,4 +1,6 @@
 -- The labels of a function with laid traces differ.
+use Rattle.bril_tree.proofs.Members.{in_append_cases}
+use Rattle.trace_lines.proofs.Layings.{parts}
 use Rattle.bril_tree.specs.declared.function_tree.Item.TheVariants as item
 use Rattle.std.proofs.Common.{◌≡◌, ℕ, zero, suc, ◌+◌, ◌<◌, ◌≤◌, Bool, true, false, List, [], ◌∷◌, ◌++◌, length, Option, Some, None, refl, sym, ap, subst, ◌∙◌, inl, inr, ⊎_elim, cond, arith}
 use Rattle.std.specs.Prelude.{slice_get}
@@ -16,7 +18,7 @@ use Rattle.pass_plan.specs.Spliced.{spliced}
 use Rattle.trace_lines.specs.Traced.{Trace, Laying, AreLaid, stops_before, stop_lines, trace_at, lines_behind}
 use Rattle.trace_paths.specs.Fits.{Fit, fit_path}
 use Rattle.trace_lines.specs.Names.{IsFresh, labels_in, is_label_item, Bases, AreBases, AreNames}
-use Rattle.trace_lines.proofs.Layings.{Located, located, StopLine, stop_line}
+use Rattle.trace_lines.proofs.Layings.{located, StopLine, stop_line}
 use Rattle.trace_lines.proofs.Labels.{Apart, apart-append, differ-apart, spliced-apart, fresh-once}
 use Rattle.trace_lines.proofs.Quiet.{legs-ok, legs-quiet}
 use Rattle.bril_tree.specs.Membership.{In}
@@ -61,7 +63,7 @@ module _ (bases : Bases) (ok : AreBases bases) (P : Prog) (bool : Ty) (f : ℕ)
           line = stop_line P (x ∷ laid) f i 0 (subst (λ b. 0 < length (cond b (item.Label x.names.stop ∷ stop_lines P laid f i) (stop_lines P laid f i))) (sym e) (omega arith))
 
           own-stop : (fit_path P x.fit).stop ≡ i
-          own-stop = (Rattle.trace_lines.proofs.Layings.parts P x f i e).1
+          own-stop = (parts P x f i e).1
 
           fresh : In x.names.stop (labels_of (stop_lines P laid f i)) → ⊥
           fresh j =
@@ -71,7 +73,7 @@ module _ (bases : Bases) (ok : AreBases bases) (P : Prog) (bool : Ty) (f : ℕ)
               let same : x.names.stop ≡ s.x.names.stop = (let z : item.Label x.names.stop ≡ item.Label s.x.names.stop = same_Some _ _ (sym k.1 ∙ s.is) in cc) in
               let mine = names-at bases P K (w ∷ fits) (x ∷ laid) h 0 x refl in
               let theirs = names-at bases P (suc K) fits laid h.2 n.0 s.x n.1 in
-              let p = Rattle.trace_lines.proofs.Layings.parts P x f i e in
+              let p = parts P x f i e in
               let fm = mine.stop (ap (λ z. is_label_item (item_at P z (fit_path P x.fit).stop)) p.0 ∙ ap (λ z. is_label_item (item_at P f z)) p.1 ∙ p.2) in
               let ft = theirs.stop (ap (λ z. is_label_item (item_at P z (fit_path P s.x.fit).stop)) s.function ∙ ap (λ z. is_label_item (item_at P f z)) s.stop ∙ s.no_label) in
               let b = fresh-once (labels_in P x.fit.function) (labels_in P s.x.fit.function) (bases.stop (K + 0)) (bases.stop (suc K + n.0)) x.names.stop s.x.names.stop fm ft (ok.stop_plain (K + 0)) (ok.stop_plain (suc K + n.0)) same in
@@ -154,7 +156,7 @@ module _ (bases : Bases) (ok : AreBases bases) (P : Prog) (bool : Ty) (f : ℕ)
             let l = located P laid f i t e in
             let n = in_get l.x laid l.among in
             let names = names-at bases P 1 fits laid are n.0 l.x n.1 in
-            let is : a ≡ t.names.bail = ⊎_elim (λ j. absurd (no-labels i t a j)) (λ j. ⊎_elim (λ s. s) (λ z. absurd z) j) (Rattle.bril_tree.proofs.Members.in_append_cases a (labels_of (leg_lines bool (tree_at P f) t.names 0 (path_of (code_of P f) i t.choices).legs)) (t.names.bail ∷ []) (subst (In a) (cut i t) among)) in
+            let is : a ≡ t.names.bail = ⊎_elim (λ j. absurd (no-labels i t a j)) (λ j. ⊎_elim (λ s. s) (λ z. absurd z) j) (in_append_cases a (labels_of (leg_lines bool (tree_at P f) t.names 0 (path_of (code_of P f) i t.choices).legs)) (t.names.bail ∷ []) (subst (In a) (cut i t) among)) in
             record { n = n.0; y = l.x; at = n.1; point = l.point; fresh = subst (λ g. IsFresh (labels_in P g) (bases.bail (1 + n.0)) l.x.names.bail) l.function names.bail; is = is ∙ ap (λ (z : Trace). z.names.bail) (sym l.is) }
 
     lasts : (i : ℕ) → Apart (labels_of (behind i))

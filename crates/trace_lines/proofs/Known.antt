@@ -1,4 +1,5 @@
 -- Each item of a function with laid traces names functions and labels that are there.
+use Rattle.std.specs.List.{Contains}
 use Rattle.bril_tree.specs.declared.function_tree.Item.TheVariants as item
 use Rattle.std.proofs.Common.{◌≡◌, ◌⊎◌, ℕ, zero, suc, ◌<◌, ◌≤◌, Bool, true, false, List, [], ◌∷◌, length, get_or, Option, Some, None, refl, sym, ap, subst, ◌∙◌, inl, inr, ⊎_elim, arith}
 use Rattle.std.specs.Prelude.{slice_get}
@@ -88,12 +89,12 @@ module _ (P : Prog) (bool : Ty) (f : ℕ) (laid : List Laying) (functions : List
       (h.0, among-more (labels_of items) (labels_of edited) (targets_of a) (λ b j. let k = in_get (item.Label b) items (labels-item items b j) in label-in edited b (item-in k.0 (item.Label b) k.1)) h.1)
 
   plain-known : (a : Item) → callees_of a ≡ [] → targets_of a ≡ [] → IsKnown functions (labels_of edited) a
-  plain-known a c t = (subst (AreAmong functions) (sym c) (All-nil (λ z. Rattle.std.specs.List.Contains functions z)), subst (AreAmong (labels_of edited)) (sym t) (All-nil (λ z. Rattle.std.specs.List.Contains (labels_of edited) z)))
+  plain-known a c t = (subst (AreAmong functions) (sym c) (All-nil (λ z. Contains functions z)), subst (AreAmong (labels_of edited)) (sym t) (All-nil (λ z. Contains (labels_of edited) z)))
 
   target-known : (a : Item) (l : List ℕ) → callees_of a ≡ [] → targets_of a ≡ l ∷ [] → In (item.Label l) edited → IsKnown functions (labels_of edited) a
   target-known a l c t among = (
-    subst (AreAmong functions) (sym c) (All-nil (λ z. Rattle.std.specs.List.Contains functions z)),
-    subst (AreAmong (labels_of edited)) (sym t) (All-cons (λ z. Rattle.std.specs.List.Contains (labels_of edited) z) l [] (contains_in l (labels_of edited) (label-in edited l among)) (All-nil (λ z. Rattle.std.specs.List.Contains (labels_of edited) z))),
+    subst (AreAmong functions) (sym c) (All-nil (λ z. Contains functions z)),
+    subst (AreAmong (labels_of edited)) (sym t) (All-cons (λ z. Contains (labels_of edited) z) l [] (contains_in l (labels_of edited) (label-in edited l among)) (All-nil (λ z. Contains (labels_of edited) z))),
   )
 
   -- the label to which a trace jumps

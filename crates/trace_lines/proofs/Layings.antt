@@ -1,4 +1,5 @@
 -- The lines that are put around items, entry by entry.
+use Rattle.std.proofs.lemmas.Bool.{eq-eqb}
 use Rattle.bril_tree.specs.declared.function_tree.Item.TheVariants as item
 use Rattle.std.proofs.Common.{◌≡◌, ◌⊎◌, ℕ, zero, suc, ◌<◌, ◌≤◌, Bool, true, false, List, [], ◌∷◌, length, Option, Some, None, refl, sym, ap, subst, ◌∙◌, inl, inr, cond, arith}
 use Rattle.std.specs.Prelude.{slice_get, ◌==◌, ◌&&◌, not}
@@ -129,7 +130,7 @@ module _ (P : Prog) where
   stop_number (y ∷ laid) x among f i ef es no_label = by_in among (λ j. stop_number laid x j f i ef es no_label)
     where
       holds : stops_before P x f i ≡ true
-      holds = let a : (x.fit.function == f) ≡ true = Rattle.std.proofs.lemmas.Bool.eq-eqb x.fit.function f ef in let b : ((fit_path P x.fit).stop == i) ≡ true = Rattle.std.proofs.lemmas.Bool.eq-eqb (fit_path P x.fit).stop i es in
+      holds = let a : (x.fit.function == f) ≡ true = eq-eqb x.fit.function f ef in let b : ((fit_path P x.fit).stop == i) ≡ true = eq-eqb (fit_path P x.fit).stop i es in
           ap (λ c. c && (((fit_path P x.fit).stop == i) && not (is_label_item (item_at P f i)))) a ∙ ap (λ c. c && not (is_label_item (item_at P f i))) b ∙ ap not no_label
 
       behind : (b : Bool) → stops_before P y f i ≡ b → StopNumber laid f i x.names.stop → StopNumber (y ∷ laid) f i x.names.stop

@@ -7,7 +7,7 @@ use Rattle.bril_tree.specs.declared.program.Prog.{Prog}
 use Rattle.bril_tree.specs.declared.types.Ty.{Ty}
 use Rattle.bril_tree.specs.Numbered.{tree_at, names_in, names_of_functions, item_tree}
 use Rattle.trace_paths.specs.Path.{Leg, Straight, Turn, path_of, Lays, item_met}
-use Rattle.trace_lines.specs.Lines.{bool_type, TraceNames, listed_item, leg_lines}
+use Rattle.trace_lines.specs.Lines.{TraceNames, listed_item, leg_lines}
 use Rattle.bril_tree.specs.declared.numbered.Instr.{Instr}
 use Rattle.bril_tree.specs.declared.numbered.Instr.TheVariants.{Label as NLabel, Const as NConst, Act as NAct}
 use Rattle.bril_tree.specs.Step.{code_of, item_at}
@@ -19,7 +19,7 @@ use Rattle.std.specs.Prelude.{◌==◌}
 use Rattle.bril_tree.specs.Step.{point_of}
 use Rattle.trace_paths.specs.Path.{stopped, Meeting, Over, To, Turns, Stops, chosen, path_by, path_from}
 use Rattle.pass_plan.specs.Spliced.{spliced}
-use Rattle.trace_lines.specs.Laws.{IsQuiet, LinesAreQuiet}
+use Rattle.trace_lines.specs.Laws.{IsQuiet}
 
 -- ---- what a path lays
 
@@ -99,6 +99,3 @@ module _ (P : Prog) (f : ℕ) (bool : Ty) (names : TraceNames) (a : Item) where
 
   pub lines-quiet : (own : ℕ) (choices : List Bool) → In a (leg_lines bool (tree_at P f) names 0 (path_of (code_of P f) own choices).legs) → IsQuiet a
   lines-quiet own choices among = legs-quiet 0 (path_of (code_of P f) own choices).legs (legs-ok (code_of P f) own 1023 256 choices (suc own)) among
-
-pub quiet-lines : LinesAreQuiet
-quiet-lines P f own choices names a among = lines-quiet P f bool_type names a own choices among

@@ -13,4 +13,4 @@
 
 mod laws;
 
-pub use laws::{trace_lines_are_quiet, traces_are_well_laid};
+pub use laws::traces_are_well_laid;

@@ -1,14 +1,16 @@
 -- The entries of labels of a function with laid traces: each is one of the function that it was made of, or one of three
 -- that a trace has. So there are at most three more for each trace.
-use Rattle.trace_accepted.proofs.Standing.{bailed, Lines}
+use Rattle.pass_plan.specs.Plan.{Plan, StepsMatch}
+use Rattle.trace_accepted.proofs.Standing.{laid-item}
+use Rattle.pass_walks.proofs.Blocks.{IsInBlock, one-block}
+use Rattle.pass_names.proofs.Standing.{ActionAt, action_at, one_target, same_item}
+use Rattle.trace_accepted.proofs.Standing.{bailed}
 use Rattle.bril_tree.specs.declared.function_tree.Item.TheVariants as item
 use Rattle.bril_tree.specs.declared.operation.Op.TheVariants as op
-use Rattle.std.proofs.Common.{◌≡◌, ◌≢◌, ◌⊎◌, ℕ, zero, suc, ◌+◌, ◌*◌, ◌<◌, ◌≤◌, Bool, true, false, List, [], ◌∷◌, ◌++◌, length, map, max, Option, Some, None, refl, sym, ap, subst, ◌∙◌, inl, inr, ⊎_elim, cond, arith}
-use Rattle.std.specs.Prelude.{slice_get, is_some, ◌==◌, ◌-◌}
-use Rattle.std.specs.List.{AllPairs, range_with_len}
+use Rattle.std.proofs.Common.{◌≡◌, ◌⊎◌, ℕ, zero, suc, ◌+◌, ◌*◌, ◌<◌, ◌≤◌, Bool, true, false, List, [], ◌∷◌, ◌++◌, length, map, max, Option, Some, None, refl, sym, ap, subst, ◌∙◌, inl, inr, ⊎_elim, cond, arith}
+use Rattle.std.specs.Prelude.{slice_get, is_some, ◌==◌}
 use Rattle.std.specs.Option.{option_map}
-use Rattle.std.proofs.lemmas.Bool.{cases_lt, eq-eqb}
-use Rattle.std.proofs.lemmas.List.{length-append, length-map}
+use Rattle.std.proofs.lemmas.Bool.{eq-eqb}
 use Rattle.std.proofs.lemmas.Option.{same_Some, slice_get_within}
 use Rattle.bril_tree.specs.declared.edge.Edge.{Edge}
 use Rattle.bril_tree.specs.declared.function_tree.Item.{Item}
@@ -24,43 +26,41 @@ use Rattle.program_numbers.specs.Entries.{Enters, IsEntryCount, IsEntryWidth}
 use Rattle.bril_tree.specs.FunctionForm.{targets_of}
 use Rattle.bril_tree.specs.Leaving.{IsEdge, edge_of, leave_of}
 use Rattle.bril_tree.specs.Membership.{In}
-use Rattle.bril_tree.specs.Numbered.{named, names_of_functions, names_in, point_tree, tree_at, item_tree, variable_names}
+use Rattle.bril_tree.specs.Numbered.{named, names_of_functions, point_tree, tree_at, item_tree, variable_names}
 use Rattle.bril_tree.specs.Operand.{Location}
 use Rattle.bril_tree.specs.Sites.{Keeps, Opens, item_change, sites_of, most_sites}
 use Rattle.bril_tree.specs.Shape.{shape_of}
 use Rattle.bril_tree.proofs.Shapes.{shape-parts}
 use Rattle.pass_steps.proofs.Shapes.{Shaped, shaped_here}
-use Rattle.trace_refines.proofs.Along.{in_index}
+use Rattle.bril_tree.proofs.Elements.{in_index}
 use Rattle.bril_tree.specs.Step.{code_of, item_at, items_of, point_of}
 use Rattle.bril_tree.specs.Walk.{IsWalk, IsReached, end_of}
 use Rattle.bril_tree.proofs.Branches.{branch_from}
 use Rattle.bril_tree.proofs.Formed.{target_below}
-use Rattle.bril_tree.proofs.LabelPoints.{label-point, label-at_point, in_range}
-use Rattle.bril_tree.proofs.Members.{contains_in, in_contains, in_map, in_map_source, in_append_left, in_append_right}
+use Rattle.bril_tree.proofs.LabelPoints.{label-point, label-at_point}
+use Rattle.bril_tree.proofs.Members.{contains_in, in_contains, in_map_source}
 use Rattle.bril_names.proofs.Naming.{one_number}
-use Rattle.pass_plan.specs.Plan.{EdgesMatch, ItemsMatch, PointItemsMatch}
-use Rattle.pass_plan.proofs.Elements.{all_in, in_all}
+use Rattle.pass_plan.specs.Plan.{EdgesMatch, ItemsMatch}
+use Rattle.pass_plan.proofs.Elements.{all_in}
 use Rattle.pass_walks.specs.Matched.{MatchedWalk, SavedSetsMatch}
-use Rattle.pass_names.proofs.Points.{found}
-use Rattle.pass_numbers.proofs.Different.{range-differ, in_filter}
+use Rattle.pass_numbers.proofs.Different.{in_filter}
 use Rattle.bril_tree.proofs.Assignments.{site_speculates}
 use Rattle.bril_tree.proofs.Elements.{get_inside}
 use Rattle.bril_tree.proofs.Counting.{no_more}
-use Rattle.pass_numbers.proofs.Counting.{not_uncounted}
 use Rattle.pass_numbers.proofs.Twins.{Twin, twin}
 use Rattle.pass_numbers.proofs.Shares.{owned}
 use Rattle.pass_numbers.proofs.Edges.{label-back, edge-leaves}
-use Rattle.pass_numbers.proofs.Entering.{label-low, point_before}
+use Rattle.pass_numbers.proofs.Entering.{EntryMatched, LeaveMatched, few-entries, label-low, labels-within, point_before}
 use Rattle.trace_paths.specs.Path.{Leg, Straight, Turn, stopped, Meeting, Over, To, Lays, Turns, Stops, item_met, operation_met, chosen, path_by, path_from, path_of}
 use Rattle.trace_lines.specs.Lines.{TraceNames, guard_line, args_in, listed_item, leg_lines, end_lines}
 use Rattle.trace_lines.specs.Traced.{Trace, Laying}
 use Rattle.trace_refines.specs.Stitched.{Stands, IsTracedAt, Stitched}
 use Rattle.trace_paths.specs.Fits.{fit_path}
-use Rattle.trace_refines.proofs.Items.{Numbers, numbers, any_target, IsLabelAt, label_at}
+use Rattle.trace_refines.proofs.Items.{IsLabelAt, label_at}
 use Rattle.trace_refines.proofs.Straight.{Goes, over-goes, lays-goes, same-lays, to-jmp, IsBr, turns-br}
-use Rattle.trace_refines.proofs.Plans.{M, A, preserves, shared}
+use Rattle.trace_refines.proofs.Plans.{M, A, preserves}
 use Rattle.trace_lines.proofs.Quiet.{LegOk, legs-ok}
-use Rattle.trace_accepted.proofs.Standing.{bail, behind, Inner, tail_lines, InTrace, Door, OnPath, AtGuard, AtJmp, AtBail, Normal, Ended, Lay, Choose, normal}
+use Rattle.trace_accepted.proofs.Standing.{bail, behind, Inner, InTrace, Door, OnPath, AtGuard, AtJmp, AtBail, Normal, Ended, Lay, Choose, normal}
 use Rattle.trace_accepted.proofs.Walking.{At, Outside, Within, all-at}
 
 -- ---- items that a path walks over or lays
@@ -129,26 +129,26 @@ laid_in f laid = owned (λ (x : Laying). x.fit.function) laid f
 pub laid-in : (f : ℕ) (laid : List Laying) (x : Laying) → In x laid → x.fit.function ≡ f → In x (laid_in f laid)
 laid-in f laid x i e = in_filter (λ (y : Laying). y.fit.function == f) laid x i (eq-eqb x.fit.function f e)
 
--- three for each
-abbrev tokens : List Laying → List (Laying × ℕ)
+-- The entries that a trace brings: from its guards to the label behind it, from its `jmp`, and from above to the label before which its
+-- path stopped.
+data Brought : Type 0 where
+  FromGuards : Brought
+  FromJmp : Brought
+  FromAbove : Brought
+
+abbrev tokens : List Laying → List (Laying × Brought)
 tokens [] = []
-tokens (x ∷ laid) = (x, 0) ∷ (x, 1) ∷ (x, 2) ∷ tokens laid
+tokens (x ∷ laid) = (x, FromGuards) ∷ (x, FromJmp) ∷ (x, FromAbove) ∷ tokens laid
 
 tokens-length : (laid : List Laying) → length (tokens laid) ≡ 3 * length laid
 tokens-length [] = refl
 tokens-length (x ∷ laid) = let r = tokens-length laid in omega arith
 
--- the first, the second, or a later one
-abbrev kind_of : ℕ → ℕ
-kind_of zero = 0
-kind_of (suc zero) = 1
-kind_of (suc (suc n)) = 2
-
-tokens-in : (laid : List Laying) (x : Laying) (k : ℕ) → In x laid → In (x, kind_of k) (tokens laid)
+tokens-in : (laid : List Laying) (x : Laying) (k : Brought) → In x laid → In (x, k) (tokens laid)
 tokens-in [] x k i = absurd i
-tokens-in (y ∷ laid) x zero (inl e) = inl (ap (λ (z : Laying). (z, 0)) e)
-tokens-in (y ∷ laid) x (suc zero) (inl e) = inr (inl (ap (λ (z : Laying). (z, 1)) e))
-tokens-in (y ∷ laid) x (suc (suc n)) (inl e) = inr (inr (inl (ap (λ (z : Laying). (z, 2)) e)))
+tokens-in (y ∷ laid) x FromGuards (inl e) = inl (ap (λ (z : Laying). (z, FromGuards)) e)
+tokens-in (y ∷ laid) x FromJmp (inl e) = inr (inl (ap (λ (z : Laying). (z, FromJmp)) e))
+tokens-in (y ∷ laid) x FromAbove (inl e) = inr (inr (inl (ap (λ (z : Laying). (z, FromAbove)) e)))
 tokens-in (y ∷ laid) x k (inr i) = inr (inr (inr (tokens-in laid x k i)))
 
 module _ (P Q : Prog) (bool : Ty) (accepted : IsAccepted P) (st : Stitched P Q bool) (laid : List Laying) (f : ℕ) (F G : Func) (p : slice_get P.funcs f ≡ Some F) (q : slice_get Q.funcs f ≡ Some G)
@@ -194,11 +194,11 @@ module _ (P Q : Prog) (bool : Ty) (accepted : IsAccepted P) (st : Stitched P Q b
   one-leave a c (Some i) (inr r) (inl s) = absurd (let h : None ≡ Some r.0 = sym s.0 ∙ r.1 in cc)
   one-leave a c (Some i) (inr r) (inr s) = let m : r.2.0 ≡ s.2.0 = omega (arith, r.2.2, s.2.2) in r.2.1 ∙ ap Some m ∙ sym s.2.1
 
-  -- the three entries of a trace: its guards to its last label, its `jmp`, and the item before its stop label
-  abbrev IsNew : Laying → ℕ → Option ℕ → ℕ → Type 0
-  IsNew x zero leave l = (named G.labels l ≡ x.names.bail) × (leave ≡ Some (suc (st.old f x.fit.point)))
-  IsNew x (suc zero) leave l = (named G.labels l ≡ x.names.stop) × ((n : ℕ) × (leave ≡ Some n) × (suc (suc n) + st.stops f (suc x.fit.point) ≡ st.old f (suc x.fit.point)))
-  IsNew x (suc (suc k)) leave l = (named G.labels l ≡ x.names.stop) × (leave ≡ point_before (point_of l G.code))
+  -- the three entries of a trace
+  abbrev IsNew : Laying → Brought → Option ℕ → ℕ → Type 0
+  IsNew x FromGuards leave l = (named G.labels l ≡ x.names.bail) × (leave ≡ Some (suc (st.old f x.fit.point)))
+  IsNew x FromJmp leave l = (named G.labels l ≡ x.names.stop) × ((n : ℕ) × (leave ≡ Some n) × (suc (suc n) + st.stops f (suc x.fit.point) ≡ st.old f (suc x.fit.point)))
+  IsNew x FromAbove leave l = (named G.labels l ≡ x.names.stop) × (leave ≡ point_before (point_of l G.code))
 
   -- an item from which all branches go to one point, and that opens no site
   record Single (n : ℕ) (y : Instr) : Type 0 where
@@ -224,13 +224,13 @@ module _ (P Q : Prog) (bool : Ty) (accepted : IsAccepted P) (st : Stitched P Q b
 
   data Entered (leave : Option ℕ) (l : ℕ) : Type 0 where
     Old : (from : Option ℕ) (to : ℕ) → Enters F.code from to → named F.labels to ≡ named G.labels l → L leave from → Entered leave l
-    New : (x : Laying) → In x laid → x.fit.function ≡ f → (k : ℕ) → IsNew x k leave l → Source leave l → Entered leave l
+    New : (x : Laying) → In x laid → x.fit.function ≡ f → (k : Brought) → IsNew x k leave l → Source leave l → Entered leave l
 
   -- the label before which it stands
   at-stop : (i j m l : ℕ) (leave : Option ℕ) → suc m ≤ st.stops f i → j + suc m ≡ st.old f i → slice_get G.code j ≡ Some (Label l) → leave ≡ point_before j → Source leave l → Entered leave l
   at-stop i j m l leave few e at is source =
       let o = stop_owner i j m few e in
-      New o.0 o.1 o.2 2 (named-so j l o.0.names.stop at o.4, is ∙ ap point_before (sym (label-at_point 0 (length G.labels) G.code G.formed.placed j l at))) source
+      New o.0 o.1 o.2 FromAbove (named-so j l o.0.names.stop at o.4, is ∙ ap point_before (sym (label-at_point 0 (length G.labels) G.code G.formed.placed j l at))) source
 
   reached-to : (edge : Edge) → IsEdge (code_of P f) edge → IsReached (code_of P f) edge.to
   reached-to edge is = record { walk = is.branch ∷ is.walk; is = (is.at, is.is); ends = sym (ap (λ (d : Edge). d.to) is.are) }
@@ -370,56 +370,54 @@ module _ (P Q : Prog) (bool : Ty) (accepted : IsAccepted P) (st : Stitched P Q b
       guard-entry : (w : List Branch) → Inner P Q bool accepted st f F.args G.args i t is v w → (gargs : List (List ℕ)) → tree_at Q f (end_of v) ≡ Some (guard_line gargs t.names.bail) → (n fuel room : ℕ) (choices : List Bool) (k : ℕ) → Stands P Q bool f (suc (end_of v)) (tail n (path_from (code_of P f) i fuel room choices k).legs) → Entered (Some leave) l
       guard-entry w inner gargs line n fuel room choices k s = by (subst (λ z. In b (branches_from D (end_of v) z)) o.at among)
         where
-          o : Numbers Q f (end_of v) None op.Guard gargs [] (t.names.bail ∷ [])
-          o = numbers Q f (end_of v) None op.Guard gargs [] (t.names.bail ∷ []) line
+          o : ActionAt Q f (end_of v) None op.Guard gargs [] (t.names.bail ∷ [])
+          o = action_at Q f (end_of v) None op.Guard gargs [] (t.names.bail ∷ []) line
 
-          by : In b (onward (end_of v) ∷ map (abort (code_of Q f) (end_of v)) o.ls) → Entered (Some leave) l
+          by : In b (onward (end_of v) ∷ map (abort (code_of Q f) (end_of v)) o.targets) → Entered (Some leave) l
           by (inl e) = plain-on n fuel room choices k e s
           by (inr m) =
-              let c = in_map_source (abort (code_of Q f) (end_of v)) b o.ls m in
-              let to : b.to ≡ bail P Q bool accepted st f F.args G.args i t is = ap (λ (z : Branch). z.to) c.2 ∙ any_target Q f (end_of v) None op.Guard gargs [] t.names.bail o (bail P Q bool accepted st f F.args G.args i t is) (bailed P Q bool accepted st f F.args G.args i t is) c.0 c.1 in
+              let c = in_map_source (abort (code_of Q f) (end_of v)) b o.targets m in
+              let to : b.to ≡ bail P Q bool accepted st f F.args G.args i t is = ap (λ (z : Branch). z.to) c.2 ∙ one_target Q f (end_of v) None op.Guard gargs [] t.names.bail o (bail P Q bool accepted st f F.args G.args i t is) (bailed P Q bool accepted st f F.args G.args i t is) c.0 c.1 in
               let name = named-so b.to l t.names.bail at (ap (tree_at Q f) to ∙ bailed P Q bool accepted st f F.args G.args i t is) in
               let left : leave ≡ suc (st.old f i) = leaves ∙ ap (λ z. (edge_of (sites_of (code_of Q f) v) z).leave) c.2 ∙ ap (leave_of true (end_of v)) inner.sites in
-              New owner.0 owner.1 owner.2 0 (name ∙ ap (λ (z : TraceNames). z.bail) (sym owner.4), ap Some (left ∙ ap (λ z. suc (st.old f z)) (sym owner.3))) (AtTrace i t is (ap Some left) name)
+              New owner.0 owner.1 owner.2 FromGuards (name ∙ ap (λ (z : TraceNames). z.bail) (sym owner.4), ap Some (left ∙ ap (λ z. suc (st.old f z)) (sym owner.3))) (AtTrace i t is (ap Some left) name)
 
       normal-entry : Normal P Q bool accepted st f F.args G.args i t is v → Entered (Some leave) l
       normal-entry (Ended w inner lines stop) =
-          let o = numbers Q f (end_of v) None op.Commit [] [] [] lines.stands.0 in
-          not-on (only-onward (Act o.d o.ty op.Commit o.xs o.fns o.ls) o.at refl) _ lines.stands.1.0 (λ name e. cc)
+          let o = action_at Q f (end_of v) None op.Commit [] [] [] lines.stands.0 in
+          not-on (only-onward (Act o.assigned o.ty op.Commit o.arguments o.callees o.targets) o.at refl) _ lines.stands.1.0 (λ name e. cc)
       normal-entry (Lay w inner fuel room choices n a is-a met lines stop) =
-          let g = found P f (end_of w) a is-a in
-          let lines' : Lines P Q bool accepted st f F.args G.args i t is (end_of v) (item_tree (names_of_functions P.funcs) (names_in (slice_get P.funcs f)) g.function.labels a ∷ tail_lines P Q bool accepted st f F.args G.args i t is n (path_from (code_of P f) i fuel room choices (suc (end_of w)))) =
-          subst (λ o. Lines P Q bool accepted st f F.args G.args i t is (end_of v) ((listed_item o ++ leg_lines bool (tree_at P f) t.names n (path_from (code_of P f) i fuel room choices (suc (end_of w))).legs) ++ end_lines bool (tree_at P f) t.names)) g.tree lines in
-          let both = shared P Q bool accepted st f (end_of w) (end_of v) a is-a (g.tree ∙ sym lines'.stands.0) in
-          let gb = lays-goes both.b (same-lays (A P Q bool accepted st f) a both.b both.same met) in
-          plain-on n fuel room choices (suc (end_of w)) (only-onward both.b both.at (gb.branches D (end_of v))) lines'.stands.1
+          let it = laid-item P Q bool accepted st f F.args G.args i t is (end_of v) n (end_of w) a (path_from (code_of P f) i fuel room choices (suc (end_of w))) is-a lines in
+          let both = it.both in
+          let gb = lays-goes both.item (same-lays (A P Q bool accepted st f) a both.item both.same met) in
+          plain-on n fuel room choices (suc (end_of w)) (only-onward both.item both.at (gb.branches D (end_of v))) it.after.stands
       normal-entry (Choose w inner fuel room choices n a is-a on off met true lines stop) =
           guard-entry w inner (args_in (tree_at P f (end_of w))) lines.stands.0 n fuel room choices _ lines.stands.1
       normal-entry (Choose w inner fuel room choices n a is-a on off met false lines stop) =
-          let o = numbers Q f (end_of v) (Some (record { name = t.names.nots n; ty = bool })) op.Not (args_in (tree_at P f (end_of w))) [] [] lines.stands.0 in
-          not-on (only-onward (Act o.d o.ty op.Not o.xs o.fns o.ls) o.at refl) _ lines.stands.1.0 (λ name e. cc)
+          let o = action_at Q f (end_of v) (Some (record { name = t.names.nots n; ty = bool })) op.Not (args_in (tree_at P f (end_of w))) [] [] lines.stands.0 in
+          not-on (only-onward (Act o.assigned o.ty op.Not o.arguments o.callees o.targets) o.at refl) _ lines.stands.1.0 (λ name e. cc)
 
       trace-entry : InTrace P Q bool accepted st f F.args G.args i t is v → Entered (Some leave) l
       trace-entry (Door w ew ev few u) =
-          let o = numbers Q f (end_of v) None op.Speculate [] [] [] (ap (tree_at Q f) ev ∙ h.lines.0) in
-          let e = only-onward (Act o.d o.ty op.Speculate o.xs o.fns o.ls) o.at refl in
+          let o = action_at Q f (end_of v) None op.Speculate [] [] [] (ap (tree_at Q f) ev ∙ h.lines.0) in
+          let e = only-onward (Act o.assigned o.ty op.Speculate o.arguments o.callees o.targets) o.at refl in
           plain-on 0 1023 256 t.choices (suc i) e (subst (λ n. Stands P Q bool f (suc n) (tail 0 (path_of (code_of P f) i t.choices).legs)) (sym ev) h.lines.1)
       trace-entry (OnPath w inner fuel room choices n lines stop) = normal-entry (normal P Q bool accepted st f F.args G.args i t is fuel v w inner room choices n lines stop)
       trace-entry (AtGuard w inner fuel room choices n lines stop reads) = guard-entry w inner (t.names.nots n ∷ []) lines.stands.0 (suc n) fuel room choices (end_of w) lines.stands.1
       trace-entry (AtJmp w w0 is0 end0 xs ys zip near stop line u) =
-          let o = numbers Q f (end_of v) None op.Jmp [] [] (t.names.stop ∷ []) line in
+          let o = action_at Q f (end_of v) None op.Jmp [] [] (t.names.stop ∷ []) line in
           let m = subst (λ z. In b (branches_from D (end_of v) z)) o.at among in
-          let c = in_map_source (jump (code_of Q f) (end_of v)) b o.ls m in
-          let to : b.to ≡ stop.point = ap (λ (z : Branch). z.to) c.2 ∙ any_target Q f (end_of v) None op.Jmp [] [] t.names.stop o stop.point stop.at c.0 c.1 in
+          let c = in_map_source (jump (code_of Q f) (end_of v)) b o.targets m in
+          let to : b.to ≡ stop.point = ap (λ (z : Branch). z.to) c.2 ∙ one_target Q f (end_of v) None op.Jmp [] [] t.names.stop o stop.point stop.at c.0 c.1 in
           let name = named-so b.to l t.names.stop at (ap (tree_at Q f) to ∙ stop.at) in
           let left : leave ≡ end_of v = leaves ∙ ap (λ z. (edge_of (sites_of (code_of Q f) v) z).leave) c.2 in
           let last = behind P Q bool accepted st f F.args G.args i t is in
           let count : suc (suc (end_of v)) + st.stops f (suc i) ≡ st.old f (suc i) = omega arith in
-          New owner.0 owner.1 owner.2 1 (name ∙ ap (λ (z : TraceNames). z.stop) (sym owner.4), (end_of v, ap Some left, subst (λ n. suc (suc (end_of v)) + st.stops f (suc n) ≡ st.old f (suc n)) (sym owner.3) count))
-          (AtSingle (end_of v) (Act o.d o.ty op.Jmp o.xs o.fns o.ls) (ap Some left) o.at (record { to = λ x y j k. goes-to o x j ∙ sym (goes-to o y k); goes = λ x j. let s = in_map_source (jump (code_of Q f) (end_of v)) x o.ls j in ap (λ (z : Branch). z.aborts) s.2; keeps = refl }))
+          New owner.0 owner.1 owner.2 FromJmp (name ∙ ap (λ (z : TraceNames). z.stop) (sym owner.4), (end_of v, ap Some left, subst (λ n. suc (suc (end_of v)) + st.stops f (suc n) ≡ st.old f (suc n)) (sym owner.3) count))
+          (AtSingle (end_of v) (Act o.assigned o.ty op.Jmp o.arguments o.callees o.targets) (ap Some left) o.at (record { to = λ x y j k. goes-to o x j ∙ sym (goes-to o y k); goes = λ x j. let s = in_map_source (jump (code_of Q f) (end_of v)) x o.targets j in ap (λ (z : Branch). z.aborts) s.2; keeps = refl }))
         where
-          goes-to : (o : Numbers Q f (end_of v) None op.Jmp [] [] (t.names.stop ∷ [])) (x : Branch) → In x (map (jump (code_of Q f) (end_of v)) o.ls) → x.to ≡ stop.point
-          goes-to o x j = let s = in_map_source (jump (code_of Q f) (end_of v)) x o.ls j in ap (λ (z : Branch). z.to) s.2 ∙ any_target Q f (end_of v) None op.Jmp [] [] t.names.stop o stop.point stop.at s.0 s.1
+          goes-to : (o : ActionAt Q f (end_of v) None op.Jmp [] [] (t.names.stop ∷ [])) (x : Branch) → In x (map (jump (code_of Q f) (end_of v)) o.targets) → x.to ≡ stop.point
+          goes-to o x j = let s = in_map_source (jump (code_of Q f) (end_of v)) x o.targets j in ap (λ (z : Branch). z.to) s.2 ∙ one_target Q f (end_of v) None op.Jmp [] [] t.names.stop o stop.point stop.at s.0 s.1
       trace-entry (AtBail w ew ev u) =
           let m = label_at Q f (end_of v) t.names.bail (ap (tree_at Q f) ev ∙ bailed P Q bool accepted st f F.args G.args i t is) in
           let e = only-onward (Label m.number) m.at refl in
@@ -446,7 +444,7 @@ module _ (P Q : Prog) (bool : Ty) (accepted : IsAccepted P) (st : Stitched P Q b
 
     -- ---- outside
 
-    abbrev N : Rattle.pass_plan.specs.Plan.Plan
+    abbrev N : Plan
     N = M P Q bool accepted st
 
     outside-entry : MatchedWalk (M P Q bool accepted st) P Q f F.args G.args v → Entered (Some leave) l
@@ -466,14 +464,14 @@ module _ (P Q : Prog) (bool : Ty) (accepted : IsAccepted P) (st : Stitched P Q b
         walked-on : st.traces f (end_of w.walk) ≡ None → end_of v ≡ st.old f (end_of w.walk) → b ≡ onward (end_of v) → (m : ℕ) → suc m ≤ st.stops f (suc (end_of w.walk)) → b.to + suc m ≡ st.old f (suc (end_of w.walk)) → Source (Some leave) l
         walked-on none e on m few to =
             let met = walked (end_of w.walk) b.to m few to in
-            let both = shared P Q bool accepted st f (end_of w.walk) (end_of v) met.0 met.1 (st.kept f (end_of w.walk) reached ∙ ap (tree_at Q f) (sym e)) in
-            let goes = goes-on (A P Q bool accepted st f) met.0 both.b both.same met.2 in
-            AtSingle (end_of v) both.b (ap Some (from-here on)) both.at (onward-single (end_of v) both.b (goes.branches (code_of Q f) (end_of v)) goes.keeps)
+            let both = same_item P Q accepted st.heads.names f (end_of w.walk) (end_of v) met.0 met.1 (st.kept f (end_of w.walk) reached ∙ ap (tree_at Q f) (sym e)) in
+            let goes = goes-on (A P Q bool accepted st f) met.0 both.item both.same met.2 in
+            AtSingle (end_of v) both.item (ap Some (from-here on)) both.at (onward-single (end_of v) both.item (goes.branches (code_of Q f) (end_of v)) goes.keeps)
 
         regular : st.traces f (end_of w.walk) ≡ None → end_of v ≡ st.old f (end_of w.walk) → Entered (Some leave) l
         regular none e = found-branch (twin (EdgesMatch N P Q f (end_of w.walk) (end_of v) (item_at P f (end_of w.walk)) (item_at Q f (end_of v))) (code_of P f) (code_of Q f) (end_of w.walk) (end_of v) (N.LocationsMatch f (end_of w.walk) (end_of v)) (item_at P f (end_of w.walk)) (item_at Q f (end_of v)) steps.same steps.branches b among)
           where
-            steps : Rattle.pass_plan.specs.Plan.StepsMatch N P Q f (end_of w.walk) (end_of v) (item_at P f (end_of w.walk)) (item_at Q f (end_of v))
+            steps : StepsMatch N P Q f (end_of w.walk) (end_of v) (item_at P f (end_of w.walk)) (item_at Q f (end_of v))
             steps = (preserves P Q bool accepted st).steps f (end_of w.walk) (end_of v) reached w.matches.points (e, none)
 
             found-branch : Twin (EdgesMatch N P Q f (end_of w.walk) (end_of v) (item_at P f (end_of w.walk)) (item_at Q f (end_of v))) (code_of P f) (code_of Q f) (end_of w.walk) (end_of v) b (item_at P f (end_of w.walk)) → Entered (Some leave) l
@@ -549,112 +547,67 @@ module _ (P Q : Prog) (bool : Ty) (accepted : IsAccepted P) (st : Stitched P Q b
       (ap (λ (d : Edge). slice_get G.code d.to) (sym edge.are) ∙ e.3)
       (all-at P Q bool accepted st f F.args G.args roomy start edge.walk edge.is)
 
-  abbrev Token : Type 0
-  Token = (Option ℕ × ℕ) ⊎ (Laying × ℕ)
-
-  abbrev of_old : Option ℕ × ℕ → Token
-  of_old y = inl y
-
-  abbrev of_new : Laying × ℕ → Token
-  of_new y = inr y
-
-  -- what an entry of Q stands for
-  abbrev Stands-for : (Option ℕ × ℕ) → Token → Type 0
-  Stands-for a (inl y) = (a.1 < length G.labels) × (named F.labels y.1 ≡ named G.labels a.1) × L a.0 y.0
-  Stands-for a (inr y) = (a.1 < length G.labels) × IsNew y.0 y.1 a.0 a.1
-
-  one-label : (l k : ℕ) → l < length G.labels → k < length G.labels → named G.labels l ≡ named G.labels k → l ≡ k
-  one-label l k a b e = one_number G.labels G.formed.labels_differ l k a b e
-
-  one-entry : (a c : Option ℕ × ℕ) (y : Token) → Stands-for a y → Stands-for c y → a ≡ c
-  one-entry a c (inl y) r s = let e = one-leave a.0 c.0 y.0 r.2 s.2 in let g = one-label a.1 c.1 r.0 s.0 (sym r.1 ∙ s.1) in λ i. (e i, g i)
-  one-entry a c (inr y) r s = by y.1 r.1 s.1
+  one-new : (a c : Option ℕ) (l k : ℕ) (x : Laying × Brought) → l < length G.labels → k < length G.labels → IsNew x.0 x.1 a l → IsNew x.0 x.1 c k → (a ≡ c) × (l ≡ k)
+  one-new a c l k x low high r s = by x.1 r s
     where
-      both : named G.labels a.1 ≡ named G.labels c.1 → a.0 ≡ c.0 → a ≡ c
-      both n e = let g = one-label a.1 c.1 r.0 s.0 n in λ i. (e i, g i)
+      named-one : named G.labels l ≡ named G.labels k → l ≡ k
+      named-one e = one_number G.labels G.formed.labels_differ l k low high e
 
-      by : (k : ℕ) → IsNew y.0 k a.0 a.1 → IsNew y.0 k c.0 c.1 → a ≡ c
-      by zero g h = both (g.0 ∙ sym h.0) (g.1 ∙ sym h.1)
-      by (suc zero) g h = let m : g.1.0 ≡ h.1.0 = omega (arith, g.1.2, h.1.2) in both (g.0 ∙ sym h.0) (g.1.1 ∙ ap Some m ∙ sym h.1.1)
-      by (suc (suc k)) g h = let n = one-label a.1 c.1 r.0 s.0 (g.0 ∙ sym h.0) in both (g.0 ∙ sym h.0) (g.1 ∙ ap (λ m. point_before (point_of m G.code)) n ∙ sym h.1)
+      by : (b : Brought) → IsNew x.0 b a l → IsNew x.0 b c k → (a ≡ c) × (l ≡ k)
+      by FromGuards g h = (g.1 ∙ sym h.1, named-one (g.0 ∙ sym h.0))
+      by FromJmp g h = let m : g.1.0 ≡ h.1.0 = omega (arith, g.1.2, h.1.2) in (g.1.1 ∙ ap Some m ∙ sym h.1.1, named-one (g.0 ∙ sym h.0))
+      by FromAbove g h = let n = named-one (g.0 ∙ sym h.0) in (g.1 ∙ ap (λ m. point_before (point_of m G.code)) n ∙ sym h.1, n)
 
   -- at most three entries more for each trace of the function
   pub entries-within : (d e : ℕ) → IsEntryCount F.code d → IsEntryCount G.code e → e ≤ d + 3 * length (laid_in f laid)
   entries-within d e a b =
-      let few = no_more Stands-for b.members (map of_old a.members ++ map of_new (tokens (laid_in f laid))) b.differ (λ x i. token x (all_in (λ (x : Option ℕ × ℕ). Enters G.code x.0 x.1) b.members b.are x i)) one-entry in
-      let size = length-append (map of_old a.members) (map of_new (tokens (laid_in f laid))) in
-      let m : length (map of_old a.members) ≡ length a.members = length-map a.members of_old in
-      let n : length (map of_new (tokens (laid_in f laid))) ≡ length (tokens (laid_in f laid)) = length-map (tokens (laid_in f laid)) of_new in
-      let t = tokens-length (laid_in f laid) in
-      let ca = a.count in
-      let cb = b.count in
+      let few = few-entries F G (Laying × Brought) (λ leave l from. L leave from) (λ leave l x. IsNew x.0 x.1 leave l) (tokens (laid_in f laid)) matched (λ a c b l k. one-leave a c b) one-new d e a b in
+      let three = tokens-length (laid_in f laid) in
       omega arith
     where
-      ys : List Token
-      ys = map of_old a.members ++ map of_new (tokens (laid_in f laid))
+      by : (leave : Option ℕ) (l : ℕ) → Entered leave l → EntryMatched F G (λ leave l from. L leave from) leave l ⊎ ((x : Laying × Brought) × In x (tokens (laid_in f laid)) × IsNew x.0 x.1 leave l)
+      by leave l (Old from to was same leaves) = inl (record { from = from; to = to; enters = was; leaves = leaves; same = same })
+      by leave l (New x among ef k is source) = inr ((x, k), tokens-in (laid_in f laid) x k (laid-in f laid x among ef), is)
 
-      new-kind : (k : ℕ) (x : Laying) (leave : Option ℕ) (l : ℕ) → IsNew x k leave l → IsNew x (kind_of k) leave l
-      new-kind zero x leave l h = h
-      new-kind (suc zero) x leave l h = h
-      new-kind (suc (suc k)) x leave l h = h
-
-      token : (x : Option ℕ × ℕ) → Enters G.code x.0 x.1 → (y : Token) × In y (map of_old a.members ++ map of_new (tokens (laid_in f laid))) × Stands-for x y
-      token x enters = by (entry x.0 x.1 enters)
-        where
-          low : x.1 < length G.labels
-          low = label-low G x.0 x.1 enters
-
-          by : Entered x.0 x.1 → (y : Token) × In y (map of_old a.members ++ map of_new (tokens (laid_in f laid))) × Stands-for x y
-          by (Old from to was same leaves) = (inl (from, to), in_append_left (inl (from, to)) (map of_old a.members) (map of_new (tokens (laid_in f laid))) (in_map of_old (from, to) a.members (in_contains (from, to) a.members (a.all (from, to) was))), (low, same, leaves))
-          by (New y among ef k is source) = (inr (y, kind_of k), in_append_right (inr (y, kind_of k)) (map of_old a.members) (map of_new (tokens (laid_in f laid))) (in_map of_new (y, kind_of k) (tokens (laid_in f laid)) (tokens-in (laid_in f laid) y k (laid-in f laid y among ef))), (low, new-kind k y x.0 x.1 is))
+      matched : (leave : Option ℕ) (l : ℕ) → Enters G.code leave l → EntryMatched F G (λ leave l from. L leave from) leave l ⊎ ((x : Laying × Brought) × In x (tokens (laid_in f laid)) × IsNew x.0 x.1 leave l)
+      matched leave l enters = by leave l (entry leave l enters)
 
   -- ---- which points of Q are an item's
-
-  abbrev Block : ℕ → ℕ → Type 0
-  Block i n = (st.old f i ≤ n) × (suc n + st.stops f (suc i) ≤ st.old f (suc i))
 
   item_there : (i : ℕ) → i < length (code_of P f) → (a : Instr) × (item_at P f i ≡ Some a)
   item_there i less = get_inside (code_of P f) i less
 
-  next-old : (i : ℕ) → i < length (code_of P f) → suc (st.old f i) ≤ st.old f (suc i)
-  next-old i less = by (st.traces f i) refl
+  next-item : (i : ℕ) → i < length (code_of P f) → suc (st.old f i) + st.stops f (suc i) ≤ st.old f (suc i)
+  next-item i less = by (st.traces f i) refl
     where
-      by : (o : Option Trace) → st.traces f i ≡ o → suc (st.old f i) ≤ st.old f (suc i)
+      by : (o : Option Trace) → st.traces f i ≡ o → suc (st.old f i) + st.stops f (suc i) ≤ st.old f (suc i)
       by None e = let a = item_there i less in let h = st.next f i a.0 a.1 e in omega arith
       by (Some t) e = let h = (st.traced f i t e).behind in omega arith
 
-  later-old : (i d : ℕ) → i + d ≤ length (code_of P f) → st.old f i ≤ st.old f (i + d)
-  later-old i zero h = let e : i ≡ i + 0 = omega arith in subst (λ n. st.old f i ≤ st.old f n) e (omega arith)
-  later-old i (suc d) h =
-      let r = later-old i d (omega arith) in
-      let s = next-old (i + d) (omega arith) in
-      let e : suc (i + d) ≡ i + suc d = omega arith in
-      subst (λ n. st.old f i ≤ st.old f n) e (omega arith)
+  abbrev Block : ℕ → ℕ → Type 0
+  Block i n = IsInBlock (st.old f) (st.stops f) (length (code_of P f)) next-item i n
 
-  before-block : (i j n : ℕ) → i < j → j < length (code_of P f) → Block i n → Block j n → ⊥
-  before-block i j n less within a b =
-      let e : suc i + (j - suc i) ≡ j = omega arith in
-      let l : st.old f (suc i) ≤ st.old f j = subst (λ k. st.old f (suc i) ≤ st.old f k) e (later-old (suc i) (j - suc i) (omega arith)) in
-      let x = a.1 in let y = b.0 in omega arith
+  in-block : (i n : ℕ) → i < length (code_of P f) → st.old f i ≤ n → suc n + st.stops f (suc i) ≤ st.old f (suc i) → Block i n
+  in-block i n less low high = record { inside = omega arith; low = omega arith; high = λ l. high }
 
-  one-block : (i j n : ℕ) → i < length (code_of P f) → j < length (code_of P f) → Block i n → Block j n → i ≡ j
-  one-block i j n wi wj a b = ⊎_elim (λ l. absurd (before-block i j n l wj a b)) (λ l. ⊎_elim (λ m. absurd (before-block j i n m wi b a)) (λ m. omega arith) (cases_lt j i)) (cases_lt i j)
+  same-block : (n i j : ℕ) → Block i n → Block j n → i ≡ j
+  same-block n i j a b = one-block (st.old f) (st.stops f) (length (code_of P f)) next-item n i j a b
 
   leave-block : (n i : ℕ) → i < length (code_of P f) → L (Some n) (Some i) → Block i n
-  leave-block n i less (inl h) = let e : n ≡ st.old f i = same_Some _ _ h.1 in let a = item_there i less in let g = st.next f i a.0 a.1 h.0 in (omega arith, omega arith)
-  leave-block n i less (inr h) = let e : n ≡ h.2.0 = same_Some _ _ h.2.1 in let g = (st.traced f i h.0 h.1).behind in let k = h.2.2 in (omega arith, omega arith)
+  leave-block n i less (inl h) = let e : n ≡ st.old f i = same_Some _ _ h.1 in let a = item_there i less in let g = st.next f i a.0 a.1 h.0 in in-block i n less (omega arith) (omega arith)
+  leave-block n i less (inr h) = let e : n ≡ h.2.0 = same_Some _ _ h.2.1 in let g = (st.traced f i h.0 h.1).behind in let k = h.2.2 in in-block i n less (omega arith) (omega arith)
 
   traced-within : (i : ℕ) (t : Trace) → st.traces f i ≡ Some t → i < length (code_of P f)
   traced-within i t is = let h = st.traced f i t is in let l = label_at P f i h.label h.labelled in slice_get_within (code_of P f) i (Label l.number) l.at
 
   -- its `speculate`
   speculate-block : (i : ℕ) (t : Trace) → st.traces f i ≡ Some t → Block i (suc (st.old f i))
-  speculate-block i t is = let b = behind P Q bool accepted st f F.args G.args i t is in (omega arith, omega arith)
+  speculate-block i t is = let b = behind P Q bool accepted st f F.args G.args i t is in in-block i (suc (st.old f i)) (traced-within i t is) (omega arith) (omega arith)
 
   speculates : (i : ℕ) (t : Trace) → st.traces f i ≡ Some t → (y : Instr) → item_at Q f (suc (st.old f i)) ≡ Some y → item_change (Some y) false ≡ Keeps → ⊥
   speculates i t is y at keeps =
-      let o = numbers Q f (suc (st.old f i)) None op.Speculate [] [] [] (st.traced f i t is).lines.0 in
-      let e : item_change (Some (Act o.d o.ty op.Speculate o.xs o.fns o.ls)) false ≡ Keeps = ap (λ z. item_change z false) (sym o.at ∙ at) ∙ keeps in
+      let o = action_at Q f (suc (st.old f i)) None op.Speculate [] [] [] (st.traced f i t is).lines.0 in
+      let e : item_change (Some (Act o.assigned o.ty op.Speculate o.arguments o.callees o.targets)) false ≡ Keeps = ap (λ z. item_change z false) (sym o.at ∙ at) ∙ keeps in
       cc
 
   abbrev HasItem : Option ℕ → Type 0
@@ -677,7 +630,7 @@ module _ (P Q : Prog) (bool : Ty) (accepted : IsAccepted P) (st : Stitched P Q b
   from-one None (Some i) c hb hc (inl r) s = absurd (let h = r.1 in cc)
   from-one None (Some i) c hb hc (inr r) s = absurd (let h = r.2.1 in cc)
   from-one (Some n) (Some i) None hb hc r s = absurd (let h = s in cc)
-  from-one (Some n) (Some i) (Some j) hb hc r s = ap Some (one-block i j n hb hc (leave-block n i hb r) (leave-block n j hc s))
+  from-one (Some n) (Some i) (Some j) hb hc r s = ap Some (same-block n i j (leave-block n i hb r) (leave-block n j hc s))
 
   -- ---- the labels that are entered from one leave point
 
@@ -726,15 +679,15 @@ module _ (P Q : Prog) (bool : Ty) (accepted : IsAccepted P) (st : Stitched P Q b
       other (AtSingle n y s at single) = let m : suc (st.old f i) ≡ n = same_Some _ _ (sym e ∙ s) in absurd (speculates i t is y (ap (item_at Q f) m ∙ at) single.keeps)
       other (AtTrace j u js s name') =
           let m : suc (st.old f i) ≡ suc (st.old f j) = same_Some _ _ (sym e ∙ s) in
-          let same : i ≡ j = one-block i j (suc (st.old f i)) (traced-within i t is) (traced-within j u js) (speculate-block i t is) (subst (Block j) (sym m) (speculate-block j u js)) in
+          let same : i ≡ j = same-block (suc (st.old f i)) i j (speculate-block i t is) (subst (Block j) (sym m) (speculate-block j u js)) in
           let tu : t ≡ u = same_Some _ _ (sym is ∙ ap (st.traces f) same ∙ js) in
-          one-label l k (label-low G leave l a) (label-low G leave k b) (name ∙ ap (λ (z : Trace). z.names.bail) tu ∙ sym name')
+          one_number G.labels G.formed.labels_differ l k (label-low G leave l a) (label-low G leave k b) (name ∙ ap (λ (z : Trace). z.names.bail) tu ∙ sym name')
 
       old : (from : Option ℕ) → HasItem from → L leave from → l ≡ k
       old None h s = absurd (let g = sym e ∙ s in cc)
       old (Some j) h (inl s) =
           let m : suc (st.old f i) ≡ st.old f j = same_Some _ _ (sym e ∙ s.1) in
-          let same : i ≡ j = one-block i j (suc (st.old f i)) (traced-within i t is) h (speculate-block i t is) (subst (Block j) (sym m) (leave-block (st.old f j) j h (inl (s.0, refl)))) in
+          let same : i ≡ j = same-block (suc (st.old f i)) i j (speculate-block i t is) (subst (Block j) (sym m) (leave-block (st.old f j) j h (inl (s.0, refl)))) in
           absurd (let g : None ≡ Some t = sym s.0 ∙ ap (st.traces f) (sym same) ∙ is in cc)
       old (Some j) h (inr s) =
           let m : suc (st.old f i) ≡ s.2.0 = same_Some _ _ (sym e ∙ s.2.1) in
@@ -765,21 +718,21 @@ module _ (P Q : Prog) (bool : Ty) (accepted : IsAccepted P) (st : Stitched P Q b
       by (Old from to was same leaves) (inl r) = inl r
       by (Old from to was same leaves) (inr r) = inr (λ k i. ⊎_elim (λ e. subst (OldEntry leave) (sym e) (record { from = from; to = to; was = was; same = same; leaves = leaves })) (r k) i)
 
-  -- where all are old, they are no more than those of one leave point of P
-  module _ (d e : ℕ) (a : IsEntryWidth F.code d) (b : IsEntryWidth G.code e) (olds : (k : ℕ) → In k b.has.members → OldEntry b.widest k) (from : Option ℕ) (has : HasItem from) (leaves : L b.widest from) where
-    against : d < e → (ys : List ℕ) → AllPairs (λ x y. x ≢ y) ys → ((y : ℕ) → In y ys → Enters F.code from y × In y (range_with_len 0 (length F.labels))) → ((y : ℕ) → In y (range_with_len 0 (length F.labels)) → Enters F.code from y → In y ys) → ⊥
-    against less ys differ are all =
-        let in-list : (y : ℕ) → Enters F.code from y → In y ys = λ y h. all y (in_range 0 (length F.labels) y (omega arith) (let low = label-low F from y h in omega arith)) h in
-        let most = a.most from (length ys) (record { members = ys; differ = differ; are = in_all (Enters F.code from) ys (λ y i. (are y i).0); all = λ y h. contains_in y ys (in-list y h); count = refl }) in
-        let few = no_more (λ (k m : ℕ). (k < length G.labels) × (named F.labels m ≡ named G.labels k)) b.has.members ys b.has.differ
-        (λ k i. let o = olds k i in
-        let same : o.from ≡ from = from-one b.widest o.from from (enters-item o.from o.to o.was) has o.leaves leaves in
-        (o.to, in-list o.to (subst (λ z. Enters F.code z o.to) same o.was), (label-low G b.widest k (all_in (Enters G.code b.widest) b.has.members b.has.are k i), o.same)))
-        (λ x z y r s. one-label x z r.0 s.0 (sym r.1 ∙ s.1)) in
-        let c = b.has.count in omega arith
+  abbrev no-extra : List (Option ℕ)
+  no-extra = []
 
-    from-there : e ≤ d
-    from-there = ⊎_elim (λ less. absurd (not_uncounted (Enters F.code from) (range_with_len 0 (length F.labels)) (range-differ (length F.labels)) (against less))) (λ le. le) (cases_lt d e)
+  -- where all are old, they are no more than those of one leave point of P
+  from-there : (d e : ℕ) → IsEntryWidth F.code d → (b : IsEntryWidth G.code e) → ((k : ℕ) → In k b.has.members → OldEntry b.widest k) → (from : Option ℕ) → HasItem from → L b.widest from → e ≤ d
+  from-there d e a b olds from has leaves = let few = labels-within F G no-extra b.widest matched d e a b.has in omega arith
+    where
+      labels : (l : ℕ) → Enters G.code b.widest l → (⊥ × In None no-extra) ⊎ ((m : ℕ) × Enters F.code from m × (named F.labels m ≡ named G.labels l))
+      labels l enters =
+          let o = olds l (in_contains l b.has.members (b.has.all l enters)) in
+          let same : o.from ≡ from = from-one b.widest o.from from (enters-item o.from o.to o.was) has o.leaves leaves in
+          inr (o.to, subst (λ z. Enters F.code z o.to) same o.was, o.same)
+
+      matched : LeaveMatched F G no-extra b.widest
+      matched = record { from = from; IsExtra = λ l. ⊥; one = λ l k r s. absurd r; labels = labels }
 
   -- no more than before, or one
   pub width-within : (d e : ℕ) → IsEntryWidth F.code d → IsEntryWidth G.code e → e ≤ max d 1

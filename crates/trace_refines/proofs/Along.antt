@@ -1,4 +1,6 @@
 -- The induction along a path: Q is in an attempted trace, and P makes the path's steps.
+use Rattle.bril_tree.proofs.Elements.{in_index}
+use Rattle.pass_names.proofs.Standing.{ActionAt, action_at, SameItem, same_item}
 use Rattle.bril_tree.specs.declared.function_tree.Item.TheVariants as item
 use Rattle.bril_tree.specs.declared.operation.Op.TheVariants as op
 use Rattle.std.proofs.Common.{◌≡◌, ◌⊎◌, ℕ, zero, suc, ◌+◌, ◌*◌, ◌<◌, ◌≤◌, Bool, true, false, List, [], ◌∷◌, ◌++◌, length, map, Option, Some, None, refl, sym, ap, subst, ◌∙◌, inl, inr, cond, arith}
@@ -37,10 +39,10 @@ use Rattle.pass_names.specs.Named.{SameName, SameLocation}
 use Rattle.trace_paths.specs.Path.{Straight, Turn, Path, stopped, with_leg, Meeting, Over, To, Lays, Turns, Stops, item_met, chosen, path_by, path_from}
 use Rattle.trace_lines.specs.Lines.{TraceNames, args_in, listed_item, leg_lines, end_lines}
 use Rattle.trace_refines.specs.Stitched.{Stands, StopsAt, Stitched}
-use Rattle.trace_refines.proofs.Items.{Numbers, numbers, first_target}
+use Rattle.trace_refines.proofs.Items.{first_target}
 use Rattle.pass_steps.proofs.Attempts.{AttemptedAlike, Faults, Moves, attempted_alike}
 use Rattle.trace_refines.proofs.Straight.{lays-attempted, lays-goes, over-passed, to-jmp, IsBr, turns-br}
-use Rattle.trace_refines.proofs.Plans.{M, A, preserves, Shared, shared}
+use Rattle.trace_refines.proofs.Plans.{M, A, preserves}
 use Rattle.bril_tree.specs.Membership.{In}
 use Rattle.bril_tree.proofs.Members.{in_map, contains_in}
 use Rattle.bril_tree.proofs.Shapes.{shape-parts}
@@ -52,11 +54,6 @@ pub record EndedAlike (s t : State) : Type 0 where
   pub final : IsSome s.ended
   pub ended : s.ended ≡ t.ended
   pub printed : s.printed ≡ t.printed
-
-pub in_index : (xs : List ℕ) (k : ℕ) → k < length xs → In (slice_index xs k) xs
-in_index [] k less = absurd (omega arith)
-in_index (x ∷ xs) zero less = inl refl
-in_index (x ∷ xs) (suc k) less = inr (in_index xs k (omega arith))
 
 -- the first of two lists of arguments that have the same names
 pub first_same : (V W : List (List ℕ)) (xs ys : List ℕ) → map (named V) xs ≡ map (named W) ys → AreBelow (length V) xs → AreBelow (length W) ys → 0 < length xs → SameName V W (slice_index xs 0) (slice_index ys 0)
@@ -206,8 +203,8 @@ module _ (P Q : Prog) (bool : Ty) (limits : Limits) (accepted : IsAccepted P) (s
 
     finish : (room : ℕ) (s : State) (i j : ℕ) (p q : Locals) → Before s (atP i p) → Reaches i → ValuesMatch (A P Q bool accepted st k) p q → Stands P Q bool k j (end_lines bool (tree_at P k) names) → StopsAt P Q bool st.old st.stops k i names.stop → Outcome room s (atQ j q)
     finish room s i j p q b r agree stands stop =
-        let c = numbers Q k j None op.Commit [] [] [] stands.0 in
-        let g = numbers Q k (suc j) None op.Jmp [] [] (names.stop ∷ []) stands.1.0 in
+        let c = action_at Q k j None op.Commit [] [] [] stands.0 in
+        let g = action_at Q k (suc j) None op.Jmp [] [] (names.stop ∷ []) stands.1.0 in
         let committed : State = state (frame k (suc j) q qs ∷ gs) blocks printed None y in
         let ended : State = state (frame k stop.point q qs ∷ gs) blocks printed None y in
         let to = first_target Q k (suc j) None op.Jmp [] [] names.stop g stop.point stop.at in
@@ -276,21 +273,21 @@ module _ (P Q : Prog) (bool : Ty) (limits : Limits) (accepted : IsAccepted P) (s
             (reach i (Act h.br.d h.br.s op.Br h.br.args h.br.fns h.br.ls) at' r (jump (code_of P k) i (slice_index h.br.ls 1)) refl refl (in_map (jump (code_of P k) i) (slice_index h.br.ls 1) h.br.ls (in_index h.br.ls 1 (let t = h.two in omega arith))) refl)
 
     -- Q's guard
-    guard_label : (j : ℕ) (args : List (List ℕ)) (g : Numbers Q k j None op.Guard args [] (names.bail ∷ [])) → point_of (slice_index g.ls 0) (code_of Q k) ≡ bail
+    guard_label : (j : ℕ) (args : List (List ℕ)) (g : ActionAt Q k j None op.Guard args [] (names.bail ∷ [])) → point_of (slice_index g.targets 0) (code_of Q k) ≡ bail
     guard_label j args g = first_target Q k j None op.Guard args [] names.bail g bail bailed
 
-    guard-holds : (j : ℕ) (q : Locals) (args : List (List ℕ)) (g : Numbers Q k j None op.Guard args [] (names.bail ∷ [])) → bool_of (argument q g.xs 0) ≡ true → step Q limits (atQ j q) ≡ atQ (suc j) q
-    guard-holds j q args g e = stepQ j q _ g.at ∙ ap (λ b. guards Q limits b (slice_index g.ls 0) (frame k j q (q0 ∷ qs)) gs (atQ j q)) e
+    guard-holds : (j : ℕ) (q : Locals) (args : List (List ℕ)) (g : ActionAt Q k j None op.Guard args [] (names.bail ∷ [])) → bool_of (argument q g.arguments 0) ≡ true → step Q limits (atQ j q) ≡ atQ (suc j) q
+    guard-holds j q args g e = stepQ j q _ g.at ∙ ap (λ b. guards Q limits b (slice_index g.targets 0) (frame k j q (q0 ∷ qs)) gs (atQ j q)) e
 
     record Failed (t' : State) : Type 0 where
       failures : ℕ → ℕ → ℕ
       is : t' ≡ state (frame k bail q0 qs ∷ gs) blocks printed None failures
 
-    guard-fails : (j : ℕ) (q : Locals) (args : List (List ℕ)) (g : Numbers Q k j None op.Guard args [] (names.bail ∷ [])) → bool_of (argument q g.xs 0) ≡ false → Failed (step Q limits (atQ j q))
+    guard-fails : (j : ℕ) (q : Locals) (args : List (List ℕ)) (g : ActionAt Q k j None op.Guard args [] (names.bail ∷ [])) → bool_of (argument q g.arguments 0) ≡ false → Failed (step Q limits (atQ j q))
     guard-fails j q args g e = record {
-      failures = (guards Q limits false (slice_index g.ls 0) (frame k j q (q0 ∷ qs)) gs (atQ j q)).failures;
-      is = stepQ j q _ g.at ∙ ap (λ b. guards Q limits b (slice_index g.ls 0) (frame k j q (q0 ∷ qs)) gs (atQ j q)) e
-          ∙ ap (λ n. state (frame k n q0 qs ∷ gs) blocks printed None (guards Q limits false (slice_index g.ls 0) (frame k j q (q0 ∷ qs)) gs (atQ j q)).failures) (guard_label j args g);
+      failures = (guards Q limits false (slice_index g.targets 0) (frame k j q (q0 ∷ qs)) gs (atQ j q)).failures;
+      is = stepQ j q _ g.at ∙ ap (λ b. guards Q limits b (slice_index g.targets 0) (frame k j q (q0 ∷ qs)) gs (atQ j q)) e
+          ∙ ap (λ n. state (frame k n q0 qs ∷ gs) blocks printed None (guards Q limits false (slice_index g.targets 0) (frame k j q (q0 ∷ qs)) gs (atQ j q)).failures) (guard_label j args g);
     }
 
     -- the condition is the same on both sides
@@ -299,8 +296,8 @@ module _ (P Q : Prog) (bool : Ty) (limits : Limits) (accepted : IsAccepted P) (s
         read-agree (A P Q bool accepted st k) (A P Q bool accepted st k) p q agree (slice_index h.br.args 0) (slice_index xs 0)
         (first_same V W h.br.args xs (sym (e ∙ h.tree)) h.below below (let o = h.one in omega arith), tt)
 
-    below_args : (j : ℕ) (dest : Option Dest) (o : Op) (args funcs labels : List (List ℕ)) (n : Numbers Q k j dest o args funcs labels) → AreBelow (length W) n.xs
-    below_args j dest o args funcs labels n = (AreBelow-append (length W) (listed n.d) n.xs n.range.variables).1
+    below_args : (j : ℕ) (dest : Option Dest) (o : Op) (args funcs labels : List (List ℕ)) (n : ActionAt Q k j dest o args funcs labels) → AreBelow (length W) n.arguments
+    below_args j dest o args funcs labels n = (AreBelow-append (length W) (listed n.assigned) n.arguments n.range.variables).1
 
     -- ---- a not and its guard
 
@@ -350,13 +347,13 @@ module _ (P Q : Prog) (bool : Ty) (limits : Limits) (accepted : IsAccepted P) (s
           let h = found P k i a at in
           let stands : Stands P Q bool k j (listed_item (Some (item_tree (names_of_functions P.funcs) V h.function.labels a)) ++ leg_lines bool (tree_at P k) names n (next room choices (suc i)).legs ++ end_lines bool (tree_at P k) names) =
           subst (λ o. Stands P Q bool k j ((listed_item o ++ leg_lines bool (tree_at P k) names n (next room choices (suc i)).legs) ++ end_lines bool (tree_at P k) names)) h.tree facts.stands in
-          let both = shared P Q bool accepted st k i j a at (h.tree ∙ sym stands.0) in
+          let both = same_item P Q accepted st.heads.names k i j a at (h.tree ∙ sym stands.0) in
           let goes = lays-goes a met in
-          by both stands.1 (subst (λ z. AttemptedAlike (A P Q bool accepted st k) P Q limits (atP i p) (atQ j q) (λ p'. atP (suc i) p') (λ q'. atQ (suc j) q') (step P limits (atP i p)) z) (sym (stepQ j q both.b both.at))
-          (subst (λ z. AttemptedAlike (A P Q bool accepted st k) P Q limits (atP i p) (atQ j q) (λ p'. atP (suc i) p') (λ q'. atQ (suc j) q') z (item_step Q limits (Some both.b) (frame k j q (q0 ∷ qs)) gs (atQ j q))) (sym (stepP i p a at))
-          (attempted_alike (A P Q bool accepted st k) P Q limits k i j p q agree ps (q0 ∷ qs) fs gs blocks printed x y a both.b both.same (shaped_here P accepted k i a at) both.kept (lays-attempted a met))))
+          by both stands.1 (subst (λ z. AttemptedAlike (A P Q bool accepted st k) P Q limits (atP i p) (atQ j q) (λ p'. atP (suc i) p') (λ q'. atQ (suc j) q') (step P limits (atP i p)) z) (sym (stepQ j q both.item both.at))
+          (subst (λ z. AttemptedAlike (A P Q bool accepted st k) P Q limits (atP i p) (atQ j q) (λ p'. atP (suc i) p') (λ q'. atQ (suc j) q') z (item_step Q limits (Some both.item) (frame k j q (q0 ∷ qs)) gs (atQ j q))) (sym (stepP i p a at))
+          (attempted_alike (A P Q bool accepted st k) P Q limits k i j p q agree ps (q0 ∷ qs) fs gs blocks printed x y a both.item both.same (shaped_here P accepted k i a at) both.kept (lays-attempted a met))))
         where
-          by : Shared P Q bool accepted st k j a → Stands P Q bool k (suc j) (leg_lines bool (tree_at P k) names n (next room choices (suc i)).legs ++ end_lines bool (tree_at P k) names)
+          by : SameItem P Q k j a → Stands P Q bool k (suc j) (leg_lines bool (tree_at P k) names n (next room choices (suc i)).legs ++ end_lines bool (tree_at P k) names)
               → AttemptedAlike (A P Q bool accepted st k) P Q limits (atP i p) (atQ j q) (λ p'. atP (suc i) p') (λ q'. atQ (suc j) q') (step P limits (atP i p)) (step Q limits (atQ j q)) → Outcome (suc room) s (atQ j q)
           by both stands (Faults kind ep eq) = fault-leg (suc room) s i j p q kind b ep eq
           by both stands (Moves p' q' ep eq agree') =
@@ -368,11 +365,11 @@ module _ (P Q : Prog) (bool : Ty) (limits : Limits) (accepted : IsAccepted P) (s
       turn-true : (room : ℕ) (choices : List Bool) (a : Instr) (on off : ℕ) → item_at P k i ≡ Some a → Turning i a on off → Facts (with_leg (Turn i true) (next room choices (point_of (chosen true on off) (code_of P k)))) j n → Outcome (suc room) s (atQ j q)
       turn-true room choices a on off at h facts = by (bool_of (argument p h.br.args 0)) refl
         where
-          g : Numbers Q k j None op.Guard (args_in (tree_at P k i)) [] (names.bail ∷ [])
-          g = numbers Q k j None op.Guard (args_in (tree_at P k i)) [] (names.bail ∷ []) facts.stands.0
+          g : ActionAt Q k j None op.Guard (args_in (tree_at P k i)) [] (names.bail ∷ [])
+          g = action_at Q k j None op.Guard (args_in (tree_at P k i)) [] (names.bail ∷ []) facts.stands.0
 
-          same : bool_of (argument p h.br.args 0) ≡ bool_of (argument q g.xs 0)
-          same = ap bool_of (condition i j p q a on off h agree g.xs g.args_are (below_args j None op.Guard (args_in (tree_at P k i)) [] (names.bail ∷ []) g))
+          same : bool_of (argument p h.br.args 0) ≡ bool_of (argument q g.arguments 0)
+          same = ap bool_of (condition i j p q a on off h agree g.arguments g.has_args (below_args j None op.Guard (args_in (tree_at P k i)) [] (names.bail ∷ []) g))
 
           by : (c : Bool) → bool_of (argument p h.br.args 0) ≡ c → Outcome (suc room) s (atQ j q)
           by true e =
@@ -386,36 +383,36 @@ module _ (P Q : Prog) (bool : Ty) (limits : Limits) (accepted : IsAccepted P) (s
       turn-false : (room : ℕ) (choices : List Bool) (a : Instr) (on off : ℕ) → item_at P k i ≡ Some a → Turning i a on off → Facts (with_leg (Turn i false) (next room choices (point_of (chosen false on off) (code_of P k)))) j n → Outcome (suc room) s (atQ j q)
       turn-false room choices a on off at h facts = by (bool_of (argument p h.br.args 0)) refl
         where
-          m : Numbers Q k j (Some (record { name = names.nots n; ty = bool })) op.Not (args_in (tree_at P k i)) [] []
-          m = numbers Q k j (Some (record { name = names.nots n; ty = bool })) op.Not (args_in (tree_at P k i)) [] [] facts.stands.0
+          m : ActionAt Q k j (Some (record { name = names.nots n; ty = bool })) op.Not (args_in (tree_at P k i)) [] []
+          m = action_at Q k j (Some (record { name = names.nots n; ty = bool })) op.Not (args_in (tree_at P k i)) [] [] facts.stands.0
 
-          g : Numbers Q k (suc j) None op.Guard (names.nots n ∷ []) [] (names.bail ∷ [])
-          g = numbers Q k (suc j) None op.Guard (names.nots n ∷ []) [] (names.bail ∷ []) facts.stands.1.0
+          g : ActionAt Q k (suc j) None op.Guard (names.nots n ∷ []) [] (names.bail ∷ [])
+          g = action_at Q k (suc j) None op.Guard (names.nots n ∷ []) [] (names.bail ∷ []) facts.stands.1.0
 
           v : Value
-          v = argument q m.xs 0
+          v = argument q m.arguments 0
 
-          made : NotMade n p q (argument q m.xs 0) m.d
-          made = not-made n p q (argument q m.xs 0) m.d agree (dest_named W m.d m.ty (names.nots n) bool m.dest_is (AreBelow-append (length W) (listed m.d) m.xs m.range.variables).0)
+          made : NotMade n p q (argument q m.arguments 0) m.assigned
+          made = not-made n p q (argument q m.arguments 0) m.assigned agree (dest_named W m.assigned m.ty (names.nots n) bool m.has_dest (AreBelow-append (length W) (listed m.assigned) m.arguments m.range.variables).0)
 
-          negated : step Q limits (atQ j q) ≡ atQ (suc j) (assigned m.d (negation (argument q m.xs 0)) q)
+          negated : step Q limits (atQ j q) ≡ atQ (suc j) (assigned m.assigned (negation (argument q m.arguments 0)) q)
           negated = stepQ j q _ m.at
 
-          same : bool_of (argument p h.br.args 0) ≡ bool_of (argument q m.xs 0)
-          same = ap bool_of (condition i j p q a on off h agree m.xs m.args_are (below_args j (Some (record { name = names.nots n; ty = bool })) op.Not (args_in (tree_at P k i)) [] [] m))
+          same : bool_of (argument p h.br.args 0) ≡ bool_of (argument q m.arguments 0)
+          same = ap bool_of (condition i j p q a on off h agree m.arguments m.has_args (below_args j (Some (record { name = names.nots n; ty = bool })) op.Not (args_in (tree_at P k i)) [] [] m))
 
-          read_back : bool_of (argument (assigned m.d (negation (argument q m.xs 0)) q) g.xs 0) ≡ not (bool_of (argument p h.br.args 0))
-          read_back = ap bool_of (made.holds g.xs g.args_are (below_args (suc j) None op.Guard (names.nots n ∷ []) [] (names.bail ∷ []) g)) ∙ ap not (sym same)
+          read_back : bool_of (argument (assigned m.assigned (negation (argument q m.arguments 0)) q) g.arguments 0) ≡ not (bool_of (argument p h.br.args 0))
+          read_back = ap bool_of (made.holds g.arguments g.has_args (below_args (suc j) None op.Guard (names.nots n ∷ []) [] (names.bail ∷ []) g)) ∙ ap not (sym same)
 
           by : (c : Bool) → bool_of (argument p h.br.args 0) ≡ c → Outcome (suc room) s (atQ j q)
           by false e =
-              let q' = assigned m.d (negation (argument q m.xs 0)) q in
+              let q' = assigned m.assigned (negation (argument q m.arguments 0)) q in
               leg room s i p (atQ j q) (atQ (suc (suc j)) q') 2 (omega arith) b
               (ap (step Q limits) negated ∙ guard-holds (suc j) q' (names.nots n ∷ []) g (read_back ∙ ap not e))
               (rest room choices (point_of (chosen false on off) (code_of P k)) (suc (suc j)) (suc n) p q' (atP i p) (before i p (atP (point_of (chosen false on off) (code_of P k)) p) (turned i p a on off at h false e))
               (reach-turned i a on off at h false r) made.agree (record { stands = facts.stands.1.1; stop = facts.stop }))
           by true e =
-              let q' = assigned m.d (negation (argument q m.xs 0)) q in
+              let q' = assigned m.assigned (negation (argument q m.arguments 0)) q in
               let f = guard-fails (suc j) q' (names.nots n ∷ []) g (read_back ∙ ap not e) in
               inr (record { moves = 2; within = omega arith; failures = f.failures; is = ap (step Q limits) negated ∙ f.is })
 

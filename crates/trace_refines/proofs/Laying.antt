@@ -1,17 +1,18 @@
 -- What a spliced program has of what the simulation needs.
+use Rattle.bril_tree.specs.Numbered.{point_tree}
+use Rattle.bril_tree.proofs.Trees.{function_at}
 use Rattle.bril_tree.specs.declared.function_tree.Item.TheVariants as item
 use Rattle.std.proofs.Common.{◌≡◌, ℕ, suc, ◌+◌, ◌-◌, ◌<◌, ◌≤◌, Bool, true, false, List, [], ◌∷◌, length, Option, Some, None, refl, sym, ap, subst, ◌∙◌, inl, inr, arith}
 use Rattle.std.specs.Prelude.{slice_get}
-use Rattle.std.specs.Option.{option_map}
 use Rattle.std.proofs.lemmas.List.{length-map}
-use Rattle.std.proofs.lemmas.Option.{slice_get_within, slice_get-map}
+use Rattle.std.proofs.lemmas.Option.{slice_get_within}
 use Rattle.bril_tree.specs.declared.function_tree.Item.{Item}
 use Rattle.bril_tree.specs.declared.numbered.Instr.{Instr}
 use Rattle.bril_tree.specs.declared.numbered.Instr.TheVariants.{Label}
 use Rattle.bril_tree.specs.declared.numbered_function.Func.{Func}
 use Rattle.bril_tree.specs.declared.program.Prog.{Prog}
 use Rattle.bril_tree.specs.declared.types.Ty.{Ty}
-use Rattle.bril_tree.specs.Numbered.{named, function_tree, variable_names, item_tree, names_of_functions, tree_at, names_in, tree_of}
+use Rattle.bril_tree.specs.Numbered.{function_tree, variable_names, item_tree, names_of_functions, tree_at, tree_of}
 use Rattle.bril_tree.specs.Step.{items_of, code_of, item_at}
 use Rattle.bril_tree.specs.Walk.{IsReached}
 use Rattle.pass_names.specs.NamedPlan.{SameHeads}
@@ -70,16 +71,13 @@ module _ (P Q : Prog) (bool : Ty) (laid : List Laying) (layable : (x : Laying) �
     ofP : (i : ℕ) → tree_at P f i ≡ slice_get code i
     ofQ : (i : ℕ) → tree_at Q f i ≡ slice_get (spliced (before f) (behind f) 0 code) i
 
-  pub tree_there : (X : Prog) (f : ℕ) (F : Func) → slice_get X.funcs f ≡ Some F → slice_get (tree_of X).funcs f ≡ Some (function_tree (names_of_functions X.funcs) F)
-  tree_there X f F e = slice_get-map (function_tree (names_of_functions X.funcs)) X.funcs f ∙ ap (option_map (function_tree (names_of_functions X.funcs))) e
-
   both : (f : ℕ) (F : Func) → slice_get P.funcs f ≡ Some F → Both f F
   both f F there =
       let g = partner P Q heads f F there in
       let tP = function_tree (names_of_functions P.funcs) F in
       let tQ = function_tree (names_of_functions Q.funcs) g.0 in
-      let hP = tree_there P f F there in
-      let hQ = tree_there Q f g.0 g.1 in
+      let hP = function_at P f F there in
+      let hQ = function_at Q f g.0 g.1 in
       record {
         code = tP.code;
         size = length-map F.code (item_tree (names_of_functions P.funcs) (variable_names F.vars) F.labels);
@@ -105,11 +103,11 @@ module _ (P Q : Prog) (bool : Ty) (laid : List Laying) (layable : (x : Laying) �
       let s = b.size in
       b.ofP i ∙ sym (item-position (before f) (behind f) b.code i (omega arith)) ∙ sym (b.ofQ (old f i))
 
-  kept : (f i : ℕ) → IsReached (code_of P f) i → tree_at P f i ≡ tree_at Q f (old f i)
+  pub kept : (f i : ℕ) → IsReached (code_of P f) i → tree_at P f i ≡ tree_at Q f (old f i)
   kept f i reached = by (slice_get P.funcs f) refl
     where
       by : (o : Option Func) → slice_get P.funcs f ≡ o → tree_at P f i ≡ tree_at Q f (old f i)
-      by None e = ap (λ o. Rattle.bril_tree.specs.Numbered.point_tree (names_of_functions P.funcs) o i) e ∙ sym (no_partner P Q heads f e (old f i))
+      by None e = ap (λ o. point_tree (names_of_functions P.funcs) o i) e ∙ sym (no_partner P Q heads f e (old f i))
       by (Some F) e = kept-at f F e i (let w = walk_within (code_of P f) reached.walk reached.is in let z = reached.ends in omega arith)
 
   item_there : (f i : ℕ) (label : List ℕ) → tree_at P f i ≡ Some (item.Label label) → is_label_item (item_at P f i) ≡ true

@@ -5,3 +5,4 @@ pub mod Along
 pub mod Refining
 pub mod Laying
 pub mod Refines
+pub mod Quiet

@@ -1,29 +1,21 @@
 -- The plan of a program with laid traces, outside of them.
-use Rattle.std.proofs.Common.{◌≡◌, ℕ, suc, List, length, Option, Some, None, refl, sym, ap, subst, ◌∙◌, arith}
+use Rattle.std.proofs.Common.{◌≡◌, ℕ, suc, Option, Some, None, refl, sym, subst, ◌∙◌, arith}
 use Rattle.std.specs.Prelude.{slice_get}
-use Rattle.std.proofs.lemmas.Option.{same_Some}
 use Rattle.bril_tree.specs.declared.numbered.Instr.{Instr}
 use Rattle.bril_tree.specs.declared.program.Prog.{Prog}
 use Rattle.bril_tree.specs.declared.types.Ty.{Ty}
 use Rattle.bril_tree.specs.Accepted.{IsAccepted}
-use Rattle.bril_tree.specs.Assigned.{assigns_of}
 use Rattle.bril_tree.specs.Edge.{branches_at, branches_from, onward}
-use Rattle.bril_tree.specs.Numbered.{item_tree, names_of_functions, names_in, tree_at}
+use Rattle.bril_tree.specs.Numbered.{names_in, tree_at}
 use Rattle.bril_tree.specs.Operand.{Location}
 use Rattle.bril_tree.specs.Step.{code_of, item_at}
-use Rattle.bril_names.specs.Range.{IsInRange}
-use Rattle.bril_names.proofs.Functions.{Differ-functions}
-use Rattle.pass_plan.specs.Plan.{Plan, StaysMatched, ItemsMatch, Preserves}
+use Rattle.pass_plan.specs.Plan.{Plan, Preserves}
 use Rattle.pass_names.specs.Named.{SameLocation}
 use Rattle.pass_names.specs.NamedPlan.{NamePlan, plan, KeepsNames}
 use Rattle.pass_names.proofs.Preserving.{names_preserve, knows_nothing}
-use Rattle.pass_names.proofs.Items.{item-shares}
-use Rattle.pass_names.proofs.Locations.{kept-apart, to_left}
 use Rattle.trace_refines.specs.Stitched.{Near, Stitched}
 use Rattle.bril_tree.specs.Membership.{In}
-use Rattle.pass_steps.proofs.Shapes.{shaped_here}
-use Rattle.pass_names.proofs.Points.{Found, found, label_once, Differ-in}
-use Rattle.bril_tree.proofs.Trees.{nothing_at}
+use Rattle.pass_names.proofs.Points.{label_once}
 
 module _ (P Q : Prog) (bool : Ty) (accepted : IsAccepted P) (st : Stitched P Q bool) where
   -- the item itself, or one of the labels that were put before it
@@ -72,44 +64,3 @@ module _ (P Q : Prog) (bool : Ty) (accepted : IsAccepted P) (st : Stitched P Q b
 
   pub preserves : Preserves M P Q
   preserves = names_preserve P Q tracing accepted keeps
-
-  -- ---- items of one tree, wherever they stand
-
-  pub record Shared (k j : ℕ) (a : Instr) : Type 0 where
-    pub b : Instr
-    pub at : item_at Q k j ≡ Some b
-    pub same : ItemsMatch (A k) a b
-    pub kept : (x y : Location) → A k x y → StaysMatched (assigns_of a) (assigns_of b) (A k) x y
-
-  module _ (k i j : ℕ) (a : Instr) (at : item_at P k i ≡ Some a) (equal : tree_at P k i ≡ tree_at Q k j) where
-    abbrev fns : List (List ℕ)
-    fns = names_of_functions P.funcs
-
-    abbrev V : List (List ℕ)
-    V = names_in (slice_get P.funcs k)
-
-    abbrev W : List (List ℕ)
-    W = names_in (slice_get Q.funcs k)
-
-    fa : Found P k i a
-    fa = found P k i a at
-
-    shared_by : (o : Option Instr) → item_at Q k j ≡ o → Shared k j a
-    shared_by None e = absurd (let h = sym (nothing_at Q k j e) ∙ sym equal ∙ fa.tree in cc)
-    shared_by (Some b) e =
-        let fb = found Q k j b e in
-        let ns = st.heads.names in
-        let range : IsInRange (length fns) (length W) (length fb.function.labels) b = subst (λ n. IsInRange (length n) (length W) (length fb.function.labels) b) (sym ns) fb.range in
-        let tree : tree_at Q k j ≡ Some (item_tree fns W fb.function.labels b) = fb.tree ∙ ap (λ n. Some (item_tree n W fb.function.labels b)) (sym ns) in
-        let same : item_tree fns V fa.function.labels a ≡ item_tree fns W fb.function.labels b = same_Some _ _ (sym fa.tree ∙ equal ∙ tree) in
-        let s = shaped_here P accepted k i a at in
-        let shares = item-shares fns V W fa.function.labels fb.function.labels (Differ-functions P) (λ z. Unit {0}) s.ret a b s.shaped same fa.range range (λ z h. tt) in
-        record {
-          b = b;
-          at = e;
-          same = shares.same;
-          kept = λ x y h. kept-apart V W (Differ-in (slice_get Q.funcs k)) (λ z. Unit {0}) (assigns_of a) (assigns_of b) shares.assigns x y h.0 (λ n. tt) (to_left V W (Differ-in (slice_get P.funcs k)) x y h.0 (assigns_of a) (assigns_of b) shares.assigns);
-        }
-
-    pub shared : Shared k j a
-    shared = shared_by (item_at Q k j) refl

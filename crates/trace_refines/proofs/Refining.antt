@@ -1,9 +1,10 @@
 -- A program with laid traces refines the one that it is made from, with the factor 520.
+use Rattle.bril_tree.proofs.Elements.{zip-long}
+use Rattle.pass_names.proofs.Standing.{action_at}
 use Rattle.bril_tree.specs.declared.function_tree.Item.TheVariants as item
 use Rattle.bril_tree.specs.declared.operation.Op.TheVariants as op
 use Rattle.std.proofs.Common.{◌≡◌, ℕ, zero, suc, ◌+◌, ◌≤◌, List, [], ◌∷◌, ◌++◌, length, Option, Some, None, refl, sym, ap, subst, ◌∙◌, inl, inr, ⊎_elim, arith}
 use Rattle.std.specs.Prelude.{slice_get, IsSome}
-use Rattle.std.specs.List.{AllZip}
 use Rattle.std.proofs.lemmas.List.{length-append}
 use Rattle.simulation.specs.System.{after}
 use Rattle.simulation.specs.Simulation.{Chunk, Simulation}
@@ -28,7 +29,7 @@ use Rattle.pass_steps.proofs.Steps.{frame, state, matches, regular_steps_match, 
 use Rattle.trace_lines.specs.Lines.{leg_lines, end_lines}
 use Rattle.trace_lines.specs.Traced.{Trace}
 use Rattle.trace_refines.specs.Stitched.{Stands, trace_path, IsTracedAt, Stitched}
-use Rattle.trace_refines.proofs.Items.{numbers, label_at}
+use Rattle.trace_refines.proofs.Items.{label_at}
 use Rattle.trace_refines.proofs.Plans.{IsRegular, M, preserves}
 use Rattle.trace_refines.proofs.Along.{Met, Reaches, reach, Later, Back, Outcome, along}
 use Rattle.bril_tree.specs.Numbered.{tree_at}
@@ -93,7 +94,7 @@ module _ (P Q : Prog) (bool : Ty) (limits : Limits) (accepted : IsAccepted P) (s
     opened : step Q limits (step Q limits t0) ≡ InQ (suc (suc (st.old k i))) q
     opened =
         let l = label_at Q k (st.old k i) h.label (sym (st.kept k i reached) ∙ h.labelled) in
-        let o = numbers Q k (suc (st.old k i)) None op.Speculate [] [] [] h.lines.0 in
+        let o = action_at Q k (suc (st.old k i)) None op.Speculate [] [] [] h.lines.0 in
         let past : State = state (frame k (suc (st.old k i)) q qs ∷ gs) blocks printed None y in
         let first : step Q limits t0 ≡ past = ap (λ o. item_step Q limits o (frame k (st.old k i) q qs) gs t0) l.at in
         ap (step Q limits) first ∙ ap (λ o. item_step Q limits o (frame k (suc (st.old k i)) q qs) gs past) o.at
@@ -224,17 +225,11 @@ module _ (P Q : Prog) (bool : Ty) (limits : Limits) (accepted : IsAccepted P) (s
   pub simulates : Simulation (program P limits) (program Q limits) 520 R
   simulates = record { agrees = agreeing; chunk = any-chunk }
 
-zip_long : {X Y : Type 0} (R : X → Y → Type 0) (xs : List X) (ys : List Y) → AllZip R xs ys → length xs ≡ length ys
-zip_long R [] [] h = refl
-zip_long R [] (y ∷ ys) h = absurd h
-zip_long R (x ∷ xs) [] h = absurd h
-zip_long R (x ∷ xs) (y ∷ ys) h = ap suc (zip_long R xs ys h.1)
-
 pub stitched-refines : (P Q : Prog) (bool : Ty) → IsAccepted P → Stitched P Q bool → Refines P Q 520
 stitched-refines P Q bool accepted st = record {
   same_types = (preserves P Q bool accepted st).types;
   positive = omega arith;
   follows = λ limits args fit.
       Follows-from_simulation (program P limits) (program Q limits) (Met P Q bool limits accepted st) (program_is_system P limits) (program_is_system Q limits) 520 (simulates P Q bool limits accepted st)
-      (first_state P limits args) (first_state Q limits args) (inl (first_states_match (M P Q bool accepted st) P Q limits accepted (preserves P Q bool accepted st) args (zip_long Suits args (types_of (slice_get P.funcs P.main)) fit)));
+      (first_state P limits args) (first_state Q limits args) (inl (first_states_match (M P Q bool accepted st) P Q limits accepted (preserves P Q bool accepted st) args (zip-long Suits args (types_of (slice_get P.funcs P.main)) fit)));
 }

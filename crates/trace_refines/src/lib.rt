@@ -13,4 +13,4 @@
 
 mod laws;
 
-pub use laws::traces_refine;
+pub use laws::{traces_are_quiet, traces_refine};
