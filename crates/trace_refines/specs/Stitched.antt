@@ -23,6 +23,7 @@ module _ (P Q : Prog) (bool : Ty) where
   abbrev pub Near : (old stops : ℕ → ℕ → ℕ) → (f i j : ℕ) → Type 0
   Near old stops f i j = (m : ℕ) × (m ≤ stops f i) × (j + m ≡ old f i)
 
+  -- the path of a trace
   abbrev pub trace_path : ℕ → ℕ → Trace → Path
   trace_path f p t = path_of (code_of P f) p t.choices
 
@@ -32,6 +33,8 @@ module _ (P Q : Prog) (bool : Ty) where
     pub at : tree_at Q f point ≡ Some (item.Label label)
     pub near : Near old stops f i point
 
+  -- The lines of the trace stand behind the label at point p, and behind them what is put before the next item. It jumps to where its
+  -- path stopped. No variable of P has the name of one of its `not`s.
   pub record IsTracedAt (old stops : ℕ → ℕ → ℕ) (f p : ℕ) (t : Trace) : Type 0 where
     pub lines : Stands f (suc (old f p)) (trace_lines bool (tree_at P f) t.names (trace_path f p t).legs)
     pub behind : suc (old f p) + length (trace_lines bool (tree_at P f) t.names (trace_path f p t).legs) + stops f (suc p) ≡ old f (suc p)
@@ -42,6 +45,8 @@ module _ (P Q : Prog) (bool : Ty) where
     pub labelled : tree_at P f p ≡ Some (item.Label label)
     pub lone : stops f p ≡ 0
 
+  -- Each reached item of P stands in Q, with at most 64 labels before it. Behind an item without a trace stands what is put before the
+  -- next one; what stands behind an item with a trace is its trace.
   pub record Stitched : Type 0 where
     pub heads : SameHeads P Q
     pub old : ℕ → ℕ → ℕ

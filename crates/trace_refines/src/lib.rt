@@ -9,6 +9,7 @@
 //!    `proofs/Items.antt`).
 //! 3. The plan (`proofs/Plans.antt`); along a trace the result gets to its end, or is back behind the label
 //!    (`proofs/Along.antt`); so it refines the program (`proofs/Refining.antt`, `proofs/Refines.antt`).
+//! 4. Nothing between a trace's `speculate` and its `commit` prints, stores or calls (`proofs/Quiet.antt`).
 #![tactic(auto)]
 
 mod laws;
