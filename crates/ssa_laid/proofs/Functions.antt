@@ -41,13 +41,13 @@ module _ (P : Prog) (tree : Tree) (t : IsLaidTree P tree) where
   pub tables-of : (f : ℕ) → IsMadeOf (names_of_functions P.funcs) P.funcs tree.funcs f (tables_at P tree t f) ⊎ IsNone P.funcs f (tables_at P tree t f)
   tables-of f = among (names_of_functions P.funcs) P.funcs tree.funcs t.functions f
 
+  abbrev pub HasTables : ℕ → Func → Type 0
+  HasTables f F = (g : FuncTree) × (x : IsLaidFunction F (function_tree (names_of_functions P.funcs) F) g) × (slice_get tree.funcs f ≡ Some g) × (tables_at P tree t f ≡ function_tables F (function_tree (names_of_functions P.funcs) F) g x)
+
   -- those of a function of the program
-  pub tables-there : (f : ℕ) (F : Func) → slice_get P.funcs f ≡ Some F → (g : FuncTree) × (x : IsLaidFunction F (function_tree (names_of_functions P.funcs) F) g) × (slice_get tree.funcs f ≡ Some g) × (tables_at P tree t f ≡ function_tables F (function_tree (names_of_functions P.funcs) F) g x)
+  pub tables-there : (f : ℕ) (F : Func) → slice_get P.funcs f ≡ Some F → HasTables f F
   tables-there f F there = by (tables-of f)
     where
-      abbrev Wanted : Func → Type 0
-      Wanted F = (g : FuncTree) × (x : IsLaidFunction F (function_tree (names_of_functions P.funcs) F) g) × (slice_get tree.funcs f ≡ Some g) × (tables_at P tree t f ≡ function_tables F (function_tree (names_of_functions P.funcs) F) g x)
-
-      by : IsMadeOf (names_of_functions P.funcs) P.funcs tree.funcs f (tables_at P tree t f) ⊎ IsNone P.funcs f (tables_at P tree t f) → Wanted F
-      by (inl m) = let same : m.func ≡ F = same_Some m.func F (sym m.there ∙ there) in subst Wanted same (m.tree, m.laid, m.made, m.is)
+      by : IsMadeOf (names_of_functions P.funcs) P.funcs tree.funcs f (tables_at P tree t f) ⊎ IsNone P.funcs f (tables_at P tree t f) → HasTables f F
+      by (inl m) = let same : m.func ≡ F = same_Some m.func F (sym m.there ∙ there) in subst (HasTables f) same (m.tree, m.laid, m.made, m.is)
       by (inr n) = absurd (let h : None ≡ Some F = sym n.none ∙ there in cc)

@@ -6,3 +6,6 @@ pub mod Names
 pub mod Typed
 pub mod Placing
 pub mod Counting
+pub mod Parts
+pub mod Items
+pub mod Tables

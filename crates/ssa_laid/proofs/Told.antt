@@ -28,7 +28,7 @@ use Rattle.ssa_code.proofs.Laying.{tells-into}
 use Rattle.ssa_copies.specs.Inserted.{destination, is_copy, is_jump, source}
 use Rattle.ssa_layout.specs.Laid.{Aborts, Jumps, LeavesTo, Setting}
 use Rattle.ssa_sources.specs.Sweeping.{told_at}
-use Rattle.ssa_sources.proofs.Leaving.{enters-is, site-behind, told-there}
+use Rattle.ssa_sources.proofs.Leaving.{site-behind, told-there}
 use Rattle.ssa_sources.proofs.Swept.{get-place, into-below, told-below}
 use Rattle.ssa_sweep.specs.Tells.{TellsNow}
 use Rattle.ssa_sweep.specs.declared.now.WantedGet.{WantedGet}
@@ -69,7 +69,7 @@ module _ (F : Func) (function g : FuncTree) (x : IsLaidFunction F function g) (s
   pub new-consistent : AreConsistent F.code (m F function g x) (IsArgument F.args)
   new-consistent = (tables-agree F.code F.args (G F function g x) tabled).1 (find F function g x) x.solved.solved
 
-  resolves : AreResolved code (n F function g x) (IsArgument F.args) stands
+  pub resolves : AreResolved F.code (n F function g x) (IsArgument F.args) (find F function g x)
   resolves = solved-resolves code F.args got tabled.leads tabled.wanted (IsArgument F.args) (begins F.args) (few F.args) tabled.argued tabled.opens stands x.solved.solved
 
   pub behind-found : (i z : ℕ) (a : Location) → IsReached F.code i → behind F.code (n F function g x) i a ≡ Some z → behind F.code (m F function g x) i a ≡ Some (find F function g x z)
@@ -78,13 +78,16 @@ module _ (F : Func) (function g : FuncTree) (x : IsLaidFunction F function g) (s
   pub into-found : (i z : ℕ) (a : Location) → G F function g x i a ≡ None → (n F function g x).into i a ≡ Some z → (m F function g x).into i a ≡ Some (find F function g x z)
   into-found i z a none e = into-else code (n F function g x) (IsArgument F.args) old-consistent stands resolves i z a none e
 
+  label-at : (k y : ℕ) (a : Location) → got k a ≡ Some y → is_label (slice_get code k) ≡ true
+  label-at k y a e = ap is_label (tabled.wanted.label k y a e).1
+
   -- only labels have `get`s
   pub plain-got : (i : ℕ) (a : Location) → is_label (slice_get F.code i) ≡ false → G F function g x i a ≡ None
   plain-got i a plain = by (got i a) refl
     where
       by : (o : Option ℕ) → got i a ≡ o → got i a ≡ None
       by None e = e
-      by (Some y) e = absurd (let h : true ≡ false = sym (enters-is code F.args got sound tabled i y a e) ∙ plain in cc)
+      by (Some y) e = absurd (let h : true ≡ false = sym (label-at i y a e) ∙ plain in cc)
 
   -- ---- what an item reads is told
 
@@ -170,9 +173,6 @@ module _ (F : Func) (function g : FuncTree) (x : IsLaidFunction F function g) (s
     Started : (a : Location) (z : ℕ) → i ≡ 0 → (m F function g x).gets 0 a ≡ Some s.get → argument F.args a ≡ Some z → s.from ≡ z → SetHere i s
     Fallen : (a : Location) (p z : ℕ) → i ≡ suc p → IsReached F.code p → (m F function g x).gets (suc p) a ≡ Some s.get → behind F.code (n F function g x) p a ≡ Some z → s.from ≡ find F function g x z → SetHere i s
     Left : (a : Location) (k z : ℕ) → IsReached F.code i → LeavesTo F.code i k → (m F function g x).gets k a ≡ Some s.get → G F function g x i a ≡ None → (n F function g x).into i a ≡ Some z → s.from ≡ find F function g x z → SetHere i s
-
-  label-at : (k y : ℕ) (a : Location) → got k a ≡ Some y → is_label (slice_get code k) ≡ true
-  label-at k y a e = enters-is code F.args got sound tabled k y a e
 
   -- the edge to the next item
   edge-on : (p : ℕ) → IsReached code p → In (onward p) (branches_at code p) → (edge : Edge) × IsEdge code edge × (edge.leave ≡ p) × (edge.to ≡ suc p)

@@ -17,7 +17,7 @@ use Rattle.bril_tree.specs.Locals.{location_type}
 use Rattle.bril_tree.specs.Membership.{In}
 use Rattle.bril_tree.specs.Operand.{Location, Shadow, Variable, dest_of, reads_of}
 use Rattle.bril_tree.specs.Shape.{is_shaped, shape_of}
-use Rattle.bril_tree.specs.Typing.{argument_type, is_set_typed, same_type, type_fault, variable_type}
+use Rattle.bril_tree.specs.Typing.{argument_type, is_action_typed, is_dest_typed, is_set_typed, same_type, type_fault, variable_type}
 use Rattle.bril_tree.specs.Walk.{IsReached}
 use Rattle.bril_tree.proofs.Acceptance.{shaped_at, typed_at}
 use Rattle.bril_tree.proofs.Formed.{typed_destination}
@@ -90,7 +90,7 @@ module _ (P : Prog) (F : Func) (accepted : IsAcceptedFunction P F) where
       by (Some (Act d ty op.Set args fns ls)) at c = set a
         where
           typed : is_set_typed (argument_type F.vars args 0) (argument_type F.vars args 1) ≡ true
-          typed = (both-parts _ _ (typed_at P F accepted i (Act d ty op.Set args fns ls) at)).1
+          typed = (both-parts (is_dest_typed P F d ty) (is_action_typed P F op.Set ty args fns) (typed_at P F accepted i (Act d ty op.Set args fns ls) at)).1
 
           set : (b : Location) → (location_type F b ≡ None) ⊎ (location_type F (source (Some (Act d ty op.Set args fns ls)) b) ≡ location_type F b)
           set (Variable v) = inr refl
