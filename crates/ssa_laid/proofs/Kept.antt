@@ -1,9 +1,9 @@
 -- The `get`s that stay behind a label: they are those of the tables without the trivial ones, each once, and no more than the function
 -- has locations.
-use Rattle.std.proofs.Common.{◌≡◌, ◌≢◌, ℕ, ◌+◌, ◌-◌, ◌*◌, ◌<◌, ◌≤◌, min, Bool, true, false, cond, ◌&&◌, List, [], ◌∷◌, length, map, take, drop, get_or, Option, Some, None, is_some, refl, sym, ap, subst, ◌∙◌, inl, inr, arith}
+use Rattle.std.proofs.Common.{◌≡◌, ◌≢◌, ◌⊎◌, ℕ, ◌+◌, ◌-◌, ◌*◌, ◌<◌, ◌≤◌, min, Bool, true, false, cond, ◌&&◌, List, [], ◌∷◌, length, map, take, drop, get_or, Option, Some, None, is_some, refl, sym, ap, subst, ◌∙◌, inl, inr, arith}
 use Rattle.std.specs.Prelude.{◌==◌, nat_le, slice_get, slice_index, slice_range}
 use Rattle.std.specs.List.{AllPairs, Contains}
-use Rattle.std.proofs.lemmas.Bool.{eq-eqb, eqb-true}
+use Rattle.std.proofs.lemmas.Bool.{eq-eqb, eqb-false, eqb-true}
 use Rattle.std.proofs.lemmas.List.{get_or-drop, get_or-take, length-drop, length-take}
 use Rattle.std.proofs.lemmas.List.Folds.{list_any_at}
 use Rattle.std.proofs.lemmas.List.Kept.{AllPairs-filter}
@@ -32,7 +32,7 @@ use Rattle.ssa_code.specs.Sweep.{LayoutView, kept_at, part, row_in}
 use Rattle.ssa_gets.specs.Wants.{gets_of}
 use Rattle.ssa_gets.proofs.Finding.{live-below}
 use Rattle.ssa_sweep.specs.declared.now.WantedGet.{WantedGet}
-use Rattle.ssa_tables.specs.Tables.{Tables, kept}
+use Rattle.ssa_tables.specs.Tables.{Tables, kept, replaced, resolved}
 use Rattle.ssa_tables.specs.Told.{table_of}
 use Rattle.ssa_tree.specs.Made.{IsLaidFunction}
 use Rattle.ssa_laid.specs.Tables.{find_of, resolved_table, view_of}
@@ -126,6 +126,17 @@ module _ (F : Func) (function g : FuncTree) (x : IsLaidFunction F function g) wh
 
   pub kept-back : (o : Option ℕ) (y : ℕ) → o ≡ Some y → find y ≡ y → kept find o ≡ Some y
   kept-back o y e h = ap (kept find) e ∙ ap (λ b. cond b (Some y) None) (eq-eqb (find y) y h)
+
+  -- what the tables tell once the trivial `get`s are left out: what stands for one of these, or for what was told
+  pub resolved-cases : (w o : Option ℕ) (y : ℕ) → resolved find w o ≡ Some y → ((u : ℕ) × (w ≡ Some u) × (find u ≡ u → ⊥) × (find u ≡ y)) ⊎ ((u : ℕ) × (o ≡ Some u) × (find u ≡ y))
+  resolved-cases None None y e = absurd cc
+  resolved-cases None (Some u) y e = inr (u, refl, same_Some (find u) y e)
+  resolved-cases (Some u) o y e = by (find u == u) refl o e
+    where
+      by : (b : Bool) → (find u == u) ≡ b → (o : Option ℕ) → cond b (replaced find o) (Some (find u)) ≡ Some y → ((v : ℕ) × (Some u ≡ Some v) × (find v ≡ v → ⊥) × (find v ≡ y)) ⊎ ((v : ℕ) × (o ≡ Some v) × (find v ≡ y))
+      by false t o h = inl (u, refl, eqb-false (find u) u t, same_Some (find u) y h)
+      by true t None h = absurd cc
+      by true t (Some v) h = inr (v, refl, same_Some (find v) y h)
 
   pub in-kept : (k y : ℕ) (a : Location) → m.gets k a ≡ Some y → In (record { location = number_of a; definition = y }) (kept_at l k)
   in-kept k y a e =

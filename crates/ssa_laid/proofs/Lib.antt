@@ -9,3 +9,6 @@ pub mod Counting
 pub mod Parts
 pub mod Items
 pub mod Tables
+pub mod Covering
+pub mod Laid
+pub mod Accepted

@@ -32,7 +32,6 @@ use Rattle.ssa_operands.specs.Operands.{base_of}
 use Rattle.ssa_sweep.specs.declared.now.WantedGet.{WantedGet}
 use Rattle.ssa_sweep.proofs.Sweeping.{told-before}
 use Rattle.ssa_tables.proofs.Items.{label-no_site}
-use Rattle.ssa_tables.proofs.Resolving.{into-cases}
 use Rattle.ssa_tables.proofs.Tabled.{few, tables-tell_live}
 use Rattle.ssa_tables.specs.Laws.{IsArgument, IsTabled}
 use Rattle.ssa_tables.specs.Tables.{AreConsistent, Tables, kept, replaced, resolved}
@@ -40,12 +39,12 @@ use Rattle.ssa_tables.specs.Told.{FromStart, argument}
 use Rattle.ssa_tree.specs.Made.{IsLaidFunction}
 use Rattle.ssa_laid.specs.Tables.{FunctionTables}
 use Rattle.ssa_laid.proofs.Items.{fs, function, gone-at, got-at, put-at, same-at, shaped, sound, tabled, typed, within}
-use Rattle.ssa_laid.proofs.Kept.{G, find, in-kept, kept-back, kept-got, kept-is, kept-only, l, m, n}
+use Rattle.ssa_laid.proofs.Kept.{G, find, in-kept, kept-back, kept-got, kept-is, kept-only, l, m, n, resolved-cases}
 use Rattle.ssa_laid.proofs.Leaving.{falls-there}
 use Rattle.ssa_laid.proofs.Names.{argument-name, names-apart}
 use Rattle.ssa_laid.proofs.Parts.{BeginsAt, FallenAt, IsLaidAt, IsTightAt, LeftAt, SetAt, StartedAt}
 use Rattle.ssa_laid.proofs.Placing.{T}
-use Rattle.ssa_laid.proofs.Told.{Fallen, Left, SetHere, Started, argument-fixed, behind-found, fall-there, into-found, leave-there, new-consistent, old-consistent, plain-got, read-told, resolves, set-alone, set-here}
+use Rattle.ssa_laid.proofs.Told.{Fallen, Left, SetHere, Started, argument-fixed, behind-found, fall-there, into-found, leave-there, new-consistent, read-told, set-alone, set-here}
 
 -- tables that agree do so for whatever means the same as being an argument
 consistent-as : (code : List Instr) (n : Tables) (A B : ℕ → Type 0) → ((y : ℕ) → A y → B y) → ((y : ℕ) → B y → A y) → AreConsistent code n A → AreConsistent code n B
@@ -103,7 +102,7 @@ module _ (P Q : Prog) (tree : Tree) (accepted : IsAccepted P) (numbered : Number
   ends (Shadow v) y b = absurd b
 
   begin : (a : Location) (y : ℕ) → U.table.into 0 a ≡ Some y → Begun a y
-  begin a y e = by (into-cases F.code (n F H g x) (IsArgument F.args) (old-consistent F H g x S D W) (find F H g x) (resolves F H g x S D W) 0 y a e)
+  begin a y e = by (resolved-cases F H g x (G F H g x 0 a) ((n F H g x).into 0 a) y e)
     where
       by : ((u : ℕ) × (G F H g x 0 a ≡ Some u) × (find F H g x u ≡ u → ⊥) × (find F H g x u ≡ y)) ⊎ ((u : ℕ) × ((n F H g x).into 0 a ≡ Some u) × (find F H g x u ≡ y)) → Begun a y
       by (inl k) =
