@@ -1,32 +1,29 @@
 -- The program of a tree in SSA form is accepted.
-use Rattle.std.proofs.Common.{◌≡◌, ◌⊎◌, ℕ, suc, ◌+◌, ◌*◌, ◌<◌, List, length, Option, Some, None, refl, sym, ap, subst, ◌∙◌}
+use Rattle.std.proofs.Common.{◌≡◌, ℕ, suc, ◌+◌, ◌*◌, ◌<◌, length, Option, Some, sym, ap, subst, ◌∙◌}
 use Rattle.std.specs.Prelude.{slice_get}
-use Rattle.bril_tree.specs.declared.function_tree.FuncTree.{FuncTree}
 use Rattle.bril_tree.specs.declared.numbered.Instr.{Instr}
 use Rattle.bril_tree.specs.declared.numbered_function.Func.{Func}
 use Rattle.bril_tree.specs.declared.program.Prog.{Prog}
 use Rattle.bril_tree.specs.declared.tree.Tree.{Tree}
 use Rattle.bril_tree.specs.declared.types.Ty.{Ty}
 use Rattle.bril_tree.specs.Accepted.{IsAccepted}
-use Rattle.bril_tree.specs.Membership.{In}
-use Rattle.bril_tree.specs.Numbered.{Numbered, function_tree, named, names_in, names_of_functions, variable_names}
+use Rattle.bril_tree.specs.Numbered.{Numbered, named, names_in}
 use Rattle.bril_tree.specs.Operand.{Location}
 use Rattle.bril_tree.specs.Sites.{AreSitesSound}
 use Rattle.bril_tree.specs.Step.{code_of, item_at, items_of}
 use Rattle.bril_tree.specs.Walk.{IsReached}
 use Rattle.bril_tree.proofs.Acceptance.{walks_of}
 use Rattle.bril_tree.proofs.Elements.{get_in}
-use Rattle.bril_tree.proofs.Typings.{IsDestination}
 use Rattle.live_entries.proofs.Existing.{widths-there}
 use Rattle.program_numbers.specs.ProgramNumbers.{IsGreatestWidth, most_locations}
-use Rattle.ssa_layout.specs.Accepted.{Cover, Covered, Covers, Dead, Get, Home, IsGiven, Set, Tight, Unreached}
+use Rattle.ssa_layout.specs.Accepted.{Cover, Covered, Dead, Get, Home, IsGiven, Set, Unreached}
 use Rattle.ssa_layout.specs.Laid.{Laid, Setting}
 use Rattle.ssa_layout.proofs.Accepted.{laid-accepted}
 use Rattle.ssa_layout.proofs.Given.{given-argument, given-behind, given-told}
-use Rattle.ssa_tables.specs.Tables.{behind, else_passed, passed}
-use Rattle.ssa_tree.specs.Made.{IsLaidFunction, IsLaidTree}
+use Rattle.ssa_tables.specs.Tables.{else_passed, passed}
+use Rattle.ssa_tree.specs.Made.{IsLaidTree}
 use Rattle.ssa_laid.specs.Laws.{LaidTreesAreAccepted}
-use Rattle.ssa_laid.specs.Tables.{FunctionTables, function_tables, gets, names, sets, tables, tables_at}
+use Rattle.ssa_laid.specs.Tables.{FunctionTables, gets, names, sets, tables, tables_at}
 use Rattle.ssa_laid.proofs.Covering.{covered-at, type-of}
 use Rattle.ssa_laid.proofs.Functions.{tables-there}
 use Rattle.ssa_laid.proofs.Laid.{laid-all, laid-heads, laid-parts}

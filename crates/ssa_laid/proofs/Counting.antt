@@ -1,37 +1,32 @@
 -- How many `get`s and `set`s stand before an item: at most as many as the function has locations, by labels.
-use Rattle.std.proofs.Common.{◌≡◌, ◌≢◌, ◌⊎◌, ℕ, zero, suc, ◌+◌, ◌*◌, ◌<◌, ◌≤◌, Bool, true, false, List, [], ◌∷◌, ◌++◌, length, map, Option, Some, None, is_some, refl, sym, ap, subst, ◌∙◌, inl, inr, arith, add-one}
-use Rattle.std.specs.Prelude.{slice_get, slice_index_or}
-use Rattle.std.specs.List.{AllPairs, Contains}
+use Rattle.std.proofs.Common.{◌≡◌, ◌≢◌, ◌⊎◌, ℕ, zero, suc, ◌+◌, ◌*◌, ◌<◌, ◌≤◌, Bool, true, false, List, [], ◌∷◌, length, map, Option, Some, None, is_some, refl, sym, ap, subst, ◌∙◌, inl, inr, arith, add-one}
+use Rattle.std.specs.Prelude.{slice_get}
+use Rattle.std.specs.List.{AllPairs}
 use Rattle.std.proofs.lemmas.Bool.{and_parts, cases_lt}
 use Rattle.std.proofs.lemmas.List.{get_or_past, length-append, length-map}
 use Rattle.std.proofs.Math.Nat.{le-max_left, le-max_right, mul_assoc, mul-le-mul, mul-le-mul_left, mul-suc}
-use Rattle.bril_tree.specs.declared.edge.Edge.{Edge}
 use Rattle.bril_tree.specs.declared.function_tree.FuncTree.{FuncTree}
 use Rattle.bril_tree.specs.declared.numbered.Instr.{Instr}
 use Rattle.bril_tree.specs.declared.numbered.Instr.TheVariants.{Label, Const, Act}
 use Rattle.bril_tree.specs.declared.numbered_function.Func.{Func}
 use Rattle.bril_tree.specs.declared.program.Prog.{Prog}
 use Rattle.bril_tree.specs.FrameWords.{location_count}
-use Rattle.bril_tree.specs.Leaving.{IsEdge}
 use Rattle.bril_tree.specs.Membership.{In}
 use Rattle.bril_tree.specs.Shape.{shape_fault_of}
 use Rattle.bril_tree.specs.Sites.{AreSitesSound}
-use Rattle.bril_tree.specs.Step.{point_of}
 use Rattle.bril_tree.proofs.Counting.{no_more}
 use Rattle.bril_tree.proofs.Elements.{get_in}
 use Rattle.bril_tree.proofs.LabelPoints.{label-at_point}
 use Rattle.bril_tree.proofs.Members.{contains_in, in_contains, in_map}
 use Rattle.live_entries.proofs.Existing.{width-of, width-there}
-use Rattle.program_numbers.specs.Entries.{AreSoMany, Enters, IsEntryWidth}
+use Rattle.program_numbers.specs.Entries.{Enters, IsEntryWidth}
 use Rattle.program_numbers.specs.ProgramNumbers.{IsGreatestWidth, greatest, most_locations}
-use Rattle.ssa_code.specs.Rows.{leaves_before}
 use Rattle.ssa_code.specs.Sweep.{falls_at, kept_at, now_at}
 use Rattle.ssa_tree.specs.Made.{IsLaidFunction}
 use Rattle.ssa_wants.specs.Wanted.{is_label}
 use Rattle.ssa_laid.specs.Tables.{gets_by, setting_of, settings_falling, settings_leaving, settings_to, sets_by}
 use Rattle.ssa_laid.proofs.Kept.{kept-few, l}
 use Rattle.ssa_laid.proofs.Leaving.{labels-at, row-only}
-use Rattle.ssa_laid.specs.Tables.{function_tables}
 
 -- ---- the greatest of numbers
 
@@ -91,8 +86,8 @@ module _ (F : Func) (function g : FuncTree) (x : IsLaidFunction F function g) (s
       let most = w.most (Some i) s.0 s.1 in
       let count = s.1.count in
       let few = no_more (λ k q. slice_get F.code k ≡ Some (Label q)) (labels-at F function g x i) s.1.members (row-differ (cases_lt i (length F.code)))
-          (λ k h. let e = row-enters i k h in (e.0, in_contains e.0 s.1.members (s.1.all e.0 e.2), e.1))
-          (λ j k q a b. sym (label-at_point 0 (length F.labels) F.code F.formed.placed j q a) ∙ label-at_point 0 (length F.labels) F.code F.formed.placed k q b) in
+      (λ k h. let e = row-enters i k h in (e.0, in_contains e.0 s.1.members (s.1.all e.0 e.2), e.1))
+      (λ j k q a b. sym (label-at_point 0 (length F.labels) F.code F.formed.placed j q a) ∙ label-at_point 0 (length F.labels) F.code F.formed.placed k q b) in
       omega (arith, most, count, few)
     where
       row-differ : (i < length F.code) ⊎ (length F.code ≤ i) → AllPairs (λ j k. j ≢ k) (labels-at F function g x i)

@@ -1,26 +1,24 @@
 -- Each point of a laid function is one of its items, a `get`, a `set`, a `nop` or a label, and each definition has its type.
-use Rattle.std.proofs.Common.{◌≡◌, ◌⊎◌, ℕ, zero, suc, ◌+◌, ◌-◌, ◌*◌, ◌/◌, ◌<◌, ◌≤◌, Bool, true, false, cond, List, [], ◌∷◌, length, map, Option, Some, None, is_some, refl, sym, ap, subst, ◌∙◌, inl, inr, ⊎_elim, arith}
-use Rattle.std.specs.Prelude.{nat_lt, slice_get}
+use Rattle.std.proofs.Common.{◌≡◌, ℕ, zero, suc, ◌+◌, ◌-◌, ◌/◌, ◌<◌, ◌≤◌, Bool, false, cond, List, length, map, Option, Some, None, is_some, refl, sym, ap, subst, ◌∙◌, inl, inr, ⊎_elim, arith}
+use Rattle.std.specs.Prelude.{slice_get}
 use Rattle.std.specs.Option.{option_map}
-use Rattle.std.proofs.lemmas.Bool.{cases_eq, cases_lt, lt-ltb}
+use Rattle.std.proofs.lemmas.Bool.{cases_lt, lt-ltb}
 use Rattle.std.proofs.lemmas.List.{length-map}
-use Rattle.std.proofs.lemmas.Option.{same_Some, slice_get-map, slice_get_past, slice_get_within}
+use Rattle.std.proofs.lemmas.Option.{same_Some, slice_get-map, slice_get_within}
 use Rattle.bril_tree.specs.declared.function_tree.FuncTree.{FuncTree}
 use Rattle.bril_tree.specs.declared.function_tree.Item.{Item}
 use Rattle.bril_tree.specs.declared.function_tree.Item.TheVariants as item
-use Rattle.bril_tree.specs.declared.function_tree.Dest.{Dest}
 use Rattle.bril_tree.specs.declared.numbered.Instr.{Instr}
 use Rattle.bril_tree.specs.declared.numbered.Instr.TheVariants.{Label, Const, Act}
 use Rattle.bril_tree.specs.declared.numbered.VarInfo.{VarInfo}
 use Rattle.bril_tree.specs.declared.numbered_function.Func.{Func}
-use Rattle.bril_tree.specs.declared.operation.Op.{Op}
 use Rattle.bril_tree.specs.declared.operation.Op.TheVariants as op
 use Rattle.bril_tree.specs.declared.program.Prog.{Prog}
 use Rattle.bril_tree.specs.declared.tree.Tree.{Tree}
 use Rattle.bril_tree.specs.declared.types.Ty.{Ty}
 use Rattle.bril_tree.specs.Accepted.{IsAccepted, IsAcceptedFunction}
 use Rattle.bril_tree.specs.Membership.{In}
-use Rattle.bril_tree.specs.Numbered.{Numbered, function_tree, item_tree, named, names_in, names_of_functions, nop_item, tree_at, variable_names}
+use Rattle.bril_tree.specs.Numbered.{Numbered, function_tree, item_tree, named, names_of_functions, tree_at, variable_names}
 use Rattle.bril_tree.specs.Operand.{Location, Variable, dest_of, reads_of}
 use Rattle.bril_tree.specs.Shape.{shape_fault_of}
 use Rattle.bril_tree.specs.Sites.{AreSitesSound}
@@ -34,9 +32,7 @@ use Rattle.bril_tree.proofs.Branches.{reached_on, reached_start}
 use Rattle.bril_tree.proofs.Elements.{get_in, get_inside, none_past}
 use Rattle.bril_tree.proofs.Formed.{typed_destination}
 use Rattle.bril_tree.proofs.Members.{in_map}
-use Rattle.bril_tree.proofs.Trees.{nothing_at}
 use Rattle.bril_tree.proofs.Typings.{some_type, type_of}
-use Rattle.flow_graph.specs.Location.{number_of}
 use Rattle.flow_graph.proofs.Told.{walk_to}
 use Rattle.pass_accept.proofs.Heads.{argument-typed}
 use Rattle.pass_accept.proofs.Staying.{dest-typed}
@@ -51,19 +47,18 @@ use Rattle.ssa_layout.specs.Accepted.{args_named}
 use Rattle.ssa_layout.specs.Laid.{Setting, get_tree}
 use Rattle.ssa_sweep.specs.declared.now.WantedGet.{WantedGet}
 use Rattle.ssa_tables.specs.Laws.{IsTabled}
-use Rattle.ssa_tables.specs.Told.{HasTypeOf, argument}
+use Rattle.ssa_tables.specs.Told.{HasTypeOf}
 use Rattle.ssa_tree.specs.Made.{IsLaidFunction}
 use Rattle.ssa_tree.specs.Standing.{nothing}
 use Rattle.ssa_laid.specs.Tables.{FunctionTables}
 use Rattle.ssa_laid.proofs.Items.{at-made, facts, function, got-at, shaped, sound, tabled, typed, within}
-use Rattle.ssa_laid.proofs.Kept.{G, find, kept-is, kept-only, l, m, n}
+use Rattle.ssa_laid.proofs.Kept.{G, find, kept-is, kept-only, l}
 use Rattle.ssa_laid.proofs.Names.{argument-name, names-apart}
-use Rattle.ssa_laid.proofs.Parts.{CoverAt, DeadAt, GetAt, HomeAt, IsCoveredAt, PutAt, UnreachedAt, first_in, home_in}
-use Rattle.ssa_laid.proofs.Placing.{T, before, before-long, first-is, get-stands, home-is, stand}
+use Rattle.ssa_laid.proofs.Parts.{CoverAt, DeadAt, GetAt, HomeAt, IsCoveredAt, PutAt, UnreachedAt, first_in}
+use Rattle.ssa_laid.proofs.Placing.{before, before-long, first-is, get-stands, home-is, stand}
 use Rattle.ssa_laid.proofs.Tables.{U}
 use Rattle.ssa_laid.proofs.Told.{Fallen, Left, SetHere, Started, into-found, set-here}
 use Rattle.ssa_laid.proofs.Typed.{are-typed, behind-typed_so, get-typed, into-typed, number-type, live-typed, read-typed, types-in, write-typed}
-use Rattle.ssa_tables.specs.Told.{AreTyped}
 
 -- the type of an item's destination
 tree_type : Option Item → Option Ty

@@ -1,26 +1,24 @@
 -- What stands at the points of a laid function: its items under the names of what the tables tell, its `get`s and its `set`s.
-use Rattle.std.proofs.Common.{◌≡◌, ◌⊎◌, ℕ, zero, suc, ◌+◌, ◌*◌, ◌/◌, ◌<◌, ◌≤◌, Bool, true, false, cond, List, [], ◌∷◌, length, map, Option, Some, None, is_some, refl, sym, ap, subst, ◌∙◌, inl, inr, ⊎_elim, arith}
+use Rattle.std.proofs.Common.{◌≡◌, ℕ, suc, ◌+◌, ◌*◌, ◌/◌, ◌<◌, ◌≤◌, true, false, List, [], ◌∷◌, length, map, Option, Some, None, is_some, refl, sym, ap, ◌∙◌, inl, inr, ⊎_elim, arith}
 use Rattle.std.specs.Prelude.{slice_get}
 use Rattle.std.specs.Option.{option_map}
 use Rattle.std.proofs.lemmas.Bool.{cases_lt}
 use Rattle.std.proofs.lemmas.List.{length-map}
 use Rattle.std.proofs.lemmas.Option.{slice_get-map, slice_get_within}
-use Rattle.bril_tree.specs.declared.function_tree.Dest.{Dest}
 use Rattle.bril_tree.specs.declared.function_tree.FuncTree.{FuncTree}
 use Rattle.bril_tree.specs.declared.function_tree.Item.{Item}
 use Rattle.bril_tree.specs.declared.function_tree.Item.TheVariants as item
 use Rattle.bril_tree.specs.declared.numbered.Instr.{Instr}
 use Rattle.bril_tree.specs.declared.numbered.Instr.TheVariants.{Label, Const, Act}
 use Rattle.bril_tree.specs.declared.numbered_function.Func.{Func}
-use Rattle.bril_tree.specs.declared.operation.Op.{Op}
 use Rattle.bril_tree.specs.declared.operation.Op.TheVariants as op
 use Rattle.bril_tree.specs.declared.program.Prog.{Prog}
 use Rattle.bril_tree.specs.declared.tree.Tree.{Tree}
 use Rattle.bril_tree.specs.declared.types.Ty.{Ty}
 use Rattle.bril_tree.specs.Accepted.{IsAccepted, IsAcceptedFunction}
 use Rattle.bril_tree.specs.Membership.{In}
-use Rattle.bril_tree.specs.Numbered.{Numbered, dest_tree, function_tree, item_tree, named, names_of_functions, nop_item, tree_at, tree_of, variable_names}
-use Rattle.bril_tree.specs.Operand.{Location, Variable, dest_of, reads_of}
+use Rattle.bril_tree.specs.Numbered.{Numbered, dest_tree, function_tree, item_tree, named, names_of_functions, nop_item, tree_at, variable_names}
+use Rattle.bril_tree.specs.Operand.{Location, Variable, reads_of}
 use Rattle.bril_tree.specs.Shape.{shape_fault_of}
 use Rattle.bril_tree.specs.Sites.{AreSitesSound}
 use Rattle.bril_tree.specs.Typing.{variable_type}
@@ -32,8 +30,8 @@ use Rattle.bril_tree.proofs.Members.{in_map}
 use Rattle.bril_tree.proofs.Trees.{numbered-tree_of, tree_at-function}
 use Rattle.flow_graph.specs.Location.{number_of}
 use Rattle.pass_plan.specs.Spliced.{position_of, start_of}
-use Rattle.ssa_code.specs.Items.{dest_with, laid_item, moved_item, name_in, read_name, standing}
-use Rattle.ssa_code.specs.Sweep.{item_args, item_at, kept_at, now_at, reached_at}
+use Rattle.ssa_code.specs.Items.{dest_with, laid_item, moved_item, name_in, read_name}
+use Rattle.ssa_code.specs.Sweep.{item_args, kept_at, now_at}
 use Rattle.ssa_copies.specs.Inserted.{is_copy, renamed, renamed_dest, renamed_point}
 use Rattle.ssa_layout.specs.Laid.{Setting, get_tree, set_tree}
 use Rattle.ssa_operands.proofs.Accepted.{accepted-tabled}
@@ -41,7 +39,7 @@ use Rattle.ssa_sweep.specs.declared.now.WantedGet.{WantedGet}
 use Rattle.ssa_tables.proofs.Tabled.{few}
 use Rattle.ssa_tables.specs.Laws.{IsTabled}
 use Rattle.ssa_tree.specs.Made.{IsLaidFunction}
-use Rattle.ssa_tree.specs.Standing.{before_in, nothing}
+use Rattle.ssa_tree.specs.Standing.{nothing}
 use Rattle.ssa_laid.proofs.Kept.{G, kept-is, kept-only, l, m, n, find}
 use Rattle.ssa_laid.proofs.Leaving.{reached-told}
 use Rattle.ssa_laid.proofs.Names.{name-there}

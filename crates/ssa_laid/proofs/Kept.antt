@@ -1,8 +1,8 @@
 -- The `get`s that stay behind a label: they are those of the tables without the trivial ones, each once, and no more than the function
 -- has locations.
-use Rattle.std.proofs.Common.{◌≡◌, ◌≢◌, ◌⊎◌, ℕ, ◌+◌, ◌-◌, ◌*◌, ◌<◌, ◌≤◌, min, Bool, true, false, cond, ◌&&◌, List, [], ◌∷◌, length, map, take, drop, get_or, Option, Some, None, is_some, refl, sym, ap, subst, ◌∙◌, inl, inr, arith}
-use Rattle.std.specs.Prelude.{◌==◌, nat_le, slice_get, slice_index, slice_range}
-use Rattle.std.specs.List.{AllPairs, Contains}
+use Rattle.std.proofs.Common.{◌≡◌, ◌≢◌, ◌⊎◌, ℕ, ◌+◌, ◌-◌, ◌<◌, ◌≤◌, min, Bool, true, false, cond, ◌&&◌, List, [], ◌∷◌, length, map, take, drop, get_or, Option, Some, None, is_some, refl, sym, ap, subst, ◌∙◌, inl, inr, arith}
+use Rattle.std.specs.Prelude.{◌==◌, nat_le, slice_index, slice_range}
+use Rattle.std.specs.List.{AllPairs}
 use Rattle.std.proofs.lemmas.Bool.{eq-eqb, eqb-false, eqb-true}
 use Rattle.std.proofs.lemmas.List.{get_or-drop, get_or-take, length-drop, length-take}
 use Rattle.std.proofs.lemmas.List.Folds.{list_any_at}
@@ -22,10 +22,8 @@ use Rattle.bril_tree.specs.Sites.{AreSitesSound}
 use Rattle.bril_tree.proofs.Counting.{no_more}
 use Rattle.bril_tree.proofs.Members.{contains_in, in_contains, in_map_source}
 use Rattle.flow_graph.specs.Location.{number_of}
-use Rattle.flow_graph.proofs.Locations.{number-one}
 use Rattle.live_entries.proofs.Deciding.{live-read}
 use Rattle.pass_numbers.proofs.Different.{filter_in, in_filter}
-use Rattle.pass_numbers.proofs.Items.{is_used}
 use Rattle.pass_numbers.proofs.Locations.{IsLocationOf, location-listed, locations-counted, locations_of}
 use Rattle.ssa_code.specs.Items.{stays}
 use Rattle.ssa_code.specs.Sweep.{LayoutView, kept_at, part, row_in}
@@ -181,6 +179,6 @@ module _ (F : Func) (function g : FuncTree) (x : IsLaidFunction F function g) wh
   kept-few shaped sound k =
       let count = locations-counted F in
       let few = no_more (λ (get : WantedGet) (a : Location). (get.location ≡ number_of a) × (G k a ≡ Some get.definition)) (kept_at l k) (locations_of F) (kept-differ k)
-          (λ get i. let h = kept-only k get i in (h.location, location-listed F h.location (live-location F shaped sound h.location k (x.are_wants.wanted.live k get.definition h.location h.wanted)), (h.number, h.wanted)))
-          (λ p q a r s. same_get p q (r.0 ∙ sym s.0) (same_Some p.definition q.definition (sym r.1 ∙ s.1))) in
+      (λ get i. let h = kept-only k get i in (h.location, location-listed F h.location (live-location F shaped sound h.location k (x.are_wants.wanted.live k get.definition h.location h.wanted)), (h.number, h.wanted)))
+      (λ p q a r s. same_get p q (r.0 ∙ sym s.0) (same_Some p.definition q.definition (sym r.1 ∙ s.1))) in
       omega (arith, count, few)

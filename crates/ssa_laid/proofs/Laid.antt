@@ -1,15 +1,13 @@
 -- The tables of all functions are those of laid code.
-use Rattle.std.proofs.Common.{◌≡◌, ◌⊎◌, ℕ, zero, suc, ◌+◌, ◌*◌, ◌≤◌, true, false, List, [], ◌∷◌, length, Option, Some, None, is_some, refl, sym, ap, subst, ◌∙◌, inl, inr, arith}
+use Rattle.std.proofs.Common.{◌≡◌, ◌⊎◌, ℕ, suc, ◌+◌, ◌*◌, ◌≤◌, true, false, List, [], ◌∷◌, length, Some, None, refl, sym, ap, subst, ◌∙◌, inl, inr, arith}
 use Rattle.std.specs.Prelude.{slice_get}
 use Rattle.std.specs.List.{AllZip}
 use Rattle.bril_names.specs.Faults.{SameHead}
 use Rattle.bril_tree.specs.declared.function_tree.FuncTree.{FuncTree}
-use Rattle.bril_tree.specs.declared.numbered_function.Func.{Func}
 use Rattle.bril_tree.specs.declared.program.Prog.{Prog}
 use Rattle.bril_tree.specs.declared.tree.Tree.{Tree}
 use Rattle.bril_tree.specs.Accepted.{IsAccepted}
 use Rattle.bril_tree.specs.Edge.{Branch, branches_at}
-use Rattle.bril_tree.specs.Membership.{In}
 use Rattle.bril_tree.specs.Numbered.{Numbered, function_tree, names_of_functions, tree_at, tree_of}
 use Rattle.bril_tree.specs.Operand.{Location}
 use Rattle.bril_tree.specs.Walk.{IsReached, IsWalk, end_of}
@@ -22,7 +20,7 @@ use Rattle.pass_names.proofs.Trees.{heads-of_trees}
 use Rattle.program_numbers.specs.ProgramNumbers.{IsGreatestWidth, most_locations}
 use Rattle.ssa_layout.specs.Laid.{Falls, IsSetBefore, Laid, Leaves, Setting, Starts}
 use Rattle.ssa_layout.proofs.Refines.{laid-refine}
-use Rattle.ssa_tables.specs.Tables.{AreConsistent, Defines, Gets, Tables, Writes}
+use Rattle.ssa_tables.specs.Tables.{AreConsistent, Defines, Gets, Writes}
 use Rattle.ssa_tree.specs.Made.{IsLaidFunction, IsLaidTree}
 use Rattle.ssa_laid.specs.Laws.{LaidTreesAreLaid, LaidTreesRefine}
 use Rattle.ssa_laid.specs.Tables.{FunctionTables, gets, names, no_tables, sets, tables, tables_at}

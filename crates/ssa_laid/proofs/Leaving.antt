@@ -1,10 +1,9 @@
 -- Where edges leave to labels: the rows of a function, and where a label is entered from the item before it.
-use Rattle.std.proofs.Common.{◌≡◌, ◌⊎◌, ℕ, zero, suc, ◌+◌, ◌<◌, ◌≤◌, Bool, true, false, cond, ◌&&◌, ◌||◌, List, [], ◌∷◌, length, map, get_or, Option, Some, None, is_some, refl, sym, ap, subst, ◌∙◌, inl, inr, ⊎_elim, arith}
+use Rattle.std.proofs.Common.{◌≡◌, ℕ, suc, ◌<◌, ◌≤◌, Bool, true, false, cond, ◌&&◌, ◌||◌, List, [], ◌∷◌, length, Option, Some, None, refl, sym, ap, subst, ◌∙◌, inl, ⊎_elim, arith}
 use Rattle.std.specs.Prelude.{◌==◌, not, slice_get, slice_index_or}
 use Rattle.std.specs.List.{filter}
 use Rattle.std.proofs.lemmas.Bool.{and_parts, cases_lt, eq-eqb, eqb-true}
 use Rattle.std.proofs.lemmas.List.{get_or_past}
-use Rattle.std.proofs.lemmas.Option.{slice_get_within}
 use Rattle.bril_tree.specs.declared.edge.Edge.{Edge}
 use Rattle.bril_tree.specs.declared.function_tree.FuncTree.{FuncTree}
 use Rattle.bril_tree.specs.declared.numbered.Instr.{Instr}
@@ -19,7 +18,7 @@ use Rattle.bril_tree.specs.Shape.{is_shaped, shape_of}
 use Rattle.bril_tree.specs.Sites.{AreSitesSound, Closes, Opens, item_change, sites_of}
 use Rattle.bril_tree.specs.Walk.{IsReached, IsWalk, end_of}
 use Rattle.bril_tree.proofs.Assignments.{site_speculates}
-use Rattle.bril_tree.proofs.Branches.{aborts-close, branch_at_item, branch_from}
+use Rattle.bril_tree.proofs.Branches.{aborts-close, branch_from}
 use Rattle.bril_tree.proofs.Members.{contains_in, in_contains, in_map, in_map_source}
 use Rattle.bril_tree.proofs.Shapes.{closing_needs, dest_none}
 use Rattle.flow_graph.specs.declared.reads.Access.{Access}
@@ -161,7 +160,7 @@ module _ (code : List Instr) (sound : AreSitesSound code) where
         edge_of (sites_of code walk) w,
         record { walk = walk; is = is; branch = w; at = contains_in w (branches_at code (end_of walk)) among; are = refl },
         both (is_label (slice_get code w.to)) (is_jump (slice_get code (leave_of w.aborts w.from (sites_of code walk))) || not (leave_of w.aborts w.from (sites_of code walk) == w.from)) l
-        (or-second (is_jump (slice_get code (leave_of w.aborts w.from (sites_of code walk)))) (not (leave_of w.aborts w.from (sites_of code walk) == w.from)) o),
+            (or-second (is_jump (slice_get code (leave_of w.aborts w.from (sites_of code walk)))) (not (leave_of w.aborts w.from (sites_of code walk) == w.from)) o),
         leave,
         to,
       )

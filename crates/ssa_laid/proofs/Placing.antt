@@ -1,11 +1,9 @@
 -- Where the pieces of laid code stand: before each item its `get`s, each with a type, and then its `set`s.
-use Rattle.std.proofs.Common.{◌≡◌, ◌⊎◌, ℕ, zero, suc, ◌+◌, ◌-◌, ◌*◌, ◌/◌, ◌<◌, ◌≤◌, Bool, true, false, List, [], ◌∷◌, ◌++◌, length, map, Option, Some, None, refl, sym, ap, subst, ◌∙◌, inl, inr, ⊎_elim, arith, append_assoc}
+use Rattle.std.proofs.Common.{◌≡◌, ℕ, zero, suc, ◌+◌, ◌/◌, ◌<◌, ◌≤◌, Bool, true, false, List, [], ◌∷◌, ◌++◌, length, map, Option, Some, None, refl, sym, ap, subst, ◌∙◌, inl, inr, arith, append_assoc}
 use Rattle.std.specs.Prelude.{slice_get, slice_index_or}
-use Rattle.std.specs.List.{flat_map}
 use Rattle.std.specs.Option.{option_map}
-use Rattle.std.proofs.lemmas.Bool.{cases_lt}
 use Rattle.std.proofs.lemmas.List.{length-append, length-map, map-append}
-use Rattle.std.proofs.lemmas.Option.{same_Some, slice_get-map, slice_get_past, slice_get_within}
+use Rattle.std.proofs.lemmas.Option.{same_Some, slice_get-map, slice_get_within}
 use Rattle.bril_tree.specs.declared.function_tree.FuncTree.{FuncTree}
 use Rattle.bril_tree.specs.declared.function_tree.Item.{Item}
 use Rattle.bril_tree.specs.declared.numbered.VarInfo.{VarInfo}
@@ -25,7 +23,7 @@ use Rattle.ssa_sweep.specs.declared.now.WantedGet.{WantedGet}
 use Rattle.ssa_tree.specs.Made.{IsLaidFunction}
 use Rattle.ssa_tree.specs.Standing.{ItemsStand, before_in, nothing}
 use Rattle.ssa_tree.proofs.Standing.{laid-stand}
-use Rattle.ssa_laid.specs.Tables.{FunctionTables, function_tables, gets_by, setting_of, settings_falling, settings_leaving, settings_to, sets_by}
+use Rattle.ssa_laid.specs.Tables.{FunctionTables, function_tables, setting_of, settings_falling, settings_leaving, settings_to}
 use Rattle.ssa_laid.proofs.Kept.{G, l}
 
 -- ---- `set`s, by settings

@@ -1,7 +1,7 @@
 -- The tables of a laid function are those of laid code.
-use Rattle.std.proofs.Common.{◌≡◌, ◌⊎◌, ℕ, zero, suc, ◌+◌, ◌*◌, ◌/◌, ◌<◌, ◌≤◌, Bool, true, false, cond, List, [], ◌∷◌, length, map, Option, Some, None, is_some, refl, sym, ap, subst, ◌∙◌, inl, inr, ⊎_elim, arith}
+use Rattle.std.proofs.Common.{◌≡◌, ◌⊎◌, ℕ, suc, ◌/◌, Bool, true, false, cond, List, [], ◌∷◌, Option, Some, None, is_some, refl, sym, ap, subst, ◌∙◌, inl, inr, arith}
 use Rattle.std.specs.Prelude.{◌==◌, nat_lt, slice_get}
-use Rattle.std.proofs.lemmas.Bool.{eqb-false, eqb-true, lt-ltb, ltb-true}
+use Rattle.std.proofs.lemmas.Bool.{eqb-true, lt-ltb, ltb-true}
 use Rattle.std.proofs.lemmas.List.{length-map}
 use Rattle.std.proofs.lemmas.Option.{same_Some}
 use Rattle.bril_tree.specs.declared.function_tree.FuncTree.{FuncTree}
@@ -13,11 +13,10 @@ use Rattle.bril_tree.specs.declared.program.Prog.{Prog}
 use Rattle.bril_tree.specs.declared.tree.Tree.{Tree}
 use Rattle.bril_tree.specs.declared.types.Ty.{Ty}
 use Rattle.bril_tree.specs.Accepted.{IsAccepted}
-use Rattle.bril_tree.specs.Assigned.{assigns_at}
 use Rattle.bril_tree.specs.Edge.{Branch, branches_at, branches_from, onward}
 use Rattle.bril_tree.specs.Live.{Here, IsLive, Later}
 use Rattle.bril_tree.specs.Membership.{In}
-use Rattle.bril_tree.specs.Numbered.{Numbered, function_tree, named, names_of_functions, variable_names}
+use Rattle.bril_tree.specs.Numbered.{Numbered, function_tree, names_of_functions}
 use Rattle.bril_tree.specs.Operand.{Location, Shadow, Variable, reads_of}
 use Rattle.bril_tree.specs.Shape.{shape_fault_of}
 use Rattle.bril_tree.specs.Sites.{AreSitesSound}
@@ -28,17 +27,16 @@ use Rattle.bril_tree.proofs.Members.{in_contains, in_map, in_map_source}
 use Rattle.flow_graph.specs.Location.{number_of}
 use Rattle.ssa_code.specs.Sweep.{kept_at}
 use Rattle.ssa_layout.specs.Laid.{Setting}
-use Rattle.ssa_operands.specs.Operands.{base_of}
 use Rattle.ssa_sweep.specs.declared.now.WantedGet.{WantedGet}
 use Rattle.ssa_sweep.proofs.Sweeping.{told-before}
 use Rattle.ssa_tables.proofs.Items.{label-no_site}
-use Rattle.ssa_tables.proofs.Tabled.{few, tables-tell_live}
+use Rattle.ssa_tables.proofs.Tabled.{tables-tell_live}
 use Rattle.ssa_tables.specs.Laws.{IsArgument, IsTabled}
-use Rattle.ssa_tables.specs.Tables.{AreConsistent, Tables, kept, replaced, resolved}
+use Rattle.ssa_tables.specs.Tables.{AreConsistent, Tables, replaced, resolved}
 use Rattle.ssa_tables.specs.Told.{FromStart, argument}
 use Rattle.ssa_tree.specs.Made.{IsLaidFunction}
 use Rattle.ssa_laid.specs.Tables.{FunctionTables}
-use Rattle.ssa_laid.proofs.Items.{fs, function, gone-at, got-at, put-at, same-at, shaped, sound, tabled, typed, within}
+use Rattle.ssa_laid.proofs.Items.{function, gone-at, got-at, put-at, same-at, shaped, sound, tabled, typed, within}
 use Rattle.ssa_laid.proofs.Kept.{G, find, in-kept, kept-back, kept-got, kept-is, kept-only, l, m, n, resolved-cases}
 use Rattle.ssa_laid.proofs.Leaving.{falls-there}
 use Rattle.ssa_laid.proofs.Names.{argument-name, names-apart}

@@ -1,18 +1,17 @@
 -- What the arrays of the sweep tell: each `set` gives what its location has where an edge leaves.
-use Rattle.std.proofs.Common.{◌≡◌, ◌⊎◌, ℕ, zero, suc, ◌+◌, ◌*◌, ◌<◌, ◌≤◌, Bool, true, false, cond, List, [], ◌∷◌, ◌++◌, length, map, Option, Some, None, is_some, refl, sym, ap, subst, ◌∙◌, inl, inr, ⊎_elim, arith}
-use Rattle.std.specs.Prelude.{slice_get, slice_index, slice_index_or}
-use Rattle.std.specs.List.{flat_map}
+use Rattle.std.proofs.Common.{◌≡◌, ◌⊎◌, ℕ, zero, suc, ◌+◌, ◌<◌, ◌≤◌, Bool, true, false, cond, List, length, Option, Some, None, is_some, refl, sym, ap, subst, ◌∙◌, inl, inr, ⊎_elim, arith}
+use Rattle.std.specs.Prelude.{slice_get, slice_index}
 use Rattle.std.proofs.lemmas.Option.{slice_get_within}
 use Rattle.bril_tree.specs.declared.edge.Edge.{Edge}
 use Rattle.bril_tree.specs.declared.function_tree.FuncTree.{FuncTree}
 use Rattle.bril_tree.specs.declared.numbered.Instr.{Instr}
 use Rattle.bril_tree.specs.declared.numbered.Instr.TheVariants.{Label, Const, Act}
 use Rattle.bril_tree.specs.declared.numbered_function.Func.{Func}
-use Rattle.bril_tree.specs.Edge.{Branch, branches_at, onward}
+use Rattle.bril_tree.specs.Edge.{branches_at, onward}
 use Rattle.bril_tree.specs.Leaving.{IsEdge, edge_of}
 use Rattle.bril_tree.specs.Membership.{In}
 use Rattle.bril_tree.specs.Operand.{Location, Variable, reads_of}
-use Rattle.bril_tree.specs.Shape.{is_shaped, shape_fault_of}
+use Rattle.bril_tree.specs.Shape.{shape_fault_of}
 use Rattle.bril_tree.specs.Sites.{AreSitesSound, Opens, item_change, sites_of}
 use Rattle.bril_tree.specs.Walk.{IsReached, end_of}
 use Rattle.bril_tree.proofs.Assignments.{site_speculates}
@@ -23,7 +22,7 @@ use Rattle.flow_graph.specs.Location.{number_of}
 use Rattle.ssa_accesses.specs.Entries.{EntersAt}
 use Rattle.ssa_accesses.proofs.Within.{shaped-at}
 use Rattle.ssa_code.specs.Items.{standing}
-use Rattle.ssa_code.specs.Sweep.{falls_at, kept_at, now_at, told}
+use Rattle.ssa_code.specs.Sweep.{falls_at, kept_at, now_at}
 use Rattle.ssa_code.proofs.Laying.{tells-into}
 use Rattle.ssa_copies.specs.Inserted.{destination, is_copy, is_jump, source}
 use Rattle.ssa_layout.specs.Laid.{Aborts, Jumps, LeavesTo, Setting}
@@ -38,12 +37,12 @@ use Rattle.ssa_tables.proofs.Solved.{solved-resolves}
 use Rattle.ssa_tables.proofs.Tabled.{begins, few, tables-agree, tables-tell_live}
 use Rattle.ssa_tables.specs.Laws.{IsArgument, IsTabled}
 use Rattle.ssa_tables.specs.Tables.{AreConsistent, AreResolved, behind, else_passed, is_dest, passed}
-use Rattle.ssa_tables.specs.Told.{argument, into_at}
+use Rattle.ssa_tables.specs.Told.{argument}
 use Rattle.ssa_tree.specs.Made.{IsLaidFunction}
 use Rattle.ssa_wants.specs.Wanted.{is_label}
 use Rattle.ssa_laid.specs.Tables.{setting_of, settings_falling, settings_leaving, settings_to, sets_by}
-use Rattle.ssa_laid.proofs.Kept.{G, IsKept, find, in-kept, kept-got, kept-is, kept-one, kept-only, l, m, n}
-use Rattle.ssa_laid.proofs.Leaving.{falls-only, falls-there, jump-bare, labels-at, leaves-by, leaving-edge, row-only, row-there, site-reached}
+use Rattle.ssa_laid.proofs.Kept.{G, find, in-kept, kept-got, kept-is, kept-one, kept-only, l, m, n}
+use Rattle.ssa_laid.proofs.Leaving.{falls-only, jump-bare, labels-at, leaves-by, leaving-edge, row-only, row-there}
 
 module _ (F : Func) (function g : FuncTree) (x : IsLaidFunction F function g) (shaped : shape_fault_of (is_some F.ret) F.code ≡ None) (sound : AreSitesSound F.code) (tabled : IsTabled F.code F.args (G F function g x)) where
   abbrev code : List Instr
@@ -276,5 +275,5 @@ module _ (F : Func) (function g : FuncTree) (x : IsLaidFunction F function g) (s
       let row = row-there F function g x sound i k low d.0 d.1 d.2 d.3 d.4 in (
         s.from,
         in_append_right s (settings_falling (l F function g x) (array i) (falls_at code x.graph.sites i) i) (settings_leaving (l F function g x) (array i) (labels-at F function g x i))
-        (in_flat_map (settings_to (l F function g x) (array i)) k s (labels-at F function g x i) row (set-in i k y a e)),
+            (in_flat_map (settings_to (l F function g x) (array i)) k s (labels-at F function g x i) row (set-in i k y a e)),
       )

@@ -1,5 +1,5 @@
 -- The types of definitions: each has that of its variable, and what is got has one.
-use Rattle.std.proofs.Common.{◌≡◌, ◌⊎◌, ℕ, zero, suc, ◌+◌, ◌-◌, ◌*◌, ◌/◌, ◌<◌, ◌≤◌, Bool, true, false, cond, List, [], ◌∷◌, ◌++◌, length, map, get_or, Option, Some, None, is_some, refl, sym, ap, subst, ◌∙◌, inl, inr, ⊎_elim, arith}
+use Rattle.std.proofs.Common.{◌≡◌, ◌⊎◌, ℕ, ◌+◌, ◌-◌, ◌*◌, ◌/◌, ◌<◌, Bool, true, false, cond, List, [], length, map, Option, Some, None, refl, sym, ap, ◌∙◌, inl, inr, ⊎_elim, arith}
 use Rattle.std.specs.Prelude.{◌==◌, nat_lt, slice_get, slice_index}
 use Rattle.std.proofs.lemmas.Bool.{eqb-true, lt-ltb, ltb-true}
 use Rattle.std.proofs.lemmas.List.{get_or-append-add, get_or-map, get_or_append_left, length-map}
@@ -16,21 +16,15 @@ use Rattle.bril_tree.specs.Live.{IsLive}
 use Rattle.bril_tree.specs.Locals.{location_type}
 use Rattle.bril_tree.specs.Membership.{In}
 use Rattle.bril_tree.specs.Operand.{Location, Shadow, Variable, dest_of, reads_of}
-use Rattle.bril_tree.specs.Shape.{is_shaped, shape_of}
-use Rattle.bril_tree.specs.Typing.{argument_type, is_action_typed, is_dest_typed, is_set_typed, same_type, type_fault, variable_type}
+use Rattle.bril_tree.specs.Typing.{argument_type, is_action_typed, is_dest_typed, is_set_typed, variable_type}
 use Rattle.bril_tree.specs.Walk.{IsReached}
 use Rattle.bril_tree.proofs.Acceptance.{shaped_at, typed_at}
-use Rattle.bril_tree.proofs.Formed.{typed_destination}
 use Rattle.bril_tree.proofs.Members.{contains_in}
-use Rattle.bril_tree.proofs.Typings.{same_type-is, some_type, type_of}
+use Rattle.bril_tree.proofs.Typings.{same_type-is}
 use Rattle.flow_graph.specs.Location.{number_of}
 use Rattle.live_entries.proofs.Deciding.{live-read}
-use Rattle.pass_accept.proofs.Staying.{dest-typed}
 use Rattle.ssa_code.specs.Names.{or_none, variables_written}
 use Rattle.ssa_copies.specs.Inserted.{destination, is_copy, source}
-use Rattle.ssa_gets.specs.Wants.{gets_of}
-use Rattle.ssa_operands.specs.Operands.{base_of}
-use Rattle.ssa_sources.proofs.Swept.{get-place}
 use Rattle.ssa_sweep.specs.declared.now.WantedGet.{WantedGet}
 use Rattle.ssa_tables.proofs.Dominance.{behind-cases}
 use Rattle.ssa_tables.proofs.Made.{tabled-consistent}
@@ -38,11 +32,11 @@ use Rattle.ssa_tables.proofs.Tabled.{begins, few, tables-keep_types}
 use Rattle.ssa_tables.proofs.Types.{behind-typed, told-keeps}
 use Rattle.ssa_tables.specs.Laws.{IsArgument, IsTabled}
 use Rattle.ssa_tables.specs.Tables.{Defines, Gets, Writes, behind, replaced, resolved}
-use Rattle.ssa_tables.specs.Told.{AreTyped, HasTypeOf, argument, table_of}
+use Rattle.ssa_tables.specs.Told.{AreTyped, HasTypeOf, argument}
 use Rattle.ssa_tree.specs.Made.{IsLaidFunction}
 use Rattle.type_soundness.proofs.Locals.{both-parts, reads-there}
 use Rattle.ssa_laid.specs.Tables.{variable_of}
-use Rattle.ssa_laid.proofs.Kept.{G, find, l, m, n}
+use Rattle.ssa_laid.proofs.Kept.{G, find, m, n}
 
 -- the variable of a location, by its number
 half-even : (v : ℕ) → 2 * v / 2 ≡ v
