@@ -1,8 +1,8 @@
 -- Where edges leave to labels: the rows of a function, and where a label is entered from the item before it.
-use Rattle.std.proofs.Common.{◌≡◌, ℕ, suc, ◌<◌, ◌≤◌, Bool, true, false, cond, ◌&&◌, ◌||◌, List, [], ◌∷◌, length, Option, Some, None, refl, sym, ap, subst, ◌∙◌, inl, ⊎_elim, arith}
+use Rattle.std.proofs.Common.{◌≡◌, ℕ, suc, ◌<◌, ◌≤◌, Bool, true, false, cond, ◌||◌, List, [], ◌∷◌, length, Option, Some, None, refl, sym, ap, subst, ◌∙◌, inl, ⊎_elim, arith}
 use Rattle.std.specs.Prelude.{◌==◌, not, slice_get, slice_index_or}
 use Rattle.std.specs.List.{filter}
-use Rattle.std.proofs.lemmas.Bool.{and_parts, cases_lt, eq-eqb, eqb-true}
+use Rattle.std.proofs.lemmas.Bool.{and_from, and_parts, cases_lt, eq-eqb, eqb-true, or_right}
 use Rattle.std.proofs.lemmas.List.{get_or_past}
 use Rattle.bril_tree.specs.declared.edge.Edge.{Edge}
 use Rattle.bril_tree.specs.declared.function_tree.FuncTree.{FuncTree}
@@ -68,10 +68,6 @@ jump-bare ret (Act d ty _ args fns ls) s j = absurd (let e : false ≡ true = j 
 or-first : (b c : Bool) → (b || c) ≡ true → c ≡ false → b ≡ true
 or-first true c h e = refl
 or-first false c h e = absurd (let k : false ≡ true = sym e ∙ h in cc)
-
-or-second : (b c : Bool) → c ≡ true → (b || c) ≡ true
-or-second true c e = refl
-or-second false c e = e
 
 goes-branch : (code : List Instr) (p : ℕ) (o : Option Instr) → goes_on o ≡ true → In (onward p) (branches_from code p o)
 goes-branch code p None e = absurd cc
@@ -145,30 +141,22 @@ module _ (code : List Instr) (sound : AreSitesSound code) where
       let j : is_jump (slice_get code (leave_of w.aborts w.from (sites_of code r.walk))) ≡ true = ap (λ p. is_jump (slice_get code p)) leave ∙ jumps in (
         edge_of (sites_of code r.walk) w,
         record { walk = r.walk; is = r.is; branch = w; at = contains_in w (branches_at code (end_of r.walk)) there; are = refl },
-        both (is_label (slice_get code w.to)) (is_jump (slice_get code (leave_of w.aborts w.from (sites_of code r.walk))) || not (leave_of w.aborts w.from (sites_of code r.walk) == w.from)) l (ap (λ b. b || not (leave_of w.aborts w.from (sites_of code r.walk) == w.from)) j),
+        and_from (is_label (slice_get code w.to)) (is_jump (slice_get code (leave_of w.aborts w.from (sites_of code r.walk))) || not (leave_of w.aborts w.from (sites_of code r.walk) == w.from)) l (ap (λ b. b || not (leave_of w.aborts w.from (sites_of code r.walk) == w.from)) j),
         leave,
         to,
       )
-    where
-      both : (b c : Bool) → b ≡ true → c ≡ true → (b && c) ≡ true
-      both true c e h = h
-      both false c e h = e
   leaving-edge i k r label (Aborts walk w sites is among aborts are to) =
       let leave : leave_of w.aborts w.from (sites_of code walk) ≡ i = ap (λ b. leave_of b w.from (sites_of code walk)) aborts ∙ ap (leave_of true w.from) are in
       let l : is_label (slice_get code w.to) ≡ true = ap (λ p. is_label (slice_get code p)) to ∙ label in
       let o : not (leave_of w.aborts w.from (sites_of code walk) == w.from) ≡ true = ap (λ p. not (p == w.from)) leave ∙ apart (i == w.from) refl in (
         edge_of (sites_of code walk) w,
         record { walk = walk; is = is; branch = w; at = contains_in w (branches_at code (end_of walk)) among; are = refl },
-        both (is_label (slice_get code w.to)) (is_jump (slice_get code (leave_of w.aborts w.from (sites_of code walk))) || not (leave_of w.aborts w.from (sites_of code walk) == w.from)) l
-            (or-second (is_jump (slice_get code (leave_of w.aborts w.from (sites_of code walk)))) (not (leave_of w.aborts w.from (sites_of code walk) == w.from)) o),
+        and_from (is_label (slice_get code w.to)) (is_jump (slice_get code (leave_of w.aborts w.from (sites_of code walk))) || not (leave_of w.aborts w.from (sites_of code walk) == w.from)) l
+            (or_right (is_jump (slice_get code (leave_of w.aborts w.from (sites_of code walk)))) (not (leave_of w.aborts w.from (sites_of code walk) == w.from)) o),
         leave,
         to,
       )
     where
-      both : (b c : Bool) → b ≡ true → c ≡ true → (b && c) ≡ true
-      both true c e h = h
-      both false c e h = e
-
       -- the `speculate` isn't the guard
       apart : (b : Bool) → (i == w.from) ≡ b → not (i == w.from) ≡ true
       apart false e = ap not e
