@@ -1,0 +1,3 @@
+pub mod Existing
+pub mod Costing
+pub mod Chaining
