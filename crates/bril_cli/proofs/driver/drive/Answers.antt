@@ -48,8 +48,8 @@ returns-clause-does g c =
       does = inr (
         c.in_ok-tree.tree,
         c.in_ok-tree.ensures.ok,
-        subst (λ after. DoesTree (command c.args.request.action) (status_of c.do_command.result)
-            (pass_list (λ p. (goal.Pass-dyn g (p.vtable, p.value)).meaning p.value) (λ p. (goal.Pass-dyn g (p.vtable, p.value)).counts p.value) c.args.passes.now after (names_of c.args.request.list.now))
+        subst (λ boxes. DoesTree (command c.args.request.action) (status_of c.do_command.result)
+            (pass_list (λ p. (goal.Pass-dyn g (p.vtable, p.value)).meaning p.value) (λ p. (goal.Pass-dyn g (p.vtable, p.value)).counts p.value) c.args.passes.now boxes (names_of c.args.request.list.now))
             before after c.in_ok-tree.tree (text_seen c.args.request.profile) c.args.request.args.now does.told (g.O.Sink.seen c.args.outputs.now.out.now) (g.O.Sink.seen c.do_command.new.outputs.out.now)) (search rules) named,
       );
       tells = does.tells;

@@ -4,6 +4,7 @@ use Rattle.std.proofs.lemmas.Result.{err_from_is_err_and}
 use Rattle.bril_report.specs.StageFaults.{status_of}
 use Rattle.bril_commands.proofs.Works.{Works-put}
 use Rattle.bril_commands.specs.commands.Emit.{listing, shown, ShowsImage}
+use Rattle.pass_law.proofs.Same.{AllSame-refl}
 use Rattle.bril_cli.proofs.commands.emit.put_image.Goals as goal
 
 pub returns-in_err-profile-clause-does : goal.returns-in_err-profile-clause-does
@@ -41,3 +42,6 @@ returns-clause-does g c =
         ),
       ),
     )
+
+pub returns-in_err-profile-clause-same : goal.returns-in_err-profile-clause-same
+returns-in_err-profile-clause-same g c = AllSame-refl (λ p. (goal.Pass-dyn g (p.vtable, p.value)).meaning p.value) c.args.passes.now.boxes.now

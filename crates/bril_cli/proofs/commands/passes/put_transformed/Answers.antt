@@ -5,6 +5,7 @@ use Rattle.bril_commands.proofs.Works.{Works-told}
 use Rattle.bril_commands.specs.commands.Passes.{PutsTextOf}
 use Rattle.bril_report.proofs.Telling.{Tells-none}
 use Rattle.bril_report.specs.StageFaults.{status_of}
+use Rattle.pass_law.proofs.Same.{AllSame-refl}
 use Rattle.bril_cli.proofs.commands.passes.put_transformed.Goals as goal
 
 pub returns-in_err-profile-clause-does : goal.returns-in_err-profile-clause-does
@@ -35,3 +36,6 @@ returns-clause-does g c =
       does = inr ([], refl, inr (c.in_ok-profile.profile.entries, c.in_ok-profile.ensures.ok, inr (q, c.in_ok-made.ensures.ok, inr (tt, works))));
       tells = told;
     }
+
+pub returns-in_err-profile-clause-same : goal.returns-in_err-profile-clause-same
+returns-in_err-profile-clause-same g c = AllSame-refl (λ p. (goal.Pass-dyn g (p.vtable, p.value)).meaning p.value) c.args.passes.now.boxes.now
