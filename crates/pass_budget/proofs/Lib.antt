@@ -1,3 +1,4 @@
 pub mod Existing
 pub mod Costing
 pub mod Chaining
+pub mod Same
