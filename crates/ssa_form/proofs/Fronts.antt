@@ -145,7 +145,7 @@ module _ (fs : List (List ℕ)) (F : Func) (g : FuncTree) (x : IsLaidFunction F 
       record { location = r.0; numbered = r.1; got = r.2; stays = eqb-true (slice_index x.find get.definition) get.definition s.1; high = get-high k get.definition r.0 r.2; low = x.are_wants.wanted.above k get.definition r.0 r.2 }
 
   -- they stay at reached labels
-  list-apart : Apart x.wants.list
+  pub list-apart : Apart x.wants.list
   list-apart i j d less inside e =
       let mine = x.are_wants.numbered i (get_or x.wants.list i d) (slice_get-get_or x.wants.list i d (omega arith)) in
       let theirs = x.are_wants.numbered j (get_or x.wants.list j d) (slice_get-get_or x.wants.list j d inside) in

@@ -37,7 +37,7 @@ use Rattle.ssa_form.proofs.Edges.{reached-told}
 use Rattle.ssa_form.proofs.Following.{own-label}
 use Rattle.ssa_form.proofs.Fronts.{AtLabel, Falls, InFront, Leaves, in-front}
 use Rattle.ssa_form.proofs.Points.{begin, code-made, front, front-item, home, home-item, long, now, own, piece, tree_in}
-use Rattle.ssa_numbers.proofs.Leading.{Abort, AreAlike, Jump, Kind, Next, abort-stands, abort-there, aborts, copies-tree, jump-stands, jump-there, jumps, kind, leaves-item, moved-alike, next-there, tree_copies}
+use Rattle.ssa_numbers.proofs.Leading.{Abort, AreAlike, Jump, Kind, Next, abort-stands, abort-there, aborts, copies-tree, jump-stands, jump-there, jumps, jumps-stay, kind, leaves-item, moved-alike, next-there, tree_copies}
 
 -- ---- labels of a function
 
@@ -152,14 +152,20 @@ module _ (fs fs' : List (List ℕ)) (F G : Func) (g : FuncTree) (x : IsLaidFunct
 
   -- ---- a branch of the result from an item's home is one of the item
 
+  -- how it goes: on to what stands before the next item, by a jump, or by an abort
+  pub data Way (a : Instr) (branch : Branch) (index : ℕ) : Type 0 where
+    Goes : index ≡ 0 → Way a branch index
+    Leaps : branch.aborts ≡ false → goes_on (Some a) ≡ false → Way a branch index
+    Aborts : branch.aborts ≡ true → Way a branch index
+
   pub record Step (i : ℕ) (a : Instr) (b : Branch) : Type 0 where
     pub branch : Branch
     pub among : In branch (item_branches F.code i a)
-    pub kind : Kind F.code i a branch
     pub from : branch.from ≡ i
     pub result_from : b.from ≡ H i
     pub aborts : branch.aborts ≡ b.aborts
     pub index : ℕ
+    pub way : Way a branch index
     pub few : index ≤ N branch.to
     pub lands : b.to ≡ B branch.to + index
 
@@ -167,7 +173,7 @@ module _ (fs fs' : List (List ℕ)) (F G : Func) (g : FuncTree) (x : IsLaidFunct
   step-back i a q b at bt alike (Next goes e) =
       let on = alike.goes ∙ goes in
       record {
-        branch = onward i; among = next-there F.code i a on; kind = Next on refl; from = refl; result_from = ap (λ (w : Branch). w.from) e; aborts = sym (ap (λ (w : Branch). w.aborts) e);
+        branch = onward i; among = next-there F.code i a on; way = Goes refl; from = refl; result_from = ap (λ (w : Branch). w.from) e; aborts = sym (ap (λ (w : Branch). w.aborts) e);
         index = 0; few = omega arith;
         lands = let h : b.to ≡ suc (H i) = ap (λ (w : Branch). w.to) e in omega (arith, h);
       }
@@ -175,7 +181,7 @@ module _ (fs fs' : List (List ℕ)) (F G : Func) (g : FuncTree) (x : IsLaidFunct
       let l = same_named (named F.labels) (named G.labels) (jumps a) (jumps q) alike.jump m among in
       let home-is = one-home (point_of l.0 F.code) l.0 (point_of m G.code) m (jump-stands F i a at l.0 l.1) (jump-stands G (H i) q bt m among) l.2 in
       record {
-        branch = jump F.code i l.0; among = jump-there F.code i a l.0 l.1; kind = Jump l.0 l.1 refl; from = refl; result_from = ap (λ (w : Branch). w.from) e; aborts = sym (ap (λ (w : Branch). w.aborts) e);
+        branch = jump F.code i l.0; among = jump-there F.code i a l.0 l.1; way = Leaps refl (jumps-stay a l.0 l.1); from = refl; result_from = ap (λ (w : Branch). w.from) e; aborts = sym (ap (λ (w : Branch). w.aborts) e);
         index = N (point_of l.0 F.code); few = omega arith;
         lands = ap (λ (w : Branch). w.to) e ∙ home-is;
       }
@@ -183,7 +189,7 @@ module _ (fs fs' : List (List ℕ)) (F G : Func) (g : FuncTree) (x : IsLaidFunct
       let l = same_named (named F.labels) (named G.labels) (aborts a) (aborts q) alike.abort m among in
       let home-is = one-home (point_of l.0 F.code) l.0 (point_of m G.code) m (abort-stands F i a at l.0 l.1) (abort-stands G (H i) q bt m among) l.2 in
       record {
-        branch = abort F.code i l.0; among = abort-there F.code i a l.0 l.1; kind = Abort l.0 l.1 refl; from = refl; result_from = ap (λ (w : Branch). w.from) e; aborts = sym (ap (λ (w : Branch). w.aborts) e);
+        branch = abort F.code i l.0; among = abort-there F.code i a l.0 l.1; way = Aborts refl; from = refl; result_from = ap (λ (w : Branch). w.from) e; aborts = sym (ap (λ (w : Branch). w.aborts) e);
         index = N (point_of l.0 F.code); few = omega arith;
         lands = ap (λ (w : Branch). w.to) e ∙ home-is;
       }
