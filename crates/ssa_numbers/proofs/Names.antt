@@ -134,12 +134,12 @@ module _ (fs fs' : List (List ℕ)) (F G : Func) (g : FuncTree) (x : IsLaidFunct
           let args = map (read_name x.names x.find (now fs F g x i)) (item_args (slice_get F.code i)) in
           let size : length args ≡ length (item_args (Some a)) = length-map (item_args (slice_get F.code i)) (read_name x.names x.find (now fs F g x i)) ∙ ap (λ o. length (item_args o)) here in
           let most = own-passes fs (variable_names F.vars) F.labels (reached_at (slice_get x.graph.sites i)) args (name_in x.names (F.args + i)) a size in
-          let tree = ap tree_passes is in
+          let whole = passes ∙ ap tree_passes is in
           let all = in-greatest a F.code (get_in F.code i a here) in
-          omega arith
+          omega (arith, whole, most, all)
       by (Front i n low here there) =
-          let zero-passes = none i (tree_in fs' G q) (in-front fs F g x i (tree_in fs' G q) (get_in (front fs F g x i) n (tree_in fs' G q) here)) in
-          omega arith
+          let whole = passes ∙ none i (tree_in fs' G q) (in-front fs F g x i (tree_in fs' G q) (get_in (front fs F g x i) n (tree_in fs' G q) here)) in
+          omega (arith, whole)
 
   pub no-longer : longest_in G ≤ longest_in F
   no-longer =
