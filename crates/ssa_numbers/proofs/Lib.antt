@@ -4,3 +4,4 @@ pub mod Sites
 pub mod Silent
 pub mod Entering
 pub mod Names
+pub mod Whole
