@@ -1,5 +1,5 @@
 -- From the tree in SSA form to its program.
-use Rattle.std.proofs.Common.{◌≡◌, ◌⊎◌, ℕ, ◌+◌, ◌*◌, ◌<◌, ◌≤◌, length, refl, sym, subst, ◌∙◌, ⊎_elim, arith, All}
+use Rattle.std.proofs.Common.{◌≡◌, ℕ, ◌+◌, ◌*◌, ◌<◌, ◌≤◌, length, refl, ⊎_elim, arith, All}
 use Rattle.bril_profile.specs.declared.profile.Profile.{Profile}
 use Rattle.bril_tree.specs.declared.function_tree.FuncTree.{FuncTree}
 use Rattle.bril_tree.specs.declared.program.Prog.{Prog}
@@ -15,7 +15,7 @@ use Rattle.pass_make.specs.CanBeMade.{CanBeMade}
 use Rattle.pass_make.specs.Edited.{HasRoom, IsLinkedTo}
 use Rattle.pass_make.specs.declared.made.Made.TheVariants as making
 use Rattle.program_numbers.specs.ProgramNumbers.{IsGreatestWidth, most_locations}
-use Rattle.ssa_form.specs.Numbers.{IsSsaBound, IsSsaFactor}
+use Rattle.ssa_form.specs.Numbers.{IsSsaBound}
 use Rattle.ssa_form.specs.Ssa.{ssa_meaning}
 use Rattle.ssa_form.proofs.Trees.{laid-edits, laid-short, tree-none_longer}
 use Rattle.ssa_laid.proofs.Accepted.{trees-accepted}

@@ -1,7 +1,6 @@
 -- The live entries of a program, as they are counted.
 use Rattle.std.specs.Prelude.{◌≡◌, ℕ, List, min}
 use Rattle.bril_tree.specs.declared.numbered_function.Func.{Func}
-use Rattle.bril_tree.specs.declared.program.Prog.{Prog}
 use Rattle.live_entries.specs.LiveEntries.{IsLiveEntryCount}
 use Rattle.program_numbers.specs.ProgramNumbers.{IsSum}
 

@@ -1,5 +1,5 @@
 -- The entries of labels of laid code: each is one of the function's. No more sites are open than before, either.
-use Rattle.std.proofs.Common.{◌≡◌, ◌⊎◌, ℕ, zero, suc, ◌+◌, ◌-◌, ◌<◌, ◌≤◌, Bool, true, false, List, [], ◌∷◌, length, map, Option, Some, None, refl, sym, ap, subst, ◌∙◌, inl, inr, ⊎_elim, arith}
+use Rattle.std.proofs.Common.{◌≡◌, ℕ, zero, suc, ◌+◌, ◌-◌, ◌<◌, ◌≤◌, Bool, true, false, List, [], ◌∷◌, length, map, Option, Some, None, refl, sym, ap, subst, ◌∙◌, inl, inr, ⊎_elim, arith}
 use Rattle.std.specs.Prelude.{slice_get}
 use Rattle.std.proofs.lemmas.Bool.{cases_lt}
 use Rattle.std.proofs.lemmas.List.{length-map}
@@ -17,8 +17,8 @@ use Rattle.bril_tree.specs.Edge.{Branch, branches_at, branches_from, onward}
 use Rattle.bril_tree.specs.FrameWords.{IsDepth}
 use Rattle.bril_tree.specs.Leaving.{IsEdge, edge_of, leave_of}
 use Rattle.bril_tree.specs.Membership.{In}
-use Rattle.bril_tree.specs.Numbered.{function_tree, named, nop_item, variable_names}
-use Rattle.bril_tree.specs.Sites.{AreSitesSound, Closes, Opens, item_change, sites_changed, sites_of}
+use Rattle.bril_tree.specs.Numbered.{function_tree, named, variable_names}
+use Rattle.bril_tree.specs.Sites.{AreSitesSound, Closes, item_change, sites_changed, sites_of}
 use Rattle.bril_tree.specs.Walk.{IsReached, IsWalk, end_of}
 use Rattle.bril_tree.proofs.Assignments.{site_speculates}
 use Rattle.bril_tree.proofs.Branches.{aborts-close, branch_from, walk_within}
@@ -245,7 +245,12 @@ module _ (fs fs' : List (List ℕ)) (F G : Func) (g : FuncTree) (x : IsLaidFunct
         ap (λ n. leave_of b.aborts n (sites_of G.code v)) h.step.result_from ∙ ap (λ y. leave_of y (H i) (sites_of G.code v)) (sym h.step.aborts) ∙ ap (leave_of w.aborts (H i)) s.sites
         ∙ leave-mapped H w.aborts i (sites_of F.code s.walk) ∙ ap (λ n. H (leave_of w.aborts n (sites_of F.code s.walk))) (sym h.step.from) in
         record {
-          from = Some edge.leave; point = w.to; label = l.0; at = l.1; enters = (edge, is_edge, refl, l.1); named_same = l.2;
+          from = Some edge.leave;
+          point = w.to;
+          label = l.0;
+          at = l.1;
+          enters = (edge, is_edge, refl, l.1);
+          named_same = l.2;
           how = Own edge.leave refl (ap Some leaves) (λ next some goes. by h w refl edge.leave refl all (h.step.way) next some goes inside);
         }
       where

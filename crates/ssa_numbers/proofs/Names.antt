@@ -1,8 +1,8 @@
 -- The names in laid code are those of definitions, so its variables are no more than these. Its lists of arguments are no longer than
 -- the function's.
-use Rattle.std.proofs.Common.{◌≡◌, ◌≢◌, ◌⊎◌, ℕ, zero, suc, ◌+◌, ◌*◌, ◌<◌, ◌≤◌, Bool, true, false, List, [], ◌∷◌, ◌++◌, length, map, take, get_or, Option, Some, None, refl, sym, ap, subst, ◌∙◌, inl, inr, ⊎_elim, arith}
-use Rattle.std.specs.Prelude.{max, slice_get, slice_index}
-use Rattle.std.specs.List.{AllPairs, Contains, flat_map, list_any, range_with_len}
+use Rattle.std.proofs.Common.{◌≡◌, ◌⊎◌, ℕ, zero, suc, ◌+◌, ◌*◌, ◌<◌, ◌≤◌, Bool, true, false, List, [], ◌∷◌, length, map, take, Option, Some, None, refl, sym, ap, subst, ◌∙◌, inl, inr, ⊎_elim, arith}
+use Rattle.std.specs.Prelude.{slice_get, slice_index}
+use Rattle.std.specs.List.{Contains, flat_map, list_any, range_with_len}
 use Rattle.std.specs.Option.{option_map}
 use Rattle.std.proofs.lemmas.Bool.{cases_lt}
 use Rattle.std.proofs.lemmas.List.{get_or_default, get_or-take, length-map, length-take}
@@ -24,7 +24,7 @@ use Rattle.bril_tree.specs.declared.numbered.Instr.TheVariants.{Label, Const, Ac
 use Rattle.bril_tree.specs.declared.numbered.VarInfo.{VarInfo}
 use Rattle.bril_tree.specs.declared.numbered_function.Func.{Func}
 use Rattle.bril_tree.specs.declared.operation.Op.TheVariants as op
-use Rattle.bril_tree.specs.Edge.{Branch, branches_at}
+use Rattle.bril_tree.specs.Edge.{Branch}
 use Rattle.bril_tree.specs.FrameWords.{location_count, names_shadow}
 use Rattle.bril_tree.specs.FunctionForm.{dest_is_typed, known_after, variables_of}
 use Rattle.bril_tree.specs.Leaving.{edge_of}
@@ -32,15 +32,15 @@ use Rattle.bril_tree.specs.Membership.{In}
 use Rattle.bril_tree.specs.Numbered.{function_tree, item_tree, named, variable_names}
 use Rattle.bril_tree.specs.Operand.{Location}
 use Rattle.bril_tree.specs.Sites.{sites_of}
-use Rattle.bril_tree.specs.Walk.{IsReached, IsWalk, end_of}
+use Rattle.bril_tree.specs.Walk.{IsWalk, end_of}
 use Rattle.bril_tree.proofs.Counting.{no_more}
 use Rattle.bril_tree.proofs.Elements.{get_in, in_get, passes_in}
 use Rattle.bril_tree.proofs.LabelPoints.{in_range, range_high}
-use Rattle.bril_tree.proofs.Members.{contains_in, in_append_cases, in_contains, in_flat_map_source, in_map, in_map_source}
+use Rattle.bril_tree.proofs.Members.{in_append_cases, in_contains, in_flat_map_source, in_map, in_map_source}
 use Rattle.flow_graph.specs.Location.{number_of}
-use Rattle.live_entries.specs.LiveEntries.{IsLiveEntry, IsLiveEntryCount}
+use Rattle.live_entries.specs.LiveEntries.{IsLiveEntryCount}
 use Rattle.pass_numbers.proofs.Different.{range-differ}
-use Rattle.pass_numbers.proofs.ItemTrees.{dest_names, item_names, names-item, operation_count, passes-item, tree_passes}
+use Rattle.pass_numbers.proofs.ItemTrees.{dest_names, item_names, names-item, passes-item, tree_passes}
 use Rattle.program_numbers.specs.Cost.{item_passes, longest_in}
 use Rattle.program_numbers.specs.Entries.{Enters}
 use Rattle.program_numbers.specs.ProgramNumbers.{greatest}
@@ -49,10 +49,10 @@ use Rattle.ssa_code.specs.Sweep.{item_args, reached_at}
 use Rattle.ssa_gets.specs.Wants.{gets_of}
 use Rattle.ssa_sweep.specs.declared.now.WantedGet.{WantedGet}
 use Rattle.ssa_tree.specs.Made.{IsLaidFunction}
-use Rattle.ssa_form.proofs.Fronts.{AtLabel, Falls, InFront, IsPut, IsStaying, Leaves, in-front, is-staying, list-apart, staying, total}
-use Rattle.ssa_form.proofs.Points.{Front, Home, Point, front, home, now, own, point, tree_in}
+use Rattle.ssa_form.proofs.Fronts.{AtLabel, Falls, InFront, IsPut, Leaves, in-front, is-staying, list-apart, staying, total}
+use Rattle.ssa_form.proofs.Points.{Front, Home, Point, front, now, point, tree_in}
 use Rattle.ssa_form.proofs.Single.{argument-name}
-use Rattle.ssa_numbers.proofs.Beside.{label-one, result-item}
+use Rattle.ssa_numbers.proofs.Beside.{label-one}
 
 -- ---- what a laid item names and passes
 
