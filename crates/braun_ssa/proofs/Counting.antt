@@ -28,8 +28,8 @@ more-told xs F count more new t l e = record {
 }
 
 -- the bound by all of them
-pub bound-told : (P : Prog) (entries size first told : ℕ) → IsCounted P → TellsEntries P.funcs entries → size ≡ item_count P → first ≡ min (size + entries) 18446744073709551615 → told ≡ min (first + entries) 18446744073709551615 → TellsBound (IsSsaBound P) told
-bound-told P entries size first told c t s e f = record {
+pub bound-told : (P : Prog) (entries size told : ℕ) → IsCounted P → TellsEntries P.funcs entries → size ≡ item_count P → told ≡ min (size + 2 * entries) 18446744073709551615 → TellsBound (IsSsaBound P) told
+bound-told P entries size told c t s e = record {
   bound = item_count P + 2 * t.count;
   is = record { entries = t.count; are = t.are; is = refl };
   tells = let a = t.tells in let h = counted-size P c in omega arith;

@@ -1,6 +1,6 @@
 // The bound of the pass on the items of its result.
 
-ghost use Rattle.std.specs.Prelude.{IfOk};
+ghost use Rattle.std.specs.Prelude.{◌≡◌, ◌+◌, ◌*◌, IfOk, min};
 ghost use Rattle.braun_ssa.specs.Bound.{TellsEntries};
 ghost use Rattle.bril_tree.specs.Accepted.{IsAccepted};
 ghost use Rattle.bril_tree.specs.Size.{IsCounted};
@@ -26,6 +26,13 @@ fn live_entries(alloc: Global, prog: &Prog) -> Result<u64, AllocError>
     Ok(count)
 }
 
+// The sum of items and two for each entry, or 2^64 - 1 where it is greater.
+fn bound_by(items: u64, entries: u64) -> u64
+    ensures { result ≡ min (items + 2 * entries) 18446744073709551615 }
+{
+    items.saturating_add(entries).saturating_add(entries)
+}
+
 // The items of an accepted program and two for each live entry, or 2^64 - 1 where they are more. Want of memory is the only error.
 pub(crate) fn ssa_bound(alloc: Global, prog: &Prog) -> Result<u64, AllocError>
     requires accepted { IsAccepted prog.now }
@@ -33,5 +40,5 @@ pub(crate) fn ssa_bound(alloc: Global, prog: &Prog) -> Result<u64, AllocError>
     ensures { IfOk result (TellsBound (IsSsaBound prog.now)) }
 {
     let entries = live_entries(alloc, prog)?;
-    Ok(prog.size().saturating_add(entries).saturating_add(entries))
+    Ok(bound_by(prog.size(), entries))
 }

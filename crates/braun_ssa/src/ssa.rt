@@ -31,6 +31,7 @@ impl Edit for SsaEdit {
     }
 
     fn edit(alloc: Global, prog: &Checked, _profile: &Profile) -> Result<Made, AllocError> {
-        Ok(Made::Tree(ssa_tree(alloc, prog.prog())?))
+        let tree = ssa_tree(alloc, prog.prog())?;
+        Ok(Made::Tree(tree))
     }
 }

@@ -6,4 +6,4 @@ pub size-requires : goal.size-requires
 size-requires c = counted-size c.args.prog.now c.requires.counted
 
 pub returns : goal.returns
-returns c = bound-told c.args.prog.now c.in_ok-entries.entries c.size.result c.saturating_add.result c.saturating_add-2.result c.requires.counted c.in_ok-entries.ensures c.size.ensures c.saturating_add.ensures c.saturating_add-2.ensures
+returns c = bound-told c.args.prog.now c.in_ok-entries.entries c.size.result c.bound_by.result c.requires.counted c.in_ok-entries.ensures c.size.ensures c.bound_by.ensures

@@ -10,5 +10,5 @@ use Rattle.braun_ssa.proofs.ssa.SsaEditEdit.edit.Goals as goal
 
 pub returns : goal.returns
 returns c =
-    subst (λ (P : Prog). HasRoom (IsSsaBound P) (item_count P) → IsLinkedTo ssa_meaning c.args._profile.now P (Tree c.in_ok-ssa_tree.field-0)) c.prog.ensures.value
-    (edited c.prog.result.now c.prog.ensures.accepted c.in_ok-ssa_tree.field-0 c.in_ok-ssa_tree.ensures c.prog.ensures.counted c.args._profile.now) c.requires
+    subst (λ (P : Prog). HasRoom (IsSsaBound P) (item_count P) → IsLinkedTo ssa_meaning c.args._profile.now P (Tree c.in_ok-tree.tree)) c.prog.ensures.value
+    (edited c.prog.result.now c.prog.ensures.accepted c.in_ok-tree.tree c.in_ok-tree.ensures c.prog.ensures.counted c.args._profile.now) c.requires
