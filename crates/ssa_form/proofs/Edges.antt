@@ -1,26 +1,23 @@
 -- Where edges leave to a label: each has `set`s before the item from which it leaves, or behind that, before the label.
-use Rattle.std.proofs.Common.{◌≡◌, ◌⊎◌, ℕ, zero, suc, ◌+◌, ◌<◌, ◌≤◌, ◌&&◌, ◌||◌, Bool, true, false, cond, List, [], ◌∷◌, length, map, Option, Some, None, refl, sym, ap, subst, ◌∙◌, inl, inr, ⊎_elim, arith, eq-eqb}
+use Rattle.std.proofs.Common.{◌≡◌, ◌⊎◌, ℕ, zero, suc, ◌<◌, ◌≤◌, ◌&&◌, ◌||◌, Bool, true, false, cond, List, [], ◌∷◌, length, Option, Some, None, refl, sym, ap, subst, ◌∙◌, inl, inr, ⊎_elim, arith, eq-eqb}
 use Rattle.std.specs.Prelude.{slice_get, slice_index_or, ◌==◌, not}
 use Rattle.std.specs.List.{Contains}
 use Rattle.std.proofs.lemmas.Bool.{and_parts, cases_lt, eqb-true}
-use Rattle.std.proofs.lemmas.Bool.Decides.{eqb_tells}
-use Rattle.std.proofs.lemmas.Option.{same_Some, slice_get_within}
+use Rattle.std.proofs.lemmas.Option.{slice_get_within}
 use Rattle.bril_tree.specs.declared.edge.Edge.{Edge}
 use Rattle.bril_tree.specs.declared.numbered.Instr.{Instr}
 use Rattle.bril_tree.specs.declared.numbered.Instr.TheVariants.{Label, Const, Act}
-use Rattle.bril_tree.specs.declared.operation.Op.{Op}
 use Rattle.bril_tree.specs.declared.operation.Op.TheVariants as op
-use Rattle.bril_tree.specs.Edge.{Branch, action_branches, branches_at, branches_from, onward}
-use Rattle.bril_tree.specs.Leaving.{IsEdge, edge_of, leave_of}
+use Rattle.bril_tree.specs.Edge.{Branch, branches_at, branches_from, onward}
+use Rattle.bril_tree.specs.Leaving.{IsEdge, leave_of}
 use Rattle.bril_tree.specs.Membership.{In}
 use Rattle.bril_tree.specs.Sites.{AreSitesSound, Closes, Opens, item_change, sites_of}
 use Rattle.bril_tree.specs.Step.{point_of}
-use Rattle.bril_tree.specs.Walk.{IsReached, IsWalk, end_of}
+use Rattle.bril_tree.specs.Walk.{IsReached, end_of}
 use Rattle.bril_tree.proofs.Assignments.{site_speculates}
 use Rattle.bril_tree.proofs.Branches.{aborts-close, branch_from}
 use Rattle.bril_tree.proofs.Members.{contains_in, in_contains, in_map, in_map_source}
 use Rattle.bril_tree.proofs.Shapes.{closing_needs}
-use Rattle.flow_graph.specs.Accesses.{Accesses}
 use Rattle.flow_graph.specs.Graph.{GraphView, IsGraphOf}
 use Rattle.flow_graph.specs.declared.reads.Access.{Access}
 use Rattle.flow_graph.proofs.Told.{edge_listed, edge_told, sites_of_walk, some_site, walk_to}

@@ -1,10 +1,10 @@
 -- Laid code has the labels of its function, and names only functions and labels that are there.
-use Rattle.std.proofs.Common.{◌≡◌, ℕ, suc, ◌+◌, Bool, true, false, List, [], ◌∷◌, ◌++◌, length, map, Option, Some, None, refl, sym, ap, subst, ◌∙◌, inl, inr, ⊎_elim, arith, All}
+use Rattle.std.proofs.Common.{◌≡◌, ℕ, ◌+◌, Bool, true, false, List, [], ◌∷◌, ◌++◌, length, map, Option, Some, None, refl, sym, ap, subst, ◌∙◌, inl, inr}
 use Rattle.std.specs.Prelude.{slice_get}
 use Rattle.std.specs.List.{cons_option, filter_map}
 use Rattle.std.proofs.lemmas.List.{append-nil}
 use Rattle.std.proofs.lemmas.List.Elements.{filter_map-append}
-use Rattle.bril_names.specs.Faults.{Differ, IsKnown, IsSound, IsSoundEdit, SameHead, callees_of, label_of, labels_of, targets_of}
+use Rattle.bril_names.specs.Faults.{Differ, IsKnown, IsSound, IsSoundEdit, SameHead, label_of, labels_of}
 use Rattle.bril_names.proofs.Naming.{AreAmong-none}
 use Rattle.bril_tree.specs.declared.function_tree.FuncTree.{FuncTree}
 use Rattle.bril_tree.specs.declared.function_tree.Item.{Item}
@@ -15,11 +15,11 @@ use Rattle.bril_tree.specs.Membership.{In}
 use Rattle.bril_tree.specs.Numbered.{function_tree}
 use Rattle.bril_tree.proofs.Elements.{get_in, in_get}
 use Rattle.pass_plan.proofs.Elements.{all_in, in_all}
-use Rattle.ssa_code.specs.Items.{got_item, laid_item, name_in, put_item, read_name}
+use Rattle.ssa_code.specs.Items.{laid_item, name_in, read_name}
 use Rattle.ssa_code.specs.Sweep.{item_args, laid_items, reached_at}
 use Rattle.ssa_tree.specs.Made.{IsLaidFunction}
-use Rattle.ssa_form.proofs.Fronts.{AtLabel, Falls, InFront, IsGot, IsPut, Leaves, in-front, staying}
-use Rattle.ssa_form.proofs.Points.{Front, Home, Point, code-made, front, item-there, long, now, own, piece, point, tree_in}
+use Rattle.ssa_form.proofs.Fronts.{AtLabel, Falls, InFront, Leaves, in-front}
+use Rattle.ssa_form.proofs.Points.{Front, Home, Point, code-made, front, item-there, now, own, piece, point, tree_in}
 
 -- ---- labels
 

@@ -1,11 +1,10 @@
 -- Each `get` of laid code stands behind a label, with only `get`s between.
-use Rattle.std.proofs.Common.{◌≡◌, ℕ, zero, suc, ◌+◌, Bool, true, false, List, Option, Some, None, refl, sym, ap, subst, ◌∙◌, inl, inr, map, arith}
+use Rattle.std.proofs.Common.{◌≡◌, ℕ, zero, suc, ◌+◌, Bool, true, false, List, Some, refl, sym, ap, subst, ◌∙◌, inl, inr, map, arith}
 use Rattle.std.specs.Prelude.{slice_get}
 use Rattle.std.proofs.lemmas.Option.{slice_get_within}
 use Rattle.bril_tree.specs.declared.function_tree.FuncTree.{FuncTree}
 use Rattle.bril_tree.specs.declared.function_tree.Item.{Item}
 use Rattle.bril_tree.specs.declared.function_tree.Item.TheVariants as item
-use Rattle.bril_tree.specs.declared.numbered.Instr.{Instr}
 use Rattle.bril_tree.specs.declared.numbered.Instr.TheVariants.{Label}
 use Rattle.bril_tree.specs.declared.numbered_function.Func.{Func}
 use Rattle.bril_tree.specs.declared.operation.Op.TheVariants as op
@@ -15,8 +14,8 @@ use Rattle.ssa_code.specs.Items.{laid_item, name_in, read_name}
 use Rattle.ssa_code.specs.Sweep.{item_args, reached_at}
 use Rattle.ssa_layout.specs.Form.{FollowsLabel, IsGetAt, IsGetOf}
 use Rattle.ssa_tree.specs.Made.{IsLaidFunction}
-use Rattle.ssa_form.proofs.Fronts.{FrontAt, GotAt, IsStaying, PutAt, front-at, gets-part, got-front, is-got, is-staying, staying}
-use Rattle.ssa_form.proofs.Points.{Front, Home, Point, begin, front, front-item, home, home-item, now, own, point, tree_in}
+use Rattle.ssa_form.proofs.Fronts.{FrontAt, GotAt, PutAt, front-at, gets-part, got-front, is-got, is-staying, staying}
+use Rattle.ssa_form.proofs.Points.{Front, Home, Point, begin, front-item, home, home-item, now, point, tree_in}
 
 -- what stands in place of an item is no `get`
 own-no_get : (r : Bool) (args : List (List ℕ)) (w : List ℕ) (t : Item) (name : List ℕ) → IsGetOf name (laid_item r args w t) → ⊥

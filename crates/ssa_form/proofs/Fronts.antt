@@ -1,11 +1,11 @@
 -- What stands before the items of laid code: `get`s that stay, behind their labels, and `set`s of these.
-use Rattle.std.proofs.Common.{◌≡◌, ◌≢◌, ◌⊎◌, ℕ, zero, suc, ◌+◌, ◌-◌, ◌<◌, ◌≤◌, ◌/◌, Bool, true, false, cond, ◌&&◌, List, [], ◌∷◌, ◌++◌, length, map, take, drop, get_or, Option, Some, None, refl, sym, ap, subst, ◌∙◌, inl, inr, ⊎_elim, arith, append_assoc}
+use Rattle.std.proofs.Common.{◌≡◌, ◌≢◌, ◌⊎◌, ℕ, zero, suc, ◌+◌, ◌-◌, ◌<◌, ◌≤◌, ◌/◌, Bool, true, false, cond, ◌&&◌, List, [], ◌∷◌, ◌++◌, length, map, take, drop, get_or, Option, Some, None, refl, sym, ap, ◌∙◌, inl, inr, ⊎_elim, arith, append_assoc}
 use Rattle.std.specs.Prelude.{nat_le, slice_get, slice_index, slice_index_or, slice_range}
-use Rattle.std.specs.List.{AllPairs, Contains, flat_map}
+use Rattle.std.specs.List.{AllPairs}
 use Rattle.std.proofs.lemmas.Bool.{cases_lt, eqb-true}
-use Rattle.std.proofs.lemmas.List.{get_or-drop, get_or-take, length-append, length-drop, length-take}
+use Rattle.std.proofs.lemmas.List.{get_or-drop, get_or-take, length-drop, length-take}
 use Rattle.std.proofs.lemmas.List.Kept.{AllPairs-filter}
-use Rattle.std.proofs.lemmas.Option.{same_Some, slice_get_within, slice_get-get_or}
+use Rattle.std.proofs.lemmas.Option.{slice_get_within, slice_get-get_or}
 use Rattle.bril_tree.specs.declared.function_tree.FuncTree.{FuncTree}
 use Rattle.bril_tree.specs.declared.function_tree.Item.{Item}
 use Rattle.bril_tree.specs.declared.numbered.VarInfo.{VarInfo}
@@ -16,13 +16,13 @@ use Rattle.bril_tree.specs.Numbered.{function_tree}
 use Rattle.bril_tree.specs.Operand.{Location}
 use Rattle.bril_tree.specs.Typing.{variable_type}
 use Rattle.bril_tree.proofs.Elements.{get_in, in_get}
-use Rattle.bril_tree.proofs.Members.{contains_in, in_append_cases, in_append_left, in_append_right, in_contains, in_flat_map_source, in_map_source}
+use Rattle.bril_tree.proofs.Members.{contains_in, in_append_cases, in_append_left, in_append_right, in_flat_map_source, in_map_source}
 use Rattle.flow_graph.specs.Location.{number_of}
 use Rattle.pass_numbers.proofs.Different.{filter_in}
 use Rattle.pass_plan.proofs.Splicing.{get-left, get-right}
 use Rattle.ssa_code.specs.Items.{get_item, get_items, got_item, name_in, put_item, set_item, standing, stays, typed_get}
 use Rattle.ssa_code.specs.Sweep.{falls_at, gets_before, kept_at, part, row_in, sets_falling, sets_leaving, sets_to}
-use Rattle.ssa_gets.specs.Wants.{gets_of, row_of}
+use Rattle.ssa_gets.specs.Wants.{gets_of}
 use Rattle.ssa_operands.specs.Operands.{base_of}
 use Rattle.ssa_sweep.specs.declared.now.WantedGet.{WantedGet}
 use Rattle.ssa_tree.specs.Made.{IsLaidFunction}
@@ -145,7 +145,7 @@ module _ (fs : List (List ℕ)) (F : Func) (g : FuncTree) (x : IsLaidFunction F 
       record { location = r.0; numbered = r.1; got = r.2; stays = eqb-true (slice_index x.find get.definition) get.definition s.1; high = get-high k get.definition r.0 r.2; low = x.are_wants.wanted.above k get.definition r.0 r.2 }
 
   -- they stay at reached labels
-  list-apart : Apart x.wants.list
+  pub list-apart : Apart x.wants.list
   list-apart i j d less inside e =
       let mine = x.are_wants.numbered i (get_or x.wants.list i d) (slice_get-get_or x.wants.list i d (omega arith)) in
       let theirs = x.are_wants.numbered j (get_or x.wants.list j d) (slice_get-get_or x.wants.list j d inside) in

@@ -1,9 +1,8 @@
 -- Each `get` of laid code has two `set`s that differ, and neither is set from the `get` itself.
-use Rattle.std.proofs.Common.{◌≡◌, ◌⊎◌, ℕ, zero, suc, ◌+◌, ◌-◌, ◌<◌, ◌≤◌, Bool, true, false, cond, List, [], ◌∷◌, length, map, Option, Some, None, refl, sym, ap, subst, ◌∙◌, inl, inr, ⊎_elim, arith, eq-eqb}
+use Rattle.std.proofs.Common.{◌≡◌, ◌⊎◌, ℕ, zero, suc, ◌+◌, ◌-◌, ◌<◌, ◌≤◌, Bool, true, false, cond, List, [], length, Option, Some, None, refl, sym, ap, subst, ◌∙◌, inl, inr, arith, eq-eqb}
 use Rattle.std.specs.Prelude.{is_some, slice_get, slice_index, slice_index_or}
 use Rattle.std.proofs.lemmas.Option.{same_Some, slice_get_within}
 use Rattle.bril_tree.specs.declared.function_tree.FuncTree.{FuncTree}
-use Rattle.bril_tree.specs.declared.function_tree.Item.{Item}
 use Rattle.bril_tree.specs.declared.numbered.Instr.{Instr}
 use Rattle.bril_tree.specs.declared.numbered.Instr.TheVariants.{Label, Const, Act}
 use Rattle.bril_tree.specs.declared.numbered_function.Func.{Func}
@@ -12,7 +11,7 @@ use Rattle.bril_tree.specs.declared.program.Prog.{Prog}
 use Rattle.bril_tree.specs.Accepted.{IsAcceptedFunction}
 use Rattle.bril_tree.specs.Membership.{In}
 use Rattle.bril_tree.specs.Numbered.{function_tree}
-use Rattle.bril_tree.specs.Operand.{Location, dest_of}
+use Rattle.bril_tree.specs.Operand.{Location}
 use Rattle.bril_tree.specs.Shape.{is_shaped, shape_of}
 use Rattle.bril_tree.specs.Sites.{Opens, item_change}
 use Rattle.bril_tree.proofs.Elements.{get_in}
@@ -33,14 +32,14 @@ use Rattle.ssa_sources.proofs.Leaving.{source-set}
 use Rattle.ssa_sweep.specs.declared.now.WantedGet.{WantedGet}
 use Rattle.ssa_tables.specs.Laws.{IsTabled}
 use Rattle.ssa_tables.specs.Tables.{behind, else_passed, is_dest, passed}
-use Rattle.ssa_tables.specs.Told.{Source, argument, entered, into_at, table_of}
+use Rattle.ssa_tables.specs.Told.{argument, entered, into_at, table_of}
 use Rattle.ssa_tables.proofs.Tabled.{few}
 use Rattle.ssa_tree.specs.Made.{IsLaidFunction}
 use Rattle.ssa_form.specs.Form.{HasTwoSets, IsSet}
 use Rattle.ssa_form.proofs.Edges.{Fallen, InRow, SetWay, set-way}
 use Rattle.ssa_form.proofs.Following.{got-behind}
 use Rattle.ssa_form.proofs.Fronts.{falls-part, get-high, gets-part, is-got, is-staying, leaves-part, put-front, staying, total}
-use Rattle.ssa_form.proofs.Points.{begin, front, front-item, layout, now}
+use Rattle.ssa_form.proofs.Points.{begin, front-item, layout, now}
 use Rattle.ssa_form.proofs.Single.{names-one}
 
 entered-same : (o : Option Instr) (x : Option ℕ) (y : ℕ) → entered o x ≡ Some y → x ≡ Some y

@@ -1,16 +1,15 @@
 -- Each variable of laid code is assigned by one item, or is an argument and by none.
-use Rattle.std.proofs.Common.{◌≡◌, ◌≢◌, ◌⊎◌, ℕ, zero, suc, ◌+◌, ◌-◌, ◌<◌, ◌≤◌, ◌/◌, Bool, true, false, cond, List, [], ◌∷◌, ◌++◌, length, map, take, get_or, Option, Some, None, refl, sym, ap, subst, ◌∙◌, inl, inr, ⊎_elim, arith}
-use Rattle.std.specs.Prelude.{slice_get, slice_index, slice_index_or}
-use Rattle.std.specs.List.{AllPairs, Contains, flat_map}
+use Rattle.std.proofs.Common.{◌≡◌, ◌≢◌, ℕ, zero, suc, ◌+◌, ◌-◌, ◌<◌, ◌≤◌, ◌/◌, Bool, true, false, cond, List, [], ◌∷◌, ◌++◌, length, map, take, get_or, Option, Some, None, refl, sym, ap, subst, ◌∙◌, inl, inr, ⊎_elim, arith}
+use Rattle.std.specs.Prelude.{slice_get, slice_index}
+use Rattle.std.specs.List.{AllPairs, Contains}
 use Rattle.std.proofs.lemmas.Bool.{cases_lt, lt-ltb}
-use Rattle.std.proofs.lemmas.List.{get_or_default, get_or-take, length-append, length-take, length-map}
+use Rattle.std.proofs.lemmas.List.{get_or_default, get_or-take, length-take, length-map}
 use Rattle.std.proofs.lemmas.List.Kept.{AllPairs-cons}
 use Rattle.std.proofs.lemmas.Option.{same_Some, slice_get_within, slice_get-get_or}
 use Rattle.bril_names.specs.Faults.{argument_names}
 use Rattle.bril_names.proofs.Functions.{Differ-variables}
 use Rattle.bril_names.proofs.Naming.{one_number}
 use Rattle.bril_names.proofs.Variables.{argument_names_taken}
-use Rattle.bril_tree.specs.declared.function_tree.Dest.{Dest}
 use Rattle.bril_tree.specs.declared.function_tree.FuncTree.{FuncTree}
 use Rattle.bril_tree.specs.declared.function_tree.Item.{Item}
 use Rattle.bril_tree.specs.declared.function_tree.Item.TheVariants as item
@@ -22,24 +21,19 @@ use Rattle.bril_tree.specs.declared.types.Ty.{Ty}
 use Rattle.bril_tree.specs.Membership.{In}
 use Rattle.bril_tree.specs.Numbered.{function_tree, named, variable_names}
 use Rattle.bril_tree.specs.Typing.{variable_type}
-use Rattle.bril_tree.proofs.Counting.{differ-first, differ-rest}
 use Rattle.bril_tree.proofs.Elements.{get_in}
-use Rattle.bril_tree.proofs.Members.{contains_in, in_contains}
 use Rattle.pass_plan.proofs.Elements.{in_all}
-use Rattle.pass_plan.proofs.Splicing.{get-left, get-right}
 use Rattle.ssa_code.specs.Items.{get_items, got_item, laid_item, name_in, read_name, typed_get}
 use Rattle.ssa_code.specs.Sweep.{item_args, reached_at}
 use Rattle.ssa_code.specs.Names.{variables_written}
-use Rattle.ssa_gets.specs.Wants.{gets_of}
 use Rattle.ssa_names.specs.Names.{base_name, definition_name, made_name}
 use Rattle.ssa_names.proofs.Differing.{names-differ}
-use Rattle.ssa_operands.specs.Operands.{base_of}
 use Rattle.ssa_sweep.specs.declared.now.WantedGet.{WantedGet}
 use Rattle.ssa_tree.specs.Made.{IsLaidFunction}
 use Rattle.ssa_tree.proofs.Parts.{written-long}
 use Rattle.ssa_form.specs.Form.{Assigns, assigned_name}
 use Rattle.ssa_form.proofs.Fronts.{Apart, FrontAt, GotAt, IsStaying, PutAt, apart-first, apart-rest, front-at, gets-part, is-got, is-staying, staying, staying-apart, total}
-use Rattle.ssa_form.proofs.Points.{Front, Home, Point, begin, front, home, layout, now, own, point, tree_in}
+use Rattle.ssa_form.proofs.Points.{Front, Home, Point, begin, home, now, own, point, tree_in}
 
 -- ---- what a laid item assigns
 

@@ -1,28 +1,24 @@
 -- How long laid code is: at most two items more for each live entry of its function.
-use Rattle.std.proofs.Common.{◌≡◌, ◌≢◌, ◌⊎◌, ℕ, zero, suc, ◌+◌, ◌-◌, ◌*◌, ◌<◌, ◌≤◌, ◌/◌, Bool, true, false, cond, List, [], ◌∷◌, ◌++◌, length, map, get_or, Option, Some, None, refl, sym, ap, subst, ◌∙◌, inl, inr, ⊎_elim, arith, add-one}
+use Rattle.std.proofs.Common.{◌≡◌, ◌≢◌, ◌⊎◌, ℕ, zero, suc, ◌+◌, ◌-◌, ◌*◌, ◌≤◌, ◌/◌, Bool, true, false, List, [], ◌∷◌, ◌++◌, length, map, Option, Some, None, refl, sym, ap, subst, ◌∙◌, inl, inr, ⊎_elim, arith}
 use Rattle.std.specs.Prelude.{slice_get, slice_index, slice_index_or}
-use Rattle.std.specs.List.{AllPairs, AllZip, Contains, flat_map, range_with_len, sum_by}
+use Rattle.std.specs.List.{AllPairs, flat_map, range_with_len, sum_by}
 use Rattle.std.proofs.lemmas.Bool.{cases_lt}
 use Rattle.std.proofs.lemmas.List.{length-append, length-map}
 use Rattle.std.proofs.lemmas.List.Concat.{length-flat_map}
 use Rattle.std.proofs.lemmas.List.Kept.{AllPairs-cons}
 use Rattle.std.proofs.lemmas.List.Sums.{sum_by-cons}
-use Rattle.std.proofs.lemmas.Option.{same_Some, slice_get_past, slice_get_within}
-use Rattle.bril_tree.specs.declared.edge.Edge.{Edge}
+use Rattle.std.proofs.lemmas.Option.{same_Some}
 use Rattle.bril_tree.specs.declared.function_tree.FuncTree.{FuncTree}
 use Rattle.bril_tree.specs.declared.function_tree.Item.{Item}
-use Rattle.bril_tree.specs.declared.numbered.Instr.{Instr}
 use Rattle.bril_tree.specs.declared.numbered.Instr.TheVariants.{Label}
 use Rattle.bril_tree.specs.declared.numbered.VarInfo.{VarInfo}
 use Rattle.bril_tree.specs.declared.numbered_function.Func.{Func}
 use Rattle.bril_tree.specs.declared.program.Prog.{Prog}
 use Rattle.bril_tree.specs.declared.types.Ty.{Ty}
 use Rattle.bril_tree.specs.Accepted.{IsAcceptedFunction}
-use Rattle.bril_tree.specs.Leaving.{IsEdge}
 use Rattle.bril_tree.specs.Membership.{In}
 use Rattle.bril_tree.specs.Numbered.{function_tree}
 use Rattle.bril_tree.specs.Operand.{Location}
-use Rattle.bril_tree.specs.Step.{point_of}
 use Rattle.bril_tree.specs.Typing.{variable_type}
 use Rattle.bril_tree.proofs.Counting.{differ-first, differ-rest, no_more, no_more_items}
 use Rattle.bril_tree.proofs.LabelPoints.{label-at_point}
@@ -30,14 +26,14 @@ use Rattle.bril_tree.proofs.Members.{in_append_cases, in_contains, in_flat_map_s
 use Rattle.flow_graph.specs.Location.{number_of}
 use Rattle.live_entries.specs.LiveEntries.{IsLiveEntry, IsLiveEntryCount}
 use Rattle.pass_numbers.proofs.Different.{differ-both, differ-map, range-differ}
-use Rattle.pass_plan.proofs.Elements.{all_in, in_all}
+use Rattle.pass_plan.proofs.Elements.{in_all}
 use Rattle.program_numbers.specs.Entries.{Enters}
 use Rattle.ssa_accesses.specs.Entries.{EntersAt}
 use Rattle.ssa_code.specs.Items.{get_item, get_items, name_in, set_item, typed_get}
 use Rattle.ssa_code.specs.Sweep.{falls_at, laid_items, sets_falling, sets_to}
 use Rattle.ssa_gets.specs.Wants.{gets_of}
 use Rattle.ssa_operands.specs.Operands.{HasTwoSources, base_of}
-use Rattle.ssa_sources.specs.Sweeping.{IsSetAt, leave_at, told_at}
+use Rattle.ssa_sources.specs.Sweeping.{leave_at, told_at}
 use Rattle.ssa_sources.proofs.Leaving.{source-set}
 use Rattle.ssa_sweep.specs.declared.now.WantedGet.{WantedGet}
 use Rattle.ssa_tables.specs.Laws.{IsTabled}

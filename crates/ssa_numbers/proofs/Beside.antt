@@ -1,7 +1,6 @@
 -- Walks of laid code go beside walks of its function: by what stands before an item, and then past the item.
-use Rattle.std.proofs.Common.{◌≡◌, ℕ, zero, suc, ◌+◌, ◌<◌, ◌≤◌, Bool, true, false, cond, List, [], ◌∷◌, ◌++◌, length, map, Option, Some, None, refl, sym, ap, subst, ◌∙◌, inl, inr, ⊎_elim, arith, add-one}
+use Rattle.std.proofs.Common.{◌≡◌, ℕ, zero, suc, ◌+◌, ◌<◌, ◌≤◌, true, false, List, [], ◌∷◌, ◌++◌, length, map, Option, Some, None, refl, sym, ap, subst, ◌∙◌, inl, ⊎_elim, arith, add-one}
 use Rattle.std.specs.Prelude.{slice_get}
-use Rattle.std.specs.List.{range_with_len}
 use Rattle.std.specs.Option.{option_map}
 use Rattle.std.proofs.lemmas.Bool.{cases_lt}
 use Rattle.std.proofs.lemmas.List.{length-append, length-map}
@@ -16,11 +15,11 @@ use Rattle.bril_tree.specs.declared.numbered_function.Func.{Func}
 use Rattle.bril_tree.specs.Edge.{Branch, abort, branches_at, branches_from, item_branches, jump, onward}
 use Rattle.bril_tree.specs.FunctionForm.{label_at}
 use Rattle.bril_tree.specs.Membership.{In}
-use Rattle.bril_tree.specs.Numbered.{function_tree, item_tree, named, variable_names}
-use Rattle.bril_tree.specs.Sites.{AreSitesSound, Change, Closes, Keeps, Opens, item_change, sites_changed, sites_of, without_newest}
+use Rattle.bril_tree.specs.Numbered.{function_tree, named, variable_names}
+use Rattle.bril_tree.specs.Sites.{AreSitesSound, Change, Closes, Keeps, Opens, item_change, sites_changed, sites_of}
 use Rattle.bril_tree.specs.Step.{point_of}
 use Rattle.bril_tree.specs.Walk.{IsReached, IsWalk, end_of}
-use Rattle.bril_tree.proofs.Branches.{branch_from, walk_within}
+use Rattle.bril_tree.proofs.Branches.{walk_within}
 use Rattle.bril_tree.proofs.Elements.{get_in, get_inside}
 use Rattle.bril_tree.proofs.LabelPoints.{label-at_point, range_high}
 use Rattle.bril_tree.proofs.Members.{contains_in, in_contains, in_flat_map}
@@ -37,7 +36,7 @@ use Rattle.ssa_form.proofs.Edges.{reached-told}
 use Rattle.ssa_form.proofs.Following.{own-label}
 use Rattle.ssa_form.proofs.Fronts.{AtLabel, Falls, InFront, Leaves, in-front}
 use Rattle.ssa_form.proofs.Points.{begin, code-made, front, front-item, home, home-item, long, now, own, piece, tree_in}
-use Rattle.ssa_numbers.proofs.Leading.{Abort, AreAlike, Jump, Kind, Next, abort-stands, abort-there, aborts, copies-tree, jump-stands, jump-there, jumps, kind, leaves-item, moved-alike, next-there, tree_copies}
+use Rattle.ssa_numbers.proofs.Leading.{Abort, AreAlike, Jump, Kind, Next, abort-stands, abort-there, aborts, copies-tree, jump-stands, jump-there, jumps, jumps-stay, kind, leaves-item, moved-alike, next-there, tree_copies}
 
 -- ---- labels of a function
 
@@ -152,14 +151,20 @@ module _ (fs fs' : List (List ℕ)) (F G : Func) (g : FuncTree) (x : IsLaidFunct
 
   -- ---- a branch of the result from an item's home is one of the item
 
+  -- how it goes: on to what stands before the next item, by a jump, or by an abort
+  pub data Way (a : Instr) (branch : Branch) (index : ℕ) : Type 0 where
+    Goes : index ≡ 0 → Way a branch index
+    Leaps : branch.aborts ≡ false → goes_on (Some a) ≡ false → Way a branch index
+    Aborts : branch.aborts ≡ true → Way a branch index
+
   pub record Step (i : ℕ) (a : Instr) (b : Branch) : Type 0 where
     pub branch : Branch
     pub among : In branch (item_branches F.code i a)
-    pub kind : Kind F.code i a branch
     pub from : branch.from ≡ i
     pub result_from : b.from ≡ H i
     pub aborts : branch.aborts ≡ b.aborts
     pub index : ℕ
+    pub way : Way a branch index
     pub few : index ≤ N branch.to
     pub lands : b.to ≡ B branch.to + index
 
@@ -167,24 +172,42 @@ module _ (fs fs' : List (List ℕ)) (F G : Func) (g : FuncTree) (x : IsLaidFunct
   step-back i a q b at bt alike (Next goes e) =
       let on = alike.goes ∙ goes in
       record {
-        branch = onward i; among = next-there F.code i a on; kind = Next on refl; from = refl; result_from = ap (λ (w : Branch). w.from) e; aborts = sym (ap (λ (w : Branch). w.aborts) e);
-        index = 0; few = omega arith;
+        branch = onward i;
+        among = next-there F.code i a on;
+        way = Goes refl;
+        from = refl;
+        result_from = ap (λ (w : Branch). w.from) e;
+        aborts = sym (ap (λ (w : Branch). w.aborts) e);
+        index = 0;
+        few = omega arith;
         lands = let h : b.to ≡ suc (H i) = ap (λ (w : Branch). w.to) e in omega (arith, h);
       }
   step-back i a q b at bt alike (Jump m among e) =
       let l = same_named (named F.labels) (named G.labels) (jumps a) (jumps q) alike.jump m among in
       let home-is = one-home (point_of l.0 F.code) l.0 (point_of m G.code) m (jump-stands F i a at l.0 l.1) (jump-stands G (H i) q bt m among) l.2 in
       record {
-        branch = jump F.code i l.0; among = jump-there F.code i a l.0 l.1; kind = Jump l.0 l.1 refl; from = refl; result_from = ap (λ (w : Branch). w.from) e; aborts = sym (ap (λ (w : Branch). w.aborts) e);
-        index = N (point_of l.0 F.code); few = omega arith;
+        branch = jump F.code i l.0;
+        among = jump-there F.code i a l.0 l.1;
+        way = Leaps refl (jumps-stay a l.0 l.1);
+        from = refl;
+        result_from = ap (λ (w : Branch). w.from) e;
+        aborts = sym (ap (λ (w : Branch). w.aborts) e);
+        index = N (point_of l.0 F.code);
+        few = omega arith;
         lands = ap (λ (w : Branch). w.to) e ∙ home-is;
       }
   step-back i a q b at bt alike (Abort m among e) =
       let l = same_named (named F.labels) (named G.labels) (aborts a) (aborts q) alike.abort m among in
       let home-is = one-home (point_of l.0 F.code) l.0 (point_of m G.code) m (abort-stands F i a at l.0 l.1) (abort-stands G (H i) q bt m among) l.2 in
       record {
-        branch = abort F.code i l.0; among = abort-there F.code i a l.0 l.1; kind = Abort l.0 l.1 refl; from = refl; result_from = ap (λ (w : Branch). w.from) e; aborts = sym (ap (λ (w : Branch). w.aborts) e);
-        index = N (point_of l.0 F.code); few = omega arith;
+        branch = abort F.code i l.0;
+        among = abort-there F.code i a l.0 l.1;
+        way = Aborts refl;
+        from = refl;
+        result_from = ap (λ (w : Branch). w.from) e;
+        aborts = sym (ap (λ (w : Branch). w.aborts) e);
+        index = N (point_of l.0 F.code);
+        few = omega arith;
         lands = ap (λ (w : Branch). w.to) e ∙ home-is;
       }
 
@@ -227,7 +250,11 @@ module _ (fs fs' : List (List ℕ)) (F G : Func) (g : FuncTree) (x : IsLaidFunct
       by (Some a) e =
           let q = at-home (end_of s.walk) a e (reached-by s.walk s.is) in
           record {
-            item = a; at = e; result = q.0; result_at = q.1; alike = q.2;
+            item = a;
+            at = e;
+            result = q.0;
+            result_at = q.1;
+            alike = q.2;
             step = step-back (end_of s.walk) a q.0 b e q.1 q.2 (kind G.code (H (end_of s.walk)) q.0 b (subst (λ o. In b (branches_from G.code (H (end_of s.walk)) o)) q.1 there));
           }
 
@@ -249,7 +276,11 @@ module _ (fs fs' : List (List ℕ)) (F G : Func) (g : FuncTree) (x : IsLaidFunct
           let to : b.to ≡ suc (end_of v) = ap (λ (w : Branch). w.to) q.3 in
           let e = s.ends in
           record {
-            walk = s.walk; is = s.is; index = suc s.index; few = omega arith; ends = omega (arith, to);
+            walk = s.walk;
+            is = s.is;
+            index = suc s.index;
+            few = omega arith;
+            ends = omega (arith, to);
             sites = ap (λ (w : Branch). sites_changed (item_change (slice_get G.code w.from) w.aborts) w.from (sites_of G.code v)) q.3
                 ∙ ap (λ o. sites_changed (item_change o false) (end_of v) (sites_of G.code v)) q.1 ∙ ap (λ c. sites_changed c (end_of v) (sites_of G.code v)) (copy-keeps q.0 q.2) ∙ s.sites;
           }

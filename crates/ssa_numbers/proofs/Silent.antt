@@ -1,6 +1,6 @@
 -- What no walk leads to is a label or a `nop`.
-use Rattle.std.proofs.Common.{◌≡◌, ◌⊎◌, ℕ, zero, suc, ◌+◌, ◌<◌, ◌≤◌, Bool, true, false, cond, List, [], ◌∷◌, length, map, Option, Some, None, refl, sym, ap, subst, ◌∙◌, inl, inr, ⊎_elim, arith}
-use Rattle.std.specs.Prelude.{slice_get, slice_index_or}
+use Rattle.std.proofs.Common.{◌≡◌, ◌⊎◌, ℕ, zero, suc, ◌+◌, Bool, true, false, cond, List, [], ◌∷◌, map, Option, Some, None, refl, sym, ap, subst, ◌∙◌, inl, inr, arith}
+use Rattle.std.specs.Prelude.{slice_get}
 use Rattle.std.proofs.lemmas.Option.{slice_get_within}
 use Rattle.bril_tree.specs.declared.edge.Edge.{Edge}
 use Rattle.bril_tree.specs.declared.function_tree.FuncTree.{FuncTree}
@@ -27,7 +27,7 @@ use Rattle.ssa_tree.specs.Made.{IsLaidFunction}
 use Rattle.ssa_form.specs.Form.{IsSilent}
 use Rattle.ssa_form.proofs.Edges.{row-departs, row-edge, told-reached}
 use Rattle.ssa_form.proofs.Fronts.{AtLabel, Falls, InFront, Leaves, in-front, is-staying}
-use Rattle.ssa_form.proofs.Points.{Front, Home, Point, begin, front, home, now, own, point, tree_in}
+use Rattle.ssa_form.proofs.Points.{Front, Home, Point, begin, front, home, now, point, tree_in}
 use Rattle.ssa_numbers.proofs.Beside.{home-walk, next-begun, result-item, through}
 use Rattle.ssa_numbers.proofs.Leading.{Abort, Jump, Kind, Next, abort-stands, jump-stands, kind, leaves-item}
 use Rattle.ssa_numbers.proofs.Sites.{opened-by}

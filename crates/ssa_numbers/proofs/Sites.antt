@@ -1,8 +1,8 @@
 -- Open sites of walks: each was opened where a walk led to it, with the older ones open.
-use Rattle.std.proofs.Common.{◌≡◌, ℕ, List, [], ◌∷◌, ◌++◌, length, refl, sym, ap, subst, ◌∙◌, inl, arith}
+use Rattle.std.proofs.Common.{◌≡◌, ℕ, List, [], ◌∷◌, ◌++◌, refl, sym, ap, subst, ◌∙◌}
 use Rattle.bril_tree.specs.declared.numbered.Instr.{Instr}
 use Rattle.bril_tree.specs.Edge.{Branch, branches_at}
-use Rattle.bril_tree.specs.Sites.{AreFirstSites, AreSitesSound, Change, Closes, Keeps, Opens, change_of, sites_changed, sites_of, without_newest}
+use Rattle.bril_tree.specs.Sites.{AreFirstSites, AreSitesSound, Change, Closes, Keeps, Opens, change_of, sites_changed, sites_of}
 use Rattle.bril_tree.specs.Walk.{IsWalk, end_of}
 use Rattle.bril_tree.proofs.Branches.{branch_from}
 use Rattle.bril_tree.proofs.Members.{in_contains}
