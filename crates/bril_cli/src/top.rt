@@ -2,8 +2,9 @@
 
 ghost use Rattle.std.specs.Prelude.{◌≡◌, ◌≤◌, false};
 ghost use Rattle.std.specs.List.{All};
-ghost use Rattle.bril_cli.specs.Shipped.{MakesAsShipped};
+ghost use Rattle.bril_cli.specs.Shipped.{AreShipped, MakesAsShipped};
 ghost use Rattle.bril_commands.specs.Answers.{Promises};
+ghost use Rattle.bril_commands.specs.Budgets.{IsPastBudget};
 ghost use Rattle.bril_commands.specs.Call.{call_of};
 ghost use Rattle.bril_words.specs.Answers.{PlainAsk, RefusedAlone};
 ghost use Rattle.pass_law.specs.Chains.{AllSame};
@@ -112,6 +113,7 @@ pub fn bril_top<F: Files, O: Sink, E: Sink>(
     ensures faults { (F.seen files.old).faults ≤ (F.seen files.new).faults }
     ensures same { AllSame (λ p. meaning p) passes.old passes.new }
     ensures promises { Promises result (call_of words.now (F.seen files.old) (F.seen files.new) (O.seen out.old) (O.seen out.new) (E.seen err.old) (E.seen err.new) (λ p. meaning p) (λ p. counts p) passes.old passes.new) }
+    ensures budget { AreShipped (λ p. meaning p) passes.old → result ≡ 3 → IsPastBudget (call_of words.now (F.seen files.old) (F.seen files.new) (O.seen out.old) (O.seen out.new) (E.seen err.old) (E.seen err.new) (λ p. meaning p) (λ p. counts p) passes.old passes.new) }
     ensures plain { PlainAsk words.now }
     ensures refused { RefusedAlone words.now }
 {
