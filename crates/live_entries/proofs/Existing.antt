@@ -109,7 +109,7 @@ module _ (code : List Instr) (sound : AreSitesSound code) where
   abbrev labels-from : Option ℕ → List ℕ
   labels-from leave = map (λ (pair : Pair). pair.label) (select (λ (pair : Pair). pair.leave ≡ leave) (decide-leave leave) all-pairs)
 
-  width-of : (leave : Option ℕ) → (n : ℕ) × AreSoMany (Enters code leave) n
+  pub width-of : (leave : Option ℕ) → (n : ℕ) × AreSoMany (Enters code leave) n
   width-of leave = so-many cases_eq (Enters code leave) (labels-from leave)
       (λ l i.
       let m = in_map_source (λ (pair : Pair). pair.label) l (select (λ (pair : Pair). pair.leave ≡ leave) (decide-leave leave) all-pairs) i in

@@ -26,10 +26,10 @@ use Rattle.pass_names.specs.NamedPlan.{SameHeads}
 use Rattle.pass_names.proofs.Heads.{argument-stays}
 use Rattle.pass_names.proofs.Points.{Found, found, found_under, Differ-in}
 use Rattle.ssa_copies.specs.Inserted.{destination, renamed, renamed_at, renamed_dest}
-use Rattle.ssa_tables.specs.Tables.{Tables, Defines, Writes, Gets}
+use Rattle.ssa_tables.specs.Tables.{Tables, Defines, Writes, Gets, behind}
 use Rattle.ssa_layout.specs.Laid.{Setting, args_in, get_tree, home, first, Begins, name_of, Laid}
 use Rattle.ssa_copies.proofs.Refines.{renamed-found}
-use Rattle.ssa_tables.proofs.Dominance.{PassedBy, comes-from, part-walk}
+use Rattle.ssa_tables.proofs.Dominance.{PassedBy, behind-cases, comes-from, part-walk}
 
 module _ (P Q : Prog) (heads : SameHeads P Q) (f : ℕ) where
   abbrev W : List (List ℕ)
@@ -134,19 +134,33 @@ module _ (P Q : Prog) (table : ℕ → Tables) (name : ℕ → ℕ → List ℕ)
       let tree = t.got f (suc i) k.0 y next k.1 in
       got-assigns P Q t.heads f (first P Q table name gets sets f (suc i) + k.0) (name f y) tree.0 tree.1
 
-  pub given-told : (i : ℕ) → IsReached code i → (a : Location) (y : ℕ) → (table f).into i a ≡ Some y → (v : ℕ) → (v < length (names_in (slice_get Q.funcs f))) × (named (names_in (slice_get Q.funcs f)) v ≡ name f y) → (v < G.args) ⊎ IsDestination G.code v
-  given-told i r a y h v has = ⊎_elim argument passed (comes-from code sound (table f) Args (t.consistent f) (length r.walk) r.walk (omega arith) r.is a y (ap (λ k. (table f).into k a) r.ends ∙ h))
-    where
-      argument : Args y → (v < G.args) ⊎ IsDestination G.code v
-      argument (Variable x, b) =
-          let same : SameName (variable_names F.vars) (variable_names G.vars) x v = subst (λ o. SameName (variable_names F.vars) (names_in o) x v) q (subst (λ o. SameName (names_in o) (names_in (slice_get Q.funcs f)) x v) p (b.0, has.0, b.1 ∙ sym has.1)) in
-          let less : x < F.args = subst (λ o. x < args_in o) p b.2 in
-          inl (argument-stays P Q t.heads f F G p q x v same less)
-      argument (Shadow x, b) = absurd b
+  abbrev IsNameOf : ℕ → ℕ → Type 0
+  IsNameOf y v = (v < length (names_in (slice_get Q.funcs f))) × (named (names_in (slice_get Q.funcs f)) v ≡ name f y)
 
-      passed : PassedBy code sound (table f) Args (t.consistent f) r.walk y → (v < G.args) ⊎ IsDestination G.code v
+  abbrev IsHad : ℕ → Type 0
+  IsHad v = (v < G.args) ⊎ IsDestination G.code v
+
+  pub given-argument : (y : ℕ) → Args y → (v : ℕ) → IsNameOf y v → IsHad v
+  given-argument y (Variable x, b) v has =
+      let same : SameName (variable_names F.vars) (variable_names G.vars) x v = subst (λ o. SameName (variable_names F.vars) (names_in o) x v) q (subst (λ o. SameName (names_in o) (names_in (slice_get Q.funcs f)) x v) p (b.0, has.0, b.1 ∙ sym has.1)) in
+      let less : x < F.args = subst (λ o. x < args_in o) p b.2 in
+      inl (argument-stays P Q t.heads f F G p q x v same less)
+  given-argument y (Shadow x, b) v has = absurd b
+
+  given-defined : (i y : ℕ) → IsReached code i → Defines code (table f) i y → (v : ℕ) → IsNameOf y v → IsHad v
+  given-defined i y r d v has =
+      let n = defined i y r d in
+      let one : n.variable ≡ v = one_number (names_in (slice_get Q.funcs f)) (Differ-in (slice_get Q.funcs f)) n.variable v n.within has.0 (n.is ∙ sym has.1) in
+      inr (record { point = n.point; item = n.item; at = sym (ap (λ o. slice_get (items_of o) n.point) q) ∙ n.at; dest = n.dest ∙ ap Some one })
+
+  pub given-told : (i : ℕ) → IsReached code i → (a : Location) (y : ℕ) → (table f).into i a ≡ Some y → (v : ℕ) → (v < length (names_in (slice_get Q.funcs f))) × (named (names_in (slice_get Q.funcs f)) v ≡ name f y) → (v < G.args) ⊎ IsDestination G.code v
+  given-told i r a y h v has = ⊎_elim (λ k. given-argument y k v has) passed (comes-from code sound (table f) Args (t.consistent f) (length r.walk) r.walk (omega arith) r.is a y (ap (λ k. (table f).into k a) r.ends ∙ h))
+    where
+      passed : PassedBy code sound (table f) Args (t.consistent f) r.walk y → IsHad v
       passed d =
           let is' = part-walk code (d.branch ∷ d.rest) r.walk d.part r.is in
-          let n = defined (end_of d.rest) y (record { walk = d.rest; is = is'.1; ends = refl }) d.defines in
-          let one : n.variable ≡ v = one_number (names_in (slice_get Q.funcs f)) (Differ-in (slice_get Q.funcs f)) n.variable v n.within has.0 (n.is ∙ sym has.1) in
-          inr (record { point = n.point; item = n.item; at = sym (ap (λ o. slice_get (items_of o) n.point) q) ∙ n.at; dest = n.dest ∙ ap Some one })
+          given-defined (end_of d.rest) y (record { walk = d.rest; is = is'.1; ends = refl }) d.defines v has
+
+  -- the same of what is told behind an item and its `get`s
+  pub given-behind : (i : ℕ) → IsReached code i → (a : Location) (y : ℕ) → behind code (table f) i a ≡ Some y → (v : ℕ) → (v < length (names_in (slice_get Q.funcs f))) × (named (names_in (slice_get Q.funcs f)) v ≡ name f y) → (v < G.args) ⊎ IsDestination G.code v
+  given-behind i r a y h v has = ⊎_elim (λ d. given-defined i y r d v has) (λ b. given-told i r b.0 y b.1 v has) (behind-cases code sound (table f) Args (t.consistent f) i y a h)

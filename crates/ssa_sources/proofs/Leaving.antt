@@ -58,7 +58,7 @@ module _ (code : List Instr) (args : ℕ) (gets : ℕ → Location → Option �
   n = table_of code args gets
 
   -- behind a site the tables tell what they tell before it
-  site-behind : (walk : List Branch) → IsWalk code walk → (s : ℕ) → In s (sites_of code walk) → (a : Location) → behind code n s a ≡ n.into s a
+  pub site-behind : (walk : List Branch) → IsWalk code walk → (s : ℕ) → In s (sites_of code walk) → (a : Location) → behind code n s a ≡ n.into s a
   site-behind walk is s inside a =
       ap (λ x. else_passed x (passed n (slice_get code s) s a)) (none (gets s a) refl)
       ∙ ap (λ d. cond d (n.into s (source (slice_get code s) a)) (cond (is_dest (destination (slice_get code s)) a) (Some (n.writes s)) (n.into s a))) plain

@@ -1,7 +1,7 @@
 -- Laid code is a list with others put in before its items, so each item stands at its position.
 use Rattle.std.proofs.Common.{◌≡◌, ℕ, zero, suc, ◌+◌, List, [], ◌∷◌, ◌++◌, length, Option, Some, refl, sym, ap, ◌∙◌, arith, add-one, append_assoc}
 use Rattle.std.specs.Prelude.{slice_get}
-use Rattle.std.proofs.lemmas.Option.{slice_get_within}
+use Rattle.std.proofs.lemmas.Option.{slice_get_past, slice_get_within}
 use Rattle.bril_tree.specs.declared.function_tree.Item.{Item}
 use Rattle.bril_tree.specs.declared.numbered_function.Func.{Func}
 use Rattle.pass_plan.specs.Spliced.{ItemsSpliced, position_of, spliced, start_of}
@@ -60,6 +60,7 @@ module _ (F : Func) (sites : List (Option (List ℕ))) (l : LayoutView) (nows : 
         ∙ ap (λ n. Some (f n x)) (start i);
     in_front = λ i n low less.
         ap (λ (m : List Item). slice_get m (start_of b nothing i + n)) whole ∙ law.in_front b nothing (mapped f 0 items) i n (let m = mapped-long f 0 items in omega (arith, low, m)) less;
+    end = ap (λ (m : List Item). slice_get m (position_of b nothing (length items))) whole ∙ law.there b nothing (mapped f 0 items) (length items) (let m = mapped-long f 0 items in omega (arith, m)) ∙ slice_get_past (mapped f 0 items) (length items) (let m = mapped-long f 0 items in omega (arith, m));
   }
 
   laid-whole : (items made : List Item) → length items ≡ length F.code → made ≡ laid_items (piece_at F sites l nows) 0 items ++ b (length F.code) → made ≡ spliced b nothing 0 (mapped f 0 items)

@@ -1,5 +1,5 @@
 -- Where items stand in code that is laid out: each behind what was put in before it.
-use Rattle.std.specs.Prelude.{◌≡◌, ℕ, ◌+◌, ◌<◌, ◌≤◌, List, [], length, Option, Some, slice_get}
+use Rattle.std.specs.Prelude.{◌≡◌, ℕ, ◌+◌, ◌<◌, ◌≤◌, List, [], length, Option, Some, None, slice_get}
 use Rattle.bril_tree.specs.declared.function_tree.Item.{Item}
 use Rattle.bril_tree.specs.declared.numbered_function.Func.{Func}
 use Rattle.bril_tree.specs.Operand.{Location}
@@ -18,6 +18,8 @@ nothing i = []
 pub record ItemsStand (F : Func) (sites : List (Option (List ℕ))) (l : LayoutView) (nows : List (List ℕ)) (items made : List Item) : Type 0 where
   pub there : (i : ℕ) (x : Item) → slice_get items i ≡ Some x → slice_get made (position_of (before_in F sites l nows) nothing i) ≡ Some (item_at F sites l (now_at nows i) i x)
   pub in_front : (i n : ℕ) → i ≤ length items → n < length (before_in F sites l nows i) → slice_get made (start_of (before_in F sites l nows) nothing i + n) ≡ slice_get (before_in F sites l nows i) n
+  -- nothing stands behind what was put in at the end
+  pub end : slice_get made (position_of (before_in F sites l nows) nothing (length items)) ≡ None
 
 -- So it is in all code that is laid out.
 abbrev pub LaidItemsStand : Type 0

@@ -1,0 +1,14 @@
+pub mod Functions
+pub mod Kept
+pub mod Leaving
+pub mod Told
+pub mod Names
+pub mod Typed
+pub mod Placing
+pub mod Counting
+pub mod Parts
+pub mod Items
+pub mod Tables
+pub mod Covering
+pub mod Laid
+pub mod Accepted
