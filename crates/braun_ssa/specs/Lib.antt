@@ -1,4 +1,1 @@
-pub mod Numbers
-pub mod Form
-pub mod Ssa
-pub mod Laws
+pub mod Bound

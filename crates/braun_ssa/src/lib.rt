@@ -1,11 +1,11 @@
-//! What the pass `ssa` means, which brings a program into SSA form.
+//! The pass `ssa`, which brings a program into SSA form.
 //!
-//! 1. SSA form, as the pass makes it of a program (`specs/Form.antt`).
-//! 2. Its factor and its bound on items, by live entries, and how the numbers of a program grow (`specs/Numbers.antt`). There is one
-//!    of each (`proofs/Numbers.antt`).
-//! 3. What the pass means (`specs/Ssa.antt`).
+//! What it makes and means stands in `ssa_form` (`IsSsa`, `ssa_meaning`). Here is what it takes to be a pass: its bound on items, by the
+//! live entries of all functions (`src/bound.rt`), and the edit, which is the tree of `ssa_tree` (`src/ssa.rt`). That the tree is all that
+//! the pass is to make comes from the laws of `ssa_laid`, `ssa_form` and `ssa_numbers` (`proofs/Made.antt`).
 #![tactic(auto)]
 
-mod laws;
+mod bound;
+mod ssa;
 
-pub use laws::{ssa_has_numbers, ssa_keeps_numbers};
+pub use ssa::{Ssa, SsaEdit};

@@ -1,8 +1,8 @@
 -- What the pass means.
 use Rattle.std.specs.Prelude.{codes}
 use Rattle.pass_law.specs.Meaning.{Meaning, is_name}
-use Rattle.braun_ssa.specs.Form.{IsSsa}
-use Rattle.braun_ssa.specs.Numbers.{IsSsaBound, IsSsaFactor}
+use Rattle.ssa_form.specs.Form.{IsSsa}
+use Rattle.ssa_form.specs.Numbers.{IsSsaBound, IsSsaFactor}
 
 -- It is named `ssa`. One step becomes one and the copies before it, and a program longer by the copies that are put in.
 abbrev pub ssa_meaning : Meaning

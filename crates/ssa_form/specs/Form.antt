@@ -1,6 +1,6 @@
 -- A program in SSA form (Braun and others, "Simple and Efficient Construction of Static Single Assignment Form", 2013, section 2),
 -- as the pass makes it of another.
-use Rattle.std.specs.Prelude.{◌≡◌, ◌≢◌, ℕ, ◌⊎◌, All, List, [], Option, Some, None, slice_get}
+use Rattle.std.specs.Prelude.{◌≡◌, ◌≢◌, ℕ, ◌⊎◌, All, List, Option, Some, None, slice_get}
 use Rattle.std.specs.List.{AllZip, Contains}
 use Rattle.bril_names.specs.Faults.{SameHead, argument_names, labels_of}
 use Rattle.bril_tree.specs.declared.function_tree.FuncTree.{FuncTree}
@@ -13,10 +13,10 @@ use Rattle.bril_tree.specs.declared.program.Prog.{Prog}
 use Rattle.bril_tree.specs.Numbered.{tree_of}
 use Rattle.bril_tree.specs.Step.{code_of, item_at}
 use Rattle.bril_tree.specs.Walk.{IsReached}
-use Rattle.braun_ssa.specs.Numbers.{IsSsaBound, ssa_growth}
 use Rattle.pass_numbers.specs.Numbers.{NumbersGrow}
 use Rattle.ssa_layout.specs.Form.{FollowsLabel, IsGetAt, dest_name}
 use Rattle.ssa_layout.specs.Laid.{set_tree}
+use Rattle.ssa_form.specs.Numbers.{IsSsaBound, ssa_growth}
 
 -- ---- a function
 

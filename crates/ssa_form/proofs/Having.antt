@@ -1,6 +1,5 @@
 -- The numbers of the pass: there is one of each.
 use Rattle.std.proofs.Common.{◌≡◌, ℕ, ◌+◌, ◌*◌, refl, sym, ap, ◌∙◌}
-use Rattle.bril_profile.specs.declared.profile.Profile.{Profile}
 use Rattle.bril_tree.specs.declared.program.Prog.{Prog}
 use Rattle.bril_tree.specs.Accepted.{IsAccepted}
 use Rattle.bril_tree.specs.Size.{item_count}
@@ -9,9 +8,9 @@ use Rattle.pass_law.specs.Meaning.{HasNumbers}
 use Rattle.program_numbers.specs.Entries.{IsEntryWidth}
 use Rattle.program_numbers.specs.ProgramNumbers.{most_locations}
 use Rattle.program_numbers.proofs.Measures.{IsGreatest-one}
-use Rattle.braun_ssa.specs.Laws.{SsaKeepsNumbers}
-use Rattle.braun_ssa.specs.Numbers.{IsSsaBound, IsSsaFactor}
-use Rattle.braun_ssa.specs.Ssa.{ssa_meaning}
+use Rattle.ssa_form.specs.Laws.{SsaKeepsNumbers}
+use Rattle.ssa_form.specs.Numbers.{IsSsaBound, IsSsaFactor}
+use Rattle.ssa_form.specs.Ssa.{ssa_meaning}
 
 one-factor : (P : Prog) (j k : ℕ) → IsSsaFactor P j → IsSsaFactor P k → j ≡ k
 one-factor P j k a b = a.is ∙ ap (λ w. 1 + 2 * most_locations P * (w + 1)) (IsGreatest-one (λ f n. IsEntryWidth f.code n) P a.width b.width a.is_width b.is_width) ∙ sym b.is

@@ -1,0 +1,5 @@
+use Rattle.ssa_form.proofs.Having.{has-numbers}
+use Rattle.braun_ssa.proofs.ssa.SsaEditEdit.bound.Goals as goal
+
+pub returns-clause-numbers : goal.returns-clause-numbers
+returns-clause-numbers c = has-numbers
