@@ -1,0 +1,16 @@
+-- What the pass keeps of a program.
+use Rattle.bril_profile.specs.declared.profile.Profile.{Profile}
+use Rattle.bril_tree.specs.declared.program.Prog.{Prog}
+use Rattle.bril_tree.specs.declared.tree.Tree.{Tree}
+use Rattle.bril_tree.specs.Accepted.{IsAccepted}
+use Rattle.bril_tree.specs.Size.{IsCounted, item_count}
+use Rattle.pass_make.specs.Edited.{HasRoom, IsLinkedTo}
+use Rattle.pass_make.specs.declared.made.Made.TheVariants as making
+use Rattle.trace_lines.specs.Bound.{IsTraceBound}
+use Rattle.trace_lines.specs.Traced.{IsTracedTree}
+use Rattle.trace_laws.specs.Trace.{trace_meaning}
+
+-- A tree with traces is one of which the pass makes its program: it can be numbered, and the program is accepted, refines the given
+-- one with the pass's factor, and is within its bound.
+abbrev pub TracesLink : Type 0
+TracesLink = (P : Prog) (profile : Profile) (tree : Tree) → IsAccepted P → IsCounted P → HasRoom (IsTraceBound P profile) (item_count P) → IsTracedTree P profile tree → IsLinkedTo trace_meaning profile P (making.Tree tree)
