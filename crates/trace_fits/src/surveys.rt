@@ -1,6 +1,13 @@
 // What is known of the functions with entries.
 
+ghost use Rattle.std.specs.Prelude.{◌≡◌, ◌<◌, ◌≤◌, ◌-◌, ◌^◌, IfOk, None, OnOk, Some, is_some, length, slice_get};
+ghost use Rattle.std.specs.List.{All};
+ghost use Rattle.bril_tree.specs.Accepted.{IsAccepted};
+ghost use Rattle.bril_tree.specs.Size.{IsCounted};
+ghost use Rattle.bril_tree.specs.Shape.{shape_fault_of};
+ghost use Rattle.bril_tree.specs.Sites.{AreSitesSound};
 
+use bril_tree::numbered_function::Func;
 use bril_tree::program::Prog;
 use flow_graph::Graph;
 use std::alloc::{AllocError, Global};
@@ -13,10 +20,17 @@ pub(crate) struct Survey {
     pub points: Vec<u32>,
 }
 
-// The survey of a function of the program.
-fn survey_of(alloc: Global, prog: &Prog, function: u32) -> Result<Survey, AllocError>
+ghost use Rattle.trace_fits.specs.Surveys.{IsSurvey, IsSurveyOf};
+ghost use Rattle.trace_fits.specs.declared.surveys.Survey.{Survey};
+
+// The survey of a function, which has this number.
+fn survey_of(alloc: Global, func: &Func, function: u32) -> Result<Survey, AllocError>
+    requires shaped { shape_fault_of (is_some func.now.ret) func.now.code ≡ None }
+    requires few { length func.now.code < 2 ^ 32 - 1 }
+    requires sound { AreSitesSound func.now.code }
+    ensures function { IfOk result (λ made. made.function ≡ function) }
+    ensures survey { IfOk result (IsSurveyOf func.now) }
 {
-    let func = &prog.funcs.as_slice()[function as usize];
     Ok(Survey {
         function,
         graph: Graph::of_sound(alloc, func)?,
@@ -25,7 +39,10 @@ fn survey_of(alloc: Global, prog: &Prog, function: u32) -> Result<Survey, AllocE
 }
 
 // The place of the function's survey among these; their number where it isn't there.
-fn place_of(surveys: &[Survey], function: u32) -> usize {
+fn place_of(surveys: &[Survey], function: u32) -> usize
+    ensures within { result ≤ length surveys.now }
+    ensures is { (s : Survey) → slice_get surveys.now result ≡ Some s → s.function ≡ function }
+{
     for (place, known) in surveys.iter().enumerate() {
         if known.function == function {
             return place;
@@ -34,16 +51,25 @@ fn place_of(surveys: &[Survey], function: u32) -> usize {
     surveys.len()
 }
 
-/// The place of the function's survey, which is added where it isn't there. The only error is out of memory.
+/// The place of the survey of a function, which has this number and is surveyed where it isn't yet. The only error is out of memory.
 pub(crate) fn surveyed(
     alloc: Global,
     prog: &Prog,
     surveys: &mut Vec<Survey>,
     function: u32,
-) -> Result<usize, AllocError> {
+) -> Result<usize, AllocError>
+    requires accepted { IsAccepted prog.now }
+    requires counted { IsCounted prog.now }
+    requires there { function < length prog.now.funcs }
+    requires surveys { All (IsSurvey prog.now) surveys.old.items }
+    ensures surveys { OnOk result (All (IsSurvey prog.now) surveys.new.items) }
+    ensures within { IfOk result (λ place. place < length surveys.new.items) }
+    ensures is { IfOk result (λ place. (s : Survey) → slice_get surveys.new.items place ≡ Some s → s.function ≡ function) }
+{
     let place = place_of(surveys.as_slice(), function);
     if place == surveys.len() {
-        surveys.push(survey_of(alloc, prog, function)?)?;
+        let func = &prog.funcs.as_slice()[function as usize];
+        surveys.push(survey_of(alloc, func, function)?)?;
     }
     Ok(place)
 }
