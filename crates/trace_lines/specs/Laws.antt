@@ -1,23 +1,16 @@
 -- What follows of the lines alone.
-use Rattle.std.specs.Prelude.{◌≡◌, ℕ, ◌≤◌, Bool, List, [], length}
+use Rattle.std.specs.Prelude.{◌≤◌}
 use Rattle.std.specs.List.{AllZip}
 use Rattle.bril_names.specs.Faults.{IsSoundEdit, function_names}
-use Rattle.bril_profile.specs.declared.profile.Entry.{Entry}
 use Rattle.bril_profile.specs.declared.profile.Profile.{Profile}
 use Rattle.bril_tree.specs.declared.function_tree.Item.{Item}
 use Rattle.bril_tree.specs.declared.function_tree.Item.TheVariants as item
 use Rattle.bril_tree.specs.declared.operation.Op.TheVariants as op
 use Rattle.bril_tree.specs.declared.program.Prog.{Prog}
 use Rattle.bril_tree.specs.declared.tree.Tree.{Tree}
-use Rattle.bril_tree.specs.Accepted.{IsAccepted}
-use Rattle.bril_tree.specs.Membership.{In}
-use Rattle.bril_tree.specs.Numbered.{tree_at, tree_of, tree_size}
-use Rattle.bril_tree.specs.Step.{code_of}
+use Rattle.bril_tree.specs.Numbered.{tree_of, tree_size}
 use Rattle.trace_lines.specs.Bound.{bound_with}
-use Rattle.trace_lines.specs.Lines.{TraceNames, bool_type, leg_lines}
 use Rattle.trace_lines.specs.Traced.{IsTracedTree}
-use Rattle.trace_paths.specs.Fits.{Fit, FitsAre}
-use Rattle.trace_paths.specs.Path.{path_of}
 
 -- ---- quiet lines
 
@@ -37,21 +30,6 @@ IsQuiet (item.Act d op.Commit args funcs labels) = ⊥
 IsQuiet (item.Act d op.Jmp args funcs labels) = ⊥
 IsQuiet (item.Act d op.Br args funcs labels) = ⊥
 IsQuiet (item.Act d _ args funcs labels) = Unit {0}
-
--- So are all items between a trace's `speculate` and its `commit`.
-abbrev pub LinesAreQuiet : Type 0
-LinesAreQuiet = (P : Prog) (f own : ℕ) (choices : List Bool) (names : TraceNames) (a : Item) → In a (leg_lines bool_type (tree_at P f) names 0 (path_of (code_of P f) own choices).legs) → IsQuiet a
-
--- ---- the entries that fit
-
--- There is one list of entries that fit.
-pub record IsOneList (P : Prog) (entries : List Entry) : Type 0 where
-  pub fits : List Fit
-  pub are : FitsAre P [] entries fits
-  pub only : (xs : List Fit) → FitsAre P [] entries xs → xs ≡ fits
-
-abbrev pub FitsAreOneList : Type 0
-FitsAreOneList = (P : Prog) (entries : List Entry) → IsAccepted P → IsOneList P entries
 
 -- ---- trees
 

@@ -6,12 +6,11 @@
 //! 1. The lines of a trace (`specs/Lines.antt`), its names (`specs/Names.antt`), and what is made of a tree and of a program
 //!    (`specs/Traced.antt`).
 //! 2. Nothing between `speculate` and `commit` prints, stores, or calls (`proofs/Quiet.antt`).
-//! 3. There is one list of entries that fit (`proofs/Unique.antt`, `Existing.antt`), so one bound on the items
-//!    (`specs/Bound.antt`), which holds (`proofs/Bound.antt`).
+//! 3. The bound on the items (`specs/Bound.antt`) holds (`proofs/Bound.antt`).
 //! 4. The tree can be numbered: its labels differ, and each that an item names is there (`proofs/Labels.antt`, `Differing.antt`,
 //!    `Known.antt`, `Sound.antt`).
 #![tactic(auto)]
 
 mod laws;
 
-pub use laws::{fitting_entries_are_one_list, trace_lines_are_quiet, traces_are_well_laid};
+pub use laws::traces_are_well_laid;

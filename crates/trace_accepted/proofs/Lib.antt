@@ -1,0 +1,6 @@
+pub mod Standing
+pub mod Walking
+pub mod Placing
+pub mod Sorted
+pub mod Accepting
+pub mod Accepted

@@ -1,0 +1,4 @@
+pub mod Unique
+pub mod Existing
+pub mod Numbers
+pub mod Made

@@ -1,0 +1,10 @@
+pub mod Quiet
+pub mod Layings
+pub mod Entries
+pub mod Functions
+pub mod Bound
+pub mod Bases
+pub mod Labels
+pub mod Differing
+pub mod Known
+pub mod Sound

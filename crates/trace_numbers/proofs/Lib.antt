@@ -1,0 +1,4 @@
+pub mod Entering
+pub mod Deepening
+pub mod NewItems
+pub mod Numbers

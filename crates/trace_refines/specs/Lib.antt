@@ -1,0 +1,2 @@
+pub mod Stitched
+pub mod Laws
