@@ -1,5 +1,5 @@
 -- The bound of the entries that were found.
-use Rattle.std.proofs.Common.{◌≡◌, ℕ, ◌+◌, ◌*◌, ◌<◌, List, [], ◌∷◌, length, map, refl, sym, ap, subst, ◌∙◌, arith}
+use Rattle.std.proofs.Common.{◌≡◌, ℕ, ◌+◌, ◌*◌, List, [], ◌∷◌, length, map, refl, sym, ap, ◌∙◌}
 use Rattle.std.specs.List.{All, sum_by}
 use Rattle.std.proofs.lemmas.List.{length-map}
 use Rattle.std.proofs.lemmas.List.Elements.{All-head, All-tail}
@@ -11,7 +11,7 @@ use Rattle.pass_law.specs.Bounds.{capped}
 use Rattle.pass_make.specs.Edited.{TellsBound}
 use Rattle.trace_fits.specs.declared.fitting.Fitting.{Fitting}
 use Rattle.trace_fits.specs.Fitting.{HasPath, added_by, fit_of}
-use Rattle.trace_lines.specs.Bound.{IsTraceBound, bound_with, laid_count}
+use Rattle.trace_lines.specs.Bound.{IsTraceBound, laid_count}
 use Rattle.trace_paths.specs.Fits.{Fit, FitsAre}
 use Rattle.trace_paths.specs.Walked.{leg_of}
 

@@ -1,12 +1,11 @@
 -- The functions of the program, one after another.
-use Rattle.std.proofs.Common.{◌≡◌, ◌⊎◌, ℕ, zero, suc, ◌+◌, ◌<◌, ◌≤◌, List, [], ◌∷◌, ◌++◌, length, map, get_or, Option, Some, None, refl, sym, ap, subst, ◌∙◌, inl, inr, ⊎_elim, arith}
+use Rattle.std.proofs.Common.{◌≡◌, ◌⊎◌, ℕ, zero, suc, ◌+◌, ◌<◌, ◌≤◌, List, [], ◌∷◌, ◌++◌, length, map, Some, None, refl, sym, ap, subst, ◌∙◌, inl, inr, ⊎_elim, arith}
 use Rattle.std.specs.Prelude.{slice_get}
 use Rattle.std.specs.List.{All}
 use Rattle.std.proofs.lemmas.List.{length-append, length-map}
 use Rattle.std.proofs.lemmas.List.Elements.{All-nil, All-cons, All-head, All-tail}
-use Rattle.std.proofs.lemmas.Option.{same_Some, slice_get_within}
+use Rattle.std.proofs.lemmas.Option.{same_Some}
 use Rattle.bril_tree.specs.declared.function_tree.FuncTree.{FuncTree}
-use Rattle.bril_tree.specs.declared.function_tree.Item.{Item}
 use Rattle.bril_tree.specs.declared.numbered_function.Func.{Func}
 use Rattle.bril_tree.specs.declared.program.Prog.{Prog}
 use Rattle.bril_tree.specs.Numbered.{tree_at, tree_of, variable_names}
@@ -17,7 +16,6 @@ use Rattle.trace_fits.specs.Fitting.{HasPath, fit_of}
 use Rattle.trace_lines.specs.Lines.{TraceNames, bool_type}
 use Rattle.trace_lines.specs.Names.{trace_bases}
 use Rattle.trace_lines.specs.Traced.{AreLaid, AreTraced, IsTracedFunction, Laying}
-use Rattle.trace_paths.specs.Path.{path_of}
 use Rattle.trace_paths.specs.Walked.{leg_of}
 use Rattle.trace_paths.proofs.Short.{paths_are_short}
 use Rattle.trace_stitcher.specs.Inserted.{AreNamesFor, IsInside, traced_items}

@@ -1,9 +1,9 @@
 -- What is put in, entry by entry.
-use Rattle.std.proofs.Common.{◌≡◌, ◌⊎◌, ℕ, zero, suc, ◌+◌, ◌<◌, ◌≤◌, Bool, true, false, ◌&&◌, ◌||◌, List, [], ◌∷◌, ◌++◌, length, map, take, drop, get_or, Option, Some, None, append_assoc, append-nil, refl, sym, ap, subst, ◌∙◌, inl, inr, arith, cond}
+use Rattle.std.proofs.Common.{◌≡◌, ℕ, suc, ◌+◌, ◌<◌, Bool, true, false, ◌&&◌, ◌||◌, List, [], ◌∷◌, ◌++◌, length, map, take, get_or, Some, append_assoc, append-nil, refl, sym, ap, subst, ◌∙◌, arith, cond}
 use Rattle.std.specs.Prelude.{◌==◌, slice_get, if◌then◌else◌}
 use Rattle.std.specs.List.{All, AllPairs, list_any}
 use Rattle.std.proofs.Math.Seq.{take-append_seam}
-use Rattle.std.proofs.lemmas.Bool.{and_parts, and_from, cond-true, cond-false, eq-eqb, eqb-true, true≢false}
+use Rattle.std.proofs.lemmas.Bool.{and_parts, cond-true, cond-false, eqb-true}
 use Rattle.std.proofs.lemmas.List.{get_or-take, get_or_default, length-take, take_more}
 use Rattle.std.proofs.lemmas.List.Elements.{All-head, All-tail}
 use Rattle.std.proofs.lemmas.Option.{slice_get-get_or}
@@ -28,11 +28,11 @@ module _ (code : List Item) (f : ℕ) (names : ℕ → TraceNames) where
       ∙ sym (append_assoc (label_put code f (names K) y i) (labels_before code f names (suc K) xs i) (label_put code f (names (K + suc (length xs))) x i))
 
   -- one that stands at another label than all before it
-  lines-push : (K : ℕ) (xs : List Fitting) (x : Fitting) (i : ℕ) → All (λ y. IsElsewhere y x) xs → lines_behind code f names K (xs ++ x ∷ []) i ≡ (if stands_at code f x i then lines_of code f (names (K + length xs)) x else lines_behind code f names K xs i)
-  lines-push K [] x i apart = let e : K ≡ K + 0 = omega arith in ap (λ n. if stands_at code f x i then lines_of code f (names n) x else []) e
-  lines-push K (y ∷ xs) x i apart = by (stands_at code f x i) refl (stands_at code f y i) refl (lines-push (suc K) xs x i (All-tail (λ z. IsElsewhere z x) y xs apart))
+  lines-push : (K : ℕ) (xs : List Fitting) (x : Fitting) (i : ℕ) → All (λ y. IsElsewhere y x) xs → lines_behind code f names K (xs ++ x ∷ []) i ≡ (if stands_at f x i then lines_of code (names (K + length xs)) x else lines_behind code f names K xs i)
+  lines-push K [] x i apart = let e : K ≡ K + 0 = omega arith in ap (λ n. if stands_at f x i then lines_of code (names n) x else []) e
+  lines-push K (y ∷ xs) x i apart = by (stands_at f x i) refl (stands_at f y i) refl (lines-push (suc K) xs x i (All-tail (λ z. IsElsewhere z x) y xs apart))
     where
-      both : stands_at code f x i ≡ true → stands_at code f y i ≡ true → ⊥
+      both : stands_at f x i ≡ true → stands_at f y i ≡ true → ⊥
       both s t =
           let a = and_parts (x.function == f) (x.point == i) s in
           let b = and_parts (y.function == f) (y.point == i) t in
@@ -41,17 +41,17 @@ module _ (code : List Item) (f : ℕ) (names : ℕ → TraceNames) where
       e : suc K + length xs ≡ K + suc (length xs)
       e = omega arith
 
-      by : (s : Bool) → stands_at code f x i ≡ s → (t : Bool) → stands_at code f y i ≡ t → lines_behind code f names (suc K) (xs ++ x ∷ []) i ≡ (if stands_at code f x i then lines_of code f (names (suc K + length xs)) x else lines_behind code f names (suc K) xs i)
-          → (if stands_at code f y i then lines_of code f (names K) y else lines_behind code f names (suc K) (xs ++ x ∷ []) i) ≡ (if stands_at code f x i then lines_of code f (names (K + suc (length xs))) x else (if stands_at code f y i then lines_of code f (names K) y else lines_behind code f names (suc K) xs i))
+      by : (s : Bool) → stands_at f x i ≡ s → (t : Bool) → stands_at f y i ≡ t → lines_behind code f names (suc K) (xs ++ x ∷ []) i ≡ (if stands_at f x i then lines_of code (names (suc K + length xs)) x else lines_behind code f names (suc K) xs i)
+          → (if stands_at f y i then lines_of code (names K) y else lines_behind code f names (suc K) (xs ++ x ∷ []) i) ≡ (if stands_at f x i then lines_of code (names (K + suc (length xs))) x else (if stands_at f y i then lines_of code (names K) y else lines_behind code f names (suc K) xs i))
       by true hs true ht rest = absurd (both hs ht)
       by true hs false ht rest =
-          cond-false (stands_at code f y i) (lines_of code f (names K) y) (lines_behind code f names (suc K) (xs ++ x ∷ []) i) ht ∙ rest
-          ∙ cond-true (stands_at code f x i) (lines_of code f (names (suc K + length xs)) x) (lines_behind code f names (suc K) xs i) hs
-          ∙ ap (λ n. lines_of code f (names n) x) e
-          ∙ sym (cond-true (stands_at code f x i) (lines_of code f (names (K + suc (length xs))) x) (if stands_at code f y i then lines_of code f (names K) y else lines_behind code f names (suc K) xs i) hs)
+          cond-false (stands_at f y i) (lines_of code (names K) y) (lines_behind code f names (suc K) (xs ++ x ∷ []) i) ht ∙ rest
+          ∙ cond-true (stands_at f x i) (lines_of code (names (suc K + length xs)) x) (lines_behind code f names (suc K) xs i) hs
+          ∙ ap (λ n. lines_of code (names n) x) e
+          ∙ sym (cond-true (stands_at f x i) (lines_of code (names (K + suc (length xs))) x) (if stands_at f y i then lines_of code (names K) y else lines_behind code f names (suc K) xs i) hs)
       by false hs t ht rest =
-          ap (λ l. if stands_at code f y i then lines_of code f (names K) y else l) (rest ∙ cond-false (stands_at code f x i) (lines_of code f (names (suc K + length xs)) x) (lines_behind code f names (suc K) xs i) hs)
-          ∙ sym (cond-false (stands_at code f x i) (lines_of code f (names (K + suc (length xs))) x) (if stands_at code f y i then lines_of code f (names K) y else lines_behind code f names (suc K) xs i) hs)
+          ap (λ l. if stands_at f y i then lines_of code (names K) y else l) (rest ∙ cond-false (stands_at f x i) (lines_of code (names (suc K + length xs)) x) (lines_behind code f names (suc K) xs i) hs)
+          ∙ sym (cond-false (stands_at f x i) (lines_of code (names (K + suc (length xs))) x) (if stands_at f y i then lines_of code (names K) y else lines_behind code f names (suc K) xs i) hs)
 
   -- ---- the loop over all entries
 
@@ -83,9 +83,9 @@ module _ (code : List Item) (f : ℕ) (names : ℕ → TraceNames) where
         at : (j : ℕ) (d : Fitting) → j < k → get_or fits j x ≡ get_or (take k fits) j d
         at j d less = let l : j < length fits = omega (arith, less, within) in get_or_default fits j x d l ∙ sym (get_or-take k fits j d less)
 
-    pub lines-step : (i : ℕ) (old new : List Item) → AllPairs IsElsewhere fits → old ≡ lines_behind code f names 1 (take k fits) i → new ≡ (if stands_at code f x i then lines_of code f (names (suc k)) x else old) → new ≡ lines_behind code f names 1 (take (k + 1) fits) i
+    pub lines-step : (i : ℕ) (old new : List Item) → AllPairs IsElsewhere fits → old ≡ lines_behind code f names 1 (take k fits) i → new ≡ (if stands_at f x i then lines_of code (names (suc k)) x else old) → new ≡ lines_behind code f names 1 (take (k + 1) fits) i
     lines-step i old new pairs so_far e =
-        e ∙ ap (λ l. if stands_at code f x i then lines_of code f (names (suc k)) x else l) so_far ∙ ap (λ n. if stands_at code f x i then lines_of code f (names n) x else lines_behind code f names 1 (take k fits) i) (sym number)
+        e ∙ ap (λ l. if stands_at f x i then lines_of code (names (suc k)) x else l) so_far ∙ ap (λ n. if stands_at f x i then lines_of code (names n) x else lines_behind code f names 1 (take k fits) i) (sym number)
         ∙ sym (lines-push 1 (take k fits) x i (before-apart pairs)) ∙ ap (λ l. lines_behind code f names 1 l i) (sym first)
 
   -- ---- no entries
@@ -108,7 +108,7 @@ module _ (code : List Item) (f : ℕ) (names : ℕ → TraceNames) where
   no-lines K [] i e = refl
   no-lines K (x ∷ fits) i e =
       let o = other x fits e in
-      ap (λ b. if b && (x.point == i) then lines_of code f (names K) x else lines_behind code f names (suc K) fits i) o.0 ∙ no-lines (suc K) fits i o.1
+      ap (λ b. if b && (x.point == i) then lines_of code (names K) x else lines_behind code f names (suc K) fits i) o.0 ∙ no-lines (suc K) fits i o.1
 
   pub nothing-put : (fits : List Fitting) → list_any (has_function f) fits ≡ false → traced_items code f names fits ≡ code
   nothing-put fits e = spliced-none (λ i. map item.Label (labels_before code f names 1 fits i)) (lines_behind code f names 1 fits) 0 code (λ i. ap (map item.Label) (no-labels 1 fits i e)) (λ i. no-lines 1 fits i e)

@@ -1,5 +1,5 @@
 -- Items with what is put between them.
-use Rattle.std.proofs.Common.{◌≡◌, ℕ, zero, suc, ◌+◌, ◌<◌, ◌≤◌, List, [], ◌∷◌, ◌++◌, length, append_assoc, append-nil, refl, sym, ap, subst, ◌∙◌, arith}
+use Rattle.std.proofs.Common.{◌≡◌, ℕ, suc, ◌+◌, List, [], ◌∷◌, ◌++◌, length, append_assoc, append-nil, sym, ap, ◌∙◌, arith}
 use Rattle.bril_tree.specs.declared.function_tree.Item.{Item}
 use Rattle.pass_plan.specs.Spliced.{spliced}
 use Rattle.trace_stitcher.specs.Inserted.{around}

@@ -1,6 +1,6 @@
 -- What is made is what the pass makes.
-use Rattle.std.proofs.Common.{◌≡◌, ◌⊎◌, ℕ, zero, suc, ◌+◌, ◌-◌, ◌<◌, ◌≤◌, Bool, true, false, not, ◌&&◌, List, [], ◌∷◌, ◌++◌, length, map, Option, Some, None, refl, sym, ap, subst, ◌∙◌, inl, inr, arith, cond}
-use Rattle.std.specs.Prelude.{◌==◌, slice_get, if◌then◌else◌}
+use Rattle.std.proofs.Common.{◌≡◌, ℕ, zero, suc, ◌+◌, Bool, true, false, not, ◌&&◌, List, [], ◌∷◌, ◌++◌, map, Option, Some, None, refl, sym, ap, subst, ◌∙◌, arith, cond}
+use Rattle.std.specs.Prelude.{◌==◌, slice_get}
 use Rattle.std.specs.List.{All}
 use Rattle.std.proofs.lemmas.Bool.{and_parts, eqb-true, cond-true, cond-false}
 use Rattle.std.proofs.lemmas.List.Elements.{All-head, All-tail}
@@ -14,7 +14,7 @@ use Rattle.bril_tree.specs.declared.program.Prog.{Prog}
 use Rattle.bril_tree.specs.Numbered.{item_tree, named, names_in, names_of_functions, tree_at, variable_names}
 use Rattle.bril_tree.specs.Step.{code_of, item_at}
 use Rattle.bril_tree.proofs.Trees.{nothing_at}
-use Rattle.pass_names.proofs.Points.{Found, found}
+use Rattle.pass_names.proofs.Points.{found}
 use Rattle.pass_plan.specs.Spliced.{spliced}
 use Rattle.trace_fits.specs.declared.fitting.Fitting.{Fitting}
 use Rattle.trace_fits.specs.Fitting.{HasPath, fit_of}
@@ -23,10 +23,9 @@ use Rattle.trace_lines.specs.Names.{AreNames, IsFresh, is_label_item, labels_her
 use Rattle.trace_lines.specs.Traced as made
 use Rattle.trace_lines.specs.Traced.{AreLaid, Laying, stop_lines, trace_at, trace_of}
 use Rattle.trace_paths.specs.Fits.{Fit, fit_path}
-use Rattle.trace_paths.specs.Path as path
 use Rattle.trace_paths.specs.Path.{path_of}
 use Rattle.trace_paths.specs.Walked.{leg_of}
-use Rattle.trace_stitcher.specs.Inserted.{AreNamesFor, label_put, labels_before, lines_behind, lines_of, listed_name, traced_items}
+use Rattle.trace_stitcher.specs.Inserted.{AreNamesFor, labels_before, lines_behind, lines_of, listed_name, traced_items}
 use Rattle.trace_stitcher.specs.Stops.{AreNamesHere, IsStop, put_stop}
 use Rattle.trace_stitcher.proofs.Splicing.{spliced-same}
 
@@ -182,11 +181,11 @@ module _ (P : Prog) (f : ℕ) (F : Func) (there : slice_get P.funcs f ≡ Some F
           let parts = and_parts (x.function == f) (x.point == i) h in
           let g = eqb-true x.function f parts.0 in
           let p = eqb-true x.point i parts.1 in
-          cond-true ((x.function == f) && (x.point == i)) (lines_of code f (names K) x) (lines_behind code f names (suc K) fits i) h
+          cond-true ((x.function == f) && (x.point == i)) (lines_of code (names K) x) (lines_behind code f names (suc K) fits i) h
           ∙ (λ z. trace_lines bool_type (λ n. sym (tree n) z) (mine z) (legs g p z))
           ∙ ap (made.lines_behind P bool_type f i) (sym (cond-true ((y.fit.function == f) && (y.fit.point == i)) (Some (trace_of y)) (trace_at laid f i) (test ∙ h)))
       by false h rest =
-          cond-false ((x.function == f) && (x.point == i)) (lines_of code f (names K) x) (lines_behind code f names (suc K) fits i) h ∙ rest
+          cond-false ((x.function == f) && (x.point == i)) (lines_of code (names K) x) (lines_behind code f names (suc K) fits i) h ∙ rest
           ∙ ap (made.lines_behind P bool_type f i) (sym (cond-false ((y.fit.function == f) && (y.fit.point == i)) (Some (trace_of y)) (trace_at laid f i) (test ∙ h)))
 
   -- ---- the function

@@ -22,25 +22,25 @@ abbrev pub around : (before after : ℕ → List Item) → ℕ → List Item →
 around before after k [] = []
 around before after k (x ∷ xs) = before k ++ x ∷ (after k ++ around before after (suc k) xs)
 
+-- ---- one entry
+
+-- the entry is of the function of number f, and its path stops before the item at the point
+abbrev pub stops_at : (f : ℕ) → Fitting → ℕ → Bool
+stops_at f x i = (x.function == f) && (x.path.stop == i)
+
+-- it is of the function, and its label is at the point
+abbrev pub stands_at : (f : ℕ) → Fitting → ℕ → Bool
+stands_at f x i = (x.function == f) && (x.point == i)
+
+-- its lines, where the function has these items
+abbrev pub lines_of : List Item → TraceNames → Fitting → List Item
+lines_of code names x = trace_lines bool_type (slice_get code) names (map leg_of x.path.legs.items)
+
 -- The function of number f has these items.
 module _ (code : List Item) (f : ℕ) where
-  -- ---- one entry
-
-  -- its path stops before the item at the point
-  abbrev pub stops_at : Fitting → ℕ → Bool
-  stops_at x i = (x.function == f) && (x.path.stop == i)
-
-  -- its label is at the point
-  abbrev pub stands_at : Fitting → ℕ → Bool
-  stands_at x i = (x.function == f) && (x.point == i)
-
-  -- the label that it puts before the item at a point
+  -- the label that an entry puts before the item at a point
   abbrev pub label_put : TraceNames → Fitting → ℕ → List (List ℕ)
-  label_put names x i = if stops_at x i then listed_name (put_stop (slice_get code i) names.stop) else []
-
-  -- its lines
-  abbrev pub lines_of : TraceNames → Fitting → List Item
-  lines_of names x = trace_lines bool_type (slice_get code) names (map leg_of x.path.legs.items)
+  label_put names x i = if stops_at f x i then listed_name (put_stop (slice_get code i) names.stop) else []
 
   -- ---- all entries, from number K on; `names` has the names of each trace
 
@@ -51,7 +51,7 @@ module _ (code : List Item) (f : ℕ) where
 
     abbrev pub lines_behind : ℕ → List Fitting → ℕ → List Item
     lines_behind K [] i = []
-    lines_behind K (x ∷ fits) i = if stands_at x i then lines_of (names K) x else lines_behind (suc K) fits i
+    lines_behind K (x ∷ fits) i = if stands_at f x i then lines_of code (names K) x else lines_behind (suc K) fits i
 
     -- the items with what is put between them
     abbrev pub traced_items : List Fitting → List Item

@@ -71,7 +71,7 @@ fn put(
     requires items { length behind.old ≡ length code.now }
     requires inside { IsInside function (length code.now) fit.now }
     ensures before { OnOk result ((names : TraceNames) → (fit.now.function ≡ function → AreNamesHere labels.now variables.now code.now number fit.now.path.stop names) → (i : ℕ) → row before.new i ≡ row before.old i ++ label_put code.now function names fit.now i) }
-    ensures behind { OnOk result ((names : TraceNames) → (fit.now.function ≡ function → AreNamesHere labels.now variables.now code.now number fit.now.path.stop names) → (i : ℕ) → row behind.new i ≡ (if stands_at code.now function fit.now i then lines_of code.now function names fit.now else row behind.old i)) }
+    ensures behind { OnOk result ((names : TraceNames) → (fit.now.function ≡ function → AreNamesHere labels.now variables.now code.now number fit.now.path.stop names) → (i : ℕ) → row behind.new i ≡ (if stands_at function fit.now i then lines_of code.now names fit.now else row behind.old i)) }
 {
     if fit.function == function {
         let trace = trace_of(alloc, code, labels, variables, number, fit)?;

@@ -1,4 +1,3 @@
-use Rattle.std.proofs.Common.{◌≡◌, ◌<◌, length, subst}
 use Rattle.pass_make.proofs.Functions.{long_there, number_within}
 use Rattle.trace_fits.proofs.Surveying.{read-there}
 use Rattle.trace_stitcher.proofs.Functions.{all-inside, functions-more, more-many}

@@ -1,7 +1,7 @@
-use Rattle.std.proofs.Common.{◌≡◌, ◌∙◌, List, sym, ap}
+use Rattle.std.proofs.Common.{◌∙◌, List, sym, ap}
 use Rattle.bril_tree.specs.declared.function_tree.Item.{Item}
 use Rattle.bril_tree.specs.Numbered.{variable_names}
-use Rattle.trace_stitcher.specs.Inserted.{labels_before, lines_behind, row}
+use Rattle.trace_stitcher.specs.Inserted.{labels_before, lines_behind}
 use Rattle.trace_stitcher.proofs.Rows.{all-put, names-same, nothing-put}
 use Rattle.trace_stitcher.proofs.edit.traced_function.Goals as goal
 use Rattle.std.proofs.Common.{refl}

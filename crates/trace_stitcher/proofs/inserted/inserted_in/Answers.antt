@@ -1,4 +1,4 @@
-use Rattle.std.proofs.Common.{◌≡◌, ◌++◌, ◌∙◌, List, ℕ, length, drop, refl, ap, sym}
+use Rattle.std.proofs.Common.{◌≡◌, ◌∙◌, List, ℕ, length, drop, refl, ap, sym}
 use Rattle.bril_tree.specs.declared.function_tree.Item.{Item}
 use Rattle.bril_tree.specs.Numbered.{variable_names}
 use Rattle.trace_stitcher.specs.Inserted.{row}

@@ -1,4 +1,4 @@
-use Rattle.std.proofs.Common.{◌≡◌, ◌+◌, suc, arith, ap, sym, subst}
+use Rattle.std.proofs.Common.{◌≡◌, ◌+◌, suc, arith, ap, subst}
 use Rattle.trace_stitcher.specs.Stops.{AreNamesHere}
 use Rattle.trace_stitcher.specs.Inserted.{row}
 use Rattle.trace_stitcher.proofs.Rows.{entry-there, labels-step, lines-step}

@@ -1,4 +1,4 @@
-use Rattle.std.proofs.Common.{◌≡◌, ◌+◌, ◌++◌, ◌∙◌, false, refl, sym, ap}
+use Rattle.std.proofs.Common.{◌+◌, ◌++◌, ◌∙◌, refl, sym, ap}
 use Rattle.std.specs.Prelude.{slice_get}
 use Rattle.trace_paths.specs.Path.{Turn}
 use Rattle.trace_stitcher.specs.Legs.{one_leg}

@@ -1,4 +1,4 @@
-use Rattle.std.proofs.Common.{◌≡◌, ◌++◌, get_or, map, drop, sym, ap, refl}
+use Rattle.std.proofs.Common.{◌++◌, map}
 use Rattle.std.specs.Prelude.{slice_get}
 use Rattle.std.proofs.lemmas.List.{get_or_default}
 use Rattle.trace_lines.specs.Lines.{bool_type, leg_lines}

@@ -1,4 +1,4 @@
-use Rattle.std.proofs.Common.{◌≡◌, ◌∙◌, ◌++◌, append-nil, sym, ap}
+use Rattle.std.proofs.Common.{◌∙◌, ◌++◌, append-nil, sym, ap}
 use Rattle.std.proofs.lemmas.Bool.{ltb-false}
 use Rattle.std.proofs.lemmas.Option.{slice_get_past}
 use Rattle.trace_lines.specs.Lines.{listed_item}

@@ -1,6 +1,5 @@
-use Rattle.std.proofs.Common.{◌≡◌, ◌++◌, ◌∷◌, [], ◌∙◌, map, sym, ap}
+use Rattle.std.proofs.Common.{◌++◌, ◌∷◌, [], ◌∙◌, map, ap}
 use Rattle.std.specs.Prelude.{slice_get}
-use Rattle.bril_tree.specs.declared.function_tree.Item.{Item}
 use Rattle.trace_paths.specs.Walked.{leg_of}
 use Rattle.trace_stitcher.proofs.Legs.{trace-whole}
 use Rattle.trace_stitcher.proofs.lines.trace_lines.Goals as goal

@@ -1,4 +1,4 @@
-use Rattle.std.proofs.Common.{◌≡◌, ◌≤◌, [], List, length, map, sym, ap, subst, arith}
+use Rattle.std.proofs.Common.{◌≤◌, [], List, length, map, sym, ap, subst, arith}
 use Rattle.std.proofs.lemmas.List.{length-map}
 use Rattle.bril_profile.specs.declared.profile.Entry.{Entry}
 use Rattle.trace_fits.specs.declared.fitting.Fitting.{Fitting}

@@ -1,4 +1,4 @@
-use Rattle.std.proofs.Common.{◌≡◌, ◌+◌, ◌<◌, ◌++◌, ◌∙◌, [], List, ℕ, length, map, get_or, refl, ap, subst, arith}
+use Rattle.std.proofs.Common.{◌≡◌, ◌<◌, ◌++◌, ◌∙◌, [], List, ℕ, length, map, ap, arith}
 use Rattle.std.proofs.lemmas.List.{get_or_default}
 use Rattle.bril_tree.specs.declared.function_tree.Item.{Item}
 use Rattle.bril_tree.specs.declared.function_tree.Item.TheVariants as item

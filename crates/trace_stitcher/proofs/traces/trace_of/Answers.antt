@@ -1,4 +1,4 @@
-use Rattle.std.proofs.Common.{◌≡◌, ◌++◌, ◌∙◌, List, map, sym, ap}
+use Rattle.std.proofs.Common.{◌++◌, ◌∙◌, List, map, sym, ap}
 use Rattle.std.specs.Prelude.{slice_get}
 use Rattle.trace_lines.specs.Lines.{bool_type, trace_lines}
 use Rattle.trace_lines.specs.Names.{trace_name}

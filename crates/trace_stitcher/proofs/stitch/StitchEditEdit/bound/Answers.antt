@@ -1,11 +1,9 @@
-use Rattle.std.proofs.Common.{◌≡◌, ◌+◌, ◌∙◌, [], List, ℕ, map, ap, subst}
-use Rattle.std.specs.List.{All}
+use Rattle.std.proofs.Common.{◌+◌, ◌∙◌, [], List, map, subst}
 use Rattle.bril_profile.specs.declared.profile.Entry.{Entry}
 use Rattle.bril_tree.specs.declared.program.Prog.{Prog}
 use Rattle.bril_tree.proofs.Sizes.{counted-size}
 use Rattle.pass_law.specs.Bounds.{capped}
 use Rattle.pass_make.specs.Edited.{TellsBound}
-use Rattle.trace_fits.specs.declared.fitting.Fitting.{Fitting}
 use Rattle.trace_fits.specs.Fitting.{added_by, fit_of}
 use Rattle.trace_lines.specs.Bound.{IsTraceBound}
 use Rattle.trace_paths.specs.Fits.{FitsAre}
