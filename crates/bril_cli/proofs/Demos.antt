@@ -1,5 +1,5 @@
 -- The demo: its tree, the bytes that are counted, and what is shown of its run.
-use Rattle.std.proofs.Common.{◌≡◌, ℕ, ◌+◌, ◌-◌, ◌<◌, ◌≤◌, ◌^◌, refl, subst, sym, ap, ◌∙◌, Bool, true, false, true≢false, List, [], ◌∷◌, ◌++◌, length, Option, Some, None, arith, ⊎_elim}
+use Rattle.std.proofs.Common.{◌≡◌, ◌⊎◌, ℕ, ◌+◌, ◌-◌, ◌<◌, ◌≤◌, ◌^◌, refl, subst, sym, ap, ◌∙◌, Bool, true, false, true≢false, List, [], ◌∷◌, ◌++◌, length, Option, Some, None, arith, ⊎_elim}
 use Rattle.std.specs.Fmt.{decimal}
 use Rattle.std.specs.List.{AllZip}
 use Rattle.std.specs.Prelude.{codes, min, nat_le, unwrap_or}
@@ -19,10 +19,10 @@ use Rattle.bril_tree.specs.declared.limits.Limits.{Limits}
 use Rattle.bril_tree.specs.declared.program.Prog.{Prog}
 use Rattle.bril_tree.specs.declared.tree.Tree.{Tree}
 use Rattle.bril_words.specs.declared.request.Action.{Action}
-use Rattle.bril_words.specs.declared.request.Action.TheVariants.{Demo}
+use Rattle.bril_words.specs.declared.request.Action.TheVariants.{Run, Interpret, Record, Emit, Passes, Check, Demo}
 use Rattle.bril_commands.proofs.Running.{run_shows}
 use Rattle.bril_commands.proofs.Works.{Works-as}
-use Rattle.bril_commands.specs.Command.{AreLimitsOf, ImageFor, Subject, reach}
+use Rattle.bril_commands.specs.Command.{AreLimitsOf, ImageFor, NeedsProgram, Subject, reach}
 use Rattle.bril_commands.specs.Driver.{subject}
 use Rattle.bril_commands.specs.Outcome.{ShowsPut, Works}
 use Rattle.bril_commands.specs.PassList.{PassList, IsMade}
@@ -38,6 +38,19 @@ use Rattle.bril_cli.specs.Demo.{CountsPrinted, IsOwnTree, shows_line}
 pub own_tree : (action : Action) (holds : Option FileMap) (path : List ℕ) (tree : Tree) → IsTreeAt (reach (command action)) holds path tree → IsOwnTree action tree
 own_tree (Demo functions) holds path tree at = at
 own_tree _ holds path tree at = tt
+
+-- which commands need a program
+pub needed : (a : Action)
+    → ((frames : ℕ) × (cells : ℕ) × (steps : ℕ) × (stats : Bool) × (a ≡ Run frames cells steps stats))
+    ⊎ (((frames : ℕ) × (cells : ℕ) × (steps : ℕ) × (a ≡ Interpret frames cells steps))
+    ⊎ (((frames : ℕ) × (cells : ℕ) × (steps : ℕ) × (hot : ℕ) × (most : ℕ) × (a ≡ Record frames cells steps hot most))
+    ⊎ (((frames : ℕ) × (a ≡ Emit frames)) ⊎ ((a ≡ Passes) ⊎ ((a ≡ Check) ⊎ ((functions : ℕ) × (a ≡ Demo functions)))))))
+    → NeedsProgram (command a)
+needed a is =
+    ⊎_elim (λ x. by x.4 tt) (⊎_elim (λ x. by x.3 tt) (⊎_elim (λ x. by x.5 tt) (⊎_elim (λ x. by x.1 tt) (⊎_elim (λ x. by x tt) (⊎_elim (λ x. by x tt) (λ x. by x.1 tt)))))) is
+  where
+    by : {b : Action} → a ≡ b → NeedsProgram (command b) → NeedsProgram (command a)
+    by {b} e needs = subst (λ k. NeedsProgram (command k)) (sym e) needs
 
 -- what a sink that counts tells of so many bytes
 pub bytes_counted : (bytes : ℕ) → unwrap_or (amount_after (Some 0) bytes) (2 ^ 64 - 1) ≡ min bytes (2 ^ 64 - 1)
@@ -93,13 +106,13 @@ module _ (size : DemoSize) (q : Prog) (limits : Limits) (words : ℕ) (count : C
 pub demo_fits : (n : ℕ) (p : Prog) → n < 2 ^ 64 → Numbered (demo_tree n) p → FitMain p []
 demo_fits n p small is = subst (λ types. AllZip Suits [] types) (sym (demo_takes_nothing n p small is)) tt
 
-module _ (l : PassList) (p q : Prog) (made : IsMade l p q) (accepted : IsAccepted p) (limits : Limits) (are : AreLimitsOf (ImageFor demo_frames demo_cells) limits) (fits : FitMain p []) (functions : ℕ) where
+module _ (l : PassList) (p q : Prog) (made : IsMade l [] p q) (accepted : IsAccepted p) (limits : Limits) (are : AreLimitsOf (ImageFor demo_frames demo_cells) limits) (fits : FitMain p []) (functions : ℕ) where
   on : Subject
-  on = subject (demonstrates functions) l p q made []
+  on = subject (demonstrates functions) l [] p q made []
 
   runs_as : (ended : Option End) (printed : List (List ℕ)) (words : ℕ) → MadeRuns q limits ended printed words → SourceRuns on ended printed words
   unfolding on run_shows
-  runs_as ended printed words runs = (run_shows l p q made accepted limits demo_frames demo_cells are [] fits demo_words false ended [] printed runs.0, runs.1)
+  runs_as ended printed words runs = (run_shows l [] p q made accepted limits demo_frames demo_cells are [] fits demo_words false ended [] printed runs.0, runs.1)
 
   shows_as : (size : DemoSize) (ended : Option End) (told output : List (List ℕ)) → DemoShows size (MadeRuns q limits) ended told output → DemoShows size (SourceRuns on) ended told output
   shows_as size (Some Ended) told output shows = record {
@@ -114,7 +127,7 @@ module _ (l : PassList) (p q : Prog) (made : IsMade l p q) (accepted : IsAccepte
   shows_as size None told output shows = record { printed = shows.printed; words = shows.words; runs = runs_as None shows.printed shows.words shows.runs; silent = shows.silent; untold = shows.untold }
 
   pub demo_works : (size : DemoSize) → size ≡ size_of functions p → (how : Status) (told : List (List ℕ)) (s t : SinkSeen)
-      → Works (demonstrated size (MadeRuns q limits)) how told s t → Works (demonstrated (size_of functions p) (SourceRuns (subject (demonstrates functions) l p q made []))) how told s t
+      → Works (demonstrated size (MadeRuns q limits)) how told s t → Works (demonstrated (size_of functions p) (SourceRuns (subject (demonstrates functions) l [] p q made []))) how told s t
   unfolding on
   demo_works size is how told s t works =
       let shown = Works-as (demonstrated size (MadeRuns q limits)) (demonstrated size (SourceRuns on)) refl refl (shows_as size) (λ output none. none) told s t how works in

@@ -1,6 +1,7 @@
 -- The tree of a request that has no files, and the size of its program.
 use Rattle.std.specs.Prelude.{◌≡◌, ℕ, List, [], ◌∷◌, length, Option, Some}
 use Rattle.bril_demo.specs.Demo.{demo_tree}
+use Rattle.bril_tree.specs.Numbered.{Numbered}
 use Rattle.bril_tree.specs.declared.tree.Tree.{Tree}
 use Rattle.bril_cli.specs.declared.commands.demo.DemoCounts.{DemoCounts}
 use Rattle.bril_commands.specs.commands.Demo.{DemoSize, MadeRuns, demo_words, line_of, words_told}
@@ -17,6 +18,11 @@ use Rattle.bril_words.specs.declared.request.Action.TheVariants.{Demo}
 abbrev pub IsOwnTree : Action → Tree → Type 0
 IsOwnTree (Demo functions) tree = tree ≡ demo_tree functions
 IsOwnTree _ tree = Unit {0}
+
+-- and its program is that of this tree
+abbrev pub IsOwnProgram : Action → Prog → Type 0
+IsOwnProgram (Demo functions) p = Numbered (demo_tree functions) p
+IsOwnProgram _ p = Unit {0}
 
 -- what the counts say
 abbrev pub size_seen : DemoCounts → DemoSize

@@ -2,9 +2,9 @@
 // `?` hands its refusal on.
 
 ghost use Rattle.std.specs.Prelude.{◌≡◌, ◌≤◌, [], length, IfOk, IfErr};
-ghost use Rattle.bril_cli.specs.Demo.{IsOwnTree};
+ghost use Rattle.bril_cli.specs.Demo.{IsOwnProgram, IsOwnTree};
 ghost use Rattle.bril_commands.specs.Command.{NeedsProgram, reach};
-ghost use Rattle.bril_commands.specs.Driver.{DoesTree, DoesFiles};
+ghost use Rattle.bril_commands.specs.Driver.{DoesAccepted, DoesTree, DoesFiles};
 ghost use Rattle.bril_commands.specs.PassList.{pass_list};
 ghost use Rattle.bril_commands.specs.Source.{IsTreeAt};
 ghost use Rattle.bril_commands.specs.Stages.{RefusesTree};
@@ -13,15 +13,18 @@ ghost use Rattle.bril_report.specs.StageFaults.{status_of};
 ghost use Rattle.bril_report.specs.Telling.{Telling};
 ghost use Rattle.bril_words.specs.Names.{names_of};
 ghost use Rattle.bril_words.specs.Request.{IsActionInRange};
+ghost use Rattle.bril_words.specs.Seen.{text_seen};
 
 use crate::commands::demo::demo;
 use crate::commands::emit::put_image;
 use crate::commands::passes::put_transformed;
 use crate::commands::run::{RunSettings, run};
 use crate::listed_passes::ListedPasses;
+use bril_checker::Checked;
 use bril_commands::commands::check::put_counts;
 use bril_commands::commands::interp::interpret;
 use bril_commands::commands::json::put_json;
+use bril_commands::commands::recording::{RecordSettings, put_recorded};
 use bril_commands::commands::text::put_text;
 use bril_commands::program::accepted_program;
 use bril_commands::source::{file_tree, linked_tree};
@@ -39,8 +42,9 @@ use std::alloc::Global;
 /// error output.
 ///
 /// `text` and `json` read one file, and the other commands this and all that it imports; together they have at most 16,777,216 bytes.
-/// A file is in JSON where its path ends in `.json`, and in text anywhere else. `Err`: the status that a stage, or the command, ended
-/// with. A stage that refuses puts nothing on the output.
+/// A file is in JSON where its path ends in `.json`, and in text anywhere else. `run`, `passes` and `emit` read the file of a profile,
+/// where the request names one. `Err`: the status that a stage, or the command, ended with. A stage that refuses puts nothing on the
+/// output.
 pub fn drive<F: Files, O: Sink, E: Sink>(
     alloc: Global,
     request: Request,
@@ -52,7 +56,7 @@ pub fn drive<F: Files, O: Sink, E: Sink>(
     requires few { length (names_of request.list.now) ≤ 64 }
     ensures holds { (F.seen files.new).holds ≡ (F.seen files.old).holds }
     ensures faults { (F.seen files.old).faults ≤ (F.seen files.new).faults }
-    ensures does { Telling O.seen E.seen (λ told s t. DoesFiles (command request.entry.action) (status_of result) (pass_list (λ p. meaning p) (λ p. counts p) passes.old passes.new (names_of request.entry.list.now)) (F.seen files.old) (F.seen files.new) request.entry.path.now request.entry.args.now told s t) outputs.old outputs.new }
+    ensures does { Telling O.seen E.seen (λ told s t. DoesFiles (command request.entry.action) (status_of result) (pass_list (λ p. meaning p) (λ p. counts p) passes.old passes.new (names_of request.entry.list.now)) (F.seen files.old) (F.seen files.new) request.entry.path.now (text_seen request.entry.profile) request.entry.args.now told s t) outputs.old outputs.new }
     ensures keeps { KeepsPasses (λ p. meaning p) request.entry.action passes.old passes.new }
 {
     let names = names_of(alloc, request.list)?;
@@ -61,7 +65,7 @@ pub fn drive<F: Files, O: Sink, E: Sink>(
         boxes: passes,
         names: &names,
     };
-    do_command(alloc, request, &tree, &mut passes, outputs)
+    do_command(alloc, request, &tree, files, &mut passes, outputs)
 }
 
 // The tree of a request's files, or the demo's.
@@ -76,6 +80,7 @@ fn tree_of<F: Files>(alloc: Global, request: Request, files: &mut F) -> Result<T
         Action::WriteText | Action::WriteJson => file_tree(alloc, request.path, files),
         Action::Run { .. }
         | Action::Interpret { .. }
+        | Action::Record { .. }
         | Action::Emit { .. }
         | Action::Passes
         | Action::Check
@@ -84,11 +89,12 @@ fn tree_of<F: Files>(alloc: Global, request: Request, files: &mut F) -> Result<T
     }
 }
 
-// Does what a request asks of its files' tree. To check, interpret, transform, emit or run it, the tree has an accepted program.
-fn do_command<O: Sink, E: Sink>(
+// Does what a request asks of its files' tree. To check, interpret, record, transform, emit or run it, the tree has an accepted program.
+fn do_command<F: Files, O: Sink, E: Sink>(
     alloc: Global,
     request: Request,
     tree: &Tree,
+    files: &mut F,
     passes: &mut ListedPasses<'_, '_>,
     outputs: &mut Outputs<'_, '_, O, E>,
 ) -> Result<(), Status>
@@ -96,7 +102,44 @@ fn do_command<O: Sink, E: Sink>(
     requires alone { NeedsProgram (command request.action) → tree.now.imports ≡ [] }
     requires own { IsOwnTree request.action tree.now }
     ensures same_boxes { passes.new.boxes.ghost_name ≡ passes.old.boxes.ghost_name }
-    ensures does { Telling O.seen E.seen (λ told s t. DoesTree (command request.entry.action) (status_of result) (pass_list (λ p. meaning p) (λ p. counts p) passes.old.boxes.now passes.new.boxes.now passes.old.names.now) tree.now request.entry.args.now told s t) outputs.old outputs.new }
+    ensures holds { (F.seen files.new).holds ≡ (F.seen files.old).holds }
+    ensures faults { (F.seen files.old).faults ≤ (F.seen files.new).faults }
+    ensures does { Telling O.seen E.seen (λ told s t. DoesTree (command request.entry.action) (status_of result) (pass_list (λ p. meaning p) (λ p. counts p) passes.old.boxes.now passes.new.boxes.now passes.old.names.now) (F.seen files.old) (F.seen files.new) tree.now (text_seen request.entry.profile) request.entry.args.now told s t) outputs.old outputs.new }
+    ensures keeps { KeepsPasses (λ p. meaning p) request.entry.action passes.old.boxes.now passes.new.boxes.now }
+{
+    match request.action {
+        Action::Link => put_text(alloc, tree, outputs.out),
+        Action::WriteText => put_text(alloc, tree, outputs.out),
+        Action::WriteJson => put_json(alloc, tree, outputs.out),
+        Action::Run { .. }
+        | Action::Interpret { .. }
+        | Action::Record { .. }
+        | Action::Emit { .. }
+        | Action::Passes
+        | Action::Check
+        | Action::Demo { .. } => {
+            let program = accepted_program(alloc, tree)?;
+            do_program(alloc, request, program, files, passes, outputs)
+        }
+    }
+}
+
+// Does what a request asks of its accepted program.
+fn do_program<F: Files, O: Sink, E: Sink>(
+    alloc: Global,
+    request: Request,
+    program: Checked,
+    files: &mut F,
+    passes: &mut ListedPasses<'_, '_>,
+    outputs: &mut Outputs<'_, '_, O, E>,
+) -> Result<(), Status>
+    requires range { IsActionInRange request.action }
+    requires needs { NeedsProgram (command request.action) }
+    requires own { IsOwnProgram request.action program.prog }
+    ensures same_boxes { passes.new.boxes.ghost_name ≡ passes.old.boxes.ghost_name }
+    ensures holds { (F.seen files.new).holds ≡ (F.seen files.old).holds }
+    ensures faults { (F.seen files.old).faults ≤ (F.seen files.new).faults }
+    ensures does { Telling O.seen E.seen (λ told s t. DoesAccepted (command request.entry.action) (status_of result) (pass_list (λ p. meaning p) (λ p. counts p) passes.old.boxes.now passes.new.boxes.now passes.old.names.now) (F.seen files.old) (F.seen files.new) program.prog (text_seen request.entry.profile) request.entry.args.now told s t) outputs.old outputs.new }
     ensures keeps { KeepsPasses (λ p. meaning p) request.entry.action passes.old.boxes.now passes.new.boxes.now }
 {
     match request.action {
@@ -106,13 +149,13 @@ fn do_command<O: Sink, E: Sink>(
             steps,
             stats,
         } => {
+            let limits = Limits { frames, cells };
             let settings = RunSettings {
-                limits: Limits { frames, cells },
+                limits,
                 steps,
                 stats,
             };
-            let program = accepted_program(alloc, tree)?;
-            run(alloc, program, request.args, settings, passes, outputs)
+            run(alloc, program, request, settings, files, passes, outputs)
         }
         Action::Interpret {
             frames,
@@ -120,31 +163,35 @@ fn do_command<O: Sink, E: Sink>(
             steps,
         } => {
             let limits = Limits { frames, cells };
-            let program = accepted_program(alloc, tree)?;
             interpret(alloc, &program, request.args, limits, steps, outputs.out)
         }
-        Action::Emit { frames } => {
-            let limits = Limits {
-                frames,
-                cells: CELLS,
+        Action::Record {
+            frames,
+            cells,
+            steps,
+            hot,
+            most,
+        } => {
+            let limits = Limits { frames, cells };
+            let settings = RecordSettings {
+                limits,
+                steps,
+                hot,
+                most,
             };
-            let program = accepted_program(alloc, tree)?;
-            put_image(alloc, program, limits, passes, outputs.out)
+            put_recorded(alloc, &program, request.args, settings, outputs.out)
+        }
+        Action::Emit { frames } => {
+            let cells = CELLS;
+            let limits = Limits { frames, cells };
+            let profile = request.profile;
+            put_image(alloc, program, profile, limits, files, passes, outputs.out)
         }
         Action::Passes => {
-            let program = accepted_program(alloc, tree)?;
-            put_transformed(alloc, program, passes, outputs)
+            put_transformed(alloc, program, request.profile, files, passes, outputs)
         }
-        Action::Check => {
-            let program = accepted_program(alloc, tree)?;
-            put_counts(alloc, &program, outputs.out)
-        }
-        Action::Link => put_text(alloc, tree, outputs.out),
-        Action::WriteText => put_text(alloc, tree, outputs.out),
-        Action::WriteJson => put_json(alloc, tree, outputs.out),
-        Action::Demo { functions } => {
-            let program = accepted_program(alloc, tree)?;
-            demo(alloc, functions, program, passes, outputs)
-        }
+        Action::Check => put_counts(alloc, &program, outputs.out),
+        Action::Demo { functions } => demo(alloc, functions, program, passes, outputs),
+        Action::Link | Action::WriteText | Action::WriteJson => unreachable!(),
     }
 }

@@ -8,7 +8,7 @@ use Rattle.bril_checker.specs.Faults as checker
 use Rattle.bril_checker.specs.declared.fault.CheckFault.{CheckFault}
 use Rattle.bril_names.specs.Faults as names
 use Rattle.bril_names.specs.declared.fault.NameFault.{NameFault}
-use Rattle.bril_outside.specs.Files.{FileMap}
+use Rattle.bril_outside.specs.Files.{FileMap, FilesSeen}
 use Rattle.bril_outside.specs.Sink.{Rose, SinkSeen}
 use Rattle.bril_report.specs.Puts.{Puts}
 use Rattle.bril_report.specs.Report.{misnamed_pieces, unaccepted_pieces, unread_pieces, status_number, status_pieces}
@@ -26,14 +26,16 @@ use Rattle.bril_words.specs.CommandLine.{Refusal}
 use Rattle.bril_words.specs.declared.request.Action.{Action}
 use Rattle.import_linker.specs.declared.fault.LinkFault.{LinkFault}
 use Rattle.import_linker.specs.declared.fault.LinkFault.TheVariants as link
-use Rattle.bril_commands.proofs.Reading.{faultless, lacking_fault, lacking_no_tree, lack_told, lacking_unread, not_refused, one_refusal, one_tree}
+use Rattle.bril_commands.proofs.Profiles.{not_refused, refused_once}
+use Rattle.bril_commands.proofs.Reading.{faultless, lacking_fault, lacking_no_tree, lack_told, lacking_unread, not_refused as tree_not_refused, one_refusal, one_tree}
 use Rattle.bril_commands.proofs.Statuses.{Ends, plain}
 use Rattle.bril_commands.specs.Arguments.{argument_pieces, HasArgFault, HasOnlyArgFault, RefusesArgs}
 use Rattle.bril_commands.specs.Call.{Call, ReadsWell, UnlessMemory}
-use Rattle.bril_commands.specs.Command.{Command, OnFile, OnTree, OnProgram, Arguments, NoArguments, OfMain, TakesArguments, AreGiven, RefusesGiven, NeedsProgram, GivesArguments, reach}
+use Rattle.bril_commands.specs.Command.{Command, OnFile, OnTree, OnProgram, Arguments, NoArguments, OfMain, TakesArguments, AreGiven, RefusesGiven, NeedsProgram, GivesArguments, GivesValues, Spell, profile_for, reach}
 use Rattle.bril_commands.specs.CommandLine.{Asks, AsksFor}
-use Rattle.bril_commands.specs.Driver.{IsIdle, Stage, DoesProgram, DoesTree}
+use Rattle.bril_commands.specs.Driver.{IsIdle, Stage, DoesAccepted, DoesProgram, DoesTree}
 use Rattle.bril_commands.specs.PassList.{PassList}
+use Rattle.bril_commands.specs.Profiles.{IsProfileTold, RefusesProfile, profile_path}
 use Rattle.bril_commands.specs.Source.{AreTold, Reach, HaveFault, HaveTree, HasOnlyCheckFault, IsOnlyNameFault, IsOnlyProgram, LackFile, RefusesFiles}
 use Rattle.bril_commands.specs.Stages.{RefusesProgram, IsAcceptedProgram, IsFaultless}
 use Rattle.bril_commands.specs.Table.{command}
@@ -46,8 +48,8 @@ asked_in other (Ok request) = request
 asked_in other (Err refusal) = other
 
 -- a request with these parts
-abbrev pub request_of : Action → List ℕ → List ℕ → List (List ℕ) → Asked
-request_of action path list args = record { action = action; path = path; list = list; args = args }
+abbrev pub request_of : Action → List ℕ → List ℕ → Option (List ℕ) → List (List ℕ) → Asked
+request_of action path list profile args = record { action = action; path = path; list = list; profile = profile; args = args }
 
 pub Ok_not_Err : {request : Asked} {refusal : Refusal} → Ok request ≡ Err refusal → ⊥
 Ok_not_Err e = cc
@@ -55,15 +57,15 @@ Ok_not_Err e = cc
 module _ (c : Call) (asks : Asks c.words) (b : Action) (q : List ℕ) (ys : List (List ℕ)) (f : AsksFor c.words b q ys) where
   asked_path : q ≡ asks.path
   unfolding asked_in
-  asked_path = ap (λ r. (asked_in (request_of asks.action asks.path asks.asked.0 asks.args) r).path) (sym f.1 ∙ asks.asked.1)
+  asked_path = ap (λ r. (asked_in (request_of asks.action asks.path asks.asked.0 asks.asked.1 asks.args) r).path) (sym f.2 ∙ asks.asked.2)
 
   asked_args : ys ≡ asks.args
   unfolding asked_in
-  asked_args = ap (λ r. (asked_in (request_of asks.action asks.path asks.asked.0 asks.args) r).args) (sym f.1 ∙ asks.asked.1)
+  asked_args = ap (λ r. (asked_in (request_of asks.action asks.path asks.asked.0 asks.asked.1 asks.args) r).args) (sym f.2 ∙ asks.asked.2)
 
   pub asked_action : b ≡ asks.action
   unfolding asked_in
-  asked_action = ap (λ r. (asked_in (request_of asks.action asks.path asks.asked.0 asks.args) r).action) (sym f.1 ∙ asks.asked.1)
+  asked_action = ap (λ r. (asked_in (request_of asks.action asks.path asks.asked.0 asks.asked.1 asks.args) r).action) (sym f.2 ∙ asks.asked.2)
 
 -- ---- the causes of a refusal
 
@@ -109,15 +111,15 @@ module _ (c : Call) (asks : Asks c.words) (how : Status) (ends : Ends c asks how
   memory why is either = ⊎_elim (λ e. is ∙ ap link_status e) (λ rose. absurd (reads.sound rose)) either
 
   pub by_tree : (A : Type 0) (tree : Tree) → HaveTree (reach (command action)) c.files_before.holds reads.path tree → (how ≡ status.OutOfMemory → A)
-      → (DoesTree (command action) how c.passes tree asks.args ends.told c.out_before c.out_after → A) → A
+      → (DoesTree (command action) how c.passes c.files_before c.files_after tree c.profile asks.args ends.told c.out_before c.out_after → A) → A
   by_tree A tree have none goes =
       let here : HaveTree (reach (command asks.action)) c.files_before.holds asks.path tree =
       subst (λ (a : Action). HaveTree (reach (command a)) c.files_before.holds asks.path tree) same_action (subst (λ (p : List ℕ). HaveTree (reach (command action)) c.files_before.holds p tree) same_path have) in
-      ⊎_elim (λ refused. none (memory refused.0.0 refused.0.1 (not_refused c.files_before c.files_after asks.path (reach (command asks.action)) tree refused.0.0 told_here here refused.0.2)))
+      ⊎_elim (λ refused. none (memory refused.0.0 refused.0.1 (tree_not_refused c.files_before c.files_after asks.path (reach (command asks.action)) tree refused.0.0 told_here here refused.0.2)))
       (λ deals. goes
-      (subst (λ (t : Tree). DoesTree (command action) how c.passes t asks.args ends.told c.out_before c.out_after)
+      (subst (λ (t : Tree). DoesTree (command action) how c.passes c.files_before c.files_after t c.profile asks.args ends.told c.out_before c.out_after)
       (one_tree c.files_before c.files_after asks.path (reach (command asks.action)) deals.0 tree told_here deals.1 here)
-      (subst (λ a. DoesTree (command a) how c.passes deals.0 asks.args ends.told c.out_before c.out_after) (sym same_action) deals.2)))
+      (subst (λ a. DoesTree (command a) how c.passes c.files_before c.files_after deals.0 c.profile asks.args ends.told c.out_before c.out_after) (sym same_action) deals.2)))
       ends.does
 
   -- a fault was answered, where the files have this one
@@ -142,18 +144,12 @@ module _ (c : Call) (asks : Asks c.words) (how : Status) (ends : Ends c asks how
 
 -- ---- a command that needs a program
 
--- what it does with the accepted program
-abbrev pub DoesAccepted : Command → Status → PassList → Prog → List (List ℕ) → List (List ℕ) → SinkSeen → SinkSeen → Type 0
-DoesAccepted (OnFile outcome) how l p args told s t = ⊥
-DoesAccepted (OnTree outcome) how l p args told s t = ⊥
-DoesAccepted (OnProgram does) how l p args told s t = DoesProgram does how l p args told s t
-
 -- it asks for the program
-asks_program : (k : Command) (how : Status) (l : PassList) (tree : Tree) (args : List (List ℕ)) (told : List (List ℕ)) (s t : SinkSeen) → NeedsProgram k → DoesTree k how l tree args told s t
-    → Stage (RefusesProgram how tree) (IsIdle l told s t) (λ p. IsAcceptedProgram tree p) (λ p is. DoesAccepted k how l p args told s t)
-asks_program (OnFile outcome) how l tree args told s t needs does = absurd needs
-asks_program (OnTree outcome) how l tree args told s t needs does = absurd needs
-asks_program (OnProgram does) how l tree args told s t needs goes = goes
+asks_program : (k : Command) (how : Status) (l : PassList) (f g : FilesSeen) (tree : Tree) (named : Option (List ℕ)) (args : List (List ℕ)) (told : List (List ℕ)) (s t : SinkSeen) → NeedsProgram k → DoesTree k how l f g tree named args told s t
+    → Stage (RefusesProgram how tree) (IsIdle l told s t) (λ p. IsAcceptedProgram tree p) (λ p is. DoesAccepted k how l f g p named args told s t)
+asks_program (OnFile outcome) how l f g tree named args told s t needs does = absurd needs
+asks_program (OnTree outcome) how l f g tree named args told s t needs does = absurd needs
+asks_program (OnProgram does) how l f g tree named args told s t needs goes = goes
 
 -- a command that gives a program arguments asks for it
 needs_program : (k : Command) → GivesArguments k → NeedsProgram k
@@ -173,16 +169,48 @@ module _ (how : Status) (tree : Tree) (Silent : Type 0) (Goes : Prog → Type 0)
       asks
 
 -- the arguments are refused, or spell values
-given : (k : Command) (how : Status) (l : PassList) (p : Prog) (args : List (List ℕ)) (told : List (List ℕ)) (s t : SinkSeen) → GivesArguments k → DoesAccepted k how l p args told s t
+given : (k : Command) (how : Status) (l : PassList) (f g : FilesSeen) (p : Prog) (named : Option (List ℕ)) (args : List (List ℕ)) (told : List (List ℕ)) (s t : SinkSeen) → GivesArguments k → DoesAccepted k how l f g p named args told s t
     → (RefusesArgs how p args × (told ≡ [])) ⊎ ((fault : ArgFault) → HasArgFault (main_types p) args fault → ⊥)
-given (OnFile outcome) how l p args told s t gives does = absurd gives
-given (OnTree outcome) how l p args told s t gives does = absurd gives
-given (OnProgram does) how l p args told s t gives goes = spelled does.arguments gives (⊎_elim (λ refused. inl (refused.0, refused.1.0.0)) (λ values. inr (values.0, values.1)) goes)
+given (OnFile outcome) how l f g p named args told s t gives does = absurd gives
+given (OnTree outcome) how l f g p named args told s t gives does = absurd gives
+given (OnProgram does) how l f g p named args told s t gives goes = spelled does.arguments gives (⊎_elim (λ refused. inl (refused.0, refused.1.0.0)) (λ values. inr (values.0, values.1)) goes)
   where
     spelled : (arguments : Arguments) → TakesArguments arguments → (RefusesGiven arguments how p args × (told ≡ [])) ⊎ ((values : List Value) × AreGiven arguments p args values)
         → (RefusesArgs how p args × (told ≡ [])) ⊎ ((fault : ArgFault) → HasArgFault (main_types p) args fault → ⊥)
     spelled NoArguments takes either = absurd takes
     spelled OfMain takes either = ⊎_elim inl (λ values. inr values.1.faultless) either
+
+-- ---- arguments that are spelled, and a profile that is refused
+
+-- where words spell the arguments, nothing else comes
+pub no_refusal : (arguments : Arguments) (how : Status) (p : Prog) (args : List (List ℕ)) (values : List Value) → Spell arguments p args values → RefusesGiven arguments how p args → how ≡ status.OutOfMemory
+no_refusal NoArguments how p args values spelled refuses = absurd refuses
+no_refusal OfMain how p args values spelled refuses = ⊎_elim (λ e. e) (λ has. absurd (has.2.unspelled values spelled)) (args_fail how p args refuses)
+
+pub same_values : (arguments : Arguments) (p : Prog) (args : List (List ℕ)) (given values : List Value) → AreGiven arguments p args given → Spell arguments p args values → given ≡ values
+same_values NoArguments p args given values are spelled = are ∙ sym spelled
+same_values OfMain p args given values are spelled = are.only values spelled
+
+-- a command whose program gets values asks for it
+values_need : (k : Command) (p : Prog) (args : List (List ℕ)) (values : List Value) → GivesValues k p args values → NeedsProgram k
+values_need (OnFile outcome) p args values gives = absurd gives
+values_need (OnTree outcome) p args values gives = absurd gives
+values_need (OnProgram does) p args values gives = tt
+
+-- the refusal of the profile's file was answered, or memory ran out
+module _ (k : Command) (f g : FilesSeen) (sound : ¬ Rose f.faults g.faults) (how why : Status) (ample : why ≢ status.OutOfMemory) (l : PassList) (p : Prog) (named : Option (List ℕ)) (args told : List (List ℕ)) (s t : SinkSeen) (values : List Value) where
+  profile_answered : GivesValues k p args values → IsProfileTold (profile_for k named) f.holds → RefusesProfile (profile_for k named) why f g → DoesAccepted k how l f g p named args told s t → (how ≡ status.OutOfMemory) ⊎ ((how ≡ why) × (told ≡ []))
+  profile_answered = by k
+    where
+      by : (k : Command) → GivesValues k p args values → IsProfileTold (profile_for k named) f.holds → RefusesProfile (profile_for k named) why f g → DoesAccepted k how l f g p named args told s t → (how ≡ status.OutOfMemory) ⊎ ((how ≡ why) × (told ≡ []))
+      by (OnFile outcome) gives are refuses does = absurd gives
+      by (OnTree outcome) gives are refuses does = absurd gives
+      by (OnProgram does) gives are refuses goes =
+          ⊎_elim (λ refused. inl (no_refusal does.arguments how p args values gives refused.0))
+          (λ values. ⊎_elim (λ refused. ⊎_elim inl (λ same. inr (same, refused.1.0.0)) (refused_once f g sound (profile_path does.profile named) how why are refused.0 refuses ample))
+          (λ given. absurd (ample (not_refused f g sound (profile_path does.profile named) given.0 why are given.1 refuses)))
+          values.2)
+          goes
 
 -- what is said of a fault of the arguments
 argument_said : (fault : ArgFault) (s t : SinkSeen) → fault ≢ argument.Memory → Puts s (status_pieces (argument_status fault)) t
@@ -206,16 +234,16 @@ module _ (c : Call) (asks : Asks c.words) (how : Status) (ends : Ends c asks how
     by_program : (A : Type 0) → (how ≡ status.OutOfMemory → A)
         → (ends.told ≡ [] → (fault : NameFault) → how ≡ status.Misnamed fault → IsOnlyNameFault tree fault → A)
         → (ends.told ≡ [] → (p : Prog) (fault : CheckFault) → how ≡ status.Unaccepted p fault → IsOnlyProgram tree p → HasOnlyCheckFault p fault → A)
-        → ((p : Prog) → IsAcceptedProgram tree p → DoesAccepted (command action) how c.passes p asks.args ends.told c.out_before c.out_after → A) → A
+        → ((p : Prog) → IsAcceptedProgram tree p → DoesAccepted (command action) how c.passes c.files_before c.files_after p c.profile asks.args ends.told c.out_before c.out_after → A) → A
     by_program A memory misnamed unaccepted goes =
         by_tree c asks how ends action reads A tree linked memory
-        (λ does. by_names how tree (IsIdle c.passes ends.told c.out_before c.out_after) (λ q. DoesAccepted (command action) how c.passes q asks.args ends.told c.out_before c.out_after)
-        (asks_program (command action) how c.passes tree asks.args ends.told c.out_before c.out_after needs does) A memory
+        (λ does. by_names how tree (IsIdle c.passes ends.told c.out_before c.out_after) (λ q. DoesAccepted (command action) how c.passes c.files_before c.files_after q c.profile asks.args ends.told c.out_before c.out_after)
+        (asks_program (command action) how c.passes c.files_before c.files_after tree c.profile asks.args ends.told c.out_before c.out_after needs does) A memory
         (λ none. misnamed none.0.0) (λ none. unaccepted none.0.0) goes)
 
     -- where the tree has a program, nothing else comes: memory ran out, or the program has a fault of the checker, or it is accepted and was dealt with
     pub with_program : (A : Type 0) (p : Prog) → Numbered tree p → (how ≡ status.OutOfMemory → A) → ((fault : CheckFault) → how ≡ status.Unaccepted p fault → ends.told ≡ [] → HasOnlyCheckFault p fault → A)
-        → (IsFaultless p → DoesAccepted (command action) how c.passes p asks.args ends.told c.out_before c.out_after → A) → A
+        → (IsFaultless p → DoesAccepted (command action) how c.passes c.files_before c.files_after p c.profile asks.args ends.told c.out_before c.out_after → A) → A
     with_program A p numbered memory unaccepted goes =
         by_program A memory
         (λ none fault e has. absurd (has.unnumbered p numbered))
@@ -224,7 +252,7 @@ module _ (c : Call) (asks : Asks c.words) (how : Status) (ends : Ends c asks how
         unaccepted fault (subst (λ r. how ≡ status.Unaccepted r fault) same e) none (subst (λ r. HasOnlyCheckFault r fault) same has))
         (λ q program done.
         let same : q ≡ p = program.only.alone p numbered in
-        goes (subst IsFaultless same program.sound) (subst (λ r. DoesAccepted (command action) how c.passes r asks.args ends.told c.out_before c.out_after) same done))
+        goes (subst IsFaultless same program.sound) (subst (λ r. DoesAccepted (command action) how c.passes c.files_before c.files_after r c.profile asks.args ends.told c.out_before c.out_after) same done))
 
     pub misnamed_where : (fault : NameFault) → names.HasFault tree fault → UnlessMemory (status_number how) ((status_number how ≡ 65) × Puts c.err_before (misnamed_pieces fault) c.err_after)
     misnamed_where fault has =
@@ -260,7 +288,21 @@ module _ (c : Call) (asks : Asks c.words) (how : Status) (ends : Ends c asks how
       (argument_said fault c.err_before c.err_after ample (said c asks how ends (argument_status fault) same refused.1))))
       (args_fail how p asks.args refused.0))
       (λ faultless. absurd (faultless fault (ample, here)))
-      (given (command action) how c.passes p asks.args ends.told c.out_before c.out_after gives does))
+      (given (command action) how c.passes c.files_before c.files_after p c.profile asks.args ends.told c.out_before c.out_after gives does))
+
+  -- ---- the profile's file
+
+  module _ (reads : ReadsWell c action) (tree : Tree) (p : Prog) (linked : HaveTree (reach (command action)) c.files_before.holds reads.path tree) (numbered : Numbered tree p) (accepted : IsAccepted p) where
+    -- the arguments are spelled, and the profile's file is refused so
+    pub refused_where : (values : List Value) → GivesValues (command action) p reads.args values → (why : Status) → why ≢ status.OutOfMemory → RefusesProfile (profile_for (command action) c.profile) why c.files_before c.files_after
+        → UnlessMemory (status_number how) ((status_number how ≡ status_number why) × Puts c.err_before (status_pieces why) c.err_after)
+    refused_where values spelled why ample refuses =
+        let here : GivesValues (command action) p asks.args values = subst (λ a. GivesValues (command action) p a values) (same_args c asks how ends action reads) spelled in
+        with_program (values_need (command action) p asks.args values here) reads tree linked _ p numbered (exhausted how _)
+        (λ fault e none has. absurd (has.unaccepted accepted))
+        (λ faultless does. ⊎_elim (exhausted how _)
+        (λ answered. inr (ap status_number answered.0, said c asks how ends why answered.0 answered.1))
+        (profile_answered (command action) c.files_before c.files_after reads.sound how why ample c.passes p c.profile asks.args ends.told c.out_before c.out_after values here reads.told_profile refuses does))
 
 -- ---- a file that isn't there
 

@@ -27,7 +27,7 @@ PutsAll-by {s} {t} pieces is many took = record {
 }
 
 module _ (i : InterpView) (p : Prog) (limits : Limits) (values : List Value) (fresh : IsFresh i p limits values) (steps : ℕ) where
-  reached : (n : ℕ) → reached_after i n ≡ state_after p limits values n
+  pub reached : (n : ℕ) → reached_after i n ≡ state_after p limits values n
   reached n = λ k. after (step (fresh.of_program k) (fresh.under k)) n (fresh.state k)
 
   next_here : (n : ℕ) → print_at i (reached_after i n) ≡ next_print p (state_after p limits values n)

@@ -1,11 +1,14 @@
 pub mod Causes
 pub mod Counts
+pub mod Driving
 pub mod Interpreting
 pub mod Keeping
 pub mod Outcomes
 pub mod Prints
+pub mod Profiles
 pub mod Promises
 pub mod Reading
+pub mod Recording
 pub mod Running
 pub mod Sources
 pub mod Statuses

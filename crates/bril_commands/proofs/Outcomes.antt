@@ -10,7 +10,7 @@ use Rattle.bril_tree.specs.Numbered.{Numbered}
 use Rattle.bril_names.specs.Faults as names
 use Rattle.bril_names.specs.declared.fault.NameFault.{NameFault}
 use Rattle.bril_names.specs.declared.fault.NameFault.TheVariants as name
-use Rattle.bril_commands.specs.PassList.{pass_list, IsEmpty, RefusesList}
+use Rattle.bril_commands.specs.PassList.{pass_list, RefusesList}
 use Rattle.bril_commands.specs.Source.{HasOnlyCheckFault, IsOnlyNameFault, IsOnlyProgram}
 use Rattle.bril_commands.specs.Stages.{RefusesNames, RefusesCheck, RefusesProgram, IsAcceptedProgram}
 use Rattle.bril_profile.specs.declared.profile.Profile.{Profile}
@@ -87,7 +87,7 @@ IsAcceptedProgram-of tree p q only is accepted faultless =
 
 -- ---- What a list of passes answers.
 
-pub RefusesList-of : {B : Type 0} (meaning : B → Meaning) (counts : B → Tally) (before after : List B) (names : List (List ℕ)) (p : Prog) (profile : Profile) → IsEmpty profile → (fault : ListFault) → IsStopped meaning before profile counts names p after fault → RefusesList (list_status fault) (pass_list meaning counts before after names) p
-RefusesList-of meaning counts before after names p profile empty (list.Unknown place prog) stopped = (λ other. stopped.0, stopped.2)
-RefusesList-of meaning counts before after names p profile empty (list.TooLarge place bound prog) stopped = record { known = λ other. stopped.0; profile = profile; empty = empty; at = prog.prog; stopped = stopped.1 }
-RefusesList-of meaning counts before after names p profile empty list.Memory stopped = record { known = λ other. stopped.0; profile = profile; empty = empty; cut = stopped.1 }
+pub RefusesList-of : {B : Type 0} (meaning : B → Meaning) (counts : B → Tally) (before after : List B) (names : List (List ℕ)) (p : Prog) (profile : Profile) (fault : ListFault) → IsStopped meaning before profile counts names p after fault → RefusesList (list_status fault) (pass_list meaning counts before after names) profile.entries p
+RefusesList-of meaning counts before after names p profile (list.Unknown place prog) stopped = (λ other. stopped.0, stopped.2)
+RefusesList-of meaning counts before after names p profile (list.TooLarge place bound prog) stopped = record { known = λ other. stopped.0; profile = profile; has = refl; at = prog.prog; stopped = stopped.1 }
+RefusesList-of meaning counts before after names p profile list.Memory stopped = record { known = λ other. stopped.0; profile = profile; has = refl; cut = stopped.1 }

@@ -26,7 +26,7 @@ use Rattle.bril_commands.specs.CommandLine.{Asks, AsksFor, AskNothing, IsToldOf}
 use Rattle.bril_commands.specs.Source.{IsTreeAt, RefusesFiles}
 use Rattle.bril_commands.specs.Table.{KeepsPasses, command}
 use Rattle.bril_commands.specs.When.{CommandDone}
-use Rattle.bril_commands.proofs.Causes.{Ok_not_Err, request_of, asked_action, misargued_where, unchecked_where, misnamed_where, told_where, lacking_where}
+use Rattle.bril_commands.proofs.Causes.{Ok_not_Err, request_of, asked_action, misargued_where, unchecked_where, misnamed_where, refused_where, told_where, lacking_where}
 use Rattle.bril_commands.proofs.Keeping.{kept}
 use Rattle.bril_commands.proofs.When.{done_where}
 use Rattle.bril_commands.proofs.Statuses.{Ends, Answers-of}
@@ -43,7 +43,7 @@ large_silent : (c : Call) → TooLarge c → c.out_after ≡ c.out_before
 large_silent c says =
     ⊎_elim (λ bytes. bytes.alone.silent)
     (⊎_elim (λ files. files.alone.silent)
-    (⊎_elim (λ program. ⊎_elim (λ code. code.alone.silent) (λ stack. stack.alone.silent) program.because) (λ pass. pass.alone.silent)))
+    (⊎_elim (λ program. ⊎_elim (λ code. code.alone.silent) (λ stack. stack.alone.silent) program.because) (⊎_elim (λ pass. pass.alone.silent) (λ profile. profile.alone.silent))))
     says.because
 
 -- from 64 to 70 nothing is put on the output
@@ -53,7 +53,9 @@ silent_at (status.NotThere path name) c says low high = refused_silent c says
 silent_at (status.Clash path name) c says low high = refused_silent c says
 silent_at (status.Misnamed fault) c says low high = refused_silent c says
 silent_at (status.Unaccepted p fault) c says low high = refused_silent c says
-silent_at (status.CannotRead path) c says low high = says.refused.alone.silent
+silent_at (status.CannotRead path) c says low high = ⊎_elim (λ files. files.alone.silent) (λ profile. profile.alone.silent) says.because
+silent_at (status.MisreadProfile line) c says low high = says.refused.alone.silent
+silent_at status.ProfileTooLarge c says low high = large_silent c says
 silent_at status.TooManyBytes c says low high = large_silent c says
 silent_at status.TooManyFiles c says low high = large_silent c says
 silent_at (status.CodeTooBig words) c says low high = large_silent c says
@@ -97,7 +99,7 @@ module _ (c : Call) (asks : Asks c.words) (how : Status) (ends : Ends c asks how
   usage e = at_status 64 e
 
   asked_something : AskNothing c.words → UnlessMemory (status_number how) (status_number how ≡ 64)
-  asked_something none = let e : Ok (request_of asks.action asks.path asks.asked.0 asks.args) ≡ Err none.0 = sym asks.asked.1 ∙ none.1 in absurd (Ok_not_Err e)
+  asked_something none = let e : Ok (request_of asks.action asks.path asks.asked.0 asks.asked.1 asks.args) ≡ Err none.0 = sym asks.asked.2 ∙ none.1 in absurd (Ok_not_Err e)
 
   pub Promises-driven : Promises (status_number how) c
   Promises-driven = record {
@@ -107,6 +109,7 @@ module _ (c : Call) (asks : Asks c.words) (how : Status) (ends : Ends c asks how
     spent = at_status 3;
     refused = at_status 65;
     read = at_status 66;
+    profile = at_status 67;
     size = at_status 68;
     argued = at_status 69;
     unknown = at_status 70;
@@ -124,6 +127,9 @@ module _ (c : Call) (asks : Asks c.words) (how : Status) (ends : Ends c asks how
     lacking = lacking_where c asks how ends;
     long_files = λ action reads have. told_where c asks how ends action link.TooManyBytes (λ e. cc) reads have;
     many_files = λ action reads have. told_where c asks how ends action link.TooManyFiles (λ e. cc) reads have;
+    lacking_profile = λ path action reads tree p values have numbered accepted spelled. refused_where c asks how ends action reads tree p have numbered accepted values spelled (status.CannotRead path) (λ e. cc);
+    misread_profile = λ line action reads tree p values have numbered accepted spelled. refused_where c asks how ends action reads tree p have numbered accepted values spelled (status.MisreadProfile line) (λ e. cc);
+    long_profile = λ action reads tree p values have numbered accepted spelled. refused_where c asks how ends action reads tree p have numbered accepted values spelled status.ProfileTooLarge (λ e. cc);
     demo = λ functions path args few asked number. demo_accepted c functions few (at_status 65 number) (asked_action c (at_status 65 number).asks (action.Demo functions) path args asked);
     keeps = λ action path args asked. subst (λ (a : Action). KeepsPasses c.passes.meaning a c.passes.before c.passes.after) (sym (asked_action c asks action path args asked)) ends.keeps;
   }
@@ -133,7 +139,7 @@ module _ (c : Call) (asks : Asks c.words) (how : Status) (ends : Ends c asks how
 -- of words that ask for nothing
 module _ (c : Call) (refusal : Refusal) (refused : words_ask c.words ≡ Err refusal) where
   not_asked : {A : Type 0} (action : Action) (path : List ℕ) (args : List (List ℕ)) → AsksFor c.words action path args → A
-  not_asked action path args asks = let e : Ok (request_of action path asks.0 args) ≡ Err refusal = sym asks.1 ∙ refused in absurd (Ok_not_Err e)
+  not_asked action path args asks = let e : Ok (request_of action path asks.0 asks.1 args) ≡ Err refusal = sym asks.2 ∙ refused in absurd (Ok_not_Err e)
 
   not_read : {A : Type 0} (action : Action) → ReadsWell c action → A
   not_read action reads = not_asked action reads.path reads.args reads.asked
@@ -146,6 +152,7 @@ module _ (c : Call) (refusal : Refusal) (refused : words_ask c.words ≡ Err ref
     spent = λ e. absurd (omega arith);
     refused = λ e. absurd (omega arith);
     read = λ e. absurd (omega arith);
+    profile = λ e. absurd (omega arith);
     size = λ e. absurd (omega arith);
     argued = λ e. absurd (omega arith);
     unknown = λ e. absurd (omega arith);
@@ -163,6 +170,9 @@ module _ (c : Call) (refusal : Refusal) (refused : words_ask c.words ≡ Err ref
     lacking = λ asks path lack. not_asked asks.action asks.path asks.args asks.asked;
     long_files = λ action reads have. not_read action reads;
     many_files = λ action reads have. not_read action reads;
+    lacking_profile = λ path action reads tree p values have numbered accepted spelled refuses. not_read action reads;
+    misread_profile = λ line action reads tree p values have numbered accepted spelled refuses. not_read action reads;
+    long_profile = λ action reads tree p values have numbered accepted spelled refuses. not_read action reads;
     demo = λ functions path args few asked number. absurd (omega arith);
     keeps = λ action path args asks. not_asked action path args asks;
   }
@@ -171,7 +181,7 @@ module _ (c : Call) (refusal : Refusal) (refused : words_ask c.words ≡ Err ref
 done_exhausted : (k : Command) (c : Call) (tree : Tree) (args : List (List ℕ)) → CommandDone k 71 c tree args
 done_exhausted (OnFile outcome) c tree args = inl refl
 done_exhausted (OnTree outcome) c tree args = inl refl
-done_exhausted (OnProgram does) c tree args = λ p values numbered accepted spelled. inl refl
+done_exhausted (OnProgram does) c tree args = λ p values entries numbered accepted spelled profiled. inl refl
 
 -- of words for whose reading memory ran out
 Promises-exhausted : (c : Call) → c.passes.after ≡ c.passes.before → c.out_after ≡ c.out_before → Puts c.err_before (codes "out of memory\n" ∷ []) c.err_after → Promises 71 c
@@ -182,6 +192,7 @@ Promises-exhausted c same silent says = record {
   spent = λ e. absurd (omega arith);
   refused = λ e. absurd (omega arith);
   read = λ e. absurd (omega arith);
+  profile = λ e. absurd (omega arith);
   size = λ e. absurd (omega arith);
   argued = λ e. absurd (omega arith);
   unknown = λ e. absurd (omega arith);
@@ -199,6 +210,9 @@ Promises-exhausted c same silent says = record {
   lacking = λ asks path lack. inl refl;
   long_files = λ action reads have. inl refl;
   many_files = λ action reads have. inl refl;
+  lacking_profile = λ path action reads tree p values have numbered accepted spelled refuses. inl refl;
+  misread_profile = λ line action reads tree p values have numbered accepted spelled refuses. inl refl;
+  long_profile = λ action reads tree p values have numbered accepted spelled refuses. inl refl;
   demo = λ functions path args few asked number. absurd (omega arith);
   keeps = λ action path args asks.
       subst (λ (after : List c.passes.Box). KeepsPasses c.passes.meaning action c.passes.before after) (sym same) (kept c.passes.meaning (takes_passes (command action)) c.passes.before);

@@ -2,6 +2,7 @@
 use Rattle.std.proofs.Common.{◌≡◌, ℕ, ◌+◌, ◌*◌, ◌≤◌, Bool, List, Option, Some, None, refl, sym, ◌∙◌}
 use Rattle.std.specs.Option.{option_map}
 use Rattle.bril_outside.specs.Sink.{joined}
+use Rattle.bril_profile.specs.declared.profile.Entry.{Entry}
 use Rattle.program_numbers.specs.Cost.{IsCost}
 use Rattle.bril_tree.specs.Accepted.{IsAccepted}
 use Rattle.bril_tree.specs.Run.{FitMain, state_after}
@@ -34,11 +35,11 @@ module _ (p : Prog) (limits : Limits) (values : List Value) (words : ℕ) (ended
   same_output = sym shows.prints ∙ printed_in_time shows.implements.homes shows.image p limits values (shows.implements.implements.runs values fits) n cost words end is_cost enough ends
 
 -- what is executed of a program that a list made says this of the source
-module _ (l : PassList) (p q : Prog) (made : IsMade l p q) (accepted : IsAccepted p) (limits : Limits) (frames cells : ℕ) (are : AreLimitsOf (ImageFor frames cells) limits) (values : List Value) (fits : FitMain p values) (words : ℕ) (stats : Bool) where
-  unfoldable pub run_shows : (ended : Option End) (told output : List (List ℕ)) → Executes q limits values words stats ended told output → RunShows p q (AreFactorsOf l p q made) values frames cells words stats ended told output
+module _ (l : PassList) (entries : List Entry) (p q : Prog) (made : IsMade l entries p q) (accepted : IsAccepted p) (limits : Limits) (frames cells : ℕ) (are : AreLimitsOf (ImageFor frames cells) limits) (values : List Value) (fits : FitMain p values) (words : ℕ) (stats : Bool) where
+  unfoldable pub run_shows : (ended : Option End) (told output : List (List ℕ)) → Executes q limits values words stats ended told output → RunShows p q (AreFactorsOf l entries p q made) values frames cells words stats ended told output
   run_shows ended told output executes =
-      let chain = made_chain l p q made accepted in
-      let Is = AreFactorsOf l p q made in
+      let chain = made_chain l entries p q made accepted in
+      let Is = AreFactorsOf l entries p q made in
       let fits_made = made_fits p q Is chain.some chain.refines limits values fits in
       record {
         limits = limits;

@@ -10,6 +10,7 @@ use Rattle.bril_tree.specs.declared.limits.End.{End}
 use Rattle.bril_tree.specs.declared.limits.Limits.{Limits}
 use Rattle.bril_tree.specs.declared.program.Prog.{Prog}
 use Rattle.bril_tree.specs.declared.value.Value.{Value}
+use Rattle.bril_profile.specs.declared.profile.Entry.{Entry}
 use Rattle.pass_law.proofs.Chaining.{chains-refine}
 use Rattle.pass_law.specs.Chains.{IsRefiningChain}
 use Rattle.rv64_implements.specs.Shown.{ProgramEnds, ProgramRunsOn, ProgramShows}
@@ -17,8 +18,8 @@ use Rattle.bril_commands.specs.PassList.{PassList, IsMade}
 use Rattle.bril_commands.specs.Sources.{SourceRunsOn, SourceShows}
 
 -- what the list makes does what the source does, and there is a product of the factors
-pub made_chain : (l : PassList) (p q : Prog) (made : IsMade l p q) → IsAccepted p → IsRefiningChain l.meaning l.before made.profile l.names p made.ran.programs q
-made_chain l p q made accepted = chains-refine l.meaning l.before made.profile l.names p made.ran.programs q accepted made.ran.chain
+pub made_chain : (l : PassList) (entries : List Entry) (p q : Prog) (made : IsMade l entries p q) → IsAccepted p → IsRefiningChain l.meaning l.before made.profile l.names p made.ran.programs q
+made_chain l entries p q made accepted = chains-refine l.meaning l.before made.profile l.names p made.ran.programs q accepted made.ran.chain
 
 module _ (p q : Prog) (IsFactor : ℕ → Type 0) (some : (k : ℕ) × IsFactor k) (refines : (k : ℕ) → IsFactor k → Refines p q k) (limits : Limits) (values : List Value) (fits : FitMain p values) where
   first : Refines p q some.0
@@ -73,7 +74,7 @@ module _ (p q : Prog) (IsFactor : ℕ → Type 0) (some : (k : ℕ) × IsFactor 
     shows_source (Some end) shows = ends_too end shows
 
 -- the arguments of a program fit what a list makes of it
-pub fits_made : (l : PassList) (p q : Prog) (made : IsMade l p q) → IsAccepted p → (values : List Value) → FitMain p values → FitMain q values
-fits_made l p q made accepted values fits =
-    let chain = made_chain l p q made accepted in
+pub fits_made : (l : PassList) (entries : List Entry) (p q : Prog) (made : IsMade l entries p q) → IsAccepted p → (values : List Value) → FitMain p values → FitMain q values
+fits_made l entries p q made accepted values fits =
+    let chain = made_chain l entries p q made accepted in
     subst (λ types. AllZip Suits values types) (chain.refines chain.some.0 chain.some.1).same_types fits

@@ -1,11 +1,12 @@
 -- What each status says of the call.
-use Rattle.std.proofs.Common.{◌≡◌, ◌⊎◌, ℕ, Bool, true, false, append-nil, List, [], ◌++◌, length, map, Some, None, refl, sym, ap, ◌∙◌, subst, inl, inr, ⊎_elim}
+use Rattle.std.proofs.Common.{◌≡◌, ◌⊎◌, ℕ, Bool, true, false, append-nil, List, [], ◌++◌, length, map, Option, Some, None, refl, sym, ap, ◌∙◌, subst, inl, inr, ⊎_elim}
 use Rattle.std.proofs.Math.Seq.{take-length}
 use Rattle.bril_arguments.specs.declared.fault.ArgFault.TheVariants as argument
 use Rattle.bril_arguments.specs.declared.fault.ArgFault.{ArgFault}
 use Rattle.bril_outside.specs.Sink.{SinkSeen}
+use Rattle.bril_profile.specs.declared.profile.Entry.{Entry}
 use Rattle.bril_report.specs.Puts.{Puts}
-use Rattle.bril_report.specs.Report.{status_number, status_pieces, code_pieces, stack_pieces, misread_pieces, not_there_pieces, clash_pieces, unread_pieces, many_bytes_pieces, many_files_pieces}
+use Rattle.bril_report.specs.Report.{status_number, status_pieces, code_pieces, stack_pieces, misread_pieces, not_there_pieces, clash_pieces, unread_pieces, long_profile_pieces, many_bytes_pieces, many_files_pieces, profile_pieces}
 use Rattle.bril_report.specs.StageFaults.{link_status}
 use Rattle.bril_report.specs.declared.status.Status.TheVariants as status
 use Rattle.bril_report.specs.declared.status.Status.{Status}
@@ -15,15 +16,16 @@ use Rattle.bril_tree.specs.declared.limits.Limits.{Limits}
 use Rattle.bril_tree.specs.declared.program.Prog.{Prog}
 use Rattle.bril_tree.specs.declared.tree.Tree.{Tree}
 use Rattle.bril_tree.specs.declared.value.Value.{Value}
-use Rattle.bril_commands.specs.Answers.{Answers, FilesRefused, HasLongCode, HasLongStack, ListBegan}
+use Rattle.bril_commands.specs.Answers.{Answers, FilesRefused, HasLongCode, HasLongStack, ListBegan, ProfileRefused}
 use Rattle.bril_commands.specs.Arguments.{argument_pieces, HasOnlyArgFault, RefusesArgs}
 use Rattle.bril_commands.specs.Call.{Call, CommandComesTo, ComesTo}
-use Rattle.bril_commands.specs.Command.{Command, OnFile, OnTree, OnProgram, OfProgram, Arguments, NoArguments, OfMain, TakesArguments, AreGiven, RefusesGiven, Makes, RefusesMaking, AreLimitsOf, Fits, RefusesEmission, NeedsProgram, GivesArguments, MakesImage, reach, takes_passes}
+use Rattle.bril_commands.specs.Command.{Command, OnFile, OnTree, OnProgram, OfProgram, Arguments, NoArguments, OfMain, TakesArguments, AreGiven, RefusesGiven, Makes, RefusesMaking, AreLimitsOf, Fits, RefusesEmission, NeedsProgram, GivesArguments, MakesImage, profile_for, reach, takes_passes}
 use Rattle.bril_commands.specs.CommandLine.{Asks}
-use Rattle.bril_commands.specs.Driver.{IsSilent, subject, DoesProgram, DoesTree, DoesFiles}
+use Rattle.bril_commands.specs.Driver.{IsSilent, subject, DoesGiven, DoesProgram, DoesTree, DoesFiles}
 use Rattle.bril_commands.specs.Images.{RefusesImage}
 use Rattle.bril_commands.specs.Outcome.{Outcome, Works}
 use Rattle.bril_commands.specs.PassList.{PassList, AreUnused, IsMade, IsCutOff, RefusesList}
+use Rattle.bril_commands.specs.Profiles.{IsProfileAt, RefusesProfile, RefusesProfileFile, profile_path}
 use Rattle.bril_commands.specs.Source.{IsProgramOf, IsTreeAt, RefusesFiles}
 use Rattle.bril_commands.specs.Stages.{IsAcceptedProgram, RefusesTree, RefusesProgram}
 use Rattle.bril_commands.specs.Table.{command, Keeps, KeepsPasses}
@@ -37,11 +39,11 @@ pub plain : {s t : SinkSeen} (told line : List (List ℕ)) → told ≡ [] → P
 plain {s} {t} told line none says = subst (λ (ps : List (List ℕ)). Puts s (ps ++ line) t) none says
 
 -- a list that made a program ran to its end
-IsMade-cut : (l : PassList) (p q : Prog) → IsMade l p q → IsCutOff l p
-IsMade-cut l p q made = record {
+IsMade-cut : (l : PassList) (entries : List Entry) (p q : Prog) → IsMade l entries p q → IsCutOff l entries p
+IsMade-cut l entries p q made = record {
   known = made.known;
   profile = made.profile;
-  empty = made.empty;
+  has = made.has;
   cut = record {
     before = length l.names;
     program = q;
@@ -52,7 +54,7 @@ IsMade-cut l p q made = record {
 -- The words of a call ask for a command, the status is what it answered, and it was said after what is told.
 pub record Ends (c : Call) (asks : Asks c.words) (how : Status) : Type 0 where
   pub told : List (List ℕ)
-  pub does : DoesFiles (command asks.action) how c.passes c.files_before c.files_after asks.path asks.args told c.out_before c.out_after
+  pub does : DoesFiles (command asks.action) how c.passes c.files_before c.files_after asks.path c.profile asks.args told c.out_before c.out_after
   pub says : Puts c.err_before (told ++ status_pieces how) c.err_after
   pub keeps : KeepsPasses c.passes.meaning asks.action c.passes.before c.passes.after
 
@@ -76,7 +78,7 @@ module _ (c : Call) (asks : Asks c.words) (keeps : KeepsPasses c.passes.meaning 
 
   Answers-files : (why : LinkFault) → Said (link_status why) → RefusesFiles (reach (command asks.action)) why c.files_before c.files_after asks.path → c.out_after ≡ c.out_before → AreUnused c.passes → Answers (status_number (link_status why)) c
   Answers-files (fault.Read path) says refuses silent unused =
-      record { asks = asks; path = path; refused = files_refused (fault.Read path) (unread_pieces path) refuses says silent unused }
+      record { asks = asks; path = path; because = inl (files_refused (fault.Read path) (unread_pieces path) refuses says silent unused) }
   Answers-files (fault.Bad path why) says refuses silent unused =
       record { asks = asks; because = inl (record { path = path; fault = why; refused = files_refused (fault.Bad path why) (misread_pieces path why) refuses says silent unused }) }
   Answers-files (fault.NotThere path name) says refuses silent unused =
@@ -202,70 +204,95 @@ module _ (c : Call) (asks : Asks c.words) (keeps : KeepsPasses c.passes.meaning 
         Answers-given NoArguments gives how says refuses silent unused = absurd refuses
         Answers-given OfMain gives how says refuses silent unused = Answers-args (gives tt) how says refuses silent unused
 
-        -- the list was begun
-        began : takes_passes (command asks.action) ≡ true → IsCutOff c.passes p → ListBegan c asks
-        began takes cut = record { takes = takes; program = p; file = program_file; cut = cut }
+        -- the profile's file is refused
+        profile_refused : (how : Status) (line : List (List ℕ)) → RefusesProfile (profile_for (command asks.action) c.profile) how c.files_before c.files_after → Puts c.err_before line c.err_after → c.out_after ≡ c.out_before → AreUnused c.passes → ProfileRefused c asks how line
+        profile_refused how line refuses says silent unused = record { program = p; file = program_file; refuses = refuses; unused = unused; alone = record { silent = silent; says = says } }
 
-        -- the list of passes makes no program of it
-        Answers-list : takes_passes (command asks.action) ≡ true → (how : Status) → Said how → RefusesList how c.passes p → c.out_after ≡ c.out_before → Answers (status_number how) c
-        Answers-list takes (status.UnknownPass place) says refuses silent = record {
-          asks = asks;
-          takes = takes;
-          program = p;
-          file = program_file;
-          place = place;
-          unknown = refuses.0;
-          unused = refuses.1;
-          alone = record { silent = silent; says = says };
-        }
-        Answers-list takes (status.PassTooLarge place bound) says refuses silent = record {
-          asks = asks;
-          because = inr (inr (inr (record {
+        module _ (path : List ℕ) (named : profile_for (command asks.action) c.profile ≡ Some path) where
+          named_refused : (how : Status) → RefusesProfileFile how c.files_before c.files_after path → RefusesProfile (profile_for (command asks.action) c.profile) how c.files_before c.files_after
+          named_refused how refuses = subst (λ (o : Option (List ℕ)). RefusesProfile o how c.files_before c.files_after) (sym named) refuses
+
+          Answers-profile : (how : Status) → Said how → RefusesProfileFile how c.files_before c.files_after path → c.out_after ≡ c.out_before → AreUnused c.passes → Answers (status_number how) c
+          Answers-profile (status.CannotRead other) says refuses silent unused =
+              record { asks = asks; path = other; because = inr (profile_refused (status.CannotRead other) (unread_pieces other) (named_refused (status.CannotRead other) refuses) says silent unused) }
+          Answers-profile status.ProfileTooLarge says refuses silent unused =
+              record { asks = asks; because = inr (inr (inr (inr (profile_refused status.ProfileTooLarge long_profile_pieces (named_refused status.ProfileTooLarge refuses) says silent unused)))) }
+          Answers-profile (status.MisreadProfile line) says refuses silent unused =
+              record { asks = asks; line = line; refused = profile_refused (status.MisreadProfile line) (profile_pieces line) (named_refused (status.MisreadProfile line) refuses) says silent unused }
+          Answers-profile status.OutOfMemory says refuses silent unused = Answers-exhausted (inl unused) says silent
+          Answers-profile _ says refuses silent unused = absurd refuses
+
+        Answers-named : (path : Option (List ℕ)) → profile_for (command asks.action) c.profile ≡ path → (how : Status) → Said how → RefusesProfile path how c.files_before c.files_after → c.out_after ≡ c.out_before → AreUnused c.passes → Answers (status_number how) c
+        Answers-named None named how says refuses silent unused = absurd refuses
+        Answers-named (Some path) named how says refuses silent unused = Answers-profile path named how says refuses silent unused
+
+        module _ (entries : List Entry) (profiled : IsProfileAt (profile_for (command asks.action) c.profile) c.files_before.holds entries) where
+          -- the list was begun
+          began : takes_passes (command asks.action) ≡ true → IsCutOff c.passes entries p → ListBegan c asks
+          began takes cut = record { takes = takes; program = p; file = program_file; entries = entries; profiled = profiled; cut = cut }
+
+          -- the list of passes makes no program of it
+          Answers-list : takes_passes (command asks.action) ≡ true → (how : Status) → Said how → RefusesList how c.passes entries p → c.out_after ≡ c.out_before → Answers (status_number how) c
+          Answers-list takes (status.UnknownPass place) says refuses silent = record {
+            asks = asks;
             takes = takes;
             program = p;
             file = program_file;
             place = place;
-            bound = bound;
-            refused = refuses;
+            unknown = refuses.0;
+            unused = refuses.1;
             alone = record { silent = silent; says = says };
-          })));
-        }
-        Answers-list takes status.OutOfMemory says refuses silent = Answers-exhausted (inr (began takes refuses)) says silent
-        Answers-list takes _ says refuses silent = absurd refuses
-
-        Answers-making : (by_list : Bool) → (by_list ≡ true → takes_passes (command asks.action) ≡ true) → (how : Status) → Said how → RefusesMaking by_list how c.passes p → c.out_after ≡ c.out_before → Answers (status_number how) c
-        Answers-making false takes how says refuses silent = absurd refuses
-        Answers-making true takes how says refuses silent = Answers-list (takes refl) how says refuses silent
-
-        -- how the passes were left by a command that made a program by its list, or without one
-        tallies_of : (by_list : Bool) → takes_passes (command asks.action) ≡ by_list → (q : Prog) → Makes by_list c.passes p q → AreUnused c.passes ⊎ ListBegan c asks
-        tallies_of false takes q makes = inl (unused_by c asks.action takes keeps)
-        tallies_of true takes q makes = inr (began takes (IsMade-cut c.passes p q makes))
-
-        -- an image was to be made of the program that the list makes, and it is too large
-        module _ (q : Prog) (by : Makes (takes_passes (command asks.action)) c.passes p q) (limits : Limits) (makes : MakesImage (command asks.action) limits) where
-          long_program : HasLongCode c q ⊎ HasLongStack c q limits → Answers 68 c
-          long_program because = record {
-            asks = asks;
-            because = inr (inr (inl (record { limits = limits; makes = makes; program = p; file = program_file; made = q; by = by; because = because })));
           }
+          Answers-list takes (status.PassTooLarge place bound) says refuses silent = record {
+            asks = asks;
+            because = inr (inr (inr (inl (record {
+              takes = takes;
+              program = p;
+              file = program_file;
+              entries = entries;
+              profiled = profiled;
+              place = place;
+              bound = bound;
+              refused = refuses;
+              alone = record { silent = silent; says = says };
+            }))));
+          }
+          Answers-list takes status.OutOfMemory says refuses silent = Answers-exhausted (inr (began takes refuses)) says silent
+          Answers-list takes _ says refuses silent = absurd refuses
 
-          Answers-image : (how : Status) → Said how → RefusesImage how q limits → c.out_after ≡ c.out_before → Answers (status_number how) c
-          Answers-image (status.CodeTooBig words) says refuses silent =
-              long_program (inl (record {
-                long = refuses.0;
-                alone = record { silent = silent; says = subst (λ n. Puts c.err_before (code_pieces n) c.err_after) refuses.1 says };
-              }))
-          Answers-image (status.StackTooBig words) says refuses silent =
-              long_program (inr (record {
-                short_code = refuses.0;
-                stack = refuses.1.0;
-                size = refuses.1.1;
-                long = refuses.1.2;
-                alone = record { silent = silent; says = subst (λ n. Puts c.err_before (stack_pieces n) c.err_after) refuses.1.3 says };
-              }))
-          Answers-image status.OutOfMemory says refuses silent = Answers-exhausted (tallies_of (takes_passes (command asks.action)) refl q by) says silent
-          Answers-image _ says refuses silent = absurd refuses
+          Answers-making : (by_list : Bool) → (by_list ≡ true → takes_passes (command asks.action) ≡ true) → (how : Status) → Said how → RefusesMaking by_list how c.passes entries p → c.out_after ≡ c.out_before → Answers (status_number how) c
+          Answers-making false takes how says refuses silent = absurd refuses
+          Answers-making true takes how says refuses silent = Answers-list (takes refl) how says refuses silent
+
+          -- how the passes were left by a command that made a program by its list, or without one
+          tallies_of : (by_list : Bool) → takes_passes (command asks.action) ≡ by_list → (q : Prog) → Makes by_list c.passes entries p q → AreUnused c.passes ⊎ ListBegan c asks
+          tallies_of false takes q makes = inl (unused_by c asks.action takes keeps)
+          tallies_of true takes q makes = inr (began takes (IsMade-cut c.passes entries p q makes))
+
+          -- an image was to be made of the program that the list makes, and it is too large
+          module _ (q : Prog) (by : Makes (takes_passes (command asks.action)) c.passes entries p q) (limits : Limits) (makes : MakesImage (command asks.action) limits) where
+            long_program : HasLongCode c q ⊎ HasLongStack c q limits → Answers 68 c
+            long_program because = record {
+              asks = asks;
+              because = inr (inr (inl (record { limits = limits; makes = makes; program = p; file = program_file; entries = entries; profiled = profiled; made = q; by = by; because = because })));
+            }
+
+            Answers-image : (how : Status) → Said how → RefusesImage how q limits → c.out_after ≡ c.out_before → Answers (status_number how) c
+            Answers-image (status.CodeTooBig words) says refuses silent =
+                long_program (inl (record {
+                  long = refuses.0;
+                  alone = record { silent = silent; says = subst (λ n. Puts c.err_before (code_pieces n) c.err_after) refuses.1 says };
+                }))
+            Answers-image (status.StackTooBig words) says refuses silent =
+                long_program (inr (record {
+                  short_code = refuses.0;
+                  stack = refuses.1.0;
+                  size = refuses.1.1;
+                  long = refuses.1.2;
+                  alone = record { silent = silent; says = subst (λ n. Puts c.err_before (stack_pieces n) c.err_after) refuses.1.3 says };
+                }))
+            Answers-image status.OutOfMemory says refuses silent = Answers-exhausted (tallies_of (takes_passes (command asks.action)) refl q by) says silent
+            Answers-image _ says refuses silent = absurd refuses
 
       -- ---- a command on an accepted program
 
@@ -273,35 +300,49 @@ module _ (c : Call) (asks : Asks c.words) (keeps : KeepsPasses c.passes.meaning 
         makes_image : (limits : Limits) → AreLimitsOf does.emission limits → MakesImage (command asks.action) limits
         makes_image limits are = subst (λ k. MakesImage k limits) (sym is) are
 
-        made_by : (p q : Prog) → Makes does.takes_passes c.passes p q → Makes (takes_passes (command asks.action)) c.passes p q
-        made_by p q makes = subst (λ by_list. Makes by_list c.passes p q) (sym (ap takes_passes is)) makes
+        made_by : (entries : List Entry) (p q : Prog) → Makes does.takes_passes c.passes entries p q → Makes (takes_passes (command asks.action)) c.passes entries p q
+        made_by entries p q makes = subst (λ by_list. Makes by_list c.passes entries p q) (sym (ap takes_passes is)) makes
 
-        comes_to : (p : Prog) (program : IsAcceptedProgram tree p) (values : List Value) → AreGiven does.arguments p asks.args values → (q : Prog) (makes : Makes does.takes_passes c.passes p q) → Fits does.emission q
-            → (Is : Outcome → Type 0) → Is (does.outcome (subject does c.passes p q makes values)) → ComesTo c asks Is
-        comes_to p program values given q makes fits Is holds = subst (λ k. CommandComesTo k c asks.path asks.args Is) (sym is) (record {
+        abbrev path : Option (List ℕ)
+        path = profile_path does.profile c.profile
+
+        named_by : profile_for (command asks.action) c.profile ≡ path
+        named_by = ap (λ k. profile_for k c.profile) is
+
+        profiled_by : (entries : List Entry) → IsProfileAt path c.files_before.holds entries → IsProfileAt (profile_for (command asks.action) c.profile) c.files_before.holds entries
+        profiled_by entries profiled = subst (λ (o : Option (List ℕ)). IsProfileAt o c.files_before.holds entries) (sym named_by) profiled
+
+        comes_to : (p : Prog) (program : IsAcceptedProgram tree p) (values : List Value) → AreGiven does.arguments p asks.args values → (entries : List Entry) → IsProfileAt path c.files_before.holds entries → (q : Prog) (makes : Makes does.takes_passes c.passes entries p q) → Fits does.emission q
+            → (Is : Outcome → Type 0) → Is (does.outcome (subject does c.passes entries p q makes values)) → ComesTo c asks Is
+        comes_to p program values given entries profiled q makes fits Is holds = subst (λ k. CommandComesTo k c asks.path asks.args Is) (sym is) (record {
           program = p;
           file = subst (λ k. IsProgramOf (reach k) c.files_before.holds asks.path p) is (program_file p program);
           values = values;
           given = given;
+          entries = entries;
+          profiled = profiled;
           made = q;
           makes = makes;
           fits = fits;
           is = holds;
         })
 
-        Answers-made : (p : Prog) (program : IsAcceptedProgram tree p) (values : List Value) → AreGiven does.arguments p asks.args values → (q : Prog) (makes : Makes does.takes_passes c.passes p q)
+        Answers-made : (p : Prog) (program : IsAcceptedProgram tree p) (values : List Value) → AreGiven does.arguments p asks.args values → (entries : List Entry) → IsProfileAt path c.files_before.holds entries → (q : Prog) (makes : Makes does.takes_passes c.passes entries p q)
             → (how : Status) (told : List (List ℕ)) → Puts c.err_before (told ++ status_pieces how) c.err_after
-            → (RefusesEmission does.emission how q × IsSilent told c.out_before c.out_after) ⊎ (Fits does.emission q × Works (does.outcome (subject does c.passes p q makes values)) how told c.out_before c.out_after)
+            → (RefusesEmission does.emission how q × IsSilent told c.out_before c.out_after) ⊎ (Fits does.emission q × Works (does.outcome (subject does c.passes entries p q makes values)) how told c.out_before c.out_after)
             → Answers (status_number how) c
-        Answers-made p program values given q makes how told says =
-            ⊎_elim (λ long. Answers-image p program q (made_by p q makes) long.0.0 (makes_image long.0.0 long.0.1) how (plain told (status_pieces how) long.1.0 says) long.0.2 long.1.1)
-            (λ goes. Answers-works (does.outcome (subject does c.passes p q makes values)) (comes_to p program values given q makes goes.0) (tallies_of p program (takes_passes (command asks.action)) refl q (made_by p q makes)) how told says goes.1)
+        Answers-made p program values given entries profiled q makes how told says =
+            ⊎_elim (λ long. Answers-image p program entries (profiled_by entries profiled) q (made_by entries p q makes) long.0.0 (makes_image long.0.0 long.0.1) how (plain told (status_pieces how) long.1.0 says) long.0.2 long.1.1)
+            (λ goes. Answers-works (does.outcome (subject does c.passes entries p q makes values)) (comes_to p program values given entries profiled q makes goes.0) (tallies_of p program entries (profiled_by entries profiled) (takes_passes (command asks.action)) refl q (made_by entries p q makes)) how told says goes.1)
 
-        Answers-program : (p : Prog) (program : IsAcceptedProgram tree p) (how : Status) (told : List (List ℕ)) → Puts c.err_before (told ++ status_pieces how) c.err_after → DoesProgram does how c.passes p asks.args told c.out_before c.out_after → Answers (status_number how) c
+        Answers-program : (p : Prog) (program : IsAcceptedProgram tree p) (how : Status) (told : List (List ℕ)) → Puts c.err_before (told ++ status_pieces how) c.err_after
+            → DoesProgram does how c.passes c.files_before c.files_after p c.profile asks.args told c.out_before c.out_after → Answers (status_number how) c
         Answers-program p program how told says =
             ⊎_elim (λ refused. Answers-given p program does.arguments (λ takes. subst GivesArguments (sym is) takes) how (plain told (status_pieces how) refused.1.0.0 says) refused.0 refused.1.0.1 refused.1.1)
-            (λ values. ⊎_elim (λ refused. Answers-making p program does.takes_passes (λ takes. ap takes_passes is ∙ takes) how (plain told (status_pieces how) refused.1.0 says) refused.0 refused.1.1)
-            (λ made. Answers-made p program values.0 values.1 made.0 made.1 how told says made.2)
+            (λ values. ⊎_elim (λ refused. Answers-named p program path named_by how (plain told (status_pieces how) refused.1.0.0 says) refused.0 refused.1.0.1 refused.1.1)
+            (λ given. ⊎_elim (λ refused. Answers-making p program given.0 (profiled_by given.0 given.1) does.takes_passes (λ takes. ap takes_passes is ∙ takes) how (plain told (status_pieces how) refused.1.0 says) refused.0 refused.1.1)
+            (λ made. Answers-made p program values.0 values.1 given.0 given.1 made.0 made.1 how told says made.2)
+            given.2)
             values.2)
 
     -- ---- the command's work
@@ -311,7 +352,7 @@ module _ (c : Call) (asks : Asks c.words) (keeps : KeepsPasses c.passes.meaning 
     works_on outcome comes none how told says works = Answers-works (outcome tree) comes (inl (unused_by c asks.action none keeps)) how told says works
 
     Answers-tree : (k : Command) → command asks.action ≡ k → IsTreeAt (reach k) c.files_before.holds asks.path tree → (how : Status) (told : List (List ℕ)) → Puts c.err_before (told ++ status_pieces how) c.err_after
-        → DoesTree k how c.passes tree asks.args told c.out_before c.out_after → Answers (status_number how) c
+        → DoesTree k how c.passes c.files_before c.files_after tree c.profile asks.args told c.out_before c.out_after → Answers (status_number how) c
     Answers-tree (OnFile outcome) is at how told says =
         works_on outcome (λ Is holds. subst (λ k. CommandComesTo k c asks.path asks.args Is) (sym is) (record { tree = tree; file = at; is = holds })) (ap takes_passes is) how told says
     Answers-tree (OnTree outcome) is at how told says =

@@ -1,5 +1,7 @@
 -- When a command is done.
 use Rattle.std.proofs.Common.{◌≡◌, ℕ, ◌⊎◌, Bool, true, false, append-nil, ◌++◌, List, Some, None, refl, sym, ◌∙◌, subst, arith, inl, inr, ⊎_elim}
+use Rattle.bril_outside.specs.Sink.{Rose}
+use Rattle.bril_profile.specs.declared.profile.Entry.{Entry}
 use Rattle.bril_report.proofs.Puts.{WritesSome-rose}
 use Rattle.bril_report.specs.Puts.{Puts}
 use Rattle.bril_report.specs.Report.{status_number, status_pieces, spent_pieces}
@@ -13,18 +15,20 @@ use Rattle.bril_tree.specs.declared.value.Value.{Value}
 use Rattle.bril_words.specs.declared.request.Action.{Action}
 use Rattle.rv64_implements.proofs.Sizes.{within_not_beyond}
 use Rattle.rv64_implements.specs.WordBounds.{IsWithin}
-use Rattle.bril_commands.proofs.Causes.{DoesAccepted, args_fail, by_tree, exhausted, same_args, with_program}
+use Rattle.bril_commands.proofs.Causes.{by_tree, exhausted, no_refusal, same_args, same_values, with_program}
+use Rattle.bril_commands.proofs.Profiles.{not_refused, same_entries}
 use Rattle.bril_commands.proofs.Statuses.{Ends, plain}
 use Rattle.bril_commands.specs.Call.{Call, ReadsWell, UnlessMemory}
-use Rattle.bril_commands.specs.Command.{Command, OnFile, OnTree, OnProgram, OfProgram, Arguments, NoArguments, OfMain, Emission, NoImage, ImageFor, AreGiven, RefusesGiven, Makes, RefusesMaking, Fits, RefusesEmission, NeedsProgram, reach}
+use Rattle.bril_commands.specs.Command.{Command, OnFile, OnTree, OnProgram, OfProgram, Emission, NoImage, ImageFor, Makes, RefusesMaking, Fits, RefusesEmission, NeedsProgram, Spell, profile_for, reach}
 use Rattle.bril_commands.specs.CommandLine.{Asks}
-use Rattle.bril_commands.specs.Driver.{IsSilent, subject, DoesProgram, DoesTree}
+use Rattle.bril_commands.specs.Driver.{IsSilent, subject, DoesAccepted, DoesGiven, DoesProgram, DoesTree}
 use Rattle.bril_commands.specs.Images.{RefusesImage}
 use Rattle.bril_commands.specs.Outcome.{Outcome, Works}
 use Rattle.bril_commands.specs.PassList.{RefusesList}
+use Rattle.bril_commands.specs.Profiles.{IsProfileAt, IsProfileTold, profile_path}
 use Rattle.bril_commands.specs.Source.{HaveTree}
 use Rattle.bril_commands.specs.Table.{command}
-use Rattle.bril_commands.specs.When.{Spell, StopsMaking, AfterPasses, AfterEmission, IsDoneUnless, CommandDone}
+use Rattle.bril_commands.specs.When.{StopsMaking, AfterPasses, AfterEmission, IsDoneUnless, CommandDone}
 
 -- the work is done, or memory ran out
 works_done : (c : Call) (o : Outcome) (how : Status) (told : List (List ℕ)) → Puts c.err_before (told ++ status_pieces how) c.err_after → Works o how told c.out_before c.out_after
@@ -59,27 +63,18 @@ works_done c o _ told says works = absurd works
 
 -- ---- the stages before it
 
--- where words spell the arguments, nothing else comes
-no_refusal : (arguments : Arguments) (how : Status) (p : Prog) (args : List (List ℕ)) (values : List Value) → Spell arguments p args values → RefusesGiven arguments how p args → how ≡ status.OutOfMemory
-no_refusal NoArguments how p args values spelled refuses = absurd refuses
-no_refusal OfMain how p args values spelled refuses = ⊎_elim (λ e. e) (λ has. absurd (has.2.unspelled values spelled)) (args_fail how p args refuses)
-
-same_values : (arguments : Arguments) (p : Prog) (args : List (List ℕ)) (given values : List Value) → AreGiven arguments p args given → Spell arguments p args values → given ≡ values
-same_values NoArguments p args given values are spelled = are ∙ sym spelled
-same_values OfMain p args given values are spelled = are.only values spelled
-
 -- the list makes no program, or memory ran out
-list_stops : (c : Call) (p : Prog) (how : Status) → Puts c.err_before (status_pieces how) c.err_after → RefusesList how c.passes p → c.out_after ≡ c.out_before → UnlessMemory (status_number how) (StopsMaking true (status_number how) c p)
-list_stops c p (status.UnknownPass place) says refuses silent =
+list_stops : (c : Call) (entries : List Entry) (p : Prog) (how : Status) → Puts c.err_before (status_pieces how) c.err_after → RefusesList how c.passes entries p → c.out_after ≡ c.out_before → UnlessMemory (status_number how) (StopsMaking true (status_number how) c entries p)
+list_stops c entries p (status.UnknownPass place) says refuses silent =
     inr (inl (record { place = place; unknown = refuses.0; is = refl; alone = record { silent = silent; says = says } }))
-list_stops c p (status.PassTooLarge place bound) says refuses silent =
+list_stops c entries p (status.PassTooLarge place bound) says refuses silent =
     inr (inr (record { place = place; bound = bound; refused = refuses; is = refl; alone = record { silent = silent; says = says } }))
-list_stops c p status.OutOfMemory says refuses silent = inl refl
-list_stops c p _ says refuses silent = absurd refuses
+list_stops c entries p status.OutOfMemory says refuses silent = inl refl
+list_stops c entries p _ says refuses silent = absurd refuses
 
-stops : (by_list : Bool) (c : Call) (p : Prog) (how : Status) → Puts c.err_before (status_pieces how) c.err_after → RefusesMaking by_list how c.passes p → c.out_after ≡ c.out_before → UnlessMemory (status_number how) (StopsMaking by_list (status_number how) c p)
-stops false c p how says refuses silent = absurd refuses
-stops true c p how says refuses silent = list_stops c p how says refuses silent
+stops : (by_list : Bool) (c : Call) (entries : List Entry) (p : Prog) (how : Status) → Puts c.err_before (status_pieces how) c.err_after → RefusesMaking by_list how c.passes entries p → c.out_after ≡ c.out_before → UnlessMemory (status_number how) (StopsMaking by_list (status_number how) c entries p)
+stops false c entries p how says refuses silent = absurd refuses
+stops true c entries p how says refuses silent = list_stops c entries p how says refuses silent
 
 -- what it makes is too large, or memory ran out
 beyond : (how : Status) (q : Prog) (limits : Limits) → RefusesImage how q limits → UnlessMemory (status_number how) (¬ IsWithin q limits × (status_number how ≡ 68))
@@ -100,40 +95,50 @@ within_bounds (ImageFor frames cells) number q Does fits does = ⊎_elim inl (λ
 -- ---- the clause
 
 module _ (c : Call) (asks : Asks c.words) (how : Status) (ends : Ends c asks how) where
-  made_done : (does : OfProgram) (p q : Prog) (makes : Makes does.takes_passes c.passes p q) (values : List Value)
-      → (RefusesEmission does.emission how q × IsSilent ends.told c.out_before c.out_after) ⊎ (Fits does.emission q × Works (does.outcome (subject does c.passes p q makes values)) how ends.told c.out_before c.out_after)
-      → UnlessMemory (status_number how) (AfterEmission does.emission (status_number how) q (IsDoneUnless (status_number how) c (does.outcome (subject does c.passes p q makes values))))
-  made_done does p q makes values =
+  made_done : (does : OfProgram) (entries : List Entry) (p q : Prog) (makes : Makes does.takes_passes c.passes entries p q) (values : List Value)
+      → (RefusesEmission does.emission how q × IsSilent ends.told c.out_before c.out_after) ⊎ (Fits does.emission q × Works (does.outcome (subject does c.passes entries p q makes values)) how ends.told c.out_before c.out_after)
+      → UnlessMemory (status_number how) (AfterEmission does.emission (status_number how) q (IsDoneUnless (status_number how) c (does.outcome (subject does c.passes entries p q makes values))))
+  made_done does entries p q makes values =
       ⊎_elim (λ long. too_large does.emission how q _ long.0)
-      (λ goes. within_bounds does.emission (status_number how) q _ goes.0 (works_done c (does.outcome (subject does c.passes p q makes values)) how ends.told ends.says goes.1))
+      (λ goes. within_bounds does.emission (status_number how) q _ goes.0 (works_done c (does.outcome (subject does c.passes entries p q makes values)) how ends.told ends.says goes.1))
 
-  program_done : (does : OfProgram) (p : Prog) (values : List Value) → Spell does.arguments p asks.args values → DoesProgram does how c.passes p asks.args ends.told c.out_before c.out_after
-      → UnlessMemory (status_number how) (AfterPasses does.takes_passes (status_number how) c p (λ q makes. AfterEmission does.emission (status_number how) q (IsDoneUnless (status_number how) c (does.outcome (subject does c.passes p q makes values)))))
-  program_done does p values spelled =
+  -- it was given these values and these entries
+  given_done : (does : OfProgram) (entries : List Entry) (p : Prog) (values : List Value) → DoesGiven does how c.passes entries p values ends.told c.out_before c.out_after
+      → UnlessMemory (status_number how) (AfterPasses does.takes_passes (status_number how) c entries p (λ q makes. AfterEmission does.emission (status_number how) q (IsDoneUnless (status_number how) c (does.outcome (subject does c.passes entries p q makes values)))))
+  given_done does entries p values =
+      ⊎_elim (λ refused. ⊎_elim inl (λ stopped. inr (inl stopped)) (stops does.takes_passes c entries p how (plain ends.told (status_pieces how) refused.1.0 ends.says) refused.0 refused.1.1))
+      (λ made. ⊎_elim inl (λ done. inr (inr (made.0, made.1, done))) (made_done does entries p made.0 made.1 values made.2))
+
+  program_done : (does : OfProgram) (p : Prog) (values : List Value) (entries : List Entry) → ¬ Rose c.files_before.faults c.files_after.faults → IsProfileTold (profile_path does.profile c.profile) c.files_before.holds
+      → Spell does.arguments p asks.args values → IsProfileAt (profile_path does.profile c.profile) c.files_before.holds entries
+      → DoesProgram does how c.passes c.files_before c.files_after p c.profile asks.args ends.told c.out_before c.out_after
+      → UnlessMemory (status_number how) (AfterPasses does.takes_passes (status_number how) c entries p (λ q makes. AfterEmission does.emission (status_number how) q (IsDoneUnless (status_number how) c (does.outcome (subject does c.passes entries p q makes values)))))
+  program_done does p values entries sound told spelled profiled =
+      let path = profile_path does.profile c.profile in
       ⊎_elim (λ refused. exhausted how _ (no_refusal does.arguments how p asks.args values spelled refused.0))
-      (λ goes. ⊎_elim (λ refused. ⊎_elim inl (λ stopped. inr (inl stopped)) (stops does.takes_passes c p how (plain ends.told (status_pieces how) refused.1.0 ends.says) refused.0 refused.1.1))
-      (λ made. ⊎_elim inl (λ done. inr (inr (made.0, made.1, done)))
-      (made_done does p made.0 made.1 values
-      (subst (λ (vs : List Value). (RefusesEmission does.emission how made.0 × IsSilent ends.told c.out_before c.out_after) ⊎ (Fits does.emission made.0 × Works (does.outcome (subject does c.passes p made.0 made.1 vs)) how ends.told c.out_before c.out_after))
-      (same_values does.arguments p asks.args goes.0 values goes.1 spelled) made.2)))
+      (λ goes. ⊎_elim (λ refused. exhausted how _ (not_refused c.files_before c.files_after sound path entries how told profiled refused.0))
+      (λ given. given_done does entries p values
+      (subst (λ (es : List Entry). DoesGiven does how c.passes es p values ends.told c.out_before c.out_after) (same_entries c.files_before c.files_after sound path given.0 entries told given.1 profiled)
+      (subst (λ (vs : List Value). DoesGiven does how c.passes given.0 p vs ends.told c.out_before c.out_after) (same_values does.arguments p asks.args goes.0 values goes.1 spelled) given.2)))
       goes.2)
 
   module _ (action : Action) (reads : ReadsWell c action) (tree : Tree) where
-    tree_done : (k : Command) → command action ≡ k → (outcome : Tree → Outcome) → ((how : Status) → DoesTree k how c.passes tree asks.args ends.told c.out_before c.out_after → Works (outcome tree) how ends.told c.out_before c.out_after)
+    tree_done : (k : Command) → command action ≡ k → (outcome : Tree → Outcome) → ((how : Status) → DoesTree k how c.passes c.files_before c.files_after tree c.profile asks.args ends.told c.out_before c.out_after → Works (outcome tree) how ends.told c.out_before c.out_after)
         → HaveTree (reach (command action)) c.files_before.holds reads.path tree → UnlessMemory (status_number how) (IsDoneUnless (status_number how) c (outcome tree))
     tree_done k is outcome works have =
         by_tree c asks how ends action reads _ tree have (exhausted how _)
-        (λ does. works_done c (outcome tree) how ends.told ends.says (works how (subst (λ k. DoesTree k how c.passes tree asks.args ends.told c.out_before c.out_after) is does)))
+        (λ does. works_done c (outcome tree) how ends.told ends.says (works how (subst (λ k. DoesTree k how c.passes c.files_before c.files_after tree c.profile asks.args ends.told c.out_before c.out_after) is does)))
 
     command_done : (k : Command) → command action ≡ k → HaveTree (reach (command action)) c.files_before.holds reads.path tree → CommandDone k (status_number how) c tree reads.args
     command_done (OnFile outcome) is have = tree_done (OnFile outcome) is outcome (λ h does. does) have
     command_done (OnTree outcome) is have = tree_done (OnTree outcome) is outcome (λ h does. does) have
-    command_done (OnProgram does) is have = λ p values numbered accepted spelled.
+    command_done (OnProgram does) is have = λ p values entries numbered accepted spelled profiled.
+        let told : IsProfileTold (profile_path does.profile c.profile) c.files_before.holds = subst (λ k. IsProfileTold (profile_for k c.profile) c.files_before.holds) is reads.told_profile in
         let here : Spell does.arguments p asks.args values = subst (λ a. Spell does.arguments p a values) (same_args c asks how ends action reads) spelled in
         with_program c asks how ends action (subst NeedsProgram (sym is) tt) reads tree have _ p numbered (exhausted how _)
         (λ fault e none has. absurd (has.unaccepted accepted))
-        (λ faultless goes. program_done does p values here
-        (subst (λ k. DoesAccepted k how c.passes p asks.args ends.told c.out_before c.out_after) is goes))
+        (λ faultless goes. program_done does p values entries reads.sound told here profiled
+        (subst (λ k. DoesAccepted k how c.passes c.files_before c.files_after p c.profile asks.args ends.told c.out_before c.out_after) is goes))
 
     pub done_where : HaveTree (reach (command action)) c.files_before.holds reads.path tree → CommandDone (command action) (status_number how) c tree reads.args
     done_where = command_done (command action) refl

@@ -8,9 +8,12 @@ use Rattle.bril_checker.specs.declared.fault.CheckFault.{CheckFault}
 use Rattle.bril_names.specs.Faults as names
 use Rattle.bril_names.specs.declared.fault.NameFault.{NameFault}
 use Rattle.bril_outside.specs.Sink.{Rose}
+use Rattle.bril_profile.specs.declared.profile.Entry.{Entry}
 use Rattle.bril_report.specs.Lines.{fault_line}
 use Rattle.bril_report.specs.Puts.{Puts, HoldsBack, WritesAll, WritesSome}
-use Rattle.bril_report.specs.Report.{misread_pieces, not_there_pieces, clash_pieces, misnamed_pieces, unaccepted_pieces, unread_pieces, many_bytes_pieces, many_files_pieces, spent_pieces, code_pieces, stack_pieces, pass_pieces, unknown_pass_pieces}
+use Rattle.bril_report.specs.Report.{misread_pieces, not_there_pieces, clash_pieces, misnamed_pieces, unaccepted_pieces, unread_pieces, many_bytes_pieces, many_files_pieces, long_profile_pieces, profile_pieces, spent_pieces, code_pieces, stack_pieces, pass_pieces, unknown_pass_pieces}
+use Rattle.bril_report.specs.declared.status.Status.TheVariants as status
+use Rattle.bril_report.specs.declared.status.Status.{Status}
 use Rattle.bril_source.specs.declared.fault.ReadFault.{ReadFault}
 use Rattle.bril_tree.specs.Accepted.{IsAccepted}
 use Rattle.bril_tree.specs.Numbered.{Numbered}
@@ -21,6 +24,7 @@ use Rattle.bril_tree.specs.declared.limits.Fault.{Fault}
 use Rattle.bril_tree.specs.declared.limits.Limits.{Limits}
 use Rattle.bril_tree.specs.declared.program.Prog.{Prog}
 use Rattle.bril_tree.specs.declared.tree.Tree.{Tree}
+use Rattle.bril_tree.specs.declared.value.Value.{Value}
 use Rattle.bril_words.specs.CommandLine.{Refusal, words_ask}
 use Rattle.bril_words.specs.declared.request.Action.{Action}
 use Rattle.bril_words.specs.declared.request.Action.TheVariants as action
@@ -31,9 +35,10 @@ use Rattle.rv64_implements.specs.WordBounds.{word_bounds, IsStackSize}
 use Rattle.rv64_words.specs.Region.{most_words, most_stack}
 use Rattle.bril_commands.specs.Arguments.{HasOnlyArgFault, argument_pieces}
 use Rattle.bril_commands.specs.Call.{Call, SaysAlone, ReadsWell, UnlessMemory, ComesTo}
-use Rattle.bril_commands.specs.Command.{Makes, NeedsProgram, GivesArguments, MakesImage, reach, takes_passes}
+use Rattle.bril_commands.specs.Command.{Makes, NeedsProgram, GivesArguments, GivesValues, MakesImage, profile_for, reach, takes_passes}
 use Rattle.bril_commands.specs.CommandLine.{Asks, AsksFor, AskNothing, IsToldOf}
 use Rattle.bril_commands.specs.PassList.{AreUnused, IsFirstUnknown, IsRefusedPass, IsCutOff}
+use Rattle.bril_commands.specs.Profiles.{IsProfileAt, RefusesProfile}
 use Rattle.bril_commands.specs.Source.{RefusesFiles, HaveFault, HaveTree, IsTreeAt, LackFile, IsOnlyNameFault, IsOnlyProgram, HasOnlyCheckFault, IsProgramOf}
 use Rattle.bril_commands.specs.Table.{command, KeepsPasses}
 use Rattle.bril_commands.specs.When.{DoneWhere}
@@ -126,21 +131,38 @@ pub record SourceRefused (c : Call) : Type 0 where
   pub asks : Asks c.words
   pub because : MisreadFile c asks ⊎ (LacksFunction c asks ⊎ (RepeatsFunction c asks ⊎ (NeedsProgram (command asks.action) × (MisnamedTree c asks ⊎ UnacceptedTree c asks))))
 
+-- 66, 67 and 68: the files are linked into an accepted program, and the file of the profile that the words name is refused so. No pass
+-- ran.
+pub record ProfileRefused (c : Call) (asks : Asks c.words) (how : Status) (line : List (List ℕ)) : Type 0 where
+  pub program : Prog
+  pub file : IsProgramOf (reach (command asks.action)) c.files_before.holds asks.path program
+  pub refuses : RefusesProfile (profile_for (command asks.action) c.profile) how c.files_before c.files_after
+  pub unused : AreUnused c.passes
+  pub alone : SaysAlone c line
+
 -- 66: the file at this path was not read: reading failed, or the files are told and lack it. Those before it were read. No pass ran.
 pub record CannotRead (c : Call) : Type 0 where
   pub asks : Asks c.words
   pub path : List ℕ
-  pub refused : FilesRefused c asks (Read path) (unread_pieces path)
+  pub because : FilesRefused c asks (Read path) (unread_pieces path) ⊎ ProfileRefused c asks (status.CannotRead path) (unread_pieces path)
 
--- 68: the files have too many bytes, or are too many, and no pass ran; or a pass may make too many items, or the program that is to be
+-- 67: this line of the profile's file, from 1, is the first that breaks the form of a profile. No pass ran.
+pub record ProfileMisread (c : Call) : Type 0 where
+  pub asks : Asks c.words
+  pub line : ℕ
+  pub refused : ProfileRefused c asks (status.MisreadProfile line) (profile_pieces line)
+
+-- 68: the files have too many bytes, or are too many, or the profile's file has too many bytes, and no pass ran; or a pass may make too many items, or the program that is to be
 -- run or emitted has too many words of code or of stack.
 pub record LongPass (c : Call) (asks : Asks c.words) : Type 0 where
   pub takes : takes_passes (command asks.action) ≡ true
   pub program : Prog
   pub file : IsProgramOf (reach (command asks.action)) c.files_before.holds asks.path program
+  pub entries : List Entry
+  pub profiled : IsProfileAt (profile_for (command asks.action) c.profile) c.files_before.holds entries
   pub place : ℕ
   pub bound : ℕ
-  pub refused : IsRefusedPass c.passes program place bound
+  pub refused : IsRefusedPass c.passes entries program place bound
   pub alone : SaysAlone c (pass_pieces place bound)
 
 -- The program has too many words of code, or it has few enough and needs too many words of stack.
@@ -160,13 +182,15 @@ pub record LongProgram (c : Call) (asks : Asks c.words) : Type 0 where
   pub makes : MakesImage (command asks.action) limits
   pub program : Prog
   pub file : IsProgramOf (reach (command asks.action)) c.files_before.holds asks.path program
+  pub entries : List Entry
+  pub profiled : IsProfileAt (profile_for (command asks.action) c.profile) c.files_before.holds entries
   pub made : Prog
-  pub by : Makes (takes_passes (command asks.action)) c.passes program made
+  pub by : Makes (takes_passes (command asks.action)) c.passes entries program made
   pub because : HasLongCode c made ⊎ HasLongStack c made limits
 
 pub record TooLarge (c : Call) : Type 0 where
   pub asks : Asks c.words
-  pub because : FilesRefused c asks TooManyBytes many_bytes_pieces ⊎ (FilesRefused c asks TooManyFiles many_files_pieces ⊎ (LongProgram c asks ⊎ LongPass c asks))
+  pub because : FilesRefused c asks TooManyBytes many_bytes_pieces ⊎ (FilesRefused c asks TooManyFiles many_files_pieces ⊎ (LongProgram c asks ⊎ (LongPass c asks ⊎ ProfileRefused c asks status.ProfileTooLarge long_profile_pieces)))
 
 -- 69: the files are linked into an accepted program, and the arguments don't fit it. No pass ran.
 pub record Misargued (c : Call) : Type 0 where
@@ -195,7 +219,9 @@ pub record ListBegan (c : Call) (asks : Asks c.words) : Type 0 where
   pub takes : takes_passes (command asks.action) ≡ true
   pub program : Prog
   pub file : IsProgramOf (reach (command asks.action)) c.files_before.holds asks.path program
-  pub cut : IsCutOff c.passes program
+  pub entries : List Entry
+  pub profiled : IsProfileAt (profile_for (command asks.action) c.profile) c.files_before.holds entries
+  pub cut : IsCutOff c.passes entries program
 
 -- 71: memory ran out, perhaps while the words were read, and nothing was put but what the command may have put by then; for `run`
 -- before the first word was executed, and for `emit` before the first was written. No pass ran, or the list was begun.
@@ -224,11 +250,12 @@ Answers status c =
     (MatchBool (status == 64) (Misused c)
     (MatchBool (status == 65) (SourceRefused c)
     (MatchBool (status == 66) (CannotRead c)
+    (MatchBool (status == 67) (ProfileMisread c)
     (MatchBool (status == 68) (TooLarge c)
     (MatchBool (status == 69) (Misargued c)
     (MatchBool (status == 70) (UnknownPass c)
     (MatchBool (status == 71) (Exhausted c)
-    (MatchBool (status == 74) (CannotWrite c) ⊥))))))))))
+    (MatchBool (status == 74) (CannotWrite c) ⊥)))))))))))
 
 -- ---- when a status comes to every command that has its cause
 
@@ -282,6 +309,25 @@ MisarguedWhere number c =
     IsAccepted program → fault ≢ Memory → IsFaultOf (main_types program) reads.args fault →
     UnlessMemory number ((number ≡ 69) × Puts c.err_before (argument_pieces fault) c.err_after)
 
+-- This comes, with this line, where the files have a tree whose accepted program takes the arguments, and the profile's file is refused so.
+abbrev pub RefusedWhere : Status → ℕ → List (List ℕ) → ℕ → Call → Type 0
+RefusedWhere how expected line number c =
+    (action : Action) (reads : ReadsWell c action) (tree : Tree) (program : Prog) (values : List Value) → HaveTree (reach (command action)) c.files_before.holds reads.path tree → Numbered tree program → IsAccepted program →
+    GivesValues (command action) program reads.args values → RefusesProfile (profile_for (command action) c.profile) how c.files_before c.files_after →
+    UnlessMemory number ((number ≡ expected) × Puts c.err_before line c.err_after)
+
+-- A profile's file that isn't there is told.
+abbrev pub LackingProfileWhere : ℕ → Call → Type 0
+LackingProfileWhere number c = (path : List ℕ) → RefusedWhere (status.CannotRead path) 66 (unread_pieces path) number c
+
+-- The first line that breaks the form of a profile is told.
+abbrev pub MisreadProfileWhere : ℕ → Call → Type 0
+MisreadProfileWhere number c = (line : ℕ) → RefusedWhere (status.MisreadProfile line) 67 (profile_pieces line) number c
+
+-- A profile's file that has too many bytes is told.
+abbrev pub LongProfileWhere : ℕ → Call → Type 0
+LongProfileWhere = RefusedWhere status.ProfileTooLarge 68 long_profile_pieces
+
 -- The passes stay as they are where the words ask for a command that takes no list of them; else they mean the same.
 abbrev pub KeepsWhere : Call → Type 0
 KeepsWhere c = (action : Action) (path : List ℕ) (args : List (List ℕ)) → AsksFor c.words action path args → KeepsPasses c.passes.meaning action c.passes.before c.passes.after
@@ -299,6 +345,7 @@ pub record Promises (status : ℕ) (c : Call) : Type 0 where
   pub spent : status ≡ 3 → GoesOn c
   pub refused : status ≡ 65 → SourceRefused c
   pub read : status ≡ 66 → CannotRead c
+  pub profile : status ≡ 67 → ProfileMisread c
   pub size : status ≡ 68 → TooLarge c
   pub argued : status ≡ 69 → Misargued c
   pub unknown : status ≡ 70 → UnknownPass c
@@ -317,6 +364,9 @@ pub record Promises (status : ℕ) (c : Call) : Type 0 where
   pub lacking : LackingWhere status c
   pub long_files : LongFilesWhere status c
   pub many_files : ManyFilesWhere status c
+  pub lacking_profile : LackingProfileWhere status c
+  pub misread_profile : MisreadProfileWhere status c
+  pub long_profile : LongProfileWhere status c
   pub demo : DemoAccepted status c
   -- what becomes of the passes
   pub keeps : KeepsWhere c

@@ -2,6 +2,7 @@
 use Rattle.std.specs.Prelude.{ℕ, ◌≡◌, ◌⊎◌, List, [], ◌∷◌, ◌++◌, Option, Some, None}
 use Rattle.bril_outside.specs.Files.{FilesSeen}
 use Rattle.bril_outside.specs.Sink.{SinkSeen, Rose}
+use Rattle.bril_profile.specs.declared.profile.Entry.{Entry}
 use Rattle.bril_report.specs.Lines.{fault_line}
 use Rattle.bril_report.specs.Puts.{Puts}
 use Rattle.bril_report.specs.Report.{spent_pieces}
@@ -15,11 +16,12 @@ use Rattle.bril_words.specs.CommandLine.{words_ask}
 use Rattle.bril_words.specs.Names.{names_of}
 use Rattle.pass_law.specs.Meaning.{Meaning}
 use Rattle.pass_law.specs.declared.tally.Tally.{Tally}
-use Rattle.bril_commands.specs.Command.{Command, OnFile, OnTree, OnProgram, OfProgram, AreGiven, Makes, Fits, reach, reach_of}
-use Rattle.bril_commands.specs.CommandLine.{Asks, AsksFor, list_asked}
+use Rattle.bril_commands.specs.Command.{Command, OnFile, OnTree, OnProgram, OfProgram, AreGiven, Makes, Fits, profile_for, reach, reach_of}
+use Rattle.bril_commands.specs.CommandLine.{Asks, AsksFor, list_asked, profile_asked}
 use Rattle.bril_commands.specs.Driver.{subject}
 use Rattle.bril_commands.specs.Outcome.{Outcome}
 use Rattle.bril_commands.specs.PassList.{PassList, pass_list}
+use Rattle.bril_commands.specs.Profiles.{IsProfileAt, IsProfileTold, profile_path}
 use Rattle.bril_commands.specs.Source.{Reach, Alone, WithImports, AreTold, IsProgramOf, IsTreeAt}
 use Rattle.bril_commands.specs.Table.{command}
 
@@ -33,6 +35,8 @@ pub record Call : Type 1 where
   pub err_before : SinkSeen
   pub err_after : SinkSeen
   pub passes : PassList
+  -- the path of the file with the profile that the words name
+  pub profile : Option (List ℕ)
 
 abbrev pub call_of : {B : Type 0} → List (List ℕ) → FilesSeen → FilesSeen → SinkSeen → SinkSeen → SinkSeen → SinkSeen → (B → Meaning) → (B → Tally) → List B → List B → Call
 call_of words files files' out out' err err' meaning counts passes passes' = record {
@@ -44,6 +48,7 @@ call_of words files files' out out' err err' meaning counts passes passes' = rec
   err_before = err;
   err_after = err';
   passes = pass_list meaning counts passes passes' (names_of (list_asked (words_ask words)));
+  profile = profile_asked (words_ask words);
 }
 
 -- nothing was put on the output, and this line on the error output, in these pieces
@@ -57,6 +62,7 @@ pub record ReadsWell (c : Call) (action : Action) : Type 0 where
   pub args : List (List ℕ)
   pub asked : AsksFor c.words action path args
   pub told : AreTold (reach (command action)) c.files_before.holds
+  pub told_profile : IsProfileTold (profile_for (command action) c.profile) c.files_before.holds
   pub sound : ¬ Rose c.files_before.faults c.files_after.faults
 
 -- this status, unless memory ran out
@@ -77,17 +83,20 @@ pub record TreeComesTo (reach : Reach) (outcome : Tree → Outcome) (c : Call) (
   pub file : IsTreeAt reach c.files_before.holds path tree
   pub is : Is (outcome tree)
 
--- The files are linked into an accepted program, or the demo is one, the words spell its arguments, the list of passes makes a program of it that is
--- within the bounds of an image, each where the command asks for it, and this holds of what it comes to.
+-- The files are linked into an accepted program, or the demo is one, the words spell its arguments, the file of the profile has these
+-- entries, the list of passes makes a program of it that is within the bounds of an image, each where the command asks for it, and this
+-- holds of what it comes to.
 pub record ProgramComesTo (does : OfProgram) (c : Call) (path : List ℕ) (args : List (List ℕ)) (Is : Outcome → Type 0) : Type 0 where
   pub program : Prog
   pub file : IsProgramOf (reach_of does.origin) c.files_before.holds path program
   pub values : List Value
   pub given : AreGiven does.arguments program args values
+  pub entries : List Entry
+  pub profiled : IsProfileAt (profile_path does.profile c.profile) c.files_before.holds entries
   pub made : Prog
-  pub makes : Makes does.takes_passes c.passes program made
+  pub makes : Makes does.takes_passes c.passes entries program made
   pub fits : Fits does.emission made
-  pub is : Is (does.outcome (subject does c.passes program made makes values))
+  pub is : Is (does.outcome (subject does c.passes entries program made makes values))
 
 -- this holds of what a command comes to on the files of which the first is at a path, with these arguments
 abbrev pub CommandComesTo : Command → Call → List ℕ → List (List ℕ) → (Outcome → Type 0) → Type 0

@@ -1,6 +1,9 @@
 -- What a command is: what it works on, and what this comes to.
-use Rattle.std.specs.Prelude.{ℕ, ◌≡◌, Bool, true, false, List, []}
+use Rattle.std.specs.Prelude.{ℕ, ◌≡◌, Bool, true, false, List, [], Option, None}
+use Rattle.bril_arguments.specs.Spelled.{AreSpelled}
+use Rattle.bril_profile.specs.declared.profile.Entry.{Entry}
 use Rattle.bril_report.specs.declared.status.Status.{Status}
+use Rattle.bril_tree.specs.Run.{main_types}
 use Rattle.bril_tree.specs.declared.limits.Limits.{Limits}
 use Rattle.bril_tree.specs.declared.program.Prog.{Prog}
 use Rattle.bril_tree.specs.declared.tree.Tree.{Tree}
@@ -10,6 +13,7 @@ use Rattle.bril_commands.specs.Arguments.{AreOnlyValues, RefusesArgs}
 use Rattle.bril_commands.specs.Images.{RefusesImage}
 use Rattle.bril_commands.specs.Outcome.{Outcome}
 use Rattle.bril_commands.specs.PassList.{PassList, IsMade, RefusesList, AreFactorsOf}
+use Rattle.bril_commands.specs.Profiles.{ProfileSource, profile_path}
 use Rattle.bril_commands.specs.Source.{Reach, Alone, WithImports, OfDemo}
 
 -- ---- the arguments
@@ -26,6 +30,11 @@ abbrev pub TakesArguments : Arguments → Type 0
 TakesArguments NoArguments = ⊥
 TakesArguments OfMain = Unit {0}
 
+-- the values of the arguments, where words spell some
+abbrev pub Spell : Arguments → Prog → List (List ℕ) → List Value → Type 0
+Spell NoArguments p args values = values ≡ []
+Spell OfMain p args values = AreSpelled (main_types p) args values
+
 -- the values that words spell
 abbrev pub AreGiven : Arguments → Prog → List (List ℕ) → List Value → Type 0
 AreGiven NoArguments p args values = values ≡ []
@@ -38,20 +47,20 @@ RefusesGiven OfMain how p args = RefusesArgs how p args
 
 -- ---- the list of passes
 
--- the program that a command makes, by a list of passes where it takes one
-abbrev pub Makes : Bool → PassList → Prog → Prog → Type 0
-Makes false l p q = q ≡ p
-Makes true l p q = IsMade l p q
+-- the program that a command makes, by a list of passes and the entries of a profile where it takes such a list
+abbrev pub Makes : Bool → PassList → List Entry → Prog → Prog → Type 0
+Makes false l entries p q = q ≡ p
+Makes true l entries p q = IsMade l entries p q
 
 -- why it makes none
-abbrev pub RefusesMaking : Bool → Status → PassList → Prog → Type 0
-RefusesMaking false how l p = ⊥
-RefusesMaking true how l p = RefusesList how l p
+abbrev pub RefusesMaking : Bool → Status → PassList → List Entry → Prog → Type 0
+RefusesMaking false how l entries p = ⊥
+RefusesMaking true how l entries p = RefusesList how l entries p
 
 -- so many steps of q, at most, for each step of p
-abbrev pub FactorOf : (by_list : Bool) (l : PassList) (p q : Prog) → Makes by_list l p q → ℕ → Type 0
-FactorOf false l p q makes factor = factor ≡ 1
-FactorOf true l p q makes factor = AreFactorsOf l p q makes factor
+abbrev pub FactorOf : (by_list : Bool) (l : PassList) (entries : List Entry) (p q : Prog) → Makes by_list l entries p q → ℕ → Type 0
+FactorOf false l entries p q makes factor = factor ≡ 1
+FactorOf true l entries p q makes factor = AreFactorsOf l entries p q makes factor
 
 -- ---- the image
 
@@ -101,6 +110,7 @@ reach_of (Demo functions) = OfDemo functions
 pub record OfProgram : Type 1 where
   pub origin : Origin
   pub arguments : Arguments
+  pub profile : ProfileSource
   pub takes_passes : Bool
   pub emission : Emission
   pub outcome : Subject → Outcome
@@ -128,6 +138,18 @@ abbrev pub GivesArguments : Command → Type 0
 GivesArguments (OnFile outcome) = ⊥
 GivesArguments (OnTree outcome) = ⊥
 GivesArguments (OnProgram does) = TakesArguments does.arguments
+
+-- these values are the arguments that words spell of the program that it needs
+abbrev pub GivesValues : Command → Prog → List (List ℕ) → List Value → Type 0
+GivesValues (OnFile outcome) p args values = ⊥
+GivesValues (OnTree outcome) p args values = ⊥
+GivesValues (OnProgram does) p args values = Spell does.arguments p args values
+
+-- the path of its profile's file, of what the words name
+abbrev pub profile_for : Command → Option (List ℕ) → Option (List ℕ)
+profile_for (OnFile outcome) named = None
+profile_for (OnTree outcome) named = None
+profile_for (OnProgram does) named = profile_path does.profile named
 
 -- it takes a list of passes
 abbrev pub takes_passes : Command → Bool

@@ -1,5 +1,5 @@
 -- What a command line asks for.
-use Rattle.std.specs.Prelude.{◌≡◌, ℕ, List, [], Result, Ok, Err}
+use Rattle.std.specs.Prelude.{◌≡◌, ℕ, List, [], Option, None, Result, Ok, Err}
 use Rattle.bril_words.specs.CommandLine.{Refusal, bad_functions, not_taken, bad_value, asked, words_ask}
 use Rattle.bril_report.specs.Lines.{misuse_line}
 use Rattle.bril_words.specs.Request.{Asked}
@@ -8,7 +8,7 @@ use Rattle.bril_words.specs.declared.request.Action.{Action}
 
 -- the words ask for an action, the path of its file, and the arguments of the file's program
 abbrev pub AsksFor : List (List ℕ) → Action → List ℕ → List (List ℕ) → Type 0
-AsksFor words action path args = (list : List ℕ) × (words_ask words ≡ asked action path list args)
+AsksFor words action path args = (list : List ℕ) × (profile : Option (List ℕ)) × (words_ask words ≡ asked action path list profile args)
 
 -- What words ask for.
 pub record Asks (words : List (List ℕ)) : Type 0 where
@@ -21,6 +21,11 @@ pub record Asks (words : List (List ℕ)) : Type 0 where
 abbrev pub list_asked : Result Asked Refusal → List ℕ
 list_asked (Ok request) = request.list
 list_asked (Err refusal) = []
+
+-- the path of the file with the profile that is asked for
+abbrev pub profile_asked : Result Asked Refusal → Option (List ℕ)
+profile_asked (Ok request) = request.profile
+profile_asked (Err refusal) = None
 
 -- the words ask for nothing
 abbrev pub AskNothing : List (List ℕ) → Type 0

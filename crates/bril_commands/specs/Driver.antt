@@ -1,7 +1,8 @@
 -- What a command does with its files, stage by stage.
-use Rattle.std.specs.Prelude.{ℕ, ◌≡◌, ◌⊎◌, List, []}
+use Rattle.std.specs.Prelude.{ℕ, ◌≡◌, ◌⊎◌, List, [], Option}
 use Rattle.bril_outside.specs.Files.{FilesSeen}
 use Rattle.bril_outside.specs.Sink.{SinkSeen}
+use Rattle.bril_profile.specs.declared.profile.Entry.{Entry}
 use Rattle.bril_report.specs.declared.status.Status.{Status}
 use Rattle.bril_tree.specs.declared.program.Prog.{Prog}
 use Rattle.bril_tree.specs.declared.tree.Tree.{Tree}
@@ -9,6 +10,7 @@ use Rattle.bril_tree.specs.declared.value.Value.{Value}
 use Rattle.bril_commands.specs.Command.{Command, OnFile, OnTree, OnProgram, OfProgram, Subject, AreGiven, RefusesGiven, Makes, RefusesMaking, FactorOf, Fits, RefusesEmission, reach}
 use Rattle.bril_commands.specs.Outcome.{Works}
 use Rattle.bril_commands.specs.PassList.{PassList, AreUnused}
+use Rattle.bril_commands.specs.Profiles.{IsProfileAt, RefusesProfile, profile_path}
 use Rattle.bril_commands.specs.Source.{IsTreeAt}
 use Rattle.bril_commands.specs.Stages.{RefusesTree, RefusesProgram, IsAcceptedProgram}
 
@@ -25,30 +27,42 @@ abbrev pub Stage : {X : Type 0} → (Refuses : Type 0) → (Silent : Type 0) →
 Stage {X} Refuses Silent Is GoesOn = (Refuses × Silent) ⊎ ((x : X) × (is : Is x) × GoesOn x is)
 
 -- what a command works on, once its list made a program by which the values are taken
-abbrev pub subject : (does : OfProgram) (l : PassList) (p q : Prog) → Makes does.takes_passes l p q → List Value → Subject
-subject does l p q makes values = record {
+abbrev pub subject : (does : OfProgram) (l : PassList) (entries : List Entry) (p q : Prog) → Makes does.takes_passes l entries p q → List Value → Subject
+subject does l entries p q makes values = record {
   passes = l;
   source = p;
   made = q;
-  IsFactor = FactorOf does.takes_passes l p q makes;
+  IsFactor = FactorOf does.takes_passes l entries p q makes;
   values = values;
 }
 
--- what a command answers that works on an accepted program, with these arguments, and what it tells
-abbrev pub DoesProgram : OfProgram → Status → PassList → Prog → List (List ℕ) → List (List ℕ) → SinkSeen → SinkSeen → Type 0
-DoesProgram does how l p args told s t =
+-- what a command answers that works on an accepted program, with these values of its arguments and these entries of a profile
+abbrev pub DoesGiven : OfProgram → Status → PassList → List Entry → Prog → List Value → List (List ℕ) → SinkSeen → SinkSeen → Type 0
+DoesGiven does how l entries p values told s t =
+    Stage (RefusesMaking does.takes_passes how l entries p) (IsSilent told s t) (λ q. Makes does.takes_passes l entries p q) (λ q makes.
+    (RefusesEmission does.emission how q × IsSilent told s t) ⊎ (Fits does.emission q × Works (does.outcome (subject does l entries p q makes values)) how told s t))
+
+-- what a command answers that works on an accepted program, with these arguments and this path of a profile, and what it tells
+abbrev pub DoesProgram : OfProgram → Status → PassList → FilesSeen → FilesSeen → Prog → Option (List ℕ) → List (List ℕ) → List (List ℕ) → SinkSeen → SinkSeen → Type 0
+DoesProgram does how l f g p named args told s t =
     Stage (RefusesGiven does.arguments how p args) (IsIdle l told s t) (λ values. AreGiven does.arguments p args values) (λ values given.
-    Stage (RefusesMaking does.takes_passes how l p) (IsSilent told s t) (λ q. Makes does.takes_passes l p q) (λ q makes.
-    (RefusesEmission does.emission how q × IsSilent told s t) ⊎ (Fits does.emission q × Works (does.outcome (subject does l p q makes values)) how told s t)))
+    Stage (RefusesProfile (profile_path does.profile named) how f g) (IsIdle l told s t) (λ entries. IsProfileAt (profile_path does.profile named) f.holds entries) (λ entries is.
+    DoesGiven does how l entries p values told s t))
+
+-- the same of a command that needs the program
+abbrev pub DoesAccepted : Command → Status → PassList → FilesSeen → FilesSeen → Prog → Option (List ℕ) → List (List ℕ) → List (List ℕ) → SinkSeen → SinkSeen → Type 0
+DoesAccepted (OnFile outcome) how l f g p named args told s t = ⊥
+DoesAccepted (OnTree outcome) how l f g p named args told s t = ⊥
+DoesAccepted (OnProgram does) how l f g p named args told s t = DoesProgram does how l f g p named args told s t
 
 -- what a command answers on a tree
-abbrev pub DoesTree : Command → Status → PassList → Tree → List (List ℕ) → List (List ℕ) → SinkSeen → SinkSeen → Type 0
-DoesTree (OnFile outcome) how l tree args told s t = Works (outcome tree) how told s t
-DoesTree (OnTree outcome) how l tree args told s t = Works (outcome tree) how told s t
-DoesTree (OnProgram does) how l tree args told s t =
-    Stage (RefusesProgram how tree) (IsIdle l told s t) (λ p. IsAcceptedProgram tree p) (λ p is. DoesProgram does how l p args told s t)
+abbrev pub DoesTree : Command → Status → PassList → FilesSeen → FilesSeen → Tree → Option (List ℕ) → List (List ℕ) → List (List ℕ) → SinkSeen → SinkSeen → Type 0
+DoesTree (OnFile outcome) how l f g tree named args told s t = Works (outcome tree) how told s t
+DoesTree (OnTree outcome) how l f g tree named args told s t = Works (outcome tree) how told s t
+DoesTree (OnProgram does) how l f g tree named args told s t =
+    Stage (RefusesProgram how tree) (IsIdle l told s t) (λ p. IsAcceptedProgram tree p) (λ p is. DoesProgram does how l f g p named args told s t)
 
 -- what a command answers on its files, of which the first is at a path
-abbrev pub DoesFiles : Command → Status → PassList → FilesSeen → FilesSeen → List ℕ → List (List ℕ) → List (List ℕ) → SinkSeen → SinkSeen → Type 0
-DoesFiles command how l f g path args told s t =
-    Stage (RefusesTree (reach command) how f g path) (IsIdle l told s t) (λ tree. IsTreeAt (reach command) f.holds path tree) (λ tree is. DoesTree command how l tree args told s t)
+abbrev pub DoesFiles : Command → Status → PassList → FilesSeen → FilesSeen → List ℕ → Option (List ℕ) → List (List ℕ) → List (List ℕ) → SinkSeen → SinkSeen → Type 0
+DoesFiles command how l f g path named args told s t =
+    Stage (RefusesTree (reach command) how f g path) (IsIdle l told s t) (λ tree. IsTreeAt (reach command) f.holds path tree) (λ tree is. DoesTree command how l f g tree named args told s t)

@@ -7,6 +7,8 @@ pub mod Driver
 pub mod Images
 pub mod Outcome
 pub mod PassList
+pub mod Profiles
+pub mod Recording
 pub mod Source
 pub mod Sources
 pub mod Stages

@@ -1,5 +1,6 @@
 -- The passes that a call was lent, and what a list of their names comes to.
 use Rattle.std.specs.Prelude.{ℕ, ◌≡◌, Bool, false, not, ◌&&◌, ◌||◌, is_some, cond, List, [], ◌∷◌, ◌++◌, map, Option, Some, None}
+use Rattle.bril_profile.specs.declared.profile.Entry.{Entry}
 use Rattle.bril_profile.specs.declared.profile.Profile.{Profile}
 use Rattle.bril_report.specs.Tallies.{tally_pieces}
 use Rattle.bril_report.specs.declared.status.Status.TheVariants as status
@@ -22,9 +23,9 @@ pub record PassList : Type 1 where
 abbrev pub pass_list : {B : Type 0} → (B → Meaning) → (B → Tally) → List B → List B → List (List ℕ) → PassList
 pass_list {B} meaning counts before after names = record { Box = B; meaning = meaning; counts = counts; before = before; after = after; names = names }
 
--- The profile has no entries.
-abbrev pub IsEmpty : Profile → Type 0
-IsEmpty profile = profile.entries ≡ []
+-- The profile has these entries.
+abbrev pub HasEntries : List Entry → Profile → Type 0
+HasEntries entries profile = profile.entries ≡ entries
 
 -- from 1, the place of the first name to which no pass answers, None where there is none
 abbrev pub IsFirstUnknown : PassList → Option ℕ → Type 0
@@ -34,43 +35,43 @@ IsFirstUnknown l place = (profile : Profile) → first_unknown l.meaning l.befor
 abbrev pub AreUnused : PassList → Type 0
 AreUnused l = map l.counts l.after ≡ map l.counts l.before
 
--- The list made q of p, by the profile without entries: there is a chain from p to q with one link for each name, made by the
+-- The list made q of p, by the profile with these entries: there is a chain from p to q with one link for each name, made by the
 -- first pass that answers to it. Each tally is the one before the call, grown by the links, and no pass has changed its meaning.
-pub record IsMade (l : PassList) (p q : Prog) : Type 0 where
+pub record IsMade (l : PassList) (entries : List Entry) (p q : Prog) : Type 0 where
   pub known : IsFirstUnknown l None
   pub profile : Profile
-  pub empty : IsEmpty profile
+  pub has : HasEntries entries profile
   pub ran : Ran l.meaning l.before profile l.counts l.names p q l.after
   pub same : AllSame l.meaning l.before l.after
 
 -- so many steps of q, at most, for each step of p: the product of the factors of the links
-abbrev pub AreFactorsOf : (l : PassList) (p q : Prog) → IsMade l p q → ℕ → Type 0
-AreFactorsOf l p q made factor = AreFactors l.meaning l.before made.profile l.names p made.ran.programs factor
+abbrev pub AreFactorsOf : (l : PassList) (entries : List Entry) (p q : Prog) → IsMade l entries p q → ℕ → Type 0
+AreFactorsOf l entries p q made factor = AreFactors l.meaning l.before made.profile l.names p made.ran.programs factor
 
 -- ---- why a list makes no program
 
 -- The passes before a place ran, from p on, and the pass of that place refuses the program that they made, for its bound on items.
-pub record IsRefusedPass (l : PassList) (p : Prog) (place bound : ℕ) : Type 0 where
+pub record IsRefusedPass (l : PassList) (entries : List Entry) (p : Prog) (place bound : ℕ) : Type 0 where
   pub known : IsFirstUnknown l None
   pub profile : Profile
-  pub empty : IsEmpty profile
+  pub has : HasEntries entries profile
   pub at : Prog
   pub stopped : StoppedAt l.meaning l.before profile l.counts l.names p place bound at l.after
 
 -- The passes of the first names of the list ran, from p on, and each tally is the one before the call, grown by their links. Each name
 -- of the list is answered.
-pub record IsCutOff (l : PassList) (p : Prog) : Type 0 where
+pub record IsCutOff (l : PassList) (entries : List Entry) (p : Prog) : Type 0 where
   pub known : IsFirstUnknown l None
   pub profile : Profile
-  pub empty : IsEmpty profile
+  pub has : HasEntries entries profile
   pub cut : CutOff l.meaning l.before profile l.counts l.names p l.after
 
 -- why a list makes no program of p; a name that no pass answers to is found before any pass ran
-abbrev pub RefusesList : Status → PassList → Prog → Type 0
-RefusesList (status.UnknownPass place) l p = IsFirstUnknown l (Some place) × AreUnused l
-RefusesList (status.PassTooLarge place bound) l p = IsRefusedPass l p place bound
-RefusesList status.OutOfMemory l p = IsCutOff l p
-RefusesList _ l p = ⊥
+abbrev pub RefusesList : Status → PassList → List Entry → Prog → Type 0
+RefusesList (status.UnknownPass place) l entries p = IsFirstUnknown l (Some place) × AreUnused l
+RefusesList (status.PassTooLarge place bound) l entries p = IsRefusedPass l entries p place bound
+RefusesList status.OutOfMemory l entries p = IsCutOff l entries p
+RefusesList _ l entries p = ⊥
 
 -- ---- what is told of tallies
 

@@ -1,6 +1,6 @@
 -- The table of commands.
 use Rattle.std.specs.Prelude.{◌≡◌, Bool, true, false, List}
-use Rattle.bril_words.specs.declared.request.Action.TheVariants.{Run, Interpret, Emit, Passes, Check, Link, WriteText, WriteJson, Demo}
+use Rattle.bril_words.specs.declared.request.Action.TheVariants.{Run, Interpret, Record, Emit, Passes, Check, Link, WriteText, WriteJson, Demo}
 use Rattle.bril_words.specs.declared.request.Action.{Action}
 use Rattle.pass_law.specs.Chains.{AllSame}
 use Rattle.pass_law.specs.Meaning.{Meaning}
@@ -12,6 +12,7 @@ use Rattle.bril_commands.specs.commands.Interp.{interprets}
 use Rattle.bril_commands.specs.commands.Json.{writes_as_json}
 use Rattle.bril_commands.specs.commands.Link.{writes_linked}
 use Rattle.bril_commands.specs.commands.Passes.{transforms}
+use Rattle.bril_commands.specs.commands.Record.{records}
 use Rattle.bril_commands.specs.commands.Run.{runs}
 use Rattle.bril_commands.specs.commands.Text.{writes_as_text}
 
@@ -19,6 +20,7 @@ use Rattle.bril_commands.specs.commands.Text.{writes_as_text}
 abbrev pub command : Action → Command
 command (Run frames cells steps stats) = OnProgram (runs frames cells steps stats)
 command (Interpret frames cells steps) = OnProgram (interprets frames cells steps)
+command (Record frames cells steps hot most) = OnProgram (records frames cells steps hot most)
 command (Emit frames) = OnProgram (emits_words frames)
 command Passes = OnProgram transforms
 command Check = OnProgram checks

@@ -1,12 +1,11 @@
 -- When a command's work is done: once its files have a tree, unless a stage has its cause.
 use Rattle.std.specs.Prelude.{ℕ, ◌≡◌, ◌⊎◌, Bool, true, false, List, [], Option, Some}
-use Rattle.bril_arguments.specs.Spelled.{AreSpelled}
 use Rattle.bril_outside.specs.Sink.{Rose}
+use Rattle.bril_profile.specs.declared.profile.Entry.{Entry}
 use Rattle.bril_report.specs.Puts.{WritesAll}
 use Rattle.bril_report.specs.Report.{pass_pieces, unknown_pass_pieces}
 use Rattle.bril_tree.specs.Accepted.{IsAccepted}
 use Rattle.bril_tree.specs.Numbered.{Numbered}
-use Rattle.bril_tree.specs.Run.{main_types}
 use Rattle.bril_tree.specs.declared.limits.End.{End}
 use Rattle.bril_tree.specs.declared.limits.Limits.{Limits}
 use Rattle.bril_tree.specs.declared.program.Prog.{Prog}
@@ -15,19 +14,15 @@ use Rattle.bril_tree.specs.declared.value.Value.{Value}
 use Rattle.bril_words.specs.declared.request.Action.{Action}
 use Rattle.rv64_implements.specs.WordBounds.{IsWithin}
 use Rattle.bril_commands.specs.Call.{Call, SaysAlone, ReadsWell, UnlessMemory, TellsRun}
-use Rattle.bril_commands.specs.Command.{Command, OnFile, OnTree, OnProgram, Arguments, NoArguments, OfMain, Makes, Emission, NoImage, ImageFor, AreLimitsOf, reach}
+use Rattle.bril_commands.specs.Command.{Command, OnFile, OnTree, OnProgram, Makes, Emission, NoImage, ImageFor, AreLimitsOf, Spell, reach}
 use Rattle.bril_commands.specs.Driver.{subject}
 use Rattle.bril_commands.specs.Outcome.{Outcome}
 use Rattle.bril_commands.specs.PassList.{IsFirstUnknown, IsRefusedPass}
+use Rattle.bril_commands.specs.Profiles.{IsProfileAt, profile_path}
 use Rattle.bril_commands.specs.Source.{HaveTree}
 use Rattle.bril_commands.specs.Table.{command}
 
 -- ---- the stages
-
--- the values of a command's arguments, where words spell some
-abbrev pub Spell : Arguments → Prog → List (List ℕ) → List Value → Type 0
-Spell NoArguments p args values = values ≡ []
-Spell OfMain p args values = AreSpelled (main_types p) args values
 
 -- No pass answers to the name at this place, which is the first such.
 pub record StopsUnknown (number : ℕ) (c : Call) : Type 0 where
@@ -37,21 +32,21 @@ pub record StopsUnknown (number : ℕ) (c : Call) : Type 0 where
   pub alone : SaysAlone c (unknown_pass_pieces place)
 
 -- The pass of the name at this place refuses the program that it was given, for its bound on items.
-pub record StopsTooLarge (number : ℕ) (c : Call) (p : Prog) : Type 0 where
+pub record StopsTooLarge (number : ℕ) (c : Call) (entries : List Entry) (p : Prog) : Type 0 where
   pub place : ℕ
   pub bound : ℕ
-  pub refused : IsRefusedPass c.passes p place bound
+  pub refused : IsRefusedPass c.passes entries p place bound
   pub is : number ≡ 68
   pub alone : SaysAlone c (pass_pieces place bound)
 
 -- why the list makes no program
-abbrev pub StopsMaking : Bool → ℕ → Call → Prog → Type 0
-StopsMaking false number c p = ⊥
-StopsMaking true number c p = StopsUnknown number c ⊎ StopsTooLarge number c p
+abbrev pub StopsMaking : Bool → ℕ → Call → List Entry → Prog → Type 0
+StopsMaking false number c entries p = ⊥
+StopsMaking true number c entries p = StopsUnknown number c ⊎ StopsTooLarge number c entries p
 
 -- The list of passes, where one is taken, makes a program of p, of which this holds; or it makes none, which is told.
-abbrev pub AfterPasses : (by_list : Bool) → ℕ → (c : Call) → (p : Prog) → ((q : Prog) → Makes by_list c.passes p q → Type 0) → Type 0
-AfterPasses by_list number c p Does = StopsMaking by_list number c p ⊎ ((q : Prog) × (makes : Makes by_list c.passes p q) × Does q makes)
+abbrev pub AfterPasses : (by_list : Bool) → ℕ → (c : Call) → (entries : List Entry) → (p : Prog) → ((q : Prog) → Makes by_list c.passes entries p q → Type 0) → Type 0
+AfterPasses by_list number c entries p Does = StopsMaking by_list number c entries p ⊎ ((q : Prog) × (makes : Makes by_list c.passes entries p q) × Does q makes)
 
 -- A program of which an image is made is within the bounds, and this holds; or else it is too large.
 abbrev pub AfterEmission : Emission → ℕ → Prog → Type 0 → Type 0
@@ -75,13 +70,13 @@ abbrev pub IsDoneUnless : ℕ → Call → Outcome → Type 0
 IsDoneUnless number c o = ¬ Rose c.out_before.faults c.out_after.faults → IsDone number c o
 
 -- What a command does where its files have this tree: it is worked on, or its accepted program with arguments that are spelled is given
--- to the list of passes; what this makes is told where it is too large, and else it is worked on.
+-- to the list of passes, with the profile; what this makes is told where it is too large, and else it is worked on.
 abbrev pub CommandDone : Command → ℕ → Call → Tree → List (List ℕ) → Type 0
 CommandDone (OnFile outcome) number c tree args = UnlessMemory number (IsDoneUnless number c (outcome tree))
 CommandDone (OnTree outcome) number c tree args = UnlessMemory number (IsDoneUnless number c (outcome tree))
 CommandDone (OnProgram does) number c tree args =
-    (p : Prog) (values : List Value) → Numbered tree p → IsAccepted p → Spell does.arguments p args values →
-    UnlessMemory number (AfterPasses does.takes_passes number c p (λ q makes. AfterEmission does.emission number q (IsDoneUnless number c (does.outcome (subject does c.passes p q makes values)))))
+    (p : Prog) (values : List Value) (entries : List Entry) → Numbered tree p → IsAccepted p → Spell does.arguments p args values → IsProfileAt (profile_path does.profile c.profile) c.files_before.holds entries →
+    UnlessMemory number (AfterPasses does.takes_passes number c entries p (λ q makes. AfterEmission does.emission number q (IsDoneUnless number c (does.outcome (subject does c.passes entries p q makes values)))))
 
 -- The command that the words ask for is done, where its files have a tree.
 abbrev pub DoneWhere : ℕ → Call → Type 0

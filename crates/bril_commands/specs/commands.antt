@@ -6,5 +6,6 @@ pub mod Interp
 pub mod Json
 pub mod Link
 pub mod Passes
+pub mod Record
 pub mod Run
 pub mod Text

@@ -3,4 +3,5 @@
 pub mod check;
 pub mod interp;
 pub mod json;
+pub mod recording;
 pub mod text;

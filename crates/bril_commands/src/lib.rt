@@ -12,5 +12,6 @@ pub mod arguments;
 pub mod commands;
 pub mod list;
 pub mod output;
+pub mod profile;
 pub mod program;
 pub mod source;

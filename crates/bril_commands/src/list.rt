@@ -15,8 +15,8 @@ use bril_tree::text::Text;
 use pass_law::{Pass, is_answered, run_list};
 use std::alloc::Global;
 
-/// The program that a list of passes makes of an accepted program, by the profile without entries: each name is given to the first
-/// pass that answers to it.
+/// The program that a list of passes makes of an accepted program, with a profile: each name is given to the first pass that answers to
+/// it.
 ///
 /// `UnknownPass`: no pass answers to the name at this place, the first such, and no pass ran. `PassTooLarge`: the pass at this place
 /// refuses the program that it was given, for its bound on items.
@@ -25,14 +25,14 @@ pub fn transformed(
     passes: &mut [Box<dyn Pass>],
     names: &Seq<Text>,
     checked: Checked,
+    profile: &Profile,
 ) -> Result<Checked, Status>
     requires { length names.now ≤ 64 }
-    ensures ok { IfOk result (λ made. IsMade (pass_list (λ p. meaning p) (λ p. counts p) passes.old passes.new names.now) checked.prog made.prog) }
-    ensures err { IfErr result (λ status. RefusesList status (pass_list (λ p. meaning p) (λ p. counts p) passes.old passes.new names.now) checked.prog) }
+    ensures ok { IfOk result (λ made. IsMade (pass_list (λ p. meaning p) (λ p. counts p) passes.old passes.new names.now) profile.now.entries checked.prog made.prog) }
+    ensures err { IfErr result (λ status. RefusesList status (pass_list (λ p. meaning p) (λ p. counts p) passes.old passes.new names.now) profile.now.entries checked.prog) }
     ensures same { AllSame (λ p. meaning p) passes.old passes.new }
 {
-    let profile = Profile::without_entries(alloc);
-    Ok(run_list(alloc, passes, names, checked, &profile)?)
+    Ok(run_list(alloc, passes, names, checked, profile)?)
 }
 
 /// Tells the tallies of the passes that the list used, in their order, each piece of a line by one put.

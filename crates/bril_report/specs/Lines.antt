@@ -14,7 +14,7 @@ use Rattle.bril_text.specs.declared.fault.TextFault.{TextFault}
 use Rattle.bril_text.specs.declared.fault.TextFault.TheVariants as text
 use Rattle.bril_words.specs.declared.misuse.Misuse.{Misuse}
 use Rattle.bril_words.specs.declared.misuse.Misuse.TheVariants.{Words, Value, Functions, Memory}
-use Rattle.bril_words.specs.declared.options.Setting.TheVariants.{Passes, Frames, Cells, Steps}
+use Rattle.bril_words.specs.declared.options.Setting.TheVariants.{Passes, Profile, Frames, Cells, Steps, Hot, Most}
 use Rattle.bril_report.specs.declared.report.FaultPlace.{FaultPlace}
 
 -- the kind of a fault of the text, by its number
@@ -112,8 +112,11 @@ fault_line fault.Allocs = codes "fault 11 Allocs\n"
 abbrev pub misuse_line : Misuse → List ℕ
 misuse_line (Words text) = string_bytes text
 misuse_line (Value Passes) = codes "usage: --passes\n"
+misuse_line (Value Profile) = codes "usage: --profile\n"
 misuse_line (Value Frames) = codes "usage: --frames\n"
 misuse_line (Value Cells) = codes "usage: --cells\n"
 misuse_line (Value Steps) = codes "usage: --steps\n"
+misuse_line (Value Hot) = codes "usage: --hot\n"
+misuse_line (Value Most) = codes "usage: --most\n"
 misuse_line Functions = codes "usage: N\n"
 misuse_line Memory = codes "out of memory\n"

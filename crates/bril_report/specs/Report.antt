@@ -24,8 +24,10 @@ status_number (status.Clash path name) = 65
 status_number (status.Misnamed fault) = 65
 status_number (status.Unaccepted program fault) = 65
 status_number (status.CannotRead path) = 66
+status_number (status.MisreadProfile line) = 67
 status_number status.TooManyBytes = 68
 status_number status.TooManyFiles = 68
+status_number status.ProfileTooLarge = 68
 status_number (status.CodeTooBig words) = 68
 status_number (status.StackTooBig words) = 68
 status_number (status.PassTooLarge place bound) = 68
@@ -92,6 +94,13 @@ many_bytes_pieces = codes "too large: bytes\n" ∷ []
 abbrev pub many_files_pieces : List (List ℕ)
 many_files_pieces = codes "too large: files\n" ∷ []
 
+-- a profile with too many bytes, and the first line, from 1, that breaks the form of a profile
+abbrev pub long_profile_pieces : List (List ℕ)
+long_profile_pieces = codes "too large: profile\n" ∷ []
+
+abbrev pub profile_pieces : ℕ → List (List ℕ)
+profile_pieces line = number_pieces (codes "profile line ") line
+
 -- the words of code, and of stack, that a program would have
 abbrev pub code_pieces : ℕ → List (List ℕ)
 code_pieces words = number_pieces (codes "too large: code ") words
@@ -138,6 +147,8 @@ status_pieces (status.StackTooBig words) = stack_pieces words
 status_pieces (status.PassTooLarge place bound) = pass_pieces place bound
 status_pieces (status.ArgumentCount given wanted) = count_pieces given wanted
 status_pieces (status.BadArgument position) = spelling_pieces position
+status_pieces status.ProfileTooLarge = long_profile_pieces
+status_pieces (status.MisreadProfile line) = profile_pieces line
 status_pieces (status.UnknownPass place) = unknown_pass_pieces place
 status_pieces status.OutOfMemory = codes "out of memory\n" ∷ []
 status_pieces status.CannotWrite = codes "cannot write\n" ∷ []

@@ -15,6 +15,8 @@ use Rattle.import_linker.specs.declared.fault.LinkFault.{LinkFault}
 use Rattle.import_linker.specs.declared.fault.LinkFault.TheVariants as link
 use Rattle.pass_law.specs.declared.fault.ListFault.{ListFault}
 use Rattle.pass_law.specs.declared.fault.ListFault.TheVariants as list
+use Rattle.profile_text.specs.declared.fault.ProfileFault.{ProfileFault}
+use Rattle.profile_text.specs.declared.fault.ProfileFault.TheVariants as profile
 
 -- the status of a command that was done, or ended so
 abbrev pub status_of : Result Unit Status → Status
@@ -65,6 +67,11 @@ abbrev pub argument_status : ArgFault → Status
 argument_status (argument.Count given wanted) = status.ArgumentCount given wanted
 argument_status (argument.Spelling position) = status.BadArgument position
 argument_status argument.Memory = status.OutOfMemory
+
+-- the status of a fault of a profile's text
+abbrev pub profile_status : ProfileFault → Status
+profile_status (profile.Line line) = status.MisreadProfile line
+profile_status profile.Memory = status.OutOfMemory
 
 -- the status of a fault of a list of passes
 abbrev pub list_status : ListFault → Status

@@ -43,8 +43,10 @@ pub fn status_number(status: &Status) -> u8
         | Status::Misnamed { .. }
         | Status::Unaccepted { .. } => 65,
         Status::CannotRead { .. } => 66,
+        Status::MisreadProfile { .. } => 67,
         Status::TooManyBytes
         | Status::TooManyFiles
+        | Status::ProfileTooLarge
         | Status::CodeTooBig { .. }
         | Status::StackTooBig { .. }
         | Status::PassTooLarge { .. } => 68,
@@ -78,6 +80,8 @@ pub fn say<E: Sink>(err: &mut ErrorOutput<'_, E>, status: &Status)
         Status::PassTooLarge { place, bound } => put_bound(err, *place, *bound),
         Status::ArgumentCount { given, wanted } => put_counts(err, *given, *wanted),
         Status::BadArgument { position } => put_number(err, b"argument ", u64::from(*position)),
+        Status::ProfileTooLarge => err.put(b"too large: profile\n"),
+        Status::MisreadProfile { line } => put_number(err, b"profile line ", u64::from(*line)),
         Status::UnknownPass { place } => put_number(err, b"unknown pass ", u64::from(*place)),
         Status::OutOfMemory => err.put(b"out of memory\n"),
         Status::CannotWrite => err.put(b"cannot write\n"),
@@ -94,6 +98,9 @@ fn misuse_line(misuse: &Misuse) -> &[u8]
             setting: Setting::Passes,
         } => b"usage: --passes\n",
         Misuse::Value {
+            setting: Setting::Profile,
+        } => b"usage: --profile\n",
+        Misuse::Value {
             setting: Setting::Frames,
         } => b"usage: --frames\n",
         Misuse::Value {
@@ -102,6 +109,12 @@ fn misuse_line(misuse: &Misuse) -> &[u8]
         Misuse::Value {
             setting: Setting::Steps,
         } => b"usage: --steps\n",
+        Misuse::Value {
+            setting: Setting::Hot,
+        } => b"usage: --hot\n",
+        Misuse::Value {
+            setting: Setting::Most,
+        } => b"usage: --most\n",
         Misuse::Functions => b"usage: N\n",
         Misuse::Memory => b"out of memory\n",
     }

@@ -1,7 +1,7 @@
 // The status of each stage's fault, so that `?` hands it on, and of how a command ended.
 
 ghost use Rattle.std.specs.Prelude.{◌≡◌};
-ghost use Rattle.bril_report.specs.StageFaults.{status_of, misuse_status, link_status, name_status, check_status, argument_status, list_status};
+ghost use Rattle.bril_report.specs.StageFaults.{status_of, misuse_status, link_status, name_status, check_status, argument_status, profile_status, list_status};
 ghost use Rattle.bril_report.specs.declared.status.Status.TheVariants.{OutOfMemory, CannotWrite};
 
 use crate::status::Status;
@@ -13,6 +13,7 @@ use bril_tree::program::Prog;
 use bril_words::Misuse;
 use import_linker::LinkFault;
 use pass_law::ListFault;
+use profile_text::ProfileFault;
 use std::alloc::AllocError;
 
 /// `Done` of a command that was done, and else the status with which it ended.
@@ -124,6 +125,18 @@ impl From<ArgFault> for Status {
             ArgFault::Count { given, wanted } => Status::ArgumentCount { given, wanted },
             ArgFault::Spelling { place } => Status::BadArgument { position: place },
             ArgFault::Memory => Status::OutOfMemory,
+        }
+    }
+}
+
+/// The bytes of a profile's file are the text of none.
+impl From<ProfileFault> for Status {
+    ghost from_gives = { λ fault status. status ≡ profile_status fault };
+
+    fn from(fault: ProfileFault) -> Status {
+        match fault {
+            ProfileFault::Line { line } => Status::MisreadProfile { line },
+            ProfileFault::Memory => Status::OutOfMemory,
         }
     }
 }

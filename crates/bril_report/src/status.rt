@@ -46,6 +46,10 @@ pub enum Status {
     ArgumentCount { given: u32, wanted: u32 },
     /// The argument at this position, from 1, spells no value of its type.
     BadArgument { position: u32 },
+    /// The file of the profile has too many bytes.
+    ProfileTooLarge,
+    /// The file of the profile breaks the form of a profile, in this line first, from 1.
+    MisreadProfile { line: u32 },
     /// No pass answers to the name at this place of the list, from 1.
     UnknownPass { place: u32 },
     /// Memory ran out.

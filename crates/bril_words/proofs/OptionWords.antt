@@ -2,7 +2,7 @@
 use Rattle.std.proofs.Common.{◌≡◌, refl, true, false, List, ◌∷◌, ◌++◌, Some, None, ℕ}
 use Rattle.std.specs.Str.{bytes_eq}
 use Rattle.bril_words.specs.declared.options.Setting.{Setting}
-use Rattle.bril_words.specs.declared.options.Setting.TheVariants.{Passes, Frames, Cells, Steps}
+use Rattle.bril_words.specs.declared.options.Setting.TheVariants.{Passes, Profile, Frames, Cells, Steps, Hot, Most}
 use Rattle.bril_words.specs.declared.options.Flag.{Flag}
 use Rattle.bril_words.specs.declared.options.Flag.TheVariants.{Stats}
 use Rattle.bril_words.specs.declared.options.Operand.{Operand}
@@ -13,45 +13,66 @@ use Rattle.bril_words.proofs.Steps.{NamesOption}
 
 pub option_word : (x : Setting) → NamesOption (dashed (option_name x)) (option_name x) None
 option_word Passes = record { dash = refl; long = refl }
+option_word Profile = record { dash = refl; long = refl }
 option_word Frames = record { dash = refl; long = refl }
 option_word Cells = record { dash = refl; long = refl }
 option_word Steps = record { dash = refl; long = refl }
+option_word Hot = record { dash = refl; long = refl }
+option_word Most = record { dash = refl; long = refl }
 
 pub joined_word : (x : Setting) (v : List ℕ) → NamesOption (dashed (option_name x) ++ 61 ∷ v) (option_name x) (Some v)
 joined_word Passes v = record { dash = refl; long = refl }
+joined_word Profile v = record { dash = refl; long = refl }
 joined_word Frames v = record { dash = refl; long = refl }
 joined_word Cells v = record { dash = refl; long = refl }
 joined_word Steps v = record { dash = refl; long = refl }
+joined_word Hot v = record { dash = refl; long = refl }
+joined_word Most v = record { dash = refl; long = refl }
 
 pub flag_word : (x : Flag) → NamesOption (dashed (flag_name x)) (flag_name x) None
 flag_word Stats = record { dash = refl; long = refl }
 
 pub same_option : (x : Setting) → bytes_eq (option_name x) (option_name x) ≡ true
 same_option Passes = refl
+same_option Profile = refl
 same_option Frames = refl
 same_option Cells = refl
 same_option Steps = refl
+same_option Hot = refl
+same_option Most = refl
 
 -- no operand has the id of an option
 pub option_apart : (o : Operand) (x : Setting) → bytes_eq (operand_id o) (option_name x) ≡ false
 option_apart File Passes = refl
+option_apart File Profile = refl
 option_apart File Frames = refl
 option_apart File Cells = refl
 option_apart File Steps = refl
+option_apart File Hot = refl
+option_apart File Most = refl
 option_apart Functions Passes = refl
+option_apart Functions Profile = refl
 option_apart Functions Frames = refl
 option_apart Functions Cells = refl
 option_apart Functions Steps = refl
+option_apart Functions Hot = refl
+option_apart Functions Most = refl
 
 pub operand_apart : (o : Operand) (x : Setting) → bytes_eq (option_name x) (operand_id o) ≡ false
 operand_apart File Passes = refl
+operand_apart File Profile = refl
 operand_apart File Frames = refl
 operand_apart File Cells = refl
 operand_apart File Steps = refl
+operand_apart File Hot = refl
+operand_apart File Most = refl
 operand_apart Functions Passes = refl
+operand_apart Functions Profile = refl
 operand_apart Functions Frames = refl
 operand_apart Functions Cells = refl
 operand_apart Functions Steps = refl
+operand_apart Functions Hot = refl
+operand_apart Functions Most = refl
 
 pub flag_apart : (o : Operand) (x : Flag) → bytes_eq (operand_id o) (flag_name x) ≡ false
 flag_apart File Stats = refl

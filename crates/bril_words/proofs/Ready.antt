@@ -49,10 +49,11 @@ abbrev pub ready_shape : Subcommand → Shape
 ready_shape c = built_leaf (inherited (with_leaf_noted (marked_built top_shape)) (subcommand_shape c))
 
 pub ready : (c : Subcommand) → Ready (ready_shape c) c
-ready subcommand.Run = record { name = refl; options = (record { long = refl; by_id = refl }, (record { long = refl; by_id = refl }, (record { long = refl; by_id = refl }, (record { long = refl; by_id = refl }, tt)))); flags = (refl, tt); operands = (record { by_index = refl; by_id = refl }, tt); harmless = refl; quiet = refl; others = λ id e. rw e refl; check = λ rows given. rw given.0 refl }
+ready subcommand.Run = record { name = refl; options = (record { long = refl; by_id = refl }, (record { long = refl; by_id = refl }, (record { long = refl; by_id = refl }, (record { long = refl; by_id = refl }, (record { long = refl; by_id = refl }, tt))))); flags = (refl, tt); operands = (record { by_index = refl; by_id = refl }, tt); harmless = refl; quiet = refl; others = λ id e. rw e refl; check = λ rows given. rw given.0 refl }
 ready subcommand.Interp = record { name = refl; options = (record { long = refl; by_id = refl }, (record { long = refl; by_id = refl }, (record { long = refl; by_id = refl }, tt))); flags = tt; operands = (record { by_index = refl; by_id = refl }, tt); harmless = refl; quiet = refl; others = λ id e. refl; check = λ rows given. rw given.0 refl }
-ready subcommand.Passes = record { name = refl; options = (record { long = refl; by_id = refl }, tt); flags = tt; operands = (record { by_index = refl; by_id = refl }, tt); harmless = refl; quiet = refl; others = λ id e. refl; check = λ rows given. rw given.0 refl }
-ready subcommand.Emit = record { name = refl; options = (record { long = refl; by_id = refl }, (record { long = refl; by_id = refl }, tt)); flags = tt; operands = (record { by_index = refl; by_id = refl }, tt); harmless = refl; quiet = refl; others = λ id e. refl; check = λ rows given. rw given.0 refl }
+ready subcommand.Record = record { name = refl; options = (record { long = refl; by_id = refl }, (record { long = refl; by_id = refl }, (record { long = refl; by_id = refl }, (record { long = refl; by_id = refl }, (record { long = refl; by_id = refl }, tt))))); flags = tt; operands = (record { by_index = refl; by_id = refl }, tt); harmless = refl; quiet = refl; others = λ id e. refl; check = λ rows given. rw given.0 refl }
+ready subcommand.Passes = record { name = refl; options = (record { long = refl; by_id = refl }, (record { long = refl; by_id = refl }, tt)); flags = tt; operands = (record { by_index = refl; by_id = refl }, tt); harmless = refl; quiet = refl; others = λ id e. refl; check = λ rows given. rw given.0 refl }
+ready subcommand.Emit = record { name = refl; options = (record { long = refl; by_id = refl }, (record { long = refl; by_id = refl }, (record { long = refl; by_id = refl }, tt))); flags = tt; operands = (record { by_index = refl; by_id = refl }, tt); harmless = refl; quiet = refl; others = λ id e. refl; check = λ rows given. rw given.0 refl }
 ready subcommand.Check = record { name = refl; options = tt; flags = tt; operands = (record { by_index = refl; by_id = refl }, tt); harmless = refl; quiet = refl; others = λ id e. refl; check = λ rows given. rw given.0 refl }
 ready subcommand.Link = record { name = refl; options = tt; flags = tt; operands = (record { by_index = refl; by_id = refl }, tt); harmless = refl; quiet = refl; others = λ id e. refl; check = λ rows given. rw given.0 refl }
 ready subcommand.WriteText = record { name = refl; options = tt; flags = tt; operands = (record { by_index = refl; by_id = refl }, tt); harmless = refl; quiet = refl; others = λ id e. refl; check = λ rows given. rw given.0 refl }
@@ -81,6 +82,7 @@ pub meets : (c : Subcommand) → Meets (built whole_app) c (ready_shape c)
 unfolding whole_app walked defaults_fault
 meets subcommand.Run = record { first = refl; free = refl; leaf = refl; defaults = refl; check = refl }
 meets subcommand.Interp = record { first = refl; free = refl; leaf = refl; defaults = refl; check = refl }
+meets subcommand.Record = record { first = refl; free = refl; leaf = refl; defaults = refl; check = refl }
 meets subcommand.Passes = record { first = refl; free = refl; leaf = refl; defaults = refl; check = refl }
 meets subcommand.Emit = record { first = refl; free = refl; leaf = refl; defaults = refl; check = refl }
 meets subcommand.Check = record { first = refl; free = refl; leaf = refl; defaults = refl; check = refl }

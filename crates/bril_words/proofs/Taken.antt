@@ -15,9 +15,9 @@ use Rattle.bril_words.specs.Request.{Asked}
 use Rattle.bril_words.specs.Subcommands.{subcommand_named}
 use Rattle.bril_words.specs.declared.subcommands.Subcommand.{Subcommand}
 use Rattle.bril_words.specs.declared.subcommands.Subcommand.TheVariants as subcommand
-use Rattle.bril_words.specs.Defaults.{most_frames, most_functions, most_cells, most_steps, default_frames, default_cells, default_steps}
+use Rattle.bril_words.specs.Defaults.{most_frames, most_functions, most_cells, most_entries, most_hot, most_steps, default_frames, default_cells, default_entries, default_hot, default_steps}
 use Rattle.bril_words.specs.declared.options.Setting.{Setting}
-use Rattle.bril_words.specs.declared.options.Setting.TheVariants.{Passes, Frames, Cells, Steps}
+use Rattle.bril_words.specs.declared.options.Setting.TheVariants.{Passes, Frames, Cells, Steps, Hot, Most}
 use Rattle.bril_words.proofs.Pieces.{AllOf}
 use Rattle.bril_words.proofs.Tests.{not_false}
 
@@ -32,7 +32,7 @@ IsCommand s = (c : Subcommand) × (subcommand_named s.name ≡ Some c)
 whole_commands : AllOf IsCommand (built whole_app).subs
 unfolding whole_app
 whole_commands =
-    ((subcommand.Run, refl), ((subcommand.Interp, refl), ((subcommand.Passes, refl), ((subcommand.Emit, refl), ((subcommand.Check, refl), ((subcommand.Link, refl), ((subcommand.WriteText, refl), ((subcommand.WriteJson, refl), ((subcommand.Demo, refl), tt)))))))))
+    ((subcommand.Run, refl), ((subcommand.Interp, refl), ((subcommand.Record, refl), ((subcommand.Passes, refl), ((subcommand.Emit, refl), ((subcommand.Check, refl), ((subcommand.Link, refl), ((subcommand.WriteText, refl), ((subcommand.WriteJson, refl), ((subcommand.Demo, refl), tt))))))))))
 
 whole_wants : ((built whole_app).top.subcommand_required ≡ true) × ((built whole_app).top.arg_required_else_help ≡ false)
 unfolding whole_app
@@ -102,7 +102,9 @@ texts_never c args t =
     never Frames (value_of most_frames default_frames t.frames) _ (λ frames.
     never Cells (value_of most_cells default_cells t.cells) _ (λ cells.
     never Steps (value_of most_steps default_steps t.steps) _ (λ steps.
-    never_functions (value_of most_functions 1 t.functions) _ (λ functions h. cc)))))
+    never Hot (value_of most_hot default_hot t.hot) _ (λ hot.
+    never Most (value_of most_entries default_entries t.most) _ (λ most.
+    never_functions (value_of most_functions 1 t.functions) _ (λ functions h. cc)))))))
 
 asks_never : (args : List Text) (m : Text × List Row) (c : Subcommand) → subcommand_named m.0 ≡ Some c → matches_ask args (Some m) ≡ Err not_taken → ⊥
 asks_never args m c is e =

@@ -20,7 +20,7 @@ use Rattle.bril_words.specs.Options.{flag_name, operand_id, option_name}
 use Rattle.bril_words.specs.Subcommands.{has_args, name_of, operands_of, subcommand_named}
 use Rattle.bril_words.specs.declared.options.Operand.{Operand}
 use Rattle.bril_words.specs.declared.options.Operand.TheVariants.{File, Functions}
-use Rattle.bril_words.specs.declared.options.Setting.TheVariants.{Passes, Frames, Cells, Steps}
+use Rattle.bril_words.specs.declared.options.Setting.TheVariants.{Passes, Profile, Frames, Cells, Steps, Hot, Most}
 use Rattle.bril_words.specs.declared.subcommands.Subcommand.{Subcommand}
 use Rattle.bril_words.specs.declared.subcommands.Subcommand.TheVariants as subcommand
 use Rattle.bril_words.proofs.Defaults.{defaults_harmless, defaults_kept, defaults_quiet, defaults_spared, find_id}
@@ -135,6 +135,7 @@ no_end c (operand v ∷ ps) fit = rw ((plain_word_is v fit.0).dash) (no_end c ps
 operands_differ : (c : Subcommand) → OperandsDiffer (operands_of c)
 operands_differ subcommand.Run = (tt, tt)
 operands_differ subcommand.Interp = (tt, tt)
+operands_differ subcommand.Record = (tt, tt)
 operands_differ subcommand.Passes = (tt, tt)
 operands_differ subcommand.Emit = (tt, tt)
 operands_differ subcommand.Check = (tt, tt)
@@ -146,6 +147,7 @@ operands_differ subcommand.Demo = (tt, tt)
 takes_args_is : (c : Subcommand) → takes_args (name_of c) ≡ has_args c
 takes_args_is subcommand.Run = refl
 takes_args_is subcommand.Interp = refl
+takes_args_is subcommand.Record = refl
 takes_args_is subcommand.Passes = refl
 takes_args_is subcommand.Emit = refl
 takes_args_is subcommand.Check = refl
@@ -157,6 +159,7 @@ takes_args_is subcommand.Demo = refl
 named_is : (c : Subcommand) → subcommand_named (name_of c) ≡ Some c
 named_is subcommand.Run = refl
 named_is subcommand.Interp = refl
+named_is subcommand.Record = refl
 named_is subcommand.Passes = refl
 named_is subcommand.Emit = refl
 named_is subcommand.Check = refl
@@ -260,17 +263,23 @@ module _ (c : Subcommand) (ps : List Piece) (fit : FitPieces c ps) (once : are_d
   texts_same =
       let file_ = found (operand_id File) refl in
       let passes_ = found (option_name Passes) refl in
+      let profile_ = found (option_name Profile) refl in
       let frames_ = found (option_name Frames) refl in
       let cells_ = found (option_name Cells) refl in
       let steps_ = found (option_name Steps) refl in
+      let hot_ = found (option_name Hot) refl in
+      let most_ = found (option_name Most) refl in
       let functions_ = found (operand_id Functions) refl in
       let stats_ = flag_is (ready_shape c) c (ready c) ps fit once (operands_differ c) count (flag_name Stats) in
       λ i. record {
         file = file_ i;
         passes = passes_ i;
+        profile = profile_ i;
         frames = frames_ i;
         cells = cells_ i;
         steps = steps_ i;
+        hot = hot_ i;
+        most = most_ i;
         stats = stats_ i;
         functions = functions_ i;
       }

@@ -7,7 +7,7 @@ use Rattle.clap.specs.Faults.{fault_of}
 use Rattle.clap.specs.Simple.{subcommand_of}
 use Rattle.clap.specs.Walk.{Row, Text, first_of, is_empty}
 use Rattle.bril_words.specs.App.{whole_app}
-use Rattle.bril_words.specs.Defaults.{most_frames, most_cells, most_functions, most_steps, default_frames, default_cells, default_steps}
+use Rattle.bril_words.specs.Defaults.{most_frames, most_cells, most_entries, most_functions, most_hot, most_steps, default_frames, default_cells, default_entries, default_hot, default_steps}
 use Rattle.bril_words.specs.Names.{has_few_names}
 use Rattle.bril_words.specs.Options.{option_name, flag_name, operand_id}
 use Rattle.bril_words.specs.Request.{Asked}
@@ -15,7 +15,7 @@ use Rattle.bril_words.specs.Subcommands.{has_args, subcommand_named}
 use Rattle.bril_words.specs.declared.options.Flag.TheVariants.{Stats}
 use Rattle.bril_words.specs.declared.options.Operand.TheVariants.{File, Functions}
 use Rattle.bril_words.specs.declared.options.Setting.{Setting}
-use Rattle.bril_words.specs.declared.options.Setting.TheVariants.{Passes, Frames, Cells, Steps}
+use Rattle.bril_words.specs.declared.options.Setting.TheVariants.{Passes, Profile, Frames, Cells, Steps, Hot, Most}
 use Rattle.bril_words.specs.declared.request.Action.{Action}
 use Rattle.bril_words.specs.declared.request.Action.TheVariants as action
 use Rattle.bril_words.specs.declared.subcommands.Subcommand.{Subcommand}
@@ -72,9 +72,12 @@ is_true (Some text) = bytes_eq text (codes "true")
 pub record Texts : Type 0 where
   pub file : Option (List ℕ)
   pub passes : Option (List ℕ)
+  pub profile : Option (List ℕ)
   pub frames : Option (List ℕ)
   pub cells : Option (List ℕ)
   pub steps : Option (List ℕ)
+  pub hot : Option (List ℕ)
+  pub most : Option (List ℕ)
   pub stats : Bool
   pub functions : Option (List ℕ)
 
@@ -83,9 +86,12 @@ abbrev pub texts_found : (List ℕ → Option (List ℕ)) → Texts
 texts_found get = record {
   file = get (operand_id File);
   passes = get (option_name Passes);
+  profile = get (option_name Profile);
   frames = get (option_name Frames);
   cells = get (option_name Cells);
   steps = get (option_name Steps);
+  hot = get (option_name Hot);
+  most = get (option_name Most);
   stats = is_true (get (flag_name Stats));
   functions = get (operand_id Functions);
 }
@@ -100,6 +106,7 @@ pub data Refusal : Type 0 where
 abbrev pub action_of : Subcommand → Numbers → Action
 action_of subcommand.Run n = action.Run n.frames n.cells n.steps n.stats
 action_of subcommand.Interp n = action.Interpret n.frames n.cells n.steps
+action_of subcommand.Record n = action.Record n.frames n.cells n.steps n.hot n.most
 action_of subcommand.Passes n = action.Passes
 action_of subcommand.Emit n = action.Emit n.frames
 action_of subcommand.Check n = action.Check
@@ -113,9 +120,9 @@ abbrev pub list_for : Subcommand → List ℕ → List ℕ
 list_for subcommand.Demo list = codes "const,dead,tidy"
 list_for _ list = list
 
--- an action on the file at a path, with this list of passes and these arguments
-abbrev pub asked : Action → List ℕ → List ℕ → List (List ℕ) → Result Asked Refusal
-asked act path list args = Ok (record { action = act; path = path; list = list; args = args })
+-- an action on the file at a path, with this list of passes, this path of a profile and these arguments
+abbrev pub asked : Action → List ℕ → List ℕ → Option (List ℕ) → List (List ℕ) → Result Asked Refusal
+asked act path list profile args = Ok (record { action = act; path = path; list = list; profile = profile; args = args })
 
 -- what a value asks for, where there is one
 abbrev pub or_bad : {X : Type 0} → Setting → Option X → (X → Result Asked Refusal) → Result Asked Refusal
@@ -133,8 +140,11 @@ texts_ask c args t =
     or_bad Frames (value_of most_frames default_frames t.frames) (λ frames.
     or_bad Cells (value_of most_cells default_cells t.cells) (λ cells.
     or_bad Steps (value_of most_steps default_steps t.steps) (λ steps.
+    or_bad Hot (value_of most_hot default_hot t.hot) (λ hot.
+    or_bad Most (value_of most_entries default_entries t.most) (λ most.
     or_bad_functions (value_of most_functions 1 t.functions) (λ functions.
-    asked (action_of c (record { frames = frames; cells = cells; steps = steps; stats = t.stats; functions = functions })) (unwrap_or t.file []) (list_for c list) args)))))
+    asked (action_of c (record { frames = frames; cells = cells; steps = steps; hot = hot; most = most; stats = t.stats; functions = functions }))
+    (unwrap_or t.file []) (list_for c list) t.profile args)))))))
 
 -- ---- what the matches of `clap` ask for
 

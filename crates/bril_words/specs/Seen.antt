@@ -8,9 +8,6 @@ use Rattle.bril_words.specs.declared.misuse.Misuse.{Misuse}
 use Rattle.bril_words.specs.declared.misuse.Misuse.TheVariants as misuse
 use Rattle.bril_words.specs.declared.request.Request.{Request}
 
-abbrev pub request_seen : Request → Asked
-request_seen r = record { action = r.action; path = r.path.now; list = r.list.now; args = r.args.now }
-
 abbrev pub misuse_seen : Misuse → Refusal
 misuse_seen (misuse.Words text) = not_taken
 misuse_seen (misuse.Value setting) = bad_value setting
@@ -19,3 +16,6 @@ misuse_seen misuse.Memory = not_taken
 
 abbrev pub text_seen : Option (Bor (List ℕ)) → Option (List ℕ)
 text_seen = option_map (λ t. t.now)
+
+abbrev pub request_seen : Request → Asked
+request_seen r = record { action = r.action; path = r.path.now; list = r.list.now; profile = text_seen r.profile; args = r.args.now }

@@ -67,6 +67,7 @@ fn with_help<'a>(command: Command<'a>, subcommand: Subcommand) -> Command<'a>
     match subcommand {
         Subcommand::Run => command.override_usage("roolvist run [OPTIONS] <FILE> [-- ARGS]"),
         Subcommand::Interp => command.override_usage("roolvist interp [OPTIONS] <FILE> [-- ARGS]"),
+        Subcommand::Record => command.override_usage("roolvist record [OPTIONS] <FILE> [-- ARGS]"),
         Subcommand::Passes
         | Subcommand::Emit
         | Subcommand::Check

@@ -14,5 +14,5 @@ pub use misuse::Misuse;
 pub use names::names_of;
 pub use options::Setting;
 pub use request::{Action, Request};
-pub use values::{CELLS, FRAMES, STEPS};
+pub use values::{CELLS, ENTRIES, FRAMES, HOT, STEPS};
 pub use words::read_words;

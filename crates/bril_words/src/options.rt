@@ -9,12 +9,18 @@ ghost use Rattle.bril_words.specs.Options.{option_name, flag_name, operand_id};
 pub enum Setting {
     /// `--passes`: the names of passes, 64 at most.
     Passes,
+    /// `--profile`: the path of a file with a profile.
+    Profile,
     /// `--frames`: the most frames at once, 1 to 65,536.
     Frames,
     /// `--cells`: the most cells that are given out, 1 to 4,194,304.
     Cells,
     /// `--steps`: the most steps, or words of the machine, that are made, 1 to 1,000,000,000,000.
     Steps,
+    /// `--hot`: how many arrivals make a label hot, 1 to 65,536.
+    Hot,
+    /// `--most`: the most entries of a profile, 1 to 64.
+    Most,
 }
 
 impl Setting {
@@ -24,9 +30,12 @@ impl Setting {
     {
         match self {
             Setting::Passes => "passes",
+            Setting::Profile => "profile",
             Setting::Frames => "frames",
             Setting::Cells => "cells",
             Setting::Steps => "steps",
+            Setting::Hot => "hot",
+            Setting::Most => "most",
         }
     }
 
@@ -34,7 +43,8 @@ impl Setting {
     pub(crate) fn value_name<'a>(self) -> &'a str {
         match self {
             Setting::Passes => "LIST",
-            Setting::Frames | Setting::Cells | Setting::Steps => "N",
+            Setting::Profile => "FILE",
+            Setting::Frames | Setting::Cells | Setting::Steps | Setting::Hot | Setting::Most => "N",
         }
     }
 
@@ -42,10 +52,13 @@ impl Setting {
     pub(crate) fn help<'a>(self) -> &'a str {
         match self {
             Setting::Passes => "Passes to apply, with commas between their names [default: none]",
+            Setting::Profile => "File with a profile for the passes [default: none]",
             Setting::Frames => "Most frames at once, 1 to 65536 [default: 8192]",
             Setting::Cells => "Most cells in the whole run, 1 to 4194304 [default: 1048576]",
             Setting::Steps =>
                 "Most steps (machine words for run), 1 to 1000000000000 [default: 1000000000]",
+            Setting::Hot => "Arrivals that make a label hot, 1 to 65536 [default: 16]",
+            Setting::Most => "Most entries of the profile, 1 to 64 [default: 16]",
         }
     }
 }

@@ -19,6 +19,15 @@ pub enum Action {
         cells: u32,
         steps: u64,
     },
+    /// Interprets its program, with so many frames and cells at most and so many steps, and writes the profile of the run: a
+    /// label that was arrived at `hot` times has an entry, and there are `most` entries at most.
+    Record {
+        frames: u32,
+        cells: u32,
+        steps: u64,
+        hot: u32,
+        most: u32,
+    },
     /// Writes the machine words of its program, with so many frames at most.
     Emit {
         frames: u32,
@@ -39,11 +48,13 @@ pub enum Action {
     WriteJson,
 }
 
-/// An action, the path of its file, empty where it has none, the list of passes, and the arguments of the file's program.
+/// An action, the path of its file, empty where it has none, the list of passes, the path of the file with the profile, if one is
+/// named, and the arguments of the file's program.
 #[derive(Clone, Copy, Drop)]
 pub struct Request<'a> {
     pub action: Action,
     pub path: &'a str,
     pub list: &'a str,
+    pub profile: Option<&'a str>,
     pub args: &'a [Text],
 }

@@ -10,6 +10,7 @@ use crate::options::{Flag, Operand, Setting};
 pub(crate) enum Subcommand {
     Run,
     Interp,
+    Record,
     Passes,
     Emit,
     Check,
@@ -20,9 +21,10 @@ pub(crate) enum Subcommand {
 }
 
 // All commands, in the order in which help lists them.
-pub(crate) const SUBCOMMANDS: [Subcommand; 9] = [
+pub(crate) const SUBCOMMANDS: [Subcommand; 10] = [
     Subcommand::Run,
     Subcommand::Interp,
+    Subcommand::Record,
     Subcommand::Passes,
     Subcommand::Emit,
     Subcommand::Check,
@@ -32,8 +34,9 @@ pub(crate) const SUBCOMMANDS: [Subcommand; 9] = [
     Subcommand::Demo,
 ];
 
-static OF_RUN: [Setting; 4] = [
+static OF_RUN: [Setting; 5] = [
     Setting::Passes,
+    Setting::Profile,
     Setting::Frames,
     Setting::Cells,
     Setting::Steps,
@@ -41,9 +44,17 @@ static OF_RUN: [Setting; 4] = [
 
 static OF_INTERP: [Setting; 3] = [Setting::Frames, Setting::Cells, Setting::Steps];
 
-static OF_PASSES: [Setting; 1] = [Setting::Passes];
+static OF_RECORD: [Setting; 5] = [
+    Setting::Frames,
+    Setting::Cells,
+    Setting::Steps,
+    Setting::Hot,
+    Setting::Most,
+];
 
-static OF_EMIT: [Setting; 2] = [Setting::Passes, Setting::Frames];
+static OF_PASSES: [Setting; 2] = [Setting::Passes, Setting::Profile];
+
+static OF_EMIT: [Setting; 3] = [Setting::Passes, Setting::Profile, Setting::Frames];
 
 static NO_OPTIONS: [Setting; 0] = [];
 
@@ -63,6 +74,7 @@ impl Subcommand {
         match self {
             Subcommand::Run => "run",
             Subcommand::Interp => "interp",
+            Subcommand::Record => "record",
             Subcommand::Passes => "passes",
             Subcommand::Emit => "emit",
             Subcommand::Check => "check",
@@ -80,6 +92,7 @@ impl Subcommand {
         match self {
             Subcommand::Run => OF_RUN.as_slice(),
             Subcommand::Interp => OF_INTERP.as_slice(),
+            Subcommand::Record => OF_RECORD.as_slice(),
             Subcommand::Passes => OF_PASSES.as_slice(),
             Subcommand::Emit => OF_EMIT.as_slice(),
             Subcommand::Check
@@ -97,6 +110,7 @@ impl Subcommand {
         match self {
             Subcommand::Run => STATS.as_slice(),
             Subcommand::Interp
+            | Subcommand::Record
             | Subcommand::Passes
             | Subcommand::Emit
             | Subcommand::Check
@@ -114,6 +128,7 @@ impl Subcommand {
         match self {
             Subcommand::Run
             | Subcommand::Interp
+            | Subcommand::Record
             | Subcommand::Passes
             | Subcommand::Emit
             | Subcommand::Check
@@ -128,7 +143,10 @@ impl Subcommand {
     pub(crate) fn has_args(self) -> bool
         ensures { result ≡ has_args self }
     {
-        matches!(self, Subcommand::Run | Subcommand::Interp)
+        matches!(
+            self,
+            Subcommand::Run | Subcommand::Interp | Subcommand::Record
+        )
     }
 
     // What it does, for help.
@@ -136,6 +154,7 @@ impl Subcommand {
         match self {
             Subcommand::Run => "Compile a program to machine words and run these",
             Subcommand::Interp => "Interpret a program",
+            Subcommand::Record => "Interpret a program and write a profile of the run",
             Subcommand::Passes => "Write what a list of passes makes of a program",
             Subcommand::Emit => "Write the machine words of a program",
             Subcommand::Check => "Check a program and count its functions and items",
@@ -154,6 +173,9 @@ impl Subcommand {
             }
             Subcommand::Interp => {
                 "ARGS are the arguments of the program's main function.{n}{n}Example: roolvist interp examples/divisor.bril -- 1071 462"
+            }
+            Subcommand::Record => {
+                "ARGS are the arguments of the program's main function.{n}{n}Example: roolvist record examples/divisor.bril --hot 2 -- 1071 462"
             }
             Subcommand::Passes =>
                 "Example: roolvist passes examples/leftovers.bril --passes dead,tidy",
@@ -174,6 +196,7 @@ pub(crate) fn subcommand_named(word: &str) -> Option<Subcommand>
     match word {
         "run" => Some(Subcommand::Run),
         "interp" => Some(Subcommand::Interp),
+        "record" => Some(Subcommand::Record),
         "passes" => Some(Subcommand::Passes),
         "emit" => Some(Subcommand::Emit),
         "check" => Some(Subcommand::Check),

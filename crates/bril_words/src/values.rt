@@ -8,7 +8,7 @@ ghost use Rattle.clap.specs.Walk.{first_of, rows_of};
 ghost use Rattle.bril_words.specs.CommandLine.{action_of, in_range, is_true, list_for, list_of, texts_ask, texts_found, value_of};
 ghost use Rattle.bril_words.specs.Names.{names_of};
 ghost use Rattle.bril_words.specs.Options.{option_name};
-ghost use Rattle.bril_words.specs.Request.{AreFunctions, AreLimits, IsActionInRange};
+ghost use Rattle.bril_words.specs.Request.{AreFunctions, AreLimits, AreRecorded, IsActionInRange};
 ghost use Rattle.bril_words.specs.Seen.{misuse_seen, request_seen, text_seen};
 ghost use Rattle.bril_words.specs.declared.misuse.Misuse.TheVariants.{Value};
 
@@ -28,6 +28,10 @@ const MOST_CELLS: u64 = 4_194_304;
 
 const MOST_STEPS: u64 = 1_000_000_000_000;
 
+const MOST_HOT: u64 = 65_536;
+
+const MOST_ENTRIES: u64 = 64;
+
 // The most functions of the demo program.
 const MOST_FUNCTIONS: u64 = 150;
 
@@ -40,6 +44,12 @@ pub const CELLS: u32 = 1_048_576;
 /// The steps that a run makes at most, where no option says otherwise.
 pub const STEPS: u64 = 1_000_000_000;
 
+/// The arrivals that make a label hot, where no option says otherwise.
+pub const HOT: u32 = 16;
+
+/// The entries that a profile has at most, where no option says otherwise.
+pub const ENTRIES: u32 = 16;
+
 // The passes of the demo.
 const DEMO_PASSES: &str = "const,dead,tidy";
 
@@ -49,15 +59,17 @@ pub(crate) struct Numbers {
     pub(crate) frames: u32,
     pub(crate) cells: u32,
     pub(crate) steps: u64,
+    pub(crate) hot: u32,
+    pub(crate) most: u32,
     pub(crate) stats: bool,
     pub(crate) functions: u32,
 }
 
 // What a command asks for, with what `clap` found for it and these arguments: its list of passes and its numbers, each what it is
-// by default where its option doesn't stand.
+// by default where its option doesn't stand, and the path of its profile.
 //
-// `Value`: the first of passes, frames, cells and steps whose value has more than 64 names, is no number as `bril_nums::read_int`
-// reads it, or is out of its range. `Functions`: these are as they should be, and the number of functions isn't.
+// `Value`: the first of passes, frames, cells, steps, hot and most whose value has more than 64 names, is no number as
+// `bril_nums::read_int` reads it, or is out of its range. `Functions`: these are as they should be, and the number of functions isn't.
 pub(crate) fn read_found<'a>(
     subcommand: Subcommand,
     found: &ArgMatches<'a>,
@@ -75,6 +87,10 @@ pub(crate) fn read_found<'a>(
         Setting::Cells,
     ))?;
     let steps = value_of(found, Setting::Steps, MOST_STEPS, STEPS).ok_or(faulty(Setting::Steps))?;
+    let hot = value_of(found, Setting::Hot, MOST_HOT, HOT as u64).ok_or(faulty(Setting::Hot))?;
+    let most = value_of(found, Setting::Most, MOST_ENTRIES, ENTRIES as u64).ok_or(faulty(
+        Setting::Most,
+    ))?;
     let functions = number_of(
         found_text(found, Operand::Functions.id()),
         MOST_FUNCTIONS,
@@ -85,6 +101,8 @@ pub(crate) fn read_found<'a>(
         frames: frames as u32,
         cells: cells as u32,
         steps,
+        hot: hot as u32,
+        most: most as u32,
         stats: is_true(found_text(found, Flag::Stats.name())),
         functions: functions as u32,
     };
@@ -92,6 +110,7 @@ pub(crate) fn read_found<'a>(
         action: action_of(subcommand, numbers),
         path: found_text(found, Operand::File.id()).unwrap_or(""),
         list: list_for(subcommand, list),
+        profile: found_text(found, Setting::Profile.name()),
         args,
     })
 }
@@ -113,6 +132,7 @@ fn found_text<'a>(found: &ArgMatches<'a>, id: &str) -> Option<&'a str>
 // The action of a command with these numbers.
 fn action_of(subcommand: Subcommand, numbers: Numbers) -> Action
     requires limits { AreLimits numbers.frames numbers.cells numbers.steps }
+    requires recorded { AreRecorded numbers.hot numbers.most }
     requires functions { AreFunctions numbers.functions }
     ensures is { result ≡ action_of subcommand numbers }
     ensures range { IsActionInRange result }
@@ -128,6 +148,13 @@ fn action_of(subcommand: Subcommand, numbers: Numbers) -> Action
             frames: numbers.frames,
             cells: numbers.cells,
             steps: numbers.steps,
+        },
+        Subcommand::Record => Action::Record {
+            frames: numbers.frames,
+            cells: numbers.cells,
+            steps: numbers.steps,
+            hot: numbers.hot,
+            most: numbers.most,
         },
         Subcommand::Emit => Action::Emit {
             frames: numbers.frames,

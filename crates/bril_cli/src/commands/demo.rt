@@ -5,7 +5,7 @@ ghost use Rattle.std.specs.Prelude.{◌≡◌, ◌≤◌, ◌⊎◌, [], ◌++�
 ghost use Rattle.bril_cli.specs.Demo.{CountsPrinted, shows_line, size_seen};
 ghost use Rattle.bril_cli.specs.Machines.{IsFresh};
 ghost use Rattle.bril_commands.specs.Command.{AreLimitsOf, ImageFor, RefusesEmission};
-ghost use Rattle.bril_commands.specs.Driver.{DoesProgram, IsSilent};
+ghost use Rattle.bril_commands.specs.Driver.{DoesGiven, IsSilent};
 ghost use Rattle.bril_commands.specs.Outcome.{Works};
 ghost use Rattle.bril_commands.specs.PassList.{pass_list};
 ghost use Rattle.bril_commands.specs.commands.Demo.{MadeRuns, demo_cells, demo_frames, demonstrated, demonstrates, line_of, shown_status, size_of, words_told};
@@ -30,6 +30,7 @@ use bril_commands::list::transformed;
 use bril_commands::output::hand_on;
 use bril_outside::count_sink::CountSink;
 use bril_outside::sink::Sink;
+use bril_profile::Profile;
 use bril_report::{ErrorOutput, Outputs, Status, put_words};
 use bril_tree::bytes::Bytes;
 use bril_tree::limits::{End, Limits};
@@ -73,11 +74,12 @@ pub fn demo<O: Sink, E: Sink>(
 ) -> Result<(), Status>
     requires { Numbered (demo_tree functions) checked.prog }
     ensures same_boxes { passes.new.boxes.ghost_name ≡ passes.old.boxes.ghost_name }
-    ensures does { Telling O.seen E.seen (λ told s t. DoesProgram (demonstrates functions) (status_of result) (pass_list (λ p. meaning p) (λ p. counts p) passes.old.boxes.now passes.new.boxes.now passes.old.names.now) checked.prog [] told s t) outputs.old outputs.new }
+    ensures does { Telling O.seen E.seen (λ told s t. DoesGiven (demonstrates functions) (status_of result) (pass_list (λ p. meaning p) (λ p. counts p) passes.old.boxes.now passes.new.boxes.now passes.old.names.now) [] checked.prog [] told s t) outputs.old outputs.new }
     ensures same { AllSame (λ p. meaning p) passes.old.boxes.now passes.new.boxes.now }
 {
     let counts = counts_of(functions, checked.prog());
-    let made = transformed(alloc, passes.boxes, passes.names, checked)?;
+    let profile = Profile::without_entries(alloc);
+    let made = transformed(alloc, passes.boxes, passes.names, checked, &profile)?;
     run_made(alloc, counts, &made, outputs)
 }
 

@@ -11,6 +11,7 @@ ghost use Rattle.bril_commands.specs.commands.Run.{executed, runs};
 ghost use Rattle.bril_report.specs.StageFaults.{status_of};
 ghost use Rattle.bril_report.specs.Telling.{Telling};
 ghost use Rattle.rv64_machine.specs.MachineView.{image_in, state_of};
+ghost use Rattle.bril_words.specs.Seen.{text_seen};
 ghost use Rattle.pass_law.specs.Chains.{AllSame};
 ghost use Rattle.bril_tree.specs.Run.{FitMain};
 ghost use Rattle.rv64_implements.specs.Implements.{Implements};
@@ -23,13 +24,15 @@ use bril_checker::Checked;
 use bril_commands::arguments::values_of;
 use bril_commands::list::transformed;
 use bril_commands::output::{answer, hand_on};
+use bril_commands::profile::profile_at;
+use bril_outside::files::Files;
 use bril_outside::sink::Sink;
 use bril_report::{Outputs, Status};
 use bril_tree::limits::{End, Limits};
 use bril_tree::program::Prog;
 use bril_tree::sequence::Seq;
-use bril_tree::text::Text;
 use bril_tree::value::Value;
+use bril_words::Request;
 use rv64_machine::answer::RunAnswer;
 use rv64_machine::machine::Machine;
 use rv64_words::image::Image;
@@ -43,28 +46,32 @@ pub struct RunSettings {
     pub stats: bool,
 }
 
-/// Gives the program to a list of passes, and runs what this makes on the machine under the limits, for so many words of it, with the
-/// values that the words of the command line spell as the arguments of its `main`: what it prints goes to the output. After the run its
-/// counts are told on the error output, where that is asked for.
+/// Gives the program to a list of passes, with the profile that the request names, and runs what this makes on the machine under the
+/// limits, for so many words of it, with the values that the request's words spell as the arguments of its `main`: what it prints goes to
+/// the output. After the run its counts are told on the error output, where that is asked for.
 ///
-/// `ArgumentCount`, `BadArgument`: the words of the command line spell no such values. `UnknownPass`, `PassTooLarge`: the list makes no
-/// program. `CodeTooBig`, `StackTooBig`: what it makes may have more than 250,000 words, or needs more than 8,388,608 words of stack.
+/// `ArgumentCount`, `BadArgument`: the words spell no such values. `CannotRead`, `ProfileTooLarge`, `MisreadProfile`: the file of the
+/// profile was not read, has too many bytes, or breaks the form. `UnknownPass`, `PassTooLarge`: the list makes no program. `CodeTooBig`, `StackTooBig`: what it makes may have more than 250,000 words, or needs more than 8,388,608 words of stack.
 /// With these, and out of memory, nothing is put. `Faulted`, `Spent`: the program stopped with a fault, or the machine goes on after so
 /// many words. `CannotWrite`: a write failed, and nothing is told.
-pub fn run<O: Sink, E: Sink>(
+pub fn run<F: Files, O: Sink, E: Sink>(
     alloc: Global,
     checked: Checked,
-    words: &[Text],
+    request: Request,
     settings: RunSettings,
+    files: &mut F,
     passes: &mut ListedPasses<'_, '_>,
     outputs: &mut Outputs<'_, '_, O, E>,
 ) -> Result<(), Status>
     ensures same_boxes { passes.new.boxes.ghost_name ≡ passes.old.boxes.ghost_name }
-    ensures does { Telling O.seen E.seen (λ told s t. DoesProgram (runs settings.limits.frames settings.limits.cells settings.steps settings.stats) (status_of result) (pass_list (λ p. meaning p) (λ p. counts p) passes.old.boxes.now passes.new.boxes.now passes.old.names.now) checked.prog words.now told s t) outputs.old outputs.new }
+    ensures holds { (F.seen files.new).holds ≡ (F.seen files.old).holds }
+    ensures faults { (F.seen files.old).faults ≤ (F.seen files.new).faults }
+    ensures does { Telling O.seen E.seen (λ told s t. DoesProgram (runs settings.limits.frames settings.limits.cells settings.steps settings.stats) (status_of result) (pass_list (λ p. meaning p) (λ p. counts p) passes.old.boxes.now passes.new.boxes.now passes.old.names.now) (F.seen files.old) (F.seen files.new) checked.prog (text_seen request.entry.profile) request.entry.args.now told s t) outputs.old outputs.new }
     ensures same { AllSame (λ p. meaning p) passes.old.boxes.now passes.new.boxes.now }
 {
-    let values = values_of(alloc, checked.prog(), words)?;
-    let made = transformed(alloc, passes.boxes, passes.names, checked)?;
+    let values = values_of(alloc, checked.prog(), request.args)?;
+    let profile = profile_at(alloc, request.profile, files)?;
+    let made = transformed(alloc, passes.boxes, passes.names, checked, &profile)?;
     run_with(alloc, &made, &values, settings, outputs)
 }
 

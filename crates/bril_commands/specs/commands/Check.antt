@@ -5,6 +5,7 @@ use Rattle.bril_tree.specs.Size.{item_count}
 use Rattle.bril_tree.specs.declared.program.Prog.{Prog}
 use Rattle.bril_commands.specs.Command.{LinkedFiles, OfProgram, NoArguments, NoImage}
 use Rattle.bril_commands.specs.Outcome.{writes_text}
+use Rattle.bril_commands.specs.Profiles.{NoProfile}
 
 -- the line of an accepted program: how many functions and items it has
 abbrev pub accepted_line : Prog → List ℕ
@@ -12,4 +13,4 @@ accepted_line p = codes "ok " ++ decimal (length p.funcs) ++ codes " " ++ decima
 
 -- The line of the accepted program is written.
 abbrev pub checks : OfProgram
-checks = record { origin = LinkedFiles; arguments = NoArguments; takes_passes = false; emission = NoImage; outcome = λ on. writes_text (accepted_line on.source) }
+checks = record { origin = LinkedFiles; arguments = NoArguments; profile = NoProfile; takes_passes = false; emission = NoImage; outcome = λ on. writes_text (accepted_line on.source) }

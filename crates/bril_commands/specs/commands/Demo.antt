@@ -11,6 +11,7 @@ use Rattle.bril_tree.specs.declared.program.Prog.{Prog}
 use Rattle.rv64_implements.specs.Implements.{image_after}
 use Rattle.bril_commands.specs.Command.{Demo, OfProgram, NoArguments, ImageFor, Subject}
 use Rattle.bril_commands.specs.Outcome.{Outcome}
+use Rattle.bril_commands.specs.Profiles.{NoProfile}
 use Rattle.bril_commands.specs.commands.Run.{Executes, RunShows}
 
 -- ---- its limits
@@ -106,6 +107,7 @@ abbrev pub demonstrates : (functions : ℕ) → OfProgram
 demonstrates functions = record {
   origin = Demo functions;
   arguments = NoArguments;
+  profile = NoProfile;
   takes_passes = true;
   emission = ImageFor demo_frames demo_cells;
   outcome = λ on. demonstrated (size_of functions on.source) (SourceRuns on);

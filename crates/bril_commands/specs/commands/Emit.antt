@@ -7,6 +7,7 @@ use Rattle.rv64_implements.specs.Implements.{Implements}
 use Rattle.rv64_words.specs.declared.image.Image.{Image}
 use Rattle.bril_commands.specs.Command.{LinkedFiles, OfProgram, NoArguments, ImageFor, AreLimitsOf}
 use Rattle.bril_commands.specs.Outcome.{writes}
+use Rattle.bril_commands.specs.Profiles.{NamedFile}
 
 -- ---- the text of words
 
@@ -43,6 +44,7 @@ abbrev pub emits : (Image → List (List ℕ)) → (frames cells : ℕ) → OfPr
 emits shows frames cells = record {
   origin = LinkedFiles;
   arguments = NoArguments;
+  profile = NamedFile;
   takes_passes = true;
   emission = ImageFor frames cells;
   outcome = λ on. writes [] (ShowsImage shows on.made frames cells);

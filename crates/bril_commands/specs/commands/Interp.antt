@@ -11,6 +11,7 @@ use Rattle.bril_tree.specs.declared.program.Prog.{Prog}
 use Rattle.bril_tree.specs.declared.value.Value.{Value}
 use Rattle.bril_commands.specs.Command.{LinkedFiles, OfProgram, OfMain, NoImage}
 use Rattle.bril_commands.specs.Outcome.{Outcome}
+use Rattle.bril_commands.specs.Profiles.{NoProfile}
 
 -- ---- the run
 
@@ -63,6 +64,7 @@ abbrev pub interprets : (frames cells steps : ℕ) → OfProgram
 interprets frames cells steps = record {
   origin = LinkedFiles;
   arguments = OfMain;
+  profile = NoProfile;
   takes_passes = false;
   emission = NoImage;
   outcome = λ on. interpreted on.source on.values frames cells steps;

@@ -17,6 +17,7 @@ use Rattle.rv64_words.specs.declared.image.Image.{Image}
 use Rattle.bril_commands.specs.Command.{LinkedFiles, OfProgram, OfMain, ImageFor, AreLimitsOf, Subject}
 use Rattle.bril_commands.specs.Images.{MachineShows}
 use Rattle.bril_commands.specs.Outcome.{Outcome}
+use Rattle.bril_commands.specs.Profiles.{NamedFile}
 use Rattle.bril_commands.specs.Sources.{SourceShows}
 use Rattle.bril_commands.specs.Stats.{TellsStats}
 
@@ -80,6 +81,7 @@ abbrev pub runs : (frames cells words : ℕ) → Bool → OfProgram
 runs frames cells words stats = record {
   origin = LinkedFiles;
   arguments = OfMain;
+  profile = NamedFile;
   takes_passes = true;
   emission = ImageFor frames cells;
   outcome = λ on. ran on frames cells words stats;

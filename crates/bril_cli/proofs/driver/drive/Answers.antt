@@ -2,6 +2,7 @@
 use Rattle.std.proofs.Common.{ℕ, List, [], refl, inl, inr, subst, rules}
 use Rattle.std.proofs.lemmas.Result.{err_from_is_err_and}
 use Rattle.bril_commands.proofs.Keeping.{kept}
+use Rattle.bril_commands.proofs.Profiles.{DoesTree-from}
 use Rattle.bril_commands.proofs.Reading.{memory_refuses, needs_alone}
 use Rattle.bril_commands.specs.Command.{takes_passes, reach}
 use Rattle.bril_commands.specs.Driver.{DoesTree}
@@ -10,6 +11,7 @@ use Rattle.bril_commands.specs.Table.{command, KeepsPasses}
 use Rattle.bril_report.proofs.Telling.{Tells-none}
 use Rattle.bril_report.specs.StageFaults.{status_of}
 use Rattle.bril_words.specs.Names.{names_of}
+use Rattle.bril_words.specs.Seen.{text_seen}
 use Rattle.bril_cli.proofs.Demos.{own_tree}
 use Rattle.bril_cli.proofs.driver.drive.Goals as goal
 
@@ -34,18 +36,21 @@ do_command-requires g c = record {
 pub returns-clause-does : goal.returns-clause-does
 returns-clause-does g c =
     let does = c.do_command.ensures.does in
+    let before = g.F.Files.seen c.args.files.now in
+    let after = g.F.Files.seen c.do_command.new.files in
     let named = subst (λ (names : List (List ℕ)). DoesTree (command c.args.request.action) (status_of c.do_command.result)
     (pass_list (λ p. (goal.Pass-dyn g (p.vtable, p.value)).meaning p.value) (λ p. (goal.Pass-dyn g (p.vtable, p.value)).counts p.value) c.args.passes.now c.do_command.new.passes.boxes.now names)
-    c.in_ok-tree.tree c.args.request.args.now does.told (g.O.Sink.seen c.args.outputs.now.out.now) (g.O.Sink.seen c.do_command.new.outputs.out.now)) c.in_ok-names.ensures does.does in
+    before after c.in_ok-tree.tree (text_seen c.args.request.profile) c.args.request.args.now does.told (g.O.Sink.seen c.args.outputs.now.out.now) (g.O.Sink.seen c.do_command.new.outputs.out.now)) c.in_ok-names.ensures
+    (DoesTree-from before (g.F.Files.seen c.tree_of.new.files) after c.in_ok-tree.ensures.holds c.in_ok-tree.ensures.faults (command c.args.request.action) (status_of c.do_command.result) _ c.in_ok-tree.tree (text_seen c.args.request.profile) c.args.request.args.now does.told _ _ does.does) in
     record {
       same_output = does.same_output;
       told = does.told;
       does = inr (
         c.in_ok-tree.tree,
         c.in_ok-tree.ensures.ok,
-        subst (λ after. DoesTree (command c.args.request.action) (status_of c.do_command.result)
-            (pass_list (λ p. (goal.Pass-dyn g (p.vtable, p.value)).meaning p.value) (λ p. (goal.Pass-dyn g (p.vtable, p.value)).counts p.value) c.args.passes.now after (names_of c.args.request.list.now))
-            c.in_ok-tree.tree c.args.request.args.now does.told (g.O.Sink.seen c.args.outputs.now.out.now) (g.O.Sink.seen c.do_command.new.outputs.out.now)) (search rules) named,
+        subst (λ boxes. DoesTree (command c.args.request.action) (status_of c.do_command.result)
+            (pass_list (λ p. (goal.Pass-dyn g (p.vtable, p.value)).meaning p.value) (λ p. (goal.Pass-dyn g (p.vtable, p.value)).counts p.value) c.args.passes.now boxes (names_of c.args.request.list.now))
+            before after c.in_ok-tree.tree (text_seen c.args.request.profile) c.args.request.args.now does.told (g.O.Sink.seen c.args.outputs.now.out.now) (g.O.Sink.seen c.do_command.new.outputs.out.now)) (search rules) named,
       );
       tells = does.tells;
     }

@@ -16,6 +16,12 @@ returns-in-CodeTooBig g c = rw c.in-CodeTooBig.is c.put_number-in-CodeTooBig.ens
 pub returns-in-StackTooBig : goal.returns-in-StackTooBig
 returns-in-StackTooBig g c = rw c.in-StackTooBig.is c.put_number-in-StackTooBig.ensures
 
+pub returns-in-ProfileTooLarge : goal.returns-in-ProfileTooLarge
+returns-in-ProfileTooLarge g c = rw c.in-ProfileTooLarge.is c.put-in-ProfileTooLarge.ensures
+
+pub returns-in-MisreadProfile : goal.returns-in-MisreadProfile
+returns-in-MisreadProfile g c = rw c.in-MisreadProfile.is (rw (← c.from-in-MisreadProfile.ensures) c.put_number-in-MisreadProfile.ensures)
+
 pub returns-in-UnknownPass : goal.returns-in-UnknownPass
 returns-in-UnknownPass g c = rw c.in-UnknownPass.is (rw (← c.from-in-UnknownPass.ensures) c.put_number-in-UnknownPass.ensures)
 

@@ -1,0 +1,57 @@
+-- `record`: an accepted program is interpreted with the arguments that the words spell, and the profile of the run is written.
+use Rattle.std.specs.Prelude.{ℕ, zero, suc, ◌≡◌, false, List, [], ◌∷◌, ◌++◌, Option, Some, None}
+use Rattle.bril_tree.specs.Run.{state_after}
+use Rattle.bril_tree.specs.State.{State}
+use Rattle.bril_tree.specs.declared.limits.End.{End}
+use Rattle.bril_tree.specs.declared.limits.Limits.{Limits}
+use Rattle.bril_tree.specs.declared.program.Prog.{Prog}
+use Rattle.bril_tree.specs.declared.value.Value.{Value}
+use Rattle.profile_text.specs.Form.{profile_text}
+use Rattle.trace_recorder.specs.Recorded.{recorded}
+use Rattle.bril_commands.specs.Command.{LinkedFiles, OfProgram, OfMain, NoImage}
+use Rattle.bril_commands.specs.Outcome.{Outcome}
+use Rattle.bril_commands.specs.Profiles.{NoProfile}
+
+-- ---- the run
+
+-- the state before a step that is made: it hasn't ended
+abbrev pub before_step : Option End → State → List State
+before_step None s = s ∷ []
+before_step (Some end) s = []
+
+-- the states of a program's run before each step that is made, so many steps at most, the first first
+abbrev pub states_within : Prog → Limits → List Value → (steps : ℕ) → List State
+states_within p limits values zero = []
+states_within p limits values (suc n) = states_within p limits values n ++ before_step (state_after p limits values n).ended (state_after p limits values n)
+
+-- By its semantics the program, with these values, has ended so within the steps, or goes on for None, and this is the text of the
+-- profile of its run so far.
+pub record ShowsProfile (p : Prog) (values : List Value) (frames cells steps hot most : ℕ) (ended : Option End) (output : List (List ℕ)) : Type 0 where
+  pub limits : Limits
+  pub frames_are : limits.frames ≡ frames
+  pub cells_are : limits.cells ≡ cells
+  pub ends : (state_after p limits values steps).ended ≡ ended
+  pub text : output ≡ profile_text (recorded p hot most (states_within p limits values steps)) ∷ []
+
+-- ---- the command
+
+-- What a run of so many steps, by its semantics, is recorded as.
+abbrev pub recorded_run : Prog → List Value → (frames cells steps hot most : ℕ) → Outcome
+recorded_run p values frames cells steps hot most = record {
+  steps = steps;
+  Shows = λ ended told output. (told ≡ []) × ShowsProfile p values frames cells steps hot most ended output;
+  Exhausts = λ output. ⊥;
+  unwritten = [];
+}
+
+-- The program is interpreted for so many steps, under limits of so many frames and cells, and the profile of the run is written: a label
+-- that was arrived at `hot` times has an entry, and there are `most` entries at most.
+abbrev pub records : (frames cells steps hot most : ℕ) → OfProgram
+records frames cells steps hot most = record {
+  origin = LinkedFiles;
+  arguments = OfMain;
+  profile = NoProfile;
+  takes_passes = false;
+  emission = NoImage;
+  outcome = λ on. recorded_run on.source on.values frames cells steps hot most;
+}
