@@ -1,5 +1,6 @@
 pub mod Standing
 pub mod Walking
+pub mod Blocks
 pub mod Placing
 pub mod Sorted
 pub mod Accepting

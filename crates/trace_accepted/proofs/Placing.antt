@@ -1,11 +1,13 @@
 -- The walks of a function with laid traces are accepted.
+use Rattle.pass_walks.proofs.Blocks.{IsPlaced, one-place}
+use Rattle.trace_accepted.proofs.Blocks.{next-item}
 use Rattle.trace_accepted.proofs.Standing.{laid-item}
 use Rattle.pass_names.proofs.Standing.{ActionAt, action_at}
 use Rattle.trace_accepted.proofs.Standing.{bailed}
 use Rattle.bril_tree.specs.declared.operation.Op.TheVariants as op
-use Rattle.std.proofs.Common.{◌≡◌, ◌⊎◌, ℕ, zero, suc, ◌+◌, ◌-◌, ◌<◌, ◌≤◌, Bool, true, false, List, [], ◌∷◌, length, map, Option, Some, None, refl, sym, ap, subst, ◌∙◌, inl, inr, ⊎_elim, arith, true≢false}
+use Rattle.std.proofs.Common.{◌≡◌, ◌⊎◌, ℕ, zero, suc, ◌+◌, ◌<◌, ◌≤◌, Bool, true, false, List, [], ◌∷◌, length, map, Option, Some, None, refl, sym, ap, subst, ◌∙◌, inl, inr, ⊎_elim, arith, true≢false}
 use Rattle.std.specs.Prelude.{slice_get, IsTrue}
-use Rattle.std.proofs.lemmas.Bool.{cases_eq, cases_lt}
+use Rattle.std.proofs.lemmas.Bool.{cases_lt}
 use Rattle.std.proofs.lemmas.List.{length-append}
 use Rattle.std.proofs.lemmas.Option.{slice_get_within, same_Some}
 use Rattle.bril_tree.specs.declared.function_tree.Item.{Item}
@@ -86,43 +88,17 @@ module _ (P Q : Prog) (bool : Ty) (accepted : IsAccepted P) (st : Stitched P Q b
 
   -- ---- blocks: an old item, the labels before it, and its trace
 
-  item_there : (i : ℕ) → i < length C → (a : Instr) × (item_at P f i ≡ Some a)
-  item_there i less = by C i less
-    where
-      by : (xs : List Instr) (n : ℕ) → n < length xs → (a : Instr) × (slice_get xs n ≡ Some a)
-      by [] n l = absurd (omega arith)
-      by (x ∷ xs) zero l = (x, refl)
-      by (x ∷ xs) (suc n) l = by xs n (omega arith)
-
-  next-block : (i : ℕ) → i < length C → suc (st.old f i) + st.stops f (suc i) ≤ st.old f (suc i)
-  next-block i less = by (st.traces f i) refl
-    where
-      by : (o : Option Trace) → st.traces f i ≡ o → suc (st.old f i) + st.stops f (suc i) ≤ st.old f (suc i)
-      by None e = let a = item_there i less in let h = st.next f i a.0 a.1 e in omega arith
-      by (Some t) e = let h = (st.traced f i t e).behind in omega arith
-
-  later-block : (i d : ℕ) → i + suc d ≤ length C → suc (st.old f i) + st.stops f (i + suc d) ≤ st.old f (i + suc d)
-  later-block i zero h = let e : i + 1 ≡ suc i = omega arith in subst (λ n. suc (st.old f i) + st.stops f n ≤ st.old f n) (sym e) (next-block i (omega arith))
-  later-block i (suc d) h =
-      let r = later-block i d (omega arith) in
-      let s = next-block (i + suc d) (omega arith) in
-      let e : i + suc (suc d) ≡ suc (i + suc d) = omega arith in
-      subst (λ n. suc (st.old f i) + st.stops f n ≤ st.old f n) (sym e) (omega arith)
-
-  later : (b i : ℕ) → b < i → i ≤ length C → suc (st.old f b) + st.stops f i ≤ st.old f i
-  later b i less h = let e : b + suc (i - suc b) ≡ i = omega arith in subst (λ n. suc (st.old f b) + st.stops f n ≤ st.old f n) e (later-block b (i - suc b) (omega arith))
-
   data Kind (b j : ℕ) (own : List ℕ) (e : ℕ) : Type 0 where
     AtItem : j ≤ st.old f b → own ≡ [] → e ≡ b → Kind b j own e
     AtEdge : st.old f b < j → (j ≡ suc (st.old f b)) ⊎ (st.old f (suc b) ≤ j + 2 + st.stops f (suc b)) → own ≡ [] → e ≡ suc b → Kind b j own e
     AtOwn : suc (suc (st.old f b)) ≤ j → j + 3 + st.stops f (suc b) ≤ st.old f (suc b) → own ≡ suc (st.old f b) ∷ [] → e ≡ suc b → Kind b j own e
 
-  record Where (j : ℕ) (own : List ℕ) (e : ℕ) : Type 0 where
-    block : ℕ
-    inside : block ≤ length (code_of P f)
-    low : st.old f block ≤ j + st.stops f block
-    high : (i : ℕ) → block < i → i ≤ length (code_of P f) → j + st.stops f i < st.old f i
-    kind : Kind block j own e
+  -- what is said of a point by its block
+  abbrev Says : ℕ → ℕ → List ℕ × ℕ → Type 0
+  Says b j x = Kind b j x.0 x.1
+
+  abbrev Where : ℕ → List ℕ → ℕ → Type 0
+  Where j own e = IsPlaced (st.old f) (st.stops f) (length C) (next-item P Q bool st f) Says j (own, e)
 
   same-kind : (b j : ℕ) (own own' : List ℕ) (e e' : ℕ) → Kind b j own e → Kind b j own' e' → (own ≡ own') × (e ≡ e')
   same-kind b j own own' e e' (AtItem x o g) (AtItem x' o' g') = (o ∙ sym o', g ∙ sym g')
@@ -137,13 +113,13 @@ module _ (P Q : Prog) (bool : Ty) (accepted : IsAccepted P) (st : Stitched P Q b
   same-kind b j own own' e e' (AtOwn y' z' o g) (AtEdge y (inr z) o' g') = absurd (omega arith)
   same-kind b j own own' e e' (AtOwn y z o g) (AtOwn y' z' o' g') = (o ∙ sym o', g ∙ sym g')
 
-  one-block : (j : ℕ) (own own' : List ℕ) (e e' : ℕ) (x : Where j own e) (y : Where j own' e') → x.block ≡ y.block
-  one-block j own own' e e' x y = ⊎_elim (λ l. absurd (let h = x.high y.block l y.inside in let k = y.low in omega arith)) (λ l. ⊎_elim (λ m. absurd (let h = y.high x.block m x.inside in let k = x.low in omega arith)) (λ m. omega arith) (cases_lt y.block x.block)) (cases_lt x.block y.block)
-
-  one-place : (j j' : ℕ) (own own' : List ℕ) (e e' : ℕ) → j ≡ j' → Where j own e → Where j' own' e' → (own ≡ own') × (e ≡ e')
-  one-place j j' own own' e e' same x y =
-      let y' : Where j own' e' = subst (λ n. Where n own' e') (sym same) y in
-      same-kind x.block j own own' e e' x.kind (subst (λ b. Kind b j own' e') (sym (one-block j own own' e e' x y')) y'.kind)
+  same-place : (j j' : ℕ) (own own' : List ℕ) (e e' : ℕ) → j ≡ j' → Where j own e → Where j' own' e' → (own ≡ own') × (e ≡ e')
+  same-place j j' own own' e e' same x y =
+      let one = one-place (st.old f) (st.stops f) (length C) (next-item P Q bool st f) Says said j (own, e) (own', e') x (subst (λ n. Where n own' e') (sym same) y) in
+      (ap (λ (z : List ℕ × ℕ). z.0) one, ap (λ (z : List ℕ × ℕ). z.1) one)
+    where
+      said : (b j : ℕ) (x y : List ℕ × ℕ) → Says b j x → Says b j y → x ≡ y
+      said b j x y h k = let r = same-kind b j x.0 y.0 x.1 y.1 h k in λ i. (r.0 i, r.1 i)
 
   -- ---- what acceptance asks
 
@@ -185,14 +161,9 @@ module _ (P Q : Prog) (bool : Ty) (accepted : IsAccepted P) (st : Stitched P Q b
     in-block : (j : ℕ) (own : List ℕ) (e : ℕ) → st.old f p < j → j ≤ bail P Q bool accepted st f args result_args p t is → Kind p j own e → Where j own e
     in-block j own e low high kind = record {
       block = p;
-      inside = (let i = p_inside in omega arith);
-      low = omega arith;
-      high = above;
-      kind = kind;
+      stands = record { inside = (let i = p_inside in omega arith); low = omega arith; high = λ l. let b = B_old in omega arith };
+      says = kind;
     }
-      where
-        above : (i : ℕ) → p < i → i ≤ length (code_of P f) → j + st.stops f i < st.old f i
-        above i less h = ⊎_elim (λ e. let b = B_old in subst (λ n. j + st.stops f n < st.old f n) (sym e) (omega arith)) (λ n. let b = B_old in let l = later (suc p) i (omega (arith, n, less)) h in omega arith) (cases_eq i (suc p))
 
     record Summed (v : List Branch) : Type 0 where
       based : Based (M P Q bool accepted st) P Q f args result_args ret v
@@ -319,10 +290,12 @@ module _ (P Q : Prog) (bool : Ty) (accepted : IsAccepted P) (st : Stitched P Q b
     };
     place = record {
       block = end_of l.walk;
-      inside = walk_within (code_of P f) l.walk l.matches.is;
-      low = (let b = l.matches.points.1 in let e = l.matches.points.2 in omega arith);
-      high = λ i less h. let k = later (end_of l.walk) i less h in let e = l.matches.points.2 in omega arith;
-      kind = AtItem (let e = l.matches.points.2 in omega arith) refl refl;
+      stands = record {
+        inside = walk_within (code_of P f) l.walk l.matches.is;
+        low = (let b = l.matches.points.1 in let e = l.matches.points.2 in omega arith);
+        high = λ less. let k = next-item P Q bool st f (end_of l.walk) less in let e = l.matches.points.2 in omega arith;
+      };
+      says = AtItem (let e = l.matches.points.2 in omega arith) refl refl;
     };
   }
     where
@@ -352,7 +325,7 @@ module _ (P Q : Prog) (bool : Ty) (accepted : IsAccepted P) (st : Stitched P Q b
   pub stitched-walks : MatchedWalk (M P Q bool accepted st) P Q f args result_args [] → AreWalksAccepted (code_of Q f) result_args ret
   stitched-walks start =
       based_walks_accepted (M P Q bool accepted st) P Q f args result_args ret was once all
-      (λ v v' is is' e. one-place (end_of v) (end_of v') (sum v is).based.own (sum v' is').based.own (end_of (sum v is).based.base) (end_of (sum v' is').based.base) e (sum v is).place (sum v' is').place)
+      (λ v v' is is' e. same-place (end_of v) (end_of v') (sum v is).based.own (sum v' is').based.own (end_of (sum v is).based.base) (end_of (sum v' is').based.base) e (sum v is).place (sum v' is').place)
     where
       sum : (v : List Branch) → IsWalk (code_of Q f) v → Sum v
       sum v is = summed v (all-at P Q bool accepted st f args result_args roomy start v is)

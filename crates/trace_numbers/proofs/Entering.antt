@@ -1,8 +1,9 @@
 -- The entries of labels of a function with laid traces: each is one of the function that it was made of, or one of three
 -- that a trace has. So there are at most three more for each trace.
+use Rattle.trace_accepted.proofs.Blocks as blocks
+use Rattle.trace_accepted.proofs.Blocks.{same-block}
 use Rattle.pass_plan.specs.Plan.{Plan, StepsMatch}
 use Rattle.trace_accepted.proofs.Standing.{laid-item}
-use Rattle.pass_walks.proofs.Blocks.{IsInBlock, one-block}
 use Rattle.pass_names.proofs.Standing.{ActionAt, action_at, one_target, same_item}
 use Rattle.trace_accepted.proofs.Standing.{bailed}
 use Rattle.bril_tree.specs.declared.function_tree.Item.TheVariants as item
@@ -574,27 +575,14 @@ module _ (P Q : Prog) (bool : Ty) (accepted : IsAccepted P) (st : Stitched P Q b
 
   -- ---- which points of Q are an item's
 
-  item_there : (i : ℕ) → i < length (code_of P f) → (a : Instr) × (item_at P f i ≡ Some a)
-  item_there i less = get_inside (code_of P f) i less
-
-  next-item : (i : ℕ) → i < length (code_of P f) → suc (st.old f i) + st.stops f (suc i) ≤ st.old f (suc i)
-  next-item i less = by (st.traces f i) refl
-    where
-      by : (o : Option Trace) → st.traces f i ≡ o → suc (st.old f i) + st.stops f (suc i) ≤ st.old f (suc i)
-      by None e = let a = item_there i less in let h = st.next f i a.0 a.1 e in omega arith
-      by (Some t) e = let h = (st.traced f i t e).behind in omega arith
-
   abbrev Block : ℕ → ℕ → Type 0
-  Block i n = IsInBlock (st.old f) (st.stops f) (length (code_of P f)) next-item i n
+  Block i n = blocks.Block P Q bool st f i n
 
   in-block : (i n : ℕ) → i < length (code_of P f) → st.old f i ≤ n → suc n + st.stops f (suc i) ≤ st.old f (suc i) → Block i n
   in-block i n less low high = record { inside = omega arith; low = omega arith; high = λ l. high }
 
-  same-block : (n i j : ℕ) → Block i n → Block j n → i ≡ j
-  same-block n i j a b = one-block (st.old f) (st.stops f) (length (code_of P f)) next-item n i j a b
-
   leave-block : (n i : ℕ) → i < length (code_of P f) → L (Some n) (Some i) → Block i n
-  leave-block n i less (inl h) = let e : n ≡ st.old f i = same_Some _ _ h.1 in let a = item_there i less in let g = st.next f i a.0 a.1 h.0 in in-block i n less (omega arith) (omega arith)
+  leave-block n i less (inl h) = let e : n ≡ st.old f i = same_Some _ _ h.1 in let a = get_inside (code_of P f) i less in let g = st.next f i a.0 a.1 h.0 in in-block i n less (omega arith) (omega arith)
   leave-block n i less (inr h) = let e : n ≡ h.2.0 = same_Some _ _ h.2.1 in let g = (st.traced f i h.0 h.1).behind in let k = h.2.2 in in-block i n less (omega arith) (omega arith)
 
   traced-within : (i : ℕ) (t : Trace) → st.traces f i ≡ Some t → i < length (code_of P f)
@@ -630,7 +618,7 @@ module _ (P Q : Prog) (bool : Ty) (accepted : IsAccepted P) (st : Stitched P Q b
   from-one None (Some i) c hb hc (inl r) s = absurd (let h = r.1 in cc)
   from-one None (Some i) c hb hc (inr r) s = absurd (let h = r.2.1 in cc)
   from-one (Some n) (Some i) None hb hc r s = absurd (let h = s in cc)
-  from-one (Some n) (Some i) (Some j) hb hc r s = ap Some (same-block n i j (leave-block n i hb r) (leave-block n j hc s))
+  from-one (Some n) (Some i) (Some j) hb hc r s = ap Some (same-block P Q bool st f n i j (leave-block n i hb r) (leave-block n j hc s))
 
   -- ---- the labels that are entered from one leave point
 
@@ -679,7 +667,7 @@ module _ (P Q : Prog) (bool : Ty) (accepted : IsAccepted P) (st : Stitched P Q b
       other (AtSingle n y s at single) = let m : suc (st.old f i) ≡ n = same_Some _ _ (sym e ∙ s) in absurd (speculates i t is y (ap (item_at Q f) m ∙ at) single.keeps)
       other (AtTrace j u js s name') =
           let m : suc (st.old f i) ≡ suc (st.old f j) = same_Some _ _ (sym e ∙ s) in
-          let same : i ≡ j = same-block (suc (st.old f i)) i j (speculate-block i t is) (subst (Block j) (sym m) (speculate-block j u js)) in
+          let same : i ≡ j = same-block P Q bool st f (suc (st.old f i)) i j (speculate-block i t is) (subst (Block j) (sym m) (speculate-block j u js)) in
           let tu : t ≡ u = same_Some _ _ (sym is ∙ ap (st.traces f) same ∙ js) in
           one_number G.labels G.formed.labels_differ l k (label-low G leave l a) (label-low G leave k b) (name ∙ ap (λ (z : Trace). z.names.bail) tu ∙ sym name')
 
@@ -687,7 +675,7 @@ module _ (P Q : Prog) (bool : Ty) (accepted : IsAccepted P) (st : Stitched P Q b
       old None h s = absurd (let g = sym e ∙ s in cc)
       old (Some j) h (inl s) =
           let m : suc (st.old f i) ≡ st.old f j = same_Some _ _ (sym e ∙ s.1) in
-          let same : i ≡ j = same-block (suc (st.old f i)) i j (speculate-block i t is) (subst (Block j) (sym m) (leave-block (st.old f j) j h (inl (s.0, refl)))) in
+          let same : i ≡ j = same-block P Q bool st f (suc (st.old f i)) i j (speculate-block i t is) (subst (Block j) (sym m) (leave-block (st.old f j) j h (inl (s.0, refl)))) in
           absurd (let g : None ≡ Some t = sym s.0 ∙ ap (st.traces f) (sym same) ∙ is in cc)
       old (Some j) h (inr s) =
           let m : suc (st.old f i) ≡ s.2.0 = same_Some _ _ (sym e ∙ s.2.1) in
