@@ -8,7 +8,7 @@ use Rattle.bril_checker.specs.Faults as checker
 use Rattle.bril_checker.specs.declared.fault.CheckFault.{CheckFault}
 use Rattle.bril_names.specs.Faults as names
 use Rattle.bril_names.specs.declared.fault.NameFault.{NameFault}
-use Rattle.bril_outside.specs.Files.{FileMap, FilesSeen}
+use Rattle.bril_outside.specs.Files.{FilesSeen}
 use Rattle.bril_outside.specs.Sink.{Rose, SinkSeen}
 use Rattle.bril_report.specs.Puts.{Puts}
 use Rattle.bril_report.specs.Report.{misnamed_pieces, unaccepted_pieces, unread_pieces, status_number, status_pieces}
@@ -33,7 +33,7 @@ use Rattle.bril_commands.specs.Arguments.{argument_pieces, HasArgFault, HasOnlyA
 use Rattle.bril_commands.specs.Call.{Call, ReadsWell, UnlessMemory}
 use Rattle.bril_commands.specs.Command.{Command, OnFile, OnTree, OnProgram, Arguments, NoArguments, OfMain, TakesArguments, AreGiven, RefusesGiven, NeedsProgram, GivesArguments, GivesValues, Spell, profile_for, reach}
 use Rattle.bril_commands.specs.CommandLine.{Asks, AsksFor}
-use Rattle.bril_commands.specs.Driver.{IsIdle, Stage, DoesAccepted, DoesProgram, DoesTree}
+use Rattle.bril_commands.specs.Driver.{IsIdle, Stage, DoesAccepted, DoesTree}
 use Rattle.bril_commands.specs.PassList.{PassList}
 use Rattle.bril_commands.specs.Profiles.{IsProfileTold, RefusesProfile, profile_path}
 use Rattle.bril_commands.specs.Source.{AreTold, Reach, HaveFault, HaveTree, HasOnlyCheckFault, IsOnlyNameFault, IsOnlyProgram, LackFile, RefusesFiles}

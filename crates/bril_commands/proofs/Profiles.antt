@@ -3,7 +3,7 @@
 use Rattle.std.proofs.Common.{◌≡◌, ◌⊎◌, ℕ, ◌≤◌, List, length, Option, Some, None, refl, sym, ap, ◌∙◌, subst, arith, inl, inr, ⊎_elim}
 use Rattle.std.specs.Prelude.{◌<◌, ◌≢◌}
 use Rattle.bril_outside.proofs.SinkWrites.{Rose-after}
-use Rattle.bril_outside.specs.Files.{FileMap, FilesSeen, LacksFile, MayFail, MayHold}
+use Rattle.bril_outside.specs.Files.{FileMap, FilesSeen, LacksFile, MayHold}
 use Rattle.bril_outside.specs.Sink.{Rose, SinkSeen}
 use Rattle.bril_profile.specs.declared.profile.Entry.{Entry}
 use Rattle.bril_report.specs.declared.status.Status.TheVariants as status

@@ -21,7 +21,7 @@ use Rattle.bril_commands.specs.Arguments.{argument_pieces, HasOnlyArgFault, Refu
 use Rattle.bril_commands.specs.Call.{Call, CommandComesTo, ComesTo}
 use Rattle.bril_commands.specs.Command.{Command, OnFile, OnTree, OnProgram, OfProgram, Arguments, NoArguments, OfMain, TakesArguments, AreGiven, RefusesGiven, Makes, RefusesMaking, AreLimitsOf, Fits, RefusesEmission, NeedsProgram, GivesArguments, MakesImage, profile_for, reach, takes_passes}
 use Rattle.bril_commands.specs.CommandLine.{Asks}
-use Rattle.bril_commands.specs.Driver.{IsSilent, subject, DoesGiven, DoesProgram, DoesTree, DoesFiles}
+use Rattle.bril_commands.specs.Driver.{IsSilent, subject, DoesProgram, DoesTree, DoesFiles}
 use Rattle.bril_commands.specs.Images.{RefusesImage}
 use Rattle.bril_commands.specs.Outcome.{Outcome, Works}
 use Rattle.bril_commands.specs.PassList.{PassList, AreUnused, IsMade, IsCutOff, RefusesList}

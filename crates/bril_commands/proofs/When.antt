@@ -1,5 +1,5 @@
 -- When a command is done.
-use Rattle.std.proofs.Common.{◌≡◌, ℕ, ◌⊎◌, Bool, true, false, append-nil, ◌++◌, List, Some, None, refl, sym, ◌∙◌, subst, arith, inl, inr, ⊎_elim}
+use Rattle.std.proofs.Common.{◌≡◌, ℕ, ◌⊎◌, Bool, true, false, append-nil, ◌++◌, List, Some, None, refl, sym, subst, arith, inl, inr, ⊎_elim}
 use Rattle.bril_outside.specs.Sink.{Rose}
 use Rattle.bril_profile.specs.declared.profile.Entry.{Entry}
 use Rattle.bril_report.proofs.Puts.{WritesSome-rose}

@@ -1,5 +1,5 @@
 -- When a command's work is done: once its files have a tree, unless a stage has its cause.
-use Rattle.std.specs.Prelude.{ℕ, ◌≡◌, ◌⊎◌, Bool, true, false, List, [], Option, Some}
+use Rattle.std.specs.Prelude.{ℕ, ◌≡◌, ◌⊎◌, Bool, true, false, List, Option, Some}
 use Rattle.bril_outside.specs.Sink.{Rose}
 use Rattle.bril_profile.specs.declared.profile.Entry.{Entry}
 use Rattle.bril_report.specs.Puts.{WritesAll}

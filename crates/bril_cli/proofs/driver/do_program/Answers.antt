@@ -1,11 +1,9 @@
 -- What each command does with its program.
-use Rattle.std.proofs.Common.{◌≡◌, [], ◌∷◌, inl, inr, refl, subst, ⊎_elim}
+use Rattle.std.proofs.Common.{◌≡◌, [], ◌∷◌, inl, inr, refl, ⊎_elim}
 use Rattle.bril_report.proofs.Telling.{Tells-none}
 use Rattle.bril_report.specs.StageFaults.{status_of}
 use Rattle.bril_commands.proofs.Works.{Works-put}
 use Rattle.bril_commands.specs.commands.Check.{accepted_line}
-use Rattle.bril_words.specs.Request.{IsActionInRange}
-use Rattle.bril_words.specs.declared.request.Action.{Action}
 use Rattle.bril_cli.proofs.driver.do_program.Goals as goal
 
 pub returns-in-Run-clause-does : goal.returns-in-Run-clause-does

@@ -1,5 +1,5 @@
 -- The text of the profile was put and handed on, or one of the two failed.
-use Rattle.std.proofs.Common.{[], ◌∷◌, ◌∙◌, List, refl, ap, inl, inr}
+use Rattle.std.proofs.Common.{[], ◌∷◌, ◌∙◌, refl, ap, inl, inr}
 use Rattle.std.proofs.lemmas.Result.{err_from_is_err_and}
 use Rattle.bril_outside.proofs.SinkWrites.{PutSome-one}
 use Rattle.bril_report.proofs.Puts.{PutsAll-one}

@@ -1,0 +1,3 @@
+bril-profile 1
+trace @main .next T
+trace @main .times T
