@@ -6,3 +6,4 @@ pub mod Placing
 pub mod Programs
 pub mod Registering
 pub mod Saving
+pub mod Telling

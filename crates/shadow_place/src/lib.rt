@@ -8,11 +8,13 @@
 
 mod arcs;
 mod homes;
+mod lives;
 mod marks;
 mod placed;
 mod placement;
 mod registers;
 mod saved;
 
+pub use lives::all_lives;
 pub use placed::Placed;
 pub use placement::place;
