@@ -4,6 +4,8 @@ use Rattle.std.specs.List.{All}
 use Rattle.std.specs.Prelude.{List, [], ◌∷◌}
 use Rattle.bril_cli.specs.Shipped.{Shipped, shipped, MeanEach, AreShipped}
 use Rattle.budget_rows.proofs.Keeping.{const-row, dead-row, merge-row, tidy-row, unssa-row}
+use Rattle.budget_rows.proofs.Renaming.{ssa-row}
+use Rattle.budget_rows.proofs.Tracing.{trace-row}
 use Rattle.pass_budget.specs.Laws.{IsWithinRows}
 use Rattle.pass_budget.proofs.Same.{IsWithinRows-same}
 use Rattle.pass_law.specs.Meaning.{Meaning}
@@ -15,7 +17,7 @@ AreWithinEach (s ∷ rest) = IsWithinRows s.meaning × AreWithinEach rest
 -- one for each shipped pass, in their order
 shipped-within : AreWithinEach shipped
 unfolding AreWithinEach
-shipped-within = (const-row, (dead-row, (unssa-row, (merge-row, (tidy-row, tt)))))
+shipped-within = (trace-row, (ssa-row, (const-row, (dead-row, (unssa-row, (merge-row, (tidy-row, tt)))))))
 
 module _ {B : Type 0} (meaning : B → Meaning) where
   each-within : (some : List Shipped) (passes : List B) → AreWithinEach some → MeanEach meaning some passes → All (λ p. IsWithinRows (meaning p)) passes

@@ -7,7 +7,9 @@ use Rattle.constant_pass.specs.Const.{const_meaning}
 use Rattle.dead_code.specs.Dead.{dead_meaning}
 use Rattle.pass_law.specs.Meaning.{Meaning, SameMeaning}
 use Rattle.ssa_exit.specs.Unssa.{unssa_meaning}
+use Rattle.ssa_form.specs.Ssa.{ssa_meaning}
 use Rattle.tidy_code.specs.Tidy.{tidy_meaning}
+use Rattle.trace_laws.specs.Trace.{trace_meaning}
 
 -- a pass that is shipped: its name, and what it means
 pub record Shipped : Type 1 where
@@ -17,6 +19,8 @@ pub record Shipped : Type 1 where
 -- the shipped passes, in their order
 abbrev pub shipped : List Shipped
 shipped =
+    record { name = codes "trace"; meaning = trace_meaning } ∷
+    record { name = codes "ssa"; meaning = ssa_meaning } ∷
     record { name = codes "const"; meaning = const_meaning } ∷
     record { name = codes "dead"; meaning = dead_meaning } ∷
     record { name = codes "unssa"; meaning = unssa_meaning } ∷

@@ -6,6 +6,7 @@ ghost use Rattle.std.specs.IoError.{error_kind};
 ghost use Rattle.bril_report.specs.declared.status.Status.TheVariants.{OutOfMemory};
 ghost use Rattle.roolvist.specs.Words.{AreAllOf, IsForNoWords};
 
+use braun_ssa::Ssa;
 use bril_cli::end::end;
 use bril_outside::os_files::OsFiles;
 use bril_outside::os_sink::OsSink;
@@ -23,6 +24,7 @@ use std::env::{self, Args};
 use std::io::{self, BufWriter, ErrorKind, IsTerminal, Stderr, Stdout};
 use std::process::ExitCode;
 use tidy_code::Tidy;
+use trace_stitcher::Stitch;
 
 fn main(rt: HostRuntime) -> ExitCode {
     ExitCode::from(exit_number(with_passes(&rt)))
@@ -43,12 +45,14 @@ fn exit_number(ended: Result<u8, AllocError>) -> u8
 // standard output, nothing is read or written.
 fn with_passes(rt: &HostRuntime) -> Result<u8, AllocError> {
     let alloc = rt.alloc();
+    let trace: Box<dyn Pass> = Box::new(alloc, Stitch::new())?;
+    let ssa: Box<dyn Pass> = Box::new(alloc, Ssa::new())?;
     let constant: Box<dyn Pass> = Box::new(alloc, Const::new())?;
     let dead: Box<dyn Pass> = Box::new(alloc, Dead::new())?;
     let unssa: Box<dyn Pass> = Box::new(alloc, Unssa::new())?;
     let merge: Box<dyn Pass> = Box::new(alloc, Merge::new())?;
     let tidy: Box<dyn Pass> = Box::new(alloc, Tidy::new())?;
-    let mut passes = [constant, dead, unssa, merge, tidy];
+    let mut passes = [trace, ssa, constant, dead, unssa, merge, tidy];
     let words = given_words(alloc, env::args(rt));
     let mut files = OsFiles::new(rt);
     let mut out = standard_output(rt)?;

@@ -2,6 +2,7 @@
 
 use crate::lists::{Ended, call};
 use crate::passes::{boxed_pad, tally};
+use braun_ssa::Ssa;
 use bril_checker::check;
 use bril_cli::end::end;
 use bril_demo::demo_tree;
@@ -24,6 +25,7 @@ use ssa_exit::Unssa;
 use std::alloc::{AllocError, Global};
 use std::test::Fail;
 use tidy_code::Tidy;
+use trace_stitcher::Stitch;
 
 #[test]
 fn the_demo_tells_how_many_words_the_machine_executes(rt: HostRuntime) -> Result<(), Fail> {
@@ -55,12 +57,14 @@ fn the_demo_uses_the_passes_that_were_lent(rt: HostRuntime) -> Result<(), Fail> 
 
 // Calls the command line with `demo 1` and the shipped passes.
 fn demo_by_words(alloc: Global) -> Result<Ended, AllocError> {
+    let trace: Box<dyn Pass> = Box::new(alloc, Stitch::new())?;
+    let ssa: Box<dyn Pass> = Box::new(alloc, Ssa::new())?;
     let constant: Box<dyn Pass> = Box::new(alloc, Const::new())?;
     let dead: Box<dyn Pass> = Box::new(alloc, Dead::new())?;
     let unssa: Box<dyn Pass> = Box::new(alloc, Unssa::new())?;
     let merge: Box<dyn Pass> = Box::new(alloc, Merge::new())?;
     let tidy: Box<dyn Pass> = Box::new(alloc, Tidy::new())?;
-    let mut passes = [constant, dead, unssa, merge, tidy];
+    let mut passes = [trace, ssa, constant, dead, unssa, merge, tidy];
     let passes = passes.as_mut_slice();
     let mut files = MemFiles::new(alloc, Seq::new(alloc));
     let mut words = Seq::new(alloc);

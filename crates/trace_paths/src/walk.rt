@@ -52,6 +52,7 @@ pub fn path_within(
     requires inside { own < length code.now }
     ensures legs { IfOk result (λ found. map leg_of found.legs.items ≡ (path_from code.now own most 256 choices.now (suc own)).legs) }
     ensures stop { IfOk result (λ found. found.stop ≡ (path_from code.now own most 256 choices.now (suc own)).stop) }
+    ensures within { IfOk result (λ found. found.stop ≤ length code.now) }
 {
     let mut legs = Vec::new(alloc);
     let mut at = own + 1;

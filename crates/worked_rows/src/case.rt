@@ -2,6 +2,7 @@
 
 use crate::guards::add_fails;
 use crate::listing::execute;
+use braun_ssa::Ssa;
 use bril_cli::end::end;
 use bril_outside::files::{FileFault, Files};
 use bril_outside::mem_files::MemFiles;
@@ -19,6 +20,7 @@ use ssa_exit::Unssa;
 use std::alloc::{AllocError, Global};
 use std::mem;
 use tidy_code::Tidy;
+use trace_stitcher::Stitch;
 
 // How many bytes an output takes where a case doesn't say it.
 const ROOM: u32 = 65_536;
@@ -245,12 +247,14 @@ impl Case {
         out: &mut MemSink,
         err: &mut MemSink,
     ) -> Result<u8, AllocError> {
+        let trace: Box<dyn Pass> = Box::new(self.alloc, Stitch::new())?;
+        let ssa: Box<dyn Pass> = Box::new(self.alloc, Ssa::new())?;
         let constant: Box<dyn Pass> = Box::new(self.alloc, Const::new())?;
         let dead: Box<dyn Pass> = Box::new(self.alloc, Dead::new())?;
         let unssa: Box<dyn Pass> = Box::new(self.alloc, Unssa::new())?;
         let merge: Box<dyn Pass> = Box::new(self.alloc, Merge::new())?;
         let tidy: Box<dyn Pass> = Box::new(self.alloc, Tidy::new())?;
-        let mut passes = [constant, dead, unssa, merge, tidy];
+        let mut passes = [trace, ssa, constant, dead, unssa, merge, tidy];
         let passes = passes.as_mut_slice();
         Ok(end(self.alloc, Ok(words), &mut self.files, out, err, passes))
     }

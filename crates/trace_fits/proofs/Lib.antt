@@ -1,0 +1,5 @@
+pub mod AtLabel
+pub mod Entries
+pub mod Paths
+pub mod Seen
+pub mod Surveying

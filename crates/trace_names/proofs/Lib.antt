@@ -1,0 +1,4 @@
+pub mod Fresh
+pub mod Identifiers
+pub mod Marks
+pub mod Taking

@@ -1,0 +1,11 @@
+use Rattle.std.proofs.Common.{◌≡◌, ℕ, take}
+use Rattle.trace_lines.specs.Lines.{TraceNames}
+use Rattle.trace_stitcher.specs.Inserted.{AreNamesFor, labels_before, lines_behind, row}
+use Rattle.trace_stitcher.proofs.inserted.put_all.Given as goal
+
+abbrev pub invariant-loop-fit : goal.invariant-loop-fit
+invariant-loop-fit l = record {
+  count : l.number ≡ l.fit-index;
+  before : (names : ℕ → TraceNames) → AreNamesFor l.labels l.variables l.code l.function l.fits names → (i : ℕ) → row l.before i ≡ labels_before l.code l.function names 1 (take l.fit-index l.fits) i;
+  behind : (names : ℕ → TraceNames) → AreNamesFor l.labels l.variables l.code l.function l.fits names → (i : ℕ) → row l.behind i ≡ lines_behind l.code l.function names 1 (take l.fit-index l.fits) i;
+}

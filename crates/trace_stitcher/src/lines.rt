@@ -1,0 +1,301 @@
+// The lines of a trace.
+
+ghost use Rattle.std.specs.Prelude.{◌≡◌, ◌+◌, ◌<◌, ◌≤◌, ◌^◌, ◌++◌, ◌∷◌, [], ℕ, IfOk, None, OnOk, length, map, slice_get};
+ghost use Rattle.bril_tree.specs.declared.function_tree.Item.TheVariants as item;
+ghost use Rattle.trace_lines.specs.Lines.{TraceNames, args_in, bool_type, guard_line, jmp_line, leg_lines, listed_item, not_line, trace_lines};
+ghost use Rattle.trace_paths.specs.Path.{Turn};
+ghost use Rattle.trace_paths.specs.Walked.{leg_of};
+ghost use Rattle.trace_stitcher.specs.Legs.{AreGuardNames, nots_behind, one_leg};
+
+use bril_tree::function_tree::{Dest, Item};
+use bril_tree::name::Name;
+use bril_tree::operation::Op;
+use bril_tree::sequence::Seq;
+use bril_tree::types::{Base, Ty};
+use std::alloc::{AllocError, Global};
+use trace_names::{TakenNames, not_base};
+use trace_paths::Leg;
+
+// ---- copies
+
+// The names, once more.
+fn copied_names(alloc: Global, names: &[Name]) -> Result<Seq<Name>, AllocError>
+    ensures { IfOk result (λ made. made ≡ names.now) }
+{
+    let mut made = Seq::new(alloc);
+    for name in names {
+        made.push(name.copied(alloc)?)?;
+    }
+    Ok(made)
+}
+
+// The destination, once more.
+fn copied_dest(alloc: Global, dest: &Option<Dest>) -> Result<Option<Dest>, AllocError>
+    ensures { IfOk result (λ made. made ≡ dest.now) }
+{
+    match dest {
+        None => Ok(None),
+        Some(dest) => Ok(Some(Dest {
+            name: dest.name.copied(alloc)?,
+            ty: dest.ty,
+        })),
+    }
+}
+
+// The item, once more.
+pub(crate) fn copied_item(alloc: Global, item: &Item) -> Result<Item, AllocError>
+    ensures { IfOk result (λ made. made ≡ item.now) }
+{
+    match item {
+        Item::Label(name) => Ok(Item::Label(name.copied(alloc)?)),
+        Item::Const { dest, ty, value } => Ok(Item::Const {
+            dest: dest.copied(alloc)?,
+            ty: *ty,
+            value: *value,
+        }),
+        Item::Act {
+            dest,
+            op,
+            args,
+            funcs,
+            labels,
+        } => Ok(Item::Act {
+            dest: copied_dest(alloc, dest)?,
+            op: *op,
+            args: copied_names(alloc, args.as_slice())?,
+            funcs: copied_names(alloc, funcs.as_slice())?,
+            labels: copied_names(alloc, labels.as_slice())?,
+        }),
+    }
+}
+
+// ---- items of a trace
+
+// An operation that names nothing.
+fn plain(alloc: Global, op: Op) -> Item
+    ensures { result ≡ item.Act None op [] [] [] }
+{
+    Item::Act {
+        dest: None,
+        op,
+        args: Seq::new(alloc),
+        funcs: Seq::new(alloc),
+        labels: Seq::new(alloc),
+    }
+}
+
+// One name as a list.
+fn listed(alloc: Global, name: &Name) -> Result<Seq<Name>, AllocError>
+    ensures { IfOk result (λ names. names ≡ name.now ∷ []) }
+{
+    let mut names = Seq::new(alloc);
+    names.push(name.copied(alloc)?)?;
+    Ok(names)
+}
+
+// A jump to the label.
+fn jmp(alloc: Global, label: &Name) -> Result<Item, AllocError>
+    ensures { IfOk result (λ made. made ≡ jmp_line label.now) }
+{
+    Ok(Item::Act {
+        dest: None,
+        op: Op::Jmp,
+        args: Seq::new(alloc),
+        funcs: Seq::new(alloc),
+        labels: listed(alloc, label)?,
+    })
+}
+
+// A guard on these arguments, by which a failed trace goes to the label.
+fn guard(alloc: Global, args: Seq<Name>, bail: &Name) -> Result<Item, AllocError>
+    ensures { IfOk result (λ made. made ≡ guard_line args bail.now) }
+{
+    Ok(Item::Act {
+        dest: None,
+        op: Op::Guard,
+        args,
+        funcs: Seq::new(alloc),
+        labels: listed(alloc, bail)?,
+    })
+}
+
+// The type of a condition.
+fn bool_type() -> Ty
+    ensures { result ≡ bool_type }
+{
+    Ty {
+        depth: 0,
+        base: Base::Bool,
+    }
+}
+
+// The bool that isn't that of these arguments.
+fn not(alloc: Global, name: Name, args: Seq<Name>) -> Item
+    ensures { result ≡ not_line bool_type name args }
+{
+    Item::Act {
+        dest: Some(Dest {
+            name,
+            ty: bool_type(),
+        }),
+        op: Op::Not,
+        args,
+        funcs: Seq::new(alloc),
+        labels: Seq::new(alloc),
+    }
+}
+
+// The arguments of the item at a point; none where there is no such item.
+fn args_at(alloc: Global, code: &[Item], point: u32) -> Result<Seq<Name>, AllocError>
+    ensures { IfOk result (λ args. args ≡ args_in (slice_get code.now point)) }
+{
+    match code.get(point as usize) {
+        Some(Item::Act { args, .. }) => copied_names(alloc, args.as_slice()),
+        _ => Ok(Seq::new(alloc)),
+    }
+}
+
+// Adds the item at a point, where there is one.
+fn push_straight(
+    alloc: Global,
+    lines: &mut Seq<Item>,
+    code: &[Item],
+    point: u32,
+) -> Result<(), AllocError>
+    ensures { OnOk result (lines.new ≡ lines.old ++ listed_item (slice_get code.now point)) }
+{
+    if let Some(item) = code.get(point as usize) {
+        lines.push(copied_item(alloc, item)?)?;
+    }
+    Ok(())
+}
+
+// Adds the guard for a branch that took its first label.
+fn push_taken(
+    alloc: Global,
+    lines: &mut Seq<Item>,
+    code: &[Item],
+    point: u32,
+    bail: &Name,
+) -> Result<(), AllocError>
+    ensures { OnOk result (lines.new ≡ lines.old ++ guard_line (args_in (slice_get code.now point)) bail.now ∷ []) }
+{
+    let args = args_at(alloc, code, point)?;
+    lines.push(guard(alloc, args, bail)?)?;
+    Ok(())
+}
+
+// Adds the `not`, under this name, and the guard for a branch that took its second label.
+fn push_passed(
+    alloc: Global,
+    lines: &mut Seq<Item>,
+    code: &[Item],
+    point: u32,
+    name: Name,
+    bail: &Name,
+) -> Result<(), AllocError>
+    ensures { OnOk result (lines.new ≡ lines.old ++ not_line bool_type name (args_in (slice_get code.now point)) ∷ guard_line (name ∷ []) bail.now ∷ []) }
+{
+    let args = listed(alloc, &name)?;
+    lines.push(not(alloc, name, args_at(alloc, code, point)?))?;
+    lines.push(guard(alloc, args, bail)?)?;
+    Ok(())
+}
+
+// Adds the lines of a branch with its choice, for the entry of this number, and gives the number of the next `not`, from 0.
+fn push_branch(
+    alloc: Global,
+    lines: &mut Seq<Item>,
+    code: &[Item],
+    point: u32,
+    choice: bool,
+    variables: &TakenNames<'_>,
+    number: u32,
+    nots: u32,
+    bail: &Name,
+) -> Result<u32, AllocError>
+    requires { nots < 2 ^ 31 }
+    ensures next { IfOk result (λ next. next ≡ nots_behind nots (Turn point choice)) }
+    ensures lines { OnOk result ((names : TraceNames) → AreGuardNames variables.now number bail.now names → lines.new ≡ lines.old ++ one_leg (slice_get code.now) names nots (Turn point choice)) }
+{
+    if choice {
+        push_taken(alloc, lines, code, point, bail)?;
+        return Ok(nots);
+    }
+    let base = not_base(alloc, number, nots + 1)?;
+    let name = variables.fresh(alloc, base)?;
+    push_passed(alloc, lines, code, point, name, bail)?;
+    Ok(nots + 1)
+}
+
+// Adds the lines of an item that a path lays, for the entry of this number, and gives the number of the next `not`.
+fn push_leg(
+    alloc: Global,
+    lines: &mut Seq<Item>,
+    code: &[Item],
+    leg: Leg,
+    variables: &TakenNames<'_>,
+    number: u32,
+    nots: u32,
+    bail: &Name,
+) -> Result<u32, AllocError>
+    requires { nots < 2 ^ 31 }
+    ensures next { IfOk result (λ next. next ≡ nots_behind nots (leg_of leg)) }
+    ensures lines { OnOk result ((names : TraceNames) → AreGuardNames variables.now number bail.now names → lines.new ≡ lines.old ++ one_leg (slice_get code.now) names nots (leg_of leg)) }
+{
+    match leg {
+        Leg::Straight(point) => {
+            push_straight(alloc, lines, code, point)?;
+            Ok(nots)
+        }
+        Leg::Choice(point, choice) => {
+            let next = push_branch(
+                alloc, lines, code, point, choice, variables, number, nots, bail,
+            )?;
+            Ok(next)
+        }
+    }
+}
+
+// Adds the lines of the items that a path lays, for the entry of this number.
+fn push_legs(
+    alloc: Global,
+    lines: &mut Seq<Item>,
+    code: &[Item],
+    legs: &[Leg],
+    variables: &TakenNames<'_>,
+    number: u32,
+    bail: &Name,
+) -> Result<(), AllocError>
+    requires { length legs.now ≤ 256 }
+    ensures { OnOk result ((names : TraceNames) → AreGuardNames variables.now number bail.now names → lines.new ≡ lines.old ++ leg_lines bool_type (slice_get code.now) names 0 (map leg_of legs.now)) }
+{
+    let mut nots = 0;
+    for leg in legs {
+        nots = push_leg(alloc, lines, code, *leg, variables, number, nots, bail)?;
+    }
+    Ok(())
+}
+
+/// The lines of a trace that lays these items of the code and goes on at the label `stop`, for the entry of this number.
+/// A failed guard goes to `bail`, behind which the old code follows. The only error is out of memory.
+pub(crate) fn trace_lines(
+    alloc: Global,
+    code: &[Item],
+    legs: &[Leg],
+    variables: &TakenNames<'_>,
+    number: u32,
+    bail: Name,
+    stop: &Name,
+) -> Result<Seq<Item>, AllocError>
+    requires { length legs.now ≤ 256 }
+    ensures { IfOk result (λ lines. (names : TraceNames) → AreGuardNames variables.now number bail names → names.stop ≡ stop.now → lines ≡ trace_lines bool_type (slice_get code.now) names (map leg_of legs.now)) }
+{
+    let mut lines = Seq::new(alloc);
+    lines.push(plain(alloc, Op::Speculate))?;
+    push_legs(alloc, &mut lines, code, legs, variables, number, &bail)?;
+    lines.push(plain(alloc, Op::Commit))?;
+    lines.push(jmp(alloc, stop)?)?;
+    lines.push(Item::Label(bail))?;
+    Ok(lines)
+}
