@@ -1,7 +1,8 @@
-//! Fresh names: a first form with the least number of `_` in front that makes it new.
+//! Fresh names: with the least number of `_` in front that makes a name new.
 //!
-//! 1. A set of names, and the least number of `_` that makes a name differ from all of them (`src/taken.rt`, `specs/Fresh.antt`).
-//! 2. The first forms of the names of a trace (`src/bases.rt`).
+//! 1. A set of names, and the least number of `_` that makes a name differ from all of them (`src/taken.rt`, `proofs/Marks.antt`).
+//!    There is one such name for each base (`proofs/Fresh.antt`).
+//! 2. The names of a trace before any `_` (`src/bases.rt`). They are identifiers (`proofs/Identifiers.antt`).
 #![tactic(auto)]
 
 mod bases;
