@@ -1,3 +1,4 @@
+pub mod Budgets
 pub mod Demos
 pub mod Listings
 pub mod Runs

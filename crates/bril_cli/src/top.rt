@@ -2,8 +2,9 @@
 
 ghost use Rattle.std.specs.Prelude.{◌≡◌, ◌≤◌, false};
 ghost use Rattle.std.specs.List.{All};
-ghost use Rattle.bril_cli.specs.Shipped.{MakesAsShipped};
+ghost use Rattle.bril_cli.specs.Shipped.{AreShipped, MakesAsShipped};
 ghost use Rattle.bril_commands.specs.Answers.{Promises};
+ghost use Rattle.bril_commands.specs.Budgets.{IsPastBudget};
 ghost use Rattle.bril_commands.specs.Call.{call_of};
 ghost use Rattle.bril_words.specs.Answers.{PlainAsk, RefusedAlone};
 ghost use Rattle.pass_law.specs.Chains.{AllSame};
@@ -42,13 +43,14 @@ use std::alloc::Global;
 /// changes the passes. One that answers to the name of a pass that the program is shipped with (`specs/Shipped.antt`) is to make only
 /// what that one makes: so these names mean the same in every list.
 ///
-/// `run` makes the program into words of RV64I with multiplication and division, and a machine executes `--steps` of them at most.
-/// What they print is what the program prints by its semantics, and the machine ends as the program does: where the program ends
-/// after n steps, `run` has its end if `--steps` is at least the cost of a step of the program after the passes
-/// (`program_numbers/specs/Cost.antt`), times the product of the passes' factors, times n + 1. With `--stats`,
-/// after a run that ended, stopped with a fault or goes on, `err` gets the line `words W`, W being the words that were executed, and
-/// for each guard of the program, in the order of functions and items, the line `guard @F I fails K`: its function, its item from 0,
-/// and how often it failed; then the line of the status.
+/// `run` makes the program into words of RV64I with multiplication and division, and a machine executes `--steps` of them at most. What
+/// they print is what the program prints by its semantics, and the machine ends as the program does: where the program ends after n steps,
+/// `run` has its end if `--steps` is at least the cost of a step of the program after the passes (`program_numbers/specs/Cost.antt`), times
+/// the product of the passes' factors, times n + 1. With the shipped passes `--steps` is enough if it is at least the budget of the list
+/// for n steps (`pass_budget/specs/Budget.antt`), which is computed from the numbers of the source and the number of the profile's entries.
+/// With `--stats`, after a run that ended, stopped with a fault or goes on, `err` gets the line `words W`, W being the words that were
+/// executed, and for each guard of the program, in the order of functions and items, the line `guard @F I fails K`: its function, its item
+/// from 0, and how often it failed; then the line of the status.
 ///
 /// `record` makes `--steps` steps at most, and `out` gets the text of the profile of the run so far, by one put: an entry for each label
 /// that was arrived at `--hot` times, in the order of these arrivals, the first `--most` of them, with the choices of each `br` from there on
@@ -112,6 +114,7 @@ pub fn bril_top<F: Files, O: Sink, E: Sink>(
     ensures faults { (F.seen files.old).faults ≤ (F.seen files.new).faults }
     ensures same { AllSame (λ p. meaning p) passes.old passes.new }
     ensures promises { Promises result (call_of words.now (F.seen files.old) (F.seen files.new) (O.seen out.old) (O.seen out.new) (E.seen err.old) (E.seen err.new) (λ p. meaning p) (λ p. counts p) passes.old passes.new) }
+    ensures budget { AreShipped (λ p. meaning p) passes.old → result ≡ 3 → IsPastBudget (call_of words.now (F.seen files.old) (F.seen files.new) (O.seen out.old) (O.seen out.new) (E.seen err.old) (E.seen err.new) (λ p. meaning p) (λ p. counts p) passes.old passes.new) }
     ensures plain { PlainAsk words.now }
     ensures refused { RefusedAlone words.now }
 {

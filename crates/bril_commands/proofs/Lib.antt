@@ -1,3 +1,4 @@
+pub mod Budgets
 pub mod Causes
 pub mod Counts
 pub mod Driving

@@ -12,7 +12,7 @@ use Rattle.rv64_implements.specs.WordBounds.{IsWithin}
 use Rattle.bril_commands.specs.Arguments.{AreOnlyValues, RefusesArgs}
 use Rattle.bril_commands.specs.Images.{RefusesImage}
 use Rattle.bril_commands.specs.Outcome.{Outcome}
-use Rattle.bril_commands.specs.PassList.{PassList, IsMade, RefusesList, AreFactorsOf}
+use Rattle.bril_commands.specs.PassList.{PassList, IsMade, RefusesList, AreFactorsOf, AreEnoughFor}
 use Rattle.bril_commands.specs.Profiles.{ProfileSource, profile_path}
 use Rattle.bril_commands.specs.Source.{Reach, Alone, WithImports, OfDemo}
 
@@ -62,6 +62,11 @@ abbrev pub FactorOf : (by_list : Bool) (l : PassList) (entries : List Entry) (p 
 FactorOf false l entries p q makes factor = factor ≡ 1
 FactorOf true l entries p q makes factor = AreFactorsOf l entries p q makes factor
 
+-- so many words are always enough for so many steps of p
+abbrev pub AreEnough : (by_list : Bool) (l : PassList) (entries : List Entry) (p : Prog) (steps words : ℕ) → Type 0
+AreEnough false l entries p steps words = ⊥
+AreEnough true l entries p steps words = AreEnoughFor l entries p steps words
+
 -- ---- the image
 
 -- whether a command emits its program
@@ -86,13 +91,14 @@ RefusesEmission emission how q = (limits : Limits) × AreLimitsOf emission limit
 
 -- ---- the command
 
--- what a command works on that needs a program: the passes, the program of its files, what the passes make of it and by which factors,
--- and the values of the arguments
+-- what a command works on that needs a program: the passes, the program of its files, what the passes make of it and by which factors, how
+-- many words are always enough for that program's steps, and the values of the arguments
 pub record Subject : Type 1 where
   pub passes : PassList
   pub source : Prog
   pub made : Prog
   pub IsFactor : ℕ → Type 0
+  pub AreEnough : (steps words : ℕ) → Type 0
   pub values : List Value
 
 -- where a command has its program from

@@ -7,7 +7,7 @@ use Rattle.bril_report.specs.declared.status.Status.{Status}
 use Rattle.bril_tree.specs.declared.program.Prog.{Prog}
 use Rattle.bril_tree.specs.declared.tree.Tree.{Tree}
 use Rattle.bril_tree.specs.declared.value.Value.{Value}
-use Rattle.bril_commands.specs.Command.{Command, OnFile, OnTree, OnProgram, OfProgram, Subject, AreGiven, RefusesGiven, Makes, RefusesMaking, FactorOf, Fits, RefusesEmission, reach}
+use Rattle.bril_commands.specs.Command.{Command, OnFile, OnTree, OnProgram, OfProgram, Subject, AreGiven, RefusesGiven, Makes, RefusesMaking, FactorOf, AreEnough, Fits, RefusesEmission, reach}
 use Rattle.bril_commands.specs.Outcome.{Works}
 use Rattle.bril_commands.specs.PassList.{PassList, AreUnused}
 use Rattle.bril_commands.specs.Profiles.{IsProfileAt, RefusesProfile, profile_path}
@@ -33,6 +33,7 @@ subject does l entries p q makes values = record {
   source = p;
   made = q;
   IsFactor = FactorOf does.takes_passes l entries p q makes;
+  AreEnough = AreEnough does.takes_passes l entries p;
   values = values;
 }
 

@@ -1,5 +1,6 @@
 pub mod Answers
 pub mod Arguments
+pub mod Budgets
 pub mod Call
 pub mod Command
 pub mod CommandLine

@@ -1,11 +1,15 @@
 -- The passes that a call was lent, and what a list of their names comes to.
-use Rattle.std.specs.Prelude.{ℕ, ◌≡◌, Bool, false, not, ◌&&◌, ◌||◌, is_some, cond, List, [], ◌∷◌, ◌++◌, map, Option, Some, None}
+use Rattle.std.specs.Prelude.{ℕ, ◌≡◌, ◌≤◌, Bool, false, not, ◌&&◌, ◌||◌, is_some, cond, List, [], ◌∷◌, ◌++◌, length, map, Option, Some, None}
+use Rattle.std.specs.List.{All}
 use Rattle.bril_profile.specs.declared.profile.Entry.{Entry}
 use Rattle.bril_profile.specs.declared.profile.Profile.{Profile}
 use Rattle.bril_report.specs.Tallies.{tally_pieces}
 use Rattle.bril_report.specs.declared.status.Status.TheVariants as status
 use Rattle.bril_report.specs.declared.status.Status.{Status}
 use Rattle.bril_tree.specs.declared.program.Prog.{Prog}
+use Rattle.pass_budget.specs.Budget.{budget}
+use Rattle.pass_budget.specs.Laws.{IsWithinRows}
+use Rattle.pass_budget.specs.Numbers.{Numbers, AreWithin}
 use Rattle.pass_law.specs.Chains.{or_else, first_answering, first_unknown, AreFactors, Ran, StoppedAt, CutOff, AllSame}
 use Rattle.pass_law.specs.Meaning.{Meaning}
 use Rattle.pass_law.specs.declared.tally.Tally.{Tally}
@@ -47,6 +51,14 @@ pub record IsMade (l : PassList) (entries : List Entry) (p q : Prog) : Type 0 wh
 -- so many steps of q, at most, for each step of p: the product of the factors of the links
 abbrev pub AreFactorsOf : (l : PassList) (entries : List Entry) (p q : Prog) → IsMade l entries p q → ℕ → Type 0
 AreFactorsOf l entries p q made factor = AreFactors l.meaning l.before made.profile l.names p made.ran.programs factor
+
+-- So many words are always enough for what the list makes of p, where p ends in so many steps: each pass is within the rows of its names, and
+-- the words are at least the budget of the list, computed from numbers that p's are at most.
+pub record AreEnoughFor (l : PassList) (entries : List Entry) (p : Prog) (steps words : ℕ) : Type 0 where
+  pub rows : All (λ pass. IsWithinRows (l.meaning pass)) l.before
+  pub numbers : Numbers
+  pub within : AreWithin p numbers
+  pub enough : budget (length entries) l.names numbers steps ≤ words
 
 -- ---- why a list makes no program
 

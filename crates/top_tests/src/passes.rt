@@ -14,6 +14,7 @@ use bril_text::read_text;
 use bril_tree::sequence::Seq;
 use bril_tree::text::Text;
 use pass_accept::{edit_accepted, result_is_accepted};
+use pass_budget::chains_are_within_budget;
 use pass_law::{ListFault, Pass, PassFault, Tally, chains_refine, room, run_list};
 use pass_names::{PlannedByNames, Renamed, names_preserve, renaming_preserves};
 use pass_pad::Pad;
@@ -93,6 +94,7 @@ fn each_law_is_called_at_a_pass() {
     result_is_accepted();
     edit_accepted::<Lacking>();
     chains_refine::<Lacking>();
+    chains_are_within_budget::<Lacking>();
     items_are_spliced::<u8>();
 }
 

@@ -99,7 +99,7 @@ MadeRuns q limits ended printed words =
 -- and what it says of its source
 abbrev pub SourceRuns : Subject → Option End → List (List ℕ) → ℕ → Type 0
 SourceRuns on ended printed words =
-    (runs : RunShows on.source on.made on.IsFactor [] demo_frames demo_cells demo_words false ended [] printed)
+    (runs : RunShows on.source on.made on.IsFactor on.AreEnough [] demo_frames demo_cells demo_words false ended [] printed)
     × (words ≡ (image_after runs.executes.shows.machine.image runs.limits [] demo_words).done)
 
 -- The demo of so many functions is given to its list of passes, and the image of what this makes is run.

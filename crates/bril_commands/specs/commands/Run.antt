@@ -58,20 +58,21 @@ executed p limits values words stats = record { steps = words; Shows = Executes 
 
 -- A program was made of a source, and this is what so many words of it come to, and what they say of the source. Where the source has
 -- ended after n steps, and the words are at least the cost of a step of the program that was made, times the factor, times n + 1, the
--- machine has this end, and has printed just what the source printed.
-pub record RunShows (source made : Prog) (IsFactor : ℕ → Type 0) (values : List Value) (frames cells words : ℕ) (stats : Bool) (ended : Option End) (told output : List (List ℕ)) : Type 0 where
+-- machine has this end, and has printed just what the source printed; and so where the words are enough, for so many steps, by the list.
+pub record RunShows (source made : Prog) (IsFactor : ℕ → Type 0) (AreEnough : (steps words : ℕ) → Type 0) (values : List Value) (frames cells words : ℕ) (stats : Bool) (ended : Option End) (told output : List (List ℕ)) : Type 0 where
   pub limits : Limits
   pub are : AreLimitsOf (ImageFor frames cells) limits
   pub executes : Executes made limits values words stats ended told output
   pub shows_source : SourceShows source made IsFactor limits values words ended (joined output)
   pub ends : (n cost factor : ℕ) (end : End) → IsCost made cost → IsFactor factor → cost * (factor * (n + 1)) ≤ words → (state_after source limits values n).ended ≡ Some end →
       (ended ≡ Some end) × (joined output ≡ (state_after source limits values n).printed)
+  pub ends_by_list : (n : ℕ) (end : End) → AreEnough n words → (state_after source limits values n).ended ≡ Some end → (ended ≡ Some end) × (joined output ≡ (state_after source limits values n).printed)
 
 -- what so many words of a program that was made of a source come to
 abbrev pub ran : Subject → (frames cells words : ℕ) → Bool → Outcome
 ran on frames cells words stats = record {
   steps = words;
-  Shows = RunShows on.source on.made on.IsFactor on.values frames cells words stats;
+  Shows = RunShows on.source on.made on.IsFactor on.AreEnough on.values frames cells words stats;
   Exhausts = λ output. ⊥;
   unwritten = [];
 }

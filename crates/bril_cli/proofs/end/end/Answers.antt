@@ -4,3 +4,6 @@ use Rattle.bril_cli.proofs.end.end.Goals as goal
 
 pub bril_top-requires : goal.bril_top-requires
 bril_top-requires g c = record { shipped = AreShipped-make (λ p. (goal.Pass-dyn g (p.vtable, p.value)).meaning p.value) c.args.passes.now c.requires.shipped }
+
+pub returns-in-Ok-clause-budget : goal.returns-in-Ok-clause-budget
+returns-in-Ok-clause-budget g c = rw c.in-Ok.is (rw c.as_slice.ensures at (c.bril_top.ensures.budget c.requires.shipped))

@@ -2,8 +2,10 @@
 use Rattle.std.proofs.Common.{◌≡◌, ap, subst, rules}
 use Rattle.bril_outside.specs.Sink.{SinkSeen}
 use Rattle.bril_report.specs.Told.{Heard}
+use Rattle.bril_commands.proofs.Budgets.{spent-past_budget}
 use Rattle.bril_commands.specs.Answers.{Promises}
 use Rattle.bril_commands.specs.Call.{call_of}
+use Rattle.bril_cli.proofs.Budgets.{AreShipped-within}
 use Rattle.bril_cli.proofs.top.bril_top.Goals as goal
 
 pub answer-requires : goal.answer-requires
@@ -21,3 +23,11 @@ returns-clause-promises g c =
     subst (λ (f : SinkSeen). Holds (g.E.Sink.seen c.args.err.now) (g.O.Sink.seen c.out-1.given.0) f) (ap g.E.Sink.seen err)
     (subst (λ (o : SinkSeen). Holds (g.E.Sink.seen c.args.err.now) o (g.E.Sink.seen c.answer.new.outputs.err.sink.now)) (ap g.O.Sink.seen out)
     (subst (λ (e : SinkSeen). Holds e (g.O.Sink.seen c.answer.new.outputs.out.now) (g.E.Sink.seen c.answer.new.outputs.err.sink.now)) begins c.answer.ensures.promises))
+
+pub returns-clause-budget : goal.returns-clause-budget
+returns-clause-budget g c shipped =
+    spent-past_budget c.answer.result
+    (call_of c.args.words.now (g.F.Files.seen c.args.files.now) (g.F.Files.seen c.answer.new.files)
+    (g.O.Sink.seen c.args.out.now) (g.O.Sink.seen c.out-1.given.0) (g.E.Sink.seen c.args.err.now) (g.E.Sink.seen c.err-1.given.0)
+    (λ p. (goal.Pass-dyn g (p.vtable, p.value)).meaning p.value) (λ p. (goal.Pass-dyn g (p.vtable, p.value)).counts p.value) c.args.passes.now c.answer.new.passes)
+    (returns-clause-promises g c) (AreShipped-within (λ p. (goal.Pass-dyn g (p.vtable, p.value)).meaning p.value) c.args.passes.now shipped)

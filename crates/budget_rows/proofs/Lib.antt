@@ -1,0 +1,5 @@
+pub mod Entering
+pub mod Growing
+pub mod Keeping
+pub mod Renaming
+pub mod Tracing

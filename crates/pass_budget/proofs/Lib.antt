@@ -1,0 +1,4 @@
+pub mod Existing
+pub mod Costing
+pub mod Chaining
+pub mod Same
