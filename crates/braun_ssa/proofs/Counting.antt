@@ -16,9 +16,6 @@ sum-push : (R : Func → ℕ → Type 0) (xs : List Func) (F : Func) (n m : ℕ)
 sum-push R [] F n m s r = let e : n + m ≡ m + 0 = omega (arith, s) in (m, 0, r, refl, e)
 sum-push R (x ∷ xs) F n m s r = let e : n + m ≡ s.0 + (s.1 + m) = omega (arith, s.4) in (s.0, s.1 + m, s.2, sum-push R xs F s.1 m s.3 r, e)
 
-pub none-told : TellsEntries [] 0
-none-told = record { count = 0; are = refl; tells = refl }
-
 -- one function more
 pub more-told : (xs : List Func) (F : Func) (count more new : ℕ) → TellsEntries xs count → TellsLiveEntries F.code more → new ≡ min (count + more) 18446744073709551615 → TellsEntries (xs ++ F ∷ []) new
 more-told xs F count more new t l e = record {

@@ -46,25 +46,6 @@ goes-next code p w (Some (Act d ty op.Guard args fns ls)) plain (inr among) keep
 goes-next code p w (Some (Act d ty _ args fns ls)) plain (inl e) keeps = (e, refl)
 goes-next code p w (Some (Act d ty _ args fns ls)) plain (inr n) keeps = absurd n
 
--- and where it goes on there is such a branch
-pub goes-there : (code : List Instr) (p : ℕ) (o : Option Instr) → goes_on o ≡ true → In (onward p) (branches_from code p o)
-goes-there code p None e = absurd cc
-goes-there code p (Some (Label l)) e = inl refl
-goes-there code p (Some (Const d ty v)) e = inl refl
-goes-there code p (Some (Act d ty op.Jmp args fns ls)) e = absurd cc
-goes-there code p (Some (Act d ty op.Br args fns ls)) e = absurd cc
-goes-there code p (Some (Act d ty op.Ret args fns ls)) e = absurd cc
-goes-there code p (Some (Act d ty op.Guard args fns ls)) e = inl refl
-goes-there code p (Some (Act d ty _ args fns ls)) e = inl refl
-
-pub goes-plain : (o : Option Instr) → goes_on o ≡ true → is_jump o ≡ false
-goes-plain None e = refl
-goes-plain (Some (Label l)) e = refl
-goes-plain (Some (Const d ty v)) e = refl
-goes-plain (Some (Act d ty op.Jmp args fns ls)) e = absurd cc
-goes-plain (Some (Act d ty op.Br args fns ls)) e = absurd cc
-goes-plain (Some (Act d ty _ args fns ls)) e = refl
-
 -- an item doesn't both open a site and close one
 opens-or_closes : (o : Option Instr) → item_change o false ≡ Opens → item_change o true ≡ Closes → ⊥
 opens-or_closes None a b = cc

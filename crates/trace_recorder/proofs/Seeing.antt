@@ -162,6 +162,16 @@ seeing_on P Q r begun_r seen_r counted_r n st first s a same is_s is_a is_n few 
     (λ i. record r { counts = counted_at (counts_from first r.counts) (there i); held = first_seeing (is_n i) (is_s i) (r.held ++ begun_at (same i) (begins r (there i))) }) in
     subst (λ v. StandsFor v P hot most (run ++ st ∷ [])) (sym (three ∙ four)) (stands_after P r hot most run stands few st first (subst (λ p. AreFirst p r.counts first) same tables))
 
+-- the same, where no path goes on, and the arrival begins no entry
+pub counted_on : (P : Prog) (r counted_r : RecorderView) (st : State) (a : Option Arrival) → a ≡ arrival (sight P st) → r.hot < 2 ^ 32 → (r.counts ≡ [] → ⊥) → begins r a ≡ None
+    → first_seeing (length r.held) (sight P st) r.held ≡ r.held → counted_r ≡ record r { counts = counted_at r.counts a }
+    → (hot most : ℕ) (run : List State) → StandsFor r P hot most run → StandsFor counted_r P hot most (run ++ st ∷ [])
+counted_on P r counted_r st a is_a few some none ended made =
+    seeing_on P P r r r counted_r (length r.held) st None (sight P st) a refl refl is_a refl few some
+    ((λ i. record r { held = sym (append-nil r.held) i }) ∙ (λ i. record r { held = r.held ++ begun_at P (sym none i) }))
+    (λ i. record r { held = sym ended i })
+    made
+
 -- ---- the profile
 
 pub profile_of : (r : RecorderView) (P : Prog) (hot most : ℕ) (run : List State) → StandsFor r P hot most run → map (λ (h : Held). h.entry) r.held ≡ recorded P hot most run

@@ -1,6 +1,6 @@
 // What a recorder holds, and how it sees a state.
 
-ghost use Rattle.std.specs.Prelude.{◌≡◌, ◌<◌, ◌≤◌, ◌∷◌, [], ◌++◌, ℕ, List, All, Some, length, map, vec_capacity, OnOk, OnErr, IfOk};
+ghost use Rattle.std.specs.Prelude.{◌≡◌, ◌<◌, ◌≤◌, ◌∷◌, [], ◌++◌, ℕ, List, All, None, Some, length, map, vec_capacity, MatchBool, OnOk, OnErr, IfOk};
 ghost use Rattle.std.specs.Option.{option_map};
 ghost use Rattle.bril_interpreter.specs.Interpreter.{state_of};
 ghost use Rattle.bril_tree.specs.State.{State};
@@ -34,7 +34,8 @@ pub struct Parts {
 }
 
 impl Parts {
-    // Sees the state before a step. Most states are no arrivals, and no path goes on: nothing is to be done at them.
+    // Sees the state before a step. At most states no path goes on: they are no arrivals, and nothing is to be done, or arrivals that
+    // begin no entry, which are counted alone.
     pub fn see(&mut self, now: &Interp<'_>) -> Result<(), AllocError>
         requires { IsSound self.old }
         ensures sound { IsSound self.new }
@@ -43,10 +44,23 @@ impl Parts {
         ensures err { OnErr result (view_of self.new ≡ view_of self.old) }
     {
         let arrival = arrival_at(now);
-        if !self.open && arrival.is_none() {
-            return Ok(());
+        if !self.open {
+            let Some(label) = arrival else {
+                return Ok(());
+            };
+            if self.only_counts(label) {
+                self.count(None, arrival);
+                return Ok(());
+            }
         }
         self.see_all(now, arrival)
+    }
+
+    // Whether there are counts, and the arrival isn't the hot one.
+    fn only_counts(&self, arrival: Arrival) -> bool
+        ensures { MatchBool result (((view_of self.now).counts ≡ [] → ⊥) × (begins (view_of self.now) (Some arrival) ≡ None)) (Unit {0}) }
+    {
+        !self.counts.is_empty() && !is_hot(count_at(&self.counts, arrival), self.hot)
     }
 
     // Sees any state. All memory is taken before anything changes.

@@ -25,7 +25,17 @@ end-status-requires c = record {
             _,
             c.into_dyn_box-in_ok-new-5.ensures.0,
             (λ p a x. SameMeaning-refl _),
-            tt,
+            (
+              _,
+              c.into_dyn_box-in_ok-new-6.ensures.0,
+              (λ p a x. SameMeaning-refl _),
+              (
+                _,
+                c.into_dyn_box-in_ok-new-7.ensures.0,
+                (λ p a x. SameMeaning-refl _),
+                tt,
+              ),
+            ),
           ),
         ),
       ),
