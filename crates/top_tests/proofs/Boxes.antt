@@ -1,0 +1,55 @@
+-- Boxes whose passes make as the shipped ones do.
+use Rattle.std.proofs.Common.{◌≡◌, Bool, true, false, not, ◌&&◌, List, [], ◌∷◌, refl, sym, subst}
+use Rattle.std.specs.Prelude.{ℕ}
+use Rattle.std.specs.declared.dyn_box.DynBox.{DynBox}
+use Rattle.bril_cli.specs.Shipped.{Shipped, shipped, MakesAsEach, MakesAsShipped}
+use Rattle.bril_profile.specs.declared.profile.Profile.{Profile}
+use Rattle.bril_tree.specs.declared.program.Prog.{Prog}
+use Rattle.dead_code.specs.Dead.{dead_meaning}
+use Rattle.pass_law.specs.Meaning.{Meaning}
+use Rattle.pass_pad.specs.Pad.{pad_meaning}
+use Rattle.tidy_code.specs.Tidy.{tidy_meaning}
+
+-- the pass answers to no name of some shipped passes
+abbrev pub is_stranger : List Shipped → Meaning → Bool
+is_stranger [] m = true
+is_stranger (s ∷ some) m = not (m.answers s.name) && is_stranger some m
+
+both : (a b : Bool) → (a && b) ≡ true → (a ≡ true) × (b ≡ true)
+both true b e = (refl, e)
+both false b e = absurd (let n : false ≡ true = e in cc)
+
+refuted : (b : Bool) → not b ≡ true → b ≡ true → ⊥
+refuted true e is = let n : false ≡ true = e in cc
+refuted false e is = let n : false ≡ true = is in cc
+
+strange : (m : Meaning) (some : List Shipped) → is_stranger some m ≡ true → MakesAsEach some m
+strange m [] e = tt
+strange m (s ∷ some) e = let h = both (not (m.answers s.name)) (is_stranger some m) e in (λ named. absurd (refuted (m.answers s.name) h.0 named), strange m some h.1)
+
+pub stranger-makes : (m : Meaning) → is_stranger shipped m ≡ true → MakesAsShipped m
+stranger-makes m e = record { each = strange m shipped e }
+
+idle : (m : Meaning) → ((p : Prog) (profile : Profile) (q : Prog) → m.Makes p profile q → ⊥) → (some : List Shipped) → MakesAsEach some m
+idle m none [] = tt
+idle m none (s ∷ some) = (λ named p profile q made. absurd (none p profile q made), idle m none some)
+
+-- a pass that makes nothing
+pub idle-makes : (m : Meaning) → ((p : Prog) (profile : Profile) (q : Prog) → m.Makes p profile q → ⊥) → MakesAsShipped m
+idle-makes m none = record { each = idle m none shipped }
+
+wrong : false ≡ true → ⊥
+wrong e = cc
+
+pub dead-makes : MakesAsShipped dead_meaning
+dead-makes = record { each = (λ n. absurd (wrong n), (λ n. absurd (wrong n), (λ n. absurd (wrong n), (λ n p profile q made. made, (λ n. absurd (wrong n), (λ n. absurd (wrong n), (λ n. absurd (wrong n), tt))))))) }
+
+pub tidy-makes : MakesAsShipped tidy_meaning
+tidy-makes = record { each = (λ n. absurd (wrong n), (λ n. absurd (wrong n), (λ n. absurd (wrong n), (λ n. absurd (wrong n), (λ n. absurd (wrong n), (λ n. absurd (wrong n), (λ n p profile q made. made, tt))))))) }
+
+-- a box of that type means what each value of the type does
+pub box-makes : {I A : Type 0} {F : I → Type 0} (meaning : DynBox I A F → Meaning) (at : I) (b : DynBox I A F) → b.vtable ≡ at → ((p : _) (a : A) (x : F at) → MakesAsShipped (meaning (record { ptr = p; vtable = at; alloc = a; value = x }))) → MakesAsShipped (meaning b)
+box-makes {F} meaning at b e h = subst (λ (i : _). (y : F i) → MakesAsShipped (meaning (record { ptr = b.ptr; vtable = i; alloc = b.alloc; value = y }))) (sym e) (h b.ptr b.alloc) b.value
+
+pub pad-makes : MakesAsShipped pad_meaning
+pad-makes = stranger-makes pad_meaning refl
