@@ -62,11 +62,7 @@ fn the_demo_uses_the_passes_that_were_lent(rt: HostRuntime) -> Result<(), Fail> 
 }
 
 // Calls the command line with these words and the shipped passes.
-fn call_shipped(
-    alloc: Global,
-    words: &[&str],
-    files: &mut MemFiles,
-) -> Result<Ended, AllocError> {
+fn call_shipped(alloc: Global, words: &[&str], files: &mut MemFiles) -> Result<Ended, AllocError> {
     let trace: Box<dyn Pass> = Box::new(alloc, Stitch::new())?;
     let ssa: Box<dyn Pass> = Box::new(alloc, Ssa::new())?;
     let constant: Box<dyn Pass> = Box::new(alloc, Const::new())?;

@@ -97,8 +97,9 @@ fn own_profile(alloc: Global, checked: &Checked) -> Result<Profile, AllocError>
     requires { FitMain checked.now.prog [] }
     ensures { IfOk result (λ profile. AreRecorded checked.now.prog [] demo_frames demo_cells demo_words demo_hot demo_most profile.entries) }
 {
+    let limits = demo_limits();
     let settings = RecordSettings {
-        limits: demo_limits(),
+        limits,
         steps: WORDS,
         hot: HOT,
         most: MOST,

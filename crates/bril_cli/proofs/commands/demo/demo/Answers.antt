@@ -62,12 +62,13 @@ returns-clause-does g c =
         entries,
         c.in_ok-profile.ensures,
         inr (
-        made,
-        makes,
-        ⊎_elim inl (λ went. inr (
-          (went.0, went.1, went.2),
-          demo_works l entries source made makes accepted went.0 went.1 alone c.args.functions _ size (status_of c.run_made.result) did.told (g.O.Sink.seen c.args.outputs.now.out.now) (g.O.Sink.seen c.run_made.new.outputs.out.now) went.3,
-        )) did.does,
-      ));
+          made,
+          makes,
+          ⊎_elim inl (λ went. inr (
+            (went.0, went.1, went.2),
+            demo_works l entries source made makes accepted went.0 went.1 alone c.args.functions _ size (status_of c.run_made.result) did.told (g.O.Sink.seen c.args.outputs.now.out.now) (g.O.Sink.seen c.run_made.new.outputs.out.now) went.3,
+          )) did.does,
+        ),
+      );
       tells = did.tells;
     }
