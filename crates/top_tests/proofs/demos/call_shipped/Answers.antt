@@ -1,7 +1,7 @@
 -- The boxes are those of the shipped passes, in their order.
 use Rattle.bril_cli.proofs.Shipped.{boxes-shipped}
 use Rattle.pass_law.proofs.Same.{SameMeaning-refl}
-use Rattle.top_tests.proofs.demos.demo_by_words.Goals as goal
+use Rattle.top_tests.proofs.demos.call_shipped.Goals as goal
 
 pub end-status-requires : goal.end-status-requires
 end-status-requires c = record {
