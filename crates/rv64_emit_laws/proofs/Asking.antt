@@ -28,7 +28,7 @@ module _ (S : Setting) (s : bril.State) (t : State) (r : RunsAlike S s t) (numbe
   asked_word = r.core.stack (r.holds.base + (2 + x))
 
   pub asked_keeps : Keeps r.core asked
-  asked_keeps = keeps_written r.core (loaded S s t r r.core 10 (2 + x)) 16 ((r.core.registers 0 + number) % 2 ^ 64) refl refl refl (loaded_keeps S s t r r.core 9 (2 + x) refl refl refl (keeps_itself r.core))
+  asked_keeps = keeps_written r.core (loaded S s t r r.core 10 (2 + x)) 16 ((r.core.registers 0 + number) % 2 ^ 64) refl refl refl refl (loaded_keeps S s t r r.core 9 (2 + x) refl refl refl refl (keeps_itself r.core))
 
   pub number_is : number < 2 ^ 64 → (r.core.registers 0 + number) % 2 ^ 64 ≡ number
   number_is small = let least : (0 + number) % 2 ^ 64 ≡ number = omega arith in ap (λ n. (n + number) % 2 ^ 64) r.holds.zero_is ∙ least

@@ -11,7 +11,8 @@ use Rattle.bril_tree.specs.Step.{faulted, new_frame, step, with_frames}
 use Rattle.rv64_layout.specs.Image.{entry_at, start_at}
 use Rattle.rv64_layout.specs.Items.{before_call, call_words, pass_size, pass_words, result_words, return_word}
 use Rattle.rv64_layout.proofs.Bounding.{frame_up_most, pass_most}
-use Rattle.rv64_stretches.specs.Core.{Core, Keeps, put, written}
+use Rattle.rv64_stretches.specs.Core.{Core, put, written}
+use Rattle.rv64_values.proofs.Kept.{keeps_called_off}
 use Rattle.rv64_stretches.proofs.Cores.{assigned_here, assigned_other}
 use Rattle.rv64_stretches.proofs.Going.{Going, begin, not_taken, onward, plain, store, taken}
 use Rattle.rv64_sequences.specs.Frames.{Reaches}
@@ -59,19 +60,7 @@ module _ (S : Setting) (s : bril.State) (t : State) (r : RunsAlike S s t) (dest 
       let ends = finishes S.image (sizes S) 8 (Faulted fault.Frames) low zero_is refl (not_taken S.image (sizes S) none g0) in
       let is : step S.p S.limits s ≡ faulted fault.Frames s = step_at S s t r (Some (Call dest function args)) item ∙ ap (λ b. cond b (with_frames (new_frame function values ∷ r.frame ∷ r.older) s) (faulted fault.Frames s)) full in
       let count : 0 + 1 + 1 + 1 + 1 ≡ 4 = refl in
-      let keeps : Keeps r.core (called_off 8 r.core) = record {
-        zero_register = refl;
-        frame_register = refl;
-        frames_left = refl;
-        stack = refl;
-        table = refl;
-        cells = refl;
-        blocks = refl;
-        given = refl;
-        printed = refl;
-        arrivals = refl;
-      } in
-      faults_moves S s t r fault.Frames (called_off 8 r.core) 4 is keeps (ends_in 4 count ends) (omega arith) (omega arith)
+      faults_moves S s t r fault.Frames (called_off 8 r.core) 4 is (keeps_called_off r.core 8) (ends_in 4 count ends) (omega arith) (omega arith)
 
   -- ---- the new frame
 

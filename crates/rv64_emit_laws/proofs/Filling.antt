@@ -61,7 +61,7 @@ module _ (S : Setting) (s : bril.State) (t : State) (r : RunsAlike S s t) (dear 
       let there = S.laid.next r.frame.function h.function r.frame.point (Constant dest value) h.there item in
       let size = constant_most w in
       stores_moves S s t r (Variable dest) value 5 (written r.core 5 w) (0 + constant_size w) (here S s t r + constant_size w) in_dest five_not_six word
-      (keeps_written r.core r.core 4 w refl refl refl (keeps_itself r.core)) (step_at S s t r (Some (Constant dest value)) item) g1 (omega arith) (omega arith)
+      (keeps_written r.core r.core 4 w refl refl refl refl (keeps_itself r.core)) (step_at S s t r (Some (Constant dest value)) item) g1 (omega arith) (omega arith)
 
   pub copy_moves : (dest from : Slot) → slice_get r.holds.function.code r.frame.point ≡ Some (Copy dest from) → HoldsValue r.frame.locations from → IsSlotOf r.holds.function dest → IsSlotOf r.holds.function from → Moves S s t
   copy_moves dest from item held in_dest in_from =
@@ -75,7 +75,7 @@ module _ (S : Setting) (s : bril.State) (t : State) (r : RunsAlike S s t) (dear 
       let size = load_most o in
       let is = step_at S s t r (Some (Copy dest from)) item ∙ ap (λ v. fills S.p S.slots S.limits dest v r.frame r.older s) (read_is r.frame.locations from held.value held.is) in
       stores_moves S s t r dest held.value 5 (loaded S s t r r.core 5 o) (0 + load_size o) (here S s t r + load_size o) in_dest five_not_six word
-      (loaded_keeps S s t r r.core 4 o refl refl refl (keeps_itself r.core)) is g1 (omega arith) (omega arith)
+      (loaded_keeps S s t r r.core 4 o refl refl refl refl (keeps_itself r.core)) is g1 (omega arith) (omega arith)
 
   -- ---- operations
 
@@ -107,7 +107,7 @@ module _ (S : Setting) (s : bril.State) (t : State) (r : RunsAlike S s t) (dear 
       let g0 = begin S.image (sizes S) k r.core (load_words 5 o ++ (unary_words operation ++ store_words 5 (2 + dest))) has in
       let g1 = loads S s t r (Variable operand) 5 refl in_operand g0 in
       let e = loaded S s t r r.core 5 o in
-      let keeps = loaded_keeps S s t r r.core 4 o refl refl refl (keeps_itself r.core) in
+      let keeps = loaded_keeps S s t r r.core 4 o refl refl refl refl (keeps_itself r.core) in
       let word = word_held S s t r r.core (Variable operand) a.value refl in_operand a.is in
       let there = S.laid.next r.frame.function h.function r.frame.point (Unary operation dest operand) h.there item in
       let low = S.laid.few_entries r.frame.function r.frame.point in
@@ -139,10 +139,10 @@ module _ (S : Setting) (s : bril.State) (t : State) (r : RunsAlike S s t) (dear 
       let g0 = begin S.image (sizes S) k r.core (load_words 5 o ++ (load_words 7 q ++ (binary_words operation ++ store_words 5 (2 + dest)))) has in
       let g1 = loads S s t r (Variable first) 5 refl in_first g0 in
       let e1 = loaded S s t r r.core 5 o in
-      let keeps1 = loaded_keeps S s t r r.core 4 o refl refl refl (keeps_itself r.core) in
+      let keeps1 = loaded_keeps S s t r r.core 4 o refl refl refl refl (keeps_itself r.core) in
       let g2 = loads S s t r (Variable second) 7 keeps1.frame_register in_second g1 in
       let e = loaded S s t r e1 7 q in
-      let keeps = loaded_keeps S s t r e1 6 q refl refl refl keeps1 in
+      let keeps = loaded_keeps S s t r e1 6 q refl refl refl refl keeps1 in
       let word_a = word_held S s t r r.core (Variable first) a.first refl in_first a.first_is in
       let word_b = word_held S s t r r.core (Variable second) a.second refl in_second a.second_is in
       let there = S.laid.next r.frame.function h.function r.frame.point (Binary operation dest first second) h.there item in

@@ -128,7 +128,7 @@ module _ (S : Setting) (s : bril.State) (t : State) (r : RunsAlike S s t) (condi
       loads S s t r (Variable condition) 5 refl in_g (begin S.image (sizes S) (here S s t r) r.core (guard_front h.function (depth_at h.function r.frame.point) condition) has.0)
 
   condition_keeps : Keeps r.core (loaded S s t r r.core 5 (2 + condition))
-  condition_keeps = loaded_keeps S s t r r.core 4 (2 + condition) refl refl refl (keeps_itself r.core)
+  condition_keeps = loaded_keeps S s t r r.core 4 (2 + condition) refl refl refl refl (keeps_itself r.core)
 
   guard_step : HoldsBool r.frame.locations condition → (truth : Bool) → r.frame.locations.vars condition ≡ Some (Boolean truth) → step S.p S.limits s ≡ slot_guards S.p S.slots S.limits truth abort_to r.frame r.older s
   guard_step held truth is = step_at S s t r (Some (Guard condition abort_to)) item ∙ ap (λ v. slot_guards S.p S.slots S.limits (bool_of v) abort_to r.frame r.older s) (read_is r.frame.locations (Variable condition) (Boolean truth) is)

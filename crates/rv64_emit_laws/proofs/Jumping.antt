@@ -94,7 +94,7 @@ module _ (S : Setting) (s : bril.State) (t : State) (r : RunsAlike S s t) where
       let g0 = begin S.image (sizes S) k r.core (load_words 5 o ++ (beq 5 0 (pos 8) ∷ first ∷ second ∷ [])) has in
       let g1 = loads S s t r (Variable condition) 5 refl in_g g0 in
       let e = loaded S s t r r.core 5 o in
-      let keeps = loaded_keeps S s t r r.core 4 o refl refl refl (keeps_itself r.core) in
+      let keeps = loaded_keeps S s t r r.core 4 o refl refl refl refl (keeps_itself r.core) in
       let word = word_held S s t r r.core (Variable condition) (Boolean held.truth) refl in_g held.is in
       let low = S.laid.few_entries f r.frame.point in
       let size = load_most o in

@@ -5,7 +5,7 @@ use Rattle.bril_tree.specs.declared.value.Value.{Value}
 use Rattle.bril_tree.specs.declared.value.Value.TheVariants.{Int}
 use Rattle.bril_tree.specs.State as bril
 use Rattle.rv64_layout.specs.Items.{slot_word}
-use Rattle.rv64_stretches.specs.Core.{Core, Keeps, written}
+use Rattle.rv64_stretches.specs.Core.{Core, Keeps, is_home_register, written}
 use Rattle.rv64_stretches.proofs.Going.{Going}
 use Rattle.rv64_sequences.specs.Sequences.{load_size, load_words}
 use Rattle.rv64_sequences.specs.Frames.{address_left, addressed}
@@ -38,8 +38,8 @@ module _ (S : Setting) (s : bril.State) (t : State) (r : RunsAlike S s t) where
       Going S.image (sizes S) (here S s t r) r.core (n + load_size (slot_word r.holds.function slot)) (j + load_size (slot_word r.holds.function slot)) (loaded e rd (slot_word r.holds.function slot)) ws
   loads {e = e} slot rd two in_g g = frame_load S.image (sizes S) 2 rd r.holds.base (slot_word r.holds.function slot) two_not_six (slot_reaches S (length s.blocks) r.frame r.older r.core r.holds e slot two in_g) g
 
-  pub loaded_keeps : (e : Core) (rd o : ℕ) → eqb 0 (suc rd) ≡ false → eqb 2 (suc rd) ≡ false → eqb 8 (suc rd) ≡ false → Keeps r.core e → Keeps r.core (loaded e (suc rd) o)
-  loaded_keeps e rd o a b c keeps = keeps_written r.core (addressed e 2 o) rd (e.stack (r.holds.base + o)) a b c (keeps_written r.core e 5 (address_left e 2 o) refl refl refl keeps)
+  pub loaded_keeps : (e : Core) (rd o : ℕ) → eqb 0 (suc rd) ≡ false → eqb 2 (suc rd) ≡ false → eqb 8 (suc rd) ≡ false → is_home_register (suc rd) ≡ false → Keeps r.core e → Keeps r.core (loaded e (suc rd) o)
+  loaded_keeps e rd o a b c d keeps = keeps_written r.core (addressed e 2 o) rd (e.stack (r.holds.base + o)) a b c d (keeps_written r.core e 5 (address_left e 2 o) refl refl refl refl keeps)
 
   -- the word of a slot that holds a value
   pub word_held : (e : Core) (slot : Slot) (v : Value) → e.stack ≡ r.core.stack → IsSlotOf r.holds.function slot → slot_value r.frame.locations slot ≡ Some v →

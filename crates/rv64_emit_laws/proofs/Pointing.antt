@@ -33,7 +33,7 @@ module _ (S : Setting) (s : bril.State) (t : State) (r : RunsAlike S s t) (point
   Pointed ws = Going S.image (sizes S) (here S s t r) r.core (0 + load_size (2 + pointer)) (here S s t r + load_size (2 + pointer)) (loaded S s t r r.core 5 (2 + pointer)) ws
 
   pointed_keeps : Keeps r.core (loaded S s t r r.core 5 (2 + pointer))
-  pointed_keeps = loaded_keeps S s t r r.core 4 (2 + pointer) refl refl refl (keeps_itself r.core)
+  pointed_keeps = loaded_keeps S s t r r.core 4 (2 + pointer) refl refl refl refl (keeps_itself r.core)
 
   word : HasWord (length s.blocks) (Ptr points.block points.offset) (r.core.stack (r.holds.base + (2 + pointer)))
   word = word_held S s t r r.core (Variable pointer) (Ptr points.block points.offset) refl in_pointer points.is

@@ -246,7 +246,7 @@ module _ (S : Setting) (s : bril.State) (t : State) (r : RunsAlike S s t) (dear 
       let word = word_held S s t r r.core (Variable x) held.value refl in_g held.is in
       let size = load_most o in
       let is = step_at S s t r (Some (Return (Some x))) item ∙ ap (λ v. slot_returns S.p S.slots S.limits v r.older s) (read_is r.frame.locations (Variable x) held.value held.is) in
-      returned_moves held.value is g1 (loaded_keeps S s t r r.core 9 o refl refl refl (keeps_itself r.core)) (λ e. word) (omega arith)
+      returned_moves held.value is g1 (loaded_keeps S s t r r.core 9 o refl refl refl refl (keeps_itself r.core)) (λ e. word) (omega arith)
 
   pub end_moves : slice_get r.holds.function.code r.frame.point ≡ None → gives_back S.p r.frame.function ≡ false → Moves S s t
   end_moves item none =
