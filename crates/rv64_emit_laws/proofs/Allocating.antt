@@ -27,7 +27,7 @@ use Rattle.rv64_emit_laws.proofs.Operands.{read_is}
 use Rattle.rv64_emit_laws.proofs.Ready.{HoldsInt}
 use Rattle.rv64_emit_laws.proofs.Relation.{HasWord, RunsAlike}
 use Rattle.rv64_emit_laws.proofs.Remembering.{KeepsFrames, fills_moves}
-use Rattle.rv64_emit_laws.proofs.Setting.{Setting, sizes}
+use Rattle.rv64_emit_laws.proofs.Setting.{Setting, its_words, next_entry, sizes}
 
 ten_not_six : ◌≢◌ {A = ℕ} 10 6
 ten_not_six = λ e. absurd (omega arith)
@@ -47,7 +47,7 @@ module _ (S : Setting) (s : bril.State) (t : State) (r : RunsAlike S s t) (dest 
       ∙ ap (λ f. allocates S.p S.limits f held.number (Some dest) r.frame r.older s) e)
 
   before : Going S.image (sizes S) (here S s t r) r.core (0 + load_size (2 + count) + 1) (here S s t r + load_size (2 + count) + 1) (asked S s t r 6 count) (Ecall ∷ store_words 10 (2 + dest))
-  before = asks S s t r 6 count (Ecall ∷ store_words 10 (2 + dest)) in_count (S.laid.items r.frame.function r.holds.function r.frame.point (Alloc dest count) r.holds.there item)
+  before = asks S s t r 6 count (Ecall ∷ store_words 10 (2 + dest)) in_count (its_words S r.frame.function r.holds.function r.frame.point (Alloc dest count) r.holds.there item)
 
   abbrev blocks_now : List bril.Block
   blocks_now = s.blocks ++ new_block (cells_of held.number) ∷ []
@@ -78,7 +78,7 @@ module _ (S : Setting) (s : bril.State) (t : State) (r : RunsAlike S s t) (dest 
       faults_moves S s t r kind (asked S s t r 6 count) (0 + load_size (2 + count) + 1 + 1) (stepped (Some kind) e) (asked_keeps S s t r 6 count) ends (omega arith) (omega arith)
   by_fault dear in_dest None e =
       let size = load_most (2 + count) in
-      let there = S.laid.next r.frame.function r.holds.function r.frame.point (Alloc dest count) r.holds.there item in
+      let there = next_entry S r.frame.function r.holds.function r.frame.point (Alloc dest count) r.holds.there item in
       let g = allocate S.image (sizes S) (number_is S s t r 6 count (omega arith)) (fault_is ∙ e) before in
       let long : length (s.blocks ++ new_block (cells_of held.number) ∷ []) ≡ suc (length s.blocks) = pushed_length s.blocks (new_block (cells_of held.number)) in
       fills_moves S s t r blocks_now (Variable dest) (Ptr (suc (length s.blocks)) (pos 0)) 10 last (0 + load_size (2 + count) + 1 + 1) (here S s t r + load_size (2 + count) + 1 + 1) (omega arith) in_dest ten_not_six

@@ -11,8 +11,7 @@ use Rattle.bril_tree.specs.Outcome.{Outcome, Yields, FaultsWith, HasEffect, comp
 use Rattle.bril_tree.specs.State as bril
 use Rattle.bril_tree.specs.Step.{step}
 use Rattle.bril_tree.specs.Value.{IsInRange, word_of}
-use Rattle.rv64_layout.specs.Image.{entry_at}
-use Rattle.rv64_layout.specs.Items.{slot_word}
+use Rattle.rv64_layout.specs.Homes.{slot_word}
 use Rattle.rv64_layout.proofs.Bounding.{constant_most, load_most}
 use Rattle.rv64_layout.proofs.Lengths.{binary_length, unary_length}
 use Rattle.rv64_stretches.specs.Core.{Core, Keeps, written}
@@ -38,7 +37,7 @@ use Rattle.rv64_emit_laws.proofs.Operands.{loaded, loaded_keeps, loads, read_is,
 use Rattle.rv64_emit_laws.proofs.Outcomes.{binary_block, binary_computes, binary_most, binary_operands, unary_block, unary_computes, unary_most, unary_operand, word_small}
 use Rattle.rv64_emit_laws.proofs.Ready.{BinaryFinds, HoldsValue, UnaryFinds}
 use Rattle.rv64_emit_laws.proofs.Relation.{HasWord, RunsAlike}
-use Rattle.rv64_emit_laws.proofs.Setting.{Setting, sizes}
+use Rattle.rv64_emit_laws.proofs.Setting.{Setting, entry_of, its_words, next_entry, sizes}
 use Rattle.rv64_emit_laws.proofs.Stretches.{keeps_written, load_some}
 
 five_not_zero : ◌≢◌ {A = ℕ} 5 0
@@ -54,11 +53,11 @@ module _ (S : Setting) (s : bril.State) (t : State) (r : RunsAlike S s t) (dear 
   constant_moves dest value item range block in_dest =
       let h = r.holds in
       let w = word_of value in
-      let has = S.laid.items r.frame.function h.function r.frame.point (Constant dest value) h.there item in
+      let has = its_words S r.frame.function h.function r.frame.point (Constant dest value) h.there item in
       let g0 = begin S.image (sizes S) (here S s t r) r.core (constant_words 5 w ++ store_words 5 (2 + dest)) has in
       let g1 = constant S.image (sizes S) 5 w five_not_zero (word_small value range) h.zero_is g0 in
       let word : HasWord (length s.blocks) value w = record { is = refl; known = omega arith } in
-      let there = S.laid.next r.frame.function h.function r.frame.point (Constant dest value) h.there item in
+      let there = next_entry S r.frame.function h.function r.frame.point (Constant dest value) h.there item in
       let size = constant_most w in
       stores_moves S s t r (Variable dest) value 5 (written r.core 5 w) (0 + constant_size w) (here S s t r + constant_size w) in_dest five_not_six word
       (keeps_written r.core r.core 4 w refl refl refl refl (keeps_itself r.core)) (step_at S s t r (Some (Constant dest value)) item) g1 (omega arith) (omega arith)
@@ -67,11 +66,11 @@ module _ (S : Setting) (s : bril.State) (t : State) (r : RunsAlike S s t) (dear 
   copy_moves dest from item held in_dest in_from =
       let h = r.holds in
       let o = slot_word h.function from in
-      let has = S.laid.items r.frame.function h.function r.frame.point (Copy dest from) h.there item in
+      let has = its_words S r.frame.function h.function r.frame.point (Copy dest from) h.there item in
       let g0 = begin S.image (sizes S) (here S s t r) r.core (load_words 5 o ++ store_words 5 (slot_word h.function dest)) has in
       let g1 = loads S s t r from 5 refl in_from g0 in
       let word = word_held S s t r r.core from held.value refl in_from held.is in
-      let there = S.laid.next r.frame.function h.function r.frame.point (Copy dest from) h.there item in
+      let there = next_entry S r.frame.function h.function r.frame.point (Copy dest from) h.there item in
       let size = load_most o in
       let is = step_at S s t r (Some (Copy dest from)) item ∙ ap (λ v. fills S.p S.slots S.limits dest v r.frame r.older s) (read_is r.frame.locations from held.value held.is) in
       stores_moves S s t r dest held.value 5 (loaded S s t r r.core 5 o) (0 + load_size o) (here S s t r + load_size o) in_dest five_not_six word
@@ -82,7 +81,7 @@ module _ (S : Setting) (s : bril.State) (t : State) (r : RunsAlike S s t) (dear 
   -- the variable gets what an operation computes, or the run faults, as the words say
   computes_moves : (outcome : Outcome) (dest : ℕ) (n j size : ℕ) (e : Core) (ws : List Word) → step S.p S.limits s ≡ computes S.p S.slots S.limits outcome dest r.frame r.older s → (outcome ≡ HasEffect → ⊥) →
       Keeps r.core e → Going S.image (sizes S) (here S s t r) r.core n j e (ws ++ store_words 5 (2 + dest)) → length ws ≡ size → IsSlotOf r.holds.function (Variable dest) → 1 ≤ n → n + size + 3 ≤ S.cost →
-      j + size + store_size (2 + dest) ≡ entry_at S.slots r.frame.function (suc r.frame.point) →
+      j + size + store_size (2 + dest) ≡ entry_of S r.frame.function (suc r.frame.point) →
       ((v : Value) → outcome ≡ Yields v → Gives S.image (sizes S) j e size (word_of v) × (block_of v ≤ length s.blocks)) → ((kind : Fault) → outcome ≡ FaultsWith kind → EndsSo S.image (sizes S) j e size (Faulted kind)) → Moves S s t
   computes_moves (Yields v) dest n j size e ws stepped computes keeps g long in_dest some cheap there gives ends =
       let q = (gives v refl).0 in
@@ -103,13 +102,13 @@ module _ (S : Setting) (s : bril.State) (t : State) (r : RunsAlike S s t) (dear 
       let k = here S s t r in
       let o = 2 + operand in
       let a = unary_operand r.frame.locations operation operand finds in
-      let has = S.laid.items r.frame.function h.function r.frame.point (Unary operation dest operand) h.there item in
+      let has = its_words S r.frame.function h.function r.frame.point (Unary operation dest operand) h.there item in
       let g0 = begin S.image (sizes S) k r.core (load_words 5 o ++ (unary_words operation ++ store_words 5 (2 + dest))) has in
       let g1 = loads S s t r (Variable operand) 5 refl in_operand g0 in
       let e = loaded S s t r r.core 5 o in
       let keeps = loaded_keeps S s t r r.core 4 o refl refl refl refl (keeps_itself r.core) in
       let word = word_held S s t r r.core (Variable operand) a.value refl in_operand a.is in
-      let there = S.laid.next r.frame.function h.function r.frame.point (Unary operation dest operand) h.there item in
+      let there = next_entry S r.frame.function h.function r.frame.point (Unary operation dest operand) h.there item in
       let low = S.laid.few_entries r.frame.function r.frame.point in
       let size = load_most o in
       let one = load_some o in
@@ -135,7 +134,7 @@ module _ (S : Setting) (s : bril.State) (t : State) (r : RunsAlike S s t) (dear 
       let o = 2 + first in
       let q = 2 + second in
       let a = binary_operands r.frame.locations operation first second finds in
-      let has = S.laid.items r.frame.function h.function r.frame.point (Binary operation dest first second) h.there item in
+      let has = its_words S r.frame.function h.function r.frame.point (Binary operation dest first second) h.there item in
       let g0 = begin S.image (sizes S) k r.core (load_words 5 o ++ (load_words 7 q ++ (binary_words operation ++ store_words 5 (2 + dest)))) has in
       let g1 = loads S s t r (Variable first) 5 refl in_first g0 in
       let e1 = loaded S s t r r.core 5 o in
@@ -145,7 +144,7 @@ module _ (S : Setting) (s : bril.State) (t : State) (r : RunsAlike S s t) (dear 
       let keeps = loaded_keeps S s t r e1 6 q refl refl refl refl keeps1 in
       let word_a = word_held S s t r r.core (Variable first) a.first refl in_first a.first_is in
       let word_b = word_held S s t r r.core (Variable second) a.second refl in_second a.second_is in
-      let there = S.laid.next r.frame.function h.function r.frame.point (Binary operation dest first second) h.there item in
+      let there = next_entry S r.frame.function h.function r.frame.point (Binary operation dest first second) h.there item in
       let low = S.laid.few_entries r.frame.function r.frame.point in
       let size_o = load_most o in
       let size_q = load_most q in

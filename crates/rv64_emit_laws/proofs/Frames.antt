@@ -8,7 +8,7 @@ use Rattle.bril_tree.specs.declared.numbered_function.Func.{Func}
 use Rattle.bril_tree.specs.declared.value.Value.{Value}
 use Rattle.bril_tree.specs.State.{Locals, Frame, Values, with_value}
 use Rattle.bril_tree.specs.Step.{arguments_from}
-use Rattle.rv64_layout.specs.Items.{level_word}
+use Rattle.rv64_layout.specs.Homes.{level_word}
 use Rattle.rv64_stretches.proofs.Cores.{assigned_here, assigned_other}
 use Rattle.rv64_words.specs.State.{assigned}
 use Rattle.slot_code.specs.declared.item.Slot.{Slot}

@@ -3,7 +3,7 @@ use Rattle.std.proofs.Common.{◌≡◌, ◌≢◌, ℕ, suc, ◌+◌, ◌*◌, 
 use Rattle.bril_tree.specs.declared.value.Value.{Value}
 use Rattle.bril_tree.specs.State as bril
 use Rattle.bril_tree.specs.Step.{at_point, advanced, with_locations}
-use Rattle.rv64_layout.specs.Items.{slot_word}
+use Rattle.rv64_layout.specs.Homes.{slot_word}
 use Rattle.rv64_stretches.specs.Core.{Core}
 use Rattle.rv64_stretches.proofs.Cores.{assigned_other}
 use Rattle.rv64_sequences.specs.Frames.{Reaches}

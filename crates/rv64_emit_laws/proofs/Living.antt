@@ -21,18 +21,13 @@ use Rattle.bril_tree.proofs.Acceptance.{accepted_function, shaped_at}
 use Rattle.bril_tree.proofs.Elements.{All-at, in_index}
 use Rattle.bril_tree.proofs.Formed.{variable_below}
 use Rattle.bril_tree.proofs.Members.{in_append_right, in_contains, in_map_source}
-use Rattle.slot_code.specs.declared.item.Slot.{Slot}
 use Rattle.slot_code.specs.declared.item.Slot.TheVariants as slot
 use Rattle.slot_code.specs.declared.slots.SlotFunction.{SlotFunction}
 use Rattle.slot_code.specs.Laws.{IsSlotOf, slots_used}
 use Rattle.slot_code.specs.Lowered.{IsLoweredFunction, lowered_item}
 use Rattle.slot_code.proofs.Uses.{items_use_slots}
 use Rattle.type_soundness.proofs.Locals.{counted}
-
--- the slot of a location
-abbrev pub slot_of : Location → Slot
-slot_of (Variable x) = slot.Variable x
-slot_of (Shadow x) = slot.Shadow x
+use Rattle.rv64_emit_laws.specs.Homes.{slot_of}
 
 module _ (p : Prog) (k : ℕ) (f : Func) (g : SlotFunction) (accepted : IsAccepted p) (there : slice_get p.funcs k ≡ Some f) (is : IsLoweredFunction f g) where
   -- what is among the arguments of an item is a slot

@@ -26,7 +26,7 @@ use Rattle.rv64_emit_laws.proofs.Operands.{loads, read_is}
 use Rattle.rv64_emit_laws.proofs.Pointing.{Pointed, AtCell, access_moves, at_cell}
 use Rattle.rv64_emit_laws.proofs.Ready.{HoldsPointer}
 use Rattle.rv64_emit_laws.proofs.Relation.{HasWord, RunsAlike}
-use Rattle.rv64_emit_laws.proofs.Setting.{Setting, sizes}
+use Rattle.rv64_emit_laws.proofs.Setting.{Setting, its_words, next_entry, sizes}
 
 five_not_six : ◌≢◌ {A = ℕ} 5 6
 five_not_six = λ e. absurd (omega arith)
@@ -41,7 +41,7 @@ module _ (S : Setting) (s : bril.State) (t : State) (r : RunsAlike S s t) (dear 
 
   pointed : Pointed S s t r pointer points in_pointer (cell_words ++ (load_cell_words ++ store_words 5 (2 + dest)))
   pointed =
-      let has = S.laid.items r.frame.function r.holds.function r.frame.point (Load dest pointer) r.holds.there item in
+      let has = its_words S r.frame.function r.holds.function r.frame.point (Load dest pointer) r.holds.there item in
       loads S s t r (Variable pointer) 5 refl in_pointer (begin S.image (sizes S) (here S s t r) r.core (load_words 5 (2 + pointer) ++ (cell_words ++ (load_cell_words ++ store_words 5 (2 + dest)))) has)
 
   module _ (n : ℕ) (there : cell_at s.blocks (Ptr points.block points.offset) ≡ Some n) (a : AtCell S s t r pointer points in_pointer n (load_cell_words ++ store_words 5 (2 + dest))) where
@@ -78,7 +78,7 @@ module _ (S : Setting) (s : bril.State) (t : State) (r : RunsAlike S s t) (dear 
         let few = a.few in
         let g = across S.image (sizes S) load_cell_words (store_words 5 (2 + dest)) a.going q.runs in
         let word : HasWord (length s.blocks) v (q.core.registers 5) = subst (HasWord (length s.blocks) v) (sym (q.result ∙ ap (λ m. m (2 * at + 1)) a.keeps.cells)) found.1 in
-        let next = S.laid.next r.frame.function r.holds.function r.frame.point (Load dest pointer) r.holds.there item in
+        let next = next_entry S r.frame.function r.holds.function r.frame.point (Load dest pointer) r.holds.there item in
         stores_moves S s t r (Variable dest) v 5 q.core (a.steps + q.steps) (here S s t r + load_size (2 + pointer) + 14 + 6) in_dest five_not_six word (keeps_on r.core a.core q.core a.keeps q.keeps)
         (stepped (Some n) there ∙ ap (λ x. loads_held S.p S.limits x (Some dest) r.frame r.older s) e) g (omega arith) (omega arith)
 

@@ -4,7 +4,7 @@ use Rattle.std.specs.Prelude.{unwrap_or}
 use Rattle.bril_tree.specs.declared.value.Value.{Value}
 use Rattle.bril_tree.specs.declared.value.Value.TheVariants.{Int}
 use Rattle.bril_tree.specs.State as bril
-use Rattle.rv64_layout.specs.Items.{slot_word}
+use Rattle.rv64_layout.specs.Homes.{slot_word}
 use Rattle.rv64_stretches.specs.Core.{Core, Keeps, is_home_register, written}
 use Rattle.rv64_stretches.proofs.Going.{Going}
 use Rattle.rv64_sequences.specs.Sequences.{load_size, load_words}

@@ -4,6 +4,7 @@ use Rattle.std.specs.Prelude.{slice_get}
 use Rattle.std.specs.List.{AllByRecursion}
 use Rattle.bril_tree.specs.declared.value.Value.{Value}
 use Rattle.bril_tree.specs.State as bril
+use Rattle.rv64_layout.specs.Homes.{in_frame}
 use Rattle.rv64_layout.specs.Items.{argument_word, pass_size, pass_words}
 use Rattle.rv64_stretches.specs.Core.{Core, put}
 use Rattle.rv64_stretches.proofs.Cores.{assigned_here, assigned_other}
@@ -74,8 +75,8 @@ module _ (S : Setting) (s : bril.State) (t : State) (r : RunsAlike S s t) (wide 
 
   pub arguments_passed : (args : List ℕ) (j : ℕ) {n i : ℕ} (d : Core) (ws : List Word) → d.registers 2 ≡ r.core.registers 2 → ((k : ℕ) → k < r.holds.base + r.holds.function.words → d.stack k ≡ r.core.stack k) →
       2 + (j + length args) ≤ wide → AllByRecursion (λ a. HoldsValue r.frame.locations (Variable a)) args → AllByRecursion (λ a. IsSlotOf r.holds.function (Variable a)) args →
-      Going S.image (sizes S) (here S s t r) r.core n i d (pass_words r.holds.function j args ++ ws) →
-      AfterPassing n i d j (pass_size r.holds.function j args) (map (bril.read r.frame.locations.vars) args) ws
+      Going S.image (sizes S) (here S s t r) r.core n i d (pass_words (in_frame r.holds.function) r.holds.function j args ++ ws) →
+      AfterPassing n i d j (pass_size (in_frame r.holds.function) r.holds.function j args) (map (bril.read r.frame.locations.vars) args) ws
   arguments_passed [] j {n} {i} d ws two stay inside held used g = record {
     core = d;
     passed = record {
@@ -102,8 +103,8 @@ module _ (S : Setting) (s : bril.State) (t : State) (r : RunsAlike S s t) (wide 
       let origin = source S (length s.blocks) r.frame r.older r.core h in
       let own = slot_fits origin.function func origin.is (Variable a) used.0 in
       let v = held.0.value in
-      let words : (load_words 5 o ++ (store_words 5 q ++ pass_words func (suc j) args)) ++ ws ≡ load_words 5 o ++ (store_words 5 q ++ (pass_words func (suc j) args ++ ws)) =
-      append_assoc (load_words 5 o) (store_words 5 q ++ pass_words func (suc j) args) ws ∙ ap (λ xs. load_words 5 o ++ xs) (append_assoc (store_words 5 q) (pass_words func (suc j) args) ws) in
+      let words : (load_words 5 o ++ (store_words 5 q ++ pass_words (in_frame func) func (suc j) args)) ++ ws ≡ load_words 5 o ++ (store_words 5 q ++ (pass_words (in_frame func) func (suc j) args ++ ws)) =
+      append_assoc (load_words 5 o) (store_words 5 q ++ pass_words (in_frame func) func (suc j) args) ws ∙ ap (λ xs. load_words 5 o ++ xs) (append_assoc (store_words 5 q) (pass_words (in_frame func) func (suc j) args) ws) in
       let g0 = subst (λ xs. Going S.image (sizes S) (here S s t r) r.core n i d xs) words g in
       let g1 = loads S s t r (Variable a) 5 two used.0 g0 in
       let e = loaded S s t r d 5 o in
@@ -120,5 +121,5 @@ module _ (S : Setting) (s : bril.State) (t : State) (r : RunsAlike S s t) (wide 
       record {
         core = rest.core;
         passed = subst (λ x. Passed (length s.blocks) d rest.core (h.base + func.words) j (x ∷ map (bril.read r.frame.locations.vars) args)) (sym read_v) one;
-        going = is_place S.image (sizes S) (n + pass_size func j (a ∷ args)) (i + pass_size func j (a ∷ args)) (omega arith) (omega arith) rest.going;
+        going = is_place S.image (sizes S) (n + pass_size (in_frame func) func j (a ∷ args)) (i + pass_size (in_frame func) func j (a ∷ args)) (omega arith) (omega arith) rest.going;
       }

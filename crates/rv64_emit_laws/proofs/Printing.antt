@@ -13,7 +13,7 @@ use Rattle.bril_tree.specs.declared.value.Value.TheVariants.{Int, Bool as Boolea
 use Rattle.bril_tree.specs.State as bril
 use Rattle.bril_tree.specs.Step.{advanced, line_of, prints}
 use Rattle.bril_tree.specs.Value.{bool_text, shown}
-use Rattle.rv64_layout.specs.Image.{entry_at}
+use Rattle.rv64_layout.specs.Homes.{in_frame}
 use Rattle.rv64_layout.specs.Items.{environment_words, print_call, print_size, print_words, spaced_size, spaced_words, value_words}
 use Rattle.rv64_layout.proofs.Bounding.{print_most}
 use Rattle.rv64_stretches.specs.Core.{Core, said, written}
@@ -33,7 +33,7 @@ use Rattle.rv64_emit_laws.proofs.Holding.{SameFrame, moved_holds}
 use Rattle.rv64_emit_laws.proofs.Operands.{loaded, loads, read_is, word_held}
 use Rattle.rv64_emit_laws.proofs.Ready.{HoldsKind}
 use Rattle.rv64_emit_laws.proofs.Relation.{RunsAlike}
-use Rattle.rv64_emit_laws.proofs.Setting.{Setting, sizes}
+use Rattle.rv64_emit_laws.proofs.Setting.{Setting, entry_of, its_words, next_entry, sizes}
 use Rattle.rv64_emit_laws.proofs.Stretches.{landed, with_end}
 
 -- ---- what is printed
@@ -108,7 +108,7 @@ module _ (S : Setting) (s : bril.State) (t : State) (r : RunsAlike S s t) where
 
   -- a value
   value_said : {n j : ℕ} {text : List ℕ} {ws : List Word} → (a : Printed) → HoldsKind r.frame.locations a.kind a.variable → IsSlotOf r.holds.function (Variable a.variable) →
-      Said n j text (value_words a ++ ws) → Said (n + (load_size (2 + a.variable) + 2)) (j + (load_size (2 + a.variable) + 2)) (text ++ shown (read_printed r.frame.locations a)) ws
+      Said n j text (value_words (in_frame r.holds.function) a ++ ws) → Said (n + (load_size (2 + a.variable) + 2)) (j + (load_size (2 + a.variable) + 2)) (text ++ shown (read_printed r.frame.locations a)) ws
   value_said {n} {j} {text} {ws} a held in_g q = by_kind a.kind held (subst (λ xs. Going S.image (sizes S) (here S s t r) r.core n j q.core xs) (append_assoc (load_words 10 (2 + a.variable)) (environment_words (print_call a.kind)) ws) q.going)
     where
       null : q.core.registers 0 ≡ 0
@@ -145,7 +145,7 @@ module _ (S : Setting) (s : bril.State) (t : State) (r : RunsAlike S s t) where
 
   -- the values after the first
   spaced_said : (args : List Printed) {n j : ℕ} {text : List ℕ} {ws : List Word} → AllByRecursion (λ a. HoldsKind r.frame.locations a.kind a.variable) args → AllByRecursion (λ a. IsSlotOf r.holds.function (Variable a.variable)) args →
-      Said n j text (spaced_words args ++ ws) → Said (n + spaced_size args) (j + spaced_size args) (text ++ spaced_text (map (read_printed r.frame.locations) args)) ws
+      Said n j text (spaced_words (in_frame r.holds.function) args ++ ws) → Said (n + spaced_size (in_frame r.holds.function) args) (j + spaced_size (in_frame r.holds.function) args) (text ++ spaced_text (map (read_printed r.frame.locations) args)) ws
   unfolding spaced_text
   spaced_said [] {n} {j} {text} {ws} held used q = record {
     core = q.core;
@@ -155,8 +155,8 @@ module _ (S : Setting) (s : bril.State) (t : State) (r : RunsAlike S s t) where
   spaced_said (a ∷ args) {n} {j} {text} {ws} held used q =
       let v = read_printed r.frame.locations a in
       let rest = spaced_text (map (read_printed r.frame.locations) args) in
-      let words : (environment_words 4 ++ (value_words a ++ spaced_words args)) ++ ws ≡ environment_words 4 ++ (value_words a ++ (spaced_words args ++ ws)) = ap (λ xs. environment_words 4 ++ xs) (append_assoc (value_words a) (spaced_words args) ws) in
-      let q0 : Said n j text (environment_words 4 ++ (value_words a ++ (spaced_words args ++ ws))) = record { core = q.core; says = q.says; going = subst (λ xs. Going S.image (sizes S) (here S s t r) r.core n j q.core xs) words q.going } in
+      let words : (environment_words 4 ++ (value_words (in_frame r.holds.function) a ++ spaced_words (in_frame r.holds.function) args)) ++ ws ≡ environment_words 4 ++ (value_words (in_frame r.holds.function) a ++ (spaced_words (in_frame r.holds.function) args ++ ws)) = ap (λ xs. environment_words 4 ++ xs) (append_assoc (value_words (in_frame r.holds.function) a) (spaced_words (in_frame r.holds.function) args) ws) in
+      let q0 : Said n j text (environment_words 4 ++ (value_words (in_frame r.holds.function) a ++ (spaced_words (in_frame r.holds.function) args ++ ws))) = record { core = q.core; says = q.says; going = subst (λ xs. Going S.image (sizes S) (here S s t r) r.core n j q.core xs) words q.going } in
       let q1 = space_said q0 in
       let q2 = value_said a held.0 used.0 q1 in
       let q3 = spaced_said args held.1 used.1 q2 in
@@ -164,11 +164,11 @@ module _ (S : Setting) (s : bril.State) (t : State) (r : RunsAlike S s t) where
       record {
         core = q3.core;
         says = subst (Says r.core q3.core) texts q3.says;
-        going = is_place S.image (sizes S) (n + spaced_size (a ∷ args)) (j + spaced_size (a ∷ args)) (omega arith) (omega arith) q3.going;
+        going = is_place S.image (sizes S) (n + spaced_size (in_frame r.holds.function) (a ∷ args)) (j + spaced_size (in_frame r.holds.function) (a ∷ args)) (omega arith) (omega arith) q3.going;
       }
 
   line_said : (args : List Printed) → AllByRecursion (λ a. HoldsKind r.frame.locations a.kind a.variable) args → AllByRecursion (λ a. IsSlotOf r.holds.function (Variable a.variable)) args →
-      Said 0 (here S s t r) [] (print_words args) → Said (print_size args) (here S s t r + print_size args) (line_of (map (read_printed r.frame.locations) args)) []
+      Said 0 (here S s t r) [] (print_words (in_frame r.holds.function) args) → Said (print_size (in_frame r.holds.function) args) (here S s t r + print_size (in_frame r.holds.function) args) (line_of (map (read_printed r.frame.locations) args)) []
   unfolding spaced_text
   line_said [] held used q = let q1 = line_end_said q in record { core = q1.core; says = q1.says; going = is_place S.image (sizes S) 2 (here S s t r + 2) (omega arith) refl q1.going }
   line_said (a ∷ args) held used q =
@@ -181,10 +181,10 @@ module _ (S : Setting) (s : bril.State) (t : State) (r : RunsAlike S s t) where
       record {
         core = q3.core;
         says = subst (Says r.core q3.core) texts q3.says;
-        going = is_place S.image (sizes S) (print_size (a ∷ args)) (here S s t r + print_size (a ∷ args)) (omega arith) (omega arith) q3.going;
+        going = is_place S.image (sizes S) (print_size (in_frame r.holds.function) (a ∷ args)) (here S s t r + print_size (in_frame r.holds.function) (a ∷ args)) (omega arith) (omega arith) q3.going;
       }
 
-  print_some : (args : List Printed) → 2 ≤ print_size args
+  print_some : (args : List Printed) → 2 ≤ print_size (in_frame r.holds.function) args
   print_some [] = omega arith
   print_some (a ∷ args) = omega arith
 
@@ -193,16 +193,16 @@ module _ (S : Setting) (s : bril.State) (t : State) (r : RunsAlike S s t) where
   print_moves args item held used dear =
       let h = r.holds in
       let k = here S s t r in
-      let has = S.laid.items r.frame.function h.function r.frame.point (Print args) h.there item in
-      let q = line_said args held used (record { core = r.core; says = says_nothing r.core; going = begin S.image (sizes S) k r.core (print_words args) has }) in
-      let there = S.laid.next r.frame.function h.function r.frame.point (Print args) h.there item in
+      let has = its_words S r.frame.function h.function r.frame.point (Print args) h.there item in
+      let q = line_said args held used (record { core = r.core; says = says_nothing r.core; going = begin S.image (sizes S) k r.core (print_words (in_frame r.holds.function) args) has }) in
+      let there = next_entry S r.frame.function h.function r.frame.point (Print args) h.there item in
       let some = print_some args in
-      let count : print_size args ≡ suc (print_size args - 1) = omega arith in
-      let at : k + print_size args ≡ entry_at S.slots r.frame.function (suc r.frame.point) = omega arith in
+      let count : print_size (in_frame r.holds.function) args ≡ suc (print_size (in_frame r.holds.function) args - 1) = omega arith in
+      let at : k + print_size (in_frame r.holds.function) args ≡ entry_of S r.frame.function (suc r.frame.point) = omega arith in
       let vs = map (read_printed r.frame.locations) args in
-      arrive S s t r (prints S.p S.limits vs r.frame r.older s) (advanced r.frame) r.older q.core (print_size args - 1) (step_at S s t r (Some (Print args)) item) refl r.running
+      arrive S s t r (prints S.p S.limits vs r.frame r.older s) (advanced r.frame) r.older q.core (print_size (in_frame r.holds.function) args - 1) (step_at S s t r (Some (Print args)) item) refl r.running
       (ap (λ l. l ++ line_of vs) r.printed ∙ sym q.says.printed)
       (moved_holds S (length s.blocks) r.frame r.older r.core h (suc r.frame.point) q.core q.says.stack q.says.same)
       (memory_by S s.blocks r.core q.core q.says.table q.says.cells q.says.blocks q.says.given r.memory)
       (guards_by S s t r q.core q.says.arrivals)
-      (landed (suc (print_size args - 1)) (entry_at S.slots r.frame.function (suc r.frame.point)) count at q.going) (let most = print_most args in omega arith)
+      (landed (suc (print_size (in_frame r.holds.function) args - 1)) (entry_of S r.frame.function (suc r.frame.point)) count at q.going) (let most = print_most (in_frame r.holds.function) args in omega arith)

@@ -6,8 +6,9 @@ use Rattle.bril_tree.specs.declared.value.Value.{Value}
 use Rattle.bril_tree.specs.Run.{state_after}
 use Rattle.bril_tree.specs.State as bril
 pub use Rattle.rv64_blocks.specs.Memory.{HasWord, BlockHolds, LiesIn, MemoryHolds}
-use Rattle.rv64_layout.specs.Image.{end_start, entry_at}
-use Rattle.rv64_layout.specs.Items.{level_word, return_word}
+use Rattle.rv64_layout.specs.Image.{end_start}
+use Rattle.rv64_layout.specs.Homes.{in_frame, level_word}
+use Rattle.rv64_layout.specs.Items.{return_word}
 use Rattle.rv64_stretches.specs.Core.{Core, machine}
 use Rattle.rv64_words.specs.declared.image.GuardAt.{GuardAt}
 use Rattle.rv64_words.specs.Region.{stack_base}
@@ -18,7 +19,7 @@ use Rattle.slot_code.specs.declared.slots.SlotFunction.{SlotFunction}
 use Rattle.slot_code.specs.Laws.{IsSlotOf}
 use Rattle.slot_code.specs.Numbering.{slot_number}
 use Rattle.rv64_emit_laws.proofs.Ready.{gives_back, slot_value}
-use Rattle.rv64_emit_laws.proofs.Setting.{Setting, sizes, widest}
+use Rattle.rv64_emit_laws.proofs.Setting.{Setting, entry_of, sizes, widest}
 
 -- Each slot of the function that holds a value has its word: slot j the one `first + j` words above the frame's base. The slots
 -- as they are begin at word 2.
@@ -45,7 +46,7 @@ pub record Waits (S : Setting) (made above base depth : ℕ) (f : bril.Frame) (s
   pub below : ℕ
   pub ends : below + function.words ≡ base
   pub deep : below ≤ depth * widest S
-  pub way : stack base ≡ 4 * return_word function (entry_at S.slots f.function f.point) args
+  pub way : stack base ≡ 4 * return_word (in_frame function) function (entry_of S f.function f.point) args
   pub old : stack (base + 1) ≡ stack_base + 8 * below
   pub slots : SlotsHold made function below 2 f.locations stack
 
@@ -87,7 +88,7 @@ module _ (S : Setting) where
     pub running : s.ended ≡ None
     pub core : Core
     pub done : ℕ
-    pub state : t ≡ machine (entry_at S.slots frame.function frame.point) core done
+    pub state : t ≡ machine (entry_of S frame.function frame.point) core done
     pub holds : FramesHold S (length s.blocks) frame older core
     pub memory : MemoryHolds (sizes S) s.blocks core.table core.cells core.blocks core.given
     pub guards : GuardsHold S.image.guards s.failures core.arrivals

@@ -7,8 +7,7 @@ use Rattle.bril_tree.specs.Step.{step, advanced, with_locations}
 use Rattle.rv64_blocks.specs.Laws.{CoreHolds}
 use Rattle.rv64_blocks.proofs.Allocating.{word_known}
 use Rattle.rv64_blocks.proofs.Lists.{changed_length}
-use Rattle.rv64_layout.specs.Image.{entry_at}
-use Rattle.rv64_layout.specs.Items.{level_word, slot_word}
+use Rattle.rv64_layout.specs.Homes.{level_word, slot_word}
 use Rattle.rv64_layout.proofs.Bounding.{store_most}
 use Rattle.rv64_stretches.specs.Core.{Core, put}
 use Rattle.rv64_stretches.proofs.Going.{Going}
@@ -24,7 +23,7 @@ use Rattle.slot_code.specs.Numbering.{slot_number}
 use Rattle.rv64_emit_laws.proofs.Arriving.{Moves, arrive, guards_by, here}
 use Rattle.rv64_emit_laws.proofs.Holding.{SameFrame, filled_holds, slot_reaches}
 use Rattle.rv64_emit_laws.proofs.Relation.{HasWord, SlotsHold, SavesHold, Waits, OlderHold, FramesHold, RunsAlike}
-use Rattle.rv64_emit_laws.proofs.Setting.{Setting, sizes}
+use Rattle.rv64_emit_laws.proofs.Setting.{Setting, entry_of, sizes}
 use Rattle.rv64_emit_laws.proofs.Stretches.{landed, store_some, two_not_six, with_end}
 
 -- ---- more blocks were made
@@ -91,7 +90,7 @@ module _ (S : Setting) (s : bril.State) (t : State) (r : RunsAlike S s t) where
 
   pub fills_moves : (blocks : List bril.Block) (dest : Slot) (v : Value) (rs : ℕ) (e : Core) (n j : ℕ) → length s.blocks ≤ length blocks → IsSlotOf r.holds.function dest → rs ≢ 6 → HasWord (length blocks) v (e.registers rs) → KeepsFrames e →
       CoreHolds (sizes S) blocks e → step S.p S.limits s ≡ fills S.p S.slots S.limits dest v r.frame r.older (record s { blocks = blocks }) →
-      Going S.image (sizes S) (here S s t r) r.core n j e (store_words rs (slot_word r.holds.function dest)) → j + store_size (slot_word r.holds.function dest) ≡ entry_at S.slots r.frame.function (suc r.frame.point) →
+      Going S.image (sizes S) (here S s t r) r.core n j e (store_words rs (slot_word r.holds.function dest)) → j + store_size (slot_word r.holds.function dest) ≡ entry_of S r.frame.function (suc r.frame.point) →
       n + 3 ≤ S.cost → Moves S s t
   fills_moves blocks dest v rs e n j le in_dest not_six word keeps memory stepped g there cheap =
       let h = frames_more (length s.blocks) (length blocks) le S r.frame r.older r.core r.holds in
@@ -107,4 +106,4 @@ module _ (S : Setting) (s : bril.State) (t : State) (r : RunsAlike S s t) where
       let three = store_most o in
       let count : n + store_size o ≡ suc (n + store_size o - 1) = omega arith in
       arrive S s t r (fills S.p S.slots S.limits dest v r.frame r.older (record s { blocks = blocks })) f r.older last (n + store_size o - 1) stepped refl r.running (r.printed ∙ sym keeps.printed) holds
-      memory (guards_by S s t r e keeps.arrivals) (landed (suc (n + store_size o - 1)) (entry_at S.slots r.frame.function (suc r.frame.point)) count there stored) (omega arith)
+      memory (guards_by S s t r e keeps.arrivals) (landed (suc (n + store_size o - 1)) (entry_of S r.frame.function (suc r.frame.point)) count there stored) (omega arith)

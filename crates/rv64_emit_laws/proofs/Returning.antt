@@ -8,7 +8,8 @@ use Rattle.bril_tree.specs.Memory.{is_live_any}
 use Rattle.bril_tree.specs.State as bril
 use Rattle.bril_tree.specs.Step.{advanced, ends, faulted, gives, step, with_locations}
 use Rattle.bril_tree.proofs.Elements.{All-at}
-use Rattle.rv64_layout.specs.Image.{entry_at, end_start, start_at}
+use Rattle.rv64_layout.specs.Image.{end_start}
+use Rattle.rv64_layout.specs.Homes.{in_frame}
 use Rattle.rv64_layout.specs.Items.{before_call, leave_words, pass_words, result_size, result_words, return_word, room_words}
 use Rattle.rv64_layout.proofs.Bounding.{load_most, store_most}
 use Rattle.rv64_layout.proofs.Lengths.{frame_up_length, pass_length}
@@ -37,7 +38,7 @@ use Rattle.rv64_emit_laws.proofs.Frames.{slots_fit}
 use Rattle.rv64_emit_laws.proofs.Operands.{loaded_keeps, loads, read_is, word_held}
 use Rattle.rv64_emit_laws.proofs.Ready.{ReturnFinds, gives_back}
 use Rattle.rv64_emit_laws.proofs.Relation.{FramesHold, HasWord, OlderHold, RunsAlike, SavesHold, SlotsHold, Waits}
-use Rattle.rv64_emit_laws.proofs.Setting.{Setting, sizes}
+use Rattle.rv64_emit_laws.proofs.Setting.{Setting, entry_of, its_words, next_entry, sizes, start_of}
 use Rattle.rv64_emit_laws.proofs.Sources.{source_at}
 use Rattle.rv64_emit_laws.proofs.Stretches.{ends_in, landed, store_some, two_not_six, with_end}
 
@@ -48,25 +49,25 @@ ten_not_six = λ e. absurd (omega arith)
 
 module _ (S : Setting) (made above base depth : ℕ) (f : bril.Frame) (stack : ℕ → ℕ) (w : Waits S made above base depth f stack) where
   abbrev pub way_back : ℕ
-  way_back = return_word w.function (entry_at S.slots f.function f.point) w.args
+  way_back = return_word (in_frame w.function) w.function (entry_of S f.function f.point) w.args
 
   -- the words after the jump of its call
-  resumes_has : HasAt S.image way_back (result_words w.dest)
+  resumes_has : HasAt S.image way_back (result_words (in_frame w.function) w.dest)
   resumes_has =
-      let k = entry_at S.slots f.function f.point in
+      let k = entry_of S f.function f.point in
       let g = w.function in
-      let jump = Jal 1 (jump_offset (k + before_call g w.args) (start_at S.slots above)) in
-      let all = S.laid.items f.function g f.point (Call w.dest above w.args) w.there w.here in
-      let one = HasAt-rest S.image k room_words (pass_words g 0 w.args ++ (frame_up_words g.words ++ jump ∷ result_words w.dest)) all in
-      let two = HasAt-rest S.image (k + length room_words) (pass_words g 0 w.args) (frame_up_words g.words ++ jump ∷ result_words w.dest) one in
-      let three = HasAt-rest S.image (k + length room_words + length (pass_words g 0 w.args)) (frame_up_words g.words) (jump ∷ result_words w.dest) two in
-      let passed = pass_length g 0 w.args in
+      let jump = Jal 1 (jump_offset (k + before_call (in_frame g) g w.args) (start_of S above)) in
+      let all = its_words S f.function g f.point (Call w.dest above w.args) w.there w.here in
+      let one = HasAt-rest S.image k room_words (pass_words (in_frame g) g 0 w.args ++ (frame_up_words g.words ++ jump ∷ result_words (in_frame w.function) w.dest)) all in
+      let two = HasAt-rest S.image (k + length room_words) (pass_words (in_frame g) g 0 w.args) (frame_up_words g.words ++ jump ∷ result_words (in_frame w.function) w.dest) one in
+      let three = HasAt-rest S.image (k + length room_words + length (pass_words (in_frame g) g 0 w.args)) (frame_up_words g.words) (jump ∷ result_words (in_frame w.function) w.dest) two in
+      let passed = pass_length (in_frame g) g 0 w.args in
       let upped = frame_up_length g.words in
-      let at : k + length room_words + length (pass_words g 0 w.args) + length (frame_up_words g.words) + 1 ≡ way_back = omega arith in
-      subst (λ i. HasAt S.image i (result_words w.dest)) at three.1
+      let at : k + length room_words + length (pass_words (in_frame g) g 0 w.args) + length (frame_up_words g.words) + 1 ≡ way_back = omega arith in
+      subst (λ i. HasAt S.image i (result_words (in_frame w.function) w.dest)) at three.1
 
-  resumes_next : way_back + result_size w.dest ≡ entry_at S.slots f.function (suc f.point)
-  resumes_next = let there = S.laid.next f.function w.function f.point (Call w.dest above w.args) w.there w.here in omega arith
+  resumes_next : way_back + result_size (in_frame w.function) w.dest ≡ entry_of S f.function (suc f.point)
+  resumes_next = let there = next_entry S f.function w.function f.point (Call w.dest above w.args) w.there w.here in omega arith
 
   resumes_small : way_back < 2 ^ 20
   resumes_small = let next = resumes_next in let few = S.laid.few_entries f.function (suc f.point) in omega arith
@@ -153,7 +154,7 @@ module _ (S : Setting) (s : bril.State) (t : State) (r : RunsAlike S s t) (dear 
       runs = leaving (way_back S (length s.blocks) r.frame.function r.holds.base (length older) caller r.core.stack w) keeps (ap (λ m. m r.holds.base) keeps.stack ∙ w.way)
           (resumes_small S (length s.blocks) r.frame.function r.holds.base (length older) caller r.core.stack w) g
 
-      on : Going S.image (sizes S) (here S s t r) r.core (n + 1 + 1 + 1 + 1) (way_back S (length s.blocks) r.frame.function r.holds.base (length older) caller r.core.stack w) (left_core e) (result_words w.dest)
+      on : Going S.image (sizes S) (here S s t r) r.core (n + 1 + 1 + 1 + 1) (way_back S (length s.blocks) r.frame.function r.holds.base (length older) caller r.core.stack w) (left_core e) (result_words (in_frame w.function) w.dest)
       on = onward S.image (sizes S) runs (resumes_has S (length s.blocks) r.frame.function r.holds.base (length older) caller r.core.stack w)
 
       longer : length r.older ≡ suc (length older)
@@ -182,7 +183,7 @@ module _ (S : Setting) (s : bril.State) (t : State) (r : RunsAlike S s t) (dear 
         older_hold = subst (OlderHold S (length s.blocks) caller.function w.below older) (sym keeps.stack) older_hold;
       }
 
-      next_is : way_back S (length s.blocks) r.frame.function r.holds.base (length older) caller r.core.stack w + result_size w.dest ≡ entry_at S.slots caller.function (suc caller.point)
+      next_is : way_back S (length s.blocks) r.frame.function r.holds.base (length older) caller r.core.stack w + result_size (in_frame w.function) w.dest ≡ entry_of S caller.function (suc caller.point)
       next_is = resumes_next S (length s.blocks) r.frame.function r.holds.base (length older) caller r.core.stack w
 
       same : SameFrame (left_core e) (left_core e)
@@ -191,27 +192,27 @@ module _ (S : Setting) (s : bril.State) (t : State) (r : RunsAlike S s t) (dear 
       by_dest : (dest : Option ℕ) → w.dest ≡ dest → Moves S s t
       by_dest None d =
           let count : n + 1 + 1 + 1 + 1 ≡ suc (n + 3) = omega arith in
-          let at : way_back S (length s.blocks) r.frame.function r.holds.base (length older) caller r.core.stack w ≡ entry_at S.slots caller.function (suc caller.point) = (let none : result_size w.dest ≡ 0 = ap result_size d in let next = next_is in omega arith) in
+          let at : way_back S (length s.blocks) r.frame.function r.holds.base (length older) caller r.core.stack w ≡ entry_of S caller.function (suc caller.point) = (let none : result_size (in_frame w.function) w.dest ≡ 0 = ap (result_size (in_frame w.function)) d in let next = next_is in omega arith) in
           let u = gives S.p S.limits None v caller older s in
           arrive S s t r u (advanced (with_locations caller.locations caller)) older (left_core e) (n + 3) (stepped ∙ ap (λ o. gives S.p S.limits o v caller older s) d) refl r.running (r.printed ∙ sym keeps.printed)
           (moved_holds S (length s.blocks) caller older (left_core e) waits_holds (suc caller.point) (left_core e) refl same)
-          (memory_kept S s.blocks r.core e keeps r.memory) (guards_kept S s t r e keeps) (landed (suc (n + 3)) (entry_at S.slots caller.function (suc caller.point)) count at on) (omega arith)
+          (memory_kept S s.blocks r.core e keeps r.memory) (guards_kept S s t r e keeps) (landed (suc (n + 3)) (entry_of S caller.function (suc caller.point)) count at on) (omega arith)
       by_dest (Some x) d =
           let o = 2 + x in
           let in_g = resumes_dest S (length s.blocks) r.frame.function r.holds.base (length older) caller r.core.stack w x d in
           let value = word (w.takes x d) in
           let last = put (addressed (left_core e) 2 o) (w.below + o) (e.registers 10) in
           let reach = slot_reaches S (length s.blocks) caller older (left_core e) waits_holds (left_core e) (Variable x) refl in_g in
-          let on_x = subst (λ dest. Going S.image (sizes S) (here S s t r) r.core (n + 1 + 1 + 1 + 1) (way_back S (length s.blocks) r.frame.function r.holds.base (length older) caller r.core.stack w) (left_core e) (result_words dest)) d on in
+          let on_x = subst (λ dest. Going S.image (sizes S) (here S s t r) r.core (n + 1 + 1 + 1 + 1) (way_back S (length s.blocks) r.frame.function r.holds.base (length older) caller r.core.stack w) (left_core e) (result_words (in_frame w.function) dest)) d on in
           let stored = frame_store S.image (sizes S) 2 10 w.below o two_not_six ten_not_six reach (with_end (store_words 10 o) on_x) in
           let one = store_some o in
           let three = store_most o in
           let count : n + 1 + 1 + 1 + 1 + store_size o ≡ suc (n + 3 + store_size o) = omega arith in
-          let at : way_back S (length s.blocks) r.frame.function r.holds.base (length older) caller r.core.stack w + store_size o ≡ entry_at S.slots caller.function (suc caller.point) = (let size : result_size w.dest ≡ store_size o = ap result_size d in let next = next_is in omega arith) in
+          let at : way_back S (length s.blocks) r.frame.function r.holds.base (length older) caller r.core.stack w + store_size o ≡ entry_of S caller.function (suc caller.point) = (let size : result_size (in_frame w.function) w.dest ≡ store_size o = ap (result_size (in_frame w.function)) d in let next = next_is in omega arith) in
           let u = gives S.p S.limits (Some x) v caller older s in
           arrive S s t r u _ older last (n + 3 + store_size o) (stepped ∙ ap (λ y. gives S.p S.limits y v caller older s) d) refl r.running (r.printed ∙ sym keeps.printed)
           (filled_holds S (length s.blocks) caller older (left_core e) waits_holds (Variable x) v (e.registers 10) last in_g value refl (record { zero_register = refl; frame_register = refl; frames_left = refl }))
-          (memory_kept S s.blocks r.core e keeps r.memory) (guards_kept S s t r e keeps) (landed (suc (n + 3 + store_size o)) (entry_at S.slots caller.function (suc caller.point)) count at stored) (omega arith)
+          (memory_kept S s.blocks r.core e keeps r.memory) (guards_kept S s t r e keeps) (landed (suc (n + 3 + store_size o)) (entry_of S caller.function (suc caller.point)) count at stored) (omega arith)
 
   -- the newest frame gives a value back, which register 10 has where its function returns one
   returned_moves : {n j : ℕ} {e : Core} → (v : Value) → step S.p S.limits s ≡ slot_returns S.p S.slots S.limits v r.older s → Going S.image (sizes S) (here S s t r) r.core n j e leave_words → Keeps r.core e →
@@ -231,7 +232,7 @@ module _ (S : Setting) (s : bril.State) (t : State) (r : RunsAlike S s t) (dear 
   return_moves None item none used =
       let h = r.holds in
       let k = here S s t r in
-      let g0 = begin S.image (sizes S) k r.core leave_words (S.laid.items r.frame.function h.function r.frame.point (Return None) h.there item) in
+      let g0 = begin S.image (sizes S) k r.core leave_words (its_words S r.frame.function h.function r.frame.point (Return None) h.there item) in
       returned_moves (read_returned r.frame.locations None) (step_at S s t r (Some (Return None)) item) g0 (keeps_itself r.core) (λ e. absurd (clash (sym e ∙ none))) (omega arith)
     where
       clash : true ≡ false → ⊥
@@ -241,7 +242,7 @@ module _ (S : Setting) (s : bril.State) (t : State) (r : RunsAlike S s t) (dear 
       let k = here S s t r in
       let o = 2 + x in
       let in_g = used x refl in
-      let g0 = begin S.image (sizes S) k r.core (load_words 10 o ++ leave_words) (S.laid.items r.frame.function h.function r.frame.point (Return (Some x)) h.there item) in
+      let g0 = begin S.image (sizes S) k r.core (load_words 10 o ++ leave_words) (its_words S r.frame.function h.function r.frame.point (Return (Some x)) h.there item) in
       let g1 = loads S s t r (Variable x) 10 refl in_g g0 in
       let word = word_held S s t r r.core (Variable x) held.value refl in_g held.is in
       let size = load_most o in

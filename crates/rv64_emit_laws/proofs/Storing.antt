@@ -7,7 +7,6 @@ use Rattle.bril_tree.specs.State as bril
 use Rattle.bril_tree.specs.Step.{step, advances, at_point, stores}
 use Rattle.rv64_blocks.specs.Laws.{CoreHolds}
 use Rattle.rv64_blocks.proofs.Storing.{holding, store_keeps, stored_cells}
-use Rattle.rv64_layout.specs.Image.{entry_at}
 use Rattle.rv64_layout.proofs.Bounding.{load_most}
 use Rattle.rv64_stretches.specs.Core.{Core, written, put_cell}
 use Rattle.rv64_stretches.proofs.Going.{Going, begin}
@@ -27,7 +26,7 @@ use Rattle.rv64_emit_laws.proofs.Pointing.{Pointed, AtCell, access_moves, at_cel
 use Rattle.rv64_emit_laws.proofs.Ready.{HoldsPointer, HoldsValue}
 use Rattle.rv64_emit_laws.proofs.Relation.{FramesHold, HasWord, RunsAlike}
 use Rattle.rv64_emit_laws.proofs.Remembering.{same_made}
-use Rattle.rv64_emit_laws.proofs.Setting.{Setting, sizes}
+use Rattle.rv64_emit_laws.proofs.Setting.{Setting, entry_of, its_words, next_entry, sizes}
 use Rattle.rv64_emit_laws.proofs.Stretches.{landed}
 
 module _ (S : Setting) (s : bril.State) (t : State) (r : RunsAlike S s t) (dear : 128 ≤ S.cost) (pointer value : ℕ) (item : slice_get r.holds.function.code r.frame.point ≡ Some (Store pointer value)) (points : HoldsPointer r.frame.locations pointer)
@@ -44,7 +43,7 @@ module _ (S : Setting) (s : bril.State) (t : State) (r : RunsAlike S s t) (dear 
 
   pointed : Pointed S s t r pointer points in_pointer (cell_words ++ (mark_cell_words ++ (load_words 5 (2 + value) ++ store_cell_words)))
   pointed =
-      let has = S.laid.items r.frame.function r.holds.function r.frame.point (Store pointer value) r.holds.there item in
+      let has = its_words S r.frame.function r.holds.function r.frame.point (Store pointer value) r.holds.there item in
       loads S s t r (Variable pointer) 5 refl in_pointer (begin S.image (sizes S) (here S s t r) r.core (load_words 5 (2 + pointer) ++ (cell_words ++ rest)) has)
 
   module _ (n : ℕ) (there : cell_at s.blocks (Ptr points.block points.offset) ≡ Some n) (a : AtCell S s t r pointer points in_pointer n (mark_cell_words ++ (load_words 5 (2 + value) ++ store_cell_words))) where
@@ -89,14 +88,14 @@ module _ (S : Setting) (s : bril.State) (t : State) (r : RunsAlike S s t) (dear 
         let first_size = load_most (2 + pointer) in
         let size = load_most (2 + value) in
         let few = a.few in
-        let next = S.laid.next r.frame.function r.holds.function r.frame.point (Store pointer value) r.holds.there item in
+        let next = next_entry S r.frame.function r.holds.function r.frame.point (Store pointer value) r.holds.there item in
         let moved = moved_holds S (length s.blocks) r.frame r.older r.core r.holds (suc r.frame.point) last k.stack (record { zero_register = k.zero_register; frame_register = k.frame_register; frames_left = k.frames_left }) in
         let frames = subst (λ m. FramesHold S m (at_point (suc r.frame.point) r.frame) r.older last) (sym (same_made (holding n holds.value) s.blocks points.block)) moved in
         let count : a.steps + 1 + 1 + load_size (2 + value) + 1 ≡ suc (a.steps + 1 + 1 + load_size (2 + value)) = omega arith in
-        let place : here S s t r + load_size (2 + pointer) + 14 + 1 + 1 + load_size (2 + value) + 1 ≡ entry_at S.slots r.frame.function (suc r.frame.point) = omega arith in
+        let place : here S s t r + load_size (2 + pointer) + 14 + 1 + 1 + load_size (2 + value) + 1 ≡ entry_of S r.frame.function (suc r.frame.point) = omega arith in
         arrive S s t r (advances S.p S.limits r.frame r.older (record s { blocks = changed_block s.blocks points.block (holding n holds.value) })) (at_point (suc r.frame.point) r.frame) r.older last (a.steps + 1 + 1 + load_size (2 + value))
         (stepped (Some n) there) refl r.running (r.printed ∙ sym k.printed) frames memory (guards_by S s t r last k.arrivals)
-        (landed (suc (a.steps + 1 + 1 + load_size (2 + value))) (entry_at S.slots r.frame.function (suc r.frame.point)) count place going) (omega arith)
+        (landed (suc (a.steps + 1 + 1 + load_size (2 + value))) (entry_of S r.frame.function (suc r.frame.point)) count place going) (omega arith)
 
   by_cell : (o : Option ℕ) → cell_at s.blocks (Ptr points.block points.offset) ≡ o → Moves S s t
   by_cell None e = access_moves S s t r pointer points in_pointer rest dear pointed e (stepped None e)

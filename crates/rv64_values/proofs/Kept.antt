@@ -8,7 +8,7 @@ use Rattle.rv64_words.specs.declared.word.Word.{Word}
 use Rattle.rv64_words.specs.Environment.{fault_of}
 use Rattle.rv64_words.specs.Region.{Sizes}
 use Rattle.rv64_stretches.specs.Core.{Core, written, Keeps, is_home_register}
-use Rattle.rv64_stretches.proofs.Cores.{assigned_other}
+use Rattle.rv64_stretches.proofs.Cores.{apart_from, assigned_other}
 use Rattle.rv64_stretches.specs.Runs.{HasAt, AreComputing, effects, Runs}
 use Rattle.rv64_stretches.proofs.Going.{Going, begin, plains}
 use Rattle.rv64_sequences.specs.Sequences.{fault_words}
@@ -32,10 +32,6 @@ keeps_on c e f a b = record {
   printed = b.printed ∙ a.printed;
   arrivals = b.arrivals ∙ a.arrivals;
 }
-
--- a register in which a location may be isn't one of the others
-apart_from : (r s : ℕ) → is_home_register r ≡ false → IsTrue (is_home_register s) → s ≢ r
-apart_from r s none some same = absurd (true≢false (sym some ∙ (ap is_home_register same ∙ none)))
 
 -- a register that no other code relies on gets a value
 pub keeps_written : (c e : Core) (r v : ℕ) → eqb 0 (suc r) ≡ false → eqb 2 (suc r) ≡ false → eqb 8 (suc r) ≡ false → is_home_register (suc r) ≡ false → Keeps c e → Keeps c (written e (suc r) v)
