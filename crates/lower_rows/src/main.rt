@@ -10,6 +10,7 @@
 //     graph SOURCE           of the first function's flow graph the edges, from, leaving and to; and of each point the open
 //                            sites, the newest first, and where the edges to it come from
 //     live SOURCE            of each point of the first function the variables and the shadows that are live there
+//     placed SOURCE          the home of each location of the first function, and for each level what speculations save there
 //     constants SOURCE       the table of constants of the first function: what each variable and its shadow hold, and which points
 //                            are reached
 //     steps SOURCE           the words of each function's frame; each step of the run of `main`: the answer, where the run then
@@ -34,6 +35,7 @@ mod constants;
 mod graph;
 mod live;
 mod machine;
+mod placed;
 mod profiles;
 mod program;
 mod row;

@@ -6,6 +6,7 @@ use crate::constants::add_constants;
 use crate::graph::add_graph;
 use crate::live::add_live;
 use crate::machine::{add_run, add_word};
+use crate::placed::add_placed;
 use crate::profiles::{add_profile, add_record};
 use crate::program::add_numbered;
 use crate::ssa::add_ssa;
@@ -61,6 +62,7 @@ fn add_answer(
         "numbered" => add_numbered(alloc, source, shown),
         "graph" => add_graph(alloc, source, shown),
         "live" => add_live(alloc, source, shown),
+        "placed" => add_placed(alloc, source, shown),
         "constants" => add_constants(alloc, source, shown),
         "steps" => add_steps(alloc, source, shown),
         "profile" => add_profile(alloc, source, shown),

@@ -1,0 +1,12 @@
+pub mod Calling
+pub mod Different
+pub mod Filling
+pub mod Known
+pub mod Living
+pub mod Needing
+pub mod Opening
+pub mod Saving
+pub mod Sites
+pub mod Spans
+pub mod Speculating
+pub mod Steady

@@ -1,0 +1,8 @@
+use Rattle.placement_laws.proofs.Different.{different_placed, separate_placed}
+use Rattle.placement_laws.proofs.laws.homes_are_placed.Goals as goal
+
+pub returns : goal.returns
+returns c = record {
+  separate = λ p k f g accepted there lowered homes saved. separate_placed p k f g accepted there lowered homes saved;
+  different = λ p k f g accepted there lowered homes saved. different_placed p k f g accepted there lowered homes saved;
+}

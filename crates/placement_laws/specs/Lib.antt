@@ -1,0 +1,9 @@
+pub mod Holding
+pub mod Homes
+pub mod Laws
+pub mod Needed
+pub mod Open
+pub mod Placed
+pub mod Saved
+pub mod Search
+pub mod Spans

@@ -1,0 +1,34 @@
+-- Which locations a speculation saves: those that its guards may have to give back.
+use Rattle.std.specs.Prelude.{◌↔◌, ℕ, ◌≤◌, Bool, IsTrue, List, length, slice_get}
+use Rattle.std.specs.List.{Contains}
+use Rattle.bril_tree.specs.declared.numbered.Instr.{Instr}
+use Rattle.bril_tree.specs.Assigned.{assigns_at}
+use Rattle.bril_tree.specs.Edge.{Branch, branches_at}
+use Rattle.bril_tree.specs.Live.{IsLive}
+use Rattle.bril_tree.specs.Operand.{Location}
+use Rattle.bril_tree.specs.Sites.{sites_of}
+use Rattle.bril_tree.specs.Walk.{IsWalk, end_of}
+use Rattle.placement_laws.specs.Open.{IsWayOut, StaysOpen}
+
+-- The location is live at the label of a guard whose newest site has the level, and some walk assigns it between the two: by
+-- the item at the end of `walk`, where the site is open, which it stays from the branch `on` to the guard. What an inner abort
+-- takes back counts.
+pub record IsSaved (code : List Instr) (level : ℕ) (x : Location) : Type 0 where
+  pub way : Branch
+  pub out : IsWayOut code level way
+  pub live : IsLive code x way.to
+  pub walk : List Branch
+  pub is : IsWalk code walk
+  pub has : level ≤ length (sites_of code walk)
+  pub assigns : Contains (assigns_at (slice_get code (end_of walk))) x
+  pub on : Branch
+  pub at : Contains (branches_at code (end_of walk)) on
+  pub stays : StaysOpen code level way.from on.to
+
+-- the table tells of each location that is saved that it is, and perhaps of others
+abbrev pub HasAllSaved : List Instr → (ℕ → Location → Bool) → Type 0
+HasAllSaved code saved = (level : ℕ) (x : Location) → IsSaved code level x → IsTrue (saved level x)
+
+-- The table tells exactly which locations are saved at which levels.
+abbrev pub TellsSaved : List Instr → (ℕ → Location → Bool) → Type 0
+TellsSaved code saved = (level : ℕ) (x : Location) → IsTrue (saved level x) ↔ IsSaved code level x

@@ -1,0 +1,17 @@
+// Laws of homes, and of what speculations save. Each function states some, and does nothing when it is called.
+
+ghost use Rattle.placement_laws.specs.Laws.{DifferentHomesArePlaced, ReachedLeadOut, SavedAreAssignedInside, SeparateHomesArePlaced};
+
+/// Homes don't clash where only locations share them whose spans don't meet, or where no two locations have one home.
+pub fn homes_are_placed()
+    ensures separate { SeparateHomesArePlaced }
+    ensures different { DifferentHomesArePlaced }
+{}
+
+/// A location is saved at a level exactly where some item assigns it from which a walk, on which the speculation stays
+/// open, leads to a guard at whose label it is live; and a search back from the guards of a label finds exactly the points
+/// from which such walks lead to them.
+pub fn saved_are_found()
+    ensures saved { SavedAreAssignedInside }
+    ensures found { ReachedLeadOut }
+{}

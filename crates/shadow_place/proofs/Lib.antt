@@ -1,0 +1,9 @@
+pub mod Depths
+pub mod Filters
+pub mod Guards
+pub mod Marking
+pub mod Placing
+pub mod Programs
+pub mod Registering
+pub mod Saving
+pub mod Telling

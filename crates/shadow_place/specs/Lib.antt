@@ -1,0 +1,5 @@
+pub mod Arcs
+pub mod Marks
+pub mod Placement
+pub mod Registers
+pub mod Tables

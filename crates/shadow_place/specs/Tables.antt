@@ -1,0 +1,46 @@
+-- Homes and what is saved, as they are kept.
+use Rattle.std.specs.Prelude.{ℕ, Bool, false, List, Option, Some, None, slice_get, slice_index_or}
+use Rattle.bril_tree.specs.declared.home.Home.{Home}
+use Rattle.bril_tree.specs.declared.home.Home.TheVariants.{Frame}
+use Rattle.bril_tree.specs.Operand.{Location, Variable, Shadow}
+use Rattle.flow_graph.specs.Location.{number_of}
+use Rattle.shadow_place.specs.declared.placed.FunctionHomes.{FunctionHomes}
+use Rattle.shadow_place.specs.declared.placed.Placed.{Placed}
+
+abbrev pub home_if : Option Home → Home
+home_if None = Frame 0
+home_if (Some home) = home
+
+-- the home of a location in a function with these homes
+abbrev pub home_of : FunctionHomes → Location → Home
+home_of homes (Variable x) = home_if (slice_get homes.variables.items x)
+home_of homes (Shadow x) = home_if (slice_get homes.shadows.items x)
+
+-- whether a number is marked in a row
+abbrev pub is_marked : List Bool → ℕ → Bool
+is_marked row number = slice_index_or row number false
+
+-- in a row that may be there
+abbrev pub is_marked_if : Option (List Bool) → ℕ → Bool
+is_marked_if None number = false
+is_marked_if (Some row) number = is_marked row number
+
+-- whether a location is saved at a level in a function with these homes
+abbrev pub is_saved_of : FunctionHomes → ℕ → Location → Bool
+is_saved_of homes level x = is_marked_if (slice_get homes.saved.items level) (number_of x)
+
+abbrev pub home_in_row : Option FunctionHomes → Location → Home
+home_in_row None x = Frame 0
+home_in_row (Some homes) x = home_of homes x
+
+abbrev pub is_saved_in_row : Option FunctionHomes → ℕ → Location → Bool
+is_saved_in_row None level x = false
+is_saved_in_row (Some homes) level x = is_saved_of homes level x
+
+-- the home of a location in the function of a number
+abbrev pub home_in : Placed → ℕ → Location → Home
+home_in placed func x = home_in_row (slice_get placed.funcs.items func) x
+
+-- whether it is saved there at a level
+abbrev pub is_saved_in : Placed → ℕ → ℕ → Location → Bool
+is_saved_in placed func level x = is_saved_in_row (slice_get placed.funcs.items func) level x
