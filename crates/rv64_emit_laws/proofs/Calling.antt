@@ -2,13 +2,20 @@
 use Rattle.std.proofs.Common.{◌≡◌, ◌≢◌, ℕ, suc, ◌+◌, ◌-◌, ◌*◌, ◌%◌, ◌^◌, ◌<◌, ◌≤◌, ◌⊎◌, inl, inr, Bool, true, false, cond, eqb, ltb, not, refl, sym, ap, ◌∙◌, subst, arith, List, [], ◌∷◌, ◌++◌, le_trans, length, map, mul-le-mul_right, Option, None, Some, pos, negsuc}
 use Rattle.std.specs.Prelude.{slice_get}
 use Rattle.std.specs.List.{AllByRecursion}
+use Rattle.bril_tree.specs.Edge as edge
+use Rattle.bril_tree.specs.Live.{IsLive, Later}
+use Rattle.bril_tree.specs.Locals.{location_value}
+use Rattle.bril_tree.specs.Operand.{Location}
+use Rattle.bril_tree.specs.Operand as location
 use Rattle.std.proofs.lemmas.Bool.Decides.{nat_tests}
 use Rattle.bril_tree.specs.declared.limits.End.TheVariants.{Faulted}
 use Rattle.bril_tree.specs.declared.limits.Fault.TheVariants as fault
 use Rattle.bril_tree.specs.declared.value.Value.{Value}
 use Rattle.bril_tree.specs.State as bril
-use Rattle.bril_tree.specs.Step.{faulted, new_frame, step, with_frames}
-use Rattle.rv64_layout.specs.Homes.{in_frame}
+use Rattle.placement_laws.specs.Homes.{slot_of}
+use Rattle.placement_laws.specs.Needed.{IsNeeded, Live}
+use Rattle.bril_tree.specs.Step.{code_of, faulted, new_frame, step, with_frames}
+use Rattle.rv64_layout.specs.Homes.{in_frame, slot_word}
 use Rattle.rv64_layout.specs.Items.{before_call, call_words, pass_size, pass_words, result_words, return_word}
 use Rattle.rv64_layout.proofs.Bounding.{frame_up_most, pass_most}
 use Rattle.rv64_stretches.specs.Core.{Core, put, written}
@@ -25,17 +32,18 @@ use Rattle.rv64_words.specs.declared.word.Word.TheVariants.{Jal, Sd}
 use Rattle.rv64_words.specs.Mnemonics.{addi}
 use Rattle.rv64_words.specs.Region.{stack_base}
 use Rattle.rv64_words.specs.State.{State, assigned}
-use Rattle.slot_code.specs.declared.item.Slot.{Slot}
-use Rattle.slot_code.specs.declared.item.Slot.TheVariants.{Variable, Shadow}
+use Rattle.slot_code.specs.declared.item.Slot.TheVariants.{Variable}
 use Rattle.slot_code.specs.declared.item.SlotItem.TheVariants.{Call}
 use Rattle.slot_code.specs.declared.slots.SlotFunction.{SlotFunction}
 use Rattle.slot_code.specs.Laws.{IsSlotOf}
-use Rattle.slot_code.specs.Numbering.{slot_number}
+use Rattle.rv64_emit_laws.specs.Homes.{saved_at}
+use Rattle.rv64_emit_laws.proofs.Acting.{each_live, goes}
 use Rattle.rv64_emit_laws.proofs.Arriving.{Moves, arrive, faults_moves, guards_by, here, memory_by, step_at}
-use Rattle.rv64_emit_laws.proofs.Frames.{arguments_hold, deeper, older_kept, slots_fit, slots_kept, variables_fit}
+use Rattle.rv64_emit_laws.proofs.Frames.{arguments_hold, deeper, live_fits, older_kept, slots_fit, variables_fit}
 use Rattle.rv64_emit_laws.proofs.Holding.{source, stack_few, stack_room}
+use Rattle.rv64_emit_laws.proofs.Operands.{reads}
 use Rattle.rv64_emit_laws.proofs.Passing.{Passed, arguments_passed}
-use Rattle.rv64_emit_laws.proofs.Ready.{CallFinds, slot_value}
+use Rattle.rv64_emit_laws.proofs.Ready.{CallFinds}
 use Rattle.rv64_emit_laws.proofs.Relation.{FramesHold, HasWord, RunsAlike}
 use Rattle.rv64_emit_laws.proofs.Setting.{Setting, entry_of, its_words, next_entry, sizes, start_of, widest}
 use Rattle.rv64_emit_laws.proofs.Sources.{SourceAt, source_at}
@@ -87,8 +95,7 @@ module _ (S : Setting) (s : bril.State) (t : State) (r : RunsAlike S s t) (dest 
     zero_is = zero_is;
     left = left;
     deep = deeper h.base func.words (widest S) (length r.older) h.deep (S.laid.frames r.frame.function func h.there);
-    slots = record { at = new_slot };
-    saves = tt;
+    holds = record { homes_hold = record { at = new_home }; saves_hold = tt; steady = tt };
     older_hold = (
       record {
         function = func;
@@ -103,7 +110,9 @@ module _ (S : Setting) (s : bril.State) (t : State) (r : RunsAlike S s t) (dest 
         deep = h.deep;
         way = ap (λ m. m n) stack ∙ assigned_here (assigned e.stack (n + 1) (stack_base + 8 * h.base)) n (4 * return_word (in_frame func) func (here S s t r) args);
         old = ap (λ m. m (n + 1)) stack ∙ top_next e.stack n (stack_base + 8 * h.base) (4 * return_word (in_frame func) func (here S s t r) args);
-        slots = slots_kept (length s.blocks) origin.function func origin.is h.base 2 r.frame.locations r.core.stack last.stack (λ k low high. under k (omega (arith, fit))) h.slots;
+        kept = λ x v live own held. (let fits = live_fits S r.frame func h.there x (suc r.frame.point) live in
+            subst (HasWord (length s.blocks) v) (sym (under (h.base + slot_word func (slot_of x)) (omega arith)))
+            (h.holds.homes_hold.at x v (Live (Later r.frame.point (edge.onward r.frame.point) (inl (goes S r.frame func h.there (Call dest function args) item (edge.onward r.frame.point) (inl refl), refl)) own live)) held));
       },
       older_kept S (length s.blocks) r.frame.function h.base r.older r.core.stack last.stack (λ k low. under k (omega (arith, fit))) h.older_hold,
     );
@@ -146,9 +155,9 @@ module _ (S : Setting) (s : bril.State) (t : State) (r : RunsAlike S s t) (dest 
           subst (HasWord (length s.blocks) v) (ap e.stack place ∙ sym (over x)) (passed.holds w.0 v w.2)
       argument x v (inr w) = absurd (none_some w)
 
-      new_slot : (slot : Slot) (v : Value) → IsSlotOf callee slot → slot_value (new_frame function values).locations slot ≡ Some v → HasWord (length s.blocks) v (last.stack (n + (2 + slot_number callee.shadow_numbers slot)))
-      new_slot (Variable x) v in_g held = argument x v (arguments_hold values 0 bril.no_values x v held)
-      new_slot (Shadow x) v in_g held = absurd (none_some held)
+      new_home : (x : Location) (v : Value) → IsNeeded (code_of S.p function) (saved_at (in_frame callee)) 0 x → location_value (new_frame function values).locations x ≡ Some v → HasWord (length s.blocks) v (last.stack (n + slot_word callee (slot_of x)))
+      new_home (location.Variable x) v needed held = argument x v (arguments_hold values 0 bril.no_values x v held)
+      new_home (location.Shadow x) v needed held = absurd (none_some held)
 
   -- the core when the frame was made, and the way back kept in its first word
   abbrev made_core : Core → ℕ → Core
@@ -251,7 +260,7 @@ module _ (S : Setting) (s : bril.State) (t : State) (r : RunsAlike S s t) (dest 
       let few_skipped : length (fault_words 8) < 2 ^ 20 = omega arith in
       let g1 = taken S.image (sizes S) (fault_words 8) (addi 8 8 (negsuc 0) ∷ (pass_words (in_frame func) func 0 args ++ last_words)) small_k few_skipped some g0 in
       let g2 = plain S.image (sizes S) tt g1 in
-      let q = arguments_passed S s t r callee.words within (stack_few S) args 0 counted_core last_words refl (λ x lt. refl) (omega arith) finds.holds used g2 in
+      let q = arguments_passed S s t r callee.words within (stack_few S) args 0 counted_core last_words refl (λ x lt. refl) (omega arith) finds.holds used (each_live (λ x. IsLive (code_of S.p r.frame.function) x r.frame.point) args (reads S s t r (Call dest function args) item)) g2 in
       made_moves finds q.core q.passed one_left within (omega arith) q.going
 
   pub call_moves : CallFinds S.p S.slots r.frame dest function args → AllByRecursion (λ a. IsSlotOf r.holds.function (Variable a)) args → Moves S s t

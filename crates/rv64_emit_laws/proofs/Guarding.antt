@@ -1,5 +1,5 @@
 -- The item that takes a speculation back where its condition doesn't hold.
-use Rattle.std.proofs.Common.{◌≡◌, ◌≢◌, ℕ, suc, ◌+◌, ◌-◌, ◌*◌, ◌^◌, ◌<◌, ◌≤◌, Bool, true, false, ◌&&◌, cond, eqb, leb, refl, sym, ap, ◌∙◌, subst, arith, List, [], ◌∷◌, length, Some, pos, negsuc}
+use Rattle.std.proofs.Common.{◌≡◌, ◌≢◌, ℕ, suc, ◌+◌, ◌-◌, ◌*◌, ◌^◌, ◌<◌, ◌≤◌, Bool, true, false, ◌&&◌, cond, eqb, leb, inr, refl, sym, ap, ◌∙◌, subst, arith, List, [], ◌∷◌, length, Some, pos, negsuc, inl}
 use Rattle.std.specs.Prelude.{slice_get}
 use Rattle.std.proofs.lemmas.Bool.{and_parts, eqb-true}
 use Rattle.std.proofs.lemmas.Bool.Decides.{nat_tests}
@@ -7,6 +7,8 @@ use Rattle.std.proofs.lemmas.Option.{same_Some}
 use Rattle.bril_tree.specs.declared.value.Value.TheVariants.{Bool as Boolean}
 use Rattle.bril_tree.specs.Outcome.{bool_of}
 use Rattle.bril_tree.specs.State as bril
+use Rattle.bril_tree.specs.Edge.{onward}
+use Rattle.bril_tree.specs.Operand as location
 use Rattle.bril_tree.specs.State.{counted}
 use Rattle.bril_tree.specs.Step.{advances, at_point, dropped, saved, step, with_failure}
 use Rattle.bril_tree.specs.Value.{word_of}
@@ -31,11 +33,13 @@ use Rattle.rv64_words.specs.State.{State}
 use Rattle.slot_code.specs.declared.item.Slot.TheVariants.{Variable}
 use Rattle.slot_code.specs.declared.item.SlotItem.TheVariants.{Guard}
 use Rattle.slot_code.specs.Laws.{IsSlotOf}
+use Rattle.rv64_emit_laws.proofs.Acting.{goes, leads}
+use Rattle.rv64_emit_laws.proofs.Standing.{standing}
 use Rattle.slot_code.specs.Meaning.{slot_guards}
 use Rattle.rv64_emit_laws.proofs.Arriving.{Moves, arrive, goes_moves, here, memory_by, step_at}
 use Rattle.rv64_emit_laws.proofs.Depths.{frame_dear, now_typed, saves_are, saves_fit}
 use Rattle.rv64_emit_laws.proofs.Holding.{SameFrame, stack_few}
-use Rattle.rv64_emit_laws.proofs.Operands.{loaded, loaded_keeps, loads, read_is, word_held}
+use Rattle.rv64_emit_laws.proofs.Operands.{loaded, loaded_keeps, loads, read_is, reads, word_held}
 use Rattle.rv64_emit_laws.proofs.Ready.{HoldsBool}
 use Rattle.rv64_emit_laws.proofs.Relation.{GuardsHold, RunsAlike}
 use Rattle.rv64_emit_laws.proofs.Setting.{Setting, entry_of, its_words, next_entry, sizes, homes_are}
@@ -143,7 +147,7 @@ module _ (S : Setting) (s : bril.State) (t : State) (r : RunsAlike S s t) (condi
       let k = here S s t r in
       let o = 2 + condition in
       let cs = restore_size (level_moves (in_frame g) g (depth_at g r.frame.point)) in
-      let word = word_held S s t r r.core (Variable condition) (Boolean held.truth) refl in_g held.is in
+      let word = word_held S s t r r.core (Variable condition) (Boolean held.truth) refl (reads S s t r (Guard condition abort_to) item (location.Variable condition) (inl refl)) held.is in
       let differ : eqb (r.core.stack (h.base + o)) (r.core.registers 0) ≡ false = ap (λ y. eqb y (r.core.registers 0)) (word.is ∙ ap (λ y. word_of (Boolean y)) truth) ∙ ap (eqb 1) h.zero_is in
       let g2 = not_taken S.image (sizes S) differ (condition_loaded held in_g) in
       let next = next_entry S r.frame.function g r.frame.point (Guard condition abort_to) h.there item in
@@ -153,7 +157,7 @@ module _ (S : Setting) (s : bril.State) (t : State) (r : RunsAlike S s t) (condi
       let size = load_most o in
       let count : 0 + load_size o + 1 + 1 ≡ suc (load_size o + 1) = omega arith in
       let at : k + load_size o + 1 + (2 + cs) ≡ entry_of S r.frame.function (suc r.frame.point) = omega arith in
-      goes_moves S s t r (advances S.p S.limits r.frame r.older s) (suc r.frame.point) (loaded S s t r r.core 5 o) (load_size o + 1)
+      goes_moves S s t r (advances S.p S.limits r.frame r.older s) (suc r.frame.point) (leads S r.frame h.function h.there (Guard condition abort_to) item (onward r.frame.point) (inl refl) refl refl) (loaded S s t r r.core 5 o) (load_size o + 1)
       (guard_step held held.truth held.is ∙ ap (λ b. slot_guards S.p S.slots S.limits b abort_to r.frame r.older s) truth) refl r.running refl refl refl
       (at_place (entry_of S r.frame.function (suc r.frame.point)) at (in_steps (suc (load_size o + 1)) count runs)) (omega arith) condition_keeps
 
@@ -169,7 +173,8 @@ module _ (S : Setting) (s : bril.State) (t : State) (r : RunsAlike S s t) (condi
       ap (λ xs. at_point abort_to (record r.frame { locations = saved xs r.frame.locations; saves = dropped xs })) saves_is in
       let same : SameFrame r.core (loaded S s t r r.core 5 (2 + condition)) = record { zero_register = condition_keeps.zero_register; frame_register = condition_keeps.frame_register; frames_left = condition_keeps.frames_left } in
       let holds =
-      restored_holds S (length s.blocks) r.frame r.older r.core r.holds newest rest saves_is abort_to (loaded S s t r r.core 5 (2 + condition)) e (arrived (here S s t r + front) e) condition_keeps.stack same restored refl
+      restored_holds S (length s.blocks) r.frame r.older r.core r.holds (standing S s t r) newest rest saves_is abort_to
+      (goes S r.frame r.holds.function r.holds.there (Guard condition abort_to) item (record { from = r.frame.point; to = abort_to; aborts = true }) (inr (inl refl))) (loaded S s t r r.core 5 (2 + condition)) e (arrived (here S s t r + front) e) condition_keeps.stack same restored refl
       (record { zero_register = refl; frame_register = refl; frames_left = refl }) in
       arrive S s t r u f r.older (arrived (here S s t r + front) e) n stepped (ap (λ x. x ∷ r.older) frame_is) r.running (r.printed ∙ sym restored.rest.printed) holds
       (memory_by S s.blocks r.core e restored.rest.table restored.rest.cells restored.rest.blocks restored.rest.given r.memory) (counts_held e restored.rest.arrivals) runs cheap
@@ -193,7 +198,7 @@ module _ (S : Setting) (s : bril.State) (t : State) (r : RunsAlike S s t) (condi
       let split_more : n * suc l ≡ n * l + n = grind arith in
       let back = level_moves (in_frame g) g (suc l) in
       let cs = restore_size back in
-      let word = word_held S s t r r.core (Variable condition) (Boolean held.truth) refl in_g held.is in
+      let word = word_held S s t r r.core (Variable condition) (Boolean held.truth) refl (reads S s t r (Guard condition abort_to) item (location.Variable condition) (inl refl)) held.is in
       let same_words : eqb (r.core.stack (h.base + o)) (r.core.registers 0) ≡ true = ap (λ y. eqb y (r.core.registers 0)) (word.is ∙ ap (λ y. word_of (Boolean y)) truth) ∙ ap (eqb 0) h.zero_is in
       let low = S.laid.few_entries r.frame.function r.frame.point in
       let low_next = S.laid.few_entries r.frame.function (suc r.frame.point) in

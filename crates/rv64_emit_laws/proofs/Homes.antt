@@ -16,7 +16,8 @@ use Rattle.slot_code.specs.Laws.{IsSlotOf}
 use Rattle.slot_code.specs.Lowered.{IsLowered, IsLoweredFunction}
 use Rattle.slot_code.specs.Numbering.{is_used}
 use Rattle.slot_code.proofs.Counting.{code_uses}
-use Rattle.rv64_emit_laws.specs.Homes.{homes_of, slot_of}
+use Rattle.rv64_emit_laws.specs.Homes.{homes_of}
+use Rattle.placement_laws.specs.Homes.{slot_of}
 use Rattle.rv64_emit_laws.proofs.Frames.{slot_fits}
 use Rattle.rv64_emit_laws.proofs.Sources.{lowered_at}
 

@@ -16,10 +16,16 @@ use Rattle.bril_tree.specs.Accepted.{IsPlainType}
 use Rattle.bril_tree.specs.Outcome.{block_of}
 use Rattle.bril_tree.specs.ProgramForm.{main_name}
 use Rattle.bril_tree.specs.Run.{Suits, first_state, main_types, types_of}
+use Rattle.bril_tree.specs.Locals.{location_value}
+use Rattle.bril_tree.specs.Operand.{Location}
+use Rattle.bril_tree.specs.Operand as location
 use Rattle.bril_tree.specs.State as bril
-use Rattle.bril_tree.specs.Step.{new_frame}
+use Rattle.bril_tree.specs.Step.{code_of, new_frame}
+use Rattle.placement_laws.specs.Homes.{slot_of}
+use Rattle.placement_laws.specs.Needed.{IsNeeded}
 use Rattle.bril_tree.specs.Value.{IsOfDepth, word_of}
 use Rattle.bril_tree.proofs.Elements.{zip-long}
+use Rattle.rv64_layout.specs.Homes.{in_frame, slot_word}
 use Rattle.rv64_layout.specs.Image.{head_words}
 use Rattle.rv64_stretches.specs.Core.{Core, machine}
 use Rattle.rv64_stretches.specs.Runs.{Runs}
@@ -33,13 +39,9 @@ use Rattle.rv64_words.specs.Arithmetic.{extended_32, moved_by}
 use Rattle.rv64_words.specs.Machine.{machine_step}
 use Rattle.rv64_words.specs.Region.{stack_base}
 use Rattle.rv64_words.specs.State.{assigned, start, words_of}
-use Rattle.slot_code.specs.declared.item.Slot.{Slot}
-use Rattle.slot_code.specs.declared.item.Slot.TheVariants.{Variable, Shadow}
-use Rattle.slot_code.specs.Laws.{IsSlotOf}
-use Rattle.slot_code.specs.Numbering.{slot_number}
+use Rattle.rv64_emit_laws.specs.Homes.{saved_at}
 use Rattle.rv64_emit_laws.proofs.Frames.{arguments_hold, inside, slots_fit, variables_fit}
 use Rattle.rv64_emit_laws.proofs.Holding.{stack_room}
-use Rattle.rv64_emit_laws.proofs.Ready.{slot_value}
 use Rattle.rv64_emit_laws.proofs.Relation.{FramesHold, HasWord, MemoryHolds, Related, run}
 use Rattle.rv64_emit_laws.proofs.Setting.{Setting, entry_of, sizes, start_of, widest}
 use Rattle.rv64_emit_laws.proofs.Sources.{LoweredAt, lowered_at}
@@ -138,8 +140,7 @@ module _ (S : Setting) where
     zero_is = zero_is;
     left = (let some = S.limits.some_frames in omega arith);
     deep = omega arith;
-    slots = record { at = slot };
-    saves = tt;
+    holds = record { homes_hold = record { at = at_home }; saves_hold = tt; steady = tt };
     older_hold = ap (λ m. m 0) stack;
   }
     where
@@ -156,9 +157,9 @@ module _ (S : Setting) where
           }
       argument x v (inr w) = absurd (none_some w)
 
-      slot : (a : Slot) (v : Value) → IsSlotOf main_function.function a → slot_value (new_frame S.p.main S.args).locations a ≡ Some v → HasWord 0 v (e.stack (0 + (2 + slot_number main_function.function.shadow_numbers a)))
-      slot (Variable x) v in_g held = argument x v (arguments_hold S.args 0 bril.no_values x v held)
-      slot (Shadow x) v in_g held = absurd (none_some held)
+      at_home : (x : Location) (v : Value) → IsNeeded (code_of S.p S.p.main) (saved_at (in_frame main_function.function)) 0 x → location_value (new_frame S.p.main S.args).locations x ≡ Some v → HasWord 0 v (e.stack (0 + slot_word main_function.function (slot_of x)))
+      at_home (location.Variable x) v needed held = argument x v (arguments_hold S.args 0 bril.no_values x v held)
+      at_home (location.Shadow x) v needed held = absurd (none_some held)
 
   begun_from : {e : Core} → Runs S.image (sizes S) 0 first_core 4 (entry_of S S.p.main 0) e → e.registers 2 ≡ stack_base → e.registers 0 ≡ 0 → e.registers 8 ≡ S.limits.frames - 1 →
       e.stack ≡ assigned (words_of (0 ∷ 0 ∷ map word_of S.args)) 0 12 → e.table ≡ (λ _. 0) → e.cells ≡ (λ _. 0) → e.blocks ≡ 0 → e.given ≡ 0 → e.arrivals ≡ (λ _. 0) → e.printed ≡ [] → Begun

@@ -1,5 +1,5 @@
 -- What an item over slots reads is what its instruction reads.
-use Rattle.std.proofs.Common.{◌≡◌, ℕ, suc, Bool, true, false, cond, List, [], ◌∷◌, length, map, Option, Some, None, refl, ap, arith}
+use Rattle.std.proofs.Common.{◌≡◌, ℕ, Bool, true, false, cond, List, [], ◌∷◌, length, map, Option, Some, None, refl, ap, arith}
 use Rattle.std.specs.Prelude.{is_some, slice_get, slice_index}
 use Rattle.std.proofs.lemmas.Bool.{false≢true}
 use Rattle.bril_tree.specs.declared.numbered.Instr.{Instr}
@@ -10,7 +10,7 @@ use Rattle.bril_tree.specs.declared.operation.Op.{Op}
 use Rattle.bril_tree.specs.declared.operation.Op.TheVariants as op
 use Rattle.bril_tree.specs.declared.types.Ty.{Ty}
 use Rattle.bril_tree.specs.FunctionForm.{both_or_neither, dest_is_typed, listed}
-use Rattle.bril_tree.specs.Operand.{Location, Variable, locations_read, reading_of, reads_of}
+use Rattle.bril_tree.specs.Operand.{Variable, locations_read, reading_of, reads_of}
 use Rattle.bril_tree.specs.Shape.{is_action_shaped, is_shaped, shape_of}
 use Rattle.bril_tree.proofs.Shapes.{shape-parts}
 use Rattle.slot_code.specs.Flow.{slot_reads}
