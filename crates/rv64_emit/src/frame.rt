@@ -39,6 +39,14 @@ pub fn slot_word(func: &SlotFunction, slot: Slot) -> u64
     2 + func.number(slot) as u64
 }
 
+/// The home of a variable: its own word of the frame.
+pub fn variable_home(variable: u32) -> Home
+    requires { 2 + variable < frame_reach }
+    ensures { result ≡ Home.Frame (2 + variable) }
+{
+    Home::Frame(2 + variable)
+}
+
 /// The home of a slot: its own word of the frame.
 pub fn slot_home(func: &SlotFunction, slot: Slot) -> Home
     requires { homes.slot_word func.now slot < frame_reach }

@@ -8,7 +8,7 @@ ghost use Rattle.rv64_layout.specs.Items.{item_size, item_words};
 ghost use Rattle.rv64_words.specs.Encoding.{encoded};
 ghost use Rattle.rv64_words.specs.Region.{most_words};
 
-use crate::frame::{slot_word, word_of};
+use crate::frame::{slot_home, slot_word, variable_home, word_of};
 use crate::items::{
     put_alloc, put_binary_item, put_branch, put_call, put_commit, put_copy, put_free, put_guard,
     put_jump, put_load_item, put_print, put_return, put_speculate, put_store_item, put_unary_item,
@@ -46,25 +46,40 @@ pub fn put_item(
 {
     match item {
         SlotItem::Pass => Ok(()),
-        SlotItem::Constant { dest, value } => put_value(code, *dest, *value),
-        SlotItem::Copy { dest, from } => put_copy(code, func, *dest, *from),
+        SlotItem::Constant { dest, value } => put_value(code, variable_home(*dest), *value),
+        SlotItem::Copy { dest, from } => {
+            put_copy(code, slot_home(func, *dest), slot_home(func, *from))
+        },
         SlotItem::Unary {
             operation,
             dest,
             operand,
-        } => put_unary_item(code, *operation, *dest, *operand),
+        } => put_unary_item(
+            code,
+            *operation,
+            variable_home(*dest),
+            variable_home(*operand),
+        ),
         SlotItem::Binary {
             operation,
             dest,
             first,
             second,
-        } => { put_binary_item(code, *operation, *dest, *first, *second) }
+        } => {
+            put_binary_item(
+                code,
+                *operation,
+                variable_home(*dest),
+                variable_home(*first),
+                variable_home(*second),
+            )
+        }
         SlotItem::Jump { to } => put_jump(code, place(entries, *to)),
         SlotItem::Branch {
             condition,
             then_to,
             else_to,
-        } => { put_branch(code, entries, *condition, *then_to, *else_to) }
+        } => { put_branch(code, entries, variable_home(*condition), *then_to, *else_to) }
         SlotItem::Call {
             dest,
             function,
@@ -72,10 +87,22 @@ pub fn put_item(
         } => { put_call(code, func, *dest, place(starts, *function), args.as_slice()) }
         SlotItem::Return { value } => put_return(code, func, *value),
         SlotItem::Print { args } => put_print(code, func, args.as_slice()),
-        SlotItem::Alloc { dest, count } => put_alloc(code, *dest, *count),
-        SlotItem::Free { pointer } => put_free(code, *pointer),
-        SlotItem::Store { pointer, value } => put_store_item(code, *pointer, *value),
-        SlotItem::Load { dest, pointer } => put_load_item(code, *dest, *pointer),
+        SlotItem::Alloc { dest, count } => put_alloc(
+            code,
+            variable_home(*dest),
+            variable_home(*count),
+        ),
+        SlotItem::Free { pointer } => put_free(code, variable_home(*pointer)),
+        SlotItem::Store { pointer, value } => put_store_item(
+            code,
+            variable_home(*pointer),
+            variable_home(*value),
+        ),
+        SlotItem::Load { dest, pointer } => put_load_item(
+            code,
+            variable_home(*dest),
+            variable_home(*pointer),
+        ),
         SlotItem::Speculate => put_speculate(code, func, depth),
         SlotItem::Commit => put_commit(code),
         SlotItem::Guard {

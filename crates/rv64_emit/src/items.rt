@@ -8,27 +8,26 @@ ghost use Rattle.rv64_emit.specs.Tables.{table_at};
 ghost use Rattle.rv64_layout.specs.Homes as homes;
 ghost use Rattle.rv64_layout.specs.Homes.{in_frame, level_moves, moves_from};
 ghost use Rattle.rv64_layout.specs.Items as items;
-ghost use Rattle.rv64_sequences.specs.Moves.{save_words, restore_words};
+ghost use Rattle.rv64_sequences.specs.Moves.{fetch_words, fetch_size, fill_words, save_words, restore_words};
 ghost use Rattle.rv64_sequences.specs.Operations.{unary_words, binary_words, alloc_words, free_words, cell_words, load_cell_words, mark_cell_words, store_cell_words};
 ghost use Rattle.rv64_sequences.specs.Sequences.{constant_words, load_words, store_words, jump_offset, load_size};
 ghost use Rattle.rv64_words.specs.Calls.{call_number};
 ghost use Rattle.rv64_words.specs.Encoding.{encoded};
 ghost use Rattle.rv64_words.specs.Mnemonics as mnemonics;
 ghost use Rattle.rv64_words.specs.Region.{most_words};
-ghost use Rattle.rv64_layout.specs.Fits.{frame_reach};
+ghost use Rattle.rv64_layout.specs.Fits.{IsReached, frame_reach};
 
 use crate::assembly::{addi, branch, jalr, ld, sd};
-use crate::frame::{
-    argument_word, level_word, next_level_word, slot_home, slot_word, variable_word, word_of,
-};
+use crate::frame::{argument_word, level_word, next_level_word, slot_home, variable_home, word_of};
 use crate::operations::{put_binary, put_cell, put_load_cell, put_mark_cell, put_unary};
 use crate::places::place;
 use crate::registers::{ARGUMENT, FIRST, FRAME, FRAMES_LEFT, LINK, SECOND, ZERO};
 use crate::sequences::{
-    environment_call, fault, jump, number, put, put_constant, put_frame_up, put_load, put_restore,
-    put_save, put_store,
+    environment_call, fault, fetch_size_of, jump, number, put, put_constant, put_fetch, put_fill,
+    put_frame_up, put_restore, put_save, put_store,
 };
-use crate::sizes::{back_size, before_call_size, guard_front_size, load_variable_size};
+use crate::sizes::{back_size, before_call_size, guard_front_size};
+use bril_tree::home::Home;
 use bril_tree::limits::Fault;
 use bril_tree::operators::{BinaryOp, UnaryOp};
 use bril_tree::sequence::Seq;
@@ -42,71 +41,66 @@ use std::alloc::AllocError;
 
 // ---- values
 
-/// A value into a variable.
+/// A value into a home.
 #[tactic(auto, using(crate::proofs::Appending::put_then))]
-pub fn put_value(code: &mut Seq<u32>, dest: u32, value: Value) -> Result<(), AllocError>
-    requires { 2 + dest < frame_reach }
+pub fn put_value(code: &mut Seq<u32>, dest: Home, value: Value) -> Result<(), AllocError>
+    requires { IsReached dest }
     ensures { OnOk result (code.new ≡ code.old ++ map encoded
-        (constant_words 5 (values.word_of value) ++ store_words 5 (2 + dest))) }
+        (constant_words 5 (values.word_of value) ++ fill_words 5 dest)) }
 {
     put_constant(code, FIRST, word_of(value))?;
-    put_store(code, FIRST, variable_word(dest))
+    put_fill(code, FIRST, dest)
 }
 
-/// A slot into another.
+/// What one home has into another.
 #[tactic(auto, using(crate::proofs::Appending::put_then))]
-pub fn put_copy(
-    code: &mut Seq<u32>,
-    func: &SlotFunction,
-    dest: Slot,
-    from: Slot,
-) -> Result<(), AllocError>
-    requires dest { homes.slot_word func.now dest < frame_reach }
-    requires from { homes.slot_word func.now from < frame_reach }
+pub fn put_copy(code: &mut Seq<u32>, dest: Home, from: Home) -> Result<(), AllocError>
+    requires dest { IsReached dest }
+    requires from { IsReached from }
     ensures { OnOk result (code.new ≡ code.old ++ map encoded
-        (load_words 5 (homes.slot_word func.now from) ++ store_words 5 (homes.slot_word func.now dest))) }
+        (fetch_words 5 from ++ fill_words 5 dest)) }
 {
-    put_load(code, FIRST, slot_word(func, from))?;
-    put_store(code, FIRST, slot_word(func, dest))
+    put_fetch(code, FIRST, from)?;
+    put_fill(code, FIRST, dest)
 }
 
-/// What an operation computes from one variable into another.
+/// What an operation computes from one home into another.
 #[tactic(auto, using(crate::proofs::Appending::put_then))]
 pub fn put_unary_item(
     code: &mut Seq<u32>,
     operation: UnaryOp,
-    dest: u32,
-    operand: u32,
+    dest: Home,
+    operand: Home,
 ) -> Result<(), AllocError>
-    requires dest { 2 + dest < frame_reach }
-    requires operand { 2 + operand < frame_reach }
+    requires dest { IsReached dest }
+    requires operand { IsReached operand }
     ensures { OnOk result (code.new ≡ code.old ++ map encoded
-        (load_words 5 (2 + operand) ++ (unary_words operation ++ store_words 5 (2 + dest)))) }
+        (fetch_words 5 operand ++ (unary_words operation ++ fill_words 5 dest))) }
 {
-    put_load(code, FIRST, variable_word(operand))?;
+    put_fetch(code, FIRST, operand)?;
     put_unary(code, operation)?;
-    put_store(code, FIRST, variable_word(dest))
+    put_fill(code, FIRST, dest)
 }
 
-/// What an operation computes from two variables into a third.
+/// What an operation computes from two homes into a third.
 #[tactic(auto, using(crate::proofs::Appending::put_then))]
 pub fn put_binary_item(
     code: &mut Seq<u32>,
     operation: BinaryOp,
-    dest: u32,
-    first: u32,
-    second: u32,
+    dest: Home,
+    first: Home,
+    second: Home,
 ) -> Result<(), AllocError>
-    requires dest { 2 + dest < frame_reach }
-    requires first { 2 + first < frame_reach }
-    requires second { 2 + second < frame_reach }
+    requires dest { IsReached dest }
+    requires first { IsReached first }
+    requires second { IsReached second }
     ensures { OnOk result (code.new ≡ code.old ++ map encoded
-        (load_words 5 (2 + first) ++ (load_words 7 (2 + second) ++ (binary_words operation ++ store_words 5 (2 + dest))))) }
+        (fetch_words 5 first ++ (fetch_words 7 second ++ (binary_words operation ++ fill_words 5 dest)))) }
 {
-    put_load(code, FIRST, variable_word(first))?;
-    put_load(code, SECOND, variable_word(second))?;
+    put_fetch(code, FIRST, first)?;
+    put_fetch(code, SECOND, second)?;
     put_binary(code, operation)?;
-    put_store(code, FIRST, variable_word(dest))
+    put_fill(code, FIRST, dest)
 }
 
 // ---- jumps
@@ -137,25 +131,25 @@ fn ways(at: u32, then_to: u32, else_to: u32) -> [Word; 3]
     ]
 }
 
-/// A jump to one item where a variable holds true, else to another. The table has the words at which items begin.
+/// A jump to one item where a home has true, else to another. The table has the words at which items begin.
 #[tactic(auto, using(crate::proofs::Appending::put_then))]
 pub fn put_branch(
     code: &mut Seq<u32>,
     entries: &[u32],
-    condition: u32,
+    condition: Home,
     then_to: u32,
     else_to: u32,
 ) -> Result<(), AllocError>
-    requires here { length code.old + (load_size (2 + condition) + 3) ≤ most_words }
-    requires condition { 2 + condition < frame_reach }
+    requires here { length code.old + (fetch_size condition + 3) ≤ most_words }
+    requires condition { IsReached condition }
     requires some_entries { 0 < length entries.now }
     requires few_entries { (k : ℕ) → table_at entries.now k ≤ most_words }
-    ensures { let at = length code.old + load_size (2 + condition) in OnOk result (code.new ≡ code.old ++ map encoded
-        (load_words 5 (2 + condition) ++ mnemonics.beq 5 0 (pos 8) ∷ Word.Jal 0 (jump_offset (at + 1) (table_at entries.now then_to))
+    ensures { let at = length code.old + fetch_size condition in OnOk result (code.new ≡ code.old ++ map encoded
+        (fetch_words 5 condition ++ mnemonics.beq 5 0 (pos 8) ∷ Word.Jal 0 (jump_offset (at + 1) (table_at entries.now then_to))
         ∷ Word.Jal 0 (jump_offset (at + 2) (table_at entries.now else_to)) ∷ [])) }
 {
-    let at = code.as_slice().len() as u32 + load_variable_size(condition);
-    put_load(code, FIRST, variable_word(condition))?;
+    let at = code.as_slice().len() as u32 + fetch_size_of(condition);
+    put_fetch(code, FIRST, condition)?;
     put(
         code,
         &ways(at + 1, place(entries, then_to), place(entries, else_to)),
@@ -181,7 +175,7 @@ fn put_arguments(code: &mut Seq<u32>, func: &SlotFunction, args: &[u32]) -> Resu
     ensures { OnOk result (code.new ≡ code.old ++ map encoded (items.pass_words (in_frame func.now) func.now 0 args.now)) }
 {
     for (k, arg) in args.iter().enumerate() {
-        put_load(code, FIRST, variable_word(*arg))?;
+        put_fetch(code, FIRST, variable_home(*arg))?;
         put_store(code, FIRST, argument_word(func, k))?;
     }
     Ok(())
@@ -193,7 +187,7 @@ fn put_result(code: &mut Seq<u32>, func: &SlotFunction, dest: Option<u32>) -> Re
     ensures { OnOk result (code.new ≡ code.old ++ map encoded (items.result_words (in_frame func.now) dest)) }
 {
     match dest {
-        Some(dest) => put_store(code, ARGUMENT, variable_word(dest)),
+        Some(dest) => put_fill(code, ARGUMENT, variable_home(dest)),
         None => Ok(()),
     }
 }
@@ -246,7 +240,7 @@ fn put_returned(
     ensures { OnOk result (code.new ≡ code.old ++ map encoded (items.returned_words (in_frame func.now) value)) }
 {
     match value {
-        Some(variable) => put_load(code, ARGUMENT, variable_word(variable)),
+        Some(variable) => put_fetch(code, ARGUMENT, variable_home(variable)),
         None => Ok(()),
     }
 }
@@ -284,7 +278,7 @@ fn put_printed(code: &mut Seq<u32>, func: &SlotFunction, printed: Printed) -> Re
     requires { 2 + printed.variable < frame_reach }
     ensures { OnOk result (code.new ≡ code.old ++ map encoded (items.value_words (in_frame func.now) printed)) }
 {
-    put_load(code, ARGUMENT, variable_word(printed.variable))?;
+    put_fetch(code, ARGUMENT, variable_home(printed.variable))?;
     put(code, &environment_call(print_call(printed.kind)))
 }
 
@@ -319,56 +313,56 @@ pub fn put_print(
 
 // ---- memory
 
-/// A new block of so many cells as a variable holds; another gets its pointer.
+/// A new block of so many cells as one home has; another gets its pointer.
 #[tactic(auto, using(crate::proofs::Appending::put_then))]
-pub fn put_alloc(code: &mut Seq<u32>, dest: u32, count: u32) -> Result<(), AllocError>
-    requires dest { 2 + dest < frame_reach }
-    requires count { 2 + count < frame_reach }
+pub fn put_alloc(code: &mut Seq<u32>, dest: Home, count: Home) -> Result<(), AllocError>
+    requires dest { IsReached dest }
+    requires count { IsReached count }
     ensures { OnOk result (code.new ≡ code.old ++ map encoded
-        (load_words 10 (2 + count) ++ (alloc_words ++ store_words 10 (2 + dest)))) }
+        (fetch_words 10 count ++ (alloc_words ++ fill_words 10 dest))) }
 {
-    put_load(code, ARGUMENT, variable_word(count))?;
+    put_fetch(code, ARGUMENT, count)?;
     put(code, &environment_call(Call::Alloc))?;
-    put_store(code, ARGUMENT, variable_word(dest))
+    put_fill(code, ARGUMENT, dest)
 }
 
 /// The block of a pointer is freed.
 #[tactic(auto, using(crate::proofs::Appending::put_then))]
-pub fn put_free(code: &mut Seq<u32>, pointer: u32) -> Result<(), AllocError>
-    requires { 2 + pointer < frame_reach }
-    ensures { OnOk result (code.new ≡ code.old ++ map encoded (load_words 10 (2 + pointer) ++ free_words)) }
+pub fn put_free(code: &mut Seq<u32>, pointer: Home) -> Result<(), AllocError>
+    requires { IsReached pointer }
+    ensures { OnOk result (code.new ≡ code.old ++ map encoded (fetch_words 10 pointer ++ free_words)) }
 {
-    put_load(code, ARGUMENT, variable_word(pointer))?;
+    put_fetch(code, ARGUMENT, pointer)?;
     put(code, &environment_call(Call::Free))
 }
 
-/// A variable into the cell of a pointer.
+/// What a home has into the cell of a pointer.
 #[tactic(auto, using(crate::proofs::Appending::put_then))]
-pub fn put_store_item(code: &mut Seq<u32>, pointer: u32, value: u32) -> Result<(), AllocError>
-    requires pointer { 2 + pointer < frame_reach }
-    requires value { 2 + value < frame_reach }
+pub fn put_store_item(code: &mut Seq<u32>, pointer: Home, value: Home) -> Result<(), AllocError>
+    requires pointer { IsReached pointer }
+    requires value { IsReached value }
     ensures { OnOk result (code.new ≡ code.old ++ map encoded
-        (load_words 5 (2 + pointer) ++ (cell_words ++ (mark_cell_words ++ (load_words 5 (2 + value) ++ store_cell_words))))) }
+        (fetch_words 5 pointer ++ (cell_words ++ (mark_cell_words ++ (fetch_words 5 value ++ store_cell_words))))) }
 {
-    put_load(code, FIRST, variable_word(pointer))?;
+    put_fetch(code, FIRST, pointer)?;
     put_cell(code)?;
     put_mark_cell(code)?;
-    put_load(code, FIRST, variable_word(value))?;
+    put_fetch(code, FIRST, value)?;
     put(code, &[sd(SECOND, FIRST, number(8))])
 }
 
-/// The cell of a pointer into a variable.
+/// The cell of a pointer into a home.
 #[tactic(auto, using(crate::proofs::Appending::put_then))]
-pub fn put_load_item(code: &mut Seq<u32>, dest: u32, pointer: u32) -> Result<(), AllocError>
-    requires dest { 2 + dest < frame_reach }
-    requires pointer { 2 + pointer < frame_reach }
+pub fn put_load_item(code: &mut Seq<u32>, dest: Home, pointer: Home) -> Result<(), AllocError>
+    requires dest { IsReached dest }
+    requires pointer { IsReached pointer }
     ensures { OnOk result (code.new ≡ code.old ++ map encoded
-        (load_words 5 (2 + pointer) ++ (cell_words ++ (load_cell_words ++ store_words 5 (2 + dest))))) }
+        (fetch_words 5 pointer ++ (cell_words ++ (load_cell_words ++ fill_words 5 dest)))) }
 {
-    put_load(code, FIRST, variable_word(pointer))?;
+    put_fetch(code, FIRST, pointer)?;
     put_cell(code)?;
     put_load_cell(code)?;
-    put_store(code, FIRST, variable_word(dest))
+    put_fill(code, FIRST, dest)
 }
 
 // ---- speculation
@@ -467,7 +461,7 @@ fn put_guard_front(
     requires few { items.guard_front_size (in_frame func.now) func.now depth condition ≤ most_words }
     ensures { OnOk result (code.new ≡ code.old ++ map encoded (items.guard_front (in_frame func.now) func.now depth condition)) }
 {
-    put_load(code, FIRST, variable_word(condition))?;
+    put_fetch(code, FIRST, variable_home(condition))?;
     put(code, &over_rest(back_size(func, depth)))?;
     put_restores(code, func, func.slots.as_slice(), level_word(func, depth))
 }

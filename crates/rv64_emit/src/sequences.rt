@@ -3,7 +3,7 @@
 ghost use Rattle.std.specs.Prelude.{◌≡◌, ◌+◌, ◌*◌, ◌^◌, ◌<◌, ◌≤◌, ◌∷◌, [], ◌++◌, map, pos, OnOk};
 ghost use Rattle.rv64_layout.specs.Items.{environment_words};
 ghost use Rattle.rv64_layout.specs.Fits.{IsReached};
-ghost use Rattle.rv64_sequences.specs.Moves.{save_one, save_one_size, restore_one, restore_one_size};
+ghost use Rattle.rv64_sequences.specs.Moves.{fetch_words, fetch_size, fill_words, save_one, save_one_size, restore_one, restore_one_size};
 ghost use Rattle.rv64_sequences.specs.Sequences.{high_part, low_part, jump_offset, fits_12, fits_32, constant_words, long_constant_words, load_words, store_words, fault_words, frame_up_words, constant_size, load_size, store_size, frame_up_size};
 ghost use Rattle.rv64_words.specs.Calls.{call_number, fault_number};
 ghost use Rattle.rv64_words.specs.Encoding.{encoded};
@@ -196,6 +196,41 @@ pub fn put_store(code: &mut Seq<u32>, rs2: u8, word: u64) -> Result<(), AllocErr
 }
 
 // ---- homes
+
+/// How many words bring what a home has into a register.
+pub fn fetch_size_of(home: Home) -> u32
+    ensures value { result ≡ fetch_size home }
+    ensures few { result ≤ 3 }
+{
+    match home {
+        Home::Reg(_) => 1,
+        Home::Frame(word) => load_size_of(word as u64),
+    }
+}
+
+/// What a home has into a register.
+pub fn put_fetch(code: &mut Seq<u32>, rd: u8, home: Home) -> Result<(), AllocError>
+    requires rd { rd < 32 }
+    requires home { IsReached home }
+    ensures { OnOk result (code.new ≡ code.old ++ map encoded (fetch_words rd home)) }
+{
+    match home {
+        Home::Reg(register) => put(code, &[addi(rd, register, number(0))]),
+        Home::Frame(word) => put_load(code, rd, word as u64),
+    }
+}
+
+/// A register into a home.
+pub fn put_fill(code: &mut Seq<u32>, rs: u8, home: Home) -> Result<(), AllocError>
+    requires rs { rs < 32 }
+    requires home { IsReached home }
+    ensures { OnOk result (code.new ≡ code.old ++ map encoded (fill_words rs home)) }
+{
+    match home {
+        Home::Reg(register) => put(code, &[addi(register, rs, number(0))]),
+        Home::Frame(word) => put_store(code, rs, word as u64),
+    }
+}
 
 /// How many words bring what a home has into a word of the frame.
 pub fn save_one_size_of(home: Home, word: u64) -> u32
