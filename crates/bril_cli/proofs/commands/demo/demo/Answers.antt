@@ -10,8 +10,8 @@ use Rattle.pass_law.proofs.Same.{AllSame-refl}
 use Rattle.bril_cli.proofs.Demos.{demo_fits, demo_works}
 use Rattle.bril_cli.proofs.commands.demo.demo.Goals as goal
 
-pub own_profile-profile-requires : goal.own_profile-profile-requires
-own_profile-profile-requires g c =
+pub own_profile-requires : goal.own_profile-requires
+own_profile-requires g c =
     let fits = c.ranges.functions.fits in
     let small : c.args.functions < 2 ^ 64 = omega arith in
     demo_fits c.args.functions c.args.checked.prog small c.requires
