@@ -8,6 +8,7 @@ use Rattle.bril_outside.specs.Files.{FileMap}
 use Rattle.bril_outside.specs.Sink.{Counted, SinkSeen, amount_after, count_seen, joined}
 use Rattle.bril_demo.proofs.Acceptance.{demo_takes_nothing}
 use Rattle.bril_demo.specs.Demo.{demo_tree}
+use Rattle.bril_profile.specs.declared.profile.Entry.{Entry}
 use Rattle.bril_report.proofs.Puts.{PutsAll-none}
 use Rattle.bril_report.specs.declared.status.Status.{Status}
 use Rattle.bril_tree.specs.Accepted.{IsAccepted}
@@ -106,13 +107,13 @@ module _ (size : DemoSize) (q : Prog) (limits : Limits) (words : ℕ) (count : C
 pub demo_fits : (n : ℕ) (p : Prog) → n < 2 ^ 64 → Numbered (demo_tree n) p → FitMain p []
 demo_fits n p small is = subst (λ types. AllZip Suits [] types) (sym (demo_takes_nothing n p small is)) tt
 
-module _ (l : PassList) (p q : Prog) (made : IsMade l [] p q) (accepted : IsAccepted p) (limits : Limits) (are : AreLimitsOf (ImageFor demo_frames demo_cells) limits) (fits : FitMain p []) (functions : ℕ) where
+module _ (l : PassList) (entries : List Entry) (p q : Prog) (made : IsMade l entries p q) (accepted : IsAccepted p) (limits : Limits) (are : AreLimitsOf (ImageFor demo_frames demo_cells) limits) (fits : FitMain p []) (functions : ℕ) where
   on : Subject
-  on = subject (demonstrates functions) l [] p q made []
+  on = subject (demonstrates functions) l entries p q made []
 
   runs_as : (ended : Option End) (printed : List (List ℕ)) (words : ℕ) → MadeRuns q limits ended printed words → SourceRuns on ended printed words
   unfolding on run_shows
-  runs_as ended printed words runs = (run_shows l [] p q made accepted limits demo_frames demo_cells are [] fits demo_words false ended [] printed runs.0, runs.1)
+  runs_as ended printed words runs = (run_shows l entries p q made accepted limits demo_frames demo_cells are [] fits demo_words false ended [] printed runs.0, runs.1)
 
   shows_as : (size : DemoSize) (ended : Option End) (told output : List (List ℕ)) → DemoShows size (MadeRuns q limits) ended told output → DemoShows size (SourceRuns on) ended told output
   shows_as size (Some Ended) told output shows = record {
@@ -127,7 +128,7 @@ module _ (l : PassList) (p q : Prog) (made : IsMade l [] p q) (accepted : IsAcce
   shows_as size None told output shows = record { printed = shows.printed; words = shows.words; runs = runs_as None shows.printed shows.words shows.runs; silent = shows.silent; untold = shows.untold }
 
   pub demo_works : (size : DemoSize) → size ≡ size_of functions p → (how : Status) (told : List (List ℕ)) (s t : SinkSeen)
-      → Works (demonstrated size (MadeRuns q limits)) how told s t → Works (demonstrated (size_of functions p) (SourceRuns (subject (demonstrates functions) l [] p q made []))) how told s t
+      → Works (demonstrated size (MadeRuns q limits)) how told s t → Works (demonstrated (size_of functions p) (SourceRuns (subject (demonstrates functions) l entries p q made []))) how told s t
   unfolding on
   demo_works size is how told s t works =
       let shown = Works-as (demonstrated size (MadeRuns q limits)) (demonstrated size (SourceRuns on)) refl refl (shows_as size) (λ output none. none) told s t how works in

@@ -1,12 +1,17 @@
--- The tree of a request that has no files, and the size of its program.
+-- The tree of a request that has no files, what is done with its program, and the size of it.
 use Rattle.std.specs.Prelude.{◌≡◌, ℕ, List, [], ◌∷◌, length, Option, Some}
 use Rattle.bril_demo.specs.Demo.{demo_tree}
 use Rattle.bril_tree.specs.Numbered.{Numbered}
 use Rattle.bril_tree.specs.declared.tree.Tree.{Tree}
 use Rattle.bril_cli.specs.declared.commands.demo.DemoCounts.{DemoCounts}
-use Rattle.bril_commands.specs.commands.Demo.{DemoSize, MadeRuns, demo_words, line_of, words_told}
+use Rattle.bril_commands.specs.Driver.{DoesGiven, IsIdle, Stage}
 use Rattle.bril_commands.specs.Outcome.{Outcome}
-use Rattle.bril_outside.specs.Sink.{Counted, amount_after, joined}
+use Rattle.bril_commands.specs.PassList.{PassList}
+use Rattle.bril_commands.specs.Recording.{AreRecorded}
+use Rattle.bril_commands.specs.commands.Demo.{DemoSize, MadeRuns, demo_cells, demo_frames, demo_hot, demo_most, demo_words, demonstrates, line_of, words_told}
+use Rattle.bril_outside.specs.Sink.{Counted, SinkSeen, amount_after, joined}
+use Rattle.bril_report.specs.declared.status.Status.{Status}
+use Rattle.bril_report.specs.declared.status.Status.TheVariants as status
 use Rattle.bril_tree.specs.declared.limits.End.{End}
 use Rattle.bril_tree.specs.declared.limits.End.TheVariants.{Ended}
 use Rattle.bril_tree.specs.declared.limits.Limits.{Limits}
@@ -23,6 +28,12 @@ IsOwnTree _ tree = Unit {0}
 abbrev pub IsOwnProgram : Action → Prog → Type 0
 IsOwnProgram (Demo functions) p = Numbered (demo_tree functions) p
 IsOwnProgram _ p = Unit {0}
+
+-- what is answered once its program is accepted: memory ran out before its run was recorded, or this is what is done with the profile
+abbrev pub DoesRecorded : (functions : ℕ) → Status → PassList → Prog → List (List ℕ) → SinkSeen → SinkSeen → Type 0
+DoesRecorded functions how l p told s t =
+    Stage (how ≡ status.OutOfMemory) (IsIdle l told s t) (λ entries. AreRecorded p [] demo_frames demo_cells demo_words demo_hot demo_most entries) (λ entries is.
+    DoesGiven (demonstrates functions) how l entries p [] told s t)
 
 -- what the counts say
 abbrev pub size_seen : DemoCounts → DemoSize

@@ -38,7 +38,7 @@ use std::alloc::Global;
 /// `import_linker::link` says.
 ///
 /// `run`, `emit`, `passes` and `demo` give the program to the list of passes: each name to the first of `passes` that answers to it, and each
-/// pass gets what the one before it made, with the profile of the file that `--profile` names, or the one without entries. What is said below of a program's words is said of the
+/// pass gets what the one before it made, with the profile of the file that `--profile` names, or the one without entries, and for `demo` that of its own run. What is said below of a program's words is said of the
 /// program after the passes. It comes from the source by a chain of links, and the passes' tallies grow by these; no other command
 /// changes the passes. One that answers to the name of a pass that the program is shipped with (`specs/Shipped.antt`) is to make only
 /// what that one makes: so these names mean the same in every list.
@@ -57,8 +57,9 @@ use std::alloc::Global;
 /// until the entry's path or the run ends (`trace_recorder/specs/Recorded.antt`). It does so too where the program stopped with a fault, or
 /// goes on after the steps.
 ///
-/// `demo` gives its program to the list `const,dead,tidy`, and executes 1,000,000,000,000 words at most, with 8,192 frames and 1,048,576
-/// cells. What they print is counted, and `out` gets one line: `demo N: F functions, I items, B bytes, status S`, F and I being of the
+/// `demo` records the run of its program as `record` does, with 8,192 frames, 1,048,576 cells, 1,000,000,000,000 steps at most, 16
+/// arrivals for a hot label and 64 entries at most. It gives the program to the list `trace,const,dead,tidy` with this profile, and
+/// executes 1,000,000,000,000 words at most, with as many frames and cells. What they print is counted, and `out` gets one line: `demo N: F functions, I items, B bytes, status S`, F and I being of the
 /// program as it was made, B the number of bytes, or 2^64 - 1 where they are more, and S 0, or 2 where the program stopped with a
 /// fault. Where it has ended without one, `err` gets the line `words W`, W being the words that were executed.
 ///

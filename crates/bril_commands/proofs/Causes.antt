@@ -26,16 +26,16 @@ use Rattle.bril_words.specs.CommandLine.{Refusal}
 use Rattle.bril_words.specs.declared.request.Action.{Action}
 use Rattle.import_linker.specs.declared.fault.LinkFault.{LinkFault}
 use Rattle.import_linker.specs.declared.fault.LinkFault.TheVariants as link
-use Rattle.bril_commands.proofs.Profiles.{not_refused, refused_once}
+use Rattle.bril_commands.proofs.Profiles.{not_refused_from, refused_from_once}
 use Rattle.bril_commands.proofs.Reading.{faultless, lacking_fault, lacking_no_tree, lack_told, lacking_unread, not_refused as tree_not_refused, one_refusal, one_tree}
 use Rattle.bril_commands.proofs.Statuses.{Ends, plain}
 use Rattle.bril_commands.specs.Arguments.{argument_pieces, HasArgFault, HasOnlyArgFault, RefusesArgs}
 use Rattle.bril_commands.specs.Call.{Call, ReadsWell, UnlessMemory}
-use Rattle.bril_commands.specs.Command.{Command, OnFile, OnTree, OnProgram, Arguments, NoArguments, OfMain, TakesArguments, AreGiven, RefusesGiven, NeedsProgram, GivesArguments, GivesValues, Spell, profile_for, reach}
+use Rattle.bril_commands.specs.Command.{Command, OnFile, OnTree, OnProgram, Arguments, NoArguments, OfMain, TakesArguments, AreGiven, RefusesGiven, NeedsProgram, GivesArguments, GivesValues, Spell, profile_of, reach}
 use Rattle.bril_commands.specs.CommandLine.{Asks, AsksFor}
 use Rattle.bril_commands.specs.Driver.{IsIdle, Stage, DoesAccepted, DoesTree}
 use Rattle.bril_commands.specs.PassList.{PassList}
-use Rattle.bril_commands.specs.Profiles.{IsProfileTold, RefusesProfile, profile_path}
+use Rattle.bril_commands.specs.Profiles.{IsSourceTold, RefusesProfileFrom}
 use Rattle.bril_commands.specs.Source.{AreTold, Reach, HaveFault, HaveTree, HasOnlyCheckFault, IsOnlyNameFault, IsOnlyProgram, LackFile, RefusesFiles}
 use Rattle.bril_commands.specs.Stages.{RefusesProgram, IsAcceptedProgram, IsFaultless}
 use Rattle.bril_commands.specs.Table.{command}
@@ -199,16 +199,16 @@ values_need (OnProgram does) p args values gives = tt
 
 -- the refusal of the profile's file was answered, or memory ran out
 module _ (k : Command) (f g : FilesSeen) (sound : ¬ Rose f.faults g.faults) (how why : Status) (ample : why ≢ status.OutOfMemory) (l : PassList) (p : Prog) (named : Option (List ℕ)) (args told : List (List ℕ)) (s t : SinkSeen) (values : List Value) where
-  profile_answered : GivesValues k p args values → IsProfileTold (profile_for k named) f.holds → RefusesProfile (profile_for k named) why f g → DoesAccepted k how l f g p named args told s t → (how ≡ status.OutOfMemory) ⊎ ((how ≡ why) × (told ≡ []))
+  profile_answered : GivesValues k p args values → IsSourceTold (profile_of k) named f.holds → RefusesProfileFrom (profile_of k) named why f g → DoesAccepted k how l f g p named args told s t → (how ≡ status.OutOfMemory) ⊎ ((how ≡ why) × (told ≡ []))
   profile_answered = by k
     where
-      by : (k : Command) → GivesValues k p args values → IsProfileTold (profile_for k named) f.holds → RefusesProfile (profile_for k named) why f g → DoesAccepted k how l f g p named args told s t → (how ≡ status.OutOfMemory) ⊎ ((how ≡ why) × (told ≡ []))
+      by : (k : Command) → GivesValues k p args values → IsSourceTold (profile_of k) named f.holds → RefusesProfileFrom (profile_of k) named why f g → DoesAccepted k how l f g p named args told s t → (how ≡ status.OutOfMemory) ⊎ ((how ≡ why) × (told ≡ []))
       by (OnFile outcome) gives are refuses does = absurd gives
       by (OnTree outcome) gives are refuses does = absurd gives
       by (OnProgram does) gives are refuses goes =
           ⊎_elim (λ refused. inl (no_refusal does.arguments how p args values gives refused.0))
-          (λ values. ⊎_elim (λ refused. ⊎_elim inl (λ same. inr (same, refused.1.0.0)) (refused_once f g sound (profile_path does.profile named) how why are refused.0 refuses ample))
-          (λ given. absurd (ample (not_refused f g sound (profile_path does.profile named) given.0 why are given.1 refuses)))
+          (λ values. ⊎_elim (λ refused. ⊎_elim inl (λ same. inr (same, refused.1.0.0)) (refused_from_once f g sound does.profile named how why are refused.0 refuses ample))
+          (λ given. absurd (ample (not_refused_from f g sound does.profile named p given.0 why are given.1 refuses)))
           values.2)
           goes
 
@@ -294,7 +294,7 @@ module _ (c : Call) (asks : Asks c.words) (how : Status) (ends : Ends c asks how
 
   module _ (reads : ReadsWell c action) (tree : Tree) (p : Prog) (linked : HaveTree (reach (command action)) c.files_before.holds reads.path tree) (numbered : Numbered tree p) (accepted : IsAccepted p) where
     -- the arguments are spelled, and the profile's file is refused so
-    pub refused_where : (values : List Value) → GivesValues (command action) p reads.args values → (why : Status) → why ≢ status.OutOfMemory → RefusesProfile (profile_for (command action) c.profile) why c.files_before c.files_after
+    pub refused_where : (values : List Value) → GivesValues (command action) p reads.args values → (why : Status) → why ≢ status.OutOfMemory → RefusesProfileFrom (profile_of (command action)) c.profile why c.files_before c.files_after
         → UnlessMemory (status_number how) ((status_number how ≡ status_number why) × Puts c.err_before (status_pieces why) c.err_after)
     refused_where values spelled why ample refuses =
         let here : GivesValues (command action) p asks.args values = subst (λ a. GivesValues (command action) p a values) (same_args c asks how ends action reads) spelled in

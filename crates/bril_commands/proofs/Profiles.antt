@@ -1,20 +1,27 @@
 -- Where the files are told, a profile's file gives one list of entries or one refusal, and never both: reads that failed and want of
--- memory apart.
-use Rattle.std.proofs.Common.{◌≡◌, ◌⊎◌, ℕ, ◌≤◌, List, length, Option, Some, None, refl, sym, ap, ◌∙◌, subst, arith, inl, inr, ⊎_elim}
+-- memory apart. A run gives one list of entries.
+use Rattle.std.proofs.Common.{◌≡◌, ◌⊎◌, ℕ, ◌≤◌, List, [], length, Option, Some, None, refl, sym, ap, ◌∙◌, subst, arith, inl, inr, ⊎_elim}
+use Rattle.std.proofs.Props.{props}
 use Rattle.std.specs.Prelude.{◌<◌, ◌≢◌}
+use mathlib.Core.HLevel.{is_prop→PathP}
 use Rattle.bril_outside.proofs.SinkWrites.{Rose-after}
 use Rattle.bril_outside.specs.Files.{FileMap, FilesSeen, LacksFile, MayHold}
 use Rattle.bril_outside.specs.Sink.{Rose, SinkSeen}
 use Rattle.bril_profile.specs.declared.profile.Entry.{Entry}
 use Rattle.bril_report.specs.declared.status.Status.TheVariants as status
 use Rattle.bril_report.specs.declared.status.Status.{Status}
+use Rattle.bril_tree.specs.declared.limits.Limits.{Limits}
+use Rattle.bril_tree.specs.declared.program.Prog.{Prog}
 use Rattle.bril_tree.specs.declared.tree.Tree.{Tree}
+use Rattle.bril_tree.specs.declared.value.Value.{Value}
 use Rattle.profile_text.proofs.Faults.{faults_are_one, texts_differ, texts_have_no_fault}
 use Rattle.profile_text.specs.Fault.{IsFirstFault}
+use Rattle.trace_recorder.specs.Recorded.{recorded}
 use Rattle.bril_commands.specs.Command.{Command, OnFile, OnTree, OnProgram}
 use Rattle.bril_commands.specs.Driver.{DoesTree}
 use Rattle.bril_commands.specs.PassList.{PassList}
-use Rattle.bril_commands.specs.Profiles.{HoldsBrokenLine, HoldsLongProfile, HoldsProfile, IsProfileAt, IsProfileTold, RefusesProfile, RefusesProfileFile, most_profile_bytes, profile_path}
+use Rattle.bril_commands.specs.Profiles.{HoldsBrokenLine, HoldsLongProfile, HoldsProfile, IsProfileAt, IsProfileFrom, IsProfileTold, IsSourceTold, NamedFile, NoProfile, OwnRun, ProfileSource, RefusesProfile, RefusesProfileFile, RefusesProfileFrom, most_profile_bytes}
+use Rattle.bril_commands.specs.Recording.{AreRecorded, states_within}
 
 -- ---- one file
 
@@ -71,21 +78,61 @@ module _ (before after : FilesSeen) (map : FileMap) (told : before.holds ≡ Som
       let same : a.bytes ≡ b.bytes = cc in
       texts_differ xs ys a.valid b.valid (a.text ∙ same ∙ sym b.text)
 
+-- ---- the run of a program
+
+below-prop : (a b : ℕ) → IsProp (a ≤ b)
+below-prop a b = hlevel props
+
+-- limits are the same where they have as many frames and cells
+limits_same : (a b : Limits) → a.frames ≡ b.frames → a.cells ≡ b.cells → a ≡ b
+limits_same a b f c = λ i. record {
+  frames = f i;
+  cells = c i;
+  some_frames = is_prop→PathP (λ j. 1 ≤ f j) (λ j. below-prop 1 (f j)) a.some_frames b.some_frames i;
+  few_frames = is_prop→PathP (λ j. f j ≤ 65536) (λ j. below-prop (f j) 65536) a.few_frames b.few_frames i;
+  some_cells = is_prop→PathP (λ j. 1 ≤ c j) (λ j. below-prop 1 (c j)) a.some_cells b.some_cells i;
+  few_cells = is_prop→PathP (λ j. c j ≤ 4194304) (λ j. below-prop (c j) 4194304) a.few_cells b.few_cells i;
+}
+
+recorded_once : (p : Prog) (values : List Value) (frames cells steps hot most : ℕ) (xs ys : List Entry) → AreRecorded p values frames cells steps hot most xs → AreRecorded p values frames cells steps hot most ys → xs ≡ ys
+recorded_once p values frames cells steps hot most xs ys a b =
+    let same : a.limits ≡ b.limits = limits_same a.limits b.limits (a.frames_are ∙ sym b.frames_are) (a.cells_are ∙ sym b.cells_are) in
+    a.are ∙ ap (λ limits. recorded p hot most (states_within p limits values steps)) same ∙ sym b.are
+
 -- ---- where there may be no file
 
 module _ (before after : FilesSeen) (sound : ¬ Rose before.faults after.faults) where
-  pub refused_once : (path : Option (List ℕ)) (how other : Status) → IsProfileTold path before.holds → RefusesProfile path how before after → RefusesProfile path other before after → other ≢ status.OutOfMemory
+  refused_once : (path : Option (List ℕ)) (how other : Status) → IsProfileTold path before.holds → RefusesProfile path how before after → RefusesProfile path other before after → other ≢ status.OutOfMemory
       → (how ≡ status.OutOfMemory) ⊎ (how ≡ other)
   refused_once None how other told a b ample = absurd a
   refused_once (Some path) how other told a b ample = file_refused_once before after told.0 told.1 sound path how other a b ample
 
-  pub not_refused : (path : Option (List ℕ)) (entries : List Entry) (how : Status) → IsProfileTold path before.holds → IsProfileAt path before.holds entries → RefusesProfile path how before after → how ≡ status.OutOfMemory
+  not_refused : (path : Option (List ℕ)) (entries : List Entry) (how : Status) → IsProfileTold path before.holds → IsProfileAt path before.holds entries → RefusesProfile path how before after → how ≡ status.OutOfMemory
   not_refused None entries how told is refuses = absurd refuses
   not_refused (Some path) entries how told is refuses = file_not_refused before after told.0 told.1 sound path entries how is refuses
 
-  pub same_entries : (path : Option (List ℕ)) (xs ys : List Entry) → IsProfileTold path before.holds → IsProfileAt path before.holds xs → IsProfileAt path before.holds ys → xs ≡ ys
+  same_entries : (path : Option (List ℕ)) (xs ys : List Entry) → IsProfileTold path before.holds → IsProfileAt path before.holds xs → IsProfileAt path before.holds ys → xs ≡ ys
   same_entries None xs ys told a b = a ∙ sym b
   same_entries (Some path) xs ys told a b = file_once before after told.0 told.1 sound path xs ys a b
+
+  -- ---- the profile of a command
+
+  pub refused_from_once : (source : ProfileSource) (named : Option (List ℕ)) (how other : Status) → IsSourceTold source named before.holds → RefusesProfileFrom source named how before after → RefusesProfileFrom source named other before after
+      → other ≢ status.OutOfMemory → (how ≡ status.OutOfMemory) ⊎ (how ≡ other)
+  refused_from_once NoProfile named how other told a b ample = absurd a
+  refused_from_once NamedFile named how other told a b ample = refused_once named how other told a b ample
+  refused_from_once (OwnRun frames cells steps hot most) named how other told a b ample = inl a
+
+  pub not_refused_from : (source : ProfileSource) (named : Option (List ℕ)) (p : Prog) (entries : List Entry) (how : Status) → IsSourceTold source named before.holds → IsProfileFrom source named before.holds p entries
+      → RefusesProfileFrom source named how before after → how ≡ status.OutOfMemory
+  not_refused_from NoProfile named p entries how told is refuses = absurd refuses
+  not_refused_from NamedFile named p entries how told is refuses = not_refused named entries how told is refuses
+  not_refused_from (OwnRun frames cells steps hot most) named p entries how told is refuses = refuses
+
+  pub same_entries_from : (source : ProfileSource) (named : Option (List ℕ)) (p : Prog) (xs ys : List Entry) → IsSourceTold source named before.holds → IsProfileFrom source named before.holds p xs → IsProfileFrom source named before.holds p ys → xs ≡ ys
+  same_entries_from NoProfile named p xs ys told a b = a ∙ sym b
+  same_entries_from NamedFile named p xs ys told a b = same_entries named xs ys told a b
+  same_entries_from (OwnRun frames cells steps hot most) named p xs ys told a b = recorded_once p [] frames cells steps hot most xs ys a b
 
 -- ---- seen from before the reads that led to it
 
@@ -102,19 +149,23 @@ module _ (f m g : FilesSeen) (stay : m.holds ≡ f.holds) (le : f.faults ≤ m.f
   refused_from None how refuses = absurd refuses
   refused_from (Some path) how refuses = file_refused_from how path refuses
 
+  profile_refused_from : (source : ProfileSource) (named : Option (List ℕ)) (how : Status) → RefusesProfileFrom source named how m g → RefusesProfileFrom source named how f g
+  profile_refused_from NoProfile named how refuses = absurd refuses
+  profile_refused_from NamedFile named how refuses = refused_from named how refuses
+  profile_refused_from (OwnRun frames cells steps hot most) named how refuses = refuses
+
   pub DoesTree-from : (k : Command) (how : Status) (l : PassList) (tree : Tree) (named : Option (List ℕ)) (args told : List (List ℕ)) (s t : SinkSeen) → DoesTree k how l m g tree named args told s t → DoesTree k how l f g tree named args told s t
   DoesTree-from (OnFile outcome) how l tree named args told s t does = does
   DoesTree-from (OnTree outcome) how l tree named args told s t does = does
   DoesTree-from (OnProgram does) how l tree named args told s t goes =
-      let path = profile_path does.profile named in
       ⊎_elim inl (λ program. inr (
         program.0,
         program.1,
         ⊎_elim inl (λ values. inr (
           values.0,
           values.1,
-          ⊎_elim (λ refused. inl (refused_from path how refused.0, refused.1))
-              (λ given. inr (given.0, subst (λ (o : Option FileMap). IsProfileAt path o given.0) stay given.1, given.2))
+          ⊎_elim (λ refused. inl (profile_refused_from does.profile named how refused.0, refused.1))
+              (λ given. inr (given.0, subst (λ (o : Option FileMap). IsProfileFrom does.profile named o program.0 given.0) stay given.1, given.2))
               values.2,
         )) program.2,
       )) goes

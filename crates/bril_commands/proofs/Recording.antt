@@ -19,9 +19,8 @@ use Rattle.trace_recorder.specs.Recorded.{no_counts}
 use Rattle.trace_recorder.specs.Sight.{sight}
 use Rattle.trace_recorder.specs.Standing.{RecorderView, StandsFor, counts_on, held_on}
 use Rattle.bril_commands.proofs.Interpreting.{reached}
-use Rattle.bril_commands.specs.Recording.{Records}
+use Rattle.bril_commands.specs.Recording.{Records, before_step, states_within}
 use Rattle.bril_commands.specs.commands.Interp.{IsFresh}
-use Rattle.bril_commands.specs.commands.Record.{before_step, states_within}
 
 -- a recorder stands for every run whose states show the same
 StandsFor-alike : (r : RecorderView) (p : Prog) (hot most : ℕ) (run other : List State) → map (sight p) run ≡ map (sight p) other → StandsFor r p hot most run → StandsFor r p hot most other

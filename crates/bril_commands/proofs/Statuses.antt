@@ -19,13 +19,13 @@ use Rattle.bril_tree.specs.declared.value.Value.{Value}
 use Rattle.bril_commands.specs.Answers.{Answers, FilesRefused, HasLongCode, HasLongStack, ListBegan, ProfileRefused}
 use Rattle.bril_commands.specs.Arguments.{argument_pieces, HasOnlyArgFault, RefusesArgs}
 use Rattle.bril_commands.specs.Call.{Call, CommandComesTo, ComesTo}
-use Rattle.bril_commands.specs.Command.{Command, OnFile, OnTree, OnProgram, OfProgram, Arguments, NoArguments, OfMain, TakesArguments, AreGiven, RefusesGiven, Makes, RefusesMaking, AreLimitsOf, Fits, RefusesEmission, NeedsProgram, GivesArguments, MakesImage, profile_for, reach, takes_passes}
+use Rattle.bril_commands.specs.Command.{Command, OnFile, OnTree, OnProgram, OfProgram, Arguments, NoArguments, OfMain, TakesArguments, AreGiven, RefusesGiven, Makes, RefusesMaking, AreLimitsOf, Fits, RefusesEmission, NeedsProgram, GivesArguments, MakesImage, profile_of, reach, takes_passes}
 use Rattle.bril_commands.specs.CommandLine.{Asks}
 use Rattle.bril_commands.specs.Driver.{IsSilent, subject, DoesProgram, DoesTree, DoesFiles}
 use Rattle.bril_commands.specs.Images.{RefusesImage}
 use Rattle.bril_commands.specs.Outcome.{Outcome, Works}
 use Rattle.bril_commands.specs.PassList.{PassList, AreUnused, IsMade, IsCutOff, RefusesList}
-use Rattle.bril_commands.specs.Profiles.{IsProfileAt, RefusesProfile, RefusesProfileFile, profile_path}
+use Rattle.bril_commands.specs.Profiles.{IsProfileFrom, NamedFile, NoProfile, OwnRun, ProfileSource, RefusesProfile, RefusesProfileFile, RefusesProfileFrom}
 use Rattle.bril_commands.specs.Source.{IsProgramOf, IsTreeAt, RefusesFiles}
 use Rattle.bril_commands.specs.Stages.{IsAcceptedProgram, RefusesTree, RefusesProgram}
 use Rattle.bril_commands.specs.Table.{command, Keeps, KeepsPasses}
@@ -205,12 +205,14 @@ module _ (c : Call) (asks : Asks c.words) (keeps : KeepsPasses c.passes.meaning 
         Answers-given OfMain gives how says refuses silent unused = Answers-args (gives tt) how says refuses silent unused
 
         -- the profile's file is refused
-        profile_refused : (how : Status) (line : List (List ℕ)) → RefusesProfile (profile_for (command asks.action) c.profile) how c.files_before c.files_after → Puts c.err_before line c.err_after → c.out_after ≡ c.out_before → AreUnused c.passes → ProfileRefused c asks how line
+        profile_refused : (how : Status) (line : List (List ℕ)) → RefusesProfileFrom (profile_of (command asks.action)) c.profile how c.files_before c.files_after → Puts c.err_before line c.err_after → c.out_after ≡ c.out_before → AreUnused c.passes → ProfileRefused c asks how line
         profile_refused how line refuses says silent unused = record { program = p; file = program_file; refuses = refuses; unused = unused; alone = record { silent = silent; says = says } }
 
-        module _ (path : List ℕ) (named : profile_for (command asks.action) c.profile ≡ Some path) where
-          named_refused : (how : Status) → RefusesProfileFile how c.files_before c.files_after path → RefusesProfile (profile_for (command asks.action) c.profile) how c.files_before c.files_after
-          named_refused how refuses = subst (λ (o : Option (List ℕ)). RefusesProfile o how c.files_before c.files_after) (sym named) refuses
+        module _ (path : List ℕ) (source : profile_of (command asks.action) ≡ NamedFile) (named : c.profile ≡ Some path) where
+          named_refused : (how : Status) → RefusesProfileFile how c.files_before c.files_after path → RefusesProfileFrom (profile_of (command asks.action)) c.profile how c.files_before c.files_after
+          named_refused how refuses =
+              subst (λ (k : ProfileSource). RefusesProfileFrom k c.profile how c.files_before c.files_after) (sym source)
+              (subst (λ (o : Option (List ℕ)). RefusesProfile o how c.files_before c.files_after) (sym named) refuses)
 
           Answers-profile : (how : Status) → Said how → RefusesProfileFile how c.files_before c.files_after path → c.out_after ≡ c.out_before → AreUnused c.passes → Answers (status_number how) c
           Answers-profile (status.CannotRead other) says refuses silent unused =
@@ -222,11 +224,17 @@ module _ (c : Call) (asks : Asks c.words) (keeps : KeepsPasses c.passes.meaning 
           Answers-profile status.OutOfMemory says refuses silent unused = Answers-exhausted (inl unused) says silent
           Answers-profile _ says refuses silent unused = absurd refuses
 
-        Answers-named : (path : Option (List ℕ)) → profile_for (command asks.action) c.profile ≡ path → (how : Status) → Said how → RefusesProfile path how c.files_before c.files_after → c.out_after ≡ c.out_before → AreUnused c.passes → Answers (status_number how) c
-        Answers-named None named how says refuses silent unused = absurd refuses
-        Answers-named (Some path) named how says refuses silent unused = Answers-profile path named how says refuses silent unused
+        Answers-named : profile_of (command asks.action) ≡ NamedFile → (path : Option (List ℕ)) → c.profile ≡ path → (how : Status) → Said how → RefusesProfile path how c.files_before c.files_after → c.out_after ≡ c.out_before → AreUnused c.passes → Answers (status_number how) c
+        Answers-named source None named how says refuses silent unused = absurd refuses
+        Answers-named source (Some path) named how says refuses silent unused = Answers-profile path source named how says refuses silent unused
 
-        module _ (entries : List Entry) (profiled : IsProfileAt (profile_for (command asks.action) c.profile) c.files_before.holds entries) where
+        Answers-from : (source : ProfileSource) → profile_of (command asks.action) ≡ source → (how : Status) → Said how → RefusesProfileFrom source c.profile how c.files_before c.files_after → c.out_after ≡ c.out_before → AreUnused c.passes → Answers (status_number how) c
+        Answers-from NoProfile is how says refuses silent unused = absurd refuses
+        Answers-from NamedFile is how says refuses silent unused = Answers-named is c.profile refl how says refuses silent unused
+        Answers-from (OwnRun frames cells steps hot most) is how says refuses silent unused =
+            subst (λ (h : Status). Answers (status_number h) c) (sym refuses) (Answers-exhausted (inl unused) (subst Said refuses says) silent)
+
+        module _ (entries : List Entry) (profiled : IsProfileFrom (profile_of (command asks.action)) c.profile c.files_before.holds p entries) where
           -- the list was begun
           began : takes_passes (command asks.action) ≡ true → IsCutOff c.passes entries p → ListBegan c asks
           began takes cut = record { takes = takes; program = p; file = program_file; entries = entries; profiled = profiled; cut = cut }
@@ -303,16 +311,10 @@ module _ (c : Call) (asks : Asks c.words) (keeps : KeepsPasses c.passes.meaning 
         made_by : (entries : List Entry) (p q : Prog) → Makes does.takes_passes c.passes entries p q → Makes (takes_passes (command asks.action)) c.passes entries p q
         made_by entries p q makes = subst (λ by_list. Makes by_list c.passes entries p q) (sym (ap takes_passes is)) makes
 
-        abbrev path : Option (List ℕ)
-        path = profile_path does.profile c.profile
+        profiled_by : (p : Prog) (entries : List Entry) → IsProfileFrom does.profile c.profile c.files_before.holds p entries → IsProfileFrom (profile_of (command asks.action)) c.profile c.files_before.holds p entries
+        profiled_by p entries profiled = subst (λ k. IsProfileFrom (profile_of k) c.profile c.files_before.holds p entries) (sym is) profiled
 
-        named_by : profile_for (command asks.action) c.profile ≡ path
-        named_by = ap (λ k. profile_for k c.profile) is
-
-        profiled_by : (entries : List Entry) → IsProfileAt path c.files_before.holds entries → IsProfileAt (profile_for (command asks.action) c.profile) c.files_before.holds entries
-        profiled_by entries profiled = subst (λ (o : Option (List ℕ)). IsProfileAt o c.files_before.holds entries) (sym named_by) profiled
-
-        comes_to : (p : Prog) (program : IsAcceptedProgram tree p) (values : List Value) → AreGiven does.arguments p asks.args values → (entries : List Entry) → IsProfileAt path c.files_before.holds entries → (q : Prog) (makes : Makes does.takes_passes c.passes entries p q) → Fits does.emission q
+        comes_to : (p : Prog) (program : IsAcceptedProgram tree p) (values : List Value) → AreGiven does.arguments p asks.args values → (entries : List Entry) → IsProfileFrom does.profile c.profile c.files_before.holds p entries → (q : Prog) (makes : Makes does.takes_passes c.passes entries p q) → Fits does.emission q
             → (Is : Outcome → Type 0) → Is (does.outcome (subject does c.passes entries p q makes values)) → ComesTo c asks Is
         comes_to p program values given entries profiled q makes fits Is holds = subst (λ k. CommandComesTo k c asks.path asks.args Is) (sym is) (record {
           program = p;
@@ -327,20 +329,20 @@ module _ (c : Call) (asks : Asks c.words) (keeps : KeepsPasses c.passes.meaning 
           is = holds;
         })
 
-        Answers-made : (p : Prog) (program : IsAcceptedProgram tree p) (values : List Value) → AreGiven does.arguments p asks.args values → (entries : List Entry) → IsProfileAt path c.files_before.holds entries → (q : Prog) (makes : Makes does.takes_passes c.passes entries p q)
+        Answers-made : (p : Prog) (program : IsAcceptedProgram tree p) (values : List Value) → AreGiven does.arguments p asks.args values → (entries : List Entry) → IsProfileFrom does.profile c.profile c.files_before.holds p entries → (q : Prog) (makes : Makes does.takes_passes c.passes entries p q)
             → (how : Status) (told : List (List ℕ)) → Puts c.err_before (told ++ status_pieces how) c.err_after
             → (RefusesEmission does.emission how q × IsSilent told c.out_before c.out_after) ⊎ (Fits does.emission q × Works (does.outcome (subject does c.passes entries p q makes values)) how told c.out_before c.out_after)
             → Answers (status_number how) c
         Answers-made p program values given entries profiled q makes how told says =
-            ⊎_elim (λ long. Answers-image p program entries (profiled_by entries profiled) q (made_by entries p q makes) long.0.0 (makes_image long.0.0 long.0.1) how (plain told (status_pieces how) long.1.0 says) long.0.2 long.1.1)
-            (λ goes. Answers-works (does.outcome (subject does c.passes entries p q makes values)) (comes_to p program values given entries profiled q makes goes.0) (tallies_of p program entries (profiled_by entries profiled) (takes_passes (command asks.action)) refl q (made_by entries p q makes)) how told says goes.1)
+            ⊎_elim (λ long. Answers-image p program entries (profiled_by p entries profiled) q (made_by entries p q makes) long.0.0 (makes_image long.0.0 long.0.1) how (plain told (status_pieces how) long.1.0 says) long.0.2 long.1.1)
+            (λ goes. Answers-works (does.outcome (subject does c.passes entries p q makes values)) (comes_to p program values given entries profiled q makes goes.0) (tallies_of p program entries (profiled_by p entries profiled) (takes_passes (command asks.action)) refl q (made_by entries p q makes)) how told says goes.1)
 
         Answers-program : (p : Prog) (program : IsAcceptedProgram tree p) (how : Status) (told : List (List ℕ)) → Puts c.err_before (told ++ status_pieces how) c.err_after
             → DoesProgram does how c.passes c.files_before c.files_after p c.profile asks.args told c.out_before c.out_after → Answers (status_number how) c
         Answers-program p program how told says =
             ⊎_elim (λ refused. Answers-given p program does.arguments (λ takes. subst GivesArguments (sym is) takes) how (plain told (status_pieces how) refused.1.0.0 says) refused.0 refused.1.0.1 refused.1.1)
-            (λ values. ⊎_elim (λ refused. Answers-named p program path named_by how (plain told (status_pieces how) refused.1.0.0 says) refused.0 refused.1.0.1 refused.1.1)
-            (λ given. ⊎_elim (λ refused. Answers-making p program given.0 (profiled_by given.0 given.1) does.takes_passes (λ takes. ap takes_passes is ∙ takes) how (plain told (status_pieces how) refused.1.0 says) refused.0 refused.1.1)
+            (λ values. ⊎_elim (λ refused. Answers-from p program does.profile (ap profile_of is) how (plain told (status_pieces how) refused.1.0.0 says) refused.0 refused.1.0.1 refused.1.1)
+            (λ given. ⊎_elim (λ refused. Answers-making p program given.0 (profiled_by p given.0 given.1) does.takes_passes (λ takes. ap takes_passes is ∙ takes) how (plain told (status_pieces how) refused.1.0 says) refused.0 refused.1.1)
             (λ made. Answers-made p program values.0 values.1 given.0 given.1 made.0 made.1 how told says made.2)
             given.2)
             values.2)

@@ -16,16 +16,16 @@ use Rattle.bril_words.specs.declared.request.Action.{Action}
 use Rattle.rv64_implements.proofs.Sizes.{within_not_beyond}
 use Rattle.rv64_implements.specs.WordBounds.{IsWithin}
 use Rattle.bril_commands.proofs.Causes.{by_tree, exhausted, no_refusal, same_args, same_values, with_program}
-use Rattle.bril_commands.proofs.Profiles.{not_refused, same_entries}
+use Rattle.bril_commands.proofs.Profiles.{not_refused_from, same_entries_from}
 use Rattle.bril_commands.proofs.Statuses.{Ends, plain}
 use Rattle.bril_commands.specs.Call.{Call, ReadsWell, UnlessMemory}
-use Rattle.bril_commands.specs.Command.{Command, OnFile, OnTree, OnProgram, OfProgram, Emission, NoImage, ImageFor, Makes, RefusesMaking, Fits, RefusesEmission, NeedsProgram, Spell, profile_for, reach}
+use Rattle.bril_commands.specs.Command.{Command, OnFile, OnTree, OnProgram, OfProgram, Emission, NoImage, ImageFor, Makes, RefusesMaking, Fits, RefusesEmission, NeedsProgram, Spell, profile_of, reach}
 use Rattle.bril_commands.specs.CommandLine.{Asks}
 use Rattle.bril_commands.specs.Driver.{IsSilent, subject, DoesAccepted, DoesGiven, DoesProgram, DoesTree}
 use Rattle.bril_commands.specs.Images.{RefusesImage}
 use Rattle.bril_commands.specs.Outcome.{Outcome, Works}
 use Rattle.bril_commands.specs.PassList.{RefusesList}
-use Rattle.bril_commands.specs.Profiles.{IsProfileAt, IsProfileTold, profile_path}
+use Rattle.bril_commands.specs.Profiles.{IsProfileFrom, IsSourceTold}
 use Rattle.bril_commands.specs.Source.{HaveTree}
 use Rattle.bril_commands.specs.Table.{command}
 use Rattle.bril_commands.specs.When.{StopsMaking, AfterPasses, AfterEmission, IsDoneUnless, CommandDone}
@@ -109,16 +109,15 @@ module _ (c : Call) (asks : Asks c.words) (how : Status) (ends : Ends c asks how
       ⊎_elim (λ refused. ⊎_elim inl (λ stopped. inr (inl stopped)) (stops does.takes_passes c entries p how (plain ends.told (status_pieces how) refused.1.0 ends.says) refused.0 refused.1.1))
       (λ made. ⊎_elim inl (λ done. inr (inr (made.0, made.1, done))) (made_done does entries p made.0 made.1 values made.2))
 
-  program_done : (does : OfProgram) (p : Prog) (values : List Value) (entries : List Entry) → ¬ Rose c.files_before.faults c.files_after.faults → IsProfileTold (profile_path does.profile c.profile) c.files_before.holds
-      → Spell does.arguments p asks.args values → IsProfileAt (profile_path does.profile c.profile) c.files_before.holds entries
+  program_done : (does : OfProgram) (p : Prog) (values : List Value) (entries : List Entry) → ¬ Rose c.files_before.faults c.files_after.faults → IsSourceTold does.profile c.profile c.files_before.holds
+      → Spell does.arguments p asks.args values → IsProfileFrom does.profile c.profile c.files_before.holds p entries
       → DoesProgram does how c.passes c.files_before c.files_after p c.profile asks.args ends.told c.out_before c.out_after
       → UnlessMemory (status_number how) (AfterPasses does.takes_passes (status_number how) c entries p (λ q makes. AfterEmission does.emission (status_number how) q (IsDoneUnless (status_number how) c (does.outcome (subject does c.passes entries p q makes values)))))
   program_done does p values entries sound told spelled profiled =
-      let path = profile_path does.profile c.profile in
       ⊎_elim (λ refused. exhausted how _ (no_refusal does.arguments how p asks.args values spelled refused.0))
-      (λ goes. ⊎_elim (λ refused. exhausted how _ (not_refused c.files_before c.files_after sound path entries how told profiled refused.0))
+      (λ goes. ⊎_elim (λ refused. exhausted how _ (not_refused_from c.files_before c.files_after sound does.profile c.profile p entries how told profiled refused.0))
       (λ given. given_done does entries p values
-      (subst (λ (es : List Entry). DoesGiven does how c.passes es p values ends.told c.out_before c.out_after) (same_entries c.files_before c.files_after sound path given.0 entries told given.1 profiled)
+      (subst (λ (es : List Entry). DoesGiven does how c.passes es p values ends.told c.out_before c.out_after) (same_entries_from c.files_before c.files_after sound does.profile c.profile p given.0 entries told given.1 profiled)
       (subst (λ (vs : List Value). DoesGiven does how c.passes given.0 p vs ends.told c.out_before c.out_after) (same_values does.arguments p asks.args goes.0 values goes.1 spelled) given.2)))
       goes.2)
 
@@ -133,7 +132,7 @@ module _ (c : Call) (asks : Asks c.words) (how : Status) (ends : Ends c asks how
     command_done (OnFile outcome) is have = tree_done (OnFile outcome) is outcome (λ h does. does) have
     command_done (OnTree outcome) is have = tree_done (OnTree outcome) is outcome (λ h does. does) have
     command_done (OnProgram does) is have = λ p values entries numbered accepted spelled profiled.
-        let told : IsProfileTold (profile_path does.profile c.profile) c.files_before.holds = subst (λ k. IsProfileTold (profile_for k c.profile) c.files_before.holds) is reads.told_profile in
+        let told : IsSourceTold does.profile c.profile c.files_before.holds = subst (λ k. IsSourceTold (profile_of k) c.profile c.files_before.holds) is reads.told_profile in
         let here : Spell does.arguments p asks.args values = subst (λ a. Spell does.arguments p a values) (same_args c asks how ends action reads) spelled in
         with_program c asks how ends action (subst NeedsProgram (sym is) tt) reads tree have _ p numbered (exhausted how _)
         (λ fault e none has. absurd (has.unaccepted accepted))

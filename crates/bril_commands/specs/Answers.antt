@@ -35,10 +35,10 @@ use Rattle.rv64_implements.specs.WordBounds.{word_bounds, IsStackSize}
 use Rattle.rv64_words.specs.Region.{most_words, most_stack}
 use Rattle.bril_commands.specs.Arguments.{HasOnlyArgFault, argument_pieces}
 use Rattle.bril_commands.specs.Call.{Call, SaysAlone, ReadsWell, UnlessMemory, ComesTo}
-use Rattle.bril_commands.specs.Command.{Makes, NeedsProgram, GivesArguments, GivesValues, MakesImage, profile_for, reach, takes_passes}
+use Rattle.bril_commands.specs.Command.{Makes, NeedsProgram, GivesArguments, GivesValues, MakesImage, profile_of, reach, takes_passes}
 use Rattle.bril_commands.specs.CommandLine.{Asks, AsksFor, AskNothing, IsToldOf}
 use Rattle.bril_commands.specs.PassList.{AreUnused, IsFirstUnknown, IsRefusedPass, IsCutOff}
-use Rattle.bril_commands.specs.Profiles.{IsProfileAt, RefusesProfile}
+use Rattle.bril_commands.specs.Profiles.{IsProfileFrom, RefusesProfileFrom}
 use Rattle.bril_commands.specs.Source.{RefusesFiles, HaveFault, HaveTree, IsTreeAt, LackFile, IsOnlyNameFault, IsOnlyProgram, HasOnlyCheckFault, IsProgramOf}
 use Rattle.bril_commands.specs.Table.{command, KeepsPasses}
 use Rattle.bril_commands.specs.When.{DoneWhere}
@@ -136,7 +136,7 @@ pub record SourceRefused (c : Call) : Type 0 where
 pub record ProfileRefused (c : Call) (asks : Asks c.words) (how : Status) (line : List (List ℕ)) : Type 0 where
   pub program : Prog
   pub file : IsProgramOf (reach (command asks.action)) c.files_before.holds asks.path program
-  pub refuses : RefusesProfile (profile_for (command asks.action) c.profile) how c.files_before c.files_after
+  pub refuses : RefusesProfileFrom (profile_of (command asks.action)) c.profile how c.files_before c.files_after
   pub unused : AreUnused c.passes
   pub alone : SaysAlone c line
 
@@ -159,7 +159,7 @@ pub record LongPass (c : Call) (asks : Asks c.words) : Type 0 where
   pub program : Prog
   pub file : IsProgramOf (reach (command asks.action)) c.files_before.holds asks.path program
   pub entries : List Entry
-  pub profiled : IsProfileAt (profile_for (command asks.action) c.profile) c.files_before.holds entries
+  pub profiled : IsProfileFrom (profile_of (command asks.action)) c.profile c.files_before.holds program entries
   pub place : ℕ
   pub bound : ℕ
   pub refused : IsRefusedPass c.passes entries program place bound
@@ -183,7 +183,7 @@ pub record LongProgram (c : Call) (asks : Asks c.words) : Type 0 where
   pub program : Prog
   pub file : IsProgramOf (reach (command asks.action)) c.files_before.holds asks.path program
   pub entries : List Entry
-  pub profiled : IsProfileAt (profile_for (command asks.action) c.profile) c.files_before.holds entries
+  pub profiled : IsProfileFrom (profile_of (command asks.action)) c.profile c.files_before.holds program entries
   pub made : Prog
   pub by : Makes (takes_passes (command asks.action)) c.passes entries program made
   pub because : HasLongCode c made ⊎ HasLongStack c made limits
@@ -220,7 +220,7 @@ pub record ListBegan (c : Call) (asks : Asks c.words) : Type 0 where
   pub program : Prog
   pub file : IsProgramOf (reach (command asks.action)) c.files_before.holds asks.path program
   pub entries : List Entry
-  pub profiled : IsProfileAt (profile_for (command asks.action) c.profile) c.files_before.holds entries
+  pub profiled : IsProfileFrom (profile_of (command asks.action)) c.profile c.files_before.holds program entries
   pub cut : IsCutOff c.passes entries program
 
 -- 71: memory ran out, perhaps while the words were read, and nothing was put but what the command may have put by then; for `run`
@@ -313,7 +313,7 @@ MisarguedWhere number c =
 abbrev pub RefusedWhere : Status → ℕ → List (List ℕ) → ℕ → Call → Type 0
 RefusedWhere how expected line number c =
     (action : Action) (reads : ReadsWell c action) (tree : Tree) (program : Prog) (values : List Value) → HaveTree (reach (command action)) c.files_before.holds reads.path tree → Numbered tree program → IsAccepted program →
-    GivesValues (command action) program reads.args values → RefusesProfile (profile_for (command action) c.profile) how c.files_before c.files_after →
+    GivesValues (command action) program reads.args values → RefusesProfileFrom (profile_of (command action)) c.profile how c.files_before c.files_after →
     UnlessMemory number ((number ≡ expected) × Puts c.err_before line c.err_after)
 
 -- A profile's file that isn't there is told.

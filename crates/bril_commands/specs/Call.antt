@@ -16,12 +16,12 @@ use Rattle.bril_words.specs.CommandLine.{words_ask}
 use Rattle.bril_words.specs.Names.{names_of}
 use Rattle.pass_law.specs.Meaning.{Meaning}
 use Rattle.pass_law.specs.declared.tally.Tally.{Tally}
-use Rattle.bril_commands.specs.Command.{Command, OnFile, OnTree, OnProgram, OfProgram, AreGiven, Makes, Fits, profile_for, reach, reach_of}
+use Rattle.bril_commands.specs.Command.{Command, OnFile, OnTree, OnProgram, OfProgram, AreGiven, Makes, Fits, profile_of, reach, reach_of}
 use Rattle.bril_commands.specs.CommandLine.{Asks, AsksFor, list_asked, profile_asked}
 use Rattle.bril_commands.specs.Driver.{subject}
 use Rattle.bril_commands.specs.Outcome.{Outcome}
 use Rattle.bril_commands.specs.PassList.{PassList, pass_list}
-use Rattle.bril_commands.specs.Profiles.{IsProfileAt, IsProfileTold, profile_path}
+use Rattle.bril_commands.specs.Profiles.{IsProfileFrom, IsSourceTold}
 use Rattle.bril_commands.specs.Source.{Reach, Alone, WithImports, AreTold, IsProgramOf, IsTreeAt}
 use Rattle.bril_commands.specs.Table.{command}
 
@@ -62,7 +62,7 @@ pub record ReadsWell (c : Call) (action : Action) : Type 0 where
   pub args : List (List ℕ)
   pub asked : AsksFor c.words action path args
   pub told : AreTold (reach (command action)) c.files_before.holds
-  pub told_profile : IsProfileTold (profile_for (command action) c.profile) c.files_before.holds
+  pub told_profile : IsSourceTold (profile_of (command action)) c.profile c.files_before.holds
   pub sound : ¬ Rose c.files_before.faults c.files_after.faults
 
 -- this status, unless memory ran out
@@ -92,7 +92,7 @@ pub record ProgramComesTo (does : OfProgram) (c : Call) (path : List ℕ) (args 
   pub values : List Value
   pub given : AreGiven does.arguments program args values
   pub entries : List Entry
-  pub profiled : IsProfileAt (profile_path does.profile c.profile) c.files_before.holds entries
+  pub profiled : IsProfileFrom does.profile c.profile c.files_before.holds program entries
   pub made : Prog
   pub makes : Makes does.takes_passes c.passes entries program made
   pub fits : Fits does.emission made

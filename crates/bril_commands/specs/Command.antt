@@ -1,5 +1,5 @@
 -- What a command is: what it works on, and what this comes to.
-use Rattle.std.specs.Prelude.{ℕ, ◌≡◌, Bool, true, false, List, [], Option, None}
+use Rattle.std.specs.Prelude.{ℕ, ◌≡◌, Bool, true, false, List, []}
 use Rattle.bril_arguments.specs.Spelled.{AreSpelled}
 use Rattle.bril_profile.specs.declared.profile.Entry.{Entry}
 use Rattle.bril_report.specs.declared.status.Status.{Status}
@@ -13,7 +13,7 @@ use Rattle.bril_commands.specs.Arguments.{AreOnlyValues, RefusesArgs}
 use Rattle.bril_commands.specs.Images.{RefusesImage}
 use Rattle.bril_commands.specs.Outcome.{Outcome}
 use Rattle.bril_commands.specs.PassList.{PassList, IsMade, RefusesList, AreFactorsOf, AreEnoughFor}
-use Rattle.bril_commands.specs.Profiles.{ProfileSource, profile_path}
+use Rattle.bril_commands.specs.Profiles.{ProfileSource, NoProfile}
 use Rattle.bril_commands.specs.Source.{Reach, Alone, WithImports, OfDemo}
 
 -- ---- the arguments
@@ -151,11 +151,11 @@ GivesValues (OnFile outcome) p args values = ⊥
 GivesValues (OnTree outcome) p args values = ⊥
 GivesValues (OnProgram does) p args values = Spell does.arguments p args values
 
--- the path of its profile's file, of what the words name
-abbrev pub profile_for : Command → Option (List ℕ) → Option (List ℕ)
-profile_for (OnFile outcome) named = None
-profile_for (OnTree outcome) named = None
-profile_for (OnProgram does) named = profile_path does.profile named
+-- where it has its profile from
+abbrev pub profile_of : Command → ProfileSource
+profile_of (OnFile outcome) = NoProfile
+profile_of (OnTree outcome) = NoProfile
+profile_of (OnProgram does) = does.profile
 
 -- it takes a list of passes
 abbrev pub takes_passes : Command → Bool

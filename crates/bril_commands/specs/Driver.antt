@@ -10,7 +10,7 @@ use Rattle.bril_tree.specs.declared.value.Value.{Value}
 use Rattle.bril_commands.specs.Command.{Command, OnFile, OnTree, OnProgram, OfProgram, Subject, AreGiven, RefusesGiven, Makes, RefusesMaking, FactorOf, AreEnough, Fits, RefusesEmission, reach}
 use Rattle.bril_commands.specs.Outcome.{Works}
 use Rattle.bril_commands.specs.PassList.{PassList, AreUnused}
-use Rattle.bril_commands.specs.Profiles.{IsProfileAt, RefusesProfile, profile_path}
+use Rattle.bril_commands.specs.Profiles.{IsProfileFrom, RefusesProfileFrom}
 use Rattle.bril_commands.specs.Source.{IsTreeAt}
 use Rattle.bril_commands.specs.Stages.{RefusesTree, RefusesProgram, IsAcceptedProgram}
 
@@ -47,7 +47,7 @@ DoesGiven does how l entries p values told s t =
 abbrev pub DoesProgram : OfProgram → Status → PassList → FilesSeen → FilesSeen → Prog → Option (List ℕ) → List (List ℕ) → List (List ℕ) → SinkSeen → SinkSeen → Type 0
 DoesProgram does how l f g p named args told s t =
     Stage (RefusesGiven does.arguments how p args) (IsIdle l told s t) (λ values. AreGiven does.arguments p args values) (λ values given.
-    Stage (RefusesProfile (profile_path does.profile named) how f g) (IsIdle l told s t) (λ entries. IsProfileAt (profile_path does.profile named) f.holds entries) (λ entries is.
+    Stage (RefusesProfileFrom does.profile named how f g) (IsIdle l told s t) (λ entries. IsProfileFrom does.profile named f.holds p entries) (λ entries is.
     DoesGiven does how l entries p values told s t))
 
 -- the same of a command that needs the program

@@ -1,11 +1,14 @@
--- The profile that a command gives to its list of passes: the entries of the file that the words name, or why there are none.
+-- The profile that a command gives to its list of passes: the entries of the file that the words name, or of a run of the program itself,
+-- or why there are none.
 use Rattle.std.specs.Prelude.{ℕ, ◌≡◌, ◌<◌, ◌≤◌, List, [], length, Option, Some, None}
 use Rattle.bril_outside.specs.Files.{FileMap, FilesSeen, MayFail, MayHold}
 use Rattle.bril_profile.specs.declared.profile.Entry.{Entry}
 use Rattle.bril_report.specs.declared.status.Status.TheVariants as status
 use Rattle.bril_report.specs.declared.status.Status.{Status}
 use Rattle.profile_text.specs.Fault.{IsFirstFault}
+use Rattle.bril_tree.specs.declared.program.Prog.{Prog}
 use Rattle.profile_text.specs.Form.{AreEntries, profile_text}
+use Rattle.bril_commands.specs.Recording.{AreRecorded}
 
 -- the most bytes that the file of a profile may have
 abbrev pub most_profile_bytes : ℕ
@@ -44,18 +47,6 @@ RefusesProfileFile _ before after path = ⊥
 
 -- ---- where there may be no file
 
--- where a command has its profile from
-pub data ProfileSource : Type 0 where
-  -- it takes none: it has no entries
-  NoProfile : ProfileSource
-  -- the file that the words name; where they name none, it has no entries
-  NamedFile : ProfileSource
-
--- the path of the file, of what the words name
-abbrev pub profile_path : ProfileSource → Option (List ℕ) → Option (List ℕ)
-profile_path NoProfile named = None
-profile_path NamedFile named = named
-
 -- these are the entries
 abbrev pub IsProfileAt : Option (List ℕ) → Option FileMap → List Entry → Type 0
 IsProfileAt None holds entries = entries ≡ []
@@ -70,3 +61,33 @@ RefusesProfile (Some path) how before after = RefusesProfileFile how before afte
 abbrev pub IsProfileTold : Option (List ℕ) → Option FileMap → Type 0
 IsProfileTold None holds = Unit {0}
 IsProfileTold (Some path) holds = (map : FileMap) × (holds ≡ Some map)
+
+-- ---- the profile of a command
+
+-- where a command has its profile from
+pub data ProfileSource : Type 0 where
+  -- it takes none: it has no entries
+  NoProfile : ProfileSource
+  -- the file that the words name; where they name none, it has no entries
+  NamedFile : ProfileSource
+  -- a run of the program itself, without arguments, so far: under limits of so many frames and cells, after so many steps at most; a label
+  -- that was arrived at `hot` times has an entry, and there are `most` entries at most
+  OwnRun : (frames cells steps hot most : ℕ) → ProfileSource
+
+-- these are the entries of a program's profile, by the path that the words name
+abbrev pub IsProfileFrom : ProfileSource → Option (List ℕ) → Option FileMap → Prog → List Entry → Type 0
+IsProfileFrom NoProfile named holds p entries = entries ≡ []
+IsProfileFrom NamedFile named holds p entries = IsProfileAt named holds entries
+IsProfileFrom (OwnRun frames cells steps hot most) named holds p entries = AreRecorded p [] frames cells steps hot most entries
+
+-- why there are none; of a run there are, unless memory runs out
+abbrev pub RefusesProfileFrom : ProfileSource → Option (List ℕ) → Status → FilesSeen → FilesSeen → Type 0
+RefusesProfileFrom NoProfile named how before after = ⊥
+RefusesProfileFrom NamedFile named how before after = RefusesProfile named how before after
+RefusesProfileFrom (OwnRun frames cells steps hot most) named how before after = how ≡ status.OutOfMemory
+
+-- the files are told, where one of them has the profile
+abbrev pub IsSourceTold : ProfileSource → Option (List ℕ) → Option FileMap → Type 0
+IsSourceTold NoProfile named holds = Unit {0}
+IsSourceTold NamedFile named holds = IsProfileTold named holds
+IsSourceTold (OwnRun frames cells steps hot most) named holds = Unit {0}

@@ -18,7 +18,7 @@ use Rattle.bril_commands.specs.Command.{Command, OnFile, OnTree, OnProgram, Make
 use Rattle.bril_commands.specs.Driver.{subject}
 use Rattle.bril_commands.specs.Outcome.{Outcome}
 use Rattle.bril_commands.specs.PassList.{IsFirstUnknown, IsRefusedPass}
-use Rattle.bril_commands.specs.Profiles.{IsProfileAt, profile_path}
+use Rattle.bril_commands.specs.Profiles.{IsProfileFrom}
 use Rattle.bril_commands.specs.Source.{HaveTree}
 use Rattle.bril_commands.specs.Table.{command}
 
@@ -75,7 +75,7 @@ abbrev pub CommandDone : Command → ℕ → Call → Tree → List (List ℕ) �
 CommandDone (OnFile outcome) number c tree args = UnlessMemory number (IsDoneUnless number c (outcome tree))
 CommandDone (OnTree outcome) number c tree args = UnlessMemory number (IsDoneUnless number c (outcome tree))
 CommandDone (OnProgram does) number c tree args =
-    (p : Prog) (values : List Value) (entries : List Entry) → Numbered tree p → IsAccepted p → Spell does.arguments p args values → IsProfileAt (profile_path does.profile c.profile) c.files_before.holds entries →
+    (p : Prog) (values : List Value) (entries : List Entry) → Numbered tree p → IsAccepted p → Spell does.arguments p args values → IsProfileFrom does.profile c.profile c.files_before.holds p entries →
     UnlessMemory number (AfterPasses does.takes_passes number c entries p (λ q makes. AfterEmission does.emission number q (IsDoneUnless number c (does.outcome (subject does c.passes entries p q makes values)))))
 
 -- The command that the words ask for is done, where its files have a tree.

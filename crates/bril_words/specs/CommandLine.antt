@@ -117,7 +117,7 @@ action_of subcommand.Demo n = action.Demo n.functions
 
 -- the list of passes that a command applies: the demo has one of its own
 abbrev pub list_for : Subcommand → List ℕ → List ℕ
-list_for subcommand.Demo list = codes "const,dead,tidy"
+list_for subcommand.Demo list = codes "trace,const,dead,tidy"
 list_for _ list = list
 
 -- an action on the file at a path, with this list of passes, this path of a profile and these arguments

@@ -38,7 +38,8 @@ pub enum Action {
     Check,
     /// Writes its program and all that this imports as one tree, in canonical text.
     Link,
-    /// Makes the demo program of so many functions, compiles it and runs it, and writes how that went. It has no file.
+    /// Makes the demo program of so many functions, records its run, compiles it with this profile and runs it, and writes how that went.
+    /// It has no file.
     Demo {
         functions: u32,
     },

@@ -51,7 +51,7 @@ pub const HOT: u32 = 16;
 pub const ENTRIES: u32 = 16;
 
 // The passes of the demo.
-const DEMO_PASSES: &str = "const,dead,tidy";
+const DEMO_PASSES: &str = "trace,const,dead,tidy";
 
 // The numbers of a run, and whether its counts are told.
 #[derive(Clone, Copy, Drop)]

@@ -5,7 +5,7 @@ use Rattle.bril_tree.specs.FunctionForm.{listed}
 use Rattle.slot_code.specs.declared.item.Printed.{Printed}
 use Rattle.slot_code.specs.declared.item.Slot.TheVariants.{Variable}
 use Rattle.slot_code.specs.declared.slots.SlotFunction.{SlotFunction}
-use Rattle.rv64_layout.specs.Items.{slot_word}
+use Rattle.rv64_layout.specs.Homes.{slot_word}
 
 module _ (g : SlotFunction) where
   variables_fit : (xs : List ℕ) → AllByRecursion (λ slot. slot_word g slot < 2 ^ 26) (map Variable xs) → AllByRecursion (λ x. 2 + x < 2 ^ 26) xs

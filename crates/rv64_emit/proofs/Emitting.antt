@@ -13,11 +13,14 @@ use Rattle.rv64_words.specs.declared.image.Image.{Image}
 use Rattle.rv64_words.specs.Encoding.{encoded}
 use Rattle.slot_code.specs.declared.slots.Slots.{Slots}
 use Rattle.slot_code.specs.Lowered.{IsLowered, IsLoweredFunction, lowered_item}
-use Rattle.rv64_layout.specs.Image.{joined, start_at, head_words, function_words_at, image_words, largest_frame, IsImageOf}
+use Rattle.rv64_layout.specs.Fits.{ItemFits}
+use Rattle.rv64_layout.specs.Homes.{frame_homes, in_frame_or_none}
+use Rattle.rv64_layout.specs.Image.{depth_at, joined, start_at, head_words, function_words_at, image_words, largest_frame, IsImageOf}
 use Rattle.rv64_layout.proofs.Bounding.{image_bounded, function_made}
 use Rattle.rv64_layout.proofs.Fitting.{item_fits, largest_is}
 use Rattle.rv64_layout.proofs.Guarding.{guards_counted}
 use Rattle.rv64_layout.proofs.Laid.{functions_length}
+use Rattle.rv64_emit_laws.proofs.Homes.{frames_have}
 use Rattle.rv64_emit_laws.proofs.Theorem.{implements}
 use Rattle.rv64_emit.specs.Tables.{SlotsFit}
 
@@ -29,8 +32,8 @@ pub record IsEmitted (p : Prog) (limits : Limits) (image : Image) : Type 0 where
   pub stack : IsStackSize p limits image.stack
 
 module _ (p : Prog) (slots : Slots) (limits : Limits) (accepted : IsAccepted p) (literals : AreLiteralsInRange p) (is : IsLowered p slots) (within : IsWithin p limits) where
-  few : start_at slots (length slots.funcs) ≤ 250000
-  few = let code = within.code in let bounded = image_bounded p slots is in omega arith
+  few : start_at (frame_homes slots) slots (length slots.funcs) ≤ 250000
+  few = let code = within.code in let bounded = image_bounded (frame_homes slots) p slots is in omega arith
 
   pub slots_fit : IsCounted p → SlotsFit slots
   slots_fit counted = record {
@@ -40,28 +43,28 @@ module _ (p : Prog) (slots : Slots) (limits : Limits) (accepted : IsAccepted p) 
         let same : length g.code ≡ length made.0.code = ap length made.2.code ∙ length-map made.0.code (lowered_item made.0) in
         let few_items = All-at (λ h. length h.code < 2 ^ 32 - 1) p.funcs f made.0 counted.items made.1 in
         omega arith);
-    items = item_fits p slots limits accepted literals is within;
+    items = λ f g point item at there. subst (λ homes. ItemFits homes g (depth_at g point) item) (ap in_frame_or_none at) (item_fits p slots limits accepted literals is within (frame_homes slots) (frames_have p slots is) f g point item at there);
     few = few;
   }
 
   -- the image has few words, and no more guards
-  words_are : (image : Image) → IsImageOf slots limits image → length image.words ≡ start_at slots (length slots.funcs)
+  words_are : (image : Image) → IsImageOf (frame_homes slots) slots limits image → length image.words ≡ start_at (frame_homes slots) slots (length slots.funcs)
   words_are image laid =
-      let head = head_words limits (start_at slots slots.main) in
-      let functions = joined (function_words_at slots) (length slots.funcs) in
-      omega (arith, ap length laid.words, length-map (image_words slots limits) encoded, length-append head functions, functions_length slots (length slots.funcs))
+      let head = head_words limits (start_at (frame_homes slots) slots slots.main) in
+      let functions = joined (function_words_at (frame_homes slots) slots) (length slots.funcs) in
+      omega (arith, ap length laid.words, length-map (image_words (frame_homes slots) slots limits) encoded, length-append head functions, functions_length (frame_homes slots) slots (length slots.funcs))
 
-  words_few : (image : Image) → IsImageOf slots limits image → length image.words ≤ 250000
+  words_few : (image : Image) → IsImageOf (frame_homes slots) slots limits image → length image.words ≤ 250000
   words_few image laid = omega (arith, few, words_are image laid)
 
-  guards_few : (image : Image) → IsImageOf slots limits image → length image.guards ≤ length image.words
-  guards_few image laid = omega (arith, words_are image laid, ap length laid.guards, guards_counted slots)
+  guards_few : (image : Image) → IsImageOf (frame_homes slots) slots limits image → length image.guards ≤ length image.words
+  guards_few image laid = omega (arith, words_are image laid, ap length laid.guards, guards_counted (frame_homes slots) slots)
 
   -- the stack has the words of the largest frame, once for each frame
   pub stack_is : (stack : ℕ) → IsStackSize p limits stack → stack ≡ limits.frames * largest_frame slots
   stack_is stack size = size.is ∙ ap (λ n. limits.frames * n) (sym (largest_is p slots limits accepted literals is within size.frame size.largest))
 
-  pub emitted : (stack : ℕ) → IsStackSize p limits stack → (image : Image) → IsImageOf slots limits image → IsEmitted p limits image
+  pub emitted : (stack : ℕ) → IsStackSize p limits stack → (image : Image) → IsImageOf (frame_homes slots) slots limits image → IsEmitted p limits image
   emitted stack size image laid = record {
     implements = implements p slots limits image accepted literals is within laid;
     words = words_few image laid;

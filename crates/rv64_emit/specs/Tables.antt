@@ -8,6 +8,7 @@ use Rattle.slot_code.specs.declared.item.SlotItem.TheVariants.{Guard}
 use Rattle.slot_code.specs.declared.slots.SlotFunction.{SlotFunction}
 use Rattle.slot_code.specs.declared.slots.Slots.{Slots}
 use Rattle.rv64_layout.specs.Fits.{ItemFits}
+use Rattle.rv64_layout.specs.Homes.{frame_homes, in_frame}
 use Rattle.rv64_layout.specs.Image.{joined, depth_at, start_at, entry_at, item_words_at}
 use Rattle.rv64_layout.specs.Items.{guard_front_size}
 use Rattle.rv64_words.specs.Region.{most_words}
@@ -18,7 +19,7 @@ table_at table k = slice_index table (min k (length table - 1))
 
 -- where each function begins, and at last where the image ends
 abbrev pub start_table : Slots → List ℕ
-start_table slots = map (start_at slots) (range_with_len 0 (length slots.funcs + 1))
+start_table slots = map (start_at (frame_homes slots) slots) (range_with_len 0 (length slots.funcs + 1))
 
 abbrev pub item_count : Option SlotFunction → ℕ
 item_count None = 0
@@ -26,11 +27,11 @@ item_count (Some g) = length g.code
 
 -- where each item of function f begins, and at last the words that leave the function
 abbrev pub entry_table : Slots → ℕ → List ℕ
-entry_table slots f = map (entry_at slots f) (range_with_len 0 (item_count (slice_get slots.funcs f) + 1))
+entry_table slots f = map (entry_at (frame_homes slots) slots f) (range_with_len 0 (item_count (slice_get slots.funcs f) + 1))
 
 abbrev pub items_or_none : Slots → ℕ → Option SlotFunction → List Word
 items_or_none slots f None = []
-items_or_none slots f (Some g) = joined (item_words_at slots f g) (length g.code)
+items_or_none slots f (Some g) = joined (item_words_at (frame_homes slots) slots f g) (length g.code)
 
 -- the words of the items of function f
 abbrev pub items_at : Slots → ℕ → List Word
@@ -39,7 +40,7 @@ items_at slots f = items_or_none slots f (slice_get slots.funcs f)
 -- an item as a guard, if it is one, in function f, where its first word is `entry`
 abbrev pub guard_with : ℕ → ℕ → SlotFunction → ℕ → ℕ → SlotItem → List GuardAt
 guard_with entry f g depth point (Guard condition abort_to) =
-    record { word = entry + guard_front_size g depth condition; func = f; item = point } ∷ []
+    record { word = entry + guard_front_size (in_frame g) g depth condition; func = f; item = point } ∷ []
 guard_with entry f g depth point _ = []
 
 -- The image of code over slots can be made: functions and points have numbers of 32 bits, each item fits, and there are at
@@ -48,5 +49,5 @@ pub record SlotsFit (slots : Slots) : Type 0 where
   pub functions : length slots.funcs < 2 ^ 32
   pub points : (f : ℕ) (g : SlotFunction) → slice_get slots.funcs f ≡ Some g → length g.code < 2 ^ 32
   pub items : (f : ℕ) (g : SlotFunction) (point : ℕ) (item : SlotItem) → slice_get slots.funcs f ≡ Some g → slice_get g.code point ≡ Some item →
-      ItemFits g (depth_at g point) item
-  pub few : start_at slots (length slots.funcs) ≤ most_words
+      ItemFits (in_frame g) g (depth_at g point) item
+  pub few : start_at (frame_homes slots) slots (length slots.funcs) ≤ most_words

@@ -3,9 +3,11 @@
 ghost use Rattle.std.specs.Prelude.{◌≡◌, ◌+◌, ◌*◌, ◌^◌, ◌<◌, length, suc};
 ghost use Rattle.bril_tree.specs.Value as values;
 ghost use Rattle.rv64_layout.specs.Image as image;
+ghost use Rattle.rv64_layout.specs.Homes as homes;
 ghost use Rattle.rv64_layout.specs.Items as items;
 ghost use Rattle.rv64_layout.specs.Fits.{frame_reach};
 
+use bril_tree::home::Home;
 use bril_tree::value::Value;
 use slot_code::{Slot, SlotFunction};
 
@@ -31,10 +33,26 @@ pub fn variable_word(variable: u32) -> u64
 
 /// The word of the frame in which a slot stands.
 pub fn slot_word(func: &SlotFunction, slot: Slot) -> u64
-    requires { items.slot_word func.now slot < frame_reach }
-    ensures { result ≡ items.slot_word func.now slot }
+    requires { homes.slot_word func.now slot < frame_reach }
+    ensures { result ≡ homes.slot_word func.now slot }
 {
     2 + func.number(slot) as u64
+}
+
+/// The home of a variable: its own word of the frame.
+pub fn variable_home(variable: u32) -> Home
+    requires { 2 + variable < frame_reach }
+    ensures { result ≡ Home.Frame (2 + variable) }
+{
+    Home::Frame(2 + variable)
+}
+
+/// The home of a slot: its own word of the frame.
+pub fn slot_home(func: &SlotFunction, slot: Slot) -> Home
+    requires { homes.slot_word func.now slot < frame_reach }
+    ensures { result ≡ Home.Frame (homes.slot_word func.now slot) }
+{
+    Home::Frame(slot_word(func, slot) as u32)
 }
 
 /// The number of a function's slots.
@@ -47,7 +65,7 @@ pub fn slot_count(func: &SlotFunction) -> u64
 /// The first word of the slots as they were at an open speculation.
 pub fn level_word(func: &SlotFunction, level: usize) -> u64
     requires { length func.now.slots * level < frame_reach }
-    ensures { result ≡ items.level_word func.now level }
+    ensures { result ≡ homes.level_word func.now level }
 {
     2 + slot_count(func) * level as u64
 }
@@ -55,7 +73,7 @@ pub fn level_word(func: &SlotFunction, level: usize) -> u64
 /// The first word of the slots as they were at the speculation after that one.
 pub fn next_level_word(func: &SlotFunction, level: usize) -> u64
     requires { length func.now.slots * (level + 2) < frame_reach }
-    ensures { result ≡ items.level_word func.now (suc level) }
+    ensures { result ≡ homes.level_word func.now (suc level) }
 {
     level_word(func, level) + slot_count(func)
 }

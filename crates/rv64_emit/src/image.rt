@@ -5,6 +5,7 @@ ghost use Rattle.rv64_emit.specs.Tables as tables;
 ghost use Rattle.rv64_emit.specs.Tables.{SlotsFit, items_at, guard_with, table_at};
 ghost use Rattle.rv64_layout.specs.Image.{joined, start_at, head_words, function_words_at, function_guards_at, largest_frame, IsImageOf};
 ghost use Rattle.rv64_layout.specs.Fits.{ItemFits};
+ghost use Rattle.rv64_layout.specs.Homes.{frame_homes, in_frame};
 ghost use Rattle.rv64_layout.specs.Items as layout;
 ghost use Rattle.rv64_words.specs.Encoding.{encoded};
 ghost use Rattle.rv64_words.specs.Region.{most_words};
@@ -53,7 +54,7 @@ fn put_items(
     requires fits { SlotsFit slots.now }
     requires starts { starts.now ≡ tables.start_table slots.now }
     requires entries { entries.now ≡ tables.entry_table slots.now number }
-    requires here { length code.old ≡ start_at slots.now number + 1 }
+    requires here { length code.old ≡ start_at (frame_homes slots.now) slots.now number + 1 }
     ensures { OnOk result (code.new ≡ code.old ++ map encoded (items_at slots.now number)) }
 {
     let func = function_at(slots, number);
@@ -75,8 +76,8 @@ fn put_function(
     requires fits { SlotsFit slots.now }
     requires starts { starts.now ≡ tables.start_table slots.now }
     requires entries { entries.now ≡ tables.entry_table slots.now number }
-    requires here { length code.old ≡ start_at slots.now number }
-    ensures { OnOk result (code.new ≡ code.old ++ map encoded (function_words_at slots.now number)) }
+    requires here { length code.old ≡ start_at (frame_homes slots.now) slots.now number }
+    ensures { OnOk result (code.new ≡ code.old ++ map encoded (function_words_at (frame_homes slots.now) slots.now number)) }
 {
     put(code, &[sd(FRAME, LINK, immediate(0))])?;
     put_items(code, slots, number, starts, entries)?;
@@ -94,8 +95,8 @@ fn push_guard(
     depth: usize,
     item: &SlotItem,
 ) -> Result<(), AllocError>
-    requires fits { ItemFits func.now depth item.now }
-    requires few { place.word + layout.item_size func.now depth item.now ≤ most_words }
+    requires fits { ItemFits (in_frame func.now) func.now depth item.now }
+    requires few { place.word + layout.item_size (in_frame func.now) func.now depth item.now ≤ most_words }
     ensures { OnOk result (guards.new ≡ guards.old ++ guard_with place.word place.func func.now depth place.item item.now) }
 {
     match item {
@@ -117,7 +118,7 @@ fn push_guards(
     requires inside { number < length slots.now.funcs }
     requires fits { SlotsFit slots.now }
     requires entries { entries.now ≡ tables.entry_table slots.now number }
-    ensures { OnOk result (guards.new ≡ guards.old ++ function_guards_at slots.now number) }
+    ensures { OnOk result (guards.new ≡ guards.old ++ function_guards_at (frame_homes slots.now) slots.now number) }
 {
     let func = function_at(slots, number);
     for (point, item) in func.code.as_slice().iter().enumerate() {
@@ -144,8 +145,8 @@ fn put_functions(
     requires fits { SlotsFit slots.now }
     requires starts { starts.now ≡ tables.start_table slots.now }
     requires here { length code.old ≡ 6 }
-    ensures words { OnOk result (code.new ≡ code.old ++ map encoded (joined (function_words_at slots.now) (length slots.now.funcs))) }
-    ensures guards { OnOk result (guards.new ≡ guards.old ++ joined (function_guards_at slots.now) (length slots.now.funcs)) }
+    ensures words { OnOk result (code.new ≡ code.old ++ map encoded (joined (function_words_at (frame_homes slots.now) slots.now) (length slots.now.funcs))) }
+    ensures guards { OnOk result (guards.new ≡ guards.old ++ joined (function_guards_at (frame_homes slots.now) slots.now) (length slots.now.funcs)) }
 {
     for number in 0..slots.funcs.as_slice().len() {
         let entries = entry_table(alloc, slots, number, place(starts, number as u32))?;
@@ -164,7 +165,7 @@ pub fn image_of(
 ) -> Result<Image, AllocError>
     requires fits { SlotsFit slots.now }
     requires stack { stack ≡ limits.frames * largest_frame slots.now }
-    ensures { IfOk result (IsImageOf slots.now limits) }
+    ensures { IfOk result (IsImageOf (frame_homes slots.now) slots.now limits) }
 {
     let starts = start_table(alloc, slots)?;
     let mut words = Seq::new(alloc);

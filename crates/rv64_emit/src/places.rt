@@ -3,6 +3,7 @@
 ghost use Rattle.std.specs.Prelude.{◌≡◌, ◌+◌, ◌<◌, ◌≤◌, ℕ, Some, length, slice_get, IfOk};
 ghost use Rattle.rv64_emit.specs.Tables as tables;
 ghost use Rattle.rv64_emit.specs.Tables.{SlotsFit, table_at};
+ghost use Rattle.rv64_layout.specs.Homes.{frame_homes};
 ghost use Rattle.rv64_layout.specs.Image.{start_at, function_size};
 ghost use Rattle.rv64_words.specs.Region.{most_words};
 
@@ -35,7 +36,7 @@ pub fn function_at(slots: &Slots, number: usize) -> &SlotFunction
 fn function_size_of(slots: &Slots, number: usize) -> u32
     requires inside { number < length slots.now.funcs }
     requires fits { SlotsFit slots.now }
-    ensures { start_at slots.now number + result ≡ start_at slots.now (number + 1) }
+    ensures { start_at (frame_homes slots.now) slots.now number + result ≡ start_at (frame_homes slots.now) slots.now (number + 1) }
 {
     let func = function_at(slots, number);
     let mut size = 1;
@@ -69,7 +70,7 @@ pub fn entry_table(
 ) -> Result<Seq<u32>, AllocError>
     requires inside { number < length slots.now.funcs }
     requires fits { SlotsFit slots.now }
-    requires start { start ≡ start_at slots.now number }
+    requires start { start ≡ start_at (frame_homes slots.now) slots.now number }
     ensures { IfOk result (λ entries. entries ≡ tables.entry_table slots.now number) }
 {
     let func = function_at(slots, number);

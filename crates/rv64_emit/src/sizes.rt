@@ -1,14 +1,20 @@
 // How many words items and functions have.
 
-ghost use Rattle.std.specs.Prelude.{◌≡◌, ◌+◌, ◌≤◌, ◌<◌, ◌^◌, ◌*◌, length, suc};
+ghost use Rattle.std.specs.Prelude.{◌≡◌, ◌+◌, ◌≤◌, ◌<◌, ◌^◌, ◌*◌, true, length, suc};
+ghost use Rattle.std.specs.List.{AllByRecursion};
+ghost use Rattle.rv64_layout.specs.Homes as homes;
+ghost use Rattle.rv64_layout.specs.Homes.{in_frame, level_moves, moves_from};
 ghost use Rattle.rv64_layout.specs.Items as items;
-ghost use Rattle.rv64_sequences.specs.Sequences.{copy_size, load_size, store_size};
+ghost use Rattle.rv64_sequences.specs.Moves.{save_size, restore_size};
+ghost use Rattle.rv64_sequences.specs.Sequences.{load_size, store_size};
 ghost use Rattle.rv64_words.specs.Region.{most_words};
 ghost use Rattle.rv64_layout.specs.Fits.{frame_reach};
 
-use crate::frame::{argument_word, level_word, next_level_word, slot_count, variable_word};
-use crate::sequences::{copy_size_of, frame_up_size_of, load_size_of, store_size_of};
-use slot_code::{Printed, SlotFunction};
+use crate::frame::{argument_word, level_word, next_level_word, slot_home, variable_word};
+use crate::sequences::{
+    frame_up_size_of, load_size_of, restore_one_size_of, save_one_size_of, store_size_of,
+};
+use slot_code::{Printed, Slot, SlotFunction};
 
 // ---- parts of items
 
@@ -48,7 +54,7 @@ pub fn moved_size(from: u32, to: u32) -> u32
 fn pass_size_of(func: &SlotFunction, args: &[u32]) -> u32
     requires frame { func.now.words < frame_reach }
     requires few { length args.now < frame_reach }
-    ensures value { result ≡ items.pass_size func.now 0 args.now }
+    ensures value { result ≡ items.pass_size (in_frame func.now) func.now 0 args.now }
     ensures few { result ≤ 6 * length args.now }
 {
     let mut size = 0;
@@ -62,7 +68,7 @@ fn pass_size_of(func: &SlotFunction, args: &[u32]) -> u32
 pub fn before_call_size(func: &SlotFunction, args: &[u32]) -> u32
     requires frame { func.now.words < frame_reach }
     requires few { length args.now < frame_reach }
-    ensures value { result ≡ items.before_call func.now args.now }
+    ensures value { result ≡ items.before_call (in_frame func.now) func.now args.now }
     ensures few { result ≤ 10 + 6 * length args.now }
 {
     5 + pass_size_of(func, args) + frame_up_size_of(func.words)
@@ -77,9 +83,9 @@ fn printed_size(printed: Printed) -> u32
 }
 
 // How many words variables have that are printed, each after a space.
-fn spaced_size_of(args: &[Printed]) -> u32
-    requires { items.spaced_size args.now ≤ most_words }
-    ensures { result ≡ items.spaced_size args.now }
+fn spaced_size_of(func: &SlotFunction, args: &[Printed]) -> u32
+    requires { items.spaced_size (in_frame func.now) args.now ≤ most_words }
+    ensures { result ≡ items.spaced_size (in_frame func.now) args.now }
 {
     let mut size = 0;
     for arg in args {
@@ -89,19 +95,19 @@ fn spaced_size_of(args: &[Printed]) -> u32
 }
 
 /// How many words a print has.
-pub fn print_size_of(args: &[Printed]) -> u32
-    requires { items.print_size args.now ≤ most_words }
-    ensures { result ≡ items.print_size args.now }
+pub fn print_size_of(func: &SlotFunction, args: &[Printed]) -> u32
+    requires { items.print_size (in_frame func.now) args.now ≤ most_words }
+    ensures { result ≡ items.print_size (in_frame func.now) args.now }
 {
     match args {
         [] => 2,
-        [first, rest @ ..] => 2 + printed_size(*first) + spaced_size_of(rest),
+        [first, rest @ ..] => 2 + printed_size(*first) + spaced_size_of(func, rest),
     }
 }
 
 /// How many words store the result of a call.
-pub fn result_size_of(dest: Option<u32>) -> u32
-    ensures value { result ≡ items.result_size dest }
+pub fn result_size_of(func: &SlotFunction, dest: Option<u32>) -> u32
+    ensures value { result ≡ items.result_size (in_frame func.now) dest }
     ensures few { result ≤ 3 }
 {
     match dest {
@@ -111,8 +117,8 @@ pub fn result_size_of(dest: Option<u32>) -> u32
 }
 
 /// How many words load a returned value.
-pub fn returned_size_of(value: Option<u32>) -> u32
-    ensures value { result ≡ items.returned_size value }
+pub fn returned_size_of(func: &SlotFunction, value: Option<u32>) -> u32
+    ensures value { result ≡ items.returned_size (in_frame func.now) value }
     ensures few { result ≤ 3 }
 {
     match value {
@@ -123,29 +129,60 @@ pub fn returned_size_of(value: Option<u32>) -> u32
 
 // ---- speculation
 
-/// How many words put the slots into those of a new level, where `depth` levels are kept.
-pub fn save_size(func: &SlotFunction, depth: usize) -> u32
-    requires levels { length func.now.slots * (depth + 2) < frame_reach }
-    requires few { copy_size 2 (items.level_word func.now (suc depth)) (length func.now.slots) ≤ most_words }
-    ensures { result ≡ copy_size 2 (items.level_word func.now (suc depth)) (length func.now.slots) }
+// How many words keep these slots in the words from `first` on.
+fn saves_size(func: &SlotFunction, slots: &[Slot], first: u64) -> u32
+    requires slots { AllByRecursion (λ slot. homes.slot_word func.now slot < frame_reach) slots.now }
+    requires first { first + length slots.now ≤ 2 ^ 28 }
+    requires few { save_size (moves_from (in_frame func.now) first (λ slot. true) 0 slots.now) ≤ most_words }
+    ensures { result ≡ save_size (moves_from (in_frame func.now) first (λ slot. true) 0 slots.now) }
 {
-    copy_size_of(2, next_level_word(func, depth), slot_count(func))
+    let mut size = 0;
+    for (k, slot) in slots.iter().enumerate() {
+        size += save_one_size_of(slot_home(func, *slot), first + k as u64);
+    }
+    size
 }
 
-/// How many words put the slots of a level back.
-pub fn restore_size(func: &SlotFunction, depth: usize) -> u32
-    requires levels { length func.now.slots * (depth + 2) < frame_reach }
-    requires few { copy_size (items.level_word func.now depth) 2 (length func.now.slots) ≤ most_words }
-    ensures { result ≡ copy_size (items.level_word func.now depth) 2 (length func.now.slots) }
+// How many words take these slots back from the words from `first` on.
+fn restores_size(func: &SlotFunction, slots: &[Slot], first: u64) -> u32
+    requires slots { AllByRecursion (λ slot. homes.slot_word func.now slot < frame_reach) slots.now }
+    requires first { first + length slots.now ≤ 2 ^ 28 }
+    requires few { restore_size (moves_from (in_frame func.now) first (λ slot. true) 0 slots.now) ≤ most_words }
+    ensures { result ≡ restore_size (moves_from (in_frame func.now) first (λ slot. true) 0 slots.now) }
 {
-    copy_size_of(level_word(func, depth), 2, slot_count(func))
+    let mut size = 0;
+    for (k, slot) in slots.iter().enumerate() {
+        size += restore_one_size_of(slot_home(func, *slot), first + k as u64);
+    }
+    size
+}
+
+/// How many words keep the slots at a new level, where `depth` levels are kept.
+pub fn kept_size(func: &SlotFunction, depth: usize) -> u32
+    requires slots { AllByRecursion (λ slot. homes.slot_word func.now slot < frame_reach) func.now.slots }
+    requires levels { length func.now.slots * (depth + 2) < frame_reach }
+    requires few { save_size (level_moves (in_frame func.now) func.now (suc depth)) ≤ most_words }
+    ensures { result ≡ save_size (level_moves (in_frame func.now) func.now (suc depth)) }
+{
+    saves_size(func, func.slots.as_slice(), next_level_word(func, depth))
+}
+
+/// How many words take the slots of a level back.
+pub fn back_size(func: &SlotFunction, depth: usize) -> u32
+    requires slots { AllByRecursion (λ slot. homes.slot_word func.now slot < frame_reach) func.now.slots }
+    requires levels { length func.now.slots * (depth + 2) < frame_reach }
+    requires few { restore_size (level_moves (in_frame func.now) func.now depth) ≤ most_words }
+    ensures { result ≡ restore_size (level_moves (in_frame func.now) func.now depth) }
+{
+    restores_size(func, func.slots.as_slice(), level_word(func, depth))
 }
 
 /// How many words of a guard come before its last.
 pub fn guard_front_size(func: &SlotFunction, depth: usize, condition: u32) -> u32
     requires levels { length func.now.slots * (depth + 2) < frame_reach }
-    requires few { items.guard_front_size func.now depth condition ≤ most_words }
-    ensures { result ≡ items.guard_front_size func.now depth condition }
+    requires slots { AllByRecursion (λ slot. homes.slot_word func.now slot < frame_reach) func.now.slots }
+    requires few { items.guard_front_size (in_frame func.now) func.now depth condition ≤ most_words }
+    ensures { result ≡ items.guard_front_size (in_frame func.now) func.now depth condition }
 {
-    load_variable_size(condition) + 2 + restore_size(func, depth)
+    load_variable_size(condition) + 2 + back_size(func, depth)
 }

@@ -1,5 +1,5 @@
 -- The item that makes a block.
-use Rattle.std.proofs.Common.{◌≡◌, ◌≢◌, ℕ, suc, ◌+◌, ◌*◌, ◌^◌, ◌≤◌, refl, sym, ap, ◌∙◌, subst, arith, List, [], ◌∷◌, ◌++◌, length, Option, Some, None, pos}
+use Rattle.std.proofs.Common.{◌≡◌, ◌≢◌, ℕ, suc, ◌+◌, ◌*◌, ◌^◌, ◌≤◌, refl, sym, ap, ◌∙◌, subst, arith, List, [], ◌∷◌, ◌++◌, length, Option, Some, None, pos, inl}
 use Rattle.std.specs.Prelude.{slice_get}
 use Rattle.std.specs.Int.{w64, cast_unsigned}
 use Rattle.bril_tree.specs.declared.limits.Fault.{Fault}
@@ -7,6 +7,7 @@ use Rattle.bril_tree.specs.declared.value.Value.TheVariants.{Int, Ptr}
 use Rattle.bril_tree.specs.Memory.{allocation_fault, cells_of, new_block}
 use Rattle.bril_tree.specs.Outcome.{int_of}
 use Rattle.bril_tree.specs.State as bril
+use Rattle.bril_tree.specs.Operand as location
 use Rattle.bril_tree.specs.Step.{step, allocates}
 use Rattle.rv64_blocks.specs.Laws.{CoreHolds}
 use Rattle.rv64_blocks.proofs.Allocating.{faults_alike, allocation_keeps}
@@ -21,20 +22,21 @@ use Rattle.rv64_words.specs.State.{State}
 use Rattle.slot_code.specs.declared.item.Slot.TheVariants.{Variable}
 use Rattle.slot_code.specs.declared.item.SlotItem.TheVariants.{Alloc}
 use Rattle.slot_code.specs.Laws.{IsSlotOf}
+use Rattle.rv64_emit_laws.proofs.Acting.{fills_slot}
 use Rattle.rv64_emit_laws.proofs.Arriving.{Moves, faults_moves, here, step_at}
 use Rattle.rv64_emit_laws.proofs.Asking.{asked, asked_keeps, asked_memory, asked_value, asked_word, asks, number_is}
-use Rattle.rv64_emit_laws.proofs.Operands.{read_is}
+use Rattle.rv64_emit_laws.proofs.Operands.{read_is, reads}
 use Rattle.rv64_emit_laws.proofs.Ready.{HoldsInt}
 use Rattle.rv64_emit_laws.proofs.Relation.{HasWord, RunsAlike}
 use Rattle.rv64_emit_laws.proofs.Remembering.{KeepsFrames, fills_moves}
-use Rattle.rv64_emit_laws.proofs.Setting.{Setting, sizes}
+use Rattle.rv64_emit_laws.proofs.Setting.{Setting, its_words, next_entry, sizes}
 
 ten_not_six : ◌≢◌ {A = ℕ} 10 6
 ten_not_six = λ e. absurd (omega arith)
 
 module _ (S : Setting) (s : bril.State) (t : State) (r : RunsAlike S s t) (dest count : ℕ) (item : slice_get r.holds.function.code r.frame.point ≡ Some (Alloc dest count)) (held : HoldsInt r.frame.locations count) (in_count : IsSlotOf r.holds.function (Variable count)) where
   argument_is : asked_word S s t r 6 count ≡ cast_unsigned w64 held.number
-  argument_is = (asked_value S s t r 6 count (Int held.number) in_count held.is).is
+  argument_is = (asked_value S s t r 6 count (Int held.number) (reads S s t r (Alloc dest count) item (location.Variable count) (inl refl)) held.is).is
 
   fault_is : block_fault (sizes S) (asked S s t r 6 count) (asked_word S s t r 6 count) ≡ allocation_fault S.limits.cells s.blocks held.number
   fault_is = ap (block_fault (sizes S) (asked S s t r 6 count)) argument_is ∙ faults_alike (sizes S) S.limits.cells s.blocks (asked S s t r 6 count) refl (asked_memory S s t r 6 count) held.number held.fits
@@ -47,7 +49,7 @@ module _ (S : Setting) (s : bril.State) (t : State) (r : RunsAlike S s t) (dest 
       ∙ ap (λ f. allocates S.p S.limits f held.number (Some dest) r.frame r.older s) e)
 
   before : Going S.image (sizes S) (here S s t r) r.core (0 + load_size (2 + count) + 1) (here S s t r + load_size (2 + count) + 1) (asked S s t r 6 count) (Ecall ∷ store_words 10 (2 + dest))
-  before = asks S s t r 6 count (Ecall ∷ store_words 10 (2 + dest)) in_count (S.laid.items r.frame.function r.holds.function r.frame.point (Alloc dest count) r.holds.there item)
+  before = asks S s t r 6 count (Ecall ∷ store_words 10 (2 + dest)) in_count (its_words S r.frame.function r.holds.function r.frame.point (Alloc dest count) r.holds.there item)
 
   abbrev blocks_now : List bril.Block
   blocks_now = s.blocks ++ new_block (cells_of held.number) ∷ []
@@ -78,10 +80,10 @@ module _ (S : Setting) (s : bril.State) (t : State) (r : RunsAlike S s t) (dest 
       faults_moves S s t r kind (asked S s t r 6 count) (0 + load_size (2 + count) + 1 + 1) (stepped (Some kind) e) (asked_keeps S s t r 6 count) ends (omega arith) (omega arith)
   by_fault dear in_dest None e =
       let size = load_most (2 + count) in
-      let there = S.laid.next r.frame.function r.holds.function r.frame.point (Alloc dest count) r.holds.there item in
+      let there = next_entry S r.frame.function r.holds.function r.frame.point (Alloc dest count) r.holds.there item in
       let g = allocate S.image (sizes S) (number_is S s t r 6 count (omega arith)) (fault_is ∙ e) before in
       let long : length (s.blocks ++ new_block (cells_of held.number) ∷ []) ≡ suc (length s.blocks) = pushed_length s.blocks (new_block (cells_of held.number)) in
-      fills_moves S s t r blocks_now (Variable dest) (Ptr (suc (length s.blocks)) (pos 0)) 10 last (0 + load_size (2 + count) + 1 + 1) (here S s t r + load_size (2 + count) + 1 + 1) (omega arith) in_dest ten_not_six
+      fills_moves S s t r blocks_now (Variable dest) (Ptr (suc (length s.blocks)) (pos 0)) 10 last (0 + load_size (2 + count) + 1 + 1) (here S s t r + load_size (2 + count) + 1 + 1) (omega arith) in_dest (fills_slot S r.frame r.holds.function r.holds.there (Alloc dest count) item (Variable dest) (inl refl) refl) ten_not_six
       pointer_is block_kept (allocated e) (stepped None e) g (omega arith) (omega arith)
 
 pub alloc_moves : (S : Setting) (s : bril.State) (t : State) (r : RunsAlike S s t) (dear : 128 ≤ S.cost) (dest count : ℕ) → slice_get r.holds.function.code r.frame.point ≡ Some (Alloc dest count) → HoldsInt r.frame.locations count →

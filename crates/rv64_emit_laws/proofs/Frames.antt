@@ -1,18 +1,23 @@
 -- The frames of a program on the machine's stack.
 use Rattle.std.proofs.Common.{◌≡◌, ◌≢◌, ℕ, zero, suc, ◌+◌, ◌*◌, ◌<◌, ◌≤◌, ◌⊎◌, inl, inr, ⊎_elim, Bool, true, false, cond, eqb, refl, sym, ap, ◌∙◌, subst, arith, List, [], ◌∷◌, length, Some, mul-le-mul_right}
 use Rattle.std.specs.Prelude.{slice_get}
-use Rattle.std.proofs.lemmas.Bool.{eqb-true}
+use Rattle.std.proofs.lemmas.Bool.{cases_eq}
 use Rattle.std.proofs.lemmas.Bool.Decides.{nat_tests}
 use Rattle.std.proofs.lemmas.Option.{same_Some, slice_get_within}
 use Rattle.bril_tree.specs.declared.numbered_function.Func.{Func}
 use Rattle.bril_tree.specs.declared.value.Value.{Value}
+use Rattle.bril_tree.specs.Live.{IsLive}
+use Rattle.bril_tree.specs.Locals.{location_value}
+use Rattle.bril_tree.specs.Operand.{Location}
+use Rattle.bril_tree.specs.Operand as location
 use Rattle.bril_tree.specs.State.{Locals, Frame, Values, with_value}
-use Rattle.bril_tree.specs.Step.{arguments_from}
-use Rattle.rv64_layout.specs.Items.{level_word}
-use Rattle.rv64_stretches.proofs.Cores.{assigned_here, assigned_other}
-use Rattle.rv64_words.specs.State.{assigned}
+use Rattle.bril_tree.specs.Step.{arguments_from, code_of, items_of}
+use Rattle.placement_laws.specs.Homes.{slot_of}
+use Rattle.placement_laws.proofs.Living.{live_slot}
+use Rattle.rv64_layout.specs.Homes.{slot_word}
 use Rattle.slot_code.specs.declared.item.Slot.{Slot}
 use Rattle.slot_code.specs.declared.item.Slot.TheVariants.{Variable, Shadow}
+use Rattle.slot_code.specs.Flow.{slot_location}
 use Rattle.slot_code.specs.declared.slots.SlotFunction.{SlotFunction}
 use Rattle.slot_code.specs.Laws.{IsSlotOf}
 use Rattle.slot_code.specs.Lowered.{IsLoweredFunction}
@@ -20,7 +25,7 @@ use Rattle.slot_code.specs.Meaning.{with_slot}
 use Rattle.slot_code.specs.Numbering.{slot_number}
 use Rattle.slot_code.proofs.Places.{slot_place}
 use Rattle.rv64_emit_laws.proofs.Ready.{slot_value}
-use Rattle.rv64_emit_laws.proofs.Relation.{HasWord, SlotsHold, SavesHold, OlderHold}
+use Rattle.rv64_emit_laws.proofs.Relation.{HasWord, OlderHold}
 use Rattle.rv64_emit_laws.proofs.Setting.{Setting}
 use Rattle.rv64_emit_laws.proofs.Sources.{source_at}
 
@@ -57,12 +62,12 @@ module _ (f : Func) (g : SlotFunction) (is : IsLoweredFunction f g) where
   slot_fits slot in_g = let inside = number_inside slot in_g in let fit = slots_fit in omega arith
 
 -- a slot that got a value has it
-filled_here : (slot : Slot) (v : Value) (locations : Locals) → slot_value (with_slot slot v locations) slot ≡ Some v
+pub filled_here : (slot : Slot) (v : Value) (locations : Locals) → slot_value (with_slot slot v locations) slot ≡ Some v
 filled_here (Variable x) v locations = let e : eqb x x ≡ true = grind (arith, nat_tests) in ap (λ t. cond t (Some v) (locations.vars x)) e
 filled_here (Shadow x) v locations = let e : eqb x x ≡ true = grind (arith, nat_tests) in ap (λ t. cond t (Some v) (locations.shadows x)) e
 
 -- and no other slot changed
-filled_other : (slot other : Slot) (v : Value) (locations : Locals) → other ≢ slot → slot_value (with_slot slot v locations) other ≡ slot_value locations other
+pub filled_other : (slot other : Slot) (v : Value) (locations : Locals) → other ≢ slot → slot_value (with_slot slot v locations) other ≡ slot_value locations other
 filled_other (Variable x) (Variable y) v locations ne =
     let apart : y ≢ x = (λ e. ne (ap Variable e)) in
     let t : eqb y x ≡ false = grind (arith, nat_tests) in ap (λ b. cond b (Some v) (locations.vars y)) t
@@ -72,59 +77,48 @@ filled_other (Shadow x) (Shadow y) v locations ne =
     let apart : y ≢ x = (λ e. ne (ap Shadow e)) in
     let t : eqb y x ≡ false = grind (arith, nat_tests) in ap (λ b. cond b (Some v) (locations.shadows y)) t
 
--- a slot of the frame gets a value, and its word that of the value
-pub slots_filled : (made : ℕ) (f : Func) (g : SlotFunction) → IsLoweredFunction f g → (base : ℕ) (locations : Locals) (stack : ℕ → ℕ) (dest : Slot) (v : Value) (w : ℕ) → IsSlotOf g dest → HasWord made v w →
-    SlotsHold made g base 2 locations stack → SlotsHold made g base 2 (with_slot dest v locations) (assigned stack (base + (2 + slot_number g.shadow_numbers dest)) w)
-slots_filled made f g is base locations stack dest v w in_dest word h = record { at = at }
-  where
-    number : Slot → ℕ
-    number slot = slot_number g.shadow_numbers slot
+-- what a location holds, its slot holds
+pub value_of : (locations : Locals) (x : Location) → slot_value locations (slot_of x) ≡ location_value locations x
+value_of locations (location.Variable x) = refl
+value_of locations (location.Shadow x) = refl
 
-    at : (slot : Slot) (u : Value) → IsSlotOf g slot → slot_value (with_slot dest v locations) slot ≡ Some u → HasWord made u (assigned stack (base + (2 + slot_number g.shadow_numbers dest)) w (base + (2 + slot_number g.shadow_numbers slot)))
-    at slot u in_slot held = by_test (eqb (slot_number g.shadow_numbers slot) (slot_number g.shadow_numbers dest)) refl
-      where
-        by_test : (t : Bool) → eqb (slot_number g.shadow_numbers slot) (slot_number g.shadow_numbers dest) ≡ t → HasWord made u (assigned stack (base + (2 + slot_number g.shadow_numbers dest)) w (base + (2 + slot_number g.shadow_numbers slot)))
-        by_test true e =
-            let same = eqb-true (slot_number g.shadow_numbers slot) (slot_number g.shadow_numbers dest) e in
-            let one : slot ≡ dest = number_one f g is slot dest in_slot in_dest same in
-            let value : v ≡ u = same_Some v u (sym (filled_here dest v locations) ∙ ap (slot_value (with_slot dest v locations)) (sym one) ∙ held) in
-            let here : assigned stack (base + (2 + slot_number g.shadow_numbers dest)) w (base + (2 + slot_number g.shadow_numbers slot)) ≡ w =
-            ap (λ n. assigned stack (base + (2 + slot_number g.shadow_numbers dest)) w (base + (2 + n))) same ∙ assigned_here stack (base + (2 + slot_number g.shadow_numbers dest)) w in
-            subst (HasWord made u) (sym here) (subst (λ x. HasWord made x w) value word)
-        by_test false e =
-            let differ : slot_number g.shadow_numbers slot ≢ slot_number g.shadow_numbers dest = grind (arith, nat_tests) in
-            let apart : slot ≢ dest = (λ same. differ (ap (slot_number g.shadow_numbers) same)) in
-            let places : base + (2 + slot_number g.shadow_numbers slot) ≢ base + (2 + slot_number g.shadow_numbers dest) = (λ same. differ (omega arith)) in
-            let other = assigned_other stack (base + (2 + slot_number g.shadow_numbers dest)) w (base + (2 + slot_number g.shadow_numbers slot)) places in
-            subst (HasWord made u) (sym other) (h.at slot u in_slot (sym (filled_other dest slot v locations apart) ∙ held))
+pub value_at : (locations : Locals) (slot : Slot) → location_value locations (slot_location slot) ≡ slot_value locations slot
+value_at locations (Variable x) = refl
+value_at locations (Shadow x) = refl
 
--- ---- what changes of the stack don't matter
+-- a slot is that of the location that it is
+pub slot_back : (slot : Slot) → slot_of (slot_location slot) ≡ slot
+slot_back (Variable x) = refl
+slot_back (Shadow x) = refl
 
--- words beyond the slots as they are don't matter to them
-pub slots_kept : (made : ℕ) (f : Func) (g : SlotFunction) → IsLoweredFunction f g → (base first : ℕ) (locations : Locals) (s t : ℕ → ℕ) →
-    ((k : ℕ) → base + first ≤ k → k < base + (first + length g.slots) → t k ≡ s k) → SlotsHold made g base first locations s → SlotsHold made g base first locations t
-slots_kept made f g is base first locations s t same h = record { at = at }
-  where
-    at : (slot : Slot) (v : Value) → IsSlotOf g slot → slot_value locations slot ≡ Some v → HasWord made v (t (base + (first + slot_number g.shadow_numbers slot)))
-    at slot v in_g held =
-        let inside = number_inside f g is slot in_g in
-        let low : base + first ≤ base + (first + slot_number g.shadow_numbers slot) = omega arith in
-        let high : base + (first + slot_number g.shadow_numbers slot) < base + (first + length g.slots) = omega arith in
-        subst (HasWord made v) (sym (same (base + (first + slot_number g.shadow_numbers slot)) low high)) (h.at slot v in_g held)
+pub location_back : (x : Location) → slot_location (slot_of x) ≡ x
+location_back (location.Variable x) = refl
+location_back (location.Shadow x) = refl
+
+-- two locations are one, or not
+pub one_or_not : (x y : Location) → (x ≡ y) ⊎ (x ≢ y)
+one_or_not (location.Variable x) (location.Variable y) = ⊎_elim (λ (e : x ≡ y). inl (ap location.Variable e)) (λ (ne : x ≡ y → ⊥). inr (λ h. ne cc)) (cases_eq x y)
+one_or_not (location.Variable x) (location.Shadow y) = inr (λ h. cc)
+one_or_not (location.Shadow x) (location.Variable y) = inr (λ h. cc)
+one_or_not (location.Shadow x) (location.Shadow y) = ⊎_elim (λ (e : x ≡ y). inl (ap location.Shadow e)) (λ (ne : x ≡ y → ⊥). inr (λ h. ne cc)) (cases_eq x y)
+
+-- ---- what is live
+
+-- what is live somewhere in a function is a slot of it, and has a word in its frame
+pub live_in : (S : Setting) (f : Frame) (g : SlotFunction) → slice_get S.slots.funcs f.function ≡ Some g → (x : Location) (point : ℕ) → IsLive (code_of S.p f.function) x point → IsSlotOf g (slot_of x)
+live_in S f g there x point live =
+    let source = source_at S.p S.slots S.lowered f.function g there in
+    live_slot S.p f.function source.function g S.accepted source.there source.is x point (subst (λ c. IsLive c x point) (ap items_of source.there) live)
+
+pub live_fits : (S : Setting) (f : Frame) (g : SlotFunction) → slice_get S.slots.funcs f.function ≡ Some g → (x : Location) (point : ℕ) → IsLive (code_of S.p f.function) x point → slot_word g (slot_of x) < g.words
+live_fits S f g there x point live =
+    let source = source_at S.p S.slots S.lowered f.function g there in
+    slot_fits source.function g source.is (slot_of x) (live_in S f g there x point live)
 
 pub level_next : (n l : ℕ) → 2 + n * suc l ≡ (2 + n * l) + n
 level_next n l = let split : n * suc l ≡ n * l + n = grind arith in omega arith
 
--- words below the first level, and beyond the levels of the saves, don't matter to these
-pub saves_kept : (made : ℕ) (f : Func) (g : SlotFunction) → IsLoweredFunction f g → (base : ℕ) (saves : List Locals) (s t : ℕ → ℕ) →
-    ((k : ℕ) → base + (2 + length g.slots) ≤ k → k < base + level_word g (suc (length saves)) → t k ≡ s k) → SavesHold made g base saves s → SavesHold made g base saves t
-saves_kept made f g is base [] s t same h = tt
-saves_kept made f g is base (save ∷ older) s t same h =
-    let top = level_next (length g.slots) (suc (length older)) in
-    let next = level_next (length g.slots) (length older) in (
-      slots_kept made f g is base (level_word g (suc (length older))) save s t (λ k low high. same k (omega arith) (omega arith)) h.0,
-      saves_kept made f g is base older s t (λ k low high. same k low (omega arith)) h.1,
-    )
+-- ---- what changes of the stack don't matter
 
 -- words above the first two of a frame don't matter to those that wait
 pub older_kept : (S : Setting) (made above base : ℕ) (older : List Frame) (s t : ℕ → ℕ) → ((k : ℕ) → k < base + 2 → t k ≡ s k) → OlderHold S made above base older s → OlderHold S made above base older t
@@ -149,7 +143,8 @@ older_kept S made above base (f ∷ older) s t same h =
         deep = w.deep;
         way = same base lt ∙ w.way;
         old = same (base + 1) lt1 ∙ w.old;
-        slots = slots_kept made source.function w.function source.is w.below 2 f.locations s t (λ k low high. same k (omega arith)) w.slots;
+        kept = λ x v live own held. (let fits = live_fits S f w.function w.there x (suc f.point) live in
+            subst (HasWord made v) (sym (same (w.below + slot_word w.function (slot_of x)) (omega arith))) (w.kept x v live own held));
       },
       older_kept S made f.function w.below older s t (λ k less. same k (omega arith)) h.1,
     )

@@ -13,6 +13,7 @@ use Rattle.bril_tree.specs.declared.types.Ty.{Ty}
 use Rattle.bril_tree.specs.Step.{item_at, items_of}
 use Rattle.rv64_implements.specs.Implements.{IsBefore, ListsGuards, is_guard}
 use Rattle.rv64_layout.specs.Image.{depth_at, entry_at, function_guards_at, function_guards_or_none, guard_at, guard_or_none, image_guards, joined}
+use Rattle.rv64_layout.specs.Homes.{FunctionHomes}
 use Rattle.rv64_layout.specs.Items.{guard_front_size}
 use Rattle.rv64_layout.specs.Laid.{IsGuardAt, IsLaid}
 use Rattle.rv64_layout.proofs.Bounding.{instruction_at}
@@ -84,33 +85,33 @@ one_place : (x : GuardAt) (i : ℕ) (a : GuardAt) → slice_get (x ∷ []) i ≡
 one_place x zero a e = (refl, same_Some x a e)
 one_place x (suc i) a e = absurd (nowhere i a e)
 
-module _ (slots : Slots) where
+module _ (homes : ℕ → FunctionHomes) (slots : Slots) where
   module _ (f : ℕ) (g : SlotFunction) where
     -- at a point there is one guard at most, with its function and item
-    point_guard : (point : ℕ) (o : Option SlotItem) (i : ℕ) (a : GuardAt) → slice_get (guard_or_none slots f g point o) i ≡ Some a → (i ≡ 0) × (a.func ≡ f) × (a.item ≡ point)
+    point_guard : (point : ℕ) (o : Option SlotItem) (i : ℕ) (a : GuardAt) → slice_get (guard_or_none homes slots f g point o) i ≡ Some a → (i ≡ 0) × (a.func ≡ f) × (a.item ≡ point)
     point_guard point (Some (Guard condition abort_to)) i a e =
-        let h = one_place (record { word = entry_at slots f point + guard_front_size g (depth_at g point) condition; func = f; item = point }) i a e in
+        let h = one_place (record { word = entry_at homes slots f point + guard_front_size (homes f) g (depth_at g point) condition; func = f; item = point }) i a e in
         (h.0, ap (λ x. x.func) (sym h.1), ap (λ x. x.item) (sym h.1))
     point_guard point None i a e = absurd (nowhere i a e)
     point_guard point (Some _) i a e = absurd (nowhere i a e)
 
-    at_point : (point i : ℕ) (a : GuardAt) → slice_get (guard_at slots f g point) i ≡ Some a → (i ≡ 0) × (a.func ≡ f) × (a.item ≡ point)
+    at_point : (point i : ℕ) (a : GuardAt) → slice_get (guard_at homes slots f g point) i ≡ Some a → (i ≡ 0) × (a.func ≡ f) × (a.item ≡ point)
     at_point point i a e = point_guard point (slice_get g.code point) i a e
 
-    functions_are : (n i : ℕ) (a : GuardAt) → slice_get (joined (guard_at slots f g) n) i ≡ Some a → a.func ≡ f
+    functions_are : (n i : ℕ) (a : GuardAt) → slice_get (joined (guard_at homes slots f g) n) i ≡ Some a → a.func ≡ f
     functions_are zero i a e = cc
-    functions_are (suc n) i a e = by (functions_are n i a) (parted (joined (guard_at slots f g) n) (guard_at slots f g n) i a e)
+    functions_are (suc n) i a e = by (functions_are n i a) (parted (joined (guard_at homes slots f g) n) (guard_at homes slots f g n) i a e)
       where
-        by : (slice_get (joined (guard_at slots f g) n) i ≡ Some a → a.func ≡ f) → IsParted (joined (guard_at slots f g) n) (guard_at slots f g n) i a → a.func ≡ f
+        by : (slice_get (joined (guard_at homes slots f g) n) i ≡ Some a → a.func ≡ f) → IsParted (joined (guard_at homes slots f g) n) (guard_at homes slots f g n) i a → a.func ≡ f
         by earlier (InFirst less here) = earlier here
-        by earlier (InSecond more here) = (at_point n (i - length (joined (guard_at slots f g) n)) a here).1
+        by earlier (InSecond more here) = (at_point n (i - length (joined (guard_at homes slots f g) n)) a here).1
 
     -- two guards of a function are at different items
-    items_in_order : (n i j : ℕ) (a b : GuardAt) → i < j → slice_get (joined (guard_at slots f g) n) i ≡ Some a → slice_get (joined (guard_at slots f g) n) j ≡ Some b → a.item < b.item
+    items_in_order : (n i j : ℕ) (a b : GuardAt) → i < j → slice_get (joined (guard_at homes slots f g) n) i ≡ Some a → slice_get (joined (guard_at homes slots f g) n) j ≡ Some b → a.item < b.item
     items_in_order n i j a b less at_a at_b =
-        by (joined_in_order (λ x. x.item) (λ x y. ⊥) (guard_at slots f g) (λ k i x e. (at_point k i x e).2) alone n i j a b less at_a at_b)
+        by (joined_in_order (λ x. x.item) (λ x y. ⊥) (guard_at homes slots f g) (λ k i x e. (at_point k i x e).2) alone n i j a b less at_a at_b)
       where
-        alone : (k i j : ℕ) (a b : GuardAt) → i < j → slice_get (guard_at slots f g k) i ≡ Some a → slice_get (guard_at slots f g k) j ≡ Some b → ⊥
+        alone : (k i j : ℕ) (a b : GuardAt) → i < j → slice_get (guard_at homes slots f g k) i ≡ Some a → slice_get (guard_at homes slots f g k) j ≡ Some b → ⊥
         alone k i j a b less at_a at_b =
             let first = (at_point k i a at_a).0 in
             let second = (at_point k j b at_b).0 in
@@ -120,17 +121,17 @@ module _ (slots : Slots) where
         by (inl h) = h
         by (inr h) = absurd h.1
 
-  in_function : (f : ℕ) (o : Option SlotFunction) (i : ℕ) (a : GuardAt) → slice_get (function_guards_or_none slots f o) i ≡ Some a → a.func ≡ f
+  in_function : (f : ℕ) (o : Option SlotFunction) (i : ℕ) (a : GuardAt) → slice_get (function_guards_or_none homes slots f o) i ≡ Some a → a.func ≡ f
   in_function f None i a e = absurd (nowhere i a e)
   in_function f (Some g) i a e = functions_are f g (length g.code) i a e
 
-  order_in_function : (f : ℕ) (o : Option SlotFunction) (i j : ℕ) (a b : GuardAt) → i < j → slice_get (function_guards_or_none slots f o) i ≡ Some a → slice_get (function_guards_or_none slots f o) j ≡ Some b → a.item < b.item
+  order_in_function : (f : ℕ) (o : Option SlotFunction) (i j : ℕ) (a b : GuardAt) → i < j → slice_get (function_guards_or_none homes slots f o) i ≡ Some a → slice_get (function_guards_or_none homes slots f o) j ≡ Some b → a.item < b.item
   order_in_function f None i j a b less at_a at_b = absurd (nowhere i a at_a)
   order_in_function f (Some g) i j a b less at_a at_b = items_in_order f g (length g.code) i j a b less at_a at_b
 
-  guards_in_order : (i j : ℕ) (a b : GuardAt) → i < j → slice_get (image_guards slots) i ≡ Some a → slice_get (image_guards slots) j ≡ Some b → IsBefore a b
+  guards_in_order : (i j : ℕ) (a b : GuardAt) → i < j → slice_get (image_guards homes slots) i ≡ Some a → slice_get (image_guards homes slots) j ≡ Some b → IsBefore a b
   guards_in_order =
-      joined_in_order (λ x. x.func) (λ x y. x.item < y.item) (function_guards_at slots) (λ k i x e. in_function k (slice_get slots.funcs k) i x e)
+      joined_in_order (λ x. x.func) (λ x y. x.item < y.item) (function_guards_at homes slots) (λ k i x e. in_function k (slice_get slots.funcs k) i x e)
       (λ k i j a b less at_a at_b. order_in_function k (slice_get slots.funcs k) i j a b less at_a at_b) (length slots.funcs)
 
 -- ---- the guards of a program
@@ -168,7 +169,7 @@ marked_entry (g ∷ guards) word e = by (marked_entry guards word) (eqb g.word w
         let rest = earlier (sym (ap (λ b. b || is_guard_word guards word) other) ∙ e) in
         (suc rest.0, rest.1, rest.2, rest.3)
 
-module _ (p : Prog) (slots : Slots) (limits : Limits) (image : Image) (lowered : IsLowered p slots) (laid : IsLaid slots limits image) where
+module _ (p : Prog) (homes : ℕ → FunctionHomes) (slots : Slots) (limits : Limits) (image : Image) (lowered : IsLowered p slots) (laid : IsLaid homes slots limits image) where
   are_guards : (k : ℕ) (guard : GuardAt) → slice_get image.guards k ≡ Some guard → IsTrue (is_guard (item_at p guard.func guard.item))
   are_guards k guard there =
       let g = laid.guards k guard there in
@@ -187,9 +188,9 @@ module _ (p : Prog) (slots : Slots) (limits : Limits) (image : Image) (lowered :
           let at : slice_get g.function.code i ≡ Some (lowered_item func item) = ap (λ code. slice_get code i) g.is.code ∙ (slice_get-map (lowered_item func) func.code i ∙ ap (option_map (lowered_item func)) here) in
           let guarding = slot_guard (lowered_item func item) (item_guard func item ∙ (sym (ap (λ x. is_guard (slice_get (items_of x) i)) there ∙ ap is_guard here) ∙ e)) in
           let is_item : slice_get g.function.code i ≡ Some (Guard guarding.0 guarding.1) = at ∙ ap Some guarding.2 in
-          let word = entry_at slots f i + guard_front_size g.function (depth_at g.function i) guarding.0 in
+          let word = entry_at homes slots f i + guard_front_size (homes f) g.function (depth_at g.function i) guarding.0 in
           let own : GuardAt = record { word = word; func = f; item = i } in
-          let own_is : IsGuardAt slots own = record { function = g.function; condition = guarding.0; abort_to = guarding.1; is_function = g.there; is_item = is_item; is_word = refl } in
+          let own_is : IsGuardAt homes slots own = record { function = g.function; condition = guarding.0; abort_to = guarding.1; is_function = g.there; is_item = is_item; is_word = refl } in
           let found = marked_entry image.guards word (laid.items f g.function i (Guard guarding.0 guarding.1) g.there is_item).1.is_guard in
           let same : found.1 ≡ own = laid.apart found.1 own (laid.guards found.0 found.1 found.2) own_is found.3 in
           (found.0, found.1, found.2, ap (λ x. x.func) same, ap (λ x. x.item) same)
@@ -202,5 +203,5 @@ module _ (p : Prog) (slots : Slots) (limits : Limits) (image : Image) (lowered :
   lists_guards = record {
     are = are_guards;
     each = each_guard;
-    in_order = λ g h a b less at_a at_b. guards_in_order slots g h a b less (ap (λ xs. slice_get xs g) (sym laid.is.guards) ∙ at_a) (ap (λ xs. slice_get xs h) (sym laid.is.guards) ∙ at_b);
+    in_order = λ g h a b less at_a at_b. guards_in_order homes slots g h a b less (ap (λ xs. slice_get xs g) (sym laid.is.guards) ∙ at_a) (ap (λ xs. slice_get xs h) (sym laid.is.guards) ∙ at_b);
   }

@@ -1,5 +1,5 @@
 -- The item that takes a speculation back where its condition doesn't hold.
-use Rattle.std.proofs.Common.{◌≡◌, ◌≢◌, ℕ, suc, ◌+◌, ◌-◌, ◌*◌, ◌^◌, ◌<◌, ◌≤◌, Bool, true, false, ◌&&◌, cond, eqb, leb, inr, refl, sym, ap, ◌∙◌, subst, arith, List, [], ◌∷◌, length, Some, pos, negsuc}
+use Rattle.std.proofs.Common.{◌≡◌, ◌≢◌, ℕ, suc, ◌+◌, ◌-◌, ◌*◌, ◌^◌, ◌<◌, ◌≤◌, Bool, true, false, ◌&&◌, cond, eqb, leb, inr, refl, sym, ap, ◌∙◌, subst, arith, List, [], ◌∷◌, length, Some, pos, negsuc, inl}
 use Rattle.std.specs.Prelude.{slice_get}
 use Rattle.std.proofs.lemmas.Bool.{and_parts, eqb-true}
 use Rattle.std.proofs.lemmas.Bool.Decides.{nat_tests}
@@ -7,19 +7,22 @@ use Rattle.std.proofs.lemmas.Option.{same_Some}
 use Rattle.bril_tree.specs.declared.value.Value.TheVariants.{Bool as Boolean}
 use Rattle.bril_tree.specs.Outcome.{bool_of}
 use Rattle.bril_tree.specs.State as bril
+use Rattle.bril_tree.specs.Edge.{onward}
+use Rattle.bril_tree.specs.Operand as location
 use Rattle.bril_tree.specs.State.{counted}
 use Rattle.bril_tree.specs.Step.{advances, at_point, dropped, saved, step, with_failure}
 use Rattle.bril_tree.specs.Value.{word_of}
-use Rattle.rv64_layout.specs.Image.{depth_at, entry_at}
-use Rattle.rv64_layout.specs.Items.{guard_front, guard_front_size, level_word}
+use Rattle.rv64_layout.specs.Image.{depth_at}
+use Rattle.rv64_layout.specs.Homes.{frame_homes, in_frame, level_moves}
+use Rattle.rv64_layout.specs.Items.{guard_front, guard_front_size}
 use Rattle.rv64_layout.specs.Laid.{IsGuardAt}
-use Rattle.rv64_layout.proofs.Bounding.{copy_most, load_most}
+use Rattle.rv64_layout.proofs.Bounding.{level_restores_most, load_most}
 use Rattle.rv64_stretches.specs.Core.{Core, Keeps, arrived}
 use Rattle.rv64_stretches.specs.Runs.{Runs}
 use Rattle.rv64_stretches.proofs.Going.{Going, begin, is_place, jump, not_taken, taken}
-use Rattle.rv64_sequences.specs.Frames.{Copied}
-use Rattle.rv64_sequences.specs.Sequences.{copy_size, copy_words, jump_offset, load_size}
-use Rattle.rv64_sequences.proofs.Copies.{words_copied}
+use Rattle.rv64_sequences.specs.Moves.{Restored, restore_size, restore_words}
+use Rattle.rv64_sequences.specs.Sequences.{jump_offset, load_size}
+use Rattle.rv64_sequences.proofs.Moves.{homes_restored}
 use Rattle.rv64_sequences.proofs.Jumps.{guard_jump_to}
 use Rattle.rv64_values.proofs.Kept.{keeps_itself}
 use Rattle.rv64_words.specs.declared.image.GuardAt.{GuardAt}
@@ -30,15 +33,17 @@ use Rattle.rv64_words.specs.State.{State}
 use Rattle.slot_code.specs.declared.item.Slot.TheVariants.{Variable}
 use Rattle.slot_code.specs.declared.item.SlotItem.TheVariants.{Guard}
 use Rattle.slot_code.specs.Laws.{IsSlotOf}
+use Rattle.rv64_emit_laws.proofs.Acting.{goes, leads}
+use Rattle.rv64_emit_laws.proofs.Standing.{standing}
 use Rattle.slot_code.specs.Meaning.{slot_guards}
 use Rattle.rv64_emit_laws.proofs.Arriving.{Moves, arrive, goes_moves, here, memory_by, step_at}
 use Rattle.rv64_emit_laws.proofs.Depths.{frame_dear, now_typed, saves_are, saves_fit}
 use Rattle.rv64_emit_laws.proofs.Holding.{SameFrame, stack_few}
-use Rattle.rv64_emit_laws.proofs.Operands.{loaded, loaded_keeps, loads, read_is, word_held}
+use Rattle.rv64_emit_laws.proofs.Operands.{loaded, loaded_keeps, loads, read_is, reads, word_held}
 use Rattle.rv64_emit_laws.proofs.Ready.{HoldsBool}
 use Rattle.rv64_emit_laws.proofs.Relation.{GuardsHold, RunsAlike}
-use Rattle.rv64_emit_laws.proofs.Setting.{Setting, sizes}
-use Rattle.rv64_emit_laws.proofs.Speculating.{frame_within, newest_of, restored_holds}
+use Rattle.rv64_emit_laws.proofs.Setting.{Setting, entry_of, its_words, next_entry, sizes, homes_are}
+use Rattle.rv64_emit_laws.proofs.Speculating.{level_moves_can, newest_of, restored_holds}
 use Rattle.rv64_emit_laws.proofs.Stretches.{at_place, in_steps, with_end}
 
 -- a jump over so many words
@@ -51,47 +56,47 @@ jumped j n small = by_test (leb 0 n) refl
 
 module _ (S : Setting) (s : bril.State) (t : State) (r : RunsAlike S s t) (condition abort_to : ℕ) (item : slice_get r.holds.function.code r.frame.point ≡ Some (Guard condition abort_to)) where
   abbrev front : ℕ
-  front = guard_front_size r.holds.function (depth_at r.holds.function r.frame.point) condition
+  front = guard_front_size (in_frame r.holds.function) r.holds.function (depth_at r.holds.function r.frame.point) condition
 
   -- ---- counts
 
   -- the guard's own entry
   abbrev own : GuardAt
-  own = record { word = entry_at S.slots r.frame.function r.frame.point + front; func = r.frame.function; item = r.frame.point }
+  own = record { word = entry_of S r.frame.function r.frame.point + front; func = r.frame.function; item = r.frame.point }
 
-  own_is : IsGuardAt S.slots own
-  own_is = record { function = r.holds.function; condition = condition; abort_to = abort_to; is_function = r.holds.there; is_item = item; is_word = refl }
+  own_is : IsGuardAt (frame_homes S.slots) S.slots own
+  own_is = record { function = r.holds.function; condition = condition; abort_to = abort_to; is_function = r.holds.there; is_item = item; is_word = ap (λ homes. entry_of S r.frame.function r.frame.point + guard_front_size homes r.holds.function (depth_at r.holds.function r.frame.point) condition) (sym (homes_are S r.frame.function r.holds.function r.holds.there)) }
 
   -- one failure more of this guard, and one arrival more at its word
-  counts_held : (e : Core) → e.arrivals ≡ r.core.arrivals → GuardsHold S.image.guards (with_failure S.p S.limits r.frame s).failures (arrived (entry_at S.slots r.frame.function r.frame.point + front) e).arrivals
-  counts_held e same k guard there = by_test (eqb guard.word (entry_at S.slots r.frame.function r.frame.point + front)) refl
+  counts_held : (e : Core) → e.arrivals ≡ r.core.arrivals → GuardsHold S.image.guards (with_failure S.p S.limits r.frame s).failures (arrived (entry_of S r.frame.function r.frame.point + front) e).arrivals
+  counts_held e same k guard there = by_test (eqb guard.word (entry_of S r.frame.function r.frame.point + front)) refl
     where
       j : ℕ
-      j = entry_at S.slots r.frame.function r.frame.point + front
+      j = entry_of S r.frame.function r.frame.point + front
 
       before : e.arrivals guard.word ≡ s.failures guard.func guard.item
       before = ap (λ m. m guard.word) same ∙ r.guards k guard there
 
-      is : IsGuardAt S.slots guard
+      is : IsGuardAt (frame_homes S.slots) S.slots guard
       is = S.laid.guards k guard there
 
       same_test : (n : ℕ) → eqb n n ≡ true
       same_test n = grind (arith, nat_tests)
 
-      by_test : (b : Bool) → eqb guard.word (entry_at S.slots r.frame.function r.frame.point + front) ≡ b →
-          cond (eqb guard.word (entry_at S.slots r.frame.function r.frame.point + front)) (counted (e.arrivals (entry_at S.slots r.frame.function r.frame.point + front))) (e.arrivals guard.word)
+      by_test : (b : Bool) → eqb guard.word (entry_of S r.frame.function r.frame.point + front) ≡ b →
+          cond (eqb guard.word (entry_of S r.frame.function r.frame.point + front)) (counted (e.arrivals (entry_of S r.frame.function r.frame.point + front))) (e.arrivals guard.word)
           ≡ cond (eqb guard.func r.frame.function && eqb guard.item r.frame.point) (counted (s.failures guard.func guard.item)) (s.failures guard.func guard.item)
       by_test true found =
-          let word = eqb-true guard.word (entry_at S.slots r.frame.function r.frame.point + front) found in
+          let word = eqb-true guard.word (entry_of S r.frame.function r.frame.point + front) found in
           let one : guard ≡ own = S.laid.apart guard own is own_is word in
           let func : eqb guard.func r.frame.function ≡ true = ap (λ g. eqb g.func r.frame.function) one ∙ same_test r.frame.function in
           let point : eqb guard.item r.frame.point ≡ true = ap (λ g. eqb g.item r.frame.point) one ∙ same_test r.frame.point in
-          ap (λ b. cond b (counted (e.arrivals (entry_at S.slots r.frame.function r.frame.point + front))) (e.arrivals guard.word)) found
+          ap (λ b. cond b (counted (e.arrivals (entry_of S r.frame.function r.frame.point + front))) (e.arrivals guard.word)) found
           ∙ (ap (λ n. counted (e.arrivals n)) (sym word) ∙ (ap counted before
           ∙ sym (ap (λ b. cond (b && eqb guard.item r.frame.point) (counted (s.failures guard.func guard.item)) (s.failures guard.func guard.item)) func
           ∙ ap (λ b. cond b (counted (s.failures guard.func guard.item)) (s.failures guard.func guard.item)) point)))
       by_test false other =
-          ap (λ b. cond b (counted (e.arrivals (entry_at S.slots r.frame.function r.frame.point + front))) (e.arrivals guard.word)) other
+          ap (λ b. cond b (counted (e.arrivals (entry_of S r.frame.function r.frame.point + front))) (e.arrivals guard.word)) other
           ∙ (before ∙ sym (ap (λ b. cond b (counted (s.failures guard.func guard.item)) (s.failures guard.func guard.item)) (unlike (eqb guard.func r.frame.function && eqb guard.item r.frame.point) refl)))
         where
           unlike : (b : Bool) → (eqb guard.func r.frame.function && eqb guard.item r.frame.point) ≡ b → b ≡ false
@@ -102,33 +107,34 @@ module _ (S : Setting) (s : bril.State) (t : State) (r : RunsAlike S s t) (condi
               let point = eqb-true guard.item r.frame.point parts.1 in
               absurd (differ (same_word func point))
             where
-              differ : guard.word ≢ entry_at S.slots r.frame.function r.frame.point + front
+              differ : guard.word ≢ entry_of S r.frame.function r.frame.point + front
               differ = grind (arith, nat_tests)
 
-              same_word : guard.func ≡ r.frame.function → guard.item ≡ r.frame.point → guard.word ≡ entry_at S.slots r.frame.function r.frame.point + front
+              same_word : guard.func ≡ r.frame.function → guard.item ≡ r.frame.point → guard.word ≡ entry_of S r.frame.function r.frame.point + front
               same_word func point =
                   let function : is.function ≡ r.holds.function = same_Some is.function r.holds.function (sym is.is_function ∙ (ap (slice_get S.slots.funcs) func ∙ r.holds.there)) in
                   let found : Guard is.condition is.abort_to ≡ Guard condition abort_to = same_Some _ _ (sym is.is_item ∙ (ap (λ g. slice_get g.code guard.item) function ∙ (ap (slice_get r.holds.function.code) point ∙ item))) in
                   let operand : is.condition ≡ condition = cc in
-                  is.is_word ∙ (ap (λ f. entry_at S.slots f guard.item + guard_front_size is.function (depth_at is.function guard.item) is.condition) func
-                  ∙ (ap (λ n. entry_at S.slots r.frame.function n + guard_front_size is.function (depth_at is.function n) is.condition) point
-                  ∙ (ap (λ g. entry_at S.slots r.frame.function r.frame.point + guard_front_size g (depth_at g r.frame.point) is.condition) function
-                  ∙ ap (λ n. entry_at S.slots r.frame.function r.frame.point + guard_front_size r.holds.function (depth_at r.holds.function r.frame.point) n) operand)))
+                  is.is_word ∙ (ap (λ homes. entry_of S guard.func guard.item + guard_front_size homes is.function (depth_at is.function guard.item) is.condition) (homes_are S guard.func is.function is.is_function)
+                  ∙ (ap (λ f. entry_of S f guard.item + guard_front_size (in_frame is.function) is.function (depth_at is.function guard.item) is.condition) func
+                  ∙ (ap (λ n. entry_of S r.frame.function n + guard_front_size (in_frame is.function) is.function (depth_at is.function n) is.condition) point
+                  ∙ (ap (λ g. entry_of S r.frame.function r.frame.point + guard_front_size (in_frame g) g (depth_at g r.frame.point) is.condition) function
+                  ∙ ap (λ n. entry_of S r.frame.function r.frame.point + guard_front_size (in_frame r.holds.function) r.holds.function (depth_at r.holds.function r.frame.point) n) operand))))
 
   -- ---- both ways
 
   -- the condition's word, and what comes after it
   condition_loaded : HoldsBool r.frame.locations condition → IsSlotOf r.holds.function (Variable condition) →
       Going S.image (sizes S) (here S s t r) r.core (0 + load_size (2 + condition)) (here S s t r + load_size (2 + condition)) (loaded S s t r r.core 5 (2 + condition))
-      (beq 5 0 (pos 8) ∷ Jal 0 (jump_offset 0 (2 + copy_size (level_word r.holds.function (depth_at r.holds.function r.frame.point)) 2 (length r.holds.function.slots)))
-      ∷ copy_words (level_word r.holds.function (depth_at r.holds.function r.frame.point)) 2 (length r.holds.function.slots))
+      (beq 5 0 (pos 8) ∷ Jal 0 (jump_offset 0 (2 + restore_size (level_moves (in_frame r.holds.function) r.holds.function (depth_at r.holds.function r.frame.point))))
+      ∷ restore_words (level_moves (in_frame r.holds.function) r.holds.function (depth_at r.holds.function r.frame.point)))
   condition_loaded held in_g =
       let h = r.holds in
-      let has = S.laid.items r.frame.function h.function r.frame.point (Guard condition abort_to) h.there item in
-      loads S s t r (Variable condition) 5 refl in_g (begin S.image (sizes S) (here S s t r) r.core (guard_front h.function (depth_at h.function r.frame.point) condition) has.0)
+      let has = its_words S r.frame.function h.function r.frame.point (Guard condition abort_to) h.there item in
+      loads S s t r (Variable condition) 5 refl in_g (begin S.image (sizes S) (here S s t r) r.core (guard_front (in_frame h.function) h.function (depth_at h.function r.frame.point) condition) has.0)
 
   condition_keeps : Keeps r.core (loaded S s t r r.core 5 (2 + condition))
-  condition_keeps = loaded_keeps S s t r r.core 4 (2 + condition) refl refl refl (keeps_itself r.core)
+  condition_keeps = loaded_keeps S s t r r.core 4 (2 + condition) refl refl refl refl (keeps_itself r.core)
 
   guard_step : HoldsBool r.frame.locations condition → (truth : Bool) → r.frame.locations.vars condition ≡ Some (Boolean truth) → step S.p S.limits s ≡ slot_guards S.p S.slots S.limits truth abort_to r.frame r.older s
   guard_step held truth is = step_at S s t r (Some (Guard condition abort_to)) item ∙ ap (λ v. slot_guards S.p S.slots S.limits (bool_of v) abort_to r.frame r.older s) (read_is r.frame.locations (Variable condition) (Boolean truth) is)
@@ -140,37 +146,38 @@ module _ (S : Setting) (s : bril.State) (t : State) (r : RunsAlike S s t) (condi
       let g = h.function in
       let k = here S s t r in
       let o = 2 + condition in
-      let cs = copy_size (level_word g (depth_at g r.frame.point)) 2 (length g.slots) in
-      let word = word_held S s t r r.core (Variable condition) (Boolean held.truth) refl in_g held.is in
+      let cs = restore_size (level_moves (in_frame g) g (depth_at g r.frame.point)) in
+      let word = word_held S s t r r.core (Variable condition) (Boolean held.truth) refl (reads S s t r (Guard condition abort_to) item (location.Variable condition) (inl refl)) held.is in
       let differ : eqb (r.core.stack (h.base + o)) (r.core.registers 0) ≡ false = ap (λ y. eqb y (r.core.registers 0)) (word.is ∙ ap (λ y. word_of (Boolean y)) truth) ∙ ap (eqb 1) h.zero_is in
       let g2 = not_taken S.image (sizes S) differ (condition_loaded held in_g) in
-      let next = S.laid.next r.frame.function g r.frame.point (Guard condition abort_to) h.there item in
+      let next = next_entry S r.frame.function g r.frame.point (Guard condition abort_to) h.there item in
       let low = S.laid.few_entries r.frame.function (suc r.frame.point) in
       let over = jumped (k + load_size o + 1) (2 + cs) (omega arith) in
       let runs = jump S.image (sizes S) (k + load_size o + 1 + (2 + cs)) over g2 in
       let size = load_most o in
       let count : 0 + load_size o + 1 + 1 ≡ suc (load_size o + 1) = omega arith in
-      let at : k + load_size o + 1 + (2 + cs) ≡ entry_at S.slots r.frame.function (suc r.frame.point) = omega arith in
-      goes_moves S s t r (advances S.p S.limits r.frame r.older s) (suc r.frame.point) (loaded S s t r r.core 5 o) (load_size o + 1)
+      let at : k + load_size o + 1 + (2 + cs) ≡ entry_of S r.frame.function (suc r.frame.point) = omega arith in
+      goes_moves S s t r (advances S.p S.limits r.frame r.older s) (suc r.frame.point) (leads S r.frame h.function h.there (Guard condition abort_to) item (onward r.frame.point) (inl refl) refl refl) (loaded S s t r r.core 5 o) (load_size o + 1)
       (guard_step held held.truth held.is ∙ ap (λ b. slot_guards S.p S.slots S.limits b abort_to r.frame r.older s) truth) refl r.running refl refl refl
-      (at_place (entry_at S.slots r.frame.function (suc r.frame.point)) at (in_steps (suc (load_size o + 1)) count runs)) (omega arith) condition_keeps
+      (at_place (entry_of S r.frame.function (suc r.frame.point)) at (in_steps (suc (load_size o + 1)) count runs)) (omega arith) condition_keeps
 
   -- the slots became those of the newest speculation, and the guard's word led to its abort
   restored_moves : (newest : bril.Locals) (rest : List bril.Locals) → r.frame.saves ≡ newest ∷ rest → (e : Core) (n : ℕ) →
-      Copied (loaded S s t r r.core 5 (2 + condition)) e r.holds.base (level_word r.holds.function (suc (length rest))) 2 (length r.holds.function.slots) →
+      Restored r.holds.base (level_moves (in_frame r.holds.function) r.holds.function (suc (length rest))) (loaded S s t r r.core 5 (2 + condition)) e →
       step S.p S.limits s ≡ slot_guards S.p S.slots S.limits false abort_to r.frame r.older s →
-      Runs S.image (sizes S) (here S s t r) r.core (suc n) (entry_at S.slots r.frame.function abort_to) (arrived (here S s t r + front) e) → suc n ≤ S.cost → Moves S s t
-  restored_moves newest rest saves_is e n copied stepped runs cheap =
+      Runs S.image (sizes S) (here S s t r) r.core (suc n) (entry_of S r.frame.function abort_to) (arrived (here S s t r + front) e) → suc n ≤ S.cost → Moves S s t
+  restored_moves newest rest saves_is e n restored stepped runs cheap =
       let f : bril.Frame = at_point abort_to (record r.frame { locations = newest; saves = rest }) in
       let u = slot_guards S.p S.slots S.limits false abort_to r.frame r.older s in
       let frame_is : at_point abort_to (record r.frame { locations = saved r.frame.saves r.frame.locations; saves = dropped r.frame.saves }) ≡ f =
       ap (λ xs. at_point abort_to (record r.frame { locations = saved xs r.frame.locations; saves = dropped xs })) saves_is in
       let same : SameFrame r.core (loaded S s t r r.core 5 (2 + condition)) = record { zero_register = condition_keeps.zero_register; frame_register = condition_keeps.frame_register; frames_left = condition_keeps.frames_left } in
       let holds =
-      restored_holds S (length s.blocks) r.frame r.older r.core r.holds newest rest saves_is abort_to (loaded S s t r r.core 5 (2 + condition)) e (arrived (here S s t r + front) e) condition_keeps.stack same copied refl
+      restored_holds S (length s.blocks) r.frame r.older r.core r.holds (standing S s t r) newest rest saves_is abort_to
+      (goes S r.frame r.holds.function r.holds.there (Guard condition abort_to) item (record { from = r.frame.point; to = abort_to; aborts = true }) (inr (inl refl))) (loaded S s t r r.core 5 (2 + condition)) e (arrived (here S s t r + front) e) condition_keeps.stack same restored refl
       (record { zero_register = refl; frame_register = refl; frames_left = refl }) in
-      arrive S s t r u f r.older (arrived (here S s t r + front) e) n stepped (ap (λ x. x ∷ r.older) frame_is) r.running (r.printed ∙ sym copied.printed) holds
-      (memory_by S s.blocks r.core e copied.table copied.cells copied.blocks copied.given r.memory) (counts_held e copied.arrivals) runs cheap
+      arrive S s t r u f r.older (arrived (here S s t r + front) e) n stepped (ap (λ x. x ∷ r.older) frame_is) r.running (r.printed ∙ sym restored.rest.printed) holds
+      (memory_by S s.blocks r.core e restored.rest.table restored.rest.cells restored.rest.blocks restored.rest.given r.memory) (counts_held e restored.rest.arrivals) runs cheap
 
   -- the condition doesn't hold
   aborts : (held : HoldsBool r.frame.locations condition) → IsSlotOf r.holds.function (Variable condition) → held.truth ≡ false → (newest : bril.Locals) (rest : List bril.Locals) → r.frame.saves ≡ newest ∷ rest → Moves S s t
@@ -189,32 +196,30 @@ module _ (S : Setting) (s : bril.State) (t : State) (r : RunsAlike S s t) (condi
       let fit_level : 2 + n * (1 + suc l) ≤ g.words = subst (λ m. 2 + n * (1 + m) ≤ g.words) (ap length saves_is) fit in
       let split : n * (1 + suc l) ≡ n * suc l + n = grind arith in
       let split_more : n * suc l ≡ n * l + n = grind arith in
-      let within = frame_within S (length s.blocks) r.frame r.older r.core h in
-      let from = level_word g (suc l) in
-      let cs = copy_size from 2 n in
-      let word = word_held S s t r r.core (Variable condition) (Boolean held.truth) refl in_g held.is in
+      let back = level_moves (in_frame g) g (suc l) in
+      let cs = restore_size back in
+      let word = word_held S s t r r.core (Variable condition) (Boolean held.truth) refl (reads S s t r (Guard condition abort_to) item (location.Variable condition) (inl refl)) held.is in
       let same_words : eqb (r.core.stack (h.base + o)) (r.core.registers 0) ≡ true = ap (λ y. eqb y (r.core.registers 0)) (word.is ∙ ap (λ y. word_of (Boolean y)) truth) ∙ ap (eqb 0) h.zero_is in
       let low = S.laid.few_entries r.frame.function r.frame.point in
       let low_next = S.laid.few_entries r.frame.function (suc r.frame.point) in
       let low_abort = S.laid.few_entries r.frame.function abort_to in
-      let next = S.laid.next r.frame.function g r.frame.point (Guard condition abort_to) h.there item in
+      let next = next_entry S r.frame.function g r.frame.point (Guard condition abort_to) h.there item in
       let load_three = load_most o in
-      let skip = Jal 0 (jump_offset 0 (2 + copy_size (level_word g d) 2 n)) in
+      let skip = Jal 0 (jump_offset 0 (2 + restore_size (level_moves (in_frame g) g d))) in
       let place : k + load_size o < 2 ^ 20 = omega arith in
-      let g2 = taken S.image (sizes S) (skip ∷ []) (copy_words (level_word g d) 2 n) place (omega arith) same_words (condition_loaded held in_g) in
+      let g2 = taken S.image (sizes S) (skip ∷ []) (restore_words (level_moves (in_frame g) g d)) place (omega arith) same_words (condition_loaded held in_g) in
       let e = loaded S s t r r.core 5 o in
-      let g3 = with_end (copy_words from 2 n) (subst (λ m. Going S.image (sizes S) k r.core (0 + load_size o + 1) (k + load_size o + 1 + 1) e (copy_words (level_word g m) 2 n)) depth g2) in
-      let from_most : h.base + (from + n) ≤ S.image.stack = omega arith in
-      let to_most : h.base + (2 + n) ≤ S.image.stack = omega arith in
-      let q = words_copied S.image (sizes S) (stack_few S) h.base from 2 n e [] (inr (omega arith)) (condition_keeps.frame_register ∙ h.at) from_most to_most g3 in
-      let front_is : front ≡ load_size o + (2 + cs) = ap (λ m. load_size o + (2 + copy_size (level_word g m) 2 n)) depth in
+      let g3 = with_end (restore_words back) (subst (λ m. Going S.image (sizes S) k r.core (0 + load_size o + 1) (k + load_size o + 1 + 1) e (restore_words (level_moves (in_frame g) g m))) depth g2) in
+      let can = level_moves_can S (length s.blocks) r.frame r.older r.core h (suc l) (omega arith) fit_level in
+      let q = homes_restored S.image (sizes S) (stack_few S) h.base back e [] can.homes_apart can.no_word can.usable can.inside (condition_keeps.frame_register ∙ h.at) g3 in
+      let front_is : front ≡ load_size o + (2 + cs) = ap (λ m. load_size o + (2 + restore_size (level_moves (in_frame g) g m))) depth in
       let at : k + load_size o + 1 + 1 + cs ≡ k + front = omega arith in
       let g4 = is_place S.image (sizes S) (load_size o + 1 + cs) (k + front) (omega arith) at q.going in
-      let has = S.laid.items r.frame.function g r.frame.point (Guard condition abort_to) h.there item in
-      let runs = guard_jump_to S.image (sizes S) (k + front) (entry_at S.slots r.frame.function abort_to) refl (omega arith) (omega arith) has.1 g4 in
-      let size = copy_most from 2 n in
+      let has = its_words S r.frame.function g r.frame.point (Guard condition abort_to) h.there item in
+      let runs = guard_jump_to S.image (sizes S) (k + front) (entry_of S r.frame.function abort_to) refl (omega arith) (omega arith) has.1 g4 in
+      let size = level_restores_most (in_frame g) g (suc l) in
       let count : load_size o + 1 + cs + 1 ≡ suc (load_size o + 1 + cs) = omega arith in
-      restored_moves newest rest saves_is q.core (load_size o + 1 + cs) q.copied (guard_step held held.truth held.is ∙ ap (λ b. slot_guards S.p S.slots S.limits b abort_to r.frame r.older s) truth)
+      restored_moves newest rest saves_is q.core (load_size o + 1 + cs) q.is (guard_step held held.truth held.is ∙ ap (λ b. slot_guards S.p S.slots S.limits b abort_to r.frame r.older s) truth)
       (in_steps (suc (load_size o + 1 + cs)) count runs) (omega arith)
 
   pub guard_moves : HoldsBool r.frame.locations condition → r.frame.saves ≢ [] → IsSlotOf r.holds.function (Variable condition) → Moves S s t

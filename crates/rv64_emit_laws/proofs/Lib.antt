@@ -1,3 +1,4 @@
+pub mod Acting
 pub mod Allocating
 pub mod Arriving
 pub mod Asking
@@ -15,7 +16,6 @@ pub mod Holding
 pub mod Homes
 pub mod Items
 pub mod Jumping
-pub mod Living
 pub mod Loading
 pub mod Operands
 pub mod Outcomes
@@ -30,6 +30,7 @@ pub mod Returning
 pub mod Setting
 pub mod Sources
 pub mod Speculating
+pub mod Standing
 pub mod Starting
 pub mod Storing
 pub mod Stretches

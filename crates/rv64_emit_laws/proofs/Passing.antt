@@ -4,6 +4,11 @@ use Rattle.std.specs.Prelude.{slice_get}
 use Rattle.std.specs.List.{AllByRecursion}
 use Rattle.bril_tree.specs.declared.value.Value.{Value}
 use Rattle.bril_tree.specs.State as bril
+use Rattle.bril_tree.specs.Live.{IsLive}
+use Rattle.bril_tree.specs.Operand as location
+use Rattle.bril_tree.specs.Step.{code_of}
+use Rattle.placement_laws.specs.Needed.{Live}
+use Rattle.rv64_layout.specs.Homes.{in_frame}
 use Rattle.rv64_layout.specs.Items.{argument_word, pass_size, pass_words}
 use Rattle.rv64_stretches.specs.Core.{Core, put}
 use Rattle.rv64_stretches.proofs.Cores.{assigned_here, assigned_other}
@@ -73,10 +78,10 @@ module _ (S : Setting) (s : bril.State) (t : State) (r : RunsAlike S s t) (wide 
     pub going : Going S.image (sizes S) (here S s t r) r.core (n + size) (i + size) core ws
 
   pub arguments_passed : (args : List ℕ) (j : ℕ) {n i : ℕ} (d : Core) (ws : List Word) → d.registers 2 ≡ r.core.registers 2 → ((k : ℕ) → k < r.holds.base + r.holds.function.words → d.stack k ≡ r.core.stack k) →
-      2 + (j + length args) ≤ wide → AllByRecursion (λ a. HoldsValue r.frame.locations (Variable a)) args → AllByRecursion (λ a. IsSlotOf r.holds.function (Variable a)) args →
-      Going S.image (sizes S) (here S s t r) r.core n i d (pass_words r.holds.function j args ++ ws) →
-      AfterPassing n i d j (pass_size r.holds.function j args) (map (bril.read r.frame.locations.vars) args) ws
-  arguments_passed [] j {n} {i} d ws two stay inside held used g = record {
+      2 + (j + length args) ≤ wide → AllByRecursion (λ a. HoldsValue r.frame.locations (Variable a)) args → AllByRecursion (λ a. IsSlotOf r.holds.function (Variable a)) args → AllByRecursion (λ a. IsLive (code_of S.p r.frame.function) (location.Variable a) r.frame.point) args →
+      Going S.image (sizes S) (here S s t r) r.core n i d (pass_words (in_frame r.holds.function) r.holds.function j args ++ ws) →
+      AfterPassing n i d j (pass_size (in_frame r.holds.function) r.holds.function j args) (map (bril.read r.frame.locations.vars) args) ws
+  arguments_passed [] j {n} {i} d ws two stay inside held used lives g = record {
     core = d;
     passed = record {
       same = record { zero_register = refl; frame_register = refl; frames_left = refl };
@@ -94,7 +99,7 @@ module _ (S : Setting) (s : bril.State) (t : State) (r : RunsAlike S s t) (wide 
     where
       none_some : {v : Value} → None ≡ Some v → ⊥
       none_some e = cc
-  arguments_passed (a ∷ args) j {n} {i} d ws two stay inside held used g =
+  arguments_passed (a ∷ args) j {n} {i} d ws two stay inside held used lives g =
       let h = r.holds in
       let func = h.function in
       let o = 2 + a in
@@ -102,23 +107,23 @@ module _ (S : Setting) (s : bril.State) (t : State) (r : RunsAlike S s t) (wide 
       let origin = source S (length s.blocks) r.frame r.older r.core h in
       let own = slot_fits origin.function func origin.is (Variable a) used.0 in
       let v = held.0.value in
-      let words : (load_words 5 o ++ (store_words 5 q ++ pass_words func (suc j) args)) ++ ws ≡ load_words 5 o ++ (store_words 5 q ++ (pass_words func (suc j) args ++ ws)) =
-      append_assoc (load_words 5 o) (store_words 5 q ++ pass_words func (suc j) args) ws ∙ ap (λ xs. load_words 5 o ++ xs) (append_assoc (store_words 5 q) (pass_words func (suc j) args) ws) in
+      let words : (load_words 5 o ++ (store_words 5 q ++ pass_words (in_frame func) func (suc j) args)) ++ ws ≡ load_words 5 o ++ (store_words 5 q ++ (pass_words (in_frame func) func (suc j) args ++ ws)) =
+      append_assoc (load_words 5 o) (store_words 5 q ++ pass_words (in_frame func) func (suc j) args) ws ∙ ap (λ xs. load_words 5 o ++ xs) (append_assoc (store_words 5 q) (pass_words (in_frame func) func (suc j) args) ws) in
       let g0 = subst (λ xs. Going S.image (sizes S) (here S s t r) r.core n i d xs) words g in
       let g1 = loads S s t r (Variable a) 5 two used.0 g0 in
       let e = loaded S s t r d 5 o in
       let low : h.base + o < h.base + func.words = omega arith in
-      let word : HasWord (length s.blocks) v (d.stack (h.base + o)) = subst (HasWord (length s.blocks) v) (sym (stay (h.base + o) low)) (h.slots.at (Variable a) v used.0 held.0.is) in
+      let word : HasWord (length s.blocks) v (d.stack (h.base + o)) = subst (HasWord (length s.blocks) v) (sym (stay (h.base + o) low)) (h.holds.homes_hold.at (location.Variable a) v (Live lives.0) held.0.is) in
       let reach : Reaches (sizes S) e 2 h.base q = record { base = two ∙ h.at; inside = omega arith; few = few } in
       let g2 = frame_store S.image (sizes S) 2 5 h.base q two_not_six five_not_six reach g1 in
       let f = put (addressed e 2 q) (h.base + q) (e.registers 5) in
       let at_is : h.base + q ≡ h.base + func.words + (2 + j) = omega arith in
       let stays : (k : ℕ) → k < h.base + func.words → f.stack k ≡ r.core.stack k = λ k lt. (let other : k ≢ h.base + q = (λ x. absurd (omega arith)) in assigned_other d.stack (h.base + q) (e.registers 5) k other ∙ stay k lt) in
-      let rest = arguments_passed args (suc j) f ws two stays (omega arith) held.1 used.1 g2 in
+      let rest = arguments_passed args (suc j) f ws two stays (omega arith) held.1 used.1 lives.1 g2 in
       let read_v : bril.read r.frame.locations.vars a ≡ v = read_is r.frame.locations (Variable a) v held.0.is in
       let one = one_passed (length s.blocks) d f rest.core (h.base + q) (h.base + func.words) j (e.registers 5) v (map (bril.read r.frame.locations.vars) args) at_is word refl (record { zero_register = refl; frame_register = refl; frames_left = refl }) refl refl refl refl refl refl rest.passed in
       record {
         core = rest.core;
         passed = subst (λ x. Passed (length s.blocks) d rest.core (h.base + func.words) j (x ∷ map (bril.read r.frame.locations.vars) args)) (sym read_v) one;
-        going = is_place S.image (sizes S) (n + pass_size func j (a ∷ args)) (i + pass_size func j (a ∷ args)) (omega arith) (omega arith) rest.going;
+        going = is_place S.image (sizes S) (n + pass_size (in_frame func) func j (a ∷ args)) (i + pass_size (in_frame func) func j (a ∷ args)) (omega arith) (omega arith) rest.going;
       }

@@ -4,6 +4,9 @@ use Rattle.bril_tree.specs.declared.limits.Fault.TheVariants as fault
 use Rattle.bril_tree.specs.declared.value.Value.TheVariants.{Ptr}
 use Rattle.bril_tree.specs.Memory.{cell_at}
 use Rattle.bril_tree.specs.State as bril
+use Rattle.bril_tree.specs.Live.{IsLive}
+use Rattle.bril_tree.specs.Operand as location
+use Rattle.bril_tree.specs.Step.{code_of}
 use Rattle.bril_tree.specs.Step.{step, faulted}
 use Rattle.rv64_blocks.proofs.Finding.{CellFound, cell_found, cell_missing, size_few}
 use Rattle.rv64_layout.proofs.Bounding.{load_most}
@@ -27,16 +30,17 @@ use Rattle.rv64_emit_laws.proofs.Relation.{HasWord, RunsAlike}
 use Rattle.rv64_emit_laws.proofs.Setting.{Setting, sizes}
 use Rattle.rv64_emit_laws.proofs.Stretches.{load_some}
 
-module _ (S : Setting) (s : bril.State) (t : State) (r : RunsAlike S s t) (pointer : ℕ) (points : HoldsPointer r.frame.locations pointer) (in_pointer : IsSlotOf r.holds.function (Variable pointer)) where
+module _ (S : Setting) (s : bril.State) (t : State) (r : RunsAlike S s t) (pointer : ℕ) (points : HoldsPointer r.frame.locations pointer) (in_pointer : IsSlotOf r.holds.function (Variable pointer))
+    (live : IsLive (code_of S.p r.frame.function) (location.Variable pointer) r.frame.point) where
   -- the words of the item from the pointer's load on are these
   abbrev pub Pointed : List Word → Type 0
   Pointed ws = Going S.image (sizes S) (here S s t r) r.core (0 + load_size (2 + pointer)) (here S s t r + load_size (2 + pointer)) (loaded S s t r r.core 5 (2 + pointer)) ws
 
   pointed_keeps : Keeps r.core (loaded S s t r r.core 5 (2 + pointer))
-  pointed_keeps = loaded_keeps S s t r r.core 4 (2 + pointer) refl refl refl (keeps_itself r.core)
+  pointed_keeps = loaded_keeps S s t r r.core 4 (2 + pointer) refl refl refl refl (keeps_itself r.core)
 
   word : HasWord (length s.blocks) (Ptr points.block points.offset) (r.core.stack (r.holds.base + (2 + pointer)))
-  word = word_held S s t r r.core (Variable pointer) (Ptr points.block points.offset) refl in_pointer points.is
+  word = word_held S s t r r.core (Variable pointer) (Ptr points.block points.offset) refl live points.is
 
   -- the cells that were given out are few
   few_given : r.core.given ≤ 4194304

@@ -1,39 +1,46 @@
 -- The relation between the states of a program and those of the machine that runs its image.
 use Rattle.std.proofs.Common.{◌≡◌, ℕ, suc, ◌+◌, ◌*◌, ◌≤◌, true, List, [], ◌∷◌, length, Option, Some, None}
 use Rattle.std.specs.Prelude.{slice_get}
+use Rattle.std.specs.List.{Contains}
 use Rattle.bril_tree.specs.declared.limits.End.{End}
 use Rattle.bril_tree.specs.declared.value.Value.{Value}
+use Rattle.bril_tree.specs.Assigned.{assigns_at}
+use Rattle.bril_tree.specs.Live.{IsLive}
+use Rattle.bril_tree.specs.Locals.{location_value}
+use Rattle.bril_tree.specs.Operand.{Location}
 use Rattle.bril_tree.specs.Run.{state_after}
 use Rattle.bril_tree.specs.State as bril
+use Rattle.bril_tree.specs.Step.{code_of}
+use Rattle.placement_laws.specs.Holding.{FrameHolds}
+use Rattle.placement_laws.specs.Homes.{slot_of}
 pub use Rattle.rv64_blocks.specs.Memory.{HasWord, BlockHolds, LiesIn, MemoryHolds}
-use Rattle.rv64_layout.specs.Image.{end_start, entry_at}
-use Rattle.rv64_layout.specs.Items.{level_word, return_word}
+use Rattle.rv64_layout.specs.Image.{end_start}
+use Rattle.rv64_layout.specs.Homes.{in_frame, level_word, slot_word}
+use Rattle.rv64_layout.specs.Items.{return_word}
 use Rattle.rv64_stretches.specs.Core.{Core, machine}
+use Rattle.rv64_sequences.specs.Moves.{home_word}
 use Rattle.rv64_words.specs.declared.image.GuardAt.{GuardAt}
 use Rattle.rv64_words.specs.Region.{stack_base}
 use Rattle.rv64_words.specs.State.{State, Finished}
-use Rattle.slot_code.specs.declared.item.Slot.{Slot}
 use Rattle.slot_code.specs.declared.item.SlotItem.TheVariants.{Call}
 use Rattle.slot_code.specs.declared.slots.SlotFunction.{SlotFunction}
-use Rattle.slot_code.specs.Laws.{IsSlotOf}
 use Rattle.slot_code.specs.Numbering.{slot_number}
-use Rattle.rv64_emit_laws.proofs.Ready.{gives_back, slot_value}
-use Rattle.rv64_emit_laws.proofs.Setting.{Setting, sizes, widest}
+use Rattle.rv64_emit_laws.specs.Homes.{home_at, saved_at}
+use Rattle.rv64_emit_laws.proofs.Ready.{gives_back}
+use Rattle.rv64_emit_laws.proofs.Setting.{Setting, entry_of, sizes, widest}
 
--- Each slot of the function that holds a value has its word: slot j the one `first + j` words above the frame's base. The slots
--- as they are begin at word 2.
-pub record SlotsHold (made : ℕ) (g : SlotFunction) (base first : ℕ) (locations : bril.Locals) (stack : ℕ → ℕ) : Type 0 where
-  pub at : (slot : Slot) (v : Value) → IsSlotOf g slot → slot_value locations slot ≡ Some v → HasWord made v (stack (base + (first + slot_number g.shadow_numbers slot)))
+-- the word in which a speculation of a level keeps a location, and the location's own word, in the frame at word b of the stack
+abbrev pub shadow_word : SlotFunction → ℕ → (ℕ → ℕ) → ℕ → Location → ℕ
+shadow_word g b stack level x = stack (b + (level_word g level + slot_number g.shadow_numbers (slot_of x)))
 
--- each open speculation has the words of the slots as they were: the newest of l at level l
-abbrev pub SavesHold : ℕ → SlotFunction → ℕ → List bril.Locals → (ℕ → ℕ) → Type 0
-SavesHold made g base [] stack = Unit {0}
-SavesHold made g base (save ∷ older) stack = SlotsHold made g base (level_word g (suc (length older))) save stack × SavesHold made g base older stack
+abbrev pub own_word : SlotFunction → ℕ → (ℕ → ℕ) → Location → ℕ
+own_word g b stack x = stack (b + slot_word g (slot_of x))
 
 -- ---- frames
 
 -- A frame waits at a call of the function `above`, whose frame is at word `base` of the stack: its own ends there, and the
--- first two words from there on are the way back and its own base. So many frames are older.
+-- first two words from there on are the way back and its own base. So many frames are older. What is live after the call, the
+-- call's destination apart, is in its own word.
 pub record Waits (S : Setting) (made above base depth : ℕ) (f : bril.Frame) (stack : ℕ → ℕ) : Type 0 where
   pub function : SlotFunction
   pub there : slice_get S.slots.funcs f.function ≡ Some function
@@ -45,9 +52,10 @@ pub record Waits (S : Setting) (made above base depth : ℕ) (f : bril.Frame) (s
   pub below : ℕ
   pub ends : below + function.words ≡ base
   pub deep : below ≤ depth * widest S
-  pub way : stack base ≡ 4 * return_word function (entry_at S.slots f.function f.point) args
+  pub way : stack base ≡ 4 * return_word (in_frame function) function (entry_of S f.function f.point) args
   pub old : stack (base + 1) ≡ stack_base + 8 * below
-  pub slots : SlotsHold made function below 2 f.locations stack
+  pub kept : (x : Location) (v : Value) → IsLive (code_of S.p f.function) x (suc f.point) → (Contains (assigns_at (slice_get (code_of S.p f.function) f.point)) x → ⊥) → location_value f.locations x ≡ Some v →
+      HasWord made v (own_word function below stack x)
 
 -- the frames that wait for one of the function `above` at word `base`; the program ends where the first one returns
 abbrev pub OlderHold : Setting → ℕ → ℕ → ℕ → List bril.Frame → (ℕ → ℕ) → Type 0
@@ -55,7 +63,7 @@ OlderHold S made above base [] stack = stack base ≡ 4 * end_start
 OlderHold S made above base (f ∷ older) stack =
     (w : Waits S made above base (length older) f stack) × OlderHold S made f.function w.below older stack
 
--- the machine holds the frames
+-- The machine holds the frames: of the newest one what its point needs, each location at its home.
 pub record FramesHold (S : Setting) (made : ℕ) (f : bril.Frame) (older : List bril.Frame) (c : Core) : Type 0 where
   pub function : SlotFunction
   pub there : slice_get S.slots.funcs f.function ≡ Some function
@@ -64,8 +72,7 @@ pub record FramesHold (S : Setting) (made : ℕ) (f : bril.Frame) (older : List 
   pub zero_is : c.registers 0 ≡ 0
   pub left : c.registers 8 + suc (length older) ≡ S.limits.frames
   pub deep : base ≤ length older * widest S
-  pub slots : SlotsHold made function base 2 f.locations c.stack
-  pub saves : SavesHold made function base f.saves c.stack
+  pub holds : FrameHolds (code_of S.p f.function) (home_at (in_frame function)) (saved_at (in_frame function)) (HasWord made) f.point f.locations f.saves (home_word c base) (shadow_word function base c.stack)
   pub older_hold : OlderHold S made f.function base older c.stack
 
 -- ---- guards
@@ -87,7 +94,7 @@ module _ (S : Setting) where
     pub running : s.ended ≡ None
     pub core : Core
     pub done : ℕ
-    pub state : t ≡ machine (entry_at S.slots frame.function frame.point) core done
+    pub state : t ≡ machine (entry_of S frame.function frame.point) core done
     pub holds : FramesHold S (length s.blocks) frame older core
     pub memory : MemoryHolds (sizes S) s.blocks core.table core.cells core.blocks core.given
     pub guards : GuardsHold S.image.guards s.failures core.arrivals

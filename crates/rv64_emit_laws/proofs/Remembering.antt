@@ -1,14 +1,16 @@
 -- What the machine holds of the frames when memory changes.
-use Rattle.std.proofs.Common.{◌≡◌, ◌≢◌, ℕ, zero, suc, ◌+◌, ◌-◌, ◌≤◌, refl, sym, ap, ◌∙◌, arith, List, [], ◌∷◌, length}
+use Rattle.std.proofs.Common.{◌≡◌, ◌≢◌, ℕ, zero, suc, ◌+◌, ◌-◌, ◌≤◌, refl, sym, ap, ◌∙◌, arith, List, [], ◌∷◌, length, Bool}
 use Rattle.bril_tree.specs.declared.value.Value.{Value}
 use Rattle.bril_tree.specs.Memory.{changed_block}
+use Rattle.bril_tree.specs.declared.numbered.Instr.{Instr}
+use Rattle.bril_tree.specs.Operand.{Location}
 use Rattle.bril_tree.specs.State as bril
-use Rattle.bril_tree.specs.Step.{step, advanced, with_locations}
+use Rattle.bril_tree.specs.Step.{step, advanced, code_of, with_locations}
 use Rattle.rv64_blocks.specs.Laws.{CoreHolds}
 use Rattle.rv64_blocks.proofs.Allocating.{word_known}
 use Rattle.rv64_blocks.proofs.Lists.{changed_length}
-use Rattle.rv64_layout.specs.Image.{entry_at}
-use Rattle.rv64_layout.specs.Items.{level_word, slot_word}
+use Rattle.placement_laws.specs.Holding as holding
+use Rattle.rv64_layout.specs.Homes.{in_frame, slot_word}
 use Rattle.rv64_layout.proofs.Bounding.{store_most}
 use Rattle.rv64_stretches.specs.Core.{Core, put}
 use Rattle.rv64_stretches.proofs.Going.{Going}
@@ -17,25 +19,25 @@ use Rattle.rv64_sequences.specs.Frames.{addressed}
 use Rattle.rv64_sequences.proofs.Frames.{frame_store}
 use Rattle.rv64_words.specs.State.{State, assigned}
 use Rattle.slot_code.specs.declared.item.Slot.{Slot}
-use Rattle.slot_code.specs.declared.slots.SlotFunction.{SlotFunction}
 use Rattle.slot_code.specs.Laws.{IsSlotOf}
 use Rattle.slot_code.specs.Meaning.{fills, with_slot}
-use Rattle.slot_code.specs.Numbering.{slot_number}
 use Rattle.rv64_emit_laws.proofs.Arriving.{Moves, arrive, guards_by, here}
-use Rattle.rv64_emit_laws.proofs.Holding.{SameFrame, filled_holds, slot_reaches}
-use Rattle.rv64_emit_laws.proofs.Relation.{HasWord, SlotsHold, SavesHold, Waits, OlderHold, FramesHold, RunsAlike}
-use Rattle.rv64_emit_laws.proofs.Setting.{Setting, sizes}
+use Rattle.rv64_emit_laws.specs.Homes.{home_at, saved_at}
+use Rattle.rv64_emit_laws.proofs.Acting.{Fills}
+use Rattle.rv64_emit_laws.proofs.Holding.{SameFrame, all_steady, filled_holds, slot_reaches}
+use Rattle.rv64_emit_laws.proofs.Relation.{HasWord, Waits, OlderHold, FramesHold, RunsAlike, own_word, shadow_word}
+use Rattle.rv64_emit_laws.proofs.Setting.{Setting, entry_of, sizes}
+use Rattle.rv64_emit_laws.proofs.Standing.{standing}
 use Rattle.rv64_emit_laws.proofs.Stretches.{landed, store_some, two_not_six, with_end}
 
 -- ---- more blocks were made
 
 module _ (made more : ℕ) (le : made ≤ more) where
-  pub slots_more : (g : SlotFunction) (base first : ℕ) (locations : bril.Locals) (stack : ℕ → ℕ) → SlotsHold made g base first locations stack → SlotsHold more g base first locations stack
-  slots_more g base first locations stack h = record { at = λ slot v in_g held. word_known made more v (stack (base + (first + slot_number g.shadow_numbers slot))) le (h.at slot v in_g held) }
-
-  pub saves_more : (g : SlotFunction) (base : ℕ) (saves : List bril.Locals) (stack : ℕ → ℕ) → SavesHold made g base saves stack → SavesHold more g base saves stack
-  saves_more g base [] stack h = tt
-  saves_more g base (save ∷ older) stack h = (slots_more g base (level_word g (suc (length older))) save stack h.0, saves_more g base older stack h.1)
+  pub saves_more : (code : List Instr) {H : Type 0} (homes : Location → H) (saved : ℕ → Location → Bool) (point : ℕ) (saves : List bril.Locals) (shadow : ℕ → Location → ℕ) →
+      holding.SavesHold code homes saved (HasWord made) point saves shadow → holding.SavesHold code homes saved (HasWord more) point saves shadow
+  saves_more code homes saved point [] shadow h = tt
+  saves_more code homes saved point (save ∷ older) shadow h =
+      (λ x v o told held. word_known made more v (shadow (suc (length older)) x) le (h.0 x v o told held), saves_more code homes saved point older shadow h.1)
 
   waits_more : (S : Setting) (above base depth : ℕ) (f : bril.Frame) (stack : ℕ → ℕ) → Waits S made above base depth f stack → Waits S more above base depth f stack
   waits_more S above base depth f stack w = record {
@@ -51,7 +53,7 @@ module _ (made more : ℕ) (le : made ≤ more) where
     deep = w.deep;
     way = w.way;
     old = w.old;
-    slots = slots_more w.function w.below 2 f.locations stack w.slots;
+    kept = λ x v live own held. word_known made more v (own_word w.function w.below stack x) le (w.kept x v live own held);
   }
 
   pub older_more : (S : Setting) (above base : ℕ) (older : List bril.Frame) (stack : ℕ → ℕ) → OlderHold S made above base older stack → OlderHold S more above base older stack
@@ -69,8 +71,11 @@ module _ (made more : ℕ) (le : made ≤ more) where
     zero_is = h.zero_is;
     left = h.left;
     deep = h.deep;
-    slots = slots_more h.function h.base 2 f.locations c.stack h.slots;
-    saves = saves_more h.function h.base f.saves c.stack h.saves;
+    holds = record {
+      homes_hold = record { at = λ x v needed held. word_known made more v (own_word h.function h.base c.stack x) le (h.holds.homes_hold.at x v needed held) };
+      saves_hold = saves_more (code_of S.p f.function) (home_at (in_frame h.function)) (saved_at (in_frame h.function)) f.point f.saves (shadow_word h.function h.base c.stack) h.holds.saves_hold;
+      steady = all_steady (code_of S.p f.function) (home_at (in_frame h.function)) (saved_at (in_frame h.function)) (λ level x. refl) (HasWord more) f.point f.locations f.saves;
+    };
     older_hold = older_more S f.function h.base older c.stack h.older_hold;
   }
 
@@ -89,22 +94,22 @@ module _ (S : Setting) (s : bril.State) (t : State) (r : RunsAlike S s t) where
     pub printed : e.printed ≡ r.core.printed
     pub arrivals : e.arrivals ≡ r.core.arrivals
 
-  pub fills_moves : (blocks : List bril.Block) (dest : Slot) (v : Value) (rs : ℕ) (e : Core) (n j : ℕ) → length s.blocks ≤ length blocks → IsSlotOf r.holds.function dest → rs ≢ 6 → HasWord (length blocks) v (e.registers rs) → KeepsFrames e →
+  pub fills_moves : (blocks : List bril.Block) (dest : Slot) (v : Value) (rs : ℕ) (e : Core) (n j : ℕ) → length s.blocks ≤ length blocks → IsSlotOf r.holds.function dest → Fills S r.frame dest → rs ≢ 6 → HasWord (length blocks) v (e.registers rs) → KeepsFrames e →
       CoreHolds (sizes S) blocks e → step S.p S.limits s ≡ fills S.p S.slots S.limits dest v r.frame r.older (record s { blocks = blocks }) →
-      Going S.image (sizes S) (here S s t r) r.core n j e (store_words rs (slot_word r.holds.function dest)) → j + store_size (slot_word r.holds.function dest) ≡ entry_at S.slots r.frame.function (suc r.frame.point) →
+      Going S.image (sizes S) (here S s t r) r.core n j e (store_words rs (slot_word r.holds.function dest)) → j + store_size (slot_word r.holds.function dest) ≡ entry_of S r.frame.function (suc r.frame.point) →
       n + 3 ≤ S.cost → Moves S s t
-  fills_moves blocks dest v rs e n j le in_dest not_six word keeps memory stepped g there cheap =
+  fills_moves blocks dest v rs e n j le in_dest fl not_six word keeps memory stepped g there cheap =
       let h = frames_more (length s.blocks) (length blocks) le S r.frame r.older r.core r.holds in
       let o = slot_word r.holds.function dest in
       let w = e.registers rs in
       let f : bril.Frame = advanced (with_locations (with_slot dest v r.frame.locations) r.frame) in
       let last = put (addressed e 2 o) (r.holds.base + o) w in
       let same : SameFrame r.core last = record { zero_register = keeps.frame.zero_register; frame_register = keeps.frame.frame_register; frames_left = keeps.frame.frames_left } in
-      let holds = filled_holds S (length blocks) r.frame r.older r.core h dest v w last in_dest word (ap (λ m. assigned m (r.holds.base + o) w) keeps.stack) same in
+      let holds = filled_holds S (length blocks) r.frame r.older r.core h (standing S s t r) dest fl v w last in_dest word (ap (λ m. assigned m (r.holds.base + o) w) keeps.stack) same in
       let reach = slot_reaches S (length s.blocks) r.frame r.older r.core r.holds e dest keeps.frame.frame_register in_dest in
       let stored = frame_store S.image (sizes S) 2 rs r.holds.base o two_not_six not_six reach (with_end (store_words rs o) g) in
       let one = store_some o in
       let three = store_most o in
       let count : n + store_size o ≡ suc (n + store_size o - 1) = omega arith in
       arrive S s t r (fills S.p S.slots S.limits dest v r.frame r.older (record s { blocks = blocks })) f r.older last (n + store_size o - 1) stepped refl r.running (r.printed ∙ sym keeps.printed) holds
-      memory (guards_by S s t r e keeps.arrivals) (landed (suc (n + store_size o - 1)) (entry_at S.slots r.frame.function (suc r.frame.point)) count there stored) (omega arith)
+      memory (guards_by S s t r e keeps.arrivals) (landed (suc (n + store_size o - 1)) (entry_of S r.frame.function (suc r.frame.point)) count there stored) (omega arith)

@@ -16,11 +16,17 @@ use Rattle.bril_tree.specs.Accepted.{IsPlainType}
 use Rattle.bril_tree.specs.Outcome.{block_of}
 use Rattle.bril_tree.specs.ProgramForm.{main_name}
 use Rattle.bril_tree.specs.Run.{Suits, first_state, main_types, types_of}
+use Rattle.bril_tree.specs.Locals.{location_value}
+use Rattle.bril_tree.specs.Operand.{Location}
+use Rattle.bril_tree.specs.Operand as location
 use Rattle.bril_tree.specs.State as bril
-use Rattle.bril_tree.specs.Step.{new_frame}
+use Rattle.bril_tree.specs.Step.{code_of, new_frame}
+use Rattle.placement_laws.specs.Homes.{slot_of}
+use Rattle.placement_laws.specs.Needed.{IsNeeded}
 use Rattle.bril_tree.specs.Value.{IsOfDepth, word_of}
 use Rattle.bril_tree.proofs.Elements.{zip-long}
-use Rattle.rv64_layout.specs.Image.{entry_at, head_words, start_at}
+use Rattle.rv64_layout.specs.Homes.{in_frame, slot_word}
+use Rattle.rv64_layout.specs.Image.{head_words}
 use Rattle.rv64_stretches.specs.Core.{Core, machine}
 use Rattle.rv64_stretches.specs.Runs.{Runs}
 use Rattle.rv64_stretches.proofs.Cores.{assigned_other}
@@ -33,15 +39,11 @@ use Rattle.rv64_words.specs.Arithmetic.{extended_32, moved_by}
 use Rattle.rv64_words.specs.Machine.{machine_step}
 use Rattle.rv64_words.specs.Region.{stack_base}
 use Rattle.rv64_words.specs.State.{assigned, start, words_of}
-use Rattle.slot_code.specs.declared.item.Slot.{Slot}
-use Rattle.slot_code.specs.declared.item.Slot.TheVariants.{Variable, Shadow}
-use Rattle.slot_code.specs.Laws.{IsSlotOf}
-use Rattle.slot_code.specs.Numbering.{slot_number}
+use Rattle.rv64_emit_laws.specs.Homes.{saved_at}
 use Rattle.rv64_emit_laws.proofs.Frames.{arguments_hold, inside, slots_fit, variables_fit}
 use Rattle.rv64_emit_laws.proofs.Holding.{stack_room}
-use Rattle.rv64_emit_laws.proofs.Ready.{slot_value}
 use Rattle.rv64_emit_laws.proofs.Relation.{FramesHold, HasWord, MemoryHolds, Related, run}
-use Rattle.rv64_emit_laws.proofs.Setting.{Setting, sizes, widest}
+use Rattle.rv64_emit_laws.proofs.Setting.{Setting, entry_of, sizes, start_of, widest}
 use Rattle.rv64_emit_laws.proofs.Sources.{LoweredAt, lowered_at}
 use Rattle.rv64_emit_laws.proofs.Stretches.{landed}
 
@@ -117,7 +119,7 @@ module _ (S : Setting) where
   record Begun : Type 0 where
     core : Core
     done : ℕ
-    steps : after (machine_step S.image (sizes S)) 4 (start S.args) ≡ machine (entry_at S.slots S.p.main 0) core done
+    steps : after (machine_step S.image (sizes S)) 4 (start S.args) ≡ machine (entry_of S S.p.main 0) core done
     holds : FramesHold S 0 (new_frame S.p.main S.args) [] core
     table : core.table ≡ (λ _. 0)
     cells : core.cells ≡ (λ _. 0)
@@ -138,8 +140,7 @@ module _ (S : Setting) where
     zero_is = zero_is;
     left = (let some = S.limits.some_frames in omega arith);
     deep = omega arith;
-    slots = record { at = slot };
-    saves = tt;
+    holds = record { homes_hold = record { at = at_home }; saves_hold = tt; steady = tt };
     older_hold = ap (λ m. m 0) stack;
   }
     where
@@ -156,11 +157,11 @@ module _ (S : Setting) where
           }
       argument x v (inr w) = absurd (none_some w)
 
-      slot : (a : Slot) (v : Value) → IsSlotOf main_function.function a → slot_value (new_frame S.p.main S.args).locations a ≡ Some v → HasWord 0 v (e.stack (0 + (2 + slot_number main_function.function.shadow_numbers a)))
-      slot (Variable x) v in_g held = argument x v (arguments_hold S.args 0 bril.no_values x v held)
-      slot (Shadow x) v in_g held = absurd (none_some held)
+      at_home : (x : Location) (v : Value) → IsNeeded (code_of S.p S.p.main) (saved_at (in_frame main_function.function)) 0 x → location_value (new_frame S.p.main S.args).locations x ≡ Some v → HasWord 0 v (e.stack (0 + slot_word main_function.function (slot_of x)))
+      at_home (location.Variable x) v needed held = argument x v (arguments_hold S.args 0 bril.no_values x v held)
+      at_home (location.Shadow x) v needed held = absurd (none_some held)
 
-  begun_from : {e : Core} → Runs S.image (sizes S) 0 first_core 4 (entry_at S.slots S.p.main 0) e → e.registers 2 ≡ stack_base → e.registers 0 ≡ 0 → e.registers 8 ≡ S.limits.frames - 1 →
+  begun_from : {e : Core} → Runs S.image (sizes S) 0 first_core 4 (entry_of S S.p.main 0) e → e.registers 2 ≡ stack_base → e.registers 0 ≡ 0 → e.registers 8 ≡ S.limits.frames - 1 →
       e.stack ≡ assigned (words_of (0 ∷ 0 ∷ map word_of S.args)) 0 12 → e.table ≡ (λ _. 0) → e.cells ≡ (λ _. 0) → e.blocks ≡ 0 → e.given ≡ 0 → e.arrivals ≡ (λ _. 0) → e.printed ≡ [] → Begun
   begun_from {e} r two zero_is eight stack table cells blocks given arrivals printed = record {
     core = e;
@@ -175,23 +176,23 @@ module _ (S : Setting) where
     printed = printed;
   }
 
-  to_main : {n : ℕ} {e : Core} → Runs S.image (sizes S) 0 first_core n (start_at S.slots S.slots.main) e → Runs S.image (sizes S) 0 first_core n (start_at S.slots S.p.main) e
-  to_main {n} {e} r = subst (λ m. Runs S.image (sizes S) 0 first_core n (start_at S.slots m) e) main_is r
+  to_main : {n : ℕ} {e : Core} → Runs S.image (sizes S) 0 first_core n (start_of S S.slots.main) e → Runs S.image (sizes S) 0 first_core n (start_of S S.p.main) e
+  to_main {n} {e} r = subst (λ m. Runs S.image (sizes S) 0 first_core n (start_of S m) e) main_is r
 
   begun : Begun
   begun =
       let some = S.limits.some_frames in
       let few = S.limits.few_frames in
       let frames = S.limits.frames - 1 in
-      let g0 = begin S.image (sizes S) 0 first_core (head_words S.limits (start_at S.slots S.slots.main)) S.laid.head in
+      let g0 = begin S.image (sizes S) 0 first_core (head_words S.limits (start_of S S.slots.main)) S.laid.head in
       let g1 = plain S.image (sizes S) tt g0 in
       let g2 = plain S.image (sizes S) tt g1 in
       let eight : moved_by (extended_32 (high_part frames * 4096)) (low_part frames) ≡ frames = small_again frames (omega arith) in
       let two_small : 2 < 2 ^ 20 = omega arith in
       let low = S.laid.few_starts S.slots.main in
-      let start_small : start_at S.slots S.slots.main < 2 ^ 20 = omega arith in
+      let start_small : start_of S S.slots.main < 2 ^ 20 = omega arith in
       let at_2 : 0 + 1 + 1 ≡ 2 = refl in
-      let r3 = call_to S.image (sizes S) 2 (start_at S.slots S.slots.main) at_2 two_small start_small g2 in
+      let r3 = call_to S.image (sizes S) 2 (start_of S S.slots.main) at_2 two_small start_small g2 in
       let r3_main = to_main r3 in
       let g4 = onward S.image (sizes S) {ws = Sd 2 1 (pos 0) ∷ []} r3_main (S.laid.begins S.p.main main_function.function main_function.there) in
       let wide = S.laid.frames S.p.main main_function.function main_function.there in
@@ -200,7 +201,7 @@ module _ (S : Setting) where
       let one_frame : suc 0 ≤ S.limits.frames = omega arith in
       let in_0 : 0 < S.image.stack = (let fit = slots_fit _ main_function.function main_function.is in let h : 0 + 0 < S.image.stack = inside 0 0 main_function.function.words (widest S) 0 S.limits.frames S.image.stack none_deep wide (omega arith) one_frame room in omega arith) in
       let g5 = store S.image (sizes S) {ws = []} 0 refl in_0 g4 in
-      let r = landed 4 (entry_at S.slots S.p.main 0) refl (sym (S.laid.first S.p.main main_function.function main_function.there)) g5 in
+      let r = landed 4 (entry_of S S.p.main 0) refl (sym (S.laid.first S.p.main main_function.function main_function.there)) g5 in
       begun_from r refl refl eight refl refl refl refl refl refl refl
 
   no_block : (table cells : ℕ → ℕ) → table ≡ (λ _. 0) → cells ≡ (λ _. 0) → MemoryHolds (sizes S) [] table cells 0 0

@@ -9,6 +9,7 @@ use Rattle.bril_tree.specs.Literals.{AreLiteralsInRange}
 use Rattle.bril_tree.specs.Run.{FitMain}
 use Rattle.rv64_implements.specs.Implements.{Implements, ImplementsAt}
 use Rattle.rv64_implements.specs.WordBounds.{IsWithin}
+use Rattle.rv64_layout.specs.Homes.{frame_homes}
 use Rattle.rv64_layout.specs.Image.{IsImageOf}
 use Rattle.rv64_layout.specs.Laid.{IsLaid}
 use Rattle.rv64_layout.proofs.Laid.{laid}
@@ -20,11 +21,11 @@ use Rattle.rv64_emit_laws.specs.Laws.{ImagesImplementPrograms}
 use Rattle.rv64_emit_laws.proofs.GuardList.{lists_guards}
 use Rattle.rv64_emit_laws.proofs.Setting.{Setting}
 use Rattle.rv64_emit_laws.proofs.Whole.{implements_run}
-use Rattle.rv64_emit_laws.proofs.Homes.{homes_within}
+use Rattle.rv64_emit_laws.proofs.Homes.{frames_have, homes_within}
 
-module _ (p : Prog) (slots : Slots) (limits : Limits) (image : Image) (accepted : IsAccepted p) (literals : AreLiteralsInRange p) (lowered : IsLowered p slots) (within : IsWithin p limits) (is : IsImageOf slots limits image) where
-  is_laid : IsLaid slots limits image
-  is_laid = laid p slots limits image accepted literals lowered within is
+module _ (p : Prog) (slots : Slots) (limits : Limits) (image : Image) (accepted : IsAccepted p) (literals : AreLiteralsInRange p) (lowered : IsLowered p slots) (within : IsWithin p limits) (is : IsImageOf (frame_homes slots) slots limits image) where
+  is_laid : IsLaid (frame_homes slots) slots limits image
+  is_laid = laid p (frame_homes slots) slots limits image accepted literals lowered within (frames_have p slots lowered) is
 
   abbrev setting : (args : List Value) → FitMain p args → Setting
   setting args fit = record {
@@ -43,7 +44,7 @@ module _ (p : Prog) (slots : Slots) (limits : Limits) (image : Image) (accepted 
   }
 
   pub implements_at : ImplementsAt (homes_of slots) image p limits
-  implements_at = record { guards = lists_guards p slots limits image lowered is_laid; within = homes_within p slots lowered; runs = λ args fit. implements_run (setting args fit) }
+  implements_at = record { guards = lists_guards p (frame_homes slots) slots limits image lowered is_laid; within = homes_within p slots lowered; runs = λ args fit. implements_run (setting args fit) }
 
   -- what the code generator promises
   pub implements : Implements image p limits

@@ -7,35 +7,31 @@ use Rattle.simulation.proofs.Tracks.{Tracks-from_star}
 use Rattle.bril_tree.specs.declared.limits.End.{End}
 use Rattle.bril_tree.specs.Live.{IsLive}
 use Rattle.bril_tree.specs.Locals.{location_value}
-use Rattle.bril_tree.specs.Operand.{Location, Variable, Shadow}
 use Rattle.bril_tree.specs.Run.{first_state, state_after}
 use Rattle.bril_tree.specs.State as bril
+use Rattle.bril_tree.specs.Step.{items_of}
 use Rattle.bril_tree.specs.Value.{word_of}
-use Rattle.rv64_implements.specs.Home.{InFrame, IsAt}
+use Rattle.bril_tree.specs.declared.home.Home.TheVariants.{Frame}
+use Rattle.rv64_implements.specs.Home.{IsAt}
 use Rattle.rv64_implements.specs.Implements.{CountsFailures, ImplementsRun, ShowsLive, image_after, image_system, program_system}
 use Rattle.rv64_implements.proofs.Systems.{image_is_system, mapped_is_system}
-use Rattle.rv64_layout.specs.Image.{entry_at}
-use Rattle.rv64_layout.specs.Items.{slot_word}
+use Rattle.rv64_layout.specs.Homes.{slot_word}
 use Rattle.rv64_stretches.specs.Core.{machine}
 use Rattle.rv64_stretches.proofs.Steps.{stack_address}
 use Rattle.rv64_words.specs.Region.{address_at, stack_base}
 use Rattle.rv64_words.specs.State.{State, start}
 use Rattle.slot_code.specs.Lowered.{IsLoweredFunction}
-use Rattle.rv64_emit_laws.specs.Homes.{home_in, homes_of}
+use Rattle.rv64_emit_laws.specs.Homes.{homes_of}
 use Rattle.rv64_emit_laws.proofs.Arriving.{distance}
 use Rattle.rv64_emit_laws.proofs.Holding.{frame_reaches, source}
-use Rattle.rv64_emit_laws.proofs.Homes.{home_is}
 use Rattle.rv64_emit_laws.proofs.Frames.{slot_fits}
 use Rattle.rv64_emit_laws.proofs.Items.{simulation}
-use Rattle.rv64_emit_laws.proofs.Living.{live_slot, slot_of}
-use Rattle.rv64_emit_laws.proofs.Ready.{slot_value}
+use Rattle.placement_laws.specs.Homes.{slot_of}
+use Rattle.placement_laws.specs.Needed.{Live}
+use Rattle.placement_laws.proofs.Living.{live_slot}
 use Rattle.rv64_emit_laws.proofs.Relation.{Related, run, over}
-use Rattle.rv64_emit_laws.proofs.Setting.{Setting, sizes}
+use Rattle.rv64_emit_laws.proofs.Setting.{Setting, entry_of, sizes, homes_are}
 use Rattle.rv64_emit_laws.proofs.Starting.{main_room, start_related}
-
-value_of : (locations : bril.Locals) (location : Location) → slot_value locations (slot_of location) ≡ location_value locations location
-value_of locations (Variable x) = refl
-value_of locations (Shadow x) = refl
 
 module _ (S : Setting) where
   -- live locations are at their homes
@@ -59,13 +55,13 @@ module _ (S : Setting) where
           let origin = source S (length s.blocks) r.frame r.older r.core h in
           let is = subst (λ f. IsLoweredFunction f g) (same_Some origin.function func (sym origin.there ∙ there)) origin.is in
           let in_g = live_slot S.p r.frame.function func g S.accepted there is location r.frame.point live in
-          let word = h.slots.at (slot_of location) value in_g (value_of r.frame.locations location ∙ held) in
+          let word = h.holds.homes_hold.at location value (Live (subst (λ c. IsLive c location r.frame.point) (sym (ap items_of there)) live)) held in
           let reach = frame_reaches S (length s.blocks) r.frame r.older r.core h r.core o refl (slot_fits func g is (slot_of location) in_g) in
           let sum : stack_base + 8 * h.base + 8 * o ≡ stack_base + 8 * (h.base + o) = omega arith in
           let address = ap (λ x. address_at (sizes S) (x + 8 * o)) h.at ∙ (ap (address_at (sizes S)) sum ∙ stack_address (sizes S) (h.base + o) reach.inside) in
-          let home : homes_of S.slots r.frame.function location ≡ InFrame o = ap (λ f. home_in f location) h.there ∙ home_is g location in
+          let home : homes_of S.slots r.frame.function location ≡ Frame o = ap (λ homes. homes.home (slot_of location)) (homes_are S r.frame.function g h.there) in
           subst (λ x. IsAt (sizes S) x (homes_of S.slots r.frame.function location) (word_of value)) (sym r.state)
-          (subst (λ x. IsAt (sizes S) (machine (entry_at S.slots r.frame.function r.frame.point) r.core r.done) x (word_of value)) (sym home) (h.base + o, address, word.is))
+          (subst (λ x. IsAt (sizes S) (machine (entry_of S r.frame.function r.frame.point) r.core r.done) x (word_of value)) (sym home) (h.base + o, address, word.is))
 
   counts : (s : bril.State) (t : State) → Related S s t → CountsFailures S.image.guards s t
   counts s t (run r) = λ g guard there. ap (λ x. x.arrivals guard.word) r.state ∙ r.guards g guard there

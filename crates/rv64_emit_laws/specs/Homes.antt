@@ -1,17 +1,18 @@
 -- Where the locations of a program are while its image runs.
-use Rattle.std.specs.Prelude.{ℕ, Option, Some, None, slice_get}
-use Rattle.bril_tree.specs.Operand.{Location, Variable, Shadow}
-use Rattle.rv64_implements.specs.Home.{Home, InFrame}
-use Rattle.rv64_layout.specs.Items.{slot_word}
-use Rattle.slot_code.specs.declared.item.Slot.TheVariants as slot
-use Rattle.slot_code.specs.declared.slots.SlotFunction.{SlotFunction}
+use Rattle.std.specs.Prelude.{ℕ, Bool}
+use Rattle.bril_tree.specs.declared.home.Home.{Home}
+use Rattle.bril_tree.specs.Operand.{Location}
+use Rattle.placement_laws.specs.Homes.{slot_of}
+use Rattle.rv64_layout.specs.Homes.{FunctionHomes, frame_homes}
 use Rattle.slot_code.specs.declared.slots.Slots.{Slots}
 
--- the word of the frame in which a location of a function is: that of its slot
-abbrev pub home_in : Option SlotFunction → Location → Home
-home_in None location = InFrame 0
-home_in (Some g) (Variable x) = InFrame (slot_word g (slot.Variable x))
-home_in (Some g) (Shadow x) = InFrame (slot_word g (slot.Shadow x))
+-- a location is at the home of its slot, and a speculation of a level keeps it where it keeps that
+abbrev pub home_at : FunctionHomes → Location → Home
+home_at homes location = homes.home (slot_of location)
 
+abbrev pub saved_at : FunctionHomes → ℕ → Location → Bool
+saved_at homes level location = homes.saved level (slot_of location)
+
+-- each slot is in its own word of the frame
 abbrev pub homes_of : Slots → ℕ → Location → Home
-homes_of slots f location = home_in (slice_get slots.funcs f) location
+homes_of slots f location = home_at (frame_homes slots f) location

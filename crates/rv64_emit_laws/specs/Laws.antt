@@ -5,6 +5,7 @@ use Rattle.bril_tree.specs.Accepted.{IsAccepted}
 use Rattle.bril_tree.specs.Literals.{AreLiteralsInRange}
 use Rattle.rv64_implements.specs.Implements.{ImplementsAt}
 use Rattle.rv64_implements.specs.WordBounds.{IsWithin}
+use Rattle.rv64_layout.specs.Homes.{frame_homes}
 use Rattle.rv64_layout.specs.Image.{IsImageOf}
 use Rattle.rv64_words.specs.declared.image.Image.{Image}
 use Rattle.slot_code.specs.declared.slots.Slots.{Slots}
@@ -15,4 +16,4 @@ use Rattle.rv64_emit_laws.specs.Homes.{homes_of}
 -- arguments that fit. The home of each location is the word of its slot in the frame.
 abbrev pub ImagesImplementPrograms : Type 0
 ImagesImplementPrograms = (p : Prog) (slots : Slots) (limits : Limits) (image : Image) → IsAccepted p → AreLiteralsInRange p → IsLowered p slots → IsWithin p limits →
-    IsImageOf slots limits image → ImplementsAt (homes_of slots) image p limits
+    IsImageOf (frame_homes slots) slots limits image → ImplementsAt (homes_of slots) image p limits

@@ -13,7 +13,7 @@ use Rattle.bril_tree.specs.Run.{state_after}
 use Rattle.program_numbers.proofs.Measures.{IsCost-one}
 use Rattle.rv64_words.specs.declared.image.Image.{Image}
 use Rattle.rv64_words.specs.State.{State, Stop, Finished, start}
-use Rattle.rv64_implements.specs.Home.{Home}
+use Rattle.bril_tree.specs.declared.home.Home.{Home}
 use Rattle.rv64_implements.specs.Implements.{ImplementsRun, CountsFailures, image_system, image_after}
 use Rattle.rv64_implements.specs.Shown.{ProgramRunsOn, ProgramShows}
 use Rattle.rv64_implements.proofs.Systems.{image_is_system}

@@ -24,7 +24,8 @@ use Rattle.rv64_words.specs.declared.image.Image.{Image}
 use Rattle.rv64_words.specs.Machine.{machine_step}
 use Rattle.rv64_words.specs.Region.{sizes_of}
 use Rattle.rv64_words.specs.State as rv64
-use Rattle.rv64_implements.specs.Home.{Home, IsAt, IsHomeWithin, IsLocationOf}
+use Rattle.bril_tree.specs.declared.home.Home.{Home}
+use Rattle.rv64_implements.specs.Home.{IsAt, IsHomeWithin, IsLocationOf}
 
 -- ---- the two systems
 

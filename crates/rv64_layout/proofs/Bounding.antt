@@ -5,6 +5,8 @@ use Rattle.std.specs.List.{sum_by}
 use Rattle.std.proofs.lemmas.List.{length-map}
 use Rattle.std.proofs.lemmas.List.Sums.{sum_by-cons}
 use Rattle.std.proofs.lemmas.Option.{slice_get-map, slice_get_within}
+use Rattle.bril_tree.specs.declared.home.Home.{Home}
+use Rattle.bril_tree.specs.declared.home.Home.TheVariants.{Reg, Frame}
 use Rattle.bril_tree.specs.declared.numbered.Instr.{Instr}
 use Rattle.bril_tree.specs.declared.numbered.Instr.TheVariants.{Label, Const, Act}
 use Rattle.bril_tree.specs.declared.numbered_function.Func.{Func}
@@ -17,15 +19,18 @@ use Rattle.bril_tree.specs.Value.{word_of}
 use Rattle.bril_tree.proofs.Elements.{get_inside, zip-get, zip-long}
 use Rattle.rv64_implements.specs.WordBounds.{operation_bound, word_bound, function_bound, word_bounds}
 use Rattle.slot_code.specs.declared.item.Printed.{Printed}
+use Rattle.slot_code.specs.declared.item.Slot.{Slot}
 use Rattle.slot_code.specs.declared.item.SlotItem.{SlotItem}
 use Rattle.slot_code.specs.declared.item.SlotItem.TheVariants.{Pass, Constant, Copy, Unary, Binary, Jump, Branch, Call, Return, Print, Alloc, Free, Store, Load, Speculate, Commit, Guard}
 use Rattle.slot_code.specs.declared.slots.SlotFunction.{SlotFunction}
 use Rattle.slot_code.specs.declared.slots.Slots.{Slots}
 use Rattle.slot_code.specs.Lowered.{IsLowered, IsLoweredFunction, lowered_action, lowered_item, printed_as}
 use Rattle.rv64_sequences.specs.Operations.{unary_size, binary_size}
-use Rattle.rv64_sequences.specs.Sequences.{constant_size, load_size, store_size, copy_size, frame_up_size, is_near, fits_12, fits_32}
+use Rattle.rv64_sequences.specs.Moves.{Move, fetch_size, fill_size, save_one_size, save_size, restore_one_size, restore_size}
+use Rattle.rv64_sequences.specs.Sequences.{constant_size, load_size, store_size, frame_up_size, is_near, fits_12, fits_32}
+use Rattle.rv64_layout.specs.Homes.{FunctionHomes, variable_home, level_word, moves_from, level_moves}
 use Rattle.rv64_layout.specs.Image.{sum_below, depth_at, size_or_none, size_at, function_size, function_size_or_none, start_at}
-use Rattle.rv64_layout.specs.Items.{item_size, pass_size, result_size, returned_size, spaced_size, print_size, slot_word, argument_word, level_word}
+use Rattle.rv64_layout.specs.Items.{item_size, pass_size, result_size, returned_size, spaced_size, print_size, argument_word}
 use Rattle.rv64_layout.proofs.Joining.{sum_below-most, sum_passes}
 
 -- ---- sequences
@@ -43,32 +48,68 @@ store_most o = of_two (is_near o) 1 3 3 (omega arith) (omega arith)
 pub constant_most : (n : ℕ) → constant_size n ≤ 8
 constant_most n = of_two (fits_12 n) 1 _ 8 (omega arith) (of_two (fits_32 n) 2 8 8 (omega arith) (omega arith))
 
-pub copy_most : (from to n : ℕ) → copy_size from to n ≤ 6 * n
-copy_most from to zero = omega arith
-copy_most from to (suc n) = omega (arith, load_most from, store_most to, copy_most (suc from) (suc to) n)
+pub fetch_most : (home : Home) → fetch_size home ≤ 3
+fetch_most (Reg r) = omega arith
+fetch_most (Frame o) = load_most o
+
+pub fill_most : (home : Home) → fill_size home ≤ 3
+fill_most (Reg r) = omega arith
+fill_most (Frame o) = store_most o
+
+save_one_most : (home : Home) (o : ℕ) → save_one_size home o ≤ 6
+save_one_most (Reg r) o = omega (arith, store_most o)
+save_one_most (Frame p) o = omega (arith, load_most p, store_most o)
+
+restore_one_most : (home : Home) (o : ℕ) → restore_one_size home o ≤ 6
+restore_one_most (Reg r) o = omega (arith, load_most o)
+restore_one_most (Frame p) o = omega (arith, load_most o, store_most p)
+
+pub save_most : (moves : List Move) → save_size moves ≤ 6 * length moves
+save_most [] = omega arith
+save_most (m ∷ moves) = omega (arith, save_one_most m.home m.word, save_most moves)
+
+pub restore_most : (moves : List Move) → restore_size moves ≤ 6 * length moves
+restore_most [] = omega arith
+restore_most (m ∷ moves) = omega (arith, restore_one_most m.home m.word, restore_most moves)
+
+-- there are at most as many moves as slots
+moves_few : (homes : FunctionHomes) (first : ℕ) (test : Slot → Bool) (i : ℕ) (slots : List Slot) → length (moves_from homes first test i slots) ≤ length slots
+moves_few homes first test i [] = omega arith
+moves_few homes first test i (slot ∷ slots) = by (test slot) (moves_few homes first test (suc i) slots)
+  where
+    by : (t : Bool) → length (moves_from homes first test (suc i) slots) ≤ length slots →
+        length (cond t (record { home = homes.home slot; word = first + i } ∷ moves_from homes first test (suc i) slots) (moves_from homes first test (suc i) slots)) ≤ suc (length slots)
+    by true few = omega arith
+    by false few = omega arith
+
+pub level_saves_most : (homes : FunctionHomes) (g : SlotFunction) (level : ℕ) → save_size (level_moves homes g level) ≤ 6 * length g.slots
+level_saves_most homes g level = omega (arith, save_most (level_moves homes g level), moves_few homes (level_word g level) (homes.saved level) 0 g.slots)
+
+pub level_restores_most : (homes : FunctionHomes) (g : SlotFunction) (level : ℕ) → restore_size (level_moves homes g level) ≤ 6 * length g.slots
+level_restores_most homes g level = omega (arith, restore_most (level_moves homes g level), moves_few homes (level_word g level) (homes.saved level) 0 g.slots)
 
 pub frame_up_most : (wide : ℕ) → frame_up_size wide ≤ 5
 frame_up_most wide = of_two _ 2 5 5 (omega arith) (omega arith)
 
-pub pass_most : (g : SlotFunction) (k : ℕ) (args : List ℕ) → pass_size g k args ≤ 6 * length args
-pass_most g k [] = omega arith
-pass_most g k (a ∷ args) = omega (arith, load_most (2 + a), store_most (argument_word g k), pass_most g (suc k) args)
+pub pass_most : (homes : FunctionHomes) (g : SlotFunction) (k : ℕ) (args : List ℕ) → pass_size homes g k args ≤ 6 * length args
+pass_most homes g k [] = omega arith
+pass_most homes g k (a ∷ args) = omega (arith, fetch_most (variable_home homes a), store_most (argument_word g k), pass_most homes g (suc k) args)
 
-pub result_most : (dest : Option ℕ) → result_size dest ≤ 3
-result_most None = omega arith
-result_most (Some x) = store_most (2 + x)
+pub result_most : (homes : FunctionHomes) (dest : Option ℕ) → result_size homes dest ≤ 3
+result_most homes None = omega arith
+result_most homes (Some x) = fill_most (variable_home homes x)
 
-pub returned_most : (value : Option ℕ) → returned_size value ≤ 3
-returned_most None = omega arith
-returned_most (Some x) = load_most (2 + x)
+pub returned_most : (homes : FunctionHomes) (value : Option ℕ) → returned_size homes value ≤ 3
+returned_most homes None = omega arith
+returned_most homes (Some x) = fetch_most (variable_home homes x)
 
-spaced_most : (args : List Printed) → spaced_size args ≤ 7 * length args
-spaced_most [] = omega arith
-spaced_most (a ∷ args) = omega (arith, load_most (2 + a.variable), spaced_most args)
+spaced_most : (homes : FunctionHomes) (args : List Printed) → spaced_size homes args ≤ 7 * length args
+spaced_most homes [] = omega arith
+spaced_most homes (a ∷ args) = omega (arith, fetch_most (variable_home homes a.variable), spaced_most homes args)
 
-pub print_most : (args : List Printed) → print_size args ≤ 2 + 7 * length args
-print_most [] = omega arith
-print_most (a ∷ args) = omega (arith, load_most (2 + a.variable), spaced_most args)
+pub print_most : (homes : FunctionHomes) (args : List Printed) → print_size homes args ≤ 2 + 7 * length args
+print_most homes [] = omega arith
+print_most homes (a ∷ args) = omega (arith, fetch_most (variable_home homes a.variable), spaced_most homes args)
 
 -- ---- items
 
@@ -92,24 +133,24 @@ most_size slots Speculate = 6 * slots + 1
 most_size slots Commit = 1
 most_size slots (Guard condition abort_to) = 6 * slots + 6
 
-pub item_most : (g : SlotFunction) (depth : ℕ) (item : SlotItem) → item_size g depth item ≤ most_size (length g.slots) item
-item_most g depth Pass = omega arith
-item_most g depth (Constant dest value) = omega (arith, constant_most (word_of value), store_most (2 + dest))
-item_most g depth (Copy dest from) = omega (arith, load_most (slot_word g from), store_most (slot_word g dest))
-item_most g depth (Unary operation dest operand) = omega (arith, load_most (2 + operand), store_most (2 + dest))
-item_most g depth (Binary operation dest first second) = omega (arith, load_most (2 + first), load_most (2 + second), store_most (2 + dest))
-item_most g depth (Jump to) = omega arith
-item_most g depth (Branch condition then_to else_to) = omega (arith, load_most (2 + condition))
-item_most g depth (Call dest function args) = omega (arith, pass_most g 0 args, frame_up_most g.words, result_most dest)
-item_most g depth (Return value) = omega (arith, returned_most value)
-item_most g depth (Print args) = print_most args
-item_most g depth (Alloc dest count) = omega (arith, load_most (2 + count), store_most (2 + dest))
-item_most g depth (Free pointer) = omega (arith, load_most (2 + pointer))
-item_most g depth (Store pointer value) = omega (arith, load_most (2 + pointer), load_most (2 + value))
-item_most g depth (Load dest pointer) = omega (arith, load_most (2 + pointer), store_most (2 + dest))
-item_most g depth Speculate = omega (arith, copy_most 2 (level_word g (suc depth)) (length g.slots))
-item_most g depth Commit = omega arith
-item_most g depth (Guard condition abort_to) = omega (arith, load_most (2 + condition), copy_most (level_word g depth) 2 (length g.slots))
+pub item_most : (homes : FunctionHomes) (g : SlotFunction) (depth : ℕ) (item : SlotItem) → item_size homes g depth item ≤ most_size (length g.slots) item
+item_most homes g depth Pass = omega arith
+item_most homes g depth (Constant dest value) = omega (arith, constant_most (word_of value), fill_most (variable_home homes dest))
+item_most homes g depth (Copy dest from) = omega (arith, fetch_most (homes.home from), fill_most (homes.home dest))
+item_most homes g depth (Unary operation dest operand) = omega (arith, fetch_most (variable_home homes operand), fill_most (variable_home homes dest))
+item_most homes g depth (Binary operation dest first second) = omega (arith, fetch_most (variable_home homes first), fetch_most (variable_home homes second), fill_most (variable_home homes dest))
+item_most homes g depth (Jump to) = omega arith
+item_most homes g depth (Branch condition then_to else_to) = omega (arith, fetch_most (variable_home homes condition))
+item_most homes g depth (Call dest function args) = omega (arith, pass_most homes g 0 args, frame_up_most g.words, result_most homes dest)
+item_most homes g depth (Return value) = omega (arith, returned_most homes value)
+item_most homes g depth (Print args) = print_most homes args
+item_most homes g depth (Alloc dest count) = omega (arith, fetch_most (variable_home homes count), fill_most (variable_home homes dest))
+item_most homes g depth (Free pointer) = omega (arith, fetch_most (variable_home homes pointer))
+item_most homes g depth (Store pointer value) = omega (arith, fetch_most (variable_home homes pointer), fetch_most (variable_home homes value))
+item_most homes g depth (Load dest pointer) = omega (arith, fetch_most (variable_home homes pointer), fill_most (variable_home homes dest))
+item_most homes g depth Speculate = omega (arith, level_saves_most homes g (suc depth))
+item_most homes g depth Commit = omega arith
+item_most homes g depth (Guard condition abort_to) = omega (arith, fetch_most (variable_home homes condition), level_restores_most homes g depth)
 
 module _ (f : Func) (locations : ℕ) where
   action_bounded : (operation : Op) (dest : Option ℕ) (ty : Option Ty) (args funcs labels : List ℕ) →
@@ -165,8 +206,8 @@ instruction_at f g is point item at = by (slice_get f.code point) refl
 code_length : (f : Func) (g : SlotFunction) → IsLoweredFunction f g → length g.code ≡ length f.code
 code_length f g is = ap length is.code ∙ length-map f.code (lowered_item f)
 
-pub function_bounded : (f : Func) (g : SlotFunction) → IsLoweredFunction f g → function_size g + 35 ≤ function_bound f
-function_bounded f g is = omega (arith, sum_below-most (size_at g) bounds each (length g.code), lengths, sum_of_list (word_bound locations) f.code)
+pub function_bounded : (homes : FunctionHomes) (f : Func) (g : SlotFunction) → IsLoweredFunction f g → function_size homes g + 35 ≤ function_bound f
+function_bounded homes f g is = omega (arith, sum_below-most (size_at homes g) bounds each (length g.code), lengths, sum_of_list (word_bound locations) f.code)
   where
     locations : ℕ
     locations = location_count f
@@ -177,20 +218,20 @@ function_bounded f g is = omega (arith, sum_below-most (size_at g) bounds each (
     lengths : sum_below bounds (length g.code) ≡ sum_below bounds (length f.code)
     lengths = ap (sum_below bounds) (code_length f g is)
 
-    each : (k : ℕ) → size_at g k ≤ bounds k
+    each : (k : ℕ) → size_at homes g k ≤ bounds k
     each k = by (slice_get g.code k) refl
       where
-        by : (o : Option SlotItem) → slice_get g.code k ≡ o → size_or_none g k o ≤ bounds k
+        by : (o : Option SlotItem) → slice_get g.code k ≡ o → size_or_none homes g k o ≤ bounds k
         by None e = omega arith
         by (Some item) e =
             let w = instruction_at f g is k item e in
-            let size = item_most g (depth_at g k) item in
+            let size = item_most homes g (depth_at g k) item in
             let slots : most_size (length g.slots) item ≡ most_size locations (lowered_item f w.0) = ap (λ n. most_size n item) is.count ∙ ap (most_size locations) w.2 in
             let bound : bounds k ≡ word_bound locations w.0 = ap (count_or_none (word_bound locations)) w.1 in
             omega (arith, size, slots, instruction_bounded f locations w.0, bound)
 
-pub image_bounded : (p : Prog) (slots : Slots) → IsLowered p slots → start_at slots (length slots.funcs) + 26 ≤ word_bounds p
-image_bounded p slots is = omega (arith, sum_below-most (λ k. function_size_or_none (slice_get slots.funcs k)) bounds each (length slots.funcs), lengths, sum_of_list function_bound p.funcs)
+pub image_bounded : (homes : ℕ → FunctionHomes) (p : Prog) (slots : Slots) → IsLowered p slots → start_at homes slots (length slots.funcs) + 26 ≤ word_bounds p
+image_bounded homes p slots is = omega (arith, sum_below-most (λ k. function_size_or_none (homes k) (slice_get slots.funcs k)) bounds each (length slots.funcs), lengths, sum_of_list function_bound p.funcs)
   where
     bounds : ℕ → ℕ
     bounds = λ k. count_or_none function_bound (slice_get p.funcs k)
@@ -198,16 +239,16 @@ image_bounded p slots is = omega (arith, sum_below-most (λ k. function_size_or_
     lengths : sum_below bounds (length slots.funcs) ≡ sum_below bounds (length p.funcs)
     lengths = ap (sum_below bounds) (sym (zip-long IsLoweredFunction p.funcs slots.funcs is.funcs))
 
-    each : (k : ℕ) → function_size_or_none (slice_get slots.funcs k) ≤ bounds k
+    each : (k : ℕ) → function_size_or_none (homes k) (slice_get slots.funcs k) ≤ bounds k
     each k = by (slice_get slots.funcs k) refl
       where
-        by : (o : Option SlotFunction) → slice_get slots.funcs k ≡ o → function_size_or_none o ≤ bounds k
+        by : (o : Option SlotFunction) → slice_get slots.funcs k ≡ o → function_size_or_none (homes k) o ≤ bounds k
         by None e = omega arith
         by (Some g) e =
             let inside : k < length p.funcs = omega (arith, slice_get_within slots.funcs k g e, zip-long IsLoweredFunction p.funcs slots.funcs is.funcs) in
             let w = get_inside p.funcs k inside in
             let bound : bounds k ≡ function_bound w.0 = ap (count_or_none function_bound) w.1 in
-            omega (arith, function_bounded w.0 g (zip-get IsLoweredFunction p.funcs slots.funcs k w.0 g is.funcs w.1 e), bound)
+            omega (arith, function_bounded (homes k) w.0 g (zip-get IsLoweredFunction p.funcs slots.funcs k w.0 g is.funcs w.1 e), bound)
 
 -- the function of the program of which a function of the code over slots was made
 pub function_made : (p : Prog) (slots : Slots) → IsLowered p slots → (k : ℕ) (g : SlotFunction) → slice_get slots.funcs k ≡ Some g → (f : Func) × (slice_get p.funcs k ≡ Some f) × IsLoweredFunction f g

@@ -1,14 +1,21 @@
 -- The words of sequences have encodings.
-use Rattle.std.proofs.Common.{◌≡◌, ℕ, zero, suc, ◌+◌, ◌*◌, ◌%◌, ◌-◌, ◌^◌, ◌<◌, ◌≤◌, Bool, true, false, cond, ◌&&◌, eqb, ltb, leb, ℤ, pos, negsuc, List, [], ◌∷◌, ◌++◌, refl, arith}
+use Rattle.std.proofs.Common.{◌≡◌, ℕ, suc, ◌+◌, ◌*◌, ◌%◌, ◌-◌, ◌^◌, ◌<◌, ◌≤◌, Bool, true, false, cond, ◌&&◌, eqb, ltb, leb, ℤ, pos, negsuc, List, [], ◌∷◌, ◌++◌, length, refl, arith}
 use Rattle.std.proofs.lemmas.Bool.{and_parts, ltb-true, eqb-true}
 use Rattle.std.proofs.lemmas.Bool.Decides.{nat_tests}
 use Rattle.std.proofs.lemmas.Int.{ints}
+use Rattle.std.specs.List.{AllByRecursion}
+use Rattle.bril_tree.specs.declared.home.Home.{Home}
+use Rattle.bril_tree.specs.declared.home.Home.TheVariants.{Reg, Frame}
 use Rattle.rv64_words.specs.declared.word.Word.{Word}
 use Rattle.rv64_words.specs.declared.word.Word.TheVariants.{Lui, Jal, Jalr, Branch, Ld, Sd, OpImm, ShiftImm, Op, Ecall}
 use Rattle.rv64_words.specs.Encoding.{IsWord}
 use Rattle.rv64_words.specs.Fields.{IsImmediate, IsBranchOffset, IsJumpOffset}
 use Rattle.rv64_words.proofs.Encodings.{IsImmediate-signed_12}
-use Rattle.rv64_sequences.specs.Sequences.{high_part, low_part, constant_words, load_words, store_words, copy_words, frame_up_words, jump_offset, fits_12, fits_32, is_near}
+use Rattle.slot_code.specs.declared.item.Slot.{Slot}
+use Rattle.rv64_sequences.specs.Moves.{fetch_words, fill_words, save_one, save_words, restore_one, restore_words}
+use Rattle.rv64_layout.specs.Fits.{IsReached}
+use Rattle.rv64_layout.specs.Homes.{FunctionHomes, moves_from}
+use Rattle.rv64_sequences.specs.Sequences.{high_part, low_part, constant_words, load_words, store_words, frame_up_words, jump_offset, fits_12, fits_32, is_near}
 
 -- ---- a test of words
 
@@ -147,12 +154,41 @@ store_fits r o register far =
     let upper : high_part (8 * o) < 2 ^ 20 = omega arith in
     one_of (is_near o) _ _ (λ h. ((two, register, near o h), tt)) (λ h. ((six, upper), ((six, six, two), ((six, register, low (8 * o)), tt))))
 
-pub copy_fits : (from to n : ℕ) → from + n ≤ 2 ^ 28 → to + n ≤ 2 ^ 28 → AreWords (copy_words from to n)
-copy_fits from to zero few small = tt
-copy_fits from to (suc n) few small =
-    let five : 5 < 32 = omega arith in
-    both (load_words 5 from) (store_words 5 to ++ copy_words (suc from) (suc to) n) (load_fits 5 from five (omega arith))
-    (both (store_words 5 to) (copy_words (suc from) (suc to) n) (store_fits 5 to five (omega arith)) (copy_fits (suc from) (suc to) n (omega arith) (omega arith)))
+-- the words between a register and a home, and between a home and a word of the frame
+pub fetch_fits : (r : ℕ) (home : Home) → r < 32 → IsReached home → AreWords (fetch_words r home)
+fetch_fits r (Reg s) register reached = ((register, reached, immediate (pos 0) refl), tt)
+fetch_fits r (Frame o) register reached = load_fits r o register (omega arith)
+
+pub fill_fits : (r : ℕ) (home : Home) → r < 32 → IsReached home → AreWords (fill_words r home)
+fill_fits r (Reg s) register reached = ((reached, register, immediate (pos 0) refl), tt)
+fill_fits r (Frame o) register reached = store_fits r o register (omega arith)
+
+save_one_fits : (home : Home) (o : ℕ) → IsReached home → IsFar o → AreWords (save_one home o)
+save_one_fits (Reg r) o reached far = store_fits r o reached far
+save_one_fits (Frame p) o reached far = let five : 5 < 32 = omega arith in both (load_words 5 p) (store_words 5 o) (load_fits 5 p five (omega arith)) (store_fits 5 o five far)
+
+restore_one_fits : (home : Home) (o : ℕ) → IsReached home → IsFar o → AreWords (restore_one home o)
+restore_one_fits (Reg r) o reached far = load_fits r o reached far
+restore_one_fits (Frame p) o reached far = let five : 5 < 32 = omega arith in both (load_words 5 o) (store_words 5 p) (load_fits 5 o five far) (store_fits 5 p five (omega arith))
+
+module _ (homes : FunctionHomes) (first : ℕ) (test : Slot → Bool) where
+  pub saves_fit : (i : ℕ) (slots : List Slot) → AllByRecursion (λ slot. IsReached (homes.home slot)) slots → first + (i + length slots) ≤ 2 ^ 28 → AreWords (save_words (moves_from homes first test i slots))
+  saves_fit i [] reached small = tt
+  saves_fit i (slot ∷ slots) reached small = by (test slot) (saves_fit (suc i) slots reached.1 (omega arith))
+    where
+      by : (t : Bool) → AreWords (save_words (moves_from homes first test (suc i) slots)) →
+          AreWords (save_words (cond t (record { home = homes.home slot; word = first + i } ∷ moves_from homes first test (suc i) slots) (moves_from homes first test (suc i) slots)))
+      by true rest = both (save_one (homes.home slot) (first + i)) (save_words (moves_from homes first test (suc i) slots)) (save_one_fits (homes.home slot) (first + i) reached.0 (omega arith)) rest
+      by false rest = rest
+
+  pub restores_fit : (i : ℕ) (slots : List Slot) → AllByRecursion (λ slot. IsReached (homes.home slot)) slots → first + (i + length slots) ≤ 2 ^ 28 → AreWords (restore_words (moves_from homes first test i slots))
+  restores_fit i [] reached small = tt
+  restores_fit i (slot ∷ slots) reached small = by (test slot) (restores_fit (suc i) slots reached.1 (omega arith))
+    where
+      by : (t : Bool) → AreWords (restore_words (moves_from homes first test (suc i) slots)) →
+          AreWords (restore_words (cond t (record { home = homes.home slot; word = first + i } ∷ moves_from homes first test (suc i) slots) (moves_from homes first test (suc i) slots)))
+      by true rest = both (restore_one (homes.home slot) (first + i)) (restore_words (moves_from homes first test (suc i) slots)) (restore_one_fits (homes.home slot) (first + i) reached.0 (omega arith)) rest
+      by false rest = rest
 
 pub constant_fits : (r n : ℕ) → r < 32 → n < 2 ^ 64 → AreWords (constant_words r n)
 constant_fits r n register small =

@@ -4,6 +4,8 @@ use Rattle.std.specs.Prelude.{slice_get, slice_index, option_map, All}
 use Rattle.std.specs.List.{AllByRecursion}
 use Rattle.std.proofs.lemmas.List.Elements.{All-head, All-tail}
 use Rattle.std.proofs.lemmas.Option.{get_or_from_slice_get, slice_get-map, slice_get_within}
+use Rattle.bril_tree.specs.declared.home.Home.{Home}
+use Rattle.bril_tree.specs.declared.home.Home.TheVariants.{Reg, Frame}
 use Rattle.bril_tree.specs.declared.limits.Limits.{Limits}
 use Rattle.bril_tree.specs.declared.numbered.Instr.{Instr}
 use Rattle.bril_tree.specs.declared.numbered.Instr.TheVariants.{Label, Const, Act}
@@ -25,6 +27,7 @@ use Rattle.bril_tree.proofs.Measures.{AreFrameWords-one}
 use Rattle.program_numbers.proofs.Measures.{IsGreatest-one}
 use Rattle.bril_tree.proofs.Members.{contains_in, in_contains}
 use Rattle.flow_graph.specs.Graph.{GraphView}
+use Rattle.rv64_implements.specs.Home.{IsHomeWithin}
 use Rattle.rv64_implements.specs.WordBounds.{operation_bound, word_bound, function_bound, IsWithin}
 use Rattle.slot_code.specs.declared.item.Slot.{Slot}
 use Rattle.slot_code.specs.declared.item.SlotItem.{SlotItem}
@@ -32,12 +35,12 @@ use Rattle.slot_code.specs.declared.slots.SlotFunction.{SlotFunction}
 use Rattle.slot_code.specs.declared.slots.Slots.{Slots}
 use Rattle.slot_code.specs.Laws.{IsSlotOf, slots_used}
 use Rattle.slot_code.specs.Lowered.{IsLowered, IsLoweredFunction, lowered_action, lowered_item, open_count}
-use Rattle.slot_code.specs.Numbering.{slot_number}
-use Rattle.slot_code.proofs.Places.{slot_place}
+use Rattle.slot_code.proofs.Places.{slots_are_numbered}
 use Rattle.slot_code.proofs.Uses.{items_use_slots}
-use Rattle.rv64_layout.specs.Fits.{ItemFits, HasConstantInRange, passed_by}
+use Rattle.rv64_layout.specs.Fits.{IsReached, ItemFits, HasConstantInRange, passed_by}
 use Rattle.rv64_layout.specs.Image.{depth_at, largest_frame}
-use Rattle.rv64_layout.specs.Items.{slot_word}
+use Rattle.rv64_layout.specs.Homes.{FunctionHomes}
+use Rattle.rv64_layout.specs.Laid.{HaveHomes}
 use Rattle.rv64_layout.proofs.Bounding.{one_of_sum, instruction_at, function_made}
 
 -- ---- constants
@@ -87,6 +90,15 @@ each_slot : (P Q : Slot → Type 0) → ((slot : Slot) → P slot → Q slot) �
 each_slot P Q from [] all = tt
 each_slot P Q from (slot ∷ slots) all = (from slot (All-head P slot slots all), each_slot P Q from slots (All-tail P slot slots all))
 
+all_of : (Q : Slot → Type 0) (slots : List Slot) → ((k : ℕ) (slot : Slot) → slice_get slots k ≡ Some slot → Q slot) → AllByRecursion Q slots
+all_of Q [] each = tt
+all_of Q (slot ∷ slots) each = (each 0 slot refl, all_of Q slots (λ k s e. each (suc k) s e))
+
+-- a home of a frame that isn't too large
+reached : (words : ℕ) (home : Home) → words ≤ 8388608 → IsHomeWithin words home → IsReached home
+reached words (Reg number) few within = within
+reached words (Frame word) few within = omega arith
+
 -- ---- depths
 
 -- at most as many speculations are open at a point as are ever open
@@ -123,9 +135,6 @@ levels_fit locations deepest depth words is most few =
     let twice : locations * (2 * (1 + deepest)) ≡ 2 * (locations * (1 + deepest)) = grind arith in
     omega arith
 
-slots_fit : (locations deepest words : ℕ) → words ≡ 2 + locations * (1 + deepest) → 2 + locations ≤ words
-slots_fit locations deepest words is = let e : locations * (1 + deepest) ≡ locations + locations * deepest = grind arith in omega arith
-
 module _ (p : Prog) (slots : Slots) (limits : Limits) (accepted : IsAccepted p) (literals : AreLiteralsInRange p) (is : IsLowered p slots) (within : IsWithin p limits) where
   -- the words of the largest frame
   abbrev pub frame : ℕ
@@ -147,8 +156,8 @@ module _ (p : Prog) (slots : Slots) (limits : Limits) (accepted : IsAccepted p) 
       let made = function_made p slots is k g e in
       within.size.largest.most made.0 g.words (contains_in made.0 p.funcs (get_in p.funcs k made.0 made.1)) made.2.words
 
-  pub item_fits : (k : ℕ) (g : SlotFunction) (point : ℕ) (item : SlotItem) → slice_get slots.funcs k ≡ Some g → slice_get g.code point ≡ Some item → ItemFits g (depth_at g point) item
-  item_fits k g point item is_g is_item =
+  pub item_fits : (homes : ℕ → FunctionHomes) → HaveHomes homes slots → (k : ℕ) (g : SlotFunction) (point : ℕ) (item : SlotItem) → slice_get slots.funcs k ≡ Some g → slice_get g.code point ≡ Some item → ItemFits (homes k) g (depth_at g point) item
+  item_fits homes have k g point item is_g is_item =
       let made = function_made p slots is k g is_g in
       let f = made.0 in
       let lowered = made.2 in
@@ -156,15 +165,14 @@ module _ (p : Prog) (slots : Slots) (limits : Limits) (accepted : IsAccepted p) 
       let w = instruction_at f g lowered point item is_item in
       let locations = location_count f in
       let words = lowered.words.are in
-      let roomy = slots_fit locations lowered.words.depth g.words words in
       let bound = one_of_sum (word_bound locations) f.code point w.0 w.1 in
       let function = one_of_sum function_bound p.funcs k f made.1 in
       let code = within.code in
       let passes : passed_by item ≤ word_bound locations w.0 = subst (λ i. passed_by i ≤ word_bound locations w.0) (sym w.2) (item_passes f w.0 locations) in
       record {
-        slots = each_slot (IsSlotOf g) (λ slot. slot_word g slot < 2 ^ 26)
-            (λ slot of. (let inside = slice_get_within g.slots (slot_number g.shadow_numbers slot) slot (slot_place f g lowered slot of) in let count = lowered.count in omega arith))
+        slots = each_slot (IsSlotOf g) (λ slot. IsReached ((homes k).home slot)) (λ slot of. reached g.words ((homes k).home slot) few (have k g slot is_g of))
             (slots_used item) (items_use_slots p k f g accepted made.1 lowered point item is_item);
+        all_slots = all_of (λ slot. IsReached ((homes k).home slot)) g.slots (λ n slot e. reached g.words ((homes k).home slot) few (have k g slot is_g (slots_are_numbered f g lowered n slot e).0));
         frame = omega arith;
         levels = subst (λ n. n * (depth_at g point + 2) < 2 ^ 26) (sym lowered.count) (levels_fit locations lowered.words.depth (depth_at g point) g.words words (depth_most f g lowered point) few);
         passed = omega arith;

@@ -10,6 +10,7 @@ use Rattle.slot_code.specs.declared.item.SlotItem.{SlotItem}
 use Rattle.slot_code.specs.declared.item.SlotItem.TheVariants.{Pass, Constant, Copy, Unary, Binary, Jump, Branch, Call, Return, Print, Alloc, Free, Store, Load, Speculate, Commit, Guard}
 use Rattle.slot_code.specs.declared.slots.SlotFunction.{SlotFunction}
 use Rattle.slot_code.specs.declared.slots.Slots.{Slots}
+use Rattle.rv64_layout.specs.Homes.{FunctionHomes}
 use Rattle.rv64_layout.specs.Image.{joined, depth_at, size_or_none, size_at, words_before, function_size, function_size_or_none, start_at, entry_at, guard_or_none, guard_at, function_guards_or_none, function_guards_at, image_guards}
 use Rattle.rv64_layout.specs.Items.{item_size, guard_front_size}
 use Rattle.rv64_layout.specs.Laid.{IsGuardAt}
@@ -39,8 +40,8 @@ module _ {X : Type 0} (P : X → Type 0) where
 
 -- ---- the guards of the code
 
-module _ (slots : Slots) where
-  guard_is : (f : ℕ) (g : SlotFunction) → slice_get slots.funcs f ≡ Some g → (point : ℕ) (o : Option SlotItem) → slice_get g.code point ≡ o → Each (IsGuardAt slots) (guard_or_none slots f g point o)
+module _ (homes : ℕ → FunctionHomes) (slots : Slots) where
+  guard_is : (f : ℕ) (g : SlotFunction) → slice_get slots.funcs f ≡ Some g → (point : ℕ) (o : Option SlotItem) → slice_get g.code point ≡ o → Each (IsGuardAt homes slots) (guard_or_none homes slots f g point o)
   guard_is f g is point None there = tt
   guard_is f g is point (Some Pass) there = tt
   guard_is f g is point (Some (Constant dest value)) there = tt
@@ -61,12 +62,12 @@ module _ (slots : Slots) where
   guard_is f g is point (Some (Guard condition abort_to)) there =
       (record { function = g; condition = condition; abort_to = abort_to; is_function = is; is_item = there; is_word = refl }, tt)
 
-  function_guards : (f : ℕ) (o : Option SlotFunction) → slice_get slots.funcs f ≡ o → Each (IsGuardAt slots) (function_guards_or_none slots f o)
+  function_guards : (f : ℕ) (o : Option SlotFunction) → slice_get slots.funcs f ≡ o → Each (IsGuardAt homes slots) (function_guards_or_none homes slots f o)
   function_guards f None is = tt
-  function_guards f (Some g) is = each_joined (IsGuardAt slots) (guard_at slots f g) (λ point. guard_is f g is point (slice_get g.code point) refl) (length g.code)
+  function_guards f (Some g) is = each_joined (IsGuardAt homes slots) (guard_at homes slots f g) (λ point. guard_is f g is point (slice_get g.code point) refl) (length g.code)
 
-  pub guards_are : Each (IsGuardAt slots) (image_guards slots)
-  guards_are = each_joined (IsGuardAt slots) (function_guards_at slots) (λ f. function_guards f (slice_get slots.funcs f) refl) (length slots.funcs)
+  pub guards_are : Each (IsGuardAt homes slots) (image_guards homes slots)
+  guards_are = each_joined (IsGuardAt homes slots) (function_guards_at homes slots) (λ f. function_guards f (slice_get slots.funcs f) refl) (length slots.funcs)
 
   -- ---- which item a word is in
 
@@ -76,19 +77,19 @@ module _ (slots : Slots) where
     pub item : SlotItem
     pub is_function : slice_get slots.funcs f ≡ Some function
     pub is_item : slice_get function.code point ≡ Some item
-    pub from : entry_at slots f point ≤ k
-    pub to : k < entry_at slots f point + item_size function (depth_at function point) item
+    pub from : entry_at homes slots f point ≤ k
+    pub to : k < entry_at homes slots f point + item_size (homes f) function (depth_at function point) item
 
   some_same : {X : Type 0} (x y : X) (o : Option X) → o ≡ Some x → o ≡ Some y → x ≡ y
   some_same x y o a b = cc
 
   -- a word of a function is in no other function
   pub same_function : (e f k : ℕ) (h g : SlotFunction) → slice_get slots.funcs e ≡ Some h → slice_get slots.funcs f ≡ Some g →
-      start_at slots e ≤ k → k < start_at slots e + function_size h → start_at slots f ≤ k → k < start_at slots f + function_size g → e ≡ f
+      start_at homes slots e ≤ k → k < start_at homes slots e + function_size (homes e) h → start_at homes slots f ≤ k → k < start_at homes slots f + function_size (homes f) g → e ≡ f
   same_function e f k h g is_e is_f from_e to_e from_f to_f = ⊎_elim (λ (same : e ≡ f). same) (λ w. ⊎_elim (λ (less : e < f). absurd (before e f h is_e less to_e from_f)) (λ (more : f < e). absurd (before f e g is_f more to_f from_e)) w) (order e f)
     where
-      before : (a b : ℕ) (c : SlotFunction) → slice_get slots.funcs a ≡ Some c → a < b → k < start_at slots a + function_size c → start_at slots b ≤ k → ⊥
-      before a b c is less to from = let passes = starts_pass slots a b c is less in absurd (omega arith)
+      before : (a b : ℕ) (c : SlotFunction) → slice_get slots.funcs a ≡ Some c → a < b → k < start_at homes slots a + function_size (homes a) c → start_at homes slots b ≤ k → ⊥
+      before a b c is less to from = let passes = starts_pass homes slots a b c is less in absurd (omega arith)
 
       order : (a b : ℕ) → (a ≡ b) ⊎ ((a < b) ⊎ (b < a))
       order zero zero = inl refl
@@ -98,10 +99,10 @@ module _ (slots : Slots) where
 
   -- an item's words are words of its function
   pub in_function : (f point k : ℕ) (w : InItem f point k) →
-      (start_at slots f + 1 ≤ k) × (k < start_at slots f + words_before w.function (length w.function.code)) × (k < start_at slots f + function_size w.function)
+      (start_at homes slots f + 1 ≤ k) × (k < start_at homes slots f + words_before (homes f) w.function (length w.function.code)) × (k < start_at homes slots f + function_size (homes f) w.function)
   in_function f point k w =
-      let at = entry_is slots f w.function point w.is_function in
-      let passes = words_pass w.function point (length w.function.code) w.item w.is_item (slice_get_within w.function.code point w.item w.is_item) in
+      let at = entry_is homes slots f w.function point w.is_function in
+      let passes = words_pass (homes f) w.function point (length w.function.code) w.item w.is_item (slice_get_within w.function.code point w.item w.is_item) in
       let from = w.from in
       let to = w.to in
       (omega arith, omega arith, omega arith)
@@ -117,33 +118,33 @@ module _ (slots : Slots) where
       (same, by e f same v.function w.function function q v.item w.item v.is_function w.is_function v.is_item w.is_item v.from v.to w.from w.to)
     where
       apart : (f p q : ℕ) (g : SlotFunction) (item : SlotItem) → slice_get slots.funcs f ≡ Some g → slice_get g.code p ≡ Some item →
-          k < entry_at slots f p + item_size g (depth_at g p) item → entry_at slots f q ≤ k → q ≤ p
+          k < entry_at homes slots f p + item_size (homes f) g (depth_at g p) item → entry_at homes slots f q ≤ k → q ≤ p
       apart f p q g item is_g is to from = ⊎_elim (λ (less : p < q). absurd (after less)) (λ (le : q ≤ p). le) (below_or p q)
         where
           after : p < q → ⊥
           after less =
-              let passes = words_pass g p q item is less in
-              let here = entry_is slots f g p is_g in
-              let there = entry_is slots f g q is_g in
+              let passes = words_pass (homes f) g p q item is less in
+              let here = entry_is homes slots f g p is_g in
+              let there = entry_is homes slots f g q is_g in
               absurd (omega arith)
 
       by : (e f : ℕ) → e ≡ f → (h g : SlotFunction) → h ≡ g → (q : ℕ) (u x : SlotItem) → slice_get slots.funcs e ≡ Some h → slice_get slots.funcs f ≡ Some g → slice_get h.code p ≡ Some u → slice_get g.code q ≡ Some x →
-          entry_at slots e p ≤ k → k < entry_at slots e p + item_size h (depth_at h p) u → entry_at slots f q ≤ k → k < entry_at slots f q + item_size g (depth_at g q) x → p ≡ q
+          entry_at homes slots e p ≤ k → k < entry_at homes slots e p + item_size (homes e) h (depth_at h p) u → entry_at homes slots f q ≤ k → k < entry_at homes slots f q + item_size (homes f) g (depth_at g q) x → p ≡ q
       by e f same h g one q u x is_h is_g is_u is_x from_p to_p from_q to_q =
-          let from_q_e : entry_at slots e q ≤ k = subst (λ n. entry_at slots n q ≤ k) (sym same) from_q in
-          let from_p_f : entry_at slots f p ≤ k = subst (λ n. entry_at slots n p ≤ k) same from_p in
+          let from_q_e : entry_at homes slots e q ≤ k = subst (λ n. entry_at homes slots n q ≤ k) (sym same) from_q in
+          let from_p_f : entry_at homes slots f p ≤ k = subst (λ n. entry_at homes slots n p ≤ k) same from_p in
           let first = apart e p q h u is_h is_u to_p from_q_e in
           let second = apart f q p g x is_g is_x to_q from_p_f in
           omega arith
 
   -- a guard's word is the last of its item
-  pub guard_in_item : (guard : GuardAt) → IsGuardAt slots guard → InItem guard.func guard.item guard.word
+  pub guard_in_item : (guard : GuardAt) → IsGuardAt homes slots guard → InItem guard.func guard.item guard.word
   guard_in_item guard is =
       let word = is.is_word in
       record { function = is.function; item = Guard is.condition is.abort_to; is_function = is.is_function; is_item = is.is_item; from = omega arith; to = omega arith }
 
   -- no two guards have one word
-  pub guards_apart : (a b : GuardAt) → IsGuardAt slots a → IsGuardAt slots b → a.word ≡ b.word → a ≡ b
+  pub guards_apart : (a b : GuardAt) → IsGuardAt homes slots a → IsGuardAt homes slots b → a.word ≡ b.word → a ≡ b
   guards_apart a b is_a is_b same =
       let there : InItem b.func b.item a.word = subst (λ k. InItem b.func b.item k) (sym same) (guard_in_item b is_b) in
       let places = one_item a.func a.item b.func b.item a.word (guard_in_item a is_a) there in
@@ -155,21 +156,21 @@ module _ (slots : Slots) where
   -- ---- which words are guards' words
 
   -- what has the word of a list
-  found : (guards : List GuardAt) (k : ℕ) → Each (IsGuardAt slots) guards → is_guard_word guards k ≡ true → (guard : GuardAt) × IsGuardAt slots guard × (guard.word ≡ k)
+  found : (guards : List GuardAt) (k : ℕ) → Each (IsGuardAt homes slots) guards → is_guard_word guards k ≡ true → (guard : GuardAt) × IsGuardAt homes slots guard × (guard.word ≡ k)
   found [] k all h = absurd (false≢true h)
   found (guard ∷ guards) k all h = by (eqb guard.word k) refl h (found guards k all.1)
     where
-      by : (t : Bool) → eqb guard.word k ≡ t → (t || is_guard_word guards k) ≡ true → (is_guard_word guards k ≡ true → (guard : GuardAt) × IsGuardAt slots guard × (guard.word ≡ k)) →
-          (guard : GuardAt) × IsGuardAt slots guard × (guard.word ≡ k)
+      by : (t : Bool) → eqb guard.word k ≡ t → (t || is_guard_word guards k) ≡ true → (is_guard_word guards k ≡ true → (guard : GuardAt) × IsGuardAt homes slots guard × (guard.word ≡ k)) →
+          (guard : GuardAt) × IsGuardAt homes slots guard × (guard.word ≡ k)
       by true e h later = (guard, all.0, eqb-true guard.word k e)
       by false e h later = later h
 
   -- where there is no guard's word
-  pub plain : (k : ℕ) → ((guard : GuardAt) → IsGuardAt slots guard → guard.word ≡ k → ⊥) → is_guard_word (image_guards slots) k ≡ false
-  plain k none = by (is_guard_word (image_guards slots) k) refl
+  pub plain : (k : ℕ) → ((guard : GuardAt) → IsGuardAt homes slots guard → guard.word ≡ k → ⊥) → is_guard_word (image_guards homes slots) k ≡ false
+  plain k none = by (is_guard_word (image_guards homes slots) k) refl
     where
-      by : (t : Bool) → is_guard_word (image_guards slots) k ≡ t → t ≡ false
-      by true h = let w = found (image_guards slots) k guards_are h in absurd (none w.0 w.1 w.2)
+      by : (t : Bool) → is_guard_word (image_guards homes slots) k ≡ t → t ≡ false
+      by true h = let w = found (image_guards homes slots) k guards_are h in absurd (none w.0 w.1 w.2)
       by false h = refl
 
   -- ---- a guard of the code is in the list
@@ -196,15 +197,15 @@ module _ (slots : Slots) where
       (λ (last : n ≤ i). in_second (joined lists n) (lists n) k (let same : i ≡ n = omega arith in subst (λ j. is_guard_word (lists j) k ≡ true) same h)) (below_or i n)
 
   pub guard_marked : (f : ℕ) (g : SlotFunction) (point condition abort_to : ℕ) → slice_get slots.funcs f ≡ Some g → slice_get g.code point ≡ Some (Guard condition abort_to) →
-      is_guard_word (image_guards slots) (entry_at slots f point + guard_front_size g (depth_at g point) condition) ≡ true
+      is_guard_word (image_guards homes slots) (entry_at homes slots f point + guard_front_size (homes f) g (depth_at g point) condition) ≡ true
   guard_marked f g point condition abort_to is there =
-      in_joined (function_guards_at slots) (length slots.funcs) f word (slice_get_within slots.funcs f g is)
-      (subst (λ o. is_guard_word (function_guards_or_none slots f o) word ≡ true) (sym is)
-      (in_joined (guard_at slots f g) (length g.code) point word (slice_get_within g.code point (Guard condition abort_to) there)
-      (subst (λ o. is_guard_word (guard_or_none slots f g point o) word ≡ true) (sym there) (ap (λ t. t || false) (itself word)))))
+      in_joined (function_guards_at homes slots) (length slots.funcs) f word (slice_get_within slots.funcs f g is)
+      (subst (λ o. is_guard_word (function_guards_or_none homes slots f o) word ≡ true) (sym is)
+      (in_joined (guard_at homes slots f g) (length g.code) point word (slice_get_within g.code point (Guard condition abort_to) there)
+      (subst (λ o. is_guard_word (guard_or_none homes slots f g point o) word ≡ true) (sym there) (ap (λ t. t || false) (itself word)))))
     where
       word : ℕ
-      word = entry_at slots f point + guard_front_size g (depth_at g point) condition
+      word = entry_at homes slots f point + guard_front_size (homes f) g (depth_at g point) condition
 
       itself : (n : ℕ) → eqb n n ≡ true
       itself n = grind (arith, nat_tests)
@@ -212,16 +213,16 @@ module _ (slots : Slots) where
   -- ---- how many guards there are
 
   -- an item has no more guards than words
-  item_guards : (f : ℕ) (g : SlotFunction) (point : ℕ) (o : Option SlotItem) → length (guard_or_none slots f g point o) ≤ size_or_none g point o
+  item_guards : (f : ℕ) (g : SlotFunction) (point : ℕ) (o : Option SlotItem) → length (guard_or_none homes slots f g point o) ≤ size_or_none (homes f) g point o
   item_guards f g point None = omega arith
   item_guards f g point (Some (Guard condition abort_to)) = omega arith
   item_guards f g point (Some _) = omega arith
 
-  function_guards_few : (f : ℕ) (o : Option SlotFunction) → length (function_guards_or_none slots f o) ≤ function_size_or_none o
+  function_guards_few : (f : ℕ) (o : Option SlotFunction) → length (function_guards_or_none homes slots f o) ≤ function_size_or_none (homes f) o
   function_guards_few f None = omega arith
-  function_guards_few f (Some g) = omega (arith, joined-most (guard_at slots f g) (size_at g) (λ point. item_guards f g point (slice_get g.code point)) (length g.code))
+  function_guards_few f (Some g) = omega (arith, joined-most (guard_at homes slots f g) (size_at (homes f) g) (λ point. item_guards f g point (slice_get g.code point)) (length g.code))
 
   -- nor has the image
-  pub guards_counted : length (image_guards slots) ≤ start_at slots (length slots.funcs)
+  pub guards_counted : length (image_guards homes slots) ≤ start_at homes slots (length slots.funcs)
   guards_counted =
-      omega (arith, joined-most (function_guards_at slots) (λ k. function_size_or_none (slice_get slots.funcs k)) (λ f. function_guards_few f (slice_get slots.funcs f)) (length slots.funcs))
+      omega (arith, joined-most (function_guards_at homes slots) (λ k. function_size_or_none (homes k) (slice_get slots.funcs k)) (λ f. function_guards_few f (slice_get slots.funcs f)) (length slots.funcs))

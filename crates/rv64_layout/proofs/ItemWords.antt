@@ -20,10 +20,12 @@ use Rattle.slot_code.specs.declared.item.SlotItem.{SlotItem}
 use Rattle.slot_code.specs.declared.item.SlotItem.TheVariants.{Pass, Constant, Copy, Unary, Binary, Jump, Branch, Call, Return, Print, Alloc, Free, Store, Load, Speculate, Commit, Guard}
 use Rattle.slot_code.specs.declared.slots.SlotFunction.{SlotFunction}
 use Rattle.rv64_sequences.specs.Operations.{unary_words, binary_words, alloc_words, free_words, cell_words, load_cell_words, mark_cell_words, store_cell_words}
-use Rattle.rv64_sequences.specs.Sequences.{constant_words, load_words, store_words, copy_words, frame_up_words, load_size}
-use Rattle.rv64_layout.specs.Fits.{ItemFits}
-use Rattle.rv64_layout.specs.Items.{item_size, item_words, room_words, pass_words, result_words, leave_words, returned_words, environment_words, print_call, value_words, spaced_words, print_words, guard_front, guard_front_size, before_call, slot_word, argument_word, level_word, nop_word}
-use Rattle.rv64_layout.proofs.Encodable.{AreWords, IsFar, words, both, load_fits, store_fits, copy_fits, constant_fits, frame_up_fits, jump_fits}
+use Rattle.rv64_sequences.specs.Moves.{fetch_words, fetch_size, fill_words, save_words}
+use Rattle.rv64_sequences.specs.Sequences.{constant_words, store_words, frame_up_words}
+use Rattle.rv64_layout.specs.Homes.{FunctionHomes, variable_home, level_word, level_moves}
+use Rattle.rv64_layout.specs.Fits.{IsReached, ItemFits}
+use Rattle.rv64_layout.specs.Items.{item_size, item_words, room_words, pass_words, result_words, leave_words, returned_words, environment_words, print_call, value_words, spaced_words, print_words, guard_front, guard_front_size, before_call, argument_word, nop_word}
+use Rattle.rv64_layout.proofs.Encodable.{AreWords, words, both, store_fits, fetch_fits, fill_fits, saves_fit, restores_fit, constant_fits, frame_up_fits, jump_fits}
 
 five : 5 < 32
 five = omega arith
@@ -67,105 +69,96 @@ binary_fits binary.Or = words (binary_words binary.Or) refl
 binary_fits binary.PtrAdd = words (binary_words binary.PtrAdd) refl
 
 -- the number of words from the first item's on
-module _ (start entry : ℕ → ℕ) (g : SlotFunction) (depth here : ℕ) (starts : (f : ℕ) → start f ≤ 250000) (entries : (point : ℕ) → entry point ≤ 250000) where
-  -- a slot's word has an encoding
-  far : (o : ℕ) → o < 2 ^ 26 → IsFar o
-  far o small = omega arith
-
-  pass_fits : (k : ℕ) (args : List ℕ) → g.words < 2 ^ 26 → k + length args < 2 ^ 27 → AllByRecursion (λ slot. slot_word g slot < 2 ^ 26) (map Variable args) → AreWords (pass_words g k args)
+module _ (homes : FunctionHomes) (start entry : ℕ → ℕ) (g : SlotFunction) (depth here : ℕ) (starts : (f : ℕ) → start f ≤ 250000) (entries : (point : ℕ) → entry point ≤ 250000) where
+  pass_fits : (k : ℕ) (args : List ℕ) → g.words < 2 ^ 26 → k + length args < 2 ^ 27 → AllByRecursion (λ slot. IsReached (homes.home slot)) (map Variable args) → AreWords (pass_words homes g k args)
   pass_fits k [] frame few slots = tt
   pass_fits k (a ∷ args) frame few slots =
-      both (load_words 5 (2 + a)) _ (load_fits 5 (2 + a) five (far (2 + a) slots.0))
-      (both (store_words 5 (argument_word g k)) (pass_words g (suc k) args) (store_fits 5 (argument_word g k) five (omega arith)) (pass_fits (suc k) args frame (omega arith) slots.1))
+      both (fetch_words 5 (variable_home homes a)) _ (fetch_fits 5 (variable_home homes a) five slots.0)
+      (both (store_words 5 (argument_word g k)) (pass_words homes g (suc k) args) (store_fits 5 (argument_word g k) five (omega arith)) (pass_fits (suc k) args frame (omega arith) slots.1))
 
-  result_fits : (dest : Option ℕ) (args : List ℕ) → AllByRecursion (λ slot. slot_word g slot < 2 ^ 26) (map Variable (listed dest ++ args)) → AreWords (result_words dest)
+  result_fits : (dest : Option ℕ) (args : List ℕ) → AllByRecursion (λ slot. IsReached (homes.home slot)) (map Variable (listed dest ++ args)) → AreWords (result_words homes dest)
   result_fits None args slots = tt
-  result_fits (Some x) args slots = store_fits 10 (2 + x) ten (far (2 + x) slots.0)
+  result_fits (Some x) args slots = fill_fits 10 (variable_home homes x) ten slots.0
 
-  args_fit : (dest : Option ℕ) (args : List ℕ) → AllByRecursion (λ slot. slot_word g slot < 2 ^ 26) (map Variable (listed dest ++ args)) → AllByRecursion (λ slot. slot_word g slot < 2 ^ 26) (map Variable args)
+  args_fit : (dest : Option ℕ) (args : List ℕ) → AllByRecursion (λ slot. IsReached (homes.home slot)) (map Variable (listed dest ++ args)) → AllByRecursion (λ slot. IsReached (homes.home slot)) (map Variable args)
   args_fit None args slots = slots
   args_fit (Some x) args slots = slots.1
 
-  returned_fits : (value : Option ℕ) → AllByRecursion (λ slot. slot_word g slot < 2 ^ 26) (map Variable (listed value)) → AreWords (returned_words value)
+  returned_fits : (value : Option ℕ) → AllByRecursion (λ slot. IsReached (homes.home slot)) (map Variable (listed value)) → AreWords (returned_words homes value)
   returned_fits None slots = tt
-  returned_fits (Some x) slots = load_fits 10 (2 + x) ten (far (2 + x) slots.0)
+  returned_fits (Some x) slots = fetch_fits 10 (variable_home homes x) ten slots.0
 
   call_fits : (kind : Base) → AreWords (environment_words (print_call kind))
   call_fits base.Int = words (environment_words 1) refl
   call_fits base.Bool = words (environment_words 2) refl
   call_fits base.Char = words (environment_words 3) refl
 
-  value_fits : (a : Printed) → slot_word g (Variable a.variable) < 2 ^ 26 → AreWords (value_words a)
-  value_fits a small = both (load_words 10 (2 + a.variable)) (environment_words (print_call a.kind)) (load_fits 10 (2 + a.variable) ten (far (2 + a.variable) small)) (call_fits a.kind)
+  value_fits : (a : Printed) → IsReached (variable_home homes a.variable) → AreWords (value_words homes a)
+  value_fits a small = both (fetch_words 10 (variable_home homes a.variable)) (environment_words (print_call a.kind)) (fetch_fits 10 (variable_home homes a.variable) ten small) (call_fits a.kind)
 
-  spaced_fits : (args : List Printed) → AllByRecursion (λ slot. slot_word g slot < 2 ^ 26) (map (λ a. Variable a.variable) args) → AreWords (spaced_words args)
+  spaced_fits : (args : List Printed) → AllByRecursion (λ slot. IsReached (homes.home slot)) (map (λ a. Variable a.variable) args) → AreWords (spaced_words homes args)
   spaced_fits [] slots = tt
-  spaced_fits (a ∷ args) slots = both (environment_words 4) _ (words (environment_words 4) refl) (both (value_words a) (spaced_words args) (value_fits a slots.0) (spaced_fits args slots.1))
+  spaced_fits (a ∷ args) slots = both (environment_words 4) _ (words (environment_words 4) refl) (both (value_words homes a) (spaced_words homes args) (value_fits a slots.0) (spaced_fits args slots.1))
 
-  print_fits : (args : List Printed) → AllByRecursion (λ slot. slot_word g slot < 2 ^ 26) (map (λ a. Variable a.variable) args) → AreWords (print_words args)
+  print_fits : (args : List Printed) → AllByRecursion (λ slot. IsReached (homes.home slot)) (map (λ a. Variable a.variable) args) → AreWords (print_words homes args)
   print_fits [] slots = words (environment_words 5) refl
   print_fits (a ∷ args) slots =
-      both (value_words a) _ (value_fits a slots.0) (both (spaced_words args) (environment_words 5) (spaced_fits args slots.1) (words (environment_words 5) refl))
+      both (value_words homes a) _ (value_fits a slots.0) (both (spaced_words homes args) (environment_words 5) (spaced_fits args slots.1) (words (environment_words 5) refl))
 
-  level_fits : (level : ℕ) → length g.slots * (depth + 2) < 2 ^ 26 → level ≤ suc depth → level_word g level + length g.slots ≤ 2 ^ 28
+  level_fits : (level : ℕ) → length g.slots * (depth + 2) < 2 ^ 26 → level ≤ suc depth → level_word g level + (0 + length g.slots) ≤ 2 ^ 28
   level_fits level room most =
       let below : length g.slots * level ≤ length g.slots * suc depth = mul-le-mul_left (length g.slots) most in
       let next : length g.slots * (depth + 2) ≡ length g.slots * suc depth + length g.slots = grind arith in
       omega arith
 
-  slots_fit : length g.slots * (depth + 2) < 2 ^ 26 → 2 + length g.slots ≤ 2 ^ 28
-  slots_fit room =
-      let more : length g.slots * (depth + 2) ≡ length g.slots * suc depth + length g.slots = grind arith in
-      omega arith
-
-  pub item_encodable : (item : SlotItem) → ItemFits g depth item → here + item_size g depth item ≤ 250000 → AreWords (item_words start entry g depth here item)
+  pub item_encodable : (item : SlotItem) → ItemFits homes g depth item → here + item_size homes g depth item ≤ 250000 → AreWords (item_words homes start entry g depth here item)
   item_encodable Pass fits few = tt
   item_encodable (Constant dest value) fits few =
-      both (constant_words 5 (word_of value)) (store_words 5 (2 + dest)) (constant_fits 5 (word_of value) five (value_small value fits.constant)) (store_fits 5 (2 + dest) five (far (2 + dest) fits.slots.0))
+      both (constant_words 5 (word_of value)) (fill_words 5 (variable_home homes dest)) (constant_fits 5 (word_of value) five (value_small value fits.constant)) (fill_fits 5 (variable_home homes dest) five fits.slots.0)
   item_encodable (Copy dest from) fits few =
-      both (load_words 5 (slot_word g from)) (store_words 5 (slot_word g dest)) (load_fits 5 (slot_word g from) five (far (slot_word g from) fits.slots.1.0)) (store_fits 5 (slot_word g dest) five (far (slot_word g dest) fits.slots.0))
+      both (fetch_words 5 (homes.home from)) (fill_words 5 (homes.home dest)) (fetch_fits 5 (homes.home from) five fits.slots.1.0) (fill_fits 5 (homes.home dest) five fits.slots.0)
   item_encodable (Unary operation dest operand) fits few =
-      both (load_words 5 (2 + operand)) _ (load_fits 5 (2 + operand) five (far (2 + operand) fits.slots.1.0))
-      (both (unary_words operation) (store_words 5 (2 + dest)) (unary_fits operation) (store_fits 5 (2 + dest) five (far (2 + dest) fits.slots.0)))
+      both (fetch_words 5 (variable_home homes operand)) _ (fetch_fits 5 (variable_home homes operand) five fits.slots.1.0)
+      (both (unary_words operation) (fill_words 5 (variable_home homes dest)) (unary_fits operation) (fill_fits 5 (variable_home homes dest) five fits.slots.0))
   item_encodable (Binary operation dest first second) fits few =
-      both (load_words 5 (2 + first)) _ (load_fits 5 (2 + first) five (far (2 + first) fits.slots.1.0))
-      (both (load_words 7 (2 + second)) _ (load_fits 7 (2 + second) seven (far (2 + second) fits.slots.1.1.0))
-      (both (binary_words operation) (store_words 5 (2 + dest)) (binary_fits operation) (store_fits 5 (2 + dest) five (far (2 + dest) fits.slots.0))))
+      both (fetch_words 5 (variable_home homes first)) _ (fetch_fits 5 (variable_home homes first) five fits.slots.1.0)
+      (both (fetch_words 7 (variable_home homes second)) _ (fetch_fits 7 (variable_home homes second) seven fits.slots.1.1.0)
+      (both (binary_words operation) (fill_words 5 (variable_home homes dest)) (binary_fits operation) (fill_fits 5 (variable_home homes dest) five fits.slots.0)))
   item_encodable (Jump to) fits few = ((omega arith, jump_fits here (entry to) (omega arith) (entries to)), tt)
   item_encodable (Branch condition then_to else_to) fits few =
-      let at = here + load_size (2 + condition) in
-      both (load_words 5 (2 + condition)) _ (load_fits 5 (2 + condition) five (far (2 + condition) fits.slots.0))
+      let at = here + fetch_size (variable_home homes condition) in
+      both (fetch_words 5 (variable_home homes condition)) _ (fetch_fits 5 (variable_home homes condition) five fits.slots.0)
       ((words (beq 5 0 (pos 8) ∷ []) refl).0, ((omega arith, jump_fits (at + 1) (entry then_to) (omega arith) (entries then_to)), ((omega arith, jump_fits (at + 2) (entry else_to) (omega arith) (entries else_to)), tt)))
   item_encodable (Call dest function args) fits few =
       both room_words _ (words room_words refl)
-      (both (pass_words g 0 args) _ (pass_fits 0 args fits.frame (let n = fits.passed in omega arith) (args_fit dest args fits.slots))
+      (both (pass_words homes g 0 args) _ (pass_fits 0 args fits.frame (let n = fits.passed in omega arith) (args_fit dest args fits.slots))
       (both (frame_up_words g.words) _ (frame_up_fits g.words (let n = fits.frame in omega arith))
-      ((omega arith, jump_fits (here + before_call g args) (start function) (omega arith) (starts function)), result_fits dest args fits.slots)))
-  item_encodable (Return value) fits few = both (returned_words value) leave_words (returned_fits value fits.slots) (words leave_words refl)
+      ((omega arith, jump_fits (here + before_call homes g args) (start function) (omega arith) (starts function)), result_fits dest args fits.slots)))
+  item_encodable (Return value) fits few = both (returned_words homes value) leave_words (returned_fits value fits.slots) (words leave_words refl)
   item_encodable (Print args) fits few = print_fits args fits.slots
   item_encodable (Alloc dest count) fits few =
-      both (load_words 10 (2 + count)) _ (load_fits 10 (2 + count) ten (far (2 + count) fits.slots.1.0))
-      (both alloc_words (store_words 10 (2 + dest)) (words alloc_words refl) (store_fits 10 (2 + dest) ten (far (2 + dest) fits.slots.0)))
-  item_encodable (Free pointer) fits few = both (load_words 10 (2 + pointer)) free_words (load_fits 10 (2 + pointer) ten (far (2 + pointer) fits.slots.0)) (words free_words refl)
+      both (fetch_words 10 (variable_home homes count)) _ (fetch_fits 10 (variable_home homes count) ten fits.slots.1.0)
+      (both alloc_words (fill_words 10 (variable_home homes dest)) (words alloc_words refl) (fill_fits 10 (variable_home homes dest) ten fits.slots.0))
+  item_encodable (Free pointer) fits few = both (fetch_words 10 (variable_home homes pointer)) free_words (fetch_fits 10 (variable_home homes pointer) ten fits.slots.0) (words free_words refl)
   item_encodable (Store pointer value) fits few =
-      both (load_words 5 (2 + pointer)) _ (load_fits 5 (2 + pointer) five (far (2 + pointer) fits.slots.0))
-      (both cell_words (mark_cell_words ++ (load_words 5 (2 + value) ++ store_cell_words)) (words cell_words refl) (both mark_cell_words _ (words mark_cell_words refl)
-      (both (load_words 5 (2 + value)) store_cell_words (load_fits 5 (2 + value) five (far (2 + value) fits.slots.1.0)) (words store_cell_words refl))))
+      both (fetch_words 5 (variable_home homes pointer)) _ (fetch_fits 5 (variable_home homes pointer) five fits.slots.0)
+      (both cell_words (mark_cell_words ++ (fetch_words 5 (variable_home homes value) ++ store_cell_words)) (words cell_words refl) (both mark_cell_words _ (words mark_cell_words refl)
+      (both (fetch_words 5 (variable_home homes value)) store_cell_words (fetch_fits 5 (variable_home homes value) five fits.slots.1.0) (words store_cell_words refl))))
   item_encodable (Load dest pointer) fits few =
-      both (load_words 5 (2 + pointer)) _ (load_fits 5 (2 + pointer) five (far (2 + pointer) fits.slots.1.0))
-      (both cell_words (load_cell_words ++ store_words 5 (2 + dest)) (words cell_words refl) (both load_cell_words (store_words 5 (2 + dest)) (words load_cell_words refl) (store_fits 5 (2 + dest) five (far (2 + dest) fits.slots.0))))
+      both (fetch_words 5 (variable_home homes pointer)) _ (fetch_fits 5 (variable_home homes pointer) five fits.slots.1.0)
+      (both cell_words (load_cell_words ++ fill_words 5 (variable_home homes dest)) (words cell_words refl) (both load_cell_words (fill_words 5 (variable_home homes dest)) (words load_cell_words refl) (fill_fits 5 (variable_home homes dest) five fits.slots.0)))
   item_encodable Speculate fits few =
-      both (copy_words 2 (level_word g (suc depth)) (length g.slots)) _
-      (copy_fits 2 (level_word g (suc depth)) (length g.slots) (slots_fit fits.levels) (level_fits (suc depth) fits.levels (omega arith))) (words (nop_word ∷ []) refl)
+      both (save_words (level_moves homes g (suc depth))) _
+      (saves_fit homes (level_word g (suc depth)) (homes.saved (suc depth)) 0 g.slots fits.all_slots (level_fits (suc depth) fits.levels (omega arith))) (words (nop_word ∷ []) refl)
   item_encodable Commit fits few = words (nop_word ∷ []) refl
   item_encodable (Guard condition abort_to) fits few =
-      let size = guard_front_size g depth condition in
-      both (guard_front g depth condition) _
-      (both (load_words 5 (2 + condition)) _ (load_fits 5 (2 + condition) five (far (2 + condition) fits.slots.0)) (
+      let size = guard_front_size homes g depth condition in
+      both (guard_front homes g depth condition) _
+      (both (fetch_words 5 (variable_home homes condition)) _ (fetch_fits 5 (variable_home homes condition) five fits.slots.0) (
         (words (beq 5 0 (pos 8) ∷ []) refl).0,
         (
           (omega arith, jump_fits 0 _ (omega arith) (omega arith)),
-          copy_fits (level_word g depth) 2 (length g.slots) (level_fits depth fits.levels (omega arith)) (slots_fit fits.levels),
+          restores_fit homes (level_word g depth) (homes.saved depth) 0 g.slots fits.all_slots (level_fits depth fits.levels (omega arith)),
         ),
       ))
       ((omega arith, jump_fits (here + size) (entry abort_to) (omega arith) (entries abort_to)), tt)

@@ -6,4 +6,6 @@ pub mod ItemWords
 pub mod Joining
 pub mod Laid
 pub mod Lengths
+pub mod MoveLists
+pub mod Moving
 pub mod Placing

@@ -5,29 +5,30 @@ use Rattle.std.proofs.lemmas.Option.{slice_get_past, slice_get_within}
 use Rattle.slot_code.specs.declared.item.SlotItem.{SlotItem}
 use Rattle.slot_code.specs.declared.slots.SlotFunction.{SlotFunction}
 use Rattle.slot_code.specs.declared.slots.Slots.{Slots}
+use Rattle.rv64_layout.specs.Homes.{FunctionHomes}
 use Rattle.rv64_layout.specs.Image.{depth_at, size_or_none, size_at, words_before, function_size, function_size_or_none, start_at, words_before_in, entry_at}
 use Rattle.rv64_layout.specs.Items.{item_size}
 use Rattle.rv64_layout.proofs.Joining.{sum_rises, sum_passes, sum_is_most}
 
 -- ---- inside a function
 
-pub size_is : (g : SlotFunction) (point : ℕ) (item : SlotItem) → slice_get g.code point ≡ Some item → size_at g point ≡ item_size g (depth_at g point) item
-size_is g point item is = ap (size_or_none g point) is
+pub size_is : (homes : FunctionHomes) (g : SlotFunction) (point : ℕ) (item : SlotItem) → slice_get g.code point ≡ Some item → size_at homes g point ≡ item_size homes g (depth_at g point) item
+size_is homes g point item is = ap (size_or_none homes g point) is
 
-pub words_next : (g : SlotFunction) (point : ℕ) (item : SlotItem) → slice_get g.code point ≡ Some item → words_before g (suc point) ≡ words_before g point + item_size g (depth_at g point) item
-words_next g point item is = omega (arith, size_is g point item is)
+pub words_next : (homes : FunctionHomes) (g : SlotFunction) (point : ℕ) (item : SlotItem) → slice_get g.code point ≡ Some item → words_before homes g (suc point) ≡ words_before homes g point + item_size homes g (depth_at g point) item
+words_next homes g point item is = omega (arith, size_is homes g point item is)
 
 -- the items before the function's end have at most its words
-pub words_most : (g : SlotFunction) (point : ℕ) → words_before g point ≤ words_before g (length g.code)
-words_most g point = omega (arith, sum_is_most (size_at g) (length g.code) (λ k le. ap (size_or_none g k) (slice_get_past g.code k le)) point)
+pub words_most : (homes : FunctionHomes) (g : SlotFunction) (point : ℕ) → words_before homes g point ≤ words_before homes g (length g.code)
+words_most homes g point = omega (arith, sum_is_most (size_at homes g) (length g.code) (λ k le. ap (size_or_none homes g k) (slice_get_past g.code k le)) point)
 
 -- a later item begins after the words of an earlier one
-pub words_pass : (g : SlotFunction) (point later : ℕ) (item : SlotItem) → slice_get g.code point ≡ Some item → point < later → words_before g point + item_size g (depth_at g point) item ≤ words_before g later
-words_pass g point later item is less = omega (arith, size_is g point item is, sum_passes (size_at g) point later less)
+pub words_pass : (homes : FunctionHomes) (g : SlotFunction) (point later : ℕ) (item : SlotItem) → slice_get g.code point ≡ Some item → point < later → words_before homes g point + item_size homes g (depth_at g point) item ≤ words_before homes g later
+words_pass homes g point later item is less = omega (arith, size_is homes g point item is, sum_passes (size_at homes g) point later less)
 
 -- the end of a function begins after all of its words
-pub words_at_end : (g : SlotFunction) (point : ℕ) → slice_get g.code point ≡ None → words_before g point ≡ words_before g (length g.code)
-words_at_end g point none = omega (arith, words_most g point, sum_rises (size_at g) (length g.code) point past)
+pub words_at_end : (homes : FunctionHomes) (g : SlotFunction) (point : ℕ) → slice_get g.code point ≡ None → words_before homes g point ≡ words_before homes g (length g.code)
+words_at_end homes g point none = omega (arith, words_most homes g point, sum_rises (size_at homes g) (length g.code) point past)
   where
     none_some : {X : Type 0} (o : Option X) (x : X) → o ≡ None → o ≡ Some x → ⊥
     none_some o x a b = cc
@@ -42,30 +43,30 @@ words_at_end g point none = omega (arith, words_most g point, sum_rises (size_at
 
 -- ---- in the program
 
-module _ (slots : Slots) where
+module _ (homes : ℕ → FunctionHomes) (slots : Slots) where
   abbrev size_of : ℕ → ℕ
-  size_of f = function_size_or_none (slice_get slots.funcs f)
+  size_of f = function_size_or_none (homes f) (slice_get slots.funcs f)
 
-  pub entry_is : (f : ℕ) (g : SlotFunction) (point : ℕ) → slice_get slots.funcs f ≡ Some g → entry_at slots f point ≡ start_at slots f + words_before g point
-  entry_is f g point is = ap (λ o. start_at slots f + words_before_in o point) is
+  pub entry_is : (f : ℕ) (g : SlotFunction) (point : ℕ) → slice_get slots.funcs f ≡ Some g → entry_at homes slots f point ≡ start_at homes slots f + words_before (homes f) g point
+  entry_is f g point is = ap (λ o. start_at homes slots f + words_before_in (homes f) o point) is
 
-  pub starts_rise : (f later : ℕ) → f ≤ later → start_at slots f ≤ start_at slots later
+  pub starts_rise : (f later : ℕ) → f ≤ later → start_at homes slots f ≤ start_at homes slots later
   starts_rise f later le = omega (arith, sum_rises size_of f later le)
 
   -- a later function begins after the words of an earlier one
-  pub starts_pass : (f later : ℕ) (g : SlotFunction) → slice_get slots.funcs f ≡ Some g → f < later → start_at slots f + function_size g ≤ start_at slots later
-  starts_pass f later g is less = let e : size_of f ≡ function_size g = ap function_size_or_none is in omega (arith, e, sum_passes size_of f later less)
+  pub starts_pass : (f later : ℕ) (g : SlotFunction) → slice_get slots.funcs f ≡ Some g → f < later → start_at homes slots f + function_size (homes f) g ≤ start_at homes slots later
+  starts_pass f later g is less = let e : size_of f ≡ function_size (homes f) g = ap (function_size_or_none (homes f)) is in omega (arith, e, sum_passes size_of f later less)
 
-  pub starts_most : (f : ℕ) → start_at slots f ≤ start_at slots (length slots.funcs)
-  starts_most f = omega (arith, sum_is_most size_of (length slots.funcs) (λ k le. ap function_size_or_none (slice_get_past slots.funcs k le)) f)
+  pub starts_most : (f : ℕ) → start_at homes slots f ≤ start_at homes slots (length slots.funcs)
+  starts_most f = omega (arith, sum_is_most size_of (length slots.funcs) (λ k le. ap (function_size_or_none (homes k)) (slice_get_past slots.funcs k le)) f)
 
   -- the words of a function are before the end of the image
-  pub function_inside : (f : ℕ) (g : SlotFunction) → slice_get slots.funcs f ≡ Some g → start_at slots f + function_size g ≤ start_at slots (length slots.funcs)
+  pub function_inside : (f : ℕ) (g : SlotFunction) → slice_get slots.funcs f ≡ Some g → start_at homes slots f + function_size (homes f) g ≤ start_at homes slots (length slots.funcs)
   function_inside f g is = starts_pass f (length slots.funcs) g is (slice_get_within slots.funcs f g is)
 
-  pub entries_most : (f point : ℕ) → entry_at slots f point ≤ start_at slots (length slots.funcs)
+  pub entries_most : (f point : ℕ) → entry_at homes slots f point ≤ start_at homes slots (length slots.funcs)
   entries_most f point = by (slice_get slots.funcs f) refl
     where
-      by : (o : Option SlotFunction) → slice_get slots.funcs f ≡ o → start_at slots f + words_before_in o point ≤ start_at slots (length slots.funcs)
+      by : (o : Option SlotFunction) → slice_get slots.funcs f ≡ o → start_at homes slots f + words_before_in (homes f) o point ≤ start_at homes slots (length slots.funcs)
       by None is = omega (arith, starts_most f)
-      by (Some g) is = omega (arith, function_inside f g is, words_most g point)
+      by (Some g) is = omega (arith, function_inside f g is, words_most (homes f) g point)

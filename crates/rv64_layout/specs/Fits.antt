@@ -1,12 +1,14 @@
 -- When the words of an item have encodings: the frame is small enough, and so are the numbers of its slots.
 use Rattle.std.specs.Prelude.{ℕ, ◌+◌, ◌*◌, ◌^◌, ◌<◌, length}
 use Rattle.std.specs.List.{AllByRecursion}
+use Rattle.bril_tree.specs.declared.home.Home.{Home}
+use Rattle.bril_tree.specs.declared.home.Home.TheVariants.{Reg, Frame}
 use Rattle.bril_tree.specs.Value.{IsInRange}
 use Rattle.slot_code.specs.declared.item.SlotItem.{SlotItem}
 use Rattle.slot_code.specs.declared.item.SlotItem.TheVariants.{Call, Constant}
 use Rattle.slot_code.specs.declared.slots.SlotFunction.{SlotFunction}
 use Rattle.slot_code.specs.Laws.{slots_used}
-use Rattle.rv64_layout.specs.Items.{slot_word}
+use Rattle.rv64_layout.specs.Homes.{FunctionHomes}
 
 -- The numbers of a frame's words, of those of its levels and of arguments are below this one: far offsets of 32 bits reach them.
 abbrev pub frame_reach : ℕ
@@ -22,9 +24,15 @@ abbrev pub HasConstantInRange : SlotItem → Type 0
 HasConstantInRange (Constant dest value) = IsInRange value
 HasConstantInRange _ = Unit {0}
 
+-- the words of a home have encodings
+abbrev pub IsReached : Home → Type 0
+IsReached (Reg number) = number < 32
+IsReached (Frame word) = word < frame_reach
+
 -- An item of a function fits where so many speculations are open: none of the numbers in its words is too large.
-pub record ItemFits (g : SlotFunction) (depth : ℕ) (item : SlotItem) : Type 0 where
-  pub slots : AllByRecursion (λ slot. slot_word g slot < frame_reach) (slots_used item)
+pub record ItemFits (homes : FunctionHomes) (g : SlotFunction) (depth : ℕ) (item : SlotItem) : Type 0 where
+  pub slots : AllByRecursion (λ slot. IsReached (homes.home slot)) (slots_used item)
+  pub all_slots : AllByRecursion (λ slot. IsReached (homes.home slot)) g.slots
   pub frame : g.words < frame_reach
   pub levels : length g.slots * (depth + 2) < frame_reach
   pub passed : passed_by item < frame_reach

@@ -1,71 +1,79 @@
--- What is known of an image of code over slots: which words are where, and that they are few.
+-- What is known of an image of code over slots: which words are where, and that they are few. The homes are those of each
+-- function's slots.
 use Rattle.std.specs.Prelude.{◌≡◌, ℕ, suc, ◌+◌, ◌*◌, ◌≤◌, true, [], ◌∷◌, Some, None, slice_get, pos}
 use Rattle.bril_tree.specs.declared.limits.Limits.{Limits}
 use Rattle.bril_tree.specs.declared.program.Prog.{Prog}
 use Rattle.bril_tree.specs.Accepted.{IsAccepted}
 use Rattle.bril_tree.specs.Literals.{AreLiteralsInRange}
+use Rattle.rv64_implements.specs.Home.{IsHomeWithin}
 use Rattle.rv64_implements.specs.WordBounds.{IsWithin}
 use Rattle.rv64_words.specs.declared.image.GuardAt.{GuardAt}
 use Rattle.rv64_words.specs.declared.image.Image.{Image}
 use Rattle.rv64_words.specs.declared.word.Word.TheVariants.{Sd}
 use Rattle.rv64_stretches.specs.Runs.{HasAt, WordAt}
 use Rattle.rv64_sequences.specs.Sequences.{fault_words}
+use Rattle.slot_code.specs.declared.item.Slot.{Slot}
 use Rattle.slot_code.specs.declared.item.SlotItem.{SlotItem}
 use Rattle.slot_code.specs.declared.item.SlotItem.TheVariants.{Guard}
 use Rattle.slot_code.specs.declared.slots.SlotFunction.{SlotFunction}
 use Rattle.slot_code.specs.declared.slots.Slots.{Slots}
+use Rattle.slot_code.specs.Laws.{IsSlotOf}
 use Rattle.slot_code.specs.Lowered.{IsLowered}
+use Rattle.rv64_layout.specs.Homes.{FunctionHomes}
 use Rattle.rv64_layout.specs.Image.{depth_at, start_at, entry_at, end_start, head_words, largest_frame, IsImageOf}
 use Rattle.rv64_layout.specs.Items.{item_size, item_words, guard_front, guard_front_size, abort_word, leave_words}
 use Rattle.rv64_words.specs.Region.{most_words, most_stack}
 
 -- ---- items
 
--- The words of an item are in the image. The last word of a guard is a guard's word, and no other word is one.
-abbrev pub ItemAt : Image → Slots → ℕ → SlotFunction → ℕ → SlotItem → Type 0
-ItemAt image slots f g point (Guard condition abort_to) =
-    HasAt image (entry_at slots f point) (guard_front g (depth_at g point) condition)
-    × WordAt image true (entry_at slots f point + guard_front_size g (depth_at g point) condition)
-    (abort_word (start_at slots) (entry_at slots f) g (depth_at g point) (entry_at slots f point) condition abort_to)
-ItemAt image slots f g point item =
-    HasAt image (entry_at slots f point) (item_words (start_at slots) (entry_at slots f) g (depth_at g point) (entry_at slots f point) item)
+-- The words of an item are in the image, where functions and items begin so. The last word of a guard is a guard's word, and no
+-- other word is one.
+abbrev pub ItemAt : Image → FunctionHomes → (start entry : ℕ → ℕ) → SlotFunction → (depth here : ℕ) → SlotItem → Type 0
+ItemAt image homes start entry g depth here (Guard condition abort_to) =
+    HasAt image here (guard_front homes g depth condition)
+    × WordAt image true (here + guard_front_size homes g depth condition) (abort_word homes start entry g depth here condition abort_to)
+ItemAt image homes start entry g depth here item = HasAt image here (item_words homes start entry g depth here item)
 
 -- A guard is the item of its number in its function, and its word is that item's last.
-pub record IsGuardAt (slots : Slots) (guard : GuardAt) : Type 0 where
+pub record IsGuardAt (homes : ℕ → FunctionHomes) (slots : Slots) (guard : GuardAt) : Type 0 where
   pub function : SlotFunction
   pub condition : ℕ
   pub abort_to : ℕ
   pub is_function : slice_get slots.funcs guard.func ≡ Some function
   pub is_item : slice_get function.code guard.item ≡ Some (Guard condition abort_to)
-  pub is_word : guard.word ≡ entry_at slots guard.func guard.item + guard_front_size function (depth_at function guard.item) condition
+  pub is_word : guard.word ≡ entry_at homes slots guard.func guard.item + guard_front_size (homes guard.func) function (depth_at function guard.item) condition
 
 -- ---- images
 
 -- The image of code over slots, for runs under these limits: each part is at its place.
-pub record IsLaid (slots : Slots) (limits : Limits) (image : Image) : Type 0 where
-  pub is : IsImageOf slots limits image
+pub record IsLaid (homes : ℕ → FunctionHomes) (slots : Slots) (limits : Limits) (image : Image) : Type 0 where
+  pub is : IsImageOf homes slots limits image
   -- the head, and the end of the program in it
-  pub head : HasAt image 0 (head_words limits (start_at slots slots.main))
+  pub head : HasAt image 0 (head_words limits (start_at homes slots slots.main))
   pub ends : HasAt image end_start (fault_words 0)
   -- a function begins with the word that keeps the way back; its items follow, and then the words that leave it
-  pub begins : (f : ℕ) (g : SlotFunction) → slice_get slots.funcs f ≡ Some g → HasAt image (start_at slots f) (Sd 2 1 (pos 0) ∷ [])
-  pub first : (f : ℕ) (g : SlotFunction) → slice_get slots.funcs f ≡ Some g → entry_at slots f 0 ≡ start_at slots f + 1
+  pub begins : (f : ℕ) (g : SlotFunction) → slice_get slots.funcs f ≡ Some g → HasAt image (start_at homes slots f) (Sd 2 1 (pos 0) ∷ [])
+  pub first : (f : ℕ) (g : SlotFunction) → slice_get slots.funcs f ≡ Some g → entry_at homes slots f 0 ≡ start_at homes slots f + 1
   pub items : (f : ℕ) (g : SlotFunction) (point : ℕ) (item : SlotItem) → slice_get slots.funcs f ≡ Some g → slice_get g.code point ≡ Some item →
-      ItemAt image slots f g point item
+      ItemAt image (homes f) (start_at homes slots) (entry_at homes slots f) g (depth_at g point) (entry_at homes slots f point) item
   pub next : (f : ℕ) (g : SlotFunction) (point : ℕ) (item : SlotItem) → slice_get slots.funcs f ≡ Some g → slice_get g.code point ≡ Some item →
-      entry_at slots f (suc point) ≡ entry_at slots f point + item_size g (depth_at g point) item
+      entry_at homes slots f (suc point) ≡ entry_at homes slots f point + item_size (homes f) g (depth_at g point) item
   pub leaves : (f : ℕ) (g : SlotFunction) (point : ℕ) → slice_get slots.funcs f ≡ Some g → slice_get g.code point ≡ None →
-      HasAt image (entry_at slots f point) leave_words
+      HasAt image (entry_at homes slots f point) leave_words
   -- each guard of the image is one of the code, and no two guards have one word
-  pub guards : (k : ℕ) (guard : GuardAt) → slice_get image.guards k ≡ Some guard → IsGuardAt slots guard
-  pub apart : (a b : GuardAt) → IsGuardAt slots a → IsGuardAt slots b → a.word ≡ b.word → a ≡ b
+  pub guards : (k : ℕ) (guard : GuardAt) → slice_get image.guards k ≡ Some guard → IsGuardAt homes slots guard
+  pub apart : (a b : GuardAt) → IsGuardAt homes slots a → IsGuardAt homes slots b → a.word ≡ b.word → a ≡ b
   -- every place in it is one of at most 250,000 words, and the stack has room for the frames
-  pub few_starts : (f : ℕ) → start_at slots f ≤ most_words
-  pub few_entries : (f point : ℕ) → entry_at slots f point ≤ most_words
+  pub few_starts : (f : ℕ) → start_at homes slots f ≤ most_words
+  pub few_entries : (f point : ℕ) → entry_at homes slots f point ≤ most_words
   pub frames : (f : ℕ) (g : SlotFunction) → slice_get slots.funcs f ≡ Some g → g.words ≤ largest_frame slots
   pub few_frames : limits.frames * largest_frame slots ≤ most_stack
 
+-- each slot is in a register, or in a word of its function's frame
+abbrev pub HaveHomes : (ℕ → FunctionHomes) → Slots → Type 0
+HaveHomes homes slots = (f : ℕ) (g : SlotFunction) (slot : Slot) → slice_get slots.funcs f ≡ Some g → IsSlotOf g slot → IsHomeWithin g.words ((homes f).home slot)
+
 -- The law: the image of an accepted program within the bounds is laid out so.
 abbrev pub ImagesAreLaid : Type 0
-ImagesAreLaid = (p : Prog) (slots : Slots) (limits : Limits) (image : Image) → IsAccepted p → AreLiteralsInRange p → IsLowered p slots → IsWithin p limits →
-    IsImageOf slots limits image → IsLaid slots limits image
+ImagesAreLaid = (p : Prog) (homes : ℕ → FunctionHomes) (slots : Slots) (limits : Limits) (image : Image) → IsAccepted p → AreLiteralsInRange p → IsLowered p slots → IsWithin p limits →
+    HaveHomes homes slots → IsImageOf homes slots limits image → IsLaid homes slots limits image

@@ -1,4 +1,5 @@
 pub mod Fits
+pub mod Homes
 pub mod Image
 pub mod Items
 pub mod Laid

@@ -1,7 +1,7 @@
 pub mod Constants
-pub mod Copies
 pub mod Digits
 pub mod Ends
 pub mod Frames
 pub mod Jumps
+pub mod Moves
 pub mod Stretches

@@ -6,10 +6,11 @@ use Rattle.rv64_words.specs.Region.{Sizes}
 use Rattle.rv64_stretches.specs.Core.{Core}
 use Rattle.rv64_stretches.specs.Runs.{HasAt, Runs}
 use Rattle.rv64_stretches.proofs.Going.{Going, begin}
-use Rattle.rv64_sequences.specs.Laws.{ConstantsRun, FrameLoadsRun, FrameStoresRun, CopiesRun}
-use Rattle.rv64_sequences.specs.Sequences.{constant_words, load_from, store_over, copy_words, constant_size, load_size, store_size, copy_size}
+use Rattle.rv64_sequences.specs.Laws.{ConstantsRun, FrameLoadsRun, FrameStoresRun, SavesRun, RestoresRun}
+use Rattle.rv64_sequences.specs.Sequences.{constant_words, load_from, store_over, constant_size, load_size, store_size}
+use Rattle.rv64_sequences.specs.Moves.{save_words, save_size, restore_words, restore_size}
 use Rattle.rv64_sequences.proofs.Constants.{constant}
-use Rattle.rv64_sequences.proofs.Copies.{words_copied}
+use Rattle.rv64_sequences.proofs.Moves.{homes_saved, homes_restored}
 use Rattle.rv64_sequences.proofs.Frames.{frame_load, frame_store}
 
 module _ (image : Image) (z : Sizes) (k : ℕ) (c : Core) where
@@ -28,7 +29,12 @@ frame_loads image z k c base r b o has ne reach = runs_of image z k c (load_size
 pub frame_stores : FrameStoresRun
 frame_stores image z k c base r b o has ne other reach = runs_of image z k c (store_size o) _ _ (frame_store image z base r b o ne other reach (alone image z k c (store_over base r o) has))
 
-pub copies : CopiesRun
-copies image z k c b from to n has few two apart in_from in_to =
-    let after = words_copied image z few b from to n c [] apart two in_from in_to (alone image z k c (copy_words from to n) has) in
-    (after.core, after.copied, runs_of image z k c (copy_size from to n) _ after.core after.going)
+pub saves : SavesRun
+saves image z k c b moves has few two apart none usable inside =
+    let after = homes_saved image z few b moves c [] apart none usable inside two (alone image z k c (save_words moves) has) in
+    (after.core, after.is, runs_of image z k c (save_size moves) _ after.core after.going)
+
+pub restores : RestoresRun
+restores image z k c b moves has few two apart none usable inside =
+    let after = homes_restored image z few b moves c [] apart none usable inside two (alone image z k c (restore_words moves) has) in
+    (after.core, after.is, runs_of image z k c (restore_size moves) _ after.core after.going)

@@ -1,5 +1,5 @@
--- What loads, stores and copies of a frame's words leave.
-use Rattle.std.specs.Prelude.{◌≡◌, ◌≢◌, ℕ, ◌+◌, ◌*◌, ◌%◌, ◌^◌, ◌<◌, ◌≤◌, ◌⊎◌, if◌then◌else◌}
+-- What loads and stores of a frame's words leave.
+use Rattle.std.specs.Prelude.{◌≡◌, ℕ, ◌+◌, ◌*◌, ◌%◌, ◌^◌, ◌<◌, ◌≤◌, if◌then◌else◌}
 use Rattle.rv64_words.specs.Arithmetic.{extended_32}
 use Rattle.rv64_words.specs.Region.{Sizes, stack_base, most_stack}
 use Rattle.rv64_stretches.specs.Core.{Core, written}
@@ -21,20 +21,3 @@ address_left e r o = if is_near o then e.registers 6 else far_address e r o
 -- the core with that
 abbrev pub addressed : Core → ℕ → ℕ → Core
 addressed e r o = written e 6 (address_left e r o)
-
--- n words of the frame at word b were copied, by registers 5 and 6
-pub record Copied (d e : Core) (b from to n : ℕ) : Type 0 where
-  pub registers : (r : ℕ) → r ≢ 5 → r ≢ 6 → e.registers r ≡ d.registers r
-  pub table : e.table ≡ d.table
-  pub cells : e.cells ≡ d.cells
-  pub blocks : e.blocks ≡ d.blocks
-  pub given : e.given ≡ d.given
-  pub printed : e.printed ≡ d.printed
-  pub arrivals : e.arrivals ≡ d.arrivals
-  pub below : (k : ℕ) → k < b + to → e.stack k ≡ d.stack k
-  pub above : (k : ℕ) → b + (to + n) ≤ k → e.stack k ≡ d.stack k
-  pub copies : (j : ℕ) → j < n → e.stack (b + (to + j)) ≡ d.stack (b + (from + j))
-
--- two stretches of n words don't meet
-abbrev pub LieApart : ℕ → ℕ → ℕ → Type 0
-LieApart from to n = (from + n ≤ to) ⊎ (to + n ≤ from)

@@ -1,11 +1,12 @@
 -- What the sequences do, as laws of any image in which they stand.
-use Rattle.std.specs.Prelude.{◌≡◌, ◌≢◌, ℕ, ◌+◌, ◌*◌, ◌^◌, ◌<◌, ◌≤◌}
+use Rattle.std.specs.Prelude.{◌≡◌, ◌≢◌, ℕ, ◌+◌, ◌*◌, ◌^◌, ◌<◌, ◌≤◌, List}
 use Rattle.rv64_words.specs.declared.image.Image.{Image}
 use Rattle.rv64_words.specs.Region.{Sizes, stack_base, most_stack}
 use Rattle.rv64_stretches.specs.Core.{Core, written, put}
 use Rattle.rv64_stretches.specs.Runs.{HasAt, Runs}
-use Rattle.rv64_sequences.specs.Frames.{Reaches, addressed, Copied, LieApart}
-use Rattle.rv64_sequences.specs.Sequences.{constant_words, constant_size, load_from, store_over, load_size, store_size, copy_words, copy_size}
+use Rattle.rv64_sequences.specs.Frames.{Reaches, addressed}
+use Rattle.rv64_sequences.specs.Moves.{Move, save_words, save_size, restore_words, restore_size, Saved, Restored, AreWordsApart, AreHomesApart, NoWordIsHome, AreUsable, AreInside}
+use Rattle.rv64_sequences.specs.Sequences.{constant_words, constant_size, load_from, store_over, load_size, store_size}
 
 -- a register becomes a constant, and nothing else changes
 abbrev pub ConstantsRun : Type 0
@@ -21,8 +22,14 @@ abbrev pub FrameStoresRun : Type 0
 FrameStoresRun = (image : Image) (z : Sizes) (k : ℕ) (c : Core) (base r b o : ℕ) → HasAt image k (store_over base r o) → base ≢ 6 → r ≢ 6 → Reaches z c base b o →
     Runs image z k c (store_size o) (k + store_size o) (put (addressed c base o) (b + o) (c.registers r))
 
--- words of the frame are copied, and no others change
-abbrev pub CopiesRun : Type 0
-CopiesRun = (image : Image) (z : Sizes) (k : ℕ) (c : Core) (b from to n : ℕ) → HasAt image k (copy_words from to n) → z.stack ≤ most_stack → c.registers 2 ≡ stack_base + 8 * b →
-    LieApart from to n → b + (from + n) ≤ z.stack → b + (to + n) ≤ z.stack →
-    (e : Core) × Copied c e b from to n × Runs image z k c (copy_size from to n) (k + copy_size from to n) e
+-- what homes have comes into words of the frame, and no other words of the stack change
+abbrev pub SavesRun : Type 0
+SavesRun = (image : Image) (z : Sizes) (k : ℕ) (c : Core) (b : ℕ) (moves : List Move) → HasAt image k (save_words moves) → z.stack ≤ most_stack → c.registers 2 ≡ stack_base + 8 * b →
+    AreWordsApart moves → NoWordIsHome moves → AreUsable moves → AreInside z b moves →
+    (e : Core) × Saved b moves c e × Runs image z k c (save_size moves) (k + save_size moves) e
+
+-- words of the frame come into homes, and no other homes change
+abbrev pub RestoresRun : Type 0
+RestoresRun = (image : Image) (z : Sizes) (k : ℕ) (c : Core) (b : ℕ) (moves : List Move) → HasAt image k (restore_words moves) → z.stack ≤ most_stack → c.registers 2 ≡ stack_base + 8 * b →
+    AreHomesApart moves → NoWordIsHome moves → AreUsable moves → AreInside z b moves →
+    (e : Core) × Restored b moves c e × Runs image z k c (restore_size moves) (k + restore_size moves) e

@@ -1,4 +1,5 @@
 pub mod Frames
 pub mod Laws
+pub mod Moves
 pub mod Operations
 pub mod Sequences

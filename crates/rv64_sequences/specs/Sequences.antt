@@ -1,7 +1,7 @@
--- Short sequences of words: constants, the words of a frame, faults, jumps and copies. Register 2 has the base of the
+-- Short sequences of words: constants, the words of a frame, faults and jumps. Register 2 has the base of the
 -- frame, and register 6 takes the address of a word that is far from it. The size of a sequence depends on the number and
 -- on the frame's word alone, never on a place in the image.
-use Rattle.std.specs.Prelude.{ℕ, zero, suc, ◌+◌, ◌-◌, ◌*◌, ◌/◌, ◌%◌, ◌^◌, Bool, ◌||◌, nat_lt, nat_le, if◌then◌else◌, ℤ, pos, negsuc, List, [], ◌∷◌, ◌++◌}
+use Rattle.std.specs.Prelude.{ℕ, ◌+◌, ◌-◌, ◌*◌, ◌/◌, ◌%◌, ◌^◌, Bool, ◌||◌, nat_lt, nat_le, if◌then◌else◌, ℤ, pos, negsuc, List, [], ◌∷◌, ◌++◌}
 use Rattle.rv64_words.specs.declared.word.Word.{Word}
 use Rattle.rv64_words.specs.declared.word.Word.TheVariants.{Lui, Ld, Sd, Ecall}
 use Rattle.rv64_words.specs.Fields.{signed_12}
@@ -78,17 +78,6 @@ load_words r o = load_from 2 r o
 
 abbrev pub store_words : ℕ → ℕ → List Word
 store_words r o = store_over 2 r o
-
--- ---- copies
-
--- n words of the frame from word `from` on become those from word `to` on, by register 5
-abbrev pub copy_words : ℕ → ℕ → ℕ → List Word
-copy_words from to zero = []
-copy_words from to (suc n) = load_words 5 from ++ (store_words 5 to ++ copy_words (suc from) (suc to) n)
-
-abbrev pub copy_size : ℕ → ℕ → ℕ → ℕ
-copy_size from to zero = 0
-copy_size from to (suc n) = load_size from + store_size to + copy_size (suc from) (suc to) n
 
 -- ---- ends and jumps
 

@@ -1,12 +1,13 @@
 //! Laws alone: short sequences of words, and what they do.
 //!
 //! `specs/Sequences.antt` has the sequences from which code is laid out: constants, loads and stores of a frame's words,
-//! copies, faults and jumps. Each is short where the number or the word's place allows it, and its size depends on these
-//! alone. `specs/Operations.antt` has the words of the operations. `proofs/` shows what the sequences do, by one lemma
-//! for each, which the crates above cite. Each function here states some of it as a law, and does nothing when it is called.
+//! faults and jumps. Each is short where the number or the word's place allows it, and its size depends on these alone.
+//! `specs/Moves.antt` has the words between homes of values, registers and words of the frame, `specs/Operations.antt` the
+//! words of the operations. `proofs/` shows what the sequences do, by one lemma for each, which the crates above cite. Each
+//! function here states some of it as a law, and does nothing when it is called.
 #![tactic(auto)]
 
-ghost use Rattle.rv64_sequences.specs.Laws.{ConstantsRun, FrameLoadsRun, FrameStoresRun, CopiesRun};
+ghost use Rattle.rv64_sequences.specs.Laws.{ConstantsRun, FrameLoadsRun, FrameStoresRun, SavesRun, RestoresRun};
 
 /// The words of a constant set one register to it, in one, two or eight words.
 pub fn constants_run()
@@ -19,7 +20,8 @@ pub fn frame_words_run()
     ensures stores { FrameStoresRun }
 {}
 
-/// Words of a frame are copied to other words of it. Registers 5 and 6 may change besides.
-pub fn copies_run()
-    ensures { CopiesRun }
+/// What homes have comes into words of the frame, and back. Registers 5 and 6 may change besides.
+pub fn moves_run()
+    ensures saves { SavesRun }
+    ensures restores { RestoresRun }
 {}

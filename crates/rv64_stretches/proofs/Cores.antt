@@ -1,10 +1,10 @@
 -- What is read of a core after a change.
-use Rattle.std.proofs.Common.{◌≡◌, ◌≢◌, ℕ, zero, suc, Bool, true, false, cond, eqb, refl, ap, arith}
+use Rattle.std.proofs.Common.{◌≡◌, ◌≢◌, ℕ, zero, suc, Bool, IsTrue, true, false, true≢false, cond, eqb, refl, sym, ap, ◌∙◌, arith}
 use Rattle.std.proofs.lemmas.Bool.{eq-eqb, ne_eqb}
 use Rattle.std.proofs.lemmas.Bool.Decides.{nat_tests}
 use Rattle.rv64_words.specs.State.{assigned}
 use Rattle.rv64_words.proofs.Words.{same_words}
-use Rattle.rv64_stretches.specs.Core.{Core, written}
+use Rattle.rv64_stretches.specs.Core.{Core, written, is_home_register}
 
 pub assigned_twice : (f : ℕ → ℕ) (r a b : ℕ) → assigned (assigned f r a) r b ≡ assigned f r b
 assigned_twice f r a b = same_words _ _ (λ y. by_test (eqb y r) y)
@@ -42,3 +42,7 @@ written_here e (suc r) v ne = assigned_here e.registers (suc r) v
 pub written_other : (e : Core) (r v s : ℕ) → s ≢ r → (written e r v).registers s ≡ e.registers s
 written_other e zero v s ne = refl
 written_other e (suc r) v s ne = assigned_other e.registers (suc r) v s ne
+
+-- a register in which a location may be isn't one of the others
+pub apart_from : (r s : ℕ) → is_home_register r ≡ false → IsTrue (is_home_register s) → s ≢ r
+apart_from r s none some same = absurd (true≢false (sym some ∙ (ap is_home_register same ∙ none)))

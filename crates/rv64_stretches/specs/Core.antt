@@ -1,5 +1,5 @@
 -- What words change of a machine that runs on: all of its state but the pc, the way it stops and the words done.
-use Rattle.std.specs.Prelude.{◌≡◌, ℕ, zero, suc, ◌+◌, ◌*◌, ◌^◌, List, ◌++◌, None}
+use Rattle.std.specs.Prelude.{◌≡◌, ℕ, zero, suc, ◌+◌, ◌*◌, ◌^◌, ◌==◌, ◌&&◌, ◌||◌, Bool, IsTrue, List, ◌++◌, None, nat_le}
 use Rattle.bril_tree.specs.State.{counted}
 use Rattle.rv64_words.specs.Region.{cells_base}
 use Rattle.rv64_words.specs.State.{State, assigned}
@@ -83,12 +83,20 @@ with_block count c =
 abbrev pub without_block : ℕ → Core → Core
 without_block block c = record c { table = assigned c.table (2 * block + 1) 0 }
 
--- What the code between frames relies on is as it was: registers 0, 2 and 8, memory, and what can be seen from outside.
--- Other registers may have changed.
+-- ---- what stays
+
+-- The registers in which locations may be: 3, 4, 9, 11 to 16 and 18 to 31. The others have uses of their own: 0, 1 for the way
+-- back, 2 for the frame, 5 to 7, 10 and 17 for operands, addresses and environment calls, 8 for the frames that are left.
+abbrev pub is_home_register : ℕ → Bool
+is_home_register r = (r == 3) || ((r == 4) || ((r == 9) || ((nat_le 11 r && nat_le r 16) || (nat_le 18 r && nat_le r 31))))
+
+-- What the code between frames relies on is as it was: registers 0, 2 and 8, those in which locations may be, memory, and what
+-- can be seen from outside. Other registers may have changed.
 pub record Keeps (c e : Core) : Type 0 where
   pub zero_register : e.registers 0 ≡ c.registers 0
   pub frame_register : e.registers 2 ≡ c.registers 2
   pub frames_left : e.registers 8 ≡ c.registers 8
+  pub homes : (r : ℕ) → IsTrue (is_home_register r) → e.registers r ≡ c.registers r
   pub stack : e.stack ≡ c.stack
   pub table : e.table ≡ c.table
   pub cells : e.cells ≡ c.cells

@@ -1,5 +1,5 @@
 -- Stretches that keep what other code relies on.
-use Rattle.std.proofs.Common.{cond, eqb, false, ◌≡◌, ℕ, suc, ◌+◌, ◌<◌, ◌≤◌, ◌^◌, refl, sym, ap, ◌∙◌, subst, arith, List, [], ◌++◌, length, Some, append-nil}
+use Rattle.std.proofs.Common.{IsTrue, true≢false, cond, eqb, false, ◌≡◌, ◌≢◌, ℕ, suc, ◌+◌, ◌%◌, ◌<◌, ◌≤◌, ◌^◌, refl, sym, ap, ◌∙◌, subst, arith, List, [], ◌++◌, length, Some, append-nil}
 use Rattle.std.specs.Option.{option_map}
 use Rattle.bril_tree.specs.declared.limits.End.TheVariants.{Faulted}
 use Rattle.bril_tree.specs.declared.limits.Fault.{Fault}
@@ -7,7 +7,8 @@ use Rattle.rv64_words.specs.declared.image.Image.{Image}
 use Rattle.rv64_words.specs.declared.word.Word.{Word}
 use Rattle.rv64_words.specs.Environment.{fault_of}
 use Rattle.rv64_words.specs.Region.{Sizes}
-use Rattle.rv64_stretches.specs.Core.{Core, written, Keeps}
+use Rattle.rv64_stretches.specs.Core.{Core, written, Keeps, is_home_register}
+use Rattle.rv64_stretches.proofs.Cores.{apart_from, assigned_other}
 use Rattle.rv64_stretches.specs.Runs.{HasAt, AreComputing, effects, Runs}
 use Rattle.rv64_stretches.proofs.Going.{Going, begin, plains}
 use Rattle.rv64_sequences.specs.Sequences.{fault_words}
@@ -15,13 +16,14 @@ use Rattle.rv64_sequences.proofs.Ends.{called_off, finishes}
 use Rattle.rv64_values.specs.Operands.{Gives, EndsSo}
 
 pub keeps_itself : (c : Core) → Keeps c c
-keeps_itself c = record { zero_register = refl; frame_register = refl; frames_left = refl; stack = refl; table = refl; cells = refl; blocks = refl; given = refl; printed = refl; arrivals = refl }
+keeps_itself c = record { zero_register = refl; frame_register = refl; frames_left = refl; homes = λ r h. refl; stack = refl; table = refl; cells = refl; blocks = refl; given = refl; printed = refl; arrivals = refl }
 
 pub keeps_on : (c e f : Core) → Keeps c e → Keeps e f → Keeps c f
 keeps_on c e f a b = record {
   zero_register = b.zero_register ∙ a.zero_register;
   frame_register = b.frame_register ∙ a.frame_register;
   frames_left = b.frames_left ∙ a.frames_left;
+  homes = λ r h. b.homes r h ∙ a.homes r h;
   stack = b.stack ∙ a.stack;
   table = b.table ∙ a.table;
   cells = b.cells ∙ a.cells;
@@ -32,11 +34,12 @@ keeps_on c e f a b = record {
 }
 
 -- a register that no other code relies on gets a value
-pub keeps_written : (c e : Core) (r v : ℕ) → eqb 0 (suc r) ≡ false → eqb 2 (suc r) ≡ false → eqb 8 (suc r) ≡ false → Keeps c e → Keeps c (written e (suc r) v)
-keeps_written c e r v zero_other two_other eight_other k = record {
+pub keeps_written : (c e : Core) (r v : ℕ) → eqb 0 (suc r) ≡ false → eqb 2 (suc r) ≡ false → eqb 8 (suc r) ≡ false → is_home_register (suc r) ≡ false → Keeps c e → Keeps c (written e (suc r) v)
+keeps_written c e r v zero_other two_other eight_other none k = record {
   zero_register = ap (λ b. cond b v (e.registers 0)) zero_other ∙ k.zero_register;
   frame_register = ap (λ b. cond b v (e.registers 2)) two_other ∙ k.frame_register;
   frames_left = ap (λ b. cond b v (e.registers 8)) eight_other ∙ k.frames_left;
+  homes = λ s h. assigned_other e.registers (suc r) v s (apart_from (suc r) s none h) ∙ k.homes s h;
   stack = k.stack;
   table = k.table;
   cells = k.cells;
@@ -48,13 +51,17 @@ keeps_written c e r v zero_other two_other eight_other k = record {
 
 -- the registers that operations use
 pub keeps_five : (c e : Core) (v : ℕ) → Keeps c e → Keeps c (written e 5 v)
-keeps_five c e v k = keeps_written c e 4 v refl refl refl k
+keeps_five c e v k = keeps_written c e 4 v refl refl refl refl k
 
 pub keeps_six : (c e : Core) (v : ℕ) → Keeps c e → Keeps c (written e 6 v)
-keeps_six c e v k = keeps_written c e 5 v refl refl refl k
+keeps_six c e v k = keeps_written c e 5 v refl refl refl refl k
 
 pub keeps_seven : (c e : Core) (v : ℕ) → Keeps c e → Keeps c (written e 7 v)
-keeps_seven c e v k = keeps_written c e 6 v refl refl refl k
+keeps_seven c e v k = keeps_written c e 6 v refl refl refl refl k
+
+-- and those by which a run is ended
+pub keeps_called_off : (e : Core) (number : ℕ) → Keeps e (called_off number e)
+keeps_called_off e number = keeps_written e (written e 10 ((e.registers 0 + number) % 2 ^ 64)) 16 _ refl refl refl refl (keeps_written e e 9 _ refl refl refl refl (keeps_itself e))
 
 fault_named : (number : ℕ) (kind : Fault) → fault_of number ≡ Some kind → option_map Faulted (fault_of number) ≡ Some (Faulted kind)
 fault_named number kind is = ap (option_map Faulted) is
@@ -85,6 +92,6 @@ module _ (image : Image) (z : Sizes) where
         steps = n + 1 + 1 + 1;
         within = omega arith;
         core = called_off (suc number) e;
-        keeps = keeps_on c e (called_off (suc number) e) keeps (record { zero_register = refl; frame_register = refl; frames_left = refl; stack = refl; table = refl; cells = refl; blocks = refl; given = refl; printed = refl; arrivals = refl });
+        keeps = keeps_on c e (called_off (suc number) e) keeps (keeps_called_off e (suc number));
         ends = finishes image z (suc number) (Faulted kind) low (keeps.zero_register ∙ null) (fault_named number kind is) g;
       }

@@ -1,9 +1,13 @@
+pub mod Allocating
 pub mod Depths
 pub mod Filters
 pub mod Guards
 pub mod Marking
+pub mod Needing
 pub mod Placing
 pub mod Programs
 pub mod Registering
 pub mod Saving
+pub mod Sharing
 pub mod Telling
+pub mod Widening

@@ -6,14 +6,18 @@
 //! 3. Both for each function, as tables (`src/placed.rt`, `src/placement.rt`).
 #![tactic(auto)]
 
+mod allocation;
 mod arcs;
 mod homes;
 mod lives;
 mod marks;
+mod needs;
 mod placed;
 mod placement;
 mod registers;
 mod saved;
+mod shared;
+mod spans;
 
 pub use lives::all_lives;
 pub use placed::Placed;

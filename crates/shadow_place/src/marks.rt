@@ -12,7 +12,7 @@ use live_sets::Live;
 use std::alloc::AllocError;
 
 // Whether the location of a number is live at a point.
-fn is_live_at(live: &Live, number: u32, point: u32) -> bool
+pub(crate) fn is_live_at(live: &Live, number: u32, point: u32) -> bool
     ensures { (x : Location) → number_of x ≡ number → result ≡ is_live live.now x point }
 {
     if number % 2 == 0 {

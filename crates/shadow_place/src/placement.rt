@@ -6,9 +6,9 @@ ghost use Rattle.live_sets.specs.Liveness.{TellsLive};
 ghost use Rattle.slot_code.specs.Lowered.{IsLowered};
 ghost use Rattle.shadow_place.specs.Placement.{FewAreInRegisters, HomesAreApart, HomesAreOwn, IsAcceptedLowered, IsPlacement, TellsAllSaved, TellsLiveIn};
 
+use crate::allocation::registers_of;
 use crate::homes::{shadow_homes, variable_homes};
 use crate::placed::{FunctionHomes, Placed};
-use crate::registers::own_registers;
 use crate::saved::saved_rows;
 use bril_checker::Checked;
 use bril_tree::numbered_function::Func;
@@ -31,7 +31,7 @@ fn place_function(
     ensures { IfOk result (λ homes. IsPlacement func.now lowered.now homes) }
 {
     let graph = Graph::of_sound(alloc, func)?;
-    let registers = own_registers(alloc, lowered.slots.as_slice().len())?;
+    let registers = registers_of(alloc, func, &graph, lowered, live)?;
     let numbers = lowered.shadow_numbers.as_slice();
     Ok(FunctionHomes {
         variables: variable_homes(alloc, registers.as_slice(), lowered.variables)?,

@@ -1,8 +1,9 @@
 pub mod Counting
 pub mod Functions
+pub mod Listing
+pub mod Operands
 pub mod Places
 pub mod Points
-pub mod Listing
 pub mod Rows
 pub mod Steps
 pub mod Uses

@@ -1,4 +1,4 @@
--- The locations that an item over slots assigns, and where control goes from it.
+-- The locations that an item over slots reads and assigns, and where control goes from it.
 use Rattle.std.specs.Prelude.{ℕ, true, false, List, [], ◌∷◌, map}
 use Rattle.bril_tree.specs.Edge.{Branch, onward}
 use Rattle.bril_tree.specs.FunctionForm.{listed}
@@ -12,6 +12,22 @@ use Rattle.slot_code.specs.declared.item.SlotItem.TheVariants as item
 abbrev pub slot_location : Slot → Location
 slot_location (slot.Variable x) = Variable x
 slot_location (slot.Shadow x) = Shadow x
+
+-- the locations that an item reads
+abbrev pub slot_reads : SlotItem → List Location
+slot_reads (item.Copy dest from) = slot_location from ∷ []
+slot_reads (item.Unary operation dest operand) = Variable operand ∷ []
+slot_reads (item.Binary operation dest first second) = Variable first ∷ Variable second ∷ []
+slot_reads (item.Branch condition then_to else_to) = Variable condition ∷ []
+slot_reads (item.Call dest function args) = map Variable args
+slot_reads (item.Return value) = map Variable (listed value)
+slot_reads (item.Print args) = map (λ a. Variable a.variable) args
+slot_reads (item.Alloc dest count) = Variable count ∷ []
+slot_reads (item.Free pointer) = Variable pointer ∷ []
+slot_reads (item.Store pointer value) = Variable pointer ∷ Variable value ∷ []
+slot_reads (item.Load dest pointer) = Variable pointer ∷ []
+slot_reads (item.Guard condition abort_to) = Variable condition ∷ []
+slot_reads _ = []
 
 -- the locations that an item assigns
 abbrev pub slot_assigns : SlotItem → List Location

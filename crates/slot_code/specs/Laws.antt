@@ -8,6 +8,7 @@ use Rattle.bril_tree.specs.Accepted.{IsAccepted}
 use Rattle.bril_tree.specs.Assigned.{assigns_of}
 use Rattle.bril_tree.specs.Edge.{item_branches}
 use Rattle.bril_tree.specs.FunctionForm.{dest_is_typed, listed}
+use Rattle.bril_tree.specs.Operand.{reads_of}
 use Rattle.bril_tree.specs.Shape.{is_shaped}
 use Rattle.bril_tree.specs.State.{State}
 use Rattle.slot_code.specs.declared.item.Slot.{Slot}
@@ -16,7 +17,7 @@ use Rattle.slot_code.specs.declared.item.SlotItem.{SlotItem}
 use Rattle.slot_code.specs.declared.item.SlotItem.TheVariants.{Pass, Constant, Copy, Unary, Binary, Jump, Branch, Call, Return, Print, Alloc, Free, Store, Load, Speculate, Commit, Guard}
 use Rattle.slot_code.specs.declared.slots.SlotFunction.{SlotFunction}
 use Rattle.slot_code.specs.declared.slots.Slots.{Slots}
-use Rattle.slot_code.specs.Flow.{slot_assigns, slot_branches}
+use Rattle.slot_code.specs.Flow.{slot_assigns, slot_branches, slot_reads}
 use Rattle.slot_code.specs.Lowered.{IsLoweredFunction, lowered_item}
 use Rattle.slot_code.specs.Meaning.{slot_step}
 use Rattle.slot_code.specs.Numbering.{is_used, slot_number}
@@ -60,6 +61,10 @@ slots_used (Guard condition abort_to) = Variable condition ∷ []
 abbrev pub ItemsUseSlots : Type 0
 ItemsUseSlots = (p : Prog) (k : ℕ) (f : Func) (g : SlotFunction) → IsAccepted p → slice_get p.funcs k ≡ Some f → IsLoweredFunction f g →
     (point : ℕ) (item : SlotItem) → slice_get g.code point ≡ Some item → All (IsSlotOf g) (slots_used item)
+
+-- an item reads the locations that its instruction reads
+abbrev pub ItemsRead : Type 0
+ItemsRead = (f : Func) (item : Instr) → is_shaped (is_some f.ret) item ≡ true → dest_is_typed item ≡ true → slot_reads (lowered_item f item) ≡ reads_of item
 
 -- an item assigns the locations that its instruction assigns
 abbrev pub ItemsAssign : Type 0

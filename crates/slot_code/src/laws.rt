@@ -1,6 +1,6 @@
 // Laws of code over slots. Each function states some, and does nothing when it is called.
 
-ghost use Rattle.slot_code.specs.Laws.{ItemsAssign, ItemsGo, ItemsUseSlots, SlotsAreNumbered, SlotsHaveNumbers, StepsReadNoProgram};
+ghost use Rattle.slot_code.specs.Laws.{ItemsAssign, ItemsGo, ItemsRead, ItemsUseSlots, SlotsAreNumbered, SlotsHaveNumbers, StepsReadNoProgram};
 
 /// Each slot of a function has a number of its own: its place in the list of the function's slots, which has no others.
 pub fn slots_have_numbers()
@@ -13,8 +13,10 @@ pub fn items_use_slots()
     ensures { ItemsUseSlots }
 {}
 
-/// What an item assigns, and where control goes from it, is what its instruction assigns and where it goes from that one.
+/// What an item reads and assigns, and where control goes from it, is what its instruction reads and assigns, and where it
+/// goes from that one.
 pub fn items_are_instructions()
+    ensures read { ItemsRead }
     ensures assign { ItemsAssign }
     ensures go { ItemsGo }
 {}

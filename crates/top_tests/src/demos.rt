@@ -3,7 +3,7 @@
 use crate::lists::{Ended, call};
 use crate::passes::{boxed_pad, tally};
 use braun_ssa::Ssa;
-use bril_checker::check;
+use bril_checker::{Checked, check};
 use bril_cli::end::end;
 use bril_demo::demo_tree;
 use bril_names::number;
@@ -11,13 +11,17 @@ use bril_outside::count_sink::CountSink;
 use bril_outside::mem_files::MemFiles;
 use bril_outside::mem_sink::MemSink;
 use bril_profile::Profile;
+use bril_text::write_text;
+use bril_tree::bytes::Bytes;
 use bril_tree::limits::{End, Limits};
 use bril_tree::sequence::Seq;
 use bril_tree::text::Text;
+use bril_tree::tree::Tree;
 use coalesce::Merge;
 use constant_pass::Const;
 use dead_code::Dead;
 use pass_law::{Pass, run_list};
+use profile_text::read_profile;
 use rv64_emit::emit;
 use rv64_machine::answer::RunAnswer;
 use rv64_machine::machine::Machine;
@@ -30,7 +34,9 @@ use trace_stitcher::Stitch;
 #[test]
 fn the_demo_tells_how_many_words_the_machine_executes(rt: HostRuntime) -> Result<(), Fail> {
     let alloc = rt.alloc();
-    let ended = demo_by_words(alloc)?;
+    let mut files = MemFiles::new(alloc, Seq::new(alloc));
+    let words = ["roolvist", "demo", "1"];
+    let ended = call_shipped(alloc, words.as_slice(), &mut files)?;
     assert_eq!(rt; ended.status, 0);
     assert_eq!(rt;
         ended.out.bytes(),
@@ -55,8 +61,8 @@ fn the_demo_uses_the_passes_that_were_lent(rt: HostRuntime) -> Result<(), Fail> 
     Ok(())
 }
 
-// Calls the command line with `demo 1` and the shipped passes.
-fn demo_by_words(alloc: Global) -> Result<Ended, AllocError> {
+// Calls the command line with these words and the shipped passes.
+fn call_shipped(alloc: Global, words: &[&str], files: &mut MemFiles) -> Result<Ended, AllocError> {
     let trace: Box<dyn Pass> = Box::new(alloc, Stitch::new())?;
     let ssa: Box<dyn Pass> = Box::new(alloc, Ssa::new())?;
     let constant: Box<dyn Pass> = Box::new(alloc, Const::new())?;
@@ -66,41 +72,21 @@ fn demo_by_words(alloc: Global) -> Result<Ended, AllocError> {
     let tidy: Box<dyn Pass> = Box::new(alloc, Tidy::new())?;
     let mut passes = [trace, ssa, constant, dead, unssa, merge, tidy];
     let passes = passes.as_mut_slice();
-    let mut files = MemFiles::new(alloc, Seq::new(alloc));
-    let mut words = Seq::new(alloc);
-    for word in ["roolvist", "demo", "1"] {
-        words.push(Text::of(alloc, word)?)?;
+    let mut given = Seq::new(alloc);
+    for word in words {
+        given.push(Text::of(alloc, word)?)?;
     }
     let mut out = MemSink::new(alloc, 4096, Seq::new(alloc))?;
     let mut err = MemSink::new(alloc, 4096, Seq::new(alloc))?;
-    let status = end(alloc, Ok(words), &mut files, &mut out, &mut err, passes);
+    let status = end(alloc, Ok(given), files, &mut out, &mut err, passes);
     Ok(Ended { status, out, err })
 }
 
 // How many words the machine executes on the image of what the passes of the demo make of the demo program of one function.
 fn demo_by_calls(alloc: Global) -> Option<u64> {
     let tree = demo_tree(alloc, 1).ok()?;
-    if !tree.imports.as_slice().is_empty() {
-        return None;
-    }
-    let prog = number(alloc, &tree).ok()?;
-    if !prog.is_counted() {
-        return None;
-    }
-    let checked = check(alloc, prog).ok()?;
-    let constant: Box<dyn Pass> = Box::new(alloc, Const::new()).ok()?;
-    let dead: Box<dyn Pass> = Box::new(alloc, Dead::new()).ok()?;
-    let tidy: Box<dyn Pass> = Box::new(alloc, Tidy::new()).ok()?;
-    let mut passes = [constant, dead, tidy];
-    let mut names = Seq::new(alloc);
-    names.push(Text::of(alloc, "const").ok()?).ok()?;
-    names.push(Text::of(alloc, "dead").ok()?).ok()?;
-    names.push(Text::of(alloc, "tidy").ok()?).ok()?;
-    if names.as_slice().len() > 64 {
-        return None;
-    }
-    let profile = Profile::without_entries(alloc);
-    let made = run_list(alloc, passes.as_mut_slice(), &names, checked, &profile).ok()?;
+    let profile = recorded_profile(alloc, &tree)?;
+    let made = made_by_calls(alloc, &tree, &profile)?;
     let limits = Limits {
         frames: 8192,
         cells: 1_048_576,
@@ -114,4 +100,53 @@ fn demo_by_calls(alloc: Global) -> Option<u64> {
         RunAnswer::End(End::Ended) => Some(machine.done()),
         _ => None,
     }
+}
+
+// The profile that `record` writes of a tree's run, with the numbers of the demo. It has some entries.
+fn recorded_profile(alloc: Global, tree: &Tree) -> Option<Profile> {
+    let mut text = Bytes::new(alloc);
+    write_text(tree, &mut text).ok()?;
+    let mut files = MemFiles::new(alloc, Seq::new(alloc));
+    let path = Text::of(alloc, "demo.bril").ok()?;
+    files.add(&path, text.as_slice()).ok()?;
+    let words = [
+        "roolvist",
+        "record",
+        "demo.bril",
+        "--hot=16",
+        "--most=64",
+        "--steps=1000000000000",
+    ];
+    let ended = call_shipped(alloc, words.as_slice(), &mut files).ok()?;
+    let profile = read_profile(alloc, ended.out.bytes()).ok()?;
+    if profile.entries.as_slice().is_empty() {
+        return None;
+    }
+    Some(profile)
+}
+
+// What the passes of the demo make of a tree's program, with a profile.
+fn made_by_calls(alloc: Global, tree: &Tree, profile: &Profile) -> Option<Checked> {
+    if !tree.imports.as_slice().is_empty() {
+        return None;
+    }
+    let prog = number(alloc, tree).ok()?;
+    if !prog.is_counted() {
+        return None;
+    }
+    let checked = check(alloc, prog).ok()?;
+    let trace: Box<dyn Pass> = Box::new(alloc, Stitch::new()).ok()?;
+    let constant: Box<dyn Pass> = Box::new(alloc, Const::new()).ok()?;
+    let dead: Box<dyn Pass> = Box::new(alloc, Dead::new()).ok()?;
+    let tidy: Box<dyn Pass> = Box::new(alloc, Tidy::new()).ok()?;
+    let mut passes = [trace, constant, dead, tidy];
+    let mut names = Seq::new(alloc);
+    names.push(Text::of(alloc, "trace").ok()?).ok()?;
+    names.push(Text::of(alloc, "const").ok()?).ok()?;
+    names.push(Text::of(alloc, "dead").ok()?).ok()?;
+    names.push(Text::of(alloc, "tidy").ok()?).ok()?;
+    if names.as_slice().len() > 64 {
+        return None;
+    }
+    run_list(alloc, passes.as_mut_slice(), &names, checked, profile).ok()
 }

@@ -1,14 +1,15 @@
-// `demo`: the demo program is made into machine words, which the machine executes.
+// `demo`: the demo program is recorded, and made into machine words, which the machine executes.
 
 ghost use Rattle.std.specs.Fmt.{decimal};
 ghost use Rattle.std.specs.Prelude.{◌≡◌, ◌≤◌, ◌⊎◌, [], ◌++◌, length, IfOk, OnOk, Some};
-ghost use Rattle.bril_cli.specs.Demo.{CountsPrinted, shows_line, size_seen};
+ghost use Rattle.bril_cli.specs.Demo.{CountsPrinted, DoesRecorded, shows_line, size_seen};
 ghost use Rattle.bril_cli.specs.Machines.{IsFresh};
 ghost use Rattle.bril_commands.specs.Command.{AreLimitsOf, ImageFor, RefusesEmission};
-ghost use Rattle.bril_commands.specs.Driver.{DoesGiven, IsSilent};
+ghost use Rattle.bril_commands.specs.Driver.{IsSilent};
 ghost use Rattle.bril_commands.specs.Outcome.{Works};
 ghost use Rattle.bril_commands.specs.PassList.{pass_list};
-ghost use Rattle.bril_commands.specs.commands.Demo.{MadeRuns, demo_cells, demo_frames, demonstrated, demonstrates, line_of, shown_status, size_of, words_told};
+ghost use Rattle.bril_commands.specs.Recording.{AreRecorded};
+ghost use Rattle.bril_commands.specs.commands.Demo.{MadeRuns, demo_cells, demo_frames, demo_hot, demo_most, demo_words, demonstrated, line_of, shown_status, size_of, words_told};
 ghost use Rattle.bril_demo.specs.Demo.{demo_tree};
 ghost use Rattle.bril_report.specs.StageFaults.{status_of};
 ghost use Rattle.bril_report.specs.Telling.{Telling};
@@ -26,6 +27,7 @@ ghost use Rattle.rv64_words.specs.Region.{most_words, most_stack};
 use crate::image::image_of;
 use crate::listed_passes::ListedPasses;
 use bril_checker::Checked;
+use bril_commands::commands::recording::{RecordSettings, recorded_run};
 use bril_commands::list::transformed;
 use bril_commands::output::hand_on;
 use bril_outside::count_sink::CountSink;
@@ -41,13 +43,19 @@ use rv64_machine::machine::Machine;
 use rv64_words::image::Image;
 use std::alloc::{AllocError, Global};
 
-// The most words that are executed.
+// The most words that are executed, and the most steps that are recorded.
 const WORDS: u64 = 1_000_000_000_000;
 
 // The limits of the run.
 const FRAMES: u32 = 8_192;
 
 const CELLS: u32 = 1_048_576;
+
+// So many arrivals make a label hot.
+const HOT: u32 = 16;
+
+// The most entries of the profile.
+const MOST: u32 = 64;
 
 /// Of a demo of so many functions, how many functions and items its program has.
 #[derive(Clone, Copy, Drop)]
@@ -57,8 +65,9 @@ pub struct DemoCounts {
     pub items: u64,
 }
 
-/// Gives the demo program of so many functions to the list of passes, and runs what this makes on the machine, for 10^12 words, with
-/// 8,192 frames and 1,048,576 cells. What it prints is counted alone. Its line goes to the output by one put: how many functions and
+/// Records the run of the demo program of so many functions, for 10^12 steps with 8,192 frames and 1,048,576 cells, where 16 arrivals make
+/// a label hot and the profile has 64 entries at most. Gives the program to the list of passes with this profile, and runs what this makes
+/// on the machine, for 10^12 words and with as many frames and cells. What it prints is counted alone. Its line goes to the output by one put: how many functions and
 /// items the program has, how many bytes it printed, and 0, or 2 where it stopped with a fault. Where it has ended, the number of words
 /// that were executed is told on the error output.
 ///
@@ -74,13 +83,29 @@ pub fn demo<O: Sink, E: Sink>(
 ) -> Result<(), Status>
     requires { Numbered (demo_tree functions) checked.prog }
     ensures same_boxes { passes.new.boxes.ghost_name ≡ passes.old.boxes.ghost_name }
-    ensures does { Telling O.seen E.seen (λ told s t. DoesGiven (demonstrates functions) (status_of result) (pass_list (λ p. meaning p) (λ p. counts p) passes.old.boxes.now passes.new.boxes.now passes.old.names.now) [] checked.prog [] told s t) outputs.old outputs.new }
+    ensures does { Telling O.seen E.seen (λ told s t. DoesRecorded functions (status_of result) (pass_list (λ p. meaning p) (λ p. counts p) passes.old.boxes.now passes.new.boxes.now passes.old.names.now) checked.prog told s t) outputs.old outputs.new }
     ensures same { AllSame (λ p. meaning p) passes.old.boxes.now passes.new.boxes.now }
 {
     let counts = counts_of(functions, checked.prog());
-    let profile = Profile::without_entries(alloc);
+    let profile = own_profile(alloc, &checked)?;
     let made = transformed(alloc, passes.boxes, passes.names, checked, &profile)?;
     run_made(alloc, counts, &made, outputs)
+}
+
+// The profile of the run of a demo's program.
+fn own_profile(alloc: Global, checked: &Checked) -> Result<Profile, AllocError>
+    requires { FitMain checked.now.prog [] }
+    ensures { IfOk result (λ profile. AreRecorded checked.now.prog [] demo_frames demo_cells demo_words demo_hot demo_most profile.entries) }
+{
+    let limits = demo_limits();
+    let settings = RecordSettings {
+        limits,
+        steps: WORDS,
+        hot: HOT,
+        most: MOST,
+    };
+    let run = recorded_run(alloc, checked, &[], settings)?;
+    Ok(run.profile)
 }
 
 // The counts of the program of a demo.

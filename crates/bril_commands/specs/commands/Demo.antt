@@ -1,4 +1,4 @@
--- `demo`: the demo program is compiled and run.
+-- `demo`: the demo program is recorded, compiled with the profile of this run, and run.
 use Rattle.std.specs.Fmt.{decimal}
 use Rattle.std.specs.Prelude.{ℕ, ◌≡◌, ◌^◌, ◌-◌, min, true, false, List, [], ◌∷◌, ◌++◌, length, Option, Some, None, codes}
 use Rattle.bril_outside.specs.Sink.{joined}
@@ -11,7 +11,7 @@ use Rattle.bril_tree.specs.declared.program.Prog.{Prog}
 use Rattle.rv64_implements.specs.Implements.{image_after}
 use Rattle.bril_commands.specs.Command.{Demo, OfProgram, NoArguments, ImageFor, Subject}
 use Rattle.bril_commands.specs.Outcome.{Outcome}
-use Rattle.bril_commands.specs.Profiles.{NoProfile}
+use Rattle.bril_commands.specs.Profiles.{OwnRun}
 use Rattle.bril_commands.specs.commands.Run.{Executes, RunShows}
 
 -- ---- its limits
@@ -22,9 +22,16 @@ demo_frames = 8192
 abbrev pub demo_cells : ℕ
 demo_cells = 1048576
 
--- the most words that are executed
+-- the most words that are executed, and the most steps that are recorded
 abbrev pub demo_words : ℕ
 demo_words = 1000000000000
+
+-- so many arrivals make a label hot, and the profile has so many entries at most
+abbrev pub demo_hot : ℕ
+demo_hot = 16
+
+abbrev pub demo_most : ℕ
+demo_most = 64
 
 -- ---- its line
 
@@ -102,12 +109,12 @@ SourceRuns on ended printed words =
     (runs : RunShows on.source on.made on.IsFactor on.AreEnough [] demo_frames demo_cells demo_words false ended [] printed)
     × (words ≡ (image_after runs.executes.shows.machine.image runs.limits [] demo_words).done)
 
--- The demo of so many functions is given to its list of passes, and the image of what this makes is run.
+-- The demo of so many functions is given to its list of passes, with the profile of its own run, and the image of what this makes is run.
 abbrev pub demonstrates : (functions : ℕ) → OfProgram
 demonstrates functions = record {
   origin = Demo functions;
   arguments = NoArguments;
-  profile = NoProfile;
+  profile = OwnRun demo_frames demo_cells demo_words demo_hot demo_most;
   takes_passes = true;
   emission = ImageFor demo_frames demo_cells;
   outcome = λ on. demonstrated (size_of functions on.source) (SourceRuns on);

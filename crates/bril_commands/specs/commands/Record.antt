@@ -1,7 +1,6 @@
 -- `record`: an accepted program is interpreted with the arguments that the words spell, and the profile of the run is written.
-use Rattle.std.specs.Prelude.{ℕ, zero, suc, ◌≡◌, false, List, [], ◌∷◌, ◌++◌, Option, Some, None}
+use Rattle.std.specs.Prelude.{ℕ, ◌≡◌, false, List, [], ◌∷◌, Option}
 use Rattle.bril_tree.specs.Run.{state_after}
-use Rattle.bril_tree.specs.State.{State}
 use Rattle.bril_tree.specs.declared.limits.End.{End}
 use Rattle.bril_tree.specs.declared.limits.Limits.{Limits}
 use Rattle.bril_tree.specs.declared.program.Prog.{Prog}
@@ -11,18 +10,7 @@ use Rattle.trace_recorder.specs.Recorded.{recorded}
 use Rattle.bril_commands.specs.Command.{LinkedFiles, OfProgram, OfMain, NoImage}
 use Rattle.bril_commands.specs.Outcome.{Outcome}
 use Rattle.bril_commands.specs.Profiles.{NoProfile}
-
--- ---- the run
-
--- the state before a step that is made: it hasn't ended
-abbrev pub before_step : Option End → State → List State
-before_step None s = s ∷ []
-before_step (Some end) s = []
-
--- the states of a program's run before each step that is made, so many steps at most, the first first
-abbrev pub states_within : Prog → Limits → List Value → (steps : ℕ) → List State
-states_within p limits values zero = []
-states_within p limits values (suc n) = states_within p limits values n ++ before_step (state_after p limits values n).ended (state_after p limits values n)
+use Rattle.bril_commands.specs.Recording.{states_within}
 
 -- By its semantics the program, with these values, has ended so within the steps, or goes on for None, and this is the text of the
 -- profile of its run so far.

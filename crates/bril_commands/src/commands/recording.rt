@@ -4,9 +4,9 @@ ghost use Rattle.std.specs.Prelude.{◌≡◌, ◌≤◌, [], IfOk};
 ghost use Rattle.bril_commands.specs.Arguments.{AreOnlyValues, RefusesArgs};
 ghost use Rattle.bril_commands.specs.Driver.{IsSilent, Stage};
 ghost use Rattle.bril_commands.specs.Outcome.{Works};
-ghost use Rattle.bril_commands.specs.Recording.{Records};
+ghost use Rattle.bril_commands.specs.Recording.{Records, states_within};
 ghost use Rattle.bril_commands.specs.commands.Interp.{IsFresh};
-ghost use Rattle.bril_commands.specs.commands.Record.{recorded_run, states_within};
+ghost use Rattle.bril_commands.specs.commands.Record.{recorded_run};
 ghost use Rattle.bril_report.specs.StageFaults.{status_of};
 ghost use Rattle.bril_tree.specs.Run.{FitMain, state_after};
 ghost use Rattle.profile_text.specs.Form.{profile_text};
@@ -40,7 +40,7 @@ pub struct RecordSettings {
     pub most: u32,
 }
 
-// A run that was recorded: its profile, and how it ended, or that it goes on, for `None`.
+/// A run that was recorded: its profile, and how it ended, or that it goes on, for `None`.
 #[derive(Drop)]
 pub struct RecordedRun {
     pub profile: Profile,
@@ -94,8 +94,8 @@ fn text_of(alloc: Global, profile: &Profile) -> Result<Bytes, AllocError>
     Ok(text)
 }
 
-// The run of so many steps with these values.
-fn recorded_run(
+/// The run of so many steps with these values, recorded. What it prints is dropped.
+pub fn recorded_run(
     alloc: Global,
     checked: &Checked,
     values: &[Value],

@@ -31,6 +31,11 @@ pub returns-in-Emit-clause-does : goal.returns-in-Emit-clause-does
 returns-in-Emit-clause-does g c =
     rw c.in-Emit.is (record { same_output = refl; told = []; does = c.put_image.ensures.does; tells = Tells-none g.E.Sink.seen c.args.outputs.now.err })
 
+pub returns-in-Demo-clause-does : goal.returns-in-Demo-clause-does
+returns-in-Demo-clause-does g c =
+    let did = c.demo.ensures.does in
+    rw c.in-Demo.is (record { same_output = did.same_output; told = did.told; does = inr ([], refl, did.does); tells = did.tells })
+
 pub returns-in-Check-clause-does : goal.returns-in-Check-clause-does
 returns-in-Check-clause-does g c =
     let p = c.args.program.prog in

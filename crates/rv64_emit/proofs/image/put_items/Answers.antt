@@ -1,15 +1,16 @@
 use Rattle.std.proofs.Common.{arith}
+use Rattle.rv64_layout.specs.Homes.{frame_homes}
 use Rattle.rv64_layout.proofs.Placing.{starts_most, entries_most}
 use Rattle.rv64_emit.proofs.Placed.{turn, starts_are, entries_are, here_is, items_next}
 use Rattle.rv64_emit.proofs.image.put_items.Goals as goal
 
 pub put_item-requires-clause-few_starts : goal.put_item-requires-clause-few_starts
 put_item-requires-clause-few_starts c =
-    λ k. omega (arith, starts_are c.args.slots.now c.args.starts.now c.requires.starts k, starts_most c.args.slots.now k, c.requires.fits.few)
+    λ k. omega (arith, starts_are c.args.slots.now c.args.starts.now c.requires.starts k, starts_most (frame_homes c.args.slots.now) c.args.slots.now k, c.requires.fits.few)
 
 pub put_item-requires-clause-few_entries : goal.put_item-requires-clause-few_entries
 put_item-requires-clause-few_entries c =
-    λ k. omega (arith, entries_are c.args.slots.now c.args.number c.function_at-func.result.now c.function_at-func.ensures c.args.entries.now c.requires.entries k, entries_most c.args.slots.now c.args.number k, c.requires.fits.few)
+    λ k. omega (arith, entries_are c.args.slots.now c.args.number c.function_at-func.result.now c.function_at-func.ensures c.args.entries.now c.requires.entries k, entries_most (frame_homes c.args.slots.now) c.args.slots.now c.args.number k, c.requires.fits.few)
 
 pub put_item-requires-clause-fits : goal.put_item-requires-clause-fits
 put_item-requires-clause-fits c =

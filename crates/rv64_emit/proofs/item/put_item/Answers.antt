@@ -1,7 +1,7 @@
 use Rattle.std.proofs.Common.{◌+◌, ◌^◌, ◌<◌, sym, subst}
 use Rattle.std.specs.List.{AllByRecursion}
 use Rattle.slot_code.specs.Laws.{slots_used}
-use Rattle.rv64_layout.specs.Items.{slot_word}
+use Rattle.rv64_layout.specs.Homes.{slot_word}
 use Rattle.rv64_emit.proofs.Arguments.{call_arguments_fit, printed_fit}
 use Rattle.rv64_emit.proofs.item.put_item.Goals as goal
 

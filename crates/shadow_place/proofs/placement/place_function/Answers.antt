@@ -1,9 +1,9 @@
-use Rattle.std.proofs.Common.{length, map, ap, ◌∙◌}
+use Rattle.std.proofs.Common.{map, ap, ◌∙◌}
 use Rattle.std.specs.List.{range_with_len}
 use Rattle.bril_tree.proofs.Acceptance.{accepted_function, shaped_function}
 use Rattle.shadow_place.specs.declared.placed.FunctionHomes.{FunctionHomes}
-use Rattle.shadow_place.specs.Registers.{home_from, own_register}
-use Rattle.shadow_place.proofs.Placing.{own_placement}
+use Rattle.shadow_place.specs.Registers.{home_from}
+use Rattle.shadow_place.proofs.Placing.{placement_is}
 use Rattle.shadow_place.proofs.Saving.{sound_code}
 use Rattle.shadow_place.proofs.placement.place_function.Goals as goal
 
@@ -21,8 +21,7 @@ returns c =
     let g = c.args.lowered.now in
     let homes : FunctionHomes = record { variables = c.in_ok-variable_homes.field-0; shadows = c.in_ok-shadow_homes.field-0; saved = c.in_ok-saved_rows.field-0 } in
     let registers = c.in_ok-registers.registers.items in
-    own_placement f g c.requires.lowered registers homes
-    (c.in_ok-registers.ensures ∙ ap (λ slots. map own_register (range_with_len 0 (length slots))) c.as_slice.ensures)
-    (c.in_ok-variable_homes.ensures ∙ ap (λ l. map (home_from l) (range_with_len 0 g.variables)) c.as_slice-2.ensures.value)
-    (c.in_ok-shadow_homes.ensures ∙ (ap (λ l. map (home_from l) c.as_slice-numbers.result.now) c.as_slice-3.ensures.value ∙ ap (λ ns. map (home_from registers) ns) c.as_slice-numbers.ensures))
+    placement_is f g c.requires.lowered registers c.in_ok-registers.ensures homes
+    (c.in_ok-variable_homes.ensures ∙ ap (λ l. map (home_from l) (range_with_len 0 g.variables)) c.as_slice.ensures.value)
+    (c.in_ok-shadow_homes.ensures ∙ (ap (λ l. map (home_from l) c.as_slice-numbers.result.now) c.as_slice-2.ensures.value ∙ ap (λ ns. map (home_from registers) ns) c.as_slice-numbers.ensures))
     c.in_ok-saved_rows.ensures
