@@ -13,8 +13,7 @@ use Rattle.bril_tree.specs.Operand.{Location, Variable, Shadow}
 use Rattle.slot_code.specs.declared.slots.SlotFunction.{SlotFunction}
 use Rattle.slot_code.specs.Lowered.{IsLoweredFunction}
 use Rattle.slot_code.proofs.Places.{slot_place}
-use Rattle.placement_laws.specs.Homes.{HaveOwnHomes, IsHomeOf, IsInRegister, IsSlotIn, is_home_register, number_in, slot_of}
-use Rattle.placement_laws.proofs.Different.{number_one}
+use Rattle.placement_laws.specs.Homes.{IsHomeOf, IsInRegister, IsSlotIn, is_home_register, number_in, slot_of}
 use Rattle.shadow_place.specs.declared.placed.FunctionHomes.{FunctionHomes}
 use Rattle.shadow_place.specs.Registers.{AreHomeRegisters, AreOwnRegisters, home_from, home_register, own_register}
 use Rattle.shadow_place.specs.Tables.{home_if, home_of}
@@ -110,11 +109,6 @@ module _ (f : Func) (g : SlotFunction) (is : IsLoweredFunction f g) (registers :
       by : (slice_index registers (number_in g x) ≡ 0) ⊎ (slice_index registers (number_in g x) ≢ 0) → IsHomeOf g x (home_from registers (number_in g x))
       by (inl none) = subst (IsHomeOf g x) (sym (in_frame registers (number_in g x) none)) refl
       by (inr some) = subst (IsHomeOf g x) (sym (in_register registers (number_in g x) some)) (are (number_in g x) some)
-
-  pub homes_are_different : AreOwnRegisters registers → HaveOwnHomes g (home_of homes)
-  homes_are_different own x y in_x in_y same =
-      let shared = home_shared registers (number_in g x) (number_in g y) (sym (home_is x in_x) ∙ (same ∙ home_is y in_y)) in
-      number_one f g is x y in_x in_y (⊎_elim (λ e. e) (λ h. own (number_in g x) (number_in g y) h.0 h.1) shared)
 
   pub homes_in_registers : AreHomeRegisters registers → ((slot : ℕ) → slot < length g.slots → slice_index registers slot ≢ 0) → (x : Location) → IsSlotIn g x → IsInRegister (home_of homes x)
   homes_in_registers are some x in_g =
