@@ -1,8 +1,12 @@
 pub mod Held
+pub mod Hurried
+pub mod Hurries
 pub mod Known
 pub mod Lines
 pub mod Plain
 pub mod Printed
+pub mod QuickItems
 pub mod Runs
+pub mod Spots
 pub mod Steps
 pub mod Tables

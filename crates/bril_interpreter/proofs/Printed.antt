@@ -105,6 +105,11 @@ module _ (p : Prog) (limits : Limits) (bytes : List ℕ) where
   pub step-in_front : (s : State) → step p limits (in_front bytes s) ≡ in_front bytes (step p limits s)
   step-in_front s = front-running_step s.ended s
 
+  -- so are many steps
+  pub after-in_front : (n : ℕ) (s : State) → after (step p limits) n (in_front bytes s) ≡ in_front bytes (after (step p limits) n s)
+  after-in_front zero s = refl
+  after-in_front (suc n) s = ap (after (step p limits) n) (step-in_front s) ∙ after-in_front n (step p limits s)
+
 module _ (p : Prog) (limits : Limits) where
   -- a run that ended stays as it is
   pub step-ended : (s : State) (how : End) → s.ended ≡ Some how → step p limits s ≡ s

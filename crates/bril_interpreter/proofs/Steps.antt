@@ -1,5 +1,5 @@
 -- What the parts of a step leave.
-use Rattle.std.proofs.Common.{◌≡◌, ℕ, suc, List, ◌∷◌, length, Option, Some, None, Err, refl, ap, sym, ◌∙◌, subst}
+use Rattle.std.proofs.Common.{◌≡◌, ℕ, suc, ◌<◌, List, ◌∷◌, length, Option, Some, None, Err, refl, ap, sym, ◌∙◌, subst}
 use Rattle.bril_outside.specs.Sink.{SinkSeen, PutAll, PutSome, TookBy}
 use Rattle.bril_outside.proofs.SinkWrites.{TookBy-none, TookBy-pieces, FailedAfter-none}
 use Rattle.bril_tree.specs.declared.limits.Fault.{Fault}
@@ -8,10 +8,11 @@ use Rattle.bril_tree.specs.declared.limits.Limits.{Limits}
 use Rattle.bril_tree.specs.declared.program.Prog.{Prog}
 use Rattle.bril_tree.specs.declared.value.Value.{Value}
 use Rattle.bril_tree.specs.Memory.{held}
-use Rattle.bril_tree.specs.State.{Frame, Block, State}
-use Rattle.bril_tree.specs.Step.{with_frames, faulted, gives, advances, prints, line_of, advanced, with_locations, with_failure, stores, loads, loads_held}
+use Rattle.bril_tree.specs.State.{Values, Frame, Block, State}
+use Rattle.bril_tree.specs.Step.{with_frames, faulted, gives, advances, prints, line_of, advanced, with_locations, shadowed, with_failure, stores, loads, loads_held}
 use Rattle.bril_heap.specs.Heap.{load_answer, stored_or_fault, Stores}
-use Rattle.bril_interpreter.specs.Frames.{FrameView, frame_of, with_dest, HasLocation}
+use Rattle.bril_heap.proofs.Entries.{entries-set}
+use Rattle.bril_interpreter.specs.Frames.{FrameView, frame_of, with_dest, with_shadow, HasLocation}
 use Rattle.bril_interpreter.specs.Interpreter.{InterpView, count_at, state_of}
 use Rattle.bril_interpreter.specs.Line.{line_pieces}
 use Rattle.bril_interpreter.specs.Steps.{Did, Executed, CannotWrite, newest_of, older_of}
@@ -67,6 +68,13 @@ pub gives-did : (old : InterpView) (dest : Option ℕ) (v : Value) → HasLocati
     → Did old (gives old.checked.prog old.limits dest v (newest_of old) (older_of old) (state_of old)) (record old { newest = record old.newest { point = suc old.newest.point; locations = with_dest dest v old.newest.locations } })
 gives-did old dest v h =
     Did-newest old _ _ (ap (λ locations. advanced (with_locations locations (newest_of old))) (with_dest-locations dest v old.newest.locations h))
+
+-- a value for a shadow
+pub shades-did : (old : InterpView) (x : ℕ) (v : Value) → x < length old.newest.locations.shadows
+    → Did old (advances old.checked.prog old.limits (with_locations (shadowed x v (newest_of old).locations) (newest_of old)) (older_of old) (state_of old)) (record old { newest = record old.newest { point = suc old.newest.point; locations = with_shadow x v old.newest.locations } })
+shades-did old x v h =
+    Did-newest old _ _
+    (ap (λ (values : Values). advanced (with_locations (record (newest_of old).locations { shadows = values }) (newest_of old))) (entries-set old.newest.locations.shadows x v h))
 
 -- a failure of the guard at which the newest frame stands
 pub failure-did : (old : InterpView) (rows : List (List ℕ)) → count_at rows ≡ (with_failure old.checked.prog old.limits (newest_of old) (state_of old)).failures

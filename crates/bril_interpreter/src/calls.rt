@@ -1,9 +1,7 @@
 // Calls and returns.
 
-ghost use Rattle.std.specs.Prelude.{◌≡◌, suc, true, nat_lt, length, map, IfOk, OnOk, OnErr};
+ghost use Rattle.std.specs.Prelude.{◌≡◌, suc, true, nat_lt, length, IfOk, OnOk, OnErr};
 ghost use Rattle.bril_tree.specs.Operand.{dest_of};
-ghost use Rattle.bril_tree.specs.State.{read};
-ghost use Rattle.bril_heap.specs.Heap.{entries_of};
 
 use crate::frame::Frame;
 use crate::interp::Interp;
@@ -12,18 +10,14 @@ use crate::lookup::variables_of;
 use bril_tree::limits::{End, Fault};
 use bril_tree::numbered::Instr;
 use bril_tree::value::Value;
-use std::alloc::{AllocError, Global};
+use std::alloc::AllocError;
 use std::mem;
 
-// The values of variables.
-fn values_of(alloc: Global, locations: &Locals, args: &[u32]) -> Result<Vec<Value>, AllocError>
-    ensures { IfOk result (λ values. values.items ≡ map (read (entries_of locations.now.vars)) args.now) }
-{
-    let mut values = Vec::with_capacity(alloc, args.len())?;
-    for x in args {
-        values.push(locations.variable(*x))?;
+// Keeps the lists of locations for a later call, where there is room. Takes no memory.
+fn keep(spare: &mut Vec<Locals>, locations: Locals) {
+    if spare.len() < spare.capacity() {
+        spare.push_reserved(locations);
     }
-    Ok(values)
 }
 
 // The destination of an item, where it has one.
@@ -56,6 +50,7 @@ impl<'a> Interp<'a> {
             return Ok(());
         }
         let frame = self.new_frame(callee, args)?;
+        self.spare.reserve(1)?;
         self.older.reserve(1)?;
         let caller = mem::replace(&mut self.newest, frame);
         self.older.push_reserved(caller);
@@ -63,14 +58,18 @@ impl<'a> Interp<'a> {
     }
 
     // The frame of a call, with the values of these variables.
-    fn new_frame(&self, callee: u32, args: &[u32]) -> Result<Frame, AllocError>
-        ensures frame { IfOk result (λ frame. frame_of frame ≡ new_frame callee (values_in self.now args.now)) }
-        ensures form { IfOk result (λ frame. IsFrame self.now.checked.prog frame) }
+    fn new_frame(&mut self, callee: u32, args: &[u32]) -> Result<Frame, AllocError>
+        ensures same { self.new ≡ self.old }
+        ensures frame { IfOk result (λ frame. frame_of frame ≡ new_frame callee (values_in self.old args.now)) }
+        ensures form { IfOk result (λ frame. IsFrame self.old.checked.prog frame) }
     {
         let alloc = *self.older.allocator();
+        let mut locations = match self.spare.pop() {
+            Some(used) => used,
+            None => Locals::none(alloc),
+        };
         let variables = variables_of(self.checked.prog(), callee);
-        let values = values_of(alloc, self.newest.locations(), args)?;
-        let locations = Locals::start(alloc, values.as_slice(), variables)?;
+        locations.renew(self.newest.locations(), args, variables)?;
         Ok(Frame::start(alloc, callee, locations))
     }
 
@@ -81,7 +80,8 @@ impl<'a> Interp<'a> {
         match self.older.pop() {
             None => self.finish(),
             Some(caller) => {
-                self.newest = caller;
+                let done = mem::replace(&mut self.newest, caller);
+                keep(&mut self.spare, done.into_locations());
                 let dest = self.awaited();
                 self.give(dest, value);
             }

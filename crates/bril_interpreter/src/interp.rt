@@ -29,6 +29,8 @@ pub struct Interp<'a> {
     pub(crate) cells: Cells,
     pub(crate) ended: Option<End>,
     pub(crate) tables: Vec<Table>,
+    // The lists of calls that returned, for later calls.
+    pub(crate) spare: Vec<Locals>,
     pub(crate) failed: bool,
 }
 
@@ -84,6 +86,7 @@ impl<'a> Interp<'a> {
             cells: Cells::new(alloc, limits.cells),
             ended: None,
             tables: tables_of(alloc, program.funcs.as_slice())?,
+            spare: Vec::new(alloc),
             failed: false,
         })
     }
