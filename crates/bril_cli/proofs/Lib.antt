@@ -1,5 +1,3 @@
 pub mod Budgets
 pub mod Demos
-pub mod Listings
-pub mod Runs
 pub mod Shipped

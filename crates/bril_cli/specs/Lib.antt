@@ -1,5 +1,4 @@
 pub mod Demo
 pub mod End
 pub mod Images
-pub mod Machines
 pub mod Shipped

@@ -17,18 +17,19 @@ ghost use Rattle.bril_words.specs.Seen.{text_seen};
 
 use crate::commands::demo::demo;
 use crate::commands::emit::put_image;
-use crate::commands::passes::put_transformed;
-use crate::commands::run::{RunSettings, run};
+use crate::commands::run::run;
 use crate::listed_passes::ListedPasses;
 use bril_checker::Checked;
 use bril_commands::commands::check::put_counts;
 use bril_commands::commands::interp::interpret;
 use bril_commands::commands::json::put_json;
+use bril_commands::commands::passes::put_transformed;
 use bril_commands::commands::recording::{RecordSettings, put_recorded};
 use bril_commands::commands::text::put_text;
 use bril_commands::program::accepted_program;
 use bril_commands::source::{file_tree, linked_tree};
 use bril_demo::demo_tree;
+use bril_images::run::RunSettings;
 use bril_outside::files::Files;
 use bril_outside::sink::Sink;
 use bril_report::{Outputs, Status};
@@ -188,7 +189,16 @@ fn do_program<F: Files, O: Sink, E: Sink>(
             put_image(alloc, program, profile, limits, files, passes, outputs.out)
         }
         Action::Passes => {
-            put_transformed(alloc, program, request.profile, files, passes, outputs)
+            let profile = request.profile;
+            put_transformed(
+                alloc,
+                program,
+                profile,
+                files,
+                passes.boxes,
+                passes.names,
+                outputs,
+            )
         }
         Action::Check => put_counts(alloc, &program, outputs.out),
         Action::Demo { functions } => demo(alloc, functions, program, passes, outputs),

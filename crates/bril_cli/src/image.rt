@@ -26,7 +26,10 @@ pub fn image_of(alloc: Global, checked: &Checked, limits: Limits) -> Result<Imag
     ensures within { IfOk result (λ _. IsWithin checked.now.prog limits) }
     ensures err { IfErr result (λ status. RefusesImage status checked.now.prog limits) }
 {
-    emit(alloc, checked, limits).map_err(emit_status)
+    match emit(alloc, checked, limits) {
+        Ok(image) => Ok(image),
+        Err(fault) => Err(emit_status(fault)),
+    }
 }
 
 // The status of a program that gets no image.

@@ -6,5 +6,4 @@ mod driver;
 pub mod end;
 mod image;
 mod listed_passes;
-mod stats;
 pub mod top;

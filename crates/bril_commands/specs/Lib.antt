@@ -6,6 +6,7 @@ pub mod Command
 pub mod CommandLine
 pub mod Driver
 pub mod Images
+pub mod Making
 pub mod Outcome
 pub mod PassList
 pub mod Profiles

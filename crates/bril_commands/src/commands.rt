@@ -1,7 +1,8 @@
-// The commands that need no machine words and take no list of passes, a file each.
+// The commands that need no machine words, a file each.
 
 pub mod check;
 pub mod interp;
 pub mod json;
+pub mod passes;
 pub mod recording;
 pub mod text;

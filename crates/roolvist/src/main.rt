@@ -3,6 +3,7 @@
 
 ghost use Rattle.std.specs.Prelude.{◌≡◌, IfOk, IfErr, IsErrAnd};
 ghost use Rattle.std.specs.IoError.{error_kind};
+ghost use Rattle.bril_cli.specs.Shipped.{AreShipped};
 ghost use Rattle.bril_report.specs.declared.status.Status.TheVariants.{OutOfMemory};
 ghost use Rattle.roolvist.specs.Words.{AreAllOf, IsForNoWords};
 
@@ -53,17 +54,21 @@ fn with_passes(rt: &HostRuntime) -> Result<u8, AllocError> {
     let merge: Box<dyn Pass> = Box::new(alloc, Merge::new())?;
     let tidy: Box<dyn Pass> = Box::new(alloc, Tidy::new())?;
     let mut passes = [trace, ssa, constant, dead, unssa, merge, tidy];
+    carry_out(rt, passes.as_mut_slice())
+}
+
+// Does what the words of the command line ask for, with these passes. Where there is no memory for the buffer of standard output, nothing
+// is read or written.
+fn carry_out(rt: &HostRuntime, passes: &mut [Box<dyn Pass>]) -> Result<u8, AllocError>
+    requires { AreShipped (λ p. meaning p) passes.old }
+{
+    let alloc = rt.alloc();
     let words = given_words(alloc, env::args(rt));
     let mut files = OsFiles::new(rt);
     let mut out = standard_output(rt)?;
     let mut err = OsSink::new(rt.stderr());
     Ok(end::<OsFiles<HostRuntime>, OsSink<BufWriter<Stdout>>, OsSink<Stderr>>(
-        alloc,
-        words,
-        &mut files,
-        &mut out,
-        &mut err,
-        passes.as_mut_slice(),
+        alloc, words, &mut files, &mut out, &mut err, passes,
     ))
 }
 

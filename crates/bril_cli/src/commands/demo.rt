@@ -1,27 +1,23 @@
 // `demo`: the demo program is recorded, and made into machine words, which the machine executes.
 
-ghost use Rattle.std.specs.Fmt.{decimal};
-ghost use Rattle.std.specs.Prelude.{◌≡◌, ◌≤◌, ◌⊎◌, [], ◌++◌, length, IfOk, OnOk, Some};
-ghost use Rattle.bril_cli.specs.Demo.{CountsPrinted, DoesRecorded, shows_line, size_seen};
-ghost use Rattle.bril_cli.specs.Machines.{IsFresh};
+ghost use Rattle.std.specs.Prelude.{◌≡◌, ◌≤◌, ◌⊎◌, [], length, IfOk};
+ghost use Rattle.bril_cli.specs.Demo.{DoesRecorded};
 ghost use Rattle.bril_commands.specs.Command.{AreLimitsOf, ImageFor, RefusesEmission};
 ghost use Rattle.bril_commands.specs.Driver.{IsSilent};
 ghost use Rattle.bril_commands.specs.Outcome.{Works};
 ghost use Rattle.bril_commands.specs.PassList.{pass_list};
 ghost use Rattle.bril_commands.specs.Recording.{AreRecorded};
-ghost use Rattle.bril_commands.specs.commands.Demo.{MadeRuns, demo_cells, demo_frames, demo_hot, demo_most, demo_words, demonstrated, line_of, shown_status, size_of, words_told};
+ghost use Rattle.bril_commands.specs.commands.Demo.{MadeRuns, demo_cells, demo_frames, demo_hot, demo_most, demo_words, demonstrated};
 ghost use Rattle.bril_demo.specs.Demo.{demo_tree};
+ghost use Rattle.bril_images.specs.Demo.{size_seen};
 ghost use Rattle.bril_report.specs.StageFaults.{status_of};
 ghost use Rattle.bril_report.specs.Telling.{Telling};
-ghost use Rattle.bril_report.specs.Told.{Tells};
 ghost use Rattle.bril_tree.specs.Numbered.{Numbered};
 ghost use Rattle.bril_tree.specs.Run.{FitMain};
-ghost use Rattle.bril_tree.specs.Size.{IsCounted};
 ghost use Rattle.bril_tree.specs.declared.limits.Limits.{Limits};
 ghost use Rattle.pass_law.specs.Chains.{AllSame};
 ghost use Rattle.rv64_implements.specs.Implements.{Implements};
 ghost use Rattle.rv64_implements.specs.WordBounds.{IsWithin};
-ghost use Rattle.rv64_machine.specs.MachineView.{state_of};
 ghost use Rattle.rv64_words.specs.Region.{most_words, most_stack};
 
 use crate::image::image_of;
@@ -30,21 +26,16 @@ use bril_checker::Checked;
 use bril_commands::commands::recording::{RecordSettings, recorded_run};
 use bril_commands::list::transformed;
 use bril_commands::output::hand_on;
+use bril_images::demo::{DemoCounts, WORDS, count_printed, counts_of, show};
 use bril_outside::count_sink::CountSink;
 use bril_outside::sink::Sink;
 use bril_profile::Profile;
-use bril_report::{ErrorOutput, Outputs, Status, put_words};
-use bril_tree::bytes::Bytes;
-use bril_tree::limits::{End, Limits};
+use bril_report::{Outputs, Status};
+use bril_tree::limits::Limits;
 use bril_tree::program::Prog;
-use itoa::Buffer;
-use rv64_machine::answer::RunAnswer;
 use rv64_machine::machine::Machine;
 use rv64_words::image::Image;
 use std::alloc::{AllocError, Global};
-
-// The most words that are executed, and the most steps that are recorded.
-const WORDS: u64 = 1_000_000_000_000;
 
 // The limits of the run.
 const FRAMES: u32 = 8_192;
@@ -56,14 +47,6 @@ const HOT: u32 = 16;
 
 // The most entries of the profile.
 const MOST: u32 = 64;
-
-/// Of a demo of so many functions, how many functions and items its program has.
-#[derive(Clone, Copy, Drop)]
-pub struct DemoCounts {
-    pub functions: u32,
-    pub all: u64,
-    pub items: u64,
-}
 
 /// Records the run of the demo program of so many functions, for 10^12 steps with 8,192 frames and 1,048,576 cells, where 16 arrivals make
 /// a label hot and the profile has 64 entries at most. Gives the program to the list of passes with this profile, and runs what this makes
@@ -106,18 +89,6 @@ fn own_profile(alloc: Global, checked: &Checked) -> Result<Profile, AllocError>
     };
     let run = recorded_run(alloc, checked, &[], settings)?;
     Ok(run.profile)
-}
-
-// The counts of the program of a demo.
-fn counts_of(functions: u32, program: &Prog) -> DemoCounts
-    requires { IsCounted program.now }
-    ensures { size_seen result ≡ size_of functions program.now }
-{
-    DemoCounts {
-        functions,
-        all: program.funcs.as_slice().len() as u64,
-        items: program.size(),
-    }
 }
 
 // Makes the image of what the passes made, and runs it.
@@ -171,90 +142,5 @@ fn run_image<O: Sink, E: Sink>(
             hand_on(outputs.out)?;
             Err(Status::Spent { steps: WORDS })
         }
-    }
-}
-
-// Executes the image, and counts what it prints. How the machine ended, or that it goes on, for `None`.
-fn count_printed(
-    image: &Image,
-    program: &Prog,
-    limits: Limits,
-    machine: &mut Machine,
-    printed: &mut CountSink,
-) -> Option<End>
-    requires implements { Implements image.now program.now limits }
-    requires fits { FitMain program.now [] }
-    requires fresh { IsFresh machine.old image.now limits [] }
-    requires none { printed.old ≡ record { amount = Some 0; puts = Some 0 } }
-    ensures { CountsPrinted program.now limits result (state_of machine.new).done printed.new }
-{
-    match machine.run(WORDS, printed) {
-        RunAnswer::End(end) => Some(end),
-        RunAnswer::Spent => None,
-        RunAnswer::WriteFault => unreachable!(),
-        RunAnswer::Trap(_) => unreachable!(),
-    }
-}
-
-// Puts the line of a demo that printed so many bytes and ended so, and tells how many words were executed.
-fn show<O: Sink, E: Sink>(
-    alloc: Global,
-    counts: DemoCounts,
-    bytes: u64,
-    end: End,
-    words: u64,
-    outputs: &mut Outputs<'_, '_, O, E>,
-) -> Result<(), Status>
-    ensures { Telling O.seen E.seen (λ told s t. Works (shows_line (size_seen counts) bytes end words) (status_of result) told s t) outputs.old outputs.new }
-{
-    let line = demo_line(alloc, counts, bytes, end)?;
-    outputs.out.put(line.as_slice())?;
-    hand_on(outputs.out)?;
-    tell_words(end, words, &mut outputs.err);
-    Ok(())
-}
-
-// Tells the number of words where the program has ended.
-fn tell_words<E: Sink>(end: End, words: u64, err: &mut ErrorOutput<'_, E>)
-    ensures { Tells E.seen err.old (words_told end words) err.new }
-{
-    match end {
-        End::Ended => put_words(err, words),
-        End::Faulted(_) => {}
-    }
-}
-
-// The line of a demo that printed so many bytes and ended so.
-fn demo_line(alloc: Global, counts: DemoCounts, bytes: u64, end: End) -> Result<Bytes, AllocError>
-    ensures { IfOk result (λ line. line ≡ line_of (size_seen counts) bytes end) }
-{
-    let mut line = Bytes::new(alloc);
-    line.add(b"demo ")?;
-    add_count(&mut line, counts.functions as u64, b": ")?;
-    add_count(&mut line, counts.all, b" functions, ")?;
-    add_count(&mut line, counts.items, b" items, ")?;
-    add_count(&mut line, bytes, b" bytes, status ")?;
-    line.add(shown_status(end))?;
-    line.add(b"\n")?;
-    Ok(line)
-}
-
-// Adds a number, and a text after it.
-fn add_count(line: &mut Bytes, number: u64, text: &[u8]) -> Result<(), AllocError>
-    ensures { OnOk result (line.new ≡ line.old ++ decimal number ++ text.now) }
-{
-    let mut buffer = Buffer::new();
-    line.add(buffer.format(number).as_bytes())?;
-    line.add(text)?;
-    Ok(())
-}
-
-// How the demo's program ended, by a number.
-fn shown_status(end: End) -> &'static [u8]
-    ensures { result.now ≡ shown_status end }
-{
-    match end {
-        End::Ended => b"0",
-        End::Faulted(_) => b"2",
     }
 }

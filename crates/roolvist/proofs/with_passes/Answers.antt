@@ -3,42 +3,41 @@ use Rattle.bril_cli.proofs.Shipped.{boxes-shipped}
 use Rattle.pass_law.proofs.Same.{SameMeaning-refl}
 use Rattle.roolvist.proofs.with_passes.Goals as goal
 
-pub end-requires : goal.end-requires
-end-requires c = record {
-  shipped = boxes-shipped _ _ _ c.as_mut_slice.ensures.value (
-    _,
-    c.into_dyn_box.ensures.0,
-    (λ p a x. SameMeaning-refl _),
-    (
+pub carry_out-requires : goal.carry_out-requires
+carry_out-requires c =
+    boxes-shipped _ _ _ c.as_mut_slice.ensures.value (
       _,
-      c.into_dyn_box-in_ok-new-2.ensures.0,
+      c.into_dyn_box.ensures.0,
       (λ p a x. SameMeaning-refl _),
       (
         _,
-        c.into_dyn_box-in_ok-new-3.ensures.0,
+        c.into_dyn_box-in_ok-new-2.ensures.0,
         (λ p a x. SameMeaning-refl _),
         (
           _,
-          c.into_dyn_box-in_ok-new-4.ensures.0,
+          c.into_dyn_box-in_ok-new-3.ensures.0,
           (λ p a x. SameMeaning-refl _),
           (
             _,
-            c.into_dyn_box-in_ok-new-5.ensures.0,
+            c.into_dyn_box-in_ok-new-4.ensures.0,
             (λ p a x. SameMeaning-refl _),
             (
               _,
-              c.into_dyn_box-in_ok-new-6.ensures.0,
+              c.into_dyn_box-in_ok-new-5.ensures.0,
               (λ p a x. SameMeaning-refl _),
               (
                 _,
-                c.into_dyn_box-in_ok-new-7.ensures.0,
+                c.into_dyn_box-in_ok-new-6.ensures.0,
                 (λ p a x. SameMeaning-refl _),
-                tt,
+                (
+                  _,
+                  c.into_dyn_box-in_ok-new-7.ensures.0,
+                  (λ p a x. SameMeaning-refl _),
+                  tt,
+                ),
               ),
             ),
           ),
         ),
       ),
-    ),
-  );
-}
+    )

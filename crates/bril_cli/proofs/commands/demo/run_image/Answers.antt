@@ -5,8 +5,8 @@ use Rattle.bril_commands.proofs.Works.{Shows-flushed, Shows-unflushed}
 use Rattle.bril_commands.specs.commands.Demo.{MadeRuns, demonstrated}
 use Rattle.bril_report.proofs.Telling.{Tells-none}
 use Rattle.bril_report.specs.StageFaults.{status_of}
-use Rattle.bril_cli.proofs.Demos.{goes_on, line_works}
-use Rattle.bril_cli.specs.Demo.{size_seen}
+use Rattle.bril_images.proofs.Demos.{goes_on, line_works}
+use Rattle.bril_images.specs.Demo.{size_seen}
 use Rattle.bril_cli.proofs.commands.demo.run_image.Goals as goal
 
 pub new-requires-clause-args : goal.new-requires-clause-args

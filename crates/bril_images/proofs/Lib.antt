@@ -1,0 +1,3 @@
+pub mod Demos
+pub mod Listings
+pub mod Runs
