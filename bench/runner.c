@@ -70,7 +70,7 @@ static void end(unsigned long number)
     stop(100);
 }
 
-static void trap(int sig, siginfo_t *info, void *at)
+void trap(int sig, siginfo_t *info, void *at)
 {
     ucontext_t *c = at;
     unsigned long *r = c->uc_mcontext.__gregs;
@@ -78,8 +78,7 @@ static void trap(int sig, siginfo_t *info, void *at)
     (void)info;
     if (!started) {
         started = 1;
-        for (int k = 1; k < 32; k++)
-            if (k != 3 && k != 4) r[k] = 0; /* the C library keeps these two */
+        for (int k = 1; k < 32; k++) r[k] = 0;
         r[2] = (unsigned long)stack;
         r[0] = (unsigned long)code;
         return;
@@ -98,6 +97,23 @@ static void trap(int sig, siginfo_t *info, void *at)
     r[0] += 4;
 }
 
+/* The image has values of its own in registers 3 and 4, in which the C library has the address of its data and of its thread:
+ * a trap begins with theirs. Those of the image come back with the other registers when the trap has ended. */
+unsigned long thread;
+
+void enter(int sig, siginfo_t *info, void *at);
+
+__asm__(".text\n"
+        ".globl enter\n"
+        "enter:\n"
+        ".option push\n"
+        ".option norelax\n"
+        "lla gp, __global_pointer$\n"
+        "lla tp, thread\n"
+        "ld tp, 0(tp)\n"
+        ".option pop\n"
+        "tail trap\n");
+
 static void *region(unsigned long at, unsigned long size)
 {
     return mmap((void *)at, size, PROT_READ | PROT_WRITE, MAP_PRIVATE | MAP_ANONYMOUS | MAP_NORESERVE | (at ? MAP_FIXED : 0), -1, 0);
@@ -107,7 +123,7 @@ int main(int argc, char **argv)
 {
     static unsigned char own_stack[65536];
     stack_t own = { .ss_sp = own_stack, .ss_size = sizeof own_stack };
-    struct sigaction act = { .sa_sigaction = trap, .sa_flags = SA_SIGINFO | SA_ONSTACK };
+    struct sigaction act = { .sa_sigaction = enter, .sa_flags = SA_SIGINFO | SA_ONSTACK };
     FILE *file = fopen(argv[1], "r");
     unsigned word, count = 0;
     if (!file) return 102;
@@ -123,6 +139,7 @@ int main(int argc, char **argv)
     mprotect(code, CODE_BYTES, PROT_READ | PROT_EXEC);
     __builtin___clear_cache((char *)code, (char *)code + CODE_BYTES);
     for (int k = 4; k < argc; k++) stack[2 + k - 4] = strtol(argv[k], 0, 10);
+    __asm__ volatile("mv %0, tp" : "=r"(thread));
     sigaltstack(&own, 0);
     sigaction(SIGTRAP, &act, 0);
     __asm__ volatile("ebreak");

@@ -11,6 +11,12 @@
 //                            sites, the newest first, and where the edges to it come from
 //     live SOURCE            of each point of the first function the variables and the shadows that are live there
 //     placed SOURCE          the home of each location of the first function, and for each level what speculations save there
+//     counted TIMES COUNT PIECE|PIECE|..
+//                            of the first function how many locations are in registers and in words of the frame, and how many are
+//                            saved at each level, where the source is these pieces, each second one COUNT times with its number,
+//                            from 0, for `\#`; placed so many times, for a clock
+//     groups SOURCE          the words of the image of the source's program with which groups begin, each by its number and the name
+//                            of the group
 //     constants SOURCE       the table of constants of the first function: what each variable and its shadow hold, and which points
 //                            are reached
 //     steps SOURCE           the words of each function's frame; each step of the run of `main`: the answer, where the run then
@@ -32,7 +38,9 @@
 #![tactic(auto)]
 
 mod constants;
+mod counted;
 mod graph;
+mod groups;
 mod live;
 mod machine;
 mod placed;

@@ -36,8 +36,8 @@ pub fn add_placed(alloc: Global, source: &[u8], shown: &mut Vec<u8>) -> Result<(
     Ok(())
 }
 
-// The place that a slot is.
-fn place_of(slot: Slot) -> Place {
+/// The place that a slot is.
+pub fn place_of(slot: Slot) -> Place {
     match slot {
         Slot::Variable(x) => Place::Var(x),
         Slot::Shadow(x) => Place::Shadow(x),

@@ -3,7 +3,9 @@
 ghost use Rattle.std.specs.Prelude.{◌<◌, ◌^◌, length};
 
 use crate::constants::add_constants;
+use crate::counted::add_counted;
 use crate::graph::add_graph;
+use crate::groups::add_groups;
 use crate::live::add_live;
 use crate::machine::{add_run, add_word};
 use crate::placed::add_placed;
@@ -29,6 +31,7 @@ pub fn add_row(alloc: Global, line: &str, shown: &mut Vec<u8>) -> Result<(), Lin
         "decode" => add_word(alloc, rest, shown),
         "machine" => add_run(alloc, rest, shown),
         "count" => add_counts(alloc, rest, shown),
+        "counted" => add_counted(alloc, rest, shown),
         "record" => add_record(alloc, rest, shown),
         "ssa" => add_ssa(alloc, rest, shown),
         _ => {
@@ -61,6 +64,7 @@ fn add_answer(
         "tokens" => add_tokens(alloc, source, shown),
         "numbered" => add_numbered(alloc, source, shown),
         "graph" => add_graph(alloc, source, shown),
+        "groups" => add_groups(alloc, source, shown),
         "live" => add_live(alloc, source, shown),
         "placed" => add_placed(alloc, source, shown),
         "constants" => add_constants(alloc, source, shown),

@@ -1,9 +1,9 @@
--- A location that is live somewhere is a slot of its function.
-use Rattle.std.proofs.Common.{◌≡◌, ℕ, ◌<◌, true, List, [], ◌∷◌, length, map, Option, Some, None, refl, sym, ap, ◌∙◌, subst, arith, inl, inr}
+-- A location that is live somewhere is a slot of its function, and a point where one is live is an item's.
+use Rattle.std.proofs.Common.{◌≡◌, ℕ, ◌<◌, ◌≤◌, true, List, [], ◌∷◌, length, map, Option, Some, None, refl, sym, ap, ◌∙◌, subst, arith, inl, inr}
 use Rattle.std.specs.Prelude.{All, is_some, option_map, slice_get, slice_index}
 use Rattle.std.specs.List.{Contains}
 use Rattle.std.proofs.lemmas.Bool.{false≢true}
-use Rattle.std.proofs.lemmas.Option.{slice_get-map}
+use Rattle.std.proofs.lemmas.Option.{slice_get-map, slice_get_within}
 use Rattle.bril_tree.specs.declared.numbered.Instr.{Instr}
 use Rattle.bril_tree.specs.declared.numbered.Instr.TheVariants.{Label, Const, Act}
 use Rattle.bril_tree.specs.declared.numbered_function.Func.{Func}
@@ -12,15 +12,19 @@ use Rattle.bril_tree.specs.declared.operation.Op.TheVariants as op
 use Rattle.bril_tree.specs.declared.program.Prog.{Prog}
 use Rattle.bril_tree.specs.declared.types.Ty.{Ty}
 use Rattle.bril_tree.specs.Accepted.{IsAccepted}
+use Rattle.bril_tree.specs.Edge.{Branch, branches_at}
 use Rattle.bril_tree.specs.FunctionForm.{listed}
+use Rattle.bril_tree.specs.Leaving.{Leaves}
 use Rattle.bril_tree.specs.Live.{IsLive, Here, Later}
 use Rattle.bril_tree.specs.Membership.{In}
 use Rattle.bril_tree.specs.Operand.{Location, Variable, Shadow, reads_of}
 use Rattle.bril_tree.specs.Shape.{is_action_shaped}
 use Rattle.bril_tree.proofs.Acceptance.{accepted_function, shaped_at}
+use Rattle.bril_tree.proofs.Branches.{branch_at_item}
 use Rattle.bril_tree.proofs.Elements.{All-at, in_index}
 use Rattle.bril_tree.proofs.Formed.{variable_below}
 use Rattle.bril_tree.proofs.Members.{in_append_right, in_contains, in_map_source}
+use Rattle.bril_tree.proofs.Replays.{sites-inside}
 use Rattle.slot_code.specs.declared.item.Slot.TheVariants as slot
 use Rattle.slot_code.specs.declared.slots.SlotFunction.{SlotFunction}
 use Rattle.slot_code.specs.Laws.{IsSlotOf, slots_used}
@@ -28,6 +32,16 @@ use Rattle.slot_code.specs.Lowered.{IsLoweredFunction, lowered_item}
 use Rattle.slot_code.proofs.Uses.{items_use_slots}
 use Rattle.type_soundness.proofs.Locals.{counted}
 use Rattle.placement_laws.specs.Homes.{slot_of}
+
+-- a branch leaves from an item
+leaves_within : (code : List Instr) (point : ℕ) (branch : Branch) → Leaves code point branch → point ≤ length code
+leaves_within code point branch (inl plain) = let less = branch_at_item code point branch (in_contains branch (branches_at code point) plain.0) in omega arith
+leaves_within code point branch (inr aborts) = let less = sites-inside code aborts.walk aborts.is 0 point (ap (λ sites. slice_get sites 0) aborts.sites) in omega arith
+
+-- a location is live at points of the function alone
+pub live_within : (code : List Instr) (x : Location) (point : ℕ) → IsLive code x point → point ≤ length code
+live_within code x point (Here _ item at reads) = let less = slice_get_within code point item at in omega arith
+live_within code x point (Later _ branch leaves none live) = leaves_within code point branch leaves
 
 module _ (p : Prog) (k : ℕ) (f : Func) (g : SlotFunction) (accepted : IsAccepted p) (there : slice_get p.funcs k ≡ Some f) (is : IsLoweredFunction f g) where
   -- what is among the arguments of an item is a slot

@@ -1,8 +1,9 @@
 -- Which homes a location of a function may have.
-use Rattle.std.specs.Prelude.{◌≡◌, ℕ, ◌+◌, ◌<◌, ◌==◌, ◌&&◌, ◌||◌, Bool, IsTrue, nat_le}
+use Rattle.std.specs.Prelude.{◌≡◌, ℕ, ◌+◌, ◌<◌, IsTrue}
 use Rattle.bril_tree.specs.declared.home.Home.{Home}
 use Rattle.bril_tree.specs.declared.home.Home.TheVariants.{Reg, Frame}
 use Rattle.bril_tree.specs.Operand.{Location, Variable, Shadow}
+use Rattle.rv64_stretches.specs.Core.{is_home_register}
 use Rattle.slot_code.specs.declared.item.Slot.{Slot}
 use Rattle.slot_code.specs.declared.item.Slot.TheVariants as slot
 use Rattle.slot_code.specs.declared.slots.SlotFunction.{SlotFunction}
@@ -25,10 +26,6 @@ number_in g x = slot_number g.shadow_numbers (slot_of x)
 -- the word of the frame that is its own
 abbrev pub own_word : SlotFunction → Location → ℕ
 own_word g x = 2 + number_in g x
-
--- The registers in which locations may be: 3, 4, 9, 11 to 16 and 18 to 31. The others have uses of their own.
-abbrev pub is_home_register : ℕ → Bool
-is_home_register r = (r == 3) || ((r == 4) || ((r == 9) || ((nat_le 11 r && nat_le r 16) || (nat_le 18 r && nat_le r 31))))
 
 -- A location is in its own word of the frame, or in a register; a call keeps the register in that word, which then has a
 -- number below 256.

@@ -15,10 +15,15 @@ use Rattle.slot_code.specs.declared.slots.SlotFunction.{SlotFunction}
 use Rattle.slot_code.specs.Lowered.{IsLoweredFunction}
 use Rattle.placement_laws.specs.Homes.{HaveOwnHomes, IsSlotIn}
 use Rattle.placement_laws.specs.Open.{LeadsOut}
-use Rattle.placement_laws.specs.Placed.{IsPlaced}
+use Rattle.placement_laws.specs.Placed.{IsPlaced, LiveApart}
 use Rattle.placement_laws.specs.Saved.{IsSaved}
 use Rattle.placement_laws.specs.Search.{AreGuards, AreOpenArcs}
 use Rattle.placement_laws.specs.Spans.{AreSeparate, AreSpans, Span}
+
+-- homes that only locations share whose spans don't meet, which is so of homes of which no two are one
+abbrev pub SeparateHomesAreApart : Type 0
+SeparateHomesAreApart = (p : Prog) (k : ℕ) (f : Func) (g : SlotFunction) → IsAccepted p → slice_get p.funcs k ≡ Some f → IsLoweredFunction f g →
+    (homes : Location → Home) (spans : Location → Span) → AreSpans f.code f.args spans → AreSeparate (IsSlotIn g) spans homes → LiveApart f.code homes
 
 -- homes that only locations share whose spans don't meet
 abbrev pub SeparateHomesArePlaced : Type 0

@@ -37,3 +37,7 @@ module _ (code : List Instr) (args : ℕ) {H : Type 0} (homes : Location → H) 
     pub arguments : NoArgumentClash
     pub kept : NoOpenClash
     pub needed : NeededApart
+
+-- No two locations that are live at one point, reachable or not, have one home.
+abbrev pub LiveApart : List Instr → {H : Type 0} → (Location → H) → Type 0
+LiveApart code homes = (point : ℕ) (x y : Location) → IsLive code x point → IsLive code y point → homes x ≡ homes y → x ≡ y

@@ -16,10 +16,10 @@ pub record Span : Type 0 where
 abbrev pub Covers : Span → ℕ → Type 0
 Covers s point = (s.first ≤ point) × (point ≤ s.last)
 
--- Each location has a stretch of points that has those where it is live, those just after the items that assign it, the start
+-- Each location has a stretch of points that has those where it is live, also where no walk leads, those just after the items that assign it, the start
 -- if it is an argument, and those where a site is open at whose `speculate` it is live.
 pub record AreSpans (code : List Instr) (args : ℕ) (spans : Location → Span) : Type 0 where
-  pub live : (walk : List Branch) (x : Location) → IsWalk code walk → IsLive code x (end_of walk) → Covers (spans x) (end_of walk)
+  pub live : (point : ℕ) (x : Location) → IsLive code x point → Covers (spans x) point
   pub assigned : (walk : List Branch) (branch : Branch) (x : Location) → IsWalk code walk → Contains (branches_at code (end_of walk)) branch → Contains (assigns_at (slice_get code (end_of walk))) x → Covers (spans x) branch.to
   pub arguments : (k : ℕ) → k < args → Covers (spans (Variable k)) 0
   pub kept : (walk : List Branch) (newer older : List ℕ) (site : ℕ) (x : Location) → IsWalk code walk → sites_of code walk ≡ newer ++ site ∷ older → IsLive code x site → Covers (spans x) (end_of walk)

@@ -1,11 +1,13 @@
 // Laws of homes, and of what speculations save. Each function states some, and does nothing when it is called.
 
-ghost use Rattle.placement_laws.specs.Laws.{DifferentHomesArePlaced, ReachedLeadOut, SavedAreAssignedInside, SeparateHomesArePlaced};
+ghost use Rattle.placement_laws.specs.Laws.{DifferentHomesArePlaced, ReachedLeadOut, SavedAreAssignedInside, SeparateHomesAreApart, SeparateHomesArePlaced};
 
-/// Homes don't clash where only locations share them whose spans don't meet, or where no two locations have one home.
+/// Homes don't clash where only locations share them whose spans don't meet, or where no two locations have one home; and no two
+/// locations that are live at one point share one whose spans don't meet.
 pub fn homes_are_placed()
     ensures separate { SeparateHomesArePlaced }
     ensures different { DifferentHomesArePlaced }
+    ensures live { SeparateHomesAreApart }
 {}
 
 /// A location is saved at a level exactly where some item assigns it from which a walk, on which the speculation stays

@@ -1,53 +1,58 @@
 -- Tables of the words at which functions and items begin, and code over slots from which an image can be made.
 use Rattle.std.specs.Prelude.{◌≡◌, ℕ, ◌+◌, ◌-◌, ◌^◌, ◌<◌, ◌≤◌, List, [], ◌∷◌, length, map, min, Option, Some, None, slice_get, slice_index}
-use Rattle.std.specs.List.{range_with_len}
+use Rattle.std.specs.List.{AllByRecursion, range_with_len}
 use Rattle.rv64_words.specs.declared.image.GuardAt.{GuardAt}
 use Rattle.rv64_words.specs.declared.word.Word.{Word}
 use Rattle.slot_code.specs.declared.item.SlotItem.{SlotItem}
 use Rattle.slot_code.specs.declared.item.SlotItem.TheVariants.{Guard}
 use Rattle.slot_code.specs.declared.slots.SlotFunction.{SlotFunction}
 use Rattle.slot_code.specs.declared.slots.Slots.{Slots}
-use Rattle.rv64_layout.specs.Fits.{ItemFits}
-use Rattle.rv64_layout.specs.Homes.{frame_homes, in_frame}
-use Rattle.rv64_layout.specs.Image.{joined, depth_at, start_at, entry_at, item_words_at}
+use Rattle.rv64_layout.specs.Fits.{IsReached, ItemFits}
+use Rattle.rv64_layout.specs.Homes.{FunctionHomes}
+use Rattle.rv64_layout.specs.Image.{joined, start_at, entry_at, item_words_at}
 use Rattle.rv64_layout.specs.Items.{guard_front_size}
 use Rattle.rv64_words.specs.Region.{most_words}
+use Rattle.rv64_emit.specs.Moved.{AreRegistersNear}
 
 -- what a table has for a number, and past its end what it has last
 abbrev pub table_at : List ℕ → ℕ → ℕ
 table_at table k = slice_index table (min k (length table - 1))
 
--- where each function begins, and at last where the image ends
-abbrev pub start_table : Slots → List ℕ
-start_table slots = map (start_at (frame_homes slots) slots) (range_with_len 0 (length slots.funcs + 1))
+module _ (homes : ℕ → FunctionHomes) (slots : Slots) where
+  -- where each function begins, and at last where the image ends
+  abbrev pub start_table : List ℕ
+  start_table = map (start_at homes slots) (range_with_len 0 (length slots.funcs + 1))
 
 abbrev pub item_count : Option SlotFunction → ℕ
 item_count None = 0
 item_count (Some g) = length g.code
 
--- where each item of function f begins, and at last the words that leave the function
-abbrev pub entry_table : Slots → ℕ → List ℕ
-entry_table slots f = map (entry_at (frame_homes slots) slots f) (range_with_len 0 (item_count (slice_get slots.funcs f) + 1))
+module _ (homes : ℕ → FunctionHomes) (slots : Slots) where
+  -- where each item of function f begins, and at last the words that leave the function
+  abbrev pub entry_table : ℕ → List ℕ
+  entry_table f = map (entry_at homes slots f) (range_with_len 0 (item_count (slice_get slots.funcs f) + 1))
 
-abbrev pub items_or_none : Slots → ℕ → Option SlotFunction → List Word
-items_or_none slots f None = []
-items_or_none slots f (Some g) = joined (item_words_at (frame_homes slots) slots f g) (length g.code)
+  abbrev pub items_or_none : ℕ → Option SlotFunction → List Word
+  items_or_none f None = []
+  items_or_none f (Some g) = joined (item_words_at homes slots f g) (length g.code)
 
--- the words of the items of function f
-abbrev pub items_at : Slots → ℕ → List Word
-items_at slots f = items_or_none slots f (slice_get slots.funcs f)
+  -- the words of the items of function f
+  abbrev pub items_at : ℕ → List Word
+  items_at f = items_or_none f (slice_get slots.funcs f)
 
--- an item as a guard, if it is one, in function f, where its first word is `entry`
-abbrev pub guard_with : ℕ → ℕ → SlotFunction → ℕ → ℕ → SlotItem → List GuardAt
-guard_with entry f g depth point (Guard condition abort_to) =
-    record { word = entry + guard_front_size (in_frame g) g depth condition; func = f; item = point } ∷ []
-guard_with entry f g depth point _ = []
+-- the item at a point as a guard, if it is one, in function f, where its first word is `entry`
+abbrev pub guard_with : FunctionHomes → ℕ → ℕ → SlotFunction → ℕ → SlotItem → List GuardAt
+guard_with homes entry f g point (Guard condition abort_to) =
+    record { word = entry + guard_front_size homes g point condition abort_to; func = f; item = point } ∷ []
+guard_with homes entry f g point _ = []
 
--- The image of code over slots can be made: functions and points have numbers of 32 bits, each item fits, and there are at
--- most 250,000 words.
-pub record SlotsFit (slots : Slots) : Type 0 where
+-- The image of code over slots can be made by these homes: functions and points have numbers of 32 bits, each slot and each item
+-- fits, slots in registers are among the first ones, and there are at most 250,000 words.
+pub record SlotsFit (homes : ℕ → FunctionHomes) (slots : Slots) : Type 0 where
   pub functions : length slots.funcs < 2 ^ 32
   pub points : (f : ℕ) (g : SlotFunction) → slice_get slots.funcs f ≡ Some g → length g.code < 2 ^ 32
+  pub reached : (f : ℕ) (g : SlotFunction) → slice_get slots.funcs f ≡ Some g → AllByRecursion (λ slot. IsReached ((homes f).home slot)) g.slots
+  pub near : (f : ℕ) (g : SlotFunction) → slice_get slots.funcs f ≡ Some g → AreRegistersNear (homes f) g
   pub items : (f : ℕ) (g : SlotFunction) (point : ℕ) (item : SlotItem) → slice_get slots.funcs f ≡ Some g → slice_get g.code point ≡ Some item →
-      ItemFits (in_frame g) g (depth_at g point) item
-  pub few : start_at (frame_homes slots) slots (length slots.funcs) ≤ most_words
+      ItemFits (homes f) g point item
+  pub few : start_at homes slots (length slots.funcs) ≤ most_words

@@ -1,15 +1,16 @@
 // The words of a frame.
 
-ghost use Rattle.std.specs.Prelude.{◌≡◌, ◌+◌, ◌*◌, ◌^◌, ◌<◌, length, suc};
+ghost use Rattle.std.specs.Prelude.{◌≡◌, ◌+◌, ◌*◌, ◌^◌, ◌<◌, length, suc, take};
 ghost use Rattle.bril_tree.specs.Value as values;
-ghost use Rattle.rv64_layout.specs.Image as image;
 ghost use Rattle.rv64_layout.specs.Homes as homes;
 ghost use Rattle.rv64_layout.specs.Items as items;
 ghost use Rattle.rv64_layout.specs.Fits.{frame_reach};
 
-use bril_tree::home::Home;
 use bril_tree::value::Value;
 use slot_code::{Slot, SlotFunction};
+
+// Slots in registers are among so many first ones: their own words of the frame have numbers below 256.
+const NEAR_SLOTS: usize = 254;
 
 /// The word of a value.
 pub fn word_of(value: Value) -> u64
@@ -24,37 +25,6 @@ pub fn word_of(value: Value) -> u64
     }
 }
 
-/// The word of the frame in which a variable stands.
-pub fn variable_word(variable: u32) -> u64
-    ensures { result ≡ 2 + variable }
-{
-    2 + variable as u64
-}
-
-/// The word of the frame in which a slot stands.
-pub fn slot_word(func: &SlotFunction, slot: Slot) -> u64
-    requires { homes.slot_word func.now slot < frame_reach }
-    ensures { result ≡ homes.slot_word func.now slot }
-{
-    2 + func.number(slot) as u64
-}
-
-/// The home of a variable: its own word of the frame.
-pub fn variable_home(variable: u32) -> Home
-    requires { 2 + variable < frame_reach }
-    ensures { result ≡ Home.Frame (2 + variable) }
-{
-    Home::Frame(2 + variable)
-}
-
-/// The home of a slot: its own word of the frame.
-pub fn slot_home(func: &SlotFunction, slot: Slot) -> Home
-    requires { homes.slot_word func.now slot < frame_reach }
-    ensures { result ≡ Home.Frame (homes.slot_word func.now slot) }
-{
-    Home::Frame(slot_word(func, slot) as u32)
-}
-
 /// The number of a function's slots.
 pub fn slot_count(func: &SlotFunction) -> u64
     ensures { result ≡ length func.now.slots }
@@ -62,30 +32,39 @@ pub fn slot_count(func: &SlotFunction) -> u64
     func.slots.as_slice().len() as u64
 }
 
-/// The first word of the slots as they were at an open speculation.
-pub fn level_word(func: &SlotFunction, level: usize) -> u64
-    requires { length func.now.slots * level < frame_reach }
-    ensures { result ≡ homes.level_word func.now level }
-{
-    2 + slot_count(func) * level as u64
-}
-
-/// The first word of the slots as they were at the speculation after that one.
-pub fn next_level_word(func: &SlotFunction, level: usize) -> u64
-    requires { length func.now.slots * (level + 2) < frame_reach }
-    ensures { result ≡ homes.level_word func.now (suc level) }
-{
-    level_word(func, level) + slot_count(func)
-}
-
 /// How many speculations are open at a point.
-pub fn depth_of(func: &SlotFunction, point: usize) -> usize
-    ensures { result ≡ image.depth_at func.now point }
+pub fn depth_of(func: &SlotFunction, point: u32) -> usize
+    ensures { result ≡ homes.depth_at func.now point }
 {
-    match func.depths.as_slice().get(point) {
+    match func.depths.as_slice().get(point as usize) {
         Some(depth) => *depth,
         None => 0,
     }
+}
+
+/// The first word of the newest level at a point.
+pub fn level_word(func: &SlotFunction, point: u32) -> u64
+    requires { length func.now.slots * (homes.depth_at func.now point + 2) < frame_reach }
+    ensures { result ≡ homes.level_word func.now (homes.depth_at func.now point) }
+{
+    2 + slot_count(func) * depth_of(func, point) as u64
+}
+
+/// The first word of the level after it.
+pub fn next_level_word(func: &SlotFunction, point: u32) -> u64
+    requires { length func.now.slots * (homes.depth_at func.now point + 2) < frame_reach }
+    ensures { result ≡ homes.level_word func.now (suc (homes.depth_at func.now point)) }
+{
+    level_word(func, point) + slot_count(func)
+}
+
+/// The first slots, which those in registers are among.
+pub fn near_slots(func: &SlotFunction) -> &[Slot]
+    ensures { result.now ≡ take 254 func.now.slots }
+{
+    let slots = func.slots.as_slice();
+    let many = slots.len().min(NEAR_SLOTS);
+    &slots[..many]
 }
 
 /// The word of the frame that is that of argument `number` in the frame above.

@@ -1,21 +1,24 @@
 // The image of code over slots.
 
 ghost use Rattle.std.specs.Prelude.{◌≡◌, ◌+◌, ◌*◌, ◌<◌, ◌≤◌, ◌++◌, map, length, OnOk, IfOk};
+ghost use Rattle.std.specs.List.{AllByRecursion};
+ghost use Rattle.rv64_emit.specs.Moved.{AreRegistersNear};
+ghost use Rattle.rv64_emit.specs.Placed.{all_homes, homes_in};
 ghost use Rattle.rv64_emit.specs.Tables as tables;
 ghost use Rattle.rv64_emit.specs.Tables.{SlotsFit, items_at, guard_with, table_at};
-ghost use Rattle.rv64_layout.specs.Image.{joined, start_at, head_words, function_words_at, function_guards_at, largest_frame, IsImageOf};
-ghost use Rattle.rv64_layout.specs.Fits.{ItemFits};
-ghost use Rattle.rv64_layout.specs.Homes.{frame_homes, in_frame};
+ghost use Rattle.rv64_layout.specs.Image.{joined, start_at, entry_at, head_words, opening_words, function_words_at, function_guards_at, largest_frame, IsImageOf};
+ghost use Rattle.rv64_layout.specs.Fits.{IsReached, ItemFits};
 ghost use Rattle.rv64_layout.specs.Items as layout;
 ghost use Rattle.rv64_words.specs.Encoding.{encoded};
 ghost use Rattle.rv64_words.specs.Region.{most_words};
 
 use crate::assembly::{addi, lui, sd};
-use crate::frame::depth_of;
+use crate::homes::{ProgramHomes, SlotHomes};
 use crate::item::put_item;
 use crate::items::leave;
 use crate::places::{entry_table, function_at, place, start_table};
 use crate::registers::{FRAME, FRAMES_LEFT, LINK};
+use crate::saves::put_loads;
 use crate::sequences::{high_digits, jump, low_digit, number as immediate, program_end, put};
 use crate::sizes::guard_front_size;
 use bril_tree::limits::Limits;
@@ -42,24 +45,41 @@ fn put_head(code: &mut Seq<u32>, limits: Limits, main: u32) -> Result<(), AllocE
     put(code, &program_end())
 }
 
+// The words of a function before its items.
+#[tactic(auto, using(crate::proofs::Appending::put_then))]
+fn put_opening(
+    code: &mut Seq<u32>,
+    homes: &SlotHomes<'_>,
+    func: &SlotFunction,
+) -> Result<(), AllocError>
+    requires slots { AllByRecursion (λ slot. IsReached ((homes_in homes.now).home slot)) func.now.slots }
+    requires near { AreRegistersNear (homes_in homes.now) func.now }
+    ensures { OnOk result (code.new ≡ code.old ++ map encoded (opening_words (homes_in homes.now) func.now)) }
+{
+    put(code, &[sd(FRAME, LINK, immediate(0))])?;
+    put_loads(code, homes, func)
+}
+
 // The words of a function's items.
 fn put_items(
     code: &mut Seq<u32>,
+    homes: &ProgramHomes<'_>,
     slots: &Slots,
     number: usize,
     starts: &[u32],
     entries: &[u32],
 ) -> Result<(), AllocError>
     requires inside { number < length slots.now.funcs }
-    requires fits { SlotsFit slots.now }
-    requires starts { starts.now ≡ tables.start_table slots.now }
-    requires entries { entries.now ≡ tables.entry_table slots.now number }
-    requires here { length code.old ≡ start_at (frame_homes slots.now) slots.now number + 1 }
-    ensures { OnOk result (code.new ≡ code.old ++ map encoded (items_at slots.now number)) }
+    requires fits { SlotsFit (all_homes homes.now) slots.now }
+    requires starts { starts.now ≡ tables.start_table (all_homes homes.now) slots.now }
+    requires entries { entries.now ≡ tables.entry_table (all_homes homes.now) slots.now number }
+    requires here { length code.old ≡ entry_at (all_homes homes.now) slots.now number 0 }
+    ensures { OnOk result (code.new ≡ code.old ++ map encoded (items_at (all_homes homes.now) slots.now number)) }
 {
     let func = function_at(slots, number);
+    let own = homes.in_function(number as u32);
     for (point, item) in func.code.as_slice().iter().enumerate() {
-        put_item(code, starts, entries, func, depth_of(func, point), item)?;
+        put_item(code, starts, entries, &own, func, point as u32, item)?;
     }
     Ok(())
 }
@@ -67,41 +87,47 @@ fn put_items(
 // The words of a function.
 fn put_function(
     code: &mut Seq<u32>,
+    homes: &ProgramHomes<'_>,
     slots: &Slots,
     number: usize,
     starts: &[u32],
     entries: &[u32],
 ) -> Result<(), AllocError>
     requires inside { number < length slots.now.funcs }
-    requires fits { SlotsFit slots.now }
-    requires starts { starts.now ≡ tables.start_table slots.now }
-    requires entries { entries.now ≡ tables.entry_table slots.now number }
-    requires here { length code.old ≡ start_at (frame_homes slots.now) slots.now number }
-    ensures { OnOk result (code.new ≡ code.old ++ map encoded (function_words_at (frame_homes slots.now) slots.now number)) }
+    requires fits { SlotsFit (all_homes homes.now) slots.now }
+    requires starts { starts.now ≡ tables.start_table (all_homes homes.now) slots.now }
+    requires entries { entries.now ≡ tables.entry_table (all_homes homes.now) slots.now number }
+    requires here { length code.old ≡ start_at (all_homes homes.now) slots.now number }
+    ensures { OnOk result (code.new ≡ code.old ++ map encoded (function_words_at (all_homes homes.now) slots.now number)) }
 {
-    put(code, &[sd(FRAME, LINK, immediate(0))])?;
-    put_items(code, slots, number, starts, entries)?;
+    let func = function_at(slots, number);
+    put_opening(code, &homes.in_function(number as u32), func)?;
+    put_items(code, homes, slots, number, starts, entries)?;
     put(code, &leave())?;
     Ok(())
 }
 
 // ---- guards
 
-// An item as a guard, if it is one.
+// The item at a place as a guard, if it is one.
 fn push_guard(
     guards: &mut Seq<GuardAt>,
+    homes: &SlotHomes<'_>,
     func: &SlotFunction,
     place: GuardAt,
-    depth: usize,
     item: &SlotItem,
 ) -> Result<(), AllocError>
-    requires fits { ItemFits (in_frame func.now) func.now depth item.now }
-    requires few { place.word + layout.item_size (in_frame func.now) func.now depth item.now ≤ most_words }
-    ensures { OnOk result (guards.new ≡ guards.old ++ guard_with place.word place.func func.now depth place.item item.now) }
+    requires fits { ItemFits (homes_in homes.now) func.now place.item item.now }
+    requires few { place.word + layout.item_size (homes_in homes.now) func.now place.item item.now ≤ most_words }
+    ensures { OnOk result (guards.new ≡ guards.old ++ guard_with (homes_in homes.now) place.word place.func func.now place.item item.now) }
 {
     match item {
-        SlotItem::Guard { condition, .. } => {
-            let word = place.word + guard_front_size(func, depth, *condition);
+        SlotItem::Guard {
+            condition,
+            abort_to,
+        } => {
+            let front = guard_front_size(homes, func, place.item, *condition, *abort_to);
+            let word = place.word + front;
             guards.push(GuardAt { word, ..place })
         }
         _ => Ok(()),
@@ -111,23 +137,25 @@ fn push_guard(
 // The guards of a function.
 fn push_guards(
     guards: &mut Seq<GuardAt>,
+    homes: &ProgramHomes<'_>,
     slots: &Slots,
     number: usize,
     entries: &[u32],
 ) -> Result<(), AllocError>
     requires inside { number < length slots.now.funcs }
-    requires fits { SlotsFit slots.now }
-    requires entries { entries.now ≡ tables.entry_table slots.now number }
-    ensures { OnOk result (guards.new ≡ guards.old ++ function_guards_at (frame_homes slots.now) slots.now number) }
+    requires fits { SlotsFit (all_homes homes.now) slots.now }
+    requires entries { entries.now ≡ tables.entry_table (all_homes homes.now) slots.now number }
+    ensures { OnOk result (guards.new ≡ guards.old ++ function_guards_at (all_homes homes.now) slots.now number) }
 {
     let func = function_at(slots, number);
+    let own = homes.in_function(number as u32);
     for (point, item) in func.code.as_slice().iter().enumerate() {
         let place = GuardAt {
             word: place(entries, point as u32),
             func: number as u32,
             item: point as u32,
         };
-        push_guard(guards, func, place, depth_of(func, point), item)?;
+        push_guard(guards, &own, func, place, item)?;
     }
     Ok(())
 }
@@ -139,39 +167,49 @@ fn put_functions(
     alloc: Global,
     code: &mut Seq<u32>,
     guards: &mut Seq<GuardAt>,
+    homes: &ProgramHomes<'_>,
     slots: &Slots,
     starts: &[u32],
 ) -> Result<(), AllocError>
-    requires fits { SlotsFit slots.now }
-    requires starts { starts.now ≡ tables.start_table slots.now }
+    requires fits { SlotsFit (all_homes homes.now) slots.now }
+    requires starts { starts.now ≡ tables.start_table (all_homes homes.now) slots.now }
     requires here { length code.old ≡ 6 }
-    ensures words { OnOk result (code.new ≡ code.old ++ map encoded (joined (function_words_at (frame_homes slots.now) slots.now) (length slots.now.funcs))) }
-    ensures guards { OnOk result (guards.new ≡ guards.old ++ joined (function_guards_at (frame_homes slots.now) slots.now) (length slots.now.funcs)) }
+    ensures words { OnOk result (code.new ≡ code.old ++ map encoded (joined (function_words_at (all_homes homes.now) slots.now) (length slots.now.funcs))) }
+    ensures guards { OnOk result (guards.new ≡ guards.old ++ joined (function_guards_at (all_homes homes.now) slots.now) (length slots.now.funcs)) }
 {
     for number in 0..slots.funcs.as_slice().len() {
-        let entries = entry_table(alloc, slots, number, place(starts, number as u32))?;
-        put_function(code, slots, number, starts, entries.as_slice())?;
-        push_guards(guards, slots, number, entries.as_slice())?;
+        let start = place(starts, number as u32);
+        let entries = entry_table(alloc, homes, slots, number, start)?;
+        put_function(code, homes, slots, number, starts, entries.as_slice())?;
+        push_guards(guards, homes, slots, number, entries.as_slice())?;
     }
     Ok(())
 }
 
-/// The image of code over slots for runs under the limits, with a stack of so many words.
+/// The image of code over slots, by the homes of its slots, for runs under the limits, with a stack of so many words.
 pub fn image_of(
     alloc: Global,
+    homes: &ProgramHomes<'_>,
     slots: &Slots,
     limits: Limits,
     stack: u32,
 ) -> Result<Image, AllocError>
-    requires fits { SlotsFit slots.now }
+    requires fits { SlotsFit (all_homes homes.now) slots.now }
     requires stack { stack ≡ limits.frames * largest_frame slots.now }
-    ensures { IfOk result (IsImageOf (frame_homes slots.now) slots.now limits) }
+    ensures { IfOk result (IsImageOf (all_homes homes.now) slots.now limits) }
 {
-    let starts = start_table(alloc, slots)?;
+    let starts = start_table(alloc, homes, slots)?;
     let mut words = Seq::new(alloc);
     put_head(&mut words, limits, place(starts.as_slice(), slots.main))?;
     let mut guards = Seq::new(alloc);
-    put_functions(alloc, &mut words, &mut guards, slots, starts.as_slice())?;
+    put_functions(
+        alloc,
+        &mut words,
+        &mut guards,
+        homes,
+        slots,
+        starts.as_slice(),
+    )?;
     Ok(Image {
         words,
         guards,

@@ -1,32 +1,43 @@
 // The words of items at the end of an image.
 
-ghost use Rattle.std.specs.Prelude.{ℕ, ◌≡◌, ◌+◌, ◌*◌, ◌^◌, ◌<◌, ◌≤◌, ◌∷◌, [], ◌++◌, map, pos, length, suc, true, OnOk};
+ghost use Rattle.std.specs.Prelude.{ℕ, ◌≡◌, ◌+◌, ◌*◌, ◌-◌, ◌^◌, ◌<◌, ◌≤◌, ◌∷◌, [], ◌++◌, map, pos, length, OnOk};
 ghost use Rattle.std.specs.List.{AllByRecursion};
 ghost use Rattle.bril_tree.specs.FunctionForm.{listed};
 ghost use Rattle.bril_tree.specs.Value as values;
+ghost use Rattle.rv64_emit.specs.Moved.{AreRegistersNear};
+ghost use Rattle.rv64_emit.specs.Placed.{homes_in};
 ghost use Rattle.rv64_emit.specs.Tables.{table_at};
-ghost use Rattle.rv64_layout.specs.Homes as homes;
-ghost use Rattle.rv64_layout.specs.Homes.{in_frame, level_moves, moves_from};
+ghost use Rattle.rv64_layout.specs.Fits.{IsReached, frame_reach};
+ghost use Rattle.rv64_layout.specs.Homes.{depth_at, guard_moves, speculate_moves, variable_home};
 ghost use Rattle.rv64_layout.specs.Items as items;
-ghost use Rattle.rv64_sequences.specs.Moves.{fetch_words, fetch_size, fill_words, save_words, restore_words};
-ghost use Rattle.rv64_sequences.specs.Operations.{unary_words, binary_words, alloc_words, free_words, cell_words, load_cell_words, mark_cell_words, store_cell_words};
-ghost use Rattle.rv64_sequences.specs.Sequences.{constant_words, load_words, store_words, jump_offset, load_size};
+ghost use Rattle.rv64_sequences.specs.Moves as moves;
+ghost use Rattle.rv64_sequences.specs.Operations as operations;
+ghost use Rattle.rv64_sequences.specs.Sequences.{constant_words, jump_offset, store_words};
 ghost use Rattle.rv64_words.specs.Calls.{call_number};
 ghost use Rattle.rv64_words.specs.Encoding.{encoded};
 ghost use Rattle.rv64_words.specs.Mnemonics as mnemonics;
 ghost use Rattle.rv64_words.specs.Region.{most_words};
-ghost use Rattle.rv64_layout.specs.Fits.{IsReached, frame_reach};
 
-use crate::assembly::{addi, branch, jalr, ld, sd};
-use crate::frame::{argument_word, level_word, next_level_word, slot_home, variable_home, word_of};
-use crate::operations::{put_binary, put_cell, put_load_cell, put_mark_cell, put_unary};
+use crate::assembly::{addi, branch, jalr, ld};
+use crate::frame::{argument_word, word_of};
+use crate::homes::SlotHomes;
+use crate::moves::{
+    operand_register, put_copy, put_fetch, put_fill, put_operand, put_result, put_source,
+    put_target, register_for, source_size_of,
+};
+use crate::operations::{
+    binary_takes_any_registers, put_binary, put_cell, put_load_cell, put_mark_cell, put_store_cell,
+    put_unary, unary_takes_any_register,
+};
 use crate::places::place;
 use crate::registers::{ARGUMENT, FIRST, FRAME, FRAMES_LEFT, LINK, SECOND, ZERO};
-use crate::sequences::{
-    environment_call, fault, fetch_size_of, jump, number, put, put_constant, put_fetch, put_fill,
-    put_frame_up, put_restore, put_save, put_store,
+use crate::saves::{
+    guard_back_size, put_call_restores, put_call_saves, put_guard_restores, put_speculate_saves,
 };
-use crate::sizes::{back_size, before_call_size, guard_front_size};
+use crate::sequences::{
+    environment_call, fault, jump, number, put, put_constant, put_frame_up, put_store,
+};
+use crate::sizes::{before_call_size, guard_front_size};
 use bril_tree::home::Home;
 use bril_tree::limits::Fault;
 use bril_tree::operators::{BinaryOp, UnaryOp};
@@ -36,7 +47,7 @@ use bril_tree::value::Value;
 use rv64_words::call::Call;
 use rv64_words::field::Immediate;
 use rv64_words::word::{Condition, Word};
-use slot_code::{Printed, Slot, SlotFunction};
+use slot_code::{Printed, SlotFunction};
 use std::alloc::AllocError;
 
 // ---- values
@@ -46,26 +57,37 @@ use std::alloc::AllocError;
 pub fn put_value(code: &mut Seq<u32>, dest: Home, value: Value) -> Result<(), AllocError>
     requires { IsReached dest }
     ensures { OnOk result (code.new ≡ code.old ++ map encoded
-        (constant_words 5 (values.word_of value) ++ fill_words 5 dest)) }
+        (constant_words (moves.register_for 5 dest) (values.word_of value) ++ moves.target_words 5 dest)) }
 {
-    put_constant(code, FIRST, word_of(value))?;
-    put_fill(code, FIRST, dest)
+    put_constant(code, register_for(FIRST, dest), word_of(value))?;
+    put_target(code, FIRST, dest)
 }
 
-/// What one home has into another.
+// What an operation computes from one home into another, with words of its own.
 #[tactic(auto, using(crate::proofs::Appending::put_then))]
-pub fn put_copy(code: &mut Seq<u32>, dest: Home, from: Home) -> Result<(), AllocError>
+fn put_computed(
+    code: &mut Seq<u32>,
+    operation: UnaryOp,
+    dest: Home,
+    operand: Home,
+) -> Result<(), AllocError>
     requires dest { IsReached dest }
-    requires from { IsReached from }
-    ensures { OnOk result (code.new ≡ code.old ++ map encoded
-        (fetch_words 5 from ++ fill_words 5 dest)) }
+    requires operand { IsReached operand }
+    ensures { let any = operations.unary_takes_any operation in OnOk result (code.new ≡ code.old ++ map encoded
+        (moves.operand_words any 5 operand ++ (operations.unary_words operation (moves.result_register any dest) (moves.operand_register any 5 operand) ++ moves.result_words any dest))) }
 {
-    put_fetch(code, FIRST, from)?;
-    put_fill(code, FIRST, dest)
+    let any = unary_takes_any_register(operation);
+    put_operand(code, any, FIRST, operand)?;
+    put_unary(
+        code,
+        operation,
+        operand_register(any, FIRST, dest),
+        operand_register(any, FIRST, operand),
+    )?;
+    put_result(code, any, dest)
 }
 
 /// What an operation computes from one home into another.
-#[tactic(auto, using(crate::proofs::Appending::put_then))]
 pub fn put_unary_item(
     code: &mut Seq<u32>,
     operation: UnaryOp,
@@ -74,12 +96,13 @@ pub fn put_unary_item(
 ) -> Result<(), AllocError>
     requires dest { IsReached dest }
     requires operand { IsReached operand }
-    ensures { OnOk result (code.new ≡ code.old ++ map encoded
-        (fetch_words 5 operand ++ (unary_words operation ++ fill_words 5 dest))) }
+    ensures { OnOk result (code.new ≡ code.old ++ map encoded (items.unary_item_words operation dest operand)) }
 {
-    put_fetch(code, FIRST, operand)?;
-    put_unary(code, operation)?;
-    put_fill(code, FIRST, dest)
+    match operation {
+        UnaryOp::CharToInt => put_copy(code, dest, operand),
+        UnaryOp::Not => put_computed(code, UnaryOp::Not, dest, operand),
+        UnaryOp::IntToChar => put_computed(code, UnaryOp::IntToChar, dest, operand),
+    }
 }
 
 /// What an operation computes from two homes into a third.
@@ -94,13 +117,19 @@ pub fn put_binary_item(
     requires dest { IsReached dest }
     requires first { IsReached first }
     requires second { IsReached second }
-    ensures { OnOk result (code.new ≡ code.old ++ map encoded
-        (fetch_words 5 first ++ (fetch_words 7 second ++ (binary_words operation ++ fill_words 5 dest)))) }
+    ensures { OnOk result (code.new ≡ code.old ++ map encoded (items.binary_item_words operation dest first second)) }
 {
-    put_fetch(code, FIRST, first)?;
-    put_fetch(code, SECOND, second)?;
-    put_binary(code, operation)?;
-    put_fill(code, FIRST, dest)
+    let any = binary_takes_any_registers(operation);
+    put_operand(code, any, FIRST, first)?;
+    put_operand(code, any, SECOND, second)?;
+    put_binary(
+        code,
+        operation,
+        operand_register(any, FIRST, dest),
+        operand_register(any, FIRST, first),
+        operand_register(any, SECOND, second),
+    )?;
+    put_result(code, any, dest)
 }
 
 // ---- jumps
@@ -115,17 +144,18 @@ pub fn put_jump(code: &mut Seq<u32>, to: u32) -> Result<(), AllocError>
     put(code, &[jump(ZERO, here, to)])
 }
 
-// To one item where register 5 isn't 0, else to another; the jump to the first is word `at` of the image. Three words: a branch
+// To one item where a register isn't 0, else to another; the jump to the first is word `at` of the image. Three words: a branch
 // reaches 4 KiB only, so it skips the first of two jumps, each of which reaches the whole image.
-fn ways(at: u32, then_to: u32, else_to: u32) -> [Word; 3]
+fn ways(condition: u8, at: u32, then_to: u32, else_to: u32) -> [Word; 3]
+    requires condition { condition < 32 }
     requires at { at < most_words }
     requires then_to { then_to ≤ most_words }
     requires else_to { else_to ≤ most_words }
-    ensures { result ≡ mnemonics.beq 5 0 (pos 8) ∷ Word.Jal 0 (jump_offset at then_to)
+    ensures { result ≡ mnemonics.beq condition 0 (pos 8) ∷ Word.Jal 0 (jump_offset at then_to)
         ∷ Word.Jal 0 (jump_offset (at + 1) else_to) ∷ [] }
 {
     [
-        branch(Condition::Eq, FIRST, ZERO, 8),
+        branch(Condition::Eq, condition, ZERO, 8),
         jump(ZERO, at, then_to),
         jump(ZERO, at + 1, else_to),
     ]
@@ -140,19 +170,24 @@ pub fn put_branch(
     then_to: u32,
     else_to: u32,
 ) -> Result<(), AllocError>
-    requires here { length code.old + (fetch_size condition + 3) ≤ most_words }
+    requires here { length code.old + (moves.source_size condition + 3) ≤ most_words }
     requires condition { IsReached condition }
     requires some_entries { 0 < length entries.now }
     requires few_entries { (k : ℕ) → table_at entries.now k ≤ most_words }
-    ensures { let at = length code.old + fetch_size condition in OnOk result (code.new ≡ code.old ++ map encoded
-        (fetch_words 5 condition ++ mnemonics.beq 5 0 (pos 8) ∷ Word.Jal 0 (jump_offset (at + 1) (table_at entries.now then_to))
+    ensures { let at = length code.old + moves.source_size condition in OnOk result (code.new ≡ code.old ++ map encoded
+        (moves.source_words 5 condition ++ mnemonics.beq (moves.register_for 5 condition) 0 (pos 8) ∷ Word.Jal 0 (jump_offset (at + 1) (table_at entries.now then_to))
         ∷ Word.Jal 0 (jump_offset (at + 2) (table_at entries.now else_to)) ∷ [])) }
 {
-    let at = code.as_slice().len() as u32 + fetch_size_of(condition);
-    put_fetch(code, FIRST, condition)?;
+    let at = code.as_slice().len() as u32 + source_size_of(condition);
+    put_source(code, FIRST, condition)?;
     put(
         code,
-        &ways(at + 1, place(entries, then_to), place(entries, else_to)),
+        &ways(
+            register_for(FIRST, condition),
+            at + 1,
+            place(entries, then_to),
+            place(entries, else_to),
+        ),
     )
 }
 
@@ -167,55 +202,99 @@ fn put_room(code: &mut Seq<u32>) -> Result<(), AllocError>
     put(code, &[addi(FRAMES_LEFT, FRAMES_LEFT, Immediate::of(-1))])
 }
 
+// An argument into a word of the frame.
+#[tactic(auto, using(crate::proofs::Appending::put_then))]
+fn put_argument(code: &mut Seq<u32>, arg: Home, word: u64) -> Result<(), AllocError>
+    requires arg { IsReached arg }
+    requires word { word < 2 ^ 28 }
+    ensures { OnOk result (code.new ≡ code.old ++ map encoded (moves.source_words 5 arg ++ store_words (moves.register_for 5 arg) word)) }
+{
+    put_source(code, FIRST, arg)?;
+    put_store(code, register_for(FIRST, arg), word)
+}
+
 // The arguments into their words of the new frame.
-fn put_arguments(code: &mut Seq<u32>, func: &SlotFunction, args: &[u32]) -> Result<(), AllocError>
+fn put_arguments(
+    code: &mut Seq<u32>,
+    homes: &SlotHomes<'_>,
+    func: &SlotFunction,
+    args: &[u32],
+) -> Result<(), AllocError>
     requires frame { func.now.words < frame_reach }
     requires few { length args.now < frame_reach }
-    requires args { AllByRecursion (λ x. 2 + x < frame_reach) args.now }
-    ensures { OnOk result (code.new ≡ code.old ++ map encoded (items.pass_words (in_frame func.now) func.now 0 args.now)) }
+    requires args { AllByRecursion (λ x. IsReached (variable_home (homes_in homes.now) x)) args.now }
+    ensures { OnOk result (code.new ≡ code.old ++ map encoded (items.pass_words (homes_in homes.now) func.now 0 args.now)) }
 {
     for (k, arg) in args.iter().enumerate() {
-        put_fetch(code, FIRST, variable_home(*arg))?;
-        put_store(code, FIRST, argument_word(func, k))?;
+        put_argument(code, homes.variable(*arg), argument_word(func, k))?;
     }
     Ok(())
 }
 
 // A function's result into its destination.
-fn put_result(code: &mut Seq<u32>, func: &SlotFunction, dest: Option<u32>) -> Result<(), AllocError>
-    requires { AllByRecursion (λ x. 2 + x < frame_reach) (listed dest) }
-    ensures { OnOk result (code.new ≡ code.old ++ map encoded (items.result_words (in_frame func.now) dest)) }
+fn put_call_result(
+    code: &mut Seq<u32>,
+    homes: &SlotHomes<'_>,
+    dest: Option<u32>,
+) -> Result<(), AllocError>
+    requires { AllByRecursion (λ x. IsReached (variable_home (homes_in homes.now) x)) (listed dest) }
+    ensures { OnOk result (code.new ≡ code.old ++ map encoded (items.call_result_words (homes_in homes.now) dest)) }
 {
     match dest {
-        Some(dest) => put_fill(code, ARGUMENT, variable_home(dest)),
+        Some(dest) => put_fill(code, ARGUMENT, homes.variable(dest)),
         None => Ok(()),
     }
 }
 
-/// A call of the function whose first word is `start`.
+// What follows the jump of the call at a point.
+#[tactic(auto, using(crate::proofs::Appending::put_then))]
+fn put_after_call(
+    code: &mut Seq<u32>,
+    homes: &SlotHomes<'_>,
+    func: &SlotFunction,
+    point: u32,
+    dest: Option<u32>,
+) -> Result<(), AllocError>
+    requires point { point < 2 ^ 32 - 1 }
+    requires slots { AllByRecursion (λ slot. IsReached ((homes_in homes.now).home slot)) func.now.slots }
+    requires near { AreRegistersNear (homes_in homes.now) func.now }
+    requires dest { AllByRecursion (λ x. IsReached (variable_home (homes_in homes.now) x)) (listed dest) }
+    ensures { OnOk result (code.new ≡ code.old ++ map encoded (items.after_call (homes_in homes.now) func.now point dest)) }
+{
+    put_call_restores(code, homes, func, point, dest)?;
+    put_call_result(code, homes, dest)
+}
+
+/// The call at a point, of the function whose first word is `start`.
 #[tactic(auto, using(crate::proofs::Appending::put_then))]
 pub fn put_call(
     code: &mut Seq<u32>,
+    homes: &SlotHomes<'_>,
     func: &SlotFunction,
+    point: u32,
     dest: Option<u32>,
     start: u32,
     args: &[u32],
 ) -> Result<(), AllocError>
-    requires here { length code.old + items.before_call (in_frame func.now) func.now args.now ≤ most_words }
+    requires here { length code.old + items.before_call (homes_in homes.now) func.now point dest args.now ≤ most_words }
     requires start { start ≤ most_words }
+    requires point { point < 2 ^ 32 - 1 }
     requires frame { func.now.words < frame_reach }
     requires few { length args.now < frame_reach }
-    requires dest { AllByRecursion (λ x. 2 + x < frame_reach) (listed dest) }
-    requires args { AllByRecursion (λ x. 2 + x < frame_reach) args.now }
+    requires slots { AllByRecursion (λ slot. IsReached ((homes_in homes.now).home slot)) func.now.slots }
+    requires near { AreRegistersNear (homes_in homes.now) func.now }
+    requires dest { AllByRecursion (λ x. IsReached (variable_home (homes_in homes.now) x)) (listed dest) }
+    requires args { AllByRecursion (λ x. IsReached (variable_home (homes_in homes.now) x)) args.now }
     ensures { OnOk result (code.new ≡ code.old ++ map encoded
-        (items.call_words (in_frame func.now) func.now (length code.old) dest start args.now)) }
+        (items.call_words (homes_in homes.now) func.now point (length code.old) dest start args.now)) }
 {
-    let from = code.as_slice().len() as u32 + before_call_size(func, args);
+    let from = code.as_slice().len() as u32 + before_call_size(homes, func, point, dest, args);
     put_room(code)?;
-    put_arguments(code, func, args)?;
+    put_call_saves(code, homes, func, point, dest)?;
+    put_arguments(code, homes, func, args)?;
     put_frame_up(code, func.words)?;
     put(code, &[jump(LINK, from, start)])?;
-    put_result(code, func, dest)
+    put_after_call(code, homes, func, point, dest)
 }
 
 /// The words that leave a function.
@@ -233,14 +312,14 @@ pub fn leave() -> [Word; 4]
 // The returned value.
 fn put_returned(
     code: &mut Seq<u32>,
-    func: &SlotFunction,
+    homes: &SlotHomes<'_>,
     value: Option<u32>,
 ) -> Result<(), AllocError>
-    requires { AllByRecursion (λ x. 2 + x < frame_reach) (listed value) }
-    ensures { OnOk result (code.new ≡ code.old ++ map encoded (items.returned_words (in_frame func.now) value)) }
+    requires { AllByRecursion (λ x. IsReached (variable_home (homes_in homes.now) x)) (listed value) }
+    ensures { OnOk result (code.new ≡ code.old ++ map encoded (items.returned_words (homes_in homes.now) value)) }
 {
     match value {
-        Some(variable) => put_fetch(code, ARGUMENT, variable_home(variable)),
+        Some(variable) => put_fetch(code, ARGUMENT, homes.variable(variable)),
         None => Ok(()),
     }
 }
@@ -249,13 +328,13 @@ fn put_returned(
 #[tactic(auto, using(crate::proofs::Appending::put_then))]
 pub fn put_return(
     code: &mut Seq<u32>,
-    func: &SlotFunction,
+    homes: &SlotHomes<'_>,
     value: Option<u32>,
 ) -> Result<(), AllocError>
-    requires { AllByRecursion (λ x. 2 + x < frame_reach) (listed value) }
-    ensures { OnOk result (code.new ≡ code.old ++ map encoded (items.returned_words (in_frame func.now) value ++ items.leave_words)) }
+    requires { AllByRecursion (λ x. IsReached (variable_home (homes_in homes.now) x)) (listed value) }
+    ensures { OnOk result (code.new ≡ code.old ++ map encoded (items.returned_words (homes_in homes.now) value ++ items.leave_words)) }
 {
-    put_returned(code, func, value)?;
+    put_returned(code, homes, value)?;
     put(code, &leave())
 }
 
@@ -274,22 +353,30 @@ fn print_call(kind: Base) -> Call
 
 // Prints a variable.
 #[tactic(auto, using(crate::proofs::Appending::put_then))]
-fn put_printed(code: &mut Seq<u32>, func: &SlotFunction, printed: Printed) -> Result<(), AllocError>
-    requires { 2 + printed.variable < frame_reach }
-    ensures { OnOk result (code.new ≡ code.old ++ map encoded (items.value_words (in_frame func.now) printed)) }
+fn put_printed(
+    code: &mut Seq<u32>,
+    homes: &SlotHomes<'_>,
+    printed: Printed,
+) -> Result<(), AllocError>
+    requires { IsReached (variable_home (homes_in homes.now) printed.variable) }
+    ensures { OnOk result (code.new ≡ code.old ++ map encoded (items.value_words (homes_in homes.now) printed)) }
 {
-    put_fetch(code, ARGUMENT, variable_home(printed.variable))?;
+    put_fetch(code, ARGUMENT, homes.variable(printed.variable))?;
     put(code, &environment_call(print_call(printed.kind)))
 }
 
 // Prints variables, each after a space.
-fn put_spaced(code: &mut Seq<u32>, func: &SlotFunction, args: &[Printed]) -> Result<(), AllocError>
-    requires { AllByRecursion (λ a. 2 + a.variable < frame_reach) args.now }
-    ensures { OnOk result (code.new ≡ code.old ++ map encoded (items.spaced_words (in_frame func.now) args.now)) }
+fn put_spaced(
+    code: &mut Seq<u32>,
+    homes: &SlotHomes<'_>,
+    args: &[Printed],
+) -> Result<(), AllocError>
+    requires { AllByRecursion (λ a. IsReached (variable_home (homes_in homes.now) a.variable)) args.now }
+    ensures { OnOk result (code.new ≡ code.old ++ map encoded (items.spaced_words (homes_in homes.now) args.now)) }
 {
     for arg in args {
         put(code, &environment_call(Call::PrintSpace))?;
-        put_printed(code, func, *arg)?;
+        put_printed(code, homes, *arg)?;
     }
     Ok(())
 }
@@ -298,15 +385,15 @@ fn put_spaced(code: &mut Seq<u32>, func: &SlotFunction, args: &[Printed]) -> Res
 #[tactic(auto, using(crate::proofs::Appending::put_then))]
 pub fn put_print(
     code: &mut Seq<u32>,
-    func: &SlotFunction,
+    homes: &SlotHomes<'_>,
     args: &[Printed],
 ) -> Result<(), AllocError>
-    requires { AllByRecursion (λ a. 2 + a.variable < frame_reach) args.now }
-    ensures { OnOk result (code.new ≡ code.old ++ map encoded (items.print_words (in_frame func.now) args.now)) }
+    requires { AllByRecursion (λ a. IsReached (variable_home (homes_in homes.now) a.variable)) args.now }
+    ensures { OnOk result (code.new ≡ code.old ++ map encoded (items.print_words (homes_in homes.now) args.now)) }
 {
     if let [first, rest @ ..] = args {
-        put_printed(code, func, *first)?;
-        put_spaced(code, func, rest)?;
+        put_printed(code, homes, *first)?;
+        put_spaced(code, homes, rest)?;
     }
     put(code, &environment_call(Call::PrintLine))
 }
@@ -319,7 +406,7 @@ pub fn put_alloc(code: &mut Seq<u32>, dest: Home, count: Home) -> Result<(), All
     requires dest { IsReached dest }
     requires count { IsReached count }
     ensures { OnOk result (code.new ≡ code.old ++ map encoded
-        (fetch_words 10 count ++ (alloc_words ++ fill_words 10 dest))) }
+        (moves.fetch_words 10 count ++ (operations.alloc_words ++ moves.fill_words 10 dest))) }
 {
     put_fetch(code, ARGUMENT, count)?;
     put(code, &environment_call(Call::Alloc))?;
@@ -330,7 +417,7 @@ pub fn put_alloc(code: &mut Seq<u32>, dest: Home, count: Home) -> Result<(), All
 #[tactic(auto, using(crate::proofs::Appending::put_then))]
 pub fn put_free(code: &mut Seq<u32>, pointer: Home) -> Result<(), AllocError>
     requires { IsReached pointer }
-    ensures { OnOk result (code.new ≡ code.old ++ map encoded (fetch_words 10 pointer ++ free_words)) }
+    ensures { OnOk result (code.new ≡ code.old ++ map encoded (moves.fetch_words 10 pointer ++ operations.free_words)) }
 {
     put_fetch(code, ARGUMENT, pointer)?;
     put(code, &environment_call(Call::Free))
@@ -342,13 +429,14 @@ pub fn put_store_item(code: &mut Seq<u32>, pointer: Home, value: Home) -> Result
     requires pointer { IsReached pointer }
     requires value { IsReached value }
     ensures { OnOk result (code.new ≡ code.old ++ map encoded
-        (fetch_words 5 pointer ++ (cell_words ++ (mark_cell_words ++ (fetch_words 5 value ++ store_cell_words))))) }
+        (moves.fetch_words 5 pointer ++ (operations.cell_words ++ (operations.mark_cell_words
+        ++ (moves.source_words 5 value ++ operations.store_cell_words (moves.register_for 5 value)))))) }
 {
     put_fetch(code, FIRST, pointer)?;
     put_cell(code)?;
     put_mark_cell(code)?;
-    put_fetch(code, FIRST, value)?;
-    put(code, &[sd(SECOND, FIRST, number(8))])
+    put_source(code, FIRST, value)?;
+    put_store_cell(code, register_for(FIRST, value))
 }
 
 /// The cell of a pointer into a home.
@@ -357,12 +445,12 @@ pub fn put_load_item(code: &mut Seq<u32>, dest: Home, pointer: Home) -> Result<(
     requires dest { IsReached dest }
     requires pointer { IsReached pointer }
     ensures { OnOk result (code.new ≡ code.old ++ map encoded
-        (fetch_words 5 pointer ++ (cell_words ++ (load_cell_words ++ fill_words 5 dest)))) }
+        (moves.fetch_words 5 pointer ++ (operations.cell_words ++ (operations.load_cell_words (moves.register_for 5 dest) ++ moves.target_words 5 dest)))) }
 {
     put_fetch(code, FIRST, pointer)?;
     put_cell(code)?;
-    put_load_cell(code)?;
-    put_fill(code, FIRST, dest)
+    put_load_cell(code, register_for(FIRST, dest))?;
+    put_target(code, FIRST, dest)
 }
 
 // ---- speculation
@@ -374,58 +462,20 @@ fn nop() -> Word
     addi(ZERO, ZERO, number(0))
 }
 
-// Keeps these slots in the words from `first` on.
-fn put_saves(
-    code: &mut Seq<u32>,
-    func: &SlotFunction,
-    slots: &[Slot],
-    first: u64,
-) -> Result<(), AllocError>
-    requires slots { AllByRecursion (λ slot. homes.slot_word func.now slot < frame_reach) slots.now }
-    requires first { first + length slots.now ≤ 2 ^ 28 }
-    ensures { OnOk result (code.new ≡ code.old ++ map encoded (save_words (moves_from (in_frame func.now) first (λ slot. true) 0 slots.now))) }
-{
-    for (k, slot) in slots.iter().enumerate() {
-        put_save(code, slot_home(func, *slot), first + k as u64)?;
-    }
-    Ok(())
-}
-
-// Takes these slots back from the words from `first` on.
-fn put_restores(
-    code: &mut Seq<u32>,
-    func: &SlotFunction,
-    slots: &[Slot],
-    first: u64,
-) -> Result<(), AllocError>
-    requires slots { AllByRecursion (λ slot. homes.slot_word func.now slot < frame_reach) slots.now }
-    requires first { first + length slots.now ≤ 2 ^ 28 }
-    ensures { OnOk result (code.new ≡ code.old ++ map encoded (restore_words (moves_from (in_frame func.now) first (λ slot. true) 0 slots.now))) }
-{
-    for (k, slot) in slots.iter().enumerate() {
-        put_restore(code, slot_home(func, *slot), first + k as u64)?;
-    }
-    Ok(())
-}
-
-/// Keeps the slots at a new level, where `depth` levels are kept.
+/// The `speculate` at a point: slots are kept at a new level.
 #[tactic(auto, using(crate::proofs::Appending::put_then))]
 pub fn put_speculate(
     code: &mut Seq<u32>,
+    homes: &SlotHomes<'_>,
     func: &SlotFunction,
-    depth: usize,
+    point: u32,
 ) -> Result<(), AllocError>
-    requires slots { AllByRecursion (λ slot. homes.slot_word func.now slot < frame_reach) func.now.slots }
-    requires levels { length func.now.slots * (depth + 2) < frame_reach }
+    requires slots { AllByRecursion (λ slot. IsReached ((homes_in homes.now).home slot)) func.now.slots }
+    requires levels { length func.now.slots * (depth_at func.now point + 2) < frame_reach }
     ensures { OnOk result (code.new ≡ code.old ++ map encoded
-        (save_words (level_moves (in_frame func.now) func.now (suc depth)) ++ items.nop_word ∷ [])) }
+        (moves.save_words (speculate_moves (homes_in homes.now) func.now point) ++ items.nop_word ∷ [])) }
 {
-    put_saves(
-        code,
-        func,
-        func.slots.as_slice(),
-        next_level_word(func, depth),
-    )?;
+    put_speculate_saves(code, homes, func, point)?;
     put_commit(code)
 }
 
@@ -436,54 +486,68 @@ pub fn put_commit(code: &mut Seq<u32>) -> Result<(), AllocError>
     put(code, &[nop()])
 }
 
-// Over the rest of a guard where register 5 isn't 0.
-fn over_rest(rest: u32) -> [Word; 2]
-    requires { 2 + rest ≤ most_words }
-    ensures { result ≡ mnemonics.beq 5 0 (pos 8) ∷ Word.Jal 0 (jump_offset 0 (2 + rest)) ∷ [] }
+// Over the rest of a guard where a register isn't 0.
+fn over_rest(condition: u8, rest: u32) -> [Word; 2]
+    requires condition { condition < 32 }
+    requires rest { 2 + rest ≤ most_words }
+    ensures { result ≡ mnemonics.beq condition 0 (pos 8) ∷ Word.Jal 0 (jump_offset 0 (2 + rest)) ∷ [] }
 {
     [
-        branch(Condition::Eq, FIRST, ZERO, 8),
+        branch(Condition::Eq, condition, ZERO, 8),
         jump(ZERO, 0, 2 + rest),
     ]
 }
 
-// The words of a guard before its last.
+// The words of the guard at a point before its last.
 #[tactic(auto, using(crate::proofs::Appending::put_then))]
 fn put_guard_front(
     code: &mut Seq<u32>,
+    homes: &SlotHomes<'_>,
     func: &SlotFunction,
-    depth: usize,
+    point: u32,
     condition: u32,
+    label: u32,
 ) -> Result<(), AllocError>
-    requires condition { 2 + condition < frame_reach }
-    requires slots { AllByRecursion (λ slot. homes.slot_word func.now slot < frame_reach) func.now.slots }
-    requires levels { length func.now.slots * (depth + 2) < frame_reach }
-    requires few { items.guard_front_size (in_frame func.now) func.now depth condition ≤ most_words }
-    ensures { OnOk result (code.new ≡ code.old ++ map encoded (items.guard_front (in_frame func.now) func.now depth condition)) }
+    requires condition { IsReached (variable_home (homes_in homes.now) condition) }
+    requires slots { AllByRecursion (λ slot. IsReached ((homes_in homes.now).home slot)) func.now.slots }
+    requires levels { length func.now.slots * (depth_at func.now point + 2) < frame_reach }
+    requires few { items.guard_front_size (homes_in homes.now) func.now point condition label ≤ most_words }
+    ensures { OnOk result (code.new ≡ code.old ++ map encoded (items.guard_front (homes_in homes.now) func.now point condition label)) }
 {
-    put_fetch(code, FIRST, variable_home(condition))?;
-    put(code, &over_rest(back_size(func, depth)))?;
-    put_restores(code, func, func.slots.as_slice(), level_word(func, depth))
+    let home = homes.variable(condition);
+    put_source(code, FIRST, home)?;
+    put(
+        code,
+        &over_rest(
+            register_for(FIRST, home),
+            guard_back_size(homes, func, point, label),
+        ),
+    )?;
+    put_guard_restores(code, homes, func, point, label)
 }
 
-/// A guard: where its variable doesn't hold true, the slots are taken back from the newest level, and control goes to an item.
+/// The guard at a point: where its variable doesn't hold true, slots are taken back from the newest level, and control goes to
+/// the item of its label, whose first word is `abort_to`.
 #[tactic(auto, using(crate::proofs::Appending::put_then))]
 pub fn put_guard(
     code: &mut Seq<u32>,
+    homes: &SlotHomes<'_>,
     func: &SlotFunction,
-    depth: usize,
+    point: u32,
     condition: u32,
+    label: u32,
     abort_to: u32,
 ) -> Result<(), AllocError>
-    requires here { length code.old + items.guard_front_size (in_frame func.now) func.now depth condition ≤ most_words }
-    requires condition { 2 + condition < frame_reach }
-    requires slots { AllByRecursion (λ slot. homes.slot_word func.now slot < frame_reach) func.now.slots }
-    requires levels { length func.now.slots * (depth + 2) < frame_reach }
+    requires here { length code.old + items.guard_front_size (homes_in homes.now) func.now point condition label ≤ most_words }
+    requires condition { IsReached (variable_home (homes_in homes.now) condition) }
+    requires slots { AllByRecursion (λ slot. IsReached ((homes_in homes.now).home slot)) func.now.slots }
+    requires levels { length func.now.slots * (depth_at func.now point + 2) < frame_reach }
     requires abort_to { abort_to ≤ most_words }
-    ensures { OnOk result (code.new ≡ code.old ++ map encoded (items.guard_front (in_frame func.now) func.now depth condition
-        ++ Word.Jal 0 (jump_offset (length code.old + items.guard_front_size (in_frame func.now) func.now depth condition) abort_to) ∷ [])) }
+    ensures { OnOk result (code.new ≡ code.old ++ map encoded (items.guard_front (homes_in homes.now) func.now point condition label
+        ++ Word.Jal 0 (jump_offset (length code.old + items.guard_front_size (homes_in homes.now) func.now point condition label) abort_to) ∷ [])) }
 {
-    let last = code.as_slice().len() as u32 + guard_front_size(func, depth, condition);
-    put_guard_front(code, func, depth, condition)?;
+    let last = code.as_slice().len() as u32
+        + guard_front_size(homes, func, point, condition, label);
+    put_guard_front(code, homes, func, point, condition, label)?;
     put(code, &[jump(ZERO, last, abort_to)])
 }

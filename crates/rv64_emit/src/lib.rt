@@ -1,13 +1,15 @@
 //! Makes the machine words of an accepted program.
 //!
-//! The program becomes code over slots. A first pass over it tells where functions and items begin, a second one appends
-//! their words; both take time in proportion to the words. `rv64_layout` says which words an item has and where they are,
-//! `rv64_emit_laws` that an image laid out so does what the program does.
+//! The program becomes code over slots, and `shadow_place` gives each of them a home: a register, or its own word of the frame.
+//! A first pass over the code tells where functions and items begin, a second one appends their words; both take time in
+//! proportion to the words. `rv64_layout` says which words an item has and where they are, `rv64_emit_laws` that an image laid
+//! out so does what the program does.
 #![tactic(auto)]
 
 ghost use Rattle.std.specs.Prelude.{◌≡◌, ◌≤◌, length, IfOk, IfErr};
 ghost use Rattle.rv64_emit.specs.declared.EmitFault.TheVariants.{Memory};
 ghost use Rattle.rv64_emit.specs.Refusal.{EmitRefuses};
+ghost use Rattle.rv64_emit.specs.Registers.{ImplementsInRegisters};
 ghost use Rattle.rv64_implements.specs.Implements.{Implements};
 ghost use Rattle.rv64_implements.specs.WordBounds.{IsStackSize, IsWithin};
 ghost use Rattle.rv64_words.specs.Region.{most_words};
@@ -15,21 +17,27 @@ ghost use Rattle.rv64_words.specs.Region.{most_words};
 mod assembly;
 mod bounds;
 mod frame;
+mod homes;
 mod image;
 mod item;
 mod items;
+mod moved;
+mod moves;
 mod operations;
 mod places;
 mod registers;
+mod saves;
 mod sequences;
 mod sizes;
 
 use crate::bounds::{fixed_bounds_within, stack_within};
+use crate::homes::ProgramHomes;
 use crate::image::image_of;
 use bril_checker::Checked;
 use bril_tree::limits::Limits;
 use bril_tree::literals::literals_are_in_range;
 use rv64_words::image::Image;
+use shadow_place::{all_lives, place};
 use slot_code::lower;
 use std::alloc::{AllocError, Global};
 use thiserror::Error;
@@ -57,7 +65,7 @@ impl From<AllocError> for EmitFault {
 }
 
 /// The image of an accepted program for runs under these limits: it does what the program does, on the machine of
-/// `rv64_words`. It has at most 250,000 words, and its stack has the words of the largest frame, `limits.frames` times.
+/// `rv64_words`. While it runs, each location of a function of at most 23 locations is in a register. It has at most 250,000 words, and its stack has the words of the largest frame, `limits.frames` times.
 ///
 /// `CodeTooBig` comes exactly where the sum of the word bounds passes 250,000: 32, 40 for each function, and each item's.
 /// `StackTooBig` comes exactly where the code fits and the stack would pass 8,388,608 words. `Memory` comes only where both are
@@ -65,6 +73,7 @@ impl From<AllocError> for EmitFault {
 /// function's locations, and memory is taken to count them. In any other program both bounds are told before any memory is taken.
 pub fn emit(alloc: Global, prog: &Checked, limits: Limits) -> Result<Image, EmitFault>
     ensures implements { IfOk result (λ image. Implements image prog.now.prog limits) }
+    ensures registers { IfOk result (λ image. ImplementsInRegisters image prog.now.prog limits) }
     ensures words { IfOk result (λ image. length image.words ≤ most_words) }
     ensures guards { IfOk result (λ image. length image.guards ≤ length image.words) }
     ensures stack { IfOk result (λ image. IsStackSize prog.now.prog limits image.stack) }
@@ -75,5 +84,8 @@ pub fn emit(alloc: Global, prog: &Checked, limits: Limits) -> Result<Image, Emit
     fixed_bounds_within(prog, limits)?;
     let slots = lower(alloc, prog)?;
     let stack = stack_within(prog, slots.funcs.as_slice(), limits)?;
-    Ok(image_of(alloc, &slots, limits, stack)?)
+    let lives = all_lives(alloc, prog)?;
+    let placed = place(alloc, prog, &slots, &lives)?;
+    let homes = ProgramHomes::of(&placed, lives.as_slice());
+    Ok(image_of(alloc, &homes, &slots, limits, stack)?)
 }

@@ -1,7 +1,7 @@
-// The words of the operations that compute, from registers 5 and 7 to register 5, and those of cells.
+// The words of the operations that compute, and those of cells.
 
-ghost use Rattle.std.specs.Prelude.{◌≡◌, ◌∷◌, [], ◌++◌, ◌≤◌, map, pos, OnOk};
-ghost use Rattle.rv64_sequences.specs.Operations.{unary_words, binary_words, unary_size, binary_size, int_to_char_words, division_words, pointer_words, same_words, not_greater_words, not_less_words, cell_words, load_cell_words, mark_cell_words};
+ghost use Rattle.std.specs.Prelude.{◌≡◌, ◌∷◌, [], ◌++◌, ◌<◌, ◌≤◌, map, pos, OnOk};
+ghost use Rattle.rv64_sequences.specs.Operations.{unary_words, unary_takes_any, binary_words, binary_takes_any, unary_size, binary_size, int_to_char_words, division_words, pointer_words, same_words, not_greater_words, not_less_words, cell_words, load_cell_words, mark_cell_words, store_cell_words};
 ghost use Rattle.rv64_words.specs.Encoding.{encoded};
 ghost use Rattle.rv64_words.specs.Mnemonics as mnemonics;
 
@@ -47,21 +47,47 @@ pub fn binary_size_of(operation: BinaryOp) -> u32
     }
 }
 
-// ---- one operand
+// ---- registers
 
-// Register 5 becomes 1 where it is 0, else 0.
-fn negated() -> Word
-    ensures { result ≡ mnemonics.sltiu 5 5 (pos 1) }
-{
-    with_immediate(ImmediateOperation::Sltiu, FIRST, FIRST, number(1))
-}
-
-/// An operation on register 5.
-pub fn put_unary(code: &mut Seq<u32>, operation: UnaryOp) -> Result<(), AllocError>
-    ensures { OnOk result (code.new ≡ code.old ++ map encoded (unary_words operation)) }
+/// Whether an operation on one operand takes it from any register, and puts its result into any.
+pub fn unary_takes_any_register(operation: UnaryOp) -> bool
+    ensures { result ≡ unary_takes_any operation }
 {
     match operation {
-        UnaryOp::Not => put(code, &[negated()]),
+        UnaryOp::IntToChar => false,
+        UnaryOp::Not | UnaryOp::CharToInt => true,
+    }
+}
+
+/// Whether an operation on two operands takes them from any registers, and puts its result into any.
+pub fn binary_takes_any_registers(operation: BinaryOp) -> bool
+    ensures { result ≡ binary_takes_any operation }
+{
+    match operation {
+        BinaryOp::PtrAdd => false,
+        _ => true,
+    }
+}
+
+// ---- one operand
+
+// Register d becomes 1 where register a is 0, else 0.
+fn negated(d: u8, a: u8) -> Word
+    requires d { d < 32 }
+    requires a { a < 32 }
+    ensures { result ≡ mnemonics.sltiu d a (pos 1) }
+{
+    with_immediate(ImmediateOperation::Sltiu, d, a, number(1))
+}
+
+/// An operation on register a, into register d; those that take no other use register 5.
+pub fn put_unary(code: &mut Seq<u32>, operation: UnaryOp, d: u8, a: u8) -> Result<(), AllocError>
+    requires d { d < 32 }
+    requires a { a < 32 }
+    ensures { OnOk result (code.new ≡ code.old ++ map encoded (unary_words operation d a)) }
+{
+    match operation {
+        UnaryOp::Not => put(code, &[negated(d, a)]),
         UnaryOp::CharToInt => Ok(()),
         UnaryOp::IntToChar => put_int_to_char(code),
     }
@@ -84,48 +110,71 @@ fn put_int_to_char(code: &mut Seq<u32>) -> Result<(), AllocError>
 
 // ---- two operands
 
-/// An operation on registers 5 and 7.
-pub fn put_binary(code: &mut Seq<u32>, operation: BinaryOp) -> Result<(), AllocError>
-    ensures { OnOk result (code.new ≡ code.old ++ map encoded (binary_words operation)) }
+// One word of an operation.
+fn computed(operation: RegisterOperation, d: u8, a: u8, b: u8) -> [Word; 1]
+    requires d { d < 32 }
+    requires a { a < 32 }
+    requires b { b < 32 }
+    ensures { result ≡ Word.Op operation d a b ∷ [] }
+{
+    [op(operation, d, a, b)]
+}
+
+// Whether one word gives 0, by register 5.
+fn computed_not(operation: RegisterOperation, d: u8, a: u8, b: u8) -> [Word; 2]
+    requires d { d < 32 }
+    requires a { a < 32 }
+    requires b { b < 32 }
+    ensures { result ≡ Word.Op operation 5 a b ∷ mnemonics.sltiu d 5 (pos 1) ∷ [] }
+{
+    [op(operation, FIRST, a, b), negated(d, FIRST)]
+}
+
+/// An operation on registers a and b, into register d; those that take no others use registers 5 and 7.
+pub fn put_binary(
+    code: &mut Seq<u32>,
+    operation: BinaryOp,
+    d: u8,
+    a: u8,
+    b: u8,
+) -> Result<(), AllocError>
+    requires d { d < 32 }
+    requires a { a < 32 }
+    requires b { b < 32 }
+    ensures { OnOk result (code.new ≡ code.old ++ map encoded (binary_words operation d a b)) }
 {
     match operation {
-        BinaryOp::Add => put(code, &[add(FIRST, FIRST, SECOND)]),
-        BinaryOp::Sub => put(code, &[op(RegisterOperation::Sub, FIRST, FIRST, SECOND)]),
-        BinaryOp::Mul => put(code, &[op(RegisterOperation::Mul, FIRST, FIRST, SECOND)]),
-        BinaryOp::Div => put_division(code),
-        BinaryOp::Eq | BinaryOp::Ceq => put(
-            code,
-            &[op(RegisterOperation::Sub, FIRST, FIRST, SECOND), negated()],
-        ),
-        BinaryOp::Lt | BinaryOp::Clt => put(
-            code,
-            &[op(RegisterOperation::Slt, FIRST, FIRST, SECOND)],
-        ),
-        BinaryOp::Gt | BinaryOp::Cgt => put(
-            code,
-            &[op(RegisterOperation::Slt, FIRST, SECOND, FIRST)],
-        ),
-        BinaryOp::Le | BinaryOp::Cle => put(
-            code,
-            &[op(RegisterOperation::Slt, FIRST, SECOND, FIRST), negated()],
-        ),
-        BinaryOp::Ge | BinaryOp::Cge => put(
-            code,
-            &[op(RegisterOperation::Slt, FIRST, FIRST, SECOND), negated()],
-        ),
-        BinaryOp::And => put(code, &[op(RegisterOperation::And, FIRST, FIRST, SECOND)]),
-        BinaryOp::Or => put(code, &[op(RegisterOperation::Or, FIRST, FIRST, SECOND)]),
+        BinaryOp::Add => put(code, &computed(RegisterOperation::Add, d, a, b)),
+        BinaryOp::Sub => put(code, &computed(RegisterOperation::Sub, d, a, b)),
+        BinaryOp::Mul => put(code, &computed(RegisterOperation::Mul, d, a, b)),
+        BinaryOp::Div => put_division(code, d, a, b),
+        BinaryOp::Eq | BinaryOp::Ceq => {
+            put(code, &computed_not(RegisterOperation::Sub, d, a, b))
+        }
+        BinaryOp::Lt | BinaryOp::Clt => put(code, &computed(RegisterOperation::Slt, d, a, b)),
+        BinaryOp::Gt | BinaryOp::Cgt => put(code, &computed(RegisterOperation::Slt, d, b, a)),
+        BinaryOp::Le | BinaryOp::Cle => {
+            put(code, &computed_not(RegisterOperation::Slt, d, b, a))
+        }
+        BinaryOp::Ge | BinaryOp::Cge => {
+            put(code, &computed_not(RegisterOperation::Slt, d, a, b))
+        }
+        BinaryOp::And => put(code, &computed(RegisterOperation::And, d, a, b)),
+        BinaryOp::Or => put(code, &computed(RegisterOperation::Or, d, a, b)),
         BinaryOp::PtrAdd => put_pointer_sum(code),
     }
 }
 
 // The quotient, or a fault where the divisor is 0.
-fn put_division(code: &mut Seq<u32>) -> Result<(), AllocError>
-    ensures { OnOk result (code.new ≡ code.old ++ map encoded division_words) }
+fn put_division(code: &mut Seq<u32>, d: u8, a: u8, b: u8) -> Result<(), AllocError>
+    requires d { d < 32 }
+    requires a { a < 32 }
+    requires b { b < 32 }
+    ensures { OnOk result (code.new ≡ code.old ++ map encoded (division_words d a b)) }
 {
-    put(code, &[branch(Condition::Ne, SECOND, ZERO, 16)])?;
+    put(code, &[branch(Condition::Ne, b, ZERO, 16)])?;
     put(code, &fault(Fault::DivZero))?;
-    put(code, &[op(RegisterOperation::Div, FIRST, FIRST, SECOND)])
+    put(code, &computed(RegisterOperation::Div, d, a, b))
 }
 
 // The sum of the offset in register 5 and of register 7 into register 7, and over the fault where it has 32 bits.
@@ -194,9 +243,10 @@ pub fn put_cell(code: &mut Seq<u32>) -> Result<(), AllocError>
     )
 }
 
-/// What the cell at the address in register 7 holds into register 5, or a fault.
-pub fn put_load_cell(code: &mut Seq<u32>) -> Result<(), AllocError>
-    ensures { OnOk result (code.new ≡ code.old ++ map encoded load_cell_words) }
+/// What the cell at the address in register 7 holds into register d, or a fault.
+pub fn put_load_cell(code: &mut Seq<u32>, d: u8) -> Result<(), AllocError>
+    requires { d < 32 }
+    ensures { OnOk result (code.new ≡ code.old ++ map encoded (load_cell_words d)) }
 {
     put(
         code,
@@ -206,7 +256,7 @@ pub fn put_load_cell(code: &mut Seq<u32>) -> Result<(), AllocError>
         ],
     )?;
     put(code, &fault(Fault::Uninit))?;
-    put(code, &[ld(FIRST, SECOND, number(8))])
+    put(code, &[ld(d, SECOND, number(8))])
 }
 
 /// The cell at the address in register 7 was stored.
@@ -217,4 +267,12 @@ pub fn put_mark_cell(code: &mut Seq<u32>) -> Result<(), AllocError>
         code,
         &[addi(FIRST, ZERO, number(1)), sd(SECOND, FIRST, number(0))],
     )
+}
+
+/// That cell gets register v.
+pub fn put_store_cell(code: &mut Seq<u32>, v: u8) -> Result<(), AllocError>
+    requires { v < 32 }
+    ensures { OnOk result (code.new ≡ code.old ++ map encoded (store_cell_words v)) }
+{
+    put(code, &[sd(SECOND, v, number(8))])
 }

@@ -1,17 +1,14 @@
-// Short sequences of words at the end of an image: constants, words of the frame, homes, faults and environment calls.
+// Short sequences of words at the end of an image: constants, words of the frame, faults and environment calls.
 
 ghost use Rattle.std.specs.Prelude.{◌≡◌, ◌+◌, ◌*◌, ◌^◌, ◌<◌, ◌≤◌, ◌∷◌, [], ◌++◌, map, pos, OnOk};
 ghost use Rattle.rv64_layout.specs.Items.{environment_words};
-ghost use Rattle.rv64_layout.specs.Fits.{IsReached};
-ghost use Rattle.rv64_sequences.specs.Moves.{fetch_words, fetch_size, fill_words, save_one, save_one_size, restore_one, restore_one_size};
 ghost use Rattle.rv64_sequences.specs.Sequences.{high_part, low_part, jump_offset, fits_12, fits_32, constant_words, long_constant_words, load_words, store_words, fault_words, frame_up_words, constant_size, load_size, store_size, frame_up_size};
 ghost use Rattle.rv64_words.specs.Calls.{call_number, fault_number};
 ghost use Rattle.rv64_words.specs.Encoding.{encoded};
 ghost use Rattle.rv64_words.specs.Region.{most_words};
 
 use crate::assembly::{add, addi, jal, ld, lui, sd, slli};
-use crate::registers::{ADDRESS, ARGUMENT, CALL, FIRST, FRAME, SECOND, ZERO};
-use bril_tree::home::Home;
+use crate::registers::{ADDRESS, ARGUMENT, CALL, FRAME, SECOND, ZERO};
 use bril_tree::limits::Fault;
 use bril_tree::sequence::Seq;
 use rv64_words::call::{Call, number_of_fault};
@@ -193,97 +190,6 @@ pub fn put_store(code: &mut Seq<u32>, rs2: u8, word: u64) -> Result<(), AllocErr
             sd(ADDRESS, rs2, low_digit(8 * word)),
         ],
     )
-}
-
-// ---- homes
-
-/// How many words bring what a home has into a register.
-pub fn fetch_size_of(home: Home) -> u32
-    ensures value { result ≡ fetch_size home }
-    ensures few { result ≤ 3 }
-{
-    match home {
-        Home::Reg(_) => 1,
-        Home::Frame(word) => load_size_of(word as u64),
-    }
-}
-
-/// What a home has into a register.
-pub fn put_fetch(code: &mut Seq<u32>, rd: u8, home: Home) -> Result<(), AllocError>
-    requires rd { rd < 32 }
-    requires home { IsReached home }
-    ensures { OnOk result (code.new ≡ code.old ++ map encoded (fetch_words rd home)) }
-{
-    match home {
-        Home::Reg(register) => put(code, &[addi(rd, register, number(0))]),
-        Home::Frame(word) => put_load(code, rd, word as u64),
-    }
-}
-
-/// A register into a home.
-pub fn put_fill(code: &mut Seq<u32>, rs: u8, home: Home) -> Result<(), AllocError>
-    requires rs { rs < 32 }
-    requires home { IsReached home }
-    ensures { OnOk result (code.new ≡ code.old ++ map encoded (fill_words rs home)) }
-{
-    match home {
-        Home::Reg(register) => put(code, &[addi(register, rs, number(0))]),
-        Home::Frame(word) => put_store(code, rs, word as u64),
-    }
-}
-
-/// How many words bring what a home has into a word of the frame.
-pub fn save_one_size_of(home: Home, word: u64) -> u32
-    ensures value { result ≡ save_one_size home word }
-    ensures few { result ≤ 6 }
-{
-    match home {
-        Home::Reg(_) => store_size_of(word),
-        Home::Frame(own) => load_size_of(own as u64) + store_size_of(word),
-    }
-}
-
-/// How many words bring a word of the frame into a home.
-pub fn restore_one_size_of(home: Home, word: u64) -> u32
-    ensures value { result ≡ restore_one_size home word }
-    ensures few { result ≤ 6 }
-{
-    match home {
-        Home::Reg(_) => load_size_of(word),
-        Home::Frame(own) => load_size_of(word) + store_size_of(own as u64),
-    }
-}
-
-/// What a home has into a word of the frame, by register 5 where it isn't in a register.
-#[tactic(auto, using(crate::proofs::Appending::put_then))]
-pub fn put_save(code: &mut Seq<u32>, home: Home, word: u64) -> Result<(), AllocError>
-    requires home { IsReached home }
-    requires word { word < 2 ^ 28 }
-    ensures { OnOk result (code.new ≡ code.old ++ map encoded (save_one home word)) }
-{
-    match home {
-        Home::Reg(register) => put_store(code, register, word),
-        Home::Frame(own) => {
-            put_load(code, FIRST, own as u64)?;
-            put_store(code, FIRST, word)
-        }
-    }
-}
-
-/// A word of the frame into a home, by register 5 where it isn't in a register.
-#[tactic(auto, using(crate::proofs::Appending::put_then))]
-pub fn put_restore(code: &mut Seq<u32>, home: Home, word: u64) -> Result<(), AllocError>
-    requires home { IsReached home }
-    requires word { word < 2 ^ 28 }
-    ensures { OnOk result (code.new ≡ code.old ++ map encoded (restore_one home word)) }
-{
-    match home {
-        Home::Reg(register) => put_load(code, register, word),
-        Home::Frame(own) => {
-            put_load(code, FIRST, word)?;
-            put_store(code, FIRST, own as u64)
-        }
-    }
 }
 
 // ---- frames

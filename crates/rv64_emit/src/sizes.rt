@@ -1,188 +1,182 @@
-// How many words items and functions have.
+// How many words items have.
 
-ghost use Rattle.std.specs.Prelude.{◌≡◌, ◌+◌, ◌≤◌, ◌<◌, ◌^◌, ◌*◌, true, length, suc};
-ghost use Rattle.std.specs.List.{AllByRecursion};
-ghost use Rattle.rv64_layout.specs.Homes as homes;
-ghost use Rattle.rv64_layout.specs.Homes.{in_frame, level_moves, moves_from};
-ghost use Rattle.rv64_layout.specs.Items as items;
-ghost use Rattle.rv64_sequences.specs.Moves.{save_size, restore_size};
-ghost use Rattle.rv64_sequences.specs.Sequences.{load_size, store_size};
-ghost use Rattle.rv64_words.specs.Region.{most_words};
+ghost use Rattle.std.specs.Prelude.{◌≡◌, ◌+◌, ◌*◌, ◌-◌, ◌^◌, ◌≤◌, ◌<◌, length};
+ghost use Rattle.rv64_emit.specs.Moved.{AreRegistersNear};
+ghost use Rattle.rv64_emit.specs.Placed.{homes_in};
 ghost use Rattle.rv64_layout.specs.Fits.{frame_reach};
+ghost use Rattle.rv64_layout.specs.Homes.{call_moves, depth_at, variable_home};
+ghost use Rattle.rv64_layout.specs.Items as items;
+ghost use Rattle.rv64_sequences.specs.Moves as moves;
+ghost use Rattle.rv64_sequences.specs.Operations.{unary_size, unary_takes_any};
+ghost use Rattle.rv64_words.specs.Region.{most_words};
 
-use crate::frame::{argument_word, level_word, next_level_word, slot_home, variable_word};
-use crate::sequences::{
-    frame_up_size_of, load_size_of, restore_one_size_of, save_one_size_of, store_size_of,
+use crate::frame::argument_word;
+use crate::homes::SlotHomes;
+use crate::moves::{
+    copy_size_of, fetch_size_of, fill_size_of, operand_size_of, result_size_of, source_size_of,
 };
-use slot_code::{Printed, Slot, SlotFunction};
+use crate::operations::{
+    binary_size_of, binary_takes_any_registers, unary_size_of, unary_takes_any_register,
+};
+use crate::saves::{call_restores_size, call_saves_size, guard_back_size};
+use crate::sequences::{frame_up_size_of, store_size_of};
+use bril_tree::home::Home;
+use bril_tree::operators::{BinaryOp, UnaryOp};
+use slot_code::{Printed, SlotFunction};
 
-// ---- parts of items
+// ---- operations
 
-/// How many words load a variable.
-pub fn load_variable_size(variable: u32) -> u32
-    ensures value { result ≡ load_size (2 + variable) }
-    ensures few { result ≤ 3 }
+// How many words compute from one home into another, with words of their own.
+fn computed_size(operation: UnaryOp, dest: Home, operand: Home) -> u32
+    ensures value { let any = unary_takes_any operation in result ≡ moves.operand_size any operand + (unary_size operation + moves.result_size any dest) }
+    ensures few { result ≤ 14 }
 {
-    load_size_of(variable_word(variable))
+    let any = unary_takes_any_register(operation);
+    operand_size_of(any, operand) + unary_size_of(operation) + result_size_of(any, dest)
 }
 
-/// How many words store a variable.
-pub fn store_variable_size(variable: u32) -> u32
-    ensures value { result ≡ store_size (2 + variable) }
-    ensures few { result ≤ 3 }
+/// How many words compute from one home into another.
+pub fn unary_item_size(operation: UnaryOp, dest: Home, operand: Home) -> u32
+    ensures value { result ≡ items.unary_item_size operation dest operand }
+    ensures few { result ≤ 14 }
 {
-    store_size_of(variable_word(variable))
+    match operation {
+        UnaryOp::CharToInt => copy_size_of(dest, operand),
+        UnaryOp::Not => computed_size(UnaryOp::Not, dest, operand),
+        UnaryOp::IntToChar => computed_size(UnaryOp::IntToChar, dest, operand),
+    }
 }
 
-/// How many words load two variables.
-pub fn operands_size(first: u32, second: u32) -> u32
-    ensures value { result ≡ load_size (2 + first) + load_size (2 + second) }
-    ensures few { result ≤ 6 }
+/// How many words compute from two homes into a third.
+pub fn binary_item_size(operation: BinaryOp, dest: Home, first: Home, second: Home) -> u32
+    ensures value { result ≡ items.binary_item_size operation dest first second }
+    ensures few { result ≤ 23 }
 {
-    load_variable_size(first) + load_variable_size(second)
+    let any = binary_takes_any_registers(operation);
+    operand_size_of(any, first)
+        + operand_size_of(any, second)
+        + binary_size_of(operation)
+        + result_size_of(any, dest)
 }
 
-/// How many words load one variable and store another.
-pub fn moved_size(from: u32, to: u32) -> u32
-    ensures value { result ≡ load_size (2 + from) + store_size (2 + to) }
-    ensures few { result ≤ 6 }
-{
-    load_variable_size(from) + store_variable_size(to)
-}
+// ---- calls and returns
 
 // How many words pass the arguments of a call.
-fn pass_size_of(func: &SlotFunction, args: &[u32]) -> u32
+fn pass_size_of(homes: &SlotHomes<'_>, func: &SlotFunction, args: &[u32]) -> u32
     requires frame { func.now.words < frame_reach }
     requires few { length args.now < frame_reach }
-    ensures value { result ≡ items.pass_size (in_frame func.now) func.now 0 args.now }
+    ensures value { result ≡ items.pass_size (homes_in homes.now) func.now 0 args.now }
     ensures few { result ≤ 6 * length args.now }
 {
     let mut size = 0;
     for (k, arg) in args.iter().enumerate() {
-        size += load_variable_size(*arg) + store_size_of(argument_word(func, k));
+        size += source_size_of(homes.variable(*arg)) + store_size_of(argument_word(func, k));
     }
     size
 }
 
-/// How many words of a call come before its jump.
-pub fn before_call_size(func: &SlotFunction, args: &[u32]) -> u32
+/// How many words of the call at a point come before its jump.
+pub fn before_call_size(
+    homes: &SlotHomes<'_>,
+    func: &SlotFunction,
+    point: u32,
+    dest: Option<u32>,
+    args: &[u32],
+) -> u32
+    requires point { point < 2 ^ 32 - 1 }
     requires frame { func.now.words < frame_reach }
-    requires few { length args.now < frame_reach }
-    ensures value { result ≡ items.before_call (in_frame func.now) func.now args.now }
-    ensures few { result ≤ 10 + 6 * length args.now }
+    requires passed { length args.now < frame_reach }
+    requires near { AreRegistersNear (homes_in homes.now) func.now }
+    requires few { items.before_call (homes_in homes.now) func.now point dest args.now ≤ most_words }
+    ensures { result ≡ items.before_call (homes_in homes.now) func.now point dest args.now }
 {
-    5 + pass_size_of(func, args) + frame_up_size_of(func.words)
+    let saves = call_saves_size(homes, func, point, dest);
+    5 + saves + pass_size_of(homes, func, args) + frame_up_size_of(func.words)
 }
 
+// How many words store the result of a call.
+fn call_result_size_of(homes: &SlotHomes<'_>, dest: Option<u32>) -> u32
+    ensures value { result ≡ items.call_result_size (homes_in homes.now) dest }
+    ensures few { result ≤ 3 }
+{
+    match dest {
+        Some(dest) => fill_size_of(homes.variable(dest)),
+        None => 0,
+    }
+}
+
+/// How many words of the call at a point come after its jump.
+pub fn after_call_size(
+    homes: &SlotHomes<'_>,
+    func: &SlotFunction,
+    point: u32,
+    dest: Option<u32>,
+) -> u32
+    requires point { point < 2 ^ 32 - 1 }
+    requires near { AreRegistersNear (homes_in homes.now) func.now }
+    requires few { moves.restore_size (call_moves (homes_in homes.now) func.now point dest) ≤ most_words }
+    ensures { result ≡ moves.restore_size (call_moves (homes_in homes.now) func.now point dest) + items.call_result_size (homes_in homes.now) dest }
+{
+    call_restores_size(homes, func, point, dest) + call_result_size_of(homes, dest)
+}
+
+/// How many words bring a returned value.
+pub fn returned_size_of(homes: &SlotHomes<'_>, value: Option<u32>) -> u32
+    ensures value { result ≡ items.returned_size (homes_in homes.now) value }
+    ensures few { result ≤ 3 }
+{
+    match value {
+        Some(variable) => fetch_size_of(homes.variable(variable)),
+        None => 0,
+    }
+}
+
+// ---- output
+
 // How many words a variable that is printed has.
-fn printed_size(printed: Printed) -> u32
-    ensures value { result ≡ 2 + load_size (2 + printed.variable) }
+fn printed_size(homes: &SlotHomes<'_>, printed: Printed) -> u32
+    ensures value { result ≡ 2 + moves.fetch_size (variable_home (homes_in homes.now) printed.variable) }
     ensures few { result ≤ 5 }
 {
-    2 + load_variable_size(printed.variable)
+    2 + fetch_size_of(homes.variable(printed.variable))
 }
 
 // How many words variables have that are printed, each after a space.
-fn spaced_size_of(func: &SlotFunction, args: &[Printed]) -> u32
-    requires { items.spaced_size (in_frame func.now) args.now ≤ most_words }
-    ensures { result ≡ items.spaced_size (in_frame func.now) args.now }
+fn spaced_size_of(homes: &SlotHomes<'_>, args: &[Printed]) -> u32
+    requires { items.spaced_size (homes_in homes.now) args.now ≤ most_words }
+    ensures { result ≡ items.spaced_size (homes_in homes.now) args.now }
 {
     let mut size = 0;
     for arg in args {
-        size += 2 + printed_size(*arg);
+        size += 2 + printed_size(homes, *arg);
     }
     size
 }
 
 /// How many words a print has.
-pub fn print_size_of(func: &SlotFunction, args: &[Printed]) -> u32
-    requires { items.print_size (in_frame func.now) args.now ≤ most_words }
-    ensures { result ≡ items.print_size (in_frame func.now) args.now }
+pub fn print_size_of(homes: &SlotHomes<'_>, args: &[Printed]) -> u32
+    requires { items.print_size (homes_in homes.now) args.now ≤ most_words }
+    ensures { result ≡ items.print_size (homes_in homes.now) args.now }
 {
     match args {
         [] => 2,
-        [first, rest @ ..] => 2 + printed_size(*first) + spaced_size_of(func, rest),
-    }
-}
-
-/// How many words store the result of a call.
-pub fn result_size_of(func: &SlotFunction, dest: Option<u32>) -> u32
-    ensures value { result ≡ items.result_size (in_frame func.now) dest }
-    ensures few { result ≤ 3 }
-{
-    match dest {
-        Some(dest) => store_variable_size(dest),
-        None => 0,
-    }
-}
-
-/// How many words load a returned value.
-pub fn returned_size_of(func: &SlotFunction, value: Option<u32>) -> u32
-    ensures value { result ≡ items.returned_size (in_frame func.now) value }
-    ensures few { result ≤ 3 }
-{
-    match value {
-        Some(variable) => load_variable_size(variable),
-        None => 0,
+        [first, rest @ ..] => 2 + printed_size(homes, *first) + spaced_size_of(homes, rest),
     }
 }
 
 // ---- speculation
 
-// How many words keep these slots in the words from `first` on.
-fn saves_size(func: &SlotFunction, slots: &[Slot], first: u64) -> u32
-    requires slots { AllByRecursion (λ slot. homes.slot_word func.now slot < frame_reach) slots.now }
-    requires first { first + length slots.now ≤ 2 ^ 28 }
-    requires few { save_size (moves_from (in_frame func.now) first (λ slot. true) 0 slots.now) ≤ most_words }
-    ensures { result ≡ save_size (moves_from (in_frame func.now) first (λ slot. true) 0 slots.now) }
+/// How many words of the guard at a point come before its last.
+pub fn guard_front_size(
+    homes: &SlotHomes<'_>,
+    func: &SlotFunction,
+    point: u32,
+    condition: u32,
+    label: u32,
+) -> u32
+    requires levels { length func.now.slots * (depth_at func.now point + 2) < frame_reach }
+    requires few { items.guard_front_size (homes_in homes.now) func.now point condition label ≤ most_words }
+    ensures { result ≡ items.guard_front_size (homes_in homes.now) func.now point condition label }
 {
-    let mut size = 0;
-    for (k, slot) in slots.iter().enumerate() {
-        size += save_one_size_of(slot_home(func, *slot), first + k as u64);
-    }
-    size
-}
-
-// How many words take these slots back from the words from `first` on.
-fn restores_size(func: &SlotFunction, slots: &[Slot], first: u64) -> u32
-    requires slots { AllByRecursion (λ slot. homes.slot_word func.now slot < frame_reach) slots.now }
-    requires first { first + length slots.now ≤ 2 ^ 28 }
-    requires few { restore_size (moves_from (in_frame func.now) first (λ slot. true) 0 slots.now) ≤ most_words }
-    ensures { result ≡ restore_size (moves_from (in_frame func.now) first (λ slot. true) 0 slots.now) }
-{
-    let mut size = 0;
-    for (k, slot) in slots.iter().enumerate() {
-        size += restore_one_size_of(slot_home(func, *slot), first + k as u64);
-    }
-    size
-}
-
-/// How many words keep the slots at a new level, where `depth` levels are kept.
-pub fn kept_size(func: &SlotFunction, depth: usize) -> u32
-    requires slots { AllByRecursion (λ slot. homes.slot_word func.now slot < frame_reach) func.now.slots }
-    requires levels { length func.now.slots * (depth + 2) < frame_reach }
-    requires few { save_size (level_moves (in_frame func.now) func.now (suc depth)) ≤ most_words }
-    ensures { result ≡ save_size (level_moves (in_frame func.now) func.now (suc depth)) }
-{
-    saves_size(func, func.slots.as_slice(), next_level_word(func, depth))
-}
-
-/// How many words take the slots of a level back.
-pub fn back_size(func: &SlotFunction, depth: usize) -> u32
-    requires slots { AllByRecursion (λ slot. homes.slot_word func.now slot < frame_reach) func.now.slots }
-    requires levels { length func.now.slots * (depth + 2) < frame_reach }
-    requires few { restore_size (level_moves (in_frame func.now) func.now depth) ≤ most_words }
-    ensures { result ≡ restore_size (level_moves (in_frame func.now) func.now depth) }
-{
-    restores_size(func, func.slots.as_slice(), level_word(func, depth))
-}
-
-/// How many words of a guard come before its last.
-pub fn guard_front_size(func: &SlotFunction, depth: usize, condition: u32) -> u32
-    requires levels { length func.now.slots * (depth + 2) < frame_reach }
-    requires slots { AllByRecursion (λ slot. homes.slot_word func.now slot < frame_reach) func.now.slots }
-    requires few { items.guard_front_size (in_frame func.now) func.now depth condition ≤ most_words }
-    ensures { result ≡ items.guard_front_size (in_frame func.now) func.now depth condition }
-{
-    load_variable_size(condition) + 2 + back_size(func, depth)
+    source_size_of(homes.variable(condition)) + 2 + guard_back_size(homes, func, point, label)
 }

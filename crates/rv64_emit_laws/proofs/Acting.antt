@@ -63,6 +63,9 @@ module _ (S : Setting) (f : bril.Frame) (g : SlotFunction) (there : slice_get S.
   pub assigned_in : (x : Location) → Contains (assigns_at (slice_get (code_of S.p f.function) f.point)) x → In x (slot_assigns item)
   assigned_in x c = let m = made in subst (In x) m.assigns (in_contains x (assigns_at (slice_get (code_of S.p f.function) f.point)) c)
 
+  pub assigns_it : (x : Location) → In x (slot_assigns item) → Contains (assigns_at (slice_get (code_of S.p f.function) f.point)) x
+  assigns_it x i = let m = made in contains_in x (assigns_at (slice_get (code_of S.p f.function) f.point)) (subst (In x) (sym m.assigns) i)
+
 -- lists of what is read
 pub each_live : (P : Location → Type 0) (xs : List ℕ) → ((x : Location) → In x (map Variable xs) → P x) → AllByRecursion (λ x. P (Variable x)) xs
 each_live P [] all = tt
@@ -85,6 +88,7 @@ pub record Leads (S : Setting) (f : bril.Frame) (point : ℕ) : Type 0 where
 -- on to the next point, from an item that assigns a slot alone
 pub record Fills (S : Setting) (f : bril.Frame) (dest : Slot) : Type 0 where
   pub at : Contains (branches_at (code_of S.p f.function) f.point) (onward f.point)
+  pub assigns : Contains (assigns_at (slice_get (code_of S.p f.function) f.point)) (slot_location dest)
   pub only : (x : Location) → Contains (assigns_at (slice_get (code_of S.p f.function) f.point)) x → x ≡ slot_location dest
 
 in_none : (xs : List Location) → xs ≡ [] → (x : Location) → In x xs → ⊥
@@ -111,5 +115,6 @@ module _ (S : Setting) (f : bril.Frame) (g : SlotFunction) (there : slice_get S.
   pub fills_slot : (dest : Slot) → In (onward f.point) (slot_branches f.point item) → slot_assigns item ≡ slot_location dest ∷ [] → Fills S f dest
   fills_slot dest i one = record {
     at = goes S f g there item here (onward f.point) i;
+    assigns = assigns_it S f g there item here (slot_location dest) (subst (In (slot_location dest)) (sym one) (inl refl));
     only = λ x c. in_one (slot_assigns item) (slot_location dest) one x (assigned_in S f g there item here x c);
   }

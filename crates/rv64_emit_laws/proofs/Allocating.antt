@@ -1,31 +1,33 @@
 -- The item that makes a block.
 use Rattle.std.proofs.Common.{◌≡◌, ◌≢◌, ℕ, suc, ◌+◌, ◌*◌, ◌^◌, ◌≤◌, refl, sym, ap, ◌∙◌, subst, arith, List, [], ◌∷◌, ◌++◌, length, Option, Some, None, pos, inl}
 use Rattle.std.specs.Prelude.{slice_get}
-use Rattle.std.specs.Int.{w64, cast_unsigned}
 use Rattle.bril_tree.specs.declared.limits.Fault.{Fault}
 use Rattle.bril_tree.specs.declared.value.Value.TheVariants.{Int, Ptr}
 use Rattle.bril_tree.specs.Memory.{allocation_fault, cells_of, new_block}
 use Rattle.bril_tree.specs.Outcome.{int_of}
 use Rattle.bril_tree.specs.State as bril
-use Rattle.bril_tree.specs.Operand as location
 use Rattle.bril_tree.specs.Step.{step, allocates}
 use Rattle.rv64_blocks.specs.Laws.{CoreHolds}
 use Rattle.rv64_blocks.proofs.Allocating.{faults_alike, allocation_keeps}
 use Rattle.rv64_blocks.proofs.Lists.{pushed_length}
-use Rattle.rv64_layout.proofs.Bounding.{load_most}
 use Rattle.rv64_stretches.specs.Core.{Core, with_block}
 use Rattle.rv64_stretches.proofs.Calls.{block_fault, allocate, allocate_faults}
-use Rattle.rv64_stretches.proofs.Going.{Going}
-use Rattle.rv64_sequences.specs.Sequences.{load_size, store_words}
+use Rattle.rv64_stretches.proofs.Cores.{apart_from, assigned_other}
+use Rattle.rv64_stretches.proofs.Going.{begin}
+use Rattle.rv64_sequences.specs.Moves.{fetch_size, fetch_words, fill_words}
+use Rattle.rv64_sequences.proofs.Sizes.{fetch_most}
+use Rattle.rv64_words.specs.declared.word.Word.{Word}
 use Rattle.rv64_words.specs.declared.word.Word.TheVariants.{Ecall}
+use Rattle.rv64_words.specs.Mnemonics.{addi}
 use Rattle.rv64_words.specs.State.{State}
 use Rattle.slot_code.specs.declared.item.Slot.TheVariants.{Variable}
 use Rattle.slot_code.specs.declared.item.SlotItem.TheVariants.{Alloc}
 use Rattle.slot_code.specs.Laws.{IsSlotOf}
 use Rattle.rv64_emit_laws.proofs.Acting.{fills_slot}
-use Rattle.rv64_emit_laws.proofs.Arriving.{Moves, faults_moves, here, step_at}
-use Rattle.rv64_emit_laws.proofs.Asking.{asked, asked_keeps, asked_memory, asked_value, asked_word, asks, number_is}
-use Rattle.rv64_emit_laws.proofs.Operands.{read_is, reads}
+use Rattle.rv64_emit_laws.proofs.Arriving.{Moves, faults_moves, here, home_here, memory_kept, step_at}
+use Rattle.rv64_emit_laws.proofs.Asking.{Asked, asks}
+use Rattle.rv64_emit_laws.proofs.Holding.{keeps_homes}
+use Rattle.rv64_emit_laws.proofs.Operands.{holds_slot, read_is, unchanged}
 use Rattle.rv64_emit_laws.proofs.Ready.{HoldsInt}
 use Rattle.rv64_emit_laws.proofs.Relation.{HasWord, RunsAlike}
 use Rattle.rv64_emit_laws.proofs.Remembering.{KeepsFrames, fills_moves}
@@ -35,11 +37,9 @@ ten_not_six : ◌≢◌ {A = ℕ} 10 6
 ten_not_six = λ e. absurd (omega arith)
 
 module _ (S : Setting) (s : bril.State) (t : State) (r : RunsAlike S s t) (dest count : ℕ) (item : slice_get r.holds.function.code r.frame.point ≡ Some (Alloc dest count)) (held : HoldsInt r.frame.locations count) (in_count : IsSlotOf r.holds.function (Variable count)) where
-  argument_is : asked_word S s t r 6 count ≡ cast_unsigned w64 held.number
-  argument_is = (asked_value S s t r 6 count (Int held.number) (reads S s t r (Alloc dest count) item (location.Variable count) (inl refl)) held.is).is
-
-  fault_is : block_fault (sizes S) (asked S s t r 6 count) (asked_word S s t r 6 count) ≡ allocation_fault S.limits.cells s.blocks held.number
-  fault_is = ap (block_fault (sizes S) (asked S s t r 6 count)) argument_is ∙ faults_alike (sizes S) S.limits.cells s.blocks (asked S s t r 6 count) refl (asked_memory S s t r 6 count) held.number held.fits
+  -- the words behind the argument and the number of the call
+  abbrev rest : List Word
+  rest = Ecall ∷ fill_words 10 (home_here S s t r (Variable dest))
 
   -- the step, where it is known whether there is a block
   stepped : (o : Option Fault) → allocation_fault S.limits.cells s.blocks held.number ≡ o → step S.p S.limits s ≡ allocates S.p S.limits o held.number (Some dest) r.frame r.older s
@@ -48,44 +48,58 @@ module _ (S : Setting) (s : bril.State) (t : State) (r : RunsAlike S s t) (dest 
       ∙ (ap (λ v. allocates S.p S.limits (allocation_fault S.limits.cells s.blocks (int_of v)) (int_of v) (Some dest) r.frame r.older s) (read_is r.frame.locations (Variable count) (Int held.number) held.is)
       ∙ ap (λ f. allocates S.p S.limits f held.number (Some dest) r.frame r.older s) e)
 
-  before : Going S.image (sizes S) (here S s t r) r.core (0 + load_size (2 + count) + 1) (here S s t r + load_size (2 + count) + 1) (asked S s t r 6 count) (Ecall ∷ store_words 10 (2 + dest))
-  before = asks S s t r 6 count (Ecall ∷ store_words 10 (2 + dest)) in_count (its_words S r.frame.function r.holds.function r.frame.point (Alloc dest count) r.holds.there item)
+  before : Asked S s t r 6 count (Int held.number) 0 (here S s t r) r.core rest
+  before =
+      asks S s t r 6 count (Int held.number) (omega arith) (holds_slot S s t r (Alloc dest count) item (Variable count) (Int held.number) (inl refl) in_count held.is) (unchanged S s t r)
+      (begin S.image (sizes S) (here S s t r) r.core (fetch_words 10 (home_here S s t r (Variable count)) ++ (addi 17 0 (pos 6) ∷ rest)) (its_words S r.frame.function r.holds.function r.frame.point (Alloc dest count) r.holds.there item))
 
-  abbrev blocks_now : List bril.Block
-  blocks_now = s.blocks ++ new_block (cells_of held.number) ∷ []
+  module _ (a : Asked S s t r 6 count (Int held.number) 0 (here S s t r) r.core rest) where
+    memory : CoreHolds (sizes S) s.blocks a.core
+    memory = memory_kept S s.blocks r.core a.core a.keeps r.memory
 
-  abbrev last : Core
-  last = with_block (asked_word S s t r 6 count) (asked S s t r 6 count)
+    fault_is : block_fault (sizes S) a.core (a.core.registers 10) ≡ allocation_fault S.limits.cells s.blocks held.number
+    fault_is = ap (block_fault (sizes S) a.core) a.word.is ∙ faults_alike (sizes S) S.limits.cells s.blocks a.core refl memory held.number held.fits
 
-  block_kept : KeepsFrames S s t r last
-  block_kept =
-      let k = asked_keeps S s t r 6 count in
-      record { frame = record { zero_register = k.zero_register; frame_register = k.frame_register; frames_left = k.frames_left }; stack = k.stack; printed = k.printed; arrivals = k.arrivals }
+    abbrev blocks_now : List bril.Block
+    blocks_now = s.blocks ++ new_block (cells_of held.number) ∷ []
 
-  pointer_is : HasWord (length blocks_now) (Ptr (suc (length s.blocks)) (pos 0)) (suc r.core.blocks * 2 ^ 32)
-  pointer_is =
-      let made : r.core.blocks ≡ length s.blocks = r.memory.count in
-      let long : length (s.blocks ++ new_block (cells_of held.number) ∷ []) ≡ suc (length s.blocks) = pushed_length s.blocks (new_block (cells_of held.number)) in
-      let whole : suc (length s.blocks) * 2 ^ 32 ≡ suc (length s.blocks) * 2 ^ 32 + 0 = omega arith in
-      record { is = ap (λ x. suc x * 2 ^ 32) made ∙ whole; known = omega arith }
+    abbrev last : Core
+    last = with_block (a.core.registers 10) a.core
 
-  allocated : allocation_fault S.limits.cells s.blocks held.number ≡ None → CoreHolds (sizes S) blocks_now last
-  allocated none =
-      subst (λ x. CoreHolds (sizes S) blocks_now (with_block x (asked S s t r 6 count))) (sym argument_is) (allocation_keeps (sizes S) S.limits.cells s.blocks (asked S s t r 6 count) refl (asked_memory S s t r 6 count) held.number none)
+    block_kept : KeepsFrames S s t r last
+    block_kept =
+        let k = keeps_homes r.core a.core a.keeps in
+        record {
+          homes = record { zero_register = k.zero_register; frame_register = k.frame_register; frames_left = k.frames_left; homes = λ x is. assigned_other a.core.registers 10 _ x (apart_from 10 x refl is) ∙ k.homes x is; stack = k.stack };
+          printed = a.keeps.printed;
+          arrivals = a.keeps.arrivals;
+        }
 
-  by_fault : 128 ≤ S.cost → IsSlotOf r.holds.function (Variable dest) → (o : Option Fault) → allocation_fault S.limits.cells s.blocks held.number ≡ o → Moves S s t
-  by_fault dear in_dest (Some kind) e =
-      let size = load_most (2 + count) in
-      let ends = allocate_faults S.image (sizes S) kind (number_is S s t r 6 count (omega arith)) (fault_is ∙ e) before in
-      faults_moves S s t r kind (asked S s t r 6 count) (0 + load_size (2 + count) + 1 + 1) (stepped (Some kind) e) (asked_keeps S s t r 6 count) ends (omega arith) (omega arith)
-  by_fault dear in_dest None e =
-      let size = load_most (2 + count) in
-      let there = next_entry S r.frame.function r.holds.function r.frame.point (Alloc dest count) r.holds.there item in
-      let g = allocate S.image (sizes S) (number_is S s t r 6 count (omega arith)) (fault_is ∙ e) before in
-      let long : length (s.blocks ++ new_block (cells_of held.number) ∷ []) ≡ suc (length s.blocks) = pushed_length s.blocks (new_block (cells_of held.number)) in
-      fills_moves S s t r blocks_now (Variable dest) (Ptr (suc (length s.blocks)) (pos 0)) 10 last (0 + load_size (2 + count) + 1 + 1) (here S s t r + load_size (2 + count) + 1 + 1) (omega arith) in_dest (fills_slot S r.frame r.holds.function r.holds.there (Alloc dest count) item (Variable dest) (inl refl) refl) ten_not_six
-      pointer_is block_kept (allocated e) (stepped None e) g (omega arith) (omega arith)
+    pointer_is : HasWord (length blocks_now) (Ptr (suc (length s.blocks)) (pos 0)) (suc a.core.blocks * 2 ^ 32)
+    pointer_is =
+        let made : a.core.blocks ≡ length s.blocks = a.keeps.blocks ∙ r.memory.count in
+        let long : length blocks_now ≡ suc (length s.blocks) = pushed_length s.blocks (new_block (cells_of held.number)) in
+        let whole : suc (length s.blocks) * 2 ^ 32 ≡ suc (length s.blocks) * 2 ^ 32 + 0 = omega arith in
+        record { is = ap (λ x. suc x * 2 ^ 32) made ∙ whole; known = omega arith }
+
+    allocated : allocation_fault S.limits.cells s.blocks held.number ≡ None → CoreHolds (sizes S) blocks_now last
+    allocated none = subst (λ x. CoreHolds (sizes S) blocks_now (with_block x a.core)) (sym a.word.is) (allocation_keeps (sizes S) S.limits.cells s.blocks a.core refl memory held.number none)
+
+    by_fault : 128 ≤ S.cost → IsSlotOf r.holds.function (Variable dest) → (o : Option Fault) → allocation_fault S.limits.cells s.blocks held.number ≡ o → Moves S s t
+    by_fault dear in_dest (Some kind) e =
+        let size = fetch_most (home_here S s t r (Variable count)) in
+        let next = next_entry S r.frame.function r.holds.function r.frame.point (Alloc dest count) r.holds.there item in
+        let ends = allocate_faults S.image (sizes S) kind a.number_is (fault_is ∙ e) a.going in
+        faults_moves S s t r kind a.core (0 + fetch_size (home_here S s t r (Variable count)) + 1 + 1) (stepped (Some kind) e) a.keeps ends (omega arith) (omega arith) (omega arith)
+    by_fault dear in_dest None e =
+        let home = home_here S s t r (Variable count) in
+        let size = fetch_most home in
+        let there = next_entry S r.frame.function r.holds.function r.frame.point (Alloc dest count) r.holds.there item in
+        let g = allocate S.image (sizes S) a.number_is (fault_is ∙ e) a.going in
+        let long : length blocks_now ≡ suc (length s.blocks) = pushed_length s.blocks (new_block (cells_of held.number)) in
+        fills_moves S s t r blocks_now (Variable dest) (Ptr (suc (length s.blocks)) (pos 0)) 10 last (0 + fetch_size home + 1 + 1) (here S s t r + fetch_size home + 1 + 1) (omega arith) in_dest
+        (fills_slot S r.frame r.holds.function r.holds.there (Alloc dest count) item (Variable dest) (inl refl) refl) ten_not_six pointer_is block_kept (allocated e) (stepped None e) g (omega arith) (omega arith)
 
 pub alloc_moves : (S : Setting) (s : bril.State) (t : State) (r : RunsAlike S s t) (dear : 128 ≤ S.cost) (dest count : ℕ) → slice_get r.holds.function.code r.frame.point ≡ Some (Alloc dest count) → HoldsInt r.frame.locations count →
     IsSlotOf r.holds.function (Variable dest) → IsSlotOf r.holds.function (Variable count) → Moves S s t
-alloc_moves S s t r dear dest count item held in_dest in_count = by_fault S s t r dest count item held in_count dear in_dest (allocation_fault S.limits.cells s.blocks held.number) refl
+alloc_moves S s t r dear dest count item held in_dest in_count = by_fault S s t r dest count item held in_count (before S s t r dest count item held in_count) dear in_dest (allocation_fault S.limits.cells s.blocks held.number) refl

@@ -1,53 +1,59 @@
 -- The item that calls a function.
-use Rattle.std.proofs.Common.{◌≡◌, ◌≢◌, ℕ, suc, ◌+◌, ◌-◌, ◌*◌, ◌%◌, ◌^◌, ◌<◌, ◌≤◌, ◌⊎◌, inl, inr, Bool, true, false, cond, eqb, ltb, not, refl, sym, ap, ◌∙◌, subst, arith, List, [], ◌∷◌, ◌++◌, le_trans, length, map, mul-le-mul_right, Option, None, Some, pos, negsuc}
+use Rattle.std.proofs.Common.{◌≡◌, ◌≢◌, ℕ, suc, ◌+◌, ◌-◌, ◌*◌, ◌%◌, ◌^◌, ◌<◌, ◌≤◌, inl, Bool, true, false, cond, eqb, ltb, not, refl, sym, ap, ◌∙◌, subst, arith, List, [], ◌∷◌, ◌++◌, le_trans, length, map, mul-le-mul_right, Option, Some, pos, negsuc}
 use Rattle.std.specs.Prelude.{slice_get}
-use Rattle.std.specs.List.{AllByRecursion}
+use Rattle.std.specs.List.{AllByRecursion, Contains}
+use Rattle.std.proofs.lemmas.Bool.Decides.{nat_tests}
+use Rattle.std.proofs.lemmas.List.{length-map}
+use Rattle.bril_tree.specs.declared.limits.End.TheVariants.{Faulted}
+use Rattle.bril_tree.specs.declared.limits.Fault.TheVariants as fault
+use Rattle.bril_tree.specs.declared.value.Value.{Value}
+use Rattle.bril_tree.specs.Assigned.{assigns_at}
 use Rattle.bril_tree.specs.Edge as edge
 use Rattle.bril_tree.specs.Live.{IsLive, Later}
 use Rattle.bril_tree.specs.Locals.{location_value}
 use Rattle.bril_tree.specs.Operand.{Location}
-use Rattle.bril_tree.specs.Operand as location
-use Rattle.std.proofs.lemmas.Bool.Decides.{nat_tests}
-use Rattle.bril_tree.specs.declared.limits.End.TheVariants.{Faulted}
-use Rattle.bril_tree.specs.declared.limits.Fault.TheVariants as fault
-use Rattle.bril_tree.specs.declared.value.Value.{Value}
 use Rattle.bril_tree.specs.State as bril
-use Rattle.placement_laws.specs.Homes.{slot_of}
-use Rattle.placement_laws.specs.Needed.{IsNeeded, Live}
 use Rattle.bril_tree.specs.Step.{code_of, faulted, new_frame, step, with_frames}
-use Rattle.rv64_layout.specs.Homes.{in_frame, slot_word}
-use Rattle.rv64_layout.specs.Items.{before_call, call_words, pass_size, pass_words, result_words, return_word}
-use Rattle.rv64_layout.proofs.Bounding.{frame_up_most, pass_most}
+use Rattle.placement_laws.specs.Homes.{slot_of}
+use Rattle.placement_laws.specs.Needed.{Live}
+use Rattle.rv64_layout.specs.Homes.{call_moves as kept_moves, is_loaded, opening_moves, outlives, slot_word}
+use Rattle.rv64_layout.specs.Items.{after_call, before_call, call_words, pass_size, pass_words, return_word}
+use Rattle.rv64_layout.proofs.Bounding.{call_moves_most, frame_up_most, opening_most, pass_most}
 use Rattle.rv64_stretches.specs.Core.{Core, put, written}
-use Rattle.rv64_values.proofs.Kept.{keeps_called_off}
 use Rattle.rv64_stretches.proofs.Cores.{assigned_here, assigned_other}
-use Rattle.rv64_stretches.proofs.Going.{Going, begin, not_taken, onward, plain, store, taken}
+use Rattle.rv64_stretches.proofs.Going.{Going, begin, begin_there, not_taken, plain, store, taken}
 use Rattle.rv64_sequences.specs.Frames.{Reaches}
+use Rattle.rv64_sequences.specs.Moves.{Restored, Saved, home_word, restore_size, restore_words, save_size, save_words}
 use Rattle.rv64_sequences.specs.Sequences.{fault_words, frame_up_size, frame_up_words, jump_offset}
 use Rattle.rv64_sequences.proofs.Ends.{called_off, finishes}
 use Rattle.rv64_sequences.proofs.Frames.{frame_up, framed_up}
 use Rattle.rv64_sequences.proofs.Jumps.{call_to}
+use Rattle.rv64_values.proofs.Kept.{keeps_called_off}
 use Rattle.rv64_words.specs.declared.word.Word.{Word}
 use Rattle.rv64_words.specs.declared.word.Word.TheVariants.{Jal, Sd}
 use Rattle.rv64_words.specs.Mnemonics.{addi}
 use Rattle.rv64_words.specs.Region.{stack_base}
 use Rattle.rv64_words.specs.State.{State, assigned}
+use Rattle.slot_code.specs.declared.item.Slot.{Slot}
 use Rattle.slot_code.specs.declared.item.Slot.TheVariants.{Variable}
 use Rattle.slot_code.specs.declared.item.SlotItem.TheVariants.{Call}
 use Rattle.slot_code.specs.declared.slots.SlotFunction.{SlotFunction}
 use Rattle.slot_code.specs.Laws.{IsSlotOf}
-use Rattle.rv64_emit_laws.specs.Homes.{saved_at}
-use Rattle.rv64_emit_laws.proofs.Acting.{each_live, goes}
-use Rattle.rv64_emit_laws.proofs.Arriving.{Moves, arrive, faults_moves, guards_by, here, memory_by, step_at}
-use Rattle.rv64_emit_laws.proofs.Frames.{arguments_hold, deeper, live_fits, older_kept, slots_fit, variables_fit}
+use Rattle.rv64_emit_laws.specs.Homes.{home_at}
+use Rattle.rv64_emit_laws.proofs.Acting.{assigns_it, each_live, goes}
+use Rattle.rv64_emit_laws.proofs.Between.{comes_in, comes_on}
+use Rattle.rv64_emit_laws.proofs.Entries.{opening_inner}
+use Rattle.rv64_emit_laws.proofs.Arriving.{Moves, arrive, away, faults_moves, guards_by, here, memory_by, step_at}
+use Rattle.rv64_emit_laws.proofs.Frames.{deeper, live_fits, live_in, older_kept, slots_fit, variables_fit}
 use Rattle.rv64_emit_laws.proofs.Holding.{source, stack_few, stack_room}
+use Rattle.rv64_emit_laws.proofs.Homes.{homes_in, origin, serving, usable_in}
+use Rattle.rv64_emit_laws.proofs.Keeping.{arguments_home, call_chooses, call_passes, home_stays, home_unwritten, loads_own, low_kept, opening_passes, other_variable, own_holds, saves_own, stack_kept}
 use Rattle.rv64_emit_laws.proofs.Operands.{reads}
-use Rattle.rv64_emit_laws.proofs.Passing.{Passed, arguments_passed}
+use Rattle.rv64_emit_laws.proofs.Passing.{Passed, arguments_passed, rest_on}
 use Rattle.rv64_emit_laws.proofs.Ready.{CallFinds}
-use Rattle.rv64_emit_laws.proofs.Relation.{FramesHold, HasWord, RunsAlike}
+use Rattle.rv64_emit_laws.proofs.Relation.{FramesHold, HasWord, RunsAlike, own_word}
 use Rattle.rv64_emit_laws.proofs.Setting.{Setting, entry_of, its_words, next_entry, sizes, start_of, widest}
-use Rattle.rv64_emit_laws.proofs.Sources.{SourceAt, source_at}
-use Rattle.rv64_emit_laws.proofs.Stretches.{ends_in, landed}
+use Rattle.rv64_emit_laws.proofs.Stretches.{ends_in, landed, with_end}
 
 module _ (S : Setting) (s : bril.State) (t : State) (r : RunsAlike S s t) (dest : Option ℕ) (function : ℕ) (args : List ℕ)
     (item : slice_get r.holds.function.code r.frame.point ≡ Some (Call dest function args)) (dear : 128 + 8 * length args ≤ S.cost) where
@@ -59,18 +65,29 @@ module _ (S : Setting) (s : bril.State) (t : State) (r : RunsAlike S s t) (dest 
   frameless none =
       let h = r.holds in
       let k = here S s t r in
+      let homes = S.homes r.frame.function in
       let zero_is : r.core.registers 0 ≡ 0 = h.zero_is in
       let left : r.core.registers 8 + suc (length r.older) ≡ S.limits.frames = h.left in
       let same : r.core.registers 8 ≡ r.core.registers 0 = grind (arith, nat_tests) in
       let full : ltb (suc (length r.older)) S.limits.frames ≡ false = grind (arith, nat_tests) in
-      let g0 = begin S.image (sizes S) k r.core (call_words (in_frame h.function) h.function k dest (start_of S function) args) (its_words S r.frame.function h.function r.frame.point (Call dest function args) h.there item) in
+      let g0 = begin S.image (sizes S) k r.core (call_words homes h.function r.frame.point k dest (start_of S function) args) (its_words S r.frame.function h.function r.frame.point (Call dest function args) h.there item) in
       let low : 8 < 2 ^ 64 = omega arith in
       let ends = finishes S.image (sizes S) 8 (Faulted fault.Frames) low zero_is refl (not_taken S.image (sizes S) none g0) in
       let is : step S.p S.limits s ≡ faulted fault.Frames s = step_at S s t r (Some (Call dest function args)) item ∙ ap (λ b. cond b (with_frames (new_frame function values ∷ r.frame ∷ r.older) s) (faulted fault.Frames s)) full in
       let count : 0 + 1 + 1 + 1 + 1 ≡ 4 = refl in
-      faults_moves S s t r fault.Frames (called_off 8 r.core) 4 is (keeps_called_off r.core 8) (ends_in 4 count ends) (omega arith) (omega arith)
+      let next = next_entry S r.frame.function h.function r.frame.point (Call dest function args) h.there item in
+      faults_moves S s t r fault.Frames (called_off 8 r.core) 4 is (keeps_called_off r.core 8) (ends_in 4 count ends) (omega arith) (omega arith) (omega arith)
 
-  -- ---- the new frame
+  -- ---- the cores of a call
+
+  -- when one frame less may be made
+  abbrev counted_core : Core
+  counted_core = written r.core 8 ((r.core.registers 8 + (2 ^ 64 - 1)) % 2 ^ 64)
+
+  -- homes are as before
+  counted_homes : (x : Location) → IsSlotOf r.holds.function (slot_of x) → home_word counted_core r.holds.base (home_at (S.homes r.frame.function) x) ≡ home_word r.core r.holds.base (home_at (S.homes r.frame.function) x)
+  counted_homes x in_g =
+      home_unwritten r.core 8 ((r.core.registers 8 + (2 ^ 64 - 1)) % 2 ^ 64) r.holds.base (home_at (S.homes r.frame.function) x) refl (usable_in S r.frame.function r.holds.function r.holds.there (slot_of x) in_g)
 
   -- the stack when the frame at word n was made: its first two words are the way back and the base of the frame before
   abbrev topped : (ℕ → ℕ) → ℕ → ℕ → ℕ → (ℕ → ℕ)
@@ -82,82 +99,119 @@ module _ (S : Setting) (s : bril.State) (t : State) (r : RunsAlike S s t) (dest 
   top_other : (f : ℕ → ℕ) (n two way k : ℕ) → k ≢ n → k ≢ n + 1 → topped f n two way k ≡ f k
   top_other f n two way k first second = assigned_other (assigned f (n + 1) two) n way k first ∙ assigned_other f (n + 1) two k second
 
-  new_holds : (callee : SlotFunction) → slice_get S.slots.funcs function ≡ Some callee → (finds : CallFinds S.p S.slots r.frame dest function args) → (d e last : Core) →
-      Passed (length s.blocks) d e (r.holds.base + r.holds.function.words) 0 values → d.stack ≡ r.core.stack →
-      last.stack ≡ topped e.stack (r.holds.base + r.holds.function.words) (stack_base + 8 * r.holds.base) (4 * return_word (in_frame r.holds.function) r.holds.function (here S s t r) args) →
-      last.registers 2 ≡ stack_base + 8 * (r.holds.base + r.holds.function.words) → last.registers 0 ≡ 0 → last.registers 8 + suc (suc (length r.older)) ≡ S.limits.frames →
-      FramesHold S (length s.blocks) (new_frame function values) (r.frame ∷ r.older) last
-  new_holds callee there finds d e last passed same stack two zero_is left = record {
-    function = callee;
-    there = there;
-    base = n;
-    at = two;
-    zero_is = zero_is;
-    left = left;
-    deep = deeper h.base func.words (widest S) (length r.older) h.deep (S.laid.frames r.frame.function func h.there);
-    holds = record { homes_hold = record { at = new_home }; saves_hold = tt; steady = tt };
-    older_hold = (
-      record {
-        function = func;
-        there = h.there;
-        dest = dest;
-        args = args;
-        here = item;
-        takes = finds.takes;
-        alone = finds.alone;
-        below = h.base;
-        ends = refl;
-        deep = h.deep;
-        way = ap (λ m. m n) stack ∙ assigned_here (assigned e.stack (n + 1) (stack_base + 8 * h.base)) n (4 * return_word (in_frame func) func (here S s t r) args);
-        old = ap (λ m. m (n + 1)) stack ∙ top_next e.stack n (stack_base + 8 * h.base) (4 * return_word (in_frame func) func (here S s t r) args);
-        kept = λ x v live own held. (let fits = live_fits S r.frame func h.there x (suc r.frame.point) live in
-            subst (HasWord (length s.blocks) v) (sym (under (h.base + slot_word func (slot_of x)) (omega arith)))
-            (h.holds.homes_hold.at x v (Live (Later r.frame.point (edge.onward r.frame.point) (inl (goes S r.frame func h.there (Call dest function args) item (edge.onward r.frame.point) (inl refl), refl)) own live)) held));
-      },
-      older_kept S (length s.blocks) r.frame.function h.base r.older r.core.stack last.stack (λ k low. under k (omega (arith, fit))) h.older_hold,
-    );
-  }
-    where
-      h : FramesHold S (length s.blocks) r.frame r.older r.core
-      h = r.holds
+  -- the word to which the called function returns
+  abbrev back : ℕ
+  back = return_word (S.homes r.frame.function) r.holds.function r.frame.point (here S s t r) dest args
 
-      func : SlotFunction
-      func = r.holds.function
+  -- What a call did: it kept registers in the caller's frame, passed arguments, made the frame, and the called function loaded
+  -- arguments into registers.
+  record Called (callee : SlotFunction) (last : Core) : Type 0 where
+    kept : Core
+    passed : Core
+    made : Core
+    keeps : Saved r.holds.base (kept_moves (S.homes r.frame.function) r.holds.function r.frame.point dest) counted_core kept
+    passes : Passed (length s.blocks) kept passed (r.holds.base + r.holds.function.words) 0 values
+    tops : made.stack ≡ topped passed.stack (r.holds.base + r.holds.function.words) (stack_base + 8 * r.holds.base) (4 * back)
+    loads : Restored (r.holds.base + r.holds.function.words) (opening_moves (S.homes function) callee) made last
+    base : made.registers 2 ≡ stack_base + 8 * (r.holds.base + r.holds.function.words)
+    null : made.registers 0 ≡ 0
+    left : made.registers 8 + suc (suc (length r.older)) ≡ S.limits.frames
 
-      n : ℕ
-      n = r.holds.base + r.holds.function.words
+  -- ---- the new frame
 
-      origin : SourceAt S.p r.frame.function r.holds.function
-      origin = source S (length s.blocks) r.frame r.older r.core r.holds
+  module _ (finds : CallFinds S.p S.slots r.frame dest function args) (last : Core) (c : Called finds.callee last) where
+    -- the new frame's words are as it was made
+    opened : (k : ℕ) → last.stack k ≡ c.made.stack k
+    opened k = stack_kept S function finds.callee finds.there 0 (is_loaded (S.homes function) finds.callee) (opening_passes (S.homes function) finds.callee) (r.holds.base + r.holds.function.words) c.made last c.loads k
 
-      fit : 2 + length r.holds.function.slots ≤ r.holds.function.words
-      fit = slots_fit origin.function r.holds.function origin.is
+    -- and those of older frames as the call kept them
+    under : (k : ℕ) → k < r.holds.base + r.holds.function.words → last.stack k ≡ c.kept.stack k
+    under k lt =
+        let n = r.holds.base + r.holds.function.words in
+        let first : k ≢ n = (λ x. absurd (omega arith)) in
+        let second : k ≢ n + 1 = (λ x. absurd (omega arith)) in
+        let low : k < n + (2 + 0) = omega arith in
+        opened k ∙ (ap (λ m. m k) c.tops ∙ (top_other c.passed.stack n (stack_base + 8 * r.holds.base) (4 * back) k first second ∙ c.passes.below k low))
 
-      under : (k : ℕ) → k < n → last.stack k ≡ r.core.stack k
-      under k lt =
-          let first : k ≢ n = (λ x. absurd (omega arith)) in
-          let second : k ≢ n + 1 = (λ x. absurd (omega arith)) in
-          let low : k < n + (2 + 0) = omega arith in
-          ap (λ m. m k) stack ∙ (top_other e.stack n (stack_base + 8 * h.base) (4 * return_word (in_frame func) func (here S s t r) args) k first second ∙ (passed.below k low ∙ ap (λ m. m k) same))
+    -- ---- what the caller needs
 
-      over : (x : ℕ) → last.stack (n + (2 + x)) ≡ e.stack (n + (2 + x))
-      over x =
-          let first : n + (2 + x) ≢ n = (λ y. absurd (omega arith)) in
-          let second : n + (2 + x) ≢ n + 1 = (λ y. absurd (omega arith)) in
-          ap (λ m. m (n + (2 + x))) stack ∙ top_other e.stack n (stack_base + 8 * h.base) (4 * return_word (in_frame func) func (here S s t r) args) (n + (2 + x)) first second
+    low : (k : ℕ) → k < r.holds.base + 2 → last.stack k ≡ r.core.stack k
+    low k lt =
+        let h = r.holds in
+        let o = source S (length s.blocks) r.frame r.older r.core h in
+        let fit = slots_fit o.function h.function o.is in
+        under k (omega arith) ∙ low_kept S r.frame.function h.function h.there (suc r.frame.point) (outlives (S.homes r.frame.function) r.frame.point dest) (call_passes (S.homes r.frame.function) r.frame.point dest) h.base counted_core c.kept c.keeps k lt
 
-      none_some : {v : Value} → None ≡ Some v → ⊥
-      none_some x = cc
+    kept_word : (x : Location) → IsLive (code_of S.p r.frame.function) x (suc r.frame.point) → (Contains (assigns_at (slice_get (code_of S.p r.frame.function) r.frame.point)) x → ⊥) →
+        own_word r.holds.function r.holds.base last.stack x ≡ home_word r.core r.holds.base (home_at (S.homes r.frame.function) x)
+    kept_word x live not_own =
+        let h = r.holds in
+        let homes = S.homes r.frame.function in
+        let in_x = live_in S r.frame h.function h.there x (suc r.frame.point) live in
+        let fits = live_fits S r.frame h.function h.there x (suc r.frame.point) live in
+        let told = ((serving S r.frame.function h.function h.there).live (suc r.frame.point) x).1 live in
+        let other = other_variable dest x (λ i. not_own (assigns_it S r.frame h.function h.there (Call dest function args) item x i)) in
+        under (h.base + slot_word h.function (slot_of x)) (omega arith)
+        ∙ (own_holds S r.frame.function h.function h.there (suc r.frame.point) (outlives homes r.frame.point dest) (call_passes homes r.frame.point dest) h.base counted_core c.kept c.keeps (slot_of x) in_x
+        (λ register. call_chooses homes r.frame.point dest (slot_of x) told other register)
+        ∙ counted_homes x in_x)
 
-      argument : (x : ℕ) (v : Value) → ((i : ℕ) × (x ≡ 0 + i) × (slice_get values i ≡ Some v)) ⊎ (bril.no_values x ≡ Some v) → HasWord (length s.blocks) v (last.stack (n + (2 + x)))
-      argument x v (inl w) =
-          let place : n + (2 + (0 + w.0)) ≡ n + (2 + x) = (let at : x ≡ 0 + w.0 = w.1 in omega arith) in
-          subst (HasWord (length s.blocks) v) (ap e.stack place ∙ sym (over x)) (passed.holds w.0 v w.2)
-      argument x v (inr w) = absurd (none_some w)
+    kept : (x : Location) (v : Value) → IsLive (code_of S.p r.frame.function) x (suc r.frame.point) → (Contains (assigns_at (slice_get (code_of S.p r.frame.function) r.frame.point)) x → ⊥) → location_value r.frame.locations x ≡ Some v →
+        HasWord (length s.blocks) v (own_word r.holds.function r.holds.base last.stack x)
+    kept x v live not_own held =
+        let h = r.holds in
+        let next = goes S r.frame h.function h.there (Call dest function args) item (edge.onward r.frame.point) (inl refl) in
+        subst (HasWord (length s.blocks) v) (sym (kept_word x live not_own)) (h.holds.homes_hold.at x v (Live (Later r.frame.point (edge.onward r.frame.point) (inl (next, refl)) not_own live)) held)
 
-      new_home : (x : Location) (v : Value) → IsNeeded (code_of S.p function) (saved_at (in_frame callee)) 0 x → location_value (new_frame function values).locations x ≡ Some v → HasWord (length s.blocks) v (last.stack (n + slot_word callee (slot_of x)))
-      new_home (location.Variable x) v needed held = argument x v (arguments_hold values 0 bril.no_values x v held)
-      new_home (location.Shadow x) v needed held = absurd (none_some held)
+    -- ---- what the called function needs
+
+    given : (i : ℕ) (v : Value) → slice_get values i ≡ Some v → HasWord (length s.blocks) v (c.made.stack (r.holds.base + r.holds.function.words + (2 + i)))
+    given i v e =
+        let n = r.holds.base + r.holds.function.words in
+        let first : n + (2 + i) ≢ n = (λ y. absurd (omega arith)) in
+        let second : n + (2 + i) ≢ n + 1 = (λ y. absurd (omega arith)) in
+        let place : n + (2 + (0 + i)) ≡ n + (2 + i) = omega arith in
+        let same : c.made.stack (n + (2 + i)) ≡ c.passed.stack (n + (2 + i)) = ap (λ m. m (n + (2 + i))) c.tops ∙ top_other c.passed.stack n (stack_base + 8 * r.holds.base) (4 * back) (n + (2 + i)) first second in
+        subst (HasWord (length s.blocks) v) (ap c.passed.stack place ∙ sym same) (c.passes.holds i v e)
+
+    few_values : length values ≤ finds.callee.args
+    few_values = let many : length values ≡ length args = length-map args (bril.read r.frame.locations.vars) in let few = finds.few in omega arith
+
+    new_holds : FramesHold S (length s.blocks) (new_frame function values) (r.frame ∷ r.older) last
+    new_holds = record {
+      function = finds.callee;
+      there = finds.there;
+      base = r.holds.base + r.holds.function.words;
+      at = c.loads.rest.frame_register ∙ c.base;
+      zero_is = c.loads.rest.zero_register ∙ c.null;
+      left = ap (λ y. y + suc (suc (length r.older))) c.loads.rest.frames_left ∙ c.left;
+      deep = deeper r.holds.base r.holds.function.words (widest S) (length r.older) r.holds.deep (S.laid.frames r.frame.function r.holds.function r.holds.there);
+      holds = record {
+        homes_hold = arguments_home S (length s.blocks) function finds.callee finds.there values few_values (r.holds.base + r.holds.function.words) c.made last c.loads given;
+        saves_hold = tt;
+        steady = tt;
+      };
+      older_hold = (
+        record {
+          function = r.holds.function;
+          there = r.holds.there;
+          dest = dest;
+          args = args;
+          here = item;
+          takes = finds.takes;
+          alone = finds.alone;
+          below = r.holds.base;
+          ends = refl;
+          deep = r.holds.deep;
+          way = opened (r.holds.base + r.holds.function.words) ∙ (ap (λ m. m (r.holds.base + r.holds.function.words)) c.tops ∙ assigned_here (assigned c.passed.stack (r.holds.base + r.holds.function.words + 1) (stack_base + 8 * r.holds.base)) (r.holds.base + r.holds.function.words) (4 * back));
+          old = opened (r.holds.base + r.holds.function.words + 1) ∙ (ap (λ m. m (r.holds.base + r.holds.function.words + 1)) c.tops ∙ top_next c.passed.stack (r.holds.base + r.holds.function.words) (stack_base + 8 * r.holds.base) (4 * back));
+          kept = kept;
+        },
+        older_kept S (length s.blocks) r.frame.function r.holds.base r.older r.core.stack last.stack low r.holds.older_hold,
+      );
+    }
+
+  -- ---- the words of the call
 
   -- the core when the frame was made, and the way back kept in its first word
   abbrev made_core : Core → ℕ → Core
@@ -169,11 +223,11 @@ module _ (S : Setting) (s : bril.State) (t : State) (r : RunsAlike S s t) (dest 
       let n = r.holds.base + r.holds.function.words in
       ap (λ x. topped e.stack n x link) two ∙ ap (topped e.stack n (stack_base + 8 * r.holds.base)) is
 
-  made_left : (d e : Core) (link : ℕ) → d.registers 8 ≡ (r.core.registers 8 + (2 ^ 64 - 1)) % 2 ^ 64 → e.registers 8 ≡ d.registers 8 → 1 ≤ r.core.registers 8 → (made_core e link).registers 8 + suc (suc (length r.older)) ≡ S.limits.frames
-  made_left d e link first same some =
+  made_left : (e : Core) (link : ℕ) → e.registers 8 ≡ counted_core.registers 8 → 1 ≤ r.core.registers 8 → (made_core e link).registers 8 + suc (suc (length r.older)) ≡ S.limits.frames
+  made_left e link same some =
       let few : S.limits.frames ≤ 65536 = S.limits.few_frames in
       let left : r.core.registers 8 + suc (length r.older) ≡ S.limits.frames = r.holds.left in
-      let now : e.registers 8 ≡ (r.core.registers 8 + (2 ^ 64 - 1)) % 2 ^ 64 = same ∙ first in
+      let now : e.registers 8 ≡ (r.core.registers 8 + (2 ^ 64 - 1)) % 2 ^ 64 = same in
       omega arith
 
   made_step : ltb (suc (length r.older)) S.limits.frames ≡ true → step S.p S.limits s ≡ with_frames (new_frame function values ∷ r.frame ∷ r.older) s
@@ -181,31 +235,35 @@ module _ (S : Setting) (s : bril.State) (t : State) (r : RunsAlike S s t) (dest 
       step_at S s t r (Some (Call dest function args)) item
       ∙ ap (λ b. cond b (with_frames (new_frame function values ∷ r.frame ∷ r.older) s) (faulted fault.Frames s)) room
 
+  -- how many words the call has from its fifth one to its jump
+  abbrev keeping : ℕ
+  keeping = save_size (kept_moves (S.homes r.frame.function) r.holds.function r.frame.point dest)
+
+  abbrev passing : ℕ
+  passing = pass_size (S.homes r.frame.function) r.holds.function 0 args
+
   -- the jump of the call is where its words before it end, and the next word is the way back
-  at_jump : here S s t r + 1 + length (fault_words 8) + 1 + pass_size (in_frame r.holds.function) r.holds.function 0 args + frame_up_size r.holds.function.words ≡ here S s t r + before_call (in_frame r.holds.function) r.holds.function args
+  at_jump : here S s t r + 1 + length (fault_words 8) + 1 + keeping + passing + frame_up_size r.holds.function.words ≡ here S s t r + before_call (S.homes r.frame.function) r.holds.function r.frame.point dest args
   at_jump = omega arith
 
-  at_back : 4 * (here S s t r + 1 + length (fault_words 8) + 1 + pass_size (in_frame r.holds.function) r.holds.function 0 args + frame_up_size r.holds.function.words + 1) ≡ 4 * return_word (in_frame r.holds.function) r.holds.function (here S s t r) args
+  at_back : 4 * (here S s t r + 1 + length (fault_words 8) + 1 + keeping + passing + frame_up_size r.holds.function.words + 1) ≡ 4 * back
   at_back = omega arith
-
-  -- the core when one frame less may be made
-  abbrev counted_core : Core
-  counted_core = written r.core 8 ((r.core.registers 8 + (2 ^ 64 - 1)) % 2 ^ 64)
 
   -- the words of the call after its arguments
   abbrev last_words : List Word
   last_words =
       frame_up_words r.holds.function.words
-      ++ Jal 1 (jump_offset (here S s t r + before_call (in_frame r.holds.function) r.holds.function args) (start_of S function)) ∷ result_words (in_frame r.holds.function) dest
+      ++ Jal 1 (jump_offset (here S s t r + before_call (S.homes r.frame.function) r.holds.function r.frame.point dest args) (start_of S function)) ∷ after_call (S.homes r.frame.function) r.holds.function r.frame.point dest
 
   -- the arguments were passed: the new frame becomes the frame
-  made_moves : (finds : CallFinds S.p S.slots r.frame dest function args) (e : Core) → Passed (length s.blocks) counted_core e (r.holds.base + r.holds.function.words) 0 values →
-      1 ≤ r.core.registers 8 → r.holds.base + r.holds.function.words + finds.callee.words ≤ S.image.stack → 2 ≤ finds.callee.words →
-      Going S.image (sizes S) (here S s t r) r.core (0 + 1 + 1 + pass_size (in_frame r.holds.function) r.holds.function 0 args) (here S s t r + 1 + length (fault_words 8) + 1 + pass_size (in_frame r.holds.function) r.holds.function 0 args) e last_words → Moves S s t
-  made_moves finds e passed one_left within two_words g =
+  made_moves : (finds : CallFinds S.p S.slots r.frame dest function args) (d e : Core) → Saved r.holds.base (kept_moves (S.homes r.frame.function) r.holds.function r.frame.point dest) counted_core d →
+      Passed (length s.blocks) d e (r.holds.base + r.holds.function.words) 0 values → 1 ≤ r.core.registers 8 → r.holds.base + r.holds.function.words + finds.callee.words ≤ S.image.stack → 2 ≤ finds.callee.words →
+      Going S.image (sizes S) (here S s t r) r.core (0 + 1 + 1 + keeping + passing) (here S s t r + 1 + length (fault_words 8) + 1 + keeping + passing) e last_words → Moves S s t
+  made_moves finds d e saved passed one_left within two_words g =
       let h = r.holds in
       let func = h.function in
       let callee = finds.callee in
+      let homes = S.homes r.frame.function in
       let k = here S s t r in
       let n = h.base + func.words in
       let few = stack_few S in
@@ -214,27 +272,50 @@ module _ (S : Setting) (s : bril.State) (t : State) (r : RunsAlike S s t) (dest 
       let low_next = S.laid.few_entries r.frame.function (suc r.frame.point) in
       let next = next_entry S r.frame.function func r.frame.point (Call dest function args) h.there item in
       let low_start = S.laid.few_starts function in
-      let two_is : e.registers 2 ≡ stack_base + 8 * h.base = passed.same.frame_register ∙ h.at in
+      let rest = rest_on counted_core d e saved.rest passed.rest in
+      let two_is : e.registers 2 ≡ stack_base + 8 * h.base = rest.frame_register ∙ h.at in
       let reach : Reaches (sizes S) e 2 h.base (func.words + 1) = record { base = two_is; inside = omega arith; few = few } in
       let g3 = frame_up S.image (sizes S) h.base func.words reach g in
-      let small_jump : k + before_call (in_frame func) func args < 2 ^ 20 = omega arith in
+      let small_jump : k + before_call homes func r.frame.point dest args < 2 ^ 20 = omega arith in
       let small_start : start_of S function < 2 ^ 20 = omega arith in
-      let runs4 = call_to S.image (sizes S) (k + before_call (in_frame func) func args) (start_of S function) at_jump small_jump small_start g3 in
-      let g5 = onward S.image (sizes S) {ws = Sd 2 1 (pos 0) ∷ []} runs4 (S.laid.begins function callee finds.there) in
+      let runs4 = call_to S.image (sizes S) (k + before_call homes func r.frame.point dest args) (start_of S function) at_jump small_jump small_start g3 in
+      let loads = restore_words (opening_moves (S.homes function) callee) in
+      let g5 = begin_there S.image (sizes S) (Sd 2 1 (pos 0) ∷ loads) runs4 (S.laid.begins function callee finds.there) in
       let at_base : (stack_base + 8 * n + 0) % 2 ^ 64 ≡ stack_base + 8 * n = omega arith in
       let in_n : n < S.image.stack = omega arith in
-      let g6 = store S.image (sizes S) {ws = []} n at_base in_n g5 in
-      let link = 4 * (k + 1 + length (fault_words 8) + 1 + pass_size (in_frame func) func 0 args + frame_up_size func.words + 1) in
-      let last = made_core e link in
-      let holds =
-      new_holds callee finds.there finds counted_core e last passed (refl {a = r.core.stack}) (made_stack e link (return_word (in_frame func) func k args) two_is at_back) (refl {a = stack_base + 8 * n})
-      (passed.same.zero_register ∙ h.zero_is) (made_left counted_core e link refl passed.same.frames_left one_left) in
-      let most = pass_most (in_frame func) func 0 args in
+      let g6 = store S.image (sizes S) {ws = loads} n at_base in_n g5 in
+      let link = 4 * (k + 1 + length (fault_words 8) + 1 + keeping + passing + frame_up_size func.words + 1) in
+      let made = made_core e link in
+      let opening = loads_own S function callee finds.there 0 (is_loaded (S.homes function) callee) (opening_passes (S.homes function) callee) n within made [] (refl {a = stack_base + 8 * n}) (with_end loads g6) in
+      let last = opening.core in
+      let called : Called callee last = record {
+        kept = d;
+        passed = e;
+        made = made;
+        keeps = saved;
+        passes = passed;
+        tops = made_stack e link back two_is at_back;
+        loads = opening.is;
+        base = refl {a = stack_base + 8 * n};
+        null = rest.zero_register ∙ h.zero_is;
+        left = made_left e link rest.frames_left one_left;
+      } in
+      let caller = origin S r.frame.function func h.there in
+      let target = origin S function callee finds.there in
+      let keep_most = call_moves_most homes caller.function func caller.is (homes_in S r.frame.function func h.there) r.frame.point dest in
+      let load_most = opening_most (S.homes function) target.function callee target.is (homes_in S function callee finds.there) in
+      let most = pass_most homes func 0 args in
       let up_size = frame_up_most func.words in
-      let count : 0 + 1 + 1 + pass_size (in_frame func) func 0 args + frame_up_size func.words + 1 + 1 ≡ suc (pass_size (in_frame func) func 0 args + frame_up_size func.words + 3) = omega arith in
-      arrive S s t r (with_frames (new_frame function values ∷ r.frame ∷ r.older) s) (new_frame function values) (r.frame ∷ r.older) last (pass_size (in_frame func) func 0 args + frame_up_size func.words + 3) (made_step room) refl r.running
-      (r.printed ∙ sym passed.printed) holds (memory_by S s.blocks r.core last passed.table passed.cells passed.blocks passed.given r.memory) (guards_by S s t r e passed.arrivals)
-      (landed (suc (pass_size (in_frame func) func 0 args + frame_up_size func.words + 3)) (entry_of S function 0) count (sym (S.laid.first function callee finds.there)) g6) (omega arith)
+      let size = restore_size (opening_moves (S.homes function) callee) in
+      let first = S.laid.first function callee finds.there in
+      let count : 0 + 1 + 1 + keeping + passing + frame_up_size func.words + 1 + (0 + 1 + size) ≡ suc (keeping + passing + frame_up_size func.words + 3 + size) = omega arith in
+      let place : start_of S function + 1 + size ≡ entry_of S function 0 = omega arith in
+      let o = opening.is.rest in
+      arrive S s t r (with_frames (new_frame function values ∷ r.frame ∷ r.older) s) (new_frame function values) (r.frame ∷ r.older) last (keeping + passing + frame_up_size func.words + 3 + size) (made_step room) refl r.running
+      (r.printed ∙ (sym rest.printed ∙ sym o.printed)) (new_holds finds last called)
+      (memory_by S s.blocks r.core last (o.table ∙ rest.table) (o.cells ∙ rest.cells) (o.blocks ∙ rest.blocks) (o.given ∙ rest.given) r.memory) (guards_by S s t r last (o.arrivals ∙ rest.arrivals))
+      (comes_in S (suc (keeping + passing + frame_up_size func.words + 3 + size)) (entry_of S function 0) count refl
+      (comes_on S (away S s t r (omega arith) runs4) (landed (0 + 1 + size) (entry_of S function 0) refl place opening.going) (opening_inner S function callee finds.there))) (omega arith)
 
   -- a frame is made
   framed : CallFinds S.p S.slots r.frame dest function args → AllByRecursion (λ a. IsSlotOf r.holds.function (Variable a)) args → not (eqb (r.core.registers 8) (r.core.registers 0)) ≡ true → Moves S s t
@@ -242,11 +323,13 @@ module _ (S : Setting) (s : bril.State) (t : State) (r : RunsAlike S s t) (dest 
       let h = r.holds in
       let func = h.function in
       let callee = finds.callee in
+      let homes = S.homes r.frame.function in
+      let point = r.frame.point in
       let k = here S s t r in
       let zero_is : r.core.registers 0 ≡ 0 = h.zero_is in
       let left : r.core.registers 8 + suc (length r.older) ≡ S.limits.frames = h.left in
       let one_left : 1 ≤ r.core.registers 8 = grind (arith, nat_tests) in
-      let target = source_at S.p S.slots S.lowered function callee finds.there in
+      let target = origin S function callee finds.there in
       let callee_fit = slots_fit target.function callee target.is in
       let callee_variables = variables_fit target.function callee target.is in
       let fits : length args ≤ callee.variables = finds.fits in
@@ -254,14 +337,20 @@ module _ (S : Setting) (s : bril.State) (t : State) (r : RunsAlike S s t) (dest 
       let deep_callee = deeper (h.base + func.words) callee.words (widest S) (suc (length r.older)) deep (S.laid.frames function callee finds.there) in
       let enough : suc (suc (length r.older)) ≤ S.limits.frames = omega arith in
       let within : h.base + func.words + callee.words ≤ S.image.stack = le_trans deep_callee (le_trans (mul-le-mul_right (widest S) enough) (stack_room S)) in
-      let low_k = S.laid.few_entries r.frame.function r.frame.point in
-      let g0 = begin S.image (sizes S) k r.core (call_words (in_frame func) func k dest (start_of S function) args) (its_words S r.frame.function func r.frame.point (Call dest function args) h.there item) in
+      let low_k = S.laid.few_entries r.frame.function point in
+      let g0 = begin S.image (sizes S) k r.core (call_words homes func point k dest (start_of S function) args) (its_words S r.frame.function func point (Call dest function args) h.there item) in
       let small_k : k < 2 ^ 20 = omega arith in
       let few_skipped : length (fault_words 8) < 2 ^ 20 = omega arith in
-      let g1 = taken S.image (sizes S) (fault_words 8) (addi 8 8 (negsuc 0) ∷ (pass_words (in_frame func) func 0 args ++ last_words)) small_k few_skipped some g0 in
+      let passes = pass_words homes func 0 args ++ last_words in
+      let g1 = taken S.image (sizes S) (fault_words 8) (addi 8 8 (negsuc 0) ∷ (save_words (kept_moves homes func point dest) ++ passes)) small_k few_skipped some g0 in
       let g2 = plain S.image (sizes S) tt g1 in
-      let q = arguments_passed S s t r callee.words within (stack_few S) args 0 counted_core last_words refl (λ x lt. refl) (omega arith) finds.holds used (each_live (λ x. IsLive (code_of S.p r.frame.function) x r.frame.point) args (reads S s t r (Call dest function args) item)) g2 in
-      made_moves finds q.core q.passed one_left within (omega arith) q.going
+      let kept = saves_own S r.frame.function func h.there (suc point) (outlives homes point dest) (call_passes homes point dest) h.base (omega arith) counted_core passes h.at g2 in
+      let stay : (slot : Slot) → IsSlotOf func slot → home_word kept.core h.base (homes.home slot) ≡ home_word r.core h.base (homes.home slot) =
+      λ slot in_g. home_stays S r.frame.function func h.there (suc point) (outlives homes point dest) (call_passes homes point dest) h.base counted_core kept.core kept.is slot in_g
+      ∙ home_unwritten r.core 8 ((r.core.registers 8 + (2 ^ 64 - 1)) % 2 ^ 64) h.base (homes.home slot) refl (usable_in S r.frame.function func h.there slot in_g) in
+      let lives = each_live (λ x. IsLive (code_of S.p r.frame.function) x point) args (reads S s t r (Call dest function args) item) in
+      let q = arguments_passed S s t r callee.words within (stack_few S) args 0 kept.core last_words kept.is.rest.frame_register stay (omega arith) finds.holds used lives kept.going in
+      made_moves finds kept.core q.core kept.is q.passed one_left within (omega arith) q.going
 
   pub call_moves : CallFinds S.p S.slots r.frame dest function args → AllByRecursion (λ a. IsSlotOf r.holds.function (Variable a)) args → Moves S s t
   call_moves finds used = by_test (not (eqb (r.core.registers 8) (r.core.registers 0))) refl

@@ -94,10 +94,12 @@ module _ (p : Prog) (slots : Slots) (accepted : IsAccepted p) (literals : AreLit
       let fits = eqb-true (length args) (length (types_of (slice_get p.funcs (slice_index funcs 0)))) (and_parts _ _ (call_at p func facts f.point item here)).0 in
       let typed : length (types_of (slice_get p.funcs (slice_index funcs 0))) ≡ length (take callee.0.args callee.0.vars) = ap (λ o. length (types_of o)) callee.1 ∙ length-map (take callee.0.args callee.0.vars) (λ v. v.ty) in
       let as_many : g.function.variables ≡ length callee.0.vars = g.is.variables in
+      let taken_most : g.function.args ≡ callee.0.args = g.is.args in
       record {
         callee = g.function;
         there = g.there;
         fits = omega (arith, length-take callee.0.args callee.0.vars);
+        few = omega (arith, length-take callee.0.args callee.0.vars);
         holds = values func.vars f.locations args (read item args here refl);
         takes = λ x d. (let wanted = (and_parts _ _ (call_at p func facts f.point item here)).1 in taken (gives_back p (slice_index funcs 0)) (ap (λ o. same (gives_back p (slice_index funcs 0)) (is_some o)) (sym d) ∙ wanted));
         alone = w.alone (ap leaves_frame here);

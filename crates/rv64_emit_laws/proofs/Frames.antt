@@ -115,9 +115,6 @@ live_fits S f g there x point live =
     let source = source_at S.p S.slots S.lowered f.function g there in
     slot_fits source.function g source.is (slot_of x) (live_in S f g there x point live)
 
-pub level_next : (n l : ℕ) → 2 + n * suc l ≡ (2 + n * l) + n
-level_next n l = let split : n * suc l ≡ n * l + n = grind arith in omega arith
-
 -- ---- what changes of the stack don't matter
 
 -- words above the first two of a frame don't matter to those that wait

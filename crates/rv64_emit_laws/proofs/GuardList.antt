@@ -12,7 +12,7 @@ use Rattle.bril_tree.specs.declared.program.Prog.{Prog}
 use Rattle.bril_tree.specs.declared.types.Ty.{Ty}
 use Rattle.bril_tree.specs.Step.{item_at, items_of}
 use Rattle.rv64_implements.specs.Implements.{IsBefore, ListsGuards, is_guard}
-use Rattle.rv64_layout.specs.Image.{depth_at, entry_at, function_guards_at, function_guards_or_none, guard_at, guard_or_none, image_guards, joined}
+use Rattle.rv64_layout.specs.Image.{entry_at, function_guards_at, function_guards_or_none, guard_at, guard_or_none, image_guards, joined}
 use Rattle.rv64_layout.specs.Homes.{FunctionHomes}
 use Rattle.rv64_layout.specs.Items.{guard_front_size}
 use Rattle.rv64_layout.specs.Laid.{IsGuardAt, IsLaid}
@@ -90,7 +90,7 @@ module _ (homes : ℕ → FunctionHomes) (slots : Slots) where
     -- at a point there is one guard at most, with its function and item
     point_guard : (point : ℕ) (o : Option SlotItem) (i : ℕ) (a : GuardAt) → slice_get (guard_or_none homes slots f g point o) i ≡ Some a → (i ≡ 0) × (a.func ≡ f) × (a.item ≡ point)
     point_guard point (Some (Guard condition abort_to)) i a e =
-        let h = one_place (record { word = entry_at homes slots f point + guard_front_size (homes f) g (depth_at g point) condition; func = f; item = point }) i a e in
+        let h = one_place (record { word = entry_at homes slots f point + guard_front_size (homes f) g point condition abort_to; func = f; item = point }) i a e in
         (h.0, ap (λ x. x.func) (sym h.1), ap (λ x. x.item) (sym h.1))
     point_guard point None i a e = absurd (nowhere i a e)
     point_guard point (Some _) i a e = absurd (nowhere i a e)
@@ -188,7 +188,7 @@ module _ (p : Prog) (homes : ℕ → FunctionHomes) (slots : Slots) (limits : Li
           let at : slice_get g.function.code i ≡ Some (lowered_item func item) = ap (λ code. slice_get code i) g.is.code ∙ (slice_get-map (lowered_item func) func.code i ∙ ap (option_map (lowered_item func)) here) in
           let guarding = slot_guard (lowered_item func item) (item_guard func item ∙ (sym (ap (λ x. is_guard (slice_get (items_of x) i)) there ∙ ap is_guard here) ∙ e)) in
           let is_item : slice_get g.function.code i ≡ Some (Guard guarding.0 guarding.1) = at ∙ ap Some guarding.2 in
-          let word = entry_at homes slots f i + guard_front_size (homes f) g.function (depth_at g.function i) guarding.0 in
+          let word = entry_at homes slots f i + guard_front_size (homes f) g.function i guarding.0 guarding.1 in
           let own : GuardAt = record { word = word; func = f; item = i } in
           let own_is : IsGuardAt homes slots own = record { function = g.function; condition = guarding.0; abort_to = guarding.1; is_function = g.there; is_item = is_item; is_word = refl } in
           let found = marked_entry image.guards word (laid.items f g.function i (Guard guarding.0 guarding.1) g.there is_item).1.is_guard in

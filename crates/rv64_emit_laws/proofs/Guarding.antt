@@ -1,50 +1,58 @@
 -- The item that takes a speculation back where its condition doesn't hold.
-use Rattle.std.proofs.Common.{◌≡◌, ◌≢◌, ℕ, suc, ◌+◌, ◌-◌, ◌*◌, ◌^◌, ◌<◌, ◌≤◌, Bool, true, false, ◌&&◌, cond, eqb, leb, inr, refl, sym, ap, ◌∙◌, subst, arith, List, [], ◌∷◌, length, Some, pos, negsuc, inl}
+use Rattle.std.proofs.Common.{◌≡◌, ◌≢◌, ℕ, suc, ◌+◌, ◌-◌, ◌*◌, ◌^◌, ◌<◌, ◌≤◌, Bool, true, false, ◌&&◌, cond, eqb, leb, inl, inr, refl, sym, ap, ◌∙◌, subst, arith, List, [], ◌∷◌, length, Some, pos, negsuc}
 use Rattle.std.specs.Prelude.{slice_get}
+use Rattle.std.specs.List.{Contains}
 use Rattle.std.proofs.lemmas.Bool.{and_parts, eqb-true}
 use Rattle.std.proofs.lemmas.Bool.Decides.{nat_tests}
 use Rattle.std.proofs.lemmas.Option.{same_Some}
 use Rattle.bril_tree.specs.declared.value.Value.TheVariants.{Bool as Boolean}
+use Rattle.bril_tree.specs.Edge.{Branch, branches_at, onward}
+use Rattle.bril_tree.specs.Live.{IsLive}
+use Rattle.bril_tree.specs.Operand as location
+use Rattle.bril_tree.specs.Operand.{Location}
 use Rattle.bril_tree.specs.Outcome.{bool_of}
 use Rattle.bril_tree.specs.State as bril
-use Rattle.bril_tree.specs.Edge.{onward}
-use Rattle.bril_tree.specs.Operand as location
 use Rattle.bril_tree.specs.State.{counted}
-use Rattle.bril_tree.specs.Step.{advances, at_point, dropped, saved, step, with_failure}
+use Rattle.bril_tree.specs.Step.{advances, at_point, code_of, dropped, saved, step, with_failure}
 use Rattle.bril_tree.specs.Value.{word_of}
-use Rattle.rv64_layout.specs.Image.{depth_at}
-use Rattle.rv64_layout.specs.Homes.{frame_homes, in_frame, level_moves}
+use Rattle.placement_laws.specs.Homes.{slot_of}
+use Rattle.rv64_layout.specs.Homes.{FunctionHomes, depth_at, level_word, moves_of}
 use Rattle.rv64_layout.specs.Items.{guard_front, guard_front_size}
 use Rattle.rv64_layout.specs.Laid.{IsGuardAt}
-use Rattle.rv64_layout.proofs.Bounding.{level_restores_most, load_most}
+use Rattle.rv64_layout.proofs.Bounding.{moves_restore_most}
 use Rattle.rv64_stretches.specs.Core.{Core, Keeps, arrived}
-use Rattle.rv64_stretches.specs.Runs.{Runs}
 use Rattle.rv64_stretches.proofs.Going.{Going, begin, is_place, jump, not_taken, taken}
-use Rattle.rv64_sequences.specs.Moves.{Restored, restore_size, restore_words}
-use Rattle.rv64_sequences.specs.Sequences.{jump_offset, load_size}
-use Rattle.rv64_sequences.proofs.Moves.{homes_restored}
+use Rattle.rv64_sequences.specs.Moves.{Move, Restored, register_for, restore_size, restore_words, source_size}
+use Rattle.rv64_sequences.specs.Sequences.{jump_offset}
 use Rattle.rv64_sequences.proofs.Jumps.{guard_jump_to}
-use Rattle.rv64_values.proofs.Kept.{keeps_itself}
+use Rattle.rv64_sequences.proofs.Moves.{homes_restored}
+use Rattle.rv64_sequences.proofs.Sizes.{source_most}
 use Rattle.rv64_words.specs.declared.image.GuardAt.{GuardAt}
+use Rattle.rv64_words.specs.declared.word.Word.{Word}
 use Rattle.rv64_words.specs.declared.word.Word.TheVariants.{Jal}
 use Rattle.rv64_words.specs.Arithmetic.{moved_by}
 use Rattle.rv64_words.specs.Mnemonics.{beq}
 use Rattle.rv64_words.specs.State.{State}
+use Rattle.slot_code.specs.declared.item.Slot.{Slot}
 use Rattle.slot_code.specs.declared.item.Slot.TheVariants.{Variable}
 use Rattle.slot_code.specs.declared.item.SlotItem.TheVariants.{Guard}
+use Rattle.slot_code.specs.declared.slots.SlotFunction.{SlotFunction}
 use Rattle.slot_code.specs.Laws.{IsSlotOf}
-use Rattle.rv64_emit_laws.proofs.Acting.{goes, leads}
-use Rattle.rv64_emit_laws.proofs.Standing.{standing}
 use Rattle.slot_code.specs.Meaning.{slot_guards}
-use Rattle.rv64_emit_laws.proofs.Arriving.{Moves, arrive, goes_moves, here, memory_by, step_at}
+use Rattle.rv64_emit_laws.specs.Homes.{saved_at}
+use Rattle.rv64_emit_laws.proofs.Acting.{goes, leads}
+use Rattle.rv64_emit_laws.proofs.Between.{Comes, comes_in}
+use Rattle.rv64_emit_laws.proofs.Arriving.{Moves, arrive, away, goes_moves, here, memory_by, step_at}
 use Rattle.rv64_emit_laws.proofs.Depths.{frame_dear, now_typed, saves_are, saves_fit}
-use Rattle.rv64_emit_laws.proofs.Holding.{SameFrame, stack_few}
-use Rattle.rv64_emit_laws.proofs.Operands.{loaded, loaded_keeps, loads, read_is, reads, word_held}
+use Rattle.rv64_emit_laws.proofs.Holding.{keeps_homes, kept_holds, same_itself, stack_few}
+use Rattle.rv64_emit_laws.proofs.Operands.{Brought, brings, read_is, reads}
 use Rattle.rv64_emit_laws.proofs.Ready.{HoldsBool}
-use Rattle.rv64_emit_laws.proofs.Relation.{GuardsHold, RunsAlike}
-use Rattle.rv64_emit_laws.proofs.Setting.{Setting, entry_of, its_words, next_entry, sizes, homes_are}
-use Rattle.rv64_emit_laws.proofs.Speculating.{level_moves_can, newest_of, restored_holds}
-use Rattle.rv64_emit_laws.proofs.Stretches.{at_place, in_steps, with_end}
+use Rattle.rv64_emit_laws.proofs.Relation.{FramesHold, GuardsHold, RunsAlike}
+use Rattle.rv64_emit_laws.proofs.Saving.{back_apart, level_moves_can, restored_holds}
+use Rattle.rv64_emit_laws.proofs.Setting.{Setting, entry_of, its_words, next_entry, sizes}
+use Rattle.rv64_emit_laws.proofs.Speculating.{newest_of}
+use Rattle.rv64_emit_laws.proofs.Standing.{standing}
+use Rattle.rv64_emit_laws.proofs.Stretches.{leaves_in, with_end}
 
 -- a jump over so many words
 jumped : (j n : ℕ) → j + n < 2 ^ 20 → moved_by (4 * j) (jump_offset 0 n) ≡ 4 * (j + n)
@@ -54,9 +62,16 @@ jumped j n small = by_test (leb 0 n) refl
     by_test true e = omega arith
     by_test false e = let h : n < 0 = grind (arith, nat_tests) in absurd (omega arith)
 
+-- what a guard of a level takes back, whose abort leads to a label
+abbrev taken_at : FunctionHomes → ℕ → ℕ → Slot → Bool
+taken_at homes level label slot = homes.saved level slot && homes.live label slot
+
+abbrev taken_moves : FunctionHomes → SlotFunction → ℕ → ℕ → List Move
+taken_moves homes g level label = moves_of homes g (level_word g level) (taken_at homes level label)
+
 module _ (S : Setting) (s : bril.State) (t : State) (r : RunsAlike S s t) (condition abort_to : ℕ) (item : slice_get r.holds.function.code r.frame.point ≡ Some (Guard condition abort_to)) where
   abbrev front : ℕ
-  front = guard_front_size (in_frame r.holds.function) r.holds.function (depth_at r.holds.function r.frame.point) condition
+  front = guard_front_size (S.homes r.frame.function) r.holds.function r.frame.point condition abort_to
 
   -- ---- counts
 
@@ -64,8 +79,8 @@ module _ (S : Setting) (s : bril.State) (t : State) (r : RunsAlike S s t) (condi
   abbrev own : GuardAt
   own = record { word = entry_of S r.frame.function r.frame.point + front; func = r.frame.function; item = r.frame.point }
 
-  own_is : IsGuardAt (frame_homes S.slots) S.slots own
-  own_is = record { function = r.holds.function; condition = condition; abort_to = abort_to; is_function = r.holds.there; is_item = item; is_word = ap (λ homes. entry_of S r.frame.function r.frame.point + guard_front_size homes r.holds.function (depth_at r.holds.function r.frame.point) condition) (sym (homes_are S r.frame.function r.holds.function r.holds.there)) }
+  own_is : IsGuardAt S.homes S.slots own
+  own_is = record { function = r.holds.function; condition = condition; abort_to = abort_to; is_function = r.holds.there; is_item = item; is_word = refl }
 
   -- one failure more of this guard, and one arrival more at its word
   counts_held : (e : Core) → e.arrivals ≡ r.core.arrivals → GuardsHold S.image.guards (with_failure S.p S.limits r.frame s).failures (arrived (entry_of S r.frame.function r.frame.point + front) e).arrivals
@@ -77,7 +92,7 @@ module _ (S : Setting) (s : bril.State) (t : State) (r : RunsAlike S s t) (condi
       before : e.arrivals guard.word ≡ s.failures guard.func guard.item
       before = ap (λ m. m guard.word) same ∙ r.guards k guard there
 
-      is : IsGuardAt (frame_homes S.slots) S.slots guard
+      is : IsGuardAt S.homes S.slots guard
       is = S.laid.guards k guard there
 
       same_test : (n : ℕ) → eqb n n ≡ true
@@ -115,26 +130,28 @@ module _ (S : Setting) (s : bril.State) (t : State) (r : RunsAlike S s t) (condi
                   let function : is.function ≡ r.holds.function = same_Some is.function r.holds.function (sym is.is_function ∙ (ap (slice_get S.slots.funcs) func ∙ r.holds.there)) in
                   let found : Guard is.condition is.abort_to ≡ Guard condition abort_to = same_Some _ _ (sym is.is_item ∙ (ap (λ g. slice_get g.code guard.item) function ∙ (ap (slice_get r.holds.function.code) point ∙ item))) in
                   let operand : is.condition ≡ condition = cc in
-                  is.is_word ∙ (ap (λ homes. entry_of S guard.func guard.item + guard_front_size homes is.function (depth_at is.function guard.item) is.condition) (homes_are S guard.func is.function is.is_function)
-                  ∙ (ap (λ f. entry_of S f guard.item + guard_front_size (in_frame is.function) is.function (depth_at is.function guard.item) is.condition) func
-                  ∙ (ap (λ n. entry_of S r.frame.function n + guard_front_size (in_frame is.function) is.function (depth_at is.function n) is.condition) point
-                  ∙ (ap (λ g. entry_of S r.frame.function r.frame.point + guard_front_size (in_frame g) g (depth_at g r.frame.point) is.condition) function
-                  ∙ ap (λ n. entry_of S r.frame.function r.frame.point + guard_front_size (in_frame r.holds.function) r.holds.function (depth_at r.holds.function r.frame.point) n) operand))))
+                  let label : is.abort_to ≡ abort_to = cc in
+                  is.is_word ∙ (ap (λ f. entry_of S f guard.item + guard_front_size (S.homes f) is.function guard.item is.condition is.abort_to) func
+                  ∙ (ap (λ n. entry_of S r.frame.function n + guard_front_size (S.homes r.frame.function) is.function n is.condition is.abort_to) point
+                  ∙ (ap (λ g. entry_of S r.frame.function r.frame.point + guard_front_size (S.homes r.frame.function) g r.frame.point is.condition is.abort_to) function
+                  ∙ (ap (λ n. entry_of S r.frame.function r.frame.point + guard_front_size (S.homes r.frame.function) r.holds.function r.frame.point n is.abort_to) operand
+                  ∙ ap (λ n. entry_of S r.frame.function r.frame.point + guard_front_size (S.homes r.frame.function) r.holds.function r.frame.point condition n) label))))
 
   -- ---- both ways
 
-  -- the condition's word, and what comes after it
-  condition_loaded : HoldsBool r.frame.locations condition → IsSlotOf r.holds.function (Variable condition) →
-      Going S.image (sizes S) (here S s t r) r.core (0 + load_size (2 + condition)) (here S s t r + load_size (2 + condition)) (loaded S s t r r.core 5 (2 + condition))
-      (beq 5 0 (pos 8) ∷ Jal 0 (jump_offset 0 (2 + restore_size (level_moves (in_frame r.holds.function) r.holds.function (depth_at r.holds.function r.frame.point))))
-      ∷ restore_words (level_moves (in_frame r.holds.function) r.holds.function (depth_at r.holds.function r.frame.point)))
-  condition_loaded held in_g =
-      let h = r.holds in
-      let has = its_words S r.frame.function h.function r.frame.point (Guard condition abort_to) h.there item in
-      loads S s t r (Variable condition) 5 refl in_g (begin S.image (sizes S) (here S s t r) r.core (guard_front (in_frame h.function) h.function (depth_at h.function r.frame.point) condition) has.0)
+  -- the words behind those of the condition
+  abbrev behind : List Word
+  behind =
+      beq (register_for 5 ((S.homes r.frame.function).home (Variable condition))) 0 (pos 8) ∷ Jal 0 (jump_offset 0 (2 + restore_size (taken_moves (S.homes r.frame.function) r.holds.function (depth_at r.holds.function r.frame.point) abort_to)))
+      ∷ restore_words (taken_moves (S.homes r.frame.function) r.holds.function (depth_at r.holds.function r.frame.point) abort_to)
 
-  condition_keeps : Keeps r.core (loaded S s t r r.core 5 (2 + condition))
-  condition_keeps = loaded_keeps S s t r r.core 4 (2 + condition) refl refl refl refl (keeps_itself r.core)
+  -- the condition's word, and what comes after it
+  condition_brought : (held : HoldsBool r.frame.locations condition) → IsSlotOf r.holds.function (Variable condition) → Brought S s t r true 5 (Variable condition) (Boolean held.truth) 0 (here S s t r) r.core behind
+  condition_brought held in_g =
+      let has = its_words S r.frame.function r.holds.function r.frame.point (Guard condition abort_to) r.holds.there item in
+      brings S s t r true 5 (Variable condition) (Boolean held.truth) refl
+      (record { used = in_g; live = reads S s t r (Guard condition abort_to) item (location.Variable condition) (inl refl); is = held.is }) (same_itself r.core)
+      (begin S.image (sizes S) (here S s t r) r.core (guard_front (S.homes r.frame.function) r.holds.function r.frame.point condition abort_to) has.0)
 
   guard_step : HoldsBool r.frame.locations condition → (truth : Bool) → r.frame.locations.vars condition ≡ Some (Boolean truth) → step S.p S.limits s ≡ slot_guards S.p S.slots S.limits truth abort_to r.frame r.older s
   guard_step held truth is = step_at S s t r (Some (Guard condition abort_to)) item ∙ ap (λ v. slot_guards S.p S.slots S.limits (bool_of v) abort_to r.frame r.older s) (read_is r.frame.locations (Variable condition) (Boolean truth) is)
@@ -145,86 +162,106 @@ module _ (S : Setting) (s : bril.State) (t : State) (r : RunsAlike S s t) (condi
       let h = r.holds in
       let g = h.function in
       let k = here S s t r in
-      let o = 2 + condition in
-      let cs = restore_size (level_moves (in_frame g) g (depth_at g r.frame.point)) in
-      let word = word_held S s t r r.core (Variable condition) (Boolean held.truth) refl (reads S s t r (Guard condition abort_to) item (location.Variable condition) (inl refl)) held.is in
-      let differ : eqb (r.core.stack (h.base + o)) (r.core.registers 0) ≡ false = ap (λ y. eqb y (r.core.registers 0)) (word.is ∙ ap (λ y. word_of (Boolean y)) truth) ∙ ap (eqb 1) h.zero_is in
-      let g2 = not_taken S.image (sizes S) differ (condition_loaded held in_g) in
+      let home = (S.homes r.frame.function).home (Variable condition) in
+      let o = source_size home in
+      let cs = restore_size (taken_moves (S.homes r.frame.function) g (depth_at g r.frame.point) abort_to) in
+      let b = condition_brought held in_g in
+      let differ : eqb (b.core.registers (register_for 5 home)) (b.core.registers 0) ≡ false = ap (λ y. eqb y (b.core.registers 0)) (b.word.is ∙ ap (λ y. word_of (Boolean y)) truth) ∙ ap (eqb 1) (b.keeps.zero_register ∙ h.zero_is) in
+      let g2 = not_taken S.image (sizes S) differ b.going in
       let next = next_entry S r.frame.function g r.frame.point (Guard condition abort_to) h.there item in
       let low = S.laid.few_entries r.frame.function (suc r.frame.point) in
-      let over = jumped (k + load_size o + 1) (2 + cs) (omega arith) in
-      let runs = jump S.image (sizes S) (k + load_size o + 1 + (2 + cs)) over g2 in
-      let size = load_most o in
-      let count : 0 + load_size o + 1 + 1 ≡ suc (load_size o + 1) = omega arith in
-      let at : k + load_size o + 1 + (2 + cs) ≡ entry_of S r.frame.function (suc r.frame.point) = omega arith in
-      goes_moves S s t r (advances S.p S.limits r.frame r.older s) (suc r.frame.point) (leads S r.frame h.function h.there (Guard condition abort_to) item (onward r.frame.point) (inl refl) refl refl) (loaded S s t r r.core 5 o) (load_size o + 1)
+      let over = jumped (k + o + 1) (2 + cs) (omega arith) in
+      let runs = jump S.image (sizes S) (k + o + 1 + (2 + cs)) over g2 in
+      let size = source_most home in
+      let count : 0 + o + 1 + 1 ≡ suc (o + 1) = omega arith in
+      let at : k + o + 1 + (2 + cs) ≡ entry_of S r.frame.function (suc r.frame.point) = omega arith in
+      goes_moves S s t r (advances S.p S.limits r.frame r.older s) (suc r.frame.point) (leads S r.frame h.function h.there (Guard condition abort_to) item (onward r.frame.point) (inl refl) refl refl) b.core (o + 1)
       (guard_step held held.truth held.is ∙ ap (λ b. slot_guards S.p S.slots S.limits b abort_to r.frame r.older s) truth) refl r.running refl refl refl
-      (at_place (entry_of S r.frame.function (suc r.frame.point)) at (in_steps (suc (load_size o + 1)) count runs)) (omega arith) condition_keeps
+      (comes_in S (suc (o + 1)) (entry_of S r.frame.function (suc r.frame.point)) count at (away S s t r (omega arith) runs)) (omega arith) b.keeps
 
-  -- the slots became those of the newest speculation, and the guard's word led to its abort
-  restored_moves : (newest : bril.Locals) (rest : List bril.Locals) → r.frame.saves ≡ newest ∷ rest → (e : Core) (n : ℕ) →
-      Restored r.holds.base (level_moves (in_frame r.holds.function) r.holds.function (suc (length rest))) (loaded S s t r r.core 5 (2 + condition)) e →
-      step S.p S.limits s ≡ slot_guards S.p S.slots S.limits false abort_to r.frame r.older s →
-      Runs S.image (sizes S) (here S s t r) r.core (suc n) (entry_of S r.frame.function abort_to) (arrived (here S s t r + front) e) → suc n ≤ S.cost → Moves S s t
-  restored_moves newest rest saves_is e n restored stepped runs cheap =
-      let f : bril.Frame = at_point abort_to (record r.frame { locations = newest; saves = rest }) in
-      let u = slot_guards S.p S.slots S.limits false abort_to r.frame r.older s in
-      let frame_is : at_point abort_to (record r.frame { locations = saved r.frame.saves r.frame.locations; saves = dropped r.frame.saves }) ≡ f =
-      ap (λ xs. at_point abort_to (record r.frame { locations = saved xs r.frame.locations; saves = dropped xs })) saves_is in
-      let same : SameFrame r.core (loaded S s t r r.core 5 (2 + condition)) = record { zero_register = condition_keeps.zero_register; frame_register = condition_keeps.frame_register; frames_left = condition_keeps.frames_left } in
-      let holds =
-      restored_holds S (length s.blocks) r.frame r.older r.core r.holds (standing S s t r) newest rest saves_is abort_to
-      (goes S r.frame r.holds.function r.holds.there (Guard condition abort_to) item (record { from = r.frame.point; to = abort_to; aborts = true }) (inr (inl refl))) (loaded S s t r r.core 5 (2 + condition)) e (arrived (here S s t r + front) e) condition_keeps.stack same restored refl
-      (record { zero_register = refl; frame_register = refl; frames_left = refl }) in
-      arrive S s t r u f r.older (arrived (here S s t r + front) e) n stepped (ap (λ x. x ∷ r.older) frame_is) r.running (r.printed ∙ sym restored.rest.printed) holds
-      (memory_by S s.blocks r.core e restored.rest.table restored.rest.cells restored.rest.blocks restored.rest.given r.memory) (counts_held e restored.rest.arrivals) runs cheap
+  module _ (newest : bril.Locals) (rest : List bril.Locals) (saves_is : r.frame.saves ≡ newest ∷ rest) where
+    abbrev way : Branch
+    way = record { from = r.frame.point; to = abort_to; aborts = true }
 
-  -- the condition doesn't hold
-  aborts : (held : HoldsBool r.frame.locations condition) → IsSlotOf r.holds.function (Variable condition) → held.truth ≡ false → (newest : bril.Locals) (rest : List bril.Locals) → r.frame.saves ≡ newest ∷ rest → Moves S s t
-  aborts held in_g truth newest rest saves_is =
-      let h = r.holds in
-      let g = h.function in
-      let k = here S s t r in
-      let o = 2 + condition in
-      let n = length g.slots in
-      let d = depth_at g r.frame.point in
-      let l = length rest in
-      let now = now_typed S s t r in
-      let dear = frame_dear S r.frame g h.there now in
-      let depth : d ≡ suc l = sym (saves_are S r.frame g h.there now) ∙ ap length saves_is in
-      let fit : 2 + n * (1 + length r.frame.saves) ≤ g.words = saves_fit S r.frame g h.there now in
-      let fit_level : 2 + n * (1 + suc l) ≤ g.words = subst (λ m. 2 + n * (1 + m) ≤ g.words) (ap length saves_is) fit in
-      let split : n * (1 + suc l) ≡ n * suc l + n = grind arith in
-      let split_more : n * suc l ≡ n * l + n = grind arith in
-      let back = level_moves (in_frame g) g (suc l) in
-      let cs = restore_size back in
-      let word = word_held S s t r r.core (Variable condition) (Boolean held.truth) refl (reads S s t r (Guard condition abort_to) item (location.Variable condition) (inl refl)) held.is in
-      let same_words : eqb (r.core.stack (h.base + o)) (r.core.registers 0) ≡ true = ap (λ y. eqb y (r.core.registers 0)) (word.is ∙ ap (λ y. word_of (Boolean y)) truth) ∙ ap (eqb 0) h.zero_is in
-      let low = S.laid.few_entries r.frame.function r.frame.point in
-      let low_next = S.laid.few_entries r.frame.function (suc r.frame.point) in
-      let low_abort = S.laid.few_entries r.frame.function abort_to in
-      let next = next_entry S r.frame.function g r.frame.point (Guard condition abort_to) h.there item in
-      let load_three = load_most o in
-      let skip = Jal 0 (jump_offset 0 (2 + restore_size (level_moves (in_frame g) g d))) in
-      let place : k + load_size o < 2 ^ 20 = omega arith in
-      let g2 = taken S.image (sizes S) (skip ∷ []) (restore_words (level_moves (in_frame g) g d)) place (omega arith) same_words (condition_loaded held in_g) in
-      let e = loaded S s t r r.core 5 o in
-      let g3 = with_end (restore_words back) (subst (λ m. Going S.image (sizes S) k r.core (0 + load_size o + 1) (k + load_size o + 1 + 1) e (restore_words (level_moves (in_frame g) g m))) depth g2) in
-      let can = level_moves_can S (length s.blocks) r.frame r.older r.core h (suc l) (omega arith) fit_level in
-      let q = homes_restored S.image (sizes S) (stack_few S) h.base back e [] can.homes_apart can.no_word can.usable can.inside (condition_keeps.frame_register ∙ h.at) g3 in
-      let front_is : front ≡ load_size o + (2 + cs) = ap (λ m. load_size o + (2 + restore_size (level_moves (in_frame g) g m))) depth in
-      let at : k + load_size o + 1 + 1 + cs ≡ k + front = omega arith in
-      let g4 = is_place S.image (sizes S) (load_size o + 1 + cs) (k + front) (omega arith) at q.going in
-      let has = its_words S r.frame.function g r.frame.point (Guard condition abort_to) h.there item in
-      let runs = guard_jump_to S.image (sizes S) (k + front) (entry_of S r.frame.function abort_to) refl (omega arith) (omega arith) has.1 g4 in
-      let size = level_restores_most (in_frame g) g (suc l) in
-      let count : load_size o + 1 + cs + 1 ≡ suc (load_size o + 1 + cs) = omega arith in
-      restored_moves newest rest saves_is q.core (load_size o + 1 + cs) q.is (guard_step held held.truth held.is ∙ ap (λ b. slot_guards S.p S.slots S.limits b abort_to r.frame r.older s) truth)
-      (in_steps (suc (load_size o + 1 + cs)) count runs) (omega arith)
+    abbrev back : List Move
+    back = taken_moves (S.homes r.frame.function) r.holds.function (suc (length rest)) abort_to
+
+    way_goes : Contains (branches_at (code_of S.p r.frame.function) r.frame.point) way
+    way_goes = goes S r.frame r.holds.function r.holds.there (Guard condition abort_to) item way (inr (inl refl))
+
+    -- exactly what is live at the label, and kept at the newest level, is taken back
+    chosen : (x : Location) → taken_at (S.homes r.frame.function) (suc (length rest)) abort_to (slot_of x) ≡ true → IsLive (code_of S.p r.frame.function) x abort_to × (saved_at (S.homes r.frame.function) (suc (length rest)) x ≡ true)
+    chosen x told =
+        let parts = and_parts ((S.homes r.frame.function).saved (suc (length rest)) (slot_of x)) ((S.homes r.frame.function).live abort_to (slot_of x)) told in
+        (((standing S s t r).serves.live abort_to x).0 parts.1, parts.0)
+
+    all_chosen : (x : Location) → IsLive (code_of S.p r.frame.function) x abort_to → saved_at (S.homes r.frame.function) (suc (length rest)) x ≡ true → taken_at (S.homes r.frame.function) (suc (length rest)) abort_to (slot_of x) ≡ true
+    all_chosen x live told = ap (λ b. b && (S.homes r.frame.function).live abort_to (slot_of x)) told ∙ ((standing S s t r).serves.live abort_to x).1 live
+
+    -- what the newest speculation kept came back, and the guard's word led to its abort
+    restored_moves : (d e : Core) (n : ℕ) → Keeps r.core d → Restored r.holds.base back d e → step S.p S.limits s ≡ slot_guards S.p S.slots S.limits false abort_to r.frame r.older s →
+        Comes S (here S s t r) r.core (suc n) (entry_of S r.frame.function abort_to) (arrived (here S s t r + front) e) → suc n ≤ S.cost → Moves S s t
+    restored_moves d e n keeps restored stepped runs cheap =
+        let f : bril.Frame = at_point abort_to (record r.frame { locations = newest; saves = rest }) in
+        let u = slot_guards S.p S.slots S.limits false abort_to r.frame r.older s in
+        let frame_is : at_point abort_to (record r.frame { locations = saved r.frame.saves r.frame.locations; saves = dropped r.frame.saves }) ≡ f =
+        ap (λ xs. at_point abort_to (record r.frame { locations = saved xs r.frame.locations; saves = dropped xs })) saves_is in
+        let before : FramesHold S (length s.blocks) r.frame r.older d = kept_holds S (length s.blocks) r.frame r.older r.core r.holds d (keeps_homes r.core d keeps) in
+        let behind : FramesHold S (length s.blocks) f r.older e =
+        restored_holds S (length s.blocks) r.frame r.older d (kept_holds S (length s.blocks) r.frame r.older r.core r.holds d (keeps_homes r.core d keeps)) (standing S s t r) newest rest saves_is abort_to way_goes
+        (taken_at (S.homes r.frame.function) (suc (length rest)) abort_to) chosen all_chosen e restored in
+        let last = arrived (here S s t r + front) e in
+        let holds = kept_holds S (length s.blocks) f r.older e behind last (record { zero_register = refl; frame_register = refl; frames_left = refl; homes = λ q u. refl; stack = refl }) in
+        arrive S s t r u f r.older last n stepped (ap (λ x. x ∷ r.older) frame_is) r.running (r.printed ∙ sym (restored.rest.printed ∙ keeps.printed)) holds
+        (memory_by S s.blocks r.core e (restored.rest.table ∙ keeps.table) (restored.rest.cells ∙ keeps.cells) (restored.rest.blocks ∙ keeps.blocks) (restored.rest.given ∙ keeps.given) r.memory)
+        (counts_held e (restored.rest.arrivals ∙ keeps.arrivals)) runs cheap
+
+    -- the condition doesn't hold
+    aborts : (held : HoldsBool r.frame.locations condition) → IsSlotOf r.holds.function (Variable condition) → held.truth ≡ false → Moves S s t
+    aborts held in_g truth =
+        let h = r.holds in
+        let g = h.function in
+        let homes = S.homes r.frame.function in
+        let home = homes.home (Variable condition) in
+        let k = here S s t r in
+        let o = source_size home in
+        let n = length g.slots in
+        let d = depth_at g r.frame.point in
+        let l = length rest in
+        let now = now_typed S s t r in
+        let dear = frame_dear S r.frame g h.there now in
+        let depth : d ≡ suc l = sym (saves_are S r.frame g h.there now) ∙ ap length saves_is in
+        let fit : 2 + n * (1 + length r.frame.saves) ≤ g.words = saves_fit S r.frame g h.there now in
+        let fit_level : 2 + n * (1 + suc l) ≤ g.words = subst (λ m. 2 + n * (1 + m) ≤ g.words) (ap length saves_is) fit in
+        let split : n * (1 + suc l) ≡ n * suc l + n = grind arith in
+        let cs = restore_size back in
+        let b = condition_brought held in_g in
+        let same_words : eqb (b.core.registers (register_for 5 home)) (b.core.registers 0) ≡ true = ap (λ y. eqb y (b.core.registers 0)) (b.word.is ∙ ap (λ y. word_of (Boolean y)) truth) ∙ ap (eqb 0) (b.keeps.zero_register ∙ h.zero_is) in
+        let low = S.laid.few_entries r.frame.function r.frame.point in
+        let low_next = S.laid.few_entries r.frame.function (suc r.frame.point) in
+        let low_abort = S.laid.few_entries r.frame.function abort_to in
+        let next = next_entry S r.frame.function g r.frame.point (Guard condition abort_to) h.there item in
+        let three = source_most home in
+        let skip = Jal 0 (jump_offset 0 (2 + restore_size (taken_moves homes g d abort_to))) in
+        let place : k + o < 2 ^ 20 = omega arith in
+        let g2 = taken S.image (sizes S) (skip ∷ []) (restore_words (taken_moves homes g d abort_to)) place (omega arith) same_words b.going in
+        let g3 = with_end (restore_words back) (subst (λ m. Going S.image (sizes S) k r.core (0 + o + 1) (k + o + 1 + 1) b.core (restore_words (taken_moves homes g m abort_to))) depth g2) in
+        let can = level_moves_can S (length s.blocks) r.frame r.older r.core h (suc l) (taken_at homes (suc l) abort_to) (omega arith) fit_level in
+        let apart = back_apart S (length s.blocks) r.frame r.older r.core h (standing S s t r) newest rest saves_is abort_to way_goes (taken_at homes (suc l) abort_to) chosen all_chosen in
+        let q = homes_restored S.image (sizes S) (stack_few S) h.base back b.core [] apart can.no_word can.usable can.inside (b.keeps.frame_register ∙ h.at) g3 in
+        let front_is : front ≡ o + (2 + cs) = ap (λ m. o + (2 + restore_size (taken_moves homes g m abort_to))) depth in
+        let at : k + o + 1 + 1 + cs ≡ k + front = omega arith in
+        let g4 = is_place S.image (sizes S) (o + 1 + cs) (k + front) (omega arith) at q.going in
+        let has = its_words S r.frame.function g r.frame.point (Guard condition abort_to) h.there item in
+        let runs = guard_jump_to S.image (sizes S) (k + front) (entry_of S r.frame.function abort_to) refl (omega arith) (omega arith) has.1 g4 in
+        let size = moves_restore_most homes g (level_word g (suc l)) (taken_at homes (suc l) abort_to) in
+        let count : o + 1 + cs + 1 ≡ suc (o + 1 + cs) = omega arith in
+        restored_moves b.core q.core (o + 1 + cs) b.keeps q.is (guard_step held held.truth held.is ∙ ap (λ b. slot_guards S.p S.slots S.limits b abort_to r.frame r.older s) truth)
+        (away S s t r (omega arith) (leaves_in (suc (o + 1 + cs)) count runs)) (omega arith)
 
   pub guard_moves : HoldsBool r.frame.locations condition → r.frame.saves ≢ [] → IsSlotOf r.holds.function (Variable condition) → Moves S s t
   guard_moves held some in_g = by_truth held.truth refl
     where
       by_truth : (b : Bool) → held.truth ≡ b → Moves S s t
       by_truth true e = passes held in_g e (frame_dear S r.frame r.holds.function r.holds.there (now_typed S s t r))
-      by_truth false e = let w = newest_of S s t r r.frame.saves some in aborts held in_g e w.0 w.1 w.2
+      by_truth false e = let w = newest_of S s t r r.frame.saves some in aborts w.0 w.1 w.2 held in_g e

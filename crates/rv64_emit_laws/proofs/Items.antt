@@ -1,17 +1,19 @@
 -- Each item leads to related states again.
-use Rattle.std.proofs.Common.{◌≡◌, ℕ, ◌+◌, ◌*◌, ◌≤◌, List, [], ◌∷◌, ◌++◌, length, map, Option, Some, None, refl, sym, ap, ◌∙◌, arith}
+use Rattle.std.proofs.Common.{◌≡◌, ℕ, suc, ◌+◌, ◌*◌, ◌<◌, ◌≤◌, ◌⊎◌, inl, inr, List, [], ◌∷◌, ◌++◌, length, map, Option, Some, None, refl, sym, ap, ◌∙◌, arith}
 use Rattle.std.specs.Prelude.{All, slice_get}
 use Rattle.std.specs.List.{AllByRecursion}
 use Rattle.std.specs.Option.{option_map}
 use Rattle.std.proofs.lemmas.List.Elements.{recursion_from_All}
 use Rattle.simulation.specs.Simulation.{Star}
-use Rattle.simulation.specs.System.{Agree}
+use Rattle.simulation.specs.System.{Agree, after}
 use Rattle.bril_tree.specs.declared.limits.End.{End}
 use Rattle.program_numbers.specs.Cost.{longest_arguments}
 use Rattle.bril_tree.specs.FunctionForm.{listed}
 use Rattle.bril_tree.specs.State as bril
+use Rattle.bril_tree.specs.Step.{step}
 use Rattle.bril_tree.proofs.Elements.{All-at}
 use Rattle.rv64_implements.specs.Implements.{image_system, program_system}
+use Rattle.rv64_words.specs.Machine.{machine_step}
 use Rattle.rv64_words.specs.State.{State, Finished}
 use Rattle.slot_code.specs.declared.item.Printed.{Printed}
 use Rattle.slot_code.specs.declared.item.Slot.TheVariants.{Variable}
@@ -31,7 +33,7 @@ use Rattle.rv64_emit_laws.proofs.Printing.{print_moves}
 use Rattle.rv64_emit_laws.proofs.Ready.{Finds}
 use Rattle.rv64_emit_laws.proofs.Relation.{RunsAlike, Related, run, over}
 use Rattle.rv64_emit_laws.proofs.Returning.{end_moves, return_moves}
-use Rattle.rv64_emit_laws.proofs.Setting.{Setting}
+use Rattle.rv64_emit_laws.proofs.Setting.{Setting, sizes}
 use Rattle.rv64_emit_laws.proofs.Speculating.{commit_moves, speculate_moves}
 use Rattle.rv64_emit_laws.proofs.Points.{ListFits, FrameAt, AtItem, AtEnd, frame_at, well_typed}
 use Rattle.rv64_emit_laws.proofs.Storing.{store_moves}
@@ -107,7 +109,7 @@ module _ (S : Setting) where
     run_moves (AtItem item here finds used fits) = item_moves item here finds used fits
     run_moves (AtEnd none gives) = end_moves S s t r dear none gives
 
-  related_moves : (s : bril.State) (t : State) → Related S s t → s.ended ≡ None → Moves S s t
+  pub related_moves : (s : bril.State) (t : State) → Related S s t → s.ended ≡ None → Moves S s t
   related_moves s t (run r) none =
       let w = well_typed S r.steps r.frame r.older (ap (λ x. x.frames) (sym r.is) ∙ r.frames) in
       run_moves s t r (frame_at S r.frame r.holds.function r.holds.there w)
@@ -124,9 +126,17 @@ module _ (S : Setting) where
   map_none None e = refl
   map_none (Some x) e = cc
 
+  abbrev Alone : bril.State → State → Type 0
+  Alone s t = (distance S (step S.p S.limits s) < distance S s) × Related S (step S.p S.limits s) t
+
+  -- what a simulation asks of it
+  moves_so : (s : bril.State) (t : State) → Moves S s t → Alone s t ⊎ ((m : ℕ) × (suc m ≤ S.cost) × Related S (step S.p S.limits s) (after (machine_step S.image (sizes S)) (suc m) t))
+  moves_so s t (inl alone) = inl alone
+  moves_so s t (inr m) = inr (m.0, m.1, m.2)
+
   -- each step of the program is so many words, or none, and then the newest frame comes nearer to its end
   pub simulation : Star (program_system S.p S.limits) (image_system S.image S.limits) S.cost (distance S) (Related S)
   simulation = record {
     agrees = related_agree;
-    moves = λ s t r e. related_moves s t r (map_none s.ended e);
+    moves = λ s t r e. moves_so s t (related_moves s t r (map_none s.ended e));
   }

@@ -8,14 +8,14 @@ use Rattle.bril_tree.specs.Outcome.{bool_of}
 use Rattle.bril_tree.specs.Run.{first_state}
 use Rattle.bril_tree.specs.State as bril
 use Rattle.bril_tree.specs.Edge.{onward}
-use Rattle.bril_tree.specs.Operand as location
 use Rattle.bril_tree.specs.Step.{step, advances, advanced}
 use Rattle.bril_tree.specs.Value.{word_of}
-use Rattle.rv64_layout.proofs.Bounding.{load_most}
 use Rattle.rv64_stretches.specs.Core.{machine}
 use Rattle.rv64_stretches.proofs.Going.{begin, not_taken, taken}
-use Rattle.rv64_sequences.specs.Sequences.{jump_offset, load_size, load_words}
+use Rattle.rv64_sequences.specs.Moves.{register_for, source_size, source_words}
+use Rattle.rv64_sequences.specs.Sequences.{jump_offset}
 use Rattle.rv64_sequences.proofs.Jumps.{jump_to}
+use Rattle.rv64_sequences.proofs.Sizes.{source_most}
 use Rattle.rv64_values.proofs.Kept.{keeps_itself}
 use Rattle.rv64_words.specs.declared.word.Word.TheVariants.{Jal}
 use Rattle.rv64_words.specs.Mnemonics.{beq}
@@ -26,18 +26,18 @@ use Rattle.slot_code.specs.Laws.{IsSlotOf}
 use Rattle.rv64_emit_laws.proofs.Acting.{leads}
 use Rattle.rv64_emit_laws.proofs.Standing.{standing}
 use Rattle.slot_code.specs.Meaning.{goes_to, slot_items_of}
-use Rattle.rv64_emit_laws.proofs.Arriving.{Moves, distance, goes_moves, here, left_in, step_at}
+use Rattle.rv64_emit_laws.proofs.Arriving.{Moves, away, distance, goes_moves, here, home_here, left_in, step_at}
 use Rattle.rv64_emit_laws.proofs.Holding.{moved_holds}
-use Rattle.rv64_emit_laws.proofs.Operands.{loaded, loaded_keeps, loads, read_is, reads, word_held}
+use Rattle.rv64_emit_laws.proofs.Operands.{brings, holds_slot, read_is, unchanged}
 use Rattle.rv64_emit_laws.proofs.Ready.{HoldsBool}
 use Rattle.rv64_emit_laws.proofs.Relation.{RunsAlike, Related, run}
 use Rattle.rv64_emit_laws.proofs.Setting.{Setting, entry_of, its_words, next_entry, sizes}
-use Rattle.rv64_emit_laws.proofs.Stretches.{in_steps}
+use Rattle.rv64_emit_laws.proofs.Stretches.{leaves_in}
 
 module _ (S : Setting) (s : bril.State) (t : State) (r : RunsAlike S s t) where
   -- an item without words: the program moves alone
-  pub pass_moves : slice_get r.holds.function.code r.frame.point ≡ Some Pass → Moves S s t
-  pass_moves item = inl (nearer, subst (λ x. Related S x t) (sym stepped) (run next))
+  pub pass_alone : slice_get r.holds.function.code r.frame.point ≡ Some Pass → (distance S (step S.p S.limits s) < distance S s) × Related S (step S.p S.limits s) t
+  pass_alone item = (nearer, subst (λ x. Related S x t) (sym stepped) (run next))
     where
       stepped : step S.p S.limits s ≡ advances S.p S.limits r.frame r.older s
       stepped = step_at S s t r (Some Pass) item
@@ -65,11 +65,14 @@ module _ (S : Setting) (s : bril.State) (t : State) (r : RunsAlike S s t) where
         core = r.core;
         done = r.done;
         state = r.state ∙ ap (λ k. machine k r.core r.done) same_entry;
-        holds = moved_holds S (length s.blocks) r.frame r.older r.core r.holds (standing S s t r) (suc r.frame.point) (leads S r.frame r.holds.function r.holds.there Pass item (onward r.frame.point) (inl refl) refl refl) r.core refl (record { zero_register = refl; frame_register = refl; frames_left = refl });
+        holds = moved_holds S (length s.blocks) r.frame r.older r.core r.holds (standing S s t r) (suc r.frame.point) (leads S r.frame r.holds.function r.holds.there Pass item (onward r.frame.point) (inl refl) refl refl) r.core (unchanged S s t r);
         memory = r.memory;
         guards = r.guards;
         printed = r.printed;
       }
+
+  pub pass_moves : slice_get r.holds.function.code r.frame.point ≡ Some Pass → Moves S s t
+  pass_moves item = inl (pass_alone item)
 
   small : (f point : ℕ) → entry_of S f point < 2 ^ 20
   small f point = let h = S.laid.few_entries f point in omega arith
@@ -82,42 +85,44 @@ module _ (S : Setting) (s : bril.State) (t : State) (r : RunsAlike S s t) where
       let has = its_words S r.frame.function h.function r.frame.point (Jump to) h.there item in
       let g0 = begin S.image (sizes S) k r.core (Jal 0 (jump_offset k b) ∷ []) has in
       let runs = jump_to S.image (sizes S) k b refl (small r.frame.function r.frame.point) (small r.frame.function to) g0 in
-      goes_moves S s t r (goes_to S.p S.slots S.limits to r.frame r.older s) to (leads S r.frame h.function h.there (Jump to) item (record { from = r.frame.point; to = to; aborts = false }) (inl refl) refl refl) r.core 0 (step_at S s t r (Some (Jump to)) item) refl r.running refl refl refl runs (omega arith) (keeps_itself r.core)
+      let next = next_entry S r.frame.function h.function r.frame.point (Jump to) h.there item in
+      goes_moves S s t r (goes_to S.p S.slots S.limits to r.frame r.older s) to (leads S r.frame h.function h.there (Jump to) item (record { from = r.frame.point; to = to; aborts = false }) (inl refl) refl refl) r.core 0 (step_at S s t r (Some (Jump to)) item) refl r.running refl refl refl
+      (away S s t r (omega arith) runs) (omega arith) (keeps_itself r.core)
 
   pub branch_moves : (condition then_to else_to : ℕ) → slice_get r.holds.function.code r.frame.point ≡ Some (Branch condition then_to else_to) → HoldsBool r.frame.locations condition → IsSlotOf r.holds.function (Variable condition) → 128 ≤ S.cost → Moves S s t
   branch_moves condition then_to else_to item held in_g dear =
       let h = r.holds in
       let k = here S s t r in
       let f = r.frame.function in
-      let o = 2 + condition in
+      let home = home_here S s t r (Variable condition) in
+      let c = register_for 5 home in
+      let o = source_size home in
       let has = its_words S f h.function r.frame.point (Branch condition then_to else_to) h.there item in
-      let at = k + load_size o in
+      let at = k + o in
       let first = Jal 0 (jump_offset (at + 1) (entry_of S f then_to)) in
       let second = Jal 0 (jump_offset (at + 2) (entry_of S f else_to)) in
-      let g0 = begin S.image (sizes S) k r.core (load_words 5 o ++ (beq 5 0 (pos 8) ∷ first ∷ second ∷ [])) has in
-      let g1 = loads S s t r (Variable condition) 5 refl in_g g0 in
-      let e = loaded S s t r r.core 5 o in
-      let keeps = loaded_keeps S s t r r.core 4 o refl refl refl refl (keeps_itself r.core) in
-      let word = word_held S s t r r.core (Variable condition) (Boolean held.truth) refl (reads S s t r (Branch condition then_to else_to) item (location.Variable condition) (inl refl)) held.is in
+      let g0 = begin S.image (sizes S) k r.core (source_words 5 home ++ (beq c 0 (pos 8) ∷ first ∷ second ∷ [])) has in
+      let q = brings S s t r true 5 (Variable condition) (Boolean held.truth) refl (holds_slot S s t r (Branch condition then_to else_to) item (Variable condition) (Boolean held.truth) (inl refl) in_g held.is) (unchanged S s t r) g0 in
+      let null : q.core.registers 0 ≡ 0 = q.keeps.zero_register ∙ h.zero_is in
       let low = S.laid.few_entries f r.frame.point in
-      let size = load_most o in
+      let next = next_entry S f h.function r.frame.point (Branch condition then_to else_to) h.there item in
+      let size = source_most home in
       let place : at < 2 ^ 20 = omega arith in
       let two : at + 1 + 1 ≡ at + 2 = omega arith in
+      let count : 0 + o + 1 + 1 ≡ suc (o + 1) = omega arith in
       let is = step_at S s t r (Some (Branch condition then_to else_to)) item
       ∙ ap (λ v. goes_to S.p S.slots S.limits (cond (bool_of v) then_to else_to) r.frame r.older s) (read_is r.frame.locations (Variable condition) (Boolean held.truth) held.is) in
       by_value held.truth
-      (λ b. let differ : eqb (r.core.stack (h.base + o)) (r.core.registers 0) ≡ false = ap (λ y. eqb y (r.core.registers 0)) (word.is ∙ ap (λ y. word_of (Boolean y)) b) ∙ ap (eqb 1) h.zero_is in
-      let g2 = not_taken S.image (sizes S) differ g1 in
+      (λ b. let differ : eqb (q.core.registers c) (q.core.registers 0) ≡ false = ap (λ y. eqb y (q.core.registers 0)) (q.word.is ∙ ap (λ y. word_of (Boolean y)) b) ∙ ap (eqb 1) null in
+      let g2 = not_taken S.image (sizes S) differ q.going in
       let runs = jump_to S.image (sizes S) (at + 1) (entry_of S f then_to) refl (omega arith) (small f then_to) g2 in
-      let count : 0 + load_size o + 1 + 1 ≡ suc (load_size o + 1) = omega arith in
-      goes_moves S s t r (goes_to S.p S.slots S.limits then_to r.frame r.older s) then_to (leads S r.frame h.function h.there (Branch condition then_to else_to) item (record { from = r.frame.point; to = then_to; aborts = false }) (inl refl) refl refl) e (load_size o + 1) (is ∙ ap (λ y. goes_to S.p S.slots S.limits (cond y then_to else_to) r.frame r.older s) b) refl r.running refl refl refl
-      (in_steps (suc (load_size o + 1)) count runs) (omega arith) keeps)
-      (λ b. let same : eqb (r.core.stack (h.base + o)) (r.core.registers 0) ≡ true = ap (λ y. eqb y (r.core.registers 0)) (word.is ∙ ap (λ y. word_of (Boolean y)) b) ∙ ap (eqb 0) h.zero_is in
-      let g2 = taken S.image (sizes S) (first ∷ []) (second ∷ []) place (omega arith) same g1 in
+      goes_moves S s t r (goes_to S.p S.slots S.limits then_to r.frame r.older s) then_to (leads S r.frame h.function h.there (Branch condition then_to else_to) item (record { from = r.frame.point; to = then_to; aborts = false }) (inl refl) refl refl) q.core (o + 1) (is ∙ ap (λ y. goes_to S.p S.slots S.limits (cond y then_to else_to) r.frame r.older s) b) refl r.running refl refl refl
+      (away S s t r (omega arith) (leaves_in (suc (o + 1)) count runs)) (omega arith) q.keeps)
+      (λ b. let same : eqb (q.core.registers c) (q.core.registers 0) ≡ true = ap (λ y. eqb y (q.core.registers 0)) (q.word.is ∙ ap (λ y. word_of (Boolean y)) b) ∙ ap (eqb 0) null in
+      let g2 = taken S.image (sizes S) (first ∷ []) (second ∷ []) place (omega arith) same q.going in
       let runs = jump_to S.image (sizes S) (at + 2) (entry_of S f else_to) two (omega arith) (small f else_to) g2 in
-      let count : 0 + load_size o + 1 + 1 ≡ suc (load_size o + 1) = omega arith in
-      goes_moves S s t r (goes_to S.p S.slots S.limits else_to r.frame r.older s) else_to (leads S r.frame h.function h.there (Branch condition then_to else_to) item (record { from = r.frame.point; to = else_to; aborts = false }) (inr (inl refl)) refl refl) e (load_size o + 1) (is ∙ ap (λ y. goes_to S.p S.slots S.limits (cond y then_to else_to) r.frame r.older s) b) refl r.running refl refl refl
-      (in_steps (suc (load_size o + 1)) count runs) (omega arith) keeps)
+      goes_moves S s t r (goes_to S.p S.slots S.limits else_to r.frame r.older s) else_to (leads S r.frame h.function h.there (Branch condition then_to else_to) item (record { from = r.frame.point; to = else_to; aborts = false }) (inr (inl refl)) refl refl) q.core (o + 1) (is ∙ ap (λ y. goes_to S.p S.slots S.limits (cond y then_to else_to) r.frame r.older s) b) refl r.running refl refl refl
+      (away S s t r (omega arith) (leaves_in (suc (o + 1)) count runs)) (omega arith) q.keeps)
     where
       by_value : {A : Type 0} → (b : Bool) → (b ≡ true → A) → (b ≡ false → A) → A
       by_value true f g = f refl

@@ -2,9 +2,12 @@ pub mod Acting
 pub mod Allocating
 pub mod Arriving
 pub mod Asking
+pub mod Between
 pub mod Blocks
 pub mod Calling
 pub mod Depths
+pub mod Entering
+pub mod Entries
 pub mod Filling
 pub mod Finding
 pub mod Frames
@@ -16,6 +19,7 @@ pub mod Holding
 pub mod Homes
 pub mod Items
 pub mod Jumping
+pub mod Keeping
 pub mod Loading
 pub mod Operands
 pub mod Outcomes
@@ -24,9 +28,11 @@ pub mod Pointing
 pub mod Points
 pub mod Printing
 pub mod Ready
+pub mod Registers
 pub mod Relation
 pub mod Remembering
 pub mod Returning
+pub mod Saving
 pub mod Setting
 pub mod Sources
 pub mod Speculating

@@ -138,3 +138,23 @@ binary_most binary.Cge = omega arith
 binary_most binary.And = omega arith
 binary_most binary.Or = omega arith
 binary_most binary.PtrAdd = omega arith
+
+-- and each has one
+pub binary_some : (operation : BinaryOp) → 1 ≤ binary_size operation
+binary_some binary.Add = omega arith
+binary_some binary.Sub = omega arith
+binary_some binary.Mul = omega arith
+binary_some binary.Div = omega arith
+binary_some binary.Eq = omega arith
+binary_some binary.Lt = omega arith
+binary_some binary.Gt = omega arith
+binary_some binary.Le = omega arith
+binary_some binary.Ge = omega arith
+binary_some binary.Ceq = omega arith
+binary_some binary.Clt = omega arith
+binary_some binary.Cgt = omega arith
+binary_some binary.Cle = omega arith
+binary_some binary.Cge = omega arith
+binary_some binary.And = omega arith
+binary_some binary.Or = omega arith
+binary_some binary.PtrAdd = omega arith

@@ -89,6 +89,7 @@ pub record CallFinds (p : Prog) (slots : Slots) (f : Frame) (dest : Option ℕ) 
   pub callee : SlotFunction
   pub there : slice_get slots.funcs function ≡ Some callee
   pub fits : length args ≤ callee.variables
+  pub few : length args ≤ callee.args
   pub holds : AllByRecursion (λ a. HoldsValue f.locations (Variable a)) args
   pub takes : (x : ℕ) → dest ≡ Some x → gives_back p function ≡ true
   pub alone : f.saves ≡ []

@@ -2,6 +2,7 @@
 use Rattle.std.proofs.Common.{◌≡◌, ℕ, suc, ◌+◌, ◌*◌, ◌≤◌, true, List, [], ◌∷◌, length, Option, Some, None}
 use Rattle.std.specs.Prelude.{slice_get}
 use Rattle.std.specs.List.{Contains}
+use Rattle.bril_tree.specs.declared.home.Home.{Home}
 use Rattle.bril_tree.specs.declared.limits.End.{End}
 use Rattle.bril_tree.specs.declared.value.Value.{Value}
 use Rattle.bril_tree.specs.Assigned.{assigns_at}
@@ -15,7 +16,7 @@ use Rattle.placement_laws.specs.Holding.{FrameHolds}
 use Rattle.placement_laws.specs.Homes.{slot_of}
 pub use Rattle.rv64_blocks.specs.Memory.{HasWord, BlockHolds, LiesIn, MemoryHolds}
 use Rattle.rv64_layout.specs.Image.{end_start}
-use Rattle.rv64_layout.specs.Homes.{in_frame, level_word, slot_word}
+use Rattle.rv64_layout.specs.Homes.{level_word, slot_word}
 use Rattle.rv64_layout.specs.Items.{return_word}
 use Rattle.rv64_stretches.specs.Core.{Core, machine}
 use Rattle.rv64_sequences.specs.Moves.{home_word}
@@ -40,7 +41,7 @@ own_word g b stack x = stack (b + slot_word g (slot_of x))
 
 -- A frame waits at a call of the function `above`, whose frame is at word `base` of the stack: its own ends there, and the
 -- first two words from there on are the way back and its own base. So many frames are older. What is live after the call, the
--- call's destination apart, is in its own word.
+-- call's destination apart, is in its own word of the frame, where the call has put what is in registers.
 pub record Waits (S : Setting) (made above base depth : ℕ) (f : bril.Frame) (stack : ℕ → ℕ) : Type 0 where
   pub function : SlotFunction
   pub there : slice_get S.slots.funcs f.function ≡ Some function
@@ -52,7 +53,7 @@ pub record Waits (S : Setting) (made above base depth : ℕ) (f : bril.Frame) (s
   pub below : ℕ
   pub ends : below + function.words ≡ base
   pub deep : below ≤ depth * widest S
-  pub way : stack base ≡ 4 * return_word (in_frame function) function (entry_of S f.function f.point) args
+  pub way : stack base ≡ 4 * return_word (S.homes f.function) function f.point (entry_of S f.function f.point) dest args
   pub old : stack (base + 1) ≡ stack_base + 8 * below
   pub kept : (x : Location) (v : Value) → IsLive (code_of S.p f.function) x (suc f.point) → (Contains (assigns_at (slice_get (code_of S.p f.function) f.point)) x → ⊥) → location_value f.locations x ≡ Some v →
       HasWord made v (own_word function below stack x)
@@ -63,6 +64,10 @@ OlderHold S made above base [] stack = stack base ≡ 4 * end_start
 OlderHold S made above base (f ∷ older) stack =
     (w : Waits S made above base (length older) f stack) × OlderHold S made f.function w.below older stack
 
+-- what homes and shadow words hold of a frame at a point
+abbrev pub HoldsAt : Setting → ℕ → bril.Frame → ℕ → bril.Locals → List bril.Locals → (Home → ℕ) → (ℕ → Location → ℕ) → Type 0
+HoldsAt S made f point locations saves word shadow = FrameHolds (code_of S.p f.function) (home_at (S.homes f.function)) (saved_at (S.homes f.function)) (HasWord made) point locations saves word shadow
+
 -- The machine holds the frames: of the newest one what its point needs, each location at its home.
 pub record FramesHold (S : Setting) (made : ℕ) (f : bril.Frame) (older : List bril.Frame) (c : Core) : Type 0 where
   pub function : SlotFunction
@@ -72,7 +77,7 @@ pub record FramesHold (S : Setting) (made : ℕ) (f : bril.Frame) (older : List 
   pub zero_is : c.registers 0 ≡ 0
   pub left : c.registers 8 + suc (length older) ≡ S.limits.frames
   pub deep : base ≤ length older * widest S
-  pub holds : FrameHolds (code_of S.p f.function) (home_at (in_frame function)) (saved_at (in_frame function)) (HasWord made) f.point f.locations f.saves (home_word c base) (shadow_word function base c.stack)
+  pub holds : HoldsAt S made f f.point f.locations f.saves (home_word c base) (shadow_word function base c.stack)
   pub older_hold : OlderHold S made f.function base older c.stack
 
 -- ---- guards

@@ -1,34 +1,34 @@
 -- What the machine holds of the frames when memory changes.
-use Rattle.std.proofs.Common.{◌≡◌, ◌≢◌, ℕ, zero, suc, ◌+◌, ◌-◌, ◌≤◌, refl, sym, ap, ◌∙◌, arith, List, [], ◌∷◌, length, Bool}
+use Rattle.std.proofs.Common.{◌≡◌, ◌≢◌, ℕ, zero, suc, ◌+◌, ◌-◌, ◌≤◌, refl, sym, ◌∙◌, arith, List, [], ◌∷◌, length, Bool}
+use Rattle.bril_tree.specs.declared.home.Home.{Home}
+use Rattle.bril_tree.specs.declared.home.Home.TheVariants.{Reg, Frame}
+use Rattle.bril_tree.specs.declared.numbered.Instr.{Instr}
 use Rattle.bril_tree.specs.declared.value.Value.{Value}
 use Rattle.bril_tree.specs.Memory.{changed_block}
-use Rattle.bril_tree.specs.declared.numbered.Instr.{Instr}
 use Rattle.bril_tree.specs.Operand.{Location}
 use Rattle.bril_tree.specs.State as bril
 use Rattle.bril_tree.specs.Step.{step, advanced, code_of, with_locations}
+use Rattle.placement_laws.specs.Holding as holding
 use Rattle.rv64_blocks.specs.Laws.{CoreHolds}
 use Rattle.rv64_blocks.proofs.Allocating.{word_known}
 use Rattle.rv64_blocks.proofs.Lists.{changed_length}
-use Rattle.placement_laws.specs.Holding as holding
-use Rattle.rv64_layout.specs.Homes.{in_frame, slot_word}
-use Rattle.rv64_layout.proofs.Bounding.{store_most}
-use Rattle.rv64_stretches.specs.Core.{Core, put}
+use Rattle.rv64_stretches.specs.Core.{Core}
 use Rattle.rv64_stretches.proofs.Going.{Going}
-use Rattle.rv64_sequences.specs.Sequences.{store_size, store_words}
-use Rattle.rv64_sequences.specs.Frames.{addressed}
-use Rattle.rv64_sequences.proofs.Frames.{frame_store}
-use Rattle.rv64_words.specs.State.{State, assigned}
+use Rattle.rv64_sequences.specs.Moves.{fill_size, fill_words, home_word}
+use Rattle.rv64_sequences.proofs.Homes.{fill_goes}
+use Rattle.rv64_sequences.proofs.Sizes.{fill_most}
+use Rattle.rv64_words.specs.State.{State}
 use Rattle.slot_code.specs.declared.item.Slot.{Slot}
 use Rattle.slot_code.specs.Laws.{IsSlotOf}
 use Rattle.slot_code.specs.Meaning.{fills, with_slot}
-use Rattle.rv64_emit_laws.proofs.Arriving.{Moves, arrive, guards_by, here}
 use Rattle.rv64_emit_laws.specs.Homes.{home_at, saved_at}
 use Rattle.rv64_emit_laws.proofs.Acting.{Fills}
-use Rattle.rv64_emit_laws.proofs.Holding.{SameFrame, all_steady, filled_holds, slot_reaches}
+use Rattle.rv64_emit_laws.proofs.Arriving.{Moves, arrive, guards_by, here, memory_by, onto_next}
+use Rattle.rv64_emit_laws.proofs.Holding.{SameHomes, filled_holds, home_inside, home_usable, kept_holds, stack_few}
 use Rattle.rv64_emit_laws.proofs.Relation.{HasWord, Waits, OlderHold, FramesHold, RunsAlike, own_word, shadow_word}
 use Rattle.rv64_emit_laws.proofs.Setting.{Setting, entry_of, sizes}
 use Rattle.rv64_emit_laws.proofs.Standing.{standing}
-use Rattle.rv64_emit_laws.proofs.Stretches.{landed, store_some, two_not_six, with_end}
+use Rattle.rv64_emit_laws.proofs.Stretches.{landed, store_some, with_end}
 
 -- ---- more blocks were made
 
@@ -38,6 +38,11 @@ module _ (made more : ℕ) (le : made ≤ more) where
   saves_more code homes saved point [] shadow h = tt
   saves_more code homes saved point (save ∷ older) shadow h =
       (λ x v o told held. word_known made more v (shadow (suc (length older)) x) le (h.0 x v o told held), saves_more code homes saved point older shadow h.1)
+
+  pub steady_more : (code : List Instr) {H : Type 0} (homes : Location → H) (saved : ℕ → Location → Bool) (point : ℕ) (locations : bril.Locals) (saves : List bril.Locals) →
+      holding.IsSteady code homes saved (HasWord made) point locations saves → holding.IsSteady code homes saved (HasWord more) point locations saves
+  steady_more code homes saved point locations [] h = tt
+  steady_more code homes saved point locations (save ∷ older) h = (h.0, steady_more code homes saved point locations older h.1)
 
   waits_more : (S : Setting) (above base depth : ℕ) (f : bril.Frame) (stack : ℕ → ℕ) → Waits S made above base depth f stack → Waits S more above base depth f stack
   waits_more S above base depth f stack w = record {
@@ -72,9 +77,9 @@ module _ (made more : ℕ) (le : made ≤ more) where
     left = h.left;
     deep = h.deep;
     holds = record {
-      homes_hold = record { at = λ x v needed held. word_known made more v (own_word h.function h.base c.stack x) le (h.holds.homes_hold.at x v needed held) };
-      saves_hold = saves_more (code_of S.p f.function) (home_at (in_frame h.function)) (saved_at (in_frame h.function)) f.point f.saves (shadow_word h.function h.base c.stack) h.holds.saves_hold;
-      steady = all_steady (code_of S.p f.function) (home_at (in_frame h.function)) (saved_at (in_frame h.function)) (λ level x. refl) (HasWord more) f.point f.locations f.saves;
+      homes_hold = record { at = λ x v needed held. word_known made more v (home_word c h.base (home_at (S.homes f.function) x)) le (h.holds.homes_hold.at x v needed held) };
+      saves_hold = saves_more (code_of S.p f.function) (home_at (S.homes f.function)) (saved_at (S.homes f.function)) f.point f.saves (shadow_word h.function h.base c.stack) h.holds.saves_hold;
+      steady = steady_more (code_of S.p f.function) (home_at (S.homes f.function)) (saved_at (S.homes f.function)) f.point f.locations f.saves h.holds.steady;
     };
     older_hold = older_more S f.function h.base older c.stack h.older_hold;
   }
@@ -86,30 +91,34 @@ same_made change blocks (suc k) = changed_length change blocks k
 
 -- ---- a slot gets a value, and memory has changed
 
+fill_some : (home : Home) → 1 ≤ fill_size home
+fill_some (Reg r) = omega arith
+fill_some (Frame o) = store_some o
+
 module _ (S : Setting) (s : bril.State) (t : State) (r : RunsAlike S s t) where
   -- what a stretch kept that changed memory
   pub record KeepsFrames (e : Core) : Type 0 where
-    pub frame : SameFrame r.core e
-    pub stack : e.stack ≡ r.core.stack
+    pub homes : SameHomes r.core e
     pub printed : e.printed ≡ r.core.printed
     pub arrivals : e.arrivals ≡ r.core.arrivals
 
   pub fills_moves : (blocks : List bril.Block) (dest : Slot) (v : Value) (rs : ℕ) (e : Core) (n j : ℕ) → length s.blocks ≤ length blocks → IsSlotOf r.holds.function dest → Fills S r.frame dest → rs ≢ 6 → HasWord (length blocks) v (e.registers rs) → KeepsFrames e →
       CoreHolds (sizes S) blocks e → step S.p S.limits s ≡ fills S.p S.slots S.limits dest v r.frame r.older (record s { blocks = blocks }) →
-      Going S.image (sizes S) (here S s t r) r.core n j e (store_words rs (slot_word r.holds.function dest)) → j + store_size (slot_word r.holds.function dest) ≡ entry_of S r.frame.function (suc r.frame.point) →
+      Going S.image (sizes S) (here S s t r) r.core n j e (fill_words rs ((S.homes r.frame.function).home dest)) → j + fill_size ((S.homes r.frame.function).home dest) ≡ entry_of S r.frame.function (suc r.frame.point) →
       n + 3 ≤ S.cost → Moves S s t
   fills_moves blocks dest v rs e n j le in_dest fl not_six word keeps memory stepped g there cheap =
-      let h = frames_more (length s.blocks) (length blocks) le S r.frame r.older r.core r.holds in
-      let o = slot_word r.holds.function dest in
-      let w = e.registers rs in
+      let h = r.holds in
+      let home = (S.homes r.frame.function).home dest in
+      let kept = kept_holds S (length s.blocks) r.frame r.older r.core r.holds e keeps.homes in
+      let more = frames_more (length s.blocks) (length blocks) le S r.frame r.older e kept in
       let f : bril.Frame = advanced (with_locations (with_slot dest v r.frame.locations) r.frame) in
-      let last = put (addressed e 2 o) (r.holds.base + o) w in
-      let same : SameFrame r.core last = record { zero_register = keeps.frame.zero_register; frame_register = keeps.frame.frame_register; frames_left = keeps.frame.frames_left } in
-      let holds = filled_holds S (length blocks) r.frame r.older r.core h (standing S s t r) dest fl v w last in_dest word (ap (λ m. assigned m (r.holds.base + o) w) keeps.stack) same in
-      let reach = slot_reaches S (length s.blocks) r.frame r.older r.core r.holds e dest keeps.frame.frame_register in_dest in
-      let stored = frame_store S.image (sizes S) 2 rs r.holds.base o two_not_six not_six reach (with_end (store_words rs o) g) in
-      let one = store_some o in
-      let three = store_most o in
-      let count : n + store_size o ≡ suc (n + store_size o - 1) = omega arith in
-      arrive S s t r (fills S.p S.slots S.limits dest v r.frame r.older (record s { blocks = blocks })) f r.older last (n + store_size o - 1) stepped refl r.running (r.printed ∙ sym keeps.printed) holds
-      memory (guards_by S s t r e keeps.arrivals) (landed (suc (n + store_size o - 1)) (entry_of S r.frame.function (suc r.frame.point)) count there stored) (omega arith)
+      let filled = fill_goes S.image (sizes S) r.holds.base rs home (stack_few S) (keeps.homes.frame_register ∙ r.holds.at) not_six (home_usable S (length s.blocks) r.frame r.older r.core r.holds dest in_dest)
+      (home_inside S (length s.blocks) r.frame r.older r.core r.holds dest in_dest) (with_end (fill_words rs home) g) in
+      let last = filled.0 in
+      let rest = filled.1.rest in
+      let holds = filled_holds S (length blocks) r.frame r.older e more (standing S s t r) dest fl v (e.registers rs) last in_dest word filled.1 in
+      let one = fill_some home in
+      let three = fill_most home in
+      let count : n + fill_size home ≡ suc (n + fill_size home - 1) = omega arith in
+      arrive S s t r (fills S.p S.slots S.limits dest v r.frame r.older (record s { blocks = blocks })) f r.older last (n + fill_size home - 1) stepped refl r.running (r.printed ∙ (sym keeps.printed ∙ sym rest.printed)) holds
+      (memory_by S blocks e last rest.table rest.cells rest.blocks rest.given memory) (guards_by S s t r last (rest.arrivals ∙ keeps.arrivals)) (onto_next S s t r (landed (suc (n + fill_size home - 1)) (entry_of S r.frame.function (suc r.frame.point)) count there filled.2)) (omega arith)

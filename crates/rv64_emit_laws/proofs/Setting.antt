@@ -1,5 +1,5 @@
 -- A program, its code over slots and its image, with arguments for a run: what all proofs here are about.
-use Rattle.std.proofs.Common.{◌≡◌, ℕ, suc, ◌+◌, List, Some, ap, ◌∙◌, subst}
+use Rattle.std.proofs.Common.{◌≡◌, ℕ, suc, ◌+◌, List, Some}
 use Rattle.std.specs.Prelude.{slice_get}
 use Rattle.bril_tree.specs.declared.limits.Limits.{Limits}
 use Rattle.bril_tree.specs.declared.program.Prog.{Prog}
@@ -8,8 +8,8 @@ use Rattle.bril_tree.specs.Accepted.{IsAccepted}
 use Rattle.program_numbers.specs.Cost.{IsCost}
 use Rattle.bril_tree.specs.Literals.{AreLiteralsInRange}
 use Rattle.bril_tree.specs.Run.{FitMain}
-use Rattle.rv64_layout.specs.Homes.{frame_homes, in_frame, in_frame_or_none}
-use Rattle.rv64_layout.specs.Image.{depth_at, entry_at, largest_frame, start_at}
+use Rattle.rv64_layout.specs.Homes.{FunctionHomes}
+use Rattle.rv64_layout.specs.Image.{entry_at, largest_frame, start_at}
 use Rattle.rv64_layout.specs.Items.{item_size}
 use Rattle.rv64_layout.specs.Laid.{IsLaid, ItemAt}
 use Rattle.rv64_words.specs.declared.image.Image.{Image}
@@ -18,9 +18,11 @@ use Rattle.slot_code.specs.declared.item.SlotItem.{SlotItem}
 use Rattle.slot_code.specs.declared.slots.SlotFunction.{SlotFunction}
 use Rattle.slot_code.specs.declared.slots.Slots.{Slots}
 use Rattle.slot_code.specs.Lowered.{IsLowered}
+use Rattle.rv64_emit_laws.specs.Homes.{AllHomesServe}
 
 pub record Setting : Type 0 where
   pub p : Prog
+  pub homes : ℕ → FunctionHomes
   pub slots : Slots
   pub image : Image
   pub limits : Limits
@@ -29,7 +31,8 @@ pub record Setting : Type 0 where
   pub accepted : IsAccepted p
   pub literals : AreLiteralsInRange p
   pub lowered : IsLowered p slots
-  pub laid : IsLaid (frame_homes slots) slots limits image
+  pub serve : AllHomesServe homes p slots
+  pub laid : IsLaid homes slots limits image
   pub fit : FitMain p args
   pub is_cost : IsCost p cost
 
@@ -39,21 +42,18 @@ sizes S = sizes_of S.image S.limits.cells
 
 -- where the words of an item are, and where a function begins
 abbrev pub entry_of : Setting → ℕ → ℕ → ℕ
-entry_of S f point = entry_at (frame_homes S.slots) S.slots f point
+entry_of S f point = entry_at S.homes S.slots f point
 
 abbrev pub start_of : Setting → ℕ → ℕ
-start_of S f = start_at (frame_homes S.slots) S.slots f
+start_of S f = start_at S.homes S.slots f
 
-pub homes_are : (S : Setting) (f : ℕ) (g : SlotFunction) → slice_get S.slots.funcs f ≡ Some g → frame_homes S.slots f ≡ in_frame g
-homes_are S f g there = ap in_frame_or_none there
-
--- a function's homes are in its frame, so its items have these words
+-- an item has these words, and the next one begins behind them
 module _ (S : Setting) (f : ℕ) (g : SlotFunction) (point : ℕ) (item : SlotItem) (there : slice_get S.slots.funcs f ≡ Some g) (here : slice_get g.code point ≡ Some item) where
-  pub its_words : ItemAt S.image (in_frame g) (start_of S) (entry_of S f) g (depth_at g point) (entry_of S f point) item
-  its_words = subst (λ homes. ItemAt S.image homes (start_of S) (entry_of S f) g (depth_at g point) (entry_of S f point) item) (homes_are S f g there) (S.laid.items f g point item there here)
+  pub its_words : ItemAt S.image (S.homes f) (start_of S) (entry_of S f) g point (entry_of S f point) item
+  its_words = S.laid.items f g point item there here
 
-  pub next_entry : entry_of S f (suc point) ≡ entry_of S f point + item_size (in_frame g) g (depth_at g point) item
-  next_entry = S.laid.next f g point item there here ∙ ap (λ homes. entry_of S f point + item_size homes g (depth_at g point) item) (homes_are S f g there)
+  pub next_entry : entry_of S f (suc point) ≡ entry_of S f point + item_size (S.homes f) g point item
+  next_entry = S.laid.next f g point item there here
 
 -- the words of the largest frame
 abbrev pub widest : Setting → ℕ

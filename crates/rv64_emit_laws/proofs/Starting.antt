@@ -1,5 +1,5 @@
 -- The first words of an image lead to the first item of `main`, which its program starts at.
-use Rattle.std.proofs.Common.{◌≡◌, ◌≢◌, ℕ, zero, suc, ◌+◌, ◌-◌, ◌*◌, ◌^◌, ◌<◌, ◌≤◌, ◌⊎◌, inl, inr, refl, sym, ap, ◌∙◌, subst, arith, List, [], ◌∷◌, length, map, length-take, mul-le-mul_right, Option, Some, None, pos}
+use Rattle.std.proofs.Common.{◌≡◌, ◌≢◌, ℕ, zero, suc, ◌+◌, ◌-◌, ◌*◌, ◌^◌, ◌<◌, ◌≤◌, refl, sym, ap, ◌∙◌, subst, arith, List, [], ◌∷◌, length, map, length-take, mul-le-mul_right, Option, Some, None, pos}
 use Rattle.std.specs.Prelude.{All, slice_get, slice_index, take}
 use Rattle.std.specs.List.{AllZip}
 use Rattle.std.specs.Option.{option_map}
@@ -16,21 +16,18 @@ use Rattle.bril_tree.specs.Accepted.{IsPlainType}
 use Rattle.bril_tree.specs.Outcome.{block_of}
 use Rattle.bril_tree.specs.ProgramForm.{main_name}
 use Rattle.bril_tree.specs.Run.{Suits, first_state, main_types, types_of}
-use Rattle.bril_tree.specs.Locals.{location_value}
-use Rattle.bril_tree.specs.Operand.{Location}
-use Rattle.bril_tree.specs.Operand as location
 use Rattle.bril_tree.specs.State as bril
-use Rattle.bril_tree.specs.Step.{code_of, new_frame}
-use Rattle.placement_laws.specs.Homes.{slot_of}
-use Rattle.placement_laws.specs.Needed.{IsNeeded}
+use Rattle.bril_tree.specs.Step.{new_frame}
 use Rattle.bril_tree.specs.Value.{IsOfDepth, word_of}
 use Rattle.bril_tree.proofs.Elements.{zip-long}
-use Rattle.rv64_layout.specs.Homes.{in_frame, slot_word}
+use Rattle.rv64_layout.specs.Homes.{is_loaded, opening_moves}
 use Rattle.rv64_layout.specs.Image.{head_words}
+use Rattle.rv64_layout.proofs.Bounding.{opening_most}
 use Rattle.rv64_stretches.specs.Core.{Core, machine}
-use Rattle.rv64_stretches.specs.Runs.{Runs}
+use Rattle.rv64_stretches.specs.Runs.{Leaves}
 use Rattle.rv64_stretches.proofs.Cores.{assigned_other}
-use Rattle.rv64_stretches.proofs.Going.{begin, onward, plain, store}
+use Rattle.rv64_stretches.proofs.Going.{Going, begin, begin_there, plain, store}
+use Rattle.rv64_sequences.specs.Moves.{Restored, restore_size, restore_words}
 use Rattle.rv64_sequences.specs.Sequences.{high_part, low_part}
 use Rattle.rv64_sequences.proofs.Digits.{small_again}
 use Rattle.rv64_sequences.proofs.Jumps.{call_to}
@@ -39,13 +36,16 @@ use Rattle.rv64_words.specs.Arithmetic.{extended_32, moved_by}
 use Rattle.rv64_words.specs.Machine.{machine_step}
 use Rattle.rv64_words.specs.Region.{stack_base}
 use Rattle.rv64_words.specs.State.{assigned, start, words_of}
-use Rattle.rv64_emit_laws.specs.Homes.{saved_at}
-use Rattle.rv64_emit_laws.proofs.Frames.{arguments_hold, inside, slots_fit, variables_fit}
+use Rattle.rv64_emit_laws.proofs.Between.{comes_away, comes_in, comes_on}
+use Rattle.rv64_emit_laws.proofs.Entries.{IsBetween, head_inner, opening_inner}
+use Rattle.rv64_emit_laws.proofs.Frames.{slots_fit, variables_fit}
 use Rattle.rv64_emit_laws.proofs.Holding.{stack_room}
+use Rattle.rv64_emit_laws.proofs.Homes.{homes_in, origin}
+use Rattle.rv64_emit_laws.proofs.Keeping.{arguments_home, loads_own, opening_passes, stack_kept}
 use Rattle.rv64_emit_laws.proofs.Relation.{FramesHold, HasWord, MemoryHolds, Related, run}
 use Rattle.rv64_emit_laws.proofs.Setting.{Setting, entry_of, sizes, start_of, widest}
 use Rattle.rv64_emit_laws.proofs.Sources.{LoweredAt, lowered_at}
-use Rattle.rv64_emit_laws.proofs.Stretches.{landed}
+use Rattle.rv64_emit_laws.proofs.Stretches.{landed, with_end}
 
 -- ---- the arguments of `main`
 
@@ -115,11 +115,40 @@ module _ (S : Setting) where
       let room = stack_room S in
       omega (arith, length-take main.0.args main.0.vars)
 
+  -- and the whole of it
+  main_frame : 0 + main_function.function.words ≤ S.image.stack
+  main_frame =
+      let wide = S.laid.frames S.p.main main_function.function main_function.there in
+      let one : 1 * widest S ≤ S.limits.frames * widest S = mul-le-mul_right (widest S) S.limits.some_frames in
+      let room = stack_room S in
+      omega arith
+
+  -- `main` takes as many arguments as there are
+  few_arguments : length S.args ≤ main_function.function.args
+  few_arguments =
+      let main = main_there (slice_get S.p.funcs S.p.main) S.p.formed.main_is in
+      let as_many = zip-long Suits S.args (main_types S.p) S.fit in
+      let typed : length (main_types S.p) ≡ length (take main.0.args main.0.vars) = ap (λ o. length (types_of o)) main.1 ∙ length-map (take main.0.args main.0.vars) (λ v. v.ty) in
+      let taken : main_function.function.args ≡ main.0.args = main_function.is.args in
+      omega (arith, length-take main.0.args main.0.vars)
+
+  -- the words that lead to the first item of `main`: its arguments come into registers
+  abbrev pub start_steps : ℕ
+  start_steps = 4 + restore_size (opening_moves (S.homes S.p.main) main_function.function)
+
+  pub start_cheap : start_steps ≤ S.cost
+  start_cheap =
+      let e = S.is_cost.is in
+      let o = origin S S.p.main main_function.function main_function.there in
+      let most = opening_most (S.homes S.p.main) o.function main_function.function o.is (homes_in S S.p.main main_function.function main_function.there) in
+      omega arith
+
   -- the machine at the first item of `main`
   record Begun : Type 0 where
     core : Core
     done : ℕ
-    steps : after (machine_step S.image (sizes S)) 4 (start S.args) ≡ machine (entry_of S S.p.main 0) core done
+    steps : after (machine_step S.image (sizes S)) start_steps (start S.args) ≡ machine (entry_of S S.p.main 0) core done
+    between : (i : ℕ) → 1 ≤ i → i < start_steps → IsBetween S (after (machine_step S.image (sizes S)) i (start S.args))
     holds : FramesHold S 0 (new_frame S.p.main S.args) [] core
     table : core.table ≡ (λ _. 0)
     cells : core.cells ≡ (λ _. 0)
@@ -128,56 +157,73 @@ module _ (S : Setting) where
     arrivals : core.arrivals ≡ (λ _. 0)
     printed : core.printed ≡ []
 
-  none_some : {v : Value} → None ≡ Some v → ⊥
-  none_some e = cc
+  -- what the machine is before `main` loads its arguments
+  record Entered (e : Core) : Type 0 where
+    two : e.registers 2 ≡ stack_base + 8 * 0
+    null : e.registers 0 ≡ 0
+    left : e.registers 8 ≡ S.limits.frames - 1
+    stack : e.stack ≡ assigned (words_of (0 ∷ 0 ∷ map word_of S.args)) 0 12
+    table : e.table ≡ (λ _. 0)
+    cells : e.cells ≡ (λ _. 0)
+    blocks : e.blocks ≡ 0
+    given : e.given ≡ 0
+    arrivals : e.arrivals ≡ (λ _. 0)
+    printed : e.printed ≡ []
 
-  first_holds : (e : Core) → e.registers 2 ≡ stack_base → e.registers 0 ≡ 0 → e.registers 8 ≡ S.limits.frames - 1 → e.stack ≡ assigned (words_of (0 ∷ 0 ∷ map word_of S.args)) 0 12 → FramesHold S 0 (new_frame S.p.main S.args) [] e
-  first_holds e two zero_is eight stack = record {
+  first_given : (e : Core) → Entered e → (x : ℕ) (v : Value) → slice_get S.args x ≡ Some v → HasWord 0 v (e.stack (0 + (2 + x)))
+  first_given e entered x v held =
+      let place : 0 + (2 + x) ≡ 2 + x = omega arith in
+      let other : 2 + x ≢ 0 = (λ y. absurd (omega arith)) in
+      let none = plain_argument S.args (main_types S.p) x v S.accepted.main.takes_plain S.fit held in
+      record {
+        is = ap e.stack place ∙ (ap (λ m. m (2 + x)) entered.stack ∙ (assigned_other (words_of (0 ∷ 0 ∷ map word_of S.args)) 0 12 (2 + x) other ∙ argument_word S.args x v held));
+        known = omega arith;
+      }
+
+  first_holds : (e last : Core) → Entered e → Restored 0 (opening_moves (S.homes S.p.main) main_function.function) e last → FramesHold S 0 (new_frame S.p.main S.args) [] last
+  first_holds e last entered loads = record {
     function = main_function.function;
     there = main_function.there;
     base = 0;
-    at = two;
-    zero_is = zero_is;
-    left = (let some = S.limits.some_frames in omega arith);
+    at = loads.rest.frame_register ∙ entered.two;
+    zero_is = loads.rest.zero_register ∙ entered.null;
+    left = (let some = S.limits.some_frames in let same = loads.rest.frames_left in let left = entered.left in omega arith);
     deep = omega arith;
-    holds = record { homes_hold = record { at = at_home }; saves_hold = tt; steady = tt };
-    older_hold = ap (λ m. m 0) stack;
-  }
-    where
-      argument : (x : ℕ) (v : Value) → ((i : ℕ) × (x ≡ 0 + i) × (slice_get S.args i ≡ Some v)) ⊎ (bril.no_values x ≡ Some v) → HasWord 0 v (e.stack (0 + (2 + x)))
-      argument x v (inl w) =
-          let at : x ≡ w.0 = (let q = w.1 in omega arith) in
-          let place : 0 + (2 + x) ≡ 2 + x = omega arith in
-          let other : 2 + x ≢ 0 = (λ y. absurd (omega arith)) in
-          let held : slice_get S.args x ≡ Some v = ap (slice_get S.args) at ∙ w.2 in
-          let none = plain_argument S.args (main_types S.p) x v S.accepted.main.takes_plain S.fit held in
-          record {
-            is = ap e.stack place ∙ (ap (λ m. m (2 + x)) stack ∙ (assigned_other (words_of (0 ∷ 0 ∷ map word_of S.args)) 0 12 (2 + x) other ∙ argument_word S.args x v held));
-            known = omega arith;
-          }
-      argument x v (inr w) = absurd (none_some w)
-
-      at_home : (x : Location) (v : Value) → IsNeeded (code_of S.p S.p.main) (saved_at (in_frame main_function.function)) 0 x → location_value (new_frame S.p.main S.args).locations x ≡ Some v → HasWord 0 v (e.stack (0 + slot_word main_function.function (slot_of x)))
-      at_home (location.Variable x) v needed held = argument x v (arguments_hold S.args 0 bril.no_values x v held)
-      at_home (location.Shadow x) v needed held = absurd (none_some held)
-
-  begun_from : {e : Core} → Runs S.image (sizes S) 0 first_core 4 (entry_of S S.p.main 0) e → e.registers 2 ≡ stack_base → e.registers 0 ≡ 0 → e.registers 8 ≡ S.limits.frames - 1 →
-      e.stack ≡ assigned (words_of (0 ∷ 0 ∷ map word_of S.args)) 0 12 → e.table ≡ (λ _. 0) → e.cells ≡ (λ _. 0) → e.blocks ≡ 0 → e.given ≡ 0 → e.arrivals ≡ (λ _. 0) → e.printed ≡ [] → Begun
-  begun_from {e} r two zero_is eight stack table cells blocks given arrivals printed = record {
-    core = e;
-    done = r.done 0;
-    steps = r.steps 0;
-    holds = first_holds e two zero_is eight stack;
-    table = table;
-    cells = cells;
-    blocks = blocks;
-    given = given;
-    arrivals = arrivals;
-    printed = printed;
+    holds = record { homes_hold = arguments_home S 0 S.p.main main_function.function main_function.there S.args few_arguments 0 e last loads (first_given e entered); saves_hold = tt; steady = tt };
+    older_hold =
+        stack_kept S S.p.main main_function.function main_function.there 0 (is_loaded (S.homes S.p.main) main_function.function) (opening_passes (S.homes S.p.main) main_function.function) 0 e last loads 0
+        ∙ ap (λ m. m 0) entered.stack;
   }
 
-  to_main : {n : ℕ} {e : Core} → Runs S.image (sizes S) 0 first_core n (start_of S S.slots.main) e → Runs S.image (sizes S) 0 first_core n (start_of S S.p.main) e
-  to_main {n} {e} r = subst (λ m. Runs S.image (sizes S) 0 first_core n (start_of S m) e) main_is r
+  begun_from : {c e : Core} → Leaves S.image (sizes S) 0 first_core 3 3 (start_of S S.p.main) c →
+      Going S.image (sizes S) (start_of S S.p.main) c 1 (start_of S S.p.main + 1) e (restore_words (opening_moves (S.homes S.p.main) main_function.function)) → Entered e → Begun
+  begun_from {e = e} called g entered =
+      let homes = S.homes S.p.main in
+      let main = main_function.function in
+      let loads = loads_own S S.p.main main main_function.there 0 (is_loaded homes main) (opening_passes homes main) 0 main_frame e [] entered.two (with_end (restore_words (opening_moves homes main)) g) in
+      let first = S.laid.first S.p.main main main_function.there in
+      let place : start_of S S.p.main + 1 + restore_size (opening_moves homes main) ≡ entry_of S S.p.main 0 = omega arith in
+      let size = restore_size (opening_moves homes main) in
+      let on = landed (1 + size) (entry_of S S.p.main 0) refl place loads.going in
+      let count : 3 + (1 + size) ≡ start_steps = omega arith in
+      let r = comes_in S start_steps (entry_of S S.p.main 0) count refl (comes_on S (comes_away S called (λ w low high. head_inner S w (omega arith))) on (opening_inner S S.p.main main main_function.there)) in
+      let rest = loads.is.rest in
+      record {
+        core = loads.core;
+        done = r.done 0;
+        steps = r.steps 0;
+        between = r.between 0;
+        holds = first_holds e loads.core entered loads.is;
+        table = rest.table ∙ entered.table;
+        cells = rest.cells ∙ entered.cells;
+        blocks = rest.blocks ∙ entered.blocks;
+        given = rest.given ∙ entered.given;
+        arrivals = rest.arrivals ∙ entered.arrivals;
+        printed = rest.printed ∙ entered.printed;
+      }
+
+  to_main : {n bound : ℕ} {e : Core} → Leaves S.image (sizes S) 0 first_core n bound (start_of S S.slots.main) e → Leaves S.image (sizes S) 0 first_core n bound (start_of S S.p.main) e
+  to_main {n} {bound} {e} r = subst (λ m. Leaves S.image (sizes S) 0 first_core n bound (start_of S m) e) main_is r
 
   begun : Begun
   begun =
@@ -194,15 +240,12 @@ module _ (S : Setting) where
       let at_2 : 0 + 1 + 1 ≡ 2 = refl in
       let r3 = call_to S.image (sizes S) 2 (start_of S S.slots.main) at_2 two_small start_small g2 in
       let r3_main = to_main r3 in
-      let g4 = onward S.image (sizes S) {ws = Sd 2 1 (pos 0) ∷ []} r3_main (S.laid.begins S.p.main main_function.function main_function.there) in
-      let wide = S.laid.frames S.p.main main_function.function main_function.there in
-      let room = stack_room S in
-      let none_deep : 0 ≤ 0 * widest S = omega arith in
-      let one_frame : suc 0 ≤ S.limits.frames = omega arith in
-      let in_0 : 0 < S.image.stack = (let fit = slots_fit _ main_function.function main_function.is in let h : 0 + 0 < S.image.stack = inside 0 0 main_function.function.words (widest S) 0 S.limits.frames S.image.stack none_deep wide (omega arith) one_frame room in omega arith) in
-      let g5 = store S.image (sizes S) {ws = []} 0 refl in_0 g4 in
-      let r = landed 4 (entry_of S S.p.main 0) refl (sym (S.laid.first S.p.main main_function.function main_function.there)) g5 in
-      begun_from r refl refl eight refl refl refl refl refl refl refl
+      let loads = restore_words (opening_moves (S.homes S.p.main) main_function.function) in
+      let g4 = begin_there S.image (sizes S) (Sd 2 1 (pos 0) ∷ loads) r3_main (S.laid.begins S.p.main main_function.function main_function.there) in
+      let room = main_room in
+      let in_0 : 0 < S.image.stack = omega arith in
+      let g5 = store S.image (sizes S) {ws = loads} 0 refl in_0 g4 in
+      begun_from r3_main g5 (record { two = refl; null = refl; left = eight; stack = refl; table = refl; cells = refl; blocks = refl; given = refl; arrivals = refl; printed = refl })
 
   no_block : (table cells : ℕ → ℕ) → table ≡ (λ _. 0) → cells ≡ (λ _. 0) → MemoryHolds (sizes S) [] table cells 0 0
   no_block table cells no_table no_cells = record {
@@ -223,8 +266,12 @@ module _ (S : Setting) where
       none_there zero e = cc
       none_there (suc k) e = cc
 
-  -- four words lead to the program's first state
-  pub start_related : Related S (first_state S.p S.limits S.args) (after (machine_step S.image (sizes S)) 4 (start S.args))
+  -- and come to no item before
+  pub start_between : (i : ℕ) → 1 ≤ i → i < start_steps → IsBetween S (after (machine_step S.image (sizes S)) i (start S.args))
+  start_between = begun.between
+
+  -- they lead to the program's first state
+  pub start_related : Related S (first_state S.p S.limits S.args) (after (machine_step S.image (sizes S)) start_steps (start S.args))
   start_related = subst (Related S (first_state S.p S.limits S.args)) (sym begun.steps) (run (record {
     steps = 0;
     is = refl;

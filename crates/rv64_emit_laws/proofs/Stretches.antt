@@ -1,14 +1,19 @@
 -- Stretches of words: what they keep, and how they are joined.
-use Rattle.std.proofs.Common.{◌≡◌, ◌≢◌, ℕ, ◌≤◌, Bool, true, false, cond, sym, subst, arith, List, [], ◌++◌, append-nil}
+use Rattle.std.proofs.Common.{◌≡◌, ℕ, zero, suc, ◌*◌, ◌<◌, ◌≤◌, Bool, true, false, cond, sym, ap, subst, arith, List, [], ◌++◌, append-nil, Some, None}
+use Rattle.bril_tree.specs.declared.home.Home.{Home}
+use Rattle.bril_tree.specs.declared.home.Home.TheVariants.{Reg, Frame}
 use Rattle.bril_tree.specs.declared.limits.End.{End}
 use Rattle.rv64_stretches.specs.Core.{Core}
-use Rattle.rv64_stretches.specs.Runs.{Runs, Ends}
+use Rattle.rv64_stretches.specs.Runs.{Runs, Leaves, Ends}
 use Rattle.rv64_stretches.proofs.Going.{Going}
-use Rattle.rv64_sequences.specs.Sequences.{is_near, load_size, store_size}
+use Rattle.rv64_sequences.specs.Moves.{copy_size}
+use Rattle.rv64_sequences.specs.Sequences.{constant_size, fits_12, fits_32, is_near, load_size, store_size}
+pub use Rattle.rv64_sequences.proofs.Homes.{two_not_six}
 pub use Rattle.rv64_values.proofs.Kept.{keeps_written}
 use Rattle.rv64_words.specs.declared.image.Image.{Image}
 use Rattle.rv64_words.specs.declared.word.Word.{Word}
 use Rattle.rv64_words.specs.Region.{Sizes}
+use Rattle.rv64_words.specs.State.{Finished}
 
 -- words that stand alone are followed by none
 pub with_end : {image : Image} {z : Sizes} {k : ℕ} {c : Core} {n j : ℕ} {e : Core} → (ws : List Word) → Going image z k c n j e ws → Going image z k c n j e (ws ++ [])
@@ -17,9 +22,6 @@ with_end {image} {z} {k} {c} {n} {j} {e} ws g = subst (λ xs. Going image z k c 
 -- a stretch that ends at a word, after so many steps
 pub landed : {image : Image} {z : Sizes} {k : ℕ} {c : Core} {n j : ℕ} {e : Core} {ws : List Word} → (m i : ℕ) → n ≡ m → j ≡ i → Going image z k c n j e ws → Runs image z k c m i e
 landed {image} {z} {k} {c} {n} {j} {e} m i steps same g = subst (λ x. Runs image z k c x i e) steps (subst (λ x. Runs image z k c n x e) same g.runs)
-
-pub two_not_six : ◌≢◌ {A = ℕ} 2 6
-two_not_six = λ e. absurd (omega arith)
 
 pub store_some : (o : ℕ) → 1 ≤ store_size o
 store_some o = by_test (is_near o)
@@ -41,5 +43,34 @@ in_steps {image} {z} {k} {c} {n} {j} {e} m same r = subst (λ x. Runs image z k 
 pub at_place : {image : Image} {z : Sizes} {k : ℕ} {c : Core} {n j : ℕ} {e : Core} → (i : ℕ) → j ≡ i → Runs image z k c n j e → Runs image z k c n i e
 at_place {image} {z} {k} {c} {n} {j} {e} i same r = subst (λ x. Runs image z k c n x e) same r
 
-pub ends_in : {image : Image} {z : Sizes} {k : ℕ} {c : Core} {n : ℕ} {how : End} {e : Core} → (m : ℕ) → n ≡ m → Ends image z k c n how e → Ends image z k c m how e
-ends_in {image} {z} {k} {c} {n} {how} {e} m same r = subst (λ x. Ends image z k c x how e) same r
+pub leaves_in : {image : Image} {z : Sizes} {k : ℕ} {c : Core} {n bound j : ℕ} {e : Core} → (m : ℕ) → n ≡ m → Leaves image z k c n bound j e → Leaves image z k c m bound j e
+leaves_in {image} {z} {k} {c} {n} {bound} {j} {e} m same r = subst (λ x. Leaves image z k c x bound j e) same r
+
+pub ends_in : {image : Image} {z : Sizes} {k : ℕ} {c : Core} {n bound : ℕ} {how : End} {e : Core} → (m : ℕ) → n ≡ m → Ends image z k c n bound how e → Ends image z k c m bound how e
+ends_in {image} {z} {k} {c} {n} {bound} {how} {e} m same r = subst (λ x. Ends image z k c x bound how e) same r
+
+-- a stretch that comes to another word has steps
+pub runs_some : {image : Image} {z : Sizes} {k : ℕ} {c : Core} {n j : ℕ} {e : Core} → k < j → Runs image z k c n j e → 1 ≤ n
+runs_some {k = k} {n = zero} {j = j} lt r = let same : 4 * k ≡ 4 * j = ap (λ s. s.pc) (r.steps 0) in absurd (omega arith)
+runs_some {n = suc n} lt r = omega arith
+
+-- and so has one that comes to an end
+pub ends_some : {image : Image} {z : Sizes} {k : ℕ} {c : Core} {n bound : ℕ} {how : End} {e : Core} → Ends image z k c n bound how e → 1 ≤ n
+ends_some {n = zero} {how = how} r = absurd (runs_still how (ap (λ s. s.stopped) (r.steps 0)))
+  where
+    runs_still : (how : End) → None ≡ Some (Finished how) → ⊥
+    runs_still how e = cc
+ends_some {n = suc n} r = omega arith
+
+pub constant_some : (n : ℕ) → 1 ≤ constant_size n
+constant_some n = by_test (fits_12 n) (fits_32 n)
+  where
+    by_test : (t u : Bool) → 1 ≤ cond t 1 (cond u 2 8)
+    by_test true u = omega arith
+    by_test false true = omega arith
+    by_test false false = omega arith
+
+pub copy_some : (dest from : Home) → 1 ≤ copy_size dest from
+copy_some (Reg r) (Reg s) = omega arith
+copy_some (Frame o) (Reg s) = store_some o
+copy_some dest (Frame p) = let some = load_some p in omega arith

@@ -1,5 +1,5 @@
--- The theorem: the image of a program as it is laid out implements the program.
-use Rattle.std.proofs.Common.{◌+◌, ◌*◌, List, refl}
+-- The theorem: the image of a program as it is laid out, by homes that serve, implements the program.
+use Rattle.std.proofs.Common.{ℕ, ◌+◌, ◌*◌, List, refl}
 use Rattle.bril_tree.specs.declared.limits.Limits.{Limits}
 use Rattle.bril_tree.specs.declared.program.Prog.{Prog}
 use Rattle.bril_tree.specs.declared.value.Value.{Value}
@@ -9,27 +9,30 @@ use Rattle.bril_tree.specs.Literals.{AreLiteralsInRange}
 use Rattle.bril_tree.specs.Run.{FitMain}
 use Rattle.rv64_implements.specs.Implements.{Implements, ImplementsAt}
 use Rattle.rv64_implements.specs.WordBounds.{IsWithin}
-use Rattle.rv64_layout.specs.Homes.{frame_homes}
+use Rattle.rv64_layout.specs.Homes.{FunctionHomes}
 use Rattle.rv64_layout.specs.Image.{IsImageOf}
 use Rattle.rv64_layout.specs.Laid.{IsLaid}
 use Rattle.rv64_layout.proofs.Laid.{laid}
 use Rattle.rv64_words.specs.declared.image.Image.{Image}
 use Rattle.slot_code.specs.declared.slots.Slots.{Slots}
 use Rattle.slot_code.specs.Lowered.{IsLowered}
-use Rattle.rv64_emit_laws.specs.Homes.{homes_of}
-use Rattle.rv64_emit_laws.specs.Laws.{ImagesImplementPrograms}
+use Rattle.rv64_emit_laws.specs.Homes.{AllHomesServe, homes_of}
+use Rattle.rv64_emit_laws.specs.Laws.{ImagesEnterItems, ImagesImplementPrograms}
+use Rattle.rv64_emit_laws.proofs.Entering.{enters}
 use Rattle.rv64_emit_laws.proofs.GuardList.{lists_guards}
 use Rattle.rv64_emit_laws.proofs.Setting.{Setting}
 use Rattle.rv64_emit_laws.proofs.Whole.{implements_run}
-use Rattle.rv64_emit_laws.proofs.Homes.{frames_have, homes_within}
+use Rattle.rv64_emit_laws.proofs.Homes.{have_homes, homes_within}
 
-module _ (p : Prog) (slots : Slots) (limits : Limits) (image : Image) (accepted : IsAccepted p) (literals : AreLiteralsInRange p) (lowered : IsLowered p slots) (within : IsWithin p limits) (is : IsImageOf (frame_homes slots) slots limits image) where
-  is_laid : IsLaid (frame_homes slots) slots limits image
-  is_laid = laid p (frame_homes slots) slots limits image accepted literals lowered within (frames_have p slots lowered) is
+module _ (p : Prog) (homes : ℕ → FunctionHomes) (slots : Slots) (limits : Limits) (image : Image) (accepted : IsAccepted p) (literals : AreLiteralsInRange p) (lowered : IsLowered p slots) (within : IsWithin p limits)
+    (serve : AllHomesServe homes p slots) (is : IsImageOf homes slots limits image) where
+  is_laid : IsLaid homes slots limits image
+  is_laid = laid p homes slots limits image accepted literals lowered within (have_homes p slots homes lowered serve) is
 
   abbrev setting : (args : List Value) → FitMain p args → Setting
   setting args fit = record {
     p = p;
+    homes = homes;
     slots = slots;
     image = image;
     limits = limits;
@@ -38,17 +41,21 @@ module _ (p : Prog) (slots : Slots) (limits : Limits) (image : Image) (accepted 
     accepted = accepted;
     literals = literals;
     lowered = lowered;
+    serve = serve;
     laid = is_laid;
     fit = fit;
     is_cost = record { frame = within.size.frame; largest = within.size.largest; is = refl };
   }
 
-  pub implements_at : ImplementsAt (homes_of slots) image p limits
-  implements_at = record { guards = lists_guards p (frame_homes slots) slots limits image lowered is_laid; within = homes_within p slots lowered; runs = λ args fit. implements_run (setting args fit) }
+  pub implements_at : ImplementsAt (homes_of homes) image p limits
+  implements_at = record { guards = lists_guards p homes slots limits image lowered is_laid; within = homes_within p slots homes lowered serve; runs = λ args fit. implements_run (setting args fit) }
 
   -- what the code generator promises
   pub implements : Implements image p limits
-  implements = record { homes = homes_of slots; implements = implements_at }
+  implements = record { homes = homes_of homes; implements = implements_at }
 
 pub images_implement_programs : ImagesImplementPrograms
-images_implement_programs p slots limits image accepted literals lowered within is = implements_at p slots limits image accepted literals lowered within is
+images_implement_programs p homes slots limits image accepted literals lowered within serve is = implements_at p homes slots limits image accepted literals lowered within serve is
+
+pub images_enter_items : ImagesEnterItems
+images_enter_items p homes slots limits image accepted literals lowered within serve is args fit m f point = enters (setting p homes slots limits image accepted literals lowered within serve is args fit) m f point

@@ -1,19 +1,28 @@
--- That the image of a program does what the program does, as a law.
+-- That the image of a program does what the program does, as laws.
 use Rattle.bril_tree.specs.declared.limits.Limits.{Limits}
 use Rattle.bril_tree.specs.declared.program.Prog.{Prog}
 use Rattle.bril_tree.specs.Accepted.{IsAccepted}
 use Rattle.bril_tree.specs.Literals.{AreLiteralsInRange}
 use Rattle.rv64_implements.specs.Implements.{ImplementsAt}
 use Rattle.rv64_implements.specs.WordBounds.{IsWithin}
-use Rattle.rv64_layout.specs.Homes.{frame_homes}
+use Rattle.std.specs.Prelude.{ℕ, List}
+use Rattle.bril_tree.specs.declared.value.Value.{Value}
+use Rattle.bril_tree.specs.Run.{FitMain}
+use Rattle.rv64_layout.specs.Homes.{FunctionHomes}
 use Rattle.rv64_layout.specs.Image.{IsImageOf}
 use Rattle.rv64_words.specs.declared.image.Image.{Image}
 use Rattle.slot_code.specs.declared.slots.Slots.{Slots}
 use Rattle.slot_code.specs.Lowered.{IsLowered}
-use Rattle.rv64_emit_laws.specs.Homes.{homes_of}
+use Rattle.rv64_emit_laws.specs.Entered.{EntersItems}
+use Rattle.rv64_emit_laws.specs.Homes.{AllHomesServe, homes_of}
 
--- The image of an accepted program within the bounds, laid out from its code over slots, does what the program does, with all
--- arguments that fit. The home of each location is the word of its slot in the frame.
+-- The image of an accepted program within the bounds, laid out from its code over slots by homes that serve, does what the
+-- program does, with all arguments that fit.
 abbrev pub ImagesImplementPrograms : Type 0
-ImagesImplementPrograms = (p : Prog) (slots : Slots) (limits : Limits) (image : Image) → IsAccepted p → AreLiteralsInRange p → IsLowered p slots → IsWithin p limits →
-    IsImageOf (frame_homes slots) slots limits image → ImplementsAt (homes_of slots) image p limits
+ImagesImplementPrograms = (p : Prog) (homes : ℕ → FunctionHomes) (slots : Slots) (limits : Limits) (image : Image) → IsAccepted p → AreLiteralsInRange p → IsLowered p slots → IsWithin p limits →
+    AllHomesServe homes p slots → IsImageOf homes slots limits image → ImplementsAt (homes_of homes) image p limits
+
+-- There the machine comes to the first word of an item only where the program comes to that item, with all arguments that fit.
+abbrev pub ImagesEnterItems : Type 0
+ImagesEnterItems = (p : Prog) (homes : ℕ → FunctionHomes) (slots : Slots) (limits : Limits) (image : Image) → IsAccepted p → AreLiteralsInRange p → IsLowered p slots → IsWithin p limits →
+    AllHomesServe homes p slots → IsImageOf homes slots limits image → (args : List Value) → FitMain p args → EntersItems (homes_of homes) homes slots image p limits args

@@ -7,6 +7,9 @@ use Rattle.std.proofs.lemmas.List.Sums.{sum_by-cons}
 use Rattle.std.proofs.lemmas.Option.{slice_get-map, slice_get_within}
 use Rattle.bril_tree.specs.declared.home.Home.{Home}
 use Rattle.bril_tree.specs.declared.home.Home.TheVariants.{Reg, Frame}
+use Rattle.bril_tree.specs.declared.operators.BinaryOp.{BinaryOp}
+use Rattle.bril_tree.specs.declared.operators.UnaryOp.{UnaryOp}
+use Rattle.bril_tree.specs.declared.operators.UnaryOp.TheVariants as unary
 use Rattle.bril_tree.specs.declared.numbered.Instr.{Instr}
 use Rattle.bril_tree.specs.declared.numbered.Instr.TheVariants.{Label, Const, Act}
 use Rattle.bril_tree.specs.declared.numbered_function.Func.{Func}
@@ -25,13 +28,16 @@ use Rattle.slot_code.specs.declared.item.SlotItem.TheVariants.{Pass, Constant, C
 use Rattle.slot_code.specs.declared.slots.SlotFunction.{SlotFunction}
 use Rattle.slot_code.specs.declared.slots.Slots.{Slots}
 use Rattle.slot_code.specs.Lowered.{IsLowered, IsLoweredFunction, lowered_action, lowered_item, printed_as}
-use Rattle.rv64_sequences.specs.Operations.{unary_size, binary_size}
-use Rattle.rv64_sequences.specs.Moves.{Move, fetch_size, fill_size, save_one_size, save_size, restore_one_size, restore_size}
-use Rattle.rv64_sequences.specs.Sequences.{constant_size, load_size, store_size, frame_up_size, is_near, fits_12, fits_32}
-use Rattle.rv64_layout.specs.Homes.{FunctionHomes, variable_home, level_word, moves_from, level_moves}
-use Rattle.rv64_layout.specs.Image.{sum_below, depth_at, size_or_none, size_at, function_size, function_size_or_none, start_at}
-use Rattle.rv64_layout.specs.Items.{item_size, pass_size, result_size, returned_size, spaced_size, print_size, argument_word}
+use Rattle.rv64_sequences.specs.Operations.{unary_size, binary_size, binary_takes_any}
+use Rattle.rv64_sequences.specs.Moves.{Move, save_one_size, save_size, restore_one_size, restore_size}
+use Rattle.rv64_sequences.specs.Sequences.{constant_size, frame_up_size, fits_12, fits_32}
+pub use Rattle.rv64_sequences.proofs.Sizes.{load_most, store_most, fetch_most, fill_most, source_most, target_most, operand_most, result_most, copy_most}
+use Rattle.rv64_layout.specs.Homes.{FunctionHomes, variable_home, moves_from, moves_of, guard_moves, speculate_moves}
+use Rattle.rv64_layout.specs.Image.{sum_below, size_or_none, size_at, function_size, function_size_or_none, start_at}
+use Rattle.rv64_layout.specs.Items.{item_size, unary_item_size, binary_item_size, pass_size, call_result_size, returned_size, spaced_size, print_size, argument_word}
+use Rattle.rv64_layout.specs.Laid.{AreHomes, HaveHomes}
 use Rattle.rv64_layout.proofs.Joining.{sum_below-most, sum_passes}
+pub use Rattle.rv64_layout.proofs.Registers.{call_moves_most, call_moves_back_most, opening_most}
 
 -- ---- sequences
 
@@ -39,22 +45,8 @@ of_two : (t : Bool) (m n k : ℕ) → m ≤ k → n ≤ k → cond t m n ≤ k
 of_two true m n k first second = first
 of_two false m n k first second = second
 
-pub load_most : (o : ℕ) → load_size o ≤ 3
-load_most o = of_two (is_near o) 1 3 3 (omega arith) (omega arith)
-
-pub store_most : (o : ℕ) → store_size o ≤ 3
-store_most o = of_two (is_near o) 1 3 3 (omega arith) (omega arith)
-
 pub constant_most : (n : ℕ) → constant_size n ≤ 8
 constant_most n = of_two (fits_12 n) 1 _ 8 (omega arith) (of_two (fits_32 n) 2 8 8 (omega arith) (omega arith))
-
-pub fetch_most : (home : Home) → fetch_size home ≤ 3
-fetch_most (Reg r) = omega arith
-fetch_most (Frame o) = load_most o
-
-pub fill_most : (home : Home) → fill_size home ≤ 3
-fill_most (Reg r) = omega arith
-fill_most (Frame o) = store_most o
 
 save_one_most : (home : Home) (o : ℕ) → save_one_size home o ≤ 6
 save_one_most (Reg r) o = omega (arith, store_most o)
@@ -82,22 +74,22 @@ moves_few homes first test i (slot ∷ slots) = by (test slot) (moves_few homes 
     by true few = omega arith
     by false few = omega arith
 
-pub level_saves_most : (homes : FunctionHomes) (g : SlotFunction) (level : ℕ) → save_size (level_moves homes g level) ≤ 6 * length g.slots
-level_saves_most homes g level = omega (arith, save_most (level_moves homes g level), moves_few homes (level_word g level) (homes.saved level) 0 g.slots)
+pub moves_save_most : (homes : FunctionHomes) (g : SlotFunction) (first : ℕ) (test : Slot → Bool) → save_size (moves_of homes g first test) ≤ 6 * length g.slots
+moves_save_most homes g first test = omega (arith, save_most (moves_of homes g first test), moves_few homes first test 0 g.slots)
 
-pub level_restores_most : (homes : FunctionHomes) (g : SlotFunction) (level : ℕ) → restore_size (level_moves homes g level) ≤ 6 * length g.slots
-level_restores_most homes g level = omega (arith, restore_most (level_moves homes g level), moves_few homes (level_word g level) (homes.saved level) 0 g.slots)
+pub moves_restore_most : (homes : FunctionHomes) (g : SlotFunction) (first : ℕ) (test : Slot → Bool) → restore_size (moves_of homes g first test) ≤ 6 * length g.slots
+moves_restore_most homes g first test = omega (arith, restore_most (moves_of homes g first test), moves_few homes first test 0 g.slots)
 
 pub frame_up_most : (wide : ℕ) → frame_up_size wide ≤ 5
 frame_up_most wide = of_two _ 2 5 5 (omega arith) (omega arith)
 
 pub pass_most : (homes : FunctionHomes) (g : SlotFunction) (k : ℕ) (args : List ℕ) → pass_size homes g k args ≤ 6 * length args
 pass_most homes g k [] = omega arith
-pass_most homes g k (a ∷ args) = omega (arith, fetch_most (variable_home homes a), store_most (argument_word g k), pass_most homes g (suc k) args)
+pass_most homes g k (a ∷ args) = omega (arith, source_most (variable_home homes a), store_most (argument_word g k), pass_most homes g (suc k) args)
 
-pub result_most : (homes : FunctionHomes) (dest : Option ℕ) → result_size homes dest ≤ 3
-result_most homes None = omega arith
-result_most homes (Some x) = fill_most (variable_home homes x)
+pub call_result_most : (homes : FunctionHomes) (dest : Option ℕ) → call_result_size homes dest ≤ 3
+call_result_most homes None = omega arith
+call_result_most homes (Some x) = fill_most (variable_home homes x)
 
 pub returned_most : (homes : FunctionHomes) (value : Option ℕ) → returned_size homes value ≤ 3
 returned_most homes None = omega arith
@@ -122,7 +114,7 @@ most_size slots (Unary operation dest operand) = 6 + unary_size operation
 most_size slots (Binary operation dest first second) = 9 + binary_size operation
 most_size slots (Jump to) = 1
 most_size slots (Branch condition then_to else_to) = 6
-most_size slots (Call dest function args) = 14 + 6 * length args
+most_size slots (Call dest function args) = 60 + 6 * length args
 most_size slots (Return value) = 7
 most_size slots (Print args) = 2 + 7 * length args
 most_size slots (Alloc dest count) = 8
@@ -133,24 +125,38 @@ most_size slots Speculate = 6 * slots + 1
 most_size slots Commit = 1
 most_size slots (Guard condition abort_to) = 6 * slots + 6
 
-pub item_most : (homes : FunctionHomes) (g : SlotFunction) (depth : ℕ) (item : SlotItem) → item_size homes g depth item ≤ most_size (length g.slots) item
-item_most homes g depth Pass = omega arith
-item_most homes g depth (Constant dest value) = omega (arith, constant_most (word_of value), fill_most (variable_home homes dest))
-item_most homes g depth (Copy dest from) = omega (arith, fetch_most (homes.home from), fill_most (homes.home dest))
-item_most homes g depth (Unary operation dest operand) = omega (arith, fetch_most (variable_home homes operand), fill_most (variable_home homes dest))
-item_most homes g depth (Binary operation dest first second) = omega (arith, fetch_most (variable_home homes first), fetch_most (variable_home homes second), fill_most (variable_home homes dest))
-item_most homes g depth (Jump to) = omega arith
-item_most homes g depth (Branch condition then_to else_to) = omega (arith, fetch_most (variable_home homes condition))
-item_most homes g depth (Call dest function args) = omega (arith, pass_most homes g 0 args, frame_up_most g.words, result_most homes dest)
-item_most homes g depth (Return value) = omega (arith, returned_most homes value)
-item_most homes g depth (Print args) = print_most homes args
-item_most homes g depth (Alloc dest count) = omega (arith, fetch_most (variable_home homes count), fill_most (variable_home homes dest))
-item_most homes g depth (Free pointer) = omega (arith, fetch_most (variable_home homes pointer))
-item_most homes g depth (Store pointer value) = omega (arith, fetch_most (variable_home homes pointer), fetch_most (variable_home homes value))
-item_most homes g depth (Load dest pointer) = omega (arith, fetch_most (variable_home homes pointer), fill_most (variable_home homes dest))
-item_most homes g depth Speculate = omega (arith, level_saves_most homes g (suc depth))
-item_most homes g depth Commit = omega arith
-item_most homes g depth (Guard condition abort_to) = omega (arith, fetch_most (variable_home homes condition), level_restores_most homes g depth)
+pub unary_item_most : (operation : UnaryOp) (dest operand : Home) → unary_item_size operation dest operand ≤ 6 + unary_size operation
+unary_item_most unary.Not dest operand = omega (arith, operand_most true operand, result_most true dest)
+unary_item_most unary.CharToInt dest operand = copy_most dest operand
+unary_item_most unary.IntToChar dest operand = omega (arith, operand_most false operand, result_most false dest)
+
+pub binary_item_most : (operation : BinaryOp) (dest first second : Home) → binary_item_size operation dest first second ≤ 9 + binary_size operation
+binary_item_most operation dest first second =
+    let any = binary_takes_any operation in
+    omega (arith, operand_most any first, operand_most any second, result_most any dest)
+
+module _ (homes : FunctionHomes) (f : Func) (g : SlotFunction) (is : IsLoweredFunction f g) (are : AreHomes g homes) (point : ℕ) where
+  pub item_most : (item : SlotItem) → item_size homes g point item ≤ most_size (length g.slots) item
+  item_most Pass = omega arith
+  item_most (Constant dest value) = omega (arith, constant_most (word_of value), target_most (variable_home homes dest))
+  item_most (Copy dest from) = copy_most (homes.home dest) (homes.home from)
+  item_most (Unary operation dest operand) = unary_item_most operation (variable_home homes dest) (variable_home homes operand)
+  item_most (Binary operation dest first second) = binary_item_most operation (variable_home homes dest) (variable_home homes first) (variable_home homes second)
+  item_most (Jump to) = omega arith
+  item_most (Branch condition then_to else_to) = omega (arith, source_most (variable_home homes condition))
+  item_most (Call dest function args) =
+      omega (arith, call_moves_most homes f g is are point dest, call_moves_back_most homes f g is are point dest, pass_most homes g 0 args, frame_up_most g.words, call_result_most homes dest)
+  item_most (Return value) = omega (arith, returned_most homes value)
+  item_most (Print args) = print_most homes args
+  item_most (Alloc dest count) = omega (arith, fetch_most (variable_home homes count), fill_most (variable_home homes dest))
+  item_most (Free pointer) = omega (arith, fetch_most (variable_home homes pointer))
+  item_most (Store pointer value) = omega (arith, fetch_most (variable_home homes pointer), source_most (variable_home homes value))
+  item_most (Load dest pointer) = omega (arith, fetch_most (variable_home homes pointer), target_most (variable_home homes dest))
+  item_most Speculate = let most : save_size (speculate_moves homes g point) ≤ 6 * length g.slots = moves_save_most homes g _ _ in omega arith
+  item_most Commit = omega arith
+  item_most (Guard condition abort_to) =
+      let most : restore_size (guard_moves homes g point abort_to) ≤ 6 * length g.slots = moves_restore_most homes g _ _ in
+      omega (arith, source_most (variable_home homes condition))
 
 module _ (f : Func) (locations : ℕ) where
   action_bounded : (operation : Op) (dest : Option ℕ) (ty : Option Ty) (args funcs labels : List ℕ) →
@@ -206,8 +212,8 @@ instruction_at f g is point item at = by (slice_get f.code point) refl
 code_length : (f : Func) (g : SlotFunction) → IsLoweredFunction f g → length g.code ≡ length f.code
 code_length f g is = ap length is.code ∙ length-map f.code (lowered_item f)
 
-pub function_bounded : (homes : FunctionHomes) (f : Func) (g : SlotFunction) → IsLoweredFunction f g → function_size homes g + 35 ≤ function_bound f
-function_bounded homes f g is = omega (arith, sum_below-most (size_at homes g) bounds each (length g.code), lengths, sum_of_list (word_bound locations) f.code)
+pub function_bounded : (homes : FunctionHomes) (f : Func) (g : SlotFunction) → IsLoweredFunction f g → AreHomes g homes → function_size homes g + 12 ≤ function_bound f
+function_bounded homes f g is are = omega (arith, opening_most homes f g is are, sum_below-most (size_at homes g) bounds each (length g.code), lengths, sum_of_list (word_bound locations) f.code)
   where
     locations : ℕ
     locations = location_count f
@@ -225,13 +231,13 @@ function_bounded homes f g is = omega (arith, sum_below-most (size_at homes g) b
         by None e = omega arith
         by (Some item) e =
             let w = instruction_at f g is k item e in
-            let size = item_most homes g (depth_at g k) item in
+            let size = item_most homes f g is are k item in
             let slots : most_size (length g.slots) item ≡ most_size locations (lowered_item f w.0) = ap (λ n. most_size n item) is.count ∙ ap (most_size locations) w.2 in
             let bound : bounds k ≡ word_bound locations w.0 = ap (count_or_none (word_bound locations)) w.1 in
             omega (arith, size, slots, instruction_bounded f locations w.0, bound)
 
-pub image_bounded : (homes : ℕ → FunctionHomes) (p : Prog) (slots : Slots) → IsLowered p slots → start_at homes slots (length slots.funcs) + 26 ≤ word_bounds p
-image_bounded homes p slots is = omega (arith, sum_below-most (λ k. function_size_or_none (homes k) (slice_get slots.funcs k)) bounds each (length slots.funcs), lengths, sum_of_list function_bound p.funcs)
+pub image_bounded : (homes : ℕ → FunctionHomes) (p : Prog) (slots : Slots) → IsLowered p slots → HaveHomes homes slots → start_at homes slots (length slots.funcs) + 26 ≤ word_bounds p
+image_bounded homes p slots is have = omega (arith, sum_below-most (λ k. function_size_or_none (homes k) (slice_get slots.funcs k)) bounds each (length slots.funcs), lengths, sum_of_list function_bound p.funcs)
   where
     bounds : ℕ → ℕ
     bounds = λ k. count_or_none function_bound (slice_get p.funcs k)
@@ -248,7 +254,7 @@ image_bounded homes p slots is = omega (arith, sum_below-most (λ k. function_si
             let inside : k < length p.funcs = omega (arith, slice_get_within slots.funcs k g e, zip-long IsLoweredFunction p.funcs slots.funcs is.funcs) in
             let w = get_inside p.funcs k inside in
             let bound : bounds k ≡ function_bound w.0 = ap (count_or_none function_bound) w.1 in
-            omega (arith, function_bounded (homes k) w.0 g (zip-get IsLoweredFunction p.funcs slots.funcs k w.0 g is.funcs w.1 e), bound)
+            omega (arith, function_bounded (homes k) w.0 g (zip-get IsLoweredFunction p.funcs slots.funcs k w.0 g is.funcs w.1 e) (have k g e), bound)
 
 -- the function of the program of which a function of the code over slots was made
 pub function_made : (p : Prog) (slots : Slots) → IsLowered p slots → (k : ℕ) (g : SlotFunction) → slice_get slots.funcs k ≡ Some g → (f : Func) × (slice_get p.funcs k ≡ Some f) × IsLoweredFunction f g

@@ -12,7 +12,7 @@ use Rattle.rv64_words.specs.Encoding.{IsWord}
 use Rattle.rv64_words.specs.Fields.{IsImmediate, IsBranchOffset, IsJumpOffset}
 use Rattle.rv64_words.proofs.Encodings.{IsImmediate-signed_12}
 use Rattle.slot_code.specs.declared.item.Slot.{Slot}
-use Rattle.rv64_sequences.specs.Moves.{fetch_words, fill_words, save_one, save_words, restore_one, restore_words}
+use Rattle.rv64_sequences.specs.Moves.{register_for, source_words, target_words, copy_words, operand_register, operand_words, result_words, fetch_words, fill_words, save_one, save_words, restore_one, restore_words}
 use Rattle.rv64_layout.specs.Fits.{IsReached}
 use Rattle.rv64_layout.specs.Homes.{FunctionHomes, moves_from}
 use Rattle.rv64_sequences.specs.Sequences.{high_part, low_part, constant_words, load_words, store_words, frame_up_words, jump_offset, fits_12, fits_32, is_near}
@@ -51,7 +51,7 @@ pub immediate : (i : ℤ) → is_immediate i ≡ true → IsImmediate i
 immediate (pos n) h = let k = ltb-true n 2048 h in (omega (arith, ints), omega (arith, ints))
 immediate (negsuc n) h = let k = ltb-true n 2048 h in (omega (arith, ints), omega (arith, ints))
 
-branch_offset : (d : ℤ) → is_branch_offset d ≡ true → IsBranchOffset d
+pub branch_offset : (d : ℤ) → is_branch_offset d ≡ true → IsBranchOffset d
 branch_offset (pos n) h =
     let parts = and_parts (ltb n 4096) (eqb (n % 2) 0) h in
     let k = ltb-true n 4096 parts.0 in
@@ -156,12 +156,43 @@ store_fits r o register far =
 
 -- the words between a register and a home, and between a home and a word of the frame
 pub fetch_fits : (r : ℕ) (home : Home) → r < 32 → IsReached home → AreWords (fetch_words r home)
-fetch_fits r (Reg s) register reached = ((register, reached, immediate (pos 0) refl), tt)
+fetch_fits r (Reg s) register reached = ((register, reached, omega arith), tt)
 fetch_fits r (Frame o) register reached = load_fits r o register (omega arith)
 
 pub fill_fits : (r : ℕ) (home : Home) → r < 32 → IsReached home → AreWords (fill_words r home)
-fill_fits r (Reg s) register reached = ((reached, register, immediate (pos 0) refl), tt)
+fill_fits r (Reg s) register reached = ((reached, register, omega arith), tt)
 fill_fits r (Frame o) register reached = store_fits r o register (omega arith)
+
+-- the register in which operands are found and results are left
+pub register_fits : (r : ℕ) (home : Home) → r < 32 → IsReached home → register_for r home < 32
+register_fits r (Reg s) register reached = reached
+register_fits r (Frame o) register reached = register
+
+pub source_fits : (r : ℕ) (home : Home) → r < 32 → IsReached home → AreWords (source_words r home)
+source_fits r (Reg s) register reached = tt
+source_fits r (Frame o) register reached = load_fits r o register (omega arith)
+
+pub target_fits : (r : ℕ) (home : Home) → r < 32 → IsReached home → AreWords (target_words r home)
+target_fits r (Reg s) register reached = tt
+target_fits r (Frame o) register reached = store_fits r o register (omega arith)
+
+pub operand_register_fits : (any : Bool) (r : ℕ) (home : Home) → r < 32 → IsReached home → operand_register any r home < 32
+operand_register_fits true r home register reached = register_fits r home register reached
+operand_register_fits false r home register reached = register
+
+pub operand_fits : (any : Bool) (r : ℕ) (home : Home) → r < 32 → IsReached home → AreWords (operand_words any r home)
+operand_fits true r home register reached = source_fits r home register reached
+operand_fits false r home register reached = fetch_fits r home register reached
+
+pub result_fits : (any : Bool) (home : Home) → IsReached home → AreWords (result_words any home)
+result_fits true home reached = target_fits 5 home (omega arith) reached
+result_fits false home reached = fill_fits 5 home (omega arith) reached
+
+pub copy_fits : (dest from : Home) → IsReached dest → IsReached from → AreWords (copy_words dest from)
+copy_fits dest (Reg s) reached_dest reached = fill_fits s dest reached reached_dest
+copy_fits dest (Frame o) reached_dest reached =
+    let five : 5 < 32 = omega arith in
+    both (load_words (register_for 5 dest) o) (target_words 5 dest) (load_fits (register_for 5 dest) o (register_fits 5 dest five reached_dest) (omega arith)) (target_fits 5 dest five reached_dest)
 
 save_one_fits : (home : Home) (o : ℕ) → IsReached home → IsFar o → AreWords (save_one home o)
 save_one_fits (Reg r) o reached far = store_fits r o reached far

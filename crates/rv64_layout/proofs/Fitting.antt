@@ -38,8 +38,8 @@ use Rattle.slot_code.specs.Lowered.{IsLowered, IsLoweredFunction, lowered_action
 use Rattle.slot_code.proofs.Places.{slots_are_numbered}
 use Rattle.slot_code.proofs.Uses.{items_use_slots}
 use Rattle.rv64_layout.specs.Fits.{IsReached, ItemFits, HasConstantInRange, passed_by}
-use Rattle.rv64_layout.specs.Image.{depth_at, largest_frame}
-use Rattle.rv64_layout.specs.Homes.{FunctionHomes}
+use Rattle.rv64_layout.specs.Image.{largest_frame}
+use Rattle.rv64_layout.specs.Homes.{FunctionHomes, depth_at}
 use Rattle.rv64_layout.specs.Laid.{HaveHomes}
 use Rattle.rv64_layout.proofs.Bounding.{one_of_sum, instruction_at, function_made}
 
@@ -156,12 +156,29 @@ module _ (p : Prog) (slots : Slots) (limits : Limits) (accepted : IsAccepted p) 
       let made = function_made p slots is k g e in
       within.size.largest.most made.0 g.words (contains_in made.0 p.funcs (get_in p.funcs k made.0 made.1)) made.2.words
 
-  pub item_fits : (homes : ℕ → FunctionHomes) → HaveHomes homes slots → (k : ℕ) (g : SlotFunction) (point : ℕ) (item : SlotItem) → slice_get slots.funcs k ≡ Some g → slice_get g.code point ≡ Some item → ItemFits (homes k) g (depth_at g point) item
+  words_few : (k : ℕ) (g : SlotFunction) → slice_get slots.funcs k ≡ Some g → g.words ≤ 8388608
+  words_few k g is_g = omega (arith, frame_most k g is_g, frame_few)
+
+  -- the homes of all slots of a function have encodings, and the slots are few
+  pub all_reached : (homes : ℕ → FunctionHomes) → HaveHomes homes slots → (k : ℕ) (g : SlotFunction) → slice_get slots.funcs k ≡ Some g → AllByRecursion (λ slot. IsReached ((homes k).home slot)) g.slots
+  all_reached homes have k g is_g =
+      let made = function_made p slots is k g is_g in
+      all_of (λ slot. IsReached ((homes k).home slot)) g.slots (λ n slot e. reached g.words ((homes k).home slot) (words_few k g is_g) ((have k g is_g).within slot (slots_are_numbered made.0 g made.2 n slot e).0))
+
+  pub slots_few : (k : ℕ) (g : SlotFunction) → slice_get slots.funcs k ≡ Some g → length g.slots ≤ 8388608
+  slots_few k g is_g =
+      let made = function_made p slots is k g is_g in
+      let words = made.2.words.are in
+      let count = made.2.count in
+      let least : location_count made.0 * 1 ≤ location_count made.0 * (1 + made.2.words.depth) = mul-le-mul_left (location_count made.0) (omega arith) in
+      omega (arith, words_few k g is_g)
+
+  pub item_fits : (homes : ℕ → FunctionHomes) → HaveHomes homes slots → (k : ℕ) (g : SlotFunction) (point : ℕ) (item : SlotItem) → slice_get slots.funcs k ≡ Some g → slice_get g.code point ≡ Some item → ItemFits (homes k) g point item
   item_fits homes have k g point item is_g is_item =
       let made = function_made p slots is k g is_g in
       let f = made.0 in
       let lowered = made.2 in
-      let few : g.words ≤ 8388608 = omega (arith, frame_most k g is_g, frame_few) in
+      let few = words_few k g is_g in
       let w = instruction_at f g lowered point item is_item in
       let locations = location_count f in
       let words = lowered.words.are in
@@ -170,9 +187,9 @@ module _ (p : Prog) (slots : Slots) (limits : Limits) (accepted : IsAccepted p) 
       let code = within.code in
       let passes : passed_by item ≤ word_bound locations w.0 = subst (λ i. passed_by i ≤ word_bound locations w.0) (sym w.2) (item_passes f w.0 locations) in
       record {
-        slots = each_slot (IsSlotOf g) (λ slot. IsReached ((homes k).home slot)) (λ slot of. reached g.words ((homes k).home slot) few (have k g slot is_g of))
+        slots = each_slot (IsSlotOf g) (λ slot. IsReached ((homes k).home slot)) (λ slot of. reached g.words ((homes k).home slot) few ((have k g is_g).within slot of))
             (slots_used item) (items_use_slots p k f g accepted made.1 lowered point item is_item);
-        all_slots = all_of (λ slot. IsReached ((homes k).home slot)) g.slots (λ n slot e. reached g.words ((homes k).home slot) few (have k g slot is_g (slots_are_numbered f g lowered n slot e).0));
+        all_slots = all_reached homes have k g is_g;
         frame = omega arith;
         levels = subst (λ n. n * (depth_at g point + 2) < 2 ^ 26) (sym lowered.count) (levels_fit locations lowered.words.depth (depth_at g point) g.words words (depth_most f g lowered point) few);
         passed = omega arith;

@@ -11,7 +11,7 @@ use Rattle.slot_code.specs.declared.item.SlotItem.TheVariants.{Pass, Constant, C
 use Rattle.slot_code.specs.declared.slots.SlotFunction.{SlotFunction}
 use Rattle.slot_code.specs.declared.slots.Slots.{Slots}
 use Rattle.rv64_layout.specs.Homes.{FunctionHomes}
-use Rattle.rv64_layout.specs.Image.{joined, depth_at, size_or_none, size_at, words_before, function_size, function_size_or_none, start_at, entry_at, guard_or_none, guard_at, function_guards_or_none, function_guards_at, image_guards}
+use Rattle.rv64_layout.specs.Image.{joined, opening_size, size_or_none, size_at, words_before, function_size, function_size_or_none, start_at, entry_at, guard_or_none, guard_at, function_guards_or_none, function_guards_at, image_guards}
 use Rattle.rv64_layout.specs.Items.{item_size, guard_front_size}
 use Rattle.rv64_layout.specs.Laid.{IsGuardAt}
 use Rattle.rv64_layout.proofs.Joining.{below_or, joined-most}
@@ -78,7 +78,7 @@ module _ (homes : ℕ → FunctionHomes) (slots : Slots) where
     pub is_function : slice_get slots.funcs f ≡ Some function
     pub is_item : slice_get function.code point ≡ Some item
     pub from : entry_at homes slots f point ≤ k
-    pub to : k < entry_at homes slots f point + item_size (homes f) function (depth_at function point) item
+    pub to : k < entry_at homes slots f point + item_size (homes f) function point item
 
   some_same : {X : Type 0} (x y : X) (o : Option X) → o ≡ Some x → o ≡ Some y → x ≡ y
   some_same x y o a b = cc
@@ -99,7 +99,7 @@ module _ (homes : ℕ → FunctionHomes) (slots : Slots) where
 
   -- an item's words are words of its function
   pub in_function : (f point k : ℕ) (w : InItem f point k) →
-      (start_at homes slots f + 1 ≤ k) × (k < start_at homes slots f + words_before (homes f) w.function (length w.function.code)) × (k < start_at homes slots f + function_size (homes f) w.function)
+      (start_at homes slots f + opening_size (homes f) w.function ≤ k) × (k < start_at homes slots f + words_before (homes f) w.function (length w.function.code)) × (k < start_at homes slots f + function_size (homes f) w.function)
   in_function f point k w =
       let at = entry_is homes slots f w.function point w.is_function in
       let passes = words_pass (homes f) w.function point (length w.function.code) w.item w.is_item (slice_get_within w.function.code point w.item w.is_item) in
@@ -118,7 +118,7 @@ module _ (homes : ℕ → FunctionHomes) (slots : Slots) where
       (same, by e f same v.function w.function function q v.item w.item v.is_function w.is_function v.is_item w.is_item v.from v.to w.from w.to)
     where
       apart : (f p q : ℕ) (g : SlotFunction) (item : SlotItem) → slice_get slots.funcs f ≡ Some g → slice_get g.code p ≡ Some item →
-          k < entry_at homes slots f p + item_size (homes f) g (depth_at g p) item → entry_at homes slots f q ≤ k → q ≤ p
+          k < entry_at homes slots f p + item_size (homes f) g p item → entry_at homes slots f q ≤ k → q ≤ p
       apart f p q g item is_g is to from = ⊎_elim (λ (less : p < q). absurd (after less)) (λ (le : q ≤ p). le) (below_or p q)
         where
           after : p < q → ⊥
@@ -129,7 +129,7 @@ module _ (homes : ℕ → FunctionHomes) (slots : Slots) where
               absurd (omega arith)
 
       by : (e f : ℕ) → e ≡ f → (h g : SlotFunction) → h ≡ g → (q : ℕ) (u x : SlotItem) → slice_get slots.funcs e ≡ Some h → slice_get slots.funcs f ≡ Some g → slice_get h.code p ≡ Some u → slice_get g.code q ≡ Some x →
-          entry_at homes slots e p ≤ k → k < entry_at homes slots e p + item_size (homes e) h (depth_at h p) u → entry_at homes slots f q ≤ k → k < entry_at homes slots f q + item_size (homes f) g (depth_at g q) x → p ≡ q
+          entry_at homes slots e p ≤ k → k < entry_at homes slots e p + item_size (homes e) h p u → entry_at homes slots f q ≤ k → k < entry_at homes slots f q + item_size (homes f) g q x → p ≡ q
       by e f same h g one q u x is_h is_g is_u is_x from_p to_p from_q to_q =
           let from_q_e : entry_at homes slots e q ≤ k = subst (λ n. entry_at homes slots n q ≤ k) (sym same) from_q in
           let from_p_f : entry_at homes slots f p ≤ k = subst (λ n. entry_at homes slots n p ≤ k) same from_p in
@@ -197,7 +197,7 @@ module _ (homes : ℕ → FunctionHomes) (slots : Slots) where
       (λ (last : n ≤ i). in_second (joined lists n) (lists n) k (let same : i ≡ n = omega arith in subst (λ j. is_guard_word (lists j) k ≡ true) same h)) (below_or i n)
 
   pub guard_marked : (f : ℕ) (g : SlotFunction) (point condition abort_to : ℕ) → slice_get slots.funcs f ≡ Some g → slice_get g.code point ≡ Some (Guard condition abort_to) →
-      is_guard_word (image_guards homes slots) (entry_at homes slots f point + guard_front_size (homes f) g (depth_at g point) condition) ≡ true
+      is_guard_word (image_guards homes slots) (entry_at homes slots f point + guard_front_size (homes f) g point condition abort_to) ≡ true
   guard_marked f g point condition abort_to is there =
       in_joined (function_guards_at homes slots) (length slots.funcs) f word (slice_get_within slots.funcs f g is)
       (subst (λ o. is_guard_word (function_guards_or_none homes slots f o) word ≡ true) (sym is)
@@ -205,7 +205,7 @@ module _ (homes : ℕ → FunctionHomes) (slots : Slots) where
       (subst (λ o. is_guard_word (guard_or_none homes slots f g point o) word ≡ true) (sym there) (ap (λ t. t || false) (itself word)))))
     where
       word : ℕ
-      word = entry_at homes slots f point + guard_front_size (homes f) g (depth_at g point) condition
+      word = entry_at homes slots f point + guard_front_size (homes f) g point condition abort_to
 
       itself : (n : ℕ) → eqb n n ≡ true
       itself n = grind (arith, nat_tests)

@@ -1,5 +1,5 @@
 -- The image of an accepted program within the bounds has each part at its place.
-use Rattle.std.proofs.Common.{◌≡◌, ℕ, suc, ◌+◌, ◌-◌, ◌^◌, ◌<◌, ◌≤◌, false, List, [], ◌∷◌, ◌++◌, length, Option, Some, None, pos, refl, sym, ap, ◌∙◌, subst, arith, length-append}
+use Rattle.std.proofs.Common.{◌≡◌, ℕ, suc, ◌+◌, ◌-◌, ◌^◌, ◌<◌, ◌≤◌, false, List, [], ◌∷◌, ◌++◌, length, Option, Some, None, refl, sym, ap, ◌∙◌, subst, arith, length-append}
 use Rattle.std.specs.Prelude.{slice_get, option_map}
 use Rattle.std.proofs.lemmas.Option.{slice_get-map, slice_get_within}
 use Rattle.bril_tree.specs.declared.limits.Limits.{Limits}
@@ -10,7 +10,6 @@ use Rattle.rv64_implements.specs.WordBounds.{IsWithin}
 use Rattle.rv64_words.specs.declared.image.GuardAt.{GuardAt}
 use Rattle.rv64_words.specs.declared.image.Image.{Image}
 use Rattle.rv64_words.specs.declared.word.Word.{Word}
-use Rattle.rv64_words.specs.declared.word.Word.TheVariants.{Sd}
 use Rattle.rv64_words.specs.Encoding.{encoded}
 use Rattle.rv64_words.specs.Machine.{is_guard_word}
 use Rattle.rv64_stretches.specs.Runs.{HasAt}
@@ -21,20 +20,23 @@ use Rattle.slot_code.specs.declared.slots.SlotFunction.{SlotFunction}
 use Rattle.slot_code.specs.declared.slots.Slots.{Slots}
 use Rattle.slot_code.specs.Lowered.{IsLowered}
 use Rattle.rv64_layout.specs.Fits.{ItemFits}
-use Rattle.rv64_layout.specs.Homes.{FunctionHomes}
-use Rattle.rv64_layout.specs.Image.{sum_below, joined, depth_at, size_or_none, size_at, words_before, function_size, function_size_or_none, start_at, entry_at, head_words, item_words_or_none, item_words_at, function_words, function_words_or_none, function_words_at, image_words, image_guards, IsImageOf}
+use Rattle.rv64_layout.specs.Homes.{FunctionHomes, opening_moves}
+use Rattle.rv64_layout.specs.Image.{sum_below, joined, opening_size, opening_words, size_or_none, size_at, words_before, function_size, function_size_or_none, start_at, entry_at, head_words, item_words_or_none, item_words_at, function_words, function_words_or_none, function_words_at, image_words, image_guards, IsImageOf}
 use Rattle.rv64_layout.specs.Items.{item_size, item_words, guard_front, guard_front_size, abort_word, leave_words}
 use Rattle.rv64_layout.specs.Laid.{ItemAt, IsGuardAt, HaveHomes, IsLaid}
 use Rattle.rv64_layout.proofs.Bounding.{image_bounded}
 use Rattle.rv64_layout.proofs.Encodable.{AreWords, words, low, jump_fits}
-use Rattle.rv64_layout.proofs.Fitting.{item_fits, largest_has, largest_few}
+use Rattle.rv64_layout.proofs.Fitting.{all_reached, slots_few, item_fits, largest_has, largest_few}
 use Rattle.rv64_layout.proofs.Guarding.{each_at, guards_are, InItem, same_function, in_function, one_item, guard_in_item, guards_apart, plain, guard_marked}
-use Rattle.rv64_layout.proofs.ItemWords.{item_encodable}
+use Rattle.rv64_layout.proofs.ItemWords.{item_encodable, opening_fits}
 use Rattle.rv64_layout.proofs.Joining.{ListedAt, take_words, drop_words, listed_after, piece_listed, joined-length}
-use Rattle.rv64_layout.proofs.Lengths.{item_length, guard_front_length}
+use Rattle.rv64_layout.proofs.Lengths.{item_length, guard_front_length, restore_length}
 use Rattle.rv64_layout.proofs.Placing.{entry_is, words_next, words_pass, words_at_end, starts_most, function_inside, entries_most}
 
 -- ---- lengths
+
+pub opening_length : (homes : FunctionHomes) (g : SlotFunction) → length (opening_words homes g) ≡ opening_size homes g
+opening_length homes g = omega (arith, restore_length (opening_moves homes g))
 
 module _ (homes : ℕ → FunctionHomes) (slots : Slots) where
   pub item_words_length : (f : ℕ) (g : SlotFunction) (point : ℕ) → length (item_words_at homes slots f g point) ≡ size_at (homes f) g point
@@ -43,7 +45,7 @@ module _ (homes : ℕ → FunctionHomes) (slots : Slots) where
       by : (o : Option SlotItem) → slice_get g.code point ≡ o → length (item_words_or_none homes slots f g point (slice_get g.code point)) ≡ size_at (homes f) g point
       by None e = ap (λ o. length (item_words_or_none homes slots f g point o)) e ∙ sym (ap (λ o. size_or_none (homes f) g point o) e)
       by (Some item) e =
-          ap (λ o. length (item_words_or_none homes slots f g point o)) e ∙ item_length (homes f) (start_at homes slots) (entry_at homes slots f) g (depth_at g point) (entry_at homes slots f point) item
+          ap (λ o. length (item_words_or_none homes slots f g point o)) e ∙ item_length (homes f) (start_at homes slots) (entry_at homes slots f) g point (entry_at homes slots f point) item
           ∙ sym (ap (λ o. size_or_none (homes f) g point o) e)
 
   -- the words of the first so many items
@@ -55,7 +57,14 @@ module _ (homes : ℕ → FunctionHomes) (slots : Slots) where
     where
       by : (o : Option SlotFunction) → length (function_words_or_none homes slots f o) ≡ function_size_or_none (homes f) o
       by None = refl
-      by (Some g) = omega (arith, length-append (joined (item_words_at homes slots f g) (length g.code)) leave_words, items_length f g (length g.code))
+      by (Some g) =
+          omega (
+            arith,
+            opening_length (homes f) g,
+            length-append (opening_words (homes f) g) (joined (item_words_at homes slots f g) (length g.code) ++ leave_words),
+            length-append (joined (item_words_at homes slots f g) (length g.code)) leave_words,
+            items_length f g (length g.code),
+          )
 
   pub functions_length : (n : ℕ) → length (joined (function_words_at homes slots) n) ≡ sum_below (λ k. function_size_or_none (homes k) (slice_get slots.funcs k)) n
   functions_length n = joined-length (function_words_at homes slots) (λ k. function_size_or_none (homes k) (slice_get slots.funcs k)) function_length n
@@ -76,23 +85,29 @@ module _ (homes : ℕ → FunctionHomes) (slots : Slots) (limits : Limits) where
       let at : 6 + length (joined (function_words_at homes slots) f) ≡ start_at homes slots f = omega (arith, functions_length homes slots f) in
       subst (λ o. ListedAt all (start_at homes slots f) (function_words_or_none homes slots f o)) is (subst (λ k. ListedAt all k (function_words_at homes slots f)) at there)
 
-  begin_listed : (f : ℕ) (g : SlotFunction) → slice_get slots.funcs f ≡ Some g → ListedAt all (start_at homes slots f) (Sd 2 1 (pos 0) ∷ [])
-  begin_listed f g is = ((function_listed f g is).0, tt)
+  begin_listed : (f : ℕ) (g : SlotFunction) → slice_get slots.funcs f ≡ Some g → ListedAt all (start_at homes slots f) (opening_words (homes f) g)
+  begin_listed f g is = take_words all (start_at homes slots f) (opening_words (homes f) g) (joined (item_words_at homes slots f g) (length g.code) ++ leave_words) (function_listed f g is)
+
+  -- the words after those that begin a function
+  items_listed : (f : ℕ) (g : SlotFunction) → slice_get slots.funcs f ≡ Some g → ListedAt all (start_at homes slots f + opening_size (homes f) g) (joined (item_words_at homes slots f g) (length g.code) ++ leave_words)
+  items_listed f g is =
+      subst (λ n. ListedAt all (start_at homes slots f + n) (joined (item_words_at homes slots f g) (length g.code) ++ leave_words)) (opening_length (homes f) g)
+      (drop_words all (start_at homes slots f) (opening_words (homes f) g) (joined (item_words_at homes slots f g) (length g.code) ++ leave_words) (function_listed f g is))
 
   item_listed : (f : ℕ) (g : SlotFunction) (point : ℕ) (item : SlotItem) → slice_get slots.funcs f ≡ Some g → slice_get g.code point ≡ Some item →
-      ListedAt all (entry_at homes slots f point) (item_words (homes f) (start_at homes slots) (entry_at homes slots f) g (depth_at g point) (entry_at homes slots f point) item)
+      ListedAt all (entry_at homes slots f point) (item_words (homes f) (start_at homes slots) (entry_at homes slots f) g point (entry_at homes slots f point) item)
   item_listed f g point item is there =
-      let after = (function_listed f g is).1 in
-      let items = take_words all (start_at homes slots f + 1) (joined (item_words_at homes slots f g) (length g.code)) leave_words after in
-      let piece = piece_listed all (start_at homes slots f + 1) (item_words_at homes slots f g) (length g.code) point (slice_get_within g.code point item there) items in
-      let at : start_at homes slots f + 1 + length (joined (item_words_at homes slots f g) point) ≡ entry_at homes slots f point = omega (arith, items_length homes slots f g point, entry_is homes slots f g point is) in
+      let after = items_listed f g is in
+      let items = take_words all (start_at homes slots f + opening_size (homes f) g) (joined (item_words_at homes slots f g) (length g.code)) leave_words after in
+      let piece = piece_listed all (start_at homes slots f + opening_size (homes f) g) (item_words_at homes slots f g) (length g.code) point (slice_get_within g.code point item there) items in
+      let at : start_at homes slots f + opening_size (homes f) g + length (joined (item_words_at homes slots f g) point) ≡ entry_at homes slots f point = omega (arith, items_length homes slots f g point, entry_is homes slots f g point is) in
       subst (λ o. ListedAt all (entry_at homes slots f point) (item_words_or_none homes slots f g point o)) there (subst (λ k. ListedAt all k (item_words_at homes slots f g point)) at piece)
 
   leave_listed : (f : ℕ) (g : SlotFunction) (point : ℕ) → slice_get slots.funcs f ≡ Some g → slice_get g.code point ≡ None → ListedAt all (entry_at homes slots f point) leave_words
   leave_listed f g point is none =
-      let after = (function_listed f g is).1 in
-      let rest = drop_words all (start_at homes slots f + 1) (joined (item_words_at homes slots f g) (length g.code)) leave_words after in
-      let at : start_at homes slots f + 1 + length (joined (item_words_at homes slots f g) (length g.code)) ≡ entry_at homes slots f point =
+      let after = items_listed f g is in
+      let rest = drop_words all (start_at homes slots f + opening_size (homes f) g) (joined (item_words_at homes slots f g) (length g.code)) leave_words after in
+      let at : start_at homes slots f + opening_size (homes f) g + length (joined (item_words_at homes slots f g) (length g.code)) ≡ entry_at homes slots f point =
       omega (arith, items_length homes slots f g (length g.code), entry_is homes slots f g point is, words_at_end (homes f) g point none) in
       subst (λ k. ListedAt all k leave_words) at rest
 
@@ -132,11 +147,13 @@ module _ (homes : ℕ → FunctionHomes) (slots : Slots) (limits : Limits) (imag
       let inside = in_function homes slots guard.func guard.item k in_it in
       absurd (omega (arith, inside.0))
 
-  begin_plain : (f : ℕ) (g : SlotFunction) → slice_get slots.funcs f ≡ Some g → IsPlain homes slots (start_at homes slots f) 1
-  begin_plain f g is_g = outside f g (start_at homes slots f) 1 is_g (omega arith) (omega arith) (λ point k lo hi w. (let inside = in_function homes slots f point k w in absurd (omega (arith, inside.0))))
-
   some_same : {X : Type 0} (x y : X) (o : Option X) → o ≡ Some x → o ≡ Some y → x ≡ y
   some_same x y o a b = cc
+
+  begin_plain : (f : ℕ) (g : SlotFunction) → slice_get slots.funcs f ≡ Some g → IsPlain homes slots (start_at homes slots f) (opening_size (homes f) g)
+  begin_plain f g is_g =
+      outside f g (start_at homes slots f) (opening_size (homes f) g) is_g (omega arith) (omega arith)
+      (λ point k lo hi w. (let inside = in_function homes slots f point k w in let same : opening_size (homes f) w.function ≡ opening_size (homes f) g = ap (opening_size (homes f)) (some_same w.function g (slice_get slots.funcs f) w.is_function is_g) in absurd (omega (arith, inside.0))))
 
   leave_plain : (f : ℕ) (g : SlotFunction) (point : ℕ) → slice_get slots.funcs f ≡ Some g → slice_get g.code point ≡ None → IsPlain homes slots (entry_at homes slots f point) 4
   leave_plain f g point is_g none =
@@ -148,20 +165,21 @@ module _ (homes : ℕ → FunctionHomes) (slots : Slots) (limits : Limits) (imag
   -- a guard that is at an item's place is that item
   guard_here : (f : ℕ) (g : SlotFunction) (point : ℕ) (item : SlotItem) → slice_get slots.funcs f ≡ Some g → slice_get g.code point ≡ Some item →
       (guard : GuardAt) → IsGuardAt homes slots guard → guard.func ≡ f → guard.item ≡ point →
-      (condition : ℕ) × (abort_to : ℕ) × (item ≡ Guard condition abort_to) × (guard.word ≡ entry_at homes slots f point + guard_front_size (homes f) g (depth_at g point) condition)
+      (condition : ℕ) × (abort_to : ℕ) × (item ≡ Guard condition abort_to) × (guard.word ≡ entry_at homes slots f point + guard_front_size (homes f) g point condition abort_to)
   guard_here f g point item is_g is_item guard is_guard func number =
+      let c = is_guard.condition in
+      let label = is_guard.abort_to in
       let function : is_guard.function ≡ g = some_same is_guard.function g (slice_get slots.funcs f) (ap (λ n. slice_get slots.funcs n) (sym func) ∙ is_guard.is_function) is_g in
-      let there : slice_get g.code point ≡ Some (Guard is_guard.condition is_guard.abort_to) =
-      ap (λ h. slice_get h.code point) (sym function) ∙ ap (λ n. slice_get is_guard.function.code n) (sym number) ∙ is_guard.is_item in
+      let there : slice_get g.code point ≡ Some (Guard c label) = ap (λ h. slice_get h.code point) (sym function) ∙ ap (λ n. slice_get is_guard.function.code n) (sym number) ∙ is_guard.is_item in
       let entry : entry_at homes slots guard.func guard.item ≡ entry_at homes slots f point = ap (λ n. entry_at homes slots n guard.item) func ∙ ap (entry_at homes slots f) number in
-      let front : guard_front_size (homes guard.func) is_guard.function (depth_at is_guard.function guard.item) is_guard.condition ≡ guard_front_size (homes f) g (depth_at g point) is_guard.condition =
-      ap (λ n. guard_front_size (homes n) is_guard.function (depth_at is_guard.function guard.item) is_guard.condition) func ∙ ap (λ h. guard_front_size (homes f) h (depth_at h guard.item) is_guard.condition) function ∙ ap (λ n. guard_front_size (homes f) g (depth_at g n) is_guard.condition) number in
-      (is_guard.condition, is_guard.abort_to, some_same item (Guard is_guard.condition is_guard.abort_to) (slice_get g.code point) is_item there, omega (arith, is_guard.is_word, entry, front))
+      let front : guard_front_size (homes guard.func) is_guard.function guard.item c label ≡ guard_front_size (homes f) g point c label =
+      ap (λ n. guard_front_size (homes n) is_guard.function guard.item c label) func ∙ ap (λ h. guard_front_size (homes f) h guard.item c label) function ∙ ap (λ n. guard_front_size (homes f) g n c label) number in
+      (c, label, some_same item (Guard c label) (slice_get g.code point) is_item there, omega (arith, is_guard.is_word, entry, front))
 
   -- there is no guard's word in a part of an item where the item's own isn't
   part_plain : (f : ℕ) (g : SlotFunction) (point : ℕ) (item : SlotItem) → slice_get slots.funcs f ≡ Some g → slice_get g.code point ≡ Some item →
-      (count : ℕ) → count ≤ item_size (homes f) g (depth_at g point) item →
-      ((condition abort_to : ℕ) → item ≡ Guard condition abort_to → count ≤ guard_front_size (homes f) g (depth_at g point) condition) → IsPlain homes slots (entry_at homes slots f point) count
+      (count : ℕ) → count ≤ item_size (homes f) g point item →
+      ((condition abort_to : ℕ) → item ≡ Guard condition abort_to → count ≤ guard_front_size (homes f) g point condition abort_to) → IsPlain homes slots (entry_at homes slots f point) count
   part_plain f g point item is_g is_item count few none k lo hi guard is_guard same =
       let there = subst (λ j. InItem homes slots guard.func guard.item j) same (guard_in_item homes slots guard is_guard) in
       let here : InItem homes slots f point k = record { function = g; item = item; is_function = is_g; is_item = is_item; from = lo; to = omega arith } in
@@ -171,7 +189,7 @@ module _ (homes : ℕ → FunctionHomes) (slots : Slots) (limits : Limits) (imag
       absurd (omega (arith, w.3, same))
 
   module _ (few : start_at homes slots (length slots.funcs) ≤ 250000)
-      (fits : (f : ℕ) (g : SlotFunction) (point : ℕ) (item : SlotItem) → slice_get slots.funcs f ≡ Some g → slice_get g.code point ≡ Some item → ItemFits (homes f) g (depth_at g point) item) where
+      (fits : (f : ℕ) (g : SlotFunction) (point : ℕ) (item : SlotItem) → slice_get slots.funcs f ≡ Some g → slice_get g.code point ≡ Some item → ItemFits (homes f) g point item) where
     few_starts : (f : ℕ) → start_at homes slots f ≤ 250000
     few_starts f = omega (arith, starts_most homes slots f, few)
 
@@ -183,12 +201,12 @@ module _ (homes : ℕ → FunctionHomes) (slots : Slots) (limits : Limits) (imag
       here = entry_at homes slots f point
 
       abbrev its_words : List Word
-      its_words = item_words (homes f) (start_at homes slots) (entry_at homes slots f) g (depth_at g point) here item
+      its_words = item_words (homes f) (start_at homes slots) (entry_at homes slots f) g point here item
 
-      size : length its_words ≡ item_size (homes f) g (depth_at g point) item
-      size = item_length (homes f) (start_at homes slots) (entry_at homes slots f) g (depth_at g point) here item
+      size : length its_words ≡ item_size (homes f) g point item
+      size = item_length (homes f) (start_at homes slots) (entry_at homes slots f) g point here item
 
-      inside : here + item_size (homes f) g (depth_at g point) item ≤ 250000
+      inside : here + item_size (homes f) g point item ≤ 250000
       inside =
           let at = entry_is homes slots f g point is_g in
           let passes = words_pass (homes f) g point (length g.code) item is_item (slice_get_within g.code point item is_item) in
@@ -196,7 +214,7 @@ module _ (homes : ℕ → FunctionHomes) (slots : Slots) (limits : Limits) (imag
           omega (arith, few)
 
       encodable : AreWords its_words
-      encodable = item_encodable (homes f) (start_at homes slots) (entry_at homes slots f) g (depth_at g point) here few_starts (few_entries f) item (fits f g point item is_g is_item) inside
+      encodable = item_encodable (homes f) (start_at homes slots) (entry_at homes slots f) g point here few_starts (few_entries f) item (fits f g point item is_g is_item) inside
 
       listed : ListedAt (image_words homes slots limits) here its_words
       listed = item_listed homes slots limits f g point item is_g is_item
@@ -204,7 +222,7 @@ module _ (homes : ℕ → FunctionHomes) (slots : Slots) (limits : Limits) (imag
       -- the words of an item that is no guard
       no_guard : ((condition abort_to : ℕ) → item ≡ Guard condition abort_to → ⊥) → HasAt image here its_words
       no_guard none = has here its_words listed encodable
-          (subst (λ n. IsPlain homes slots here n) (sym size) (part_plain f g point item is_g is_item (item_size (homes f) g (depth_at g point) item) (omega arith) (λ condition abort_to e. absurd (none condition abort_to e))))
+          (subst (λ n. IsPlain homes slots here n) (sym size) (part_plain f g point item is_g is_item (item_size (homes f) g point item) (omega arith) (λ condition abort_to e. absurd (none condition abort_to e))))
 
     front_of : (xs ys : List Word) → AreWords (xs ++ ys) → AreWords xs
     front_of [] ys h = tt
@@ -215,7 +233,7 @@ module _ (homes : ℕ → FunctionHomes) (slots : Slots) (limits : Limits) (imag
     rest_of (x ∷ xs) ys h = rest_of xs ys h.1
 
     item_at : (f : ℕ) (g : SlotFunction) (point : ℕ) (item : SlotItem) → slice_get slots.funcs f ≡ Some g → slice_get g.code point ≡ Some item →
-        ItemAt image (homes f) (start_at homes slots) (entry_at homes slots f) g (depth_at g point) (entry_at homes slots f point) item
+        ItemAt image (homes f) (start_at homes slots) (entry_at homes slots f) g point (entry_at homes slots f point) item
     item_at f g point Pass is_g is_item = no_guard f g point Pass is_g is_item (λ c a e. cc)
     item_at f g point (Constant dest value) is_g is_item = no_guard f g point (Constant dest value) is_g is_item (λ c a e. cc)
     item_at f g point (Copy dest from) is_g is_item = no_guard f g point (Copy dest from) is_g is_item (λ c a e. cc)
@@ -234,20 +252,20 @@ module _ (homes : ℕ → FunctionHomes) (slots : Slots) (limits : Limits) (imag
     item_at f g point Commit is_g is_item = no_guard f g point Commit is_g is_item (λ c a e. cc)
     item_at f g point (Guard condition abort_to) is_g is_item =
         let it = Guard condition abort_to in
-        let depth = depth_at g point in
         let at = entry_at homes slots f point in
-        let front = guard_front (homes f) g depth condition in
-        let last = abort_word (homes f) (start_at homes slots) (entry_at homes slots f) g depth at condition abort_to in
-        let size = guard_front_length (homes f) g depth condition in
+        let front = guard_front (homes f) g point condition abort_to in
+        let last = abort_word (homes f) (start_at homes slots) (entry_at homes slots f) g point at condition abort_to in
+        let size = guard_front_length (homes f) g point condition abort_to in
         let all_listed = listed f g point it is_g is_item in
         let all_encodable = encodable f g point it is_g is_item in
-        let plain_front = part_plain f g point it is_g is_item (guard_front_size (homes f) g depth condition) (omega arith) (λ c a e. (let same : condition ≡ c = cc in subst (λ n. guard_front_size (homes f) g depth condition ≤ guard_front_size (homes f) g depth n) same (omega arith))) in
+        let plain_front = part_plain f g point it is_g is_item (guard_front_size (homes f) g point condition abort_to) (omega arith) (λ c a e. (let same : condition ≡ c = cc in let same_label : abort_to ≡ a = cc in
+        let sizes : guard_front_size (homes f) g point condition abort_to ≡ guard_front_size (homes f) g point c a = ap (λ n. guard_front_size (homes f) g point n abort_to) same ∙ ap (guard_front_size (homes f) g point c) same_label in omega (arith, sizes))) in
         let end_listed = subst (λ n. ListedAt (image_words homes slots limits) (at + n) (last ∷ [])) size (drop_words (image_words homes slots limits) at front (last ∷ []) all_listed) in (
           has at front (take_words (image_words homes slots limits) at front (last ∷ []) all_listed) (front_of front (last ∷ []) all_encodable) (subst (λ n. IsPlain homes slots at n) (sym size) plain_front),
           record {
-            bits = encoded_at (at + guard_front_size (homes f) g depth condition) last end_listed.0;
+            bits = encoded_at (at + guard_front_size (homes f) g point condition abort_to) last end_listed.0;
             is_word = (rest_of front (last ∷ []) all_encodable).0;
-            is_guard = ap (λ gs. is_guard_word gs (at + guard_front_size (homes f) g depth condition)) is.guards ∙ guard_marked homes slots f g point condition abort_to is_g is_item;
+            is_guard = ap (λ gs. is_guard_word gs (at + guard_front_size (homes f) g point condition abort_to)) is.guards ∙ guard_marked homes slots f g point condition abort_to is_g is_item;
           },
         )
 
@@ -256,10 +274,12 @@ module _ (homes : ℕ → FunctionHomes) (slots : Slots) (limits : Limits) (imag
 pub laid : (p : Prog) (homes : ℕ → FunctionHomes) (slots : Slots) (limits : Limits) (image : Image) → IsAccepted p → AreLiteralsInRange p → IsLowered p slots → IsWithin p limits →
     HaveHomes homes slots → IsImageOf homes slots limits image → IsLaid homes slots limits image
 laid p homes slots limits image accepted literals lowered within have is =
-    let bounded = image_bounded homes p slots lowered in
+    let bounded = image_bounded homes p slots lowered have in
     let code = within.code in
     let few : start_at homes slots (length slots.funcs) ≤ 250000 = omega arith in
     let fits = item_fits p slots limits accepted literals lowered within homes have in
+    let opens : (f : ℕ) (g : SlotFunction) → slice_get slots.funcs f ≡ Some g → AreWords (opening_words (homes f) g) = λ f g is_g.
+    opening_fits (homes f) g (all_reached p slots limits accepted literals lowered within homes have f g is_g) (slots_few p slots limits accepted literals lowered within f g is_g) in
     let main_small = few_starts homes slots limits image is few fits slots.main in
     let head = head_words limits (start_at homes slots slots.main) in
     let room = limits.few_frames in
@@ -272,8 +292,9 @@ laid p homes slots limits image accepted literals lowered within have is =
       is = is;
       head = has_head;
       ends = has_head.1.1.1;
-      begins = λ f g is_g. has homes slots limits image is (start_at homes slots f) (Sd 2 1 (pos 0) ∷ []) (begin_listed homes slots limits f g is_g) (words (Sd 2 1 (pos 0) ∷ []) refl) (begin_plain homes slots limits image is f g is_g);
-      first = λ f g is_g. entry_is homes slots f g 0 is_g;
+      begins = λ f g is_g. has homes slots limits image is (start_at homes slots f) (opening_words (homes f) g) (begin_listed homes slots limits f g is_g) (opens f g is_g)
+          (subst (λ n. IsPlain homes slots (start_at homes slots f) n) (sym (opening_length (homes f) g)) (begin_plain homes slots limits image is f g is_g));
+      first = λ f g is_g. (let at = entry_is homes slots f g 0 is_g in omega arith);
       items = item_at homes slots limits image is few fits;
       next = λ f g point item is_g is_item. (let here = entry_is homes slots f g point is_g in let next = entry_is homes slots f g (suc point) is_g in let words = words_next (homes f) g point item is_item in omega arith);
       leaves = λ f g point is_g none. has homes slots limits image is (entry_at homes slots f point) leave_words (leave_listed homes slots limits f g point is_g none) (words leave_words refl) (leave_plain homes slots limits image is f g point is_g none);

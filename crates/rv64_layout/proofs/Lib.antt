@@ -9,3 +9,4 @@ pub mod Lengths
 pub mod MoveLists
 pub mod Moving
 pub mod Placing
+pub mod Registers

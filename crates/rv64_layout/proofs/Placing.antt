@@ -6,16 +6,16 @@ use Rattle.slot_code.specs.declared.item.SlotItem.{SlotItem}
 use Rattle.slot_code.specs.declared.slots.SlotFunction.{SlotFunction}
 use Rattle.slot_code.specs.declared.slots.Slots.{Slots}
 use Rattle.rv64_layout.specs.Homes.{FunctionHomes}
-use Rattle.rv64_layout.specs.Image.{depth_at, size_or_none, size_at, words_before, function_size, function_size_or_none, start_at, words_before_in, entry_at}
+use Rattle.rv64_layout.specs.Image.{size_or_none, size_at, words_before, function_size, function_size_or_none, start_at, words_before_in, entry_at}
 use Rattle.rv64_layout.specs.Items.{item_size}
 use Rattle.rv64_layout.proofs.Joining.{sum_rises, sum_passes, sum_is_most}
 
 -- ---- inside a function
 
-pub size_is : (homes : FunctionHomes) (g : SlotFunction) (point : ℕ) (item : SlotItem) → slice_get g.code point ≡ Some item → size_at homes g point ≡ item_size homes g (depth_at g point) item
+pub size_is : (homes : FunctionHomes) (g : SlotFunction) (point : ℕ) (item : SlotItem) → slice_get g.code point ≡ Some item → size_at homes g point ≡ item_size homes g point item
 size_is homes g point item is = ap (size_or_none homes g point) is
 
-pub words_next : (homes : FunctionHomes) (g : SlotFunction) (point : ℕ) (item : SlotItem) → slice_get g.code point ≡ Some item → words_before homes g (suc point) ≡ words_before homes g point + item_size homes g (depth_at g point) item
+pub words_next : (homes : FunctionHomes) (g : SlotFunction) (point : ℕ) (item : SlotItem) → slice_get g.code point ≡ Some item → words_before homes g (suc point) ≡ words_before homes g point + item_size homes g point item
 words_next homes g point item is = omega (arith, size_is homes g point item is)
 
 -- the items before the function's end have at most its words
@@ -23,7 +23,7 @@ pub words_most : (homes : FunctionHomes) (g : SlotFunction) (point : ℕ) → wo
 words_most homes g point = omega (arith, sum_is_most (size_at homes g) (length g.code) (λ k le. ap (size_or_none homes g k) (slice_get_past g.code k le)) point)
 
 -- a later item begins after the words of an earlier one
-pub words_pass : (homes : FunctionHomes) (g : SlotFunction) (point later : ℕ) (item : SlotItem) → slice_get g.code point ≡ Some item → point < later → words_before homes g point + item_size homes g (depth_at g point) item ≤ words_before homes g later
+pub words_pass : (homes : FunctionHomes) (g : SlotFunction) (point later : ℕ) (item : SlotItem) → slice_get g.code point ≡ Some item → point < later → words_before homes g point + item_size homes g point item ≤ words_before homes g later
 words_pass homes g point later item is less = omega (arith, size_is homes g point item is, sum_passes (size_at homes g) point later less)
 
 -- the end of a function begins after all of its words

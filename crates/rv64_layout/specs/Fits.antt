@@ -8,7 +8,7 @@ use Rattle.slot_code.specs.declared.item.SlotItem.{SlotItem}
 use Rattle.slot_code.specs.declared.item.SlotItem.TheVariants.{Call, Constant}
 use Rattle.slot_code.specs.declared.slots.SlotFunction.{SlotFunction}
 use Rattle.slot_code.specs.Laws.{slots_used}
-use Rattle.rv64_layout.specs.Homes.{FunctionHomes}
+use Rattle.rv64_layout.specs.Homes.{FunctionHomes, depth_at}
 
 -- The numbers of a frame's words, of those of its levels and of arguments are below this one: far offsets of 32 bits reach them.
 abbrev pub frame_reach : ℕ
@@ -29,11 +29,11 @@ abbrev pub IsReached : Home → Type 0
 IsReached (Reg number) = number < 32
 IsReached (Frame word) = word < frame_reach
 
--- An item of a function fits where so many speculations are open: none of the numbers in its words is too large.
-pub record ItemFits (homes : FunctionHomes) (g : SlotFunction) (depth : ℕ) (item : SlotItem) : Type 0 where
+-- The item at a point of a function fits: none of the numbers in its words is too large.
+pub record ItemFits (homes : FunctionHomes) (g : SlotFunction) (point : ℕ) (item : SlotItem) : Type 0 where
   pub slots : AllByRecursion (λ slot. IsReached (homes.home slot)) (slots_used item)
   pub all_slots : AllByRecursion (λ slot. IsReached (homes.home slot)) g.slots
   pub frame : g.words < frame_reach
-  pub levels : length g.slots * (depth + 2) < frame_reach
+  pub levels : length g.slots * (depth_at g point + 2) < frame_reach
   pub passed : passed_by item < frame_reach
   pub constant : HasConstantInRange item

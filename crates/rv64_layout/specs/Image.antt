@@ -1,5 +1,5 @@
 -- The image of code over slots, by the homes of each function's slots: where its items begin, its words, its guards and its stack.
-use Rattle.std.specs.Prelude.{◌≡◌, ℕ, zero, suc, ◌+◌, ◌-◌, ◌*◌, List, [], ◌∷◌, ◌++◌, length, map, Option, Some, None, slice_get, slice_index, pos}
+use Rattle.std.specs.Prelude.{◌≡◌, ℕ, zero, suc, ◌+◌, ◌-◌, ◌*◌, List, [], ◌∷◌, ◌++◌, length, map, Option, Some, None, slice_get, pos}
 use Rattle.bril_tree.specs.declared.limits.Limits.{Limits}
 use Rattle.program_numbers.specs.ProgramNumbers.{greatest}
 use Rattle.rv64_words.specs.declared.image.GuardAt.{GuardAt}
@@ -12,8 +12,9 @@ use Rattle.slot_code.specs.declared.item.SlotItem.{SlotItem}
 use Rattle.slot_code.specs.declared.item.SlotItem.TheVariants.{Guard}
 use Rattle.slot_code.specs.declared.slots.SlotFunction.{SlotFunction}
 use Rattle.slot_code.specs.declared.slots.Slots.{Slots}
+use Rattle.rv64_sequences.specs.Moves.{restore_size, restore_words}
 use Rattle.rv64_sequences.specs.Sequences.{high_part, low_part, fault_words, jump_offset}
-use Rattle.rv64_layout.specs.Homes.{FunctionHomes}
+use Rattle.rv64_layout.specs.Homes.{FunctionHomes, opening_moves}
 use Rattle.rv64_layout.specs.Items.{item_size, item_words, guard_front_size, leave_words}
 
 -- the sum of what a function gives for the numbers below n
@@ -28,21 +29,21 @@ joined lists (suc n) = joined lists n ++ lists n
 
 -- ---- where functions and items begin
 
--- how many speculations are open at a point of a function
-abbrev pub depth_at : SlotFunction → ℕ → ℕ
-depth_at g point = slice_index g.depths point
-
 abbrev pub size_or_none : FunctionHomes → SlotFunction → ℕ → Option SlotItem → ℕ
 size_or_none homes g point None = 0
-size_or_none homes g point (Some item) = item_size homes g (depth_at g point) item
+size_or_none homes g point (Some item) = item_size homes g point item
 
 -- how many words the item at a point has, none at the function's end
 abbrev pub size_at : FunctionHomes → SlotFunction → ℕ → ℕ
 size_at homes g point = size_or_none homes g point (slice_get g.code point)
 
--- how many words of a function come before the item at a point: the first keeps the way back
+-- how many words of a function come before its first item: one keeps the way back, and then arguments are loaded
+abbrev pub opening_size : FunctionHomes → SlotFunction → ℕ
+opening_size homes g = 1 + restore_size (opening_moves homes g)
+
+-- how many words of a function come before the item at a point
 abbrev pub words_before : FunctionHomes → SlotFunction → ℕ → ℕ
-words_before homes g point = 1 + sum_below (size_at homes g) point
+words_before homes g point = opening_size homes g + sum_below (size_at homes g) point
 
 -- how many words a function has, with the four that leave it
 abbrev pub function_size : FunctionHomes → SlotFunction → ℕ
@@ -79,17 +80,21 @@ abbrev pub head_words : Limits → ℕ → List Word
 head_words limits main =
     Lui 8 (high_part (limits.frames - 1)) ∷ addi 8 8 (low_part (limits.frames - 1)) ∷ Jal 1 (jump_offset 2 main) ∷ fault_words 0
 
+-- the first words of a function
+abbrev pub opening_words : FunctionHomes → SlotFunction → List Word
+opening_words homes g = Sd 2 1 (pos 0) ∷ restore_words (opening_moves homes g)
+
 module _ (homes : ℕ → FunctionHomes) (slots : Slots) (f : ℕ) (g : SlotFunction) where
   abbrev pub item_words_or_none : ℕ → Option SlotItem → List Word
   item_words_or_none point None = []
-  item_words_or_none point (Some item) = item_words (homes f) (start_at homes slots) (entry_at homes slots f) g (depth_at g point) (entry_at homes slots f point) item
+  item_words_or_none point (Some item) = item_words (homes f) (start_at homes slots) (entry_at homes slots f) g point (entry_at homes slots f point) item
 
   -- the words of the item at a point of function f
   abbrev pub item_words_at : ℕ → List Word
   item_words_at point = item_words_or_none point (slice_get g.code point)
 
   abbrev pub function_words : List Word
-  function_words = Sd 2 1 (pos 0) ∷ (joined item_words_at (length g.code) ++ leave_words)
+  function_words = opening_words (homes f) g ++ (joined item_words_at (length g.code) ++ leave_words)
 
 abbrev pub function_words_or_none : (ℕ → FunctionHomes) → Slots → ℕ → Option SlotFunction → List Word
 function_words_or_none homes slots f None = []
@@ -107,7 +112,7 @@ module _ (homes : ℕ → FunctionHomes) (slots : Slots) (f : ℕ) (g : SlotFunc
   -- the guard at a point, if there is one: its word is its last, the jump to its abort
   abbrev pub guard_or_none : ℕ → Option SlotItem → List GuardAt
   guard_or_none point (Some (Guard condition abort_to)) =
-      record { word = entry_at homes slots f point + guard_front_size (homes f) g (depth_at g point) condition; func = f; item = point } ∷ []
+      record { word = entry_at homes slots f point + guard_front_size (homes f) g point condition abort_to; func = f; item = point } ∷ []
   guard_or_none point _ = []
 
   abbrev pub guard_at : ℕ → List GuardAt

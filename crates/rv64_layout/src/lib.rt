@@ -2,7 +2,7 @@
 //! the image's guards and its stack.
 //!
 //! The definitions are in `specs/`: `Items.antt` has the words of each item, and how many they are; `Image.antt` the entries
-//! and the whole image. The sizes depend on numbers and on words of the frame alone, never on a place in the image.
+//! and the whole image. The sizes depend on numbers and on homes alone, never on a place in the image.
 #![tactic(auto)]
 
 mod laws;

@@ -17,7 +17,7 @@ called_off number e = effects (addi 10 0 (pos number) ∷ addi 17 0 (pos 8) ∷ 
 
 module _ (image : Image) (z : Sizes) where
   -- the end is the one that call 8 makes of the number
-  pub finishes : {k : ℕ} {c : Core} {n j : ℕ} {e : Core} {ws : List Word} → (number : ℕ) (how : End) → number < 2 ^ 64 → e.registers 0 ≡ 0 → ending number e ≡ Some how → Going image z k c n j e (fault_words number ++ ws) → Ends image z k c (n + 1 + 1 + 1) how (called_off number e)
+  pub finishes : {k : ℕ} {c : Core} {n j : ℕ} {e : Core} {ws : List Word} → (number : ℕ) (how : End) → number < 2 ^ 64 → e.registers 0 ≡ 0 → ending number e ≡ Some how → Going image z k c n j e (fault_words number ++ ws) → Ends image z k c (n + 1 + 1 + 1) (j + 1 + 1 + 1) how (called_off number e)
   finishes {e = e} number how lt null how_is g =
       let eight : (e.registers 0 + 8) % 2 ^ 64 ≡ 8 = ap (λ x. (x + 8) % 2 ^ 64) null in
       let least : (0 + number) % 2 ^ 64 ≡ number = omega arith in

@@ -7,7 +7,7 @@ use Rattle.rv64_words.specs.declared.word.Word.TheVariants.{Jal}
 use Rattle.rv64_words.specs.Arithmetic.{moved_by}
 use Rattle.rv64_words.specs.Region.{Sizes}
 use Rattle.rv64_stretches.specs.Core.{Core, written, arrived}
-use Rattle.rv64_stretches.specs.Runs.{WordAt, Runs}
+use Rattle.rv64_stretches.specs.Runs.{WordAt, Leaves}
 use Rattle.rv64_stretches.proofs.Going.{Going, jump, jump_and_link, guard_jump}
 use Rattle.rv64_sequences.specs.Sequences.{jump_offset}
 
@@ -24,13 +24,13 @@ moved_from j a b same la lb = ap (λ i. moved_by (4 * i) (jump_offset a b)) same
 
 module _ (image : Image) (z : Sizes) where
   -- from word j, which is a, to word b
-  pub jump_to : {k : ℕ} {c : Core} {n j : ℕ} {e : Core} {ws : List Word} → (a b : ℕ) → j ≡ a → a < 2 ^ 20 → b < 2 ^ 20 → Going image z k c n j e (Jal 0 (jump_offset a b) ∷ ws) → Runs image z k c (n + 1) b e
+  pub jump_to : {k : ℕ} {c : Core} {n j : ℕ} {e : Core} {ws : List Word} → (a b : ℕ) → j ≡ a → a < 2 ^ 20 → b < 2 ^ 20 → Going image z k c n j e (Jal 0 (jump_offset a b) ∷ ws) → Leaves image z k c (n + 1) (j + 1) b e
   jump_to {j = j} a b same la lb g = jump image z b (moved_from j a b same la lb) g
 
   -- a call of the function at word b
-  pub call_to : {k : ℕ} {c : Core} {n j : ℕ} {e : Core} {ws : List Word} → (a b : ℕ) → j ≡ a → a < 2 ^ 20 → b < 2 ^ 20 → Going image z k c n j e (Jal 1 (jump_offset a b) ∷ ws) → Runs image z k c (n + 1) b (written e 1 (4 * (j + 1)))
+  pub call_to : {k : ℕ} {c : Core} {n j : ℕ} {e : Core} {ws : List Word} → (a b : ℕ) → j ≡ a → a < 2 ^ 20 → b < 2 ^ 20 → Going image z k c n j e (Jal 1 (jump_offset a b) ∷ ws) → Leaves image z k c (n + 1) (j + 1) b (written e 1 (4 * (j + 1)))
   call_to {j = j} a b same la lb g = jump_and_link image z b (moved_from j a b same la lb) g
 
   -- by a guard's word, which counts
-  pub guard_jump_to : {k : ℕ} {c : Core} {n j : ℕ} {e : Core} → (a b : ℕ) → j ≡ a → a < 2 ^ 20 → b < 2 ^ 20 → WordAt image true j (Jal 0 (jump_offset a b)) → Going image z k c n j e [] → Runs image z k c (n + 1) b (arrived j e)
+  pub guard_jump_to : {k : ℕ} {c : Core} {n j : ℕ} {e : Core} → (a b : ℕ) → j ≡ a → a < 2 ^ 20 → b < 2 ^ 20 → WordAt image true j (Jal 0 (jump_offset a b)) → Going image z k c n j e [] → Leaves image z k c (n + 1) (j + 1) b (arrived j e)
   guard_jump_to {j = j} a b same la lb has g = guard_jump image z b (moved_from j a b same la lb) has g

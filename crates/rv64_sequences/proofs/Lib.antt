@@ -2,6 +2,9 @@ pub mod Constants
 pub mod Digits
 pub mod Ends
 pub mod Frames
+pub mod Homes
 pub mod Jumps
+pub mod Kept
 pub mod Moves
+pub mod Sizes
 pub mod Stretches

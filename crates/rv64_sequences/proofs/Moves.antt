@@ -1,5 +1,5 @@
 -- Homes are brought into words of the frame, and back.
-use Rattle.std.proofs.Common.{◌≡◌, ◌≢◌, ℕ, zero, suc, ◌+◌, ◌*◌, ◌<◌, ◌≤◌, inl, inr, refl, sym, ap, ◌∙◌, subst, arith, List, [], ◌∷◌, ◌++◌, append_assoc}
+use Rattle.std.proofs.Common.{◌≡◌, ◌≢◌, ℕ, ◌+◌, ◌*◌, ◌<◌, ◌≤◌, inl, inr, refl, sym, ap, ◌∙◌, subst, arith, List, [], ◌∷◌, ◌++◌, append_assoc}
 use Rattle.bril_tree.specs.Membership.{In}
 use Rattle.bril_tree.specs.declared.home.Home.{Home}
 use Rattle.bril_tree.specs.declared.home.Home.TheVariants.{Reg, Frame}
@@ -8,18 +8,13 @@ use Rattle.rv64_words.specs.declared.word.Word.{Word}
 use Rattle.rv64_words.specs.Region.{Sizes, stack_base}
 use Rattle.rv64_words.specs.State.{assigned}
 use Rattle.rv64_stretches.specs.Core.{Core, written, put}
-use Rattle.rv64_stretches.proofs.Cores.{apart_from, assigned_here, assigned_other, written_here, written_other}
+use Rattle.rv64_stretches.proofs.Cores.{apart_from, assigned_here, assigned_other, written_other}
 use Rattle.rv64_stretches.proofs.Going.{Going, is_place}
 use Rattle.rv64_sequences.specs.Frames.{address_left, addressed}
 use Rattle.rv64_sequences.specs.Sequences.{load_words, store_words, load_size, store_size}
 use Rattle.rv64_sequences.proofs.Frames.{frame_load, frame_store}
-use Rattle.rv64_sequences.specs.Moves.{Move, save_one, restore_one, save_one_size, restore_one_size, save_words, restore_words, save_size, restore_size, home_word, IsUsable, KeepsRest, Saved, Restored, AreWordsApart, AreHomesApart, NoWordIsHome, AreUsable, AreInside}
-
-two_not_six : ◌≢◌ {A = ℕ} 2 6
-two_not_six = λ e. absurd (omega arith)
-
-five_not_six : ◌≢◌ {A = ℕ} 5 6
-five_not_six = λ e. absurd (omega arith)
+use Rattle.rv64_sequences.proofs.Homes.{two_not_six, five_not_six, addressed_keeps, fetched_loaded, filled_from_kept, filled_register, filled_stored}
+use Rattle.rv64_sequences.specs.Moves.{Move, save_one, restore_one, save_one_size, restore_one_size, save_words, restore_words, save_size, restore_size, home_word, Filled, IsUsable, Saved, Restored, AreWordsApart, AreHomesApart, NoWordIsHome, AreUsable, AreInside}
 
 module _ (image : Image) (z : Sizes) (few : z.stack ≤ 8388608) (b : ℕ) where
   -- ---- one home into a word
@@ -69,112 +64,34 @@ module _ (image : Image) (z : Sizes) (few : z.stack ≤ 8388608) (b : ℕ) where
 
   -- ---- one home from a word
 
+  -- what is left of one move, whose word is w
   pub record OneRestored (h : Home) (w : ℕ) (c e : Core) : Type 0 where
-    pub rest : KeepsRest c e
-    pub got : home_word e b h ≡ w
-    pub others : (g : Home) → IsUsable g → h ≢ g → home_word e b g ≡ home_word c b g
-    pub stack : (k : ℕ) → ((o : ℕ) → h ≡ Frame o → k ≢ b + o) → e.stack k ≡ c.stack k
-
-  -- a register has a word of the frame, and a word of the frame that of another
-  abbrev loaded_core : Core → ℕ → ℕ → Core
-  loaded_core d r o = written (addressed d 2 o) r (d.stack (b + o))
-
-  abbrev copied_core : Core → ℕ → ℕ → Core
-  copied_core d o p = put (addressed (loaded_core d 5 o) 2 p) (b + p) (d.stack (b + o))
-
-  not_register : (r s : ℕ) → Reg r ≢ Reg s → s ≢ r
-  not_register r s ne e = ne (ap Reg (sym e))
-
-  not_word : (p q : ℕ) → Frame p ≢ Frame q → b + q ≢ b + p
-  not_word p q ne e = ne (ap Frame (let same : p ≡ q = omega arith in same))
+    pub filled : Filled b h w c e
+    pub registers : (r : ℕ) → r ≢ 5 → r ≢ 6 → h ≢ Reg r → e.registers r ≡ c.registers r
 
   pub one_restored : (h : Home) (o : ℕ) {k : ℕ} {c : Core} {n j : ℕ} (d : Core) (ws : List Word) → IsUsable h → d.registers 2 ≡ stack_base + 8 * b → b + o < z.stack → ((p : ℕ) → h ≡ Frame p → b + p < z.stack) →
       Going image z k c n j d (restore_one h o ++ ws) → AfterOne (OneRestored h (d.stack (b + o)) d) k c n j (restore_one_size h o) ws
-  one_restored (Reg r) o d ws usable two inside inside_home g =
-      let other : (s : ℕ) → s ≢ r → s ≢ 6 → (loaded_core d r o).registers s ≡ d.registers s = λ s ne six. written_other (addressed d 2 o) r (d.stack (b + o)) s ne ∙ assigned_other d.registers 6 (address_left d 2 o) s six in
-      record {
-        core = loaded_core d r o;
-        is = record {
-          rest = record {
-            zero_register = other 0 (λ x. apart_from 0 r refl usable (sym x)) (λ x. absurd (omega arith));
-            frame_register = other 2 (λ x. apart_from 2 r refl usable (sym x)) (λ x. absurd (omega arith));
-            frames_left = other 8 (λ x. apart_from 8 r refl usable (sym x)) (λ x. absurd (omega arith));
-            table = table r;
-            cells = cells r;
-            blocks = blocks r;
-            given = given r;
-            printed = printed r;
-            arrivals = arrivals r;
-          };
-          got = written_here (addressed d 2 o) r (d.stack (b + o)) (apart_from 0 r refl usable);
-          others = others;
-          stack = λ k none. ap (λ f. f k) (stack_is r);
-        };
-        going = frame_load image z 2 r b o two_not_six (record { base = two; inside = inside; few = few }) g;
-      }
-    where
-      stack_is : (r : ℕ) → (written (addressed d 2 o) r (d.stack (b + o))).stack ≡ d.stack
-      stack_is zero = refl
-      stack_is (suc r) = refl
-
-      table : (r : ℕ) → (written (addressed d 2 o) r (d.stack (b + o))).table ≡ d.table
-      table zero = refl
-      table (suc r) = refl
-
-      cells : (r : ℕ) → (written (addressed d 2 o) r (d.stack (b + o))).cells ≡ d.cells
-      cells zero = refl
-      cells (suc r) = refl
-
-      blocks : (r : ℕ) → (written (addressed d 2 o) r (d.stack (b + o))).blocks ≡ d.blocks
-      blocks zero = refl
-      blocks (suc r) = refl
-
-      given : (r : ℕ) → (written (addressed d 2 o) r (d.stack (b + o))).given ≡ d.given
-      given zero = refl
-      given (suc r) = refl
-
-      printed : (r : ℕ) → (written (addressed d 2 o) r (d.stack (b + o))).printed ≡ d.printed
-      printed zero = refl
-      printed (suc r) = refl
-
-      arrivals : (r : ℕ) → (written (addressed d 2 o) r (d.stack (b + o))).arrivals ≡ d.arrivals
-      arrivals zero = refl
-      arrivals (suc r) = refl
-
-      others : (x : Home) → IsUsable x → Reg r ≢ x → home_word (loaded_core d r o) b x ≡ home_word d b x
-      others (Reg s) u ne = written_other (addressed d 2 o) r (d.stack (b + o)) s (not_register r s ne) ∙ assigned_other d.registers 6 (address_left d 2 o) s (apart_from 6 s refl u)
-      others (Frame q) u ne = ap (λ f. f (b + q)) (stack_is r)
+  one_restored (Reg r) o d ws usable two inside inside_home g = record {
+    core = written (addressed d 2 o) r (d.stack (b + o));
+    is = record {
+      filled = filled_from_kept b (Reg r) d (addressed d 2 o) _ (d.stack (b + o)) (addressed_keeps d o) (filled_register b r (addressed d 2 o) (d.stack (b + o)) usable);
+      registers = λ s five six ne. written_other (addressed d 2 o) r (d.stack (b + o)) s (λ same. ne (ap Reg (sym same))) ∙ assigned_other d.registers 6 (address_left d 2 o) s six;
+    };
+    going = frame_load image z 2 r b o two_not_six (record { base = two; inside = inside; few = few }) g;
+  }
   one_restored (Frame p) o {k} {c} {n} {j} d ws usable two inside inside_home g =
       let g0 = subst (λ x. Going image z k c n j d x) (append_assoc (load_words 5 o) (store_words 5 p) ws) g in
       let g1 = frame_load image z 2 5 b o two_not_six (record { base = two; inside = inside; few = few }) g0 in
+      let e = written (addressed d 2 o) 5 (d.stack (b + o)) in
       let g2 = frame_store image z 2 5 b p two_not_six five_not_six (record { base = two; inside = inside_home p refl; few = few }) g1 in
       record {
-        core = copied_core d o p;
+        core = put (addressed e 2 p) (b + p) (d.stack (b + o));
         is = record {
-          rest = record {
-            zero_register = other 0 (λ x. absurd (omega arith)) (λ x. absurd (omega arith));
-            frame_register = other 2 (λ x. absurd (omega arith)) (λ x. absurd (omega arith));
-            frames_left = other 8 (λ x. absurd (omega arith)) (λ x. absurd (omega arith));
-            table = refl;
-            cells = refl;
-            blocks = refl;
-            given = refl;
-            printed = refl;
-            arrivals = refl;
-          };
-          got = assigned_here d.stack (b + p) (d.stack (b + o));
-          others = others;
-          stack = λ k none. assigned_other d.stack (b + p) (d.stack (b + o)) k (none p refl);
+          filled = filled_from_kept b (Frame p) d e _ (d.stack (b + o)) (fetched_loaded b 5 o d refl).keeps (filled_stored b 5 p e);
+          registers = λ s five six ne. assigned_other (assigned (assigned d.registers 6 (address_left d 2 o)) 5 (d.stack (b + o))) 6 _ s six ∙ (assigned_other (assigned d.registers 6 (address_left d 2 o)) 5 (d.stack (b + o)) s five ∙ assigned_other d.registers 6 _ s six);
         };
         going = is_place image z (n + (load_size o + store_size p)) (j + (load_size o + store_size p)) (omega arith) (omega arith) g2;
       }
-    where
-      other : (s : ℕ) → s ≢ 5 → s ≢ 6 → (copied_core d o p).registers s ≡ d.registers s
-      other s five six = assigned_other (assigned (assigned d.registers 6 (address_left d 2 o)) 5 (d.stack (b + o))) 6 _ s six ∙ (assigned_other (assigned d.registers 6 (address_left d 2 o)) 5 (d.stack (b + o)) s five ∙ assigned_other d.registers 6 _ s six)
-
-      others : (x : Home) → IsUsable x → Frame p ≢ x → home_word (copied_core d o p) b x ≡ home_word d b x
-      others (Reg s) u ne = other s (apart_from 5 s refl u) (apart_from 6 s refl u)
-      others (Frame q) u ne = assigned_other d.stack (b + p) (d.stack (b + o)) (b + q) (not_word p q ne)
 
   -- ---- all of them
 
@@ -241,28 +158,29 @@ module _ (image : Image) (z : Sizes) (few : z.stack ≤ 8388608) (b : ℕ) where
       OneRestored m.home (d.stack (b + m.word)) d e → Restored b moves e last → Restored b (m ∷ moves) d last
   more_restored m moves d e last apart none all one s = record {
     rest = record {
-      zero_register = s.rest.zero_register ∙ one.rest.zero_register;
-      frame_register = s.rest.frame_register ∙ one.rest.frame_register;
-      frames_left = s.rest.frames_left ∙ one.rest.frames_left;
-      table = s.rest.table ∙ one.rest.table;
-      cells = s.rest.cells ∙ one.rest.cells;
-      blocks = s.rest.blocks ∙ one.rest.blocks;
-      given = s.rest.given ∙ one.rest.given;
-      printed = s.rest.printed ∙ one.rest.printed;
-      arrivals = s.rest.arrivals ∙ one.rest.arrivals;
+      zero_register = s.rest.zero_register ∙ one.filled.rest.zero_register;
+      frame_register = s.rest.frame_register ∙ one.filled.rest.frame_register;
+      frames_left = s.rest.frames_left ∙ one.filled.rest.frames_left;
+      table = s.rest.table ∙ one.filled.rest.table;
+      cells = s.rest.cells ∙ one.filled.rest.cells;
+      blocks = s.rest.blocks ∙ one.filled.rest.blocks;
+      given = s.rest.given ∙ one.filled.rest.given;
+      printed = s.rest.printed ∙ one.filled.rest.printed;
+      arrivals = s.rest.arrivals ∙ one.filled.rest.arrivals;
     };
     got = got;
-    others = λ h u not. s.others h u (λ n i. not n (inr i)) ∙ one.others h u (not m (inl refl));
-    stack = λ k not. s.stack k (λ n o i. not n o (inr i)) ∙ one.stack k (λ o is. not m o (inl refl) is);
+    others = λ h u not. s.others h u (λ n i. not n (inr i)) ∙ one.filled.others h u (λ same. not m (inl refl) (sym same));
+    registers = λ r five six not. s.registers r five six (λ n i. not n (inr i)) ∙ one.registers r five six (not m (inl refl));
+    stack = λ k not. s.stack k (λ n o i. not n o (inr i)) ∙ one.filled.stack k (λ o is. not m o (inl refl) is);
   }
     where
       -- the word of a later move is as it was
       same_word : (n : Move) → In n moves → e.stack (b + n.word) ≡ d.stack (b + n.word)
-      same_word n i = one.stack (b + n.word) (λ o is same. none n m (inr i) (inl refl) (is ∙ ap Frame (let e : o ≡ n.word = omega arith in e)))
+      same_word n i = one.filled.stack (b + n.word) (λ o is same. none n m (inr i) (inl refl) (is ∙ ap Frame (let e : o ≡ n.word = omega arith in e)))
 
       got : (n : Move) → In n (m ∷ moves) → home_word last b n.home ≡ d.stack (b + n.word)
       got n (inl is) =
-          let own : home_word last b m.home ≡ d.stack (b + m.word) = s.others m.home (all m (inl refl)) (λ x i. apart.0 x i) ∙ one.got in
+          let own : home_word last b m.home ≡ d.stack (b + m.word) = s.others m.home (all m (inl refl)) (λ x i. apart.0 x i) ∙ one.filled.got in
           subst (λ (x : Move). home_word last b x.home ≡ d.stack (b + x.word)) (sym is) own
       got n (inr i) = s.got n i ∙ same_word n i
 
@@ -274,6 +192,7 @@ module _ (image : Image) (z : Sizes) (few : z.stack ≤ 8388608) (b : ℕ) where
       rest = record { zero_register = refl; frame_register = refl; frames_left = refl; table = refl; cells = refl; blocks = refl; given = refl; printed = refl; arrivals = refl };
       got = λ m i. absurd i;
       others = λ h u not. refl;
+      registers = λ r five six not. refl;
       stack = λ x not. refl;
     };
     going = is_place image z (n + 0) (j + 0) (omega arith) (omega arith) g;
@@ -282,7 +201,7 @@ module _ (image : Image) (z : Sizes) (few : z.stack ≤ 8388608) (b : ℕ) where
       let g0 = subst (λ x. Going image z k c n j d x) (append_assoc (restore_one m.home m.word) (restore_words moves) ws) g in
       let here = inside m (inl refl) in
       let one = one_restored m.home m.word d (restore_words moves ++ ws) (usable m (inl refl)) two here.0 here.1 g0 in
-      let more = homes_restored moves one.core ws apart.1 (λ x y i l. none x y (inr i) (inr l)) (λ x i. usable x (inr i)) (λ x i. inside x (inr i)) (one.is.rest.frame_register ∙ two) one.going in
+      let more = homes_restored moves one.core ws apart.1 (λ x y i l. none x y (inr i) (inr l)) (λ x i. usable x (inr i)) (λ x i. inside x (inr i)) (one.is.filled.rest.frame_register ∙ two) one.going in
       record {
         core = more.core;
         is = more_restored m moves d one.core more.core apart none usable one.is more.is;

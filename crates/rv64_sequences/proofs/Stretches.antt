@@ -6,10 +6,11 @@ use Rattle.rv64_words.specs.Region.{Sizes}
 use Rattle.rv64_stretches.specs.Core.{Core}
 use Rattle.rv64_stretches.specs.Runs.{HasAt, Runs}
 use Rattle.rv64_stretches.proofs.Going.{Going, begin}
-use Rattle.rv64_sequences.specs.Laws.{ConstantsRun, FrameLoadsRun, FrameStoresRun, SavesRun, RestoresRun}
+use Rattle.rv64_sequences.specs.Laws.{ConstantsRun, FrameLoadsRun, FrameStoresRun, OperandsRun, ResultsRun, FillsRun, CopiesRun, SavesRun, RestoresRun}
 use Rattle.rv64_sequences.specs.Sequences.{constant_words, load_from, store_over, constant_size, load_size, store_size}
-use Rattle.rv64_sequences.specs.Moves.{save_words, save_size, restore_words, restore_size}
+use Rattle.rv64_sequences.specs.Moves.{operand_words, operand_size, result_words, result_size, fill_words, fill_size, copy_words, copy_size, save_words, save_size, restore_words, restore_size}
 use Rattle.rv64_sequences.proofs.Constants.{constant}
+use Rattle.rv64_sequences.proofs.Homes.{operand_goes, result_goes, fill_goes, copy_goes}
 use Rattle.rv64_sequences.proofs.Moves.{homes_saved, homes_restored}
 use Rattle.rv64_sequences.proofs.Frames.{frame_load, frame_store}
 
@@ -28,6 +29,26 @@ frame_loads image z k c base r b o has ne reach = runs_of image z k c (load_size
 
 pub frame_stores : FrameStoresRun
 frame_stores image z k c base r b o has ne other reach = runs_of image z k c (store_size o) _ _ (frame_store image z base r b o ne other reach (alone image z k c (store_over base r o) has))
+
+pub operands : OperandsRun
+operands image z k c b any r home has few two temporary usable inside =
+    let after = operand_goes image z b any r home few two temporary usable inside (alone image z k c (operand_words any r home) has) in
+    (after.0, after.1, runs_of image z k c (operand_size any home) _ after.0 after.2)
+
+pub results : ResultsRun
+results image z k c b any home has few two usable inside =
+    let after = result_goes image z b any home few two usable inside (alone image z k c (result_words any home) has) in
+    (after.0, after.1, runs_of image z k c (result_size any home) _ after.0 after.2)
+
+pub fills : FillsRun
+fills image z k c b r home has few two other usable inside =
+    let after = fill_goes image z b r home few two other usable inside (alone image z k c (fill_words r home) has) in
+    (after.0, after.1, runs_of image z k c (fill_size home) _ after.0 after.2)
+
+pub copies : CopiesRun
+copies image z k c b dest from has few two usable inside usable_from inside_from =
+    let after = copy_goes image z b dest from few two usable inside usable_from inside_from (alone image z k c (copy_words dest from) has) in
+    (after.0, after.1, runs_of image z k c (copy_size dest from) _ after.0 after.2)
 
 pub saves : SavesRun
 saves image z k c b moves has few two apart none usable inside =

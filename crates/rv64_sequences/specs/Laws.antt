@@ -1,11 +1,12 @@
 -- What the sequences do, as laws of any image in which they stand.
-use Rattle.std.specs.Prelude.{◌≡◌, ◌≢◌, ℕ, ◌+◌, ◌*◌, ◌^◌, ◌<◌, ◌≤◌, List}
+use Rattle.std.specs.Prelude.{◌≡◌, ◌≢◌, ℕ, ◌+◌, ◌*◌, ◌^◌, ◌<◌, ◌≤◌, Bool, IsTrue, List}
 use Rattle.rv64_words.specs.declared.image.Image.{Image}
 use Rattle.rv64_words.specs.Region.{Sizes, stack_base, most_stack}
 use Rattle.rv64_stretches.specs.Core.{Core, written, put}
 use Rattle.rv64_stretches.specs.Runs.{HasAt, Runs}
 use Rattle.rv64_sequences.specs.Frames.{Reaches, addressed}
-use Rattle.rv64_sequences.specs.Moves.{Move, save_words, save_size, restore_words, restore_size, Saved, Restored, AreWordsApart, AreHomesApart, NoWordIsHome, AreUsable, AreInside}
+use Rattle.bril_tree.specs.declared.home.Home.{Home}
+use Rattle.rv64_sequences.specs.Moves.{Move, operand_words, operand_size, operand_register, result_words, result_size, result_register, fill_words, fill_size, copy_words, copy_size, save_words, save_size, restore_words, restore_size, home_word, is_temporary, Fetched, Filled, Saved, Restored, IsUsable, IsHomeInside, AreWordsApart, AreHomesApart, NoWordIsHome, AreUsable, AreInside}
 use Rattle.rv64_sequences.specs.Sequences.{constant_words, constant_size, load_from, store_over, load_size, store_size}
 
 -- a register becomes a constant, and nothing else changes
@@ -21,6 +22,28 @@ FrameLoadsRun = (image : Image) (z : Sizes) (k : ℕ) (c : Core) (base r b o : �
 abbrev pub FrameStoresRun : Type 0
 FrameStoresRun = (image : Image) (z : Sizes) (k : ℕ) (c : Core) (base r b o : ℕ) → HasAt image k (store_over base r o) → base ≢ 6 → r ≢ 6 → Reaches z c base b o →
     Runs image z k c (store_size o) (k + store_size o) (put (addressed c base o) (b + o) (c.registers r))
+
+-- a register of an operation gets what a home has
+abbrev pub OperandsRun : Type 0
+OperandsRun = (image : Image) (z : Sizes) (k : ℕ) (c : Core) (b : ℕ) (any : Bool) (r : ℕ) (home : Home) → HasAt image k (operand_words any r home) → z.stack ≤ most_stack → c.registers 2 ≡ stack_base + 8 * b →
+    IsTrue (is_temporary r) → IsUsable home → IsHomeInside z b home →
+    (e : Core) × Fetched b (operand_register any r home) home c e × Runs image z k c (operand_size any home) (k + operand_size any home) e
+
+-- a home gets the result of an operation, what a register has, and what another home has
+abbrev pub ResultsRun : Type 0
+ResultsRun = (image : Image) (z : Sizes) (k : ℕ) (c : Core) (b : ℕ) (any : Bool) (home : Home) → HasAt image k (result_words any home) → z.stack ≤ most_stack → c.registers 2 ≡ stack_base + 8 * b →
+    IsUsable home → IsHomeInside z b home →
+    (e : Core) × Filled b home (c.registers (result_register any home)) c e × Runs image z k c (result_size any home) (k + result_size any home) e
+
+abbrev pub FillsRun : Type 0
+FillsRun = (image : Image) (z : Sizes) (k : ℕ) (c : Core) (b r : ℕ) (home : Home) → HasAt image k (fill_words r home) → z.stack ≤ most_stack → c.registers 2 ≡ stack_base + 8 * b →
+    r ≢ 6 → IsUsable home → IsHomeInside z b home →
+    (e : Core) × Filled b home (c.registers r) c e × Runs image z k c (fill_size home) (k + fill_size home) e
+
+abbrev pub CopiesRun : Type 0
+CopiesRun = (image : Image) (z : Sizes) (k : ℕ) (c : Core) (b : ℕ) (dest from : Home) → HasAt image k (copy_words dest from) → z.stack ≤ most_stack → c.registers 2 ≡ stack_base + 8 * b →
+    IsUsable dest → IsHomeInside z b dest → IsUsable from → IsHomeInside z b from →
+    (e : Core) × Filled b dest (home_word c b from) c e × Runs image z k c (copy_size dest from) (k + copy_size dest from) e
 
 -- what homes have comes into words of the frame, and no other words of the stack change
 abbrev pub SavesRun : Type 0

@@ -5,7 +5,7 @@ use Rattle.std.specs.Prelude.{ℕ, ◌+◌, ◌-◌, ◌*◌, ◌/◌, ◌%◌, 
 use Rattle.rv64_words.specs.declared.word.Word.{Word}
 use Rattle.rv64_words.specs.declared.word.Word.TheVariants.{Lui, Ld, Sd, Ecall}
 use Rattle.rv64_words.specs.Fields.{signed_12}
-use Rattle.rv64_words.specs.Mnemonics.{addi, slli, add}
+use Rattle.rv64_words.specs.Mnemonics.{addi, slli, srli, add}
 
 -- ---- constants
 
@@ -43,6 +43,13 @@ constant_words r n =
 
 abbrev pub constant_size : ℕ → ℕ
 constant_size n = if fits_12 n then 1 else (if fits_32 n then 2 else 8)
+
+-- ---- copies of registers
+
+-- register d becomes what register s has, whatever that is: a shift by no bits. A sum with 0 would be so only of a number below
+-- 2^64, which a register always has in a run, but a core of these laws needn't.
+abbrev pub copied_word : (d s : ℕ) → Word
+copied_word d s = srli d s 0
 
 -- ---- the words of a frame
 

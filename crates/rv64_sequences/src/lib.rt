@@ -7,7 +7,7 @@
 //! function here states some of it as a law, and does nothing when it is called.
 #![tactic(auto)]
 
-ghost use Rattle.rv64_sequences.specs.Laws.{ConstantsRun, FrameLoadsRun, FrameStoresRun, SavesRun, RestoresRun};
+ghost use Rattle.rv64_sequences.specs.Laws.{ConstantsRun, FrameLoadsRun, FrameStoresRun, OperandsRun, ResultsRun, FillsRun, CopiesRun, SavesRun, RestoresRun};
 
 /// The words of a constant set one register to it, in one, two or eight words.
 pub fn constants_run()
@@ -18,6 +18,15 @@ pub fn constants_run()
 pub fn frame_words_run()
     ensures loads { FrameLoadsRun }
     ensures stores { FrameStoresRun }
+{}
+
+/// A register of an operation gets what a home has, and a home gets its result, what a register has, or what another home has:
+/// no word where it is there already. Of what other code relies on nothing else changes.
+pub fn homes_run()
+    ensures operands { OperandsRun }
+    ensures results { ResultsRun }
+    ensures fills { FillsRun }
+    ensures copies { CopiesRun }
 {}
 
 /// What homes have comes into words of the frame, and back. Registers 5 and 6 may change besides.

@@ -1,20 +1,17 @@
 -- A stretch so far, and what comes of it by each kind of word.
 use Rattle.std.proofs.Common.{◌≡◌, ℕ, suc, ◌+◌, ◌*◌, ◌/◌, ◌%◌, ◌^◌, ◌<◌, ◌≤◌, true, false, refl, ap, ◌∙◌, subst, arith, List, [], ◌∷◌, ◌++◌, length, Some, ℤ, pos}
-use Rattle.simulation.specs.System.{after}
-use Rattle.simulation.proofs.After.{after-add}
 use Rattle.bril_tree.specs.State.{counted}
-use Rattle.bril_tree.specs.declared.limits.End.{End}
 use Rattle.rv64_words.specs.declared.image.Image.{Image}
 use Rattle.rv64_words.specs.declared.word.Condition.{Condition}
 use Rattle.rv64_words.specs.declared.word.Word.{Word}
 use Rattle.rv64_words.specs.declared.word.Word.TheVariants.{Jal, Jalr, Branch, Ld, Sd}
 use Rattle.rv64_words.specs.Arithmetic.{moved_by, holds}
-use Rattle.rv64_words.specs.Machine.{branched, read_address, loaded, stored, executed, machine_step}
+use Rattle.rv64_words.specs.Machine.{branched, read_address, loaded, stored, executed}
 use Rattle.rv64_words.specs.Region.{Sizes, Address, InStack, InTable, InCells, stack_base, table_base, cells_base, table_words, address_at}
 use Rattle.rv64_words.specs.State.{State, with_register, next}
 use Rattle.rv64_stretches.specs.Core.{Core, at_pc, machine, written, put, put_cell, arrived}
-use Rattle.rv64_stretches.specs.Runs.{WordAt, HasAt, IsComputing, AreComputing, effect, effects, Runs, Ends}
-use Rattle.rv64_stretches.proofs.Steps.{step_is, guard_step_is, goes_next, register_written, computing_is, stays, followed_by, stack_address, table_address, cells_address}
+use Rattle.rv64_stretches.specs.Runs.{WordAt, HasAt, IsComputing, AreComputing, effect, effects, Runs, Leaves}
+use Rattle.rv64_stretches.proofs.Steps.{step_is, guard_step_is, goes_next, register_written, computing_is, stays, followed_by, left_by, leads_on, step_leaves, stack_address, table_address, cells_address}
 
 -- the words of two stretches, one after the other
 pub HasAt-append : (image : Image) (k : ℕ) (xs ys : List Word) → HasAt image k xs → HasAt image (k + length xs) ys → HasAt image k (xs ++ ys)
@@ -46,17 +43,25 @@ module _ (image : Image) (z : Sizes) where
   pub begin : (k : ℕ) (c : Core) (ws : List Word) → HasAt image k ws → Going k c 0 k c ws
   begin k c ws has = record { runs = stays image z k c; has = has }
 
+  -- words that stand where steps led away
+  pub begin_there : {k : ℕ} {c : Core} {n bound j : ℕ} {e : Core} → (ws : List Word) → Leaves image z k c n bound j e → HasAt image j ws → Going j e 0 j e ws
+  begin_there {j = j} {e = e} ws r has = begin j e ws has
+
   -- other words stand there too
   pub onward : {k : ℕ} {c : Core} {n j : ℕ} {e : Core} {ws : List Word} → Runs image z k c n j e → HasAt image j ws → Going k c n j e ws
   onward r has = record { runs = r; has = has }
 
-  one_step : {k : ℕ} {c : Core} {n j : ℕ} {e : Core} {ws : List Word} → (w : Word) (i : ℕ) (f : Core) → Going k c n j e (w ∷ ws) → ((d : ℕ) → executed z w (machine j e d) ≡ machine i f (counted d)) → Runs image z k c (n + 1) i f
-  one_step {j = j} {e = e} w i f g is = followed_by image z g.runs (record { done = counted; steps = λ d. step_is image z j w e d g.has.0 ∙ is d })
+  -- one step more by the word that stands there, to any word or to a later one
+  one_leap : {k : ℕ} {c : Core} {n j : ℕ} {e : Core} {ws : List Word} → (w : Word) (i : ℕ) (f : Core) → Going k c n j e (w ∷ ws) → ((d : ℕ) → executed z w (machine j e d) ≡ machine i f (counted d)) → Leaves image z k c (n + 1) (j + 1) i f
+  one_leap {j = j} {e = e} w i f g is = left_by image z g.runs (omega arith) (step_leaves image z counted (λ d. step_is image z j w e d g.has.0 ∙ is d))
+
+  one_step : {k : ℕ} {c : Core} {n j : ℕ} {e : Core} {ws : List Word} → (w : Word) (i : ℕ) (f : Core) → j + 1 ≤ i → Going k c n j e (w ∷ ws) → ((d : ℕ) → executed z w (machine j e d) ≡ machine i f (counted d)) → Runs image z k c (n + 1) i f
+  one_step w i f later g is = let over = g.runs.forward in leads_on image z (omega arith) later (one_leap w i f g is)
 
   -- ---- words that compute
 
   pub plain : {k : ℕ} {c : Core} {n j : ℕ} {e : Core} {w : Word} {ws : List Word} → IsComputing w → Going k c n j e (w ∷ ws) → Going k c (n + 1) (j + 1) (effect w e) ws
-  plain {j = j} {e = e} {w = w} p g = record { runs = one_step w (j + 1) (effect w e) g (computing_is image z w p j e); has = g.has.1 }
+  plain {j = j} {e = e} {w = w} p g = record { runs = one_step w (j + 1) (effect w e) (omega arith) g (computing_is image z w p j e); has = g.has.1 }
 
   pub plains : (ws rest : List Word) → {k : ℕ} {c : Core} {n j : ℕ} {e : Core} → AreComputing ws → Going k c n j e (ws ++ rest) → Going k c (n + length ws) (j + length ws) (effects ws e) rest
   plains [] rest {k} {c} {n} {j} {e} h g =
@@ -73,7 +78,7 @@ module _ (image : Image) (z : Sizes) where
   load_of : {k : ℕ} {c : Core} {n j : ℕ} {e : Core} {rd rs1 : ℕ} {i : ℤ} {ws : List Word} → (at : ℕ) (address : Address) (v : ℕ) → moved_by (e.registers rs1) i ≡ at → address_at z at ≡ Some address → ((d : ℕ) → read_address (machine j e d) address ≡ v)
       → Going k c n j e (Ld rd rs1 i ∷ ws) → Going k c (n + 1) (j + 1) (written e rd v) ws
   load_of {j = j} {e = e} {rd = rd} {rs1 = rs1} {i = i} at address v is here value g = record {
-    runs = one_step (Ld rd rs1 i) (j + 1) (written e rd v) g (λ d. ap (λ a. loaded (machine j e d) rd a (address_at z a)) is ∙ (ap (loaded (machine j e d) rd at) here ∙ (ap (λ x. loaded_as d x) (value d) ∙ register_written j e d rd v)));
+    runs = one_step (Ld rd rs1 i) (j + 1) (written e rd v) (omega arith) g (λ d. ap (λ a. loaded (machine j e d) rd a (address_at z a)) is ∙ (ap (loaded (machine j e d) rd at) here ∙ (ap (λ x. loaded_as d x) (value d) ∙ register_written j e d rd v)));
     has = g.has.1;
   }
     where
@@ -92,14 +97,14 @@ module _ (image : Image) (z : Sizes) where
 
   pub store : {k : ℕ} {c : Core} {n j : ℕ} {e : Core} {rs1 rs2 : ℕ} {i : ℤ} {ws : List Word} → (at : ℕ) → moved_by (e.registers rs1) i ≡ stack_base + 8 * at → at < z.stack → Going k c n j e (Sd rs1 rs2 i ∷ ws) → Going k c (n + 1) (j + 1) (put e at (e.registers rs2)) ws
   store {j = j} {e = e} {rs1 = rs1} {rs2 = rs2} {i = i} at is lt g = record {
-    runs = one_step (Sd rs1 rs2 i) (j + 1) (put e at (e.registers rs2)) g
+    runs = one_step (Sd rs1 rs2 i) (j + 1) (put e at (e.registers rs2)) (omega arith) g
         (λ d. ap (λ a. stored (machine j e d) (e.registers rs2) a (address_at z a)) is ∙ (ap (stored (machine j e d) (e.registers rs2) (stack_base + 8 * at)) (stack_address z at lt) ∙ goes_next j (put e at (e.registers rs2)) d));
     has = g.has.1;
   }
 
   pub store_cell : {k : ℕ} {c : Core} {n j : ℕ} {e : Core} {rs1 rs2 : ℕ} {i : ℤ} {ws : List Word} → (at : ℕ) → moved_by (e.registers rs1) i ≡ cells_base + 8 * at → z.stack ≤ 8388608 → at < z.cells → Going k c n j e (Sd rs1 rs2 i ∷ ws) → Going k c (n + 1) (j + 1) (put_cell e at (e.registers rs2)) ws
   store_cell {j = j} {e = e} {rs1 = rs1} {rs2 = rs2} {i = i} at is few lt g = record {
-    runs = one_step (Sd rs1 rs2 i) (j + 1) (put_cell e at (e.registers rs2)) g
+    runs = one_step (Sd rs1 rs2 i) (j + 1) (put_cell e at (e.registers rs2)) (omega arith) g
         (λ d. ap (λ a. stored (machine j e d) (e.registers rs2) a (address_at z a)) is ∙ (ap (stored (machine j e d) (e.registers rs2) (cells_base + 8 * at)) (cells_address z at few lt) ∙ goes_next j (put_cell e at (e.registers rs2)) d));
     has = g.has.1;
   }
@@ -107,22 +112,23 @@ module _ (image : Image) (z : Sizes) where
   -- ---- jumps
 
   -- to word b; the last word of a stretch
-  pub jump : {k : ℕ} {c : Core} {n j : ℕ} {e : Core} {i : ℤ} {ws : List Word} → (b : ℕ) → moved_by (4 * j) i ≡ 4 * b → Going k c n j e (Jal 0 i ∷ ws) → Runs image z k c (n + 1) b e
-  jump {e = e} {i = i} b is g = one_step (Jal 0 i) b e g (λ d. ap (λ pc. at_pc pc e (counted d)) is)
+  pub jump : {k : ℕ} {c : Core} {n j : ℕ} {e : Core} {i : ℤ} {ws : List Word} → (b : ℕ) → moved_by (4 * j) i ≡ 4 * b → Going k c n j e (Jal 0 i ∷ ws) → Leaves image z k c (n + 1) (j + 1) b e
+  jump {e = e} {i = i} b is g = one_leap (Jal 0 i) b e g (λ d. ap (λ pc. at_pc pc e (counted d)) is)
 
   -- the same by a guard's word
-  pub guard_jump : {k : ℕ} {c : Core} {n j : ℕ} {e : Core} {i : ℤ} → (b : ℕ) → moved_by (4 * j) i ≡ 4 * b → WordAt image true j (Jal 0 i) → Going k c n j e [] → Runs image z k c (n + 1) b (arrived j e)
-  guard_jump {j = j} {e = e} {i = i} b is has g = followed_by image z g.runs (record { done = counted; steps = λ d. guard_step_is image z j (Jal 0 i) e d b e (counted d) has (ap (λ pc. at_pc pc e (counted d)) is) })
+  pub guard_jump : {k : ℕ} {c : Core} {n j : ℕ} {e : Core} {i : ℤ} → (b : ℕ) → moved_by (4 * j) i ≡ 4 * b → WordAt image true j (Jal 0 i) → Going k c n j e [] → Leaves image z k c (n + 1) (j + 1) b (arrived j e)
+  guard_jump {j = j} {e = e} {i = i} b is has g =
+      left_by image z g.runs (omega arith) (step_leaves image z counted (λ d. guard_step_is image z j (Jal 0 i) e d b e (counted d) has (ap (λ pc. at_pc pc e (counted d)) is)))
 
   -- a call of a function at word b: register 1 gets the way back
-  pub jump_and_link : {k : ℕ} {c : Core} {n j : ℕ} {e : Core} {i : ℤ} {ws : List Word} → (b : ℕ) → moved_by (4 * j) i ≡ 4 * b → Going k c n j e (Jal 1 i ∷ ws) → Runs image z k c (n + 1) b (written e 1 (4 * (j + 1)))
+  pub jump_and_link : {k : ℕ} {c : Core} {n j : ℕ} {e : Core} {i : ℤ} {ws : List Word} → (b : ℕ) → moved_by (4 * j) i ≡ 4 * b → Going k c n j e (Jal 1 i ∷ ws) → Leaves image z k c (n + 1) (j + 1) b (written e 1 (4 * (j + 1)))
   jump_and_link {j = j} {e = e} {i = i} b is g =
-      one_step (Jal 1 i) b (written e 1 (4 * (j + 1))) g
+      one_leap (Jal 1 i) b (written e 1 (4 * (j + 1))) g
       (λ d. ap (λ pc. at_pc pc (written e 1 (4 * j + 4)) (counted d)) is ∙ (let next_is : 4 * j + 4 ≡ 4 * (j + 1) = omega arith in ap (λ v. at_pc (4 * b) (written e 1 v) (counted d)) next_is))
 
   -- back by register 1
-  pub jump_back : {k : ℕ} {c : Core} {n j : ℕ} {e : Core} {ws : List Word} → (b : ℕ) → b < 2 ^ 20 → e.registers 1 ≡ 4 * b → Going k c n j e (Jalr 0 1 (pos 0) ∷ ws) → Runs image z k c (n + 1) b e
-  jump_back {e = e} b lt is g = one_step (Jalr 0 1 (pos 0)) b e g (λ d. ap (λ v. at_pc (2 * (moved_by v (pos 0) / 2)) e (counted d)) is ∙ ap (λ pc. at_pc pc e (counted d)) even)
+  pub jump_back : {k : ℕ} {c : Core} {n j : ℕ} {e : Core} {ws : List Word} → (b : ℕ) → b < 2 ^ 20 → e.registers 1 ≡ 4 * b → Going k c n j e (Jalr 0 1 (pos 0) ∷ ws) → Leaves image z k c (n + 1) (j + 1) b e
+  jump_back {e = e} b lt is g = one_leap (Jalr 0 1 (pos 0)) b e g (λ d. ap (λ v. at_pc (2 * (moved_by v (pos 0) / 2)) e (counted d)) is ∙ ap (λ pc. at_pc pc e (counted d)) even)
     where
       even : 2 * ((4 * b + 0) % 2 ^ 64 / 2) ≡ 4 * b
       even = omega arith
@@ -133,7 +139,7 @@ module _ (image : Image) (z : Sizes) where
   pub taken : {k : ℕ} {c : Core} {n j : ℕ} {e : Core} {o : Condition} {r s : ℕ} → (skipped ws : List Word) → j < 2 ^ 20 → length skipped < 2 ^ 20 → holds o (e.registers r) (e.registers s) ≡ true
       → Going k c n j e (Branch o r s (pos (4 * suc (length skipped))) ∷ (skipped ++ ws)) → Going k c (n + 1) (j + 1 + length skipped) e ws
   taken {j = j} {e = e} {o = o} {r = r} {s = s} skipped ws lj few is g = record {
-    runs = one_step (Branch o r s (pos (4 * suc (length skipped)))) (j + 1 + length skipped) e g
+    runs = one_step (Branch o r s (pos (4 * suc (length skipped)))) (j + 1 + length skipped) e (omega arith) g
         (λ d. ap (λ b. branched b (pos (4 * suc (length skipped))) (machine j e d)) is ∙ ap (λ pc. at_pc pc e (counted d)) (over_words j (length skipped) lj few));
     has = HasAt-rest image (j + 1) skipped ws g.has.1;
   }
@@ -141,7 +147,7 @@ module _ (image : Image) (z : Sizes) where
   -- and one that isn't
   pub not_taken : {k : ℕ} {c : Core} {n j : ℕ} {e : Core} {o : Condition} {r s : ℕ} {i : ℤ} {ws : List Word} → holds o (e.registers r) (e.registers s) ≡ false → Going k c n j e (Branch o r s i ∷ ws) → Going k c (n + 1) (j + 1) e ws
   not_taken {j = j} {e = e} {o = o} {r = r} {s = s} {i = i} is g = record {
-    runs = one_step (Branch o r s i) (j + 1) e g (λ d. ap (λ b. branched b i (machine j e d)) is ∙ goes_next j e d);
+    runs = one_step (Branch o r s i) (j + 1) e (omega arith) g (λ d. ap (λ b. branched b i (machine j e d)) is ∙ goes_next j e d);
     has = g.has.1;
   }
 
@@ -154,14 +160,6 @@ module _ (image : Image) (z : Sizes) where
   -- a run across them
   pub across : {k : ℕ} {c : Core} {n j : ℕ} {e : Core} {m : ℕ} {f : Core} → (xs ws : List Word) → Going k c n j e (xs ++ ws) → Runs image z j e m (j + length xs) f → Going k c (n + m) (j + length xs) f ws
   across {j = j} xs ws g r = record { runs = followed_by image z g.runs r; has = HasAt-rest image j xs ws g.has }
-
-  -- an end after them
-  pub ends_after : {k : ℕ} {c : Core} {n j : ℕ} {e : Core} {m : ℕ} {f : Core} {how : End} → Runs image z k c n j e → Ends image z j e m how f → Ends image z k c (n + m) how f
-  ends_after {k} {c} {n} {j} {e} {m} {f} {how} r last = record {
-    at = last.at;
-    done = λ d. last.done (r.done d);
-    steps = λ d. after-add (machine_step image z) n m (machine k c d) ∙ (ap (after (machine_step image z) m) (r.steps d) ∙ last.steps (r.done d));
-  }
 
   -- ---- equations
 

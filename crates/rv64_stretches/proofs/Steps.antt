@@ -1,20 +1,24 @@
 -- One step of a running machine, by the word that stands at its pc.
-use Rattle.std.proofs.Common.{◌≡◌, ℕ, zero, suc, ◌+◌, ◌*◌, ◌/◌, ◌%◌, ◌<◌, ◌≤◌, Bool, true, false, cond, eqb, refl, ap, ◌∙◌, arith, List, Some, None}
+use Rattle.std.proofs.Common.{◌≡◌, ℕ, zero, suc, ◌+◌, ◌-◌, ◌*◌, ◌/◌, ◌%◌, ◌<◌, ◌≤◌, ◌⊎◌, inl, inr, Bool, true, false, cond, eqb, refl, ap, ◌∙◌, arith, List, Some, None}
 use Rattle.std.specs.Prelude.{slice_get}
 use Rattle.std.proofs.lemmas.Bool.Decides.{nat_tests}
 use Rattle.simulation.specs.System.{after}
-use Rattle.simulation.proofs.After.{after-add}
+use Rattle.simulation.proofs.After.{after-add, after-sub}
 use Rattle.bril_tree.specs.State.{counted}
+use Rattle.bril_tree.specs.declared.limits.End.{End}
 use Rattle.rv64_words.specs.declared.image.Image.{Image}
 use Rattle.rv64_words.specs.declared.word.Word.{Word}
 use Rattle.rv64_words.specs.declared.word.Word.TheVariants.{Lui, Jal, Jalr, Branch, Ld, Sd, OpImm, ShiftImm, Op, Ecall}
 use Rattle.rv64_words.specs.Encoding.{encoded, decoded}
 use Rattle.rv64_words.specs.Machine.{executed, fetched, decoded_step, fetched_step, is_guard_word, arrived_if, machine_step}
 use Rattle.rv64_words.specs.Region.{Sizes, stack_base, table_base, cells_base, table_words, address_at, InStack, InTable, InCells}
-use Rattle.rv64_words.specs.State.{with_register, next}
+use Rattle.rv64_words.specs.State.{State, with_register, next}
 use Rattle.rv64_words.proofs.Encodings.{decoded-encoded}
 use Rattle.rv64_stretches.specs.Core.{Core, at_pc, machine, written, arrived}
-use Rattle.rv64_stretches.specs.Runs.{WordAt, IsComputing, effect, Runs}
+use Rattle.rv64_stretches.specs.Runs.{WordAt, IsComputing, effect, StandsWithin, Inside, Runs, Leaves, Ends}
+
+below_or_not : (i n : ℕ) → (i < n) ⊎ (n ≤ i)
+below_or_not i n = grind arith
 
 fetched_at : (words : List ℕ) (k : ℕ) → fetched words (4 * k) ≡ slice_get words k
 fetched_at words k =
@@ -73,12 +77,65 @@ module _ (image : Image) (z : Sizes) where
   computing_is (Sd rs1 rs2 i) p k c d = absurd p
   computing_is Ecall p k c d = absurd p
 
-  -- no steps, and some steps after others
+  -- ---- stretches
+
+  -- no steps
   pub stays : (k : ℕ) (c : Core) → Runs image z k c 0 k c
-  stays k c = record { done = λ d. d; steps = λ d. refl }
+  stays k c = record { done = λ d. d; steps = λ d. refl; forward = omega arith; inside = λ d i lt. absurd (omega arith) }
+
+  -- one step
+  pub step_inside : (k : ℕ) (c : Core) → Inside image z k c 1 (k + 1)
+  step_inside k c d zero lt = record { word = k; at = refl; from = omega arith; before = omega arith }
+  step_inside k c d (suc i) lt = absurd (omega arith)
+
+  pub step_leaves : {k : ℕ} {c : Core} {j : ℕ} {e : Core} → (done : ℕ → ℕ) → ((d : ℕ) → machine_step image z (machine k c d) ≡ machine j e (done d)) → Leaves image z k c 1 (k + 1) j e
+  step_leaves {k} {c} done is = record { done = done; steps = is; inside = step_inside k c }
+
+  -- steps that stay before a bound are before later ones too
+  pub inside_more : (k : ℕ) (c : Core) (n bound more : ℕ) → bound ≤ more → Inside image z k c n bound → Inside image z k c n more
+  inside_more k c n bound more high within d i lt =
+      let s = within d i lt in
+      let low = s.before in
+      record { word = s.word; at = s.at; from = s.from; before = omega arith }
+
+  -- some steps after others
+  inside_on : {k : ℕ} {c : Core} {n j : ℕ} {e : Core} → Runs image z k c n j e → (m bound : ℕ) → j ≤ bound → Inside image z j e m bound → Inside image z k c (n + m) bound
+  inside_on {k} {c} {n} {j} {e} a m bound high b d i lt = by (below_or_not i n)
+    where
+      by : (i < n) ⊎ (n ≤ i) → StandsWithin (k + i) bound (after (machine_step image z) i (machine k c d))
+      by (inl low) = inside_more k c n j bound high a.inside d i low
+      by (inr up) =
+          let s = b (a.done d) (i - n) (omega arith) in
+          let over = a.forward in
+          let from = s.from in
+          record {
+            word = s.word;
+            at = ap (λ t. t.pc) (after-sub (machine_step image z) n i (machine k c d) up ∙ ap (after (machine_step image z) (i - n)) (a.steps d)) ∙ s.at;
+            from = omega arith;
+            before = s.before;
+          }
+
+  steps_on : {k : ℕ} {c : Core} {n j : ℕ} {e : Core} {t : State} → (a : Runs image z k c n j e) (m d : ℕ) → after (machine_step image z) m (machine j e (a.done d)) ≡ t → after (machine_step image z) (n + m) (machine k c d) ≡ t
+  steps_on {k} {c} {n} {j} {e} a m d is = after-add (machine_step image z) n m (machine k c d) ∙ (ap (after (machine_step image z) m) (a.steps d) ∙ is)
 
   pub followed_by : {k : ℕ} {c : Core} {n j : ℕ} {e : Core} {m i : ℕ} {f : Core} → Runs image z k c n j e → Runs image z j e m i f → Runs image z k c (n + m) i f
-  followed_by {k} {c} {n} {j} {e} {m} {i} {f} a b = record {
-    done = λ d. b.done (a.done d);
-    steps = λ d. after-add (machine_step image z) n m (machine k c d) ∙ (ap (after (machine_step image z) m) (a.steps d) ∙ b.steps (a.done d));
-  }
+  followed_by {m = m} {i = i} a b =
+      let first = a.forward in
+      let second = b.forward in
+      record { done = λ d. b.done (a.done d); steps = λ d. steps_on a m d (b.steps (a.done d)); forward = omega arith; inside = inside_on a m i (omega arith) b.inside }
+
+  -- and then away
+  pub left_by : {k : ℕ} {c : Core} {n j : ℕ} {e : Core} {m bound i : ℕ} {f : Core} → Runs image z k c n j e → j ≤ bound → Leaves image z j e m bound i f → Leaves image z k c (n + m) bound i f
+  left_by {m = m} {bound = bound} a high b = record { done = λ d. b.done (a.done d); steps = λ d. steps_on a m d (b.steps (a.done d)); inside = inside_on a m bound high b.inside }
+
+  -- and then to an end
+  pub ends_after : {k : ℕ} {c : Core} {n j : ℕ} {e : Core} {m bound : ℕ} {f : Core} {how : End} → Runs image z k c n j e → j ≤ bound → Ends image z j e m bound how f → Ends image z k c (n + m) bound how f
+  ends_after {m = m} {bound = bound} a high b = record { at = b.at; done = λ d. b.done (a.done d); steps = λ d. steps_on a m d (b.steps (a.done d)); inside = inside_on a m bound high b.inside }
+
+  -- steps that lead away lead on, where they lead to a later word
+  pub leads_on : {k : ℕ} {c : Core} {n bound j : ℕ} {e : Core} → k + n ≤ j → bound ≤ j → Leaves image z k c n bound j e → Runs image z k c n j e
+  leads_on {k} {c} {n} {bound} {j} over high r = record { done = r.done; steps = r.steps; forward = over; inside = inside_more k c n bound j high r.inside }
+
+  -- an end that comes before a bound comes before later ones too
+  pub ends_sooner : {k : ℕ} {c : Core} {n bound : ℕ} {how : End} {e : Core} → (more : ℕ) → bound ≤ more → Ends image z k c n bound how e → Ends image z k c n more how e
+  ends_sooner {k} {c} {n} {bound} more high r = record { at = r.at; done = r.done; steps = r.steps; inside = inside_more k c n bound more high r.inside }

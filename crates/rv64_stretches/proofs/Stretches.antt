@@ -5,7 +5,7 @@ use Rattle.rv64_words.specs.declared.word.Word.TheVariants.{Ld, Sd}
 use Rattle.rv64_words.specs.Region.{Sizes}
 use Rattle.rv64_stretches.specs.Core.{Core, arrived}
 use Rattle.rv64_stretches.specs.Laws.{ComputingWordsRun, StackLoadsRun, StackStoresRun, GuardJumpsRun}
-use Rattle.rv64_stretches.specs.Runs.{HasAt, Runs}
+use Rattle.rv64_stretches.specs.Runs.{HasAt, Runs, Leaves}
 use Rattle.rv64_stretches.proofs.Going.{begin, plains, load, store, guard_jump}
 
 -- a stretch that began with no steps
@@ -24,4 +24,4 @@ pub stack_store : StackStoresRun
 stack_store image z k c rs1 rs2 i at has is lt = from_zero image z k c 1 (k + 1) _ (store image z at is lt (begin image z k c (Sd rs1 rs2 i ∷ []) (has, tt))).runs
 
 pub guard_word_jumps : GuardJumpsRun
-guard_word_jumps image z k c i b has is = from_zero image z k c 1 b (arrived k c) (guard_jump image z b is has (begin image z k c [] tt))
+guard_word_jumps image z k c i b has is = let same : 0 + 1 ≡ 1 = omega arith in subst (λ n. Leaves image z k c n (k + 1) b (arrived k c)) same (guard_jump image z b is has (begin image z k c [] tt))

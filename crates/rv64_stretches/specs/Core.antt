@@ -1,5 +1,5 @@
 -- What words change of a machine that runs on: all of its state but the pc, the way it stops and the words done.
-use Rattle.std.specs.Prelude.{◌≡◌, ℕ, zero, suc, ◌+◌, ◌*◌, ◌^◌, ◌==◌, ◌&&◌, ◌||◌, Bool, IsTrue, List, ◌++◌, None, nat_le}
+use Rattle.std.specs.Prelude.{◌≡◌, ◌≢◌, ℕ, zero, suc, ◌+◌, ◌*◌, ◌^◌, ◌==◌, ◌&&◌, ◌||◌, Bool, IsTrue, List, ◌++◌, None, nat_le}
 use Rattle.bril_tree.specs.State.{counted}
 use Rattle.rv64_words.specs.Region.{cells_base}
 use Rattle.rv64_words.specs.State.{State, assigned}
@@ -97,6 +97,20 @@ pub record Keeps (c e : Core) : Type 0 where
   pub frame_register : e.registers 2 ≡ c.registers 2
   pub frames_left : e.registers 8 ≡ c.registers 8
   pub homes : (r : ℕ) → IsTrue (is_home_register r) → e.registers r ≡ c.registers r
+  pub stack : e.stack ≡ c.stack
+  pub table : e.table ≡ c.table
+  pub cells : e.cells ≡ c.cells
+  pub blocks : e.blocks ≡ c.blocks
+  pub given : e.given ≡ c.given
+  pub printed : e.printed ≡ c.printed
+  pub arrivals : e.arrivals ≡ c.arrivals
+
+-- The same, but for one register, which isn't 0, 2 or 8.
+pub record KeepsBut (d : ℕ) (c e : Core) : Type 0 where
+  pub zero_register : e.registers 0 ≡ c.registers 0
+  pub frame_register : e.registers 2 ≡ c.registers 2
+  pub frames_left : e.registers 8 ≡ c.registers 8
+  pub homes : (r : ℕ) → IsTrue (is_home_register r) → r ≢ d → e.registers r ≡ c.registers r
   pub stack : e.stack ≡ c.stack
   pub table : e.table ≡ c.table
   pub cells : e.cells ≡ c.cells

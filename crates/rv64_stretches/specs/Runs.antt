@@ -1,5 +1,5 @@
 -- Words in an image, and the stretches of a run through them.
-use Rattle.std.specs.Prelude.{◌≡◌, ℕ, ◌+◌, ◌*◌, Bool, false, List, [], ◌∷◌, Some, slice_get}
+use Rattle.std.specs.Prelude.{◌≡◌, ℕ, ◌+◌, ◌*◌, ◌<◌, ◌≤◌, Bool, false, List, [], ◌∷◌, Some, slice_get}
 use Rattle.std.specs.Int.{w64, cast_unsigned}
 use Rattle.simulation.specs.System.{after}
 use Rattle.bril_tree.specs.declared.limits.End.{End}
@@ -10,7 +10,7 @@ use Rattle.rv64_words.specs.Arithmetic.{extended_32, with_immediate, shifted, co
 use Rattle.rv64_words.specs.Encoding.{IsWord, encoded}
 use Rattle.rv64_words.specs.Machine.{is_guard_word, machine_step}
 use Rattle.rv64_words.specs.Region.{Sizes}
-use Rattle.rv64_words.specs.State.{finished}
+use Rattle.rv64_words.specs.State.{State, finished}
 use Rattle.rv64_stretches.specs.Core.{Core, machine, written}
 
 -- Word k of the image has the bits of w, and it is a guard's word or none.
@@ -50,14 +50,34 @@ effects (w ∷ ws) c = effects ws (effect w c)
 
 -- ---- runs
 
+-- The machine is before a word: `first` or a later one, and one before `bound`.
+pub record StandsWithin (first bound : ℕ) (t : State) : Type 0 where
+  pub word : ℕ
+  pub at : t.pc ≡ 4 * word
+  pub from : first ≤ word
+  pub before : word < bound
+
 module _ (image : Image) (z : Sizes) where
-  -- from the running machine at word k with core c, n steps lead to word j with core e
+  -- where n steps from there go in between: each but the last leads to a later word, which is before `bound`
+  abbrev pub Inside : ℕ → Core → ℕ → ℕ → Type 0
+  Inside k c n bound = (d i : ℕ) → i < n → StandsWithin (k + i) bound (after (machine_step image z) i (machine k c d))
+
+  -- from the running machine at word k with core c, n steps lead to word j with core e, and each leads to a later word
   pub record Runs (k : ℕ) (c : Core) (n j : ℕ) (e : Core) : Type 0 where
     pub done : ℕ → ℕ
     pub steps : (d : ℕ) → after (machine_step image z) n (machine k c d) ≡ machine j e (done d)
+    pub forward : k + n ≤ j
+    pub inside : Inside k c n j
 
-  -- from there n steps lead to an end of the program, with core e
-  pub record Ends (k : ℕ) (c : Core) (n : ℕ) (how : End) (e : Core) : Type 0 where
+  -- from there n steps lead to word j with core e, where the last one may lead anywhere; those before it stay before `bound`
+  pub record Leaves (k : ℕ) (c : Core) (n bound j : ℕ) (e : Core) : Type 0 where
+    pub done : ℕ → ℕ
+    pub steps : (d : ℕ) → after (machine_step image z) n (machine k c d) ≡ machine j e (done d)
+    pub inside : Inside k c n bound
+
+  -- from there n steps lead to an end of the program, with core e, and those before the last stay before `bound`
+  pub record Ends (k : ℕ) (c : Core) (n bound : ℕ) (how : End) (e : Core) : Type 0 where
     pub at : ℕ
     pub done : ℕ → ℕ
     pub steps : (d : ℕ) → after (machine_step image z) n (machine k c d) ≡ finished how (machine at e (done d))
+    pub inside : Inside k c n bound

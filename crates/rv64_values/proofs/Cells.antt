@@ -1,5 +1,5 @@
 -- The words that find a cell, and those that load and store it.
-use Rattle.std.proofs.Common.{◌≡◌, ℕ, ◌+◌, ◌*◌, ◌/◌, ◌%◌, ◌^◌, ◌<◌, ◌≤◌, true, false, not, eqb, ltb, refl, ap, ◌∙◌, arith, List, [], ◌∷◌, ◌++◌, ℤ, pos, negsuc}
+use Rattle.std.proofs.Common.{◌≡◌, ℕ, ◌+◌, ◌*◌, ◌/◌, ◌%◌, ◌^◌, ◌<◌, ◌≤◌, true, false, not, eqb, ltb, IsTrue, refl, sym, ap, ◌∙◌, arith, List, [], ◌∷◌, ◌++◌, ℤ, pos, negsuc}
 use Rattle.std.specs.Prelude.{FitsSigned}
 use Rattle.std.specs.Int.{w32, w64, cast_unsigned}
 use Rattle.std.proofs.lemmas.Bool.Decides.{nat_tests}
@@ -13,13 +13,14 @@ use Rattle.rv64_words.specs.Mnemonics.{add, slli, srli, srai, bltu, bne}
 use Rattle.rv64_words.specs.Region.{Sizes, table_base, cells_base, table_words, most_blocks}
 use Rattle.rv64_stretches.specs.Core.{Core, written, put_cell, Keeps}
 use Rattle.rv64_stretches.specs.Runs.{effects}
+use Rattle.rv64_stretches.proofs.Cores.{written_here}
 use Rattle.rv64_stretches.proofs.Going.{Going, begin, plain, plains, load_table, load_cell, store_cell, taken, not_taken, is_core, is_place}
 use Rattle.rv64_sequences.specs.Operations.{cell_words, load_cell_words, mark_cell_words, store_cell_words}
 use Rattle.rv64_sequences.specs.Sequences.{fault_words}
 use Rattle.rv64_values.specs.Cells.{is_inside, PointerReady, FindsCell, CellReady}
 use Rattle.rv64_values.specs.Cells.{CellWordsFind, CellWordsFault, LoadWordsGive, LoadWordsFault, MarkWordsRun, StoreWordsRun}
-use Rattle.rv64_values.specs.Operands.{Gives, EndsSo}
-use Rattle.rv64_values.proofs.Kept.{keeps_itself, keeps_five, keeps_six, keeps_seven, gives_by, faults_by}
+use Rattle.rv64_values.specs.Operands.{is_result_register, Gives, EndsSo}
+use Rattle.rv64_values.proofs.Kept.{keeps_itself, keeps_five, keeps_six, keeps_seven, keeps_result, result_apart, gives_by, faults_by}
 use Rattle.rv64_values.proofs.Operands.{two}
 use Rattle.rv64_values.proofs.Pointers.{sign_extended, offset_part, block_part}
 
@@ -111,27 +112,28 @@ module _ (image : Image) (z : Sizes) (k : ℕ) (c : Core) (block : ℕ) (offset 
 
 -- ---- loads and stores
 
-module _ (image : Image) (z : Sizes) (k : ℕ) (c : Core) (at : ℕ) where
+module _ (image : Image) (z : Sizes) (k : ℕ) (c : Core) (d at : ℕ) (result : IsTrue (is_result_register d)) where
   flag_inside : 2 * at + 1 < z.cells → 2 * at < z.cells
   flag_inside h = omega arith
 
   -- whether it was stored is in register 5
-  flagged : CellReady image z k c load_cell_words at → Going image z k c (0 + 1) (k + 1) (written c 5 (c.cells (2 * at))) (bne 5 0 (pos 16) ∷ (fault_words 6 ++ Ld 5 7 (pos 8) ∷ []))
-  flagged r = load_cell image z (2 * at) (ap (λ x. moved_by x (pos 0)) r.address ∙ flag_word at r.small) r.few (flag_inside r.inside) (begin image z k c load_cell_words r.has)
+  flagged : CellReady image z k c (load_cell_words d) at → Going image z k c (0 + 1) (k + 1) (written c 5 (c.cells (2 * at))) (bne 5 0 (pos 16) ∷ (fault_words 6 ++ Ld d 7 (pos 8) ∷ []))
+  flagged r = load_cell image z (2 * at) (ap (λ x. moved_by x (pos 0)) r.address ∙ flag_word at r.small) r.few (flag_inside r.inside) (begin image z k c (load_cell_words d) r.has)
 
-  pub loads_stored : CellReady image z k c load_cell_words at → c.cells (2 * at) ≡ 1 → Gives image z k c 6 (c.cells (2 * at + 1))
+  pub loads_stored : CellReady image z k c (load_cell_words d) at → c.cells (2 * at) ≡ 1 → Gives image z k c d 6 (c.cells (2 * at + 1))
   loads_stored r one =
       let below : k < 2 ^ 19 = r.low in
       let lower : k + 1 < 2 ^ 20 = omega arith in
       let differ : not (eqb (c.cells (2 * at)) (c.registers 0)) ≡ true = two_tests (c.cells (2 * at)) (c.registers 0) 1 0 one r.null in
-      let g1 = taken image z (fault_words 6) (Ld 5 7 (pos 8) ∷ []) lower (omega arith) differ (flagged r) in
-      gives_by image z 6 (c.cells (2 * at + 1)) (omega arith) (omega arith) (keeps_five c _ _ (keeps_five c c _ (keeps_itself c))) refl
+      let g1 = taken image z (fault_words 6) (Ld d 7 (pos 8) ∷ []) lower (omega arith) differ (flagged r) in
+      gives_by image z d 6 (c.cells (2 * at + 1)) (omega arith) (omega arith) (keeps_result d c _ (c.cells (2 * at + 1)) result (keeps_five c c (c.cells (2 * at)) (keeps_itself c)))
+      (written_here _ d (c.cells (2 * at + 1)) (λ same. result_apart d 0 refl result (sym same)))
       (load_cell image z (2 * at + 1) (ap (λ x. moved_by x (pos 8)) r.address ∙ value_word at r.small) r.few r.inside g1)
     where
       two_tests : (x y v w : ℕ) → x ≡ v → y ≡ w → not (eqb x y) ≡ not (eqb v w)
       two_tests x y v w e f = ap (λ t. not (eqb t y)) e ∙ ap (λ t. not (eqb v t)) f
 
-  pub loads_fresh : CellReady image z k c load_cell_words at → c.cells (2 * at) ≡ 0 → EndsSo image z k c 6 (Faulted fault.Uninit)
+  pub loads_fresh : CellReady image z k c (load_cell_words d) at → c.cells (2 * at) ≡ 0 → EndsSo image z k c 6 (Faulted fault.Uninit)
   loads_fresh r none =
       let equal : not (eqb (c.cells (2 * at)) (c.registers 0)) ≡ false = ap (λ x. not (eqb x (c.registers 0))) none ∙ ap (λ x. not (eqb 0 x)) r.null in
       faults_by image z 6 5 fault.Uninit (omega arith) (omega arith) (keeps_five c c _ (keeps_itself c)) r.null refl (not_taken image z equal (flagged r))
@@ -145,9 +147,9 @@ module _ (image : Image) (z : Sizes) where
       let lower : 2 * at < z.cells = omega arith in
       store_cell image z (2 * at) (ap (λ x. moved_by x (pos 0)) address ∙ flag_word at small) few lower g1
 
-  pub cell_stored : {k : ℕ} {c : Core} {n j : ℕ} {e : Core} {ws : List Word} → (at : ℕ) → z.stack ≤ 8388608 → e.registers 7 ≡ cells_base + 16 * at → 2 * at + 1 < z.cells → at < 2 ^ 58
-      → Going image z k c n j e (Sd 7 5 (pos 8) ∷ ws) → Going image z k c (n + 1) (j + 1) (put_cell e (2 * at + 1) (e.registers 5)) ws
-  cell_stored at few address inside small g = store_cell image z (2 * at + 1) (ap (λ x. moved_by x (pos 8)) address ∙ value_word at small) few inside g
+  pub cell_stored : {k : ℕ} {c : Core} {n j : ℕ} {e : Core} {ws : List Word} → (v at : ℕ) → z.stack ≤ 8388608 → e.registers 7 ≡ cells_base + 16 * at → 2 * at + 1 < z.cells → at < 2 ^ 58
+      → Going image z k c n j e (Sd 7 v (pos 8) ∷ ws) → Going image z k c (n + 1) (j + 1) (put_cell e (2 * at + 1) (e.registers v)) ws
+  cell_stored v at few address inside small g = store_cell image z (2 * at + 1) (ap (λ x. moved_by x (pos 8)) address ∙ value_word at small) few inside g
 
 -- ---- the laws
 
@@ -158,10 +160,10 @@ pub cell_words_fault : CellWordsFault
 cell_words_fault image z k c block offset r out = cell_faults image z k c block offset r out
 
 pub load_words_give : LoadWordsGive
-load_words_give image z k c at r one = loads_stored image z k c at r one
+load_words_give image z k c d at result r one = loads_stored image z k c d at result r one
 
 pub load_words_fault : LoadWordsFault
-load_words_fault image z k c at r none = loads_fresh image z k c at r none
+load_words_fault image z k c d at result r none = loads_fresh image z k c d at result r none
 
 pub mark_words_run : MarkWordsRun
 mark_words_run image z k c at r =
@@ -169,6 +171,6 @@ mark_words_run image z k c at r =
     (is_place image z 2 (k + 2) (omega arith) (omega arith) g).runs
 
 pub store_words_run : StoreWordsRun
-store_words_run image z k c at r =
-    let g = cell_stored image z at r.few r.address r.inside r.small (begin image z k c store_cell_words r.has) in
+store_words_run image z k c v at r =
+    let g = cell_stored image z v at r.few r.address r.inside r.small (begin image z k c (store_cell_words v) r.has) in
     (is_place image z 1 (k + 1) (omega arith) refl g).runs

@@ -25,7 +25,7 @@ use Rattle.rv64_sequences.specs.Operations.{pointer_words}
 use Rattle.rv64_sequences.specs.Sequences.{fault_words}
 use Rattle.rv64_values.specs.Laws.{BinaryReady}
 use Rattle.rv64_values.specs.Operands.{Gives, EndsSo}
-use Rattle.rv64_values.proofs.Kept.{keeps_itself, keeps_five, keeps_six, keeps_seven, gives_by, faults_by}
+use Rattle.rv64_values.proofs.Kept.{keeps_itself, keeps_but, keeps_five, keeps_six, keeps_seven, gives_by, faults_by}
 use Rattle.rv64_values.proofs.Operands.{int_word, int_fits, pointer_word, block_below, offset_fits, two, yielded, faulted, no_fault, no_value}
 
 -- the lower 32 bits as a signed number, in 64 bits: shifted up, and down with the sign
@@ -130,7 +130,7 @@ packed_core e = effects (srli 5 5 32 ∷ slli 5 5 32 ∷ slli 7 7 32 ∷ srli 7 
 packed_kept : (c e : Core) → Keeps c e → Keeps c (packed_core e)
 packed_kept c e h = keeps_five c _ _ (keeps_seven c _ _ (keeps_seven c _ _ (keeps_five c _ _ (keeps_five c e _ h))))
 
-module _ (image : Image) (z : Sizes) (k : ℕ) (c : Core) (a b : Value) (r : BinaryReady image k c binary.PtrAdd a b) where
+module _ (image : Image) (z : Sizes) (k : ℕ) (c : Core) (a b : Value) (r : BinaryReady image k c binary.PtrAdd 5 5 7 a b) where
   sum_is : moved_sum c ≡ sum_word (offset_of a) (int_of b)
   sum_is =
       two (λ p q. (sign_extended p + q) % 2 ^ 64) (r.first ∙ pointer_word a r.suits.0) (r.second ∙ int_word b r.suits.1)
@@ -139,7 +139,7 @@ module _ (image : Image) (z : Sizes) (k : ℕ) (c : Core) (a b : Value) (r : Bin
   five_words : Going image z k c (0 + 5) (k + 5) (summed c) (beq 6 7 (pos 16) ∷ (fault_words 10 ++ (srli 5 5 32 ∷ slli 5 5 32 ∷ slli 7 7 32 ∷ srli 7 7 32 ∷ add 5 5 7 ∷ [])))
   five_words = plains image z (slli 6 5 32 ∷ srai 6 6 32 ∷ add 7 6 7 ∷ slli 6 7 32 ∷ srai 6 6 32 ∷ []) (beq 6 7 (pos 16) ∷ (fault_words 10 ++ (srli 5 5 32 ∷ slli 5 5 32 ∷ slli 7 7 32 ∷ srli 7 7 32 ∷ add 5 5 7 ∷ []))) (tt, (tt, (tt, (tt, (tt, tt))))) (begin image z k c pointer_words r.has)
 
-  fits_gives : fits_32 (offset_of a +ℤ int_of b) ≡ true → (v : Value) → Ptr (block_of a) (offset_of a +ℤ int_of b) ≡ v → Gives image z k c 14 (word_of v)
+  fits_gives : fits_32 (offset_of a +ℤ int_of b) ≡ true → (v : Value) → Ptr (block_of a) (offset_of a +ℤ int_of b) ≡ v → Gives image z k c 5 14 (word_of v)
   fits_gives h v is =
       let zz = offset_of a +ℤ int_of b in
       let sum : moved_sum c ≡ cast_unsigned w64 zz = sum_is ∙ fitting_sum (offset_of a) (int_of b) zz (offset_fits a r.suits.0) (int_fits b r.suits.1) refl h in
@@ -151,7 +151,7 @@ module _ (image : Image) (z : Sizes) (k : ℕ) (c : Core) (a b : Value) (r : Bin
       let block : c.registers 5 / 2 ^ 32 ≡ block_of a = ap (λ x. x / 2 ^ 32) (r.first ∙ pointer_word a r.suits.0) ∙ block_part (block_of a) (offset_of a) (offset_fits a r.suits.0) in
       let result : (packed_core (summed c)).registers 5 ≡ word_of v =
       two (λ p q. (p * 2 ^ 32 % 2 ^ 64 + q * 2 ^ 32 % 2 ^ 64 / 2 ^ 32) % 2 ^ 64) block sum ∙ (packed (block_of a) zz (block_below a r.suits.0) h ∙ ap word_of is) in
-      gives_by image z 14 (word_of v) (omega arith) (omega arith) (packed_kept c (summed c) (summed_kept c)) result g2
+      gives_by image z 5 14 (word_of v) (omega arith) (omega arith) (keeps_but 5 c _ (packed_kept c (summed c) (summed_kept c))) result g2
 
   other_faults : fits_32 (offset_of a +ℤ int_of b) ≡ false → EndsSo image z k c 14 (Faulted fault.PtrRange)
   other_faults h =
@@ -160,7 +160,7 @@ module _ (image : Image) (z : Sizes) (k : ℕ) (c : Core) (a b : Value) (r : Bin
       let differ : eqb (sign_extended (moved_sum c)) (moved_sum c) ≡ false = ap (λ s. eqb (sign_extended s) s) sum_is ∙ other_extended _ out.0 out.1 in
       faults_by image z 14 9 fault.PtrRange (omega arith) (omega arith) (summed_kept c) r.null refl (not_taken image z differ five_words)
 
-  gives_by_fit : (t : Bool) → fits_32 (offset_of a +ℤ int_of b) ≡ t → (v : Value) → cond t (Yields (Ptr (block_of a) (offset_of a +ℤ int_of b))) (FaultsWith fault.PtrRange) ≡ Yields v → Gives image z k c 14 (word_of v)
+  gives_by_fit : (t : Bool) → fits_32 (offset_of a +ℤ int_of b) ≡ t → (v : Value) → cond t (Yields (Ptr (block_of a) (offset_of a +ℤ int_of b))) (FaultsWith fault.PtrRange) ≡ Yields v → Gives image z k c 5 14 (word_of v)
   gives_by_fit true h v is = fits_gives h v (yielded _ v is)
   gives_by_fit false h v is = absurd (no_value fault.PtrRange v is)
 
@@ -168,8 +168,15 @@ module _ (image : Image) (z : Sizes) (k : ℕ) (c : Core) (a b : Value) (r : Bin
   faults_by_fit true h kind is = absurd (no_fault _ kind is)
   faults_by_fit false h kind is = subst (λ x. EndsSo image z k c 14 (Faulted x)) (faulted fault.PtrRange kind is) (other_faults h)
 
-pub pointer_gives : (image : Image) (z : Sizes) (k : ℕ) (c : Core) (a b v : Value) → BinaryReady image k c binary.PtrAdd a b → computed op.PtrAdd None a b ≡ Yields v → Gives image z k c 14 (word_of v)
-pointer_gives image z k c a b v r is = gives_by_fit image z k c a b r (fits_32 (offset_of a +ℤ int_of b)) refl v is
+-- the registers are those that the words name
+settled : (image : Image) (k : ℕ) (c : Core) (d p q : ℕ) (a b : Value) → d ≡ 5 → p ≡ 5 → q ≡ 7 → BinaryReady image k c binary.PtrAdd d p q a b → BinaryReady image k c binary.PtrAdd 5 5 7 a b
+settled image k c d p q a b d_is p_is q_is r =
+    subst (λ x. BinaryReady image k c binary.PtrAdd 5 5 x a b) q_is (subst (λ x. BinaryReady image k c binary.PtrAdd 5 x q a b) p_is (subst (λ x. BinaryReady image k c binary.PtrAdd x p q a b) d_is r))
 
-pub pointer_faults : (image : Image) (z : Sizes) (k : ℕ) (c : Core) (a b : Value) (kind : Fault) → BinaryReady image k c binary.PtrAdd a b → computed op.PtrAdd None a b ≡ FaultsWith kind → EndsSo image z k c 14 (Faulted kind)
-pointer_faults image z k c a b kind r is = faults_by_fit image z k c a b r (fits_32 (offset_of a +ℤ int_of b)) refl kind is
+pub pointer_gives : (image : Image) (z : Sizes) (k : ℕ) (c : Core) (d p q : ℕ) (a b v : Value) → BinaryReady image k c binary.PtrAdd d p q a b → computed op.PtrAdd None a b ≡ Yields v → Gives image z k c d 14 (word_of v)
+pointer_gives image z k c d p q a b v r is =
+    let here = settled image k c d p q a b r.takes.0 r.takes.1.0 r.takes.1.1 r in
+    subst (λ x. Gives image z k c x 14 (word_of v)) (sym r.takes.0) (gives_by_fit image z k c a b here (fits_32 (offset_of a +ℤ int_of b)) refl v is)
+
+pub pointer_faults : (image : Image) (z : Sizes) (k : ℕ) (c : Core) (d p q : ℕ) (a b : Value) (kind : Fault) → BinaryReady image k c binary.PtrAdd d p q a b → computed op.PtrAdd None a b ≡ FaultsWith kind → EndsSo image z k c 14 (Faulted kind)
+pointer_faults image z k c d p q a b kind r is = faults_by_fit image z k c a b (settled image k c d p q a b r.takes.0 r.takes.1.0 r.takes.1.1 r) (fits_32 (offset_of a +ℤ int_of b)) refl kind is

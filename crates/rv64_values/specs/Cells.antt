@@ -1,5 +1,5 @@
 -- What the words of memory find and do, in any image in which they stand.
-use Rattle.std.specs.Prelude.{◌≡◌, ℕ, ◌+◌, ◌*◌, ◌^◌, ◌<◌, ◌≤◌, Bool, false, nat_lt, List, ℤ, pos, negsuc, FitsSigned}
+use Rattle.std.specs.Prelude.{◌≡◌, ℕ, ◌+◌, ◌*◌, ◌^◌, ◌<◌, ◌≤◌, Bool, IsTrue, false, nat_lt, List, ℤ, pos, negsuc, FitsSigned}
 use Rattle.std.specs.Int.{w32, cast_unsigned}
 use Rattle.bril_tree.specs.declared.limits.End.TheVariants.{Faulted}
 use Rattle.bril_tree.specs.declared.limits.Fault.TheVariants as fault
@@ -9,7 +9,7 @@ use Rattle.rv64_words.specs.Region.{Sizes, cells_base, most_blocks, most_stack}
 use Rattle.rv64_stretches.specs.Core.{Core, written, put_cell, Keeps}
 use Rattle.rv64_stretches.specs.Runs.{HasAt, Runs}
 use Rattle.rv64_sequences.specs.Operations.{cell_words, load_cell_words, mark_cell_words, store_cell_words}
-use Rattle.rv64_values.specs.Operands.{Gives, EndsSo}
+use Rattle.rv64_values.specs.Operands.{is_result_register, Gives, EndsSo}
 
 -- the offset of a pointer is inside a block of so many cells
 abbrev pub is_inside : ℤ → ℕ → Bool
@@ -61,14 +61,14 @@ pub record CellReady (image : Image) (z : Sizes) (k : ℕ) (c : Core) (ws : List
 
 -- a load of a cell that was stored, and of one that never was
 abbrev pub LoadWordsGive : Type 0
-LoadWordsGive = (image : Image) (z : Sizes) (k : ℕ) (c : Core) (at : ℕ) → CellReady image z k c load_cell_words at → c.cells (2 * at) ≡ 1 → Gives image z k c 6 (c.cells (2 * at + 1))
+LoadWordsGive = (image : Image) (z : Sizes) (k : ℕ) (c : Core) (d at : ℕ) → IsTrue (is_result_register d) → CellReady image z k c (load_cell_words d) at → c.cells (2 * at) ≡ 1 → Gives image z k c d 6 (c.cells (2 * at + 1))
 
 abbrev pub LoadWordsFault : Type 0
-LoadWordsFault = (image : Image) (z : Sizes) (k : ℕ) (c : Core) (at : ℕ) → CellReady image z k c load_cell_words at → c.cells (2 * at) ≡ 0 → EndsSo image z k c 6 (Faulted fault.Uninit)
+LoadWordsFault = (image : Image) (z : Sizes) (k : ℕ) (c : Core) (d at : ℕ) → IsTrue (is_result_register d) → CellReady image z k c (load_cell_words d) at → c.cells (2 * at) ≡ 0 → EndsSo image z k c 6 (Faulted fault.Uninit)
 
 -- the two stores of a cell: its mark, by register 5, and its value
 abbrev pub MarkWordsRun : Type 0
 MarkWordsRun = (image : Image) (z : Sizes) (k : ℕ) (c : Core) (at : ℕ) → CellReady image z k c mark_cell_words at → Runs image z k c 2 (k + 2) (put_cell (written c 5 1) (2 * at) 1)
 
 abbrev pub StoreWordsRun : Type 0
-StoreWordsRun = (image : Image) (z : Sizes) (k : ℕ) (c : Core) (at : ℕ) → CellReady image z k c store_cell_words at → Runs image z k c 1 (k + 1) (put_cell c (2 * at + 1) (c.registers 5))
+StoreWordsRun = (image : Image) (z : Sizes) (k : ℕ) (c : Core) (v at : ℕ) → CellReady image z k c (store_cell_words v) at → Runs image z k c 1 (k + 1) (put_cell c (2 * at + 1) (c.registers v))

@@ -13,34 +13,36 @@ use Rattle.rv64_words.specs.Region.{Sizes}
 use Rattle.rv64_stretches.specs.Core.{Core}
 use Rattle.rv64_stretches.specs.Runs.{HasAt}
 use Rattle.rv64_sequences.specs.Operations.{unary_words, unary_size, binary_words, binary_size}
-use Rattle.rv64_values.specs.Operands.{UnarySuits, BinarySuits, Gives, EndsSo}
+use Rattle.rv64_values.specs.Operands.{UnarySuits, BinarySuits, UnaryTakes, BinaryTakes, Gives, EndsSo}
 
--- The words of an operation stand at word k, registers 5 and 7 have the words of its operands, and the operands suit it.
-pub record UnaryReady (image : Image) (k : ℕ) (c : Core) (operation : UnaryOp) (a : Value) : Type 0 where
-  pub has : HasAt image k (unary_words operation)
+-- The words of an operation stand at word k, its registers have the words of its operands, and the operands suit it.
+pub record UnaryReady (image : Image) (k : ℕ) (c : Core) (operation : UnaryOp) (d r : ℕ) (a : Value) : Type 0 where
+  pub has : HasAt image k (unary_words operation d r)
+  pub takes : UnaryTakes operation d r
   pub low : k < 2 ^ 19
   pub null : c.registers 0 ≡ 0
-  pub operand : c.registers 5 ≡ word_of a
+  pub operand : c.registers r ≡ word_of a
   pub suits : UnarySuits operation a
 
-pub record BinaryReady (image : Image) (k : ℕ) (c : Core) (operation : BinaryOp) (a b : Value) : Type 0 where
-  pub has : HasAt image k (binary_words operation)
+pub record BinaryReady (image : Image) (k : ℕ) (c : Core) (operation : BinaryOp) (d r q : ℕ) (a b : Value) : Type 0 where
+  pub has : HasAt image k (binary_words operation d r q)
+  pub takes : BinaryTakes operation d r q
   pub low : k < 2 ^ 19
   pub null : c.registers 0 ≡ 0
-  pub first : c.registers 5 ≡ word_of a
-  pub second : c.registers 7 ≡ word_of b
+  pub first : c.registers r ≡ word_of a
+  pub second : c.registers q ≡ word_of b
   pub suits : BinarySuits operation a b
 
--- what the operation gives stands in register 5 then
+-- what the operation gives stands in register d then
 abbrev pub UnaryWordsGive : Type 0
-UnaryWordsGive = (image : Image) (z : Sizes) (k : ℕ) (c : Core) (operation : UnaryOp) (a v : Value) → UnaryReady image k c operation a → computed (unary_operation operation) None a a ≡ Yields v → Gives image z k c (unary_size operation) (word_of v)
+UnaryWordsGive = (image : Image) (z : Sizes) (k : ℕ) (c : Core) (operation : UnaryOp) (d r : ℕ) (a v : Value) → UnaryReady image k c operation d r a → computed (unary_operation operation) None a a ≡ Yields v → Gives image z k c d (unary_size operation) (word_of v)
 
 abbrev pub BinaryWordsGive : Type 0
-BinaryWordsGive = (image : Image) (z : Sizes) (k : ℕ) (c : Core) (operation : BinaryOp) (a b v : Value) → BinaryReady image k c operation a b → computed (binary_operation operation) None a b ≡ Yields v → Gives image z k c (binary_size operation) (word_of v)
+BinaryWordsGive = (image : Image) (z : Sizes) (k : ℕ) (c : Core) (operation : BinaryOp) (d r q : ℕ) (a b v : Value) → BinaryReady image k c operation d r q a b → computed (binary_operation operation) None a b ≡ Yields v → Gives image z k c d (binary_size operation) (word_of v)
 
 -- and where it faults the run ends with that fault
 abbrev pub UnaryWordsFault : Type 0
-UnaryWordsFault = (image : Image) (z : Sizes) (k : ℕ) (c : Core) (operation : UnaryOp) (a : Value) (kind : Fault) → UnaryReady image k c operation a → computed (unary_operation operation) None a a ≡ FaultsWith kind → EndsSo image z k c (unary_size operation) (Faulted kind)
+UnaryWordsFault = (image : Image) (z : Sizes) (k : ℕ) (c : Core) (operation : UnaryOp) (d r : ℕ) (a : Value) (kind : Fault) → UnaryReady image k c operation d r a → computed (unary_operation operation) None a a ≡ FaultsWith kind → EndsSo image z k c (unary_size operation) (Faulted kind)
 
 abbrev pub BinaryWordsFault : Type 0
-BinaryWordsFault = (image : Image) (z : Sizes) (k : ℕ) (c : Core) (operation : BinaryOp) (a b : Value) (kind : Fault) → BinaryReady image k c operation a b → computed (binary_operation operation) None a b ≡ FaultsWith kind → EndsSo image z k c (binary_size operation) (Faulted kind)
+BinaryWordsFault = (image : Image) (z : Sizes) (k : ℕ) (c : Core) (operation : BinaryOp) (d r q : ℕ) (a b : Value) (kind : Fault) → BinaryReady image k c operation d r q a b → computed (binary_operation operation) None a b ≡ FaultsWith kind → EndsSo image z k c (binary_size operation) (Faulted kind)

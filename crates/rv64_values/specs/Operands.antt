@@ -1,5 +1,5 @@
 -- What the operands of an operation are in an accepted program, and what its words come to.
-use Rattle.std.specs.Prelude.{◌≡◌, ℕ, ◌+◌, ◌^◌, ◌<◌, ◌≤◌, FitsSigned}
+use Rattle.std.specs.Prelude.{◌≡◌, ℕ, ◌+◌, ◌^◌, ◌<◌, ◌≤◌, ◌==◌, ◌||◌, Bool, IsTrue, FitsSigned}
 use Rattle.std.specs.Char.{IsScalar}
 use Rattle.std.specs.Int.{w32, w64}
 use Rattle.bril_tree.specs.declared.limits.End.{End}
@@ -11,7 +11,7 @@ use Rattle.bril_tree.specs.declared.value.Value.{Value}
 use Rattle.bril_tree.specs.declared.value.Value.TheVariants.{Int, Bool as Boolean, Char, Ptr}
 use Rattle.rv64_words.specs.declared.image.Image.{Image}
 use Rattle.rv64_words.specs.Region.{Sizes}
-use Rattle.rv64_stretches.specs.Core.{Core, Keeps}
+use Rattle.rv64_stretches.specs.Core.{Core, Keeps, KeepsBut, is_home_register}
 use Rattle.rv64_stretches.specs.Runs.{Runs, Ends}
 
 -- ---- operands
@@ -65,21 +65,37 @@ BinarySuits binary.And a b = IsBool a × IsBool b
 BinarySuits binary.Or a b = IsBool a × IsBool b
 BinarySuits binary.PtrAdd a b = IsPtr a × IsInt b
 
+-- ---- registers
+
+-- a register for results: 5, or one in which locations may be
+abbrev pub is_result_register : ℕ → Bool
+is_result_register d = (d == 5) || is_home_register d
+
+-- the operation goes from register a, or registers a and b, to register d
+abbrev pub UnaryTakes : UnaryOp → (d a : ℕ) → Type 0
+UnaryTakes unary.Not d a = IsTrue (is_result_register d)
+UnaryTakes unary.CharToInt d a = (d ≡ 5) × (a ≡ 5)
+UnaryTakes unary.IntToChar d a = (d ≡ 5) × (a ≡ 5)
+
+abbrev pub BinaryTakes : BinaryOp → (d a b : ℕ) → Type 0
+BinaryTakes binary.PtrAdd d a b = (d ≡ 5) × ((a ≡ 5) × (b ≡ 7))
+BinaryTakes _ d a b = IsTrue (is_result_register d)
+
 -- ---- what words come to
 
--- From word k with core c, at most so many steps lead over so many words; then register 5 has v, and the rest is kept.
-pub record Gives (image : Image) (z : Sizes) (k : ℕ) (c : Core) (size v : ℕ) : Type 0 where
+-- From word k with core c, at most so many steps lead over so many words; then register d has v, and the rest is kept.
+pub record Gives (image : Image) (z : Sizes) (k : ℕ) (c : Core) (d size v : ℕ) : Type 0 where
   pub steps : ℕ
   pub within : steps ≤ size
   pub core : Core
-  pub keeps : Keeps c core
-  pub result : core.registers 5 ≡ v
+  pub keeps : KeepsBut d c core
+  pub result : core.registers d ≡ v
   pub runs : Runs image z k c steps (k + size) core
 
--- From there at most so many steps lead to an end, and until then the rest is kept.
+-- From there at most so many steps, within the words, lead to an end, and until then the rest is kept.
 pub record EndsSo (image : Image) (z : Sizes) (k : ℕ) (c : Core) (size : ℕ) (how : End) : Type 0 where
   pub steps : ℕ
   pub within : steps ≤ size
   pub core : Core
   pub keeps : Keeps c core
-  pub ends : Ends image z k c steps how core
+  pub ends : Ends image z k c steps (k + size) how core

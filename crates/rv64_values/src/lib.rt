@@ -1,9 +1,10 @@
 //! Laws alone: the words of the operations compute what the operations of Bril do.
 //!
-//! `rv64_sequences` has the words of each operation of code over slots: from registers 5 and 7 to register 5. Here they
-//! are shown right, for operands of the types that the operation takes: the result's word stands in register 5 after at
-//! most as many steps as there are words, all else that other code relies on is kept, and where the operation faults the
-//! run ends with that fault and no other. Each function states a law, and does nothing when it is called.
+//! `rv64_sequences` has the words of each operation of code over slots: most go from any registers to any register in which a
+//! location may be, some from registers 5 and 7 to register 5. Here they are shown right, for operands of the types that the
+//! operation takes: the result's word stands in its register after at most as many steps as there are words, all else that
+//! other code relies on is kept, and where the operation faults the run ends with that fault and no other. Each function states
+//! a law, and does nothing when it is called.
 #![tactic(auto)]
 
 ghost use Rattle.rv64_values.specs.Cells.{CellWordsFind, CellWordsFault, LoadWordsGive, LoadWordsFault, MarkWordsRun, StoreWordsRun};

@@ -27,6 +27,7 @@ use Rattle.placement_laws.specs.Homes.{IsSlotIn, number_in, slot_of}
 use Rattle.placement_laws.specs.Spans as laws
 use Rattle.placement_laws.proofs.Different.{number_one}
 use Rattle.placement_laws.proofs.Known.{are_known}
+use Rattle.placement_laws.proofs.Living.{live_within}
 use Rattle.slot_code.specs.declared.slots.SlotFunction.{SlotFunction}
 use Rattle.slot_code.specs.Flow.{slot_location}
 use Rattle.slot_code.proofs.Places.{slot_place}
@@ -57,7 +58,7 @@ module _ (f : Func) (g : SlotFunction) (in_prog : IsAcceptedLowered f g) where
     homes = own_are_homes (length g.slots) registers are;
     spans = λ x. record { first = 0; last = length f.code };
     are = record {
-      live = λ walk x is live. (omega arith, walk_within f.code walk is);
+      live = λ point x live. (omega arith, live_within f.code x point live);
       assigned = λ walk branch x is at c. (omega arith, walk_within f.code (branch ∷ walk) (at, is));
       arguments = λ j lt. (omega arith, omega arith);
       kept = λ walk newer older site x is sites live. (omega arith, walk_within f.code walk is);
@@ -96,7 +97,7 @@ module _ (f : Func) (g : SlotFunction) (in_prog : IsAcceptedLowered f g) where
 
     are_spans : laws.AreSpans f.code f.args (λ x. span_in (slice_get spans (number_in g x)))
     are_spans = record {
-      live = λ walk x is alive. covered x (end_of walk) (walk_within f.code walk is) (λ less. needs.alive (number_in g x) (end_of walk) (live_slot x (end_of walk) alive less));
+      live = λ point x alive. covered x point (live_within f.code x point alive) (λ less. needs.alive (number_in g x) point (live_slot x point alive less));
       assigned = assigned;
       arguments = λ k less. covered (Variable k) 0 (omega arith) (λ low. needs.arguments k less);
       kept = kept;

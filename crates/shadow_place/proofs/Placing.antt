@@ -6,7 +6,7 @@ use Rattle.bril_tree.specs.Sites.{most_sites}
 use Rattle.slot_code.specs.declared.slots.SlotFunction.{SlotFunction}
 use Rattle.placement_laws.specs.Homes.{IsSlotIn, number_in}
 use Rattle.placement_laws.specs.Spans.{AreSeparate}
-use Rattle.placement_laws.proofs.Different.{number_one, separate_placed}
+use Rattle.placement_laws.proofs.Different.{number_one, separate_apart, separate_placed}
 use Rattle.shadow_place.specs.declared.placed.FunctionHomes.{FunctionHomes}
 use Rattle.shadow_place.specs.Allocation.{IsAllocation}
 use Rattle.shadow_place.specs.Placement.{AreSavedRows, IsAcceptedLowered, IsPlacement}
@@ -27,6 +27,7 @@ module _ (f : Func) (g : SlotFunction) (in_prog : IsAcceptedLowered f g) (regist
   pub placement_is : AreSavedRows f.code (most_sites + 1) homes.saved.items → IsPlacement f g homes
   placement_is saved = record {
     apart = separate_placed in_prog.prog in_prog.number f g in_prog.accepted in_prog.there in_prog.lowered (home_of homes) (is_saved_of homes) allocated.spans allocated.are homes_are_separate;
+    live = separate_apart in_prog.prog in_prog.number f g in_prog.accepted in_prog.there in_prog.lowered (home_of homes) allocated.spans allocated.are homes_are_separate;
     saved = rows_tell f g in_prog homes.saved.items saved;
     own = homes_are_own f g in_prog.lowered registers homes variables shadows allocated.homes;
     registers = λ few x in_g. homes_in_registers f g in_prog.lowered registers homes variables shadows allocated.homes (allocated.few few) x in_g;

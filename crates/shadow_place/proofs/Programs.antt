@@ -15,11 +15,11 @@ use Rattle.slot_code.specs.declared.slots.Slots.{Slots}
 use Rattle.slot_code.specs.Lowered.{IsLowered, IsLoweredFunction}
 use Rattle.slot_code.proofs.Functions.{function_at}
 use Rattle.placement_laws.specs.Homes.{IsHomeOf, IsInRegister, IsSlotIn}
-use Rattle.placement_laws.specs.Placed.{IsPlaced}
+use Rattle.placement_laws.specs.Placed.{IsPlaced, LiveApart}
 use Rattle.placement_laws.specs.Saved.{TellsSaved}
 use Rattle.shadow_place.specs.declared.placed.FunctionHomes.{FunctionHomes}
 use Rattle.shadow_place.specs.declared.placed.Placed.{Placed}
-use Rattle.shadow_place.specs.Placement.{FewAreInRegisters, HomesAreApart, HomesAreOwn, IsAcceptedLowered, IsPlacement, TellsAllSaved, TellsLiveIn}
+use Rattle.shadow_place.specs.Placement.{FewAreInRegisters, HomesAreApart, HomesAreOwn, IsAcceptedLowered, IsPlacement, LiveAreApart, TellsAllSaved, TellsLiveIn}
 use Rattle.shadow_place.specs.Tables.{home_in_row, is_saved_in_row}
 use Rattle.shadow_place.proofs.Saving.{pushed_get}
 
@@ -67,6 +67,9 @@ module _ (p : Prog) (slots : Slots) (placed : Placed) (same : length p.funcs ≡
 
   pub homes_are_apart : HomesAreApart p placed
   homes_are_apart k f here = let w = found k f here in subst (λ o. IsPlaced f.code f.args (home_in_row o) (is_saved_in_row o)) (sym w.at) w.is.apart
+
+  pub live_are_apart : LiveAreApart p placed
+  live_are_apart k f here = let w = found k f here in subst (λ o. LiveApart f.code (home_in_row o)) (sym w.at) w.is.live
 
   pub tells_all_saved : TellsAllSaved p placed
   tells_all_saved k f here = let w = found k f here in subst (λ o. TellsSaved f.code (is_saved_in_row o)) (sym w.at) w.is.saved

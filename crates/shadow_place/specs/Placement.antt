@@ -10,7 +10,7 @@ use Rattle.flow_graph.specs.Location.{number_of}
 use Rattle.live_sets.specs.declared.live.Live.{Live}
 use Rattle.live_sets.specs.Liveness.{TellsLive}
 use Rattle.placement_laws.specs.Homes.{IsHomeOf, IsInRegister, IsSlotIn}
-use Rattle.placement_laws.specs.Placed.{IsPlaced}
+use Rattle.placement_laws.specs.Placed.{IsPlaced, LiveApart}
 use Rattle.placement_laws.specs.Saved.{IsSaved, TellsSaved}
 use Rattle.slot_code.specs.declared.slots.SlotFunction.{SlotFunction}
 use Rattle.slot_code.specs.declared.slots.Slots.{Slots}
@@ -46,6 +46,7 @@ pub record AreSavedRows (code : List Instr) (many : ℕ) (rows : List (List Bool
 -- The homes and what is saved are a placement of the function.
 pub record IsPlacement (f : Func) (g : SlotFunction) (homes : FunctionHomes) : Type 0 where
   pub apart : IsPlaced f.code f.args (home_of homes) (is_saved_of homes)
+  pub live : LiveApart f.code (home_of homes)
   pub saved : TellsSaved f.code (is_saved_of homes)
   pub own : (x : Location) → IsSlotIn g x → IsHomeOf g x (home_of homes x)
   pub registers : location_count f ≤ home_registers → (x : Location) → IsSlotIn g x → IsInRegister (home_of homes x)
@@ -56,6 +57,10 @@ pub record IsPlacement (f : Func) (g : SlotFunction) (homes : FunctionHomes) : T
 -- is live at the label of a guard and not saved, and where no point needs both.
 abbrev pub HomesAreApart : Prog → Placed → Type 0
 HomesAreApart p placed = (k : ℕ) (f : Func) → slice_get p.funcs k ≡ Some f → IsPlaced f.code f.args (home_in placed k) (is_saved_in placed k)
+
+-- no two locations of a function that are live at one of its points, reachable or not, have one home
+abbrev pub LiveAreApart : Prog → Placed → Type 0
+LiveAreApart p placed = (k : ℕ) (f : Func) → slice_get p.funcs k ≡ Some f → LiveApart f.code (home_in placed k)
 
 -- exactly those locations have a shadow word at a level that are saved there
 abbrev pub TellsAllSaved : Prog → Placed → Type 0

@@ -8,7 +8,8 @@ use Rattle.bril_tree.specs.Operand.{Location}
 use Rattle.flow_graph.specs.Location.{number_of}
 use Rattle.live_sets.specs.declared.live.Live.{Live}
 use Rattle.live_sets.specs.Liveness.{is_live}
-use Rattle.placement_laws.specs.Homes.{is_home_register, number_in}
+use Rattle.placement_laws.specs.Homes.{number_in}
+use Rattle.rv64_stretches.specs.Core.{is_home_register}
 use Rattle.slot_code.specs.declared.item.Slot.{Slot}
 use Rattle.slot_code.specs.declared.slots.SlotFunction.{SlotFunction}
 use Rattle.slot_code.specs.Flow.{slot_location}

@@ -4,7 +4,7 @@ ghost use Rattle.std.specs.Prelude.{◌≡◌, ◌<◌, ◌-◌, ◌^◌, length
 ghost use Rattle.std.specs.List.{AllZip};
 ghost use Rattle.live_sets.specs.Liveness.{TellsLive};
 ghost use Rattle.slot_code.specs.Lowered.{IsLowered};
-ghost use Rattle.shadow_place.specs.Placement.{FewAreInRegisters, HomesAreApart, HomesAreOwn, IsAcceptedLowered, IsPlacement, TellsAllSaved, TellsLiveIn};
+ghost use Rattle.shadow_place.specs.Placement.{FewAreInRegisters, HomesAreApart, HomesAreOwn, IsAcceptedLowered, IsPlacement, LiveAreApart, TellsAllSaved, TellsLiveIn};
 
 use crate::allocation::registers_of;
 use crate::homes::{shadow_homes, variable_homes};
@@ -43,7 +43,7 @@ fn place_function(
 /// The homes of the locations of a program, whose code over slots is `slots`, and which of them its speculations save.
 /// `lives` tells of each function, in order, what is live in it. A location that is a slot is in a register, one of 3, 4, 9, 11
 /// to 16 and 18 to 31, or in its own word of the frame, which has the number of its slot and two more; no home is lost that is
-/// needed, and a function of at most 23 locations has all of them in registers. An error means that there is no memory; a
+/// needed, no two locations that are live at one point have one, and a function of at most 23 locations has all of them in registers. An error means that there is no memory; a
 /// function with 2^32 locations or edges or more is taken to need more.
 pub fn place(
     alloc: Global,
@@ -54,6 +54,7 @@ pub fn place(
     requires slots { IsLowered prog.now.prog slots.now }
     requires lives { AllZip TellsLiveIn prog.now.prog.funcs lives.now }
     ensures apart { IfOk result (HomesAreApart prog.now.prog) }
+    ensures live { IfOk result (LiveAreApart prog.now.prog) }
     ensures saved { IfOk result (TellsAllSaved prog.now.prog) }
     ensures own { IfOk result (HomesAreOwn slots.now) }
     ensures registers { IfOk result (FewAreInRegisters prog.now.prog slots.now) }

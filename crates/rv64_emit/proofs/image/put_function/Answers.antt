@@ -1,14 +1,24 @@
-use Rattle.std.proofs.Common.{◌++◌, [], ◌∷◌, map, ap, ◌∙◌}
-use Rattle.rv64_words.specs.declared.word.Word.TheVariants.{Sd}
+use Rattle.std.proofs.Common.{◌++◌, map, sym, ap, ◌∙◌, subst}
+use Rattle.std.specs.List.{AllByRecursion}
 use Rattle.rv64_words.specs.Encoding.{encoded}
-use Rattle.rv64_emit.proofs.Placed.{function_put}
+use Rattle.rv64_layout.specs.Fits.{IsReached}
+use Rattle.rv64_emit.specs.Moved.{AreRegistersNear}
+use Rattle.rv64_emit.specs.Placed.{all_homes, homes_in}
+use Rattle.rv64_emit.proofs.Placed.{function_put, opening_put}
 use Rattle.rv64_emit.proofs.image.put_function.Goals as goal
+
+pub put_opening-requires-clause-slots : goal.put_opening-requires-clause-slots
+put_opening-requires-clause-slots c = subst (λ own. AllByRecursion (λ slot. IsReached (own.home slot)) c.function_at-func.result.now.slots) (sym c.in_function.ensures) (c.requires.fits.reached c.args.number c.function_at-func.result.now c.function_at-func.ensures)
+
+pub put_opening-requires-clause-near : goal.put_opening-requires-clause-near
+put_opening-requires-clause-near c = subst (λ own. AreRegistersNear own c.function_at-func.result.now) (sym c.in_function.ensures) (c.requires.fits.near c.args.number c.function_at-func.result.now c.function_at-func.ensures)
+
+pub put_items-requires-clause-here : goal.put_items-requires-clause-here
+put_items-requires-clause-here c =
+    opening_put (all_homes c.args.homes.now) c.args.slots.now c.args.number c.function_at-func.result.now (homes_in c.in_function.result) c.function_at-func.ensures c.in_function.ensures c.args.code.now c.put_opening.new.code c.requires.here (c.in_ok-put_opening.ensures {u = tt})
 
 pub returns : goal.returns
 returns c =
-    let begun = c.in_ok-put.ensures {u = tt} in
-    let first = ap (λ w. c.args.code.now ++ map encoded (w ∷ [])) c.sd.ensures ∙ ap (λ i. c.args.code.now ++ map encoded (Sd 2 1 i ∷ [])) c.number.ensures in
-    let items = c.in_ok-put_items.ensures {u = tt} in
-    let left = c.in_ok-put-2.ensures {u = tt} in
-    function_put c.args.slots.now c.args.number c.requires.inside c.args.code.now c.put.new.code c.put_items.new.code c.put-2.new.code
-    (begun ∙ first) items (left ∙ ap (λ ws. c.put_items.new.code ++ map encoded ws) c.leave.ensures)
+    let left = c.in_ok-put.ensures {u = tt} in
+    function_put (all_homes c.args.homes.now) c.args.slots.now c.args.number c.function_at-func.result.now (homes_in c.in_function.result) c.function_at-func.ensures c.in_function.ensures c.args.code.now c.put_opening.new.code c.put_items.new.code c.put.new.code
+    (c.in_ok-put_opening.ensures {u = tt}) (c.in_ok-put_items.ensures {u = tt}) (left ∙ ap (λ ws. c.put_items.new.code ++ map encoded ws) c.leave.ensures)

@@ -1,8 +1,8 @@
 use Rattle.std.proofs.Common.{◌≡◌, ◌++◌, map, drop}
 use Rattle.rv64_words.specs.Encoding.{encoded}
-use Rattle.rv64_layout.specs.Homes.{in_frame}
 use Rattle.rv64_layout.specs.Items.{spaced_words}
+use Rattle.rv64_emit.specs.Placed.{homes_in}
 use Rattle.rv64_emit.proofs.items.put_spaced.Given as goal
 
 abbrev pub invariant-loop-arg : goal.invariant-loop-arg
-invariant-loop-arg l = l.code ++ map encoded (spaced_words (in_frame l.func) (drop l.arg-index l.args)) ≡ l.initial.code ++ map encoded (spaced_words (in_frame l.func) l.args)
+invariant-loop-arg l = l.code ++ map encoded (spaced_words (homes_in l.homes) (drop l.arg-index l.args)) ≡ l.initial.code ++ map encoded (spaced_words (homes_in l.homes) l.args)

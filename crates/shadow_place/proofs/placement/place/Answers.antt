@@ -4,7 +4,7 @@ use Rattle.bril_tree.specs.Accepted.{IsAccepted}
 use Rattle.bril_tree.proofs.Elements.{zip-long}
 use Rattle.slot_code.specs.Lowered.{IsLoweredFunction}
 use Rattle.shadow_place.specs.declared.placed.Placed.{Placed}
-use Rattle.shadow_place.proofs.Programs.{ArePlacements, accepted_lowered, few_in_registers, function_there, homes_are_apart, homes_are_own, inside_lives, inside_slots, live_there, lowered_there, more_placements, tells_all_saved}
+use Rattle.shadow_place.proofs.Programs.{ArePlacements, accepted_lowered, few_in_registers, function_there, homes_are_apart, homes_are_own, inside_lives, inside_slots, live_are_apart, live_there, lowered_there, more_placements, tells_all_saved}
 use Rattle.shadow_place.proofs.placement.place.Goals as goal
 
 pub bounds-slots-number : goal.bounds-slots-number
@@ -38,38 +38,19 @@ loop-number-preserved c =
     c.as_slice-slots.result.now c.as_slice-slots.ensures g c.index-slots-number.is in
     more_placements p.funcs c.args.slots.now.funcs c.loop-number.number c.loop-number.funcs.items c.push.new.self.items f g c.in_ok-place_function.field-0 there lowered c.in_ok-push.ensures.items c.loop-number.invariant c.in_ok-place_function.ensures
 
-pub returns-clause-apart : goal.returns-clause-apart
-returns-clause-apart c =
+pub returns : goal.returns
+returns c =
     let p = c.args.prog.now.prog in
     let slots = c.args.slots.now in
     let placed : Placed = record { funcs = c.loop-number.funcs } in
     let same : c.as_slice-func-items.result.now ≡ p.funcs = c.as_slice-func-items.ensures ∙ ap (λ (q : Prog). q.funcs) c.prog.ensures.value in
     let done : c.loop-number.number ≡ length p.funcs = omega (arith, c.loop-number-test.false, ap length same) in
-    homes_are_apart p slots placed (zip-long IsLoweredFunction p.funcs slots.funcs c.requires.slots.funcs) (subst (λ n. ArePlacements p.funcs slots.funcs n placed.funcs.items) done c.loop-number.invariant)
-
-pub returns-clause-saved : goal.returns-clause-saved
-returns-clause-saved c =
-    let p = c.args.prog.now.prog in
-    let slots = c.args.slots.now in
-    let placed : Placed = record { funcs = c.loop-number.funcs } in
-    let same : c.as_slice-func-items.result.now ≡ p.funcs = c.as_slice-func-items.ensures ∙ ap (λ (q : Prog). q.funcs) c.prog.ensures.value in
-    let done : c.loop-number.number ≡ length p.funcs = omega (arith, c.loop-number-test.false, ap length same) in
-    tells_all_saved p slots placed (zip-long IsLoweredFunction p.funcs slots.funcs c.requires.slots.funcs) (subst (λ n. ArePlacements p.funcs slots.funcs n placed.funcs.items) done c.loop-number.invariant)
-
-pub returns-clause-own : goal.returns-clause-own
-returns-clause-own c =
-    let p = c.args.prog.now.prog in
-    let slots = c.args.slots.now in
-    let placed : Placed = record { funcs = c.loop-number.funcs } in
-    let same : c.as_slice-func-items.result.now ≡ p.funcs = c.as_slice-func-items.ensures ∙ ap (λ (q : Prog). q.funcs) c.prog.ensures.value in
-    let done : c.loop-number.number ≡ length p.funcs = omega (arith, c.loop-number-test.false, ap length same) in
-    homes_are_own p slots placed (zip-long IsLoweredFunction p.funcs slots.funcs c.requires.slots.funcs) (subst (λ n. ArePlacements p.funcs slots.funcs n placed.funcs.items) done c.loop-number.invariant)
-
-pub returns-clause-registers : goal.returns-clause-registers
-returns-clause-registers c =
-    let p = c.args.prog.now.prog in
-    let slots = c.args.slots.now in
-    let placed : Placed = record { funcs = c.loop-number.funcs } in
-    let same : c.as_slice-func-items.result.now ≡ p.funcs = c.as_slice-func-items.ensures ∙ ap (λ (q : Prog). q.funcs) c.prog.ensures.value in
-    let done : c.loop-number.number ≡ length p.funcs = omega (arith, c.loop-number-test.false, ap length same) in
-    few_in_registers p slots placed (zip-long IsLoweredFunction p.funcs slots.funcs c.requires.slots.funcs) (subst (λ n. ArePlacements p.funcs slots.funcs n placed.funcs.items) done c.loop-number.invariant)
+    let long = zip-long IsLoweredFunction p.funcs slots.funcs c.requires.slots.funcs in
+    let are = subst (λ n. ArePlacements p.funcs slots.funcs n placed.funcs.items) done c.loop-number.invariant in
+    record {
+      apart = homes_are_apart p slots placed long are;
+      live = live_are_apart p slots placed long are;
+      saved = tells_all_saved p slots placed long are;
+      own = homes_are_own p slots placed long are;
+      registers = few_in_registers p slots placed long are;
+    }

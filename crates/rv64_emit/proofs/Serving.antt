@@ -1,0 +1,98 @@
+-- Homes of a placement serve.
+use Rattle.std.proofs.Common.{◌≡◌, ℕ, ◌<◌, true, List, Some, refl, sym, ap, ◌∙◌, subst, arith}
+use Rattle.std.specs.Prelude.{◌↔◌, slice_get}
+use Rattle.std.specs.List.{AllZip}
+use Rattle.std.proofs.lemmas.Option.{slice_get_within}
+use Rattle.bril_tree.specs.declared.numbered_function.Func.{Func}
+use Rattle.bril_tree.specs.declared.program.Prog.{Prog}
+use Rattle.bril_tree.specs.Live.{IsLive}
+use Rattle.bril_tree.specs.Operand.{Location, Variable, Shadow}
+use Rattle.bril_tree.proofs.Elements.{get_inside, zip-get, zip-long}
+use Rattle.live_sets.specs.declared.live.Live.{Live}
+use Rattle.live_sets.specs.Liveness.{TellsLive, is_live}
+use Rattle.placement_laws.specs.Homes.{IsHomeOf, IsInRegister, slot_of}
+use Rattle.placement_laws.specs.Placed.{IsPlaced}
+use Rattle.rv64_emit_laws.specs.Homes.{AllHomesServe, HomesServe, home_at, homes_of, live_at, saved_at}
+use Rattle.rv64_emit_laws.proofs.Homes.{slot_in}
+use Rattle.rv64_emit_laws.proofs.Sources.{lowered_at}
+use Rattle.rv64_layout.specs.Homes.{FunctionHomes, slot_word}
+use Rattle.rv64_layout.specs.Laid.{AreHomes}
+use Rattle.shadow_place.specs.declared.placed.Placed.{Placed}
+use Rattle.shadow_place.specs.Placement.{FewAreInRegisters, HomesAreApart, HomesAreOwn, LiveAreApart, TellsAllSaved, TellsLiveIn}
+use Rattle.shadow_place.specs.Tables.{home_in, is_saved_in}
+use Rattle.slot_code.specs.declared.slots.SlotFunction.{SlotFunction}
+use Rattle.slot_code.specs.declared.slots.Slots.{Slots}
+use Rattle.slot_code.specs.Flow.{slot_location}
+use Rattle.slot_code.specs.Lowered.{IsLowered, IsLoweredFunction}
+use Rattle.slot_code.proofs.Places.{slots_are_numbered}
+use Rattle.rv64_emit.specs.Moved.{AreRegistersNear}
+use Rattle.rv64_emit.specs.Placed.{is_live_if, placed_homes}
+use Rattle.rv64_emit.specs.Registers.{AreFewInRegisters}
+
+location_back : (x : Location) → slot_location (slot_of x) ≡ x
+location_back (Variable x) = refl
+location_back (Shadow x) = refl
+
+-- what is known of a placement
+pub record IsPlacedBy (p : Prog) (slots : Slots) (lives : List Live) (placed : Placed) : Type 0 where
+  pub apart : HomesAreApart p placed
+  pub live : LiveAreApart p placed
+  pub saved : TellsAllSaved p placed
+  pub own : HomesAreOwn slots placed
+  pub registers : FewAreInRegisters p slots placed
+  pub tells : AllZip TellsLiveIn p.funcs lives
+
+module _ (p : Prog) (slots : Slots) (lives : List Live) (placed : Placed) (is : IsPlacedBy p slots lives placed) where
+  -- ---- one function
+
+  module _ (k : ℕ) (f : Func) (there : slice_get p.funcs k ≡ Some f) where
+    abbrev own : FunctionHomes
+    own = placed_homes placed lives k
+
+    homes_same : home_in placed k ≡ home_at own
+    homes_same = λ i x. ap (home_in placed k) (sym (location_back x)) i
+
+    saved_same : is_saved_in placed k ≡ saved_at own
+    saved_same = λ i level x. ap (is_saved_in placed k level) (sym (location_back x)) i
+
+    stay_apart : IsPlaced f.code f.args (home_at own) (saved_at own)
+    stay_apart = subst (λ homes. IsPlaced f.code f.args homes (saved_at own)) homes_same (subst (IsPlaced f.code f.args (home_in placed k)) saved_same (is.apart k f there))
+
+    table : (live : Live) × (slice_get lives k ≡ Some live) × TellsLive f.code live
+    table =
+        let long = zip-long TellsLiveIn p.funcs lives is.tells in
+        let inside = slice_get_within p.funcs k f there in
+        let at = get_inside lives k (omega arith) in
+        (at.0, at.1, zip-get TellsLiveIn p.funcs lives k f at.0 is.tells there at.1)
+
+    told : (point : ℕ) (x : Location) → live_at own point x ≡ is_live table.0 x point
+    told point x = ap (λ o. is_live_if o point (slot_of x)) table.1 ∙ ap (λ y. is_live table.0 y point) (location_back x)
+
+    tells_live : (point : ℕ) (x : Location) → (live_at own point x ≡ true) ↔ IsLive f.code x point
+    tells_live point x = (λ yes. (table.2 x point).0 (sym (told point x) ∙ yes), λ alive. told point x ∙ (table.2 x point).1 alive)
+
+    serves : (g : SlotFunction) → slice_get slots.funcs k ≡ Some g → HomesServe f.code f.args g own
+    serves g is_g = record {
+      placed = stay_apart;
+      saved = λ level x saved. ap (is_saved_in placed k level) (location_back x) ∙ (is.saved k f there level x).1 saved;
+      own = λ x in_g. subst (IsHomeOf g x) (ap (home_in placed k) (sym (location_back x))) (is.own k g x is_g in_g);
+      live = tells_live;
+      registers = λ point x y live_x live_y register same. is.live k f there point x y live_x live_y (ap (home_in placed k) (sym (location_back x)) ∙ (same ∙ ap (home_in placed k) (location_back y)));
+    }
+
+  -- ---- a program
+
+  pub all_serve : AllHomesServe (placed_homes placed lives) p slots
+  all_serve k f g there is_g = serves k f there g is_g
+
+  pub few_in_registers : IsLowered p slots → AreFewInRegisters (homes_of (placed_homes placed lives)) p
+  few_in_registers lowered k f x there few location =
+      let g = lowered_at p slots lowered k f there in
+      subst IsInRegister (ap (home_in placed k) (sym (location_back x))) (is.registers k f g.function x there g.there few (slot_in f g.function g.is x location))
+
+-- slots in registers are among the first ones
+pub registers_near : (f : Func) (g : SlotFunction) → IsLoweredFunction f g → (homes : FunctionHomes) → AreHomes g homes → AreRegistersNear homes g
+registers_near f g lowered homes are k slot at register =
+    let numbered = slots_are_numbered f g lowered k slot at in
+    let low : slot_word g slot < 256 = are.near slot numbered.0 register in
+    omega (arith, numbered.1)

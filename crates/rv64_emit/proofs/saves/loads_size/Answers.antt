@@ -1,0 +1,17 @@
+use Rattle.std.proofs.Common.{◌≤◌, sym, ap, ◌∙◌, subst}
+use Rattle.rv64_sequences.specs.Moves.{restore_size}
+use Rattle.rv64_emit.specs.Placed.{homes_in}
+use Rattle.rv64_emit.proofs.Moving.{opening_near, first_few}
+use Rattle.rv64_emit.proofs.saves.loads_size.Goals as goal
+
+pub restores_size-requires-clause-first : goal.restores_size-requires-clause-first
+restores_size-requires-clause-first c = first_few c.args.func.now.slots c.near_slots.result.now c.near_slots.ensures
+
+pub restores_size-requires-clause-few : goal.restores_size-requires-clause-few
+restores_size-requires-clause-few c =
+    let same = opening_near (homes_in c.args.homes.now) c.args.func.now c.requires.near c.near_slots.result.now c.near_slots.ensures in
+    subst (λ moves. restore_size moves ≤ 250000) (sym same) c.requires.few
+
+pub returns : goal.returns
+returns c =
+    c.restores_size.ensures ∙ ap restore_size (opening_near (homes_in c.args.homes.now) c.args.func.now c.requires.near c.near_slots.result.now c.near_slots.ensures)

@@ -1,0 +1,11 @@
+use Rattle.std.proofs.Common.{◌≡◌, ◌+◌, drop}
+use Rattle.rv64_sequences.specs.Moves.{save_size}
+use Rattle.rv64_layout.specs.Homes.{moves_from}
+use Rattle.rv64_emit.specs.Moved.{is_moved}
+use Rattle.rv64_emit.specs.Placed.{homes_in}
+use Rattle.rv64_emit.proofs.saves.saves_size.Given as goal
+
+abbrev pub invariant-loop-k : goal.invariant-loop-k
+invariant-loop-k l =
+    l.size + save_size (moves_from (homes_in l.homes) l.first (is_moved (homes_in l.homes) l.func l.moved) l.k (drop l.k l.slots))
+    ≡ save_size (moves_from (homes_in l.homes) l.first (is_moved (homes_in l.homes) l.func l.moved) 0 l.slots)

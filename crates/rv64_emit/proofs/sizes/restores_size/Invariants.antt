@@ -1,8 +1,0 @@
-use Rattle.std.proofs.Common.{◌≡◌, ◌+◌, true, drop}
-use Rattle.rv64_sequences.specs.Moves.{restore_size}
-use Rattle.rv64_layout.specs.Homes.{in_frame, moves_from}
-use Rattle.rv64_emit.proofs.sizes.restores_size.Given as goal
-
-abbrev pub invariant-loop-k : goal.invariant-loop-k
-invariant-loop-k l =
-    l.size + restore_size (moves_from (in_frame l.func) l.first (λ slot. true) l.k (drop l.k l.slots)) ≡ restore_size (moves_from (in_frame l.func) l.first (λ slot. true) 0 l.slots)
