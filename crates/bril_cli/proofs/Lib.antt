@@ -1,3 +1,3 @@
 pub mod Budgets
-pub mod Demos
+pub mod Requests
 pub mod Shipped

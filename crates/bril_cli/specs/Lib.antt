@@ -1,4 +1,3 @@
 pub mod Demo
 pub mod End
-pub mod Images
 pub mod Shipped

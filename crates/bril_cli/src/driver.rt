@@ -15,9 +15,6 @@ ghost use Rattle.bril_words.specs.Names.{names_of};
 ghost use Rattle.bril_words.specs.Request.{IsActionInRange};
 ghost use Rattle.bril_words.specs.Seen.{text_seen};
 
-use crate::commands::demo::demo;
-use crate::commands::emit::put_image;
-use crate::commands::run::run;
 use crate::listed_passes::ListedPasses;
 use bril_checker::Checked;
 use bril_commands::commands::check::put_counts;
@@ -28,6 +25,9 @@ use bril_commands::commands::recording::{RecordSettings, put_recorded};
 use bril_commands::commands::text::put_text;
 use bril_commands::program::accepted_program;
 use bril_commands::source::{file_tree, linked_tree};
+use bril_compile::demo::demo;
+use bril_compile::emit::put_image;
+use bril_compile::run::run;
 use bril_demo::demo_tree;
 use bril_images::run::RunSettings;
 use bril_outside::files::Files;
@@ -156,7 +156,16 @@ fn do_program<F: Files, O: Sink, E: Sink>(
                 steps,
                 stats,
             };
-            run(alloc, program, request, settings, files, passes, outputs)
+            run(
+                alloc,
+                program,
+                request,
+                settings,
+                files,
+                passes.boxes,
+                passes.names,
+                outputs,
+            )
         }
         Action::Interpret {
             frames,
@@ -186,7 +195,16 @@ fn do_program<F: Files, O: Sink, E: Sink>(
             let cells = CELLS;
             let limits = Limits { frames, cells };
             let profile = request.profile;
-            put_image(alloc, program, profile, limits, files, passes, outputs.out)
+            put_image(
+                alloc,
+                program,
+                profile,
+                limits,
+                files,
+                passes.boxes,
+                passes.names,
+                outputs.out,
+            )
         }
         Action::Passes => {
             let profile = request.profile;
@@ -201,7 +219,14 @@ fn do_program<F: Files, O: Sink, E: Sink>(
             )
         }
         Action::Check => put_counts(alloc, &program, outputs.out),
-        Action::Demo { functions } => demo(alloc, functions, program, passes, outputs),
+        Action::Demo { functions } => demo(
+            alloc,
+            functions,
+            program,
+            passes.boxes,
+            passes.names,
+            outputs,
+        ),
         Action::Link | Action::WriteText | Action::WriteJson => unreachable!(),
     }
 }

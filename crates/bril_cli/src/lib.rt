@@ -1,9 +1,7 @@
 //! The command line of Roolvist: what its words ask for is done, and the exit status says how it ended.
 #![tactic(auto)]
 
-mod commands;
 mod driver;
 pub mod end;
-mod image;
 mod listed_passes;
 pub mod top;

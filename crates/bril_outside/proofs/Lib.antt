@@ -1,3 +1,4 @@
+pub mod Buffered
 pub mod MemoryWrites
 pub mod SinkWrites
 pub mod Stored

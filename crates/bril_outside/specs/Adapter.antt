@@ -1,16 +1,22 @@
 -- What adapters over readers and writers of the system do to bytes that are known of these.
 use Rattle.std.specs.Prelude.{ℕ, ◌≡◌, ◌<◌, ◌≤◌, ◌+◌, Bool, List, ◌++◌, length, Option, None, Result, Ok, Err}
-use Rattle.std.specs.Io.KnownBytes.{Appends, Consumes, IsAtEnd}
+use Rattle.std.specs.Io.KnownBytes.{Appends, Consumes, IsAtEnd, append_known}
 use Rattle.bril_outside.specs.Sink.{next_count}
 use Rattle.bril_outside.specs.Files.{FilesSeen}
 use Rattle.bril_outside.specs.declared.files.FileFault.{FileFault}
 use Rattle.bril_outside.specs.declared.files.FileFault.TheVariants.{Failed, Memory}
 
--- a sink over a writer: the writer, how many writes to the sink failed, and whether the writer was flushed after the last
+-- a sink over a writer: the writer, the bytes that the sink holds back from it, how many calls of the sink failed, and whether all that was
+-- written is out
 pub record SinkOver (W : Type 0) : Type 0 where
   pub out : W
+  pub held : List ℕ
   pub faults : ℕ
   pub is_out : Bool
+
+-- the bytes of the writer, where these are known, and those that the sink holds behind them
+abbrev pub bytes_over : {W : Type 0} → (W → Option (List ℕ)) → SinkOver W → Option (List ℕ)
+bytes_over contents s = append_known (contents s.out) s.held
 
 -- known bytes grew by the first of these
 pub record AppendsFirst (old new : Option (List ℕ)) (bytes : List ℕ) : Type 0 where

@@ -122,7 +122,7 @@ pub(crate) fn is_listed(list: &[u64], number: u64) -> bool
 }
 
 /// Appends the piece, for which there is room. Takes no memory.
-fn append_within(held: &mut Vec<u8>, piece: &[u8])
+pub(crate) fn append_within(held: &mut Vec<u8>, piece: &[u8])
     requires { vec_len held.old + length piece.now ≤ vec_capacity held.old }
     ensures items { held.new.items ≡ held.old.items ++ piece.now }
     ensures len { vec_len held.new ≡ vec_len held.old + length piece.now }

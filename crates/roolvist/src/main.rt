@@ -22,7 +22,7 @@ use pass_law::Pass;
 use ssa_exit::Unssa;
 use std::alloc::{AllocError, Global};
 use std::env::{self, Args};
-use std::io::{self, BufWriter, ErrorKind, IsTerminal, Stderr, Stdout};
+use std::io::{self, ErrorKind, IsTerminal, Stderr, Stdout};
 use std::process::ExitCode;
 use tidy_code::Tidy;
 use trace_stitcher::Stitch;
@@ -66,20 +66,22 @@ fn carry_out(rt: &HostRuntime, passes: &mut [Box<dyn Pass>]) -> Result<u8, Alloc
     let words = given_words(alloc, env::args(rt));
     let mut files = OsFiles::new(rt);
     let mut out = standard_output(rt)?;
-    let mut err = OsSink::new(rt.stderr());
-    Ok(end::<OsFiles<HostRuntime>, OsSink<BufWriter<Stdout>>, OsSink<Stderr>>(
+    let mut err = OsSink::new(alloc, rt.stderr());
+    Ok(end::<OsFiles<HostRuntime>, OsSink<Stdout>, OsSink<Stderr>>(
         alloc, words, &mut files, &mut out, &mut err, passes,
     ))
 }
 
+// How many bytes of standard output are held back at most.
+const HELD_BYTES: u32 = 8192;
+
 // Standard output behind a buffer, which is written when it is full, at the end of a command, and on a terminal at each LF.
-fn standard_output(rt: &HostRuntime) -> Result<OsSink<BufWriter<Stdout>>, AllocError> {
+fn standard_output(rt: &HostRuntime) -> Result<OsSink<Stdout>, AllocError> {
     let stdout = rt.stdout();
-    let by_line = stdout.is_terminal();
-    match BufWriter::new(rt.alloc(), stdout) {
-        Ok(writer) if by_line => Ok(OsSink::by_line(writer)),
-        Ok(writer) => Ok(OsSink::new(writer)),
-        Err(_) => Err(AllocError),
+    if stdout.is_terminal() {
+        OsSink::by_line(rt.alloc(), HELD_BYTES, stdout)
+    } else {
+        OsSink::buffered(rt.alloc(), HELD_BYTES, stdout)
     }
 }
 

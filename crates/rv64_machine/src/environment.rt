@@ -8,17 +8,17 @@ ghost use Rattle.rv64_words.specs.Environment.{truth_text};
 ghost use Rattle.rv64_machine.specs.StepAnswers.{Written, NotWritten};
 ghost use lib.Utf8.{scalar};
 
-use bril_nums::put_int;
 use bril_outside::sink::{Failed, Sink};
+use itoa::Buffer;
 
 /// Prints the number as a signed decimal, by one `put`.
 pub fn print_number<S: Sink>(number: u64, out: &mut S) -> Result<(), Failed>
     ensures ok { OnOk result (Written (signed_decimal (cast_signed w64 number)) (S.seen out.old) (S.seen out.new)) }
     ensures err { OnErr result (NotWritten (signed_decimal (cast_signed w64 number)) (S.seen out.old) (S.seen out.new)) }
 {
-    let mut text = [0; 20];
-    let count = put_int(number.cast_signed(), &mut text);
-    out.put(&text[..count])
+    let mut buffer = Buffer::new();
+    let text = buffer.format(number.cast_signed());
+    out.put(text.as_bytes())
 }
 
 /// Prints `false` for 0, else `true`, by one `put`.

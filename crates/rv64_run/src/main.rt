@@ -78,7 +78,7 @@ fn run(rt: &HostRuntime, words: Seq<u32>, args: &[Value]) -> anyhow::Result<()> 
         stack: STACK,
     };
     let mut machine = Machine::new(alloc, &image, args, LIMITS)?;
-    let mut out = OsSink::new(rt.stdout());
+    let mut out = OsSink::new(alloc, rt.stdout());
     let answer = machine.run(STEPS, &mut out);
     let done = machine.done();
     eprintln!(rt; "words {done}")?;

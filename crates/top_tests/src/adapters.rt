@@ -10,7 +10,6 @@ use bril_outside::sink::{Failed, Sink, put_three, put_two};
 use bril_tree::bytes::Bytes;
 use bril_tree::sequence::Seq;
 use bril_tree::text::Text;
-use std::io::BufWriter;
 use std::test::Fail;
 use std::{fs, io};
 
@@ -46,14 +45,14 @@ fn reads_system_files(rt: HostRuntime) -> Result<(), Fail> {
 fn writes_system_files(rt: HostRuntime) -> Result<(), Fail> {
     let alloc = rt.alloc();
     let name = "top_tests writes.tmp";
-    let mut sink = OsSink::new(fs::create(&rt, name)?);
+    let mut sink = OsSink::new(alloc, fs::create(&rt, name)?);
     put_three(&mut sink, b"one ", b"two ", b"three")?;
     put_two(&mut sink, b"", b"!")?;
     let mut into = Bytes::new(alloc);
     OsFiles::new(&rt).read(alloc, &Text::of(alloc, name)?, 100, &mut into)?;
     assert_eq!(rt; into.as_slice(), b"one two three!".as_slice());
     fs::remove_file(&rt, name)?;
-    let mut sink = OsSink::new(io::writer(&rt));
+    let mut sink = OsSink::new(alloc, io::writer(&rt));
     assert_eq!(rt; sink.put(b"written to standard output\n"), Ok(()));
     assert_eq!(rt; sink.flush(), Ok(()));
     Ok(())
@@ -64,7 +63,7 @@ fn holds_back_until_it_is_flushed(rt: HostRuntime) -> Result<(), Fail> {
     let alloc = rt.alloc();
     let name = "top_tests holds.tmp";
     let path = Text::of(alloc, name)?;
-    let mut sink = OsSink::new(BufWriter::with_capacity(alloc, 8, fs::create(&rt, name)?)?);
+    let mut sink = OsSink::buffered(alloc, 8, fs::create(&rt, name)?)?;
     put_two(&mut sink, b"one\n", b"two")?;
     let mut into = Bytes::new(alloc);
     OsFiles::new(&rt).read(alloc, &path, 100, &mut into)?;
@@ -81,7 +80,7 @@ fn holds_back_until_it_is_flushed(rt: HostRuntime) -> Result<(), Fail> {
         into.as_slice(),
         b"one\ntwo three and a piece that is longer than the buffer".as_slice()
     );
-    let mut lines = OsSink::by_line(BufWriter::new(alloc, fs::create(&rt, name)?)?);
+    let mut lines = OsSink::by_line(alloc, 100, fs::create(&rt, name)?)?;
     put_three(&mut lines, b"a line", b" with its end\n", b"and the next")?;
     let mut into = Bytes::new(alloc);
     OsFiles::new(&rt).read(alloc, &path, 100, &mut into)?;
@@ -93,14 +92,14 @@ fn holds_back_until_it_is_flushed(rt: HostRuntime) -> Result<(), Fail> {
 #[test]
 fn tells_what_fails_at_the_last_write(rt: HostRuntime) -> Result<(), Fail> {
     let alloc = rt.alloc();
-    let mut late = OsSink::new(BufWriter::new(alloc, Weak::new(Failing::After))?);
+    let mut late = OsSink::buffered(alloc, 100, Weak::new(Failing::After))?;
     assert_eq!(rt; late.put(b"fours"), Ok(()));
     assert_eq!(rt; late.flush(), Err(Failed));
-    let mut line = OsSink::by_line(BufWriter::new(alloc, Weak::new(Failing::After))?);
+    let mut line = OsSink::by_line(alloc, 100, Weak::new(Failing::After))?;
     assert_eq!(rt; line.put(b"four"), Ok(()));
     assert_eq!(rt; line.put(b"\n"), Err(Failed));
     // An interruption is no fault.
-    let mut whole = OsSink::new(BufWriter::new(alloc, Weak::new(Failing::After))?);
+    let mut whole = OsSink::buffered(alloc, 100, Weak::new(Failing::After))?;
     assert_eq!(rt; whole.put(b"four"), Ok(()));
     assert_eq!(rt; whole.flush(), Ok(()));
     // What holds nothing back is flushed at once.
@@ -124,7 +123,7 @@ fn streams_that_fail(rt: HostRuntime) -> Result<(), Fail> {
         Err(FileFault::Failed)
     );
     assert!(rt; into.as_slice().is_empty());
-    let mut sink = OsSink::new(Weak::new(Failing::After));
+    let mut sink = OsSink::new(alloc, Weak::new(Failing::After));
     assert_eq!(rt; sink.put(b"four"), Ok(()));
     assert_eq!(rt; sink.put(b""), Ok(()));
     assert_eq!(rt; sink.put(b"more"), Err(Failed));
@@ -136,12 +135,12 @@ fn streams_that_fail(rt: HostRuntime) -> Result<(), Fail> {
         OsFiles::new(&once).read(alloc, &path, 4, &mut into),
         Err(FileFault::Failed)
     );
-    let mut late = OsSink::new(Weak::new(Failing::Once));
+    let mut late = OsSink::new(alloc, Weak::new(Failing::Once));
     assert_eq!(rt; late.put(b"late"), Err(Failed));
     assert_eq!(rt; late.put(b"late"), Ok(()));
     // A writer with room for three bytes takes nothing from then on.
     let mut room = [0u8; 3];
-    assert_eq!(rt; OsSink::new(room.as_mut_slice()).put(b"four"), Err(Failed));
+    assert_eq!(rt; OsSink::new(alloc, room.as_mut_slice()).put(b"four"), Err(Failed));
     assert_eq!(rt; room.as_slice(), b"fou".as_slice());
     Ok(())
 }

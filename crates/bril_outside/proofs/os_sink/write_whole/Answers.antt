@@ -1,16 +1,6 @@
--- What was written is gone from the rest.
-use Rattle.std.proofs.Common.{◌++◌, ◌-◌, ◌≡◌, ℕ, List, length, take, drop, sym, ap, ◌∙◌, append_assoc, take-append-drop}
-use Rattle.std.proofs.lemmas.List.{take_rest}
-use Rattle.std.proofs.KnownBytes.{Appends-trans}
+-- After a failure the first bytes were written.
+use Rattle.bril_outside.proofs.Buffered.{on_err, AppendsFirst-some}
 use Rattle.bril_outside.proofs.os_sink.write_whole.Goals as goal
 
-moves_front : (all done rest : List ℕ) (n : ℕ) → all ≡ done ++ rest → all ≡ (done ++ take n rest) ++ take (length rest - n) (drop n rest)
-moves_front all done rest n e =
-    e ∙ ap (λ l. done ++ l) (sym (take-append-drop n rest)) ∙ sym (append_assoc done (take n rest) (drop n rest)) ∙ ap (λ l. (done ++ take n rest) ++ l) (sym (take_rest rest n))
-
-pub loop-preserved : goal.loop-preserved
-loop-preserved g c =
-    let (done, split, grew) = c.loop.invariant in
-    let rest = c.loop.rest.now in
-    let n = c.in_ok-count.count in
-    (done ++ take n rest, moves_front _ done rest n split, Appends-trans _ _ _ _ _ grew c.in_ok-count.ensures.ok.1)
+pub returns-clause-err : goal.returns-clause-err
+returns-clause-err g c = on_err c.write_first-done.result.1 _ (AppendsFirst-some _ _ c.write_first-done.result.0 c.args.bytes.now c.write_first-done.ensures.grew)
