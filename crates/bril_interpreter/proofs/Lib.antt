@@ -1,6 +1,6 @@
 pub mod Held
-pub mod Hurried
-pub mod Hurries
+pub mod RanQuickly
+pub mod RunsQuickly
 pub mod Known
 pub mod Lines
 pub mod Plain

@@ -3,6 +3,7 @@
 use crate::placed::place_of;
 use crate::program::checked_of;
 use crate::row::add_line;
+use bril_checker::Checked;
 use bril_tree::home::Home;
 use row_text::{LineFault, add_unescaped};
 use shadow_place::{Placed, all_lives, place};
@@ -62,18 +63,39 @@ pub fn add_counted(alloc: Global, line: &str, shown: &mut Vec<u8>) -> Result<(),
         return Err(LineFault::Form);
     }
     let checked = checked_of(alloc, source.as_slice())?;
-    let slots = lower(alloc, &checked)?;
+    add_placements(alloc, &checked, number_of(times)?, shown)
+}
+
+// Places the locations of a program so many times, and appends the counts of its first function.
+fn add_placements(
+    alloc: Global,
+    checked: &Checked,
+    times: u32,
+    shown: &mut Vec<u8>,
+) -> Result<(), LineFault> {
+    let slots = lower(alloc, checked)?;
+    let lives = all_lives(alloc, checked)?;
+    for _ in 1..times {
+        place(alloc, checked, &slots, &lives)?;
+    }
+    let placed = place(alloc, checked, &slots, &lives)?;
     let Some(lowered) = slots.funcs.as_slice().first() else {
         return Err(LineFault::Form);
     };
-    let lives = all_lives(alloc, &checked)?;
-    for _ in 1..number_of(times)? {
-        place(alloc, &checked, &slots, &lives)?;
-    }
-    let placed = place(alloc, &checked, &slots, &lives)?;
-    add_homes(alloc, &placed, lowered.slots.as_slice(), shown)?;
+    add_counts(alloc, &placed, lowered.slots.as_slice(), shown)?;
+    Ok(())
+}
+
+// Appends where the slots are, and which are saved at each level.
+fn add_counts(
+    alloc: Global,
+    placed: &Placed,
+    slots: &[Slot],
+    shown: &mut Vec<u8>,
+) -> Result<(), AllocError> {
+    add_homes(alloc, placed, slots, shown)?;
     for level in 1..9 {
-        add_saved(alloc, &placed, lowered.slots.as_slice(), level, shown)?;
+        add_saved(alloc, placed, slots, level, shown)?;
     }
     Ok(())
 }

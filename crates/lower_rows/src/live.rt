@@ -24,14 +24,27 @@ pub fn add_live(alloc: Global, source: &[u8], shown: &mut Vec<u8>) -> Result<(),
     }
     let live = Live::of(alloc, &checked, 0)?;
     for point in 0..=count as u32 {
-        let line = format!(in alloc; "point {point} variables")?;
-        shown.extend_from_slice(line.as_bytes())?;
-        add_variables(&live, point, vars, shown)?;
-        shown.extend_from_slice(b" shadows")?;
-        add_shadows(&live, point, vars, shown)?;
-        add_line("", shown)?;
+        add_point(alloc, &live, point, vars, shown)?;
     }
     Ok(())
+}
+
+// Appends a line with what is live at a point.
+fn add_point(
+    alloc: Global,
+    live: &Live,
+    point: u32,
+    vars: &[VarInfo],
+    shown: &mut Vec<u8>,
+) -> Result<(), AllocError>
+    requires { length vars.now < 2 ^ 32 }
+{
+    let line = format!(in alloc; "point {point} variables")?;
+    shown.extend_from_slice(line.as_bytes())?;
+    add_variables(live, point, vars, shown)?;
+    shown.extend_from_slice(b" shadows")?;
+    add_shadows(live, point, vars, shown)?;
+    add_line("", shown)
 }
 
 // Appends the names of the variables that are live at a point.

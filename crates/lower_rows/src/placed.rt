@@ -4,6 +4,7 @@ ghost use Rattle.std.specs.Prelude.{◌<◌, ◌^◌, length};
 
 use crate::program::checked_of;
 use crate::row::add_line;
+use bril_checker::Checked;
 use bril_tree::home::Home;
 use bril_tree::numbered::VarInfo;
 use bril_tree::place::Place;
@@ -17,21 +18,42 @@ pub fn add_placed(alloc: Global, source: &[u8], shown: &mut Vec<u8>) -> Result<(
     requires { length source.now < 2 ^ 32 }
 {
     let checked = checked_of(alloc, source)?;
-    let slots = lower(alloc, &checked)?;
-    let lives = all_lives(alloc, &checked)?;
-    let placed = place(alloc, &checked, &slots, &lives)?;
     let Some(func) = checked.prog().funcs.as_slice().first() else {
         return Err(LineFault::Form);
     };
+    add_first(alloc, &checked, func.vars.as_slice(), shown)
+}
+
+// Appends the homes of the first function's locations, of which these are the variables, and what is saved of them.
+fn add_first(
+    alloc: Global,
+    checked: &Checked,
+    vars: &[VarInfo],
+    shown: &mut Vec<u8>,
+) -> Result<(), LineFault> {
+    let slots = lower(alloc, checked)?;
+    let lives = all_lives(alloc, checked)?;
+    let placed = place(alloc, checked, &slots, &lives)?;
     let Some(lowered) = slots.funcs.as_slice().first() else {
         return Err(LineFault::Form);
     };
-    let vars = func.vars.as_slice();
-    for slot in lowered.slots.as_slice() {
-        add_home(alloc, &placed, vars, *slot, shown)?;
+    add_slots(alloc, &placed, vars, lowered.slots.as_slice(), shown)?;
+    Ok(())
+}
+
+// Appends the homes of slots, and which of them are saved at each level.
+fn add_slots(
+    alloc: Global,
+    placed: &Placed,
+    vars: &[VarInfo],
+    slots: &[Slot],
+    shown: &mut Vec<u8>,
+) -> Result<(), AllocError> {
+    for slot in slots {
+        add_home(alloc, placed, vars, *slot, shown)?;
     }
     for level in 1..9 {
-        add_level(alloc, &placed, vars, lowered.slots.as_slice(), level, shown)?;
+        add_level(alloc, placed, vars, slots, level, shown)?;
     }
     Ok(())
 }

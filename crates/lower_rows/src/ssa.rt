@@ -61,18 +61,32 @@ fn add_both(
     requires source { length source.now < 2 ^ 32 }
 {
     let before = checked_of(alloc, source)?;
-    let tree = ssa_tree(alloc, before.prog())?;
-    let mut text = Bytes::new(alloc);
-    write_text(&tree, &mut text)?;
+    let text = ssa_text(alloc, &before)?;
     if text.as_slice().len() > 100_000 {
         return Err(LineFault::Form);
     }
     add_lines(alloc, "", text.as_slice(), shown)?;
-    let after = checked_of(alloc, text.as_slice())?;
     let printed = shown_run(alloc, &before, words)?;
-    let printed_after = shown_run(alloc, &after, words)?;
+    let printed_after = shown_run_of(alloc, text.as_slice(), words)?;
     add_printed(printed.as_slice(), printed_after.as_slice(), shown)?;
     Ok(())
+}
+
+// The text of a program in SSA form.
+fn ssa_text(alloc: Global, program: &Checked) -> Result<Bytes, AllocError> {
+    let tree = ssa_tree(alloc, program.prog())?;
+    let mut text = Bytes::new(alloc);
+    write_text(&tree, &mut text)?;
+    Ok(text)
+}
+
+// What a run of the source's program shows.
+fn shown_run_of(alloc: Global, source: &[u8], words: &[Text]) -> Result<Vec<u8>, LineFault>
+    requires words { length words.now < 2 ^ 32 }
+    requires source { length source.now < 2 ^ 32 }
+{
+    let program = checked_of(alloc, source)?;
+    shown_run(alloc, &program, words)
 }
 
 // Appends what a run of the program shows, and what one of the program in SSA form does, where that is other.

@@ -65,7 +65,8 @@ impl From<AllocError> for EmitFault {
 }
 
 /// The image of an accepted program for runs under these limits: it does what the program does, on the machine of
-/// `rv64_words`. While it runs, each location of a function of at most 23 locations is in a register. It has at most 250,000 words, and its stack has the words of the largest frame, `limits.frames` times.
+/// `rv64_words`. While it runs, each location of a function of at most 23 locations is in a register. It has at most 250,000
+/// words, and its stack has the words of the largest frame, `limits.frames` times.
 ///
 /// `CodeTooBig` comes exactly where the sum of the word bounds passes 250,000: 32, 40 for each function, and each item's.
 /// `StackTooBig` comes exactly where the code fits and the stack would pass 8,388,608 words. `Memory` comes only where both are

@@ -3,8 +3,6 @@ use Rattle.std.proofs.Common.{◌≡◌, ℕ, zero, suc, ◌+◌, ◌-◌, ◌<�
 use Rattle.std.specs.Prelude.{slice_get}
 use Rattle.simulation.specs.System.{after}
 use Rattle.simulation.proofs.After.{after-add, after-suc, running-earlier}
-use Rattle.bril_tree.specs.declared.operators.BinaryOp.{BinaryOp}
-use Rattle.bril_tree.specs.declared.operators.BinaryOp.TheVariants as binary
 use Rattle.bril_tree.specs.declared.operators.UnaryOp.{UnaryOp}
 use Rattle.bril_tree.specs.declared.operators.UnaryOp.TheVariants as unary
 use Rattle.bril_tree.specs.declared.limits.End.{End}
@@ -17,7 +15,6 @@ use Rattle.rv64_implements.proofs.Systems.{image_is_system}
 use Rattle.rv64_layout.specs.Homes.{FunctionHomes, variable_home}
 use Rattle.rv64_layout.specs.Items.{item_size, print_size}
 use Rattle.rv64_layout.proofs.Joining.{below_or}
-use Rattle.rv64_sequences.specs.Operations.{binary_size}
 use Rattle.rv64_words.specs.Machine.{machine_step}
 use Rattle.rv64_words.specs.State.{State, Finished, start}
 use Rattle.slot_code.specs.declared.item.Printed.{Printed}
@@ -30,6 +27,7 @@ use Rattle.rv64_emit_laws.proofs.Arriving.{NoneBetween, distance}
 use Rattle.rv64_emit_laws.proofs.Entries.{HasWords, head_inner, inner_between, leaving_inner, one_entry}
 use Rattle.rv64_emit_laws.proofs.Items.{related_moves}
 use Rattle.rv64_emit_laws.proofs.Jumping.{pass_alone}
+use Rattle.rv64_emit_laws.proofs.Outcomes.{binary_some}
 use Rattle.rv64_emit_laws.proofs.Relation.{Related, RunsAlike, over, run}
 use Rattle.rv64_emit_laws.proofs.Setting.{Setting, entry_of, sizes}
 use Rattle.rv64_emit_laws.proofs.Starting.{start_between, start_related, start_steps}
@@ -37,25 +35,6 @@ use Rattle.rv64_emit_laws.proofs.Stretches.{constant_some, copy_some}
 use Rattle.rv64_emit_laws.proofs.Whole.{counts, shows}
 
 -- ---- items have words
-
-binary_some : (operation : BinaryOp) → 1 ≤ binary_size operation
-binary_some binary.Add = omega arith
-binary_some binary.Sub = omega arith
-binary_some binary.Mul = omega arith
-binary_some binary.Div = omega arith
-binary_some binary.Eq = omega arith
-binary_some binary.Lt = omega arith
-binary_some binary.Gt = omega arith
-binary_some binary.Le = omega arith
-binary_some binary.Ge = omega arith
-binary_some binary.Ceq = omega arith
-binary_some binary.Clt = omega arith
-binary_some binary.Cgt = omega arith
-binary_some binary.Cle = omega arith
-binary_some binary.Cge = omega arith
-binary_some binary.And = omega arith
-binary_some binary.Or = omega arith
-binary_some binary.PtrAdd = omega arith
 
 -- an item has words, unless it is a label or a `nop`
 module _ (homes : FunctionHomes) (g : SlotFunction) (point : ℕ) where

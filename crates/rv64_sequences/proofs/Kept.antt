@@ -72,19 +72,3 @@ keeps_but d c e k = record {
   printed = k.printed;
   arrivals = k.arrivals;
 }
-
--- a register in which no location is isn't missed
-pub keeps_all : (d : ℕ) (c e : Core) → is_home_register d ≡ false → KeepsBut d c e → Keeps c e
-keeps_all d c e none k = record {
-  zero_register = k.zero_register;
-  frame_register = k.frame_register;
-  frames_left = k.frames_left;
-  homes = λ r h. k.homes r h (apart_from d r none h);
-  stack = k.stack;
-  table = k.table;
-  cells = k.cells;
-  blocks = k.blocks;
-  given = k.given;
-  printed = k.printed;
-  arrivals = k.arrivals;
-}
