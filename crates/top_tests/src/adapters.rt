@@ -140,7 +140,10 @@ fn streams_that_fail(rt: HostRuntime) -> Result<(), Fail> {
     assert_eq!(rt; late.put(b"late"), Ok(()));
     // A writer with room for three bytes takes nothing from then on.
     let mut room = [0u8; 3];
-    assert_eq!(rt; OsSink::new(alloc, room.as_mut_slice()).put(b"four"), Err(Failed));
+    assert_eq!(rt;
+        OsSink::new(alloc, room.as_mut_slice()).put(b"four"),
+        Err(Failed)
+    );
     assert_eq!(rt; room.as_slice(), b"fou".as_slice());
     Ok(())
 }
