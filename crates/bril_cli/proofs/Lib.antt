@@ -1,3 +1,2 @@
 pub mod Budgets
-pub mod Requests
 pub mod Shipped

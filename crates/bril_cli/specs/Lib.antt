@@ -1,3 +1,2 @@
-pub mod Demo
 pub mod End
 pub mod Shipped

@@ -9,7 +9,7 @@ ghost use Rattle.bril_commands.specs.Call.{call_of};
 ghost use Rattle.bril_words.specs.Answers.{PlainAsk, RefusedAlone};
 ghost use Rattle.pass_law.specs.Chains.{AllSame};
 
-use crate::driver::drive;
+use bril_driver::driver::drive;
 use bril_outside::files::Files;
 use bril_outside::sink::Sink;
 use bril_report::{ErrorOutput, Outputs, Status, say, status_number};

@@ -11,8 +11,8 @@ use Rattle.bril_commands.specs.Command.{takes_passes}
 use Rattle.bril_commands.specs.Table.{command}
 use Rattle.bril_commands.specs.commands.Json.{json_line}
 use Rattle.bril_words.specs.Seen.{text_seen}
-use Rattle.bril_cli.proofs.Requests.{needed}
-use Rattle.bril_cli.proofs.driver.do_command.Goals as goal
+use Rattle.bril_driver.proofs.Requests.{needed}
+use Rattle.bril_driver.proofs.driver.do_command.Goals as goal
 
 pub returns-in-Link-clause-does : goal.returns-in-Link-clause-does
 returns-in-Link-clause-does g c =

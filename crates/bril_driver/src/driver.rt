@@ -1,9 +1,9 @@
 // The driver: the stages from the files to what a command does with them, in order. Each is a call that gives a result, and
 // `?` hands its refusal on.
 
-ghost use Rattle.std.specs.Prelude.{◌≡◌, ◌≤◌, [], length, IfOk, IfErr};
-ghost use Rattle.bril_cli.specs.Demo.{IsOwnProgram, IsOwnTree};
-ghost use Rattle.bril_commands.specs.Command.{NeedsProgram, reach};
+ghost use Rattle.std.specs.Prelude.{◌≡◌, ◌≤◌, [], true, length, IfOk, IfErr};
+ghost use Rattle.bril_driver.specs.Demo.{IsOwnProgram, IsOwnTree};
+ghost use Rattle.bril_commands.specs.Command.{NeedsProgram, reach, takes_passes};
 ghost use Rattle.bril_commands.specs.Driver.{DoesAccepted, DoesTree, DoesFiles};
 ghost use Rattle.bril_commands.specs.PassList.{pass_list};
 ghost use Rattle.bril_commands.specs.Source.{IsTreeAt};
@@ -144,29 +144,6 @@ fn do_program<F: Files, O: Sink, E: Sink>(
     ensures keeps { KeepsPasses (λ p. meaning p) request.entry.action passes.old.boxes.now passes.new.boxes.now }
 {
     match request.action {
-        Action::Run {
-            frames,
-            cells,
-            steps,
-            stats,
-        } => {
-            let limits = Limits { frames, cells };
-            let settings = RunSettings {
-                limits,
-                steps,
-                stats,
-            };
-            run(
-                alloc,
-                program,
-                request,
-                settings,
-                files,
-                passes.boxes,
-                passes.names,
-                outputs,
-            )
-        }
         Action::Interpret {
             frames,
             cells,
@@ -190,6 +167,56 @@ fn do_program<F: Files, O: Sink, E: Sink>(
                 most,
             };
             put_recorded(alloc, &program, request.args, settings, outputs.out)
+        }
+        Action::Check => put_counts(alloc, &program, outputs.out),
+        Action::Run { .. } | Action::Emit { .. } | Action::Passes | Action::Demo { .. } => {
+            do_with_passes(alloc, request, program, files, passes, outputs)
+        }
+        Action::Link | Action::WriteText | Action::WriteJson => unreachable!(),
+    }
+}
+
+// Does what a request asks of what a list of passes makes of its accepted program.
+fn do_with_passes<F: Files, O: Sink, E: Sink>(
+    alloc: Global,
+    request: Request,
+    program: Checked,
+    files: &mut F,
+    passes: &mut ListedPasses<'_, '_>,
+    outputs: &mut Outputs<'_, '_, O, E>,
+) -> Result<(), Status>
+    requires range { IsActionInRange request.action }
+    requires takes { takes_passes (command request.action) ≡ true }
+    requires own { IsOwnProgram request.action program.prog }
+    ensures same_boxes { passes.new.boxes.ghost_name ≡ passes.old.boxes.ghost_name }
+    ensures holds { (F.seen files.new).holds ≡ (F.seen files.old).holds }
+    ensures faults { (F.seen files.old).faults ≤ (F.seen files.new).faults }
+    ensures does { Telling O.seen E.seen (λ told s t. DoesAccepted (command request.entry.action) (status_of result) (pass_list (λ p. meaning p) (λ p. counts p) passes.old.boxes.now passes.new.boxes.now passes.old.names.now) (F.seen files.old) (F.seen files.new) program.prog (text_seen request.entry.profile) request.entry.args.now told s t) outputs.old outputs.new }
+    ensures keeps { KeepsPasses (λ p. meaning p) request.entry.action passes.old.boxes.now passes.new.boxes.now }
+{
+    match request.action {
+        Action::Run {
+            frames,
+            cells,
+            steps,
+            stats,
+        } => {
+            let limits = Limits { frames, cells };
+            let settings = RunSettings {
+                limits,
+                steps,
+                stats,
+            };
+            run(
+                alloc,
+                program,
+                request,
+                settings,
+                files,
+                passes.boxes,
+                passes.names,
+                outputs,
+            )
         }
         Action::Emit { frames } => {
             let cells = CELLS;
@@ -218,7 +245,6 @@ fn do_program<F: Files, O: Sink, E: Sink>(
                 outputs,
             )
         }
-        Action::Check => put_counts(alloc, &program, outputs.out),
         Action::Demo { functions } => demo(
             alloc,
             functions,
@@ -227,6 +253,11 @@ fn do_program<F: Files, O: Sink, E: Sink>(
             passes.names,
             outputs,
         ),
-        Action::Link | Action::WriteText | Action::WriteJson => unreachable!(),
+        Action::Interpret { .. }
+        | Action::Record { .. }
+        | Action::Check
+        | Action::Link
+        | Action::WriteText
+        | Action::WriteJson => unreachable!(),
     }
 }

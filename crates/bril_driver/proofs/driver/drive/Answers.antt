@@ -12,8 +12,8 @@ use Rattle.bril_report.proofs.Telling.{Tells-none}
 use Rattle.bril_report.specs.StageFaults.{status_of}
 use Rattle.bril_words.specs.Names.{names_of}
 use Rattle.bril_words.specs.Seen.{text_seen}
-use Rattle.bril_cli.proofs.Requests.{own_tree}
-use Rattle.bril_cli.proofs.driver.drive.Goals as goal
+use Rattle.bril_driver.proofs.Requests.{own_tree}
+use Rattle.bril_driver.proofs.driver.drive.Goals as goal
 
 pub returns-in_err-names-clause-does : goal.returns-in_err-names-clause-does
 returns-in_err-names-clause-does g c =

@@ -3,7 +3,7 @@ use Rattle.std.proofs.lemmas.Result.{err_from_is_err_and}
 use Rattle.bril_commands.proofs.Reading.{memory_refuses}
 use Rattle.bril_commands.specs.Command.{reach}
 use Rattle.bril_commands.specs.Table.{command}
-use Rattle.bril_cli.proofs.driver.tree_of.Goals as goal
+use Rattle.bril_driver.proofs.driver.tree_of.Goals as goal
 
 pub returns-in_err-demo_tree-in-Demo-clause-err : goal.returns-in_err-demo_tree-in-Demo-clause-err
 returns-in_err-demo_tree-in-Demo-clause-err g c =
