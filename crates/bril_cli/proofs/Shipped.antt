@@ -1,6 +1,7 @@
 -- The shipped passes make as shipped, and so do boxes of them.
-use Rattle.std.proofs.Common.{◌≡◌, Bool, true, false, not, ◌&&◌, List, [], ◌∷◌, refl, sym, subst}
+use Rattle.std.proofs.Common.{◌≡◌, Bool, true, false, not, ◌&&◌, List, [], ◌∷◌, refl, sym, subst, ◌∙◌}
 use Rattle.std.proofs.lemmas.List.Elements.{All-nil, All-cons, All-head, All-tail}
+use Rattle.std.proofs.lemmas.Bool.{and_parts, not-true, true≢false}
 use Rattle.std.specs.List.{All}
 use Rattle.std.specs.Prelude.{ℕ}
 use Rattle.std.specs.declared.dyn_box.DynBox.{DynBox}
@@ -18,14 +19,6 @@ all_apart : List Shipped → Bool
 all_apart [] = true
 all_apart (s ∷ rest) = apart s rest && all_apart rest
 
-both : (a b : Bool) → (a && b) ≡ true → (a ≡ true) × (b ≡ true)
-both true b e = (refl, e)
-both false b e = absurd (let n : false ≡ true = e in cc)
-
-refuted : (b : Bool) → not b ≡ true → b ≡ true → ⊥
-refuted true e is = let n : false ≡ true = e in cc
-refuted false e is = let n : false ≡ true = is in cc
-
 -- ---- so each makes only what it makes itself
 
 -- each of some makes as these do
@@ -37,23 +30,23 @@ none_named : (s : Shipped) (these : List Shipped) → apart s these ≡ true →
 unfolding apart
 none_named s [] e = tt
 none_named s (t ∷ rest) e =
-    let h = both (not (s.meaning.answers t.name)) (not (t.meaning.answers s.name) && apart s rest) e in
-    let k = both (not (t.meaning.answers s.name)) (apart s rest) h.1 in
-    (λ named. absurd (refuted (s.meaning.answers t.name) h.0 named), none_named s rest k.1)
+    let h = and_parts (not (s.meaning.answers t.name)) (not (t.meaning.answers s.name) && apart s rest) e in
+    let k = and_parts (not (t.meaning.answers s.name)) (apart s rest) h.1 in
+    (λ named. absurd (true≢false (sym named ∙ not-true (s.meaning.answers t.name) h.0)), none_named s rest k.1)
 
 one_more : (s : Shipped) (rest some : List Shipped) → apart s some ≡ true → AllMake rest some → AllMake (s ∷ rest) some
 unfolding apart AllMake
 one_more s rest [] e h = tt
 one_more s rest (t ∷ some) e h =
-    let a = both (not (s.meaning.answers t.name)) (not (t.meaning.answers s.name) && apart s some) e in
-    let b = both (not (t.meaning.answers s.name)) (apart s some) a.1 in
-    ((λ named. absurd (refuted (t.meaning.answers s.name) b.0 named), h.0), one_more s rest some b.1 h.1)
+    let a = and_parts (not (s.meaning.answers t.name)) (not (t.meaning.answers s.name) && apart s some) e in
+    let b = and_parts (not (t.meaning.answers s.name)) (apart s some) a.1 in
+    ((λ named. absurd (true≢false (sym named ∙ not-true (t.meaning.answers s.name) b.0)), h.0), one_more s rest some b.1 h.1)
 
 all_make : (these : List Shipped) → all_apart these ≡ true → AllMake these these
 unfolding all_apart AllMake
 all_make [] e = tt
 all_make (s ∷ rest) e =
-    let h = both (apart s rest) (all_apart rest) e in
+    let h = and_parts (apart s rest) (all_apart rest) e in
     ((λ named p profile q made. made, none_named s rest h.0), one_more s rest rest h.0 (all_make rest h.1))
 
 shipped-make : AllMake shipped shipped

@@ -17,6 +17,7 @@ use Rattle.bril_tree.specs.declared.operation.Op.TheVariants as op
 use Rattle.bril_tree.specs.declared.types.Base.TheVariants as base
 use Rattle.bril_tree.specs.declared.types.Ty.{Ty}
 use Rattle.bril_tree.specs.FunctionForm.{IsFunctionForm, dest_is_typed, first_type, known_after, label_at, targets_of, variables_of}
+use Rattle.bril_names.proofs.Entering.{known-old}
 use Rattle.bril_demo.specs.Demo.{plain, result_name}
 use Rattle.bril_demo.proofs.Numbered.{number, variable}
 
@@ -50,9 +51,6 @@ main_variables n = variable (codes "n") base.Int ∷ map result (range_with_len 
 
 -- ---- variables in the order of their appearance
 
-known_old : (known x : ℕ) (xs : List ℕ) → x < known → known_after known (x ∷ xs) ≡ known_after known xs
-known_old known x xs less = let t : nat_lt x known ≡ true = search rules in rw t
-
 known_new : (known : ℕ) (xs : List ℕ) → known_after known (known ∷ xs) ≡ known_after (known + 1) xs
 known_new known xs = let t : nat_lt known known ≡ false = search rules in let e : (known == known) ≡ true = search rules in rw (t, e)
 
@@ -63,8 +61,8 @@ calls_known k (suc m) =
     let one : suc k + 1 ≡ suc (k + 1) = omega arith in
     let sum : suc ((k + 1) + m) ≡ suc (k + suc m) = omega arith in
     known_new (suc k) (0 ∷ suc k ∷ rest)
-    ∙ known_old (suc k + 1) 0 (suc k ∷ rest) (omega arith)
-    ∙ known_old (suc k + 1) (suc k) rest (omega arith)
+    ∙ known-old (suc k + 1) 0 (suc k ∷ rest) (omega arith)
+    ∙ known-old (suc k + 1) (suc k) rest (omega arith)
     ∙ ap (λ (known : ℕ). known_after known rest) one
     ∙ calls_known (k + 1) m
     ∙ ap Some sum

@@ -3,6 +3,7 @@ use Rattle.std.proofs.Common.{◌≡◌, ℕ, suc, ◌+◌, ◌<◌, ◌≤◌, 
 use Rattle.std.proofs.lemmas.Bool.{cond-true, cond-false, ltb-true, eqb-true}
 use Rattle.bril_tree.specs.FunctionForm.{known_after}
 use Rattle.bril_tree.specs.Numbered.{named}
+use Rattle.bril_tree.proofs.Appearance.{known_grows}
 use Rattle.bril_names.specs.Faults.{Differ}
 use Rattle.bril_names.specs.Range.{AreBelow}
 use Rattle.bril_names.proofs.Naming.{one_number}
@@ -21,20 +22,10 @@ seen known x xs = by (ltb x known) (eqb x known) refl refl
     by false true e f = fresh (eqb-true x known f) (cond-false _ _ _ e ∙ cond-true _ _ _ f)
     by false false e f = strange (cond-false _ _ _ e ∙ cond-false _ _ _ f)
 
--- the count of known numbers never falls
-pub known_after-le : (known : ℕ) (xs : List ℕ) (n : ℕ) → known_after known xs ≡ Some n → known ≤ n
-known_after-le known [] n e = let f : known ≡ n = cc in omega arith
-known_after-le known (x ∷ xs) n e = by (seen known x xs) (λ k. known_after-le k xs n)
-  where
-    by : Seen known x xs → ((k : ℕ) → known_after k xs ≡ Some n → k ≤ n) → known ≤ n
-    by (old h same) again = again known (sym same ∙ e)
-    by (fresh h same) again = let l = again (known + 1) (sym same ∙ e) in omega arith
-    by (strange same) again = let f : None ≡ Some n = sym same ∙ e in absurd cc
-
 -- all that appeared is known in the end
 pub known_after-below : (known : ℕ) (xs : List ℕ) (n : ℕ) → known_after known xs ≡ Some n → AreBelow n xs
 known_after-below known [] n e = tt
-known_after-below known (x ∷ xs) n e = by (seen known x xs) (λ k. known_after-below k xs n) (λ k. known_after-le k xs n)
+known_after-below known (x ∷ xs) n e = by (seen known x xs) (λ k. known_after-below k xs n) (λ k. known_grows k xs n)
   where
     by : Seen known x xs → ((k : ℕ) → known_after k xs ≡ Some n → AreBelow n xs) → ((k : ℕ) → known_after k xs ≡ Some n → k ≤ n) → AreBelow n (x ∷ xs)
     by (old h same) again grows = let l = grows known (sym same ∙ e) in (omega arith, again known (sym same ∙ e))
@@ -79,11 +70,11 @@ module _ (V W : List (List ℕ)) (differ_V : Differ V) (differ_W : Differ W) whe
           → V ≡ W
       by (old hx sx) (old hy sy) again = again known tail (sym sx ∙ ex) (sym sy ∙ ey) agree
       by (old hx sx) (fresh hy sy) again =
-          let l = known_after-le (known + 1) ys (length W) (sym sy ∙ ey) in
+          let l = known_grows (known + 1) ys (length W) (sym sy ∙ ey) in
           let e = one_number W differ_W x y (omega arith) (omega arith) (sym (agree x hx) ∙ head) in
           absurd (omega arith)
       by (fresh hx sx) (old hy sy) again =
-          let l = known_after-le (known + 1) xs (length V) (sym sx ∙ ex) in
+          let l = known_grows (known + 1) xs (length V) (sym sx ∙ ex) in
           let e = one_number V differ_V x y (omega arith) (omega arith) (head ∙ sym (agree y hy)) in
           absurd (omega arith)
       by (fresh hx sx) (fresh hy sy) again =

@@ -8,9 +8,11 @@ use Rattle.bril_tree.specs.declared.program.Prog.{Prog}
 use Rattle.bril_tree.specs.declared.tree.Tree.{Tree}
 use Rattle.bril_tree.specs.Numbered.{names_of_functions, tree_of}
 use Rattle.bril_tree.specs.ProgramForm.{main_name}
+use Rattle.bril_tree.specs.declared.function_tree.Item.{Item}
+use Rattle.bril_tree.specs.declared.function_tree.Item.TheVariants as item
 use Rattle.bril_tree.proofs.Trees.{tree_of-numbered}
 use Rattle.bril_names.specs.declared.fault.NameFault.{NameFault}
-use Rattle.bril_names.specs.Faults.{Differ, HasFault, IsSound, SameHead, IsSoundEdit, function_names}
+use Rattle.bril_names.specs.Faults.{Differ, HasFault, IsSound, SameHead, IsSoundEdit, function_names, label_of, labels_of}
 use Rattle.bril_names.proofs.Faultless.{IsSoundTree, faultless}
 use Rattle.bril_names.proofs.Sound.{names_kept, sound_tree}
 
@@ -66,3 +68,17 @@ zip-edited names edit (x ∷ xs) s h = (h x (All-head (IsSound names) x xs s), z
 pub names_edited : (p : Prog) (edit : FuncTree → FuncTree) → ((f : FuncTree) → IsSound (function_names (tree_of p)) f → IsSoundEdit (function_names (tree_of p)) f (edit f))
     → AllZip (IsSoundEdit (function_names (tree_of p))) (tree_of p).funcs (map edit (tree_of p).funcs)
 names_edited p edit h = zip-edited (function_names (tree_of p)) edit (tree_of p).funcs (sound_tree (tree_of p) p (tree_of-numbered p)).sound h
+
+-- ---- labels
+
+-- items that are one label, or none of them one
+pub labels-step : (x y : Item) (xs ys : List Item) → label_of x ≡ label_of y → labels_of xs ≡ labels_of ys → labels_of (x ∷ xs) ≡ labels_of (y ∷ ys)
+labels-step (item.Label n) (item.Label m) xs ys e rest = let same : n ≡ m = cc in λ i. same i ∷ rest i
+labels-step (item.Label n) (item.Const d ty v) xs ys e rest = absurd cc
+labels-step (item.Label n) (item.Act d o args fns ls) xs ys e rest = absurd cc
+labels-step (item.Const d ty v) (item.Label m) xs ys e rest = absurd cc
+labels-step (item.Const d ty v) (item.Const x s w) xs ys e rest = rest
+labels-step (item.Const d ty v) (item.Act x o args fns ls) xs ys e rest = rest
+labels-step (item.Act d o args fns ls) (item.Label m) xs ys e rest = absurd cc
+labels-step (item.Act d o args fns ls) (item.Const x s w) xs ys e rest = rest
+labels-step (item.Act d o args fns ls) (item.Act x u brgs gns ms) xs ys e rest = rest

@@ -26,7 +26,7 @@ first_of_two-assoc (Some ty) b c = refl
 
 -- ---- numbers that appear
 
-known-old : (known x : ℕ) (xs : List ℕ) → x < known → known_after known (x ∷ xs) ≡ known_after known xs
+pub known-old : (known x : ℕ) (xs : List ℕ) → x < known → known_after known (x ∷ xs) ≡ known_after known xs
 known-old known x xs l = cond-true _ _ _ (lt-ltb x known l)
 
 known-new : (known x : ℕ) (xs : List ℕ) → x ≡ known → known_after known (x ∷ xs) ≡ known_after (known + 1) xs

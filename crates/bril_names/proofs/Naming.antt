@@ -1,10 +1,11 @@
 -- Numbers of names: names that differ have one number each.
-use Rattle.std.proofs.Common.{◌≡◌, ◌≢◌, ◌⊎◌, ℕ, zero, suc, ◌+◌, ◌<◌, ◌≤◌, true, List, [], ◌∷◌, ◌++◌, length, map, take, get_or, nat_lt, refl, sym, ◌∙◌, arith, inl, inr, ltb-true, lt-ltb}
+use Rattle.std.proofs.Common.{◌≡◌, ◌≢◌, ◌⊎◌, ℕ, zero, suc, ◌+◌, ◌<◌, ◌≤◌, true, List, [], ◌∷◌, ◌++◌, length, map, take, get_or, nat_lt, refl, sym, ◌∙◌, arith, inl, inr, ltb-true, lt-ltb, subst}
 use Rattle.std.specs.List.{list_all, range_with_len, AllPairs, Contains}
 use Rattle.std.proofs.lemmas.Bool.{cases_order, and_parts, and_from}
 use Rattle.std.proofs.lemmas.List.{length-map, length-take, get_or-map, get_or-take}
 use Rattle.std.proofs.lemmas.List.Elements.{All-nil, All-cons, All-head, All-tail, Contains-get_or}
 use Rattle.bril_tree.specs.Numbered.{named}
+use Rattle.bril_tree.specs.Membership.{In}
 use Rattle.bril_names.specs.Faults.{Differ, AreAmong}
 use Rattle.bril_names.specs.Range.{AreBelow}
 
@@ -47,6 +48,11 @@ pub AreBelow-at : (n : ℕ) (xs : List ℕ) (i d : ℕ) → i < length xs → Ar
 AreBelow-at n [] i d within below = absurd (omega arith)
 AreBelow-at n (x ∷ xs) zero d within below = below.0
 AreBelow-at n (x ∷ xs) (suc i) d within below = AreBelow-at n xs i d (omega arith) below.1
+
+pub AreBelow-in : (n : ℕ) (xs : List ℕ) → AreBelow n xs → (x : ℕ) → In x xs → x < n
+AreBelow-in n [] h x i = absurd i
+AreBelow-in n (y ∷ xs) h x (inl e) = subst (λ z. z < n) (sym e) h.0
+AreBelow-in n (y ∷ xs) h x (inr i) = AreBelow-in n xs h.1 x i
 
 pub AreBelow-append : (n : ℕ) (xs ys : List ℕ) → AreBelow n (xs ++ ys) → AreBelow n xs × AreBelow n ys
 AreBelow-append n [] ys below = (tt, below)

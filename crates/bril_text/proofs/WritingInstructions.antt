@@ -13,7 +13,7 @@ use Rattle.bril_text.specs.Canonical.{names_text, operands_text, literal_text, t
 use Rattle.bril_tree.specs.TreeForm.{AreNames, IsDest, IsItem}
 use Rattle.bril_text.proofs.WritingPieces.{Prints, nothing, token, blank, mark, both, same_text}
 use Rattle.bril_text.proofs.WritingTypes.{Ends, typed_prints}
-use Rattle.bril_text.proofs.WritingTerminals.{literal_prints, operation_prints, names_print, function_each, variable_each, label_each}
+use Rattle.bril_text.proofs.WritingTerminals.{literal_prints, operation_prints, names_print, function_each, variable_each, label_each, names_end}
 use Rattle.bril_text.proofs.WritingSources.{operands_of, line_of}
 
 -- `;` and LF
@@ -25,11 +25,6 @@ end_terminals = Terminal.Punctuation Semicolon ∷ []
 
 end_prints : (following : List ℕ) → Prints end_text following end_terminals
 end_prints following = mark 59 (10 ∷ []) following [] refl (blank 10 [] following [] refl (nothing following))
-
--- names, each after a blank and a sign, before what ends an instruction
-names_end : (sign : List ℕ) (names : List (List ℕ)) (more following : List ℕ) → Ends (more ++ following) → Ends ((names_text (32 ∷ sign) names ++ more) ++ following)
-names_end sign [] more following e = e
-names_end sign (n ∷ ns) more following e = refl
 
 -- the operands and what ends an instruction
 abbrev tail_text : (args funcs labels : List (List ℕ)) → List ℕ

@@ -1,9 +1,8 @@
 -- Lists that grow while they are written.
-use Rattle.std.proofs.Common.{◌≡◌, ℕ, zero, suc, ◌+◌, ◌<◌, ◌≤◌, Result, Ok, Err, List, [], ◌∷◌, ◌++◌, length, take, get_or, sym, ap, ◌∙◌, append_assoc, append-nil, add-one}
-use Rattle.std.specs.List.{repeat, flat_map, All}
+use Rattle.std.proofs.Common.{◌≡◌, ℕ, zero, suc, ◌+◌, ◌<◌, Result, Ok, Err, List, [], ◌∷◌, ◌++◌, length, take, get_or, sym, ap, ◌∙◌, append_assoc, append-nil, add-one}
+use Rattle.std.specs.List.{repeat, flat_map}
 use Rattle.std.specs.Result.{OnOk}
-use Rattle.std.proofs.lemmas.List.{take_more, take_all, flat_map_more}
-use Rattle.std.proofs.lemmas.List.Elements.{All-more, All-same}
+use Rattle.std.proofs.lemmas.List.{take_more, flat_map_more}
 
 repeat-suc : {A : Type 0} (n : ℕ) (xs : List A) → repeat (suc n) xs ≡ repeat n xs ++ xs
 repeat-suc zero xs = append-nil xs
@@ -22,17 +21,9 @@ items_written f xs i x old now next h g e p =
     p ∙ ap (λ l. l ++ f x) e ∙ flat_map_more f old (take i xs) x
     ∙ ap (λ l. old ++ flat_map f l) (ap (λ y. take i xs ++ (y ∷ [])) g ∙ sym (take_more xs i x h))
 
--- one more item is valid
-pub items_valid : {X : Type 0} (P : X → Type 0) (xs : List X) (i : ℕ) (x : X) → i < length xs → x ≡ get_or xs i x → All P (take i xs) → P x → All P (take (i + 1) xs)
-items_valid P xs i x h g all p = All-more P xs i x h all (let at : P (get_or xs i x) = rw (← g) p in at)
-
 -- one piece after another
 pub two_written : (now then last p q : List ℕ) → then ≡ now ++ p → last ≡ then ++ q → last ≡ now ++ (p ++ q)
 two_written now then last p q e f = f ∙ ap (λ l. l ++ q) e ∙ append_assoc now p q
-
--- all items are valid
-pub all_valid : {X : Type 0} (P : X → Type 0) (xs : List X) (i : ℕ) → length xs ≤ i → All P (take i xs) → All P xs
-all_valid P xs i h all = All-same P xs (take i xs) (sym (take_all i xs h)) all
 
 pub on_ok : {T E P : Type 0} (r : Result T E) → P → OnOk r P
 on_ok (Ok x) p = p

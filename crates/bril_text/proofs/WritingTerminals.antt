@@ -60,7 +60,7 @@ pub operation_prints : (o : Op) (more following : List ℕ) (terminals : List Te
 operation_prints o more following terminals e p = token kind.Identifier (operation_text o) more following terminals (operation_is o) e p
 
 -- names, each after a blank and a sign
-names_end : (sign : List ℕ) (names : List (List ℕ)) (more following : List ℕ) → Ends (more ++ following) → Ends ((names_text (32 ∷ sign) names ++ more) ++ following)
+pub names_end : (sign : List ℕ) (names : List (List ℕ)) (more following : List ℕ) → Ends (more ++ following) → Ends ((names_text (32 ∷ sign) names ++ more) ++ following)
 names_end sign [] more following e = e
 names_end sign (n ∷ ns) more following e = refl
 
@@ -75,7 +75,7 @@ names_print sign operand each (n ∷ ns) more following os terminals are e p =
     blank 32 (((sign ++ n) ++ after) ++ more) following (operand_terminal (operand n) ∷ later) refl (same_text _ _ following (operand_terminal (operand n) ∷ later) joined here)
 
 -- what doesn't continue an identifier doesn't continue a function or a label
-function_ends : (l : List ℕ) → Ends l → ends_before kind.Function l ≡ true
+pub function_ends : (l : List ℕ) → Ends l → ends_before kind.Function l ≡ true
 function_ends [] e = refl
 function_ends (x ∷ xs) e = e
 

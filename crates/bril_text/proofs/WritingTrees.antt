@@ -28,11 +28,7 @@ use Rattle.bril_text.proofs.WritingPieces.{Prints, nothing, token, blank, mark, 
 use Rattle.bril_text.proofs.WritingTypes.{Ends, type_prints, typed_prints, list_prints, all_print}
 use Rattle.bril_text.proofs.WritingInstructions.{item_prints}
 use Rattle.bril_text.proofs.WritingSources.{some_args, line_of, written_of, source_of, tree_of-source}
-
--- what doesn't continue an identifier doesn't continue a function
-function_ends : (l : List ℕ) → Ends l → ends_before kind.Function l ≡ true
-function_ends [] e = refl
-function_ends (x ∷ xs) e = e
+use Rattle.bril_text.proofs.WritingTerminals.{function_ends}
 
 alias_prints : (alias : Option (List ℕ)) (following : List ℕ) → IfSome alias IsName → Ends following → Prints (alias_text alias) following (alias_terminals alias)
 alias_prints None following is e = nothing following

@@ -1,5 +1,5 @@
 -- The branches from a point: where they leave, where they lead, and which of them abort.
-use Rattle.std.proofs.Common.{◌≡◌, ℕ, suc, ◌<◌, ◌≤◌, Bool, true, List, [], ◌∷◌, length, Option, Some, None, map, refl, sym, ap, subst, inl, inr, arith}
+use Rattle.std.proofs.Common.{◌≡◌, ℕ, suc, ◌<◌, ◌≤◌, Bool, true, List, [], ◌∷◌, length, Option, Some, None, map, refl, sym, ap, subst, inl, inr, arith, false}
 use Rattle.std.specs.Prelude.{slice_get}
 use Rattle.std.proofs.lemmas.Bool.{cond_both}
 use Rattle.std.proofs.lemmas.Option.{slice_get_within}
@@ -9,7 +9,7 @@ use Rattle.bril_tree.specs.declared.operation.Op.{Op}
 use Rattle.bril_tree.specs.declared.operation.Op.TheVariants as op
 use Rattle.bril_tree.specs.Edge.{Branch, onward, jump, abort, branches_from, branches_at, action_branches, item_branches}
 use Rattle.bril_tree.specs.Membership.{In}
-use Rattle.bril_tree.specs.Sites.{Closes, item_change}
+use Rattle.bril_tree.specs.Sites.{Closes, item_change, Opens}
 use Rattle.bril_tree.specs.Step.{point_of, is_label}
 use Rattle.bril_tree.specs.Walk.{IsWalk, IsReached, end_of}
 use Rattle.bril_tree.proofs.Members.{in_contains, contains_in, in_map_source}
@@ -137,3 +137,13 @@ branch_of_parts from to aborts = record { from = from; to = to; aborts = aborts 
 pub same_branch : (e f : Branch) → e.from ≡ f.from → e.to ≡ f.to → e.aborts ≡ f.aborts → e ≡ f
 same_branch e f p q r =
     let parts : branch_of_parts e.from e.to e.aborts ≡ branch_of_parts f.from f.to f.aborts = cc in parts
+
+-- no item opens a site and closes one
+pub opens-or_closes : (item : Option Instr) → item_change item false ≡ Opens → item_change item true ≡ Closes → ⊥
+opens-or_closes None a b = cc
+opens-or_closes (Some (Label l)) a b = cc
+opens-or_closes (Some (Const dest ty value)) a b = cc
+opens-or_closes (Some (Act dest ty op.Speculate args funcs labels)) a b = cc
+opens-or_closes (Some (Act dest ty op.Commit args funcs labels)) a b = cc
+opens-or_closes (Some (Act dest ty op.Guard args funcs labels)) a b = cc
+opens-or_closes (Some (Act dest ty _ args funcs labels)) a b = cc

@@ -1,9 +1,11 @@
 -- What stands at a location of a list is in it.
-use Rattle.std.proofs.Common.{◌≡◌, ℕ, zero, suc, ◌<◌, Bool, true, List, [], ◌∷◌, length, All, Some, None, refl, sym, ap, ◌∙◌, subst, inl, inr, arith}
+use Rattle.std.proofs.Common.{◌≡◌, ℕ, zero, suc, ◌<◌, Bool, true, List, [], ◌∷◌, length, All, Some, None, refl, sym, ap, ◌∙◌, subst, inl, inr, arith, ◌≤◌, ◌++◌, ◌⊎◌, ⊎_elim, ◌+◌, take, get_or}
 use Rattle.std.specs.Prelude.{slice_get, slice_index}
 use Rattle.std.specs.List.{list_all, AllZip}
-use Rattle.std.proofs.lemmas.Bool.{and_parts}
-use Rattle.std.proofs.lemmas.Option.{get_or_from_slice_get, slice_get_within, same_Some}
+use Rattle.std.proofs.lemmas.Bool.{and_parts, cases_lt}
+use Rattle.std.proofs.lemmas.Option.{get_or_from_slice_get, slice_get_within, same_Some, slice_get-get_or}
+use Rattle.std.proofs.lemmas.List.{take_all}
+use Rattle.std.proofs.lemmas.List.Elements.{All-more, All-same}
 use Rattle.bril_tree.specs.Membership.{In}
 
 pub get_in : {A : Type 0} (xs : List A) (k : ℕ) (x : A) → slice_get xs k ≡ Some x → In x xs
@@ -30,6 +32,16 @@ get_inside (x ∷ xs) (suc k) less = get_inside xs k (omega arith)
 -- and none past the last
 pub none_past : {A : Type 0} (xs : List A) (k : ℕ) → k < length xs → slice_get xs k ≡ None → ⊥
 none_past xs k less e = let x = get_inside xs k less in let f : None ≡ Some x.0 = sym e ∙ x.1 in cc
+
+pub past_end : {A : Type 0} (xs : List A) (k : ℕ) → slice_get xs k ≡ None → length xs ≤ k
+past_end xs k e = ⊎_elim (λ less. absurd (none_past xs k less e)) (λ past. past) (cases_lt k (length xs))
+
+-- where one is put behind the last
+pub pushed_get : {A : Type 0} (xs : List A) (a : A) (k : ℕ) (b : A) → slice_get (xs ++ a ∷ []) k ≡ Some b → (slice_get xs k ≡ Some b) ⊎ ((k ≡ length xs) × (a ≡ b))
+pushed_get [] a zero b e = inr (refl, same_Some a b e)
+pushed_get [] a (suc k) b e = absurd (let n : None ≡ Some b = e in cc)
+pushed_get (x ∷ xs) a zero b e = inl e
+pushed_get (x ∷ xs) a (suc k) b e = ⊎_elim inl (λ h. inr (ap suc h.0, h.1)) (pushed_get xs a k b e)
 
 pub All-at : {A : Type 0} (P : A → Type 0) (xs : List A) (k : ℕ) (x : A) → All P xs → slice_get xs k ≡ Some x → P x
 All-at P xs k x h e = subst P (get_or_from_slice_get xs k x x e) (h k x (slice_get_within xs k x e))
@@ -65,3 +77,17 @@ zip-find R xs [] y z h = absurd h
 zip-find R [] (w ∷ ys) y z h = absurd z
 zip-find R (x ∷ xs) (w ∷ ys) y z (inl e) = (x, inl refl, subst (R x) (sym e) z.0)
 zip-find R (x ∷ xs) (w ∷ ys) y z (inr h) = let r = zip-find R xs ys y z.1 h in (r.0, inr r.1, r.2)
+
+-- ---- lists that are walked through
+
+-- what holds of the first holds of one more
+pub All-one_more : {A : Type 0} (P : A → Type 0) (xs : List A) (i : ℕ) (x : A) → i < length xs → x ≡ get_or xs i x → All P (take i xs) → P x → All P (take (i + 1) xs)
+All-one_more P xs i x h g all p = All-more P xs i x h all (let at : P (get_or xs i x) = rw (← g) p in at)
+
+-- and in the end of all
+pub All-whole : {A : Type 0} (P : A → Type 0) (xs : List A) (i : ℕ) → length xs ≤ i → All P (take i xs) → All P xs
+All-whole P xs i h all = All-same P xs (take i xs) (sym (take_all i xs h)) all
+
+-- the item at an index of a list that is another's
+pub get_at : {A : Type 0} (items code : List A) → items ≡ code → (k : ℕ) (a : A) → k < length items → a ≡ get_or items k a → slice_get code k ≡ Some a
+get_at items code same k a within is = subst (λ c. slice_get c k ≡ Some a) same (slice_get-get_or items k a within ∙ ap Some (sym is))

@@ -10,6 +10,7 @@ use Rattle.bril_tree.specs.FunctionForm.{label_at}
 use Rattle.bril_tree.specs.Labels.{labels_from, IsLabelTable}
 use Rattle.bril_tree.specs.Membership.{In}
 use Rattle.bril_tree.specs.Step.{point_of}
+use Rattle.bril_tree.specs.declared.numbered_function.Func.{Func}
 
 -- ---- a label stands at its point
 
@@ -50,7 +51,7 @@ range_high k zero x i = absurd i
 range_high k (suc n) x (inl e) = omega arith
 range_high k (suc n) x (inr i) = let h = range_high (k + 1) n x i in omega arith
 
-label_listed : (items : List Instr) (j m : ℕ) → slice_get items j ≡ Some (Label m) → In m (flat_map label_at items)
+pub label_listed : (items : List Instr) (j m : ℕ) → slice_get items j ≡ Some (Label m) → In m (flat_map label_at items)
 label_listed [] j m e = absurd (let f : None ≡ Some (Label m) = e in cc)
 label_listed (Label l ∷ items) zero m e = inl (let s : Label l ≡ Label m = same_Some _ _ e in cc)
 label_listed (Const d ty v ∷ items) zero m e = absurd (let s : Const d ty v ≡ Label m = same_Some _ _ e in cc)
@@ -75,6 +76,10 @@ label-at_point k (suc n) (Label l ∷ items) placed (suc j) m e =
     ap (λ b. cond b 0 (suc (point_of m items))) (ne_eqb l m (λ s. omega (arith, s, first, low))) ∙ ap suc (label-at_point (k + 1) n items rest j m e)
 label-at_point k n (Const d ty v ∷ items) placed (suc j) m e = ap suc (label-at_point k n items placed j m e)
 label-at_point k n (Act d ty o args fns ls ∷ items) placed (suc j) m e = ap suc (label-at_point k n items placed j m e)
+
+-- so a label stands at one point
+pub label-one : (F : Func) (j k l : ℕ) → slice_get F.code j ≡ Some (Label l) → slice_get F.code k ≡ Some (Label l) → j ≡ k
+label-one F j k l a b = sym (label-at_point 0 (length F.labels) F.code F.formed.placed j l a) ∙ label-at_point 0 (length F.labels) F.code F.formed.placed k l b
 
 -- ---- the table of labels
 

@@ -9,6 +9,7 @@ pub mod First
 pub mod Formed
 pub mod Grows
 pub mod HeldValues
+pub mod Identifiers
 pub mod LabelPoints
 pub mod Liveness
 pub mod Measures

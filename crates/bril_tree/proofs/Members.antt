@@ -18,6 +18,14 @@ contains_in x [] h = absurd h
 contains_in x (y ∷ ys) (inl e) = (0, omega arith, sym e)
 contains_in x (y ∷ ys) (inr h) = let c = contains_in x ys h in (suc c.0, omega (arith, c.1), c.2)
 
+-- what is in a list of one is that one
+pub contains_one : {A : Type 0} (x y : A) → Contains (y ∷ []) x → x ≡ y
+contains_one x y c = by (in_contains x (y ∷ []) c)
+  where
+    by : In x (y ∷ []) → x ≡ y
+    by (inl e) = e
+    by (inr h) = absurd h
+
 pub in_append_left : {A : Type 0} (x : A) (xs ys : List A) → In x xs → In x (xs ++ ys)
 in_append_left x [] ys h = absurd h
 in_append_left x (z ∷ xs) ys (inl e) = inl e

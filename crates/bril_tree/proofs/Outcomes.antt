@@ -84,7 +84,7 @@ module _ (returns : Bool) (ty : Option Ty) (dest : Bool) (n funcs labels : ℕ) 
 
 -- ---- operations that always yield a value or a fault
 
-either-yields : (b : Bool) (v : Value) (kind : Fault) → cond b (Yields v) (FaultsWith kind) ≡ HasEffect → ⊥
+pub either-yields : (b : Bool) (v : Value) (kind : Fault) → cond b (Yields v) (FaultsWith kind) ≡ HasEffect → ⊥
 either-yields true v kind e = cc
 either-yields false v kind e = cc
 

@@ -72,7 +72,7 @@ nothing_at p f point at = by (slice_get p.funcs f) at
 
 -- ---- an item that does nothing
 
-none_from : {A B : Type 0} (g : A → B) (xs : List A) → map g xs ≡ [] → xs ≡ []
+pub none_from : {A B : Type 0} (g : A → B) (xs : List A) → map g xs ≡ [] → xs ≡ []
 none_from g [] e = refl
 none_from g (x ∷ xs) e = absurd cc
 

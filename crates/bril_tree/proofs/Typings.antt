@@ -14,12 +14,18 @@ use Rattle.bril_tree.specs.declared.types.Ty.{Ty}
 use Rattle.bril_tree.specs.FunctionForm.{dest_is_typed, first_of_two, first_type, type_assigned, typed_if}
 use Rattle.bril_tree.specs.Membership.{In}
 use Rattle.bril_tree.specs.Operand.{dest_of}
-use Rattle.bril_tree.specs.Typing.{both_typed, same_base, same_type, variable_type}
+use Rattle.bril_tree.specs.Typing.{both_typed, same_base, same_type, variable_type, wrong_unless}
 use Rattle.bril_tree.proofs.Elements.{get_inside}
+
+-- ---- no fault
+
+pub typed-unless : (b : Bool) → wrong_unless b ≡ None → b ≡ true
+typed-unless true e = refl
+typed-unless false e = absurd cc
 
 -- ---- equal types
 
-same_base-is : (a b : Base) → same_base a b ≡ true → a ≡ b
+pub same_base-is : (a b : Base) → same_base a b ≡ true → a ≡ b
 same_base-is base.Int base.Int e = refl
 same_base-is base.Bool base.Bool e = refl
 same_base-is base.Char base.Char e = refl

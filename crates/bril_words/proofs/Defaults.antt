@@ -4,6 +4,7 @@ use Rattle.std.specs.Prelude.{find, fold, option_and_then, slice_get}
 use Rattle.std.specs.List.{list_all}
 use Rattle.std.specs.Str.{bytes_eq}
 use Rattle.std.proofs.lemmas.Slice.Eq.{bytes_eq-Decides}
+use Rattle.std.proofs.lemmas.Bool.{or_parts, and_parts, not-true}
 use Rattle.clap.specs.Walk.{Row, Rule, Text, default_rows, first_of, has_row, is_empty, more_values, reading_by, with_default}
 use Rattle.clap.specs.Faults.{default_fault, defaults_fault, given_default_fault}
 use Rattle.clap.specs.declared.builder.value_parser.Reading.{Reading}
@@ -12,7 +13,6 @@ use Rattle.clap.proofs.SimpleLemmas.{is_nil}
 use Rattle.bril_words.specs.CommandLine.{is_true}
 use Rattle.bril_words.proofs.Rows.{at_row_fresh, new_row}
 use Rattle.bril_words.proofs.Ready.{first_text, is_harmless, is_quiet, spares}
-use Rattle.bril_words.proofs.Tests.{or_false, and_true, not_true}
 
 abbrev pub find_id : Text → List Row → Option Row
 find_id id rows = find (λ r. bytes_eq r.id id) rows
@@ -41,7 +41,7 @@ find_after id (x ∷ xs) r e = ap (λ (o : Option Row). cond (bytes_eq x.id id) 
 pub find_last : (id : Text) (rows : List Row) (r : Row) → has_row id rows ≡ false → find_id id (rows ++ r ∷ []) ≡ find_id id (r ∷ [])
 find_last id [] r e = refl
 find_last id (x ∷ xs) r e =
-    let both = or_false (bytes_eq x.id id) (has_row id xs) e in
+    let both = or_parts (bytes_eq x.id id) (has_row id xs) e in
     rw both.0 (find_last id xs r both.1)
 
 -- a default comes last, where its id isn't there
@@ -82,12 +82,12 @@ default_spared a id rows spared = go (has_row a.id rows) a.defaults refl spared
     go false [] is e = refl
     go false (v ∷ vs) is e =
         ap (find_id id) (default_last a.id (reading_by a) (v ∷ vs) rows is v vs refl)
-        ∙ find_after id rows (new_row a.id (reading_by a) DefaultValue (v ∷ vs)) (not_true (bytes_eq a.id id) (rw (filled_is v vs) at e))
+        ∙ find_after id rows (new_row a.id (reading_by a) DefaultValue (v ∷ vs)) (not-true (bytes_eq a.id id) (rw (filled_is v vs) at e))
 
 pub defaults_spared : (rules : List Rule) (id : Text) (rows : List Row) → list_all (spares id) rules ≡ true → find_id id (fold with_default rows rules) ≡ find_id id rows
 defaults_spared [] id rows e = refl
 defaults_spared (a ∷ rules) id rows e =
-    let both = and_true (spares id a) (list_all (spares id) rules) e in
+    let both = and_parts (spares id a) (list_all (spares id) rules) e in
     defaults_spared rules id (with_default rows a) both.1 ∙ default_spared a id rows both.0
 
 -- ---- a flag whose default is `false`
@@ -129,7 +129,7 @@ pub defaults_quiet : (rules : List Rule) (id : Text) (rows : List Row) → list_
     → is_true (first_of id (fold with_default rows rules)) ≡ is_true (first_of id rows)
 defaults_quiet [] id rows e = refl
 defaults_quiet (a ∷ rules) id rows e =
-    let both = and_true (is_quiet a) (list_all is_quiet rules) e in
+    let both = and_parts (is_quiet a) (list_all is_quiet rules) e in
     defaults_quiet rules id (with_default rows a) both.1 ∙ default_quiet a id rows both.0
 
 -- ---- no default fails
@@ -146,5 +146,5 @@ pub defaults_harmless : (rules : List Rule) (rows : List Row) → list_all is_ha
 unfolding defaults_fault
 defaults_harmless [] rows e = refl
 defaults_harmless (a ∷ rules) rows e =
-    let both = and_true (is_harmless a) (list_all is_harmless rules) e in
+    let both = and_parts (is_harmless a) (list_all is_harmless rules) e in
     rw (default_harmless a rows both.0) (defaults_harmless rules (with_default rows a) both.1)

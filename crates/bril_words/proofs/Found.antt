@@ -1,5 +1,6 @@
 -- What is found in the rows of pieces.
 use Rattle.std.proofs.Common.{◌≡◌, refl, sym, Bool, true, false, cond, List, [], ◌∷◌, ◌||◌, true≢false, Option, Some, codes, length, inl, inr, arith}
+use Rattle.std.proofs.lemmas.Bool.{or_right}
 use Rattle.std.specs.Prelude.{option_and_then, slice_get, if◌then◌else◌}
 use Rattle.std.specs.Option.{option_map_or}
 use Rattle.std.specs.Str.{bytes_eq}
@@ -48,10 +49,6 @@ given_there os (joined x v ∷ ps) id there = given_more (option_name x) id v (r
 given_there os (flag x ∷ ps) id there = given_more (flag_name x) id (codes "true") (rows_in os ps) (given_there os ps id) there
 given_there [] (operand v ∷ ps) id there = given_there [] ps id there
 given_there (o ∷ os) (operand v ∷ ps) id there = given_more (operand_id o) id v (rows_in os ps) (given_there os ps id) there
-
-or_right : (a b : Bool) → b ≡ true → (a || b) ≡ true
-or_right true b e = refl
-or_right false b e = e
 
 same_operand : (o : Operand) → bytes_eq (operand_id o) (operand_id o) ≡ true
 same_operand File = refl

@@ -3,6 +3,7 @@ use Rattle.std.proofs.Common.{◌≡◌, ◌∙◌, refl, true, false, not, List
 use Rattle.std.specs.List.{list_any}
 use Rattle.std.specs.Str.{bytes_eq}
 use Rattle.std.proofs.lemmas.List.Folds.{list_any-append}
+use Rattle.std.proofs.lemmas.Bool.{and_parts, or_parts, not-true}
 use Rattle.clap.specs.Walk.{Row, Text, has_row}
 use Rattle.bril_words.specs.declared.options.Operand.{Operand}
 use Rattle.bril_words.specs.Options.{option_name, flag_name, operand_id}
@@ -10,7 +11,6 @@ use Rattle.bril_words.specs.Plain.{Piece, apart, joined, flag, operand, are_dist
 use Rattle.bril_words.proofs.OptionWords.{flag_apart, operand_apart, operand_of_flag, option_apart}
 use Rattle.bril_words.proofs.Pieces.{AllOf, AreNew}
 use Rattle.bril_words.proofs.Steps.{given}
-use Rattle.bril_words.proofs.Tests.{and_true, or_false, not_true}
 
 abbrev IsNew : List Row → Text → Type 0
 IsNew rows name = has_row name rows ≡ false
@@ -31,7 +31,7 @@ all_new name (x ∷ xs) rows id values new other = (new_more rows (name x) id va
 
 none_same : (id : Text) (xs : List Text) → list_any (bytes_eq id) xs ≡ false → AllOf (λ x. bytes_eq id x ≡ false) xs
 none_same id [] e = tt
-none_same id (x ∷ xs) e = let both = or_false (bytes_eq id x) (list_any (bytes_eq id) xs) e in (both.0, none_same id xs both.1)
+none_same id (x ∷ xs) e = let both = or_parts (bytes_eq id x) (list_any (bytes_eq id) xs) e in (both.0, none_same id xs both.1)
 
 operands_apart : (id : Text) (os : List Operand) → ((o : Operand) → bytes_eq id (operand_id o) ≡ false) → AllOf (λ o. bytes_eq id (operand_id o) ≡ false) os
 operands_apart id [] f = tt
@@ -50,9 +50,9 @@ name_new : (id : Text) (values : List Text) (ps : List Piece) (os : List Operand
     → (AllOf (IsNew (rows ++ given id values ∷ [])) (names_in ps) → AllOf (λ o. IsNew (rows ++ given id values ∷ []) (operand_id o)) os → are_distinct (names_in ps) ≡ true → AreNew (rows ++ given id values ∷ []) os ps)
     → IsNew rows id × AreNew (rows ++ given id values ∷ []) os ps
 name_new id values ps os rows new operands distinct apart_ rest =
-    let both = and_true (not (list_any (bytes_eq id) (names_in ps))) (are_distinct (names_in ps)) distinct in (
+    let both = and_parts (not (list_any (bytes_eq id) (names_in ps))) (are_distinct (names_in ps)) distinct in (
       new.0,
-      rest (all_new (λ n. n) (names_in ps) rows id values new.1 (none_same id (names_in ps) (not_true _ both.0))) (all_new operand_id os rows id values operands (operands_apart id os apart_)) both.1,
+      rest (all_new (λ n. n) (names_in ps) rows id values new.1 (none_same id (names_in ps) (not-true _ both.0))) (all_new operand_id os rows id values operands (operands_apart id os apart_)) both.1,
     )
 
 pub are_new : (ps : List Piece) (os : List Operand) (rows : List Row) → AllOf (IsNew rows) (names_in ps) → AllOf (λ o. IsNew rows (operand_id o)) os

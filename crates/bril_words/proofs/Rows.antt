@@ -1,17 +1,17 @@
 -- Rows of matches under an id that is new to them.
 use Rattle.std.proofs.Common.{◌≡◌, ◌∙◌, refl, ap, false, List, [], ◌∷◌, ◌++◌, append-nil, Some, None}
+use Rattle.std.proofs.lemmas.Bool.{or_parts}
 use Rattle.std.specs.Str.{bytes_eq}
 use Rattle.clap.specs.Walk.{Row, Text, at_row, has_row, more_values, without, with_values}
 use Rattle.clap.specs.declared.builder.value_parser.Reading.{Reading}
 use Rattle.clap.specs.declared.parser.matches.ValueSource.{ValueSource}
 use Rattle.clap.specs.declared.parser.matches.ValueSource.TheVariants.{CommandLine}
-use Rattle.bril_words.proofs.Tests.{or_false}
 
 pub at_row_fresh : (id : Text) (change : Row → List Row) (missing rows : List Row) → has_row id rows ≡ false
     → at_row id change missing rows ≡ rows ++ missing
 at_row_fresh id change missing [] e = refl
 at_row_fresh id change missing (r ∷ rs) e =
-    let both = or_false (bytes_eq r.id id) (has_row id rs) e in
+    let both = or_parts (bytes_eq r.id id) (has_row id rs) e in
     rw both.0 (ap (λ (t : List Row). r ∷ t) (at_row_fresh id change missing rs both.1))
 
 pub without_fresh : (id : Text) (rows : List Row) → has_row id rows ≡ false → without id rows ≡ rows

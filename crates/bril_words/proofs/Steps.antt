@@ -1,5 +1,6 @@
 -- One word after another: what the walk does at the words of a piece.
 use Rattle.std.proofs.Common.{◌≡◌, ◌∙◌, refl, sym, ap, Bool, true, false, not, ℕ, List, [], ◌∷◌, ◌++◌, true≢false, Option, Some, None, min, ◌+◌, codes}
+use Rattle.std.proofs.lemmas.Bool.{not-true}
 use Rattle.std.specs.Prelude.{◌==◌}
 use Rattle.std.specs.Str.{bytes_eq}
 use Rattle.clap.specs.Lexer.{long_of, short_of, usize_max}
@@ -12,7 +13,6 @@ use Rattle.clap.specs.declared.builder.value_parser.Reading.TheVariants.{AsWritt
 use Rattle.clap.specs.declared.parser.matches.ValueSource.TheVariants.{CommandLine}
 use Rattle.bril_words.specs.Plain.{is_plain}
 use Rattle.bril_words.proofs.Rows.{new_row, set_fresh}
-use Rattle.bril_words.proofs.Tests.{not_true}
 
 -- an argument that takes one value, as it is built
 abbrev pub taking : Text → Option Text → Option ℕ → Bool → Rule
@@ -82,7 +82,7 @@ pub record IsPlainWord (v : Text) : Type 0 where
 pub plain_word_is : (v : Text) → is_plain v ≡ true → IsPlainWord v
 plain_word_is [] e = absurd (true≢false (sym e))
 plain_word_is (b ∷ bs) e =
-    let other : (b == 45) ≡ false = not_true (b == 45) e in
+    let other : (b == 45) ≡ false = not-true (b == 45) e in
     record { long = rw other refl; short = rw other refl; dash = rw other refl }
 
 -- the word names an option, alone or with a value

@@ -1,5 +1,6 @@
 -- Words that `clap` takes name a command.
 use Rattle.std.proofs.Common.{◌≡◌, ◌∙◌, refl, sym, ap, Bool, true, false, not, List, [], ◌∷◌, drop, Option, Some, None, is_some, cond, Result, Err, true≢false}
+use Rattle.std.proofs.lemmas.Bool.{not-false}
 use Rattle.std.specs.Prelude.{find}
 use Rattle.std.specs.Option.{option_map}
 use Rattle.clap.specs.Kinds.{Kinds, or_else}
@@ -19,7 +20,6 @@ use Rattle.bril_words.specs.Defaults.{most_frames, most_functions, most_cells, m
 use Rattle.bril_words.specs.declared.options.Setting.{Setting}
 use Rattle.bril_words.specs.declared.options.Setting.TheVariants.{Passes, Frames, Cells, Steps, Hot, Most}
 use Rattle.bril_words.proofs.Pieces.{AllOf}
-use Rattle.bril_words.proofs.Tests.{not_false}
 
 both_nil : (a b : Kinds) → or_else a b ≡ [] → (a ≡ []) × (b ≡ [])
 both_nil [] b e = (refl, e)
@@ -82,7 +82,7 @@ matched_is given = refl
 
 taken_command : (given : List Text) → is_refused given ≡ false → (m : Text × List Row) × (matched given ≡ Some m) × ((c : Subcommand) × (subcommand_named m.0 ≡ Some c))
 taken_command given taken =
-    let none = is_nil (built_fault (built whole_app) nothing_held (drop 1 given)) (not_false _ (sym (refused_is given) ∙ taken)) in
+    let none = is_nil (built_fault (built whole_app) nothing_held (drop 1 given)) (not-false _ (sym (refused_is given) ∙ taken)) in
     let met = entered_command (built whole_app) whole_commands _ (has_it (built whole_app) whole_commands (drop 1 given) whole_wants.0 whole_wants.1 none) in
     (met.0, matched_is given ∙ met.1, met.2)
 

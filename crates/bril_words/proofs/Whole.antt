@@ -2,6 +2,7 @@
 use Rattle.std.proofs.Common.{◌≡◌, ◌∙◌, refl, sym, ap, ap₂, Bool, true, false, not, ℕ, List, [], ◌∷◌, ◌++◌, true≢false, codes, length, arith, append_assoc, append-nil, Option, Some, None, is_some, inl, inr, drop, take, suc, ◌+◌, Result, Err}
 use Rattle.std.specs.Prelude.{fold, option_and_then, slice_get, if◌then◌else◌}
 use Rattle.std.proofs.Math.Seq.{take-append_seam}
+use Rattle.std.proofs.lemmas.Bool.{or_parts}
 use Rattle.std.specs.List.{list_any, before_first, after_first, position_or_len}
 use Rattle.std.specs.Option.{option_map_or}
 use Rattle.std.specs.Str.{bytes_eq}
@@ -31,7 +32,6 @@ use Rattle.bril_words.specs.declared.options.Flag.TheVariants.{Stats}
 use Rattle.bril_words.proofs.Pieces.{AllOf, Ends, or_else_free, rows_in, walk_pieces}
 use Rattle.bril_words.proofs.Ready.{Meets, Ready, meets, ready, ready_shape, stopped_at}
 use Rattle.bril_words.proofs.Steps.{plain_word_is}
-use Rattle.bril_words.proofs.Tests.{or_false}
 use Rattle.bril_words.proofs.Taken.{matched_is, refused_is}
 
 -- ---- one command
@@ -173,14 +173,14 @@ named_is subcommand.Demo = refl
 at_end : (xs ys : List Text) (y : Text) → list_any is_end xs ≡ false → is_end y ≡ true → position_or_len is_end (xs ++ y ∷ ys) ≡ length xs
 at_end [] ys y e hit = rw hit refl
 at_end (x ∷ xs) ys y e hit =
-    let both = or_false (is_end x) (list_any is_end xs) e in
+    let both = or_parts (is_end x) (list_any is_end xs) e in
     let rest = at_end xs ys y both.1 hit in
     rw (both.0, rest) (omega arith)
 
 at_none : (xs : List Text) → list_any is_end xs ≡ false → position_or_len is_end xs ≡ length xs
 at_none [] e = refl
 at_none (x ∷ xs) e =
-    let both = or_false (is_end x) (list_any is_end xs) e in
+    let both = or_parts (is_end x) (list_any is_end xs) e in
     let rest = at_none xs both.1 in
     rw (both.0, rest) (omega arith)
 

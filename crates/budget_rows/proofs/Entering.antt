@@ -18,7 +18,7 @@ use Rattle.bril_tree.proofs.Counting.{no_more_items}
 use Rattle.bril_tree.proofs.Members.{in_contains, in_flat_map, in_flat_map_source, in_map, in_map_source}
 use Rattle.live_entries.specs.LiveEntries.{IsLiveEntry, IsLiveEntryCount}
 use Rattle.live_entries.proofs.Deciding.{all-edges, edge-there}
-use Rattle.live_entries.proofs.Existing.{same-option, width-of}
+use Rattle.live_entries.proofs.Existing.{same-option, width-of, sum-there}
 use Rattle.live_entries.proofs.Selecting.{Decided, so-many}
 use Rattle.pass_budget.proofs.Costing.{greatest-all}
 use Rattle.pass_numbers.proofs.Locations.{location-listed, locations-counted, locations_of}
@@ -97,13 +97,6 @@ module _ (p : Prog) (F : Func) (facts : IsAcceptedFunction p F) where
       omega (arith, few, long, product, count)
 
 -- ---- programs
-
-sum-there : (P : Func → ℕ → Type 0) (funcs : List Func) → ((F : Func) → In F funcs → (n : ℕ) × P F n) → (n : ℕ) × IsSum P funcs n
-sum-there P [] each = (0, refl)
-sum-there P (F ∷ funcs) each =
-    let f = each F (inl refl) in
-    let r = sum-there P funcs (λ G i. each G (inr i)) in
-    (f.0 + r.0, (f.0, r.0, f.1, r.1, refl))
 
 pub program-entries-there : (p : Prog) → IsAccepted p → (n : ℕ) × AreEntries p n
 program-entries-there p accepted = sum-there (λ f n. IsEntryCount f.code n) p.funcs (λ F i. entries-there F.code (all_in (IsAcceptedFunction p) p.funcs accepted.functions F i).sites)

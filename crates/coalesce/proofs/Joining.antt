@@ -1,8 +1,8 @@
 -- A variable that is alone gets the name of another class.
-use Rattle.std.proofs.Common.{◌≡◌, ◌≢◌, ◌⊎◌, ℕ, zero, suc, ◌<◌, ◌≤◌, Bool, true, false, cond, not, ◌&&◌, ◌||◌, eqb, List, [], ◌∷◌, length, get_or, set, Option, Some, None, refl, sym, ap, subst, ◌∙◌, inl, inr, ⊎_elim, arith}
+use Rattle.std.proofs.Common.{◌≡◌, ◌≢◌, ◌⊎◌, ℕ, zero, suc, ◌<◌, ◌≤◌, Bool, true, false, cond, not, ◌&&◌, eqb, List, [], ◌∷◌, length, get_or, set, Option, Some, None, refl, sym, ap, subst, ◌∙◌, inl, inr, ⊎_elim, arith}
 use Rattle.std.specs.Prelude.{slice_get}
 use Rattle.std.specs.List.{Contains}
-use Rattle.std.proofs.lemmas.Bool.{and_parts, cases_eq, cases_lt, eq-eqb, eqb-true}
+use Rattle.std.proofs.lemmas.Bool.{and_parts, cases_eq, cases_lt, eq-eqb, eqb-true, and_cases, or_cases}
 use Rattle.std.proofs.lemmas.List.{get_or-set_same, get_or-set_other, length-set}
 use Rattle.bril_tree.specs.declared.numbered_function.Func.{Func}
 use Rattle.bril_tree.specs.Typing.{variable_type}
@@ -47,23 +47,15 @@ true-before marks x z e = ⊎_elim same (λ n. (sym (mark-other marks x z false 
         let long = length-set marks x false in
         absurd (let k = mark-here marks x false (omega (arith, s)) in let h = ap (is_marked (set marks x false)) s in let f : true ≡ false = sym e ∙ h ∙ k in cc)
 
-and-false : (a b : Bool) → (a && b) ≡ false → (a ≡ false) ⊎ (b ≡ false)
-and-false true b e = inr e
-and-false false b e = inl refl
-
 not-false : (a b : Bool) → (a && not b) ≡ false → a ≡ true → b ≡ true
 not-false true true e h = refl
 not-false true false e h = absurd cc
 not-false false b e h = absurd cc
 
-or-true : (a b : Bool) → (a || b) ≡ true → (a ≡ true) ⊎ (b ≡ true)
-or-true true b e = inl refl
-or-true false b e = inr e
-
 -- the variable of a copy that becomes one of a variable to itself
 source-found : (class : List ℕ) (x k : ℕ) (o : Option ℕ) → is_source class x k o ≡ true → (z : ℕ) × (o ≡ Some z) × ((z ≡ x) ⊎ (class_of class z ≡ k))
 source-found class x k None e = absurd cc
-source-found class x k (Some z) e = (z, refl, ⊎_elim (λ h. inl (eqb-true z x h)) (λ h. inr (eqb-true (class_of class z) k h)) (or-true (eqb z x) (eqb (class_of class z) k) e))
+source-found class x k (Some z) e = (z, refl, ⊎_elim (λ h. inl (eqb-true z x h)) (λ h. inr (eqb-true (class_of class z) k h)) (or_cases (eqb z x) (eqb (class_of class z) k) e))
 
 module _ (F : Func) (related : List Bool) (list : List Clash) (clashes : AreClashes F.code related list) (class : List ℕ) (alone shadow : List Bool) (joined : Bool) (s : IsRoundState F related class alone shadow joined) where
   module _ (x k : ℕ) (there : is_marked alone x ≡ true) (behind : F.args ≤ x) (names : class_of class k ≡ k) (inside : k < length F.vars) (differ : x ≢ k) (relates_x : is_marked related x ≡ true) (relates_k : is_marked related k ≡ true) (fits : Fits F list class shadow x k) where
@@ -101,7 +93,7 @@ module _ (F : Func) (related : List Bool) (list : List Clash) (clashes : AreClas
         ⊎_elim
         (λ h. s.unshadowed x (subst (λ n. is_marked shadow n ≡ false) (sym (s.own x there)) h) (let l = below in let m = s.are.long in omega arith) a)
         (λ h. s.unshadowed q (subst (λ n. is_marked shadow n ≡ false) (sym e) h) low b)
-        (and-false (is_marked shadow x) (is_marked shadow k) fits.shadows)
+        (and_cases (is_marked shadow x) (is_marked shadow k) fits.shadows)
 
     type-q : (q : ℕ) → class_of class q ≡ k → variable_type F.vars x ≡ variable_type F.vars q
     type-q q e = fits.types ∙ ⊎_elim (λ h. ap (variable_type F.vars) h) (λ m. m.types) (of-class q e)

@@ -2,7 +2,7 @@
 use Rattle.std.proofs.Common.{◌≡◌, ℕ, zero, suc, ◌+◌, ◌<◌, ◌≤◌, Bool, true, false, ◌||◌, List, [], ◌∷◌, ◌++◌, length, map, take, get_or, Some, refl, sym, ap, subst, ◌∙◌, ⊎_elim, arith}
 use Rattle.std.specs.Prelude.{slice_get}
 use Rattle.std.specs.List.{AllZip, list_any, sum_by}
-use Rattle.std.proofs.lemmas.Bool.{cases_eq, cases_lt}
+use Rattle.std.proofs.lemmas.Bool.{cases_eq, cases_lt, or_parts}
 use Rattle.std.proofs.lemmas.List.{take_all, take_more}
 use Rattle.std.proofs.lemmas.List.Folds.{list_any_at}
 use Rattle.std.proofs.lemmas.List.Sums.{sum_by-append, sum_by-cons}
@@ -115,16 +115,12 @@ module _ (P : Prog) where
   last-one : {X : Type 0} (size : X → ℕ) (xs : List X) (x : X) → sum_by size (xs ++ x ∷ []) ≡ sum_by size xs + size x
   last-one size xs x = let a = sum_by-append size xs (x ∷ []) in let b = sum_by-cons size x [] in omega arith
 
-  or-parts : (a b : Bool) → (a || b) ≡ false → (a ≡ false) × (b ≡ false)
-  or-parts true b e = absurd cc
-  or-parts false b e = (refl, e)
-
   pub more-done : (funcs : List Func) → funcs ≡ P.funcs → (at : ℕ) (F : Func) → at < length funcs → F ≡ get_or funcs at F → (made more : List FuncTree) (changed one next : Bool) (g : FuncTree) → AreDone at made changed → IsRoundFunction P F g
       → (one ≡ true → copies_in g.code < was F) → (one ≡ false → NoneApart F) → more ≡ made ++ g ∷ [] → next ≡ (changed || one) → AreDone (at + 1) more next
   more-done funcs all at F within is made more changed one next g a t fewer none pushed joined = record {
     each = more-each P (IsRoundFunction P) at F g made more inside same a.each t pushed;
     fewer = λ e. sums changed refl (sym joined ∙ e);
-    none = λ e f G low there. ⊎_elim (λ s. here (or-parts changed one (sym joined ∙ e)).1 G (ap (slice_get P.funcs) (sym s) ∙ there)) (λ d. a.none (or-parts changed one (sym joined ∙ e)).0 f G (⊎_elim (λ l. l) (λ high. absurd (d (omega arith))) (cases_lt f at)) there) (cases_eq f at);
+    none = λ e f G low there. ⊎_elim (λ s. here (or_parts changed one (sym joined ∙ e)).1 G (ap (slice_get P.funcs) (sym s) ∙ there)) (λ d. a.none (or_parts changed one (sym joined ∙ e)).0 f G (⊎_elim (λ l. l) (λ high. absurd (d (omega arith))) (cases_lt f at)) there) (cases_eq f at);
   }
     where
       inside : at < length P.funcs

@@ -8,7 +8,6 @@ use Rattle.std.proofs.lemmas.Option.{same_Some}
 use Rattle.bril_profile.specs.declared.profile.Profile.{Profile}
 use Rattle.bril_tree.specs.declared.function_tree.FuncTree.{FuncTree}
 use Rattle.bril_tree.specs.declared.function_tree.Item.{Item}
-use Rattle.bril_tree.specs.declared.function_tree.Item.TheVariants as item
 use Rattle.bril_tree.specs.declared.numbered.Instr.{Instr}
 use Rattle.bril_tree.specs.declared.numbered.Instr.TheVariants.{Label, Const, Act}
 use Rattle.bril_tree.specs.declared.numbered_function.Func.{Func}
@@ -21,6 +20,7 @@ use Rattle.bril_tree.specs.Size.{IsCounted, item_count}
 use Rattle.bril_tree.proofs.Refinement.{Refines-trans}
 use Rattle.bril_tree.proofs.Trees.{numbered-tree_of}
 use Rattle.bril_names.specs.Faults.{Differ, IsKnown, IsSound, IsSoundEdit, function_names, label_of, labels_of}
+use Rattle.bril_names.proofs.Edits.{labels-step}
 use Rattle.pass_law.proofs.Equations.{equation_number}
 use Rattle.pass_law.specs.Meaning.{HasNumbers, Link}
 use Rattle.pass_make.specs.CanBeMade.{CanBeMade}
@@ -37,18 +37,6 @@ use Rattle.coalesce.specs.Rounds.{HasNoneApart, IsRoundFunction, IsRoundTree}
 use Rattle.coalesce.proofs.Rounds.{rename, tree-round}
 
 -- ---- labels
-
--- items that are one label, or none of them one
-labels-step : (x y : Item) (xs ys : List Item) → label_of x ≡ label_of y → labels_of xs ≡ labels_of ys → labels_of (x ∷ xs) ≡ labels_of (y ∷ ys)
-labels-step (item.Label n) (item.Label m) xs ys e rest = let same : n ≡ m = cc in λ i. same i ∷ rest i
-labels-step (item.Label n) (item.Const d ty v) xs ys e rest = absurd cc
-labels-step (item.Label n) (item.Act d o args fns ls) xs ys e rest = absurd cc
-labels-step (item.Const d ty v) (item.Label m) xs ys e rest = absurd cc
-labels-step (item.Const d ty v) (item.Const x s w) xs ys e rest = rest
-labels-step (item.Const d ty v) (item.Act x o args fns ls) xs ys e rest = rest
-labels-step (item.Act d o args fns ls) (item.Label m) xs ys e rest = absurd cc
-labels-step (item.Act d o args fns ls) (item.Const x s w) xs ys e rest = rest
-labels-step (item.Act d o args fns ls) (item.Act x u brgs gns ms) xs ys e rest = rest
 
 module _ (fs V W ls : List (List ℕ)) where
   abbrev was : Instr → Item

@@ -1,6 +1,6 @@
 -- A round refines the program: what matters is what is live in the program, and where a variable is copied to one of the same
 -- new name, the result is at a `nop`.
-use Rattle.std.proofs.Common.{◌≡◌, ℕ, suc, ◌<◌, true, false, List, [], ◌∷◌, length, map, Option, Some, None, refl, sym, ap, subst, ◌∙◌, inl, ⊎_elim, arith}
+use Rattle.std.proofs.Common.{◌≡◌, ℕ, suc, ◌<◌, true, List, [], ◌∷◌, length, map, Option, Some, None, refl, sym, ap, subst, ◌∙◌, inl, ⊎_elim, arith}
 use Rattle.std.specs.Prelude.{slice_get, slice_index, is_some}
 use Rattle.std.specs.List.{range_with_len}
 use Rattle.std.proofs.lemmas.List.{length-map}
@@ -25,16 +25,15 @@ use Rattle.bril_tree.specs.FunctionForm.{variables_of}
 use Rattle.bril_tree.specs.Run.{Refines, types_of}
 use Rattle.bril_tree.specs.Shape.{is_shaped, shape_of}
 use Rattle.bril_names.specs.Range.{AreBelow}
-use Rattle.bril_tree.specs.Sites.{Opens, item_change, sites_of}
 use Rattle.bril_tree.specs.State.{Locals, State}
 use Rattle.bril_tree.specs.Step.{assigned, code_of, item_at, items_of, new_frame, step}
 use Rattle.bril_tree.specs.Walk.{IsReached}
 use Rattle.bril_tree.proofs.Acceptance.{walks_of}
-use Rattle.bril_tree.proofs.Assignments.{assigns-dest, in_or_not, same_location, site_speculates}
+use Rattle.bril_tree.proofs.Assignments.{assigns-dest, in_or_not, same_location}
 use Rattle.bril_tree.proofs.Elements.{zip-find}
 use Rattle.bril_tree.proofs.Liveness.{live-reads, live-flows, live-back, live_assigned}
 use Rattle.bril_tree.proofs.Members.{contains_in}
-use Rattle.bril_tree.proofs.Shapes.{none_assigned, shape-parts}
+use Rattle.bril_tree.proofs.Shapes.{shape-parts}
 use Rattle.pass_names.specs.Named.{SameLocation, SameName}
 use Rattle.pass_names.specs.NamedPlan.{NamePlan}
 use Rattle.pass_names.specs.Renaming.{renamed_tree, renaming, Renames}
@@ -48,7 +47,7 @@ use Rattle.pass_plan.proofs.Values.{assigned-same, assigned-other}
 use Rattle.pass_steps.specs.Refinement.{Progress, CatchUp, BothMove, Advances}
 use Rattle.pass_steps.proofs.Moves.{both_move}
 use Rattle.pass_steps.proofs.Refinement.{plan_refines}
-use Rattle.pass_steps.proofs.Shapes.{shaped_here}
+use Rattle.pass_steps.proofs.Shapes.{shaped_here, site_assigns}
 use Rattle.coalesce_laws.specs.Merged.{IsRound, IsSelfCopy, new_name}
 use Rattle.coalesce_laws.proofs.Copying.{Copy, copy-is, assigning-onward, assigned-shadow, live-shadow}
 use Rattle.coalesce_laws.proofs.Points.{label-kept, nop-there}
@@ -86,16 +85,6 @@ module _ (P Q : Prog) (rename : ℕ → List ℕ → List ℕ) (t : IsRound P Q 
   name-is f x less = let s = sized f in named-map (rename f) (names_in (slice_get P.funcs f)) x (omega arith)
 
   module _ (accepted : IsAccepted P) where
-    -- an open site assigns nothing
-    site_assigns : (f : ℕ) (walk : List Branch) (s : ℕ) (sites : List ℕ) → sites_of (code_of P f) walk ≡ s ∷ sites → assigns_at (item_at P f s) ≡ []
-    site_assigns f walk s sites e = by (item_at P f s) refl (site_speculates (code_of P f) walk s (subst (In s) (sym e) (inl refl)))
-      where
-        by : (o : Option Instr) → item_at P f s ≡ o → item_change (item_at P f s) false ≡ Opens → assigns_at (item_at P f s) ≡ []
-        by None here opens = absurd (let h = ap (λ o. item_change o false) (sym here) ∙ opens in cc)
-        by (Some a) here opens =
-            let facts = shaped_here P accepted f s a here in
-            ap assigns_at here ∙ none_assigned facts.ret a false facts.shaped (λ k. let h = sym k ∙ ap (λ o. item_change o false) (sym here) ∙ opens in cc)
-
     -- where a function begins, arguments alone are live, and they keep their names
     fresh : (f : ℕ) (vs : List Value) → length vs ≡ length (types_of (slice_get P.funcs f)) → (a b : Location) → SameLocation (names f) (names_in (slice_get Q.funcs f)) a b → IsLive (code_of P f) a 0
         → value_at (new_frame f vs).locations a ≡ value_at (new_frame f vs).locations b
@@ -202,7 +191,7 @@ module _ (P Q : Prog) (rename : ℕ → List ℕ → List ℕ) (t : IsRound P Q 
       reads = λ f i j a x reached points regular at h. live-reads (code_of P f) i a x at h;
       flows = λ f i w x reached among plain live none. live-flows (code_of P f) i w x among plain live none;
       apart = λ f i j w x y reached points regular among plain live named h. apart f i j regular reached (regular-tree f i regular ∙ ap (tree_at Q f) points) w x y among live named h;
-      back = λ f w x walk is among aborts s sites same live. live-back (code_of P f) w x walk is among aborts s sites same live (site_assigns f walk s sites same);
+      back = λ f w x walk is among aborts s sites same live. live-back (code_of P f) w x walk is among aborts s sites same live (site_assigns P accepted f walk s sites same);
       known = knows_nothing P Q merging (λ f i x v h. h);
     }
 

@@ -21,17 +21,17 @@ use Rattle.bril_tree.specs.Numbered.{tree_at}
 use Rattle.bril_tree.specs.Operand.{Location, Variable, reads_of}
 use Rattle.bril_tree.specs.Outcome.{Yields, argument, bool_of}
 use Rattle.bril_tree.specs.Shape.{is_shaped, shape_of}
-use Rattle.bril_tree.specs.Sites.{Opens, item_change, sites_of}
+use Rattle.bril_tree.specs.Sites.{sites_of}
 use Rattle.bril_tree.specs.State.{Locals}
 use Rattle.bril_tree.specs.Step.{code_of, items_of, item_at, point_of}
 use Rattle.bril_tree.specs.Typing.{return_type}
 use Rattle.bril_tree.specs.Walk.{IsWalk, end_of}
 use Rattle.bril_tree.proofs.Acceptance.{walks_of}
-use Rattle.bril_tree.proofs.Assignments.{in_or_not, site_speculates}
+use Rattle.bril_tree.proofs.Assignments.{in_or_not}
 use Rattle.bril_tree.proofs.LabelPoints.{range_high}
 use Rattle.bril_tree.proofs.Liveness.{live-reads, live-flows, live-back, live_assigned}
 use Rattle.bril_tree.proofs.Members.{contains_in, in_map, in_map_source}
-use Rattle.bril_tree.proofs.Shapes.{none_assigned, shape-parts}
+use Rattle.bril_tree.proofs.Shapes.{shape-parts}
 use Rattle.bril_tree.proofs.Trees.{found_at}
 use Rattle.pass_names.specs.NamedPlan.{NamePlan, plan, KeepsNames}
 use Rattle.pass_names.proofs.Points.{label_once}
@@ -39,7 +39,7 @@ use Rattle.pass_names.proofs.Preserving.{names_preserve, knows_nothing}
 use Rattle.pass_plan.specs.Narrowing.{Narrows, narrow}
 use Rattle.pass_plan.specs.Plan.{Plan, HoldsKnown, Writes, IsLearned, Preserves}
 use Rattle.pass_plan.proofs.Narrowing.{narrowed}
-use Rattle.pass_steps.proofs.Shapes.{shaped_here}
+use Rattle.pass_steps.proofs.Shapes.{shaped_here, site_assigns}
 use Rattle.constant_table.specs.declared.known.Known.{Known}
 use Rattle.constant_table.specs.declared.known.Known.TheVariants.{Nothing, One, Many}
 use Rattle.constant_table.specs.Known.{IsBelow, is_nothing}
@@ -271,19 +271,9 @@ module _ (P Q : Prog) (T : ℕ → Table) (t : Folded P Q T) where
         other : (In x (assigns_at (item_at P f i)) → ⊥) → IsLearned (item_at P f i) (IsTold f i) x v
         other n = inl (n, record { function = told.function; there = told.there; one = told.one; live = live-flows (code_of P f) i w x among plain told.live n })
 
-    -- an open site assigns nothing
-    site_assigns : (f : ℕ) (walk : List Branch) (s : ℕ) (sites : List ℕ) → sites_of (code_of P f) walk ≡ s ∷ sites → assigns_at (item_at P f s) ≡ []
-    site_assigns f walk s sites e = by (item_at P f s) refl (site_speculates (code_of P f) walk s (subst (In s) (sym e) (inl refl)))
-      where
-        by : (o : Option Instr) → item_at P f s ≡ o → item_change (item_at P f s) false ≡ Opens → assigns_at (item_at P f s) ≡ []
-        by None here opens = absurd (let h = ap (λ o. item_change o false) (sym here) ∙ opens in cc)
-        by (Some a) here opens =
-            let k = facts f s a here in
-            ap assigns_at here ∙ none_assigned k.ret a false k.shaped (λ k. let h = sym k ∙ ap (λ o. item_change o false) (sym here) ∙ opens in cc)
-
     -- what is told after an abort was told at its site
     pub told-remembered : (f : ℕ) (w : Branch) (walk : List Branch) → IsWalk (code_of P f) walk → In w (branches_at (code_of P f) (end_of walk)) → w.aborts ≡ true → (s : ℕ) (sites : List ℕ) → sites_of (code_of P f) walk ≡ s ∷ sites → (x : Location) (v : Value) → IsTold f w.to x v → IsTold f s x v
-    told-remembered f w walk is among aborts s sites e x v told = record { function = told.function; there = told.there; one = told.one; live = live-back (code_of P f) w x walk is among aborts s sites e told.live (site_assigns f walk s sites e) }
+    told-remembered f w walk is among aborts s sites e x v told = record { function = told.function; there = told.there; one = told.one; live = live-back (code_of P f) w x walk is among aborts s sites e told.live (site_assigns P accepted f walk s sites e) }
 
     told-start : (f : ℕ) (x : Location) (v : Value) → IsTold f 0 x v → ⊥
     told-start f x v told =

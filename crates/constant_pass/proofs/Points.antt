@@ -1,5 +1,5 @@
 -- A folded program by its points: what stays, and the items that the pass put in, with the numbers of the result.
-use Rattle.std.proofs.Common.{◌≡◌, ℕ, ◌<◌, Bool, true, false, cond, List, [], ◌∷◌, length, map, Option, Some, None, refl, sym, ap, subst, ◌∙◌, inl, inr}
+use Rattle.std.proofs.Common.{◌≡◌, ℕ, ◌<◌, Bool, true, false, cond, List, [], ◌∷◌, length, map, Option, Some, None, refl, sym, ap, subst, ◌∙◌}
 use Rattle.std.specs.Prelude.{slice_get}
 use Rattle.std.specs.Option.{option_map}
 use Rattle.std.proofs.lemmas.Option.{same_Some}
@@ -18,8 +18,8 @@ use Rattle.bril_tree.specs.Numbered.{dest_tree, item_tree, named, names_in, name
 use Rattle.bril_tree.specs.Operand.{dest_of}
 use Rattle.bril_tree.specs.Step.{code_of, items_of, item_at, point_of}
 use Rattle.bril_tree.proofs.Formed.{typed_destination}
-use Rattle.bril_tree.proofs.Trees.{found_at, nop-at, nothing_at}
-use Rattle.bril_names.specs.Range.{AreBelow}
+use Rattle.bril_tree.proofs.Trees.{found_at, nop-at, nothing_at, none_from}
+use Rattle.bril_names.proofs.Naming.{AreBelow-in}
 use Rattle.pass_names.specs.Named.{SameName}
 use Rattle.pass_names.specs.NamedPlan.{SameHeads}
 use Rattle.pass_names.proofs.Heads.{no_partner}
@@ -80,10 +80,6 @@ const-numbered fs vars ls (Const y tz k) name ty l e =
     let el : k ≡ l = cc in
     (y, (λ i. Const y (et i) (el i)), n)
 const-numbered fs vars ls (Act d tz o args gs ms) name ty l e = absurd cc
-
-none_from : {A B : Type 0} (g : A → B) (xs : List A) → map g xs ≡ [] → xs ≡ []
-none_from g [] e = refl
-none_from g (x ∷ xs) e = absurd cc
 
 one_from : {A B : Type 0} (g : A → B) (xs : List A) (y : B) → map g xs ≡ y ∷ [] → (x : A) × (xs ≡ x ∷ []) × (g x ≡ y)
 one_from g [] y e = absurd cc
@@ -168,12 +164,6 @@ module _ (Q : Prog) (f i : ℕ) where
 
 -- ---- what the pass put in
 
--- a label of an item is one of its function
-below-in : (n : ℕ) (xs : List ℕ) → AreBelow n xs → (x : ℕ) → In x xs → x < n
-below-in n [] h x i = absurd i
-below-in n (y ∷ xs) h x (inl e) = subst (λ z. z < n) (sym e) h.0
-below-in n (y ∷ xs) h x (inr i) = below-in n xs h.1 x i
-
 module _ (P Q : Prog) (T : ℕ → Table) (t : Folded P Q T) (f i : ℕ) where
   -- the `const` of a value, with the name of the destination
   pub const_there : (a : Instr) → item_at P f i ≡ Some a → (x : ℕ) (ty : Ty) (l : Lit) → becomes (T f) i a ≡ Const x ty l → ConstAt Q f i (named (names_in (slice_get P.funcs f)) x) ty l
@@ -212,7 +202,7 @@ module _ (P Q : Prog) (T : ℕ → Table) (t : Folded P Q T) (f : ℕ) where
       let r = found P f i a at in
       let name = named b.function.labels l in
       let j = jump_at Q f i name (b.tree ∙ ap (λ z. Some (tree_in P b.function z)) is) in
-      let low : l < length b.function.labels = subst (λ (G : Func). l < length G.labels) (same_Some _ _ (sym r.there ∙ b.there)) (below-in (length r.function.labels) ls r.range.targets l among) in
+      let low : l < length b.function.labels = subst (λ (G : Func). l < length G.labels) (same_Some _ _ (sym r.there ∙ b.there)) (AreBelow-in (length r.function.labels) ls r.range.targets l among) in
       let label : tree_at P f (point_of l (code_of P f)) ≡ Some (item.Label name) = label_found P f b.function l b.there low in
       record {
         number = j.l;

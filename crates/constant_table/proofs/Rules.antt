@@ -1,8 +1,8 @@
 -- Answers and ways depend on what an item reads alone, and rise with what is known.
-use Rattle.std.proofs.Common.{◌≡◌, ◌⊎◌, ℕ, suc, ◌<◌, Bool, true, false, cond, ◌||◌, List, [], ◌∷◌, length, map, get_or, pos, refl, sym, ap, subst, ◌∙◌, inl, inr, ⊎_elim, arith}
+use Rattle.std.proofs.Common.{◌≡◌, ◌⊎◌, ℕ, suc, ◌<◌, Bool, true, false, cond, List, [], ◌∷◌, length, map, get_or, pos, refl, sym, ap, subst, ◌∙◌, inl, inr, ⊎_elim, arith}
 use Rattle.std.specs.Prelude.{slice_index, is_some, unwrap_or}
 use Rattle.std.specs.List.{AllZip, list_any}
-use Rattle.std.proofs.lemmas.Bool.{cases_Bool}
+use Rattle.std.proofs.lemmas.Bool.{cases_Bool, or_cases, or_left, or_right}
 use Rattle.bril_tree.specs.declared.numbered.Instr.{Instr}
 use Rattle.bril_tree.specs.declared.numbered.Instr.TheVariants.{Label, Const, Act}
 use Rattle.bril_tree.specs.declared.operation.Op.TheVariants as op
@@ -81,27 +81,15 @@ same-one Many Many n m h = refl
 
 -- ---- tests of several
 
-or-split : (a b : Bool) → (a || b) ≡ true → (a ≡ true) ⊎ (b ≡ true)
-or-split true b e = inl refl
-or-split false b e = inr e
-
-or-left : (a b : Bool) → a ≡ true → (a || b) ≡ true
-or-left true b e = refl
-or-left false b e = absurd cc
-
-or-right : (a b : Bool) → b ≡ true → (a || b) ≡ true
-or-right true b e = refl
-or-right false b e = e
-
 module _ (p : Known → Bool) (k : Knowledge) where
   pub any-found : (xs : List Location) → list_any p (map k xs) ≡ true → (x : Location) × In x xs × (p (k x) ≡ true)
   any-found [] e = absurd cc
-  any-found (x ∷ xs) e = ⊎_elim (λ h. (x, inl refl, h)) (λ h. let r = any-found xs h in (r.0, inr r.1, r.2)) (or-split (p (k x)) (list_any p (map k xs)) e)
+  any-found (x ∷ xs) e = ⊎_elim (λ h. (x, inl refl, h)) (λ h. let r = any-found xs h in (r.0, inr r.1, r.2)) (or_cases (p (k x)) (list_any p (map k xs)) e)
 
   pub any-there : (xs : List Location) (x : Location) → In x xs → p (k x) ≡ true → list_any p (map k xs) ≡ true
   any-there [] x i e = absurd i
-  any-there (y ∷ xs) x (inl s) e = or-left (p (k y)) (list_any p (map k xs)) (ap (λ z. p (k z)) (sym s) ∙ e)
-  any-there (y ∷ xs) x (inr i) e = or-right (p (k y)) (list_any p (map k xs)) (any-there xs x i e)
+  any-there (y ∷ xs) x (inl s) e = or_left (p (k y)) (list_any p (map k xs)) (ap (λ z. p (k z)) (sym s) ∙ e)
+  any-there (y ∷ xs) x (inr i) e = or_right (p (k y)) (list_any p (map k xs)) (any-there xs x i e)
 
   pub any-none : (xs : List Location) (x : Location) → In x xs → list_any p (map k xs) ≡ false → p (k x) ≡ false
   any-none xs x i e = ⊎_elim (λ t. absurd (let f = sym (any-there xs x i t) ∙ e in cc)) (λ f. f) (cases_Bool (p (k x)))

@@ -17,14 +17,13 @@ use Rattle.bril_tree.specs.Membership.{In}
 use Rattle.bril_tree.specs.Numbered.{item_tree, names_of_functions, nop, point_tree, tree_at, variable_names}
 use Rattle.bril_tree.specs.Operand.{Location}
 use Rattle.bril_tree.specs.Run.{Refines}
-use Rattle.bril_tree.specs.Sites.{Opens, item_change, sites_of}
+use Rattle.bril_tree.specs.Sites.{sites_of}
 use Rattle.bril_tree.specs.State.{State}
 use Rattle.bril_tree.specs.Step.{code_of, item_at, items_of, step}
 use Rattle.bril_tree.specs.Walk.{IsReached, end_of}
 use Rattle.bril_tree.proofs.Assignments.{site_speculates}
 use Rattle.bril_tree.proofs.Liveness.{live-reads, live-flows, live-back}
 use Rattle.bril_tree.proofs.Trees.{nop-at, nothing_at}
-use Rattle.bril_tree.proofs.Shapes.{none_assigned}
 use Rattle.pass_names.specs.NamedPlan.{NamePlan, plan, KeepsNames}
 use Rattle.pass_names.proofs.Preserving.{names_preserve, knows_nothing}
 use Rattle.pass_names.proofs.Points.{found, label_once}
@@ -33,7 +32,7 @@ use Rattle.pass_plan.specs.Plan.{Plan, Preserves, StatesMatch, ValuesMatch}
 use Rattle.pass_steps.specs.Refinement.{Progress, CatchUp, BothMove, Advances}
 use Rattle.pass_steps.proofs.Moves.{both_move}
 use Rattle.pass_steps.proofs.Refinement.{plan_refines}
-use Rattle.pass_steps.proofs.Shapes.{shaped_here}
+use Rattle.pass_steps.proofs.Shapes.{shaped_here, opens_assigns}
 use Rattle.dead_code.specs.Removable.{is_computation}
 use Rattle.dead_code.proofs.Chain.{Gone}
 use Rattle.dead_code.proofs.Computing.{computes}
@@ -96,14 +95,8 @@ module _ (P Q : Prog) (made : ℕ → List Instr) (t : Deadened P Q made) where
     site_assigns : (f : ℕ) (walk : List Branch) (s : ℕ) (sites : List ℕ) → sites_of (code_of P f) walk ≡ s ∷ sites → assigns_at (slice_get (made f) s) ≡ []
     site_assigns f walk s sites e = by ((t.chain f).became s)
       where
-        old : (o : Option Instr) → item_at P f s ≡ o → item_change (item_at P f s) false ≡ Opens → assigns_at (item_at P f s) ≡ []
-        old None here opens = absurd (let h = ap (λ o. item_change o false) (sym here) ∙ opens in cc)
-        old (Some a) here opens =
-            let facts = shaped_here P accepted f s a here in
-            ap assigns_at here ∙ none_assigned facts.ret a false facts.shaped (λ k. let h = sym k ∙ ap (λ o. item_change o false) (sym here) ∙ opens in cc)
-
         by : (slice_get (made f) s ≡ item_at P f s) ⊎ Gone (code_of P f) (made f) s → assigns_at (slice_get (made f) s) ≡ []
-        by (inl same) = ap assigns_at same ∙ old (item_at P f s) refl (site_speculates (code_of P f) walk s (subst (In s) (sym e) (inl refl)))
+        by (inl same) = ap assigns_at same ∙ opens_assigns P accepted f s (site_speculates (code_of P f) walk s (subst (In s) (sym e) (inl refl)))
         by (inr g) = ap assigns_at g.is
 
     keeps : KeepsNames P Q deadening

@@ -19,7 +19,7 @@ use Rattle.flow_graph.specs.declared.graph.GraphFault.TheVariants.{Nest, Memory}
 use Rattle.flow_graph.specs.Graph.{GraphView, IsGraphOf, IsLeastFailing, edges_from}
 use Rattle.flow_graph.proofs.FirstWalks.{reached_have_first}
 use Rattle.flow_graph.proofs.GraphEdges.{edge-there, edge-back}
-use Rattle.flow_graph.proofs.OpenSites.{sound_walks_agree}
+use Rattle.flow_graph.proofs.OpenSites.{sound_walks_agree, one_list}
 
 -- ---- open sites of walks
 
@@ -32,6 +32,13 @@ first_sites code walk sound is =
       first = w.1;
       are = sym (sound_walks_agree code sound walk is (sites_of code w.0) (record { walk = w.0; first = w.1; are = refl }));
     }
+
+-- two walks to a point have the same sites
+pub same_sites : (code : List Instr) → AreSitesSound code → (v w : List Branch) → IsWalk code v → IsWalk code w → end_of v ≡ end_of w → sites_of code v ≡ sites_of code w
+same_sites code sound v w is_v is_w ends =
+    one_list code (end_of w) (sites_of code v) (sites_of code w)
+    (subst (λ n. AreFirstSites code n (sites_of code v)) ends (first_sites code v sound is_v))
+    (first_sites code w sound is_w)
 
 -- a `commit` and a `guard` that a walk leads to have an open site
 pub some_site : (code : List Instr) (walk : List Branch) → AreSitesSound code → IsWalk code walk → IsTrue (needs_site (slice_get code (end_of walk))) → sites_of code walk ≡ [] → ⊥

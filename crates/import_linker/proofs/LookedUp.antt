@@ -4,15 +4,12 @@ use Rattle.std.specs.Prelude.{bytes_eq, not, if◌then◌else◌}
 use Rattle.std.specs.List.{position_or_len}
 use Rattle.std.proofs.lemmas.List.{map_push}
 use Rattle.std.proofs.lemmas.Slice.Eq.{bytes_eq-Decides}
+use Rattle.std.proofs.lemmas.Bool.{or_right}
 use Rattle.import_linker.proofs.RunLengths.{any-push}
 use Rattle.import_linker.proofs.TableLists.{contains-push}
 use Rattle.import_linker.specs.Looked.{AreKnown, AreNumbers}
 use Rattle.import_linker.specs.Names.{contains}
 use Rattle.import_linker.specs.Order.{added, file_at, is_known, joined}
-
-or_true : (a : Bool) → (a || true) ≡ true
-or_true true = refl
-or_true false = refl
 
 -- ---- the place of a path that was looked up
 
@@ -63,7 +60,7 @@ module _ (known : List (List ℕ)) (path : List ℕ) where
     where
       go : (b : Bool) → is_known path known ≡ b → is_known path (if b then known else known ++ path ∷ []) ≡ true
       go true is = is
-      go false is = any-push (bytes_eq path) known path ∙ ap (λ b. is_known path known || b) ((bytes_eq-Decides path path).1 refl) ∙ or_true (is_known path known)
+      go false is = any-push (bytes_eq path) known path ∙ ap (λ b. is_known path known || b) ((bytes_eq-Decides path path).1 refl) ∙ or_right (is_known path known) true refl
 
   -- what is known isn't added
   pub known_added : is_known path known ≡ true → known ≡ added known path

@@ -4,7 +4,7 @@ use Rattle.std.specs.Prelude.{option_map, ◌==◌, if◌then◌else◌, ◌&&�
 use Rattle.std.specs.Char.{is_ascii_digit}
 use Rattle.std.specs.Option.{option_map_or}
 use Rattle.std.specs.List.{list_any}
-use Rattle.std.proofs.lemmas.Bool.{true≢false}
+use Rattle.std.proofs.lemmas.Bool.{true≢false, or_right}
 use Rattle.std.proofs.lemmas.Bool.Decides.{Decides-eqb}
 use Rattle.std.proofs.lemmas.List.Folds.{list_any-append}
 use Rattle.std.proofs.lemmas.List.{drop_more}
@@ -80,10 +80,6 @@ or_false : (b : Bool) → (b || false) ≡ b
 or_false true = refl
 or_false false = refl
 
-or_true : (b : Bool) → (b || true) ≡ true
-or_true true = refl
-or_true false = refl
-
 pub any-push : {X : Type 0} (p : X → Bool) (xs : List X) (x : X) → list_any p (xs ++ x ∷ []) ≡ (list_any p xs || p x)
 any-push p xs x = list_any-append p xs (x ∷ []) ∙ ap (λ b. list_any p xs || b) (or_false (p x))
 
@@ -106,7 +102,7 @@ run_added runs after name n run e is =
     ap (list_any (nat_eq n)) is ∙ go (list_any (nat_eq run) runs) refl ∙ ap (λ b. list_any (nat_eq n) runs || b) (sym (begins_some name n run e))
   where
     there : list_any (nat_eq run) runs ≡ true → (b : Bool) → nat_eq n run ≡ b → list_any (nat_eq n) runs ≡ (list_any (nat_eq n) runs || b)
-    there has true same = ap (λ m. list_any (nat_eq m) runs) (eqb-true n run same) ∙ has ∙ sym (or_true (list_any (nat_eq n) runs))
+    there has true same = ap (λ m. list_any (nat_eq m) runs) (eqb-true n run same) ∙ has ∙ sym (or_right (list_any (nat_eq n) runs) true refl)
     there has false same = sym (or_false (list_any (nat_eq n) runs))
 
     go : (t : Bool) → list_any (nat_eq run) runs ≡ t → list_any (nat_eq n) (if t then runs else runs ++ run ∷ []) ≡ (list_any (nat_eq n) runs || nat_eq n run)

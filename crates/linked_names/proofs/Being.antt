@@ -7,6 +7,7 @@ use Rattle.std.proofs.lemmas.Bool.{true≢false}
 use Rattle.std.proofs.lemmas.List.Elements.{Contains-get_or}
 use Rattle.bril_names.specs.Faults as names
 use Rattle.bril_tree.proofs.Members.{contains_in, in_append_cases, in_append_left, in_append_right, in_contains, in_flat_map, in_map, in_map_source}
+use Rattle.bril_tree.proofs.Elements.{get_in}
 use Rattle.bril_tree.specs.Membership.{In}
 use Rattle.bril_tree.specs.declared.function_tree.FuncTree.{FuncTree}
 use Rattle.bril_tree.specs.declared.function_tree.Item.{Item}
@@ -43,11 +44,6 @@ not_false false e = sym e
 
 got_in : {A : Type 0} (xs : List A) (k : ℕ) (d : A) → k < length xs → In (get_or xs k d) xs
 got_in xs k d low = in_contains (get_or xs k d) xs (Contains-get_or xs k d low)
-
-at_in : {A : Type 0} (xs : List A) (k : ℕ) (x : A) → slice_get xs k ≡ Some x → In x xs
-at_in [] k x e = absurd cc
-at_in (y ∷ ys) zero x e = inl (let h : y ≡ x = cc in sym h)
-at_in (y ∷ ys) (suc k) x e = inr (at_in ys k x e)
 
 -- ---- the names of all functions have those of each file
 
@@ -150,12 +146,12 @@ functions_are_there holds root tree linked func place fault =
     let run = links.run in
     let paths = paths_of sources in
     let lack = fault.has.3 in
-    let among : In fault.function (linked_from run paths 0 sources) = subst (λ (l : List FuncTree). In fault.function l) links.funcs (at_in tree.funcs fault.number fault.function fault.here) in
+    let among : In fault.function (linked_from run paths 0 sources) = subst (λ (l : List FuncTree). In fault.function l) links.funcs (get_in tree.funcs fault.number fault.function fault.here) in
     let of = function_of run paths sources 0 fault.function among in
     let sound = sound_at sources sources (sound_files sources 0 sources links.faultless) of.file of.s of.here in
     let rename = linked_name run paths of.file of.s in
     let is : fault.function ≡ renamed_function run of.file rename of.f = subst (λ n. fault.function ≡ renamed_function run n (linked_name run paths n of.s) of.f) (zero_first of.file) of.is in
-    let code : In lack.lacking (map (renamed_item rename) of.f.code) = subst (λ (f : FuncTree). In lack.lacking f.code) is (at_in fault.function.code place lack.lacking lack.here) in
+    let code : In lack.lacking (map (renamed_item rename) of.f.code) = subst (λ (f : FuncTree). In lack.lacking f.code) is (get_in fault.function.code place lack.lacking lack.here) in
     let source = in_map_source (renamed_item rename) lack.lacking of.f.code code in
     let names_is : map (λ (f : FuncTree). f.name) tree.funcs ≡ names_from run paths 0 sources = ap (map (λ (f : FuncTree). f.name)) links.funcs ∙ names_are run paths 0 sources in
     let called : names.callees_of lack.lacking ≡ map rename (callees_of source.0) = ap names.callees_of source.2 ∙ callees_renamed rename source.0 in

@@ -2,7 +2,7 @@
 use Rattle.std.proofs.Common.{◌≡◌, ◌∙◌, ◌⊎◌, refl, sym, ap, ap₂, subst, Bool, true, false, cond, ◌||◌, ℕ, zero, suc, ◌+◌, ◌<◌, ◌≤◌, ◌^◌, List, [], ◌∷◌, ◌++◌, length, map, take, arith, append-nil, append_assoc, Some, None, inl, inr, ⊎_elim}
 use Rattle.std.specs.Prelude.{bytes_eq, slice_get}
 use Rattle.std.specs.List.{list_any}
-use Rattle.std.proofs.lemmas.Bool.{true≢false}
+use Rattle.std.proofs.lemmas.Bool.{true≢false, or_cases, or_left, or_right, or_parts}
 use Rattle.std.proofs.lemmas.List.{map-append, map_push}
 use Rattle.std.proofs.lemmas.List.Folds.{list_any-append}
 use Rattle.std.proofs.lemmas.Slice.Eq.{bytes_eq-Decides}
@@ -22,17 +22,6 @@ use Rattle.linked_names.specs.Laws.{LinkedFunctionsDiffer}
 
 -- ---- membership
 
-or_split : (a b : Bool) → (a || b) ≡ true → (a ≡ true) ⊎ (b ≡ true)
-or_split true b e = inl refl
-or_split false b e = inr e
-
-or_left : (a b : Bool) → a ≡ true → (a || b) ≡ true
-or_left a b e = ap (λ c. c || b) e
-
-or_right : (a b : Bool) → b ≡ true → (a || b) ≡ true
-or_right true b e = refl
-or_right false b e = e
-
 -- a name in a list is contained in it
 pub in_contained : (x : List ℕ) (xs : List (List ℕ)) → In x xs → contains xs x ≡ true
 in_contained x [] i = absurd i
@@ -41,7 +30,7 @@ in_contained x (y ∷ ys) (inr i) = or_right (bytes_eq x y) (contains ys x) (in_
 
 pub contained_in : (x : List ℕ) (xs : List (List ℕ)) → contains xs x ≡ true → In x xs
 contained_in x [] e = true≢false (sym e)
-contained_in x (y ∷ ys) e = ⊎_elim (λ h. inl ((bytes_eq-Decides x y).0 h)) (λ h. inr (contained_in x ys h)) (or_split (bytes_eq x y) (contains ys x) e)
+contained_in x (y ∷ ys) e = ⊎_elim (λ h. inl ((bytes_eq-Decides x y).0 h)) (λ h. inr (contained_in x ys h)) (or_cases (bytes_eq x y) (contains ys x) e)
 
 contains-append : (xs ys : List (List ℕ)) (x : List ℕ) → contains (xs ++ ys) x ≡ (contains xs x || contains ys x)
 contains-append xs ys x = list_any-append (bytes_eq x) xs ys
@@ -112,7 +101,7 @@ module _ (run : ℕ) (paths : List (List ℕ)) where
       (λ h. let old = all z h in (old.0, omega (arith, old.1), old.2))
       (λ h. let source = in_map_source (name_in run number) z names (contained_in z (map (name_in run number) names) h) in
       (number, omega arith, (source.0, source.2, λ e. fresh e source.0 (in_contained source.0 names source.1))))
-      (or_split (contains before z) (contains (map (name_in run number) names) z) (sym (contains-append before (map (name_in run number) names) z) ∙ there))
+      (or_cases (contains before z) (contains (map (name_in run number) names) z) (sym (contains-append before (map (name_in run number) names) z) ∙ there))
 
   -- names of a file repeat none of those of earlier files
   none_map : (number : ℕ) → number < 2 ^ 64 → (before seen names : List (List ℕ)) → Earlier before number → repeated_after seen names ≡ None
@@ -134,7 +123,7 @@ module _ (run : ℕ) (paths : List (List ℕ)) where
           (λ old. let there = all (name_in run number x) old in apart_in run there.0 number there.2.0 x there.1 small there.2.2 (sym there.2.1))
           (λ new. let source = in_map_source (name_in run number) (name_in run number x) seen (contained_in (name_in run number x) (map (name_in run number) seen) new) in
           true≢false (sym (ap (contains seen) (same_in run number x source.0 source.2) ∙ in_contained source.0 seen source.1) ∙ is))
-          (or_split (contains before (name_in run number x)) (contains (map (name_in run number) seen) (name_in run number x)) (sym (contains-append before (map (name_in run number) seen) (name_in run number x)) ∙ two)))
+          (or_cases (contains before (name_in run number x)) (contains (map (name_in run number) seen) (name_in run number x)) (sym (contains-append before (map (name_in run number) seen) (name_in run number x)) ∙ two)))
 
   all_none : (sources : List Source) (number : ℕ) (rest : List Source) (before : List (List ℕ)) → AreSoundFiles sources rest → number + length rest ≤ most_files → Earlier before number
       → (number ≡ 0 → (y : List ℕ) → contains (names_at rest 0) y ≡ true → begins_so run y ≡ false) → repeated_after before (names_from number rest) ≡ None
@@ -164,14 +153,6 @@ functions_differ holds root tree linked place twice =
     fresh_name : (names : List (List ℕ)) (run : ℕ) → list_any (begins_so run) names ≡ false → (y : List ℕ) → contains names y ≡ true → begins_so run y ≡ false
     fresh_name [] run none y there = absurd (true≢false (sym there))
     fresh_name (x ∷ xs) run none y there = ⊎_elim
-        (λ h. ap (begins_so run) ((bytes_eq-Decides y x).0 h) ∙ or_none_left (begins_so run x) (list_any (begins_so run) xs) none)
-        (λ h. fresh_name xs run (or_none_right (begins_so run x) (list_any (begins_so run) xs) none) y h)
-        (or_split (bytes_eq y x) (contains xs y) there)
-      where
-        or_none_left : (a b : Bool) → (a || b) ≡ false → a ≡ false
-        or_none_left true b e = e
-        or_none_left false b e = refl
-
-        or_none_right : (a b : Bool) → (a || b) ≡ false → b ≡ false
-        or_none_right true b e = absurd (true≢false e)
-        or_none_right false b e = e
+        (λ h. ap (begins_so run) ((bytes_eq-Decides y x).0 h) ∙ (or_parts (begins_so run x) (list_any (begins_so run) xs) none).0)
+        (λ h. fresh_name xs run (or_parts (begins_so run x) (list_any (begins_so run) xs) none).1 y h)
+        (or_cases (bytes_eq y x) (contains xs y) there)

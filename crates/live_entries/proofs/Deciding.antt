@@ -11,13 +11,12 @@ use Rattle.bril_tree.specs.Leaving.{AbortsFrom, IsEdge, Leaves, edge_of}
 use Rattle.bril_tree.specs.Live.{IsLive, Here, Later}
 use Rattle.bril_tree.specs.Membership.{In}
 use Rattle.bril_tree.specs.Operand.{Location, reads_of}
-use Rattle.bril_tree.specs.Sites.{AreFirstSites, AreSitesSound, sites_of}
+use Rattle.bril_tree.specs.Sites.{AreSitesSound, sites_of}
 use Rattle.bril_tree.specs.Walk.{IsWalk, IsReached, end_of}
 use Rattle.bril_tree.proofs.Assignments.{in_or_not}
 use Rattle.bril_tree.proofs.LabelPoints.{in_range}
 use Rattle.bril_tree.proofs.Members.{contains_in, in_append_cases, in_append_left, in_append_right, in_contains, in_flat_map, in_flat_map_source, in_map, in_map_source}
-use Rattle.flow_graph.proofs.Told.{first_sites}
-use Rattle.flow_graph.proofs.OpenSites.{sound_walks_agree}
+use Rattle.flow_graph.proofs.Told.{same_sites}
 use Rattle.live_entries.proofs.Reaching.{Onward, Path, Start, Step, decide-path, join}
 use Rattle.live_entries.proofs.Selecting.{Decided, any-of, in-select, select, select-in}
 
@@ -58,12 +57,6 @@ module _ (code : List Instr) where
   decide-reached p = ⊎_elim (λ q. inl (path-walk p q)) (λ n. inr (λ r. n (subst (Path walk-steps 0) r.ends (walk-path r.walk r.is)))) (decide-path walk-steps 0 p)
 
   module _ (sound : AreSitesSound code) where
-    -- two walks to a point have the same sites
-    pub same-sites : (v w : List Branch) → IsWalk code v → IsWalk code w → end_of v ≡ end_of w → sites_of code v ≡ sites_of code w
-    same-sites v w isv isw e =
-        let f = first_sites code w sound isw in
-        sound_walks_agree code sound v isv (sites_of code w) (subst (λ p. AreFirstSites code p (sites_of code w)) (sym e) f)
-
     -- ---- edges
 
     edges-by : (p : ℕ) → Decided (IsReached code p) → List Edge
@@ -75,7 +68,7 @@ module _ (code : List Instr) where
 
     edge-by-there : (walk : List Branch) (is : IsWalk code walk) (b : Branch) → In b (branches_at code (end_of walk)) → (d : Decided (IsReached code (end_of walk))) → In (edge_of (sites_of code walk) b) (edges-by (end_of walk) d)
     unfolding edges-by
-    edge-by-there walk is b i (inl r) = subst (λ s. In (edge_of s b) (map (edge_of (sites_of code r.walk)) (branches_at code (end_of walk)))) (same-sites r.walk walk r.is is r.ends) (in_map (edge_of (sites_of code r.walk)) b (branches_at code (end_of walk)) i)
+    edge-by-there walk is b i (inl r) = subst (λ s. In (edge_of s b) (map (edge_of (sites_of code r.walk)) (branches_at code (end_of walk)))) (same_sites code sound r.walk walk r.is is r.ends) (in_map (edge_of (sites_of code r.walk)) b (branches_at code (end_of walk)) i)
     edge-by-there walk is b i (inr n) = absurd (n (record { walk = walk; is = is; ends = refl }))
 
     edge-by-only : (p : ℕ) (edge : Edge) (d : Decided (IsReached code p)) → In edge (edges-by p d) → IsEdge code edge
@@ -141,7 +134,7 @@ module _ (code : List Instr) where
     abort-there : (point : ℕ) (b : Branch) (a : AbortsFrom code point b) (d : Decided (IsReached code (end_of a.walk))) → In (step_of point b) (abort-steps (end_of a.walk) d)
     unfolding abort-steps
     abort-there point b a (inl r) =
-        site-there point a.older (sites_of code r.walk) (end_of a.walk) b (same-sites r.walk a.walk r.is a.is r.ends ∙ a.sites)
+        site-there point a.older (sites_of code r.walk) (end_of a.walk) b (same_sites code sound r.walk a.walk r.is a.is r.ends ∙ a.sites)
         (in-select (λ b. b.aborts ≡ true) decide-aborts (branches_at code (end_of a.walk)) b (in_contains b (branches_at code (end_of a.walk)) a.at) a.aborts)
     abort-there point b a (inr n) = absurd (n (record { walk = a.walk; is = a.is; ends = refl }))
 

@@ -213,7 +213,7 @@ module _ (F : Func) (sound : AreSitesSound F.code) where
 
 -- ---- programs
 
-sum-there : (P : Func → ℕ → Type 0) (funcs : List Func) → ((F : Func) → In F funcs → (n : ℕ) × P F n) → (n : ℕ) × IsSum P funcs n
+pub sum-there : (P : Func → ℕ → Type 0) (funcs : List Func) → ((F : Func) → In F funcs → (n : ℕ) × P F n) → (n : ℕ) × IsSum P funcs n
 sum-there P [] each = (0, refl)
 sum-there P (F ∷ funcs) each =
     let f = each F (inl refl) in

@@ -15,7 +15,7 @@ use Rattle.bril_tree.specs.Operand.{Location}
 use Rattle.bril_tree.specs.Shape.{shape_fault_of}
 use Rattle.bril_tree.specs.Walk.{IsReached}
 use Rattle.bril_tree.proofs.Counting.{differ-first, differ-rest}
-use Rattle.bril_tree.proofs.LabelPoints.{label-at_point}
+use Rattle.bril_tree.proofs.LabelPoints.{label-one}
 use Rattle.bril_tree.proofs.Members.{contains_in, in_contains}
 use Rattle.flow_graph.specs.Location.{number_of}
 use Rattle.flow_graph.proofs.Locations.{number-one}
@@ -28,7 +28,7 @@ use Rattle.live_entry_count.proofs.Bits.{word-bits}
 use Rattle.program_numbers.specs.Entries.{AreSoMany, Enters}
 use Rattle.ssa_accesses.specs.declared.entries.Entry.{Entry}
 use Rattle.ssa_accesses.specs.Entries.{AreEntriesOf, EntersAt}
-use Rattle.ssa_accesses.proofs.Labels.{label-within}
+use Rattle.ssa_accesses.proofs.Labels.{label-within, enters-label}
 use Rattle.ssa_accesses.proofs.Tracking.{location-of}
 use Rattle.ssa_gets.specs.Found.{IsLiveNumber}
 use Rattle.ssa_gets.proofs.Finding.{live-below}
@@ -44,10 +44,6 @@ module _ (code : List Instr) where
   enters-reached (Some p) k en =
       let e = en.1.1 in
       record { walk = e.branch ∷ e.walk; is = (e.at, e.is); ends = ap (λ (x : Edge). x.to) (sym e.are) ∙ en.1.3 }
-
-  enters-label : (leave : Option ℕ) (k : ℕ) → EntersAt code leave k → is_label (slice_get code k) ≡ true
-  enters-label None k en = en.0
-  enters-label (Some p) k en = en.0
 
   module _ (base : ℕ) (words : List ℕ) (are : AreWordsOf code base words) where
     -- those of one entry
@@ -81,7 +77,7 @@ module _ (code : List Instr) where
             let sum : base + k ≡ number_of x.2 = omega (arith, low) in
             let small : k < 64 = omega (arith, low, high) in
             let live : IsLive code x.2 e.label = subst (λ i. IsLive code x.2 i) label between.live in
-            let number : IsLiveNumber code e.label (base + k) = record { location = x.2; number = sym sum; live = record { label = enters-label e.leave e.label enters; reached = enters-reached e.leave e.label enters; live = live } } in
+            let number : IsLiveNumber code e.label (base + k) = record { location = x.2; number = sym sum; live = record { label = enters-label code e.leave e.label enters; reached = enters-reached e.leave e.label enters; live = live } } in
             let same : (location-of (base + k)).0 ≡ x.2 = number-one (location-of (base + k)).0 x.2 ((location-of (base + k)).1 ∙ sum) in
             (k, (small, (are e.label k small).1 number), (λ i. (sym leave i, sym label i, same i)))
 
@@ -145,16 +141,13 @@ module _ (F : Func) (shaped : shape_fault_of (is_some F.ret) F.code ≡ None) wh
   stands : (leave : Option ℕ) (k : ℕ) → EntersAt F.code leave k → slice_get F.code k ≡ Some (Label (label-number (slice_get F.code k)))
   stands leave k en = label-stands (slice_get F.code k) (enters-label F.code leave k en)
 
-  one-point : (j k l : ℕ) → slice_get F.code j ≡ Some (Label l) → slice_get F.code k ≡ Some (Label l) → j ≡ k
-  one-point j k l a b = sym (label-at_point 0 (length F.labels) F.code F.formed.placed j l a) ∙ label-at_point 0 (length F.labels) F.code F.formed.placed k l b
-
   enters-numbered : (leave : Option ℕ) (k : ℕ) → EntersAt F.code leave k → Enters F.code leave (label-number (slice_get F.code k))
   enters-numbered None k en = ap (slice_get F.code) (sym en.1) ∙ stands None k en
   enters-numbered (Some p) k en = (en.1.0, en.1.1, en.1.2, ap (slice_get F.code) en.1.3 ∙ stands (Some p) k en)
 
   entered-at : (leave : Option ℕ) (l k : ℕ) → Enters F.code leave l → slice_get F.code k ≡ Some (Label l) → EntersAt F.code leave k
-  entered-at None l k e at = (ap is_label at, one-point k 0 l at e)
-  entered-at (Some p) l k e at = (ap is_label at, (e.0, e.1, e.2, one-point e.0.to k l e.3 at))
+  entered-at None l k e at = (ap is_label at, label-one F k 0 l at e)
+  entered-at (Some p) l k e at = (ap is_label at, (e.0, e.1, e.2, label-one F e.0.to k l e.3 at))
 
   pub function-counted : (bound n : ℕ) → 2 * length F.vars ≤ bound → AreSoMany (IsLiveBetween F.code 0 bound) n → IsLiveEntryCount F.code n
   function-counted bound n high counted = so-made (IsLiveBetween F.code 0 bound) (IsLiveEntry F.code) labelled n counted one to from
@@ -162,7 +155,7 @@ module _ (F : Func) (shaped : shape_fault_of (is_some F.ret) F.code ≡ None) wh
       one : (x y : Triple) → IsLiveBetween F.code 0 bound x → IsLiveBetween F.code 0 bound y → labelled x ≡ labelled y → x ≡ y
       one x y a b same =
           let numbers = ap (λ (z : Triple). z.1) same in
-          let points : x.1 ≡ y.1 = one-point x.1 y.1 (label-number (slice_get F.code y.1)) (stands x.0 x.1 a.enters ∙ ap (λ l. Some (Label l)) numbers) (stands y.0 y.1 b.enters) in
+          let points : x.1 ≡ y.1 = label-one F x.1 y.1 (label-number (slice_get F.code y.1)) (stands x.0 x.1 a.enters ∙ ap (λ l. Some (Label l)) numbers) (stands y.0 y.1 b.enters) in
           λ i. (ap (λ (z : Triple). z.0) same i, points i, ap (λ (z : Triple). z.2) same i)
 
       to : (x : Triple) → IsLiveBetween F.code 0 bound x → IsLiveEntry F.code (labelled x)

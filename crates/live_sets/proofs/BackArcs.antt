@@ -7,15 +7,13 @@ use Rattle.std.proofs.lemmas.List.Elements.{Contains-get_or}
 use Rattle.std.proofs.lemmas.Option.{same_Some}
 use Rattle.bril_tree.specs.declared.edge.Edge.{Edge}
 use Rattle.bril_tree.specs.declared.numbered.Instr.{Instr}
-use Rattle.bril_tree.specs.declared.numbered.Instr.TheVariants.{Label, Const, Act}
-use Rattle.bril_tree.specs.declared.operation.Op.TheVariants as op
 use Rattle.bril_tree.specs.Edge.{Branch, branches_at, branches_from, item_branches}
 use Rattle.bril_tree.specs.Leaving.{IsEdge, AbortsFrom, Leaves, edge_of, leave_of}
 use Rattle.bril_tree.specs.Membership.{In}
-use Rattle.bril_tree.specs.Sites.{AreSitesSound, Opens, Closes, item_change, sites_of}
+use Rattle.bril_tree.specs.Sites.{AreSitesSound, Closes, item_change, sites_of}
 use Rattle.bril_tree.specs.Walk.{end_of}
 use Rattle.bril_tree.proofs.Assignments.{site_speculates}
-use Rattle.bril_tree.proofs.Branches.{branch_from, branch_inside, branch_at_item, aborts-close}
+use Rattle.bril_tree.proofs.Branches.{branch_from, branch_inside, branch_at_item, aborts-close, opens-or_closes}
 use Rattle.bril_tree.proofs.Members.{in_contains, contains_in, in_append_left, in_append_right, in_append_cases, in_flat_map, in_flat_map_source}
 use Rattle.bril_tree.proofs.Replays.{sites-inside}
 use Rattle.flow_graph.specs.Graph.{GraphView, IsGraphOf}
@@ -96,16 +94,6 @@ module _ (code : List Instr) where
       let s = in_flat_map_source (abort_arc code) arc edges i in
       (s.0, s.1, (unless-is (s.0.leave == s.0.from) (back_arc code s.0.leave s.0.to) arc s.2).1)
 
--- no item opens a site and can abort
-opens-closes : (item : Option Instr) → item_change item false ≡ Opens → item_change item true ≡ Closes → ⊥
-opens-closes None a b = cc
-opens-closes (Some (Label l)) a b = cc
-opens-closes (Some (Const dest ty value)) a b = cc
-opens-closes (Some (Act dest ty op.Speculate args funcs labels)) a b = cc
-opens-closes (Some (Act dest ty op.Commit args funcs labels)) a b = cc
-opens-closes (Some (Act dest ty op.Guard args funcs labels)) a b = cc
-opens-closes (Some (Act dest ty _ args funcs labels)) a b = cc
-
 -- ---- both together
 
 module _ (code : List Instr) (graph : GraphView) (g : IsGraphOf code graph) (sound : AreSitesSound code) where
@@ -134,7 +122,7 @@ module _ (code : List Instr) (graph : GraphView) (g : IsGraphOf code graph) (sou
       let among = in_contains branch (branches_at code (end_of a.walk)) a.at in
       let from : branch.from ≡ end_of a.walk = branch_from code (end_of a.walk) branch among in
       let away : leave_of branch.aborts branch.from (sites_of code a.walk) ≡ branch.from → ⊥ = λ same.
-      opens-closes (slice_get code point) (site_speculates code a.walk point (subst (In point) (sym a.sites) (inl refl)))
+      opens-or_closes (slice_get code point) (site_speculates code a.walk point (subst (In point) (sym a.sites) (inl refl)))
       (subst (λ n. item_change (slice_get code n) true ≡ Closes) (sym from ∙ sym same ∙ leave) (aborts-close code (end_of a.walk) (slice_get code (end_of a.walk)) branch among a.aborts)) in
       in_append_right _ (arcs_from code 0 code) (abort_arcs code graph.edges) (subst (λ n. In (back_arc code n branch.to) (abort_arcs code graph.edges)) leave (abort-there code edge graph.edges listed away))
 

@@ -1,15 +1,14 @@
 -- The rows of a table of liveness.
-use Rattle.std.proofs.Common.{◌≡◌, ◌⊎◌, ◌↔◌, ℕ, zero, suc, ◌<◌, List, [], ◌∷◌, ◌++◌, length, get_or, Bool, Option, Some, None, refl, sym, ap, subst, ◌∙◌, inl, inr, ⊎_elim, true≢false}
+use Rattle.std.proofs.Common.{◌≡◌, ◌⊎◌, ◌↔◌, ℕ, ◌<◌, List, [], ◌∷◌, ◌++◌, length, get_or, Bool, Option, Some, None, refl, sym, subst, ◌∙◌, ⊎_elim, true≢false}
 use Rattle.std.specs.Prelude.{slice_get, IsTrue}
 use Rattle.std.specs.List.{All, Contains}
 use Rattle.std.proofs.lemmas.List.Elements.{Contains-get_or}
-use Rattle.std.proofs.lemmas.Option.{same_Some}
 use Rattle.graph_search.specs.Path.{IsBetween, IsReached, other_than}
 use Rattle.graph_search.specs.declared.graph.Arc.{Arc}
 use Rattle.bril_tree.specs.declared.numbered.Instr.{Instr}
 use Rattle.bril_tree.specs.Live.{IsLive}
 use Rattle.bril_tree.specs.Operand.{Location, reads_of}
-use Rattle.bril_tree.proofs.Elements.{none_past}
+use Rattle.bril_tree.proofs.Elements.{none_past, pushed_get}
 use Rattle.flow_graph.specs.Accesses.{Accesses}
 use Rattle.flow_graph.specs.Location.{number_of}
 use Rattle.flow_graph.specs.Reads.{reads_from}
@@ -29,12 +28,6 @@ IsRow code x row = (point : ℕ) → IsTrue (has_point row point) ↔ IsLive cod
 abbrev pub AreRows : List Instr → List Points → Type 0
 AreRows code rows = (x : Location) (row : Points) → slice_get rows (number_of x) ≡ Some row → IsRow code x row
 
-pushed-get : {A : Type 0} (xs : List A) (a : A) (k : ℕ) (b : A) → slice_get (xs ++ a ∷ []) k ≡ Some b → (slice_get xs k ≡ Some b) ⊎ ((k ≡ length xs) × (a ≡ b))
-pushed-get [] a zero b e = inr (refl, same_Some a b e)
-pushed-get [] a (suc k) b e = absurd (let n : None ≡ Some b = e in cc)
-pushed-get (x ∷ xs) a zero b e = inl e
-pushed-get (x ∷ xs) a (suc k) b e = ⊎_elim inl (λ h. inr (ap suc h.0, h.1)) (pushed-get xs a k b e)
-
 -- no row yet
 pub no-rows : (code : List Instr) → AreRows code []
 no-rows code x row e = absurd (let n : None ≡ Some row = e in cc)
@@ -42,7 +35,7 @@ no-rows code x row e = absurd (let n : None ≡ Some row = e in cc)
 -- one row more
 pub more-rows : (code : List Instr) (rows more : List Points) (row : Points) (number : ℕ) → number ≡ length rows → AreRows code rows → ((x : Location) → number_of x ≡ number → IsRow code x row) → more ≡ rows ++ row ∷ [] → AreRows code more
 more-rows code rows more row number long are is e x found at =
-    ⊎_elim (λ h. are x found h) (λ h. subst (IsRow code x) h.1 (is x (h.0 ∙ sym long))) (pushed-get rows row (number_of x) found (subst (λ l. slice_get l (number_of x) ≡ Some found) e at))
+    ⊎_elim (λ h. are x found h) (λ h. subst (IsRow code x) h.1 (is x (h.0 ∙ sym long))) (pushed_get rows row (number_of x) found (subst (λ l. slice_get l (number_of x) ≡ Some found) e at))
 
 -- a location without a row isn't read
 unread : (code : List Instr) (rows : List Points) (x : Location) (point : ℕ) → All (λ (read : Access). read.location < length rows) (reads_from 0 code) → slice_get rows (number_of x) ≡ None → IsLive code x point → ⊥

@@ -1,8 +1,8 @@
 -- Items of the new function have their shapes and types where those of the old one have.
-use Rattle.std.proofs.Common.{◌≡◌, ◌⊎◌, ℕ, Bool, true, false, List, [], ◌∷◌, length, map, Option, Some, None, refl, sym, ap, subst, ◌∙◌, inl, inr, ⊎_elim, arith}
+use Rattle.std.proofs.Common.{◌≡◌, ◌⊎◌, ℕ, Bool, true, List, [], ◌∷◌, length, map, Option, Some, None, refl, sym, ap, subst, ◌∙◌, inl, inr, ⊎_elim, arith}
 use Rattle.std.specs.Prelude.{slice_get, slice_index, is_some, ◌==◌, ◌&&◌}
 use Rattle.std.specs.List.{AllZip}
-use Rattle.std.proofs.lemmas.Bool.{and_parts}
+use Rattle.std.proofs.lemmas.Bool.{and_parts, and_from}
 use Rattle.bril_tree.specs.declared.numbered.Instr.{Instr}
 use Rattle.bril_tree.specs.declared.numbered.Instr.TheVariants.{Label, Const, Act}
 use Rattle.bril_tree.specs.declared.numbered_function.Func.{Func}
@@ -21,9 +21,10 @@ use Rattle.bril_tree.specs.Membership.{In}
 use Rattle.bril_tree.proofs.Members.{in_map}
 use Rattle.bril_tree.proofs.Shapes.{shape-parts}
 use Rattle.bril_tree.proofs.Elements.{zip-long, in_index}
+use Rattle.bril_tree.proofs.Typings.{typed-unless}
 use Rattle.pass_names.specs.Named.{SameName}
 use Rattle.pass_names.proofs.Items.{Shares, args_of, zip-at}
-use Rattle.pass_accept.proofs.Typed.{act-typed, typed-unless}
+use Rattle.pass_accept.proofs.Typed.{act-typed}
 
 zip-types : (V W : List (List ℕ)) (F G : Func) (xs ys : List ℕ) → AllZip (SameName V W) xs ys → ((x y : ℕ) → SameName V W x y → In y ys → variable_type F.vars x ≡ variable_type G.vars y) → map (variable_type F.vars) xs ≡ map (variable_type G.vars) ys
 zip-types V W F G [] [] z t = refl
@@ -43,10 +44,6 @@ arguments-read ret op.Set d args fns labels s = inl refl
 arguments-read ret op.Get d args fns labels s = inr (λ y i. absurd (none_in args y (shape-parts (shape_of ret op.Get) (is_some d) (length args) fns labels s).args_are i))
 arguments-read ret _ d args fns labels s = inr (λ y i. in_map Variable y args i)
 
-and-true : (b c : Bool) → b ≡ true → c ≡ true → b && c ≡ true
-and-true true c e h = h
-and-true false c e h = absurd cc
-
 -- a shadow's variable may lose its type
 set-relaxed : (s u t : Option Ty) → (u ≡ None) ⊎ (s ≡ u) → is_set_typed s t ≡ true → is_set_typed u t ≡ true
 set-relaxed s u None h e = absurd (untyped s e)
@@ -56,6 +53,16 @@ set-relaxed s u None h e = absurd (untyped s e)
     untyped (Some r) e = cc
 set-relaxed s u (Some t) (inl n) e = ap (λ o. is_set_typed o (Some t)) n
 set-relaxed s u (Some t) (inr k) e = ap (λ o. is_set_typed o (Some t)) (sym k) ∙ e
+
+-- two calls of functions that take and return the same fit alike
+pub fits-same : (P Q : Prog) (F G : Func) (callees : (g : ℕ) → types_of (slice_get P.funcs g) ≡ types_of (slice_get Q.funcs g)) (results : (g : ℕ) → return_type (slice_get P.funcs g) ≡ return_type (slice_get Q.funcs g)) (o : Op) (d e : Option ℕ) (args result_args fns : List ℕ) → is_some d ≡ is_some e → length args ≡ length result_args → action_call_fits P F o d args fns ≡ action_call_fits Q G o e result_args fns
+fits-same P Q F G callees results op.Call d e args result_args fns sd n =
+    let g = slice_index fns 0 in
+    ap (λ z. (z == length (types_of (slice_get P.funcs g))) && same (is_some (return_type (slice_get P.funcs g))) (is_some d)) n
+    ∙ ap (λ z. (length result_args == length z) && same (is_some (return_type (slice_get P.funcs g))) (is_some d)) (callees g)
+    ∙ ap (λ z. (length result_args == length (types_of (slice_get Q.funcs g))) && same (is_some z) (is_some d)) (results g)
+    ∙ ap (λ z. (length result_args == length (types_of (slice_get Q.funcs g))) && same (is_some (return_type (slice_get Q.funcs g))) z) sd
+fits-same P Q F G callees results _ d e args result_args fns sd n = refl
 
 module _ (fs V W lP lQ : List (List ℕ)) (differ : Differ fs) (M : Location → Type 0) (P Q : Prog) (F G : Func) (callees : (g : ℕ) → types_of (slice_get P.funcs g) ≡ types_of (slice_get Q.funcs g)) (results : (g : ℕ) → return_type (slice_get P.funcs g) ≡ return_type (slice_get Q.funcs g)) (ret_same : F.ret ≡ G.ret) where
   abbrev Both : Instr → Instr → Type 0
@@ -75,15 +82,6 @@ module _ (fs V W lP lQ : List (List ℕ)) (differ : Differ fs) (M : Location →
       ∙ ap (λ z. is_action_shaped ret u (is_some e) z (length fns) (length ls)) h.same.count ∙ ap (λ z. is_action_shaped ret u (is_some e) (length result_args) (length z) (length ls)) h.same.funcs
       ∙ ap (λ z. is_action_shaped ret u (is_some e) (length result_args) (length gns) z) (zip-long (SameName lP lQ) ls ms h.targets)
 
-  fits-same : (o : Op) (d e : Option ℕ) (args result_args fns : List ℕ) → is_some d ≡ is_some e → length args ≡ length result_args → action_call_fits P F o d args fns ≡ action_call_fits Q G o e result_args fns
-  fits-same op.Call d e args result_args fns sd n =
-      let g = slice_index fns 0 in
-      ap (λ z. (z == length (types_of (slice_get P.funcs g))) && same (is_some (return_type (slice_get P.funcs g))) (is_some d)) n
-      ∙ ap (λ z. (length result_args == length z) && same (is_some (return_type (slice_get P.funcs g))) (is_some d)) (callees g)
-      ∙ ap (λ z. (length result_args == length (types_of (slice_get Q.funcs g))) && same (is_some z) (is_some d)) (results g)
-      ∙ ap (λ z. (length result_args == length (types_of (slice_get Q.funcs g))) && same (is_some (return_type (slice_get Q.funcs g))) z) sd
-  fits-same _ d e args result_args fns sd n = refl
-
   pub call-same : (a b : Instr) → Shares fs V W lP lQ differ M a b → is_call_shaped P F a ≡ is_call_shaped Q G b
   call-same (Label l) (Label m) h = refl
   call-same (Label l) (Const y t w) h = refl
@@ -94,7 +92,7 @@ module _ (fs V W lP lQ : List (List ℕ)) (differ : Differ fs) (M : Location →
   call-same (Act d s o args fns ls) (Label m) h = absurd h.same
   call-same (Act d s o args fns ls) (Const y t w) h = absurd h.same
   call-same (Act d s o args fns ls) (Act e t u result_args gns ms) h =
-      ap (λ z. action_call_fits P F z d args fns) h.same.operation ∙ ap (λ z. action_call_fits P F u d args z) h.same.funcs ∙ fits-same u d e args result_args gns h.same.dest h.same.count
+      ap (λ z. action_call_fits P F z d args fns) h.same.operation ∙ ap (λ z. action_call_fits P F u d args z) h.same.funcs ∙ fits-same P Q F G callees results u d e args result_args gns h.same.dest h.same.count
 
   -- destinations of the same type
   dest-same : (d e : Option ℕ) (ty : Option Ty) → AllZip (SameName V W) (listed d) (listed e) → ((x y : ℕ) → SameName V W x y → In y (listed e) → variable_type F.vars x ≡ variable_type G.vars y) → is_dest_typed P F d ty ≡ is_dest_typed Q G e ty
@@ -157,4 +155,4 @@ module _ (fs V W lP lQ : List (List ℕ)) (differ : Differ fs) (M : Location →
           let shadowed = tn (slice_index args 0) (slice_index result_args 0) n0 (in_index result_args 0 (omega (arith, two, n))) in
           let set : is_set_typed (argument_type G.vars result_args 0) (argument_type G.vars result_args 1) ≡ true =
           set-relaxed (argument_type F.vars args 0) (argument_type G.vars result_args 0) (argument_type G.vars result_args 1) shadowed (ap (is_set_typed (argument_type F.vars args 0)) (sym value) ∙ parts.1) in
-          ap (λ z. action_type_fault Q G z e t result_args gns) k ∙ ap (λ z. action_type_fault Q G op.Set e z result_args gns) (sym h.types) ∙ ap wrong_unless (and-true _ _ dest set)
+          ap (λ z. action_type_fault Q G z e t result_args gns) k ∙ ap (λ z. action_type_fault Q G op.Set e z result_args gns) (sym h.types) ∙ ap wrong_unless (and_from _ _ dest set)

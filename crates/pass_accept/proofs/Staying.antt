@@ -20,7 +20,7 @@ use Rattle.bril_names.specs.Range.{IsInRange}
 use Rattle.bril_names.proofs.Naming.{AreBelow-append, one_number}
 use Rattle.bril_tree.specs.Accepted.{IsAccepted}
 use Rattle.bril_tree.specs.Step.{items_of, code_of, item_at}
-use Rattle.bril_tree.proofs.Typings.{first_type-is, type_of, both_typed-is, type-assigned, type-assigned_own, some_type, variable-has}
+use Rattle.bril_tree.proofs.Typings.{first_type-is, type_of, both_typed-is, type-assigned, type-assigned_own, some_type, variable-has, typed-unless}
 use Rattle.bril_tree.proofs.Trees.{nothing_at}
 use Rattle.bril_tree.proofs.Shapes.{no_dest}
 use Rattle.bril_tree.proofs.Acceptance.{accepted_function, shaped_at, typed_at}
@@ -29,7 +29,6 @@ use Rattle.std.proofs.lemmas.List.{length-map}
 use Rattle.pass_names.specs.NamedPlan.{SameHeads}
 use Rattle.pass_names.specs.Named.{SameName}
 use Rattle.pass_accept.specs.Stays.{HasTypeOfDest}
-use Rattle.pass_accept.proofs.Typed.{typed-unless}
 use Rattle.pass_names.proofs.Items.{SameDest, same_dest}
 use Rattle.pass_names.proofs.Points.{found, found_under, Differ-in}
 

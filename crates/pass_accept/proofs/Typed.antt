@@ -11,10 +11,6 @@ use Rattle.bril_tree.specs.Shape.{is_action_shaped, shape_of}
 use Rattle.bril_tree.specs.Typing.{variable_type, argument_type, is_action_typed, is_dest_typed, action_type_fault, print_fault, wrong_unless, is_return_typed, return_type, are_typed, same_result}
 use Rattle.bril_tree.proofs.Shapes.{shape-parts}
 
-pub typed-unless : (b : Bool) → wrong_unless b ≡ None → b ≡ true
-typed-unless true e = refl
-typed-unless false e = absurd cc
-
 type-at : (V W : ℕ → Option Ty) (xs ys : List ℕ) (k : ℕ) → map V xs ≡ map W ys → k < length xs → V (slice_index xs k) ≡ W (slice_index ys k)
 type-at V W [] ys k e l = absurd (omega arith)
 type-at V W (x ∷ xs) [] k e l = absurd cc

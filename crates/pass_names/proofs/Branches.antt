@@ -12,7 +12,7 @@ use Rattle.bril_tree.specs.Membership.{In}
 use Rattle.bril_tree.proofs.Members.{in_map}
 use Rattle.pass_plan.specs.Plan.{ItemsMatch}
 
-zip-map : {X Y : Type 0} (S : ℕ → ℕ → Type 0) (R : X → Y → Type 0) (f : ℕ → X) (g : ℕ → Y) (xs ys : List ℕ) → AllZip S xs ys → ((x y : ℕ) → S x y → In x xs → R (f x) (g y)) → AllZip R (map f xs) (map g ys)
+pub zip-map : {X Y : Type 0} (S : ℕ → ℕ → Type 0) (R : X → Y → Type 0) (f : ℕ → X) (g : ℕ → Y) (xs ys : List ℕ) → AllZip S xs ys → ((x y : ℕ) → S x y → In x xs → R (f x) (g y)) → AllZip R (map f xs) (map g ys)
 zip-map S R f g [] [] z h = tt
 zip-map S R f g [] (y ∷ ys) z h = absurd z
 zip-map S R f g (x ∷ xs) [] z h = absurd z

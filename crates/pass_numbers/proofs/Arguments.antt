@@ -8,7 +8,7 @@ use Rattle.program_numbers.specs.ProgramNumbers.{greatest}
 use Rattle.bril_names.proofs.Variables.{same_arguments}
 use Rattle.pass_numbers.proofs.Items.{IsOfItems}
 
-greatest-within : (most : ℕ) (xs : List Instr) → ((x : Instr) → In x xs → item_passes x ≤ most) → greatest (map item_passes xs) ≤ most
+pub greatest-within : (most : ℕ) (xs : List Instr) → ((x : Instr) → In x xs → item_passes x ≤ most) → greatest (map item_passes xs) ≤ most
 greatest-within most [] each = omega arith
 greatest-within most (x ∷ xs) each = let one = each x (inl refl) in let rest = greatest-within most xs (λ y i. each y (inr i)) in omega arith
 

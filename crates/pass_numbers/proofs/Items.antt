@@ -55,7 +55,7 @@ pub record IsOfItems (rename : List ℕ → List ℕ) (extra : List (List ℕ)) 
 
 -- ---- items of the old function
 
-in-greatest : (a : Instr) (items : List Instr) → In a items → item_passes a ≤ greatest (map item_passes items)
+pub in-greatest : (a : Instr) (items : List Instr) → In a items → item_passes a ≤ greatest (map item_passes items)
 in-greatest a [] i = absurd i
 in-greatest a (b ∷ items) (inl same) = let s = ap item_passes same in omega arith
 in-greatest a (b ∷ items) (inr i) = let rest = in-greatest a items i in omega arith

@@ -96,7 +96,7 @@ locations-few G R xs each one =
 -- ---- numbers in the order of their appearance
 
 -- each number that is known in the end was known or appeared
-appeared : (known : ℕ) (xs : List ℕ) (n y : ℕ) → known_after known xs ≡ Some n → known ≤ y → y < n → In y xs
+pub appeared : (known : ℕ) (xs : List ℕ) (n y : ℕ) → known_after known xs ≡ Some n → known ≤ y → y < n → In y xs
 appeared known [] n y e low high = let f : known ≡ n = cc in absurd (omega arith)
 appeared known (x ∷ xs) n y e low high = by (seen known x xs) (λ k h l. appeared k xs n y h l high)
   where

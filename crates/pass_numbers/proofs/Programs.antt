@@ -107,7 +107,7 @@ functions_grow P Q growth more accepted rising few same each = record {
 }
 
 -- nothing, added up
-none-added : (k n : ℕ) → sum_by (λ (f : ℕ). 0) (range_with_len k n) ≡ 0
+pub none-added : (k n : ℕ) → sum_by (λ (f : ℕ). 0) (range_with_len k n) ≡ 0
 none-added k zero = refl
 none-added k (suc n) = let one = sum_by-cons (λ (f : ℕ). 0) k (range_with_len (k + 1) n) in let rest = none-added (k + 1) n in omega arith
 

@@ -1,5 +1,5 @@
 -- What is known of an item of an accepted program by its shape.
-use Rattle.std.proofs.Common.{◌≡◌, ℕ, zero, suc, ◌<◌, Bool, true, false, List, [], ◌∷◌, length, map, Option, Some, None, refl, sym, ap, subst, ◌∙◌, arith}
+use Rattle.std.proofs.Common.{◌≡◌, ℕ, zero, suc, ◌<◌, Bool, true, false, List, [], ◌∷◌, length, map, Option, Some, None, refl, sym, ap, subst, ◌∙◌, arith, inl}
 use Rattle.std.specs.Prelude.{slice_get, slice_index, is_some}
 use Rattle.std.specs.List.{AllZip}
 use Rattle.bril_tree.specs.declared.numbered.Instr.{Instr}
@@ -12,13 +12,17 @@ use Rattle.bril_tree.specs.declared.value.Value.{Value}
 use Rattle.bril_tree.specs.Accepted.{IsAccepted}
 use Rattle.bril_tree.specs.Outcome.{undefined, shadow_given, Yields, HasEffect, outcome_of}
 use Rattle.bril_tree.specs.Shape.{is_shaped, fits_shape, shape_of}
-use Rattle.bril_tree.specs.Sites.{AreSitesSound}
+use Rattle.bril_tree.specs.Sites.{AreSitesSound, Opens, item_change, sites_of}
 use Rattle.bril_tree.specs.State.{Locals}
 use Rattle.bril_tree.specs.Step.{items_of, code_of, item_at}
 use Rattle.bril_tree.specs.Typing.{return_type, is_call_shaped, type_fault}
+use Rattle.bril_tree.specs.Assigned.{assigns_at}
+use Rattle.bril_tree.specs.Edge.{Branch}
+use Rattle.bril_tree.specs.Membership.{In}
 use Rattle.pass_plan.specs.Plan.{Writes}
-use Rattle.bril_tree.proofs.Shapes.{shape-parts}
+use Rattle.bril_tree.proofs.Shapes.{shape-parts, none_assigned}
 use Rattle.bril_tree.proofs.Acceptance.{accepted_function, shaped_at, call_at, typed_at}
+use Rattle.bril_tree.proofs.Assignments.{site_speculates}
 
 -- ---- lists
 
@@ -56,6 +60,20 @@ shaped_here P accepted k i item at = by (slice_get P.funcs k) refl
           called = call_at P f facts i item here;
           typed = typed_at P f facts i item here;
         }
+
+-- an item that opens a site assigns nothing
+pub opens_assigns : (P : Prog) → IsAccepted P → (f i : ℕ) → item_change (item_at P f i) false ≡ Opens → assigns_at (item_at P f i) ≡ []
+opens_assigns P accepted f i = by (item_at P f i) refl
+  where
+    by : (o : Option Instr) → item_at P f i ≡ o → item_change (item_at P f i) false ≡ Opens → assigns_at (item_at P f i) ≡ []
+    by None here opens = absurd (let h = ap (λ o. item_change o false) (sym here) ∙ opens in cc)
+    by (Some a) here opens =
+        let facts = shaped_here P accepted f i a here in
+        ap assigns_at here ∙ none_assigned facts.ret a false facts.shaped (λ k. let h = sym k ∙ ap (λ o. item_change o false) (sym here) ∙ opens in cc)
+
+-- and so does an open site
+pub site_assigns : (P : Prog) → IsAccepted P → (f : ℕ) (walk : List Branch) (s : ℕ) (sites : List ℕ) → sites_of (code_of P f) walk ≡ s ∷ sites → assigns_at (item_at P f s) ≡ []
+site_assigns P accepted f walk s sites e = opens_assigns P accepted f s (site_speculates (code_of P f) walk s (subst (In s) (sym e) (inl refl)))
 
 -- ---- operations that always give a value or a fault
 

@@ -19,11 +19,12 @@ use Rattle.bril_tree.specs.Membership.{In}
 use Rattle.bril_tree.proofs.Assignments.{in_or_not}
 use Rattle.bril_tree.proofs.Branches.{walk_within}
 use Rattle.bril_tree.proofs.Members.{in_contains, contains_in}
+use Rattle.bril_tree.proofs.Elements.{past_end}
 use Rattle.flow_graph.proofs.OpenSites.{sound_walks_agree}
 use Rattle.flow_graph.proofs.Told.{first_sites, some_site}
 use Rattle.pass_plan.specs.Plan.{Plan, PointItemsMatch, Preserves}
 use Rattle.pass_walks.specs.Matched.{SavedSetsMatch, MatchedWalk}
-use Rattle.pass_walks.proofs.Items.{leaves_same, needs_same, reads_same, none_same, past_end}
+use Rattle.pass_walks.proofs.Items.{leaves_same, needs_same, reads_same, none_same}
 
 -- ---- open sites of sound code
 

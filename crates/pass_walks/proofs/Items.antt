@@ -1,7 +1,5 @@
 -- Items that do the same ask the same of the walks to them; some ask nothing.
-use Rattle.std.proofs.Common.{◌≡◌, ℕ, ◌≤◌, Bool, false, List, [], length, Option, Some, None, refl, sym, ap, subst, ◌∙◌, ⊎_elim}
-use Rattle.std.specs.Prelude.{slice_get}
-use Rattle.std.proofs.lemmas.Bool.{cases_lt}
+use Rattle.std.proofs.Common.{◌≡◌, ℕ, Bool, false, List, [], Option, Some, None, refl, sym, ap, subst, ◌∙◌}
 use Rattle.std.proofs.lemmas.Option.{same_Some}
 use Rattle.bril_tree.specs.declared.numbered.Instr.{Instr}
 use Rattle.bril_tree.specs.declared.numbered.Instr.TheVariants.{Label, Const, Act}
@@ -13,7 +11,7 @@ use Rattle.bril_tree.specs.Accepted.{leaves_frame}
 use Rattle.bril_tree.specs.Operand.{Location, reads_of, reading_of, locations_read}
 use Rattle.bril_tree.specs.Sites.{needs_site}
 use Rattle.bril_tree.specs.Membership.{In}
-use Rattle.bril_tree.proofs.Elements.{none_past, zip-find}
+use Rattle.bril_tree.proofs.Elements.{zip-find}
 use Rattle.pass_plan.specs.Plan.{PointItemsMatch}
 use Rattle.pass_walks.specs.Matched.{IsHarmless}
 
@@ -75,10 +73,6 @@ pub none_same : (A : Location → Location → Type 0) (o u : Option Instr) → 
 none_same A None u e s = refl
 none_same A (Some a) None e s = absurd s
 none_same A (Some a) (Some b) e s = absurd cc
-
--- where a list has nothing it has ended
-pub past_end : {X : Type 0} (xs : List X) (k : ℕ) → slice_get xs k ≡ None → length xs ≤ k
-past_end xs k e = ⊎_elim (λ less. absurd (none_past xs k less e)) (λ past. past) (cases_lt k (length xs))
 
 -- an item that reads nothing, leaves no frame and needs no site asks nothing
 pub harmless_item : (Assured : Location → Type 0) (o : Option Instr) (b : Instr) → o ≡ Some b → reads_of b ≡ [] → leaves_frame (Some b) ≡ false → needs_site (Some b) ≡ false → IsHarmless Assured o

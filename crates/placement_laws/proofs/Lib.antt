@@ -1,6 +1,7 @@
 pub mod Calling
 pub mod Different
 pub mod Filling
+pub mod Homes
 pub mod Known
 pub mod Living
 pub mod Needing

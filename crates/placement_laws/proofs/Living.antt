@@ -23,7 +23,7 @@ use Rattle.bril_tree.proofs.Acceptance.{accepted_function, shaped_at}
 use Rattle.bril_tree.proofs.Branches.{branch_at_item}
 use Rattle.bril_tree.proofs.Elements.{All-at, in_index}
 use Rattle.bril_tree.proofs.Formed.{variable_below}
-use Rattle.bril_tree.proofs.Members.{in_append_right, in_contains, in_map_source}
+use Rattle.bril_tree.proofs.Members.{in_append_right, in_contains, in_map_source, contains_one}
 use Rattle.bril_tree.proofs.Replays.{sites-inside}
 use Rattle.slot_code.specs.declared.item.Slot.TheVariants as slot
 use Rattle.slot_code.specs.declared.slots.SlotFunction.{SlotFunction}
@@ -52,13 +52,6 @@ module _ (p : Prog) (k : ℕ) (f : Func) (g : SlotFunction) (accepted : IsAccept
   in_arguments : (location : Location) (args : List ℕ) → Contains (map Variable args) location → (x : ℕ) × In x args × (location ≡ Variable x)
   in_arguments location args c = in_map_source Variable location args (in_contains location (map Variable args) c)
 
-  one_of : (location other : Location) → Contains (other ∷ []) location → location ≡ other
-  one_of location other c = by (in_contains location (other ∷ []) c)
-    where
-      by : In location (other ∷ []) → location ≡ other
-      by (inl e) = e
-      by (inr h) = absurd h
-
   by_arguments : (point : ℕ) (dest : Option ℕ) (ty : Option Ty) (o : Op) (args funcs labels : List ℕ) (location : Location) → slice_get f.code point ≡ Some (Act dest ty o args funcs labels) → Contains (map Variable args) location → IsSlotOf g (slot_of location)
   by_arguments point dest ty o args funcs labels location at c =
       let found = in_arguments location args c in
@@ -69,11 +62,11 @@ module _ (p : Prog) (k : ℕ) (f : Func) (g : SlotFunction) (accepted : IsAccept
       Contains (reads_of (Act dest ty o args funcs labels)) location → IsSlotOf g (slot_of location)
   act_reads point None ty op.Get args funcs labels location at h used c = absurd (false≢true h)
   act_reads point (Some x) ty op.Get args funcs labels location at h used c =
-      subst (λ l. IsSlotOf g (slot_of l)) (sym (one_of location (Shadow x) c)) (All-at (IsSlotOf g) (slot.Variable x ∷ slot.Shadow x ∷ []) 1 (slot.Shadow x) used refl)
+      subst (λ l. IsSlotOf g (slot_of l)) (sym (contains_one location (Shadow x) c)) (All-at (IsSlotOf g) (slot.Variable x ∷ slot.Shadow x ∷ []) 1 (slot.Shadow x) used refl)
   act_reads point (Some x) ty op.Set args funcs labels location at h used c = absurd (false≢true h)
   act_reads point None ty op.Set args funcs labels location at h used c =
       let two = counted p f op.Set None args funcs labels h in
-      subst (λ l. IsSlotOf g (slot_of l)) (sym (one_of location (Variable (slice_index args 1)) c)) (among point None ty op.Set args funcs labels at (slice_index args 1) (in_index args 1 (omega arith)))
+      subst (λ l. IsSlotOf g (slot_of l)) (sym (contains_one location (Variable (slice_index args 1)) c)) (among point None ty op.Set args funcs labels at (slice_index args 1) (in_index args 1 (omega arith)))
   act_reads point dest ty o args funcs labels location at h used c = by_arguments point dest ty o args funcs labels location at c
 
   item_reads : (point : ℕ) (item : Instr) (location : Location) → slice_get f.code point ≡ Some item → Contains (reads_of item) location → IsSlotOf g (slot_of location)

@@ -4,10 +4,9 @@ use Rattle.std.proofs.lemmas.List.{length-append}
 use Rattle.std.specs.List.{Contains}
 use Rattle.bril_tree.specs.declared.numbered.Instr.{Instr}
 use Rattle.bril_tree.specs.Edge.{Branch, branches_at}
-use Rattle.bril_tree.specs.Sites.{AreFirstSites, AreSitesSound, Change, Opens, Closes, Keeps, change_of, sites_behind, sites_changed, sites_of, without_newest}
+use Rattle.bril_tree.specs.Sites.{AreSitesSound, Change, Opens, Closes, Keeps, change_of, sites_behind, sites_changed, sites_of, without_newest}
 use Rattle.bril_tree.specs.Walk.{IsWalk, end_of}
-use Rattle.flow_graph.proofs.OpenSites.{one_list}
-use Rattle.flow_graph.proofs.Told.{first_sites}
+use Rattle.flow_graph.proofs.Told.{same_sites}
 use Rattle.placement_laws.specs.Open.{Already, IsOpen, Onward, StaysOpen}
 
 -- ---- lists of sites
@@ -45,15 +44,9 @@ open_at code level last point (Already _ e o) = o
 open_at code level last point (Onward _ branch o at rest) = o
 
 module _ (code : List Instr) (sound : AreSitesSound code) where
-  pub same_sites : (v w : List Branch) → IsWalk code v → IsWalk code w → end_of v ≡ end_of w → sites_of code v ≡ sites_of code w
-  same_sites v w is_v is_w ends =
-      one_list code (end_of w) (sites_of code v) (sites_of code w)
-      (subst (λ n. AreFirstSites code n (sites_of code v)) ends (first_sites code v sound is_v))
-      (first_sites code w sound is_w)
-
   -- every walk to the point has the site open
   pub opened : (level point : ℕ) → IsOpen code level point → (walk : List Branch) → IsWalk code walk → end_of walk ≡ point → level ≤ length (sites_of code walk)
-  opened level point o walk is ends = subst (λ s. level ≤ length s) (same_sites o.walk walk o.is is (o.ends ∙ sym ends)) o.has
+  opened level point o walk is ends = subst (λ s. level ≤ length s) (same_sites code sound o.walk walk o.is is (o.ends ∙ sym ends)) o.has
 
   pub open_last : (level last point : ℕ) → StaysOpen code level last point → IsOpen code level last
   open_last level last point (Already _ e o) = subst (IsOpen code level) e o
@@ -62,7 +55,7 @@ module _ (code : List Instr) (sound : AreSitesSound code) where
   -- the sites up to the level are those of the point all the way
   pub base_kept : (base : List ℕ) (last point : ℕ) → StaysOpen code (length base) last point → (v w : List Branch) → IsWalk code v → end_of v ≡ point → Above base (sites_of code v) →
       IsWalk code w → end_of w ≡ last → Above base (sites_of code w)
-  base_kept base last point (Already _ e o) v w is_v ends_v a is_w ends_w = subst (Above base) (same_sites v w is_v is_w (ends_v ∙ (e ∙ sym ends_w))) a
+  base_kept base last point (Already _ e o) v w is_v ends_v a is_w ends_w = subst (Above base) (same_sites code sound v w is_v is_w (ends_v ∙ (e ∙ sym ends_w))) a
   base_kept base last point (Onward _ branch o at rest) v w is_v ends_v a is_w ends_w =
       let at_v : Contains (branches_at code (end_of v)) branch = subst (λ n. Contains (branches_at code n) branch) (sym ends_v) at in
       let has_open = open_at code (length base) last branch.to rest in

@@ -1,31 +1,23 @@
 -- Lines of entries: what they lack, and that they tell the entry.
-use Rattle.std.proofs.Common.{◌≡◌, ◌≢◌, ℕ, zero, suc, ◌+◌, ◌<◌, ◌≤◌, ◌&&◌, ◌||◌, Bool, true, false, not, append_assoc, get_or, take, List, [], ◌∷◌, ◌++◌, length, map, refl, sym, ap, ap₂, ◌∙◌, arith}
+use Rattle.std.proofs.Common.{◌≡◌, ◌≢◌, ℕ, zero, suc, ◌+◌, ◌<◌, ◌≤◌, Bool, true, false, not, append_assoc, get_or, take, List, [], ◌∷◌, ◌++◌, length, map, refl, sym, ap, ap₂, ◌∙◌, arith}
 use Rattle.std.specs.Prelude.{codes, ◌==◌}
-use Rattle.std.specs.Char.{is_ascii_digit}
 use Rattle.std.specs.List.{All, list_all}
-use Rattle.std.proofs.lemmas.Bool.{and_parts}
 use Rattle.std.proofs.lemmas.List.{append_cancel_left, flat_map_more, map-append, take_more}
 use Rattle.std.proofs.lemmas.List.Concat.{flat_map-append}
 use Rattle.std.proofs.lemmas.List.Elements.{All-nil, All-cons, All-head, All-tail, All-append, All-weaker}
 use Rattle.std.proofs.lemmas.List.Sums.{AllPass-from_list_all}
-use Rattle.bril_tree.specs.Identifier.{is_identifier, begins_identifier, continues_identifier}
+use Rattle.bril_tree.specs.Identifier.{is_identifier, continues_identifier}
+use Rattle.bril_tree.proofs.Identifiers.{identifier_continues}
 use Rattle.bril_profile.specs.declared.profile.Entry.{Entry}
 use Rattle.profile_text.specs.Form.{Lacks, choice_letter, choices_text, parts_line, entry_line, IsEntry, first_line, profile_lines, text_of}
 use Rattle.profile_text.proofs.Cuts.{cut_once, lacks_at, line_front}
 
 -- ---- what names lack
 
--- each byte of an identifier may stand behind the first
-all_continue : (name : List ℕ) → is_identifier name ≡ true → list_all continues_identifier name ≡ true
-all_continue [] e = refl
-all_continue (b ∷ bs) e =
-    let parts = and_parts (begins_identifier b) (list_all continues_identifier bs) e in
-    ap₂ (λ (a c : Bool). a && c) (ap (λ a. (a || (b == 46)) || is_ascii_digit b) parts.0) parts.1
-
 -- a byte that no identifier has
 pub name_lacks : (b : ℕ) (name : List ℕ) → continues_identifier b ≡ false → is_identifier name ≡ true → Lacks b name
 name_lacks b name out h =
-    All-weaker (λ c. continues_identifier c ≡ true) (λ c. c ≢ b) other name (AllPass-from_list_all continues_identifier name (all_continue name h))
+    All-weaker (λ c. continues_identifier c ≡ true) (λ c. c ≢ b) other name (AllPass-from_list_all continues_identifier name (identifier_continues name h))
   where
     other : (c : ℕ) → continues_identifier c ≡ true → c ≢ b
     other c inside e = let k : true ≡ false = sym inside ∙ ap continues_identifier e ∙ out in cc

@@ -2,7 +2,7 @@
 use Rattle.std.proofs.Common.{◌≡◌, ℕ, ◌+◌, ◌<◌, ◌≤◌, ◌⊎◌, inl, inr, ⊎_elim, max, List, length, Option, Some, None, sym, ap, ◌∙◌, subst, arith}
 use Rattle.std.specs.Prelude.{slice_get, IfSome, option_map}
 use Rattle.std.specs.List.{Contains}
-use Rattle.std.proofs.lemmas.Option.{slice_get_within, slice_get_past}
+use Rattle.std.proofs.lemmas.Option.{slice_get_within, slice_get_past, same_Some}
 use Rattle.bril_tree.specs.declared.numbered_function.Func.{Func}
 use Rattle.bril_tree.specs.declared.program.Prog.{Prog}
 use Rattle.bril_tree.specs.FrameWords.{AreFrameWords}
@@ -16,9 +16,6 @@ use Rattle.rv64_layout.proofs.Joining.{below_or}
 pub record IsLargestOf (funcs : List Func) (count words : ℕ) : Type 0 where
   pub most : (k : ℕ) (f : Func) (n : ℕ) → k < count → slice_get funcs k ≡ Some f → AreFrameWords f n → n ≤ words
   pub reached : ((count ≡ 0) × (words ≡ 0)) ⊎ ((k : ℕ) × (f : Func) × (slice_get funcs k ≡ Some f) × AreFrameWords f words)
-
-some_same : {X : Type 0} (x y : X) (o : Option X) → o ≡ Some x → o ≡ Some y → x ≡ y
-some_same x y o a b = cc
 
 -- one function more
 pub largest_next : (funcs : List Func) (count most words next : ℕ) → IsLargestOf funcs count most → count < length funcs → IfSome (slice_get funcs count) (λ f. AreFrameWords f words) → next ≡ max most words →
@@ -36,7 +33,7 @@ largest_next funcs count most words next so_far less are is = record {
 
     last : (k : ℕ) (f : Func) (n : ℕ) → k ≡ count → slice_get funcs k ≡ Some f → AreFrameWords f n → n ≤ next
     last k f n same at n_are =
-        let function : f ≡ here.0 = some_same f here.0 (slice_get funcs count) (ap (slice_get funcs) (sym same) ∙ at) here.1 in
+        let function : f ≡ here.0 = same_Some f here.0 (sym (ap (slice_get funcs) (sym same) ∙ at) ∙ here.1) in
         let one : n ≡ words = AreFrameWords-one here.0 n words (subst (λ h. AreFrameWords h n) function n_are) its_words in
         omega arith
 

@@ -1,17 +1,18 @@
 -- Homes of a placement serve.
-use Rattle.std.proofs.Common.{◌≡◌, ℕ, ◌<◌, true, List, Some, refl, sym, ap, ◌∙◌, subst, arith}
+use Rattle.std.proofs.Common.{◌≡◌, ℕ, ◌<◌, true, List, Some, sym, ap, ◌∙◌, subst, arith}
 use Rattle.std.specs.Prelude.{◌↔◌, slice_get}
 use Rattle.std.specs.List.{AllZip}
 use Rattle.std.proofs.lemmas.Option.{slice_get_within}
 use Rattle.bril_tree.specs.declared.numbered_function.Func.{Func}
 use Rattle.bril_tree.specs.declared.program.Prog.{Prog}
 use Rattle.bril_tree.specs.Live.{IsLive}
-use Rattle.bril_tree.specs.Operand.{Location, Variable, Shadow}
+use Rattle.bril_tree.specs.Operand.{Location}
 use Rattle.bril_tree.proofs.Elements.{get_inside, zip-get, zip-long}
 use Rattle.live_sets.specs.declared.live.Live.{Live}
 use Rattle.live_sets.specs.Liveness.{TellsLive, is_live}
 use Rattle.placement_laws.specs.Homes.{IsHomeOf, IsInRegister, slot_of}
 use Rattle.placement_laws.specs.Placed.{IsPlaced}
+use Rattle.placement_laws.proofs.Homes.{location_back}
 use Rattle.rv64_emit_laws.specs.Homes.{AllHomesServe, HomesServe, home_at, homes_of, live_at, saved_at}
 use Rattle.rv64_emit_laws.proofs.Homes.{slot_in}
 use Rattle.rv64_emit_laws.proofs.Sources.{lowered_at}
@@ -22,16 +23,11 @@ use Rattle.shadow_place.specs.Placement.{FewAreInRegisters, HomesAreApart, Homes
 use Rattle.shadow_place.specs.Tables.{home_in, is_saved_in}
 use Rattle.slot_code.specs.declared.slots.SlotFunction.{SlotFunction}
 use Rattle.slot_code.specs.declared.slots.Slots.{Slots}
-use Rattle.slot_code.specs.Flow.{slot_location}
 use Rattle.slot_code.specs.Lowered.{IsLowered, IsLoweredFunction}
 use Rattle.slot_code.proofs.Places.{slots_are_numbered}
 use Rattle.rv64_emit.specs.Moved.{AreRegistersNear}
 use Rattle.rv64_emit.specs.Placed.{is_live_if, placed_homes}
 use Rattle.rv64_emit.specs.Registers.{AreFewInRegisters}
-
-location_back : (x : Location) → slot_location (slot_of x) ≡ x
-location_back (Variable x) = refl
-location_back (Shadow x) = refl
 
 -- what is known of a placement
 pub record IsPlacedBy (p : Prog) (slots : Slots) (lives : List Live) (placed : Placed) : Type 0 where

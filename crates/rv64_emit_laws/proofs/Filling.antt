@@ -16,6 +16,7 @@ use Rattle.bril_tree.specs.Step.{step}
 use Rattle.bril_tree.specs.Value.{IsInRange, word_of}
 use Rattle.rv64_layout.proofs.Bounding.{constant_most}
 use Rattle.rv64_layout.proofs.Lengths.{binary_length, unary_length}
+use Rattle.rv64_layout.proofs.ItemWords.{word_small}
 use Rattle.rv64_stretches.specs.Core.{Core, Keeps, written}
 use Rattle.rv64_stretches.specs.Runs.{HasAt, Runs}
 use Rattle.rv64_stretches.proofs.Cores.{written_here}
@@ -43,7 +44,7 @@ use Rattle.rv64_emit_laws.proofs.Acting.{Fills, fills_slot}
 use Rattle.rv64_emit_laws.proofs.Arriving.{Moves, faults_moves, filled_moves, here, home_here, results_moves, step_at}
 use Rattle.rv64_emit_laws.proofs.Holding.{home_inside, home_usable, keeps_homes, stack_few}
 use Rattle.rv64_emit_laws.proofs.Operands.{Holds, brings, holds_slot, read_is, unchanged, word_held}
-use Rattle.rv64_emit_laws.proofs.Outcomes.{binary_block, binary_computes, binary_most, binary_operands, binary_some, unary_block, unary_computes, unary_most, unary_operand, word_small}
+use Rattle.rv64_emit_laws.proofs.Outcomes.{binary_block, binary_computes, binary_most, binary_operands, binary_some, unary_block, unary_computes, unary_most, unary_operand}
 use Rattle.rv64_emit_laws.proofs.Ready.{BinaryFinds, HoldsValue, UnaryFinds}
 use Rattle.rv64_emit_laws.proofs.Registers.{binary_takes, but_on, first_stays, takes_result}
 use Rattle.rv64_emit_laws.proofs.Relation.{HasWord, RunsAlike}

@@ -91,10 +91,6 @@ pub slot_back : (slot : Slot) → slot_of (slot_location slot) ≡ slot
 slot_back (Variable x) = refl
 slot_back (Shadow x) = refl
 
-pub location_back : (x : Location) → slot_location (slot_of x) ≡ x
-location_back (location.Variable x) = refl
-location_back (location.Shadow x) = refl
-
 -- two locations are one, or not
 pub one_or_not : (x y : Location) → (x ≡ y) ⊎ (x ≢ y)
 one_or_not (location.Variable x) (location.Variable y) = ⊎_elim (λ (e : x ≡ y). inl (ap location.Variable e)) (λ (ne : x ≡ y → ⊥). inr (λ h. ne cc)) (cases_eq x y)

@@ -17,9 +17,9 @@ use Rattle.bril_tree.specs.State.{Locals}
 use Rattle.bril_tree.specs.Typing.{variable_type, if_typed, both_typed, points_to, is_plain, is_pointer, print_fault, same_base, PrintsPointer}
 use Rattle.bril_tree.specs.Value.{IsInRange, IsOfBase, IsOfDepth, IsPointer, zero_at, literal_value}
 use Rattle.bril_tree.specs.Membership.{In}
+use Rattle.bril_tree.proofs.Typings.{same_base-is}
 use Rattle.slot_code.specs.declared.item.Slot.TheVariants as slot
 use Rattle.slot_code.specs.Lowered.{kind_of, printed_as}
-use Rattle.type_soundness.proofs.Typed.{same_base-true}
 use Rattle.rv64_emit_laws.proofs.Ready.{HoldsInt, HoldsBool, HoldsChar, HoldsPointer, HoldsValue, HoldsKind}
 
 -- ---- values of a type
@@ -29,7 +29,7 @@ suits_plain b None v e h = absurd h
 suits_plain b (Some ty) v e h =
     let parts = and_parts (eqb ty.depth 0) _ e in
     let depth = eqb-true ty.depth 0 parts.0 in
-    let same = same_base-true b ty.base parts.1 in
+    let same = same_base-is b ty.base parts.1 in
     (h.0, subst (λ c. IsOfBase c v) (sym same) (subst (λ d. IsOfDepth d ty.base v) depth h.1))
 
 deep_pointer : (d : ℕ) (b : Base) (v : Value) → 0 < d → IsOfDepth d b v → IsPointer v

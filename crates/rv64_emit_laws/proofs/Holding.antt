@@ -19,6 +19,7 @@ use Rattle.placement_laws.specs.Homes.{slot_of}
 use Rattle.placement_laws.specs.Needed.{IsNeeded, Live, Unsaved}
 use Rattle.placement_laws.proofs.Filling.{homes_filled}
 use Rattle.placement_laws.proofs.Steady.{homes_on, saves_on, steady_on}
+use Rattle.placement_laws.proofs.Homes.{location_back}
 use Rattle.rv64_layout.specs.Homes.{level_word, slot_word}
 use Rattle.rv64_stretches.specs.Core.{Core, Keeps, is_home_register}
 use Rattle.rv64_sequences.specs.Frames.{Reaches}
@@ -30,7 +31,7 @@ use Rattle.slot_code.specs.Meaning.{with_slot}
 use Rattle.slot_code.specs.Numbering.{slot_number}
 use Rattle.rv64_emit_laws.specs.Homes.{home_at, saved_at}
 use Rattle.rv64_emit_laws.proofs.Acting.{Fills, Leads}
-use Rattle.rv64_emit_laws.proofs.Frames.{filled_here, filled_other, inside, live_in, location_back, number_inside, older_kept, one_or_not, slot_back, slot_fits, value_at, value_of}
+use Rattle.rv64_emit_laws.proofs.Frames.{filled_here, filled_other, inside, live_in, number_inside, older_kept, one_or_not, slot_back, slot_fits, value_at, value_of}
 use Rattle.rv64_emit_laws.proofs.Homes.{framed_in, origin, usable_in}
 use Rattle.rv64_emit_laws.proofs.Ready.{slot_value}
 use Rattle.rv64_emit_laws.proofs.Relation.{FramesHold, HasWord, HoldsAt, OlderHold, shadow_word}

@@ -1,7 +1,5 @@
 -- What the operations compute, of operands that suit them.
-use Rattle.std.proofs.Common.{◌≡◌, ℕ, ◌^◌, ◌<◌, ◌≤◌, Bool, true, false, cond, refl, sym, ap, ◌∙◌, arith, None, Some, ℤ, pos, negsuc, ◌+ℤ◌}
-use Rattle.std.proofs.Math.Utf8.{scalar_fits}
-use Rattle.std.proofs.lemmas.Int.{ints}
+use Rattle.std.proofs.Common.{◌≡◌, ℕ, ◌^◌, ◌≤◌, Bool, true, false, cond, refl, sym, ap, ◌∙◌, arith, None, Some, ℤ, pos, negsuc, ◌+ℤ◌}
 use Rattle.bril_tree.specs.declared.limits.Fault.TheVariants as fault
 use Rattle.bril_tree.specs.declared.operators.BinaryOp.{BinaryOp}
 use Rattle.bril_tree.specs.declared.operators.BinaryOp.TheVariants as binary
@@ -12,19 +10,10 @@ use Rattle.bril_tree.specs.declared.value.Value.TheVariants.{Int, Bool as Boolea
 use Rattle.bril_tree.specs.Operators.{binary_operation, unary_operation}
 use Rattle.bril_tree.specs.Outcome.{Yields, FaultsWith, HasEffect, block_of, char_from, computed, divided, fits_32, int_of, is_scalar, moved, offset_of}
 use Rattle.bril_tree.specs.State.{Locals}
-use Rattle.bril_tree.specs.Value.{IsInRange, word_of}
 use Rattle.bril_tree.proofs.Outcomes.{div-never_acts, int2char-never_acts, ptradd-never_acts}
 use Rattle.rv64_sequences.specs.Operations.{binary_size, unary_size}
 use Rattle.rv64_values.specs.Operands.{BinarySuits, UnarySuits}
 use Rattle.rv64_emit_laws.proofs.Ready.{BinaryFinds, UnaryFinds}
-
--- the word of a value in its range has 64 bits
-pub word_small : (v : Value) → IsInRange v → word_of v < 2 ^ 64
-word_small (Int n) h = omega (arith, ints)
-word_small (Boolean true) h = omega arith
-word_small (Boolean false) h = omega arith
-word_small (Char c) h = let fits : c < 2 ^ 32 = scalar_fits c h in omega arith
-word_small (Ptr block offset) h = let small : block < 2 ^ 32 = h.0 in omega (arith, ints)
 
 -- ---- operands
 

@@ -27,6 +27,7 @@ use Rattle.bril_tree.proofs.Elements.{All-at}
 use Rattle.placement_laws.specs.Holding.{HomesHold, IsSteady, SavesHold}
 use Rattle.placement_laws.specs.Homes.{slot_of}
 use Rattle.placement_laws.proofs.Calling.{KeptHold, call_goes_on, call_returns}
+use Rattle.placement_laws.proofs.Homes.{location_back}
 use Rattle.rv64_layout.specs.Image.{end_start}
 use Rattle.rv64_layout.specs.Homes.{call_moves, outlives, slot_word}
 use Rattle.rv64_layout.specs.Items.{after_call, before_call, call_result_size, call_result_words, leave_words, pass_words, return_word, room_words}
@@ -61,7 +62,7 @@ use Rattle.rv64_emit_laws.proofs.Between.{AreAllInner, AreInner, Comes, Stops, c
 use Rattle.rv64_emit_laws.proofs.Entries.{head_inner, item_inner, leaving_inner}
 use Rattle.rv64_emit_laws.proofs.Arriving.{Moves, arrive, arrive_ended, guards_by, guards_kept, here, inner_here, memory_by, memory_kept, step_at}
 use Rattle.rv64_emit_laws.proofs.Blocks.{live_alike}
-use Rattle.rv64_emit_laws.proofs.Frames.{filled_here, filled_other, live_in, location_back, older_kept, one_or_not, slot_fits, slots_fit, value_of}
+use Rattle.rv64_emit_laws.proofs.Frames.{filled_here, filled_other, live_in, older_kept, one_or_not, slot_fits, slots_fit, value_of}
 use Rattle.rv64_emit_laws.proofs.Holding.{frame_reaches, keeps_homes, stack_few}
 use Rattle.rv64_emit_laws.proofs.Homes.{framed_in, homes_in, origin, serving, usable_in}
 use Rattle.rv64_emit_laws.proofs.Keeping.{call_chooses, call_passes, home_loaded, loads_own, other_variable, stack_kept, tenth_kept}

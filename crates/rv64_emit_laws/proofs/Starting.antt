@@ -2,11 +2,9 @@
 use Rattle.std.proofs.Common.{◌≡◌, ◌≢◌, ℕ, zero, suc, ◌+◌, ◌-◌, ◌*◌, ◌^◌, ◌<◌, ◌≤◌, refl, sym, ap, ◌∙◌, subst, arith, List, [], ◌∷◌, length, map, length-take, mul-le-mul_right, Option, Some, None, pos}
 use Rattle.std.specs.Prelude.{All, slice_get, slice_index, take}
 use Rattle.std.specs.List.{AllZip}
-use Rattle.std.specs.Option.{option_map}
 use Rattle.std.proofs.lemmas.List.{length-map}
 use Rattle.std.proofs.lemmas.List.Elements.{All-head, All-tail}
 use Rattle.simulation.specs.System.{after}
-use Rattle.bril_tree.specs.declared.numbered_function.Func.{Func}
 use Rattle.bril_tree.specs.declared.types.Base.{Base}
 use Rattle.bril_tree.specs.declared.types.Base.TheVariants as base
 use Rattle.bril_tree.specs.declared.types.Ty.{Ty}
@@ -14,7 +12,6 @@ use Rattle.bril_tree.specs.declared.value.Value.{Value}
 use Rattle.bril_tree.specs.declared.value.Value.TheVariants.{Int, Bool as Boolean, Char, Ptr}
 use Rattle.bril_tree.specs.Accepted.{IsPlainType}
 use Rattle.bril_tree.specs.Outcome.{block_of}
-use Rattle.bril_tree.specs.ProgramForm.{main_name}
 use Rattle.bril_tree.specs.Run.{Suits, first_state, main_types, types_of}
 use Rattle.bril_tree.specs.State as bril
 use Rattle.bril_tree.specs.Step.{new_frame}
@@ -36,6 +33,7 @@ use Rattle.rv64_words.specs.Arithmetic.{extended_32, moved_by}
 use Rattle.rv64_words.specs.Machine.{machine_step}
 use Rattle.rv64_words.specs.Region.{stack_base}
 use Rattle.rv64_words.specs.State.{assigned, start, words_of}
+use Rattle.type_soundness.proofs.Soundness.{main-there}
 use Rattle.rv64_emit_laws.proofs.Between.{comes_away, comes_in, comes_on}
 use Rattle.rv64_emit_laws.proofs.Entries.{IsBetween, head_inner, opening_inner}
 use Rattle.rv64_emit_laws.proofs.Frames.{slots_fit, variables_fit}
@@ -77,10 +75,6 @@ argument_word args x v e = (let two : 2 + x ≡ suc (suc x) = omega arith in ap 
     by_list (u ∷ args) zero e = let same : u ≡ v = cc in ap word_of same
     by_list (u ∷ args) (suc x) e = by_list args x e
 
-pub main_there : (o : Option Func) → option_map (λ (f : Func). f.name) o ≡ Some main_name → (f : Func) × (o ≡ Some f)
-main_there None e = absurd cc
-main_there (Some f) e = (f, refl)
-
 module _ (S : Setting) where
   abbrev first_core : Core
   first_core = record {
@@ -97,13 +91,13 @@ module _ (S : Setting) where
   main_is : S.slots.main ≡ S.p.main
   main_is = S.lowered.main
 
-  pub main_function : LoweredAt S.slots S.p.main (main_there (slice_get S.p.funcs S.p.main) S.p.formed.main_is).0
-  main_function = let main = main_there (slice_get S.p.funcs S.p.main) S.p.formed.main_is in lowered_at S.p S.slots S.lowered S.p.main main.0 main.1
+  pub main_function : LoweredAt S.slots S.p.main (main-there (slice_get S.p.funcs S.p.main) S.p.formed.main_is).0
+  main_function = let main = main-there (slice_get S.p.funcs S.p.main) S.p.formed.main_is in lowered_at S.p S.slots S.lowered S.p.main main.0 main.1
 
   -- the stack has room for the first frame
   pub main_room : length S.args + 2 ≤ S.image.stack
   main_room =
-      let main = main_there (slice_get S.p.funcs S.p.main) S.p.formed.main_is in
+      let main = main-there (slice_get S.p.funcs S.p.main) S.p.formed.main_is in
       let g = main_function.function in
       let fit = slots_fit main.0 g main_function.is in
       let variables = variables_fit main.0 g main_function.is in
@@ -126,7 +120,7 @@ module _ (S : Setting) where
   -- `main` takes as many arguments as there are
   few_arguments : length S.args ≤ main_function.function.args
   few_arguments =
-      let main = main_there (slice_get S.p.funcs S.p.main) S.p.formed.main_is in
+      let main = main-there (slice_get S.p.funcs S.p.main) S.p.formed.main_is in
       let as_many = zip-long Suits S.args (main_types S.p) S.fit in
       let typed : length (main_types S.p) ≡ length (take main.0.args main.0.vars) = ap (λ o. length (types_of o)) main.1 ∙ length-map (take main.0.args main.0.vars) (λ v. v.ty) in
       let taken : main_function.function.args ≡ main.0.args = main_function.is.args in

@@ -1,9 +1,9 @@
 -- The words of guards: each is the last word of its item, and no other word is one.
-use Rattle.std.proofs.Common.{◌≡◌, ℕ, zero, suc, ◌+◌, ◌<◌, ◌≤◌, ◌⊎◌, inl, inr, ⊎_elim, Bool, true, false, ◌||◌, eqb, List, [], ◌∷◌, ◌++◌, length, Option, Some, None, refl, sym, ap, subst, arith}
+use Rattle.std.proofs.Common.{◌≡◌, ℕ, zero, suc, ◌+◌, ◌<◌, ◌≤◌, ◌⊎◌, inl, inr, ⊎_elim, Bool, true, false, ◌||◌, eqb, List, [], ◌∷◌, ◌++◌, length, Option, Some, None, refl, sym, ap, subst, arith, ◌∙◌}
 use Rattle.std.specs.Prelude.{slice_get}
 use Rattle.std.proofs.lemmas.Bool.{eqb-true, false≢true}
 use Rattle.std.proofs.lemmas.Bool.Decides.{nat_tests}
-use Rattle.std.proofs.lemmas.Option.{slice_get_within}
+use Rattle.std.proofs.lemmas.Option.{slice_get_within, same_Some}
 use Rattle.rv64_words.specs.declared.image.GuardAt.{GuardAt}
 use Rattle.rv64_words.specs.Machine.{is_guard_word}
 use Rattle.slot_code.specs.declared.item.SlotItem.{SlotItem}
@@ -80,9 +80,6 @@ module _ (homes : ℕ → FunctionHomes) (slots : Slots) where
     pub from : entry_at homes slots f point ≤ k
     pub to : k < entry_at homes slots f point + item_size (homes f) function point item
 
-  some_same : {X : Type 0} (x y : X) (o : Option X) → o ≡ Some x → o ≡ Some y → x ≡ y
-  some_same x y o a b = cc
-
   -- a word of a function is in no other function
   pub same_function : (e f k : ℕ) (h g : SlotFunction) → slice_get slots.funcs e ≡ Some h → slice_get slots.funcs f ≡ Some g →
       start_at homes slots e ≤ k → k < start_at homes slots e + function_size (homes e) h → start_at homes slots f ≤ k → k < start_at homes slots f + function_size (homes f) g → e ≡ f
@@ -114,7 +111,7 @@ module _ (homes : ℕ → FunctionHomes) (slots : Slots) where
       let inside_f = in_function f q k w in
       let same = same_function e f k v.function w.function v.is_function w.is_function (omega (arith, inside_e.0)) inside_e.2 (omega (arith, inside_f.0)) inside_f.2 in
       let here : slice_get slots.funcs f ≡ Some v.function = subst (λ n. slice_get slots.funcs n ≡ Some v.function) same v.is_function in
-      let function = some_same v.function w.function (slice_get slots.funcs f) here w.is_function in
+      let function = same_Some v.function w.function (sym here ∙ w.is_function) in
       (same, by e f same v.function w.function function q v.item w.item v.is_function w.is_function v.is_item w.is_item v.from v.to w.from w.to)
     where
       apart : (f p q : ℕ) (g : SlotFunction) (item : SlotItem) → slice_get slots.funcs f ≡ Some g → slice_get g.code p ≡ Some item →

@@ -45,12 +45,12 @@ ten : 10 < 32
 ten = omega arith
 
 -- the word of a value is below 2^64
-value_small : (v : Value) → IsInRange v → word_of v < 2 ^ 64
-value_small (Int z) h = omega (arith, ints)
-value_small (Boolean true) h = omega arith
-value_small (Boolean false) h = omega arith
-value_small (Char c) h = omega (arith, scalar_fits c h)
-value_small (Ptr block offset) h = omega (arith, ints, h.0)
+pub word_small : (v : Value) → IsInRange v → word_of v < 2 ^ 64
+word_small (Int z) h = omega (arith, ints)
+word_small (Boolean true) h = omega arith
+word_small (Boolean false) h = omega arith
+word_small (Char c) h = omega (arith, scalar_fits c h)
+word_small (Ptr block offset) h = omega (arith, ints, h.0)
 
 -- ---- operations
 
@@ -167,7 +167,7 @@ module _ (homes : FunctionHomes) (start entry : ℕ → ℕ) (g : SlotFunction) 
   item_encodable Pass fits few = tt
   item_encodable (Constant dest value) fits few =
       let home = variable_home homes dest in
-      both (constant_words (register_for 5 home) (word_of value)) (target_words 5 home) (constant_fits (register_for 5 home) (word_of value) (register_fits 5 home five fits.slots.0) (value_small value fits.constant)) (target_fits 5 home five fits.slots.0)
+      both (constant_words (register_for 5 home) (word_of value)) (target_words 5 home) (constant_fits (register_for 5 home) (word_of value) (register_fits 5 home five fits.slots.0) (word_small value fits.constant)) (target_fits 5 home five fits.slots.0)
   item_encodable (Copy dest from) fits few = copy_fits (homes.home dest) (homes.home from) fits.slots.0 fits.slots.1.0
   item_encodable (Unary operation dest operand) fits few = unary_item_fits operation (variable_home homes dest) (variable_home homes operand) fits.slots.0 fits.slots.1.0
   item_encodable (Binary operation dest first second) fits few = binary_item_fits operation (variable_home homes dest) (variable_home homes first) (variable_home homes second) fits.slots.0 fits.slots.1.0 fits.slots.1.1.0

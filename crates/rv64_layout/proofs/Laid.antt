@@ -1,7 +1,7 @@
 -- The image of an accepted program within the bounds has each part at its place.
 use Rattle.std.proofs.Common.{◌≡◌, ℕ, suc, ◌+◌, ◌-◌, ◌^◌, ◌<◌, ◌≤◌, false, List, [], ◌∷◌, ◌++◌, length, Option, Some, None, refl, sym, ap, ◌∙◌, subst, arith, length-append}
 use Rattle.std.specs.Prelude.{slice_get, option_map}
-use Rattle.std.proofs.lemmas.Option.{slice_get-map, slice_get_within}
+use Rattle.std.proofs.lemmas.Option.{slice_get-map, slice_get_within, same_Some}
 use Rattle.bril_tree.specs.declared.limits.Limits.{Limits}
 use Rattle.bril_tree.specs.declared.program.Prog.{Prog}
 use Rattle.bril_tree.specs.Accepted.{IsAccepted}
@@ -147,20 +147,17 @@ module _ (homes : ℕ → FunctionHomes) (slots : Slots) (limits : Limits) (imag
       let inside = in_function homes slots guard.func guard.item k in_it in
       absurd (omega (arith, inside.0))
 
-  some_same : {X : Type 0} (x y : X) (o : Option X) → o ≡ Some x → o ≡ Some y → x ≡ y
-  some_same x y o a b = cc
-
   begin_plain : (f : ℕ) (g : SlotFunction) → slice_get slots.funcs f ≡ Some g → IsPlain homes slots (start_at homes slots f) (opening_size (homes f) g)
   begin_plain f g is_g =
       outside f g (start_at homes slots f) (opening_size (homes f) g) is_g (omega arith) (omega arith)
-      (λ point k lo hi w. (let inside = in_function homes slots f point k w in let same : opening_size (homes f) w.function ≡ opening_size (homes f) g = ap (opening_size (homes f)) (some_same w.function g (slice_get slots.funcs f) w.is_function is_g) in absurd (omega (arith, inside.0))))
+      (λ point k lo hi w. (let inside = in_function homes slots f point k w in let same : opening_size (homes f) w.function ≡ opening_size (homes f) g = ap (opening_size (homes f)) (same_Some w.function g (sym w.is_function ∙ is_g)) in absurd (omega (arith, inside.0))))
 
   leave_plain : (f : ℕ) (g : SlotFunction) (point : ℕ) → slice_get slots.funcs f ≡ Some g → slice_get g.code point ≡ None → IsPlain homes slots (entry_at homes slots f point) 4
   leave_plain f g point is_g none =
       let at = entry_is homes slots f g point is_g in
       let end = words_at_end (homes f) g point none in
       outside f g (entry_at homes slots f point) 4 is_g (omega arith) (omega arith)
-      (λ q k lo hi w. (let inside = in_function homes slots f q k w in let same : words_before (homes f) w.function (length w.function.code) ≡ words_before (homes f) g (length g.code) = ap (λ h. words_before (homes f) h (length h.code)) (some_same w.function g (slice_get slots.funcs f) w.is_function is_g) in absurd (omega (arith, inside.1))))
+      (λ q k lo hi w. (let inside = in_function homes slots f q k w in let same : words_before (homes f) w.function (length w.function.code) ≡ words_before (homes f) g (length g.code) = ap (λ h. words_before (homes f) h (length h.code)) (same_Some w.function g (sym w.is_function ∙ is_g)) in absurd (omega (arith, inside.1))))
 
   -- a guard that is at an item's place is that item
   guard_here : (f : ℕ) (g : SlotFunction) (point : ℕ) (item : SlotItem) → slice_get slots.funcs f ≡ Some g → slice_get g.code point ≡ Some item →
@@ -169,12 +166,12 @@ module _ (homes : ℕ → FunctionHomes) (slots : Slots) (limits : Limits) (imag
   guard_here f g point item is_g is_item guard is_guard func number =
       let c = is_guard.condition in
       let label = is_guard.abort_to in
-      let function : is_guard.function ≡ g = some_same is_guard.function g (slice_get slots.funcs f) (ap (λ n. slice_get slots.funcs n) (sym func) ∙ is_guard.is_function) is_g in
+      let function : is_guard.function ≡ g = same_Some is_guard.function g (sym (ap (λ n. slice_get slots.funcs n) (sym func) ∙ is_guard.is_function) ∙ is_g) in
       let there : slice_get g.code point ≡ Some (Guard c label) = ap (λ h. slice_get h.code point) (sym function) ∙ ap (λ n. slice_get is_guard.function.code n) (sym number) ∙ is_guard.is_item in
       let entry : entry_at homes slots guard.func guard.item ≡ entry_at homes slots f point = ap (λ n. entry_at homes slots n guard.item) func ∙ ap (entry_at homes slots f) number in
       let front : guard_front_size (homes guard.func) is_guard.function guard.item c label ≡ guard_front_size (homes f) g point c label =
       ap (λ n. guard_front_size (homes n) is_guard.function guard.item c label) func ∙ ap (λ h. guard_front_size (homes f) h guard.item c label) function ∙ ap (λ n. guard_front_size (homes f) g n c label) number in
-      (c, label, some_same item (Guard c label) (slice_get g.code point) is_item there, omega (arith, is_guard.is_word, entry, front))
+      (c, label, same_Some item (Guard c label) (sym is_item ∙ there), omega (arith, is_guard.is_word, entry, front))
 
   -- there is no guard's word in a part of an item where the item's own isn't
   part_plain : (f : ℕ) (g : SlotFunction) (point : ℕ) (item : SlotItem) → slice_get slots.funcs f ≡ Some g → slice_get g.code point ≡ Some item →

@@ -1,10 +1,11 @@
 -- Where functions and items begin.
-use Rattle.std.proofs.Common.{◌≡◌, ℕ, zero, suc, ◌+◌, ◌<◌, ◌≤◌, List, [], ◌∷◌, length, Option, Some, None, refl, ap, arith}
+use Rattle.std.proofs.Common.{◌≡◌, ℕ, suc, ◌+◌, ◌<◌, ◌≤◌, length, Option, Some, None, refl, ap, arith}
 use Rattle.std.specs.Prelude.{slice_get}
 use Rattle.std.proofs.lemmas.Option.{slice_get_past, slice_get_within}
 use Rattle.slot_code.specs.declared.item.SlotItem.{SlotItem}
 use Rattle.slot_code.specs.declared.slots.SlotFunction.{SlotFunction}
 use Rattle.slot_code.specs.declared.slots.Slots.{Slots}
+use Rattle.bril_tree.proofs.Elements.{past_end}
 use Rattle.rv64_layout.specs.Homes.{FunctionHomes}
 use Rattle.rv64_layout.specs.Image.{size_or_none, size_at, words_before, function_size, function_size_or_none, start_at, words_before_in, entry_at}
 use Rattle.rv64_layout.specs.Items.{item_size}
@@ -30,16 +31,8 @@ words_pass homes g point later item is less = omega (arith, size_is homes g poin
 pub words_at_end : (homes : FunctionHomes) (g : SlotFunction) (point : ℕ) → slice_get g.code point ≡ None → words_before homes g point ≡ words_before homes g (length g.code)
 words_at_end homes g point none = omega (arith, words_most homes g point, sum_rises (size_at homes g) (length g.code) point past)
   where
-    none_some : {X : Type 0} (o : Option X) (x : X) → o ≡ None → o ≡ Some x → ⊥
-    none_some o x a b = cc
-
-    past_of : {X : Type 0} (xs : List X) (k : ℕ) → slice_get xs k ≡ None → length xs ≤ k
-    past_of [] k h = omega arith
-    past_of (x ∷ xs) zero h = absurd (none_some (Some x) x h refl)
-    past_of (x ∷ xs) (suc k) h = omega (arith, past_of xs k h)
-
     past : length g.code ≤ point
-    past = past_of g.code point none
+    past = past_end g.code point none
 
 -- ---- in the program
 

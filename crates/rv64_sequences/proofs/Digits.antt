@@ -3,12 +3,9 @@ use Rattle.std.proofs.Common.{◌≡◌, ℕ, ◌+◌, ◌-◌, ◌*◌, ◌/◌
 use Rattle.std.specs.Prelude.{◌||◌}
 use Rattle.std.specs.Int.{w64, cast_unsigned}
 use Rattle.std.proofs.lemmas.Bool.Decides.{nat_tests}
+use Rattle.std.proofs.lemmas.Bool.{or_cases}
 use Rattle.rv64_words.specs.Arithmetic.{extended_32, moved_by}
 use Rattle.rv64_sequences.specs.Sequences.{high_part, low_part, fits_12, fits_32}
-
-pub or_true : (a b : Bool) → (a || b) ≡ true → (a ≡ true) ⊎ (b ≡ true)
-or_true true b e = inl refl
-or_true false b e = inr e
 
 -- a number's low part, as 64 bits
 abbrev low_bits : ℕ → ℕ
@@ -53,7 +50,7 @@ top_sum : (n : ℕ) → 2 ^ 64 - 2 ^ 31 ≤ n → n < 2 ^ 64 - 2048 → high_par
 top_sum n le lt = omega arith
 
 pub medium_again : (n : ℕ) → n < 2 ^ 64 - 2048 → fits_32 n ≡ true → moved_by (extended_32 (high_part n % 2 ^ 20 * 4096)) (low_part n) ≡ n
-medium_again n lt fits = ⊎_elim low top (or_true _ _ fits)
+medium_again n lt fits = ⊎_elim low top (or_cases _ _ fits)
   where
     low : ltb n (2 ^ 31 - 2048) ≡ true → moved_by (extended_32 (high_part n % 2 ^ 20 * 4096)) (low_part n) ≡ n
     low e =
@@ -74,7 +71,7 @@ short_by_test false n r lt (inl h) is e = let large : 2048 ≤ r = grind (arith,
 short_by_test false n r lt (inr h) is e = let large : 2048 ≤ r = grind (arith, nat_tests) in omega arith
 
 short_cases : (n : ℕ) → fits_12 n ≡ true → (n < 2048) ⊎ (2 ^ 64 - 2048 ≤ n)
-short_cases n fits = ⊎_elim (λ e. inl (below e)) (λ e. inr (above e)) (or_true _ _ fits)
+short_cases n fits = ⊎_elim (λ e. inl (below e)) (λ e. inr (above e)) (or_cases _ _ fits)
   where
     below : ltb n 2048 ≡ true → n < 2048
     below e = grind (arith, nat_tests)

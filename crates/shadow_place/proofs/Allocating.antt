@@ -11,7 +11,7 @@ use Rattle.bril_tree.specs.Edge.{Branch, branches_at}
 use Rattle.bril_tree.specs.Leaving.{IsEdge, edge_of}
 use Rattle.bril_tree.specs.Live.{IsLive}
 use Rattle.bril_tree.specs.Membership.{In}
-use Rattle.bril_tree.specs.Operand.{Location, Variable, Shadow}
+use Rattle.bril_tree.specs.Operand.{Location, Variable}
 use Rattle.bril_tree.specs.Sites.{sites_of}
 use Rattle.bril_tree.specs.Walk.{IsWalk, end_of}
 use Rattle.bril_tree.proofs.Branches.{branch_from, walk_within}
@@ -28,6 +28,7 @@ use Rattle.placement_laws.specs.Spans as laws
 use Rattle.placement_laws.proofs.Different.{number_one}
 use Rattle.placement_laws.proofs.Known.{are_known}
 use Rattle.placement_laws.proofs.Living.{live_within}
+use Rattle.placement_laws.proofs.Homes.{location_back}
 use Rattle.slot_code.specs.declared.slots.SlotFunction.{SlotFunction}
 use Rattle.slot_code.specs.Flow.{slot_location}
 use Rattle.slot_code.proofs.Places.{slot_place}
@@ -38,10 +39,6 @@ use Rattle.shadow_place.specs.Registers.{own_register}
 use Rattle.shadow_place.specs.Spans.{AreShared, HaveNeeds, IsCovered, IsLiveSlot, numbers_of}
 use Rattle.shadow_place.proofs.Registering.{few_have_registers, own_are_homes, own_are_own}
 use Rattle.shadow_place.proofs.Saving.{sound_code}
-
-location_back : (x : Location) → slot_location (slot_of x) ≡ x
-location_back (Variable x) = refl
-location_back (Shadow x) = refl
 
 get_take : {A : Type 0} (xs : List A) (many k : ℕ) → k < many → slice_get (take many xs) k ≡ slice_get xs k
 get_take [] zero k less = refl

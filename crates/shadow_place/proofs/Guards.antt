@@ -1,5 +1,5 @@
 -- The guards of a level that abort to a label.
-use Rattle.std.proofs.Common.{◌≡◌, ◌≢◌, ℕ, ◌+◌, ◌<◌, ◌≤◌, inl, Bool, true, false, ◌&&◌, not, List, [], ◌∷◌, length, filter, Option, Some, None, refl, sym, ap, ◌∙◌, subst, arith}
+use Rattle.std.proofs.Common.{◌≡◌, ◌≢◌, ℕ, ◌+◌, ◌<◌, ◌≤◌, inl, Bool, true, false, ◌&&◌, not, List, [], ◌∷◌, length, filter, refl, sym, ap, ◌∙◌, subst, arith}
 use Rattle.std.specs.Prelude.{◌==◌, slice_get, slice_index}
 use Rattle.std.specs.List.{All, Contains}
 use Rattle.std.proofs.lemmas.Bool.{and_parts}
@@ -7,15 +7,13 @@ use Rattle.std.proofs.lemmas.Bool.Decides.{nat_tests}
 use Rattle.std.proofs.lemmas.List.Elements.{All-contains_itself, All-weaker}
 use Rattle.bril_tree.specs.declared.edge.Edge.{Edge}
 use Rattle.bril_tree.specs.declared.numbered.Instr.{Instr}
-use Rattle.bril_tree.specs.declared.numbered.Instr.TheVariants.{Label, Const, Act}
-use Rattle.bril_tree.specs.declared.operation.Op.TheVariants as op
 use Rattle.bril_tree.specs.Edge.{Branch, branches_at}
 use Rattle.bril_tree.specs.Leaving.{IsEdge, edge_of, leave_of}
 use Rattle.bril_tree.specs.Membership.{In}
-use Rattle.bril_tree.specs.Sites.{AreSitesSound, Closes, Opens, item_change, sites_of}
+use Rattle.bril_tree.specs.Sites.{AreSitesSound, Closes, item_change, sites_of}
 use Rattle.bril_tree.specs.Walk.{IsWalk, end_of}
 use Rattle.bril_tree.proofs.Assignments.{site_speculates}
-use Rattle.bril_tree.proofs.Branches.{aborts-close, branch_at_item, branch_from}
+use Rattle.bril_tree.proofs.Branches.{aborts-close, branch_at_item, branch_from, opens-or_closes}
 use Rattle.bril_tree.proofs.Members.{contains_in, in_contains, in_map, in_map_source}
 use Rattle.bril_tree.proofs.Shapes.{closing_needs}
 use Rattle.flow_graph.specs.Graph.{GraphView, IsGraphOf, edges_to}
@@ -27,16 +25,6 @@ use Rattle.slot_code.specs.Lowered.{AreDepths}
 use Rattle.shadow_place.specs.Arcs.{guards_of, is_way_out}
 use Rattle.shadow_place.proofs.Depths.{depth_at_end}
 use Rattle.shadow_place.proofs.Filters.{filter_in, in_filter}
-
--- no item opens a site and can abort
-opens_closes : (item : Option Instr) → item_change item false ≡ Opens → item_change item true ≡ Closes → ⊥
-opens_closes None a b = cc
-opens_closes (Some (Label l)) a b = cc
-opens_closes (Some (Const dest ty value)) a b = cc
-opens_closes (Some (Act dest ty op.Speculate args funcs labels)) a b = cc
-opens_closes (Some (Act dest ty op.Commit args funcs labels)) a b = cc
-opens_closes (Some (Act dest ty op.Guard args funcs labels)) a b = cc
-opens_closes (Some (Act dest ty _ args funcs labels)) a b = cc
 
 -- where a branch that is no abort leaves
 plain_leaves : (aborts : Bool) (from : ℕ) (sites : List ℕ) → aborts ≡ false → leave_of aborts from sites ≡ from
@@ -59,7 +47,7 @@ module _ (code : List Instr) (sound : AreSitesSound code) where
           let leave : leave_of branch.aborts branch.from (newest ∷ older) ≡ newest = ap (λ b. leave_of b branch.from (newest ∷ older)) aborts in
           let here : newest ≡ end_of walk = sym leave ∙ (same ∙ branch_from code (end_of walk) branch among) in
           let opens = site_speculates code walk newest (subst (In newest) (sym are) (inl refl)) in
-          opens_closes (slice_get code newest) opens (subst (λ n. item_change (slice_get code n) true ≡ Closes) (sym here) closes)
+          opens-or_closes (slice_get code newest) opens (subst (λ n. item_change (slice_get code n) true ≡ Closes) (sym here) closes)
 
   module _ (depths : List ℕ) (are : AreDepths code depths) (graph : GraphView) (is : IsGraphOf code graph) (level label : ℕ) where
     passes : (leave from depth : ℕ) → leave ≢ from → depth ≡ level → (not (leave == from) && (depth == level)) ≡ true

@@ -7,7 +7,7 @@ use Rattle.std.proofs.lemmas.Option.{same_Some, slice_get-get_or, slice_get_with
 use Rattle.bril_tree.specs.declared.numbered_function.Func.{Func}
 use Rattle.bril_tree.specs.declared.program.Prog.{Prog}
 use Rattle.bril_tree.specs.Accepted.{IsAccepted}
-use Rattle.bril_tree.proofs.Elements.{get_inside, zip-get, zip-long}
+use Rattle.bril_tree.proofs.Elements.{get_inside, zip-get, zip-long, pushed_get}
 use Rattle.live_sets.specs.declared.live.Live.{Live}
 use Rattle.live_sets.specs.Liveness.{TellsLive}
 use Rattle.slot_code.specs.declared.slots.SlotFunction.{SlotFunction}
@@ -21,7 +21,6 @@ use Rattle.shadow_place.specs.declared.placed.FunctionHomes.{FunctionHomes}
 use Rattle.shadow_place.specs.declared.placed.Placed.{Placed}
 use Rattle.shadow_place.specs.Placement.{FewAreInRegisters, HomesAreApart, HomesAreOwn, IsAcceptedLowered, IsPlacement, LiveAreApart, TellsAllSaved, TellsLiveIn}
 use Rattle.shadow_place.specs.Tables.{home_in_row, is_saved_in_row}
-use Rattle.shadow_place.proofs.Saving.{pushed_get}
 
 -- the placements of so many functions
 pub record ArePlacements (funcs : List Func) (lowered : List SlotFunction) (many : ℕ) (list : List FunctionHomes) : Type 0 where

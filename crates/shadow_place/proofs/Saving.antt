@@ -15,7 +15,7 @@ use Rattle.bril_tree.specs.Sites.{AreSitesSound, most_sites}
 use Rattle.bril_tree.specs.Walk.{end_of}
 use Rattle.bril_tree.proofs.Acceptance.{accepted_function}
 use Rattle.bril_tree.proofs.Branches.{branch_inside, walk_within}
-use Rattle.bril_tree.proofs.Elements.{none_past}
+use Rattle.bril_tree.proofs.Elements.{none_past, pushed_get}
 use Rattle.bril_tree.proofs.Members.{in_contains}
 use Rattle.flow_graph.specs.Location.{number_of}
 use Rattle.flow_graph.proofs.Locations.{number-one}
@@ -69,12 +69,6 @@ module _ (code : List Instr) (live : Live) (level : ℕ) where
       split n m = ⊎_elim (λ e. inr (subst (λ l. IsMarkedOut code live level l n) e m.out)) (λ less. inl (record { label = m.label; before = less; out = m.out })) (newest m.label m.before)
 
 -- ---- a level
-
-pub pushed_get : {A : Type 0} (xs : List A) (a : A) (k : ℕ) (b : A) → slice_get (xs ++ a ∷ []) k ≡ Some b → (slice_get xs k ≡ Some b) ⊎ ((k ≡ length xs) × (a ≡ b))
-pushed_get [] a zero b e = inr (refl, same_Some a b e)
-pushed_get [] a (suc k) b e = absurd (let n : None ≡ Some b = e in cc)
-pushed_get (x ∷ xs) a zero b e = inl e
-pushed_get (x ∷ xs) a (suc k) b e = ⊎_elim inl (λ h. inr (ap suc h.0, h.1)) (pushed_get xs a k b e)
 
 not_marked : (many n : ℕ) → is_marked (replicate many false) n ≡ true → ⊥
 not_marked many n e = ⊎_elim (λ less. clash (get_or-replicate many n false false less)) (λ more. clash (past many n more)) (cases_lt n many)

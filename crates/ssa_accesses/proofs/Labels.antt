@@ -28,6 +28,10 @@ only-seeds arcs none seeds gate node = (
   reached_seed arcs seeds gate node,
 )
 
+pub enters-label : (code : List Instr) (leave : Option ℕ) (k : ℕ) → EntersAt code leave k → is_label (slice_get code k) ≡ true
+enters-label code None k en = en.0
+enters-label code (Some p) k en = en.0
+
 module _ (code : List Instr) (graph : GraphView) (is : IsGraphOf code graph) (sound : AreSitesSound code) (k : ℕ) where
   abbrev preds : List Edge
   preds = filter (λ e. e.to == k) graph.edges
@@ -134,13 +138,9 @@ module _ (code : List Instr) where
   label-within None k at e = absurd cc
   label-within (Some item) k at e = slice_get_within code k item at
 
-  enters-label : (leave : Option ℕ) (k : ℕ) → EntersAt code leave k → is_label (slice_get code k) ≡ true
-  enters-label None k en = en.0
-  enters-label (Some p) k en = en.0
-
   pub entries-all : (bound : ℕ) (entries : List Entry) → length code ≤ bound → AreEntriesBefore code bound entries → AreEntriesOf code entries
   entries-all bound entries all b = record {
     differ = b.differ;
-    there = λ leave k en. b.there leave k en (inl (let w = label-within (slice_get code k) k refl (enters-label leave k en) in omega (arith, w, all)));
+    there = λ leave k en. b.there leave k en (inl (let w = label-within (slice_get code k) k refl (enters-label code leave k en) in omega (arith, w, all)));
     only = λ e c. (b.only e c).0;
   }

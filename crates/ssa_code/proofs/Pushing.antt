@@ -5,7 +5,6 @@ use Rattle.std.specs.List.{flat_map}
 use Rattle.std.proofs.lemmas.Bool.{and_parts, eqb-true}
 use Rattle.std.proofs.lemmas.Grind.{flat_map-append}
 use Rattle.std.proofs.lemmas.List.{append-nil, take_more}
-use Rattle.std.proofs.lemmas.Option.{slice_get-get_or}
 use Rattle.bril_tree.specs.declared.function_tree.Item.{Item}
 use Rattle.bril_tree.specs.declared.numbered.Instr.{Instr}
 use Rattle.bril_tree.specs.declared.numbered.Instr.TheVariants.{Label, Const, Act}
@@ -79,7 +78,3 @@ item-within n r (Act d ty _ args fns ls) s below = dest-within n d args below
 pub within-at : (F : Func) → shape_fault_of (is_some F.ret) F.code ≡ None → (k : ℕ) (a : Instr) → slice_get F.code k ≡ Some a → IsItemWithin (2 * length F.vars) a
 within-at F shaped k a at =
     item-within (length F.vars) (is_some F.ret) a (passes_in (is_shaped (is_some F.ret)) F.code a (all_shaped (is_some F.ret) F.code shaped) (get_in F.code k a at)) (λ x i. variable_below F k a at x i)
-
--- the item at a place of a slice
-pub instr-at : (items code : List Instr) → items ≡ code → (k : ℕ) (a : Instr) → k < length items → a ≡ get_or items k a → slice_get code k ≡ Some a
-instr-at items code same k a within is = subst (λ c. slice_get c k ≡ Some a) same (slice_get-get_or items k a within ∙ ap Some (sym is))

@@ -42,6 +42,7 @@ use Rattle.pass_steps.specs.Refinement.{Progress, BothMove}
 use Rattle.pass_steps.proofs.Refinement.{plan_refines}
 use Rattle.pass_names.proofs.Points.{Found, label_found, label_once, Differ-in}
 use Rattle.pass_names.proofs.Points.{found}
+use Rattle.pass_names.proofs.Branches.{zip-map}
 use Rattle.bril_tree.proofs.Trees.{nothing_at}
 use Rattle.bril_names.proofs.Naming.{one_number}
 use Rattle.bril_tree.specs.FunctionForm.{targets_of, listed}
@@ -52,12 +53,6 @@ use Rattle.ssa_copies.proofs.Copies.{ran, copy-changes, copy-branches, copy-keep
 use Rattle.ssa_copies.proofs.Renamed.{Matches, item-matches}
 
 -- ---- branches of items that do the same, those of jumps apart
-
-zip-map : {X Y : Type 0} (S : ℕ → ℕ → Type 0) (R : X → Y → Type 0) (f : ℕ → X) (g : ℕ → Y) (xs ys : List ℕ) → AllZip S xs ys → ((x y : ℕ) → S x y → In x xs → R (f x) (g y)) → AllZip R (map f xs) (map g ys)
-zip-map S R f g [] [] z h = tt
-zip-map S R f g [] (y ∷ ys) z h = absurd z
-zip-map S R f g (x ∷ xs) [] z h = absurd z
-zip-map S R f g (x ∷ xs) (y ∷ ys) z h = (h x y z.0 (inl refl), zip-map S R f g xs ys z.1 (λ a b s i. h a b s (inr i)))
 
 module _ (S : ℕ → ℕ → Type 0) (R : Branch → Branch → Type 0) (code result_code : List Instr) (i j : ℕ) where
   act-branches : (d : Option ℕ) (ty : Option Ty) (args fns : List ℕ) (o : Op) (ls ms : List ℕ) → AllZip S ls ms → (is_jump (Some (Act d ty o args fns ls)) ≡ false → In (onward i) (action_branches code i o ls) → R (onward i) (onward j))

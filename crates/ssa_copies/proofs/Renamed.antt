@@ -22,6 +22,11 @@ use Rattle.pass_names.specs.Named.{SameName}
 use Rattle.pass_names.proofs.Items.{names-zip}
 use Rattle.ssa_copies.specs.Inserted.{is_copy, renamed_dest, renamed}
 
+pub reads-are : (o : Op) (d : Option ℕ) (s : Option Ty) (args fns ls : List ℕ) → is_copy (Some (Act d s o args fns ls)) ≡ false → reads_of (Act d s o args fns ls) ≡ map Variable args
+reads-are op.Get d s args fns ls c = absurd cc
+reads-are op.Set d s args fns ls c = absurd cc
+reads-are _ d s args fns ls c = refl
+
 module _ (W : List (List ℕ)) (r : ℕ → List ℕ) (A : Location → Location → Type 0) where
   zip-read : (xs ys : List ℕ) → map r xs ≡ map (named W) ys → AreBelow (length W) ys → ((x y : ℕ) → In (Variable x) (map Variable xs) → y < length W → named W y ≡ r x → A (Variable x) (Variable y)) → AllZip A (map Variable xs) (map Variable ys)
   zip-read [] [] e b h = tt
@@ -70,11 +75,6 @@ module _ (fs V W lP lQ : List (List ℕ)) (differ : Differ fs) (r : ℕ → List
   reads-zip op.Get d e s args result_args fns ls c z = absurd cc
   reads-zip op.Set d e s args result_args fns ls c z = absurd cc
   reads-zip _ d e s args result_args fns ls c z = z
-
-  reads-are : (o : Op) (d : Option ℕ) (s : Option Ty) (args fns ls : List ℕ) → is_copy (Some (Act d s o args fns ls)) ≡ false → reads_of (Act d s o args fns ls) ≡ map Variable args
-  reads-are op.Get d s args fns ls c = absurd cc
-  reads-are op.Set d s args fns ls c = absurd cc
-  reads-are _ d s args fns ls c = refl
 
   assigned-are : (o : Op) (d : Option ℕ) (s : Option Ty) (args fns ls : List ℕ) → is_copy (Some (Act d s o args fns ls)) ≡ false → assigns_of (Act d s o args fns ls) ≡ map Variable (listed d)
   assigned-are op.Set d s args fns ls c = absurd cc

@@ -1,7 +1,7 @@
 -- A program whose shadows became variables is accepted.
 use Rattle.std.proofs.Common.{◌≡◌, ◌⊎◌, ℕ, ◌<◌, true, false, ◌&&◌, List, [], ◌∷◌, length, Option, Some, None, refl, sym, ap, subst, ◌∙◌, inl, inr, ⊎_elim, arith}
 use Rattle.std.specs.Prelude.{slice_get, ◌==◌}
-use Rattle.std.proofs.lemmas.Bool.{eq-eqb, eqb-true}
+use Rattle.std.proofs.lemmas.Bool.{eq-eqb, eqb-true, and_from}
 use Rattle.std.proofs.lemmas.List.Elements.{Contains-get_or}
 use Rattle.std.proofs.lemmas.List.Folds.{Any-from_list_any}
 use Rattle.std.proofs.lemmas.Option.{same_Some}
@@ -37,7 +37,7 @@ use Rattle.ssa_exit.proofs.Items.{CopyThere, at-point, copy_there, gives_there, 
 use Rattle.ssa_exit.proofs.Points.{Unssaed, Kind, Stays, Gets, Sets, kind, kept, new-name, Got, Copied, Undefined, got, Put, Given, Gone, put}
 use Rattle.ssa_exit.proofs.Refines.{preserves, unssa_plan}
 use Rattle.ssa_exit.proofs.Types.{dest-stays, stands-typed}
-use Rattle.ssa_exit.proofs.Variables.{both-true, get-typed, set-typed}
+use Rattle.ssa_exit.proofs.Variables.{get-typed, set-typed}
 use Rattle.ssa_exit.proofs.Walks.{walks}
 
 -- ---- types
@@ -48,7 +48,7 @@ same_base-own base.Bool = refl
 same_base-own base.Char = refl
 
 same_type-own : (t : Ty) → same_type t t ≡ true
-same_type-own t = both-true (t.depth == t.depth) (same_base t.base t.base) (eq-eqb t.depth t.depth refl) (same_base-own t.base)
+same_type-own t = and_from (t.depth == t.depth) (same_base t.base t.base) (eq-eqb t.depth t.depth refl) (same_base-own t.base)
 
 -- a copy between variables of its type meets its row
 copy-fits : (Q : Prog) (G : Func) (d s : ℕ) (ty : Ty) → variable_type G.vars d ≡ Some ty → variable_type G.vars s ≡ Some ty → FitsByItself Q G (Act (Some d) (Some ty) op.Id (s ∷ []) [] [])

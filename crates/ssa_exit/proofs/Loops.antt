@@ -1,7 +1,6 @@
 -- The loop over the items of a function: what is known of the one at a point.
-use Rattle.std.proofs.Common.{◌≡◌, ℕ, ◌<◌, true, List, [], ◌∷◌, length, get_or, Some, None, refl, sym, ap, subst, ◌∙◌, inl, inr}
+use Rattle.std.proofs.Common.{◌≡◌, ℕ, ◌<◌, true, List, [], ◌∷◌, length, Some, None, refl, inl, inr}
 use Rattle.std.specs.Prelude.{is_some, slice_get}
-use Rattle.std.proofs.lemmas.Option.{slice_get-get_or}
 use Rattle.bril_tree.specs.declared.numbered.Instr.{Instr}
 use Rattle.bril_tree.specs.declared.numbered_function.Func.{Func}
 use Rattle.bril_tree.specs.FunctionForm.{variables_of}
@@ -11,9 +10,6 @@ use Rattle.bril_tree.proofs.Elements.{get_in, passes_in}
 use Rattle.bril_tree.proofs.Formed.{variable_below}
 use Rattle.bril_names.specs.Range.{AreBelow}
 use Rattle.flow_graph.proofs.BranchRows.{all_shaped}
-
-pub instr-at : (items code : List Instr) → items ≡ code → (k : ℕ) (a : Instr) → k < length items → a ≡ get_or items k a → slice_get code k ≡ Some a
-instr-at items code same k a within is = subst (λ c. slice_get c k ≡ Some a) same (slice_get-get_or items k a within ∙ ap Some (sym is))
 
 all-below : (n : ℕ) (xs : List ℕ) → ((x : ℕ) → In x xs → x < n) → AreBelow n xs
 all-below n [] each = tt

@@ -8,7 +8,6 @@ use Rattle.std.proofs.lemmas.Option.{same_Some, slice_get-map}
 use Rattle.bril_profile.specs.declared.profile.Profile.{Profile}
 use Rattle.bril_tree.specs.declared.function_tree.FuncTree.{FuncTree}
 use Rattle.bril_tree.specs.declared.function_tree.Item.{Item}
-use Rattle.bril_tree.specs.declared.function_tree.Item.TheVariants as item
 use Rattle.bril_tree.specs.declared.numbered.Instr.{Instr}
 use Rattle.bril_tree.specs.declared.numbered.Instr.TheVariants.{Label, Const, Act}
 use Rattle.bril_tree.specs.declared.numbered_function.Func.{Func}
@@ -22,6 +21,7 @@ use Rattle.bril_tree.specs.Size.{IsCounted, item_count}
 use Rattle.bril_tree.specs.Typing.{variable_type}
 use Rattle.bril_tree.proofs.Trees.{numbered-tree_of, tree_at-function}
 use Rattle.bril_names.specs.Faults.{Differ, IsKnown, IsSound, IsSoundEdit, SameHead, function_names, label_of, labels_of}
+use Rattle.bril_names.proofs.Edits.{labels-step}
 use Rattle.pass_law.proofs.Equations.{equation_number}
 use Rattle.pass_law.specs.Meaning.{HasNumbers, Link}
 use Rattle.pass_make.specs.CanBeMade.{CanBeMade}
@@ -40,18 +40,6 @@ use Rattle.ssa_exit.proofs.Refines.{unssaed-refines}
 use Rattle.ssa_exit.proofs.Stems.{are-fresh}
 
 -- ---- labels
-
--- items that are one label, or none of them one
-labels-step : (x y : Item) (xs ys : List Item) → label_of x ≡ label_of y → labels_of xs ≡ labels_of ys → labels_of (x ∷ xs) ≡ labels_of (y ∷ ys)
-labels-step (item.Label n) (item.Label m) xs ys e rest = let same : n ≡ m = cc in λ i. same i ∷ rest i
-labels-step (item.Label n) (item.Const d ty v) xs ys e rest = absurd cc
-labels-step (item.Label n) (item.Act d o args fns ls) xs ys e rest = absurd cc
-labels-step (item.Const d ty v) (item.Label m) xs ys e rest = absurd cc
-labels-step (item.Const d ty v) (item.Const x s w) xs ys e rest = rest
-labels-step (item.Const d ty v) (item.Act x o args fns ls) xs ys e rest = rest
-labels-step (item.Act d o args fns ls) (item.Label m) xs ys e rest = absurd cc
-labels-step (item.Act d o args fns ls) (item.Const x s w) xs ys e rest = rest
-labels-step (item.Act d o args fns ls) (item.Act x u brgs gns ms) xs ys e rest = rest
 
 labels-map : (g h : Instr → Item) → ((a : Instr) → label_of (g a) ≡ label_of (h a)) → (code : List Instr) → labels_of (map g code) ≡ labels_of (map h code)
 labels-map g h same [] = refl

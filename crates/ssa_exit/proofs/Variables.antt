@@ -1,9 +1,9 @@
 -- The variables of the result: those of the program, and those that stand for shadows of variables with a type.
-use Rattle.std.proofs.Common.{◌≡◌, ◌⊎◌, ℕ, ◌<◌, Bool, true, false, ◌&&◌, List, [], ◌∷◌, length, map, Option, Some, None, refl, sym, ap, subst, ◌∙◌, inl, inr, ⊎_elim, arith}
+use Rattle.std.proofs.Common.{◌≡◌, ◌⊎◌, ℕ, ◌<◌, Bool, true, ◌&&◌, List, [], ◌∷◌, length, map, Option, Some, None, refl, sym, ap, subst, ◌∙◌, inl, inr, ⊎_elim, arith}
 use Rattle.std.specs.Prelude.{is_some, slice_get}
 use Rattle.std.specs.List.{filter, range_with_len}
 use Rattle.std.specs.Option.{option_map}
-use Rattle.std.proofs.lemmas.Bool.{and_parts, eq-eqb}
+use Rattle.std.proofs.lemmas.Bool.{and_parts, eq-eqb, and_from}
 use Rattle.std.proofs.lemmas.Map.Keys.{any_passes_from_place}
 use Rattle.std.proofs.lemmas.Option.{same_Some}
 use Rattle.bril_tree.specs.declared.function_tree.Item.{Item}
@@ -25,19 +25,14 @@ use Rattle.bril_tree.proofs.Formed.{variable_below}
 use Rattle.bril_tree.proofs.LabelPoints.{in_range, range_high}
 use Rattle.bril_tree.proofs.Members.{in_map, in_map_source}
 use Rattle.bril_tree.proofs.Trees.{nop-at}
-use Rattle.bril_tree.proofs.Typings.{same_type-is}
+use Rattle.bril_tree.proofs.Typings.{same_type-is, typed-unless}
 use Rattle.pass_accept.proofs.Staying.{dest-typed}
-use Rattle.pass_accept.proofs.Typed.{typed-unless}
 use Rattle.pass_numbers.proofs.Different.{filter_in, in_filter}
 use Rattle.pass_numbers.proofs.Items.{IsNamed, IsOfItems, IsPlain, is_used, items-plain, nop-plain, plain-tree, unchanged}
 use Rattle.pass_numbers.proofs.Locations.{variable-named}
 use Rattle.ssa_exit.specs.Unssaed.{copy_item, undef_item}
 use Rattle.ssa_exit.proofs.Items.{in-code, names-long}
 use Rattle.ssa_exit.proofs.Points.{Unssaed, Kind, Stays, Gets, Sets, kind, kept, new-name, Got, Copied, Undefined, got, Put, Given, Gone, put}
-
-pub both-true : (b c : Bool) → b ≡ true → c ≡ true → b && c ≡ true
-both-true true c d e = e
-both-true false c d e = absurd cc
 
 -- ---- types that a `get` and a `set` tell
 
@@ -78,7 +73,7 @@ module _ (P Q : Prog) (fresh : ℕ → ℕ → List ℕ) (accepted : IsAccepted 
   in_extra : (x : ℕ) (ty : Ty) → x < length F.vars → is_used F.code x ≡ true → variable_type F.vars x ≡ Some ty → In (fresh f x) extra
   in_extra x ty low used typed =
       in_map (fresh f) x (filter is_left (range_with_len 0 (length F.vars)))
-      (in_filter is_left (range_with_len 0 (length F.vars)) x (in_range 0 (length F.vars) x (omega arith) (omega arith)) (both-true (is_used F.code x) (is_some (variable_type F.vars x)) used (ap is_some typed)))
+      (in_filter is_left (range_with_len 0 (length F.vars)) x (in_range 0 (length F.vars) x (omega arith) (omega arith)) (and_from (is_used F.code x) (is_some (variable_type F.vars x)) used (ap is_some typed)))
 
   -- ---- items
 

@@ -1,8 +1,8 @@
 -- Where edges leave to a label: each has `set`s before the item from which it leaves, or behind that, before the label.
-use Rattle.std.proofs.Common.{◌≡◌, ◌⊎◌, ℕ, zero, suc, ◌<◌, ◌≤◌, ◌&&◌, ◌||◌, Bool, true, false, cond, List, [], ◌∷◌, length, Option, Some, None, refl, sym, ap, subst, ◌∙◌, inl, inr, ⊎_elim, arith, eq-eqb}
+use Rattle.std.proofs.Common.{◌≡◌, ◌⊎◌, ℕ, zero, suc, ◌<◌, ◌≤◌, ◌||◌, Bool, true, false, cond, List, [], ◌∷◌, length, Option, Some, None, refl, sym, ap, subst, ◌∙◌, inl, inr, ⊎_elim, arith, eq-eqb}
 use Rattle.std.specs.Prelude.{slice_get, slice_index_or, ◌==◌, not}
 use Rattle.std.specs.List.{Contains}
-use Rattle.std.proofs.lemmas.Bool.{and_parts, cases_lt, eqb-true}
+use Rattle.std.proofs.lemmas.Bool.{and_parts, cases_lt, eqb-true, and_from, or_cases}
 use Rattle.std.proofs.lemmas.Option.{slice_get_within}
 use Rattle.bril_tree.specs.declared.edge.Edge.{Edge}
 use Rattle.bril_tree.specs.declared.numbered.Instr.{Instr}
@@ -15,7 +15,7 @@ use Rattle.bril_tree.specs.Sites.{AreSitesSound, Closes, Opens, item_change, sit
 use Rattle.bril_tree.specs.Step.{point_of}
 use Rattle.bril_tree.specs.Walk.{IsReached, end_of}
 use Rattle.bril_tree.proofs.Assignments.{site_speculates}
-use Rattle.bril_tree.proofs.Branches.{aborts-close, branch_from}
+use Rattle.bril_tree.proofs.Branches.{aborts-close, branch_from, opens-or_closes}
 use Rattle.bril_tree.proofs.Members.{contains_in, in_contains, in_map, in_map_source}
 use Rattle.bril_tree.proofs.Shapes.{closing_needs}
 use Rattle.flow_graph.specs.Graph.{GraphView, IsGraphOf}
@@ -45,21 +45,6 @@ goes-next code p w (Some (Act d ty op.Guard args fns ls)) plain (inr among) keep
     absurd (let s = in_map_source (λ l. record { from = p; to = point_of l code; aborts = true }) w ls among in let h : true ≡ false = sym (ap (λ (b : Branch). b.aborts) s.2) ∙ keeps in cc)
 goes-next code p w (Some (Act d ty _ args fns ls)) plain (inl e) keeps = (e, refl)
 goes-next code p w (Some (Act d ty _ args fns ls)) plain (inr n) keeps = absurd n
-
--- an item doesn't both open a site and close one
-opens-or_closes : (o : Option Instr) → item_change o false ≡ Opens → item_change o true ≡ Closes → ⊥
-opens-or_closes None a b = cc
-opens-or_closes (Some (Label l)) a b = cc
-opens-or_closes (Some (Const d ty v)) a b = cc
-opens-or_closes (Some (Act d ty op.Speculate args fns ls)) a b = cc
-opens-or_closes (Some (Act d ty op.Commit args fns ls)) a b = cc
-opens-or_closes (Some (Act d ty op.Guard args fns ls)) a b = cc
-opens-or_closes (Some (Act d ty _ args fns ls)) a b = cc
-
-both-true : (a b : Bool) → a ≡ true → b ≡ true → (a && b) ≡ true
-both-true true true e f = refl
-both-true true false e f = absurd cc
-both-true false b e f = absurd cc
 
 either-true : (a b : Bool) → (a ≡ true) ⊎ (b ≡ true) → (a || b) ≡ true
 either-true true b h = refl
@@ -140,13 +125,13 @@ module _ (code : List Instr) (graph : GraphView) (is_graph : IsGraphOf code grap
           plain : (j : Bool) → is_jump (slice_get code p) ≡ j → SetWay rows p k
           plain true jumps =
               InRow (inside (slice_get code p) refl) (inl jumps)
-              (in-row (inside (slice_get code p) refl) (both-true (is_label (slice_get code en.1.0.to)) _ label-test (either-true (is_jump (slice_get code en.1.0.leave)) _ (inl (ap (λ q. is_jump (slice_get code q)) en.1.2 ∙ jumps)))))
+              (in-row (inside (slice_get code p) refl) (and_from (is_label (slice_get code en.1.0.to)) _ label-test (either-true (is_jump (slice_get code en.1.0.leave)) _ (inl (ap (λ q. is_jump (slice_get code q)) en.1.2 ∙ jumps)))))
           plain false next =
               let n = goes-next code p e.branch (slice_get code p) next here keeps in
               let to : k ≡ suc p = sym en.1.3 ∙ ap (λ (x : Edge). x.to) e.are ∙ ap (λ (b : Branch). b.to) n.0 in
               Fallen to (ap (falls_at code graph.sites) to ∙ ap (λ b. cond b (goes_on (slice_get code p)) false) (reached-told p reached) ∙ n.1)
       by true aborts [] none = absurd (some_site code e.walk sound e.is (closing_needs (slice_get code (end_of e.walk)) true (aborts-close code (end_of e.walk) (slice_get code (end_of e.walk)) e.branch among aborts)) none)
-      by true aborts (s ∷ older) open_sites = InRow inside (inr speculates) (in-row inside (both-true (is_label (slice_get code en.1.0.to)) _ label-test (either-true (is_jump (slice_get code en.1.0.leave)) _ (inr other))))
+      by true aborts (s ∷ older) open_sites = InRow inside (inr speculates) (in-row inside (and_from (is_label (slice_get code en.1.0.to)) _ label-test (either-true (is_jump (slice_get code en.1.0.leave)) _ (inr other))))
         where
           at : s ≡ p
           at = leave true aborts (s ∷ older) open_sites
@@ -214,10 +199,6 @@ module _ (code : List Instr) (graph : GraphView) (is_graph : IsGraphOf code grap
               let at : s ≡ p = sym (leave true aborts (s ∷ older) open_sites) ∙ here in
               ap (λ q. item_change (slice_get code q) false) (sym at) ∙ site_speculates code e.walk s (subst (In s) (sym open_sites) (inl refl))
 
-      either : (a b : Bool) → (a || b) ≡ true → (a ≡ true) ⊎ (b ≡ true)
-      either true b e = inl refl
-      either false b e = inr e
-
       there : p < length code → (is_jump (slice_get code p) ≡ true) ⊎ (item_change (slice_get code p) false ≡ Opens)
       there low =
           let c = ((are.each p low).exact k).0 (contains_in k (slice_index_or rows p []) among) in
@@ -225,4 +206,4 @@ module _ (code : List Instr) (graph : GraphView) (is_graph : IsGraphOf code grap
           let f = filter_in (leaves_before code) graph.edges s.0 s.1 in
           let here : s.0.leave ≡ p = ap (λ (a : Access). a.location) (sym s.2) in
           let test = (and_parts (is_label (slice_get code s.0.to)) _ f.1).1 in
-          ⊎_elim (λ j. inl (ap (λ q. is_jump (slice_get code q)) (sym here) ∙ j)) (λ d. inr (by s.0 (edge_told code graph is_graph s.0 (contains_in s.0 graph.edges f.0)) here d)) (either (is_jump (slice_get code s.0.leave)) _ test)
+          ⊎_elim (λ j. inl (ap (λ q. is_jump (slice_get code q)) (sym here) ∙ j)) (λ d. inr (by s.0 (edge_told code graph is_graph s.0 (contains_in s.0 graph.edges f.0)) here d)) (or_cases (is_jump (slice_get code s.0.leave)) _ test)

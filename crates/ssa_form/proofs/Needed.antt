@@ -32,8 +32,9 @@ use Rattle.ssa_sources.proofs.Leaving.{source-set}
 use Rattle.ssa_sweep.specs.declared.now.WantedGet.{WantedGet}
 use Rattle.ssa_tables.specs.Laws.{IsTabled}
 use Rattle.ssa_tables.specs.Tables.{behind, else_passed, is_dest, passed}
-use Rattle.ssa_tables.specs.Told.{argument, entered, into_at, table_of}
+use Rattle.ssa_tables.specs.Told.{argument, into_at, table_of}
 use Rattle.ssa_tables.proofs.Tabled.{few}
+use Rattle.ssa_tables.proofs.Made.{entered-same}
 use Rattle.ssa_tree.specs.Made.{IsLaidFunction}
 use Rattle.ssa_form.specs.Form.{HasTwoSets, IsSet}
 use Rattle.ssa_form.proofs.Edges.{Fallen, InRow, SetWay, set-way}
@@ -41,12 +42,6 @@ use Rattle.ssa_form.proofs.Following.{got-behind}
 use Rattle.ssa_form.proofs.Fronts.{falls-part, get-high, gets-part, is-got, is-staying, leaves-part, put-front, staying, total}
 use Rattle.ssa_form.proofs.Points.{begin, front-item, layout, now}
 use Rattle.ssa_form.proofs.Single.{names-one}
-
-entered-same : (o : Option Instr) (x : Option ℕ) (y : ℕ) → entered o x ≡ Some y → x ≡ Some y
-entered-same None x y e = e
-entered-same (Some (Label l)) x y e = absurd cc
-entered-same (Some (Const d ty v)) x y e = e
-entered-same (Some (Act d ty o args fns ls)) x y e = e
 
 -- ---- an item before which `set`s stand for the edges that leave from it
 

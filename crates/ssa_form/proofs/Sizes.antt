@@ -21,7 +21,7 @@ use Rattle.bril_tree.specs.Numbered.{function_tree}
 use Rattle.bril_tree.specs.Operand.{Location}
 use Rattle.bril_tree.specs.Typing.{variable_type}
 use Rattle.bril_tree.proofs.Counting.{differ-first, differ-rest, no_more, no_more_items}
-use Rattle.bril_tree.proofs.LabelPoints.{label-at_point}
+use Rattle.bril_tree.proofs.LabelPoints.{label-one}
 use Rattle.bril_tree.proofs.Members.{in_append_cases, in_contains, in_flat_map_source, in_map_source}
 use Rattle.flow_graph.specs.Location.{number_of}
 use Rattle.live_entries.specs.LiveEntries.{IsLiveEntry, IsLiveEntryCount}
@@ -218,9 +218,6 @@ module _ (fs : List (List ℕ)) (F : Func) (g : FuncTree) (x : IsLaidFunction F 
 
   -- ---- live entries for them
 
-  label-one : (j k l : ℕ) → slice_get F.code j ≡ Some (Label l) → slice_get F.code k ≡ Some (Label l) → j ≡ k
-  label-one j k l at bt = sym (label-at_point 0 (length F.labels) F.code F.formed.placed j l at) ∙ label-at_point 0 (length F.labels) F.code F.formed.placed k l bt
-
   get-one : (v w : WantedGet) → v.location ≡ w.location → v.definition ≡ w.definition → v ≡ w
   get-one v w a b = λ i. record { location = a i; definition = b i }
 
@@ -234,7 +231,7 @@ module _ (fs : List (List ℕ)) (F : Func) (g : FuncTree) (x : IsLaidFunction F 
   one-put : (t u : Put) (e : Option ℕ × ℕ × Location) → IsEntryOf t e → IsEntryOf u e → t ≡ u
   one-put t u e a b =
       let p : t.point ≡ u.point = same_Some _ _ (sym a.leave ∙ b.leave) in
-      let q : t.label ≡ u.label = label-one t.label u.label e.1 a.label b.label in
+      let q : t.label ≡ u.label = label-one F t.label u.label e.1 a.label b.label in
       let d : t.get.definition ≡ u.get.definition = same_Some _ _ (sym a.got ∙ ap (λ k. gets_of x.wants k e.2) q ∙ b.got) in
       let r : t.get ≡ u.get = get-one t.get u.get (a.location ∙ sym b.location) d in
       λ i. record { point = p i; label = q i; get = r i }
@@ -358,7 +355,7 @@ module _ (fs : List (List ℕ)) (F : Func) (g : FuncTree) (x : IsLaidFunction F 
     -- entries of one label and location are of one `get`
     same-definition : (v w : WantedGet) (s : Two v) (t : Two w) → s.name ≡ t.name → s.location ≡ t.location → v.definition ≡ w.definition
     same-definition v w s t a b =
-        let k : s.label ≡ t.label = label-one s.label t.label t.name (s.at ∙ ap (λ l. Some (Label l)) a) t.at in
+        let k : s.label ≡ t.label = label-one F s.label t.label t.name (s.at ∙ ap (λ l. Some (Label l)) a) t.at in
         same_Some _ _ (sym s.got ∙ ap (λ n. gets n s.location) k ∙ ap (gets t.label) b ∙ t.got)
 
     pairs-differ : (list : List WantedGet) (two : (get : WantedGet) → In get list → Two get) → Apart list → AllPairs (λ a b. a ≢ b) (pairs list two)

@@ -15,10 +15,10 @@ use Rattle.bril_tree.specs.Leaving.{IsEdge, edge_of, leave_of}
 use Rattle.bril_tree.specs.Membership.{In}
 use Rattle.bril_tree.specs.Operand.{dest_of}
 use Rattle.bril_tree.specs.Shape.{is_shaped, shape_of}
-use Rattle.bril_tree.specs.Sites.{AreSitesSound, Closes, Opens, item_change, sites_of}
+use Rattle.bril_tree.specs.Sites.{AreSitesSound, Closes, item_change, sites_of}
 use Rattle.bril_tree.specs.Walk.{IsReached, IsWalk, end_of}
 use Rattle.bril_tree.proofs.Assignments.{site_speculates}
-use Rattle.bril_tree.proofs.Branches.{aborts-close, branch_from}
+use Rattle.bril_tree.proofs.Branches.{aborts-close, branch_from, opens-or_closes}
 use Rattle.bril_tree.proofs.Members.{contains_in, in_contains, in_map, in_map_source}
 use Rattle.bril_tree.proofs.Shapes.{closing_needs, dest_none}
 use Rattle.flow_graph.specs.declared.reads.Access.{Access}
@@ -46,16 +46,6 @@ jump-stays code p o w j i true e = absurd (by o j (aborts-close code p o w i e))
     by (Some (Act d ty op.Jmp args fns ls)) j c = cc
     by (Some (Act d ty op.Br args fns ls)) j c = cc
     by (Some (Act d ty _ args fns ls)) j c = let e : false ≡ true = j in cc
-
--- what opens a site doesn't close one
-opens-apart : (o : Option Instr) → item_change o false ≡ Opens → item_change o true ≡ Closes → ⊥
-opens-apart None e c = cc
-opens-apart (Some (Label l)) e c = cc
-opens-apart (Some (Const d ty v)) e c = cc
-opens-apart (Some (Act d ty op.Speculate args fns ls)) e c = cc
-opens-apart (Some (Act d ty op.Commit args fns ls)) e c = cc
-opens-apart (Some (Act d ty op.Guard args fns ls)) e c = cc
-opens-apart (Some (Act d ty _ args fns ls)) e c = cc
 
 -- a jump assigns nothing, and copies nothing
 pub jump-bare : (ret : Bool) (a : Instr) → is_shaped ret a ≡ true → is_jump (Some a) ≡ true → (dest_of a ≡ None) × (is_copy (Some a) ≡ false)
@@ -163,7 +153,7 @@ module _ (code : List Instr) (sound : AreSitesSound code) where
       apart true e =
           let from = branch_from code (end_of walk) w among in
           let same : i ≡ end_of walk = eqb-true i w.from e ∙ from in
-          absurd (opens-apart (slice_get code i) (site_speculates code walk i (first-site walk i sites are)) (subst (λ p. item_change (slice_get code p) true ≡ Closes) (sym same) (aborts-close code (end_of walk) (slice_get code (end_of walk)) w among aborts)))
+          absurd (opens-or_closes (slice_get code i) (site_speculates code walk i (first-site walk i sites are)) (subst (λ p. item_change (slice_get code p) true ≡ Closes) (sym same) (aborts-close code (end_of walk) (slice_get code (end_of walk)) w among aborts)))
 
 module _ (F : Func) (function g : FuncTree) (x : IsLaidFunction F function g) where
   -- the labels for which `set`s stand before a point

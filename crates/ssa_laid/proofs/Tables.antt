@@ -28,9 +28,9 @@ use Rattle.flow_graph.specs.Location.{number_of}
 use Rattle.ssa_code.specs.Sweep.{kept_at}
 use Rattle.ssa_layout.specs.Laid.{Setting}
 use Rattle.ssa_sweep.specs.declared.now.WantedGet.{WantedGet}
-use Rattle.ssa_sweep.proofs.Sweeping.{told-before}
 use Rattle.ssa_tables.proofs.Items.{label-no_site}
 use Rattle.ssa_tables.proofs.Tabled.{tables-tell_live}
+use Rattle.ssa_tables.proofs.Made.{entered-same}
 use Rattle.ssa_tables.specs.Laws.{IsArgument, IsTabled}
 use Rattle.ssa_tables.specs.Tables.{AreConsistent, Tables, replaced, resolved}
 use Rattle.ssa_tables.specs.Told.{FromStart, argument}
@@ -108,7 +108,7 @@ module _ (P Q : Prog) (tree : Tree) (accepted : IsAccepted P) (numbered : Number
           let same : z.0 ≡ y = sym (argument-fixed F H g x S D W a z.0 z.1) ∙ x.solved.solved.gone 0 k.0 z.0 a k.1 k.2 (FromStart refl z.1) ∙ k.3 in
           subst (Begun a) same (begun a z.0 z.1)
       by (inr k) =
-          let told = told-before (slice_get F.code 0) (argument F.args a) k.0 k.1 in
+          let told = entered-same (slice_get F.code 0) (argument F.args a) k.0 k.1 in
           let same : k.0 ≡ y = sym (argument-fixed F H g x S D W a k.0 told) ∙ k.2 in
           subst (Begun a) same (begun a k.0 told)
 

@@ -1,24 +1,24 @@
 -- A renamed item fits where its variables have the types of those that they stand for, and a variable has the type with which
 -- all its destinations assign it.
 use Rattle.std.proofs.Common.{◌≡◌, ℕ, suc, ◌≤◌, true, List, [], ◌∷◌, length, map, Option, Some, None, refl, sym, ap, ◌∙◌, inl, inr, ⊎_elim}
-use Rattle.std.specs.Prelude.{slice_get, slice_index, is_some, ◌==◌, ◌&&◌}
+use Rattle.std.specs.Prelude.{slice_get, is_some, ◌==◌, ◌&&◌}
 use Rattle.bril_tree.specs.declared.numbered.Instr.{Instr}
 use Rattle.bril_tree.specs.declared.numbered.Instr.TheVariants.{Const, Act}
 use Rattle.bril_tree.specs.declared.numbered.VarInfo.{VarInfo}
 use Rattle.bril_tree.specs.declared.numbered_function.Func.{Func}
 use Rattle.bril_tree.specs.declared.operation.Op.{Op}
-use Rattle.bril_tree.specs.declared.operation.Op.TheVariants as op
 use Rattle.bril_tree.specs.declared.program.Prog.{Prog}
 use Rattle.bril_tree.specs.declared.types.Ty.{Ty}
 use Rattle.bril_tree.specs.declared.value.Lit.{Lit}
 use Rattle.bril_tree.specs.Operand.{dest_of}
 use Rattle.bril_tree.specs.Run.{types_of}
-use Rattle.bril_tree.specs.Shape.{is_shaped, is_action_shaped, same}
+use Rattle.bril_tree.specs.Shape.{is_shaped, is_action_shaped}
 use Rattle.bril_tree.specs.Typing.{variable_type, type_fault, action_type_fault, is_dest_typed, is_literal_typed, both_typed, same_type, return_type, is_call_shaped, action_call_fits, wrong_unless}
 use Rattle.bril_tree.specs.Membership.{In}
 use Rattle.bril_tree.proofs.Typings.{type_of, type-assigned, type-assigned_own, first_type-is, variable-has}
 use Rattle.pass_accept.specs.Stays.{FitsByItself}
 use Rattle.pass_accept.proofs.Typed.{act-typed}
+use Rattle.pass_accept.proofs.Fitting.{fits-same}
 
 -- the two items do the same, and what they name has the same types
 pub record SameTyped (F G : Func) (o u : Op) (d e : Option ℕ) (s t : Option Ty) (args result_args fns gns ls ms : List ℕ) : Type 0 where
@@ -37,15 +37,6 @@ map-long f g (x ∷ xs) [] e = absurd cc
 map-long f g (x ∷ xs) (y ∷ ys) e = let t : map f xs ≡ map g ys = cc in ap suc (map-long f g xs ys t)
 
 module _ (P Q : Prog) (F G : Func) (callees : (g : ℕ) → types_of (slice_get P.funcs g) ≡ types_of (slice_get Q.funcs g)) (results : (g : ℕ) → return_type (slice_get P.funcs g) ≡ return_type (slice_get Q.funcs g)) (ret_same : F.ret ≡ G.ret) where
-  fits-same : (o : Op) (d e : Option ℕ) (args result_args fns : List ℕ) → is_some d ≡ is_some e → length args ≡ length result_args → action_call_fits P F o d args fns ≡ action_call_fits Q G o e result_args fns
-  fits-same op.Call d e args result_args fns sd n =
-      let g = slice_index fns 0 in
-      ap (λ z. (z == length (types_of (slice_get P.funcs g))) && same (is_some (return_type (slice_get P.funcs g))) (is_some d)) n
-      ∙ ap (λ z. (length result_args == length z) && same (is_some (return_type (slice_get P.funcs g))) (is_some d)) (callees g)
-      ∙ ap (λ z. (length result_args == length (types_of (slice_get Q.funcs g))) && same (is_some z) (is_some d)) (results g)
-      ∙ ap (λ z. (length result_args == length (types_of (slice_get Q.funcs g))) && same (is_some (return_type (slice_get Q.funcs g))) z) sd
-  fits-same _ d e args result_args fns sd n = refl
-
   dest-same : (d e : Option ℕ) (ty : Option Ty) → is_some d ≡ is_some e → ((x y : ℕ) → d ≡ Some x → e ≡ Some y → variable_type F.vars x ≡ variable_type G.vars y) → is_dest_typed P F d ty ≡ is_dest_typed Q G e ty
   dest-same None None ty s h = refl
   dest-same None (Some y) ty s h = absurd cc
@@ -70,7 +61,7 @@ module _ (P Q : Prog) (F G : Func) (callees : (g : ℕ) → types_of (slice_get 
           ∙ ap (λ z. is_action_shaped (is_some F.ret) u (is_some e) (length result_args) (length gns) z) h.labels
 
       call : action_call_fits P F o d args fns ≡ action_call_fits Q G u e result_args gns
-      call = ap (λ z. action_call_fits P F z d args fns) h.operation ∙ ap (λ z. action_call_fits P F u d args z) h.funcs ∙ fits-same u d e args result_args gns h.dest n
+      call = ap (λ z. action_call_fits P F z d args fns) h.operation ∙ ap (λ z. action_call_fits P F u d args z) h.funcs ∙ fits-same P Q F G callees results u d e args result_args gns h.dest n
 
       typing : action_type_fault P F o d s args fns ≡ action_type_fault Q G u e t result_args gns
       typing = act-typed P Q F G callees results ret_same (is_some F.ret) o d e s args result_args fns (length ls) shaped h.args_typed refl (dest-same d e s h.dest h.dest_typed)

@@ -1,11 +1,9 @@
 -- Laid code whose definitions have types is accepted: each point of the result is a piece.
-use Rattle.std.proofs.Common.{◌≡◌, ℕ, Bool, true, false, List, map, Option, Some, None, refl, sym, ap, subst, ◌∙◌}
+use Rattle.std.proofs.Common.{◌≡◌, ℕ, Bool, true, false, List, Option, Some, None, refl, sym, ap, subst, ◌∙◌}
 use Rattle.std.specs.Prelude.{slice_get, is_some}
 use Rattle.bril_tree.specs.declared.numbered.Instr.{Instr}
 use Rattle.bril_tree.specs.declared.numbered.Instr.TheVariants.{Label, Const, Act}
 use Rattle.bril_tree.specs.declared.numbered_function.Func.{Func}
-use Rattle.bril_tree.specs.declared.operation.Op.{Op}
-use Rattle.bril_tree.specs.declared.operation.Op.TheVariants as op
 use Rattle.bril_tree.specs.declared.program.Prog.{Prog}
 use Rattle.bril_tree.specs.declared.types.Ty.{Ty}
 use Rattle.bril_tree.specs.Accepted.{IsAccepted, AreWalksAccepted}
@@ -24,6 +22,7 @@ use Rattle.ssa_tables.specs.Tables.{Tables}
 use Rattle.ssa_layout.specs.Laid.{Setting, home, name_of, Laid}
 use Rattle.pass_names.proofs.Points.{found}
 use Rattle.ssa_copies.proofs.Refines.{renamed-none}
+use Rattle.ssa_copies.proofs.Renamed.{reads-are}
 use Rattle.ssa_layout.specs.Accepted.{args_named, Cover, Home, Get, Set, Dead, Unreached, Covers}
 use Rattle.ssa_layout.proofs.Pieces.{name_or, Piece, Moved, Got, Put, Blank, Mark, piece-stays}
 use Rattle.ssa_layout.proofs.Given.{given-told}
@@ -33,15 +32,10 @@ module _ (P Q : Prog) (table : ℕ → Tables) (name : ℕ → ℕ → List ℕ)
   abbrev P' : ℕ → Type 0
   P' = Piece P Q accepted t.heads f F G p q callees results (name f) (t.injective f) types
 
-  reads-plain : (o : Op) (d : Option ℕ) (s : Option Ty) (args fns ls : List ℕ) → is_copy (Some (Act d s o args fns ls)) ≡ false → reads_of (Act d s o args fns ls) ≡ map Variable args
-  reads-plain op.Get d s args fns ls c = absurd cc
-  reads-plain op.Set d s args fns ls c = absurd cc
-  reads-plain _ d s args fns ls c = refl
-
   read-of : (a : Instr) (x : ℕ) → is_copy (Some a) ≡ false → In x (args_named a) → In (Variable x) (reads_of a)
   read-of (Label l) x c i = absurd i
   read-of (Const d s v) x c i = absurd i
-  read-of (Act d s o args fns ls) x c i = subst (In (Variable x)) (sym (reads-plain o d s args fns ls c)) (in_map Variable x args i)
+  read-of (Act d s o args fns ls) x c i = subst (In (Variable x)) (sym (reads-are o d s args fns ls c)) (in_map Variable x args i)
 
   same-name : (o : Option ℕ) → name_of P Q table name gets sets f o ≡ name_or (name f) o
   same-name None = refl

@@ -1,23 +1,19 @@
 -- The texts that names are made of.
 use Rattle.std.proofs.Common.{◌≡◌, ℕ, zero, suc, ◌+◌, ◌-◌, ◌<◌, ◌≤◌, ◌^◌, Bool, true, false, cond, ◌&&◌, ◌||◌, List, [], ◌∷◌, ◌++◌, length, map, take, get_or, eqb, refl, sym, ap, ap₂, subst, ◌∙◌, ◌⊎◌, ⊎_elim, arith}
-use Rattle.std.specs.Prelude.{◌==◌, replicate, not}
-use Rattle.std.specs.Char.{is_ascii_digit}
+use Rattle.std.specs.Prelude.{replicate, not}
 use Rattle.std.specs.Fmt.{decimal}
 use Rattle.std.specs.Int.Digits.{digits_of}
 use Rattle.std.specs.List.{list_all}
-use Rattle.std.proofs.lemmas.Bool.{and_parts, eqb-true}
-use Rattle.std.specs.Str.{all_ascii_digits}
-use Rattle.std.specs.Str.Parse.{digits_value}
+use Rattle.std.proofs.lemmas.Bool.{and_parts, eqb-true, and_right, or_right}
 use Rattle.std.proofs.Math.Seq.{take-append_seam}
-use Rattle.std.proofs.lemmas.Fmt.{decimal_digit, decimal-digits_of, digits_decimal}
+use Rattle.std.proofs.lemmas.Fmt.{decimal_digit, decimal-digits_of}
 use Rattle.std.proofs.lemmas.Int.Digits.{first_digits_of, same_from_digits_of}
-use Rattle.std.proofs.lemmas.List.Folds.{list_all-append}
-use Rattle.std.proofs.lemmas.Str.Parse.{IsNumeralModel, numerals_by_value, tells_all_ascii_digits}
 use Rattle.std.proofs.lemmas.List.{get_or-map}
 use borrow.Author.Count.{below_more}
 use Rattle.bril_tree.specs.declared.numbered.VarInfo.{VarInfo}
 use Rattle.bril_tree.specs.Identifier.{begins_identifier, continues_identifier, is_identifier}
 use Rattle.bril_tree.specs.Numbered.{named, variable_names}
+use Rattle.bril_tree.proofs.Identifiers.{both_continue, decimal_continues, identifier_continues, longer_identifier, underscores_continue}
 use Rattle.ssa_names.specs.Names.{front_of, has_dot, made_name, marks, number_text, stem_end, stem_of}
 
 -- ---- decimals
@@ -31,17 +27,9 @@ number-decimal (suc n) small = sym (decimal-digits_of (suc n) (omega arith) smal
 abbrev pub plain : List ℕ → Bool
 plain xs = list_all (λ byte. not (eqb byte 46)) xs
 
-and_false : (b : Bool) → (b && false) ≡ false
-and_false true = refl
-and_false false = refl
-
-or_true : (b : Bool) → (b || true) ≡ true
-or_true true = refl
-or_true false = refl
-
 plain-dot : (ys es : List ℕ) → plain (ys ++ 46 ∷ es) ≡ false
 plain-dot [] es = refl
-plain-dot (y ∷ ys) es = ap (λ b. not (eqb y 46) && b) (plain-dot ys es) ∙ and_false (not (eqb y 46))
+plain-dot (y ∷ ys) es = ap (λ b. not (eqb y 46) && b) (plain-dot ys es) ∙ and_right (not (eqb y 46)) false refl
 
 never : (ds ys es : List ℕ) → plain ds ≡ true → ds ≡ ys ++ 46 ∷ es → ⊥
 never ds ys es p e = let h : true ≡ false = sym p ∙ ap plain e ∙ plain-dot ys es in cc
@@ -103,7 +91,7 @@ marks-more (x ∷ xs) ys = by (eqb x 95) (marks-more xs ys)
 
 pub dotted : (xs ds : List ℕ) → has_dot (xs ++ 46 ∷ ds) ≡ true
 dotted [] ds = refl
-dotted (x ∷ xs) ds = ap (λ b. eqb x 46 || b) (dotted xs ds) ∙ or_true (eqb x 46)
+dotted (x ∷ xs) ds = ap (λ b. eqb x 46 || b) (dotted xs ds) ∙ or_right (eqb x 46) true refl
 
 -- ---- stems
 
@@ -126,29 +114,6 @@ pub stem-cut : (xs ds : List ℕ) → plain ds ≡ true → stem_of (xs ++ 46 �
 stem-cut xs ds h = ap (λ n. take n (xs ++ 46 ∷ ds)) (end-dot 0 (length (xs ++ 46 ∷ ds)) xs ds h ∙ omega arith) ∙ take-append_seam xs (46 ∷ ds)
 
 -- ---- identifiers
-
-own : IsNumeralModel (λ ds. all_ascii_digits ds ≡ true) (digits_value 10)
-own = numerals_by_value (λ ds. all_ascii_digits ds ≡ true) tells_all_ascii_digits
-
-digits_continue : (ds : List ℕ) → all_ascii_digits ds ≡ true → list_all continues_identifier ds ≡ true
-digits_continue [] e = refl
-digits_continue (d ∷ ds) e =
-    let parts = and_parts (is_ascii_digit d) (all_ascii_digits ds) e in
-    ap₂ (λ (a b : Bool). a && b) (ap (λ b. (begins_identifier d || (d == 46)) || b) parts.0 ∙ or_true (begins_identifier d || (d == 46))) (digits_continue ds parts.1)
-
-both : (xs ys : List ℕ) → list_all continues_identifier xs ≡ true → list_all continues_identifier ys ≡ true → list_all continues_identifier (xs ++ ys) ≡ true
-both xs ys a b = list_all-append continues_identifier xs ys ∙ ap₂ (λ (p q : Bool). p && q) a b
-
-marks_continue : (n : ℕ) → list_all continues_identifier (replicate n 95) ≡ true
-marks_continue zero = refl
-marks_continue (suc n) = marks_continue n
-
--- each byte of an identifier may stand behind the first
-all_continue : (name : List ℕ) → is_identifier name ≡ true → list_all continues_identifier name ≡ true
-all_continue [] e = refl
-all_continue (b ∷ bs) e =
-    let parts = and_parts (begins_identifier b) (list_all continues_identifier bs) e in
-    ap₂ (λ (a c : Bool). a && c) (ap (λ a. (a || (b == 46)) || is_ascii_digit b) parts.0) parts.1
 
 some-end : (p e : ℕ) (bs : List ℕ) → 0 < p → 0 < e → 0 < stem_end p e bs
 some-end p e [] low some = some
@@ -179,20 +144,14 @@ ident-stem (b ∷ bs) e = ident-take (stem_end 0 (length (b ∷ bs)) (b ∷ bs))
     by true q = absurd (let h : false ≡ true = ap begins_identifier (sym (eqb-true b 46 q)) ∙ (and_parts (begins_identifier b) (list_all continues_identifier bs) e).0 in cc)
     by false q = some-end 1 (length (b ∷ bs)) bs (omega arith) (omega arith)
 
-ident-append : (name ys : List ℕ) → is_identifier name ≡ true → list_all continues_identifier ys ≡ true → is_identifier (name ++ ys) ≡ true
-ident-append [] ys e h = absurd (let f : false ≡ true = e in cc)
-ident-append (b ∷ bs) ys e h =
-    let parts = and_parts (begins_identifier b) (list_all continues_identifier bs) e in
-    ap₂ (λ (a c : Bool). a && c) parts.0 (both bs ys parts.1 h)
-
 ident-front : (k : ℕ) (name : List ℕ) → is_identifier name ≡ true → is_identifier (replicate k 95 ++ name) ≡ true
 ident-front zero name e = e
-ident-front (suc k) name e = both (replicate k 95) name (marks_continue k) (all_continue name e)
+ident-front (suc k) name e = both_continue (replicate k 95) name (underscores_continue k) (identifier_continues name e)
 
 pub made-ident : (front : ℕ) (name : List ℕ) (y : ℕ) → y < 2 ^ 64 → is_identifier name ≡ true → is_identifier (made_name front name y) ≡ true
 made-ident front name y small e =
-    ident-append (replicate (front - marks (stem_of name)) 95 ++ stem_of name) (46 ∷ number_text y) (ident-front (front - marks (stem_of name)) (stem_of name) (ident-stem name e))
-    (subst (λ t. list_all continues_identifier (46 ∷ t) ≡ true) (sym (number-decimal y small)) (digits_continue (decimal y) (digits_decimal own y small)))
+    longer_identifier (replicate (front - marks (stem_of name)) 95 ++ stem_of name) (46 ∷ number_text y) (ident-front (front - marks (stem_of name)) (stem_of name) (ident-stem name e))
+    (subst (λ t. list_all continues_identifier (46 ∷ t) ≡ true) (sym (number-decimal y small)) (decimal_continues y small))
 
 -- ---- the names of variables
 

@@ -21,7 +21,7 @@ use Rattle.bril_tree.specs.Step.{point_of}
 use Rattle.bril_tree.specs.Walk.{IsReached, IsWalk, end_of}
 use Rattle.bril_tree.proofs.Branches.{walk_within}
 use Rattle.bril_tree.proofs.Elements.{get_in, get_inside}
-use Rattle.bril_tree.proofs.LabelPoints.{label-at_point, range_high}
+use Rattle.bril_tree.proofs.LabelPoints.{range_high, label-one}
 use Rattle.bril_tree.proofs.Members.{contains_in, in_contains, in_flat_map}
 use Rattle.pass_numbers.proofs.Edges.{label-tree}
 use Rattle.pass_numbers.proofs.ItemTrees.{same_named}
@@ -42,10 +42,6 @@ use Rattle.ssa_numbers.proofs.Leading.{Abort, AreAlike, Jump, Kind, Next, abort-
 
 pub label-below : (H : Func) (j m : ℕ) → slice_get H.code j ≡ Some (Label m) → m < length H.labels
 label-below H j m at = let low = range_high 0 (length H.labels) m (subst (In m) H.formed.placed (in_flat_map label_at (Label m) m H.code (get_in H.code j (Label m) at) (inl refl))) in omega arith
-
--- a label stands at one point
-pub label-one : (H : Func) (j k m : ℕ) → slice_get H.code j ≡ Some (Label m) → slice_get H.code k ≡ Some (Label m) → j ≡ k
-label-one H j k m at bt = sym (label-at_point 0 (length H.labels) H.code H.formed.placed j m at) ∙ label-at_point 0 (length H.labels) H.code H.formed.placed k m bt
 
 -- ---- where laid code ends
 

@@ -26,6 +26,7 @@ use Rattle.bril_tree.proofs.Counting.{no_more}
 use Rattle.bril_tree.proofs.Elements.{get_in, get_inside}
 use Rattle.bril_tree.proofs.Members.{contains_in, in_contains}
 use Rattle.bril_tree.proofs.Shapes.{closing_needs}
+use Rattle.bril_tree.proofs.LabelPoints.{label-one}
 use Rattle.flow_graph.proofs.Told.{some_site}
 use Rattle.pass_numbers.proofs.Edges.{edge-leaves, label-tree}
 use Rattle.pass_numbers.proofs.Entering.{LeaveMatched, width-within}
@@ -36,7 +37,7 @@ use Rattle.ssa_code.specs.Sweep.{goes_on, item_args, reached_at}
 use Rattle.ssa_copies.specs.Inserted.{is_copy}
 use Rattle.ssa_tree.specs.Made.{IsLaidFunction}
 use Rattle.ssa_form.proofs.Points.{Front, Home, Point, begin, front, home, home-item, now, own, point, tree_in}
-use Rattle.ssa_numbers.proofs.Beside.{AtHome, Beside, Aborts, Goes, Leaps, Way, at-copy, at-item, beside, in-before, label-below, label-one, none-at_end, result-item}
+use Rattle.ssa_numbers.proofs.Beside.{AtHome, Beside, Aborts, Goes, Leaps, Way, at-copy, at-item, beside, in-before, label-below, none-at_end, result-item}
 use Rattle.ssa_numbers.proofs.Leading.{next-there}
 use Rattle.ssa_numbers.proofs.Silent.{After, First, IsFallen, fallen}
 use Rattle.ssa_numbers.proofs.Sites.{opened-by, walks-agree}

@@ -10,7 +10,6 @@ use Rattle.std.proofs.lemmas.List.FromFn.{length-range_with_len}
 use Rattle.std.proofs.lemmas.List.Sums.{count_by-le-length}
 use Rattle.std.proofs.lemmas.Option.{same_Some, slice_get-map, slice_get_within}
 use Rattle.bril_names.specs.Faults.{argument_names}
-use Rattle.bril_names.proofs.Appearance.{Seen, seen, old, fresh, strange}
 use Rattle.bril_names.proofs.Functions.{Differ-variables}
 use Rattle.bril_names.proofs.Naming.{one_number}
 use Rattle.bril_names.proofs.Variables.{argument_names_taken, arguments_of, same_arguments}
@@ -26,7 +25,7 @@ use Rattle.bril_tree.specs.declared.numbered_function.Func.{Func}
 use Rattle.bril_tree.specs.declared.operation.Op.TheVariants as op
 use Rattle.bril_tree.specs.Edge.{Branch}
 use Rattle.bril_tree.specs.FrameWords.{location_count, names_shadow}
-use Rattle.bril_tree.specs.FunctionForm.{dest_is_typed, known_after, variables_of}
+use Rattle.bril_tree.specs.FunctionForm.{dest_is_typed, variables_of}
 use Rattle.bril_tree.specs.Leaving.{edge_of}
 use Rattle.bril_tree.specs.Membership.{In}
 use Rattle.bril_tree.specs.Numbered.{function_tree, item_tree, named, variable_names}
@@ -35,15 +34,17 @@ use Rattle.bril_tree.specs.Sites.{sites_of}
 use Rattle.bril_tree.specs.Walk.{IsWalk, end_of}
 use Rattle.bril_tree.proofs.Counting.{no_more}
 use Rattle.bril_tree.proofs.Elements.{get_in, in_get, passes_in}
-use Rattle.bril_tree.proofs.LabelPoints.{in_range, range_high}
+use Rattle.bril_tree.proofs.LabelPoints.{in_range, range_high, label-one}
 use Rattle.bril_tree.proofs.Members.{in_append_cases, in_contains, in_flat_map_source, in_map, in_map_source}
 use Rattle.flow_graph.specs.Location.{number_of}
 use Rattle.live_entries.specs.LiveEntries.{IsLiveEntryCount}
 use Rattle.pass_numbers.proofs.Different.{range-differ}
 use Rattle.pass_numbers.proofs.ItemTrees.{dest_names, item_names, names-item, passes-item, tree_passes}
+use Rattle.pass_numbers.proofs.Locations.{appeared}
+use Rattle.pass_numbers.proofs.Items.{in-greatest}
+use Rattle.pass_numbers.proofs.Arguments.{greatest-within}
 use Rattle.program_numbers.specs.Cost.{item_passes, longest_in}
 use Rattle.program_numbers.specs.Entries.{Enters}
-use Rattle.program_numbers.specs.ProgramNumbers.{greatest}
 use Rattle.ssa_code.specs.Items.{dest_with, laid_item, name_in, read_name, standing}
 use Rattle.ssa_code.specs.Sweep.{item_args, reached_at}
 use Rattle.ssa_gets.specs.Wants.{gets_of}
@@ -52,7 +53,6 @@ use Rattle.ssa_tree.specs.Made.{IsLaidFunction}
 use Rattle.ssa_form.proofs.Fronts.{AtLabel, Falls, InFront, IsPut, Leaves, in-front, is-staying, list-apart, staying, total}
 use Rattle.ssa_form.proofs.Points.{Front, Home, Point, front, now, point, tree_in}
 use Rattle.ssa_form.proofs.Single.{argument-name}
-use Rattle.ssa_numbers.proofs.Beside.{label-one}
 
 -- ---- what a laid item names and passes
 
@@ -83,25 +83,6 @@ own-passes fs V ls true args w (Act d ty op.Set was fns ms) e = omega arith
 own-passes fs V ls true args w (Act d ty op.Call was fns ms) e = omega arith
 own-passes fs V ls true args w (Act d ty op.Print was fns ms) e = omega arith
 own-passes fs V ls true args w (Act d ty _ was fns ms) e = omega arith
-
-in-greatest : (a : Instr) (items : List Instr) → In a items → item_passes a ≤ greatest (map item_passes items)
-in-greatest a [] i = absurd i
-in-greatest a (b ∷ items) (inl same) = let s = ap item_passes same in omega arith
-in-greatest a (b ∷ items) (inr i) = let rest = in-greatest a items i in omega arith
-
-greatest-within : (most : ℕ) (xs : List Instr) → ((x : Instr) → In x xs → item_passes x ≤ most) → greatest (map item_passes xs) ≤ most
-greatest-within most [] each = omega arith
-greatest-within most (x ∷ xs) each = let one = each x (inl refl) in let rest = greatest-within most xs (λ y i. each y (inr i)) in omega arith
-
--- each number that is known in the end was known or appeared
-appeared : (known : ℕ) (xs : List ℕ) (n y : ℕ) → known_after known xs ≡ Some n → known ≤ y → y < n → In y xs
-appeared known [] n y e low high = let f : known ≡ n = same_Some _ _ e in absurd (omega arith)
-appeared known (x ∷ xs) n y e low high = by (seen known x xs) (λ k h l. appeared k xs n y h l high)
-  where
-    by : Seen known x xs → ((k : ℕ) → known_after k xs ≡ Some n → k ≤ y → In y xs) → In y (x ∷ xs)
-    by (old h same) again = inr (again known (sym same ∙ e) low)
-    by (fresh h same) again = ⊎_elim (λ l. inr (again (known + 1) (sym same ∙ e) (omega arith))) (λ g. let s : y ≡ known = omega arith in inl (s ∙ sym h)) (cases_lt known y)
-    by (strange same) again = let f : None ≡ Some n = sym same ∙ e in absurd cc
 
 module _ (fs fs' : List (List ℕ)) (F G : Func) (g : FuncTree) (x : IsLaidFunction F (function_tree fs F) g) (same : g ≡ function_tree fs' G) where
   abbrev W : List (List ℕ)

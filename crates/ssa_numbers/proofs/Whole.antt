@@ -1,7 +1,7 @@
 -- All functions of a program: its numbers, and what no walk leads to. So what is made of an accepted program is in SSA form.
-use Rattle.std.proofs.Common.{◌≡◌, ◌⊎◌, ℕ, zero, suc, ◌+◌, ◌*◌, ◌≤◌, List, [], ◌∷◌, length, map, Option, Some, None, refl, sym, ap, subst, ◌∙◌, inl, inr, arith, All}
+use Rattle.std.proofs.Common.{◌≡◌, ◌⊎◌, ℕ, ◌+◌, ◌*◌, ◌≤◌, List, [], ◌∷◌, length, map, Option, Some, None, refl, sym, ap, subst, ◌∙◌, inl, inr, arith, All}
 use Rattle.std.specs.Prelude.{slice_get}
-use Rattle.std.specs.List.{AllZip, range_with_len, sum_by}
+use Rattle.std.specs.List.{AllZip, sum_by}
 use Rattle.std.proofs.lemmas.List.{length-map}
 use Rattle.std.proofs.lemmas.List.Sums.{sum_by-cons}
 use Rattle.std.proofs.lemmas.Option.{slice_get_within}
@@ -23,7 +23,7 @@ use Rattle.bril_tree.proofs.Elements.{get_in, get_inside, zip-get, zip-long}
 use Rattle.bril_tree.proofs.Trees.{function_at, numbered-tree_of}
 use Rattle.live_entries.specs.LiveEntries.{IsLiveEntryCount}
 use Rattle.pass_numbers.specs.Numbers.{FunctionGrows, NumbersGrow, adding}
-use Rattle.pass_numbers.proofs.Programs.{functions_grow}
+use Rattle.pass_numbers.proofs.Programs.{functions_grow, none-added}
 use Rattle.program_numbers.specs.ProgramNumbers.{IsSum}
 use Rattle.ssa_tree.specs.Made.{IsLaidFunction, IsLaidTree}
 use Rattle.ssa_form.specs.Form.{IsSilent, IsSsa, IsSsaForm}
@@ -47,10 +47,6 @@ entries-in : (F : Func) (xs : List Func) (n : ℕ) → IsSum (λ f m. IsLiveEntr
 entries-in F [] n s i = absurd i
 entries-in F (y ∷ xs) n s (inl e) = (s.0, subst (λ (H : Func). IsLiveEntryCount H.code s.0) (sym e) s.2, (let all : n ≡ s.0 + s.1 = s.4 in omega arith))
 entries-in F (y ∷ xs) n s (inr i) = let r = entries-in F xs s.1 s.3 i in (r.0, r.1, (let all : n ≡ s.0 + s.1 = s.4 in let less = r.2 in omega arith))
-
-none-added : (k n : ℕ) → sum_by (λ (f : ℕ). 0) (range_with_len k n) ≡ 0
-none-added k zero = refl
-none-added k (suc n) = let one = sum_by-cons (λ (f : ℕ). 0) k (range_with_len (k + 1) n) in let rest = none-added (k + 1) n in omega arith
 
 twice-less : (m n : ℕ) → m ≤ n → 2 * m ≤ 2 * n
 twice-less m n h = omega arith

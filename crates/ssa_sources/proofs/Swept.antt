@@ -20,8 +20,8 @@ use Rattle.ssa_sources.proofs.Leaving.{set-source, source-set}
 use Rattle.ssa_tables.specs.Laws.{IsTabled}
 use Rattle.ssa_tables.specs.Tables.{else_passed, is_dest}
 use Rattle.ssa_tables.specs.Told.{Source, argument, into_at, passed_by, table_of}
-use Rattle.ssa_sweep.proofs.Sweeping.{told-before}
 use Rattle.ssa_tables.proofs.Tabled.{few}
+use Rattle.ssa_tables.proofs.Made.{entered-same}
 
 pub no-operands : (code : List Instr) (args : ℕ) (gets : ℕ → Location → Option ℕ) → AreOperandsBefore code args gets 0 []
 no-operands code args gets = record { there = λ key t z less x. absurd (omega (arith, less)); only = λ o c. absurd (in_contains o [] c) }
@@ -56,8 +56,8 @@ module _ (code : List Instr) (args : ℕ) (gets : ℕ → Location → Option �
       by (Some z) g h = got i y a (g ∙ h)
 
   pub into-below : (i : ℕ) (a : Location) (y : ℕ) → into_at code args gets i a ≡ Some y → y < bound
-  into-below zero a y e = argument-below a y (told-before (slice_get code 0) (argument args a) y e)
-  into-below (suc i) a y e = behind-below i (slice_get code i) refl (into-below i) a y (told-before (slice_get code (suc i)) (else_passed (gets i a) (passed_by (slice_get code i) (args + i) (into_at code args gets i) a)) y e)
+  into-below zero a y e = argument-below a y (entered-same (slice_get code 0) (argument args a) y e)
+  into-below (suc i) a y e = behind-below i (slice_get code i) refl (into-below i) a y (entered-same (slice_get code (suc i)) (else_passed (gets i a) (passed_by (slice_get code i) (args + i) (into_at code args gets i) a)) y e)
 
   pub told-below : (key : ℕ) (a : Location) (y : ℕ) → told_at code args gets key a ≡ Some y → y < bound
   told-below zero a y e = argument-below a y e

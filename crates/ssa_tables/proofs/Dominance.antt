@@ -67,12 +67,12 @@ opened code (x ∷ w) s is i = by (λ j. opened code w s is.1 j) (change_of code
     by rec Closes j = more rec (in_rest s (sites_of code w) j)
     by rec Keeps j = more rec j
 
+pub dest-there : (o : Option ℕ) (a : Location) → is_dest o a ≡ true → (x : ℕ) × (o ≡ Some x)
+dest-there None a e = absurd cc
+dest-there (Some x) a e = (x, refl)
+
 module _ (code : List Instr) (sound : AreSitesSound code) (n : Tables) (IsArgument : ℕ → Type 0) (c : AreConsistent code n IsArgument) where
   -- ---- what is behind an item
-
-  dest-there : (o : Option ℕ) (a : Location) → is_dest o a ≡ true → (x : ℕ) × (o ≡ Some x)
-  dest-there None a e = absurd cc
-  dest-there (Some x) a e = (x, refl)
 
   pub Before : ℕ → ℕ → Type 0
   Before i y = (a : Location) × (n.into i a ≡ Some y)

@@ -19,6 +19,13 @@ use Rattle.ssa_tables.specs.Told.{LeadToLabels, argument, entered, passed_by, wr
 use Rattle.ssa_tables.proofs.Items.{dest-in, dest-out, assigned-plain}
 use Rattle.ssa_copies.proofs.Walks.{source-cases}
 
+-- what is told where an item is entered was told before it
+pub entered-same : (o : Option Instr) (x : Option ℕ) (y : ℕ) → entered o x ≡ Some y → x ≡ Some y
+entered-same None x y e = e
+entered-same (Some (Label l)) x y e = absurd cc
+entered-same (Some (Const d ty v)) x y e = e
+entered-same (Some (Act d ty o args fns ls)) x y e = e
+
 module _ (code : List Instr) (args : ℕ) (gets : ℕ → Location → Option ℕ) (leads : LeadToLabels code) (wants : AreWanted code args gets) (IsArgument : ℕ → Type 0)
     (begins : (a : Location) (y : ℕ) → argument args a ≡ Some y → IsArgument y) (few : (y : ℕ) → IsArgument y → y < args) where
   abbrev n : Tables
@@ -29,12 +36,6 @@ module _ (code : List Instr) (args : ℕ) (gets : ℕ → Location → Option �
   pub no-label : (i y : ℕ) (a : Location) → n.into i a ≡ Some y → (l : ℕ) → slice_get code i ≡ Some (Label l) → ⊥
   no-label zero y a e l at = absurd (let h = sym (ap (λ o. entered o (argument args a)) at) ∙ e in cc)
   no-label (suc i) y a e l at = absurd (let h = sym (ap (λ o. entered o (else_passed (gets i a) (passed_by (slice_get code i) (written code args gets i) (into_at code args gets i) a))) at) ∙ e in cc)
-
-  pub entered-same : (o : Option Instr) (x : Option ℕ) (y : ℕ) → entered o x ≡ Some y → x ≡ Some y
-  entered-same None x y e = e
-  entered-same (Some (Label l)) x y e = absurd cc
-  entered-same (Some (Const d ty v)) x y e = e
-  entered-same (Some (Act d ty o args fns ls)) x y e = e
 
   pub entered-is : (o : Option Instr) (x : Option ℕ) → ((l : ℕ) → o ≡ Some (Label l) → ⊥) → entered o x ≡ x
   entered-is None x h = refl

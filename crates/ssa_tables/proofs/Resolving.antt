@@ -13,7 +13,7 @@ use Rattle.bril_tree.specs.Membership.{In}
 use Rattle.ssa_copies.specs.Inserted.{is_copy, destination, source}
 use Rattle.ssa_tables.specs.Tables.{Tables, is_dest, passed, else_passed, behind, Defines, Writes, Gets, AreConsistent, kept, replaced, resolved, resolve, AreResolved}
 use Rattle.ssa_tables.proofs.Items.{label-no_site}
-use Rattle.ssa_tables.proofs.Dominance.{opened as site-walk, part-walk}
+use Rattle.ssa_tables.proofs.Dominance.{opened as site-walk, part-walk, dest-there}
 
 module _ (code : List Instr) (n : Tables) (IsArgument : ℕ → Type 0) (c : AreConsistent code n IsArgument) (find : ℕ → ℕ) (r : AreResolved code n IsArgument find) where
   abbrev m : Tables
@@ -91,10 +91,6 @@ module _ (code : List Instr) (n : Tables) (IsArgument : ℕ → Type 0) (c : Are
           let w : n.writes i ≡ z = same_Some _ _ p in
           let dest = dest-there (destination (slice_get code i)) a de in
           ap Some (sym (r.writes i dest.0 reached dc dest.1) ∙ ap find w)
-        where
-          dest-there : (o : Option ℕ) (a : Location) → is_dest o a ≡ true → (x : ℕ) × (o ≡ Some x)
-          dest-there None a e = absurd cc
-          dest-there (Some x) a e = (x, refl)
       by_item false false dc de g p = into-else i z a g p
 
       by_get : (o : Option ℕ) → n.gets i a ≡ o → else_passed o (passed n (slice_get code i) i a) ≡ Some z → behind code m i a ≡ Some (find z)

@@ -70,7 +70,7 @@ module _ (code : List Instr) (sound : AreSitesSound code) (args : ℕ) (gets : �
       by (Some z) e k = inr (typed.get i y a (e ∙ k))
 
   pub into-typed : (i : ℕ) (a : Location) (y : ℕ) → n.into i a ≡ Some y → Has y a
-  into-typed zero a y h = inr (typed.argument a y (entered-same code args gets leads wants IsArgument begins few (slice_get code 0) (argument args a) y h))
+  into-typed zero a y h = inr (typed.argument a y (entered-same (slice_get code 0) (argument args a) y h))
   into-typed (suc i) a y h = behind-typed-from i (λ b z e. into-typed i b z e) a y (into-next code args gets leads wants IsArgument begins few i y a h)
 
   pub behind-typed : (i : ℕ) (a : Location) (y : ℕ) → behind code n i a ≡ Some y → Has y a

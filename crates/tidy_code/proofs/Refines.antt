@@ -22,6 +22,7 @@ use Rattle.bril_tree.specs.Walk.{IsReached}
 use Rattle.bril_tree.proofs.Branches.{walk_within}
 use Rattle.bril_tree.proofs.Outcomes.{GoesOn}
 use Rattle.bril_tree.proofs.Trees.{nothing_at}
+use Rattle.bril_tree.proofs.Elements.{past_end}
 use Rattle.pass_names.specs.NamedPlan.{NamePlan, plan, KeepsNames}
 use Rattle.pass_names.proofs.Preserving.{names_preserve, knows_nothing}
 use Rattle.pass_names.proofs.Heads.{no_partner, partner}
@@ -30,7 +31,6 @@ use Rattle.pass_plan.specs.Plan.{Plan, Preserves, StatesMatch}
 use Rattle.pass_steps.specs.Refinement.{Progress, CatchUp, SourceMoves, Advances, ChangesPlaces}
 use Rattle.pass_steps.proofs.Moves.{source_moves}
 use Rattle.pass_steps.proofs.Refinement.{plan_refines}
-use Rattle.pass_walks.proofs.Items.{past_end}
 use Rattle.tidy_code.proofs.Points.{kept_items, kept_count, IsNop, code_tree, Tidied}
 use Rattle.tidy_code.proofs.Kept.{kept-at, kept-end, count-kept, count-dropped}
 

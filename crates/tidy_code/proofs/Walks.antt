@@ -17,8 +17,8 @@ use Rattle.pass_walks.specs.Matched.{Covers, WalksMatch, MatchedWalk, MatchesWal
 use Rattle.pass_steps.proofs.Shapes.{shaped_here}
 use Rattle.bril_tree.proofs.Shapes.{dest_none}
 use Rattle.pass_walks.proofs.Walks.{regular_branch_matched, alone-lifts}
-use Rattle.pass_walks.proofs.Items.{past_end}
 use Rattle.bril_tree.proofs.Branches.{walk_within}
+use Rattle.bril_tree.proofs.Elements.{past_end}
 use Rattle.tidy_code.proofs.Points.{kept_count, IsNop, Tidied}
 use Rattle.tidy_code.proofs.Kept.{count-dropped}
 use Rattle.tidy_code.proofs.Refines.{tidy_plan, preserves, nop-goes_on}

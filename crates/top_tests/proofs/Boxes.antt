@@ -1,6 +1,6 @@
 -- Boxes whose passes make as the shipped ones do.
-use Rattle.std.proofs.Common.{◌≡◌, Bool, true, false, not, ◌&&◌, List, [], ◌∷◌, refl, sym, subst}
-use Rattle.std.specs.Prelude.{ℕ}
+use Rattle.std.proofs.Common.{◌≡◌, Bool, true, false, not, ◌&&◌, List, [], ◌∷◌, refl, sym, subst, ◌∙◌}
+use Rattle.std.proofs.lemmas.Bool.{and_parts, not-true, true≢false}
 use Rattle.std.specs.declared.dyn_box.DynBox.{DynBox}
 use Rattle.bril_cli.specs.Shipped.{Shipped, shipped, MakesAsEach, MakesAsShipped}
 use Rattle.bril_profile.specs.declared.profile.Profile.{Profile}
@@ -15,17 +15,9 @@ abbrev pub is_stranger : List Shipped → Meaning → Bool
 is_stranger [] m = true
 is_stranger (s ∷ some) m = not (m.answers s.name) && is_stranger some m
 
-both : (a b : Bool) → (a && b) ≡ true → (a ≡ true) × (b ≡ true)
-both true b e = (refl, e)
-both false b e = absurd (let n : false ≡ true = e in cc)
-
-refuted : (b : Bool) → not b ≡ true → b ≡ true → ⊥
-refuted true e is = let n : false ≡ true = e in cc
-refuted false e is = let n : false ≡ true = is in cc
-
 strange : (m : Meaning) (some : List Shipped) → is_stranger some m ≡ true → MakesAsEach some m
 strange m [] e = tt
-strange m (s ∷ some) e = let h = both (not (m.answers s.name)) (is_stranger some m) e in (λ named. absurd (refuted (m.answers s.name) h.0 named), strange m some h.1)
+strange m (s ∷ some) e = let h = and_parts (not (m.answers s.name)) (is_stranger some m) e in (λ named. absurd (true≢false (sym named ∙ not-true (m.answers s.name) h.0)), strange m some h.1)
 
 pub stranger-makes : (m : Meaning) → is_stranger shipped m ≡ true → MakesAsShipped m
 stranger-makes m e = record { each = strange m shipped e }

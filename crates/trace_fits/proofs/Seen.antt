@@ -3,7 +3,7 @@ use Rattle.std.proofs.Common.{◌≡◌, ◌⊎◌, ℕ, Bool, true, false, ◌|
 use Rattle.std.specs.Prelude.{◌==◌}
 use Rattle.std.specs.List.{All, AllPairs, list_any}
 use Rattle.std.proofs.lemmas.List.Quantifiers.{all_pairs_push}
-use Rattle.std.proofs.lemmas.Bool.{and_parts, and_from, eq-eqb, eqb-true}
+use Rattle.std.proofs.lemmas.Bool.{and_parts, and_from, eq-eqb, eqb-true, or_parts, or_right}
 use Rattle.std.proofs.lemmas.List.{map_push}
 use Rattle.std.proofs.lemmas.List.Elements.{All-nil, All-cons, All-push}
 use Rattle.bril_profile.specs.declared.profile.Entry.{Entry}
@@ -27,11 +27,7 @@ module _ (function point : ℕ) (choices : List Bool) where
   repeats-any (x ∷ found) seen r = by (is_at function point x) refl (repeats-any found (fit_of x ∷ seen) r)
     where
       by : (b : Bool) → is_at function point x ≡ b → (list_any (is_at function point) found ≡ true) ⊎ Repeats (fit_of x ∷ seen) (candidate function point choices) → (list_any (is_at function point) (x ∷ found) ≡ true) ⊎ Repeats seen (candidate function point choices)
-      by b e (inl h) = inl (ap (λ z. is_at function point x || z) h ∙ or_true (is_at function point x))
-        where
-          or_true : (z : Bool) → (z || true) ≡ true
-          or_true true = refl
-          or_true false = refl
+      by b e (inl h) = inl (ap (λ z. is_at function point x || z) h ∙ or_right (is_at function point x) true refl)
       by b e (inr (inl h)) = inl (ap (λ z. z || list_any (is_at function point) found) (is-at function point x h.0 h.1))
       by b e (inr (inr h)) = inr h
 
@@ -55,11 +51,7 @@ module _ (function point : ℕ) (choices : List Bool) where
       by h = let g : true ≡ false = sym (ap (λ z. z || list_any (is_at function point) found) h) ∙ e in cc
 
       rest : list_any (is_at function point) found ≡ false
-      rest = or_right (is_at function point x) (list_any (is_at function point) found) e
-        where
-          or_right : (a b : Bool) → (a || b) ≡ false → b ≡ false
-          or_right true b h = absurd (let g : true ≡ false = h in cc)
-          or_right false b h = h
+      rest = (or_parts (is_at function point x) (list_any (is_at function point) found) e).1
 
 -- ---- one entry more
 

@@ -1,6 +1,6 @@
 -- One survey more.
 use Rattle.std.proofs.Common.{◌≡◌, ℕ, ◌<◌, List, [], ◌∷◌, ◌++◌, length, get_or, Some, None, refl, sym, ap, subst, ◌∙◌}
-use Rattle.std.specs.Prelude.{IfOk, Result, Ok, Err, is_some, slice_get}
+use Rattle.std.specs.Prelude.{is_some, slice_get}
 use Rattle.std.specs.List.{All}
 use Rattle.std.proofs.lemmas.Option.{same_Some, slice_get-get_or}
 use Rattle.bril_tree.specs.declared.numbered_function.Func.{Func}
@@ -28,10 +28,6 @@ last-is {A} xs x y k e at = same_Some x y (sym (last xs) ∙ ap (slice_get (xs +
     last : (zs : List A) → slice_get (zs ++ x ∷ []) (length zs) ≡ Some x
     last [] = refl
     last (z ∷ zs) = last zs
-
-pub if-ok : {T E : Type 0} {A B : T → Type 0} (r : Result T E) → ((x : T) → A x → B x) → IfOk r A → IfOk r B
-if-ok (Ok x) h p = h x p
-if-ok (Err e) h p = tt
 
 -- the survey at a place is that of the function
 pub survey-read : (P : Prog) (surveys : List Survey) (place f : ℕ) (F : Func) (s : Survey) → All (IsSurvey P) surveys → place < length surveys → ((z : Survey) → slice_get surveys place ≡ Some z → z.function ≡ f) → s ≡ get_or surveys place s → slice_get P.funcs f ≡ Some F

@@ -21,8 +21,9 @@ use Rattle.bril_names.proofs.Naming.{one_number}
 use Rattle.bril_tree.proofs.Elements.{All-at, get_inside}
 use Rattle.pass_names.proofs.Points.{label_once}
 use Rattle.bril_tree.proofs.Trees.{tree_at-items}
-use Rattle.live_entries.proofs.Deciding.{decide-reached, same-sites}
+use Rattle.live_entries.proofs.Deciding.{decide-reached}
 use Rattle.live_entries.proofs.Selecting.{Decided}
+use Rattle.flow_graph.proofs.Told.{same_sites}
 use Rattle.trace_laws.specs.Laws.{FitsAreOneList}
 use Rattle.trace_laws.proofs.Unique.{fit-one, fits-one}
 use Rattle.trace_paths.specs.Fits.{Fit, FitsAre, IsFit, Repeats, fit_path}
@@ -104,7 +105,7 @@ module _ (P : Prog) (accepted : IsAccepted P) where
 
     few-or_not : (r : IsReached (code_of P f) p) → Decided ((walk : List Branch) → IsWalk (code_of P f) walk → end_of walk ≡ p → length (sites_of (code_of P f) walk) < most_sites)
     few-or_not r = ⊎_elim
-        (λ few. inl (λ walk is ends. subst (λ sites. length sites < most_sites) (same-sites (code_of P f) (sound-sites f low) r.walk walk r.is is (r.ends ∙ sym ends)) few))
+        (λ few. inl (λ walk is ends. subst (λ sites. length sites < most_sites) (same_sites (code_of P f) (sound-sites f low) r.walk walk r.is is (r.ends ∙ sym ends)) few))
         (λ many. inr (λ h. let few = h r.walk r.is r.ends in omega (arith, few, many)))
         (cases_lt (length (sites_of (code_of P f) r.walk)) most_sites)
 

@@ -1,7 +1,6 @@
 -- Names with more and more `_` in front.
 use Rattle.std.proofs.Common.{◌≡◌, ◌⊎◌, ℕ, suc, ◌<◌, ◌+◌, ◌-◌, true, List, ◌∷◌, length, refl, sym, ap, subst, ◌∙◌, inl, inr, arith}
 use Rattle.std.specs.List.{Contains, sum_by}
-use Rattle.std.specs.Prelude.{IfOk, Result, Ok, Err}
 use Rattle.std.proofs.lemmas.Bool.{cases_order}
 use Rattle.bril_tree.specs.Membership.{In}
 use Rattle.bril_tree.specs.Identifier.{is_identifier}
@@ -47,7 +46,3 @@ marked-fresh taken base bytes name m none e = record {
 
 pub marked-identifier : (taken : List (List ℕ)) (base bytes : List ℕ) → AreMarked taken base bytes → is_identifier base ≡ true → is_identifier bytes ≡ true
 marked-identifier taken base bytes m h = subst (λ b. is_identifier b ≡ true) (sym m.is) (underscored-identifier m.marks base h)
-
-pub if-ok : {T E : Type 0} {P Q : T → Type 0} (r : Result T E) → ((x : T) → P x → Q x) → IfOk r P → IfOk r Q
-if-ok (Ok x) h p = h x p
-if-ok (Err e) h p = tt

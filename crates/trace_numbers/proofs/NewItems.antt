@@ -23,8 +23,7 @@ use Rattle.bril_tree.proofs.Elements.{get_in, in_get}
 use Rattle.bril_tree.proofs.LabelPoints.{in_range}
 use Rattle.bril_tree.proofs.Members.{in_append_cases, in_append_left, in_append_right, in_map, in_map_source}
 use Rattle.bril_tree.proofs.Trees.{function_at, nothing_at, tree_at-function}
-use Rattle.bril_names.specs.Range.{AreBelow}
-use Rattle.bril_names.proofs.Naming.{AreBelow-append}
+use Rattle.bril_names.proofs.Naming.{AreBelow-append, AreBelow-in}
 use Rattle.pass_names.proofs.Points.{found}
 use Rattle.pass_numbers.proofs.Items.{IsOfItems, IsPlain, items-plain, plain-tree, unchanged}
 use Rattle.pass_numbers.proofs.ItemTrees.{item_names, shadow_names, tree_passes}
@@ -114,12 +113,7 @@ module _ (P Q : Prog) (bool : Ty) (laid : List Laying) (sp : IsLaidTree P bool l
           let h = found P f i (Act d t o args fns ls) e in
           let s = in_map_source (named (names_in (slice_get P.funcs f))) name args (subst (λ z. In name (args_in z)) h.tree among) in
           let below = (AreBelow-append (length (names_in (slice_get P.funcs f))) (listed d) args h.range.variables).1 in
-          (s.0, subst (λ l. s.0 < length l) inP (all-below (length (names_in (slice_get P.funcs f))) args below s.0 s.1), ap (λ l. named l s.0) (sym inP) ∙ sym s.2)
-        where
-          all-below : (n : ℕ) (xs : List ℕ) → AreBelow n xs → (x : ℕ) → In x xs → x < n
-          all-below n [] b x i = absurd i
-          all-below n (y ∷ ys) b x (inl e) = let h = b.0 in omega (arith, e)
-          all-below n (y ∷ ys) b x (inr i) = all-below n ys b.1 x i
+          (s.0, subst (λ l. s.0 < length l) inP (AreBelow-in (length (names_in (slice_get P.funcs f))) args below s.0 s.1), ap (λ l. named l s.0) (sym inP) ∙ sym s.2)
 
   below-vars : (x : ℕ) → x < length V → x < length F.vars
   below-vars x low = let size = length-map F.vars (λ (v : VarInfo). v.name) in omega arith

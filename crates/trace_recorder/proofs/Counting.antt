@@ -1,7 +1,6 @@
 -- Counts of arrivals.
 use Rattle.std.proofs.Common.{◌≡◌, inl, inr, ℕ, zero, suc, ◌+◌, ◌-◌, ◌^◌, ◌<◌, min, ◌&&◌, Bool, true, false, cond, List, [], ◌∷◌, length, map, replicate, Option, Some, None, refl, sym, ap, ap₂, subst, ◌∙◌, arith}
 use Rattle.std.specs.Prelude.{◌==◌, slice_get, slice_set, slice_index, slice_index_or}
-use Rattle.std.specs.List.{flat_map}
 use Rattle.std.proofs.lemmas.Bool.{eqb-true, eqb-false, eq-eqb, ne_eqb}
 use Rattle.std.proofs.lemmas.List.{get_or-set_other, get_or-set_same, length-replicate, length-set}
 use Rattle.std.proofs.lemmas.Option.{same_Some}
@@ -10,11 +9,10 @@ use Rattle.bril_tree.specs.declared.numbered.Instr.{Instr}
 use Rattle.bril_tree.specs.declared.numbered.Instr.TheVariants.{Label, Const, Act}
 use Rattle.bril_tree.specs.declared.numbered_function.Func.{Func}
 use Rattle.bril_tree.specs.declared.program.Prog.{Prog}
-use Rattle.bril_tree.specs.FunctionForm.{label_at}
 use Rattle.bril_tree.specs.Membership.{In}
 use Rattle.bril_tree.specs.State.{Frame, State}
 use Rattle.bril_tree.specs.Step.{item_at, items_of}
-use Rattle.bril_tree.proofs.LabelPoints.{range_high}
+use Rattle.bril_tree.proofs.LabelPoints.{label_listed, range_high}
 use Rattle.bril_interpreter.specs.Interpreter.{newest_frame}
 use Rattle.trace_recorder.specs.declared.arrival.Arrival.{Arrival}
 use Rattle.trace_recorder.specs.Sight.{sight, sight_in, sight_at, arrival}
@@ -23,15 +21,6 @@ use Rattle.trace_recorder.specs.Standing.{count_in, HasCounts}
 use Rattle.trace_recorder.specs.Counts.{zero_counts, IsPlaceOf, IsCounted, counted_in, counted_at, counts_from, AreFirst}
 
 -- ---- the program has the label of an arrival
-
-label_listed : (items : List Instr) (j m : ℕ) → slice_get items j ≡ Some (Label m) → In m (flat_map label_at items)
-label_listed [] j m e = absurd (let f : None ≡ Some (Label m) = e in cc)
-label_listed (Label l ∷ items) zero m e = inl (let s : Label l ≡ Label m = same_Some _ _ e in cc)
-label_listed (Const d ty v ∷ items) zero m e = absurd (let s : Const d ty v ≡ Label m = same_Some _ _ e in cc)
-label_listed (Act d ty o args fns ls ∷ items) zero m e = absurd (let s : Act d ty o args fns ls ≡ Label m = same_Some _ _ e in cc)
-label_listed (Label l ∷ items) (suc j) m e = inr (label_listed items j m e)
-label_listed (Const d ty v ∷ items) (suc j) m e = label_listed items j m e
-label_listed (Act d ty o args fns ls ∷ items) (suc j) m e = label_listed items j m e
 
 -- Such a function has the label.
 record HasLabel (funcs : List Func) (f l : ℕ) : Type 0 where

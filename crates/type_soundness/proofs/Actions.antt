@@ -18,7 +18,7 @@ use Rattle.bril_tree.specs.Edge.{item_branches, jump}
 use Rattle.bril_tree.specs.FunctionForm.{listed}
 use Rattle.bril_tree.specs.Memory.{allocation_fault, held, live_block, is_freeable, changed_block, new_block, cells_of}
 use Rattle.bril_tree.specs.Operand.{Variable, reads_of, dest_of}
-use Rattle.bril_tree.specs.Outcome.{Yields, FaultsWith, HasEffect, outcome_of, action_outcome, argument, block_of, offset_of, int_of, bool_of, divided, char_from, undefined, shadow_given, is_scalar}
+use Rattle.bril_tree.specs.Outcome.{HasEffect, outcome_of, action_outcome, argument, block_of, offset_of, int_of, bool_of, divided, char_from, undefined, shadow_given, is_scalar}
 use Rattle.bril_tree.specs.Shape.{is_action_shaped, fits_shape, shape_of}
 use Rattle.bril_tree.specs.State.{Frame, Block, State, with_value}
 use Rattle.bril_tree.specs.Sites.{Keeps, item_change}
@@ -36,6 +36,7 @@ use Rattle.type_soundness.proofs.Invariant.{Stack-more, Stands, Runs}
 use Rattle.type_soundness.proofs.Operands.{HoldsReads, GoesOn, argument-typed, dest-typed, read-typed}
 use Rattle.type_soundness.proofs.Locals.{IsTypedAct, act-typed, counted}
 use Rattle.bril_tree.proofs.Acceptance.{accepted_function, shaped_at, typed_at}
+use Rattle.bril_tree.proofs.Outcomes.{either-yields}
 use Rattle.type_soundness.proofs.Standing.{holds-read}
 use Rattle.type_soundness.proofs.Steps.{gives-stands, advances-stands, jumps-stands, speculates-stands, commits-stands, aborts-stands, sets-stands, dropped-cover, saved-cover}
 use Rattle.type_soundness.proofs.Typed.{Cell, cell_type, IsTyped, HasType, HasType-back, Extends-push}
@@ -77,12 +78,8 @@ divided-gives : (z : Bool) (a b : ℤ) → divided z a b ≡ HasEffect → ⊥
 divided-gives true a b e = cc
 divided-gives false a b e = cc
 
-cond-gives : (b : Bool) (v : Value) (kind : Fault) → cond b (Yields v) (FaultsWith kind) ≡ HasEffect → ⊥
-cond-gives true v kind e = cc
-cond-gives false v kind e = cc
-
 char_from-gives : (z : ℤ) → char_from z ≡ HasEffect → ⊥
-char_from-gives (pos n) e = cond-gives (is_scalar n) _ _ e
+char_from-gives (pos n) e = either-yields (is_scalar n) _ _ e
 char_from-gives (negsuc n) e = cc
 
 module _ (p : Prog) (limits : Limits) where
@@ -322,7 +319,7 @@ module _ (p : Prog) (limits : Limits) where
     row op.Undef dest ty args funcs labels at shaped t e = absurd (undefines-row ty dest args funcs labels shaped t e)
     row op.Div dest ty args funcs labels at shaped t e = absurd (divided-gives _ _ _ e)
     row op.IntToChar dest ty args funcs labels at shaped t e = absurd (char_from-gives (int_of (argument frame.locations args 0)) e)
-    row op.PtrAdd dest ty args funcs labels at shaped t e = absurd (cond-gives _ _ _ e)
+    row op.PtrAdd dest ty args funcs labels at shaped t e = absurd (either-yields _ _ _ e)
     row _ dest ty args funcs labels at shaped t e = absurd (cc)
 
     -- what an item does that does more than compute

@@ -11,7 +11,8 @@ use Rattle.bril_tree.specs.Memory.{live_block, if_live, cell_of, held, changed, 
 use Rattle.bril_tree.specs.Outcome.{block_of}
 use Rattle.bril_tree.specs.State.{Values, Block, with_value}
 use Rattle.bril_tree.specs.Typing.{points_to}
-use Rattle.type_soundness.proofs.Typed.{Cell, cell_type, PointsTo, IsTyped, IsTyped-more, IsTyped-same, HasType, Extends, Extends-push, same_base-true}
+use Rattle.bril_tree.proofs.Typings.{same_base-is}
+use Rattle.type_soundness.proofs.Typed.{Cell, cell_type, PointsTo, IsTyped, IsTyped-more, IsTyped-same, HasType, Extends, Extends-push}
 
 -- each value in the cells is of their type
 abbrev pub CellsHold : List Cell → Cell → Values → Type 0
@@ -96,7 +97,7 @@ stored-keeps heap c n v cells t h m w e = stored-by_test (m == n) heap c m n v w
 points-parts : (s t : Ty) → points_to s t ≡ true → (s.depth ≡ suc t.depth) × (s.base ≡ t.base)
 points-parts s t e =
     let both = and_parts _ _ e in
-    (eqb-true s.depth _ both.0 ∙ omega arith, same_base-true s.base t.base both.1)
+    (eqb-true s.depth _ both.0 ∙ omega arith, same_base-is s.base t.base both.1)
 
 -- the block of a pointer has cells of the type that it points to, or is none
 typed-pointer : (heap : List Cell) (depth : ℕ) (b : Base) (v : Value) → IsTyped heap (suc depth) b v → PointsTo heap depth b (block_of v)

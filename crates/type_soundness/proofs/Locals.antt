@@ -17,9 +17,10 @@ use Rattle.bril_tree.specs.Operand.{Location, Variable, Shadow, reads_of, locati
 use Rattle.bril_tree.specs.Shape.{shape_of, fits_shape, is_action_shaped, is_shaped}
 use Rattle.bril_tree.specs.Typing.{is_action_typed, is_dest_typed, argument_type, variable_type, if_typed, is_pointer, points_to, unary, binary, both_typed, same_type, are_typed, print_fault, action_type_fault, type_fault, wrong_unless, is_set_typed, is_return_typed, PrintsPointer}
 use Rattle.bril_tree.specs.Membership.{In}
-use Rattle.bril_tree.proofs.Members.{in_contains, in_map_source}
+use Rattle.bril_tree.proofs.Members.{in_contains, in_map_source, contains_one}
 use Rattle.bril_tree.specs.Locals.{location_type}
 use Rattle.bril_tree.proofs.Shapes.{shape-parts, no_dest}
+use Rattle.bril_tree.proofs.Typings.{typed-unless}
 
 -- ---- that there is a type
 
@@ -45,17 +46,13 @@ set-there s (Some t) e = (t, refl)
 
 -- ---- the parts of a type fault
 
-wrong-none : (b : Bool) → wrong_unless b ≡ None → b ≡ true
-wrong-none true e = refl
-wrong-none false e = absurd (cc)
-
 -- the destination and the operands are of the types of their row
 pub record IsTypedAct (p : Prog) (f : Func) (o : Op) (dest : Option ℕ) (ty : Option Ty) (args funcs : List ℕ) : Type 0 where
   pub dest_typed : is_dest_typed p f dest ty ≡ true
   pub operands_typed : is_action_typed p f o ty args funcs ≡ true
 
 pub both-parts : (a b : Bool) → wrong_unless (a && b) ≡ None → (a ≡ true) × (b ≡ true)
-both-parts a b e = and_parts a b (wrong-none (a && b) e)
+both-parts a b e = and_parts a b (typed-unless (a && b) e)
 
 module _ (p : Prog) (f : Func) where
   act-by : (o : Op) (dest : Option ℕ) (ty : Option Ty) (args funcs : List ℕ) → wrong_unless (is_dest_typed p f dest ty && is_action_typed p f o ty args funcs) ≡ None → IsTypedAct p f o dest ty args funcs
@@ -183,22 +180,15 @@ module _ (p : Prog) (f : Func) where
       let source = in_map_source Variable location args (in_contains location (map Variable args) c) in
       subst (λ l. IsThere (location_type f l)) (sym source.2) (argument-location f.vars args all source.0 source.1)
 
-  only : (location other : Location) → Contains (other ∷ []) location → location ≡ other
-  only location other c = only_in (in_contains location (other ∷ []) c)
-    where
-      only_in : In location (other ∷ []) → location ≡ other
-      only_in (inl e) = e
-      only_in (inr h) = absurd h
-
   shadow-there : (dest : Option ℕ) (ty : Option Ty) (location : Location) → is_dest_typed p f dest ty ≡ true → Contains (shadow_of dest) location → IsThere (location_type f location)
   shadow-there None ty location e c = absurd (in_contains location [] c)
-  shadow-there (Some x) ty location e c = subst (λ l. IsThere (location_type f l)) (sym (only location (Shadow x) c)) (both_typed-right same_type ty (variable_type f.vars x) e)
+  shadow-there (Some x) ty location e c = subst (λ l. IsThere (location_type f l)) (sym (contains_one location (Shadow x) c)) (both_typed-right same_type ty (variable_type f.vars x) e)
 
   act-reads : (o : Op) (dest : Option ℕ) (ty : Option Ty) (args funcs labels : List ℕ) → is_action_shaped (is_some f.ret) o (is_some dest) (length args) (length funcs) (length labels) ≡ true
       → action_type_fault p f o dest ty args funcs ≡ None → IsTypedAct p f o dest ty args funcs → (location : Location) → Contains (locations_read (reading_of o) dest args) location → IsThere (location_type f location)
   act-reads op.Get dest ty args funcs labels shaped e t location c = shadow-there dest ty location t.dest_typed c
   act-reads op.Set dest ty args funcs labels shaped e t location c =
-      subst (λ l. IsThere (location_type f l)) (sym (only location (Variable (slice_index args 1)) c)) (set-there _ _ t.operands_typed)
+      subst (λ l. IsThere (location_type f l)) (sym (contains_one location (Variable (slice_index args 1)) c)) (set-there _ _ t.operands_typed)
   act-reads o dest ty args funcs labels shaped e t location c = by-arguments args location (arguments-there o dest ty args funcs labels shaped e t.operands_typed refl) c
 
   -- each location that an item reads has a type

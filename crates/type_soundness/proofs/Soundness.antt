@@ -54,7 +54,7 @@ plain-values [] (t ∷ ts) plain h = absurd h
 plain-values (v ∷ args) [] plain h = absurd h
 plain-values (v ∷ args) (t ∷ ts) plain h = (plain-value t v (All-head IsPlainType t ts plain) h.0, plain-values args ts (All-tail IsPlainType t ts plain) h.1)
 
-main-there : (o : Option Func) → option_map (λ (f : Func). f.name) o ≡ Some main_name → (f : Func) × (o ≡ Some f)
+pub main-there : (o : Option Func) → option_map (λ (f : Func). f.name) o ≡ Some main_name → (f : Func) × (o ≡ Some f)
 main-there None e = absurd (cc)
 main-there (Some f) e = (f, refl)
 

@@ -1,14 +1,14 @@
 -- Values of a type, over the types of the cells of each block.
-use Rattle.std.proofs.Common.{◌≡◌, ◌⊎◌, ℕ, zero, suc, true, List, [], ◌∷◌, ◌++◌, Option, Some, None, slice_get, refl, sym, subst, inl, inr}
+use Rattle.std.proofs.Common.{◌≡◌, ◌⊎◌, ℕ, zero, suc, true, List, [], ◌∷◌, ◌++◌, Option, Some, None, slice_get, sym, subst, inl, inr}
 use Rattle.std.proofs.lemmas.Bool.{and_parts, eqb-true}
 use Rattle.bril_tree.specs.declared.types.Base.{Base}
-use Rattle.bril_tree.specs.declared.types.Base.TheVariants as base
 use Rattle.bril_tree.specs.declared.types.Ty.{Ty}
 use Rattle.bril_tree.specs.declared.value.Value.{Value}
 use Rattle.bril_tree.specs.declared.value.Value.TheVariants.{Int, Bool as Boolean, Char, Ptr}
 use Rattle.bril_tree.specs.Run.{Suits}
-use Rattle.bril_tree.specs.Typing.{same_base, same_type, both_typed, is_plain, if_typed}
+use Rattle.bril_tree.specs.Typing.{same_type, both_typed, is_plain, if_typed}
 use Rattle.bril_tree.specs.Value.{IsInRange, IsOfBase, IsOfDepth}
+use Rattle.bril_tree.proofs.Typings.{same_base-is}
 
 -- the type of a block's cells
 pub record Cell : Type 0 where
@@ -55,24 +55,13 @@ HasType-suits heap ty v h = of_depth heap ty.depth ty.base v h
 
 -- ---- the same type
 
-pub same_base-true : (a b : Base) → same_base a b ≡ true → a ≡ b
-same_base-true base.Int base.Int e = refl
-same_base-true base.Bool base.Bool e = refl
-same_base-true base.Char base.Char e = refl
-same_base-true base.Int base.Bool e = absurd (cc)
-same_base-true base.Int base.Char e = absurd (cc)
-same_base-true base.Bool base.Int e = absurd (cc)
-same_base-true base.Bool base.Char e = absurd (cc)
-same_base-true base.Char base.Int e = absurd (cc)
-same_base-true base.Char base.Bool e = absurd (cc)
-
 pub IsTyped-same : (heap : List Cell) (d e : ℕ) (a b : Base) (v : Value) → d ≡ e → a ≡ b → IsTyped heap d a v → IsTyped heap e b v
 IsTyped-same heap d e a b v p q h = subst (λ c. IsTyped heap e c v) q (subst (λ n. IsTyped heap n a v) p h)
 
 same_type-parts : (s t : Ty) → same_type s t ≡ true → (s.depth ≡ t.depth) × (s.base ≡ t.base)
 same_type-parts s t e =
     let both = and_parts _ _ e in
-    (eqb-true s.depth t.depth both.0, same_base-true s.base t.base both.1)
+    (eqb-true s.depth t.depth both.0, same_base-is s.base t.base both.1)
 
 pub HasType-same_type : (heap : List Cell) (s t : Ty) (v : Value) → same_type s t ≡ true → HasType heap (Some s) v → HasType heap (Some t) v
 HasType-same_type heap s t v e h = let both = same_type-parts s t e in IsTyped-same heap s.depth t.depth s.base t.base v both.0 both.1 h
@@ -91,7 +80,7 @@ pub HasType-plain : (heap : List Cell) (b : Base) (ty : Option Ty) (v : Value) �
 HasType-plain heap b None v e r o = tt
 HasType-plain heap b (Some ty) v e r o =
     let both = and_parts _ _ e in
-    IsTyped-same heap 0 ty.depth b ty.base v (sym (eqb-true ty.depth 0 both.0)) (same_base-true b ty.base both.1) (r, o)
+    IsTyped-same heap 0 ty.depth b ty.base v (sym (eqb-true ty.depth 0 both.0)) (same_base-is b ty.base both.1) (r, o)
 
 -- ---- more blocks
 

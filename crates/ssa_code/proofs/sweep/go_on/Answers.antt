@@ -2,18 +2,19 @@ use Rattle.std.proofs.Common.{◌≡◌, ◌+◌, ◌<◌, ℕ, length, Option, 
 use Rattle.std.specs.Prelude.{slice_get}
 use Rattle.bril_tree.specs.declared.numbered.Instr.{Instr}
 use Rattle.bril_tree.specs.Operand.{Location}
+use Rattle.bril_tree.proofs.Elements.{get_at}
 use Rattle.ssa_sweep.specs.Gets.{AreGetsOf}
 use Rattle.ssa_sweep.specs.Tells.{IsItemWithin, TellsNow}
 use Rattle.ssa_tables.specs.Tables.{else_passed}
 use Rattle.ssa_tables.specs.Told.{passed_by}
-use Rattle.ssa_code.proofs.Pushing.{instr-at, within-at}
+use Rattle.ssa_code.proofs.Pushing.{within-at}
 use Rattle.ssa_code.proofs.sweep.go_on.Goals as goal
 
 pub pass-requires : goal.pass-requires
 pass-requires c =
     let F = c.args.func.now in
     let at : slice_get F.code c.args.point ≡ Some c.index-code-point.result =
-    instr-at c.as_slice-code.result.now F.code c.as_slice-code.ensures c.args.point c.index-code-point.result (subst (λ l. c.args.point < length l) (sym c.as_slice-code.ensures) c.requires.point) c.index-code-point.is in
+    get_at c.as_slice-code.result.now F.code c.as_slice-code.ensures c.args.point c.index-code-point.result (subst (λ l. c.args.point < length l) (sym c.as_slice-code.ensures) c.requires.point) c.index-code-point.is in
     record { within = subst (λ n. IsItemWithin n c.index-code-point.result) (sym c.requires.wide) (within-at F c.requires.shaped c.args.point c.index-code-point.result at) }
 
 pub returns : goal.returns
@@ -21,7 +22,7 @@ returns c known got are tells =
     let F = c.args.func.now in
     let item = c.index-code-point.result in
     let at : slice_get F.code c.args.point ≡ Some item =
-    instr-at c.as_slice-code.result.now F.code c.as_slice-code.ensures c.args.point item (subst (λ l. c.args.point < length l) (sym c.as_slice-code.ensures) c.requires.point) c.index-code-point.is in
+    get_at c.as_slice-code.result.now F.code c.as_slice-code.ensures c.args.point item (subst (λ l. c.args.point < length l) (sym c.as_slice-code.ensures) c.requires.point) c.index-code-point.is in
     let known' : Location → Option ℕ = passed_by (Some item) (F.args + c.args.point) known in
     let behind = c.enter.ensures.tells known' got (subst (AreGetsOf got) (sym c.row-gets.ensures) are) (c.pass.ensures known tells) in
     subst (λ (o : Option Instr). TellsNow (λ a. else_passed (got a) (passed_by o (F.args + c.args.point) known a)) c.enter.new.definitions) (sym at) behind

@@ -1,15 +1,15 @@
 use Rattle.std.proofs.Common.{◌≡◌, ◌+◌, ◌<◌, ℕ, List, map, length, Some, sym, ap, subst, ◌∙◌}
 use Rattle.std.specs.Prelude.{slice_get}
+use Rattle.bril_tree.proofs.Elements.{get_at}
 use Rattle.ssa_code.specs.Items.{laid_item, name_in, read_name}
 use Rattle.ssa_code.specs.Sweep.{item_args, reached_at}
-use Rattle.ssa_code.proofs.Pushing.{instr-at}
 use Rattle.ssa_code.proofs.sweep.item_at.Goals as goal
 
 pub returns : goal.returns
 returns c starts list rows =
     let F = c.args.func.now in
     let at : slice_get F.code c.args.point ≡ Some c.index-as_slice-point.result =
-    instr-at c.as_slice.result.now F.code c.as_slice.ensures c.args.point c.index-as_slice-point.result (subst (λ l. c.args.point < length l) (sym c.as_slice.ensures) c.requires.point) c.index-as_slice-point.is in
+    get_at c.as_slice.result.now F.code c.as_slice.ensures c.args.point c.index-as_slice-point.result (subst (λ l. c.args.point < length l) (sym c.as_slice.ensures) c.requires.point) c.index-as_slice-point.is in
     let args : c.args_of-args.result.now ≡ item_args (slice_get F.code c.args.point) = c.args_of-args.ensures ∙ ap item_args (sym at) in
     let names = c.args.names.now in
     let find = c.args.find.now in

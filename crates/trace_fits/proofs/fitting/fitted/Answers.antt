@@ -1,6 +1,7 @@
 use Rattle.std.proofs.Common.{◌<◌, List, Bool, Option, Some, sym, subst}
 use Rattle.std.specs.List.{Contains}
 use Rattle.std.proofs.lemmas.List.{length-map}
+use Rattle.std.proofs.lemmas.Result.{IfOk-weaker}
 use Rattle.bril_names.specs.Numbering.{Finds}
 use Rattle.bril_tree.specs.declared.numbered_function.Func.{Func}
 use Rattle.bril_tree.specs.Numbered.{names_of_functions}
@@ -8,7 +9,7 @@ use Rattle.bril_tree.specs.Step.{point_of}
 use Rattle.trace_fits.specs.declared.fitting.Fitting.{Fitting}
 use Rattle.trace_fits.specs.Fitting.{IsFoundAt}
 use Rattle.trace_fits.proofs.Entries.{found-there, no-label}
-use Rattle.trace_fits.proofs.Surveying.{if-ok, read-there, shaped-there, survey-read}
+use Rattle.trace_fits.proofs.Surveying.{read-there, shaped-there, survey-read}
 use Rattle.trace_fits.proofs.fitting.fitted.Goals as goal
 
 pub returns-in_default-label_named-clause-found : goal.returns-in_default-label_named-clause-found
@@ -53,7 +54,7 @@ returns-clause-found c =
     let survey = survey-read P c.surveyed.new.surveys.items c.in_ok-place.place f F c.index.result.now c.in_ok-place.ensures.surveys c.in_ok-place.ensures.within c.in_ok-place.ensures.is c.index.ensures there in
     let l = c.in-Some-label_named.label in
     let label : Finds F.labels e.label (Some l) = subst (λ ls. Finds ls e.label (Some l)) c.as_slice.ensures c.in-Some-label_named.ensures in
-    if-ok c.fitting_at.result
+    IfOk-weaker c.fitting_at.result _ _
     (λ (o : Option Fitting) h. found-there P e c.args.found.now f F there names.0 names.1 l label.0 label.1 o
     (subst (λ (cs : List Bool). IsFoundAt F.code f (point_of l F.code) cs c.args.found.now o) c.as_slice-choices.ensures
     (subst (λ n. IsFoundAt F.code n (point_of l F.code) c.as_slice-choices.result.now c.args.found.now o) survey.0 h)))

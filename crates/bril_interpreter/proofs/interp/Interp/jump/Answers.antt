@@ -1,4 +1,4 @@
-use Rattle.bril_interpreter.proofs.Known.{point_inside}
+use Rattle.bril_tree.proofs.Branches.{label_within}
 use Rattle.bril_interpreter.proofs.interp.Interp.jump.Goals as goal
 
 pub invariant_of-self : goal.invariant_of-self
@@ -10,7 +10,7 @@ invariant_of-self c =
         locations = kept.frame.locations;
         saves = kept.frame.saves;
         few_items = kept.frame.few_items;
-        point = rw (c.label_point-point.ensures, ← c.self.view_is) (point_inside _ _);
+        point = rw (c.label_point-point.ensures, ← c.self.view_is) (label_within _ _);
       };
       callers = kept.callers;
       functions = kept.functions;

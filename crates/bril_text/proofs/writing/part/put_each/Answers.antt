@@ -1,4 +1,5 @@
-use Rattle.bril_text.proofs.WritingLists.{items_written, items_valid, all_valid}
+use Rattle.bril_tree.proofs.Elements.{All-one_more, All-whole}
+use Rattle.bril_text.proofs.WritingLists.{items_written}
 use Rattle.bril_text.proofs.writing.part.put_each.Goals as goal
 
 pub loop-part-preserved : goal.loop-part-preserved
@@ -6,8 +7,8 @@ loop-part-preserved g c =
     let at = c.loop-part.part-index in
     record {
       text = items_written g.T.Part.canonical c.args.parts.now at c.part-item.result c.args.into.now c.loop-part.into c.put.new.into c.loop-part-test.true c.part-item.is c.loop-part.invariant.text c.in_ok-put.ensures.text;
-      valid = items_valid g.T.Part.is_part c.args.parts.now at c.part-item.result c.loop-part-test.true c.part-item.is c.loop-part.invariant.valid c.in_ok-put.ensures.valid;
+      valid = All-one_more g.T.Part.is_part c.args.parts.now at c.part-item.result c.loop-part-test.true c.part-item.is c.loop-part.invariant.valid c.in_ok-put.ensures.valid;
     }
 
 pub returns-clause-valid : goal.returns-clause-valid
-returns-clause-valid g c = all_valid g.T.Part.is_part c.args.parts.now c.loop-part.part-index c.loop-part-test.false c.loop-part.invariant.valid
+returns-clause-valid g c = All-whole g.T.Part.is_part c.args.parts.now c.loop-part.part-index c.loop-part-test.false c.loop-part.invariant.valid

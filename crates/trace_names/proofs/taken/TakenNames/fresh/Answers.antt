@@ -1,8 +1,9 @@
 use Rattle.std.proofs.Common.{◌≡◌, ◌∷◌, ◌∙◌, ap, sym, subst, true, List, ℕ}
 use Rattle.std.specs.List.{Contains}
 use Rattle.std.proofs.lemmas.Bool.{true≢false}
+use Rattle.std.proofs.lemmas.Result.{IfOk-weaker}
 use Rattle.bril_tree.specs.Identifier.{is_identifier}
-use Rattle.trace_names.proofs.Marks.{if-ok, one-more, marked-fresh, marked-identifier}
+use Rattle.trace_names.proofs.Marks.{one-more, marked-fresh, marked-identifier}
 use Rattle.trace_names.proofs.taken.TakenNames.fresh.Goals as goal
 
 pub marks-preserved : goal.marks-preserved
@@ -17,4 +18,4 @@ name_of-requires c =
 pub returns : goal.returns
 returns c =
     let none : ¬ Contains c.args.self.now c.marks.bytes.items = λ among. true≢false (sym (c.has.ensures.1 (subst (Contains c.args.self.now) (sym c.as_slice.ensures.value) among)) ∙ c.marks-test.false) in
-    if-ok c.name_of.result (λ name e. marked-fresh c.args.self.now c.args.base.items c.marks.bytes.items name c.marks.invariant none (e ∙ c.as_slice-2.ensures.value)) c.name_of.ensures
+    IfOk-weaker c.name_of.result _ _ (λ name e. marked-fresh c.args.self.now c.args.base.items c.marks.bytes.items name c.marks.invariant none (e ∙ c.as_slice-2.ensures.value)) c.name_of.ensures
