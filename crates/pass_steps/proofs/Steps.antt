@@ -22,7 +22,7 @@ use Rattle.bril_tree.specs.Accepted.{IsAccepted}
 use Rattle.bril_tree.specs.Assigned.{assigns_of, assigns_at}
 use Rattle.bril_tree.specs.Edge.{Branch, branches_at, branches_from, item_branches, onward, jump, abort}
 use Rattle.bril_tree.specs.FunctionForm.{listed}
-use Rattle.bril_tree.specs.Memory.{is_live_any, cell_at, held, live_block, is_freeable, changed_block, allocation_fault, new_block, cells_of}
+use Rattle.bril_tree.specs.Memory.{is_live_any, cell_at, held, live_block, is_freeable, changed_block, allocation_fault, new_block, cells_of, ended_block}
 use Rattle.bril_tree.specs.Operand.{Location, Variable, dest_of}
 use Rattle.bril_tree.specs.Outcome.{Outcome, Yields, FaultsWith, HasEffect, action_outcome, argument, block_of, offset_of, int_of, bool_of}
 use Rattle.bril_tree.specs.Run.{types_of, first_state}
@@ -255,7 +255,7 @@ module _ (m : Plan) (P Q : Prog) (limits : Limits) (accepted : IsAccepted P) (pr
             let e0 = first op.Free r r.act.reads 0 (parts op.Free r r.shaped.shaped).args_are in
             subst (λ w. R (frees P limits v F fs S) (frees Q limits w G gs T)) e0
             (cond-alike (is_freeable (live_block blocks (block_of v)) (offset_of v)) _ _ _ _
-            (onwards op.Free r (λ c n. refl) (λ c n. refl) (λ b. refl) refl refl (none_in op.Free r refl r.shaped.shaped) (changed_block blocks (block_of v) (λ b. record b { is_live = false })) printed)
+            (onwards op.Free r (λ c n. refl) (λ c n. refl) (λ b. refl) refl refl (none_in op.Free r refl r.shaped.shaped) (changed_block blocks (block_of v) (λ b. ended_block)) printed)
             (faults fault.BadFree))
 
         stored : (o : Option ℕ) (v w : Value) → Row op.Store → R (stores P limits o v w F fs S) (stores Q limits o v w G gs T)

@@ -11,10 +11,10 @@ use Rattle.rv64_blocks.proofs.Storing.{store_keeps}
 
 pub accesses : AccessesAreAlike
 accesses z blocks c block offset h le none n is =
-    let out : ltb n (c.table (2 * block + 1)) ≡ false = sym (ap (λ i. is_inside i (c.table (2 * block + 1))) is) ∙ cell_missing z blocks c.table c.cells c.blocks c.given h block offset le none in
+    let out : ltb n (c.table (2 * block + 1)) ≡ false = sym (ap (λ i. is_inside i (c.table (2 * block + 1))) is) ∙ cell_missing z blocks c.table c.cells c.blocks c.next_free h block offset le none in
     grind (arith, nat_tests)
 
-module _ (z : Sizes) (blocks : List Block) (c : Core) (h : CoreHolds z blocks c) (block n : ℕ) (offset : ℤ) (f : CellFound z blocks c.table c.cells c.blocks c.given h block n offset) where
+module _ (z : Sizes) (blocks : List Block) (c : Core) (h : CoreHolds z blocks c) (block n : ℕ) (offset : ℤ) (f : CellFound z blocks c.table c.cells c.blocks c.next_free h block n offset) where
   finds : FindsCell z c block n (h.first block + n)
   finds =
       let size = f.size in
@@ -26,15 +26,15 @@ module _ (z : Sizes) (blocks : List Block) (c : Core) (h : CoreHolds z blocks c)
 
 pub loads : LoadsAreAlike
 loads z blocks c block n offset h le there =
-    let f = cell_found z blocks c.table c.cells c.blocks c.given h block n offset le there in (
+    let f = cell_found z blocks c.table c.cells c.blocks c.next_free h block n offset le there in (
       h.first block + n,
       f.offset_is,
       finds z blocks c h block n offset f,
-      λ v e. value_found z blocks c.table c.cells c.blocks c.given h block n offset v f e,
-      λ e. fresh_found z blocks c.table c.cells c.blocks c.given h block n offset f e,
+      λ v e. value_found z blocks c.table c.cells c.blocks c.next_free h block n offset v f e,
+      λ e. fresh_found z blocks c.table c.cells c.blocks c.next_free h block n offset f e,
     )
 
 pub stores : StoresAreAlike
 stores z blocks c block n w offset v h le there word =
-    let f = cell_found z blocks c.table c.cells c.blocks c.given h block n offset le there in
-    (h.first block + n, finds z blocks c h block n offset f, store_keeps z blocks c.table c.cells c.blocks c.given h block n w offset v f word)
+    let f = cell_found z blocks c.table c.cells c.blocks c.next_free h block n offset le there in
+    (h.first block + n, finds z blocks c h block n offset f, store_keeps z blocks c.table c.cells c.blocks c.next_free h block n w offset v f word)

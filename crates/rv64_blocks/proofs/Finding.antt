@@ -37,7 +37,7 @@ pub live_is : (blocks : List Block) (block : ℕ) (b : Block) → live_block blo
 live_is blocks zero b e = absurd (let f : None ≡ Some b = e in cc)
 live_is blocks (suc k) b e = live_here blocks k (slice_get blocks k) b refl e
 
-module _ (z : Sizes) (blocks : List Block) (table cells : ℕ → ℕ) (made given : ℕ) (h : MemoryHolds z blocks table cells made given) where
+module _ (z : Sizes) (blocks : List Block) (table cells : ℕ → ℕ) (made next_free : ℕ) (h : MemoryHolds z blocks table cells made next_free) where
   -- the block table has the size of each block that was made, 0 for one that isn't live
   pub size_found : (block : ℕ) → block ≤ length blocks → table (2 * block + 1) ≡ live_size (live_block blocks block)
   size_found zero le = h.zero_block
@@ -54,16 +54,16 @@ module _ (z : Sizes) (blocks : List Block) (table cells : ℕ → ℕ) (made giv
   pub size_none : (block : ℕ) → length blocks < block → table (2 * block + 1) ≡ 0
   size_none block lt = h.none block lt
 
-  -- a size is no larger than what was given out
-  pub size_few : (block : ℕ) → block ≤ length blocks → table (2 * block + 1) ≤ given
+  -- a size is no larger than the number of the next free cell
+  pub size_few : (block : ℕ) → block ≤ length blocks → table (2 * block + 1) ≤ next_free
   size_few block le = by (live_block blocks block) refl
     where
-      by : (o : Option Block) → live_block blocks block ≡ o → table (2 * block + 1) ≤ given
+      by : (o : Option Block) → live_block blocks block ≡ o → table (2 * block + 1) ≤ next_free
       by None e = let s : table (2 * block + 1) ≡ 0 = size_found block le ∙ ap live_size e in omega arith
       by (Some b) e =
           let s : table (2 * block + 1) ≡ b.size = size_found block le ∙ ap live_size e in
           let l = live_is blocks block b e in
-          let in_given = (h.lies l.place b l.here l.live).inside in
+          let inside = (h.lies l.place b l.here l.live).inside in
           omega arith
 
   -- ---- cells
@@ -76,7 +76,7 @@ module _ (z : Sizes) (blocks : List Block) (table cells : ℕ → ℕ) (made giv
     pub below : n < owner.size
     pub size : table (2 * block + 1) ≡ owner.size
     pub address : table (2 * block) ≡ cells_base + 16 * h.first block
-    pub inside : h.first block + n < given
+    pub inside : h.first block + n < next_free
 
   pub cell_found : (block n : ℕ) (offset : ℤ) → block ≤ length blocks → cell_inside (live_block blocks block) offset ≡ Some n → CellFound block n offset
   cell_found block n offset le e = by_block (live_block blocks block) refl offset refl e

@@ -4,18 +4,18 @@ use Rattle.std.specs.Prelude.{FitsSigned}
 use Rattle.std.specs.Int.{w32, cast_unsigned}
 use Rattle.std.proofs.lemmas.Bool.Decides.{nat_tests}
 use Rattle.std.proofs.lemmas.Option.{slice_get_within}
-use Rattle.bril_tree.specs.Memory.{live_block, changed, changed_block, is_freeable}
+use Rattle.bril_tree.specs.Memory.{live_block, changed, changed_block, ended_block, is_freeable}
 use Rattle.bril_tree.specs.State.{Block}
 use Rattle.rv64_words.specs.Region.{Sizes}
 use Rattle.rv64_words.specs.State.{assigned}
 use Rattle.rv64_stretches.specs.Core.{Core, without_block}
 use Rattle.rv64_stretches.proofs.Calls.{frees_block}
-use Rattle.rv64_stretches.proofs.Cores.{assigned_here, assigned_other}
+use Rattle.rv64_words.proofs.Assigned.{assigned_here, assigned_other}
 use Rattle.rv64_values.proofs.Pointers.{block_part}
 use Rattle.rv64_blocks.specs.Memory.{BlockHolds, LiesIn, MemoryHolds}
 use Rattle.rv64_blocks.specs.Laws.{CoreHolds}
 use Rattle.rv64_blocks.proofs.Finding.{live_is, live_size, size_found}
-use Rattle.rv64_blocks.proofs.Lists.{IsChanged, IsOther, changed_length, changed_at, changed_given}
+use Rattle.rv64_blocks.proofs.Lists.{IsChanged, IsOther, changed_length, changed_at}
 
 -- ---- the test
 
@@ -31,7 +31,7 @@ pub frees_alike : (z : Sizes) (blocks : List Block) (c : Core) → CoreHolds z b
 frees_alike z blocks c h block offset le fits =
     ap (λ x. free_test ((block * 2 ^ 32 + cast_unsigned w32 offset) % 2 ^ 32) x (c.table (2 * x + 1))) (block_part block offset fits)
     ∙ (ap (λ x. free_test x block (c.table (2 * block + 1))) (offset_low block offset fits)
-    ∙ (ap (free_test (cast_unsigned w32 offset) block) (size_found z blocks c.table c.cells c.blocks c.given h block le)
+    ∙ (ap (free_test (cast_unsigned w32 offset) block) (size_found z blocks c.table c.cells c.blocks c.next_free h block le)
     ∙ by (live_block blocks block) offset refl fits))
   where
     low : ltb block 262145 ≡ true
@@ -65,9 +65,9 @@ frees_alike z blocks c h block offset le fits =
 -- ---- the blocks with one freed
 
 abbrev pub dead : Block → Block
-dead b = record b { is_live = false }
+dead b = ended_block
 
-module _ (z : Sizes) (blocks : List Block) (table cells : ℕ → ℕ) (made given k : ℕ) (here : k < length blocks) (h : MemoryHolds z blocks table cells made given) where
+module _ (z : Sizes) (blocks : List Block) (table cells : ℕ → ℕ) (made next_free k : ℕ) (here : k < length blocks) (h : MemoryHolds z blocks table cells made next_free) where
   table_other : (i : ℕ) → i ≢ 2 * suc k + 1 → assigned table (2 * suc k + 1) 0 i ≡ table i
   table_other i ne = assigned_other table (2 * suc k + 1) 0 i ne
 
@@ -96,7 +96,7 @@ module _ (z : Sizes) (blocks : List Block) (table cells : ℕ → ℕ) (made giv
         fresh = old.fresh;
       }
 
-  lies_now : (j : ℕ) (b : Block) → IsChanged dead blocks k j b ⊎ IsOther dead blocks k j b → b.is_live ≡ true → LiesIn given (h.first (suc j)) b
+  lies_now : (j : ℕ) (b : Block) → IsChanged dead blocks k j b ⊎ IsOther dead blocks k j b → b.is_live ≡ true → LiesIn next_free (h.first (suc j)) b
   lies_now j b (inl e) live = not_live e.old _ (ap (λ x. x.is_live) e.is ∙ live)
   lies_now j b (inr e) live = h.lies j b e.here live
 
@@ -106,14 +106,13 @@ module _ (z : Sizes) (blocks : List Block) (table cells : ℕ → ℕ) (made giv
   apart_now i j a b (inr e) (inl f) live alive ne = not_live f.old _ (ap (λ x. x.is_live) f.is ∙ alive)
   apart_now i j a b (inr e) (inr f) live alive ne = h.apart i j a b e.here f.here live alive ne
 
-  pub one_less : MemoryHolds z (changed blocks k dead) (assigned table (2 * suc k + 1) 0) cells made given
+  pub one_less : MemoryHolds z (changed blocks k dead) (assigned table (2 * suc k + 1) 0) cells made next_free
   one_less =
       let long : length (changed blocks k dead) ≡ length blocks = changed_length dead blocks k in
       record {
         first = h.first;
         count = h.count ∙ sym long;
         few = subst (λ n. n ≤ 262144) (sym long) h.few;
-        sum = h.sum ∙ sym (changed_given dead (λ b. refl) blocks k);
         room = h.room;
         each = λ j b e. subst (λ n. BlockHolds n (suc j) (h.first (suc j)) b (assigned table (2 * suc k + 1) 0) cells) (sym long) (each_now j b (changed_at dead blocks k j b e));
         lies = λ j b e live. lies_now j b (changed_at dead blocks k j b e) live;
@@ -133,4 +132,4 @@ free_keeps z blocks c h block offset e =
     let live = freeable_live (live_block blocks block) offset e in
     let l = live_is blocks block live.0 live.1 in
     subst (λ x. CoreHolds z (changed_block blocks x dead) (without_block x c)) (sym l.number)
-    (one_less z blocks c.table c.cells c.blocks c.given l.place (slice_get_within blocks l.place live.0 l.here) h)
+    (one_less z blocks c.table c.cells c.blocks c.next_free l.place (slice_get_within blocks l.place live.0 l.here) h)

@@ -1,9 +1,8 @@
 -- Lists of blocks with one more, and with one changed.
-use Rattle.std.proofs.Common.{◌≡◌, ◌≢◌, ℕ, zero, suc, ◌+◌, ◌⊎◌, inl, inr, refl, sym, ap, ◌∙◌, arith, List, [], ◌∷◌, ◌++◌, length, Some, None}
+use Rattle.std.proofs.Common.{◌≡◌, ◌≢◌, ℕ, zero, suc, ◌+◌, ◌⊎◌, inl, inr, refl, ap, arith, List, [], ◌∷◌, ◌++◌, length, Some, None}
 use Rattle.std.specs.Prelude.{slice_get}
-use Rattle.std.proofs.lemmas.List.Sums.{sum_by-append, sum_by-cons}
 use Rattle.std.proofs.lemmas.Option.{same_Some}
-use Rattle.bril_tree.specs.Memory.{changed, cells_given}
+use Rattle.bril_tree.specs.Memory.{changed}
 use Rattle.bril_tree.specs.State.{Block}
 
 -- ---- one block more
@@ -21,9 +20,6 @@ pushed (z ∷ xs) x (suc k) y e = by (pushed xs x k y e)
 pub pushed_length : (xs : List Block) (x : Block) → length (xs ++ x ∷ []) ≡ suc (length xs)
 pushed_length [] x = refl
 pushed_length (y ∷ xs) x = ap suc (pushed_length xs x)
-
-pub pushed_given : (xs : List Block) (x : Block) → cells_given (xs ++ x ∷ []) ≡ cells_given xs + x.size
-pushed_given xs x = let one : 0 + x.size ≡ x.size = omega arith in sum_by-append (λ b. b.size) xs (x ∷ []) ∙ ap (λ n. cells_given xs + n) one
 
 -- ---- one block changed
 
@@ -54,8 +50,3 @@ module _ (change : Block → Block) where
       by : IsChanged xs k j y ⊎ IsOther xs k j y → IsChanged (x ∷ xs) (suc k) (suc j) y ⊎ IsOther (x ∷ xs) (suc k) (suc j) y
       by (inl h) = inl (record { place = ap suc h.place; old = h.old; here = h.here; is = h.is })
       by (inr h) = inr (record { place = λ p. h.place (omega arith); here = h.here })
-
-  pub changed_given : ((b : Block) → (change b).size ≡ b.size) → (xs : List Block) (k : ℕ) → cells_given (changed xs k change) ≡ cells_given xs
-  changed_given same [] k = refl
-  changed_given same (x ∷ xs) zero = sum_by-cons (λ b. b.size) (change x) xs ∙ (ap (λ n. n + cells_given xs) (same x) ∙ sym (sum_by-cons (λ b. b.size) x xs))
-  changed_given same (x ∷ xs) (suc k) = sum_by-cons (λ b. b.size) x (changed xs k change) ∙ (ap (λ n. x.size + n) (changed_given same xs k) ∙ sym (sum_by-cons (λ b. b.size) x xs))

@@ -9,10 +9,10 @@ use Rattle.bril_tree.specs.Memory.{changed, changed_block}
 use Rattle.bril_tree.specs.State.{Block, with_value}
 use Rattle.rv64_words.specs.Region.{Sizes}
 use Rattle.rv64_words.specs.State.{assigned}
-use Rattle.rv64_stretches.proofs.Cores.{assigned_here, assigned_other}
+use Rattle.rv64_words.proofs.Assigned.{assigned_here, assigned_other}
 use Rattle.rv64_blocks.specs.Memory.{HasWord, BlockHolds, LiesIn, MemoryHolds}
 use Rattle.rv64_blocks.proofs.Finding.{CellFound}
-use Rattle.rv64_blocks.proofs.Lists.{IsChanged, IsOther, changed_length, changed_at, changed_given}
+use Rattle.rv64_blocks.proofs.Lists.{IsChanged, IsOther, changed_length, changed_at}
 
 abbrev pub holding : ℕ → Value → Block → Block
 holding n v b = record b { cells = with_value b.cells n v }
@@ -39,7 +39,7 @@ value_other cells at w i ne =
     let two : 2 * i + 1 ≢ 2 * at = (λ x. absurd (omega arith)) in
     assigned_other (assigned cells (2 * at) 1) (2 * at + 1) w (2 * i + 1) one ∙ assigned_other cells (2 * at) 1 (2 * i + 1) two
 
-module _ (z : Sizes) (blocks : List Block) (table cells : ℕ → ℕ) (made given k n w : ℕ) (v : Value) (h : MemoryHolds z blocks table cells made given) (owner : Block) (here : slice_get blocks k ≡ Some owner) (live : owner.is_live ≡ true) (below : n < owner.size) (word : HasWord (length blocks) v w) where
+module _ (z : Sizes) (blocks : List Block) (table cells : ℕ → ℕ) (made next_free k n w : ℕ) (v : Value) (h : MemoryHolds z blocks table cells made next_free) (owner : Block) (here : slice_get blocks k ≡ Some owner) (live : owner.is_live ≡ true) (below : n < owner.size) (word : HasWord (length blocks) v w) where
   -- the block with the cell
   owner_now : BlockHolds (length blocks) (suc k) (h.first (suc k)) (holding n v owner) table (stored_cells cells (h.first (suc k) + n) w)
   owner_now =
@@ -98,11 +98,11 @@ module _ (z : Sizes) (blocks : List Block) (table cells : ℕ → ℕ) (made giv
           by (inl x) = λ same. absurd (omega arith)
           by (inr x) = λ same. absurd (omega arith)
 
-  lies_now : (j : ℕ) (b : Block) → IsChanged (holding n v) blocks k j b ⊎ IsOther (holding n v) blocks k j b → b.is_live ≡ true → LiesIn given (h.first (suc j)) b
+  lies_now : (j : ℕ) (b : Block) → IsChanged (holding n v) blocks k j b ⊎ IsOther (holding n v) blocks k j b → b.is_live ≡ true → LiesIn next_free (h.first (suc j)) b
   lies_now j b (inl e) l =
       let old = h.lies k e.old e.here (ap (λ x. x.is_live) e.is ∙ l) in
       let size : e.old.size ≡ b.size = ap (λ x. x.size) e.is in
-      subst (λ x. LiesIn given (h.first (suc x)) b) (sym e.place) (record { some = subst (λ x. 1 ≤ x) size old.some; inside = subst (λ x. h.first (suc k) + x ≤ given) size old.inside })
+      subst (λ x. LiesIn next_free (h.first (suc x)) b) (sym e.place) (record { some = subst (λ x. 1 ≤ x) size old.some; inside = subst (λ x. h.first (suc k) + x ≤ next_free) size old.inside })
   lies_now j b (inr e) l = h.lies j b e.here l
 
   -- a block as it was
@@ -122,7 +122,7 @@ module _ (z : Sizes) (blocks : List Block) (table cells : ℕ → ℕ) (made giv
       (subst (λ s. (h.first (suc i) + x.before.size ≤ h.first (suc j)) ⊎ (h.first (suc j) + s ≤ h.first (suc i))) y.size
       (h.apart i j x.before y.before x.there y.there (x.alike ∙ l) (y.alike ∙ m) ne))
 
-  pub one_stored : MemoryHolds z (changed blocks k (holding n v)) table (stored_cells cells (h.first (suc k) + n) w) made given
+  pub one_stored : MemoryHolds z (changed blocks k (holding n v)) table (stored_cells cells (h.first (suc k) + n) w) made next_free
   one_stored =
       let long : length (changed blocks k (holding n v)) ≡ length blocks = changed_length (holding n v) blocks k in
       let place = (h.lies k owner here live).inside in
@@ -130,7 +130,6 @@ module _ (z : Sizes) (blocks : List Block) (table cells : ℕ → ℕ) (made giv
         first = h.first;
         count = h.count ∙ sym long;
         few = subst (λ x. x ≤ 262144) (sym long) h.few;
-        sum = h.sum ∙ sym (changed_given (holding n v) (λ b. refl) blocks k);
         room = h.room;
         each = λ j b e. subst (λ x. BlockHolds x (suc j) (h.first (suc j)) b table (stored_cells cells (h.first (suc k) + n) w)) (sym long) (each_now j b (changed_at (holding n v) blocks k j b e));
         lies = λ j b e l. lies_now j b (changed_at (holding n v) blocks k j b e) l;
@@ -141,9 +140,9 @@ module _ (z : Sizes) (blocks : List Block) (table cells : ℕ → ℕ) (made giv
       }
 
 -- the machine holds the blocks with that cell stored
-pub store_keeps : (z : Sizes) (blocks : List Block) (table cells : ℕ → ℕ) (made given : ℕ) (h : MemoryHolds z blocks table cells made given) (block n w : ℕ) (offset : ℤ) (v : Value) → CellFound z blocks table cells made given h block n offset → HasWord (length blocks) v w
-    → MemoryHolds z (changed_block blocks block (holding n v)) table (stored_cells cells (h.first block + n) w) made given
-store_keeps z blocks table cells made given h block n w offset v f word =
+pub store_keeps : (z : Sizes) (blocks : List Block) (table cells : ℕ → ℕ) (made next_free : ℕ) (h : MemoryHolds z blocks table cells made next_free) (block n w : ℕ) (offset : ℤ) (v : Value) → CellFound z blocks table cells made next_free h block n offset → HasWord (length blocks) v w
+    → MemoryHolds z (changed_block blocks block (holding n v)) table (stored_cells cells (h.first block + n) w) made next_free
+store_keeps z blocks table cells made next_free h block n w offset v f word =
     let l = f.is_live in
-    subst (λ x. MemoryHolds z (changed_block blocks x (holding n v)) table (stored_cells cells (h.first x + n) w) made given) (sym l.number)
-    (one_stored z blocks table cells made given l.place n w v h f.owner l.here l.live f.below word)
+    subst (λ x. MemoryHolds z (changed_block blocks x (holding n v)) table (stored_cells cells (h.first x + n) w) made next_free) (sym l.number)
+    (one_stored z blocks table cells made next_free l.place n w v h f.owner l.here l.live f.below word)

@@ -3,7 +3,7 @@ use Rattle.std.specs.Prelude.{◌≡◌, ℕ, ◌+◌, ◌*◌, ◌<◌, ◌≤�
 use Rattle.std.specs.Int.{w32, w64, cast_unsigned}
 use Rattle.bril_tree.specs.declared.value.Value.{Value}
 use Rattle.bril_tree.specs.declared.value.Value.TheVariants.{Ptr}
-use Rattle.bril_tree.specs.Memory.{live_block, cell_at, held, changed_block, allocation_fault, cells_of, new_block, is_freeable}
+use Rattle.bril_tree.specs.Memory.{live_block, cell_at, held, changed_block, allocation_fault, cells_of, new_block, ended_block, is_freeable}
 use Rattle.bril_tree.specs.State.{Block, with_value}
 use Rattle.bril_tree.specs.Value.{word_of}
 use Rattle.rv64_words.specs.Environment as rv64
@@ -13,19 +13,19 @@ use Rattle.rv64_blocks.specs.Memory.{HasWord, MemoryHolds}
 
 -- the machine's core holds the blocks
 abbrev pub CoreHolds : Sizes → List Block → Core → Type 0
-CoreHolds z blocks c = MemoryHolds z blocks c.table c.cells c.blocks c.given
+CoreHolds z blocks c = MemoryHolds z blocks c.table c.cells c.blocks c.next_free
 
 -- a new block, under the machine's limit of cells
 abbrev pub AllocationsAreAlike : Type 0
 AllocationsAreAlike = (z : Sizes) (limit : ℕ) (blocks : List Block) (c : Core) (n : ℤ) → z.cells ≡ 2 * limit → CoreHolds z blocks c → FitsSigned w64 n →
     (rv64.allocation_fault z (machine 0 c 0) (cast_unsigned w64 n) ≡ allocation_fault limit blocks n)
-    × (allocation_fault limit blocks n ≡ None → CoreHolds z (blocks ++ new_block (cells_of n) ∷ []) (with_block (cast_unsigned w64 n) c))
+    × (allocation_fault limit blocks n ≡ None → CoreHolds z (blocks ++ new_block (cells_of n) ∷ []) (with_block z (cast_unsigned w64 n) c))
 
 -- the free of a block by a pointer to one of those that were made
 abbrev pub FreesAreAlike : Type 0
 FreesAreAlike = (z : Sizes) (blocks : List Block) (c : Core) (block : ℕ) (offset : ℤ) → CoreHolds z blocks c → block ≤ length blocks → FitsSigned w32 offset →
     (rv64.is_freeable (machine 0 c 0) (word_of (Ptr block offset)) ≡ is_freeable (live_block blocks block) offset)
-    × (is_freeable (live_block blocks block) offset ≡ true → CoreHolds z (changed_block blocks block (λ b. record b { is_live = false })) (without_block block c))
+    × (is_freeable (live_block blocks block) offset ≡ true → CoreHolds z (changed_block blocks block (λ b. ended_block)) (without_block block c))
 
 -- The machine finds cell `at` of its memory for cell n of a block: by the block's entry in the table.
 pub record FindsCell (z : Sizes) (c : Core) (block n at : ℕ) : Type 0 where

@@ -1,7 +1,7 @@
 -- The blocks of a program in the machine's memory: the block table and the cells.
 use Rattle.std.specs.Prelude.{◌≡◌, ◌≢◌, ℕ, suc, ◌+◌, ◌*◌, ◌<◌, ◌≤◌, ◌⊎◌, true, if◌then◌else◌, List, length, Some, None, slice_get}
 use Rattle.bril_tree.specs.declared.value.Value.{Value}
-use Rattle.bril_tree.specs.Memory.{cells_given, most_blocks}
+use Rattle.bril_tree.specs.Memory.{most_blocks}
 use Rattle.bril_tree.specs.Outcome.{block_of}
 use Rattle.bril_tree.specs.State.{Block}
 use Rattle.bril_tree.specs.Value.{word_of}
@@ -20,23 +20,22 @@ pub record BlockHolds (made : ℕ) (number first : ℕ) (b : Block) (table cells
   pub stored : b.is_live ≡ true → (k : ℕ) (v : Value) → k < b.size → b.cells k ≡ Some v → (cells (2 * (first + k)) ≡ 1) × HasWord made v (cells (2 * (first + k) + 1))
   pub fresh : b.is_live ≡ true → (k : ℕ) → k < b.size → b.cells k ≡ None → cells (2 * (first + k)) ≡ 0
 
--- a live block has so many cells, one at least, and they lie among those that were given out
-pub record LiesIn (given first : ℕ) (b : Block) : Type 0 where
+-- a live block has so many cells, one at least, and they lie before the next free one
+pub record LiesIn (next_free first : ℕ) (b : Block) : Type 0 where
   pub some : 1 ≤ b.size
-  pub inside : first + b.size ≤ given
+  pub inside : first + b.size ≤ next_free
 
 -- The machine holds the blocks. Block k, from 1, has its first cell at `first k`. Live blocks have no cell in common, and no
--- cell beyond those that were given out was stored.
-pub record MemoryHolds (z : Sizes) (blocks : List Block) (table cells : ℕ → ℕ) (made given : ℕ) : Type 0 where
+-- cell from the next free one on was stored.
+pub record MemoryHolds (z : Sizes) (blocks : List Block) (table cells : ℕ → ℕ) (made next_free : ℕ) : Type 0 where
   pub first : ℕ → ℕ
   pub count : made ≡ length blocks
   pub few : length blocks ≤ most_blocks
-  pub sum : given ≡ cells_given blocks
-  pub room : 2 * given ≤ z.cells
+  pub room : 2 * next_free ≤ z.cells
   pub each : (k : ℕ) (b : Block) → slice_get blocks k ≡ Some b → BlockHolds (length blocks) (suc k) (first (suc k)) b table cells
-  pub lies : (k : ℕ) (b : Block) → slice_get blocks k ≡ Some b → b.is_live ≡ true → LiesIn given (first (suc k)) b
+  pub lies : (k : ℕ) (b : Block) → slice_get blocks k ≡ Some b → b.is_live ≡ true → LiesIn next_free (first (suc k)) b
   pub apart : (j k : ℕ) (a b : Block) → slice_get blocks j ≡ Some a → slice_get blocks k ≡ Some b → a.is_live ≡ true → b.is_live ≡ true → j ≢ k →
       (first (suc j) + a.size ≤ first (suc k)) ⊎ (first (suc k) + b.size ≤ first (suc j))
-  pub free : (k : ℕ) → given ≤ k → cells (2 * k) ≡ 0
+  pub free : (k : ℕ) → next_free ≤ k → cells (2 * k) ≡ 0
   pub none : (k : ℕ) → length blocks < k → table (2 * k + 1) ≡ 0
   pub zero_block : table 1 ≡ 0

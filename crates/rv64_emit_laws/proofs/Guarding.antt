@@ -213,7 +213,7 @@ module _ (S : Setting) (s : bril.State) (t : State) (r : RunsAlike S s t) (condi
         let last = arrived (here S s t r + front) e in
         let holds = kept_holds S (length s.blocks) f r.older e behind last (record { zero_register = refl; frame_register = refl; frames_left = refl; homes = λ q u. refl; stack = refl }) in
         arrive S s t r u f r.older last n stepped (ap (λ x. x ∷ r.older) frame_is) r.running (r.printed ∙ sym (restored.rest.printed ∙ keeps.printed)) holds
-        (memory_by S s.blocks r.core e (restored.rest.table ∙ keeps.table) (restored.rest.cells ∙ keeps.cells) (restored.rest.blocks ∙ keeps.blocks) (restored.rest.given ∙ keeps.given) r.memory)
+        (memory_by S s.blocks r.core e (restored.rest.table ∙ keeps.table) (restored.rest.cells ∙ keeps.cells) (restored.rest.blocks ∙ keeps.blocks) (restored.rest.next_free ∙ keeps.next_free) r.memory)
         (counts_held e (restored.rest.arrivals ∙ keeps.arrivals)) runs cheap
 
     -- the condition doesn't hold

@@ -81,7 +81,7 @@ module _ (S : Setting) (s : bril.State) (t : State) (r : RunsAlike S s t) (dear 
 
     held_moves : (o : Option Value) → held s.blocks (Ptr points.block points.offset) n ≡ o → Moves S s t
     held_moves None e =
-        let none = fresh_found (sizes S) s.blocks r.core.table r.core.cells r.core.blocks r.core.given r.memory points.block n points.offset a.cell e in
+        let none = fresh_found (sizes S) s.blocks r.core.table r.core.cells r.core.blocks r.core.next_free r.memory points.block n points.offset a.cell e in
         let q = loads_fresh S.image (sizes S) place a.core register at takes ready (ap (λ m. m (2 * at)) a.keeps.cells ∙ none) in
         let within = q.within in
         let few = a.few in
@@ -91,7 +91,7 @@ module _ (S : Setting) (s : bril.State) (t : State) (r : RunsAlike S s t) (dear 
         (ends_after S.image (sizes S) a.going.runs (omega arith) q.ends) (omega arith) (omega arith) (omega arith)
     held_moves (Some v) e =
         let to = home_here S s t r (Variable dest) in
-        let found = value_found (sizes S) s.blocks r.core.table r.core.cells r.core.blocks r.core.given r.memory points.block n points.offset v a.cell e in
+        let found = value_found (sizes S) s.blocks r.core.table r.core.cells r.core.blocks r.core.next_free r.memory points.block n points.offset v a.cell e in
         let q = loads_stored S.image (sizes S) place a.core register at takes ready (ap (λ m. m (2 * at)) a.keeps.cells ∙ found.0) in
         let within = q.within in
         let few = a.few in

@@ -44,7 +44,7 @@ but_on d c e f a b = record {
   table = b.table ∙ a.table;
   cells = b.cells ∙ a.cells;
   blocks = b.blocks ∙ a.blocks;
-  given = b.given ∙ a.given;
+  next_free = b.next_free ∙ a.next_free;
   printed = b.printed ∙ a.printed;
   arrivals = b.arrivals ∙ a.arrivals;
 }

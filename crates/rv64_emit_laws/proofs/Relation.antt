@@ -101,7 +101,7 @@ module _ (S : Setting) where
     pub done : ℕ
     pub state : t ≡ machine (entry_of S frame.function frame.point) core done
     pub holds : FramesHold S (length s.blocks) frame older core
-    pub memory : MemoryHolds (sizes S) s.blocks core.table core.cells core.blocks core.given
+    pub memory : MemoryHolds (sizes S) s.blocks core.table core.cells core.blocks core.next_free
     pub guards : GuardsHold S.image.guards s.failures core.arrivals
     pub printed : s.printed ≡ core.printed
 

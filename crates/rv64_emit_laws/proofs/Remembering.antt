@@ -121,4 +121,4 @@ module _ (S : Setting) (s : bril.State) (t : State) (r : RunsAlike S s t) where
       let three = fill_most home in
       let count : n + fill_size home ≡ suc (n + fill_size home - 1) = omega arith in
       arrive S s t r (fills S.p S.slots S.limits dest v r.frame r.older (record s { blocks = blocks })) f r.older last (n + fill_size home - 1) stepped refl r.running (r.printed ∙ (sym keeps.printed ∙ sym rest.printed)) holds
-      (memory_by S blocks e last rest.table rest.cells rest.blocks rest.given memory) (guards_by S s t r last (rest.arrivals ∙ keeps.arrivals)) (onto_next S s t r (landed (suc (n + fill_size home - 1)) (entry_of S r.frame.function (suc r.frame.point)) count there filled.2)) (omega arith)
+      (memory_by S blocks e last rest.table rest.cells rest.blocks rest.next_free memory) (guards_by S s t r last (rest.arrivals ∙ keeps.arrivals)) (onto_next S s t r (landed (suc (n + fill_size home - 1)) (entry_of S r.frame.function (suc r.frame.point)) count there filled.2)) (omega arith)

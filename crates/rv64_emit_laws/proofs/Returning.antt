@@ -185,7 +185,7 @@ module _ (S : Setting) (s : bril.State) (t : State) (r : RunsAlike S s t) (dear 
       null = keeps.zero_register ∙ r.holds.zero_is
 
       same_live : rv64.is_live_any e.table e.blocks ≡ is_live_any s.blocks
-      same_live = let m = memory_kept S s.blocks r.core e keeps r.memory in live_alike (sizes S) s.blocks e.table e.cells e.blocks e.given m
+      same_live = let m = memory_kept S s.blocks r.core e keeps r.memory in live_alike (sizes S) s.blocks e.table e.cells e.blocks e.next_free m
 
       none : 0 < 2 ^ 64
       none = omega arith
@@ -385,7 +385,7 @@ module _ (S : Setting) (s : bril.State) (t : State) (r : RunsAlike S s t) (dear 
           (r.printed ∙ (sym keeps.printed ∙ sym rest.printed))
           (caller_holds caller older some w older_hold caller.locations last (rest.frame_register ∙ two) (rest.zero_register ∙ (keeps.zero_register ∙ r.holds.zero_is)) (ap (λ y. y + suc (length older)) rest.frames_left ∙ left_is)
           (λ k lt. reloaded_stack k) (untaken_homes caller older some w d (left_core e) last keeps.stack reloads.is))
-          (memory_by S s.blocks r.core last (rest.table ∙ keeps.table) (rest.cells ∙ keeps.cells) (rest.blocks ∙ keeps.blocks) (rest.given ∙ keeps.given) r.memory) (guards_by S s t r last (rest.arrivals ∙ keeps.arrivals))
+          (memory_by S s.blocks r.core last (rest.table ∙ keeps.table) (rest.cells ∙ keeps.cells) (rest.blocks ∙ keeps.blocks) (rest.next_free ∙ keeps.next_free) r.memory) (guards_by S s t r last (rest.arrivals ∙ keeps.arrivals))
           (comes_back (suc (n + 3 + restore_size moves)) count (landed (0 + restore_size moves) (entry_of S caller.function (suc caller.point)) refl at reloads.going)) (omega arith)
       by_dest (Some x) d =
           let moves = kept_by S (length s.blocks) r.frame.function r.holds.base (length older) caller r.core.stack w in
@@ -415,7 +415,7 @@ module _ (S : Setting) (s : bril.State) (t : State) (r : RunsAlike S s t) (dear 
           (stepped ∙ ap (λ o. gives S.p S.limits o v caller older s) d) refl r.running (r.printed ∙ (sym keeps.printed ∙ sym rest.printed))
           (caller_holds caller older some w older_hold (with_slot (Variable x) v caller.locations) last (rest.frame_register ∙ two) (rest.zero_register ∙ (keeps.zero_register ∙ r.holds.zero_is)) (ap (λ y. y + suc (length older)) rest.frames_left ∙ left_is)
           low (taken_homes caller older some w x d v (reloads.core.registers 10) (left_core e) reloads.core last has keeps.stack reloads.is filled.1))
-          (memory_by S s.blocks r.core last (rest.table ∙ keeps.table) (rest.cells ∙ keeps.cells) (rest.blocks ∙ keeps.blocks) (rest.given ∙ keeps.given) r.memory) (guards_by S s t r last (rest.arrivals ∙ keeps.arrivals))
+          (memory_by S s.blocks r.core last (rest.table ∙ keeps.table) (rest.cells ∙ keeps.cells) (rest.blocks ∙ keeps.blocks) (rest.next_free ∙ keeps.next_free) r.memory) (guards_by S s t r last (rest.arrivals ∙ keeps.arrivals))
           (comes_back (suc (n + 3 + restore_size moves + fill_size home)) count (landed (0 + restore_size moves + fill_size home) (entry_of S caller.function (suc caller.point)) refl at filled.2)) (omega arith)
 
   -- the newest frame gives a value back, which register 10 has where its function returns one

@@ -50,7 +50,7 @@ module _ (S : Setting) (s : bril.State) (t : State) (r : RunsAlike S s t) where
       arrive S s t r (speculates S.p S.limits r.frame r.older s) (advanced (record r.frame { saves = r.frame.locations ∷ r.frame.saves })) r.older e n stepped refl r.running (r.printed ∙ sym saved.rest.printed)
       (saved_holds S (length s.blocks) r.frame r.older r.core r.holds (standing S s t r) (leads S r.frame r.holds.function r.holds.there Speculate item (onward r.frame.point) (inl refl) refl refl)
       (goes S r.frame r.holds.function r.holds.there Speculate item (onward r.frame.point) (inl refl)) (kept_at (S.homes r.frame.function) (suc (length r.frame.saves)) r.frame.point) chosen e saved)
-      (memory_by S s.blocks r.core e saved.rest.table saved.rest.cells saved.rest.blocks saved.rest.given r.memory) (guards_by S s t r e saved.rest.arrivals)
+      (memory_by S s.blocks r.core e saved.rest.table saved.rest.cells saved.rest.blocks saved.rest.next_free r.memory) (guards_by S s t r e saved.rest.arrivals)
       (onto_next S s t r (landed (suc n) (entry_of S r.frame.function (suc r.frame.point)) count there (plain S.image (sizes S) tt g))) (omega arith)
 
   pub speculate_moves : slice_get r.holds.function.code r.frame.point ≡ Some Speculate → Moves S s t

@@ -92,8 +92,8 @@ module _ (S : Setting) (s : bril.State) (t : State) (r : RunsAlike S s t) (dear 
       memory =
           let k = a.keeps in
           let w = q.core.registers register in
-          memory_by S blocks_now (record r.core { cells = stored_cells r.core.cells at w }) last (q.keeps.table ∙ k.table) (ap (λ m. assigned m (2 * at + 1) w) q.keeps.cells ∙ ap (λ m. stored_cells m at w) k.cells) (q.keeps.blocks ∙ k.blocks) (q.keeps.given ∙ k.given)
-          (store_keeps (sizes S) s.blocks r.core.table r.core.cells r.core.blocks r.core.given r.memory points.block n w points.offset holds.value a.cell q.word)
+          memory_by S blocks_now (record r.core { cells = stored_cells r.core.cells at w }) last (q.keeps.table ∙ k.table) (ap (λ m. assigned m (2 * at + 1) w) q.keeps.cells ∙ ap (λ m. stored_cells m at w) k.cells) (q.keeps.blocks ∙ k.blocks) (q.keeps.next_free ∙ k.next_free)
+          (store_keeps (sizes S) s.blocks r.core.table r.core.cells r.core.blocks r.core.next_free r.memory points.block n w points.offset holds.value a.cell q.word)
 
       last_same : SameHomes r.core last
       last_same =

@@ -6,7 +6,8 @@ use Rattle.rv64_words.specs.declared.image.Image.{Image}
 use Rattle.rv64_words.specs.declared.word.Word.{Word}
 use Rattle.rv64_words.specs.Region.{Sizes, stack_base, most_stack}
 use Rattle.rv64_stretches.specs.Core.{Core, Keeps, KeepsBut, written, put, is_home_register}
-use Rattle.rv64_stretches.proofs.Cores.{apart_from, assigned_here, assigned_other, written_here, written_other}
+use Rattle.rv64_words.proofs.Assigned.{assigned_here, assigned_other}
+use Rattle.rv64_stretches.proofs.Cores.{apart_from, written_here, written_other}
 use Rattle.rv64_stretches.proofs.Going.{Going, plain, is_core, is_place}
 use Rattle.rv64_sequences.specs.Frames.{address_left, addressed}
 use Rattle.rv64_sequences.specs.Moves.{operand_words, operand_size, operand_register, result_words, result_size, result_register, fill_words, fill_size, copy_words, copy_size, home_word, is_temporary, KeepsRest, Fetched, Filled, IsUsable, IsHomeInside}
@@ -59,7 +60,7 @@ module _ (b : ℕ) where
     table = f.table ∙ k.table;
     cells = f.cells ∙ k.cells;
     blocks = f.blocks ∙ k.blocks;
-    given = f.given ∙ k.given;
+    next_free = f.next_free ∙ k.next_free;
     printed = f.printed ∙ k.printed;
     arrivals = f.arrivals ∙ k.arrivals;
   }
@@ -92,7 +93,7 @@ module _ (b : ℕ) where
       table = f.rest.table ∙ k.table;
       cells = f.rest.cells ∙ k.cells;
       blocks = f.rest.blocks ∙ k.blocks;
-      given = f.rest.given ∙ k.given;
+      next_free = f.rest.next_free ∙ k.next_free;
       printed = f.rest.printed ∙ k.printed;
       arrivals = f.rest.arrivals ∙ k.arrivals;
     };
@@ -103,7 +104,7 @@ module _ (b : ℕ) where
 
   pub filled_itself : (s : ℕ) (e : Core) → Filled b (Reg s) (e.registers s) e e
   filled_itself s e = record {
-    rest = record { zero_register = refl; frame_register = refl; frames_left = refl; table = refl; cells = refl; blocks = refl; given = refl; printed = refl; arrivals = refl };
+    rest = record { zero_register = refl; frame_register = refl; frames_left = refl; table = refl; cells = refl; blocks = refl; next_free = refl; printed = refl; arrivals = refl };
     got = refl;
     others = λ h u ne. refl;
     stack = λ k none. refl;
@@ -113,7 +114,7 @@ module _ (b : ℕ) where
   pub filled_register : (s : ℕ) (e : Core) (v : ℕ) → IsUsable (Reg s) → Filled b (Reg s) v e (written e s v)
   filled_register zero e v u = absurd (true≢false (sym u))
   filled_register (suc s) e v u = record {
-    rest = record { zero_register = other 0 refl; frame_register = other 2 refl; frames_left = other 8 refl; table = refl; cells = refl; blocks = refl; given = refl; printed = refl; arrivals = refl };
+    rest = record { zero_register = other 0 refl; frame_register = other 2 refl; frames_left = other 8 refl; table = refl; cells = refl; blocks = refl; next_free = refl; printed = refl; arrivals = refl };
     got = assigned_here e.registers (suc s) v;
     others = others;
     stack = λ k none. refl;
@@ -129,7 +130,7 @@ module _ (b : ℕ) where
   -- a word of the frame does
   pub filled_stored : (r o : ℕ) (e : Core) → Filled b (Frame o) (e.registers r) e (put (addressed e 2 o) (b + o) (e.registers r))
   filled_stored r o e = record {
-    rest = record { zero_register = refl; frame_register = refl; frames_left = refl; table = refl; cells = refl; blocks = refl; given = refl; printed = refl; arrivals = refl };
+    rest = record { zero_register = refl; frame_register = refl; frames_left = refl; table = refl; cells = refl; blocks = refl; next_free = refl; printed = refl; arrivals = refl };
     got = assigned_here e.stack (b + o) (e.registers r);
     others = others;
     stack = λ k none. assigned_other e.stack (b + o) (e.registers r) k (none o refl);

@@ -3,11 +3,12 @@ use Rattle.std.proofs.Common.{IsTrue, true≢false, cond, eqb, false, ◌≡◌,
 use Rattle.std.proofs.lemmas.Bool.{ne_eqb}
 use Rattle.std.proofs.lemmas.Bool.Decides.{nat_tests}
 use Rattle.rv64_stretches.specs.Core.{Core, written, Keeps, KeepsBut, is_home_register}
-use Rattle.rv64_stretches.proofs.Cores.{apart_from, assigned_other}
+use Rattle.rv64_words.proofs.Assigned.{assigned_other}
+use Rattle.rv64_stretches.proofs.Cores.{apart_from}
 use Rattle.rv64_sequences.specs.Moves.{is_temporary}
 
 pub keeps_itself : (c : Core) → Keeps c c
-keeps_itself c = record { zero_register = refl; frame_register = refl; frames_left = refl; homes = λ r h. refl; stack = refl; table = refl; cells = refl; blocks = refl; given = refl; printed = refl; arrivals = refl }
+keeps_itself c = record { zero_register = refl; frame_register = refl; frames_left = refl; homes = λ r h. refl; stack = refl; table = refl; cells = refl; blocks = refl; next_free = refl; printed = refl; arrivals = refl }
 
 pub keeps_on : (c e f : Core) → Keeps c e → Keeps e f → Keeps c f
 keeps_on c e f a b = record {
@@ -19,7 +20,7 @@ keeps_on c e f a b = record {
   table = b.table ∙ a.table;
   cells = b.cells ∙ a.cells;
   blocks = b.blocks ∙ a.blocks;
-  given = b.given ∙ a.given;
+  next_free = b.next_free ∙ a.next_free;
   printed = b.printed ∙ a.printed;
   arrivals = b.arrivals ∙ a.arrivals;
 }
@@ -35,7 +36,7 @@ keeps_written c e r v zero_other two_other eight_other none k = record {
   table = k.table;
   cells = k.cells;
   blocks = k.blocks;
-  given = k.given;
+  next_free = k.next_free;
   printed = k.printed;
   arrivals = k.arrivals;
 }
@@ -68,7 +69,7 @@ keeps_but d c e k = record {
   table = k.table;
   cells = k.cells;
   blocks = k.blocks;
-  given = k.given;
+  next_free = k.next_free;
   printed = k.printed;
   arrivals = k.arrivals;
 }

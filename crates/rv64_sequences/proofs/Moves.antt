@@ -8,7 +8,8 @@ use Rattle.rv64_words.specs.declared.word.Word.{Word}
 use Rattle.rv64_words.specs.Region.{Sizes, stack_base}
 use Rattle.rv64_words.specs.State.{assigned}
 use Rattle.rv64_stretches.specs.Core.{Core, written, put}
-use Rattle.rv64_stretches.proofs.Cores.{apart_from, assigned_here, assigned_other, written_other}
+use Rattle.rv64_words.proofs.Assigned.{assigned_here, assigned_other}
+use Rattle.rv64_stretches.proofs.Cores.{apart_from, written_other}
 use Rattle.rv64_stretches.proofs.Going.{Going, is_place}
 use Rattle.rv64_sequences.specs.Frames.{address_left, addressed}
 use Rattle.rv64_sequences.specs.Sequences.{load_words, store_words, load_size, store_size}
@@ -26,7 +27,7 @@ module _ (image : Image) (z : Sizes) (few : z.stack ≤ 8388608) (b : ℕ) where
     pub table : e.table ≡ c.table
     pub cells : e.cells ≡ c.cells
     pub blocks : e.blocks ≡ c.blocks
-    pub given : e.given ≡ c.given
+    pub next_free : e.next_free ≡ c.next_free
     pub printed : e.printed ≡ c.printed
     pub arrivals : e.arrivals ≡ c.arrivals
 
@@ -39,7 +40,7 @@ module _ (image : Image) (z : Sizes) (few : z.stack ≤ 8388608) (b : ℕ) where
       Going image z k c n j d (save_one h o ++ ws) → AfterOne (OneSaved o (home_word d b h) d) k c n j (save_one_size h o) ws
   one_saved (Reg r) o d ws usable two inside inside_home g = record {
     core = put (addressed d 2 o) (b + o) (d.registers r);
-    is = record { registers = λ s five six. assigned_other d.registers 6 (address_left d 2 o) s six; stack = refl; table = refl; cells = refl; blocks = refl; given = refl; printed = refl; arrivals = refl };
+    is = record { registers = λ s five six. assigned_other d.registers 6 (address_left d 2 o) s six; stack = refl; table = refl; cells = refl; blocks = refl; next_free = refl; printed = refl; arrivals = refl };
     going = frame_store image z 2 r b o two_not_six (apart_from 6 r refl usable) (record { base = two; inside = inside; few = few }) g;
   }
   one_saved (Frame p) o {k} {c} {n} {j} d ws usable two inside inside_home g =
@@ -55,7 +56,7 @@ module _ (image : Image) (z : Sizes) (few : z.stack ≤ 8388608) (b : ℕ) where
           table = refl;
           cells = refl;
           blocks = refl;
-          given = refl;
+          next_free = refl;
           printed = refl;
           arrivals = refl;
         };
@@ -106,7 +107,7 @@ module _ (image : Image) (z : Sizes) (few : z.stack ≤ 8388608) (b : ℕ) where
       table = s.rest.table ∙ one.table;
       cells = s.rest.cells ∙ one.cells;
       blocks = s.rest.blocks ∙ one.blocks;
-      given = s.rest.given ∙ one.given;
+      next_free = s.rest.next_free ∙ one.next_free;
       printed = s.rest.printed ∙ one.printed;
       arrivals = s.rest.arrivals ∙ one.arrivals;
     };
@@ -135,7 +136,7 @@ module _ (image : Image) (z : Sizes) (few : z.stack ≤ 8388608) (b : ℕ) where
   homes_saved [] {k} {c} {n} {j} d ws apart none usable inside two g = record {
     core = d;
     is = record {
-      rest = record { zero_register = refl; frame_register = refl; frames_left = refl; table = refl; cells = refl; blocks = refl; given = refl; printed = refl; arrivals = refl };
+      rest = record { zero_register = refl; frame_register = refl; frames_left = refl; table = refl; cells = refl; blocks = refl; next_free = refl; printed = refl; arrivals = refl };
       registers = λ r five six. refl;
       got = λ m i. absurd i;
       others = λ x not. refl;
@@ -164,7 +165,7 @@ module _ (image : Image) (z : Sizes) (few : z.stack ≤ 8388608) (b : ℕ) where
       table = s.rest.table ∙ one.filled.rest.table;
       cells = s.rest.cells ∙ one.filled.rest.cells;
       blocks = s.rest.blocks ∙ one.filled.rest.blocks;
-      given = s.rest.given ∙ one.filled.rest.given;
+      next_free = s.rest.next_free ∙ one.filled.rest.next_free;
       printed = s.rest.printed ∙ one.filled.rest.printed;
       arrivals = s.rest.arrivals ∙ one.filled.rest.arrivals;
     };
@@ -189,7 +190,7 @@ module _ (image : Image) (z : Sizes) (few : z.stack ≤ 8388608) (b : ℕ) where
   homes_restored [] {k} {c} {n} {j} d ws apart none usable inside two g = record {
     core = d;
     is = record {
-      rest = record { zero_register = refl; frame_register = refl; frames_left = refl; table = refl; cells = refl; blocks = refl; given = refl; printed = refl; arrivals = refl };
+      rest = record { zero_register = refl; frame_register = refl; frames_left = refl; table = refl; cells = refl; blocks = refl; next_free = refl; printed = refl; arrivals = refl };
       got = λ m i. absurd i;
       others = λ h u not. refl;
       registers = λ r five six not. refl;

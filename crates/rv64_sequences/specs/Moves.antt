@@ -151,7 +151,7 @@ pub record KeepsRest (c e : Core) : Type 0 where
   pub table : e.table ≡ c.table
   pub cells : e.cells ≡ c.cells
   pub blocks : e.blocks ≡ c.blocks
-  pub given : e.given ≡ c.given
+  pub next_free : e.next_free ≡ c.next_free
   pub printed : e.printed ≡ c.printed
   pub arrivals : e.arrivals ≡ c.arrivals
 

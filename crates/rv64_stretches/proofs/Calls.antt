@@ -79,11 +79,11 @@ module _ (image : Image) (z : Sizes) where
 
   -- ---- memory
 
-  pub allocate : {k : ℕ} {c : Core} {n j : ℕ} {e : Core} {ws : List Word} → e.registers 17 ≡ 6 → block_fault z e (e.registers 10) ≡ None → Going image z k c n j e (Ecall ∷ ws) → Going image z k c (n + 1) (j + 1) (with_block (e.registers 10) e) ws
-  allocate {j = j} {e = e} is none g = called_on 6 (with_block (e.registers 10) e) is (λ d. ap (λ o. allocated_or_fault o (e.registers 10) (machine j e d)) none) g
+  pub allocate : {k : ℕ} {c : Core} {n j : ℕ} {e : Core} {ws : List Word} → e.registers 17 ≡ 6 → block_fault z e (e.registers 10) ≡ None → Going image z k c n j e (Ecall ∷ ws) → Going image z k c (n + 1) (j + 1) (with_block z (e.registers 10) e) ws
+  allocate {j = j} {e = e} is none g = called_on 6 (with_block z (e.registers 10) e) is (λ d. ap (λ o. allocated_or_fault z o (e.registers 10) (machine j e d)) none) g
 
   pub allocate_faults : {k : ℕ} {c : Core} {n j : ℕ} {e : Core} {ws : List Word} → (f : Fault) → e.registers 17 ≡ 6 → block_fault z e (e.registers 10) ≡ Some f → Going image z k c n j e (Ecall ∷ ws) → Ends image z k c (n + 1) (j + 1) (Faulted f) e
-  allocate_faults {j = j} {e = e} f is some g = called_last 6 (Faulted f) is (λ d. ap (λ o. allocated_or_fault o (e.registers 10) (machine j e d)) some) g
+  allocate_faults {j = j} {e = e} f is some g = called_last 6 (Faulted f) is (λ d. ap (λ o. allocated_or_fault z o (e.registers 10) (machine j e d)) some) g
 
   pub free : {k : ℕ} {c : Core} {n j : ℕ} {e : Core} {ws : List Word} → e.registers 17 ≡ 7 → frees_block e (e.registers 10) ≡ true → Going image z k c n j e (Ecall ∷ ws) → Going image z k c (n + 1) (j + 1) (without_block (e.registers 10 / 2 ^ 32) e) ws
   free {j = j} {e = e} is ok g =

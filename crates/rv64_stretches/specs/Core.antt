@@ -1,7 +1,8 @@
 -- What words change of a machine that runs on: all of its state but the pc, the way it stops and the words done.
-use Rattle.std.specs.Prelude.{◌≡◌, ◌≢◌, ℕ, zero, suc, ◌+◌, ◌*◌, ◌^◌, ◌==◌, ◌&&◌, ◌||◌, Bool, IsTrue, List, ◌++◌, None, nat_le}
+use Rattle.std.specs.Prelude.{◌≡◌, ◌≢◌, ℕ, zero, suc, ◌+◌, ◌*◌, ◌^◌, ◌==◌, ◌&&◌, ◌||◌, Bool, IsTrue, List, ◌++◌, None, nat_le, if◌then◌else◌}
 use Rattle.bril_tree.specs.State.{counted}
-use Rattle.rv64_words.specs.Region.{cells_base}
+use Rattle.rv64_words.specs.Environment.{live_cells, slid_cells, slid_table, slides}
+use Rattle.rv64_words.specs.Region.{Sizes, cells_base}
 use Rattle.rv64_words.specs.State.{State, assigned}
 
 pub record Core : Type 0 where
@@ -10,7 +11,7 @@ pub record Core : Type 0 where
   pub table : ℕ → ℕ
   pub cells : ℕ → ℕ
   pub blocks : ℕ
-  pub given : ℕ
+  pub next_free : ℕ
   pub printed : List ℕ
   pub arrivals : ℕ → ℕ
 
@@ -23,7 +24,7 @@ at_pc pc c d = record {
   table = c.table;
   cells = c.cells;
   blocks = c.blocks;
-  given = c.given;
+  next_free = c.next_free;
   printed = c.printed;
   arrivals = c.arrivals;
   stopped = None;
@@ -42,7 +43,7 @@ core_of s = record {
   table = s.table;
   cells = s.cells;
   blocks = s.blocks;
-  given = s.given;
+  next_free = s.next_free;
   printed = s.printed;
   arrivals = s.arrivals;
 }
@@ -68,15 +69,26 @@ said c text = record c { printed = c.printed ++ text }
 abbrev pub arrived : ℕ → Core → Core
 arrived k c = record c { arrivals = assigned c.arrivals k (counted (c.arrivals k)) }
 
--- a new block of so many cells; register 10 has its pointer
-abbrev pub with_block : ℕ → Core → Core
-with_block count c =
-    let block = suc c.blocks in
+-- the live blocks slid, where there was no room for so many cells from the next free one on
+abbrev pub with_room : Sizes → ℕ → Core → Core
+with_room z count c =
+    let slide = slides z c.next_free count in
     record c {
-      registers = assigned c.registers 10 (block * 2 ^ 32);
-      table = assigned (assigned c.table (2 * block) (cells_base + 16 * c.given)) (2 * block + 1) count;
+      table = (if slide then slid_table c.table c.blocks else c.table);
+      cells = (if slide then slid_cells c.table c.cells c.blocks else c.cells);
+      next_free = (if slide then live_cells c.table c.blocks else c.next_free);
+    }
+
+-- a new block of so many cells, where need be after sliding; register 10 has its pointer
+abbrev pub with_block : Sizes → ℕ → Core → Core
+with_block z count c =
+    let d = with_room z count c in
+    let block = suc d.blocks in
+    record d {
+      registers = assigned d.registers 10 (block * 2 ^ 32);
+      table = assigned (assigned d.table (2 * block) (cells_base + 16 * d.next_free)) (2 * block + 1) count;
       blocks = block;
-      given = c.given + count;
+      next_free = d.next_free + count;
     }
 
 -- a block is no longer live
@@ -101,7 +113,7 @@ pub record Keeps (c e : Core) : Type 0 where
   pub table : e.table ≡ c.table
   pub cells : e.cells ≡ c.cells
   pub blocks : e.blocks ≡ c.blocks
-  pub given : e.given ≡ c.given
+  pub next_free : e.next_free ≡ c.next_free
   pub printed : e.printed ≡ c.printed
   pub arrivals : e.arrivals ≡ c.arrivals
 
@@ -115,6 +127,6 @@ pub record KeepsBut (d : ℕ) (c e : Core) : Type 0 where
   pub table : e.table ≡ c.table
   pub cells : e.cells ≡ c.cells
   pub blocks : e.blocks ≡ c.blocks
-  pub given : e.given ≡ c.given
+  pub next_free : e.next_free ≡ c.next_free
   pub printed : e.printed ≡ c.printed
   pub arrivals : e.arrivals ≡ c.arrivals

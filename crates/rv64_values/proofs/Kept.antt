@@ -8,7 +8,7 @@ use Rattle.rv64_words.specs.declared.word.Word.{Word}
 use Rattle.rv64_words.specs.Environment.{fault_of}
 use Rattle.rv64_words.specs.Region.{Sizes}
 use Rattle.rv64_stretches.specs.Core.{Core, written, Keeps, KeepsBut}
-use Rattle.rv64_stretches.proofs.Cores.{assigned_other}
+use Rattle.rv64_words.proofs.Assigned.{assigned_other}
 use Rattle.rv64_stretches.specs.Runs.{HasAt, AreComputing, effects, Runs}
 use Rattle.rv64_stretches.proofs.Going.{Going, begin, plains}
 use Rattle.rv64_stretches.proofs.Steps.{ends_sooner}
@@ -42,7 +42,7 @@ keeps_result (suc d) c e v h k = record {
   table = k.table;
   cells = k.cells;
   blocks = k.blocks;
-  given = k.given;
+  next_free = k.next_free;
   printed = k.printed;
   arrivals = k.arrivals;
 }
