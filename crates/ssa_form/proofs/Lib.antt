@@ -2,6 +2,7 @@ pub mod Points
 pub mod Fronts
 pub mod Single
 pub mod Following
+pub mod Given
 pub mod Edges
 pub mod Needed
 pub mod Edits

@@ -24,6 +24,7 @@ use Rattle.ssa_form.specs.Form.{IsSsaForm}
 use Rattle.ssa_form.specs.Laws.{LaidTreesAreEdits, LaidTreesAreInForm, LaidTreesAreShort}
 use Rattle.ssa_form.proofs.Edits.{labels-same, sound-edit}
 use Rattle.ssa_form.proofs.Following.{behind}
+use Rattle.ssa_form.proofs.Given.{given}
 use Rattle.ssa_form.proofs.Needed.{needed}
 use Rattle.ssa_form.proofs.Single.{apart, once}
 use Rattle.ssa_form.proofs.Sizes.{few-more}
@@ -48,7 +49,7 @@ module _ (P : Prog) (accepted : IsAccepted P) where
       let at = in_get F P.funcs among in
       let ok = accepted_function P at.0 F accepted at.1 in
       let tabled = accepted-tabled P accepted at.0 F at.1 (gets_of x.wants) x.are_wants.wanted in
-      record { once = once fs F g x; apart = apart fs F g x; behind = behind fs F g x; needed = needed fs F g x P ok tabled }
+      record { once = once fs F g x; apart = apart fs F g x; behind = behind fs F g x; needed = needed fs F g x P ok tabled; given = given fs F g x P ok }
 
   -- two items more for each live entry
   pub short : (F : Func) (g : FuncTree) (n : ℕ) → In F P.funcs → IsLaid F g → IsLiveEntryCount F.code n → length g.code ≤ length F.code + 2 * n

@@ -51,6 +51,7 @@ pub record IsSsaForm (f : FuncTree) : Type 0 where
   pub apart : (i : ℕ) (name : List ℕ) → Assigns f.code i name → Contains (argument_names f) name → ⊥
   pub behind : (i : ℕ) (name : List ℕ) → IsGetAt f.code i name → FollowsLabel f.code i
   pub needed : (i : ℕ) (name : List ℕ) → IsGetAt f.code i name → HasTwoSets f.code name
+  pub given : (name from : List ℕ) → IsSet f.code name from → (i : ℕ) × IsGetAt f.code i name
 
 -- ---- a program
 
