@@ -1,10 +1,10 @@
-"""Runs the rows of worked_rows as real command lines, each in a scratch folder with the files of its case.
+"""Runs the rows of command_cases as real command lines, each in a scratch folder with the files of its case.
 
     python3 tools/tests/rows.py PROGRAM [TITLE]
 
-The rows stand in crates/worked_rows/stdin, and what each must leave in stdout beside it, written by hand from the rules. The
+The rows stand in crates/command_cases/stdin, and what each must leave in stdout beside it, written by hand from the rules. The
 head of src/main.rt there has their form. Rows that want a device which fails in memory, or more than a program, are left to
-worked_rows itself, which the gate runs. The last line is `N passed, M failed`.
+command_cases itself, which the gate runs. The last line is `N passed, M failed`.
 """
 
 import difflib
@@ -17,7 +17,7 @@ from concurrent.futures import ThreadPoolExecutor
 from typing import NamedTuple
 
 ROOT = os.path.dirname(os.path.dirname(os.path.dirname(os.path.abspath(__file__))))
-ROWS = os.path.join(ROOT, "crates", "worked_rows")
+ROWS = os.path.join(ROOT, "crates", "command_cases")
 SECONDS = 60
 MOST_LINES = 60
 COMMANDS = (b"$", b"counts", b"executes", b"fails", b"cuts")
@@ -113,7 +113,7 @@ def rows():
         elif word in COMMANDS:
             shown, block = next(blocks)
             if shown != line:
-                sys.exit("crates/worked_rows: stdin has %r where stdout has %r" % (line, shown))
+                sys.exit("crates/command_cases: stdin has %r where stdout has %r" % (line, shown))
             if word in (b"$", b"counts") and rest and not needs_memory and not next_needs_memory:
                 found.append(Row(title, line, dict(files), left_of(block)))
             next_needs_memory = False

@@ -7,16 +7,16 @@ use Rattle.bril_tree.specs.Memory.{allocation_fault, cells_of, new_block}
 use Rattle.bril_tree.specs.Outcome.{int_of}
 use Rattle.bril_tree.specs.State as bril
 use Rattle.bril_tree.specs.Step.{step, allocates}
-use Rattle.rv64_blocks.specs.Laws.{CoreHolds}
-use Rattle.rv64_blocks.proofs.Allocating.{faults_alike, allocation_keeps}
-use Rattle.rv64_blocks.proofs.Lists.{pushed_length}
-use Rattle.rv64_stretches.specs.Core.{Core, with_block}
-use Rattle.rv64_stretches.proofs.Calls.{block_fault, allocate, allocate_faults}
+use Rattle.rv64_words_laws.specs.blocks.Laws.{CoreHolds}
+use Rattle.rv64_words_laws.proofs.lemmas.blocks.Allocating.{faults_alike, allocation_keeps}
+use Rattle.rv64_words_laws.proofs.lemmas.blocks.Lists.{pushed_length}
+use Rattle.rv64_words_laws.specs.stretches.Core.{Core, with_block}
+use Rattle.rv64_words_laws.proofs.lemmas.stretches.Calls.{block_fault, allocate, allocate_faults}
 use Rattle.rv64_words.proofs.Assigned.{assigned_other}
-use Rattle.rv64_stretches.proofs.Cores.{apart_from}
-use Rattle.rv64_stretches.proofs.Going.{begin}
-use Rattle.rv64_sequences.specs.Moves.{fetch_size, fetch_words, fill_words}
-use Rattle.rv64_sequences.proofs.Sizes.{fetch_most}
+use Rattle.rv64_words_laws.proofs.lemmas.stretches.Cores.{apart_from}
+use Rattle.rv64_words_laws.proofs.lemmas.stretches.Going.{begin}
+use Rattle.rv64_words_laws.specs.sequences.Moves.{fetch_size, fetch_words, fill_words}
+use Rattle.rv64_words_laws.proofs.lemmas.sequences.Sizes.{fetch_most}
 use Rattle.rv64_words.specs.declared.word.Word.{Word}
 use Rattle.rv64_words.specs.declared.word.Word.TheVariants.{Ecall}
 use Rattle.rv64_words.specs.Mnemonics.{addi}

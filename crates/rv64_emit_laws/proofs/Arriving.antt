@@ -11,12 +11,12 @@ use Rattle.bril_tree.specs.declared.value.Value.{Value}
 use Rattle.bril_tree.specs.Run.{first_state}
 use Rattle.bril_tree.specs.State as bril
 use Rattle.bril_tree.specs.Step.{step, at_point, advanced, faulted, with_locations}
-use Rattle.rv64_stretches.specs.Core.{Core, Keeps, KeepsBut, machine}
-use Rattle.rv64_stretches.specs.Runs.{Runs, Leaves, Ends}
-use Rattle.rv64_stretches.proofs.Going.{Going}
-use Rattle.rv64_sequences.specs.Moves.{Filled, result_register, result_size, result_words}
-use Rattle.rv64_sequences.proofs.Homes.{filled_after, result_goes}
-use Rattle.rv64_sequences.proofs.Sizes.{result_most}
+use Rattle.rv64_words_laws.specs.stretches.Core.{Core, Keeps, KeepsBut, machine}
+use Rattle.rv64_words_laws.specs.stretches.Runs.{Runs, Leaves, Ends}
+use Rattle.rv64_words_laws.proofs.lemmas.stretches.Going.{Going}
+use Rattle.rv64_words_laws.specs.sequences.Moves.{Filled, result_register, result_size, result_words}
+use Rattle.rv64_words_laws.proofs.lemmas.sequences.Homes.{filled_after, result_goes}
+use Rattle.rv64_words_laws.proofs.lemmas.sequences.Sizes.{result_most}
 use Rattle.rv64_words.specs.Machine.{machine_step}
 use Rattle.rv64_words.specs.State.{State, finished}
 use Rattle.slot_code.specs.declared.item.Slot.{Slot}

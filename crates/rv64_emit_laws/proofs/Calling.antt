@@ -16,19 +16,19 @@ use Rattle.bril_tree.specs.State as bril
 use Rattle.bril_tree.specs.Step.{code_of, faulted, new_frame, step, with_frames}
 use Rattle.placement_laws.specs.Homes.{slot_of}
 use Rattle.placement_laws.specs.Needed.{Live}
-use Rattle.rv64_layout.specs.Homes.{call_moves as kept_moves, is_loaded, opening_moves, outlives, slot_word}
-use Rattle.rv64_layout.specs.Items.{after_call, before_call, call_words, pass_size, pass_words, return_word}
-use Rattle.rv64_layout.proofs.Bounding.{call_moves_most, frame_up_most, opening_most, pass_most}
-use Rattle.rv64_stretches.specs.Core.{Core, put, written}
+use Rattle.rv64_emit_laws.specs.layout.Homes.{call_moves as kept_moves, is_loaded, opening_moves, outlives, slot_word}
+use Rattle.rv64_emit_laws.specs.layout.Items.{after_call, before_call, call_words, pass_size, pass_words, return_word}
+use Rattle.rv64_emit_laws.proofs.lemmas.layout.Bounding.{call_moves_most, frame_up_most, opening_most, pass_most}
+use Rattle.rv64_words_laws.specs.stretches.Core.{Core, put, written}
 use Rattle.rv64_words.proofs.Assigned.{assigned_here, assigned_other}
-use Rattle.rv64_stretches.proofs.Going.{Going, begin, begin_there, not_taken, plain, store, taken}
-use Rattle.rv64_sequences.specs.Frames.{Reaches}
-use Rattle.rv64_sequences.specs.Moves.{Restored, Saved, home_word, restore_size, restore_words, save_size, save_words}
-use Rattle.rv64_sequences.specs.Sequences.{fault_words, frame_up_size, frame_up_words, jump_offset}
-use Rattle.rv64_sequences.proofs.Ends.{called_off, finishes}
-use Rattle.rv64_sequences.proofs.Frames.{frame_up, framed_up}
-use Rattle.rv64_sequences.proofs.Jumps.{call_to}
-use Rattle.rv64_values.proofs.Kept.{keeps_called_off}
+use Rattle.rv64_words_laws.proofs.lemmas.stretches.Going.{Going, begin, begin_there, not_taken, plain, store, taken}
+use Rattle.rv64_words_laws.specs.sequences.Frames.{Reaches}
+use Rattle.rv64_words_laws.specs.sequences.Moves.{Restored, Saved, home_word, restore_size, restore_words, save_size, save_words}
+use Rattle.rv64_words_laws.specs.sequences.Sequences.{fault_words, frame_up_size, frame_up_words, jump_offset}
+use Rattle.rv64_words_laws.proofs.lemmas.sequences.Ends.{called_off, finishes}
+use Rattle.rv64_words_laws.proofs.lemmas.sequences.Frames.{frame_up, framed_up}
+use Rattle.rv64_words_laws.proofs.lemmas.sequences.Jumps.{call_to}
+use Rattle.rv64_words_laws.proofs.lemmas.values.Kept.{keeps_called_off}
 use Rattle.rv64_words.specs.declared.word.Word.{Word}
 use Rattle.rv64_words.specs.declared.word.Word.TheVariants.{Jal, Sd}
 use Rattle.rv64_words.specs.Mnemonics.{addi}

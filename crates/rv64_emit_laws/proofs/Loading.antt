@@ -8,16 +8,16 @@ use Rattle.bril_tree.specs.Memory.{cell_at, held}
 use Rattle.bril_tree.specs.State as bril
 use Rattle.bril_tree.specs.Step.{step, loads_held}
 use Rattle.bril_tree.specs.Step as steps
-use Rattle.rv64_blocks.proofs.Finding.{value_found, fresh_found}
-use Rattle.rv64_stretches.proofs.Going.{across, begin, has_front}
-use Rattle.rv64_stretches.proofs.Steps.{ends_after}
-use Rattle.rv64_sequences.specs.Moves.{fetch_size, fetch_words, register_for, target_words}
-use Rattle.rv64_sequences.specs.Operations.{cell_words, load_cell_words}
-use Rattle.rv64_sequences.proofs.Sizes.{fetch_most}
-use Rattle.rv64_values.specs.Cells.{CellReady}
-use Rattle.rv64_values.specs.Operands.{is_result_register}
-use Rattle.rv64_values.proofs.Cells.{loads_stored, loads_fresh}
-use Rattle.rv64_values.proofs.Kept.{keeps_on}
+use Rattle.rv64_words_laws.proofs.lemmas.blocks.Finding.{value_found, fresh_found}
+use Rattle.rv64_words_laws.proofs.lemmas.stretches.Going.{across, begin, has_front}
+use Rattle.rv64_words_laws.proofs.lemmas.stretches.Steps.{ends_after}
+use Rattle.rv64_words_laws.specs.sequences.Moves.{fetch_size, fetch_words, register_for, target_words}
+use Rattle.rv64_words_laws.specs.sequences.Operations.{cell_words, load_cell_words}
+use Rattle.rv64_words_laws.proofs.lemmas.sequences.Sizes.{fetch_most}
+use Rattle.rv64_words_laws.specs.values.Cells.{CellReady}
+use Rattle.rv64_words_laws.specs.values.Operands.{is_result_register}
+use Rattle.rv64_words_laws.proofs.lemmas.values.Cells.{loads_stored, loads_fresh}
+use Rattle.rv64_words_laws.proofs.lemmas.values.Kept.{keeps_on}
 use Rattle.rv64_words.specs.declared.word.Word.{Word}
 use Rattle.rv64_words.specs.State.{State}
 use Rattle.slot_code.specs.declared.item.Slot.TheVariants.{Variable}

@@ -5,16 +5,16 @@ use Rattle.bril_tree.specs.declared.value.Value.TheVariants.{Ptr}
 use Rattle.bril_tree.specs.Memory.{cell_at}
 use Rattle.bril_tree.specs.State as bril
 use Rattle.bril_tree.specs.Step.{step, faulted}
-use Rattle.rv64_blocks.proofs.Finding.{CellFound, cell_found, cell_missing, size_few}
-use Rattle.rv64_stretches.specs.Core.{Core, Keeps}
-use Rattle.rv64_stretches.proofs.Going.{Going, across, has_front}
-use Rattle.rv64_stretches.proofs.Steps.{ends_after}
-use Rattle.rv64_sequences.specs.Moves.{fetch_size}
-use Rattle.rv64_sequences.specs.Operations.{cell_words}
-use Rattle.rv64_sequences.proofs.Sizes.{fetch_most}
-use Rattle.rv64_values.specs.Cells.{PointerReady, is_inside}
-use Rattle.rv64_values.proofs.Cells as words
-use Rattle.rv64_values.proofs.Kept.{keeps_on}
+use Rattle.rv64_words_laws.proofs.lemmas.blocks.Finding.{CellFound, cell_found, cell_missing, size_few}
+use Rattle.rv64_words_laws.specs.stretches.Core.{Core, Keeps}
+use Rattle.rv64_words_laws.proofs.lemmas.stretches.Going.{Going, across, has_front}
+use Rattle.rv64_words_laws.proofs.lemmas.stretches.Steps.{ends_after}
+use Rattle.rv64_words_laws.specs.sequences.Moves.{fetch_size}
+use Rattle.rv64_words_laws.specs.sequences.Operations.{cell_words}
+use Rattle.rv64_words_laws.proofs.lemmas.sequences.Sizes.{fetch_most}
+use Rattle.rv64_words_laws.specs.values.Cells.{PointerReady, is_inside}
+use Rattle.rv64_words_laws.proofs.lemmas.values.Cells as words
+use Rattle.rv64_words_laws.proofs.lemmas.values.Kept.{keeps_on}
 use Rattle.rv64_words.specs.declared.word.Word.{Word}
 use Rattle.rv64_words.specs.Region.{cells_base}
 use Rattle.rv64_words.specs.State.{State}

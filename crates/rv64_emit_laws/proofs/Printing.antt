@@ -16,14 +16,14 @@ use Rattle.bril_tree.specs.Live.{IsLive}
 use Rattle.bril_tree.specs.Operand as location
 use Rattle.bril_tree.specs.Step.{code_of, advanced, line_of, prints}
 use Rattle.bril_tree.specs.Value.{bool_text, shown}
-use Rattle.rv64_layout.specs.Homes.{FunctionHomes, variable_home}
-use Rattle.rv64_layout.specs.Items.{environment_words, print_call, print_size, print_words, spaced_size, spaced_words, value_words}
-use Rattle.rv64_layout.proofs.Bounding.{print_most}
-use Rattle.rv64_stretches.specs.Core.{Core, Keeps, said, written}
-use Rattle.rv64_stretches.proofs.Calls.{print_bool, print_char, print_int, print_line_end, print_space}
-use Rattle.rv64_stretches.proofs.Going.{Going, begin, is_place, plain}
-use Rattle.rv64_sequences.specs.Moves.{fetch_size, fetch_words}
-use Rattle.rv64_values.proofs.Kept.{keeps_itself, keeps_written}
+use Rattle.rv64_emit_laws.specs.layout.Homes.{FunctionHomes, variable_home}
+use Rattle.rv64_emit_laws.specs.layout.Items.{environment_words, print_call, print_size, print_words, spaced_size, spaced_words, value_words}
+use Rattle.rv64_emit_laws.proofs.lemmas.layout.Bounding.{print_most}
+use Rattle.rv64_words_laws.specs.stretches.Core.{Core, Keeps, said, written}
+use Rattle.rv64_words_laws.proofs.lemmas.stretches.Calls.{print_bool, print_char, print_int, print_line_end, print_space}
+use Rattle.rv64_words_laws.proofs.lemmas.stretches.Going.{Going, begin, is_place, plain}
+use Rattle.rv64_words_laws.specs.sequences.Moves.{fetch_size, fetch_words}
+use Rattle.rv64_words_laws.proofs.lemmas.values.Kept.{keeps_itself, keeps_written}
 use Rattle.rv64_words.specs.declared.word.Word.{Word}
 use Rattle.rv64_words.specs.declared.word.Word.TheVariants.{Ecall}
 use Rattle.rv64_words.specs.Environment.{truth_text}

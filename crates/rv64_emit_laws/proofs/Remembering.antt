@@ -9,14 +9,14 @@ use Rattle.bril_tree.specs.Operand.{Location}
 use Rattle.bril_tree.specs.State as bril
 use Rattle.bril_tree.specs.Step.{step, advanced, code_of, with_locations}
 use Rattle.placement_laws.specs.Holding as holding
-use Rattle.rv64_blocks.specs.Laws.{CoreHolds}
-use Rattle.rv64_blocks.proofs.Allocating.{word_known}
-use Rattle.rv64_blocks.proofs.Lists.{changed_length}
-use Rattle.rv64_stretches.specs.Core.{Core}
-use Rattle.rv64_stretches.proofs.Going.{Going}
-use Rattle.rv64_sequences.specs.Moves.{fill_size, fill_words, home_word}
-use Rattle.rv64_sequences.proofs.Homes.{fill_goes}
-use Rattle.rv64_sequences.proofs.Sizes.{fill_most}
+use Rattle.rv64_words_laws.specs.blocks.Laws.{CoreHolds}
+use Rattle.rv64_words_laws.proofs.lemmas.blocks.Allocating.{word_known}
+use Rattle.rv64_words_laws.proofs.lemmas.blocks.Lists.{changed_length}
+use Rattle.rv64_words_laws.specs.stretches.Core.{Core}
+use Rattle.rv64_words_laws.proofs.lemmas.stretches.Going.{Going}
+use Rattle.rv64_words_laws.specs.sequences.Moves.{fill_size, fill_words, home_word}
+use Rattle.rv64_words_laws.proofs.lemmas.sequences.Homes.{fill_goes}
+use Rattle.rv64_words_laws.proofs.lemmas.sequences.Sizes.{fill_most}
 use Rattle.rv64_words.specs.State.{State}
 use Rattle.slot_code.specs.declared.item.Slot.{Slot}
 use Rattle.slot_code.specs.Laws.{IsSlotOf}

@@ -28,21 +28,21 @@ use Rattle.placement_laws.specs.Holding.{HomesHold, IsSteady, SavesHold}
 use Rattle.placement_laws.specs.Homes.{slot_of}
 use Rattle.placement_laws.proofs.Calling.{KeptHold, call_goes_on, call_returns}
 use Rattle.placement_laws.proofs.Homes.{location_back}
-use Rattle.rv64_layout.specs.Image.{end_start}
-use Rattle.rv64_layout.specs.Homes.{call_moves, outlives, slot_word}
-use Rattle.rv64_layout.specs.Items.{after_call, before_call, call_result_size, call_result_words, leave_words, pass_words, return_word, room_words}
-use Rattle.rv64_layout.proofs.Bounding.{call_moves_back_most}
-use Rattle.rv64_layout.proofs.Lengths.{frame_up_length, pass_length, save_length}
-use Rattle.rv64_stretches.specs.Core.{Core, Keeps, written}
-use Rattle.rv64_stretches.specs.Runs.{Ends, HasAt, Leaves, Runs, effect}
-use Rattle.rv64_stretches.proofs.Going.{Going, HasAt-rest, begin, jump_back, load, plain}
-use Rattle.rv64_sequences.specs.Moves.{Filled, IsHomeInside, Move, Restored, fetch_words, fill_size, fill_words, home_word, restore_size, save_words}
-use Rattle.rv64_sequences.specs.Sequences.{fault_words, frame_up_words, jump_offset}
-use Rattle.rv64_sequences.proofs.Ends.{finishes}
-use Rattle.rv64_sequences.proofs.Homes.{fill_goes}
-use Rattle.rv64_sequences.proofs.Moves.{AfterOne}
-use Rattle.rv64_sequences.proofs.Sizes.{fetch_most, fill_most}
-use Rattle.rv64_values.proofs.Kept.{keeps_itself}
+use Rattle.rv64_emit_laws.specs.layout.Image.{end_start}
+use Rattle.rv64_emit_laws.specs.layout.Homes.{call_moves, outlives, slot_word}
+use Rattle.rv64_emit_laws.specs.layout.Items.{after_call, before_call, call_result_size, call_result_words, leave_words, pass_words, return_word, room_words}
+use Rattle.rv64_emit_laws.proofs.lemmas.layout.Bounding.{call_moves_back_most}
+use Rattle.rv64_emit_laws.proofs.lemmas.layout.Lengths.{frame_up_length, pass_length, save_length}
+use Rattle.rv64_words_laws.specs.stretches.Core.{Core, Keeps, written}
+use Rattle.rv64_words_laws.specs.stretches.Runs.{Ends, HasAt, Leaves, Runs, effect}
+use Rattle.rv64_words_laws.proofs.lemmas.stretches.Going.{Going, HasAt-rest, begin, jump_back, load, plain}
+use Rattle.rv64_words_laws.specs.sequences.Moves.{Filled, IsHomeInside, Move, Restored, fetch_words, fill_size, fill_words, home_word, restore_size, save_words}
+use Rattle.rv64_words_laws.specs.sequences.Sequences.{fault_words, frame_up_words, jump_offset}
+use Rattle.rv64_words_laws.proofs.lemmas.sequences.Ends.{finishes}
+use Rattle.rv64_words_laws.proofs.lemmas.sequences.Homes.{fill_goes}
+use Rattle.rv64_words_laws.proofs.lemmas.sequences.Moves.{AfterOne}
+use Rattle.rv64_words_laws.proofs.lemmas.sequences.Sizes.{fetch_most, fill_most}
+use Rattle.rv64_words_laws.proofs.lemmas.values.Kept.{keeps_itself}
 use Rattle.rv64_words.specs.declared.word.Word.TheVariants.{Jal}
 use Rattle.rv64_words.specs.Environment as rv64
 use Rattle.rv64_words.specs.Mnemonics.{addi}

@@ -7,14 +7,14 @@ use Rattle.bril_tree.specs.Operand.{Location}
 use Rattle.bril_tree.specs.State as bril
 use Rattle.bril_tree.specs.Step.{code_of, advanced, commits, dropped, speculates, step}
 use Rattle.placement_laws.specs.Homes.{slot_of}
-use Rattle.rv64_layout.specs.Homes.{FunctionHomes, level_word, moves_of}
-use Rattle.rv64_layout.specs.Items.{nop_word}
-use Rattle.rv64_layout.proofs.Bounding.{moves_save_most}
-use Rattle.rv64_stretches.specs.Core.{Core}
-use Rattle.rv64_stretches.specs.Runs.{HasAt}
-use Rattle.rv64_stretches.proofs.Going.{Going, begin, plain}
-use Rattle.rv64_sequences.specs.Moves.{Move, Saved, save_size, save_words}
-use Rattle.rv64_sequences.proofs.Moves.{homes_saved}
+use Rattle.rv64_emit_laws.specs.layout.Homes.{FunctionHomes, level_word, moves_of}
+use Rattle.rv64_emit_laws.specs.layout.Items.{nop_word}
+use Rattle.rv64_emit_laws.proofs.lemmas.layout.Bounding.{moves_save_most}
+use Rattle.rv64_words_laws.specs.stretches.Core.{Core}
+use Rattle.rv64_words_laws.specs.stretches.Runs.{HasAt}
+use Rattle.rv64_words_laws.proofs.lemmas.stretches.Going.{Going, begin, plain}
+use Rattle.rv64_words_laws.specs.sequences.Moves.{Move, Saved, save_size, save_words}
+use Rattle.rv64_words_laws.proofs.lemmas.sequences.Moves.{homes_saved}
 use Rattle.rv64_words.specs.State.{State}
 use Rattle.slot_code.specs.declared.item.Slot.{Slot}
 use Rattle.slot_code.specs.declared.item.SlotItem.TheVariants.{Commit, Speculate}

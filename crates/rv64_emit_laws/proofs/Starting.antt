@@ -17,17 +17,17 @@ use Rattle.bril_tree.specs.State as bril
 use Rattle.bril_tree.specs.Step.{new_frame}
 use Rattle.bril_tree.specs.Value.{IsOfDepth, word_of}
 use Rattle.bril_tree.proofs.Elements.{zip-long}
-use Rattle.rv64_layout.specs.Homes.{is_loaded, opening_moves}
-use Rattle.rv64_layout.specs.Image.{head_words}
-use Rattle.rv64_layout.proofs.Bounding.{opening_most}
-use Rattle.rv64_stretches.specs.Core.{Core, machine}
-use Rattle.rv64_stretches.specs.Runs.{Leaves}
+use Rattle.rv64_emit_laws.specs.layout.Homes.{is_loaded, opening_moves}
+use Rattle.rv64_emit_laws.specs.layout.Image.{head_words}
+use Rattle.rv64_emit_laws.proofs.lemmas.layout.Bounding.{opening_most}
+use Rattle.rv64_words_laws.specs.stretches.Core.{Core, machine}
+use Rattle.rv64_words_laws.specs.stretches.Runs.{Leaves}
 use Rattle.rv64_words.proofs.Assigned.{assigned_other}
-use Rattle.rv64_stretches.proofs.Going.{Going, begin, begin_there, plain, store}
-use Rattle.rv64_sequences.specs.Moves.{Restored, restore_size, restore_words}
-use Rattle.rv64_sequences.specs.Sequences.{high_part, low_part}
-use Rattle.rv64_sequences.proofs.Digits.{small_again}
-use Rattle.rv64_sequences.proofs.Jumps.{call_to}
+use Rattle.rv64_words_laws.proofs.lemmas.stretches.Going.{Going, begin, begin_there, plain, store}
+use Rattle.rv64_words_laws.specs.sequences.Moves.{Restored, restore_size, restore_words}
+use Rattle.rv64_words_laws.specs.sequences.Sequences.{high_part, low_part}
+use Rattle.rv64_words_laws.proofs.lemmas.sequences.Digits.{small_again}
+use Rattle.rv64_words_laws.proofs.lemmas.sequences.Jumps.{call_to}
 use Rattle.rv64_words.specs.declared.word.Word.TheVariants.{Sd}
 use Rattle.rv64_words.specs.Arithmetic.{extended_32, moved_by}
 use Rattle.rv64_words.specs.Machine.{machine_step}
