@@ -6,10 +6,10 @@ use Rattle.bril_tree.specs.declared.numbered_function.Func.{Func}
 use Rattle.bril_tree.specs.declared.program.Prog.{Prog}
 use Rattle.bril_tree.specs.Size.{IsCounted, item_count}
 use Rattle.bril_tree.proofs.Sizes.{counted-size}
-use Rattle.live_entries.specs.LiveEntries.{IsLiveEntryCount, TellsLiveEntries}
+use Rattle.ssa_laws.specs.live_entries.LiveEntries.{IsLiveEntryCount, TellsLiveEntries}
 use Rattle.pass_make.specs.Edited.{TellsBound}
 use Rattle.program_numbers.specs.ProgramNumbers.{IsSum}
-use Rattle.ssa_form.specs.Numbers.{IsSsaBound}
+use Rattle.ssa_form_laws.specs.form.Numbers.{IsSsaBound}
 use Rattle.braun_ssa.specs.Bound.{TellsEntries}
 
 sum-push : (R : Func → ℕ → Type 0) (xs : List Func) (F : Func) (n m : ℕ) → IsSum R xs n → R F m → IsSum R (xs ++ F ∷ []) (n + m)

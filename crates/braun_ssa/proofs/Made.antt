@@ -8,20 +8,20 @@ use Rattle.bril_tree.specs.Accepted.{IsAccepted}
 use Rattle.bril_tree.specs.Numbered.{Numbered, tree_size}
 use Rattle.bril_tree.specs.Size.{IsCounted, item_count}
 use Rattle.bril_tree.proofs.Sizes.{each_within}
-use Rattle.live_entries.specs.LiveEntries.{AreLiveEntries}
-use Rattle.live_entries.proofs.Existing.{live-entries-there, widths-there}
+use Rattle.ssa_laws.specs.live_entries.LiveEntries.{AreLiveEntries}
+use Rattle.ssa_laws.proofs.lemmas.live_entries.Existing.{live-entries-there, widths-there}
 use Rattle.pass_law.specs.Meaning.{Link}
 use Rattle.pass_make.specs.CanBeMade.{CanBeMade}
 use Rattle.pass_make.specs.Edited.{HasRoom, IsLinkedTo}
 use Rattle.pass_make.specs.declared.made.Made.TheVariants as making
 use Rattle.program_numbers.specs.ProgramNumbers.{IsGreatestWidth, most_locations}
-use Rattle.ssa_form.specs.Numbers.{IsSsaBound}
-use Rattle.ssa_form.specs.Ssa.{ssa_meaning}
-use Rattle.ssa_form.proofs.Trees.{laid-edits, laid-short, tree-none_longer}
-use Rattle.ssa_laid.proofs.Accepted.{trees-accepted}
-use Rattle.ssa_laid.proofs.Laid.{trees-refine}
-use Rattle.ssa_numbers.proofs.Whole.{laid-ssa}
-use Rattle.ssa_tree.specs.Made.{IsLaidTree}
+use Rattle.ssa_form_laws.specs.form.Numbers.{IsSsaBound}
+use Rattle.ssa_form_laws.specs.form.Ssa.{ssa_meaning}
+use Rattle.ssa_form_laws.proofs.lemmas.form.Trees.{laid-edits, laid-short, tree-none_longer}
+use Rattle.ssa_form_laws.proofs.lemmas.laid.Accepted.{trees-accepted}
+use Rattle.ssa_form_laws.proofs.lemmas.laid.Laid.{trees-refine}
+use Rattle.ssa_form_laws.proofs.lemmas.numbers.Whole.{laid-ssa}
+use Rattle.ssa_build.specs.tree.Made.{IsLaidTree}
 
 module _ (P : Prog) (accepted : IsAccepted P) (tree : Tree) (t : IsLaidTree P tree) (counted : IsCounted P) (n : ℕ) (entries : AreLiveEntries P n) (width : ℕ) (is_width : IsGreatestWidth P width) (profile : Profile) (room : HasRoom (IsSsaBound P) (item_count P)) where
   abbrev bound : ℕ

@@ -1,7 +1,7 @@
 -- The live entries of a program, as they are counted.
 use Rattle.std.specs.Prelude.{◌≡◌, ℕ, List, min}
 use Rattle.bril_tree.specs.declared.numbered_function.Func.{Func}
-use Rattle.live_entries.specs.LiveEntries.{IsLiveEntryCount}
+use Rattle.ssa_laws.specs.live_entries.LiveEntries.{IsLiveEntryCount}
 use Rattle.program_numbers.specs.ProgramNumbers.{IsSum}
 
 -- those of some functions are told, or 2^64 - 1 where there are more

@@ -5,11 +5,11 @@ ghost use Rattle.braun_ssa.specs.Bound.{TellsEntries};
 ghost use Rattle.bril_tree.specs.Accepted.{IsAccepted};
 ghost use Rattle.bril_tree.specs.Size.{IsCounted};
 ghost use Rattle.pass_make.specs.Edited.{TellsBound};
-ghost use Rattle.ssa_form.specs.Numbers.{IsSsaBound};
+ghost use Rattle.ssa_form_laws.specs.form.Numbers.{IsSsaBound};
 
 use bril_tree::program::Prog;
 use flow_graph::Graph;
-use live_entry_count::count_live_entries;
+use ssa_search::live_entry_count::count_live_entries;
 use std::alloc::{AllocError, Global};
 
 // The number of live entries of an accepted program, or 2^64 - 1 where it is greater. Want of memory is the only error.

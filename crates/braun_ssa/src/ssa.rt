@@ -1,12 +1,12 @@
 // The pass.
 
-ghost use Rattle.ssa_form.specs.Ssa.{ssa_meaning};
+ghost use Rattle.ssa_form_laws.specs.form.Ssa.{ssa_meaning};
 
 use crate::bound::ssa_bound;
 use bril_checker::Checked;
 use bril_profile::Profile;
 use pass_make::{Edit, Edited, Made};
-use ssa_tree::ssa_tree;
+use ssa_build::tree::ssa_tree;
 use std::alloc::{AllocError, Global};
 
 /// The pass `ssa`, as clauses see it by its tally. It brings a program into SSA form (Braun and others, "Simple and Efficient Construction

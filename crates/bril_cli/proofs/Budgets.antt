@@ -6,8 +6,8 @@ use Rattle.bril_cli.specs.Shipped.{Shipped, shipped, MeanEach, AreShipped}
 use Rattle.budget_rows.proofs.Keeping.{const-row, dead-row, merge-row, tidy-row, unssa-row}
 use Rattle.budget_rows.proofs.Renaming.{ssa-row}
 use Rattle.budget_rows.proofs.Tracing.{trace-row}
-use Rattle.pass_budget.specs.Laws.{IsWithinRows}
-use Rattle.pass_budget.proofs.Same.{IsWithinRows-same}
+use Rattle.pass_budget_laws.specs.Laws.{IsWithinRows}
+use Rattle.pass_budget_laws.proofs.Same.{IsWithinRows-same}
 use Rattle.pass_law.specs.Meaning.{Meaning}
 
 AreWithinEach : List Shipped → Type 0

@@ -7,7 +7,7 @@ use Rattle.constant_pass.specs.Const.{const_meaning}
 use Rattle.dead_code.specs.Dead.{dead_meaning}
 use Rattle.pass_law.specs.Meaning.{Meaning, SameMeaning}
 use Rattle.ssa_exit.specs.Unssa.{unssa_meaning}
-use Rattle.ssa_form.specs.Ssa.{ssa_meaning}
+use Rattle.ssa_form_laws.specs.form.Ssa.{ssa_meaning}
 use Rattle.tidy_code.specs.Tidy.{tidy_meaning}
 use Rattle.trace_laws.specs.Trace.{trace_meaning}
 

@@ -47,7 +47,7 @@ use std::alloc::Global;
 /// they print is what the program prints by its semantics, and the machine ends as the program does: where the program ends after n steps,
 /// `run` has its end if `--steps` is at least the cost of a step of the program after the passes (`program_numbers/specs/Cost.antt`), times
 /// the product of the passes' factors, times n + 1. With the shipped passes `--steps` is enough if it is at least the budget of the list
-/// for n steps (`pass_budget/specs/Budget.antt`), which is computed from the numbers of the source and the number of the profile's entries.
+/// for n steps (`pass_budget_laws/specs/Budget.antt`), which is computed from the numbers of the source and the number of the profile's entries.
 /// With `--stats`, after a run that ended, stopped with a fault or goes on, `err` gets the line `words W`, W being the words that were
 /// executed, and for each guard of the program, in the order of functions and items, the line `guard @F I fails K`: its function, its item
 /// from 0, and how often it failed; then the line of the status.

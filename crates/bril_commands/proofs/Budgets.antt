@@ -4,7 +4,7 @@ use Rattle.bril_tree.specs.Run.{state_after}
 use Rattle.bril_tree.specs.declared.limits.End.{End}
 use Rattle.bril_words.specs.declared.request.Action.TheVariants.{Run}
 use Rattle.bril_words.specs.declared.request.Action.{Action}
-use Rattle.pass_budget.specs.Numbers.{Numbers}
+use Rattle.pass_budget_laws.specs.Numbers.{Numbers}
 use Rattle.bril_commands.specs.Answers.{Promises}
 use Rattle.bril_commands.specs.Budgets.{AreWithinRows, GoesPastBudget, RunsPastBudget, SpentPastBudget}
 use Rattle.bril_commands.specs.Call.{Call, CommandComesTo, ProgramComesTo}

@@ -5,8 +5,8 @@ use Rattle.bril_outside.specs.Sink.{Rose}
 use Rattle.bril_report.specs.StageFaults.{link_status}
 use Rattle.bril_report.specs.declared.status.Status.{Status}
 use Rattle.bril_report.specs.declared.status.Status.TheVariants as status
-use Rattle.bril_source.specs.Format.{format_of}
-use Rattle.bril_source.specs.Reading.{HasFault, ReadsAs, most_bytes}
+use Rattle.import_linker.specs.formats.Format.{format_of}
+use Rattle.import_linker.specs.formats.Reading.{HasFault, ReadsAs, most_bytes}
 use Rattle.bril_tree.specs.declared.tree.Tree.{Tree}
 use Rattle.import_linker.proofs.Trees.{linked_once}
 use Rattle.import_linker.proofs.Uniqueness.{lacking_not_linked, lacking_not_read, linked_not_refused, refused_once}

@@ -10,9 +10,9 @@ use Rattle.bril_tree.specs.declared.limits.End.{End}
 use Rattle.bril_tree.specs.declared.limits.Limits.{Limits}
 use Rattle.bril_tree.specs.declared.program.Prog.{Prog}
 use Rattle.bril_tree.specs.declared.value.Value.{Value}
-use Rattle.pass_budget.specs.Budget.{budget}
-use Rattle.pass_budget.proofs.Chaining.{chains-within_budget}
-use Rattle.rv64_implements.proofs.Endings.{stopped_in_time, printed_in_time}
+use Rattle.pass_budget_laws.specs.Budget.{budget}
+use Rattle.pass_budget_laws.proofs.Chaining.{chains-within_budget}
+use Rattle.rv64_image_laws.proofs.Endings.{stopped_in_time, printed_in_time}
 use Rattle.rv64_words.specs.State.{Finished}
 use Rattle.bril_commands.proofs.Sources.{made_chain, made_fits, made_ends, made_prints, enough_made, shows_source}
 use Rattle.bril_commands.specs.Command.{ImageFor, AreLimitsOf}

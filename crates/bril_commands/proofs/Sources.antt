@@ -13,7 +13,7 @@ use Rattle.bril_tree.specs.declared.value.Value.{Value}
 use Rattle.bril_profile.specs.declared.profile.Entry.{Entry}
 use Rattle.pass_law.proofs.Chaining.{chains-refine}
 use Rattle.pass_law.specs.Chains.{IsRefiningChain}
-use Rattle.rv64_implements.specs.Shown.{ProgramEnds, ProgramRunsOn, ProgramShows}
+use Rattle.rv64_image_laws.specs.Shown.{ProgramEnds, ProgramRunsOn, ProgramShows}
 use Rattle.bril_commands.specs.PassList.{PassList, IsMade}
 use Rattle.bril_commands.specs.Sources.{SourceRunsOn, SourceShows}
 

@@ -13,8 +13,8 @@ use Rattle.bril_tree.specs.declared.program.Prog.{Prog}
 use Rattle.bril_tree.specs.declared.tree.Tree.{Tree}
 use Rattle.bril_tree.specs.declared.value.Value.{Value}
 use Rattle.bril_words.specs.declared.request.Action.{Action}
-use Rattle.rv64_implements.proofs.Sizes.{within_not_beyond}
-use Rattle.rv64_implements.specs.WordBounds.{IsWithin}
+use Rattle.rv64_image_laws.proofs.Sizes.{within_not_beyond}
+use Rattle.rv64_image_laws.specs.WordBounds.{IsWithin}
 use Rattle.bril_commands.proofs.Causes.{by_tree, exhausted, no_refusal, same_args, same_values, with_program}
 use Rattle.bril_commands.proofs.Profiles.{not_refused_from, same_entries_from}
 use Rattle.bril_commands.proofs.Statuses.{Ends, plain}

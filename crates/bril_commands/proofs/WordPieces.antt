@@ -4,7 +4,7 @@ use Rattle.bril_outside.proofs.SinkWrites.{joined-append}
 use Rattle.bril_outside.specs.Sink.{joined}
 use Rattle.bril_tree.specs.declared.limits.Limits.{Limits}
 use Rattle.bril_tree.specs.declared.value.Value.{Value}
-use Rattle.rv64_implements.specs.Implements.{image_after}
+use Rattle.rv64_image_laws.specs.Implements.{image_after}
 use Rattle.rv64_words.proofs.Runs.{printed-grows}
 use Rattle.rv64_words.specs.Machine.{machine_step}
 use Rattle.rv64_words.specs.Region.{sizes_of}

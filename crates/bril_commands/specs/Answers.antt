@@ -14,7 +14,7 @@ use Rattle.bril_report.specs.Puts.{Puts, HoldsBack, WritesAll, WritesSome}
 use Rattle.bril_report.specs.Report.{misread_pieces, not_there_pieces, clash_pieces, misnamed_pieces, unaccepted_pieces, unread_pieces, many_bytes_pieces, many_files_pieces, long_profile_pieces, profile_pieces, spent_pieces, code_pieces, stack_pieces, pass_pieces, unknown_pass_pieces}
 use Rattle.bril_report.specs.declared.status.Status.TheVariants as status
 use Rattle.bril_report.specs.declared.status.Status.{Status}
-use Rattle.bril_source.specs.declared.fault.ReadFault.{ReadFault}
+use Rattle.import_linker.specs.declared.formats.fault.ReadFault.{ReadFault}
 use Rattle.bril_tree.specs.Accepted.{IsAccepted}
 use Rattle.bril_tree.specs.Numbered.{Numbered}
 use Rattle.bril_tree.specs.Run.{main_types}
@@ -31,7 +31,7 @@ use Rattle.bril_words.specs.declared.request.Action.TheVariants as action
 use Rattle.import_linker.specs.declared.fault.LinkFault.{LinkFault}
 use Rattle.import_linker.specs.declared.fault.LinkFault.TheVariants.{Read, Bad, NotThere, Clash, TooManyFiles, TooManyBytes}
 use Rattle.pass_law.specs.Bounds.{capped}
-use Rattle.rv64_implements.specs.WordBounds.{word_bounds, IsStackSize}
+use Rattle.rv64_image_laws.specs.WordBounds.{word_bounds, IsStackSize}
 use Rattle.rv64_words.specs.Region.{most_words, most_stack}
 use Rattle.bril_commands.specs.Arguments.{HasOnlyArgFault, argument_pieces}
 use Rattle.bril_commands.specs.Call.{Call, SaysAlone, ReadsWell, UnlessMemory, ComesTo}

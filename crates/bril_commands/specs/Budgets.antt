@@ -8,9 +8,9 @@ use Rattle.bril_tree.specs.declared.program.Prog.{Prog}
 use Rattle.bril_tree.specs.declared.value.Value.{Value}
 use Rattle.bril_words.specs.declared.request.Action.TheVariants.{Run}
 use Rattle.bril_words.specs.declared.request.Action.{Action}
-use Rattle.pass_budget.specs.Budget.{budget}
-use Rattle.pass_budget.specs.Laws.{IsWithinRows}
-use Rattle.pass_budget.specs.Numbers.{Numbers, AreWithin}
+use Rattle.pass_budget_laws.specs.Budget.{budget}
+use Rattle.pass_budget_laws.specs.Laws.{IsWithinRows}
+use Rattle.pass_budget_laws.specs.Numbers.{Numbers, AreWithin}
 use Rattle.bril_commands.specs.Arguments.{AreOnlyValues}
 use Rattle.bril_commands.specs.Call.{Call}
 use Rattle.bril_commands.specs.CommandLine.{Asks}

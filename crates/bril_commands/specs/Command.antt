@@ -8,7 +8,7 @@ use Rattle.bril_tree.specs.declared.limits.Limits.{Limits}
 use Rattle.bril_tree.specs.declared.program.Prog.{Prog}
 use Rattle.bril_tree.specs.declared.tree.Tree.{Tree}
 use Rattle.bril_tree.specs.declared.value.Value.{Value}
-use Rattle.rv64_implements.specs.WordBounds.{IsWithin}
+use Rattle.rv64_image_laws.specs.WordBounds.{IsWithin}
 use Rattle.bril_commands.specs.Arguments.{AreOnlyValues, RefusesArgs}
 use Rattle.bril_commands.specs.Images.{RefusesImage}
 use Rattle.bril_commands.specs.Outcome.{Outcome}

@@ -8,8 +8,8 @@ use Rattle.bril_tree.specs.declared.limits.Limits.{Limits}
 use Rattle.bril_tree.specs.declared.program.Prog.{Prog}
 use Rattle.bril_tree.specs.declared.value.Value.{Value}
 use Rattle.pass_law.specs.Bounds.{capped}
-use Rattle.rv64_implements.specs.Implements.{Implements, image_after}
-use Rattle.rv64_implements.specs.WordBounds.{has_fixed_bounds, word_bounds, IsStackSize, IsWithin}
+use Rattle.rv64_image_laws.specs.Implements.{Implements, image_after}
+use Rattle.rv64_image_laws.specs.WordBounds.{has_fixed_bounds, word_bounds, IsStackSize, IsWithin}
 use Rattle.rv64_words.specs.Region.{most_words, most_stack}
 use Rattle.rv64_words.specs.State.{Finished}
 use Rattle.rv64_words.specs.declared.image.Image.{Image}

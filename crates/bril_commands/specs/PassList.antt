@@ -7,9 +7,9 @@ use Rattle.bril_report.specs.Tallies.{tally_pieces}
 use Rattle.bril_report.specs.declared.status.Status.TheVariants as status
 use Rattle.bril_report.specs.declared.status.Status.{Status}
 use Rattle.bril_tree.specs.declared.program.Prog.{Prog}
-use Rattle.pass_budget.specs.Budget.{budget}
-use Rattle.pass_budget.specs.Laws.{IsWithinRows}
-use Rattle.pass_budget.specs.Numbers.{Numbers, AreWithin}
+use Rattle.pass_budget_laws.specs.Budget.{budget}
+use Rattle.pass_budget_laws.specs.Laws.{IsWithinRows}
+use Rattle.pass_budget_laws.specs.Numbers.{Numbers, AreWithin}
 use Rattle.pass_law.specs.Chains.{or_else, first_answering, first_unknown, AreFactors, Ran, StoppedAt, CutOff, AllSame}
 use Rattle.pass_law.specs.Meaning.{Meaning}
 use Rattle.pass_law.specs.declared.tally.Tally.{Tally}

@@ -6,9 +6,9 @@ use Rattle.bril_demo.specs.Demo.{demo_tree}
 use Rattle.bril_names.specs.Faults as names
 use Rattle.bril_names.specs.declared.fault.NameFault.{NameFault}
 use Rattle.bril_outside.specs.Files.{FileMap, FilesSeen, LacksFile, MayHold}
-use Rattle.bril_source.specs.Format.{format_of}
-use Rattle.bril_source.specs.Reading.{HasFault, IsOnlyTree, ReadsAs, most_bytes}
-use Rattle.bril_source.specs.declared.fault.ReadFault.{ReadFault}
+use Rattle.import_linker.specs.formats.Format.{format_of}
+use Rattle.import_linker.specs.formats.Reading.{HasFault, IsOnlyTree, ReadsAs, most_bytes}
+use Rattle.import_linker.specs.declared.formats.fault.ReadFault.{ReadFault}
 use Rattle.bril_tree.specs.Accepted.{IsAccepted}
 use Rattle.bril_tree.specs.Numbered.{Numbered}
 use Rattle.bril_tree.specs.declared.program.Prog.{Prog}

@@ -7,7 +7,7 @@ use Rattle.bril_tree.specs.declared.program.Prog.{Prog}
 use Rattle.bril_tree.specs.declared.value.Value.{Value}
 use Rattle.program_numbers.specs.Cost.{IsCost}
 use Rattle.bril_tree.specs.Run.{state_after}
-use Rattle.rv64_implements.specs.Shown.{ProgramEnds}
+use Rattle.rv64_image_laws.specs.Shown.{ProgramEnds}
 
 -- The source has not ended after any number of steps n for which the words are at least the cost of a step of the program that was
 -- made, times the factor, times n + 1; and this is the first of what it prints.

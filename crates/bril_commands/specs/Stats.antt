@@ -7,7 +7,7 @@ use Rattle.bril_tree.specs.declared.limits.End.{End}
 use Rattle.bril_tree.specs.declared.limits.Limits.{Limits}
 use Rattle.bril_tree.specs.declared.program.Prog.{Prog}
 use Rattle.bril_tree.specs.declared.value.Value.{Value}
-use Rattle.rv64_implements.specs.Implements.{ListsGuards, CountsFailures, image_after}
+use Rattle.rv64_image_laws.specs.Implements.{ListsGuards, CountsFailures, image_after}
 use Rattle.rv64_words.specs.State.{State}
 use Rattle.rv64_words.specs.declared.image.GuardAt.{GuardAt}
 use Rattle.rv64_words.specs.declared.image.Image.{Image}

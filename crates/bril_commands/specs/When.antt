@@ -12,7 +12,7 @@ use Rattle.bril_tree.specs.declared.program.Prog.{Prog}
 use Rattle.bril_tree.specs.declared.tree.Tree.{Tree}
 use Rattle.bril_tree.specs.declared.value.Value.{Value}
 use Rattle.bril_words.specs.declared.request.Action.{Action}
-use Rattle.rv64_implements.specs.WordBounds.{IsWithin}
+use Rattle.rv64_image_laws.specs.WordBounds.{IsWithin}
 use Rattle.bril_commands.specs.Call.{Call, SaysAlone, ReadsWell, UnlessMemory, TellsRun}
 use Rattle.bril_commands.specs.Command.{Command, OnFile, OnTree, OnProgram, Makes, Emission, NoImage, ImageFor, AreLimitsOf, Spell, reach}
 use Rattle.bril_commands.specs.Driver.{subject}

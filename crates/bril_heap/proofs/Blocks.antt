@@ -46,27 +46,33 @@ set-seen blocks block place b after change live read is =
     let number : block ≡ suc place = live.number in
     rw number (sym (changed-set blocks place b after change (live_read blocks block place b live read) is))
 
--- what is kept after a change of one block, which has as many cells as before
-pub heap-set : (limit given live now : ℕ) (bs : List BlockView) (block place : ℕ) (b after : BlockView) → IsHeap limit given live bs → IsLiveAt bs block place → b ≡ get_or bs place b → length after.cells ≡ length b.cells → now + cond b.is_live 1 0 ≡ live + cond after.is_live 1 0 → IsHeap limit given now (set bs place after)
-heap-set limit given live now bs block place b after heap at read same counts =
+-- the cells of a block, where it is live
+abbrev pub cells_used : BlockView → ℕ
+cells_used b = cond b.is_live (length b.cells) 0
+
+-- what is kept after a change of one block
+pub heap-set : (limit used live used_now now : ℕ) (bs : List BlockView) (block place : ℕ) (b after : BlockView) → IsHeap limit used live bs → IsLiveAt bs block place → b ≡ get_or bs place b →
+    used_now ≤ limit → used_now + cells_used b ≡ used + cells_used after → now + cond b.is_live 1 0 ≡ live + cond after.is_live 1 0 → IsHeap limit used_now now (set bs place after)
+heap-set limit used live used_now now bs block place b after heap at read within cells counts =
     let stands : get_or bs place b ≡ b = get_or_from_slice_get bs place b b (live_read bs block place b at read) in
-    let sizes : sum_by (λ v. length v.cells) (set bs place after) + length b.cells ≡ sum_by (λ v. length v.cells) bs + length after.cells = rw stands at (sum_by-set (λ (v : BlockView). length v.cells) bs place after b at.within) in
+    let sizes : sum_by cells_used (set bs place after) + cells_used b ≡ sum_by cells_used bs + cells_used after = rw stands at (sum_by-set cells_used bs place after b at.within) in
     let lives : count_by (λ v. v.is_live) (set bs place after) + cond b.is_live 1 0 ≡ count_by (λ v. v.is_live) bs + cond after.is_live 1 0 = rw stands at (sum_by-set (λ (v : BlockView). cond v.is_live 1 0) bs place after b at.within) in
     record {
-      given_out = omega (arith, heap.given_out);
-      within = heap.within;
+      counted = omega (arith, heap.counted);
+      within = within;
       alive = omega (arith, heap.alive);
       few = omega (arith, heap.few, length-set bs place after);
     }
 
--- a live block counts
-pub live-counts : (limit given live : ℕ) (bs : List BlockView) (block place : ℕ) (b : BlockView) → IsHeap limit given live bs → IsLiveAt bs block place → b ≡ get_or bs place b → (b.is_live ≡ true) × (0 < live)
-live-counts limit given live bs block place b heap at read =
+-- a live block counts, and so do its cells
+pub live-counts : (limit used live : ℕ) (bs : List BlockView) (block place : ℕ) (b : BlockView) → IsHeap limit used live bs → IsLiveAt bs block place → b ≡ get_or bs place b → (b.is_live ≡ true) × (0 < live) × (length b.cells ≤ used)
+live-counts limit used live bs block place b heap at read =
     let there : slice_get bs place ≡ Some b = live_read bs block place b at read in
     let is_live : b.is_live ≡ true = at.live b there in
     let stands : get_or bs place b ≡ b = get_or_from_slice_get bs place b b there in
     let counted : 1 ≤ count_by (λ v. v.is_live) bs = rw (stands, is_live) at (get_or-le-sum_by (λ (v : BlockView). cond v.is_live 1 0) bs place b at.within) in
-    (is_live, omega (arith, heap.alive))
+    let used : length b.cells ≤ sum_by cells_used bs = rw (stands, is_live) at (get_or-le-sum_by cells_used bs place b at.within) in
+    (is_live, omega (arith, heap.alive), omega (arith, heap.counted))
 
 -- a cell of a live block
 pub cell_at-read : (blocks : List BlockView) (block : ℕ) (offset : ℤ) (place cell : ℕ) (b : BlockView) → IsCellAt blocks block offset place cell → b ≡ get_or blocks place b → (cell < length b.cells) × (cell_at (seen blocks) (Ptr block offset) ≡ Some cell)

@@ -1,4 +1,4 @@
--- How many cells were given out and how many blocks are live, and whether one is.
+-- How many cells and how many blocks are live, and whether a block is.
 use Rattle.std.proofs.Common.{◌≡◌, ℕ, zero, suc, ◌+◌, ◌<◌, nat_lt, ℤ, pos, negsuc, nat_abs, int_lt, Bool, true, false, not, cond, if◌then◌else◌, ◌||◌, ◌==◌, List, [], ◌∷◌, map, length, Some, None, zero-add, refl, sym, ◌∙◌, arith}
 use Rattle.std.specs.List.{count_by}
 use Rattle.std.proofs.lemmas.Grind.{common_steps}
@@ -7,7 +7,7 @@ use Rattle.std.proofs.lemmas.List.{length-map}
 use Rattle.std.proofs.lemmas.List.Folds.{fold-map}
 use Rattle.std.proofs.lemmas.List.Sums.{sum_by-cons}
 use Rattle.bril_tree.specs.declared.limits.Fault.TheVariants as fault
-use Rattle.bril_tree.specs.Memory.{is_live_any, cells_given, most_blocks, allocation_fault}
+use Rattle.bril_tree.specs.Memory.{is_live_any, cells_live, most_blocks, allocation_fault}
 use Rattle.bril_tree.specs.State.{Block}
 use Rattle.bril_heap.specs.Heap.{BlockView, IsHeap, block_seen}
 
@@ -25,9 +25,9 @@ pub count-seen : (bs : List BlockView) → count_by (λ b. b.is_live) (map block
 count-seen bs = fold-map (λ (a : ℕ) (b : Block). a + cond b.is_live 1 0) block_seen 0 bs
 
 -- why a block of some cells can't be had, where there are fewer blocks than the most
-pub fault-seen : (limit given live : ℕ) (bs : List BlockView) (count : ℤ) → IsHeap limit given live bs → int_lt count (pos 1) ≡ false → length bs < most_blocks → allocation_fault limit (map block_seen bs) count ≡ (if nat_lt limit (given + nat_abs count) then Some fault.Cells else None)
-fault-seen limit given live bs (negsuc n) heap some few = cc
-fault-seen limit given live bs (pos zero) heap some few = cc
-fault-seen limit given live bs (pos (suc n)) heap some few =
-    let sizes : cells_given (map block_seen bs) ≡ given = fold-map (λ (a : ℕ) (b : Block). a + b.size) block_seen 0 bs ∙ sym heap.given_out in
+pub fault-seen : (limit in_use live : ℕ) (bs : List BlockView) (count : ℤ) → IsHeap limit in_use live bs → int_lt count (pos 1) ≡ false → length bs < most_blocks → allocation_fault limit (map block_seen bs) count ≡ (if nat_lt limit (in_use + nat_abs count) then Some fault.Cells else None)
+fault-seen limit in_use live bs (negsuc n) heap some few = cc
+fault-seen limit in_use live bs (pos zero) heap some few = cc
+fault-seen limit in_use live bs (pos (suc n)) heap some few =
+    let sizes : cells_live (map block_seen bs) ≡ in_use = fold-map (λ (a : ℕ) (b : Block). a + cond b.is_live b.size 0) block_seen 0 bs ∙ sym heap.counted in
     rw (length-map bs block_seen, lt-ltb (length bs) most_blocks few, sizes) refl

@@ -1,5 +1,5 @@
 -- What contracts see of blocks of memory, and what calls on them answer.
-use Rattle.std.specs.Prelude.{◌≡◌, ℕ, ◌≤◌, Bool, List, map, length, Option, Some, None, option_and_then, slice_get, Result, Ok, Err}
+use Rattle.std.specs.Prelude.{◌≡◌, ℕ, ◌≤◌, Bool, if◌then◌else◌, List, map, length, Option, Some, None, option_and_then, slice_get, Result, Ok, Err}
 use Rattle.std.specs.List.{count_by, sum_by}
 use Rattle.bril_tree.specs.declared.limits.Fault.{Fault}
 use Rattle.bril_tree.specs.declared.limits.Fault.TheVariants as fault
@@ -15,15 +15,15 @@ pub record BlockView : Type 0 where
   pub is_live : Bool
   pub cells : List (Option Value)
 
--- The most cells that may be given out, and the blocks, of which the first has the number 1.
+-- The most cells that may be live, and the blocks, of which the first has the number 1.
 pub record CellsView : Type 0 where
   pub limit : ℕ
   pub blocks : List BlockView
 
--- what a heap keeps: how many cells it has given out, which are no more than its limit, and how many blocks are live
-pub record IsHeap (limit given live : ℕ) (blocks : List BlockView) : Type 0 where
-  pub given_out : given ≡ sum_by (λ b. length b.cells) blocks
-  pub within : given ≤ limit
+-- what a heap keeps: how many cells its live blocks have, which are no more than its limit, and how many blocks are live
+pub record IsHeap (limit in_use live : ℕ) (blocks : List BlockView) : Type 0 where
+  pub counted : in_use ≡ sum_by (λ b. if b.is_live then length b.cells else 0) blocks
+  pub within : in_use ≤ limit
   pub alive : live ≡ count_by (λ b. b.is_live) blocks
   pub few : length blocks ≤ most_blocks
 

@@ -14,11 +14,11 @@ use std::marker::Model;
 const MOST_BLOCKS: usize = 262144;
 
 /// Blocks of memory, as Bril's memory extension has them. They are numbered 1, 2, 3 and so on in the order in which
-/// they were taken, and cells that were freed are not given out again.
+/// they were taken. A block that is freed gives its memory back, and its cells count no longer.
 #[derive(Drop)]
 pub struct Cells {
     limit: u32,
-    given: u32,
+    in_use: u32,
     live: u32,
     blocks: Vec<StoredBlock>,
 }
@@ -30,22 +30,22 @@ impl Model for Cells {
 
     ghost view = { λ c. record { limit = c.limit; blocks = c.blocks.items } };
 
-    ghost invariant = { λ c. IsHeap c.limit c.given c.live c.blocks.items };
+    ghost invariant = { λ c. IsHeap c.limit c.in_use c.live c.blocks.items };
 }
 
 impl Cells {
-    ghost use Rattle.bril_tree.specs.Memory.{allocation_fault, cells_of, new_block, live_block, is_freeable, changed_block, cell_at, is_live_any};
+    ghost use Rattle.bril_tree.specs.Memory.{allocation_fault, cells_of, new_block, ended_block, live_block, is_freeable, changed_block, cell_at, is_live_any};
     ghost use Rattle.bril_tree.specs.declared.value.Value.TheVariants.{Ptr};
     ghost use Rattle.bril_heap.specs.Heap.{blocks_of, IsRefusal, load_answer, Stores};
 
-    /// No blocks; at most `limit` cells will be given out. Takes no memory: that of the blocks will be `alloc`'s.
+    /// No blocks; at most `limit` cells will be live. Takes no memory: that of the blocks will be `alloc`'s.
     pub fn new(alloc: Global, limit: u32) -> Cells
         ensures limit { result.limit ≡ limit }
         ensures blocks { blocks_of result ≡ [] }
     {
         Cells {
             limit,
-            given: 0,
+            in_use: 0,
             live: 0,
             blocks: Vec::new(alloc),
         }
@@ -54,7 +54,7 @@ impl Cells {
     /// Makes a block of `count` cells that hold nothing, and answers its number.
     ///
     /// `BadAlloc` comes exactly where the count is below 1; else `Allocs` exactly where 262,144 blocks were taken
-    /// before; else `Cells` exactly where the count, added to all cells given out so far, passes the limit. `Memory`:
+    /// before; else `Cells` exactly where the count, added to the cells of all live blocks, passes the limit. `Memory`:
     /// memory was wanting. Nothing changes after an error.
     pub fn take(&mut self, count: i64) -> Result<u32, HeapFault>
         ensures limit { self.new.limit ≡ self.old.limit }
@@ -72,11 +72,11 @@ impl Cells {
         if self.blocks.len() >= MOST_BLOCKS {
             return Err(HeapFault::Allocs);
         }
-        if count > (self.limit - self.given) as i64 {
+        if count > (self.limit - self.in_use) as i64 {
             return Err(HeapFault::Cells);
         }
         push_empty(&mut self.blocks, count as usize)?;
-        self.given += count as u32;
+        self.in_use += count as u32;
         self.live += 1;
         Ok(self.blocks.len() as u32)
     }
@@ -86,7 +86,7 @@ impl Cells {
     pub fn free(&mut self, block: u32, offset: i32) -> bool
         ensures limit { self.new.limit ≡ self.old.limit }
         ensures answer { result ≡ is_freeable (live_block (blocks_of self.old) block) offset }
-        ensures blocks { blocks_of self.new ≡ (if result then changed_block (blocks_of self.old) block (λ b. record b { is_live = false }) else blocks_of self.old) }
+        ensures blocks { blocks_of self.new ≡ (if result then changed_block (blocks_of self.old) block (λ b. ended_block) else blocks_of self.old) }
     {
         if offset != 0 {
             return false;
@@ -94,6 +94,7 @@ impl Cells {
         match live_place(&self.blocks, block) {
             None => false,
             Some(place) => {
+                self.in_use -= self.blocks[place].size() as u32;
                 self.blocks[place].end();
                 self.live -= 1;
                 true

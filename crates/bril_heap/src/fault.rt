@@ -15,7 +15,7 @@ pub enum HeapFault {
     /// 262,144 blocks were taken before.
     #[error("too many blocks")]
     Allocs,
-    /// Added to all cells given out so far, the count passes the limit.
+    /// Added to the cells of all live blocks, the count passes the limit.
     #[error("too many cells")]
     Cells,
     /// Memory was wanting.

@@ -1,6 +1,6 @@
 // One block of memory, as it is kept.
 
-ghost use Rattle.std.specs.Prelude.{◌≡◌, ◌<◌, length, replicate, slice_set, true, false, None, Some, IfOk};
+ghost use Rattle.std.specs.Prelude.{◌≡◌, ◌<◌, [], length, replicate, slice_set, true, false, None, Some, IfOk};
 ghost use Rattle.bril_tree.specs.declared.value.Value.TheVariants.{Bool};
 
 use crate::stored_cell::{Kind, letter_of, pointer_of, pointer_word, truth_kind};
@@ -8,8 +8,8 @@ use bril_tree::value::Value;
 use std::alloc::{AllocError, Global};
 use std::marker::Model;
 
-// A block: whether it is live, and of each of its cells the kind and the word, which are as many. A cell takes 9 bytes,
-// and a bool is stored by writing one of them: the word stays as it was.
+// A block: whether it is live, and of each of its cells the kind and the word, which are as many; none once it is ended. A cell
+// takes 9 bytes, and a bool is stored by writing one of them: the word stays as it was.
 #[derive(Drop)]
 pub struct StoredBlock {
     is_live: bool,
@@ -59,11 +59,13 @@ impl StoredBlock {
         self.kinds.len()
     }
 
-    // Ends the block.
+    // Ends the block, and gives back the memory of its cells.
     pub fn end(&mut self)
-        ensures { self.new ≡ record self.old { is_live = false } }
+        ensures { self.new ≡ record { is_live = false; cells = [] } }
     {
         self.is_live = false;
+        self.kinds = Vec::new(*self.kinds.allocator());
+        self.words = Vec::new(*self.words.allocator());
     }
 
     // What a cell holds, where it was stored.

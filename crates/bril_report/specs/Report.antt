@@ -6,8 +6,8 @@ use Rattle.bril_checker.specs.declared.fault.CheckFault.{CheckFault}
 use Rattle.bril_checker.specs.declared.fault.CheckFault.TheVariants as check
 use Rattle.bril_names.specs.declared.fault.NameFault.{NameFault}
 use Rattle.bril_report.specs.declared.report.FaultPlace.{FaultPlace}
-use Rattle.bril_source.specs.declared.fault.ReadFault.{ReadFault}
-use Rattle.bril_source.specs.declared.fault.ReadFault.TheVariants.{Text, Json}
+use Rattle.import_linker.specs.declared.formats.fault.ReadFault.{ReadFault}
+use Rattle.import_linker.specs.declared.formats.fault.ReadFault.TheVariants.{Text, Json}
 use Rattle.bril_report.specs.declared.status.Status.{Status}
 use Rattle.bril_report.specs.declared.status.Status.TheVariants as status
 use Rattle.bril_report.specs.Lines.{text_front, text_position, position_of, number_or_dash, json_front, json_position, name_front, name_position, variable_name, fault_line, misuse_line}

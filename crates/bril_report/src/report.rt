@@ -12,13 +12,13 @@ use bril_checker::CheckFault;
 use bril_json::JsonFault;
 use bril_names::NameFault;
 use bril_outside::sink::Sink;
-use bril_source::ReadFault;
 use bril_text::TextFault;
 use bril_tree::limits::Fault;
 use bril_tree::name::Name;
 use bril_tree::program::Prog;
 use bril_tree::text::Text;
 use bril_words::{Misuse, Setting};
+use import_linker::formats::ReadFault;
 use itoa::Buffer;
 
 // A function and an item by their numbers, where a fault stands in one.

@@ -2,12 +2,12 @@
 
 use bril_checker::CheckFault;
 use bril_names::NameFault;
-use bril_source::ReadFault;
 use bril_tree::limits::Fault;
 use bril_tree::name::Name;
 use bril_tree::program::Prog;
 use bril_tree::text::Text;
 use bril_words::Misuse;
+use import_linker::formats::ReadFault;
 
 /// How a command that was asked for ends.
 #[derive(Drop)]

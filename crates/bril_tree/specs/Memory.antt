@@ -47,21 +47,21 @@ abbrev pub changed_block : List Block → ℕ → (Block → Block) → List Blo
 changed_block blocks zero change = blocks
 changed_block blocks (suc k) change = changed blocks k change
 
--- all cells given out so far
-abbrev pub cells_given : List Block → ℕ
-cells_given blocks = sum_by (λ b. b.size) blocks
+-- the cells of all live blocks
+abbrev pub cells_live : List Block → ℕ
+cells_live blocks = sum_by (λ b. if b.is_live then b.size else 0) blocks
 
 -- the most blocks that are ever allocated
 abbrev pub most_blocks : ℕ
 most_blocks = 262144
 
--- why a block of so many cells can't be had, in this order, where at most so many cells are given out
+-- why a block of so many cells can't be had, in this order, where at most so many cells are live
 abbrev pub allocation_fault : ℕ → List Block → ℤ → Option Fault
 allocation_fault most blocks (negsuc n) = Some fault.BadAlloc
 allocation_fault most blocks (pos zero) = Some fault.BadAlloc
 allocation_fault most blocks (pos (suc n)) =
     if not (nat_lt (length blocks) most_blocks) then Some fault.Allocs
-    else (if nat_lt most (cells_given blocks + suc n) then Some fault.Cells else None)
+    else (if nat_lt most (cells_live blocks + suc n) then Some fault.Cells else None)
 
 -- the count as a number of cells
 abbrev pub cells_of : ℤ → ℕ
@@ -70,6 +70,10 @@ cells_of (negsuc n) = 0
 
 abbrev pub new_block : ℕ → Block
 new_block size = record { size = size; is_live = true; cells = no_values }
+
+-- what is left of a block that was freed
+abbrev pub ended_block : Block
+ended_block = record { size = 0; is_live = false; cells = no_values }
 
 -- offset 0 of a live block
 abbrev pub is_freeable : Option Block → ℤ → Bool

@@ -15,7 +15,7 @@ use Rattle.bril_tree.specs.declared.program.Prog.{Prog}
 use Rattle.bril_tree.specs.declared.value.Value.{Value}
 use Rattle.bril_tree.specs.declared.value.Value.TheVariants.{Ptr}
 use Rattle.bril_tree.specs.State.{Values, no_values, with_value, read, counted, Locals, Frame, State}
-use Rattle.bril_tree.specs.Memory.{is_live_any, live_block, cell_at, held, changed_block, allocation_fault, cells_of, new_block, is_freeable}
+use Rattle.bril_tree.specs.Memory.{is_live_any, live_block, cell_at, held, changed_block, allocation_fault, cells_of, new_block, ended_block, is_freeable}
 use Rattle.bril_tree.specs.Operand.{dest_of}
 use Rattle.bril_tree.specs.Outcome.{Outcome, Yields, FaultsWith, HasEffect, outcome_of, argument, int_of, bool_of, block_of, offset_of}
 use Rattle.bril_tree.specs.Value.{shown}
@@ -154,7 +154,7 @@ module _ (p : Prog) (limits : Limits) where
   abbrev pub frees : Value → Frame → List Frame → State → State
   frees pointer f older s =
       if is_freeable (live_block s.blocks (block_of pointer)) (offset_of pointer) then
-      advances f older (record s { blocks = changed_block s.blocks (block_of pointer) (λ b. record b { is_live = false }) })
+      advances f older (record s { blocks = changed_block s.blocks (block_of pointer) (λ b. ended_block) })
       else faulted fault.BadFree s
 
   abbrev pub stores : Option ℕ → Value → Value → Frame → List Frame → State → State

@@ -2,7 +2,7 @@
 
 ghost use Rattle.std.specs.Prelude.{◌≤◌};
 
-/// The bounds of a run: at most `frames` frames at once, 1 to 65,536, and at most `cells` cells given out, 1 to
+/// The bounds of a run: at most `frames` frames at once, 1 to 65,536, and at most `cells` cells in live blocks, 1 to
 /// 4,194,304.
 #[derive(Clone, Copy, PartialEq, Eq, Debug, Drop)]
 pub struct Limits {
@@ -33,7 +33,7 @@ pub enum Fault {
     Leak,
     /// A call that would make one frame more than the limit.
     Frames,
-    /// `alloc` of a count that, added to all cells given out so far, passes the limit.
+    /// `alloc` of a count that, added to the sizes of all live blocks, passes the limit.
     Cells,
     /// `ptradd` to an offset outside the 32-bit signed range.
     PtrRange,

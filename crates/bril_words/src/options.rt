@@ -13,7 +13,7 @@ pub enum Setting {
     Profile,
     /// `--frames`: the most frames at once, 1 to 65,536.
     Frames,
-    /// `--cells`: the most cells that are given out, 1 to 4,194,304.
+    /// `--cells`: the most cells in live blocks, 1 to 4,194,304.
     Cells,
     /// `--steps`: the most steps, or words of the machine, that are made, 1 to 1,000,000,000,000.
     Steps,
@@ -54,7 +54,7 @@ impl Setting {
             Setting::Passes => "Passes to apply, with commas between their names [default: none]",
             Setting::Profile => "File with a profile for the passes [default: none]",
             Setting::Frames => "Most frames at once, 1 to 65536 [default: 8192]",
-            Setting::Cells => "Most cells in the whole run, 1 to 4194304 [default: 1048576]",
+            Setting::Cells => "Most cells in live blocks, 1 to 4194304 [default: 1048576]",
             Setting::Steps =>
                 "Most steps (machine words for run), 1 to 1000000000000 [default: 1000000000]",
             Setting::Hot => "Arrivals that make a label hot, 1 to 65536 [default: 16]",

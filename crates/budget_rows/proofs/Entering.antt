@@ -16,16 +16,16 @@ use Rattle.bril_tree.specs.Sites.{AreSitesSound}
 use Rattle.bril_tree.proofs.Acceptance.{shaped_function}
 use Rattle.bril_tree.proofs.Counting.{no_more_items}
 use Rattle.bril_tree.proofs.Members.{in_contains, in_flat_map, in_flat_map_source, in_map, in_map_source}
-use Rattle.live_entries.specs.LiveEntries.{IsLiveEntry, IsLiveEntryCount}
-use Rattle.live_entries.proofs.Deciding.{all-edges, edge-there}
-use Rattle.live_entries.proofs.Existing.{same-option, width-of, sum-there}
-use Rattle.live_entries.proofs.Selecting.{Decided, so-many}
-use Rattle.pass_budget.proofs.Costing.{greatest-all}
-use Rattle.pass_numbers.proofs.Locations.{location-listed, locations-counted, locations_of}
-use Rattle.pass_plan.proofs.Elements.{all_in}
+use Rattle.ssa_laws.specs.live_entries.LiveEntries.{IsLiveEntry, IsLiveEntryCount}
+use Rattle.ssa_laws.proofs.lemmas.live_entries.Deciding.{all-edges, edge-there}
+use Rattle.ssa_laws.proofs.lemmas.live_entries.Existing.{same-option, width-of, sum-there}
+use Rattle.ssa_laws.proofs.lemmas.live_entries.Selecting.{Decided, so-many}
+use Rattle.pass_budget_laws.proofs.Costing.{greatest-all}
+use Rattle.pass_edit_laws.proofs.lemmas.numbers.Locations.{location-listed, locations-counted, locations_of}
+use Rattle.pass_edit_laws.proofs.lemmas.plan.Elements.{all_in}
 use Rattle.program_numbers.specs.Entries.{Enters, IsEntryCount}
 use Rattle.program_numbers.specs.ProgramNumbers.{AreEntries, IsSum, most_locations}
-use Rattle.ssa_laid.proofs.Kept.{live-location}
+use Rattle.ssa_form_laws.proofs.lemmas.laid.Kept.{live-location}
 use Rattle.budget_rows.specs.Entries.{LiveEntriesAreFew}
 
 -- ---- the entries of a function

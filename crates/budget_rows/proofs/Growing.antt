@@ -5,11 +5,11 @@ use Rattle.std.proofs.lemmas.Bool.{cases_lt}
 use Rattle.bril_tree.specs.declared.program.Prog.{Prog}
 use Rattle.bril_tree.specs.Accepted.{IsAccepted}
 use Rattle.bril_tree.specs.Size.{item_count}
-use Rattle.live_entries.proofs.Existing.{widths-there}
-use Rattle.pass_budget.specs.Numbers.{Numbers, AreWithin}
-use Rattle.pass_budget.proofs.Existing.{not_depthless}
+use Rattle.ssa_laws.proofs.lemmas.live_entries.Existing.{widths-there}
+use Rattle.pass_budget_laws.specs.Numbers.{Numbers, AreWithin}
+use Rattle.pass_budget_laws.proofs.Existing.{not_depthless}
 use Rattle.pass_law.specs.Meaning.{is_name}
-use Rattle.pass_numbers.specs.Numbers.{Growth, NumbersGrow}
+use Rattle.pass_edit_laws.specs.numbers.Numbers.{Growth, NumbersGrow}
 use Rattle.budget_rows.proofs.Entering.{program-entries-there}
 
 -- Of numbers of at most n the growth makes at most m.

@@ -6,16 +6,16 @@ use Rattle.bril_tree.specs.declared.program.Prog.{Prog}
 use Rattle.bril_tree.specs.Accepted.{IsAccepted}
 use Rattle.bril_tree.specs.Size.{item_count}
 use Rattle.coalesce.specs.Merge.{merge_meaning}
-use Rattle.coalesce_laws.proofs.Numbers.{numbers-kept}
+use Rattle.coalesce.proofs.lemmas.meaning.Numbers.{numbers-kept}
 use Rattle.constant_pass.specs.Const.{const_meaning}
 use Rattle.constant_pass.proofs.Numbers as constant
 use Rattle.dead_code.specs.Dead.{dead_meaning}
 use Rattle.dead_code.proofs.Numbers as dead
-use Rattle.pass_budget.specs.Laws.{IsWithinRow, IsWithinRows}
-use Rattle.pass_budget.specs.Numbers.{Numbers, AreWithin}
-use Rattle.pass_budget.specs.Rows.{keeps, row_of, tidy_row}
+use Rattle.pass_budget_laws.specs.Laws.{IsWithinRow, IsWithinRows}
+use Rattle.pass_budget_laws.specs.Numbers.{Numbers, AreWithin}
+use Rattle.pass_budget_laws.specs.Rows.{keeps, row_of, tidy_row}
 use Rattle.pass_law.specs.Meaning.{Meaning, Link}
-use Rattle.pass_numbers.specs.Numbers.{NumbersWithin, widened}
+use Rattle.pass_edit_laws.specs.numbers.Numbers.{NumbersWithin, widened}
 use Rattle.ssa_exit.specs.Unssa.{unssa_meaning}
 use Rattle.ssa_exit.proofs.Made.{unssa-within}
 use Rattle.tidy_code.specs.Tidy.{tidy_meaning}

@@ -4,12 +4,12 @@ use Rattle.std.specs.Prelude.{codes}
 use Rattle.std.proofs.lemmas.Nat.{mul-le}
 use Rattle.bril_tree.specs.declared.program.Prog.{Prog}
 use Rattle.bril_tree.specs.Accepted.{IsAccepted}
-use Rattle.pass_budget.specs.Laws.{IsWithinRow, IsWithinRows}
-use Rattle.pass_budget.specs.Numbers.{Numbers, AreWithin}
-use Rattle.pass_budget.specs.Rows.{row_of, ssa_items, ssa_row}
+use Rattle.pass_budget_laws.specs.Laws.{IsWithinRow, IsWithinRows}
+use Rattle.pass_budget_laws.specs.Numbers.{Numbers, AreWithin}
+use Rattle.pass_budget_laws.specs.Rows.{row_of, ssa_items, ssa_row}
 use Rattle.program_numbers.specs.ProgramNumbers.{most_locations}
-use Rattle.ssa_form.specs.Numbers.{IsSsaBound, IsSsaFactor, ssa_growth}
-use Rattle.ssa_form.specs.Ssa.{ssa_meaning}
+use Rattle.ssa_form_laws.specs.form.Numbers.{IsSsaBound, IsSsaFactor, ssa_growth}
+use Rattle.ssa_form_laws.specs.form.Ssa.{ssa_meaning}
 use Rattle.budget_rows.proofs.Entering.{live-entries-few, program-entries-there}
 use Rattle.budget_rows.proofs.Growing.{Leads, by-name, grows-within}
 

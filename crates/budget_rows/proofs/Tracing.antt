@@ -6,14 +6,14 @@ use Rattle.std.proofs.lemmas.List.Sums.{sum_by-cons}
 use Rattle.bril_profile.specs.declared.profile.Profile.{Profile}
 use Rattle.bril_tree.specs.declared.program.Prog.{Prog}
 use Rattle.bril_tree.specs.Step.{code_of}
-use Rattle.pass_budget.specs.Laws.{IsWithinRow, IsWithinRows}
-use Rattle.pass_budget.specs.Numbers.{Numbers, AreWithin}
-use Rattle.pass_budget.specs.Rows.{row_of, trace_row}
+use Rattle.pass_budget_laws.specs.Laws.{IsWithinRow, IsWithinRows}
+use Rattle.pass_budget_laws.specs.Numbers.{Numbers, AreWithin}
+use Rattle.pass_budget_laws.specs.Rows.{row_of, trace_row}
 use Rattle.trace_laws.specs.Trace.{trace_meaning}
-use Rattle.trace_lines.specs.Bound.{IsTraceBound, laid_count}
-use Rattle.trace_lines.proofs.Entries.{fits-few}
-use Rattle.trace_numbers.specs.Numbers.{trace_growth}
-use Rattle.trace_numbers.proofs.Numbers.{trace-keeps_numbers}
+use Rattle.trace_laws.specs.lines.Bound.{IsTraceBound, laid_count}
+use Rattle.trace_laws.proofs.lemmas.lines.Entries.{fits-few}
+use Rattle.trace_laws.specs.growth.Numbers.{trace_growth}
+use Rattle.trace_laws.proofs.lemmas.growth.Numbers.{trace-keeps_numbers}
 use Rattle.trace_paths.specs.Fits.{Fit}
 use Rattle.trace_paths.proofs.Short.{paths_are_short}
 use Rattle.budget_rows.proofs.Growing.{Leads, by-name, grows-within}

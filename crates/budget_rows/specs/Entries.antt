@@ -2,7 +2,7 @@
 use Rattle.std.specs.Prelude.{ℕ, ◌*◌, ◌≤◌}
 use Rattle.bril_tree.specs.Accepted.{IsAccepted}
 use Rattle.bril_tree.specs.declared.program.Prog.{Prog}
-use Rattle.live_entries.specs.LiveEntries.{AreLiveEntries}
+use Rattle.ssa_laws.specs.live_entries.LiveEntries.{AreLiveEntries}
 use Rattle.program_numbers.specs.ProgramNumbers.{AreEntries, most_locations}
 
 -- Each is an entry and a location.

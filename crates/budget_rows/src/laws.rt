@@ -4,9 +4,9 @@ ghost use Rattle.budget_rows.specs.Entries.{LiveEntriesAreFew};
 ghost use Rattle.coalesce.specs.Merge.{merge_meaning};
 ghost use Rattle.constant_pass.specs.Const.{const_meaning};
 ghost use Rattle.dead_code.specs.Dead.{dead_meaning};
-ghost use Rattle.pass_budget.specs.Laws.{IsWithinRows};
+ghost use Rattle.pass_budget_laws.specs.Laws.{IsWithinRows};
 ghost use Rattle.ssa_exit.specs.Unssa.{unssa_meaning};
-ghost use Rattle.ssa_form.specs.Ssa.{ssa_meaning};
+ghost use Rattle.ssa_form_laws.specs.form.Ssa.{ssa_meaning};
 ghost use Rattle.tidy_code.specs.Tidy.{tidy_meaning};
 ghost use Rattle.trace_laws.specs.Trace.{trace_meaning};
 

@@ -3,8 +3,8 @@ use Rattle.std.proofs.Common.{◌≡◌, ◌⊎◌, ℕ, zero, suc, ◌+◌, ◌
 use Rattle.std.proofs.lemmas.Bool.{cases_eq, cases_lt}
 use Rattle.std.proofs.lemmas.List.{length-append, length-map, length-take, map-append}
 use Rattle.std.proofs.Math.Seq.{take-suc}
-use Rattle.pass_plan.specs.Marked.{with_nops}
-use Rattle.pass_plan.proofs.Marked.{nops-push}
+use Rattle.pass_edit_laws.specs.plan.Marked.{with_nops}
+use Rattle.pass_edit_laws.proofs.lemmas.plan.Marked.{nops-push}
 use Rattle.std.proofs.lemmas.Option.{slice_get_within}
 use Rattle.bril_tree.specs.declared.numbered_function.Func.{Func}
 use Rattle.bril_names.specs.Range.{AreBelow}

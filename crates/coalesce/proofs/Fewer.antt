@@ -9,8 +9,8 @@ use Rattle.bril_tree.specs.declared.numbered.Instr.TheVariants.{Label, Const, Ac
 use Rattle.bril_tree.specs.declared.numbered_function.Func.{Func}
 use Rattle.bril_tree.specs.declared.program.Prog.{Prog}
 use Rattle.bril_tree.specs.Numbered.{function_tree, item_tree, names_of_functions, nop_item, variable_names}
-use Rattle.pass_plan.specs.Marked.{with_nops}
-use Rattle.coalesce_laws.proofs.Copying.{copy-is}
+use Rattle.pass_edit_laws.specs.plan.Marked.{with_nops}
+use Rattle.coalesce.proofs.lemmas.meaning.Copying.{copy-is}
 use Rattle.coalesce.specs.Classes.{is_marked}
 use Rattle.coalesce.specs.Copies.{copies_in, item_copies}
 use Rattle.coalesce.specs.Rounds.{IsRoundFunction, MarksCopies}

@@ -9,7 +9,7 @@ use Rattle.bril_tree.specs.declared.numbered.Instr.{Instr}
 use Rattle.bril_tree.specs.Live.{IsLive}
 use Rattle.bril_tree.specs.Operand.{Variable, dest_of}
 use Rattle.bril_tree.specs.Walk.{IsReached}
-use Rattle.coalesce_laws.specs.Apart.{source_of}
+use Rattle.coalesce.specs.meaning.Apart.{source_of}
 use Rattle.coalesce.specs.Classes.{AddsClashes, AreClashes, Clashes, HasBoth, IsClash, clash, is_marked}
 use Rattle.coalesce.specs.declared.clashes.Clash.{Clash}
 use Rattle.coalesce.proofs.Joining.{outside}

@@ -12,9 +12,9 @@ use Rattle.bril_tree.specs.declared.function_tree.Item.{Item}
 use Rattle.bril_tree.specs.declared.numbered_function.Func.{Func}
 use Rattle.bril_tree.specs.declared.program.Prog.{Prog}
 use Rattle.bril_tree.specs.Numbered.{function_tree, item_tree, names_of_functions, nop_item, tree_of}
-use Rattle.pass_plan.specs.Marked.{with_nops}
+use Rattle.pass_edit_laws.specs.plan.Marked.{with_nops}
 use Rattle.pass_make.proofs.Each.{more-each, tree_of_function}
-use Rattle.coalesce_laws.specs.Merged.{NoneApart}
+use Rattle.coalesce.specs.meaning.Merged.{NoneApart}
 use Rattle.coalesce.specs.Classes.{AreClasses, is_marked}
 use Rattle.coalesce.specs.Copies.{copies_in, copies_of_tree}
 use Rattle.coalesce.specs.Rounds.{HasCopyWithin, HasNoneApart, IsRoundFunction, MarksCopies, NamesClasses}

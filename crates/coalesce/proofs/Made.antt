@@ -25,12 +25,12 @@ use Rattle.pass_law.proofs.Equations.{equation_number}
 use Rattle.pass_law.specs.Meaning.{HasNumbers, Link}
 use Rattle.pass_make.specs.CanBeMade.{CanBeMade}
 use Rattle.pass_make.proofs.Each.{items-each, names-each, size-each}
-use Rattle.pass_plan.specs.Marked.{with_nops}
-use Rattle.pass_plan.proofs.Marked.{length-with_nops}
-use Rattle.coalesce_laws.proofs.Accepted.{round-accepted}
-use Rattle.coalesce_laws.proofs.Composed.{IsMadeSoFar, all-made, first-round, one-more}
-use Rattle.coalesce_laws.proofs.Copying.{copy-is}
-use Rattle.coalesce_laws.proofs.Refines.{round-refines}
+use Rattle.pass_edit_laws.specs.plan.Marked.{with_nops}
+use Rattle.pass_edit_laws.proofs.lemmas.plan.Marked.{length-with_nops}
+use Rattle.coalesce.proofs.lemmas.meaning.Accepted.{round-accepted}
+use Rattle.coalesce.proofs.lemmas.meaning.Composed.{IsMadeSoFar, all-made, first-round, one-more}
+use Rattle.coalesce.proofs.lemmas.meaning.Copying.{copy-is}
+use Rattle.coalesce.proofs.lemmas.meaning.Refines.{round-refines}
 use Rattle.coalesce.specs.Classes.{is_marked}
 use Rattle.coalesce.specs.Merge.{IsMadeBy, IsNextRound, merge_meaning}
 use Rattle.coalesce.specs.Rounds.{HasNoneApart, IsRoundFunction, IsRoundTree}

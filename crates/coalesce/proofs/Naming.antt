@@ -10,9 +10,9 @@ use Rattle.bril_tree.specs.declared.program.Prog.{Prog}
 use Rattle.bril_tree.specs.Numbered.{named, names_in, variable_names}
 use Rattle.bril_names.proofs.Functions.{Differ-variables}
 use Rattle.bril_names.proofs.Naming.{one_number}
-use Rattle.coalesce_laws.specs.Apart.{source_of}
-use Rattle.coalesce_laws.proofs.Names.{named-map}
-use Rattle.coalesce_laws.specs.Merged.{IsSound, new_name}
+use Rattle.coalesce.specs.meaning.Apart.{source_of}
+use Rattle.coalesce.proofs.lemmas.meaning.Names.{named-map}
+use Rattle.coalesce.specs.meaning.Merged.{IsSound, new_name}
 use Rattle.coalesce.specs.Classes.{AreClasses, Clashes, class_of, source_at}
 use Rattle.coalesce.specs.Rounds.{NamesClasses}
 use Rattle.coalesce.proofs.Joining.{outside}

@@ -17,14 +17,14 @@ use Rattle.bril_tree.proofs.Acceptance.{accepted_function, shaped_function}
 use Rattle.bril_tree.proofs.Trees.{nothing_at, tree_at-function}
 use Rattle.bril_names.specs.Faults.{SameHead}
 use Rattle.pass_make.proofs.Each.{heads-each}
-use Rattle.pass_names.proofs.Trees.{heads-of_trees}
-use Rattle.pass_names.proofs.Heads.{no_partner}
-use Rattle.pass_names.specs.NamedPlan.{SameHeads}
-use Rattle.pass_names.specs.Renaming.{renamed_tree}
-use Rattle.pass_plan.specs.Marked.{with_nops}
-use Rattle.pass_plan.proofs.Marked.{with_nops-alive, with_nops-dead}
-use Rattle.coalesce_laws.specs.Merged.{IsRenamedAt, IsRound, IsSelfCopy, IsSound, renamed_item}
-use Rattle.coalesce_laws.proofs.Names.{tree-renamed}
+use Rattle.pass_edit_laws.proofs.lemmas.names.Trees.{heads-of_trees}
+use Rattle.pass_edit_laws.proofs.lemmas.names.Heads.{no_partner}
+use Rattle.pass_edit_laws.specs.names.NamedPlan.{SameHeads}
+use Rattle.pass_edit_laws.specs.names.Renaming.{renamed_tree}
+use Rattle.pass_edit_laws.specs.plan.Marked.{with_nops}
+use Rattle.pass_edit_laws.proofs.lemmas.plan.Marked.{with_nops-alive, with_nops-dead}
+use Rattle.coalesce.specs.meaning.Merged.{IsRenamedAt, IsRound, IsSelfCopy, IsSound, renamed_item}
+use Rattle.coalesce.proofs.lemmas.meaning.Names.{tree-renamed}
 use Rattle.coalesce.specs.Classes.{is_marked}
 use Rattle.coalesce.specs.Rounds.{CopyWithin, IsRoundFunction, IsRoundTree}
 use Rattle.coalesce.proofs.Naming.{arguments-kept, classes-sound, names-renamed, new-is, one-class, renamed_by}

@@ -13,9 +13,9 @@ use Rattle.bril_tree.specs.Shape.{is_shaped, shape_fault_of, shape_of}
 use Rattle.bril_tree.proofs.Formed.{variable_below}
 use Rattle.bril_tree.proofs.Shapes.{shape-parts}
 use Rattle.bril_checker.proofs.Positions.{all_pass}
-use Rattle.coalesce_laws.specs.Apart.{Copies, HasShadow, shadows_of}
-use Rattle.coalesce_laws.specs.Merged.{NoneApart}
-use Rattle.coalesce_laws.proofs.Copying.{copy-is}
+use Rattle.coalesce.specs.meaning.Apart.{Copies, HasShadow, shadows_of}
+use Rattle.coalesce.specs.meaning.Merged.{NoneApart}
+use Rattle.coalesce.proofs.lemmas.meaning.Copying.{copy-is}
 use Rattle.bril_tree.specs.Walk.{IsReached}
 use Rattle.coalesce.specs.Rounds.{CopyWithin, HasCopyWithin, IsCopyWithin}
 use Rattle.coalesce.specs.Classes.{Grows, IsRelatedItem, MarksShadow, NotApart, Relates, is_marked}

@@ -5,7 +5,7 @@ use Rattle.bril_tree.specs.Run.{Refines}
 use Rattle.bril_tree.specs.Size.{item_count}
 use Rattle.bril_tree.specs.declared.program.Prog.{Prog}
 use Rattle.pass_law.specs.Meaning.{Meaning, is_name}
-use Rattle.coalesce_laws.specs.Merged.{IsMerged, IsRound}
+use Rattle.coalesce.specs.meaning.Merged.{IsMerged, IsRound}
 
 -- It is named `merge`, makes no step more, and no program longer.
 abbrev pub merge_meaning : Meaning

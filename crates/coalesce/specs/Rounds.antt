@@ -8,9 +8,9 @@ use Rattle.bril_tree.specs.declared.program.Prog.{Prog}
 use Rattle.bril_tree.specs.declared.tree.Tree.{Tree}
 use Rattle.bril_tree.specs.Numbered.{function_tree, item_tree, named, names_of_functions, nop_item, variable_names}
 use Rattle.bril_tree.specs.Walk.{IsReached}
-use Rattle.pass_plan.specs.Marked.{with_nops}
-use Rattle.coalesce_laws.specs.Apart.{Copies}
-use Rattle.coalesce_laws.specs.Merged.{NoneApart}
+use Rattle.pass_edit_laws.specs.plan.Marked.{with_nops}
+use Rattle.coalesce.specs.meaning.Apart.{Copies}
+use Rattle.coalesce.specs.meaning.Merged.{NoneApart}
 use Rattle.coalesce.specs.Classes.{AreClasses, class_of, is_marked}
 
 -- the new names are those of the classes

@@ -6,7 +6,7 @@ ghost use Rattle.bril_tree.specs.Live.{IsLive};
 ghost use Rattle.bril_tree.specs.Operand.{Variable};
 ghost use Rattle.flow_graph.specs.Graph.{IsGraphOf};
 ghost use Rattle.live_sets.specs.Flow.{IsFlowOf};
-ghost use Rattle.coalesce_laws.specs.Apart.{source_of};
+ghost use Rattle.coalesce.specs.meaning.Apart.{source_of};
 ghost use Rattle.coalesce.specs.Classes.{AddsClashes, AreClashes, Clashes, is_marked};
 
 use crate::copies::{dest_of, source_of};

@@ -3,7 +3,7 @@
 ghost use Rattle.std.specs.Prelude.{◌≡◌, slice_index};
 ghost use Rattle.bril_tree.specs.Operand.{dest_of};
 ghost use Rattle.bril_tree.specs.FunctionForm.{listed};
-ghost use Rattle.coalesce_laws.specs.Apart.{shadows_in, shadows_of, source_in, source_of};
+ghost use Rattle.coalesce.specs.meaning.Apart.{shadows_in, shadows_of, source_in, source_of};
 
 use bril_tree::numbered::Instr;
 use bril_tree::operation::Op;

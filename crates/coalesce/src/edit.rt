@@ -4,7 +4,7 @@ ghost use Rattle.std.specs.Prelude.{◌≡◌, ◌<◌, ◌^◌, ◌-◌, true, 
 ghost use Rattle.std.specs.List.{list_any};
 ghost use Rattle.bril_tree.specs.Numbered.{dest_tree, item_tree, named, nop_item, variable_names};
 ghost use Rattle.bril_names.specs.Range.{AreBelow, AreInRange, IsInRange};
-ghost use Rattle.pass_plan.specs.Marked.{with_nops};
+ghost use Rattle.pass_edit_laws.specs.plan.Marked.{with_nops};
 ghost use Rattle.bril_tree.specs.FunctionForm.{listed};
 ghost use Rattle.flow_graph.specs.Graph.{IsGraphOf};
 ghost use Rattle.coalesce.specs.Classes.{AreClasses, class_of};

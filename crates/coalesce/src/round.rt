@@ -7,7 +7,7 @@ ghost use Rattle.bril_tree.specs.Numbered.{function_tree, names_of_functions, tr
 ghost use Rattle.bril_tree.specs.Shape.{shape_fault_of};
 ghost use Rattle.bril_tree.specs.Sites.{AreSitesSound};
 ghost use Rattle.bril_tree.specs.Size.{IsCounted};
-ghost use Rattle.coalesce_laws.specs.Merged.{NoneApart};
+ghost use Rattle.coalesce.specs.meaning.Merged.{NoneApart};
 ghost use Rattle.coalesce.specs.Copies.{copies_in, copies_of_tree};
 ghost use Rattle.coalesce.specs.Rounds.{HasNoneApart, IsRoundFunction, IsRoundTree};
 

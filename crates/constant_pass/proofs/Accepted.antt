@@ -31,22 +31,22 @@ use Rattle.bril_tree.proofs.Shapes.{dest_none, shape-parts}
 use Rattle.bril_tree.proofs.Trees.{nothing_at}
 use Rattle.bril_tree.proofs.Typings.{IsDestination, both_typed-is, type_of}
 use Rattle.bril_names.proofs.Naming.{one_number}
-use Rattle.pass_accept.specs.Edited.{IsNew, IsOld, Edits}
-use Rattle.pass_accept.proofs.Alone.{both_along}
-use Rattle.pass_accept.proofs.Edited.{bare-new, nop-new, edit_accepted}
-use Rattle.pass_accept.proofs.Heads.{start_matched}
-use Rattle.pass_accept.proofs.Left.{dest-there}
-use Rattle.pass_names.specs.Named.{SameName, SameLocation}
-use Rattle.pass_names.proofs.Points.{found, Differ-in, same_name-in}
-use Rattle.pass_plan.specs.Plan.{Plan, StaysMatched}
-use Rattle.pass_walks.specs.Matched.{Covers, MatchedWalk, IsHarmless, MatchesWalks}
-use Rattle.pass_walks.proofs.Items.{harmless_item}
-use Rattle.pass_walks.proofs.Under.{Keeping}
-use Rattle.pass_walks.proofs.Walks.{regular_branch_matched}
+use Rattle.pass_edit_laws.specs.acceptance.Edited.{IsNew, IsOld, Edits}
+use Rattle.pass_edit_laws.proofs.lemmas.acceptance.Alone.{both_along}
+use Rattle.pass_edit_laws.proofs.lemmas.acceptance.Edited.{bare-new, nop-new, edit_accepted}
+use Rattle.pass_edit_laws.proofs.lemmas.acceptance.Heads.{start_matched}
+use Rattle.pass_edit_laws.proofs.lemmas.acceptance.Left.{dest-there}
+use Rattle.pass_edit_laws.specs.names.Named.{SameName, SameLocation}
+use Rattle.pass_edit_laws.proofs.lemmas.names.Points.{found, Differ-in, same_name-in}
+use Rattle.pass_edit_laws.specs.plan.Plan.{Plan, StaysMatched}
+use Rattle.pass_edit_laws.specs.walks.Matched.{Covers, MatchedWalk, IsHarmless, MatchesWalks}
+use Rattle.pass_edit_laws.proofs.lemmas.walks.Items.{harmless_item}
+use Rattle.pass_edit_laws.proofs.lemmas.walks.Under.{Keeping}
+use Rattle.pass_edit_laws.proofs.lemmas.walks.Walks.{regular_branch_matched}
 use Rattle.type_soundness.proofs.Locals.{act-typed, both-parts}
-use Rattle.constant_table.specs.declared.known.Known.TheVariants.{One}
-use Rattle.constant_table.specs.Answer.{answer, locals_of}
-use Rattle.constant_table.specs.Consistent.{Table}
+use Rattle.constant_pass.specs.declared.constants.known.Known.TheVariants.{One}
+use Rattle.constant_pass.specs.constants.Answer.{answer, locals_of}
+use Rattle.constant_pass.specs.constants.Consistent.{Table}
 use Rattle.constant_pass.specs.Items.{jump_to}
 use Rattle.constant_pass.specs.Folded.{becomes}
 use Rattle.constant_pass.proofs.Fates.{Fate, Stays, Folds, Jumps, Passes, fate_at, literal-one, one-answer, given-outcome}

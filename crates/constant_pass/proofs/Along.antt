@@ -16,12 +16,12 @@ use Rattle.bril_tree.proofs.Assignments.{in_or_not}
 use Rattle.bril_tree.proofs.Branches.{branch_from}
 use Rattle.bril_tree.proofs.LabelPoints.{range_high}
 use Rattle.bril_tree.proofs.Members.{in_append_cases, in_contains, contains_in, in_map_source}
-use Rattle.constant_table.specs.declared.known.Known.{Known}
-use Rattle.constant_table.specs.declared.known.Known.TheVariants.{Nothing, One, Many}
-use Rattle.constant_table.specs.Known.{IsBelow, is_many, is_nothing}
-use Rattle.constant_table.specs.Answer.{Knowledge, answer, by_operands, given, known_outcome, locals_of}
-use Rattle.constant_table.specs.Consistent.{IsConsistent, Table}
-use Rattle.constant_table.proofs.Rules.{any-found}
+use Rattle.constant_pass.specs.declared.constants.known.Known.{Known}
+use Rattle.constant_pass.specs.declared.constants.known.Known.TheVariants.{Nothing, One, Many}
+use Rattle.constant_pass.specs.constants.Known.{IsBelow, is_many, is_nothing}
+use Rattle.constant_pass.specs.constants.Answer.{Knowledge, answer, by_operands, given, known_outcome, locals_of}
+use Rattle.constant_pass.specs.constants.Consistent.{IsConsistent, Table}
+use Rattle.constant_pass.proofs.lemmas.constants.Rules.{any-found}
 
 -- ---- answers that are something
 

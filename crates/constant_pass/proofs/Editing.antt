@@ -12,9 +12,9 @@ use Rattle.std.specs.Prelude.{slice_get}
 use Rattle.bril_tree.specs.declared.function_tree.FuncTree.{FuncTree}
 use Rattle.bril_tree.specs.declared.numbered_function.Func.{Func}
 use Rattle.bril_tree.specs.Numbered.{function_tree, variable_names}
-use Rattle.constant_table.specs.Answer.{Knowledge, answer}
-use Rattle.constant_table.specs.Ways.{item_condition}
-use Rattle.constant_table.specs.Consistent.{Table}
+use Rattle.constant_pass.specs.constants.Answer.{Knowledge, answer}
+use Rattle.constant_pass.specs.constants.Ways.{item_condition}
+use Rattle.constant_pass.specs.constants.Consistent.{Table}
 use Rattle.constant_pass.specs.Edit.{IsMade, AreMade, constant_tree, nop_tree}
 use Rattle.constant_pass.specs.Items.{condition, constant_or, folded_item, jump_or, literal_of, nop_or}
 use Rattle.constant_pass.specs.Folded.{folded_by, folded_from}

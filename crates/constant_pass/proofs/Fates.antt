@@ -19,12 +19,12 @@ use Rattle.bril_tree.specs.Shape.{is_shaped}
 use Rattle.bril_tree.specs.State.{Locals}
 use Rattle.bril_tree.specs.Value.{literal_value}
 use Rattle.bril_tree.proofs.Typings.{type_of}
-use Rattle.constant_table.specs.declared.known.Known.{Known}
-use Rattle.constant_table.specs.declared.known.Known.TheVariants.{Nothing, One, Many}
-use Rattle.constant_table.specs.Known.{is_many, is_nothing, single}
-use Rattle.constant_table.specs.Answer.{Knowledge, answer, given, known_outcome, locals_of}
-use Rattle.constant_table.specs.Consistent.{Table}
-use Rattle.constant_table.proofs.Rules.{any-none, given-same}
+use Rattle.constant_pass.specs.declared.constants.known.Known.{Known}
+use Rattle.constant_pass.specs.declared.constants.known.Known.TheVariants.{Nothing, One, Many}
+use Rattle.constant_pass.specs.constants.Known.{is_many, is_nothing, single}
+use Rattle.constant_pass.specs.constants.Answer.{Knowledge, answer, given, known_outcome, locals_of}
+use Rattle.constant_pass.specs.constants.Consistent.{Table}
+use Rattle.constant_pass.proofs.lemmas.constants.Rules.{any-none, given-same}
 use Rattle.constant_pass.specs.Items.{condition, constant_or, folded_item, jump_or, jump_to, literal_of, nop_or}
 use Rattle.constant_pass.specs.Folded.{becomes}
 

@@ -31,9 +31,9 @@ use Rattle.pass_make.specs.Edited.{IsLinkedTo}
 use Rattle.pass_make.specs.declared.made.Made.TheVariants as making
 use Rattle.pass_make.specs.CanBeMade.{CanBeMade}
 use Rattle.pass_make.proofs.Each.{names-each, heads-each, items-each, size-each}
-use Rattle.pass_names.proofs.Trees.{heads-of_trees}
-use Rattle.constant_table.specs.declared.known.Known.TheVariants.{Many}
-use Rattle.constant_table.specs.Consistent.{IsLeast, Table}
+use Rattle.pass_edit_laws.proofs.lemmas.names.Trees.{heads-of_trees}
+use Rattle.constant_pass.specs.declared.constants.known.Known.TheVariants.{Many}
+use Rattle.constant_pass.specs.constants.Consistent.{IsLeast, Table}
 use Rattle.constant_pass.specs.Const.{const_meaning}
 use Rattle.constant_pass.specs.Folded.{IsFolded, IsFoldedFunction, IsFoldedTree, becomes, folded_by, folded_from}
 use Rattle.constant_pass.proofs.Accepted.{folded-accepted}

@@ -22,15 +22,15 @@ use Rattle.bril_tree.specs.Step.{code_of, items_of, item_at}
 use Rattle.bril_tree.specs.Walk.{end_of}
 use Rattle.bril_tree.proofs.Members.{in_map}
 use Rattle.bril_tree.proofs.Outcomes.{giver-goes_on}
-use Rattle.pass_names.specs.Named.{SameName}
-use Rattle.pass_walks.specs.Matched.{MatchedWalk, MatchesWalks}
-use Rattle.pass_numbers.specs.Numbers.{FunctionWithin, NumbersWithin}
-use Rattle.pass_numbers.proofs.Edges.{edge-back, label-back}
-use Rattle.pass_numbers.proofs.InPlace.{EdgeBack, branch-back, in_place-entries, in_place-width}
-use Rattle.pass_numbers.proofs.Items.{IsNamed, IsOfItems, IsPlain, bare-plain, items-plain, nop-plain, unchanged}
-use Rattle.pass_numbers.proofs.Programs.{by-functions, function-within, functions_bound}
-use Rattle.constant_table.specs.Answer.{answer, locals_of}
-use Rattle.constant_table.specs.Consistent.{Table}
+use Rattle.pass_edit_laws.specs.names.Named.{SameName}
+use Rattle.pass_edit_laws.specs.walks.Matched.{MatchedWalk, MatchesWalks}
+use Rattle.pass_edit_laws.specs.numbers.Numbers.{FunctionWithin, NumbersWithin}
+use Rattle.pass_edit_laws.proofs.lemmas.numbers.Edges.{edge-back, label-back}
+use Rattle.pass_edit_laws.proofs.lemmas.numbers.InPlace.{EdgeBack, branch-back, in_place-entries, in_place-width}
+use Rattle.pass_edit_laws.proofs.lemmas.numbers.Items.{IsNamed, IsOfItems, IsPlain, bare-plain, items-plain, nop-plain, unchanged}
+use Rattle.pass_edit_laws.proofs.lemmas.numbers.Programs.{by-functions, function-within, functions_bound}
+use Rattle.constant_pass.specs.constants.Answer.{answer, locals_of}
+use Rattle.constant_pass.specs.constants.Consistent.{Table}
 use Rattle.bril_tree.specs.Value.{literal_value}
 use Rattle.constant_pass.specs.Items.{jump_to}
 use Rattle.constant_pass.specs.Folded.{IsFolded, becomes}

@@ -33,20 +33,20 @@ use Rattle.bril_tree.proofs.Liveness.{live-reads, live-flows, live-back, live_as
 use Rattle.bril_tree.proofs.Members.{contains_in, in_map, in_map_source}
 use Rattle.bril_tree.proofs.Shapes.{shape-parts}
 use Rattle.bril_tree.proofs.Trees.{found_at}
-use Rattle.pass_names.specs.NamedPlan.{NamePlan, plan, KeepsNames}
-use Rattle.pass_names.proofs.Points.{label_once}
-use Rattle.pass_names.proofs.Preserving.{names_preserve, knows_nothing}
-use Rattle.pass_plan.specs.Narrowing.{Narrows, narrow}
-use Rattle.pass_plan.specs.Plan.{Plan, HoldsKnown, Writes, IsLearned, Preserves}
-use Rattle.pass_plan.proofs.Narrowing.{narrowed}
-use Rattle.pass_steps.proofs.Shapes.{shaped_here, site_assigns}
-use Rattle.constant_table.specs.declared.known.Known.{Known}
-use Rattle.constant_table.specs.declared.known.Known.TheVariants.{Nothing, One, Many}
-use Rattle.constant_table.specs.Known.{IsBelow, is_nothing}
-use Rattle.constant_table.specs.Answer.{Knowledge, answer, given}
-use Rattle.constant_table.specs.Ways.{chosen, item_ways}
-use Rattle.constant_table.specs.Consistent.{IsConsistent, Table}
-use Rattle.constant_table.proofs.Rules.{first-read}
+use Rattle.pass_edit_laws.specs.names.NamedPlan.{NamePlan, plan, KeepsNames}
+use Rattle.pass_edit_laws.proofs.lemmas.names.Points.{label_once}
+use Rattle.pass_edit_laws.proofs.lemmas.names.Preserving.{names_preserve, knows_nothing}
+use Rattle.pass_edit_laws.specs.plan.Narrowing.{Narrows, narrow}
+use Rattle.pass_edit_laws.specs.plan.Plan.{Plan, HoldsKnown, Writes, IsLearned, Preserves}
+use Rattle.pass_edit_laws.proofs.lemmas.plan.Narrowing.{narrowed}
+use Rattle.pass_edit_laws.proofs.lemmas.steps.Shapes.{shaped_here, site_assigns}
+use Rattle.constant_pass.specs.declared.constants.known.Known.{Known}
+use Rattle.constant_pass.specs.declared.constants.known.Known.TheVariants.{Nothing, One, Many}
+use Rattle.constant_pass.specs.constants.Known.{IsBelow, is_nothing}
+use Rattle.constant_pass.specs.constants.Answer.{Knowledge, answer, given}
+use Rattle.constant_pass.specs.constants.Ways.{chosen, item_ways}
+use Rattle.constant_pass.specs.constants.Consistent.{IsConsistent, Table}
+use Rattle.constant_pass.proofs.lemmas.constants.Rules.{first-read}
 use Rattle.constant_pass.specs.Items.{condition, folded_item, jump_or, nop_or}
 use Rattle.constant_pass.specs.Folded.{becomes}
 use Rattle.constant_pass.proofs.Fates.{gives-known}

@@ -20,11 +20,11 @@ use Rattle.bril_tree.specs.Step.{code_of, items_of, item_at, point_of}
 use Rattle.bril_tree.proofs.Formed.{typed_destination}
 use Rattle.bril_tree.proofs.Trees.{found_at, nop-at, nothing_at, none_from}
 use Rattle.bril_names.proofs.Naming.{AreBelow-in}
-use Rattle.pass_names.specs.Named.{SameName}
-use Rattle.pass_names.specs.NamedPlan.{SameHeads}
-use Rattle.pass_names.proofs.Heads.{no_partner}
-use Rattle.pass_names.proofs.Points.{found, label_found, label_once}
-use Rattle.constant_table.specs.Consistent.{IsLeast, Table}
+use Rattle.pass_edit_laws.specs.names.Named.{SameName}
+use Rattle.pass_edit_laws.specs.names.NamedPlan.{SameHeads}
+use Rattle.pass_edit_laws.proofs.lemmas.names.Heads.{no_partner}
+use Rattle.pass_edit_laws.proofs.lemmas.names.Points.{found, label_found, label_once}
+use Rattle.constant_pass.specs.constants.Consistent.{IsLeast, Table}
 use Rattle.constant_pass.specs.Items.{jump_to}
 use Rattle.constant_pass.specs.Folded.{becomes}
 

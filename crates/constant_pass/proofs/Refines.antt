@@ -31,21 +31,21 @@ use Rattle.bril_tree.proofs.Outcomes.{giver-goes_on}
 use Rattle.bril_tree.proofs.Shapes.{HasShape, dest_none, shape-parts}
 use Rattle.flow_graph.proofs.Told.{some_site}
 use Rattle.bril_names.specs.Faults.{Differ}
-use Rattle.pass_names.specs.Named.{SameName, SameLocation}
-use Rattle.pass_names.proofs.Locations.{kept-apart, to_left}
-use Rattle.pass_names.proofs.Points.{Differ-in}
-use Rattle.pass_plan.specs.Plan.{Plan, ValuesMatch, HoldsKnown, IsLearned, StaysMatched, EdgesMatch, StepsMatch, SavesMatch, StatesMatch}
-use Rattle.pass_plan.proofs.Values.{agree-assigned, holds-assigned, read_at-agree}
-use Rattle.pass_steps.specs.Refinement.{Progress, CatchUp, BothMove, Advances}
-use Rattle.pass_steps.proofs.Moves.{both_branch, both_move, reframed, step-at}
-use Rattle.pass_steps.proofs.Refinement.{plan_refines}
-use Rattle.pass_steps.proofs.Shapes.{shaped_here, writes-gives, zip_map-at}
-use Rattle.constant_table.specs.declared.known.Known.{Known}
-use Rattle.constant_table.specs.declared.known.Known.TheVariants.{Nothing, One, Many}
-use Rattle.constant_table.specs.Answer.{Knowledge, answer}
-use Rattle.constant_table.specs.Ways.{chosen, item_ways}
-use Rattle.constant_table.specs.Consistent.{Table}
-use Rattle.constant_table.proofs.Rules.{first-read}
+use Rattle.pass_edit_laws.specs.names.Named.{SameName, SameLocation}
+use Rattle.pass_edit_laws.proofs.lemmas.names.Locations.{kept-apart, to_left}
+use Rattle.pass_edit_laws.proofs.lemmas.names.Points.{Differ-in}
+use Rattle.pass_edit_laws.specs.plan.Plan.{Plan, ValuesMatch, HoldsKnown, IsLearned, StaysMatched, EdgesMatch, StepsMatch, SavesMatch, StatesMatch}
+use Rattle.pass_edit_laws.proofs.lemmas.plan.Values.{agree-assigned, holds-assigned, read_at-agree}
+use Rattle.pass_edit_laws.specs.steps.Refinement.{Progress, CatchUp, BothMove, Advances}
+use Rattle.pass_edit_laws.proofs.lemmas.steps.Moves.{both_branch, both_move, reframed, step-at}
+use Rattle.pass_edit_laws.proofs.lemmas.steps.Refinement.{plan_refines}
+use Rattle.pass_edit_laws.proofs.lemmas.steps.Shapes.{shaped_here, writes-gives, zip_map-at}
+use Rattle.constant_pass.specs.declared.constants.known.Known.{Known}
+use Rattle.constant_pass.specs.declared.constants.known.Known.TheVariants.{Nothing, One, Many}
+use Rattle.constant_pass.specs.constants.Answer.{Knowledge, answer}
+use Rattle.constant_pass.specs.constants.Ways.{chosen, item_ways}
+use Rattle.constant_pass.specs.constants.Consistent.{Table}
+use Rattle.constant_pass.proofs.lemmas.constants.Rules.{first-read}
 use Rattle.constant_pass.specs.Items.{condition, jump_to, nop_or}
 use Rattle.constant_pass.specs.Folded.{becomes}
 use Rattle.constant_pass.proofs.Fates.{Fate, Stays, Folds, Jumps, Passes, fate_at, literal-one, given-outcome}

@@ -30,12 +30,12 @@ use Rattle.bril_tree.specs.Value.{literal_value, zero_of, zero_at}
 use Rattle.bril_tree.proofs.Shapes.{shape-parts}
 use Rattle.bril_tree.proofs.Typings.{same_type-is}
 use Rattle.type_soundness.proofs.Locals.{act-typed, both-parts}
-use Rattle.constant_table.specs.declared.known.Known.{Known}
-use Rattle.constant_table.specs.declared.known.Known.TheVariants.{Nothing, One, Many}
-use Rattle.constant_table.specs.Known.{IsBelow}
-use Rattle.constant_table.specs.Answer.{Knowledge, answer, locals_of}
-use Rattle.constant_table.specs.Consistent.{IsConsistent, IsLeast, Table}
-use Rattle.constant_table.proofs.Rules.{below-trans, answer-rises, ways-rise, first-read}
+use Rattle.constant_pass.specs.declared.constants.known.Known.{Known}
+use Rattle.constant_pass.specs.declared.constants.known.Known.TheVariants.{Nothing, One, Many}
+use Rattle.constant_pass.specs.constants.Known.{IsBelow}
+use Rattle.constant_pass.specs.constants.Answer.{Knowledge, answer, locals_of}
+use Rattle.constant_pass.specs.constants.Consistent.{IsConsistent, IsLeast, Table}
+use Rattle.constant_pass.proofs.lemmas.constants.Rules.{below-trans, answer-rises, ways-rise, first-read}
 use Rattle.constant_pass.proofs.Fates.{OneAnswer, one-answer, one-held}
 
 -- ---- values of types

@@ -7,7 +7,7 @@ use Rattle.bril_tree.specs.declared.value.Lit.{Lit}
 use Rattle.bril_tree.specs.declared.numbered.Instr.{Instr}
 use Rattle.bril_tree.specs.declared.numbered_function.Func.{Func}
 use Rattle.bril_tree.specs.Numbered.{item_tree, nop_item, variable_names}
-use Rattle.constant_table.specs.Consistent.{Table}
+use Rattle.constant_pass.specs.constants.Consistent.{Table}
 use Rattle.constant_pass.specs.Folded.{becomes}
 
 -- a `const` of the literal for an item with a destination

@@ -7,7 +7,7 @@ use Rattle.bril_tree.specs.declared.numbered_function.Func.{Func}
 use Rattle.bril_tree.specs.declared.program.Prog.{Prog}
 use Rattle.bril_tree.specs.declared.tree.Tree.{Tree}
 use Rattle.bril_tree.specs.Numbered.{function_tree, item_tree, names_of_functions, tree_of, variable_names}
-use Rattle.constant_table.specs.Consistent.{IsLeast, Table}
+use Rattle.constant_pass.specs.constants.Consistent.{IsLeast, Table}
 use Rattle.constant_pass.specs.Items.{folded_item}
 
 -- what becomes of the item at a point

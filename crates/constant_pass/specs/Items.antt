@@ -10,9 +10,9 @@ use Rattle.bril_tree.specs.declared.value.Value.TheVariants as value
 use Rattle.bril_tree.specs.Numbered.{nop}
 use Rattle.bril_tree.specs.Operand.{Variable}
 use Rattle.bril_tree.specs.Outcome.{bool_of}
-use Rattle.constant_table.specs.declared.known.Known.{Known}
-use Rattle.constant_table.specs.declared.known.Known.TheVariants.{Nothing, One, Many}
-use Rattle.constant_table.specs.Answer.{Knowledge, answer}
+use Rattle.constant_pass.specs.declared.constants.known.Known.{Known}
+use Rattle.constant_pass.specs.declared.constants.known.Known.TheVariants.{Nothing, One, Many}
+use Rattle.constant_pass.specs.constants.Answer.{Knowledge, answer}
 
 -- the literal of the one value that is known
 abbrev pub literal_of : Known → Option Lit

@@ -1,5 +1,6 @@
-pub mod Items
-pub mod Folded
 pub mod Const
 pub mod Edit
+pub mod Folded
+pub mod Items
 pub mod Numbers
+pub mod constants

@@ -4,10 +4,11 @@ ghost use Rattle.std.specs.Prelude.{◌≡◌, ◌<◌, ◌^◌, ◌-◌, None, 
 ghost use Rattle.bril_tree.specs.Accepted.{IsAccepted};
 ghost use Rattle.bril_tree.specs.Size.{IsCounted};
 ghost use Rattle.bril_tree.specs.Shape.{shape_fault_of};
-ghost use Rattle.constant_table.specs.Kept.{told};
+ghost use Rattle.constant_pass.specs.constants.Kept.{told};
 ghost use Rattle.constant_pass.specs.Edit.{IsMadeFunction};
 ghost use Rattle.constant_pass.specs.Folded.{IsFoldedTree};
 
+use crate::constants::{ConstTable, table};
 use crate::item::made_item;
 use bril_checker::Checked;
 use bril_names::function_of;
@@ -16,7 +17,6 @@ use bril_tree::numbered_function::Func;
 use bril_tree::program::Prog;
 use bril_tree::sequence::Seq;
 use bril_tree::tree::Tree;
-use constant_table::{ConstTable, table};
 use std::alloc::{AllocError, Global};
 
 // The program's tree with what the tables tell written out.

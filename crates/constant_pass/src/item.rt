@@ -4,11 +4,12 @@ ghost use Rattle.std.specs.Prelude.{◌≡◌, ◌<◌, ◌∷◌, [], ℕ, List
 ghost use Rattle.bril_tree.specs.Numbered.{item_tree, nop_item, variable_names};
 ghost use Rattle.flow_graph.specs.Branches.{HasLabels};
 ghost use Rattle.bril_tree.specs.Numbered.{named};
-ghost use Rattle.constant_table.specs.Kept.{told};
+ghost use Rattle.constant_pass.specs.constants.Kept.{told};
 ghost use Rattle.constant_pass.specs.Edit.{IsMade, constant_of, constant_tree, nop_tree};
 ghost use Rattle.bril_tree.specs.declared.numbered.Instr.{Instr};
 ghost use Rattle.constant_pass.specs.Items.{condition, folded_item, jump_or, jump_to, literal_of};
 
+use crate::constants::{ConstTable, Known};
 use bril_tree::function_tree::Item;
 use bril_tree::numbered::Instr;
 use bril_tree::numbered_function::Func;
@@ -16,7 +17,6 @@ use bril_tree::operation::Op;
 use bril_tree::sequence::Seq;
 use bril_tree::value::{Lit, Value};
 use bril_values::bool_of;
-use constant_table::{ConstTable, Known};
 use pass_make::nop;
 use std::alloc::{AllocError, Global};
 

@@ -13,13 +13,16 @@
 //!    and its walks are the program's: it is accepted (`proofs/Accepted.antt`).
 //! 7. From the tree to its program: the tree can be numbered, and is as long (`proofs/Made.antt`).
 //! 8. No number of the program grows (`src/laws.rt`, `proofs/Numbers.antt`).
+//!
+//! The table of constants itself is found in `constants`.
 #![tactic(auto)]
 
+pub mod constants;
 mod edit;
 mod item;
 mod laws;
 mod pass;
 
-pub use constant_table::{ConstTable, Known, table};
+pub use crate::constants::{ConstTable, Known, table};
 pub use laws::const_keeps_numbers;
 pub use pass::{Const, ConstEdit};

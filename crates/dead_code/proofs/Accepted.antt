@@ -24,16 +24,16 @@ use Rattle.bril_tree.proofs.Shapes.{shape-parts}
 use Rattle.bril_tree.proofs.Trees.{nothing_at}
 use Rattle.bril_tree.proofs.Branches.{reached_on}
 use Rattle.bril_tree.proofs.Assignments.{went_on}
-use Rattle.pass_accept.specs.Edited.{IsNew, LosesNoDestination, IsOld, Edits}
-use Rattle.pass_accept.proofs.Heads.{start_matched}
-use Rattle.pass_accept.proofs.Alone.{both_alone}
-use Rattle.pass_accept.proofs.Reaching.{ReachedBeside, regular-reaches, reached_points}
-use Rattle.pass_accept.proofs.Edited.{nop-new, edit_accepted}
-use Rattle.pass_steps.proofs.Shapes.{shaped_here}
-use Rattle.pass_walks.specs.Matched.{Covers, WalksMatch, MatchedWalk, MatchesWalks}
-use Rattle.pass_walks.proofs.Items.{harmless_item}
-use Rattle.pass_walks.proofs.Walks.{regular_branch_matched}
-use Rattle.pass_names.proofs.Points.{found}
+use Rattle.pass_edit_laws.specs.acceptance.Edited.{IsNew, LosesNoDestination, IsOld, Edits}
+use Rattle.pass_edit_laws.proofs.lemmas.acceptance.Heads.{start_matched}
+use Rattle.pass_edit_laws.proofs.lemmas.acceptance.Alone.{both_alone}
+use Rattle.pass_edit_laws.proofs.lemmas.acceptance.Reaching.{ReachedBeside, regular-reaches, reached_points}
+use Rattle.pass_edit_laws.proofs.lemmas.acceptance.Edited.{nop-new, edit_accepted}
+use Rattle.pass_edit_laws.proofs.lemmas.steps.Shapes.{shaped_here}
+use Rattle.pass_edit_laws.specs.walks.Matched.{Covers, WalksMatch, MatchedWalk, MatchesWalks}
+use Rattle.pass_edit_laws.proofs.lemmas.walks.Items.{harmless_item}
+use Rattle.pass_edit_laws.proofs.lemmas.walks.Walks.{regular_branch_matched}
+use Rattle.pass_edit_laws.proofs.lemmas.names.Points.{found}
 use Rattle.dead_code.specs.Removable.{is_silent}
 use Rattle.dead_code.proofs.Chain.{Gone, was_reached}
 use Rattle.dead_code.proofs.Points.{Deadened}

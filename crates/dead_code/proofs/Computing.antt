@@ -23,9 +23,9 @@ use Rattle.bril_tree.specs.State.{Locals, Frame}
 use Rattle.bril_tree.specs.Step.{by_outcome, assigned, shadowed}
 use Rattle.bril_tree.specs.Typing.{type_fault}
 use Rattle.bril_tree.proofs.Outcomes.{giver-goes_on}
-use Rattle.pass_plan.proofs.Values.{assigned-other, shadowed-other}
-use Rattle.pass_steps.specs.Refinement.{ChangesPlaces}
-use Rattle.pass_steps.proofs.Shapes.{Shaped}
+use Rattle.pass_edit_laws.proofs.lemmas.plan.Values.{assigned-other, shadowed-other}
+use Rattle.pass_edit_laws.specs.steps.Refinement.{ChangesPlaces}
+use Rattle.pass_edit_laws.proofs.lemmas.steps.Shapes.{Shaped}
 use Rattle.dead_code.specs.Removable.{only_computes, is_computation}
 
 -- it goes on to the next point, and changes only the location that it assigns

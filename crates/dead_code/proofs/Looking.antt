@@ -21,10 +21,10 @@ use Rattle.flow_graph.specs.declared.reads.Access.{Access}
 use Rattle.live_sets.proofs.Law.{AreReaders}
 use Rattle.live_sets.proofs.Readers.{readers_are}
 use Rattle.flow_graph.proofs.ReadLists.{reads-inside}
-use Rattle.pass_plan.proofs.Elements.{all_in, in_all}
+use Rattle.pass_edit_laws.proofs.lemmas.plan.Elements.{all_in, in_all}
 use Rattle.dead_code.specs.Work.{IsLookedAt, IsReadBy, IsSearched, IsSound, IsWork, Queues, assignments_from, is_marked, reads_left, remaining}
 use Rattle.dead_code.proofs.Clearing.{is_assignment, removable, settled}
-use Rattle.pass_plan.proofs.Marked.{with_nops-alive, with_nops-dead}
+use Rattle.pass_edit_laws.proofs.lemmas.plan.Marked.{with_nops-alive, with_nops-dead}
 use Rattle.dead_code.proofs.Searching.{found-live, live-found}
 use Rattle.dead_code.proofs.Working.{remaining-chain, more, fewer-reads, more-work, more-searched}
 

@@ -28,15 +28,15 @@ use Rattle.pass_make.specs.Edited.{IsLinkedTo}
 use Rattle.pass_make.specs.declared.made.Made.TheVariants as making
 use Rattle.pass_make.specs.CanBeMade.{CanBeMade}
 use Rattle.pass_make.proofs.Each.{tree_of_function, names-each, heads-each, items-each, size-each}
-use Rattle.pass_names.proofs.Trees.{heads-of_trees}
+use Rattle.pass_edit_laws.proofs.lemmas.names.Trees.{heads-of_trees}
 use Rattle.dead_code.specs.Dead.{dead_meaning}
 use Rattle.dead_code.specs.Emptied.{IsCleared, IsClearedFunction, IsClearedTree, IsDeadened, WereRemovable, emptied, tree_with}
-use Rattle.pass_plan.specs.Marked.{with_nops}
+use Rattle.pass_edit_laws.specs.plan.Marked.{with_nops}
 use Rattle.dead_code.specs.Work.{remaining}
 use Rattle.dead_code.specs.Removable.{is_silent, IsUnused, IsIdle}
 use Rattle.dead_code.proofs.Accepted.{deadened-accepted}
 use Rattle.dead_code.proofs.Chain.{Chain, chain}
-use Rattle.pass_plan.proofs.Marked.{with_nops-map}
+use Rattle.pass_edit_laws.proofs.lemmas.plan.Marked.{with_nops-map}
 use Rattle.dead_code.proofs.Points.{Deadened}
 use Rattle.dead_code.proofs.Refines.{deadened-refines}
 

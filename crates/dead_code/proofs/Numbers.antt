@@ -14,12 +14,12 @@ use Rattle.bril_tree.specs.Numbered.{named, nop, tree_at}
 use Rattle.bril_tree.specs.Sites.{sites_of}
 use Rattle.bril_tree.specs.Step.{code_of, item_at, items_of}
 use Rattle.bril_tree.specs.Walk.{IsReached, end_of}
-use Rattle.pass_walks.specs.Matched.{MatchedWalk, MatchesWalks}
-use Rattle.pass_numbers.specs.Numbers.{FunctionWithin, NumbersWithin}
-use Rattle.pass_numbers.proofs.Edges.{edge-back, label-back}
-use Rattle.pass_numbers.proofs.InPlace.{EdgeBack, branch-back, in_place-entries, in_place-width}
-use Rattle.pass_numbers.proofs.Items.{IsOfItems, items-back, unchanged}
-use Rattle.pass_numbers.proofs.Programs.{by-functions, function-within, functions_bound}
+use Rattle.pass_edit_laws.specs.walks.Matched.{MatchedWalk, MatchesWalks}
+use Rattle.pass_edit_laws.specs.numbers.Numbers.{FunctionWithin, NumbersWithin}
+use Rattle.pass_edit_laws.proofs.lemmas.numbers.Edges.{edge-back, label-back}
+use Rattle.pass_edit_laws.proofs.lemmas.numbers.InPlace.{EdgeBack, branch-back, in_place-entries, in_place-width}
+use Rattle.pass_edit_laws.proofs.lemmas.numbers.Items.{IsOfItems, items-back, unchanged}
+use Rattle.pass_edit_laws.proofs.lemmas.numbers.Programs.{by-functions, function-within, functions_bound}
 use Rattle.dead_code.specs.Emptied.{IsDeadened}
 use Rattle.dead_code.proofs.Accepted.{deadened-accepted, walks}
 use Rattle.dead_code.proofs.Chain.{Gone}

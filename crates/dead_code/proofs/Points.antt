@@ -8,7 +8,7 @@ use Rattle.bril_tree.specs.declared.program.Prog.{Prog}
 use Rattle.bril_tree.specs.Numbered.{item_tree, names_of_functions, tree_at, variable_names}
 use Rattle.bril_tree.specs.Step.{code_of}
 use Rattle.bril_tree.specs.Walk.{IsReached}
-use Rattle.pass_names.specs.NamedPlan.{SameHeads}
+use Rattle.pass_edit_laws.specs.names.NamedPlan.{SameHeads}
 use Rattle.dead_code.specs.Removable.{is_silent}
 use Rattle.dead_code.proofs.Chain.{Chain}
 

@@ -10,7 +10,7 @@ use Rattle.bril_tree.proofs.Members.{in_contains, contains_in, in_append_left, i
 use Rattle.flow_graph.specs.Location.{number_of}
 use Rattle.flow_graph.specs.Reads.{access_at, item_reads}
 use Rattle.flow_graph.specs.declared.reads.Access.{Access}
-use Rattle.pass_plan.proofs.Elements.{in_all}
+use Rattle.pass_edit_laws.proofs.lemmas.plan.Elements.{in_all}
 use Rattle.dead_code.specs.Work.{AreQueued, IsReadBy, Queues, is_marked}
 
 only_one : (n l : ℕ) → In n (l ∷ []) → n ≡ l

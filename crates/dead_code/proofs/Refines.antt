@@ -24,15 +24,15 @@ use Rattle.bril_tree.specs.Walk.{IsReached, end_of}
 use Rattle.bril_tree.proofs.Assignments.{site_speculates}
 use Rattle.bril_tree.proofs.Liveness.{live-reads, live-flows, live-back}
 use Rattle.bril_tree.proofs.Trees.{nop-at, nothing_at}
-use Rattle.pass_names.specs.NamedPlan.{NamePlan, plan, KeepsNames}
-use Rattle.pass_names.proofs.Preserving.{names_preserve, knows_nothing}
-use Rattle.pass_names.proofs.Points.{found, label_once}
-use Rattle.pass_names.proofs.Heads.{no_partner}
-use Rattle.pass_plan.specs.Plan.{Plan, Preserves, StatesMatch, ValuesMatch}
-use Rattle.pass_steps.specs.Refinement.{Progress, CatchUp, BothMove, Advances}
-use Rattle.pass_steps.proofs.Moves.{both_move}
-use Rattle.pass_steps.proofs.Refinement.{plan_refines}
-use Rattle.pass_steps.proofs.Shapes.{shaped_here, opens_assigns}
+use Rattle.pass_edit_laws.specs.names.NamedPlan.{NamePlan, plan, KeepsNames}
+use Rattle.pass_edit_laws.proofs.lemmas.names.Preserving.{names_preserve, knows_nothing}
+use Rattle.pass_edit_laws.proofs.lemmas.names.Points.{found, label_once}
+use Rattle.pass_edit_laws.proofs.lemmas.names.Heads.{no_partner}
+use Rattle.pass_edit_laws.specs.plan.Plan.{Plan, Preserves, StatesMatch, ValuesMatch}
+use Rattle.pass_edit_laws.specs.steps.Refinement.{Progress, CatchUp, BothMove, Advances}
+use Rattle.pass_edit_laws.proofs.lemmas.steps.Moves.{both_move}
+use Rattle.pass_edit_laws.proofs.lemmas.steps.Refinement.{plan_refines}
+use Rattle.pass_edit_laws.proofs.lemmas.steps.Shapes.{shaped_here, opens_assigns}
 use Rattle.dead_code.specs.Removable.{is_computation}
 use Rattle.dead_code.proofs.Chain.{Gone}
 use Rattle.dead_code.proofs.Computing.{computes}

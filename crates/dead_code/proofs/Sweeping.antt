@@ -28,7 +28,7 @@ use Rattle.flow_graph.proofs.Locations.{assigned-number, number-assigned}
 use Rattle.dead_code.specs.Removable.{IsRemovable, is_computation}
 use Rattle.dead_code.specs.Sweep.{AreNoted, GoesOn, IsQuiet, IsSwept}
 use Rattle.dead_code.specs.Work.{IsSound, NoneIdle, remaining}
-use Rattle.pass_plan.proofs.Marked.{length-with_nops}
+use Rattle.pass_edit_laws.proofs.lemmas.plan.Marked.{length-with_nops}
 use Rattle.dead_code.proofs.Queueing.{among-more, numbers-read}
 use Rattle.dead_code.proofs.Step.{branches-same, set-here}
 use Rattle.dead_code.proofs.Working.{more-is, more-none_idle, more-sound, remaining-chain}

@@ -10,7 +10,7 @@ use Rattle.bril_tree.specs.Walk.{IsReached}
 use Rattle.bril_tree.specs.declared.numbered.Instr.{Instr}
 use Rattle.flow_graph.specs.Location.{location_at, number_of}
 use Rattle.dead_code.specs.Emptied.{emptied, WereRemovable}
-use Rattle.pass_plan.specs.Marked.{with_nops}
+use Rattle.pass_edit_laws.specs.plan.Marked.{with_nops}
 use Rattle.dead_code.specs.Removable.{is_computation, is_silent}
 use Rattle.flow_graph.specs.Reads.{access_at}
 use Rattle.flow_graph.specs.declared.reads.Access.{Access}

@@ -5,7 +5,7 @@ ghost use Rattle.bril_tree.specs.Accepted.{IsAccepted};
 ghost use Rattle.bril_tree.specs.Numbered.{nop_item};
 ghost use Rattle.bril_tree.specs.Size.{IsCounted};
 ghost use Rattle.dead_code.specs.Emptied.{IsClearedTree};
-ghost use Rattle.pass_plan.specs.Marked.{with_nops};
+ghost use Rattle.pass_edit_laws.specs.plan.Marked.{with_nops};
 
 use crate::work::dead_items;
 use bril_names::function_of;

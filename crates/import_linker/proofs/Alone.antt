@@ -3,8 +3,8 @@ use Rattle.std.proofs.Common.{◌≡◌, ◌∙◌, ◌⊎◌, refl, sym, ap, ap
 use Rattle.bril_outside.specs.Files.{FileMap}
 use Rattle.import_linker.specs.Order.{known_after, most_files}
 use Rattle.import_linker.specs.Reading.{AreNext, IsNext, IsNextPath, IsRead, bytes_of}
-use Rattle.bril_source.specs.Format.{format_of}
-use Rattle.bril_source.specs.Reading.{IsOnlyFault, ReadsAs, most_bytes}
+use Rattle.import_linker.specs.formats.Format.{format_of}
+use Rattle.import_linker.specs.formats.Reading.{IsOnlyFault, ReadsAs, most_bytes}
 use Rattle.import_linker.specs.declared.fault.LinkFault.{LinkFault}
 use Rattle.import_linker.specs.declared.fault.LinkFault.TheVariants as fault
 use Rattle.import_linker.specs.declared.sources.Source.{Source}

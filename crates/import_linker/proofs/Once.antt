@@ -3,9 +3,9 @@ use Rattle.std.proofs.Common.{◌≡◌, ◌∙◌, refl, sym, ap, ap₂, subst,
 use Rattle.bril_outside.specs.Files.{FileMap}
 use Rattle.import_linker.specs.Order.{known_after, most_files}
 use Rattle.import_linker.specs.Reading.{AreFiles, AreNext, IsMisread, IsNext, IsNextPath, IsRead, PassesBytes, PassesFiles}
-use Rattle.bril_source.specs.Format.{format_of}
-use Rattle.bril_source.specs.Reading.{ReadsAs}
-use Rattle.bril_source.specs.declared.fault.ReadFault.{ReadFault}
+use Rattle.import_linker.specs.formats.Format.{format_of}
+use Rattle.import_linker.specs.formats.Reading.{ReadsAs}
+use Rattle.import_linker.specs.declared.formats.fault.ReadFault.{ReadFault}
 use Rattle.import_linker.specs.declared.sources.Source.{Source}
 use Rattle.import_linker.proofs.Turning.{got_inside}
 

@@ -7,8 +7,8 @@ use Rattle.bril_outside.proofs.SinkWrites.{Rose-after}
 use Rattle.import_linker.specs.Adding.{AddsTooMany}
 use Rattle.import_linker.specs.Order.{all_added, known_after, most_files, named_by}
 use Rattle.import_linker.specs.Reading.{AreNext, IsNext, IsNextPath, IsRead, RefusesReading, RefusesSource, bytes_of}
-use Rattle.bril_source.specs.Format.{format_of}
-use Rattle.bril_source.specs.Reading.{IsOnlyFault, most_bytes}
+use Rattle.import_linker.specs.formats.Format.{format_of}
+use Rattle.import_linker.specs.formats.Reading.{IsOnlyFault, most_bytes}
 use Rattle.import_linker.specs.declared.fault.LinkFault.{LinkFault}
 use Rattle.import_linker.specs.declared.fault.LinkFault.TheVariants as fault
 use Rattle.import_linker.specs.declared.sources.Source.{Source}

@@ -2,7 +2,7 @@
 use Rattle.std.proofs.Common.{◌≡◌, ◌∙◌, ◌⊎◌, refl, sym, ap, subst, ℕ, List, Option, Some, None, inl, inr}
 use Rattle.bril_outside.specs.Files.{FileMap, FilesSeen, LacksFile}
 use Rattle.bril_outside.specs.Sink.{Rose}
-use Rattle.bril_source.specs.declared.fault.ReadFault.{ReadFault}
+use Rattle.import_linker.specs.declared.formats.fault.ReadFault.{ReadFault}
 use Rattle.bril_tree.specs.declared.tree.Tree.{Tree}
 use Rattle.import_linker.specs.Linked.{Linked}
 use Rattle.import_linker.specs.Names.{NameFault, clash, fault_from, not_there}

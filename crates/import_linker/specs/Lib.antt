@@ -8,3 +8,5 @@ pub mod Reading
 pub mod Refusing
 pub mod Runs
 pub mod Tables
+pub mod formats
+pub mod linked_names

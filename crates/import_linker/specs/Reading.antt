@@ -3,11 +3,11 @@ use Rattle.std.specs.Prelude.{ℕ, ◌≡◌, ◌<◌, ◌≤◌, ◌+◌, List,
 use Rattle.std.specs.List.{sum_by}
 use Rattle.bril_outside.specs.Files.{FileMap, FilesSeen, MayHold, MayFail}
 use Rattle.import_linker.specs.Order.{known_after, most_files}
-use Rattle.bril_source.specs.Format.{format_of}
-use Rattle.bril_source.specs.Reading.{IsOnlyTree, IsOnlyFault, most_bytes}
+use Rattle.import_linker.specs.formats.Format.{format_of}
+use Rattle.import_linker.specs.formats.Reading.{IsOnlyTree, IsOnlyFault, most_bytes}
 use Rattle.import_linker.specs.declared.fault.LinkFault.{LinkFault}
 use Rattle.import_linker.specs.declared.fault.LinkFault.TheVariants as fault
-use Rattle.bril_source.specs.declared.fault.ReadFault.{ReadFault}
+use Rattle.import_linker.specs.declared.formats.fault.ReadFault.{ReadFault}
 use Rattle.import_linker.specs.declared.sources.Source.{Source}
 
 -- how many bytes files have together

@@ -3,7 +3,7 @@
 ghost use Rattle.std.specs.Prelude.{◌≡◌};
 ghost use Rattle.import_linker.specs.declared.fault.LinkFault.TheVariants.{Memory};
 
-use bril_source::ReadFault;
+use crate::formats::ReadFault;
 use bril_tree::name::Name;
 use bril_tree::text::Text;
 use std::alloc::AllocError;

@@ -3,13 +3,17 @@
 //! `specs/Order.antt` says which files there are and in which order, `Reading.antt` what each of them reads as and what stops the
 //! reading, `Names.antt` what a name of a function stands for in a file and what is wrong with names, and `Linked.antt` what the
 //! tree of all files is.
+//!
+//! A file is read in the format that its path names (`formats`); what linking leaves for names to go wrong is in `linked_names`.
 #![tactic(auto)]
 
 mod fault;
 mod file_numbers;
+pub mod formats;
 mod fresh_run;
 mod known_paths;
 mod laws;
+pub mod linked_names;
 mod linking;
 mod locals;
 mod paths;

@@ -3,14 +3,14 @@
 ghost use Rattle.std.specs.Prelude.{◌≡◌, ◌≤◌, IfOk, IfErr};
 ghost use Rattle.import_linker.specs.Names.{paths_of};
 ghost use Rattle.import_linker.specs.Reading.{AreFiles, RefusesReading, RefusesSource, IsRead};
-ghost use Rattle.bril_source.specs.Reading.{most_bytes};
+ghost use Rattle.import_linker.specs.formats.Reading.{most_bytes};
 
 use crate::fault::LinkFault;
+use crate::formats::{TreeFault, read_tree};
 use crate::known_paths::KnownPaths;
 use crate::paths::add_imports;
 use crate::sources::{ProgramFiles, Source};
 use bril_outside::files::{FileFault, Files};
-use bril_source::{TreeFault, read_tree};
 use bril_tree::bytes::Bytes;
 use bril_tree::sequence::Seq;
 use bril_tree::text::Text;

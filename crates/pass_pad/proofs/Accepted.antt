@@ -10,19 +10,19 @@ use Rattle.bril_tree.specs.Edge.{Branch, branches_at, branches_from, onward}
 use Rattle.bril_tree.specs.Step.{code_of, item_at}
 use Rattle.bril_tree.specs.Walk.{IsWalk, end_of}
 use Rattle.bril_tree.specs.Membership.{In}
-use Rattle.pass_accept.specs.Edited.{IsNew, IsOld, Edits}
-use Rattle.pass_accept.proofs.Heads.{start_matched}
-use Rattle.pass_accept.proofs.Alone.{result_alone}
-use Rattle.pass_accept.proofs.Edited.{nop-new, edit_accepted}
-use Rattle.pass_accept.proofs.Left.{dest-there}
+use Rattle.pass_edit_laws.specs.acceptance.Edited.{IsNew, IsOld, Edits}
+use Rattle.pass_edit_laws.proofs.lemmas.acceptance.Heads.{start_matched}
+use Rattle.pass_edit_laws.proofs.lemmas.acceptance.Alone.{result_alone}
+use Rattle.pass_edit_laws.proofs.lemmas.acceptance.Edited.{nop-new, edit_accepted}
+use Rattle.pass_edit_laws.proofs.lemmas.acceptance.Left.{dest-there}
 use Rattle.bril_tree.specs.Numbered.{nop}
 use Rattle.bril_tree.proofs.Assignments.{went_on}
 use Rattle.pass_pad.specs.Padded.{PaddedAt}
 use Rattle.pass_pad.specs.Plan.{padding, pad_plan}
 use Rattle.pass_pad.proofs.Refines.{preserves}
-use Rattle.pass_walks.specs.Matched.{WalksMatch, MatchedWalk, MatchesWalks}
-use Rattle.pass_walks.proofs.Items.{harmless_item}
-use Rattle.pass_walks.proofs.Walks.{regular_branch_matched}
+use Rattle.pass_edit_laws.specs.walks.Matched.{WalksMatch, MatchedWalk, MatchesWalks}
+use Rattle.pass_edit_laws.proofs.lemmas.walks.Items.{harmless_item}
+use Rattle.pass_edit_laws.proofs.lemmas.walks.Walks.{regular_branch_matched}
 
 module _ (P Q : Prog) (accepted : IsAccepted P) (t : PaddedAt P Q) (f : ℕ) (F G : Func) (p : slice_get P.funcs f ≡ Some F) (q : slice_get Q.funcs f ≡ Some G) where
   abbrev Matched : List Branch → Type 0

@@ -20,7 +20,7 @@ use Rattle.bril_names.specs.Faults.{IsKnown, IsSound, labels_of, function_names,
 use Rattle.bril_names.proofs.Functions.{is_main}
 use Rattle.bril_names.proofs.Naming.{AreAmong-none}
 use Rattle.bril_names.proofs.Edits.{names_edited, heads-of_edits}
-use Rattle.pass_names.proofs.Trees.{heads-of_trees}
+use Rattle.pass_edit_laws.proofs.lemmas.names.Trees.{heads-of_trees}
 use Rattle.pass_law.proofs.Equations.{equation_number}
 use Rattle.pass_law.specs.Meaning.{HasNumbers, Link}
 use Rattle.pass_make.specs.Edited.{HasRoom, IsLinkedTo}

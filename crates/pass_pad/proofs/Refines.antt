@@ -11,16 +11,16 @@ use Rattle.bril_tree.specs.Run.{Refines}
 use Rattle.bril_tree.specs.State.{Frame, State}
 use Rattle.bril_tree.specs.Step.{items_of, code_of, item_at}
 use Rattle.bril_tree.specs.Membership.{In}
-use Rattle.pass_names.specs.NamedPlan.{KeepsNames}
-use Rattle.pass_names.proofs.Preserving.{names_preserve, knows_nothing}
-use Rattle.pass_names.proofs.Points.{label_once}
-use Rattle.pass_names.proofs.Heads.{no_partner}
+use Rattle.pass_edit_laws.specs.names.NamedPlan.{KeepsNames}
+use Rattle.pass_edit_laws.proofs.lemmas.names.Preserving.{names_preserve, knows_nothing}
+use Rattle.pass_edit_laws.proofs.lemmas.names.Points.{label_once}
+use Rattle.pass_edit_laws.proofs.lemmas.names.Heads.{no_partner}
 use Rattle.pass_pad.specs.Padded.{PaddedAt}
 use Rattle.pass_pad.specs.Plan.{padding, pad_plan}
-use Rattle.pass_plan.specs.Plan.{Preserves, StatesMatch}
-use Rattle.pass_steps.specs.Refinement.{CatchesUp, CatchUp, Advances}
-use Rattle.pass_steps.proofs.Moves.{result_moves}
-use Rattle.pass_steps.proofs.Refinement.{plan_refines}
+use Rattle.pass_edit_laws.specs.plan.Plan.{Preserves, StatesMatch}
+use Rattle.pass_edit_laws.specs.steps.Refinement.{CatchesUp, CatchUp, Advances}
+use Rattle.pass_edit_laws.proofs.lemmas.steps.Moves.{result_moves}
+use Rattle.pass_edit_laws.proofs.lemmas.steps.Refinement.{plan_refines}
 
 module _ (P Q : Prog) (t : PaddedAt P Q) where
   -- where P has no function, Q has none

@@ -7,7 +7,7 @@ use Rattle.bril_tree.specs.declared.tree.Tree.{Tree}
 use Rattle.bril_tree.specs.Size.{item_count}
 use Rattle.bril_tree.specs.Step.{item_at}
 use Rattle.bril_tree.specs.Numbered.{nop_item, nop, tree_at, tree_of}
-use Rattle.pass_names.specs.NamedPlan.{SameHeads}
+use Rattle.pass_edit_laws.specs.names.NamedPlan.{SameHeads}
 
 -- ---- by trees
 

@@ -1,8 +1,8 @@
 -- The plan of the pass.
 use Rattle.std.specs.Prelude.{◌≡◌, ◌⊎◌, suc, None, slice_get}
 use Rattle.bril_tree.specs.declared.program.Prog.{Prog}
-use Rattle.pass_names.specs.NamedPlan.{NamePlan, plan}
-use Rattle.pass_plan.specs.Plan.{Plan}
+use Rattle.pass_edit_laws.specs.names.NamedPlan.{NamePlan, plan}
+use Rattle.pass_edit_laws.specs.plan.Plan.{Plan}
 
 -- The result stands one point further, or both stand where a function begins. All locations of one name match, and
 -- nothing is known of their values.

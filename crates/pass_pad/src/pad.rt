@@ -7,9 +7,9 @@ use crate::edit::padded;
 use bril_checker::Checked;
 use bril_names::unnumber;
 use bril_profile::Profile;
+use pass_edit_laws::names::PlannedByNames;
+use pass_edit_laws::plan::Planned;
 use pass_make::{Edit, Edited, Made};
-use pass_names::PlannedByNames;
-use pass_plan::Planned;
 use std::alloc::{AllocError, Global};
 
 /// The pass `pad`, as clauses see it by its tally. It puts one `nop` before item 0 of each function. Its factor is 2, and

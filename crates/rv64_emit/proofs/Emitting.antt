@@ -8,20 +8,20 @@ use Rattle.bril_tree.specs.Literals.{AreLiteralsInRange}
 use Rattle.bril_tree.specs.Size.{IsCounted}
 use Rattle.bril_tree.proofs.Elements.{All-at, zip-long}
 use Rattle.live_sets.specs.declared.live.Live.{Live}
-use Rattle.rv64_implements.specs.Implements.{Implements}
-use Rattle.rv64_implements.specs.WordBounds.{IsStackSize, IsWithin}
+use Rattle.rv64_image_laws.specs.Implements.{Implements}
+use Rattle.rv64_image_laws.specs.WordBounds.{IsStackSize, IsWithin}
 use Rattle.rv64_words.specs.declared.image.Image.{Image}
 use Rattle.rv64_words.specs.Encoding.{encoded}
 use Rattle.shadow_place.specs.declared.placed.Placed.{Placed}
 use Rattle.slot_code.specs.declared.slots.Slots.{Slots}
 use Rattle.slot_code.specs.Lowered.{IsLowered, IsLoweredFunction, lowered_item}
-use Rattle.rv64_layout.specs.Homes.{FunctionHomes}
-use Rattle.rv64_layout.specs.Image.{joined, start_at, head_words, function_words_at, image_words, largest_frame, IsImageOf}
-use Rattle.rv64_layout.specs.Laid.{HaveHomes}
-use Rattle.rv64_layout.proofs.Bounding.{image_bounded, function_made}
-use Rattle.rv64_layout.proofs.Fitting.{all_reached, item_fits, largest_is}
-use Rattle.rv64_layout.proofs.Guarding.{guards_counted}
-use Rattle.rv64_layout.proofs.Laid.{functions_length}
+use Rattle.rv64_emit_laws.specs.layout.Homes.{FunctionHomes}
+use Rattle.rv64_emit_laws.specs.layout.Image.{joined, start_at, head_words, function_words_at, image_words, largest_frame, IsImageOf}
+use Rattle.rv64_emit_laws.specs.layout.Laid.{HaveHomes}
+use Rattle.rv64_emit_laws.proofs.lemmas.layout.Bounding.{image_bounded, function_made}
+use Rattle.rv64_emit_laws.proofs.lemmas.layout.Fitting.{all_reached, item_fits, largest_is}
+use Rattle.rv64_emit_laws.proofs.lemmas.layout.Guarding.{guards_counted}
+use Rattle.rv64_emit_laws.proofs.lemmas.layout.Laid.{functions_length}
 use Rattle.rv64_emit_laws.specs.Homes.{AllHomesServe, homes_of}
 use Rattle.rv64_emit_laws.proofs.Homes.{have_homes}
 use Rattle.rv64_emit_laws.proofs.Theorem.{implements, implements_at}

@@ -10,7 +10,7 @@ use Rattle.program_numbers.specs.ProgramNumbers.{IsLargestFrame}
 use Rattle.bril_tree.proofs.Elements.{get_in, get_inside, in_get}
 use Rattle.bril_tree.proofs.Measures.{AreFrameWords-one}
 use Rattle.bril_tree.proofs.Members.{contains_in, in_contains}
-use Rattle.rv64_layout.proofs.Joining.{below_or}
+use Rattle.rv64_emit_laws.proofs.lemmas.layout.Joining.{below_or}
 
 -- so many words are those of the largest frame of the first functions; 0 where there is none
 pub record IsLargestOf (funcs : List Func) (count words : ℕ) : Type 0 where

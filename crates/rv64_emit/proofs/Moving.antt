@@ -6,8 +6,8 @@ use Rattle.std.proofs.lemmas.Bool.{and_parts}
 use Rattle.std.proofs.lemmas.List.{append-nil, length-take}
 use Rattle.slot_code.specs.declared.item.Slot.{Slot}
 use Rattle.slot_code.specs.declared.slots.SlotFunction.{SlotFunction}
-use Rattle.rv64_sequences.specs.Moves.{Move, save_one, save_words, save_size, restore_one, restore_words, restore_size}
-use Rattle.rv64_layout.specs.Homes.{FunctionHomes, call_moves, in_register, is_loaded, moves_from, opening_moves, outlives}
+use Rattle.rv64_words_laws.specs.sequences.Moves.{Move, save_one, save_words, save_size, restore_one, restore_words, restore_size}
+use Rattle.rv64_emit_laws.specs.layout.Homes.{FunctionHomes, call_moves, in_register, is_loaded, moves_from, opening_moves, outlives}
 use Rattle.rv64_words.specs.declared.word.Word.{Word}
 use Rattle.rv64_words.specs.Encoding.{encoded}
 use Rattle.rv64_emit.specs.Moved.{AreRegistersNear}

@@ -11,13 +11,13 @@ use Rattle.slot_code.specs.declared.item.SlotItem.{SlotItem}
 use Rattle.slot_code.specs.declared.item.SlotItem.TheVariants.{Pass, Constant, Copy, Unary, Binary, Jump, Branch, Call, Return, Print, Alloc, Free, Store, Load, Speculate, Commit, Guard}
 use Rattle.slot_code.specs.declared.slots.SlotFunction.{SlotFunction}
 use Rattle.slot_code.specs.declared.slots.Slots.{Slots}
-use Rattle.rv64_layout.specs.Fits.{ItemFits}
-use Rattle.rv64_layout.specs.Homes.{FunctionHomes}
-use Rattle.rv64_layout.specs.Image.{joined, opening_words, words_before, function_size, start_at, entry_at, item_words_or_none, item_words_at, function_words_or_none, function_words_at, guard_or_none, guard_at}
-use Rattle.rv64_layout.specs.Items.{item_size, item_words, leave_words}
-use Rattle.rv64_layout.proofs.Joining.{below_or, joined-more}
-use Rattle.rv64_layout.proofs.Laid.{items_length, functions_length, opening_length}
-use Rattle.rv64_layout.proofs.Placing.{words_next, words_at_end, entry_is, starts_rise, starts_most, function_inside, entries_most}
+use Rattle.rv64_emit_laws.specs.layout.Fits.{ItemFits}
+use Rattle.rv64_emit_laws.specs.layout.Homes.{FunctionHomes}
+use Rattle.rv64_emit_laws.specs.layout.Image.{joined, opening_words, words_before, function_size, start_at, entry_at, item_words_or_none, item_words_at, function_words_or_none, function_words_at, guard_or_none, guard_at}
+use Rattle.rv64_emit_laws.specs.layout.Items.{item_size, item_words, leave_words}
+use Rattle.rv64_emit_laws.proofs.lemmas.layout.Joining.{below_or, joined-more}
+use Rattle.rv64_emit_laws.proofs.lemmas.layout.Laid.{items_length, functions_length, opening_length}
+use Rattle.rv64_emit_laws.proofs.lemmas.layout.Placing.{words_next, words_at_end, entry_is, starts_rise, starts_most, function_inside, entries_most}
 use Rattle.rv64_emit.specs.Moved.{AreRegistersNear}
 use Rattle.rv64_emit.specs.Tables.{table_at, start_table, entry_table, item_count, items_or_none, items_at, guard_with, SlotsFit}
 use Rattle.rv64_emit.proofs.Appending.{put_then}

@@ -16,8 +16,8 @@ use Rattle.placement_laws.proofs.Homes.{location_back}
 use Rattle.rv64_emit_laws.specs.Homes.{AllHomesServe, HomesServe, home_at, homes_of, live_at, saved_at}
 use Rattle.rv64_emit_laws.proofs.Homes.{slot_in}
 use Rattle.rv64_emit_laws.proofs.Sources.{lowered_at}
-use Rattle.rv64_layout.specs.Homes.{FunctionHomes, slot_word}
-use Rattle.rv64_layout.specs.Laid.{AreHomes}
+use Rattle.rv64_emit_laws.specs.layout.Homes.{FunctionHomes, slot_word}
+use Rattle.rv64_emit_laws.specs.layout.Laid.{AreHomes}
 use Rattle.shadow_place.specs.declared.placed.Placed.{Placed}
 use Rattle.shadow_place.specs.Placement.{FewAreInRegisters, HomesAreApart, HomesAreOwn, LiveAreApart, TellsAllSaved, TellsLiveIn}
 use Rattle.shadow_place.specs.Tables.{home_in, is_saved_in}

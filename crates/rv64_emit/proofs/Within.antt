@@ -12,7 +12,7 @@ use Rattle.bril_tree.specs.declared.program.Prog.{Prog}
 use Rattle.bril_tree.specs.FrameWords.{location_count}
 use Rattle.program_numbers.specs.ProgramNumbers.{IsLargestFrame}
 use Rattle.bril_tree.proofs.Elements.{zip-get, zip-long, get_inside, get_in, passes_in}
-use Rattle.rv64_implements.specs.WordBounds.{has_fixed_bound, has_fixed_bounds, operation_bound, word_bound, word_bounds, IsStackSize, IsWithin}
+use Rattle.rv64_image_laws.specs.WordBounds.{has_fixed_bound, has_fixed_bounds, operation_bound, word_bound, word_bounds, IsStackSize, IsWithin}
 use Rattle.slot_code.specs.declared.slots.SlotFunction.{SlotFunction}
 use Rattle.slot_code.specs.declared.slots.Slots.{Slots}
 use Rattle.slot_code.specs.Lowered.{IsLowered, IsLoweredFunction}

@@ -3,7 +3,7 @@ use Rattle.std.specs.Prelude.{◌≡◌, ℕ, ◌+◌, List, length, Option, Som
 use Rattle.std.specs.List.{sum_by}
 use Rattle.bril_tree.specs.declared.numbered_function.Func.{Func}
 use Rattle.bril_tree.specs.declared.program.Prog.{Prog}
-use Rattle.rv64_implements.specs.WordBounds.{word_bound, function_bound}
+use Rattle.rv64_image_laws.specs.WordBounds.{word_bound, function_bound}
 use Rattle.slot_code.specs.declared.slots.SlotFunction.{SlotFunction}
 
 abbrev pub slot_count : Option SlotFunction → ℕ

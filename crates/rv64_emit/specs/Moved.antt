@@ -2,8 +2,8 @@
 use Rattle.std.specs.Prelude.{◌≡◌, ℕ, ◌+◌, ◌^◌, ◌<◌, Bool, true, Some, slice_get}
 use Rattle.slot_code.specs.declared.item.Slot.{Slot}
 use Rattle.slot_code.specs.declared.slots.SlotFunction.{SlotFunction}
-use Rattle.rv64_layout.specs.Fits.{frame_reach}
-use Rattle.rv64_layout.specs.Homes.{FunctionHomes, depth_at, in_register, is_kept, is_loaded, is_taken_back, outlives}
+use Rattle.rv64_emit_laws.specs.layout.Fits.{frame_reach}
+use Rattle.rv64_emit_laws.specs.layout.Homes.{FunctionHomes, depth_at, in_register, is_kept, is_loaded, is_taken_back, outlives}
 use Rattle.rv64_emit.specs.declared.moved.Moved.{Moved}
 use Rattle.rv64_emit.specs.declared.moved.Moved.TheVariants.{Kept, TakenBack, Outliving, Loaded}
 

@@ -6,7 +6,7 @@ use Rattle.shadow_place.specs.declared.placed.Placed.{Placed}
 use Rattle.shadow_place.specs.Tables.{home_in, is_saved_in}
 use Rattle.slot_code.specs.declared.item.Slot.{Slot}
 use Rattle.slot_code.specs.Flow.{slot_location}
-use Rattle.rv64_layout.specs.Homes.{FunctionHomes}
+use Rattle.rv64_emit_laws.specs.layout.Homes.{FunctionHomes}
 use Rattle.rv64_emit.specs.declared.homes.ProgramHomes.{ProgramHomes}
 use Rattle.rv64_emit.specs.declared.homes.SlotHomes.{SlotHomes}
 

@@ -4,7 +4,7 @@ use Rattle.bril_tree.specs.declared.limits.Limits.{Limits}
 use Rattle.bril_tree.specs.declared.program.Prog.{Prog}
 use Rattle.rv64_emit.specs.declared.EmitFault.{EmitFault}
 use Rattle.rv64_emit.specs.declared.EmitFault.TheVariants.{CodeTooBig, StackTooBig, Memory}
-use Rattle.rv64_implements.specs.WordBounds.{has_fixed_bounds, word_bounds, IsStackSize, IsWithin}
+use Rattle.rv64_image_laws.specs.WordBounds.{has_fixed_bounds, word_bounds, IsStackSize, IsWithin}
 use Rattle.rv64_words.specs.Region.{most_words, most_stack}
 
 -- a number in 64 bits: the greatest of them where it is greater

@@ -7,8 +7,8 @@ use Rattle.bril_tree.specs.declared.program.Prog.{Prog}
 use Rattle.bril_tree.specs.FrameWords.{location_count}
 use Rattle.bril_tree.specs.Operand.{Location}
 use Rattle.placement_laws.specs.Homes.{IsInRegister}
-use Rattle.rv64_implements.specs.Home.{IsLocationOf}
-use Rattle.rv64_implements.specs.Implements.{ImplementsAt}
+use Rattle.rv64_image_laws.specs.Home.{IsLocationOf}
+use Rattle.rv64_image_laws.specs.Implements.{ImplementsAt}
 use Rattle.rv64_words.specs.declared.image.Image.{Image}
 use Rattle.shadow_place.specs.Registers.{home_registers}
 

@@ -7,10 +7,10 @@ use Rattle.slot_code.specs.declared.item.SlotItem.{SlotItem}
 use Rattle.slot_code.specs.declared.item.SlotItem.TheVariants.{Guard}
 use Rattle.slot_code.specs.declared.slots.SlotFunction.{SlotFunction}
 use Rattle.slot_code.specs.declared.slots.Slots.{Slots}
-use Rattle.rv64_layout.specs.Fits.{IsReached, ItemFits}
-use Rattle.rv64_layout.specs.Homes.{FunctionHomes}
-use Rattle.rv64_layout.specs.Image.{joined, start_at, entry_at, item_words_at}
-use Rattle.rv64_layout.specs.Items.{guard_front_size}
+use Rattle.rv64_emit_laws.specs.layout.Fits.{IsReached, ItemFits}
+use Rattle.rv64_emit_laws.specs.layout.Homes.{FunctionHomes}
+use Rattle.rv64_emit_laws.specs.layout.Image.{joined, start_at, entry_at, item_words_at}
+use Rattle.rv64_emit_laws.specs.layout.Items.{guard_front_size}
 use Rattle.rv64_words.specs.Region.{most_words}
 use Rattle.rv64_emit.specs.Moved.{AreRegistersNear}
 

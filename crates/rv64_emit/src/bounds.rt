@@ -7,8 +7,8 @@ ghost use Rattle.std.specs.List.{list_all};
 ghost use Rattle.rv64_emit.specs.Bounds.{AreLocationsKnown, bound_with, locations_at};
 ghost use Rattle.rv64_emit.specs.Refusal.{capped, EmitRefuses};
 ghost use Rattle.rv64_emit.specs.declared.EmitFault.TheVariants.{Memory};
-ghost use Rattle.rv64_implements.specs.WordBounds as bounds;
-ghost use Rattle.rv64_implements.specs.WordBounds.{operation_bound, word_bound, word_bounds, IsStackSize, IsWithin};
+ghost use Rattle.rv64_image_laws.specs.WordBounds as bounds;
+ghost use Rattle.rv64_image_laws.specs.WordBounds.{operation_bound, word_bound, word_bounds, IsStackSize, IsWithin};
 
 use crate::EmitFault;
 use bril_checker::Checked;

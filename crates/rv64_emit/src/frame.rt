@@ -2,9 +2,9 @@
 
 ghost use Rattle.std.specs.Prelude.{◌≡◌, ◌+◌, ◌*◌, ◌^◌, ◌<◌, length, suc, take};
 ghost use Rattle.bril_tree.specs.Value as values;
-ghost use Rattle.rv64_layout.specs.Homes as homes;
-ghost use Rattle.rv64_layout.specs.Items as items;
-ghost use Rattle.rv64_layout.specs.Fits.{frame_reach};
+ghost use Rattle.rv64_emit_laws.specs.layout.Homes as homes;
+ghost use Rattle.rv64_emit_laws.specs.layout.Items as items;
+ghost use Rattle.rv64_emit_laws.specs.layout.Fits.{frame_reach};
 
 use bril_tree::value::Value;
 use slot_code::{Slot, SlotFunction};

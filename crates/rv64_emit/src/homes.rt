@@ -4,7 +4,7 @@ ghost use Rattle.std.specs.Prelude.{◌≡◌};
 ghost use Rattle.bril_tree.specs.Place.{location_of};
 ghost use Rattle.live_sets.specs.Liveness.{is_live};
 ghost use Rattle.rv64_emit.specs.Placed.{all_homes, homes_in, placed_homes};
-ghost use Rattle.rv64_layout.specs.Homes as homes;
+ghost use Rattle.rv64_emit_laws.specs.layout.Homes as homes;
 ghost use Rattle.slot_code.specs.Flow.{slot_location};
 
 use bril_tree::home::Home;

@@ -6,9 +6,9 @@ ghost use Rattle.rv64_emit.specs.Moved.{AreRegistersNear};
 ghost use Rattle.rv64_emit.specs.Placed.{all_homes, homes_in};
 ghost use Rattle.rv64_emit.specs.Tables as tables;
 ghost use Rattle.rv64_emit.specs.Tables.{SlotsFit, items_at, guard_with, table_at};
-ghost use Rattle.rv64_layout.specs.Image.{joined, start_at, entry_at, head_words, opening_words, function_words_at, function_guards_at, largest_frame, IsImageOf};
-ghost use Rattle.rv64_layout.specs.Fits.{IsReached, ItemFits};
-ghost use Rattle.rv64_layout.specs.Items as layout;
+ghost use Rattle.rv64_emit_laws.specs.layout.Image.{joined, start_at, entry_at, head_words, opening_words, function_words_at, function_guards_at, largest_frame, IsImageOf};
+ghost use Rattle.rv64_emit_laws.specs.layout.Fits.{IsReached, ItemFits};
+ghost use Rattle.rv64_emit_laws.specs.layout.Items as layout;
 ghost use Rattle.rv64_words.specs.Encoding.{encoded};
 ghost use Rattle.rv64_words.specs.Region.{most_words};
 

@@ -4,8 +4,8 @@ ghost use Rattle.std.specs.Prelude.{◌≡◌, ◌+◌, ◌-◌, ◌^◌, ◌<�
 ghost use Rattle.rv64_emit.specs.Moved.{AreRegistersNear};
 ghost use Rattle.rv64_emit.specs.Placed.{homes_in};
 ghost use Rattle.rv64_emit.specs.Tables.{table_at};
-ghost use Rattle.rv64_layout.specs.Fits.{ItemFits};
-ghost use Rattle.rv64_layout.specs.Items.{item_size, item_words};
+ghost use Rattle.rv64_emit_laws.specs.layout.Fits.{ItemFits};
+ghost use Rattle.rv64_emit_laws.specs.layout.Items.{item_size, item_words};
 ghost use Rattle.rv64_words.specs.Encoding.{encoded};
 ghost use Rattle.rv64_words.specs.Region.{most_words};
 

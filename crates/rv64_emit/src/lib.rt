@@ -2,7 +2,7 @@
 //!
 //! The program becomes code over slots, and `shadow_place` gives each of them a home: a register, or its own word of the frame.
 //! A first pass over the code tells where functions and items begin, a second one appends their words; both take time in
-//! proportion to the words. `rv64_layout` says which words an item has and where they are, `rv64_emit_laws` that an image laid
+//! proportion to the words. `rv64_emit_laws::layout` says which words an item has and where they are, `rv64_emit_laws` that an image laid
 //! out so does what the program does.
 #![tactic(auto)]
 
@@ -10,8 +10,8 @@ ghost use Rattle.std.specs.Prelude.{◌≡◌, ◌≤◌, length, IfOk, IfErr};
 ghost use Rattle.rv64_emit.specs.declared.EmitFault.TheVariants.{Memory};
 ghost use Rattle.rv64_emit.specs.Refusal.{EmitRefuses};
 ghost use Rattle.rv64_emit.specs.Registers.{ImplementsInRegisters};
-ghost use Rattle.rv64_implements.specs.Implements.{Implements};
-ghost use Rattle.rv64_implements.specs.WordBounds.{IsStackSize, IsWithin};
+ghost use Rattle.rv64_image_laws.specs.Implements.{Implements};
+ghost use Rattle.rv64_image_laws.specs.WordBounds.{IsStackSize, IsWithin};
 ghost use Rattle.rv64_words.specs.Region.{most_words};
 
 mod assembly;

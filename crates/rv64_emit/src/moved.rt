@@ -3,7 +3,7 @@
 ghost use Rattle.std.specs.Prelude.{◌≡◌};
 ghost use Rattle.rv64_emit.specs.Moved.{IsReady, is_moved};
 ghost use Rattle.rv64_emit.specs.Placed.{homes_in};
-ghost use Rattle.rv64_layout.specs.Homes as homes;
+ghost use Rattle.rv64_emit_laws.specs.layout.Homes as homes;
 
 use crate::frame::depth_of;
 use crate::homes::SlotHomes;

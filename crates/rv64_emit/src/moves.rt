@@ -1,8 +1,8 @@
 // What homes have, into registers and into words of the frame, and back.
 
 ghost use Rattle.std.specs.Prelude.{◌≡◌, ◌^◌, ◌<◌, ◌≤◌, ◌++◌, map, OnOk};
-ghost use Rattle.rv64_layout.specs.Fits.{IsReached};
-ghost use Rattle.rv64_sequences.specs.Moves as moves;
+ghost use Rattle.rv64_emit_laws.specs.layout.Fits.{IsReached};
+ghost use Rattle.rv64_words_laws.specs.sequences.Moves as moves;
 ghost use Rattle.rv64_words.specs.Encoding.{encoded};
 
 use crate::assembly::srli;

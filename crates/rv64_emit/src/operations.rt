@@ -1,7 +1,7 @@
 // The words of the operations that compute, and those of cells.
 
 ghost use Rattle.std.specs.Prelude.{◌≡◌, ◌∷◌, [], ◌++◌, ◌<◌, ◌≤◌, map, pos, OnOk};
-ghost use Rattle.rv64_sequences.specs.Operations.{unary_words, unary_takes_any, binary_words, binary_takes_any, unary_size, binary_size, int_to_char_words, division_words, pointer_words, same_words, not_greater_words, not_less_words, cell_words, load_cell_words, mark_cell_words, store_cell_words};
+ghost use Rattle.rv64_words_laws.specs.sequences.Operations.{unary_words, unary_takes_any, binary_words, binary_takes_any, unary_size, binary_size, int_to_char_words, division_words, pointer_words, same_words, not_greater_words, not_less_words, cell_words, load_cell_words, mark_cell_words, store_cell_words};
 ghost use Rattle.rv64_words.specs.Encoding.{encoded};
 ghost use Rattle.rv64_words.specs.Mnemonics as mnemonics;
 

@@ -5,7 +5,7 @@ ghost use Rattle.rv64_emit.specs.Tables as tables;
 ghost use Rattle.rv64_emit.specs.Tables.{SlotsFit, table_at};
 ghost use Rattle.rv64_emit.specs.Moved.{AreRegistersNear};
 ghost use Rattle.rv64_emit.specs.Placed.{all_homes, homes_in};
-ghost use Rattle.rv64_layout.specs.Image.{opening_size, start_at};
+ghost use Rattle.rv64_emit_laws.specs.layout.Image.{opening_size, start_at};
 ghost use Rattle.rv64_words.specs.Region.{most_words};
 
 use crate::homes::{ProgramHomes, SlotHomes};

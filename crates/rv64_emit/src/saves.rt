@@ -4,9 +4,9 @@ ghost use Rattle.std.specs.Prelude.{◌≡◌, ◌+◌, ◌*◌, ◌-◌, ◌^�
 ghost use Rattle.std.specs.List.{AllByRecursion};
 ghost use Rattle.rv64_emit.specs.Moved.{AreRegistersNear, IsReady, is_moved};
 ghost use Rattle.rv64_emit.specs.Placed.{homes_in};
-ghost use Rattle.rv64_layout.specs.Fits.{IsReached, frame_reach};
-ghost use Rattle.rv64_layout.specs.Homes.{call_moves, depth_at, guard_moves, moves_from, opening_moves, speculate_moves};
-ghost use Rattle.rv64_sequences.specs.Moves as moves;
+ghost use Rattle.rv64_emit_laws.specs.layout.Fits.{IsReached, frame_reach};
+ghost use Rattle.rv64_emit_laws.specs.layout.Homes.{call_moves, depth_at, guard_moves, moves_from, opening_moves, speculate_moves};
+ghost use Rattle.rv64_words_laws.specs.sequences.Moves as moves;
 ghost use Rattle.rv64_words.specs.Encoding.{encoded};
 ghost use Rattle.rv64_words.specs.Region.{most_words};
 

@@ -1,8 +1,8 @@
 // Short sequences of words at the end of an image: constants, words of the frame, faults and environment calls.
 
 ghost use Rattle.std.specs.Prelude.{◌≡◌, ◌+◌, ◌*◌, ◌^◌, ◌<◌, ◌≤◌, ◌∷◌, [], ◌++◌, map, pos, OnOk};
-ghost use Rattle.rv64_layout.specs.Items.{environment_words};
-ghost use Rattle.rv64_sequences.specs.Sequences.{high_part, low_part, jump_offset, fits_12, fits_32, constant_words, long_constant_words, load_words, store_words, fault_words, frame_up_words, constant_size, load_size, store_size, frame_up_size};
+ghost use Rattle.rv64_emit_laws.specs.layout.Items.{environment_words};
+ghost use Rattle.rv64_words_laws.specs.sequences.Sequences.{high_part, low_part, jump_offset, fits_12, fits_32, constant_words, long_constant_words, load_words, store_words, fault_words, frame_up_words, constant_size, load_size, store_size, frame_up_size};
 ghost use Rattle.rv64_words.specs.Calls.{call_number, fault_number};
 ghost use Rattle.rv64_words.specs.Encoding.{encoded};
 ghost use Rattle.rv64_words.specs.Region.{most_words};

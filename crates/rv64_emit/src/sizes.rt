@@ -3,11 +3,11 @@
 ghost use Rattle.std.specs.Prelude.{◌≡◌, ◌+◌, ◌*◌, ◌-◌, ◌^◌, ◌≤◌, ◌<◌, length};
 ghost use Rattle.rv64_emit.specs.Moved.{AreRegistersNear};
 ghost use Rattle.rv64_emit.specs.Placed.{homes_in};
-ghost use Rattle.rv64_layout.specs.Fits.{frame_reach};
-ghost use Rattle.rv64_layout.specs.Homes.{call_moves, depth_at, variable_home};
-ghost use Rattle.rv64_layout.specs.Items as items;
-ghost use Rattle.rv64_sequences.specs.Moves as moves;
-ghost use Rattle.rv64_sequences.specs.Operations.{unary_size, unary_takes_any};
+ghost use Rattle.rv64_emit_laws.specs.layout.Fits.{frame_reach};
+ghost use Rattle.rv64_emit_laws.specs.layout.Homes.{call_moves, depth_at, variable_home};
+ghost use Rattle.rv64_emit_laws.specs.layout.Items as items;
+ghost use Rattle.rv64_words_laws.specs.sequences.Moves as moves;
+ghost use Rattle.rv64_words_laws.specs.sequences.Operations.{unary_size, unary_takes_any};
 ghost use Rattle.rv64_words.specs.Region.{most_words};
 
 use crate::frame::argument_word;

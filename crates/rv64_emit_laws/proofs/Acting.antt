@@ -13,7 +13,7 @@ use Rattle.bril_tree.specs.Step.{code_of, items_of}
 use Rattle.bril_tree.proofs.Acceptance.{accepted_function, shaped_at}
 use Rattle.bril_tree.proofs.Formed.{typed_destination}
 use Rattle.bril_tree.proofs.Members.{contains_in, in_contains}
-use Rattle.rv64_layout.proofs.Bounding.{instruction_at}
+use Rattle.rv64_emit_laws.proofs.lemmas.layout.Bounding.{instruction_at}
 use Rattle.slot_code.specs.declared.item.Printed.{Printed}
 use Rattle.slot_code.specs.declared.item.Slot.{Slot}
 use Rattle.slot_code.specs.declared.item.SlotItem.{SlotItem}

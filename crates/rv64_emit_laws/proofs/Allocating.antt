@@ -7,15 +7,16 @@ use Rattle.bril_tree.specs.Memory.{allocation_fault, cells_of, new_block}
 use Rattle.bril_tree.specs.Outcome.{int_of}
 use Rattle.bril_tree.specs.State as bril
 use Rattle.bril_tree.specs.Step.{step, allocates}
-use Rattle.rv64_blocks.specs.Laws.{CoreHolds}
-use Rattle.rv64_blocks.proofs.Allocating.{faults_alike, allocation_keeps}
-use Rattle.rv64_blocks.proofs.Lists.{pushed_length}
-use Rattle.rv64_stretches.specs.Core.{Core, with_block}
-use Rattle.rv64_stretches.proofs.Calls.{block_fault, allocate, allocate_faults}
-use Rattle.rv64_stretches.proofs.Cores.{apart_from, assigned_other}
-use Rattle.rv64_stretches.proofs.Going.{begin}
-use Rattle.rv64_sequences.specs.Moves.{fetch_size, fetch_words, fill_words}
-use Rattle.rv64_sequences.proofs.Sizes.{fetch_most}
+use Rattle.rv64_words_laws.specs.blocks.Laws.{CoreHolds}
+use Rattle.rv64_words_laws.proofs.lemmas.blocks.Allocating.{faults_alike, allocation_keeps}
+use Rattle.rv64_words_laws.proofs.lemmas.blocks.Lists.{pushed_length}
+use Rattle.rv64_words_laws.specs.stretches.Core.{Core, with_block}
+use Rattle.rv64_words_laws.proofs.lemmas.stretches.Calls.{block_fault, allocate, allocate_faults}
+use Rattle.rv64_words.proofs.Assigned.{assigned_other}
+use Rattle.rv64_words_laws.proofs.lemmas.stretches.Cores.{apart_from}
+use Rattle.rv64_words_laws.proofs.lemmas.stretches.Going.{begin}
+use Rattle.rv64_words_laws.specs.sequences.Moves.{fetch_size, fetch_words, fill_words}
+use Rattle.rv64_words_laws.proofs.lemmas.sequences.Sizes.{fetch_most}
 use Rattle.rv64_words.specs.declared.word.Word.{Word}
 use Rattle.rv64_words.specs.declared.word.Word.TheVariants.{Ecall}
 use Rattle.rv64_words.specs.Mnemonics.{addi}
@@ -64,7 +65,7 @@ module _ (S : Setting) (s : bril.State) (t : State) (r : RunsAlike S s t) (dest 
     blocks_now = s.blocks ++ new_block (cells_of held.number) ∷ []
 
     abbrev last : Core
-    last = with_block (a.core.registers 10) a.core
+    last = with_block (sizes S) (a.core.registers 10) a.core
 
     block_kept : KeepsFrames S s t r last
     block_kept =
@@ -83,7 +84,7 @@ module _ (S : Setting) (s : bril.State) (t : State) (r : RunsAlike S s t) (dest 
         record { is = ap (λ x. suc x * 2 ^ 32) made ∙ whole; known = omega arith }
 
     allocated : allocation_fault S.limits.cells s.blocks held.number ≡ None → CoreHolds (sizes S) blocks_now last
-    allocated none = subst (λ x. CoreHolds (sizes S) blocks_now (with_block x a.core)) (sym a.word.is) (allocation_keeps (sizes S) S.limits.cells s.blocks a.core refl memory held.number none)
+    allocated none = subst (λ x. CoreHolds (sizes S) blocks_now (with_block (sizes S) x a.core)) (sym a.word.is) (allocation_keeps (sizes S) S.limits.cells s.blocks a.core refl memory held.number none)
 
     by_fault : 128 ≤ S.cost → IsSlotOf r.holds.function (Variable dest) → (o : Option Fault) → allocation_fault S.limits.cells s.blocks held.number ≡ o → Moves S s t
     by_fault dear in_dest (Some kind) e =

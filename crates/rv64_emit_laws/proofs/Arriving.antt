@@ -11,12 +11,12 @@ use Rattle.bril_tree.specs.declared.value.Value.{Value}
 use Rattle.bril_tree.specs.Run.{first_state}
 use Rattle.bril_tree.specs.State as bril
 use Rattle.bril_tree.specs.Step.{step, at_point, advanced, faulted, with_locations}
-use Rattle.rv64_stretches.specs.Core.{Core, Keeps, KeepsBut, machine}
-use Rattle.rv64_stretches.specs.Runs.{Runs, Leaves, Ends}
-use Rattle.rv64_stretches.proofs.Going.{Going}
-use Rattle.rv64_sequences.specs.Moves.{Filled, result_register, result_size, result_words}
-use Rattle.rv64_sequences.proofs.Homes.{filled_after, result_goes}
-use Rattle.rv64_sequences.proofs.Sizes.{result_most}
+use Rattle.rv64_words_laws.specs.stretches.Core.{Core, Keeps, KeepsBut, machine}
+use Rattle.rv64_words_laws.specs.stretches.Runs.{Runs, Leaves, Ends}
+use Rattle.rv64_words_laws.proofs.lemmas.stretches.Going.{Going}
+use Rattle.rv64_words_laws.specs.sequences.Moves.{Filled, result_register, result_size, result_words}
+use Rattle.rv64_words_laws.proofs.lemmas.sequences.Homes.{filled_after, result_goes}
+use Rattle.rv64_words_laws.proofs.lemmas.sequences.Sizes.{result_most}
 use Rattle.rv64_words.specs.Machine.{machine_step}
 use Rattle.rv64_words.specs.State.{State, finished}
 use Rattle.slot_code.specs.declared.item.Slot.{Slot}
@@ -53,15 +53,15 @@ module _ (S : Setting) where
       ((distance (step S.p S.limits s) < distance s) × Related S (step S.p S.limits s) t)
       ⊎ ((m : ℕ) × (suc m ≤ S.cost) × Related S (step S.p S.limits s) (after (machine_step S.image (sizes S)) (suc m) t) × NoneBetween m t)
 
-  pub memory_by : (blocks : List bril.Block) (c e : Core) → e.table ≡ c.table → e.cells ≡ c.cells → e.blocks ≡ c.blocks → e.given ≡ c.given → MemoryHolds (sizes S) blocks c.table c.cells c.blocks c.given → MemoryHolds (sizes S) blocks e.table e.cells e.blocks e.given
-  memory_by blocks c e table cells count given h =
-      subst (λ x. MemoryHolds (sizes S) blocks x e.cells e.blocks e.given) (sym table)
-      (subst (λ x. MemoryHolds (sizes S) blocks c.table x e.blocks e.given) (sym cells)
-      (subst (λ x. MemoryHolds (sizes S) blocks c.table c.cells x e.given) (sym count)
-      (subst (λ x. MemoryHolds (sizes S) blocks c.table c.cells c.blocks x) (sym given) h)))
+  pub memory_by : (blocks : List bril.Block) (c e : Core) → e.table ≡ c.table → e.cells ≡ c.cells → e.blocks ≡ c.blocks → e.next_free ≡ c.next_free → MemoryHolds (sizes S) blocks c.table c.cells c.blocks c.next_free → MemoryHolds (sizes S) blocks e.table e.cells e.blocks e.next_free
+  memory_by blocks c e table cells count next_free h =
+      subst (λ x. MemoryHolds (sizes S) blocks x e.cells e.blocks e.next_free) (sym table)
+      (subst (λ x. MemoryHolds (sizes S) blocks c.table x e.blocks e.next_free) (sym cells)
+      (subst (λ x. MemoryHolds (sizes S) blocks c.table c.cells x e.next_free) (sym count)
+      (subst (λ x. MemoryHolds (sizes S) blocks c.table c.cells c.blocks x) (sym next_free) h)))
 
-  pub memory_kept : (blocks : List bril.Block) (c e : Core) → Keeps c e → MemoryHolds (sizes S) blocks c.table c.cells c.blocks c.given → MemoryHolds (sizes S) blocks e.table e.cells e.blocks e.given
-  memory_kept blocks c e k h = memory_by blocks c e k.table k.cells k.blocks k.given h
+  pub memory_kept : (blocks : List bril.Block) (c e : Core) → Keeps c e → MemoryHolds (sizes S) blocks c.table c.cells c.blocks c.next_free → MemoryHolds (sizes S) blocks e.table e.cells e.blocks e.next_free
+  memory_kept blocks c e k h = memory_by blocks c e k.table k.cells k.blocks k.next_free h
 
   module _ (s : bril.State) (t : State) (r : RunsAlike S s t) where
     abbrev pub here : ℕ
@@ -94,7 +94,7 @@ module _ (S : Setting) where
 
     -- the program made a step and runs on, and the machine came to the words of its newest frame's item
     pub arrive : (u : bril.State) (f : bril.Frame) (older : List bril.Frame) (e : Core) (n : ℕ) → step S.p S.limits s ≡ u → u.frames ≡ f ∷ older → u.ended ≡ None → u.printed ≡ e.printed →
-        FramesHold S (length u.blocks) f older e → MemoryHolds (sizes S) u.blocks e.table e.cells e.blocks e.given → GuardsHold S.image.guards u.failures e.arrivals →
+        FramesHold S (length u.blocks) f older e → MemoryHolds (sizes S) u.blocks e.table e.cells e.blocks e.next_free → GuardsHold S.image.guards u.failures e.arrivals →
         Comes S here r.core (suc n) (entry_of S f.function f.point) e → suc n ≤ S.cost → Moves s t
     arrive u f older e n stepped frames running printed holds memory guards runs cheap =
         let at = entry_of S f.function f.point in
@@ -147,7 +147,7 @@ module _ (S : Setting) where
         let count : n ≡ suc (n - 1) = omega arith in
         arrive (fills S.p S.slots S.limits dest v r.frame r.older s) f r.older e (n - 1) stepped refl r.running (r.printed ∙ sym rest.printed)
         (filled_holds S (length s.blocks) r.frame r.older r.core r.holds (standing S s t r) dest fl v w e in_dest word filled)
-        (memory_by s.blocks r.core e rest.table rest.cells rest.blocks rest.given r.memory) (guards_by e rest.arrivals)
+        (memory_by s.blocks r.core e rest.table rest.cells rest.blocks rest.next_free r.memory) (guards_by e rest.arrivals)
         (onto_next (in_steps (suc (n - 1)) count runs)) (omega arith)
 
     -- The newest frame's item gave a slot a value, which is where the words of an operation leave their result.
@@ -171,5 +171,5 @@ module _ (S : Setting) where
     goes_moves u point l e n stepped frames running blocks failures printed runs cheap keeps =
         arrive u (at_point point r.frame) r.older e n stepped frames running (printed ∙ (r.printed ∙ sym keeps.printed))
         (subst (λ bs. FramesHold S (length bs) (at_point point r.frame) r.older e) (sym blocks) (moved_holds S (length s.blocks) r.frame r.older r.core r.holds (standing S s t r) point l e (keeps_homes r.core e keeps)))
-        (subst (λ bs. MemoryHolds (sizes S) bs e.table e.cells e.blocks e.given) (sym blocks) (memory_kept s.blocks r.core e keeps r.memory))
+        (subst (λ bs. MemoryHolds (sizes S) bs e.table e.cells e.blocks e.next_free) (sym blocks) (memory_kept s.blocks r.core e keeps r.memory))
         (λ k guard there. guards_kept e keeps k guard there ∙ sym (ap (λ m. m guard.func guard.item) failures)) runs cheap

@@ -2,10 +2,10 @@
 use Rattle.std.proofs.Common.{◌≡◌, ℕ, ◌+◌, ◌%◌, ◌^◌, ◌<◌, false, refl, ap, ◌∙◌, arith, List, ◌∷◌, ◌++◌, length, pos}
 use Rattle.bril_tree.specs.declared.value.Value.{Value}
 use Rattle.bril_tree.specs.State as bril
-use Rattle.rv64_stretches.specs.Core.{Core, Keeps, written}
-use Rattle.rv64_stretches.proofs.Going.{Going, plain}
-use Rattle.rv64_sequences.specs.Moves.{fetch_size, fetch_words}
-use Rattle.rv64_values.proofs.Kept.{keeps_written}
+use Rattle.rv64_words_laws.specs.stretches.Core.{Core, Keeps, written}
+use Rattle.rv64_words_laws.proofs.lemmas.stretches.Going.{Going, plain}
+use Rattle.rv64_words_laws.specs.sequences.Moves.{fetch_size, fetch_words}
+use Rattle.rv64_words_laws.proofs.lemmas.values.Kept.{keeps_written}
 use Rattle.rv64_words.specs.declared.word.Word.{Word}
 use Rattle.rv64_words.specs.Mnemonics.{addi}
 use Rattle.rv64_words.specs.State.{State}

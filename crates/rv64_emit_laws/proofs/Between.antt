@@ -3,9 +3,9 @@ use Rattle.std.proofs.Common.{◌≡◌, ℕ, ◌+◌, ◌-◌, ◌<◌, ◌≤�
 use Rattle.simulation.specs.System.{after}
 use Rattle.simulation.proofs.After.{after-add, after-sub}
 use Rattle.bril_tree.specs.declared.limits.End.{End}
-use Rattle.rv64_layout.proofs.Joining.{below_or}
-use Rattle.rv64_stretches.specs.Core.{Core, machine}
-use Rattle.rv64_stretches.specs.Runs.{Ends, Inside, Leaves, Runs}
+use Rattle.rv64_emit_laws.proofs.lemmas.layout.Joining.{below_or}
+use Rattle.rv64_words_laws.specs.stretches.Core.{Core, machine}
+use Rattle.rv64_words_laws.specs.stretches.Runs.{Ends, Inside, Leaves, Runs}
 use Rattle.rv64_words.specs.Machine.{machine_step}
 use Rattle.rv64_words.specs.State.{State, finished}
 use Rattle.rv64_emit_laws.proofs.Entries.{IsBetween, IsInner, inner_between}

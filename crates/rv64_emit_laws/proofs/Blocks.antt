@@ -17,7 +17,7 @@ sized : (live : Bool) (size : ℕ) → (live ≡ true → 1 ≤ size) → not (e
 sized true size some = let one : 1 ≤ size = some refl in let e : eqb size 0 ≡ false = grind (arith, nat_tests) in ap not e
 sized false size some = refl
 
-module _ (z : Sizes) (blocks : List Block) (table cells : ℕ → ℕ) (made given : ℕ) (h : MemoryHolds z blocks table cells made given) where
+module _ (z : Sizes) (blocks : List Block) (table cells : ℕ → ℕ) (made next_free : ℕ) (h : MemoryHolds z blocks table cells made next_free) where
   live_before : (n : ℕ) → n ≤ length blocks → rv64.is_live_any table n ≡ list_any (λ b. b.is_live) (take n blocks)
   live_before zero le = refl
   live_before (suc n) le =

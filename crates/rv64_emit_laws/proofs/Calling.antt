@@ -16,19 +16,19 @@ use Rattle.bril_tree.specs.State as bril
 use Rattle.bril_tree.specs.Step.{code_of, faulted, new_frame, step, with_frames}
 use Rattle.placement_laws.specs.Homes.{slot_of}
 use Rattle.placement_laws.specs.Needed.{Live}
-use Rattle.rv64_layout.specs.Homes.{call_moves as kept_moves, is_loaded, opening_moves, outlives, slot_word}
-use Rattle.rv64_layout.specs.Items.{after_call, before_call, call_words, pass_size, pass_words, return_word}
-use Rattle.rv64_layout.proofs.Bounding.{call_moves_most, frame_up_most, opening_most, pass_most}
-use Rattle.rv64_stretches.specs.Core.{Core, put, written}
-use Rattle.rv64_stretches.proofs.Cores.{assigned_here, assigned_other}
-use Rattle.rv64_stretches.proofs.Going.{Going, begin, begin_there, not_taken, plain, store, taken}
-use Rattle.rv64_sequences.specs.Frames.{Reaches}
-use Rattle.rv64_sequences.specs.Moves.{Restored, Saved, home_word, restore_size, restore_words, save_size, save_words}
-use Rattle.rv64_sequences.specs.Sequences.{fault_words, frame_up_size, frame_up_words, jump_offset}
-use Rattle.rv64_sequences.proofs.Ends.{called_off, finishes}
-use Rattle.rv64_sequences.proofs.Frames.{frame_up, framed_up}
-use Rattle.rv64_sequences.proofs.Jumps.{call_to}
-use Rattle.rv64_values.proofs.Kept.{keeps_called_off}
+use Rattle.rv64_emit_laws.specs.layout.Homes.{call_moves as kept_moves, is_loaded, opening_moves, outlives, slot_word}
+use Rattle.rv64_emit_laws.specs.layout.Items.{after_call, before_call, call_words, pass_size, pass_words, return_word}
+use Rattle.rv64_emit_laws.proofs.lemmas.layout.Bounding.{call_moves_most, frame_up_most, opening_most, pass_most}
+use Rattle.rv64_words_laws.specs.stretches.Core.{Core, put, written}
+use Rattle.rv64_words.proofs.Assigned.{assigned_here, assigned_other}
+use Rattle.rv64_words_laws.proofs.lemmas.stretches.Going.{Going, begin, begin_there, not_taken, plain, store, taken}
+use Rattle.rv64_words_laws.specs.sequences.Frames.{Reaches}
+use Rattle.rv64_words_laws.specs.sequences.Moves.{Restored, Saved, home_word, restore_size, restore_words, save_size, save_words}
+use Rattle.rv64_words_laws.specs.sequences.Sequences.{fault_words, frame_up_size, frame_up_words, jump_offset}
+use Rattle.rv64_words_laws.proofs.lemmas.sequences.Ends.{called_off, finishes}
+use Rattle.rv64_words_laws.proofs.lemmas.sequences.Frames.{frame_up, framed_up}
+use Rattle.rv64_words_laws.proofs.lemmas.sequences.Jumps.{call_to}
+use Rattle.rv64_words_laws.proofs.lemmas.values.Kept.{keeps_called_off}
 use Rattle.rv64_words.specs.declared.word.Word.{Word}
 use Rattle.rv64_words.specs.declared.word.Word.TheVariants.{Jal, Sd}
 use Rattle.rv64_words.specs.Mnemonics.{addi}
@@ -313,7 +313,7 @@ module _ (S : Setting) (s : bril.State) (t : State) (r : RunsAlike S s t) (dest 
       let o = opening.is.rest in
       arrive S s t r (with_frames (new_frame function values ∷ r.frame ∷ r.older) s) (new_frame function values) (r.frame ∷ r.older) last (keeping + passing + frame_up_size func.words + 3 + size) (made_step room) refl r.running
       (r.printed ∙ (sym rest.printed ∙ sym o.printed)) (new_holds finds last called)
-      (memory_by S s.blocks r.core last (o.table ∙ rest.table) (o.cells ∙ rest.cells) (o.blocks ∙ rest.blocks) (o.given ∙ rest.given) r.memory) (guards_by S s t r last (o.arrivals ∙ rest.arrivals))
+      (memory_by S s.blocks r.core last (o.table ∙ rest.table) (o.cells ∙ rest.cells) (o.blocks ∙ rest.blocks) (o.next_free ∙ rest.next_free) r.memory) (guards_by S s t r last (o.arrivals ∙ rest.arrivals))
       (comes_in S (suc (keeping + passing + frame_up_size func.words + 3 + size)) (entry_of S function 0) count refl
       (comes_on S (away S s t r (omega arith) runs4) (landed (0 + 1 + size) (entry_of S function 0) refl place opening.going) (opening_inner S function callee finds.there))) (omega arith)
 

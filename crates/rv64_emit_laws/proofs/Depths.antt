@@ -12,7 +12,7 @@ use Rattle.bril_tree.proofs.Elements.{get_in, get_inside}
 use Rattle.bril_tree.proofs.Members.{contains_in}
 use Rattle.flow_graph.proofs.OpenSites.{one_list}
 use Rattle.flow_graph.proofs.Told.{first_sites}
-use Rattle.rv64_layout.specs.Homes.{depth_at}
+use Rattle.rv64_emit_laws.specs.layout.Homes.{depth_at}
 use Rattle.rv64_words.specs.State.{State}
 use Rattle.slot_code.specs.declared.slots.SlotFunction.{SlotFunction}
 use Rattle.slot_code.specs.Lowered.{IsLoweredFunction, open_count}

@@ -10,11 +10,11 @@ use Rattle.bril_tree.specs.Run.{first_state, state_after}
 use Rattle.bril_tree.specs.State as bril
 use Rattle.bril_tree.specs.Step.{step}
 use Rattle.bril_tree.specs.Value.{word_of}
-use Rattle.rv64_implements.specs.Implements.{image_system}
-use Rattle.rv64_implements.proofs.Systems.{image_is_system}
-use Rattle.rv64_layout.specs.Homes.{FunctionHomes, variable_home}
-use Rattle.rv64_layout.specs.Items.{item_size, print_size}
-use Rattle.rv64_layout.proofs.Joining.{below_or}
+use Rattle.rv64_image_laws.specs.Implements.{image_system}
+use Rattle.rv64_image_laws.proofs.Systems.{image_is_system}
+use Rattle.rv64_emit_laws.specs.layout.Homes.{FunctionHomes, variable_home}
+use Rattle.rv64_emit_laws.specs.layout.Items.{item_size, print_size}
+use Rattle.rv64_emit_laws.proofs.lemmas.layout.Joining.{below_or}
 use Rattle.rv64_words.specs.Machine.{machine_step}
 use Rattle.rv64_words.specs.State.{State, Finished, start}
 use Rattle.slot_code.specs.declared.item.Printed.{Printed}

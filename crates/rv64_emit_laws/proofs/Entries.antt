@@ -2,12 +2,12 @@
 use Rattle.std.proofs.Common.{◌≡◌, ◌≢◌, ℕ, suc, ◌+◌, ◌*◌, ◌<◌, ◌≤◌, ◌⊎◌, inl, inr, sym, subst, arith, length, Option, Some, None}
 use Rattle.std.specs.Prelude.{slice_get}
 use Rattle.std.proofs.lemmas.Option.{slice_get_within}
-use Rattle.rv64_layout.specs.Homes.{FunctionHomes}
-use Rattle.rv64_layout.specs.Image.{first_start, function_size, size_at, words_before}
-use Rattle.rv64_layout.specs.Items.{item_size}
-use Rattle.rv64_layout.proofs.Guarding.{InItem, in_function, one_item, same_function}
-use Rattle.rv64_layout.proofs.Joining.{below_or, sum_rises}
-use Rattle.rv64_layout.proofs.Placing.{entry_is, words_at_end, words_most, words_pass}
+use Rattle.rv64_emit_laws.specs.layout.Homes.{FunctionHomes}
+use Rattle.rv64_emit_laws.specs.layout.Image.{first_start, function_size, size_at, words_before}
+use Rattle.rv64_emit_laws.specs.layout.Items.{item_size}
+use Rattle.rv64_emit_laws.proofs.lemmas.layout.Guarding.{InItem, in_function, one_item, same_function}
+use Rattle.rv64_emit_laws.proofs.lemmas.layout.Joining.{below_or, sum_rises}
+use Rattle.rv64_emit_laws.proofs.lemmas.layout.Placing.{entry_is, words_at_end, words_most, words_pass}
 use Rattle.rv64_words.specs.State.{State}
 use Rattle.slot_code.specs.declared.item.SlotItem.{SlotItem}
 use Rattle.slot_code.specs.declared.slots.SlotFunction.{SlotFunction}

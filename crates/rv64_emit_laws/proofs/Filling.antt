@@ -14,25 +14,25 @@ use Rattle.bril_tree.specs.Outcome.{Outcome, Yields, FaultsWith, HasEffect, comp
 use Rattle.bril_tree.specs.State as bril
 use Rattle.bril_tree.specs.Step.{step}
 use Rattle.bril_tree.specs.Value.{IsInRange, word_of}
-use Rattle.rv64_layout.proofs.Bounding.{constant_most}
-use Rattle.rv64_layout.proofs.Lengths.{binary_length, unary_length}
-use Rattle.rv64_layout.proofs.ItemWords.{word_small}
-use Rattle.rv64_stretches.specs.Core.{Core, Keeps, written}
-use Rattle.rv64_stretches.specs.Runs.{HasAt, Runs}
-use Rattle.rv64_stretches.proofs.Cores.{written_here}
-use Rattle.rv64_stretches.proofs.Going.{Going, across, begin, has_front}
-use Rattle.rv64_stretches.proofs.Steps.{ends_after}
-use Rattle.rv64_sequences.specs.Moves.{copy_size, copy_words, home_word, operand_register, operand_size, operand_words, register_for, result_register, result_size, result_words, target_words}
-use Rattle.rv64_sequences.specs.Operations.{binary_size, binary_takes_any, binary_words, unary_size, unary_takes_any, unary_words}
-use Rattle.rv64_sequences.specs.Sequences.{constant_size, constant_words}
-use Rattle.rv64_sequences.proofs.Constants.{constant}
-use Rattle.rv64_sequences.proofs.Homes.{copy_goes}
-use Rattle.rv64_sequences.proofs.Sizes.{copy_most, operand_most}
-use Rattle.rv64_values.specs.Laws.{BinaryReady, UnaryReady}
-use Rattle.rv64_values.specs.Operands.{Gives, EndsSo, UnaryTakes}
-use Rattle.rv64_values.proofs.Binary.{binary_gives, binary_faults}
-use Rattle.rv64_values.proofs.Kept.{keeps_itself, keeps_on, keeps_result, result_apart}
-use Rattle.rv64_values.proofs.Unary.{unary_gives, unary_faults}
+use Rattle.rv64_emit_laws.proofs.lemmas.layout.Bounding.{constant_most}
+use Rattle.rv64_emit_laws.proofs.lemmas.layout.Lengths.{binary_length, unary_length}
+use Rattle.rv64_emit_laws.proofs.lemmas.layout.ItemWords.{word_small}
+use Rattle.rv64_words_laws.specs.stretches.Core.{Core, Keeps, written}
+use Rattle.rv64_words_laws.specs.stretches.Runs.{HasAt, Runs}
+use Rattle.rv64_words_laws.proofs.lemmas.stretches.Cores.{written_here}
+use Rattle.rv64_words_laws.proofs.lemmas.stretches.Going.{Going, across, begin, has_front}
+use Rattle.rv64_words_laws.proofs.lemmas.stretches.Steps.{ends_after}
+use Rattle.rv64_words_laws.specs.sequences.Moves.{copy_size, copy_words, home_word, operand_register, operand_size, operand_words, register_for, result_register, result_size, result_words, target_words}
+use Rattle.rv64_words_laws.specs.sequences.Operations.{binary_size, binary_takes_any, binary_words, unary_size, unary_takes_any, unary_words}
+use Rattle.rv64_words_laws.specs.sequences.Sequences.{constant_size, constant_words}
+use Rattle.rv64_words_laws.proofs.lemmas.sequences.Constants.{constant}
+use Rattle.rv64_words_laws.proofs.lemmas.sequences.Homes.{copy_goes}
+use Rattle.rv64_words_laws.proofs.lemmas.sequences.Sizes.{copy_most, operand_most}
+use Rattle.rv64_words_laws.specs.values.Laws.{BinaryReady, UnaryReady}
+use Rattle.rv64_words_laws.specs.values.Operands.{Gives, EndsSo, UnaryTakes}
+use Rattle.rv64_words_laws.proofs.lemmas.values.Binary.{binary_gives, binary_faults}
+use Rattle.rv64_words_laws.proofs.lemmas.values.Kept.{keeps_itself, keeps_on, keeps_result, result_apart}
+use Rattle.rv64_words_laws.proofs.lemmas.values.Unary.{unary_gives, unary_faults}
 use Rattle.rv64_words.specs.declared.word.Word.{Word}
 use Rattle.rv64_words.specs.State.{State}
 use Rattle.slot_code.specs.declared.item.Slot.{Slot}

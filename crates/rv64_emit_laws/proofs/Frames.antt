@@ -14,7 +14,7 @@ use Rattle.bril_tree.specs.State.{Locals, Frame, Values, with_value}
 use Rattle.bril_tree.specs.Step.{arguments_from, code_of, items_of}
 use Rattle.placement_laws.specs.Homes.{slot_of}
 use Rattle.placement_laws.proofs.Living.{live_slot}
-use Rattle.rv64_layout.specs.Homes.{slot_word}
+use Rattle.rv64_emit_laws.specs.layout.Homes.{slot_word}
 use Rattle.slot_code.specs.declared.item.Slot.{Slot}
 use Rattle.slot_code.specs.declared.item.Slot.TheVariants.{Variable, Shadow}
 use Rattle.slot_code.specs.Flow.{slot_location}

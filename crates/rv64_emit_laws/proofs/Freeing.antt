@@ -7,14 +7,14 @@ use Rattle.bril_tree.specs.Memory.{live_block, changed_block, is_freeable}
 use Rattle.bril_tree.specs.State as bril
 use Rattle.bril_tree.specs.Edge.{onward}
 use Rattle.bril_tree.specs.Step.{step, advances, at_point, faulted, frees}
-use Rattle.rv64_blocks.specs.Laws.{CoreHolds}
-use Rattle.rv64_blocks.proofs.Freeing.{dead, frees_alike, free_keeps}
-use Rattle.rv64_stretches.specs.Core.{Core, without_block}
-use Rattle.rv64_stretches.proofs.Calls.{frees_block, free, free_faults}
-use Rattle.rv64_stretches.proofs.Going.{begin}
-use Rattle.rv64_sequences.specs.Moves.{fetch_size, fetch_words}
-use Rattle.rv64_sequences.proofs.Sizes.{fetch_most}
-use Rattle.rv64_values.proofs.Pointers.{block_part}
+use Rattle.rv64_words_laws.specs.blocks.Laws.{CoreHolds}
+use Rattle.rv64_words_laws.proofs.lemmas.blocks.Freeing.{dead, frees_alike, free_keeps}
+use Rattle.rv64_words_laws.specs.stretches.Core.{Core, without_block}
+use Rattle.rv64_words_laws.proofs.lemmas.stretches.Calls.{frees_block, free, free_faults}
+use Rattle.rv64_words_laws.proofs.lemmas.stretches.Going.{begin}
+use Rattle.rv64_words_laws.specs.sequences.Moves.{fetch_size, fetch_words}
+use Rattle.rv64_words_laws.proofs.lemmas.sequences.Sizes.{fetch_most}
+use Rattle.rv64_words_laws.proofs.lemmas.values.Pointers.{block_part}
 use Rattle.rv64_words.specs.declared.word.Word.TheVariants.{Ecall}
 use Rattle.rv64_words.specs.Mnemonics.{addi}
 use Rattle.rv64_words.specs.State.{State}

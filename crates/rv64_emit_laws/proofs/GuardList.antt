@@ -11,12 +11,12 @@ use Rattle.bril_tree.specs.declared.operation.Op.TheVariants as op
 use Rattle.bril_tree.specs.declared.program.Prog.{Prog}
 use Rattle.bril_tree.specs.declared.types.Ty.{Ty}
 use Rattle.bril_tree.specs.Step.{item_at, items_of}
-use Rattle.rv64_implements.specs.Implements.{IsBefore, ListsGuards, is_guard}
-use Rattle.rv64_layout.specs.Image.{entry_at, function_guards_at, function_guards_or_none, guard_at, guard_or_none, image_guards, joined}
-use Rattle.rv64_layout.specs.Homes.{FunctionHomes}
-use Rattle.rv64_layout.specs.Items.{guard_front_size}
-use Rattle.rv64_layout.specs.Laid.{IsGuardAt, IsLaid}
-use Rattle.rv64_layout.proofs.Bounding.{instruction_at}
+use Rattle.rv64_image_laws.specs.Implements.{IsBefore, ListsGuards, is_guard}
+use Rattle.rv64_emit_laws.specs.layout.Image.{entry_at, function_guards_at, function_guards_or_none, guard_at, guard_or_none, image_guards, joined}
+use Rattle.rv64_emit_laws.specs.layout.Homes.{FunctionHomes}
+use Rattle.rv64_emit_laws.specs.layout.Items.{guard_front_size}
+use Rattle.rv64_emit_laws.specs.layout.Laid.{IsGuardAt, IsLaid}
+use Rattle.rv64_emit_laws.proofs.lemmas.layout.Bounding.{instruction_at}
 use Rattle.rv64_words.specs.declared.image.GuardAt.{GuardAt}
 use Rattle.rv64_words.specs.declared.image.Image.{Image}
 use Rattle.rv64_words.specs.Machine.{is_guard_word}

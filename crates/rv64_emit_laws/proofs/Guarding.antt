@@ -16,17 +16,17 @@ use Rattle.bril_tree.specs.State.{counted}
 use Rattle.bril_tree.specs.Step.{advances, at_point, code_of, dropped, saved, step, with_failure}
 use Rattle.bril_tree.specs.Value.{word_of}
 use Rattle.placement_laws.specs.Homes.{slot_of}
-use Rattle.rv64_layout.specs.Homes.{FunctionHomes, depth_at, level_word, moves_of}
-use Rattle.rv64_layout.specs.Items.{guard_front, guard_front_size}
-use Rattle.rv64_layout.specs.Laid.{IsGuardAt}
-use Rattle.rv64_layout.proofs.Bounding.{moves_restore_most}
-use Rattle.rv64_stretches.specs.Core.{Core, Keeps, arrived}
-use Rattle.rv64_stretches.proofs.Going.{Going, begin, is_place, jump, not_taken, taken}
-use Rattle.rv64_sequences.specs.Moves.{Move, Restored, register_for, restore_size, restore_words, source_size}
-use Rattle.rv64_sequences.specs.Sequences.{jump_offset}
-use Rattle.rv64_sequences.proofs.Jumps.{guard_jump_to}
-use Rattle.rv64_sequences.proofs.Moves.{homes_restored}
-use Rattle.rv64_sequences.proofs.Sizes.{source_most}
+use Rattle.rv64_emit_laws.specs.layout.Homes.{FunctionHomes, depth_at, level_word, moves_of}
+use Rattle.rv64_emit_laws.specs.layout.Items.{guard_front, guard_front_size}
+use Rattle.rv64_emit_laws.specs.layout.Laid.{IsGuardAt}
+use Rattle.rv64_emit_laws.proofs.lemmas.layout.Bounding.{moves_restore_most}
+use Rattle.rv64_words_laws.specs.stretches.Core.{Core, Keeps, arrived}
+use Rattle.rv64_words_laws.proofs.lemmas.stretches.Going.{Going, begin, is_place, jump, not_taken, taken}
+use Rattle.rv64_words_laws.specs.sequences.Moves.{Move, Restored, register_for, restore_size, restore_words, source_size}
+use Rattle.rv64_words_laws.specs.sequences.Sequences.{jump_offset}
+use Rattle.rv64_words_laws.proofs.lemmas.sequences.Jumps.{guard_jump_to}
+use Rattle.rv64_words_laws.proofs.lemmas.sequences.Moves.{homes_restored}
+use Rattle.rv64_words_laws.proofs.lemmas.sequences.Sizes.{source_most}
 use Rattle.rv64_words.specs.declared.image.GuardAt.{GuardAt}
 use Rattle.rv64_words.specs.declared.word.Word.{Word}
 use Rattle.rv64_words.specs.declared.word.Word.TheVariants.{Jal}
@@ -213,7 +213,7 @@ module _ (S : Setting) (s : bril.State) (t : State) (r : RunsAlike S s t) (condi
         let last = arrived (here S s t r + front) e in
         let holds = kept_holds S (length s.blocks) f r.older e behind last (record { zero_register = refl; frame_register = refl; frames_left = refl; homes = λ q u. refl; stack = refl }) in
         arrive S s t r u f r.older last n stepped (ap (λ x. x ∷ r.older) frame_is) r.running (r.printed ∙ sym (restored.rest.printed ∙ keeps.printed)) holds
-        (memory_by S s.blocks r.core e (restored.rest.table ∙ keeps.table) (restored.rest.cells ∙ keeps.cells) (restored.rest.blocks ∙ keeps.blocks) (restored.rest.given ∙ keeps.given) r.memory)
+        (memory_by S s.blocks r.core e (restored.rest.table ∙ keeps.table) (restored.rest.cells ∙ keeps.cells) (restored.rest.blocks ∙ keeps.blocks) (restored.rest.next_free ∙ keeps.next_free) r.memory)
         (counts_held e (restored.rest.arrivals ∙ keeps.arrivals)) runs cheap
 
     -- the condition doesn't hold

@@ -20,10 +20,10 @@ use Rattle.placement_laws.specs.Needed.{IsNeeded, Live, Unsaved}
 use Rattle.placement_laws.proofs.Filling.{homes_filled}
 use Rattle.placement_laws.proofs.Steady.{homes_on, saves_on, steady_on}
 use Rattle.placement_laws.proofs.Homes.{location_back}
-use Rattle.rv64_layout.specs.Homes.{level_word, slot_word}
-use Rattle.rv64_stretches.specs.Core.{Core, Keeps, is_home_register}
-use Rattle.rv64_sequences.specs.Frames.{Reaches}
-use Rattle.rv64_sequences.specs.Moves.{Filled, IsHomeInside, IsUsable, home_word}
+use Rattle.rv64_emit_laws.specs.layout.Homes.{level_word, slot_word}
+use Rattle.rv64_words_laws.specs.stretches.Core.{Core, Keeps, is_home_register}
+use Rattle.rv64_words_laws.specs.sequences.Frames.{Reaches}
+use Rattle.rv64_words_laws.specs.sequences.Moves.{Filled, IsHomeInside, IsUsable, home_word}
 use Rattle.slot_code.specs.declared.item.Slot.{Slot}
 use Rattle.slot_code.specs.Laws.{IsSlotOf}
 use Rattle.slot_code.specs.Flow.{slot_location}

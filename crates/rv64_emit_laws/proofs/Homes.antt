@@ -14,13 +14,13 @@ use Rattle.bril_tree.specs.Step.{code_of, items_of}
 use Rattle.bril_tree.proofs.Acceptance.{accepted_function}
 use Rattle.bril_tree.proofs.Measures.{AreFrameWords-one}
 use Rattle.placement_laws.specs.Homes.{IsHomeOf, slot_of}
-use Rattle.rv64_implements.specs.Home.{IsHomeWithin, IsLocationOf}
-use Rattle.rv64_implements.specs.Implements.{AreHomesWithin}
-use Rattle.rv64_layout.specs.Homes.{FunctionHomes, in_register, slot_word}
-use Rattle.rv64_layout.specs.Laid.{AreHomes, HaveHomes}
-use Rattle.rv64_layout.proofs.Bounding.{function_made}
-use Rattle.rv64_sequences.specs.Moves.{IsUsable}
-use Rattle.rv64_stretches.specs.Core.{is_home_register}
+use Rattle.rv64_image_laws.specs.Home.{IsHomeWithin, IsLocationOf}
+use Rattle.rv64_image_laws.specs.Implements.{AreHomesWithin}
+use Rattle.rv64_emit_laws.specs.layout.Homes.{FunctionHomes, in_register, slot_word}
+use Rattle.rv64_emit_laws.specs.layout.Laid.{AreHomes, HaveHomes}
+use Rattle.rv64_emit_laws.proofs.lemmas.layout.Bounding.{function_made}
+use Rattle.rv64_words_laws.specs.sequences.Moves.{IsUsable}
+use Rattle.rv64_words_laws.specs.stretches.Core.{is_home_register}
 use Rattle.slot_code.specs.declared.item.Slot.{Slot}
 use Rattle.slot_code.specs.declared.slots.SlotFunction.{SlotFunction}
 use Rattle.slot_code.specs.declared.slots.Slots.{Slots}

@@ -12,7 +12,7 @@ use Rattle.bril_tree.specs.FunctionForm.{listed}
 use Rattle.bril_tree.specs.State as bril
 use Rattle.bril_tree.specs.Step.{step}
 use Rattle.bril_tree.proofs.Elements.{All-at}
-use Rattle.rv64_implements.specs.Implements.{image_system, program_system}
+use Rattle.rv64_image_laws.specs.Implements.{image_system, program_system}
 use Rattle.rv64_words.specs.Machine.{machine_step}
 use Rattle.rv64_words.specs.State.{State, Finished}
 use Rattle.slot_code.specs.declared.item.Printed.{Printed}

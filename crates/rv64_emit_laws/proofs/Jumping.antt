@@ -10,13 +10,13 @@ use Rattle.bril_tree.specs.State as bril
 use Rattle.bril_tree.specs.Edge.{onward}
 use Rattle.bril_tree.specs.Step.{step, advances, advanced}
 use Rattle.bril_tree.specs.Value.{word_of}
-use Rattle.rv64_stretches.specs.Core.{machine}
-use Rattle.rv64_stretches.proofs.Going.{begin, not_taken, taken}
-use Rattle.rv64_sequences.specs.Moves.{register_for, source_size, source_words}
-use Rattle.rv64_sequences.specs.Sequences.{jump_offset}
-use Rattle.rv64_sequences.proofs.Jumps.{jump_to}
-use Rattle.rv64_sequences.proofs.Sizes.{source_most}
-use Rattle.rv64_values.proofs.Kept.{keeps_itself}
+use Rattle.rv64_words_laws.specs.stretches.Core.{machine}
+use Rattle.rv64_words_laws.proofs.lemmas.stretches.Going.{begin, not_taken, taken}
+use Rattle.rv64_words_laws.specs.sequences.Moves.{register_for, source_size, source_words}
+use Rattle.rv64_words_laws.specs.sequences.Sequences.{jump_offset}
+use Rattle.rv64_words_laws.proofs.lemmas.sequences.Jumps.{jump_to}
+use Rattle.rv64_words_laws.proofs.lemmas.sequences.Sizes.{source_most}
+use Rattle.rv64_words_laws.proofs.lemmas.values.Kept.{keeps_itself}
 use Rattle.rv64_words.specs.declared.word.Word.TheVariants.{Jal}
 use Rattle.rv64_words.specs.Mnemonics.{beq}
 use Rattle.rv64_words.specs.State.{State}

@@ -18,13 +18,13 @@ use Rattle.bril_tree.specs.Step.{code_of, new_frame}
 use Rattle.placement_laws.specs.Holding.{HomesHold}
 use Rattle.placement_laws.specs.Homes.{slot_of}
 use Rattle.placement_laws.proofs.Calling.{needed_alone}
-use Rattle.rv64_layout.specs.Homes.{FunctionHomes, in_register, is_loaded, is_variable, moves_of, opening_moves, outlives, slot_word}
-use Rattle.rv64_layout.proofs.Moving.{are_usable, homes_are_apart, move_in, slot_move, unmoved, words_are_apart}
-use Rattle.rv64_stretches.specs.Core.{Core, is_home_register, written}
-use Rattle.rv64_stretches.proofs.Cores.{apart_from, written_other}
-use Rattle.rv64_stretches.proofs.Going.{Going}
-use Rattle.rv64_sequences.specs.Moves.{AreHomesApart, AreInside, AreUsable, IsUsable, Move, NoWordIsHome, Restored, Saved, home_word, restore_size, restore_words, save_size, save_words}
-use Rattle.rv64_sequences.proofs.Moves.{AfterOne, homes_restored, homes_saved}
+use Rattle.rv64_emit_laws.specs.layout.Homes.{FunctionHomes, in_register, is_loaded, is_variable, moves_of, opening_moves, outlives, slot_word}
+use Rattle.rv64_emit_laws.proofs.lemmas.layout.Moving.{are_usable, homes_are_apart, move_in, slot_move, unmoved, words_are_apart}
+use Rattle.rv64_words_laws.specs.stretches.Core.{Core, is_home_register, written}
+use Rattle.rv64_words_laws.proofs.lemmas.stretches.Cores.{apart_from, written_other}
+use Rattle.rv64_words_laws.proofs.lemmas.stretches.Going.{Going}
+use Rattle.rv64_words_laws.specs.sequences.Moves.{AreHomesApart, AreInside, AreUsable, IsUsable, Move, NoWordIsHome, Restored, Saved, home_word, restore_size, restore_words, save_size, save_words}
+use Rattle.rv64_words_laws.proofs.lemmas.sequences.Moves.{AfterOne, homes_restored, homes_saved}
 use Rattle.rv64_words.specs.declared.word.Word.{Word}
 use Rattle.rv64_words.specs.Region.{stack_base}
 use Rattle.slot_code.specs.declared.item.Slot.{Slot}

@@ -42,3 +42,4 @@ pub mod Storing
 pub mod Stretches
 pub mod Theorem
 pub mod Whole
+pub mod lemmas

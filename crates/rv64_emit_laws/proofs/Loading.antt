@@ -8,16 +8,16 @@ use Rattle.bril_tree.specs.Memory.{cell_at, held}
 use Rattle.bril_tree.specs.State as bril
 use Rattle.bril_tree.specs.Step.{step, loads_held}
 use Rattle.bril_tree.specs.Step as steps
-use Rattle.rv64_blocks.proofs.Finding.{value_found, fresh_found}
-use Rattle.rv64_stretches.proofs.Going.{across, begin, has_front}
-use Rattle.rv64_stretches.proofs.Steps.{ends_after}
-use Rattle.rv64_sequences.specs.Moves.{fetch_size, fetch_words, register_for, target_words}
-use Rattle.rv64_sequences.specs.Operations.{cell_words, load_cell_words}
-use Rattle.rv64_sequences.proofs.Sizes.{fetch_most}
-use Rattle.rv64_values.specs.Cells.{CellReady}
-use Rattle.rv64_values.specs.Operands.{is_result_register}
-use Rattle.rv64_values.proofs.Cells.{loads_stored, loads_fresh}
-use Rattle.rv64_values.proofs.Kept.{keeps_on}
+use Rattle.rv64_words_laws.proofs.lemmas.blocks.Finding.{value_found, fresh_found}
+use Rattle.rv64_words_laws.proofs.lemmas.stretches.Going.{across, begin, has_front}
+use Rattle.rv64_words_laws.proofs.lemmas.stretches.Steps.{ends_after}
+use Rattle.rv64_words_laws.specs.sequences.Moves.{fetch_size, fetch_words, register_for, target_words}
+use Rattle.rv64_words_laws.specs.sequences.Operations.{cell_words, load_cell_words}
+use Rattle.rv64_words_laws.proofs.lemmas.sequences.Sizes.{fetch_most}
+use Rattle.rv64_words_laws.specs.values.Cells.{CellReady}
+use Rattle.rv64_words_laws.specs.values.Operands.{is_result_register}
+use Rattle.rv64_words_laws.proofs.lemmas.values.Cells.{loads_stored, loads_fresh}
+use Rattle.rv64_words_laws.proofs.lemmas.values.Kept.{keeps_on}
 use Rattle.rv64_words.specs.declared.word.Word.{Word}
 use Rattle.rv64_words.specs.State.{State}
 use Rattle.slot_code.specs.declared.item.Slot.TheVariants.{Variable}
@@ -81,7 +81,7 @@ module _ (S : Setting) (s : bril.State) (t : State) (r : RunsAlike S s t) (dear 
 
     held_moves : (o : Option Value) → held s.blocks (Ptr points.block points.offset) n ≡ o → Moves S s t
     held_moves None e =
-        let none = fresh_found (sizes S) s.blocks r.core.table r.core.cells r.core.blocks r.core.given r.memory points.block n points.offset a.cell e in
+        let none = fresh_found (sizes S) s.blocks r.core.table r.core.cells r.core.blocks r.core.next_free r.memory points.block n points.offset a.cell e in
         let q = loads_fresh S.image (sizes S) place a.core register at takes ready (ap (λ m. m (2 * at)) a.keeps.cells ∙ none) in
         let within = q.within in
         let few = a.few in
@@ -91,7 +91,7 @@ module _ (S : Setting) (s : bril.State) (t : State) (r : RunsAlike S s t) (dear 
         (ends_after S.image (sizes S) a.going.runs (omega arith) q.ends) (omega arith) (omega arith) (omega arith)
     held_moves (Some v) e =
         let to = home_here S s t r (Variable dest) in
-        let found = value_found (sizes S) s.blocks r.core.table r.core.cells r.core.blocks r.core.given r.memory points.block n points.offset v a.cell e in
+        let found = value_found (sizes S) s.blocks r.core.table r.core.cells r.core.blocks r.core.next_free r.memory points.block n points.offset v a.cell e in
         let q = loads_stored S.image (sizes S) place a.core register at takes ready (ap (λ m. m (2 * at)) a.keeps.cells ∙ found.0) in
         let within = q.within in
         let few = a.few in

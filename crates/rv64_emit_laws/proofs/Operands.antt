@@ -8,11 +8,11 @@ use Rattle.bril_tree.specs.Membership.{In}
 use Rattle.bril_tree.specs.Operand.{Location}
 use Rattle.bril_tree.specs.State as bril
 use Rattle.bril_tree.specs.Step.{code_of}
-use Rattle.rv64_stretches.specs.Core.{Core, Keeps}
-use Rattle.rv64_stretches.proofs.Going.{Going}
-use Rattle.rv64_sequences.specs.Moves.{home_word, is_temporary, operand_register, operand_size, operand_words}
-use Rattle.rv64_sequences.proofs.Homes.{operand_goes}
-use Rattle.rv64_values.proofs.Kept.{keeps_itself}
+use Rattle.rv64_words_laws.specs.stretches.Core.{Core, Keeps}
+use Rattle.rv64_words_laws.proofs.lemmas.stretches.Going.{Going}
+use Rattle.rv64_words_laws.specs.sequences.Moves.{home_word, is_temporary, operand_register, operand_size, operand_words}
+use Rattle.rv64_words_laws.proofs.lemmas.sequences.Homes.{operand_goes}
+use Rattle.rv64_words_laws.proofs.lemmas.values.Kept.{keeps_itself}
 use Rattle.rv64_words.specs.declared.word.Word.{Word}
 use Rattle.rv64_words.specs.State.{State}
 use Rattle.slot_code.specs.declared.item.Slot.{Slot}

@@ -11,8 +11,8 @@ use Rattle.bril_tree.specs.Operators.{binary_operation, unary_operation}
 use Rattle.bril_tree.specs.Outcome.{Yields, FaultsWith, HasEffect, block_of, char_from, computed, divided, fits_32, int_of, is_scalar, moved, offset_of}
 use Rattle.bril_tree.specs.State.{Locals}
 use Rattle.bril_tree.proofs.Outcomes.{div-never_acts, int2char-never_acts, ptradd-never_acts}
-use Rattle.rv64_sequences.specs.Operations.{binary_size, unary_size}
-use Rattle.rv64_values.specs.Operands.{BinarySuits, UnarySuits}
+use Rattle.rv64_words_laws.specs.sequences.Operations.{binary_size, unary_size}
+use Rattle.rv64_words_laws.specs.values.Operands.{BinarySuits, UnarySuits}
 use Rattle.rv64_emit_laws.proofs.Ready.{BinaryFinds, UnaryFinds}
 
 -- ---- operands

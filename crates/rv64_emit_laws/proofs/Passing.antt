@@ -9,16 +9,17 @@ use Rattle.bril_tree.specs.State as bril
 use Rattle.bril_tree.specs.Live.{IsLive}
 use Rattle.bril_tree.specs.Operand as location
 use Rattle.bril_tree.specs.Step.{code_of}
-use Rattle.rv64_layout.specs.Homes.{slot_word}
-use Rattle.rv64_layout.specs.Items.{argument_word, pass_size, pass_words}
-use Rattle.rv64_stretches.specs.Core.{Core, Keeps, put}
-use Rattle.rv64_stretches.proofs.Cores.{apart_from, assigned_here, assigned_other}
-use Rattle.rv64_stretches.proofs.Going.{Going, is_place}
-use Rattle.rv64_sequences.specs.Frames.{Reaches, address_left, addressed}
-use Rattle.rv64_sequences.specs.Moves.{IsUsable, KeepsRest, home_word, register_for, source_words}
-use Rattle.rv64_sequences.specs.Sequences.{store_words}
-use Rattle.rv64_sequences.proofs.Frames.{frame_store}
-use Rattle.rv64_sequences.proofs.Homes.{five_not_six, home_kept, operand_goes}
+use Rattle.rv64_emit_laws.specs.layout.Homes.{slot_word}
+use Rattle.rv64_emit_laws.specs.layout.Items.{argument_word, pass_size, pass_words}
+use Rattle.rv64_words_laws.specs.stretches.Core.{Core, Keeps, put}
+use Rattle.rv64_words.proofs.Assigned.{assigned_here, assigned_other}
+use Rattle.rv64_words_laws.proofs.lemmas.stretches.Cores.{apart_from}
+use Rattle.rv64_words_laws.proofs.lemmas.stretches.Going.{Going, is_place}
+use Rattle.rv64_words_laws.specs.sequences.Frames.{Reaches, address_left, addressed}
+use Rattle.rv64_words_laws.specs.sequences.Moves.{IsUsable, KeepsRest, home_word, register_for, source_words}
+use Rattle.rv64_words_laws.specs.sequences.Sequences.{store_words}
+use Rattle.rv64_words_laws.proofs.lemmas.sequences.Frames.{frame_store}
+use Rattle.rv64_words_laws.proofs.lemmas.sequences.Homes.{five_not_six, home_kept, operand_goes}
 use Rattle.rv64_words.specs.declared.word.Word.{Word}
 use Rattle.rv64_words.specs.State.{State, assigned}
 use Rattle.slot_code.specs.declared.item.Slot.{Slot}
@@ -41,7 +42,7 @@ found_not_six (Frame o) usable = five_not_six
 -- ---- what is kept
 
 pub rest_itself : (c : Core) → KeepsRest c c
-rest_itself c = record { zero_register = refl; frame_register = refl; frames_left = refl; table = refl; cells = refl; blocks = refl; given = refl; printed = refl; arrivals = refl }
+rest_itself c = record { zero_register = refl; frame_register = refl; frames_left = refl; table = refl; cells = refl; blocks = refl; next_free = refl; printed = refl; arrivals = refl }
 
 pub rest_on : (c d e : Core) → KeepsRest c d → KeepsRest d e → KeepsRest c e
 rest_on c d e first second = record {
@@ -51,7 +52,7 @@ rest_on c d e first second = record {
   table = second.table ∙ first.table;
   cells = second.cells ∙ first.cells;
   blocks = second.blocks ∙ first.blocks;
-  given = second.given ∙ first.given;
+  next_free = second.next_free ∙ first.next_free;
   printed = second.printed ∙ first.printed;
   arrivals = second.arrivals ∙ first.arrivals;
 }
@@ -65,7 +66,7 @@ stored_rest d e o at v k = record {
   table = k.table;
   cells = k.cells;
   blocks = k.blocks;
-  given = k.given;
+  next_free = k.next_free;
   printed = k.printed;
   arrivals = k.arrivals;
 }

@@ -5,16 +5,16 @@ use Rattle.bril_tree.specs.declared.value.Value.TheVariants.{Ptr}
 use Rattle.bril_tree.specs.Memory.{cell_at}
 use Rattle.bril_tree.specs.State as bril
 use Rattle.bril_tree.specs.Step.{step, faulted}
-use Rattle.rv64_blocks.proofs.Finding.{CellFound, cell_found, cell_missing, size_few}
-use Rattle.rv64_stretches.specs.Core.{Core, Keeps}
-use Rattle.rv64_stretches.proofs.Going.{Going, across, has_front}
-use Rattle.rv64_stretches.proofs.Steps.{ends_after}
-use Rattle.rv64_sequences.specs.Moves.{fetch_size}
-use Rattle.rv64_sequences.specs.Operations.{cell_words}
-use Rattle.rv64_sequences.proofs.Sizes.{fetch_most}
-use Rattle.rv64_values.specs.Cells.{PointerReady, is_inside}
-use Rattle.rv64_values.proofs.Cells as words
-use Rattle.rv64_values.proofs.Kept.{keeps_on}
+use Rattle.rv64_words_laws.proofs.lemmas.blocks.Finding.{CellFound, cell_found, cell_missing, size_few}
+use Rattle.rv64_words_laws.specs.stretches.Core.{Core, Keeps}
+use Rattle.rv64_words_laws.proofs.lemmas.stretches.Going.{Going, across, has_front}
+use Rattle.rv64_words_laws.proofs.lemmas.stretches.Steps.{ends_after}
+use Rattle.rv64_words_laws.specs.sequences.Moves.{fetch_size}
+use Rattle.rv64_words_laws.specs.sequences.Operations.{cell_words}
+use Rattle.rv64_words_laws.proofs.lemmas.sequences.Sizes.{fetch_most}
+use Rattle.rv64_words_laws.specs.values.Cells.{PointerReady, is_inside}
+use Rattle.rv64_words_laws.proofs.lemmas.values.Cells as words
+use Rattle.rv64_words_laws.proofs.lemmas.values.Kept.{keeps_on}
 use Rattle.rv64_words.specs.declared.word.Word.{Word}
 use Rattle.rv64_words.specs.Region.{cells_base}
 use Rattle.rv64_words.specs.State.{State}
@@ -32,10 +32,10 @@ module _ (S : Setting) (s : bril.State) (t : State) (r : RunsAlike S s t) (point
   abbrev pub Pointed : List Word → Type 0
   Pointed ws = Brought S s t r false 5 (Variable pointer) (Ptr points.block points.offset) 0 (here S s t r) r.core ws
 
-  -- the cells that were given out are few
-  few_given : r.core.given ≤ 4194304
-  few_given =
-      let room : 2 * r.core.given ≤ 2 * S.limits.cells = r.memory.room in
+  -- there are few cells before the next free one
+  few_before : r.core.next_free ≤ 4194304
+  few_before =
+      let room : 2 * r.core.next_free ≤ 2 * S.limits.cells = r.memory.room in
       let few : S.limits.cells ≤ 4194304 = S.limits.few_cells in
       omega arith
 
@@ -45,8 +45,8 @@ module _ (S : Setting) (s : bril.State) (t : State) (r : RunsAlike S s t) (point
       let size = fetch_most (home_here S s t r (Variable pointer)) in
       let known : points.block ≤ length s.blocks = q.word.known in
       let few : length s.blocks ≤ 262144 = r.memory.few in
-      let small = size_few (sizes S) s.blocks r.core.table r.core.cells r.core.blocks r.core.given r.memory points.block known in
-      let given = few_given in
+      let small = size_few (sizes S) s.blocks r.core.table r.core.cells r.core.blocks r.core.next_free r.memory points.block known in
+      let next_free = few_before in
       let same : q.core.table (2 * points.block + 1) ≡ r.core.table (2 * points.block + 1) = ap (λ m. m (2 * points.block + 1)) q.keeps.table in
       record {
         has = has_front S.image (sizes S) cell_words ws q.going;
@@ -64,7 +64,7 @@ module _ (S : Setting) (s : bril.State) (t : State) (r : RunsAlike S s t) (point
       here S s t r + fetch_size (home_here S s t r (Variable pointer)) + 14 ≤ entry_of S r.frame.function (suc r.frame.point) → Moves S s t
   access_moves ws dear q none stepped inside =
       let home = home_here S s t r (Variable pointer) in
-      let out = cell_missing (sizes S) s.blocks r.core.table r.core.cells r.core.blocks r.core.given r.memory points.block points.offset q.word.known none in
+      let out = cell_missing (sizes S) s.blocks r.core.table r.core.cells r.core.blocks r.core.next_free r.memory points.block points.offset q.word.known none in
       let no_cell : is_inside points.offset (q.core.table (2 * points.block + 1)) ≡ false = ap (λ m. is_inside points.offset (m (2 * points.block + 1))) q.keeps.table ∙ out in
       let last = words.cell_faults S.image (sizes S) (here S s t r + fetch_size home) q.core points.block points.offset (ready ws q) no_cell in
       let within = last.within in
@@ -74,7 +74,7 @@ module _ (S : Setting) (s : bril.State) (t : State) (r : RunsAlike S s t) (point
 
   -- or it has cell n of its block, and register 7 gets the cell's address
   pub record AtCell (n : ℕ) (ws : List Word) : Type 0 where
-    pub cell : CellFound (sizes S) s.blocks r.core.table r.core.cells r.core.blocks r.core.given r.memory points.block n points.offset
+    pub cell : CellFound (sizes S) s.blocks r.core.table r.core.cells r.core.blocks r.core.next_free r.memory points.block n points.offset
     pub core : Core
     pub keeps : Keeps r.core core
     pub address : core.registers 7 ≡ cells_base + 16 * (r.memory.first points.block + n)
@@ -88,11 +88,11 @@ module _ (S : Setting) (s : bril.State) (t : State) (r : RunsAlike S s t) (point
   pub at_cell : (n : ℕ) (ws : List Word) → Pointed (cell_words ++ ws) → cell_at s.blocks (Ptr points.block points.offset) ≡ Some n → AtCell n ws
   at_cell n ws q there =
       let home = home_here S s t r (Variable pointer) in
-      let f = cell_found (sizes S) s.blocks r.core.table r.core.cells r.core.blocks r.core.given r.memory points.block n points.offset q.word.known there in
+      let f = cell_found (sizes S) s.blocks r.core.table r.core.cells r.core.blocks r.core.next_free r.memory points.block n points.offset q.word.known there in
       let first = r.memory.first points.block in
-      let inside : first + n < r.core.given = f.inside in
-      let given = few_given in
-      let room : 2 * r.core.given ≤ 2 * S.limits.cells = r.memory.room in
+      let inside : first + n < r.core.next_free = f.inside in
+      let next_free = few_before in
+      let room : 2 * r.core.next_free ≤ 2 * S.limits.cells = r.memory.room in
       let small : first + n < 2 ^ 58 = omega arith in
       let size = f.size in
       let below = f.below in

@@ -16,14 +16,14 @@ use Rattle.bril_tree.specs.Live.{IsLive}
 use Rattle.bril_tree.specs.Operand as location
 use Rattle.bril_tree.specs.Step.{code_of, advanced, line_of, prints}
 use Rattle.bril_tree.specs.Value.{bool_text, shown}
-use Rattle.rv64_layout.specs.Homes.{FunctionHomes, variable_home}
-use Rattle.rv64_layout.specs.Items.{environment_words, print_call, print_size, print_words, spaced_size, spaced_words, value_words}
-use Rattle.rv64_layout.proofs.Bounding.{print_most}
-use Rattle.rv64_stretches.specs.Core.{Core, Keeps, said, written}
-use Rattle.rv64_stretches.proofs.Calls.{print_bool, print_char, print_int, print_line_end, print_space}
-use Rattle.rv64_stretches.proofs.Going.{Going, begin, is_place, plain}
-use Rattle.rv64_sequences.specs.Moves.{fetch_size, fetch_words}
-use Rattle.rv64_values.proofs.Kept.{keeps_itself, keeps_written}
+use Rattle.rv64_emit_laws.specs.layout.Homes.{FunctionHomes, variable_home}
+use Rattle.rv64_emit_laws.specs.layout.Items.{environment_words, print_call, print_size, print_words, spaced_size, spaced_words, value_words}
+use Rattle.rv64_emit_laws.proofs.lemmas.layout.Bounding.{print_most}
+use Rattle.rv64_words_laws.specs.stretches.Core.{Core, Keeps, said, written}
+use Rattle.rv64_words_laws.proofs.lemmas.stretches.Calls.{print_bool, print_char, print_int, print_line_end, print_space}
+use Rattle.rv64_words_laws.proofs.lemmas.stretches.Going.{Going, begin, is_place, plain}
+use Rattle.rv64_words_laws.specs.sequences.Moves.{fetch_size, fetch_words}
+use Rattle.rv64_words_laws.proofs.lemmas.values.Kept.{keeps_itself, keeps_written}
 use Rattle.rv64_words.specs.declared.word.Word.{Word}
 use Rattle.rv64_words.specs.declared.word.Word.TheVariants.{Ecall}
 use Rattle.rv64_words.specs.Environment.{truth_text}
@@ -66,12 +66,12 @@ record Says (c e : Core) (text : List ℕ) : Type 0 where
   table : e.table ≡ c.table
   cells : e.cells ≡ c.cells
   blocks : e.blocks ≡ c.blocks
-  given : e.given ≡ c.given
+  next_free : e.next_free ≡ c.next_free
   arrivals : e.arrivals ≡ c.arrivals
   printed : e.printed ≡ c.printed ++ text
 
 says_nothing : (c : Core) → Says c c []
-says_nothing c = record { same = keeps_homes c c (keeps_itself c); table = refl; cells = refl; blocks = refl; given = refl; arrivals = refl; printed = sym (append-nil c.printed) }
+says_nothing c = record { same = keeps_homes c c (keeps_itself c); table = refl; cells = refl; blocks = refl; next_free = refl; arrivals = refl; printed = sym (append-nil c.printed) }
 
 -- more is said, behind a stretch that says nothing
 says_more : (c e f : Core) (text more : List ℕ) → Says c e text → Keeps e f → Says c (said f more) (text ++ more)
@@ -86,7 +86,7 @@ says_more c e f text more h k = record {
   table = k.table ∙ h.table;
   cells = k.cells ∙ h.cells;
   blocks = k.blocks ∙ h.blocks;
-  given = k.given ∙ h.given;
+  next_free = k.next_free ∙ h.next_free;
   arrivals = k.arrivals ∙ h.arrivals;
   printed = ap (λ l. l ++ more) (k.printed ∙ h.printed) ∙ append_assoc c.printed text more;
 }
@@ -216,6 +216,6 @@ module _ (S : Setting) (s : bril.State) (t : State) (r : RunsAlike S s t) where
       arrive S s t r (prints S.p S.limits vs r.frame r.older s) (advanced r.frame) r.older q.core (print_size homes args - 1) (step_at S s t r (Some (Print args)) item) refl r.running
       (ap (λ l. l ++ line_of vs) r.printed ∙ sym q.says.printed)
       (moved_holds S (length s.blocks) r.frame r.older r.core h (standing S s t r) (suc r.frame.point) (leads S r.frame h.function h.there (Print args) item (onward r.frame.point) (inl refl) refl refl) q.core q.says.same)
-      (memory_by S s.blocks r.core q.core q.says.table q.says.cells q.says.blocks q.says.given r.memory)
+      (memory_by S s.blocks r.core q.core q.says.table q.says.cells q.says.blocks q.says.next_free r.memory)
       (guards_by S s t r q.core q.says.arrivals)
       (onto_next S s t r (landed (suc (print_size homes args - 1)) (entry_of S r.frame.function (suc r.frame.point)) count at q.going)) (let most = print_most homes args in omega arith)

@@ -4,11 +4,11 @@ use Rattle.bril_tree.specs.declared.home.Home.{Home}
 use Rattle.bril_tree.specs.declared.home.Home.TheVariants.{Reg, Frame}
 use Rattle.bril_tree.specs.declared.operators.BinaryOp.{BinaryOp}
 use Rattle.bril_tree.specs.declared.operators.BinaryOp.TheVariants as binary
-use Rattle.rv64_stretches.specs.Core.{Core, Keeps, KeepsBut, is_home_register}
-use Rattle.rv64_stretches.proofs.Cores.{apart_from}
-use Rattle.rv64_sequences.specs.Moves.{IsUsable, operand_register, register_for, result_register}
-use Rattle.rv64_sequences.specs.Operations.{binary_takes_any}
-use Rattle.rv64_values.specs.Operands.{BinaryTakes, is_result_register}
+use Rattle.rv64_words_laws.specs.stretches.Core.{Core, Keeps, KeepsBut, is_home_register}
+use Rattle.rv64_words_laws.proofs.lemmas.stretches.Cores.{apart_from}
+use Rattle.rv64_words_laws.specs.sequences.Moves.{IsUsable, operand_register, register_for, result_register}
+use Rattle.rv64_words_laws.specs.sequences.Operations.{binary_takes_any}
+use Rattle.rv64_words_laws.specs.values.Operands.{BinaryTakes, is_result_register}
 
 or_second : (a b : Bool) → IsTrue b → IsTrue (a || b)
 or_second true b h = refl
@@ -44,7 +44,7 @@ but_on d c e f a b = record {
   table = b.table ∙ a.table;
   cells = b.cells ∙ a.cells;
   blocks = b.blocks ∙ a.blocks;
-  given = b.given ∙ a.given;
+  next_free = b.next_free ∙ a.next_free;
   printed = b.printed ∙ a.printed;
   arrivals = b.arrivals ∙ a.arrivals;
 }

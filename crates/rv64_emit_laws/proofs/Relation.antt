@@ -14,12 +14,12 @@ use Rattle.bril_tree.specs.State as bril
 use Rattle.bril_tree.specs.Step.{code_of}
 use Rattle.placement_laws.specs.Holding.{FrameHolds}
 use Rattle.placement_laws.specs.Homes.{slot_of}
-pub use Rattle.rv64_blocks.specs.Memory.{HasWord, BlockHolds, LiesIn, MemoryHolds}
-use Rattle.rv64_layout.specs.Image.{end_start}
-use Rattle.rv64_layout.specs.Homes.{level_word, slot_word}
-use Rattle.rv64_layout.specs.Items.{return_word}
-use Rattle.rv64_stretches.specs.Core.{Core, machine}
-use Rattle.rv64_sequences.specs.Moves.{home_word}
+pub use Rattle.rv64_words_laws.specs.blocks.Memory.{HasWord, BlockHolds, LiesIn, MemoryHolds}
+use Rattle.rv64_emit_laws.specs.layout.Image.{end_start}
+use Rattle.rv64_emit_laws.specs.layout.Homes.{level_word, slot_word}
+use Rattle.rv64_emit_laws.specs.layout.Items.{return_word}
+use Rattle.rv64_words_laws.specs.stretches.Core.{Core, machine}
+use Rattle.rv64_words_laws.specs.sequences.Moves.{home_word}
 use Rattle.rv64_words.specs.declared.image.GuardAt.{GuardAt}
 use Rattle.rv64_words.specs.Region.{stack_base}
 use Rattle.rv64_words.specs.State.{State, Finished}
@@ -101,7 +101,7 @@ module _ (S : Setting) where
     pub done : ℕ
     pub state : t ≡ machine (entry_of S frame.function frame.point) core done
     pub holds : FramesHold S (length s.blocks) frame older core
-    pub memory : MemoryHolds (sizes S) s.blocks core.table core.cells core.blocks core.given
+    pub memory : MemoryHolds (sizes S) s.blocks core.table core.cells core.blocks core.next_free
     pub guards : GuardsHold S.image.guards s.failures core.arrivals
     pub printed : s.printed ≡ core.printed
 

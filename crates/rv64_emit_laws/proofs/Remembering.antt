@@ -9,14 +9,14 @@ use Rattle.bril_tree.specs.Operand.{Location}
 use Rattle.bril_tree.specs.State as bril
 use Rattle.bril_tree.specs.Step.{step, advanced, code_of, with_locations}
 use Rattle.placement_laws.specs.Holding as holding
-use Rattle.rv64_blocks.specs.Laws.{CoreHolds}
-use Rattle.rv64_blocks.proofs.Allocating.{word_known}
-use Rattle.rv64_blocks.proofs.Lists.{changed_length}
-use Rattle.rv64_stretches.specs.Core.{Core}
-use Rattle.rv64_stretches.proofs.Going.{Going}
-use Rattle.rv64_sequences.specs.Moves.{fill_size, fill_words, home_word}
-use Rattle.rv64_sequences.proofs.Homes.{fill_goes}
-use Rattle.rv64_sequences.proofs.Sizes.{fill_most}
+use Rattle.rv64_words_laws.specs.blocks.Laws.{CoreHolds}
+use Rattle.rv64_words_laws.proofs.lemmas.blocks.Allocating.{word_known}
+use Rattle.rv64_words_laws.proofs.lemmas.blocks.Lists.{changed_length}
+use Rattle.rv64_words_laws.specs.stretches.Core.{Core}
+use Rattle.rv64_words_laws.proofs.lemmas.stretches.Going.{Going}
+use Rattle.rv64_words_laws.specs.sequences.Moves.{fill_size, fill_words, home_word}
+use Rattle.rv64_words_laws.proofs.lemmas.sequences.Homes.{fill_goes}
+use Rattle.rv64_words_laws.proofs.lemmas.sequences.Sizes.{fill_most}
 use Rattle.rv64_words.specs.State.{State}
 use Rattle.slot_code.specs.declared.item.Slot.{Slot}
 use Rattle.slot_code.specs.Laws.{IsSlotOf}
@@ -121,4 +121,4 @@ module _ (S : Setting) (s : bril.State) (t : State) (r : RunsAlike S s t) where
       let three = fill_most home in
       let count : n + fill_size home ≡ suc (n + fill_size home - 1) = omega arith in
       arrive S s t r (fills S.p S.slots S.limits dest v r.frame r.older (record s { blocks = blocks })) f r.older last (n + fill_size home - 1) stepped refl r.running (r.printed ∙ (sym keeps.printed ∙ sym rest.printed)) holds
-      (memory_by S blocks e last rest.table rest.cells rest.blocks rest.given memory) (guards_by S s t r last (rest.arrivals ∙ keeps.arrivals)) (onto_next S s t r (landed (suc (n + fill_size home - 1)) (entry_of S r.frame.function (suc r.frame.point)) count there filled.2)) (omega arith)
+      (memory_by S blocks e last rest.table rest.cells rest.blocks rest.next_free memory) (guards_by S s t r last (rest.arrivals ∙ keeps.arrivals)) (onto_next S s t r (landed (suc (n + fill_size home - 1)) (entry_of S r.frame.function (suc r.frame.point)) count there filled.2)) (omega arith)

@@ -28,21 +28,21 @@ use Rattle.placement_laws.specs.Holding.{HomesHold, IsSteady, SavesHold}
 use Rattle.placement_laws.specs.Homes.{slot_of}
 use Rattle.placement_laws.proofs.Calling.{KeptHold, call_goes_on, call_returns}
 use Rattle.placement_laws.proofs.Homes.{location_back}
-use Rattle.rv64_layout.specs.Image.{end_start}
-use Rattle.rv64_layout.specs.Homes.{call_moves, outlives, slot_word}
-use Rattle.rv64_layout.specs.Items.{after_call, before_call, call_result_size, call_result_words, leave_words, pass_words, return_word, room_words}
-use Rattle.rv64_layout.proofs.Bounding.{call_moves_back_most}
-use Rattle.rv64_layout.proofs.Lengths.{frame_up_length, pass_length, save_length}
-use Rattle.rv64_stretches.specs.Core.{Core, Keeps, written}
-use Rattle.rv64_stretches.specs.Runs.{Ends, HasAt, Leaves, Runs, effect}
-use Rattle.rv64_stretches.proofs.Going.{Going, HasAt-rest, begin, jump_back, load, plain}
-use Rattle.rv64_sequences.specs.Moves.{Filled, IsHomeInside, Move, Restored, fetch_words, fill_size, fill_words, home_word, restore_size, save_words}
-use Rattle.rv64_sequences.specs.Sequences.{fault_words, frame_up_words, jump_offset}
-use Rattle.rv64_sequences.proofs.Ends.{finishes}
-use Rattle.rv64_sequences.proofs.Homes.{fill_goes}
-use Rattle.rv64_sequences.proofs.Moves.{AfterOne}
-use Rattle.rv64_sequences.proofs.Sizes.{fetch_most, fill_most}
-use Rattle.rv64_values.proofs.Kept.{keeps_itself}
+use Rattle.rv64_emit_laws.specs.layout.Image.{end_start}
+use Rattle.rv64_emit_laws.specs.layout.Homes.{call_moves, outlives, slot_word}
+use Rattle.rv64_emit_laws.specs.layout.Items.{after_call, before_call, call_result_size, call_result_words, leave_words, pass_words, return_word, room_words}
+use Rattle.rv64_emit_laws.proofs.lemmas.layout.Bounding.{call_moves_back_most}
+use Rattle.rv64_emit_laws.proofs.lemmas.layout.Lengths.{frame_up_length, pass_length, save_length}
+use Rattle.rv64_words_laws.specs.stretches.Core.{Core, Keeps, written}
+use Rattle.rv64_words_laws.specs.stretches.Runs.{Ends, HasAt, Leaves, Runs, effect}
+use Rattle.rv64_words_laws.proofs.lemmas.stretches.Going.{Going, HasAt-rest, begin, jump_back, load, plain}
+use Rattle.rv64_words_laws.specs.sequences.Moves.{Filled, IsHomeInside, Move, Restored, fetch_words, fill_size, fill_words, home_word, restore_size, save_words}
+use Rattle.rv64_words_laws.specs.sequences.Sequences.{fault_words, frame_up_words, jump_offset}
+use Rattle.rv64_words_laws.proofs.lemmas.sequences.Ends.{finishes}
+use Rattle.rv64_words_laws.proofs.lemmas.sequences.Homes.{fill_goes}
+use Rattle.rv64_words_laws.proofs.lemmas.sequences.Moves.{AfterOne}
+use Rattle.rv64_words_laws.proofs.lemmas.sequences.Sizes.{fetch_most, fill_most}
+use Rattle.rv64_words_laws.proofs.lemmas.values.Kept.{keeps_itself}
 use Rattle.rv64_words.specs.declared.word.Word.TheVariants.{Jal}
 use Rattle.rv64_words.specs.Environment as rv64
 use Rattle.rv64_words.specs.Mnemonics.{addi}
@@ -185,7 +185,7 @@ module _ (S : Setting) (s : bril.State) (t : State) (r : RunsAlike S s t) (dear 
       null = keeps.zero_register ∙ r.holds.zero_is
 
       same_live : rv64.is_live_any e.table e.blocks ≡ is_live_any s.blocks
-      same_live = let m = memory_kept S s.blocks r.core e keeps r.memory in live_alike (sizes S) s.blocks e.table e.cells e.blocks e.given m
+      same_live = let m = memory_kept S s.blocks r.core e keeps r.memory in live_alike (sizes S) s.blocks e.table e.cells e.blocks e.next_free m
 
       none : 0 < 2 ^ 64
       none = omega arith
@@ -385,7 +385,7 @@ module _ (S : Setting) (s : bril.State) (t : State) (r : RunsAlike S s t) (dear 
           (r.printed ∙ (sym keeps.printed ∙ sym rest.printed))
           (caller_holds caller older some w older_hold caller.locations last (rest.frame_register ∙ two) (rest.zero_register ∙ (keeps.zero_register ∙ r.holds.zero_is)) (ap (λ y. y + suc (length older)) rest.frames_left ∙ left_is)
           (λ k lt. reloaded_stack k) (untaken_homes caller older some w d (left_core e) last keeps.stack reloads.is))
-          (memory_by S s.blocks r.core last (rest.table ∙ keeps.table) (rest.cells ∙ keeps.cells) (rest.blocks ∙ keeps.blocks) (rest.given ∙ keeps.given) r.memory) (guards_by S s t r last (rest.arrivals ∙ keeps.arrivals))
+          (memory_by S s.blocks r.core last (rest.table ∙ keeps.table) (rest.cells ∙ keeps.cells) (rest.blocks ∙ keeps.blocks) (rest.next_free ∙ keeps.next_free) r.memory) (guards_by S s t r last (rest.arrivals ∙ keeps.arrivals))
           (comes_back (suc (n + 3 + restore_size moves)) count (landed (0 + restore_size moves) (entry_of S caller.function (suc caller.point)) refl at reloads.going)) (omega arith)
       by_dest (Some x) d =
           let moves = kept_by S (length s.blocks) r.frame.function r.holds.base (length older) caller r.core.stack w in
@@ -415,7 +415,7 @@ module _ (S : Setting) (s : bril.State) (t : State) (r : RunsAlike S s t) (dear 
           (stepped ∙ ap (λ o. gives S.p S.limits o v caller older s) d) refl r.running (r.printed ∙ (sym keeps.printed ∙ sym rest.printed))
           (caller_holds caller older some w older_hold (with_slot (Variable x) v caller.locations) last (rest.frame_register ∙ two) (rest.zero_register ∙ (keeps.zero_register ∙ r.holds.zero_is)) (ap (λ y. y + suc (length older)) rest.frames_left ∙ left_is)
           low (taken_homes caller older some w x d v (reloads.core.registers 10) (left_core e) reloads.core last has keeps.stack reloads.is filled.1))
-          (memory_by S s.blocks r.core last (rest.table ∙ keeps.table) (rest.cells ∙ keeps.cells) (rest.blocks ∙ keeps.blocks) (rest.given ∙ keeps.given) r.memory) (guards_by S s t r last (rest.arrivals ∙ keeps.arrivals))
+          (memory_by S s.blocks r.core last (rest.table ∙ keeps.table) (rest.cells ∙ keeps.cells) (rest.blocks ∙ keeps.blocks) (rest.next_free ∙ keeps.next_free) r.memory) (guards_by S s t r last (rest.arrivals ∙ keeps.arrivals))
           (comes_back (suc (n + 3 + restore_size moves + fill_size home)) count (landed (0 + restore_size moves + fill_size home) (entry_of S caller.function (suc caller.point)) refl at filled.2)) (omega arith)
 
   -- the newest frame gives a value back, which register 10 has where its function returns one

@@ -16,10 +16,10 @@ use Rattle.placement_laws.specs.Holding.{SavesHold}
 use Rattle.placement_laws.specs.Homes.{slot_of}
 use Rattle.placement_laws.specs.Needed.{IsLiveOut, IsNeeded, Live}
 use Rattle.placement_laws.proofs.Speculating.{aborts, commits, speculates}
-use Rattle.rv64_layout.specs.Homes.{level_word, moves_of}
-use Rattle.rv64_layout.proofs.Moving.{are_inside, are_usable, homes_are_apart, move_in, no_word_is_home, slot_move, unmoved, words_are_apart}
-use Rattle.rv64_stretches.specs.Core.{Core}
-use Rattle.rv64_sequences.specs.Moves.{Move, AreHomesApart, AreInside, AreUsable, AreWordsApart, IsUsable, NoWordIsHome, Restored, Saved, home_word}
+use Rattle.rv64_emit_laws.specs.layout.Homes.{level_word, moves_of}
+use Rattle.rv64_emit_laws.proofs.lemmas.layout.Moving.{are_inside, are_usable, homes_are_apart, move_in, no_word_is_home, slot_move, unmoved, words_are_apart}
+use Rattle.rv64_words_laws.specs.stretches.Core.{Core}
+use Rattle.rv64_words_laws.specs.sequences.Moves.{Move, AreHomesApart, AreInside, AreUsable, AreWordsApart, IsUsable, NoWordIsHome, Restored, Saved, home_word}
 use Rattle.slot_code.specs.declared.item.Slot.{Slot}
 use Rattle.slot_code.specs.Flow.{slot_location}
 use Rattle.slot_code.specs.Laws.{IsSlotOf}

@@ -8,10 +8,10 @@ use Rattle.bril_tree.specs.Accepted.{IsAccepted}
 use Rattle.program_numbers.specs.Cost.{IsCost}
 use Rattle.bril_tree.specs.Literals.{AreLiteralsInRange}
 use Rattle.bril_tree.specs.Run.{FitMain}
-use Rattle.rv64_layout.specs.Homes.{FunctionHomes}
-use Rattle.rv64_layout.specs.Image.{entry_at, largest_frame, start_at}
-use Rattle.rv64_layout.specs.Items.{item_size}
-use Rattle.rv64_layout.specs.Laid.{IsLaid, ItemAt}
+use Rattle.rv64_emit_laws.specs.layout.Homes.{FunctionHomes}
+use Rattle.rv64_emit_laws.specs.layout.Image.{entry_at, largest_frame, start_at}
+use Rattle.rv64_emit_laws.specs.layout.Items.{item_size}
+use Rattle.rv64_emit_laws.specs.layout.Laid.{IsLaid, ItemAt}
 use Rattle.rv64_words.specs.declared.image.Image.{Image}
 use Rattle.rv64_words.specs.Region.{Sizes, sizes_of}
 use Rattle.slot_code.specs.declared.item.SlotItem.{SlotItem}

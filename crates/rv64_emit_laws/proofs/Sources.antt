@@ -5,7 +5,7 @@ use Rattle.std.proofs.lemmas.Option.{slice_get_within}
 use Rattle.bril_tree.specs.declared.numbered_function.Func.{Func}
 use Rattle.bril_tree.specs.declared.program.Prog.{Prog}
 use Rattle.bril_tree.proofs.Elements.{get_inside, zip-get, zip-long}
-use Rattle.rv64_layout.proofs.Bounding.{function_made}
+use Rattle.rv64_emit_laws.proofs.lemmas.layout.Bounding.{function_made}
 use Rattle.slot_code.specs.declared.slots.SlotFunction.{SlotFunction}
 use Rattle.slot_code.specs.declared.slots.Slots.{Slots}
 use Rattle.slot_code.specs.Lowered.{IsLowered, IsLoweredFunction}

@@ -7,14 +7,14 @@ use Rattle.bril_tree.specs.Operand.{Location}
 use Rattle.bril_tree.specs.State as bril
 use Rattle.bril_tree.specs.Step.{code_of, advanced, commits, dropped, speculates, step}
 use Rattle.placement_laws.specs.Homes.{slot_of}
-use Rattle.rv64_layout.specs.Homes.{FunctionHomes, level_word, moves_of}
-use Rattle.rv64_layout.specs.Items.{nop_word}
-use Rattle.rv64_layout.proofs.Bounding.{moves_save_most}
-use Rattle.rv64_stretches.specs.Core.{Core}
-use Rattle.rv64_stretches.specs.Runs.{HasAt}
-use Rattle.rv64_stretches.proofs.Going.{Going, begin, plain}
-use Rattle.rv64_sequences.specs.Moves.{Move, Saved, save_size, save_words}
-use Rattle.rv64_sequences.proofs.Moves.{homes_saved}
+use Rattle.rv64_emit_laws.specs.layout.Homes.{FunctionHomes, level_word, moves_of}
+use Rattle.rv64_emit_laws.specs.layout.Items.{nop_word}
+use Rattle.rv64_emit_laws.proofs.lemmas.layout.Bounding.{moves_save_most}
+use Rattle.rv64_words_laws.specs.stretches.Core.{Core}
+use Rattle.rv64_words_laws.specs.stretches.Runs.{HasAt}
+use Rattle.rv64_words_laws.proofs.lemmas.stretches.Going.{Going, begin, plain}
+use Rattle.rv64_words_laws.specs.sequences.Moves.{Move, Saved, save_size, save_words}
+use Rattle.rv64_words_laws.proofs.lemmas.sequences.Moves.{homes_saved}
 use Rattle.rv64_words.specs.State.{State}
 use Rattle.slot_code.specs.declared.item.Slot.{Slot}
 use Rattle.slot_code.specs.declared.item.SlotItem.TheVariants.{Commit, Speculate}
@@ -50,7 +50,7 @@ module _ (S : Setting) (s : bril.State) (t : State) (r : RunsAlike S s t) where
       arrive S s t r (speculates S.p S.limits r.frame r.older s) (advanced (record r.frame { saves = r.frame.locations ∷ r.frame.saves })) r.older e n stepped refl r.running (r.printed ∙ sym saved.rest.printed)
       (saved_holds S (length s.blocks) r.frame r.older r.core r.holds (standing S s t r) (leads S r.frame r.holds.function r.holds.there Speculate item (onward r.frame.point) (inl refl) refl refl)
       (goes S r.frame r.holds.function r.holds.there Speculate item (onward r.frame.point) (inl refl)) (kept_at (S.homes r.frame.function) (suc (length r.frame.saves)) r.frame.point) chosen e saved)
-      (memory_by S s.blocks r.core e saved.rest.table saved.rest.cells saved.rest.blocks saved.rest.given r.memory) (guards_by S s t r e saved.rest.arrivals)
+      (memory_by S s.blocks r.core e saved.rest.table saved.rest.cells saved.rest.blocks saved.rest.next_free r.memory) (guards_by S s t r e saved.rest.arrivals)
       (onto_next S s t r (landed (suc n) (entry_of S r.frame.function (suc r.frame.point)) count there (plain S.image (sizes S) tt g))) (omega arith)
 
   pub speculate_moves : slice_get r.holds.function.code r.frame.point ≡ Some Speculate → Moves S s t

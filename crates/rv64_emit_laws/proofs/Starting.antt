@@ -17,17 +17,17 @@ use Rattle.bril_tree.specs.State as bril
 use Rattle.bril_tree.specs.Step.{new_frame}
 use Rattle.bril_tree.specs.Value.{IsOfDepth, word_of}
 use Rattle.bril_tree.proofs.Elements.{zip-long}
-use Rattle.rv64_layout.specs.Homes.{is_loaded, opening_moves}
-use Rattle.rv64_layout.specs.Image.{head_words}
-use Rattle.rv64_layout.proofs.Bounding.{opening_most}
-use Rattle.rv64_stretches.specs.Core.{Core, machine}
-use Rattle.rv64_stretches.specs.Runs.{Leaves}
-use Rattle.rv64_stretches.proofs.Cores.{assigned_other}
-use Rattle.rv64_stretches.proofs.Going.{Going, begin, begin_there, plain, store}
-use Rattle.rv64_sequences.specs.Moves.{Restored, restore_size, restore_words}
-use Rattle.rv64_sequences.specs.Sequences.{high_part, low_part}
-use Rattle.rv64_sequences.proofs.Digits.{small_again}
-use Rattle.rv64_sequences.proofs.Jumps.{call_to}
+use Rattle.rv64_emit_laws.specs.layout.Homes.{is_loaded, opening_moves}
+use Rattle.rv64_emit_laws.specs.layout.Image.{head_words}
+use Rattle.rv64_emit_laws.proofs.lemmas.layout.Bounding.{opening_most}
+use Rattle.rv64_words_laws.specs.stretches.Core.{Core, machine}
+use Rattle.rv64_words_laws.specs.stretches.Runs.{Leaves}
+use Rattle.rv64_words.proofs.Assigned.{assigned_other}
+use Rattle.rv64_words_laws.proofs.lemmas.stretches.Going.{Going, begin, begin_there, plain, store}
+use Rattle.rv64_words_laws.specs.sequences.Moves.{Restored, restore_size, restore_words}
+use Rattle.rv64_words_laws.specs.sequences.Sequences.{high_part, low_part}
+use Rattle.rv64_words_laws.proofs.lemmas.sequences.Digits.{small_again}
+use Rattle.rv64_words_laws.proofs.lemmas.sequences.Jumps.{call_to}
 use Rattle.rv64_words.specs.declared.word.Word.TheVariants.{Sd}
 use Rattle.rv64_words.specs.Arithmetic.{extended_32, moved_by}
 use Rattle.rv64_words.specs.Machine.{machine_step}
@@ -83,7 +83,7 @@ module _ (S : Setting) where
     table = λ _. 0;
     cells = λ _. 0;
     blocks = 0;
-    given = 0;
+    next_free = 0;
     printed = [];
     arrivals = λ _. 0;
   }
@@ -147,7 +147,7 @@ module _ (S : Setting) where
     table : core.table ≡ (λ _. 0)
     cells : core.cells ≡ (λ _. 0)
     blocks : core.blocks ≡ 0
-    given : core.given ≡ 0
+    next_free : core.next_free ≡ 0
     arrivals : core.arrivals ≡ (λ _. 0)
     printed : core.printed ≡ []
 
@@ -160,7 +160,7 @@ module _ (S : Setting) where
     table : e.table ≡ (λ _. 0)
     cells : e.cells ≡ (λ _. 0)
     blocks : e.blocks ≡ 0
-    given : e.given ≡ 0
+    next_free : e.next_free ≡ 0
     arrivals : e.arrivals ≡ (λ _. 0)
     printed : e.printed ≡ []
 
@@ -211,7 +211,7 @@ module _ (S : Setting) where
         table = rest.table ∙ entered.table;
         cells = rest.cells ∙ entered.cells;
         blocks = rest.blocks ∙ entered.blocks;
-        given = rest.given ∙ entered.given;
+        next_free = rest.next_free ∙ entered.next_free;
         arrivals = rest.arrivals ∙ entered.arrivals;
         printed = rest.printed ∙ entered.printed;
       }
@@ -239,14 +239,13 @@ module _ (S : Setting) where
       let room = main_room in
       let in_0 : 0 < S.image.stack = omega arith in
       let g5 = store S.image (sizes S) {ws = loads} 0 refl in_0 g4 in
-      begun_from r3_main g5 (record { two = refl; null = refl; left = eight; stack = refl; table = refl; cells = refl; blocks = refl; given = refl; arrivals = refl; printed = refl })
+      begun_from r3_main g5 (record { two = refl; null = refl; left = eight; stack = refl; table = refl; cells = refl; blocks = refl; next_free = refl; arrivals = refl; printed = refl })
 
   no_block : (table cells : ℕ → ℕ) → table ≡ (λ _. 0) → cells ≡ (λ _. 0) → MemoryHolds (sizes S) [] table cells 0 0
   no_block table cells no_table no_cells = record {
     first = λ _. 0;
     count = refl;
     few = omega arith;
-    sum = refl;
     room = omega arith;
     each = λ k b e. absurd (none_there k e);
     lies = λ k b e. absurd (none_there k e);
@@ -277,8 +276,8 @@ module _ (S : Setting) where
     done = begun.done;
     state = refl;
     holds = begun.holds;
-    memory = subst (λ m. MemoryHolds (sizes S) [] begun.core.table begun.core.cells m begun.core.given) (sym begun.blocks)
-        (subst (MemoryHolds (sizes S) [] begun.core.table begun.core.cells 0) (sym begun.given) (no_block begun.core.table begun.core.cells begun.table begun.cells));
+    memory = subst (λ m. MemoryHolds (sizes S) [] begun.core.table begun.core.cells m begun.core.next_free) (sym begun.blocks)
+        (subst (MemoryHolds (sizes S) [] begun.core.table begun.core.cells 0) (sym begun.next_free) (no_block begun.core.table begun.core.cells begun.table begun.cells));
     guards = λ k guard there. ap (λ m. m guard.word) begun.arrivals;
     printed = sym begun.printed;
   }))

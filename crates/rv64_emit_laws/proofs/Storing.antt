@@ -6,15 +6,15 @@ use Rattle.bril_tree.specs.Memory.{cell_at, changed_block}
 use Rattle.bril_tree.specs.State as bril
 use Rattle.bril_tree.specs.Edge.{onward}
 use Rattle.bril_tree.specs.Step.{step, advances, at_point, stores}
-use Rattle.rv64_blocks.specs.Laws.{CoreHolds}
-use Rattle.rv64_blocks.proofs.Storing.{holding, store_keeps, stored_cells}
-use Rattle.rv64_stretches.specs.Core.{Core, Keeps, written, put_cell}
-use Rattle.rv64_stretches.proofs.Going.{begin}
-use Rattle.rv64_sequences.specs.Moves.{fetch_size, fetch_words, register_for, source_size, source_words}
-use Rattle.rv64_sequences.specs.Operations.{cell_words, mark_cell_words, store_cell_words}
-use Rattle.rv64_sequences.proofs.Sizes.{source_most}
-use Rattle.rv64_values.proofs.Cells.{cell_marked, cell_stored}
-use Rattle.rv64_values.proofs.Kept.{keeps_five, result_apart}
+use Rattle.rv64_words_laws.specs.blocks.Laws.{CoreHolds}
+use Rattle.rv64_words_laws.proofs.lemmas.blocks.Storing.{holding, store_keeps, stored_cells}
+use Rattle.rv64_words_laws.specs.stretches.Core.{Core, Keeps, written, put_cell}
+use Rattle.rv64_words_laws.proofs.lemmas.stretches.Going.{begin}
+use Rattle.rv64_words_laws.specs.sequences.Moves.{fetch_size, fetch_words, register_for, source_size, source_words}
+use Rattle.rv64_words_laws.specs.sequences.Operations.{cell_words, mark_cell_words, store_cell_words}
+use Rattle.rv64_words_laws.proofs.lemmas.sequences.Sizes.{source_most}
+use Rattle.rv64_words_laws.proofs.lemmas.values.Cells.{cell_marked, cell_stored}
+use Rattle.rv64_words_laws.proofs.lemmas.values.Kept.{keeps_five, result_apart}
 use Rattle.rv64_words.specs.declared.word.Word.{Word}
 use Rattle.rv64_words.specs.Region.{cells_base}
 use Rattle.rv64_words.specs.State.{State, assigned}
@@ -92,8 +92,8 @@ module _ (S : Setting) (s : bril.State) (t : State) (r : RunsAlike S s t) (dear 
       memory =
           let k = a.keeps in
           let w = q.core.registers register in
-          memory_by S blocks_now (record r.core { cells = stored_cells r.core.cells at w }) last (q.keeps.table ∙ k.table) (ap (λ m. assigned m (2 * at + 1) w) q.keeps.cells ∙ ap (λ m. stored_cells m at w) k.cells) (q.keeps.blocks ∙ k.blocks) (q.keeps.given ∙ k.given)
-          (store_keeps (sizes S) s.blocks r.core.table r.core.cells r.core.blocks r.core.given r.memory points.block n w points.offset holds.value a.cell q.word)
+          memory_by S blocks_now (record r.core { cells = stored_cells r.core.cells at w }) last (q.keeps.table ∙ k.table) (ap (λ m. assigned m (2 * at + 1) w) q.keeps.cells ∙ ap (λ m. stored_cells m at w) k.cells) (q.keeps.blocks ∙ k.blocks) (q.keeps.next_free ∙ k.next_free)
+          (store_keeps (sizes S) s.blocks r.core.table r.core.cells r.core.blocks r.core.next_free r.memory points.block n w points.offset holds.value a.cell q.word)
 
       last_same : SameHomes r.core last
       last_same =

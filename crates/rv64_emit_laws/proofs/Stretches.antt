@@ -3,13 +3,13 @@ use Rattle.std.proofs.Common.{◌≡◌, ℕ, zero, suc, ◌*◌, ◌<◌, ◌�
 use Rattle.bril_tree.specs.declared.home.Home.{Home}
 use Rattle.bril_tree.specs.declared.home.Home.TheVariants.{Reg, Frame}
 use Rattle.bril_tree.specs.declared.limits.End.{End}
-use Rattle.rv64_stretches.specs.Core.{Core}
-use Rattle.rv64_stretches.specs.Runs.{Runs, Leaves, Ends}
-use Rattle.rv64_stretches.proofs.Going.{Going}
-use Rattle.rv64_sequences.specs.Moves.{copy_size}
-use Rattle.rv64_sequences.specs.Sequences.{constant_size, fits_12, fits_32, is_near, load_size, store_size}
-pub use Rattle.rv64_sequences.proofs.Homes.{two_not_six}
-pub use Rattle.rv64_values.proofs.Kept.{keeps_written}
+use Rattle.rv64_words_laws.specs.stretches.Core.{Core}
+use Rattle.rv64_words_laws.specs.stretches.Runs.{Runs, Leaves, Ends}
+use Rattle.rv64_words_laws.proofs.lemmas.stretches.Going.{Going}
+use Rattle.rv64_words_laws.specs.sequences.Moves.{copy_size}
+use Rattle.rv64_words_laws.specs.sequences.Sequences.{constant_size, fits_12, fits_32, is_near, load_size, store_size}
+pub use Rattle.rv64_words_laws.proofs.lemmas.sequences.Homes.{two_not_six}
+pub use Rattle.rv64_words_laws.proofs.lemmas.values.Kept.{keeps_written}
 use Rattle.rv64_words.specs.declared.image.Image.{Image}
 use Rattle.rv64_words.specs.declared.word.Word.{Word}
 use Rattle.rv64_words.specs.Region.{Sizes}

@@ -7,12 +7,12 @@ use Rattle.bril_tree.specs.Accepted.{IsAccepted}
 use Rattle.program_numbers.specs.Cost.{longest_arguments}
 use Rattle.bril_tree.specs.Literals.{AreLiteralsInRange}
 use Rattle.bril_tree.specs.Run.{FitMain}
-use Rattle.rv64_implements.specs.Implements.{Implements, ImplementsAt}
-use Rattle.rv64_implements.specs.WordBounds.{IsWithin}
-use Rattle.rv64_layout.specs.Homes.{FunctionHomes}
-use Rattle.rv64_layout.specs.Image.{IsImageOf}
-use Rattle.rv64_layout.specs.Laid.{IsLaid}
-use Rattle.rv64_layout.proofs.Laid.{laid}
+use Rattle.rv64_image_laws.specs.Implements.{Implements, ImplementsAt}
+use Rattle.rv64_image_laws.specs.WordBounds.{IsWithin}
+use Rattle.rv64_emit_laws.specs.layout.Homes.{FunctionHomes}
+use Rattle.rv64_emit_laws.specs.layout.Image.{IsImageOf}
+use Rattle.rv64_emit_laws.specs.layout.Laid.{IsLaid}
+use Rattle.rv64_emit_laws.proofs.lemmas.layout.Laid.{laid}
 use Rattle.rv64_words.specs.declared.image.Image.{Image}
 use Rattle.slot_code.specs.declared.slots.Slots.{Slots}
 use Rattle.slot_code.specs.Lowered.{IsLowered}

@@ -13,12 +13,12 @@ use Rattle.bril_tree.specs.Run.{first_state, state_after}
 use Rattle.bril_tree.specs.State as bril
 use Rattle.bril_tree.specs.Step.{code_of, items_of}
 use Rattle.bril_tree.specs.Value.{word_of}
-use Rattle.rv64_implements.specs.Home.{IsAt}
-use Rattle.rv64_implements.specs.Implements.{CountsFailures, ImplementsRun, ShowsLive, image_after, image_system, program_system}
-use Rattle.rv64_implements.proofs.Systems.{image_is_system, mapped_is_system}
-use Rattle.rv64_sequences.specs.Moves.{IsHomeInside, home_word}
-use Rattle.rv64_stretches.specs.Core.{machine}
-use Rattle.rv64_stretches.proofs.Steps.{stack_address}
+use Rattle.rv64_image_laws.specs.Home.{IsAt}
+use Rattle.rv64_image_laws.specs.Implements.{CountsFailures, ImplementsRun, ShowsLive, image_after, image_system, program_system}
+use Rattle.rv64_image_laws.proofs.Systems.{image_is_system, mapped_is_system}
+use Rattle.rv64_words_laws.specs.sequences.Moves.{IsHomeInside, home_word}
+use Rattle.rv64_words_laws.specs.stretches.Core.{machine}
+use Rattle.rv64_words_laws.proofs.lemmas.stretches.Steps.{stack_address}
 use Rattle.rv64_words.specs.Region.{address_at, stack_base}
 use Rattle.rv64_words.specs.State.{State, start}
 use Rattle.rv64_emit_laws.specs.Homes.{homes_of}

@@ -7,9 +7,9 @@ use Rattle.bril_tree.specs.declared.value.Value.{Value}
 use Rattle.bril_tree.specs.Operand.{Location}
 use Rattle.bril_tree.specs.Run.{state_after}
 use Rattle.bril_tree.specs.State as bril
-use Rattle.rv64_implements.specs.Implements.{CountsFailures, ShowsLive, image_after}
-use Rattle.rv64_layout.specs.Homes.{FunctionHomes}
-use Rattle.rv64_layout.specs.Image.{entry_at}
+use Rattle.rv64_image_laws.specs.Implements.{CountsFailures, ShowsLive, image_after}
+use Rattle.rv64_emit_laws.specs.layout.Homes.{FunctionHomes}
+use Rattle.rv64_emit_laws.specs.layout.Image.{entry_at}
 use Rattle.rv64_words.specs.declared.image.Image.{Image}
 use Rattle.rv64_words.specs.State as rv64
 use Rattle.slot_code.specs.declared.item.SlotItem.{SlotItem}

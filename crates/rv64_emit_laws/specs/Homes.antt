@@ -9,7 +9,7 @@ use Rattle.bril_tree.specs.Operand.{Location}
 use Rattle.placement_laws.specs.Homes.{IsHomeOf, IsSlotIn, slot_of}
 use Rattle.placement_laws.specs.Placed.{IsPlaced}
 use Rattle.placement_laws.specs.Saved.{HasAllSaved}
-use Rattle.rv64_layout.specs.Homes.{FunctionHomes, in_register}
+use Rattle.rv64_emit_laws.specs.layout.Homes.{FunctionHomes, in_register}
 use Rattle.slot_code.specs.declared.slots.SlotFunction.{SlotFunction}
 use Rattle.slot_code.specs.declared.slots.Slots.{Slots}
 

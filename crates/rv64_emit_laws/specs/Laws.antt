@@ -3,13 +3,13 @@ use Rattle.bril_tree.specs.declared.limits.Limits.{Limits}
 use Rattle.bril_tree.specs.declared.program.Prog.{Prog}
 use Rattle.bril_tree.specs.Accepted.{IsAccepted}
 use Rattle.bril_tree.specs.Literals.{AreLiteralsInRange}
-use Rattle.rv64_implements.specs.Implements.{ImplementsAt}
-use Rattle.rv64_implements.specs.WordBounds.{IsWithin}
+use Rattle.rv64_image_laws.specs.Implements.{ImplementsAt}
+use Rattle.rv64_image_laws.specs.WordBounds.{IsWithin}
 use Rattle.std.specs.Prelude.{ℕ, List}
 use Rattle.bril_tree.specs.declared.value.Value.{Value}
 use Rattle.bril_tree.specs.Run.{FitMain}
-use Rattle.rv64_layout.specs.Homes.{FunctionHomes}
-use Rattle.rv64_layout.specs.Image.{IsImageOf}
+use Rattle.rv64_emit_laws.specs.layout.Homes.{FunctionHomes}
+use Rattle.rv64_emit_laws.specs.layout.Image.{IsImageOf}
 use Rattle.rv64_words.specs.declared.image.Image.{Image}
 use Rattle.slot_code.specs.declared.slots.Slots.{Slots}
 use Rattle.slot_code.specs.Lowered.{IsLowered}

@@ -1,3 +1,4 @@
 pub mod Entered
 pub mod Homes
 pub mod Laws
+pub mod layout

@@ -1,6 +1,6 @@
 //! Laws alone: the image that `rv64_emit` makes of a program does what the program does.
 //!
-//! The image is the one that `rv64_layout` defines, of the code over slots that `slot_code::lower` makes, by any homes of locations,
+//! The image is the one that `layout` defines, of the code over slots that `slot_code::lower` makes, by any homes of locations,
 //! registers or words of frames, that serve (`specs/Homes.antt`). The proof relates the states of the program to those of the
 //! machine: the machine is before the words of the newest frame's item, and holds the frames, the blocks of memory and the counts of
 //! guards. Of the newest frame it holds what its point needs, each location at its home, and of each open speculation what its
@@ -9,5 +9,6 @@
 #![tactic(auto)]
 
 mod laws;
+pub mod layout;
 
 pub use laws::{images_enter_items, images_implement_programs};

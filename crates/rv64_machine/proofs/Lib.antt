@@ -1,4 +1,5 @@
 pub mod Arrivals
+pub mod Blocks
 pub mod Bursts
 pub mod Calls
 pub mod Executions

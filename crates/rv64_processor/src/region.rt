@@ -1,6 +1,6 @@
 // A region of memory: words that are all 0 at first.
 
-ghost use Rattle.std.specs.Prelude.{◌≡◌, ◌<◌, ◌≤◌, IfOk, vec_len, vec_capacity};
+ghost use Rattle.std.specs.Prelude.{◌≡◌, ◌+◌, ◌<◌, ◌≤◌, IfOk, vec_len, vec_capacity};
 ghost use Rattle.rv64_words.specs.State.{assigned};
 
 use std::alloc::{AllocError, Global};
@@ -16,7 +16,7 @@ pub struct Region {
 }
 
 impl Region {
-    ghost use Rattle.rv64_processor.specs.RegionView.{words_in, size_in, written_in};
+    ghost use Rattle.rv64_processor.specs.RegionView.{words_in, size_in, written_in, moved_down, first_words};
 
     /// A region of so many words, all 0. It takes their room.
     pub fn new(alloc: Global, size: usize) -> Result<Region, AllocError>
@@ -70,6 +70,27 @@ impl Region {
         while self.words.len() <= k {
             let _ = self.words.push(0);
         }
+    }
+
+    /// Moves so many words from `from` on to `to`, which isn't after `from`. Takes no memory.
+    pub fn move_down(&mut self, from: usize, to: usize, count: usize)
+        requires ahead { to ≤ from }
+        requires inside { from + count ≤ size_in self.old }
+        ensures words { words_in self.new ≡ moved_down (words_in self.old) from to count }
+        ensures size { size_in self.new ≡ size_in self.old }
+    {
+        if count > 0 {
+            self.fill(from + count - 1);
+            self.words.copy_within(from..from + count, to);
+        }
+    }
+
+    /// Makes all words from this one on 0: those that are held are cut off, not written.
+    pub fn clear_from(&mut self, first: usize)
+        ensures words { words_in self.new ≡ first_words (words_in self.old) first }
+        ensures size { size_in self.new ≡ size_in self.old }
+    {
+        self.words.truncate(first);
     }
 
     // ---- words that are held

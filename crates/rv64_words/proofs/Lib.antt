@@ -1,4 +1,7 @@
+pub mod Assigned
 pub mod Division
 pub mod Encodings
+pub mod Live
 pub mod Runs
+pub mod Slid
 pub mod Words

@@ -70,9 +70,9 @@ front-char_printed p a s =
     front-cond p (scalar a) (next (with_printed (encode_utf8 a) s)) (trapped (trap.NoScalar s.pc a) s) (next (with_printed (encode_utf8 a) (in_front p s))) (trapped (trap.NoScalar s.pc a) (in_front p s))
     (front-printed p s (encode_utf8 a)) refl
 
-front-allocated : (p : List ℕ) (a : ℕ) (s : State) (o : Option Fault) → allocated_or_fault o a (in_front p s) ≡ in_front p (allocated_or_fault o a s)
-front-allocated p a s None = refl
-front-allocated p a s (Some f) = refl
+front-allocated : (z : Sizes) (p : List ℕ) (a : ℕ) (s : State) (o : Option Fault) → allocated_or_fault z o a (in_front p s) ≡ in_front p (allocated_or_fault z o a s)
+front-allocated z p a s None = refl
+front-allocated z p a s (Some f) = refl
 
 abbrev without_block : ℕ → State → State
 without_block a t = next (record t { table = assigned t.table (2 * (a / 2 ^ 32) + 1) 0 })
@@ -95,7 +95,7 @@ front-called z p number a s =
     (front-cond p (number == 3) _ _ _ _ (front-char_printed p a s)
     (front-cond p (number == 4) _ _ _ _ (front-printed p s (32 ∷ []))
     (front-cond p (number == 5) _ _ _ _ (front-printed p s (10 ∷ []))
-    (front-cond p (number == 6) _ _ _ _ (front-allocated p a s (allocation_fault z s a))
+    (front-cond p (number == 6) _ _ _ _ (front-allocated z p a s (allocation_fault z s a))
     (front-cond p (number == 7) _ _ _ _ (front-freed p a s)
     (front-cond p (number == 8) _ _ _ _ (front-end_of a p s) refl)))))))
 

@@ -1,5 +1,5 @@
 -- The environment calls. The number is in register 17, the argument in register 10.
-use Rattle.std.specs.Prelude.{ℕ, zero, suc, ◌+◌, ◌*◌, ◌/◌, ◌%◌, ◌^◌, Bool, false, not, ◌&&◌, ◌||◌, ◌==◌, nat_lt, if◌then◌else◌, List, [], ◌∷◌, Option, Some, None, slice_get, codes, encode_utf8}
+use Rattle.std.specs.Prelude.{ℕ, zero, suc, ◌+◌, ◌-◌, ◌*◌, ◌/◌, ◌%◌, ◌^◌, Bool, false, not, ◌&&◌, ◌||◌, ◌==◌, nat_le, nat_lt, if◌then◌else◌, List, [], ◌∷◌, Option, Some, None, slice_get, codes, encode_utf8}
 use lib.Utf8.{scalar}
 use Rattle.std.specs.Option.{option_map}
 use Rattle.std.specs.Int.{w64, cast_signed}
@@ -28,26 +28,65 @@ char_printed a s = if scalar a then next (with_printed (encode_utf8 a) s) else t
 abbrev pub block_size : (ℕ → ℕ) → ℕ → ℕ
 block_size table b = table (2 * b + 1)
 
+-- the sizes of the live blocks among 1 to n together: that of a block that isn't live is 0
+abbrev pub live_cells : (ℕ → ℕ) → ℕ → ℕ
+live_cells table zero = 0
+live_cells table (suc b) = live_cells table b + block_size table (suc b)
+
+-- the number of the word of the cells at which a block begins
+abbrev pub first_word : (ℕ → ℕ) → ℕ → ℕ
+first_word table b = (table (2 * b) - cells_base) / 8
+
+-- the words of the cells after the live blocks among 1 to n slid to the front: one block after the other, with what its words
+-- held, and 0 after them
+abbrev pub slid_cells : (ℕ → ℕ) → (ℕ → ℕ) → ℕ → (ℕ → ℕ)
+slid_cells table cells zero i = 0
+slid_cells table cells (suc b) i =
+    let to = 2 * live_cells table b in
+    if nat_le to i && nat_lt i (to + 2 * block_size table (suc b)) then cells (first_word table (suc b) + (i - to)) else slid_cells table cells b i
+
+-- the block table after that: a live block has its new address; one that isn't live keeps the one that it had
+abbrev pub slid_table : (ℕ → ℕ) → ℕ → (ℕ → ℕ)
+slid_table table zero = table
+slid_table table (suc b) = if block_size table (suc b) == 0 then slid_table table b else assigned (slid_table table b) (2 * suc b) (cells_base + 16 * live_cells table b)
+
 -- why a block of so many cells can't be had, in this order
 abbrev pub allocation_fault : Sizes → State → ℕ → Option Fault
 allocation_fault z s count =
     if not (nat_lt 0 count && nat_lt count (2 ^ 63)) then Some fault.BadAlloc
     else (if not (nat_lt s.blocks most_blocks) then Some fault.Allocs
-    else (if nat_lt z.cells (2 * (s.given + count)) then Some fault.Cells else None))
+    else (if nat_lt z.cells (2 * (live_cells s.table s.blocks + count)) then Some fault.Cells else None))
 
--- call 6: the next block, of so many cells behind those that were allocated before; register 10 becomes its pointer
-abbrev pub allocated : ℕ → State → State
-allocated count s =
+-- the live blocks slide first, where there is no room for so many cells from the next free one on
+abbrev pub slides : Sizes → ℕ → ℕ → Bool
+slides z free count = nat_lt z.cells (2 * (free + count))
+
+abbrev pub room_made : Sizes → ℕ → State → State
+room_made z count s =
+    let slide = slides z s.next_free count in
+    record s {
+      table = (if slide then slid_table s.table s.blocks else s.table);
+      cells = (if slide then slid_cells s.table s.cells s.blocks else s.cells);
+      next_free = (if slide then live_cells s.table s.blocks else s.next_free);
+    }
+
+-- the next block takes so many cells from the next free one on; register 10 becomes its pointer
+abbrev pub cells_taken : ℕ → State → State
+cells_taken count s =
     let block = suc s.blocks in
     next (with_register (record s {
-      table = assigned (assigned s.table (2 * block) (cells_base + 16 * s.given)) (2 * block + 1) count;
+      table = assigned (assigned s.table (2 * block) (cells_base + 16 * s.next_free)) (2 * block + 1) count;
       blocks = block;
-      given = s.given + count;
+      next_free = s.next_free + count;
     }) 10 (block * 2 ^ 32))
 
-abbrev pub allocated_or_fault : Option Fault → ℕ → State → State
-allocated_or_fault None count s = allocated count s
-allocated_or_fault (Some f) count s = finished (Faulted f) s
+-- call 6: room is made for so many cells, and the next block takes them
+abbrev pub allocated : Sizes → ℕ → State → State
+allocated z count s = cells_taken count (room_made z count s)
+
+abbrev pub allocated_or_fault : Sizes → Option Fault → ℕ → State → State
+allocated_or_fault z None count s = allocated z count s
+allocated_or_fault z (Some f) count s = finished (Faulted f) s
 
 -- call 7: the pointer is offset 0 of a live block
 abbrev pub is_freeable : State → ℕ → Bool
@@ -92,6 +131,6 @@ called z number a s =
     else (if number == 3 then char_printed a s
     else (if number == 4 then next (with_printed (32 ∷ []) s)
     else (if number == 5 then next (with_printed (10 ∷ []) s)
-    else (if number == 6 then allocated_or_fault (allocation_fault z s a) a s
+    else (if number == 6 then allocated_or_fault z (allocation_fault z s a) a s
     else (if number == 7 then freed a s
     else (if number == 8 then ended (end_of a s) s else trapped (trap.Call s.pc number) s)))))))

@@ -22,7 +22,7 @@ pub record State : Type 0 where
   pub table : ℕ → ℕ
   pub cells : ℕ → ℕ
   pub blocks : ℕ
-  pub given : ℕ
+  pub next_free : ℕ
   pub printed : List ℕ
   pub arrivals : ℕ → ℕ
   pub stopped : Option Stop
@@ -69,7 +69,7 @@ start args = record {
   table = λ _. 0;
   cells = λ _. 0;
   blocks = 0;
-  given = 0;
+  next_free = 0;
   printed = [];
   arrivals = λ _. 0;
   stopped = None;

@@ -14,7 +14,7 @@ use Rattle.slot_code.specs.declared.slots.SlotFunction.{SlotFunction}
 use Rattle.slot_code.specs.Lowered.{IsLoweredFunction}
 use Rattle.slot_code.proofs.Places.{slot_place}
 use Rattle.placement_laws.specs.Homes.{IsHomeOf, IsInRegister, IsSlotIn, number_in, slot_of}
-use Rattle.rv64_stretches.specs.Core.{is_home_register}
+use Rattle.rv64_words_laws.specs.stretches.Core.{is_home_register}
 use Rattle.shadow_place.specs.declared.placed.FunctionHomes.{FunctionHomes}
 use Rattle.shadow_place.specs.Registers.{AreHomeRegisters, AreOwnRegisters, home_from, home_register, own_register}
 use Rattle.shadow_place.specs.Tables.{home_if, home_of}

@@ -9,7 +9,7 @@ use Rattle.flow_graph.specs.Location.{number_of}
 use Rattle.live_sets.specs.declared.live.Live.{Live}
 use Rattle.live_sets.specs.Liveness.{is_live}
 use Rattle.placement_laws.specs.Homes.{number_in}
-use Rattle.rv64_stretches.specs.Core.{is_home_register}
+use Rattle.rv64_words_laws.specs.stretches.Core.{is_home_register}
 use Rattle.slot_code.specs.declared.item.Slot.{Slot}
 use Rattle.slot_code.specs.declared.slots.SlotFunction.{SlotFunction}
 use Rattle.slot_code.specs.Flow.{slot_location}

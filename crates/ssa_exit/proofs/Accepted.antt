@@ -26,11 +26,11 @@ use Rattle.bril_tree.proofs.Trees.{nop-at}
 use Rattle.bril_tree.proofs.Typings.{IsDestination, type_of, typed_by}
 use Rattle.bril_names.proofs.Functions.{Differ-variables}
 use Rattle.bril_names.proofs.Naming.{one_number}
-use Rattle.pass_names.specs.Named.{SameName}
-use Rattle.pass_names.proofs.Heads.{argument-stays}
-use Rattle.pass_accept.specs.Edited.{Edits, IsNew, IsOld, KeepsTypes}
-use Rattle.pass_accept.specs.Stays.{FitsByItself}
-use Rattle.pass_accept.proofs.Edited.{edit_accepted, nop-new}
+use Rattle.pass_edit_laws.specs.names.Named.{SameName}
+use Rattle.pass_edit_laws.proofs.lemmas.names.Heads.{argument-stays}
+use Rattle.pass_edit_laws.specs.acceptance.Edited.{Edits, IsNew, IsOld, KeepsTypes}
+use Rattle.pass_edit_laws.specs.acceptance.Stays.{FitsByItself}
+use Rattle.pass_edit_laws.proofs.lemmas.acceptance.Edited.{edit_accepted, nop-new}
 use Rattle.ssa_exit.specs.Laws.{names_a_shadow}
 use Rattle.ssa_exit.specs.Unssaed.{is_written, writes_shadow}
 use Rattle.ssa_exit.proofs.Items.{CopyThere, at-point, copy_there, gives_there, in-code, in-names, is-name, names-long, none_named}

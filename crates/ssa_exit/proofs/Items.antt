@@ -22,7 +22,7 @@ use Rattle.bril_tree.specs.Operand.{Location, Variable, Shadow, reads_of}
 use Rattle.bril_tree.specs.Step.{item_at, items_of}
 use Rattle.bril_tree.proofs.Trees.{nothing_at}
 use Rattle.bril_names.specs.Range.{AreBelow}
-use Rattle.pass_names.proofs.Points.{Found, found}
+use Rattle.pass_edit_laws.proofs.lemmas.names.Points.{Found, found}
 use Rattle.ssa_exit.specs.Laws.{names_a_shadow}
 use Rattle.ssa_exit.specs.Unssaed.{copy_item, left_item, left_items}
 

@@ -28,7 +28,7 @@ use Rattle.pass_make.specs.CanBeMade.{CanBeMade}
 use Rattle.pass_make.specs.Edited.{IsLinkedTo}
 use Rattle.pass_make.specs.declared.made.Made.TheVariants as making
 use Rattle.pass_make.proofs.Each.{heads-each, items-each, names-each, size-each, tree_of_function}
-use Rattle.pass_names.proofs.Trees.{heads-of_trees}
+use Rattle.pass_edit_laws.proofs.lemmas.names.Trees.{heads-of_trees}
 use Rattle.ssa_exit.specs.Fresh.{AreFresh, count_beginning, shadow_names}
 use Rattle.ssa_exit.specs.Laws.{UnssaKeepsNumbers, UnssaLeavesNoShadow}
 use Rattle.ssa_exit.specs.Unssa.{unssa_meaning}

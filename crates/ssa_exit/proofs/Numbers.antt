@@ -26,15 +26,15 @@ use Rattle.bril_tree.proofs.Members.{in_contains}
 use Rattle.bril_tree.proofs.Trees.{found_at, nop-at, nothing_at}
 use Rattle.bril_names.proofs.Functions.{Differ-variables}
 use Rattle.bril_names.proofs.Naming.{one_number}
-use Rattle.pass_walks.specs.Matched.{MatchedWalk, MatchesWalks}
-use Rattle.pass_numbers.specs.Numbers.{FunctionWithin, NumbersWithin}
-use Rattle.pass_numbers.proofs.Arguments.{no-longer-arguments}
-use Rattle.pass_numbers.proofs.Depths.{depth-within}
-use Rattle.pass_numbers.proofs.Edges.{edge-back, label-back}
-use Rattle.pass_numbers.proofs.InPlace.{EdgeBack, branch-back, in_place-entries, in_place-width}
-use Rattle.pass_numbers.proofs.Items.{IsNamed, unchanged}
-use Rattle.pass_numbers.proofs.Locations.{IsLocationOf, location-listed, locations-counted, locations-few, locations_of}
-use Rattle.pass_numbers.proofs.Programs.{by-functions, functions_bound}
+use Rattle.pass_edit_laws.specs.walks.Matched.{MatchedWalk, MatchesWalks}
+use Rattle.pass_edit_laws.specs.numbers.Numbers.{FunctionWithin, NumbersWithin}
+use Rattle.pass_edit_laws.proofs.lemmas.numbers.Arguments.{no-longer-arguments}
+use Rattle.pass_edit_laws.proofs.lemmas.numbers.Depths.{depth-within}
+use Rattle.pass_edit_laws.proofs.lemmas.numbers.Edges.{edge-back, label-back}
+use Rattle.pass_edit_laws.proofs.lemmas.numbers.InPlace.{EdgeBack, branch-back, in_place-entries, in_place-width}
+use Rattle.pass_edit_laws.proofs.lemmas.numbers.Items.{IsNamed, unchanged}
+use Rattle.pass_edit_laws.proofs.lemmas.numbers.Locations.{IsLocationOf, location-listed, locations-counted, locations-few, locations_of}
+use Rattle.pass_edit_laws.proofs.lemmas.numbers.Programs.{by-functions, functions_bound}
 use Rattle.ssa_exit.specs.Laws.{names_a_shadow}
 use Rattle.ssa_exit.proofs.Items.{at-point, copy_there, gives_there, names-long}
 use Rattle.ssa_exit.proofs.Points.{Unssaed, Kind, Stays, Gets, Sets, kind, kept, Got, Copied, Undefined, got, Put, Given, Gone, put}

@@ -28,9 +28,9 @@ use Rattle.bril_tree.proofs.Members.{contains_in, in_contains, in_map_source}
 use Rattle.bril_tree.proofs.Formed.{typed_destination}
 use Rattle.bril_tree.proofs.Shapes.{dest_none, dest_there, shape-parts}
 use Rattle.bril_tree.proofs.Trees.{found_at, nothing_at}
-use Rattle.pass_names.specs.NamedPlan.{SameHeads}
-use Rattle.pass_names.proofs.Heads.{no_partner}
-use Rattle.pass_steps.proofs.Shapes.{shaped_here}
+use Rattle.pass_edit_laws.specs.names.NamedPlan.{SameHeads}
+use Rattle.pass_edit_laws.proofs.lemmas.names.Heads.{no_partner}
+use Rattle.pass_edit_laws.proofs.lemmas.steps.Shapes.{shaped_here}
 use Rattle.ssa_exit.specs.Fresh.{AreFresh}
 use Rattle.ssa_exit.specs.Laws.{names_a_shadow}
 use Rattle.ssa_exit.specs.Unssaed.{copy_item, is_written, left_item, set_item, undef_item, writes_shadow}

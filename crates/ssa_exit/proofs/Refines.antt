@@ -28,20 +28,20 @@ use Rattle.bril_tree.specs.Walk.{IsReached}
 use Rattle.bril_tree.proofs.HeldValues.{arguments-past}
 use Rattle.bril_tree.proofs.Trees.{found_at, nop-at, nothing_at}
 use Rattle.bril_names.proofs.Naming.{one_number}
-use Rattle.pass_plan.specs.Plan.{Plan, Preserves, StatesMatch, StaysMatched, ValuesMatch}
-use Rattle.pass_plan.specs.Widening.{wide, Widens}
-use Rattle.pass_plan.proofs.Values.{agree-assigned, assigned-other, assigned-same, shadowed-other, shadowed-same}
-use Rattle.pass_plan.proofs.Widening.{kept-wider, widened}
-use Rattle.pass_steps.specs.Refinement.{BothMove, CatchUp, Progress}
-use Rattle.pass_steps.proofs.Moves.{both_move}
-use Rattle.pass_steps.proofs.Refinement.{plan_refines}
-use Rattle.pass_names.specs.Named.{SameLocation}
-use Rattle.pass_names.specs.NamedPlan.{KeepsNames, NamePlan, plan}
-use Rattle.pass_names.proofs.Heads.{first_names, many, partner}
-use Rattle.pass_names.proofs.Locations.{kept-apart, to_left}
-use Rattle.pass_names.proofs.Points.{Differ-in, found, label_once}
-use Rattle.pass_names.proofs.Preserving.{knows_nothing, names_preserve, own_tree}
-use Rattle.pass_names.proofs.Renaming.{items_share}
+use Rattle.pass_edit_laws.specs.plan.Plan.{Plan, Preserves, StatesMatch, StaysMatched, ValuesMatch}
+use Rattle.pass_edit_laws.specs.plan.Widening.{wide, Widens}
+use Rattle.pass_edit_laws.proofs.lemmas.plan.Values.{agree-assigned, assigned-other, assigned-same, shadowed-other, shadowed-same}
+use Rattle.pass_edit_laws.proofs.lemmas.plan.Widening.{kept-wider, widened}
+use Rattle.pass_edit_laws.specs.steps.Refinement.{BothMove, CatchUp, Progress}
+use Rattle.pass_edit_laws.proofs.lemmas.steps.Moves.{both_move}
+use Rattle.pass_edit_laws.proofs.lemmas.steps.Refinement.{plan_refines}
+use Rattle.pass_edit_laws.specs.names.Named.{SameLocation}
+use Rattle.pass_edit_laws.specs.names.NamedPlan.{KeepsNames, NamePlan, plan}
+use Rattle.pass_edit_laws.proofs.lemmas.names.Heads.{first_names, many, partner}
+use Rattle.pass_edit_laws.proofs.lemmas.names.Locations.{kept-apart, to_left}
+use Rattle.pass_edit_laws.proofs.lemmas.names.Points.{Differ-in, found, label_once}
+use Rattle.pass_edit_laws.proofs.lemmas.names.Preserving.{knows_nothing, names_preserve, own_tree}
+use Rattle.pass_edit_laws.proofs.lemmas.names.Renaming.{items_share}
 use Rattle.ssa_exit.specs.Laws.{names_a_shadow}
 use Rattle.ssa_exit.proofs.Items.{IsVariable, assigns_variables, copy_there, in_variables, names-long, reads_variables}
 use Rattle.ssa_exit.proofs.Points.{Unssaed, Kind, Stays, Gets, Sets, kind, kept, new-name, Got, Copied, Undefined, got, Put, Given, Gone, put, reached-written}

@@ -22,11 +22,11 @@ use Rattle.bril_tree.proofs.Trees.{nop-at, nothing_at}
 use Rattle.bril_tree.proofs.Typings.{IsDestination, first_type-is, type-assigned, type-assigned_own, type_of, variable-has}
 use Rattle.bril_names.proofs.Functions.{Differ-variables}
 use Rattle.bril_names.proofs.Naming.{one_number}
-use Rattle.pass_names.specs.Named.{SameName}
-use Rattle.pass_names.proofs.Heads.{first_names, same_args}
-use Rattle.pass_names.proofs.Points.{found, found_under}
-use Rattle.pass_accept.proofs.Left.{dest-there}
-use Rattle.pass_accept.proofs.Staying.{same_destination}
+use Rattle.pass_edit_laws.specs.names.Named.{SameName}
+use Rattle.pass_edit_laws.proofs.lemmas.names.Heads.{first_names, same_args}
+use Rattle.pass_edit_laws.proofs.lemmas.names.Points.{found, found_under}
+use Rattle.pass_edit_laws.proofs.lemmas.acceptance.Left.{dest-there}
+use Rattle.pass_edit_laws.proofs.lemmas.acceptance.Staying.{same_destination}
 use Rattle.ssa_exit.proofs.Items.{at-point, copy_there, gives_there, in-code, in-names, is-name, names-long}
 use Rattle.ssa_exit.proofs.Points.{Unssaed, Kind, Stays, Gets, Sets, kind, kept, new-name, Got, Copied, Undefined, got, Put, Given, Gone, put}
 

@@ -26,10 +26,10 @@ use Rattle.bril_tree.proofs.LabelPoints.{in_range, range_high}
 use Rattle.bril_tree.proofs.Members.{in_map, in_map_source}
 use Rattle.bril_tree.proofs.Trees.{nop-at}
 use Rattle.bril_tree.proofs.Typings.{same_type-is, typed-unless}
-use Rattle.pass_accept.proofs.Staying.{dest-typed}
-use Rattle.pass_numbers.proofs.Different.{filter_in, in_filter}
-use Rattle.pass_numbers.proofs.Items.{IsNamed, IsOfItems, IsPlain, is_used, items-plain, nop-plain, plain-tree, unchanged}
-use Rattle.pass_numbers.proofs.Locations.{variable-named}
+use Rattle.pass_edit_laws.proofs.lemmas.acceptance.Staying.{dest-typed}
+use Rattle.pass_edit_laws.proofs.lemmas.numbers.Different.{filter_in, in_filter}
+use Rattle.pass_edit_laws.proofs.lemmas.numbers.Items.{IsNamed, IsOfItems, IsPlain, is_used, items-plain, nop-plain, plain-tree, unchanged}
+use Rattle.pass_edit_laws.proofs.lemmas.numbers.Locations.{variable-named}
 use Rattle.ssa_exit.specs.Unssaed.{copy_item, undef_item}
 use Rattle.ssa_exit.proofs.Items.{in-code, names-long}
 use Rattle.ssa_exit.proofs.Points.{Unssaed, Kind, Stays, Gets, Sets, kind, kept, new-name, Got, Copied, Undefined, got, Put, Given, Gone, put}

@@ -21,13 +21,13 @@ use Rattle.bril_tree.proofs.Acceptance.{walks_of}
 use Rattle.bril_tree.proofs.Assignments.{went_on}
 use Rattle.bril_tree.proofs.Trees.{nop-at}
 use Rattle.bril_names.proofs.Naming.{one_number}
-use Rattle.pass_plan.specs.Plan.{Plan}
-use Rattle.pass_walks.specs.Matched.{Covers, IsHarmless, MatchedWalk, MatchesWalks, WalksMatch}
-use Rattle.pass_walks.proofs.Walks.{regular_branch_matched}
-use Rattle.pass_names.specs.Named.{SameLocation}
-use Rattle.pass_names.proofs.Points.{Differ-in, found}
-use Rattle.pass_accept.proofs.Alone.{both_alone}
-use Rattle.pass_accept.proofs.Heads.{start-covers, start-shadow}
+use Rattle.pass_edit_laws.specs.plan.Plan.{Plan}
+use Rattle.pass_edit_laws.specs.walks.Matched.{Covers, IsHarmless, MatchedWalk, MatchesWalks, WalksMatch}
+use Rattle.pass_edit_laws.proofs.lemmas.walks.Walks.{regular_branch_matched}
+use Rattle.pass_edit_laws.specs.names.Named.{SameLocation}
+use Rattle.pass_edit_laws.proofs.lemmas.names.Points.{Differ-in, found}
+use Rattle.pass_edit_laws.proofs.lemmas.acceptance.Alone.{both_alone}
+use Rattle.pass_edit_laws.proofs.lemmas.acceptance.Heads.{start-covers, start-shadow}
 use Rattle.ssa_exit.specs.Laws.{names_a_shadow}
 use Rattle.ssa_exit.proofs.Items.{CopyThere, copy_there, names-long}
 use Rattle.ssa_exit.proofs.Points.{Unssaed, Kind, Stays, Gets, Sets, kind, Got, Copied, Undefined, got, Put, Given, Gone, put, read-assigned, reached-written}

@@ -6,7 +6,7 @@ use Rattle.bril_tree.specs.declared.operation.Op.TheVariants as op
 use Rattle.bril_tree.specs.declared.program.Prog.{Prog}
 use Rattle.bril_tree.specs.Accepted.{IsAccepted}
 use Rattle.bril_tree.specs.Step.{item_at}
-use Rattle.pass_numbers.specs.Numbers.{NumbersWithin}
+use Rattle.pass_edit_laws.specs.numbers.Numbers.{NumbersWithin}
 use Rattle.ssa_exit.specs.Unssaed.{IsUnssaed}
 
 -- the item is a `get` or a `set`

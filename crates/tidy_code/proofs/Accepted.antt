@@ -13,11 +13,11 @@ use Rattle.bril_tree.specs.Step.{items_of, code_of, item_at}
 use Rattle.bril_tree.specs.Walk.{IsReached}
 use Rattle.bril_tree.specs.Membership.{In}
 use Rattle.bril_tree.proofs.Elements.{get_inside}
-use Rattle.pass_names.proofs.Points.{found}
-use Rattle.pass_accept.specs.Edited.{IsNew, IsOld, Edits}
-use Rattle.pass_accept.proofs.Heads.{start_matched}
-use Rattle.pass_accept.proofs.Reaching.{ReachedBeside, regular-reaches, reached_points}
-use Rattle.pass_accept.proofs.Edited.{edit_accepted}
+use Rattle.pass_edit_laws.proofs.lemmas.names.Points.{found}
+use Rattle.pass_edit_laws.specs.acceptance.Edited.{IsNew, IsOld, Edits}
+use Rattle.pass_edit_laws.proofs.lemmas.acceptance.Heads.{start_matched}
+use Rattle.pass_edit_laws.proofs.lemmas.acceptance.Reaching.{ReachedBeside, regular-reaches, reached_points}
+use Rattle.pass_edit_laws.proofs.lemmas.acceptance.Edited.{edit_accepted}
 use Rattle.tidy_code.proofs.Points.{kept_count, code_tree, Tidied}
 use Rattle.tidy_code.proofs.Kept.{count-dropped, kept-length, kept_index}
 use Rattle.tidy_code.proofs.Refines.{tidying, tidy_plan, preserves, kept-tree, nop-goes_on}

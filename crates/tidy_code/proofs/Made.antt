@@ -31,15 +31,15 @@ use Rattle.bril_names.specs.Faults.{Differ, IsKnown, IsSound, SameHead, IsSoundE
 use Rattle.bril_names.specs.Faults as fault
 use Rattle.bril_tree.proofs.Acceptance.{target_reached}
 use Rattle.bril_tree.proofs.Shapes.{shape-parts, dest_none}
-use Rattle.pass_steps.proofs.Shapes.{shaped_here}
-use Rattle.pass_names.proofs.Trees.{heads-of_trees}
-use Rattle.pass_names.proofs.Points.{found, label_found}
+use Rattle.pass_edit_laws.proofs.lemmas.steps.Shapes.{shaped_here}
+use Rattle.pass_edit_laws.proofs.lemmas.names.Trees.{heads-of_trees}
+use Rattle.pass_edit_laws.proofs.lemmas.names.Points.{found, label_found}
 use Rattle.pass_law.proofs.Equations.{equation_number}
 use Rattle.pass_law.specs.Meaning.{HasNumbers, Link}
 use Rattle.pass_make.specs.Edited.{IsLinkedTo}
 use Rattle.pass_make.specs.declared.made.Made.TheVariants as making
 use Rattle.pass_make.specs.CanBeMade.{CanBeMade}
-use Rattle.pass_plan.proofs.Elements.{all_in, in_all}
+use Rattle.pass_edit_laws.proofs.lemmas.plan.Elements.{all_in, in_all}
 use Rattle.pass_make.proofs.Each.{names-each, heads-each, items-each, size-each}
 use Rattle.tidy_code.proofs.Points.{kept_items, IsNop, code_tree, Tidied}
 use Rattle.tidy_code.specs.Tidy.{tidy_meaning}

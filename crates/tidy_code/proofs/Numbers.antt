@@ -19,16 +19,16 @@ use Rattle.bril_tree.specs.Sites.{sites_of}
 use Rattle.bril_tree.specs.Step.{code_of, item_at, items_of}
 use Rattle.bril_tree.specs.Walk.{IsReached, IsWalk, end_of}
 use Rattle.bril_tree.proofs.Members.{contains_in, in_contains}
-use Rattle.pass_accept.proofs.Heads.{start_matched}
-use Rattle.pass_walks.specs.Matched.{MatchesWalks}
-use Rattle.pass_names.proofs.Points.{found}
-use Rattle.pass_numbers.specs.Numbers.{FunctionWithin, NumbersWithin}
-use Rattle.pass_walks.proofs.Accepting.{matched}
-use Rattle.pass_numbers.proofs.Edges.{edge-back, edge-leaves, label-back, lands}
-use Rattle.pass_numbers.proofs.Entering.{EntryMatched, LeaveMatched, fewer-entries, point_before, point_before-one, width-within}
-use Rattle.pass_numbers.proofs.Existing.{one_label}
-use Rattle.pass_numbers.proofs.Items.{IsOfItems, items-back, unchanged}
-use Rattle.pass_numbers.proofs.Programs.{by-functions, function-within, functions_bound}
+use Rattle.pass_edit_laws.proofs.lemmas.acceptance.Heads.{start_matched}
+use Rattle.pass_edit_laws.specs.walks.Matched.{MatchesWalks}
+use Rattle.pass_edit_laws.proofs.lemmas.names.Points.{found}
+use Rattle.pass_edit_laws.specs.numbers.Numbers.{FunctionWithin, NumbersWithin}
+use Rattle.pass_edit_laws.proofs.lemmas.walks.Accepting.{matched}
+use Rattle.pass_edit_laws.proofs.lemmas.numbers.Edges.{edge-back, edge-leaves, label-back, lands}
+use Rattle.pass_edit_laws.proofs.lemmas.numbers.Entering.{EntryMatched, LeaveMatched, fewer-entries, point_before, point_before-one, width-within}
+use Rattle.pass_edit_laws.proofs.lemmas.numbers.Existing.{one_label}
+use Rattle.pass_edit_laws.proofs.lemmas.numbers.Items.{IsOfItems, items-back, unchanged}
+use Rattle.pass_edit_laws.proofs.lemmas.numbers.Programs.{by-functions, function-within, functions_bound}
 use Rattle.tidy_code.specs.Tidied.{IsTidied}
 use Rattle.tidy_code.proofs.Accepted.{old-item, tidied-accepted}
 use Rattle.tidy_code.proofs.Kept.{count-dropped, count-kept}

@@ -10,7 +10,7 @@ use Rattle.bril_tree.specs.declared.program.Prog.{Prog}
 use Rattle.bril_tree.specs.Numbered.{variable_names, item_tree, names_of_functions}
 use Rattle.bril_tree.specs.Step.{code_of, item_at}
 use Rattle.bril_tree.specs.Walk.{IsReached}
-use Rattle.pass_names.specs.NamedPlan.{SameHeads}
+use Rattle.pass_edit_laws.specs.names.NamedPlan.{SameHeads}
 
 -- those items at whose number the test holds, counted from a first number
 abbrev pub kept_items : {X : Type 0} → (ℕ → Bool) → ℕ → List X → List X

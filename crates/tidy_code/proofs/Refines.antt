@@ -23,14 +23,14 @@ use Rattle.bril_tree.proofs.Branches.{walk_within}
 use Rattle.bril_tree.proofs.Outcomes.{GoesOn}
 use Rattle.bril_tree.proofs.Trees.{nothing_at}
 use Rattle.bril_tree.proofs.Elements.{past_end}
-use Rattle.pass_names.specs.NamedPlan.{NamePlan, plan, KeepsNames}
-use Rattle.pass_names.proofs.Preserving.{names_preserve, knows_nothing}
-use Rattle.pass_names.proofs.Heads.{no_partner, partner}
-use Rattle.pass_names.proofs.Points.{found, label_once}
-use Rattle.pass_plan.specs.Plan.{Plan, Preserves, StatesMatch}
-use Rattle.pass_steps.specs.Refinement.{Progress, CatchUp, SourceMoves, Advances, ChangesPlaces}
-use Rattle.pass_steps.proofs.Moves.{source_moves}
-use Rattle.pass_steps.proofs.Refinement.{plan_refines}
+use Rattle.pass_edit_laws.specs.names.NamedPlan.{NamePlan, plan, KeepsNames}
+use Rattle.pass_edit_laws.proofs.lemmas.names.Preserving.{names_preserve, knows_nothing}
+use Rattle.pass_edit_laws.proofs.lemmas.names.Heads.{no_partner, partner}
+use Rattle.pass_edit_laws.proofs.lemmas.names.Points.{found, label_once}
+use Rattle.pass_edit_laws.specs.plan.Plan.{Plan, Preserves, StatesMatch}
+use Rattle.pass_edit_laws.specs.steps.Refinement.{Progress, CatchUp, SourceMoves, Advances, ChangesPlaces}
+use Rattle.pass_edit_laws.proofs.lemmas.steps.Moves.{source_moves}
+use Rattle.pass_edit_laws.proofs.lemmas.steps.Refinement.{plan_refines}
 use Rattle.tidy_code.proofs.Points.{kept_items, kept_count, IsNop, code_tree, Tidied}
 use Rattle.tidy_code.proofs.Kept.{kept-at, kept-end, count-kept, count-dropped}
 

@@ -13,10 +13,10 @@ use Rattle.bril_tree.specs.Operand.{Variable, dest_of}
 use Rattle.bril_tree.specs.Shape.{is_shaped, shape_of}
 use Rattle.bril_tree.specs.Step.{code_of, item_at}
 use Rattle.bril_tree.specs.Walk.{end_of}
-use Rattle.pass_walks.specs.Matched.{Covers, WalksMatch, MatchedWalk, MatchesWalks}
-use Rattle.pass_steps.proofs.Shapes.{shaped_here}
+use Rattle.pass_edit_laws.specs.walks.Matched.{Covers, WalksMatch, MatchedWalk, MatchesWalks}
+use Rattle.pass_edit_laws.proofs.lemmas.steps.Shapes.{shaped_here}
 use Rattle.bril_tree.proofs.Shapes.{dest_none}
-use Rattle.pass_walks.proofs.Walks.{regular_branch_matched, alone-lifts}
+use Rattle.pass_edit_laws.proofs.lemmas.walks.Walks.{regular_branch_matched, alone-lifts}
 use Rattle.bril_tree.proofs.Branches.{walk_within}
 use Rattle.bril_tree.proofs.Elements.{past_end}
 use Rattle.tidy_code.proofs.Points.{kept_count, IsNop, Tidied}

@@ -19,10 +19,10 @@ use Rattle.bril_tree.specs.Walk.{IsReached, IsWalk, end_of}
 use Rattle.bril_names.proofs.Functions.{Differ-functions}
 use Rattle.bril_names.proofs.Naming.{one_number}
 use Rattle.bril_tree.proofs.Elements.{All-at, get_inside}
-use Rattle.pass_names.proofs.Points.{label_once}
+use Rattle.pass_edit_laws.proofs.lemmas.names.Points.{label_once}
 use Rattle.bril_tree.proofs.Trees.{tree_at-items}
-use Rattle.live_entries.proofs.Deciding.{decide-reached}
-use Rattle.live_entries.proofs.Selecting.{Decided}
+use Rattle.ssa_laws.proofs.lemmas.live_entries.Deciding.{decide-reached}
+use Rattle.ssa_laws.proofs.lemmas.live_entries.Selecting.{Decided}
 use Rattle.flow_graph.proofs.Told.{same_sites}
 use Rattle.trace_laws.specs.Laws.{FitsAreOneList}
 use Rattle.trace_laws.proofs.Unique.{fit-one, fits-one}

@@ -1,4 +1,5 @@
-pub mod Unique
 pub mod Existing
-pub mod Numbers
 pub mod Made
+pub mod Numbers
+pub mod Unique
+pub mod lemmas

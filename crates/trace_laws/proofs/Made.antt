@@ -17,15 +17,15 @@ use Rattle.std.proofs.lemmas.Option.{slice_get_within}
 use Rattle.pass_law.specs.Meaning.{Link}
 use Rattle.pass_make.specs.CanBeMade.{CanBeMade}
 use Rattle.pass_make.specs.Edited.{HasRoom}
-use Rattle.pass_plan.proofs.Elements.{in_all}
-use Rattle.trace_accepted.proofs.Accepted.{traces-accepted}
-use Rattle.trace_lines.specs.Bound.{IsTraceBound, bound_with}
-use Rattle.trace_lines.specs.Lines.{bool_type}
-use Rattle.trace_lines.specs.Names.{trace_bases}
-use Rattle.trace_lines.specs.Traced.{IsTracedTree}
-use Rattle.trace_lines.proofs.Bound.{function-within}
-use Rattle.trace_lines.proofs.Sound.{traces-well_laid}
-use Rattle.trace_refines.proofs.Refines.{traces-refine}
+use Rattle.pass_edit_laws.proofs.lemmas.plan.Elements.{in_all}
+use Rattle.trace_laws.proofs.lemmas.acceptance.Accepted.{traces-accepted}
+use Rattle.trace_laws.specs.lines.Bound.{IsTraceBound, bound_with}
+use Rattle.trace_laws.specs.lines.Lines.{bool_type}
+use Rattle.trace_laws.specs.lines.Names.{trace_bases}
+use Rattle.trace_laws.specs.lines.Traced.{IsTracedTree}
+use Rattle.trace_laws.proofs.lemmas.lines.Bound.{function-within}
+use Rattle.trace_laws.proofs.lemmas.lines.Sound.{traces-well_laid}
+use Rattle.trace_laws.proofs.lemmas.refinement.Refines.{traces-refine}
 use Rattle.trace_laws.specs.Laws.{TracesLink}
 use Rattle.trace_laws.specs.Trace.{trace_meaning}
 

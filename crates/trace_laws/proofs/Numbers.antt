@@ -5,7 +5,7 @@ use Rattle.bril_tree.specs.declared.program.Prog.{Prog}
 use Rattle.bril_tree.specs.Accepted.{IsAccepted}
 use Rattle.pass_law.specs.Meaning.{HasNumbers}
 use Rattle.pass_law.proofs.Equations.{equation_number}
-use Rattle.trace_lines.specs.Bound.{IsTraceBound, bound_with}
+use Rattle.trace_laws.specs.lines.Bound.{IsTraceBound, bound_with}
 use Rattle.trace_laws.specs.Trace.{trace_meaning}
 use Rattle.trace_laws.proofs.Existing.{fits-there}
 use Rattle.trace_laws.proofs.Unique.{bound-one}

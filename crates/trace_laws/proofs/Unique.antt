@@ -5,10 +5,10 @@ use Rattle.bril_tree.specs.declared.program.Prog.{Prog}
 use Rattle.bril_tree.specs.Numbered.{names_of_functions, tree_at}
 use Rattle.bril_names.proofs.Functions.{Differ-functions}
 use Rattle.bril_names.proofs.Naming.{one_number}
-use Rattle.pass_names.proofs.Points.{label_once}
+use Rattle.pass_edit_laws.proofs.lemmas.names.Points.{label_once}
 use Rattle.bril_profile.specs.declared.profile.Entry.{Entry}
 use Rattle.trace_paths.specs.Fits.{Fit, IsFit, FitsAre}
-use Rattle.trace_lines.specs.Bound.{bound_with, IsTraceBound}
+use Rattle.trace_laws.specs.lines.Bound.{bound_with, IsTraceBound}
 
 pub fit-one : (P : Prog) (e : Entry) (x y : Fit) → IsFit P e x → IsFit P e y → x ≡ y
 fit-one P e x y a b =

@@ -8,8 +8,8 @@ use Rattle.bril_tree.specs.Accepted.{IsAccepted}
 use Rattle.bril_tree.specs.Size.{IsCounted, item_count}
 use Rattle.pass_make.specs.Edited.{HasRoom, IsLinkedTo}
 use Rattle.pass_make.specs.declared.made.Made.TheVariants as making
-use Rattle.trace_lines.specs.Bound.{IsTraceBound}
-use Rattle.trace_lines.specs.Traced.{IsTracedTree}
+use Rattle.trace_laws.specs.lines.Bound.{IsTraceBound}
+use Rattle.trace_laws.specs.lines.Traced.{IsTracedTree}
 use Rattle.trace_paths.specs.Fits.{Fit, FitsAre}
 use Rattle.trace_laws.specs.Trace.{trace_meaning}
 

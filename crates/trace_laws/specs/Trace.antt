@@ -1,8 +1,8 @@
 -- What the pass means.
 use Rattle.std.specs.Prelude.{◌≡◌, codes}
 use Rattle.pass_law.specs.Meaning.{Meaning, is_name}
-use Rattle.trace_lines.specs.Bound.{IsTraceBound}
-use Rattle.trace_lines.specs.Traced.{IsTraced}
+use Rattle.trace_laws.specs.lines.Bound.{IsTraceBound}
+use Rattle.trace_laws.specs.lines.Traced.{IsTraced}
 
 -- It is named `trace`. One step becomes 520 at most: a trace of at most 512 items that fails at its last guard, what stands around
 -- it, and labels put before an item.

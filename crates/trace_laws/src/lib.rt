@@ -4,8 +4,15 @@
 //!    (`proofs/Unique.antt`, `Existing.antt`, `Numbers.antt`).
 //! 2. A tree with traces becomes a program that the pass may make: it can be numbered, and the program is accepted, refines the given
 //!    one and is within the bound (`proofs/Made.antt`).
+//!
+//! Before that stand the lines of a trace (`lines`), and that a program with them refines the given one (`refinement`), is accepted
+//! (`acceptance`), and how its numbers grow (`growth`).
 #![tactic(auto)]
 
+pub mod acceptance;
+pub mod growth;
 mod laws;
+pub mod lines;
+pub mod refinement;
 
 pub use laws::{fitting_entries_are_one_list, trace_has_numbers, traces_link};

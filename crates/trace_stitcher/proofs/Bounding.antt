@@ -9,9 +9,9 @@ use Rattle.bril_tree.specs.declared.program.Prog.{Prog}
 use Rattle.bril_tree.specs.Size.{item_count}
 use Rattle.pass_law.specs.Bounds.{capped}
 use Rattle.pass_make.specs.Edited.{TellsBound}
-use Rattle.trace_fits.specs.declared.fitting.Fitting.{Fitting}
-use Rattle.trace_fits.specs.Fitting.{HasPath, added_by, fit_of}
-use Rattle.trace_lines.specs.Bound.{IsTraceBound, laid_count}
+use Rattle.trace_stitcher.specs.declared.matching.fitting.Fitting.{Fitting}
+use Rattle.trace_stitcher.specs.matching.Fitting.{HasPath, added_by, fit_of}
+use Rattle.trace_laws.specs.lines.Bound.{IsTraceBound, laid_count}
 use Rattle.trace_paths.specs.Fits.{Fit, FitsAre}
 use Rattle.trace_paths.specs.Walked.{leg_of}
 

@@ -11,11 +11,11 @@ use Rattle.bril_tree.specs.declared.program.Prog.{Prog}
 use Rattle.bril_tree.specs.Numbered.{tree_at, tree_of, variable_names}
 use Rattle.bril_tree.specs.Step.{code_of, items_of}
 use Rattle.bril_tree.proofs.Trees.{tree_at-function}
-use Rattle.trace_fits.specs.declared.fitting.Fitting.{Fitting}
-use Rattle.trace_fits.specs.Fitting.{HasPath, fit_of}
-use Rattle.trace_lines.specs.Lines.{TraceNames, bool_type}
-use Rattle.trace_lines.specs.Names.{trace_bases}
-use Rattle.trace_lines.specs.Traced.{AreLaid, AreTraced, IsTracedFunction, Laying}
+use Rattle.trace_stitcher.specs.declared.matching.fitting.Fitting.{Fitting}
+use Rattle.trace_stitcher.specs.matching.Fitting.{HasPath, fit_of}
+use Rattle.trace_laws.specs.lines.Lines.{TraceNames, bool_type}
+use Rattle.trace_laws.specs.lines.Names.{trace_bases}
+use Rattle.trace_laws.specs.lines.Traced.{AreLaid, AreTraced, IsTracedFunction, Laying}
 use Rattle.trace_paths.specs.Walked.{leg_of}
 use Rattle.trace_paths.proofs.Short.{paths_are_short}
 use Rattle.trace_stitcher.specs.Inserted.{AreNamesFor, IsInside, traced_items}

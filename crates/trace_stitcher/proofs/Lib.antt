@@ -6,3 +6,4 @@ pub mod Rows
 pub mod Splicing
 pub mod Stopping
 pub mod Traced
+pub mod lemmas

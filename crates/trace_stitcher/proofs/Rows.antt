@@ -9,10 +9,10 @@ use Rattle.std.proofs.lemmas.List.Elements.{All-head, All-tail}
 use Rattle.std.proofs.lemmas.Option.{slice_get-get_or}
 use Rattle.bril_tree.specs.declared.function_tree.Item.{Item}
 use Rattle.bril_tree.specs.declared.function_tree.Item.TheVariants as item
-use Rattle.pass_plan.specs.Spliced.{spliced}
-use Rattle.trace_fits.specs.declared.fitting.Fitting.{Fitting}
-use Rattle.trace_fits.specs.Fitting.{IsElsewhere}
-use Rattle.trace_lines.specs.Lines.{TraceNames}
+use Rattle.pass_edit_laws.specs.plan.Spliced.{spliced}
+use Rattle.trace_stitcher.specs.declared.matching.fitting.Fitting.{Fitting}
+use Rattle.trace_stitcher.specs.matching.Fitting.{IsElsewhere}
+use Rattle.trace_laws.specs.lines.Lines.{TraceNames}
 use Rattle.trace_stitcher.specs.Inserted.{AreNamesFor, has_function, label_put, labels_before, lines_behind, lines_of, listed_name, row, stands_at, traced_items}
 use Rattle.trace_stitcher.specs.Stops.{AreNamesHere, put_stop}
 use Rattle.trace_stitcher.proofs.Splicing.{spliced-none, spliced-same}

@@ -1,7 +1,7 @@
 -- Items with what is put between them.
 use Rattle.std.proofs.Common.{◌≡◌, ℕ, suc, ◌+◌, List, [], ◌∷◌, ◌++◌, length, append_assoc, append-nil, sym, ap, ◌∙◌, arith}
 use Rattle.bril_tree.specs.declared.function_tree.Item.{Item}
-use Rattle.pass_plan.specs.Spliced.{spliced}
+use Rattle.pass_edit_laws.specs.plan.Spliced.{spliced}
 use Rattle.trace_stitcher.specs.Inserted.{around}
 
 module _ (before after : ℕ → List Item) where

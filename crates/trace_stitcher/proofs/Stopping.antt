@@ -3,9 +3,9 @@ use Rattle.std.proofs.Common.{◌≡◌, ℕ, List, Option, Some, None, sym, sub
 use Rattle.std.specs.Prelude.{slice_get}
 use Rattle.bril_tree.specs.declared.function_tree.Item.{Item}
 use Rattle.bril_tree.specs.declared.function_tree.Item.TheVariants as item
-use Rattle.trace_lines.specs.Lines.{TraceNames}
-use Rattle.trace_lines.specs.Names.{IsFresh, trace_bases}
-use Rattle.trace_names.proofs.Fresh.{fresh-one}
+use Rattle.trace_laws.specs.lines.Lines.{TraceNames}
+use Rattle.trace_laws.specs.lines.Names.{IsFresh, trace_bases}
+use Rattle.trace_stitcher.proofs.lemmas.fresh_names.Fresh.{fresh-one}
 use Rattle.trace_stitcher.specs.Legs.{AreGuardNames}
 use Rattle.trace_stitcher.specs.Stops.{AreNamesHere, IsStop}
 

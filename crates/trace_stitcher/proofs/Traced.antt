@@ -14,14 +14,14 @@ use Rattle.bril_tree.specs.declared.program.Prog.{Prog}
 use Rattle.bril_tree.specs.Numbered.{item_tree, named, names_in, names_of_functions, tree_at, variable_names}
 use Rattle.bril_tree.specs.Step.{code_of, item_at}
 use Rattle.bril_tree.proofs.Trees.{nothing_at}
-use Rattle.pass_names.proofs.Points.{found}
-use Rattle.pass_plan.specs.Spliced.{spliced}
-use Rattle.trace_fits.specs.declared.fitting.Fitting.{Fitting}
-use Rattle.trace_fits.specs.Fitting.{HasPath, fit_of}
-use Rattle.trace_lines.specs.Lines.{TraceNames, bool_type, trace_lines}
-use Rattle.trace_lines.specs.Names.{AreNames, IsFresh, is_label_item, labels_here, labels_in, trace_bases}
-use Rattle.trace_lines.specs.Traced as made
-use Rattle.trace_lines.specs.Traced.{AreLaid, Laying, stop_lines, trace_at, trace_of}
+use Rattle.pass_edit_laws.proofs.lemmas.names.Points.{found}
+use Rattle.pass_edit_laws.specs.plan.Spliced.{spliced}
+use Rattle.trace_stitcher.specs.declared.matching.fitting.Fitting.{Fitting}
+use Rattle.trace_stitcher.specs.matching.Fitting.{HasPath, fit_of}
+use Rattle.trace_laws.specs.lines.Lines.{TraceNames, bool_type, trace_lines}
+use Rattle.trace_laws.specs.lines.Names.{AreNames, IsFresh, is_label_item, labels_here, labels_in, trace_bases}
+use Rattle.trace_laws.specs.lines.Traced as made
+use Rattle.trace_laws.specs.lines.Traced.{AreLaid, Laying, stop_lines, trace_at, trace_of}
 use Rattle.trace_paths.specs.Fits.{Fit, fit_path}
 use Rattle.trace_paths.specs.Path.{path_of}
 use Rattle.trace_paths.specs.Walked.{leg_of}

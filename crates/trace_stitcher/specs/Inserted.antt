@@ -2,9 +2,9 @@
 use Rattle.std.specs.Prelude.{◌≡◌, ℕ, suc, ◌<◌, ◌≤◌, ◌&&◌, ◌==◌, Bool, List, [], ◌∷◌, ◌++◌, length, map, Option, Some, None, slice_get, slice_index_or, if◌then◌else◌}
 use Rattle.bril_tree.specs.declared.function_tree.Item.{Item}
 use Rattle.bril_tree.specs.declared.function_tree.Item.TheVariants as item
-use Rattle.pass_plan.specs.Spliced.{spliced}
-use Rattle.trace_fits.specs.declared.fitting.Fitting.{Fitting}
-use Rattle.trace_lines.specs.Lines.{TraceNames, bool_type, trace_lines}
+use Rattle.pass_edit_laws.specs.plan.Spliced.{spliced}
+use Rattle.trace_stitcher.specs.declared.matching.fitting.Fitting.{Fitting}
+use Rattle.trace_laws.specs.lines.Lines.{TraceNames, bool_type, trace_lines}
 use Rattle.trace_paths.specs.Walked.{leg_of}
 use Rattle.trace_stitcher.specs.Stops.{AreNamesHere, put_stop}
 

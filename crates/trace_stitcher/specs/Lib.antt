@@ -1,3 +1,5 @@
+pub mod Inserted
 pub mod Legs
 pub mod Stops
-pub mod Inserted
+pub mod fresh_names
+pub mod matching

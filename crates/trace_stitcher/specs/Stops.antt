@@ -2,8 +2,8 @@
 use Rattle.std.specs.Prelude.{◌≡◌, ℕ, suc, List, Option, Some, None, slice_get}
 use Rattle.bril_tree.specs.declared.function_tree.Item.{Item}
 use Rattle.bril_tree.specs.declared.function_tree.Item.TheVariants as item
-use Rattle.trace_lines.specs.Lines.{TraceNames}
-use Rattle.trace_lines.specs.Names.{IsFresh, trace_bases}
+use Rattle.trace_laws.specs.lines.Lines.{TraceNames}
+use Rattle.trace_laws.specs.lines.Names.{IsFresh, trace_bases}
 
 -- the label where a path stops before this item: the item itself, or a fresh one
 abbrev pub IsStop : List (List ℕ) → ℕ → Option Item → List ℕ → Type 0

@@ -4,13 +4,14 @@ ghost use Rattle.std.specs.Prelude.{◌≡◌, ◌≤◌, [], ℕ, List, IfOk, l
 ghost use Rattle.std.specs.List.{All, AllPairs, list_any};
 ghost use Rattle.bril_tree.specs.Numbered.{variable_names};
 ghost use Rattle.bril_tree.specs.Size.{IsCounted};
-ghost use Rattle.trace_fits.specs.Fitting.{HasPath, IsElsewhere, fit_of};
-ghost use Rattle.trace_lines.specs.Lines.{TraceNames, bool_type};
-ghost use Rattle.trace_lines.specs.Names.{trace_bases};
-ghost use Rattle.trace_lines.specs.Traced.{AreLaid, IsLaidTree, Laying};
+ghost use Rattle.trace_stitcher.specs.matching.Fitting.{HasPath, IsElsewhere, fit_of};
+ghost use Rattle.trace_laws.specs.lines.Lines.{TraceNames, bool_type};
+ghost use Rattle.trace_laws.specs.lines.Names.{trace_bases};
+ghost use Rattle.trace_laws.specs.lines.Traced.{AreLaid, IsLaidTree, Laying};
 ghost use Rattle.trace_stitcher.specs.Inserted.{AreNamesFor, IsInside, has_function, traced_items};
 
 use crate::inserted::inserted_in;
+use crate::matching::Fitting;
 use crate::sweep::spliced;
 use bril_names::function_of;
 use bril_tree::function_tree::FuncTree;
@@ -19,7 +20,6 @@ use bril_tree::program::Prog;
 use bril_tree::sequence::Seq;
 use bril_tree::tree::Tree;
 use std::alloc::{AllocError, Global};
-use trace_fits::Fitting;
 
 // Whether one of the entries is in the function of a number.
 fn has_entries(fits: &[Fitting], function: u32) -> bool

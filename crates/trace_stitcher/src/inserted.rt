@@ -3,19 +3,19 @@
 ghost use Rattle.std.specs.Prelude.{◌≡◌, ◌≤◌, ◌<◌, ◌+◌, ◌++◌, ◌==◌, [], ℕ, IfOk, OnOk, length, if◌then◌else◌};
 ghost use Rattle.std.specs.List.{All, AllPairs};
 ghost use Rattle.bril_tree.specs.Numbered.{variable_names};
-ghost use Rattle.trace_fits.specs.Fitting.{IsElsewhere};
-ghost use Rattle.trace_lines.specs.Lines.{TraceNames};
+ghost use Rattle.trace_stitcher.specs.matching.Fitting.{IsElsewhere};
+ghost use Rattle.trace_laws.specs.lines.Lines.{TraceNames};
 ghost use Rattle.trace_stitcher.specs.Inserted.{AreNamesFor, IsInside, label_put, labels_before, lines_behind, lines_of, listed_name, row, stands_at};
 ghost use Rattle.trace_stitcher.specs.Stops.{AreNamesHere};
 
+use crate::fresh_names::{TakenNames, taken_labels, taken_variables};
+use crate::matching::Fitting;
 use crate::traces::trace_of;
 use bril_tree::function_tree::Item;
 use bril_tree::name::Name;
 use bril_tree::numbered_function::Func;
 use bril_tree::sequence::Seq;
 use std::alloc::{AllocError, Global};
-use trace_fits::Fitting;
-use trace_names::{TakenNames, taken_labels, taken_variables};
 
 /// The labels before each point of a function, and the lines behind each item.
 #[derive(Drop)]

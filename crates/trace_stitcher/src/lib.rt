@@ -8,11 +8,15 @@
 //! 3. The edit of the tree (`src/edit.rt`). What is made is what the pass makes (`proofs/Traced.antt`, `Functions.antt`).
 //! 4. The pass around it (`src/stitch.rt`): the bound of the entries (`proofs/Bounding.antt`), and the link by the laws of
 //!    `trace_laws`.
+//!
+//! Which entries of a profile fit a program is found in `matching`, and fresh names are in `fresh_names`.
 #![tactic(auto)]
 
 mod edit;
+pub mod fresh_names;
 mod inserted;
 mod lines;
+pub mod matching;
 mod stitch;
 mod sweep;
 mod traces;

@@ -2,18 +2,18 @@
 
 ghost use Rattle.std.specs.Prelude.{◌≡◌, ◌+◌, ◌<◌, ◌≤◌, ◌^◌, ◌++◌, ◌∷◌, [], ℕ, IfOk, None, OnOk, length, map, slice_get};
 ghost use Rattle.bril_tree.specs.declared.function_tree.Item.TheVariants as item;
-ghost use Rattle.trace_lines.specs.Lines.{TraceNames, args_in, bool_type, guard_line, jmp_line, leg_lines, listed_item, not_line, trace_lines};
+ghost use Rattle.trace_laws.specs.lines.Lines.{TraceNames, args_in, bool_type, guard_line, jmp_line, leg_lines, listed_item, not_line, trace_lines};
 ghost use Rattle.trace_paths.specs.Path.{Turn};
 ghost use Rattle.trace_paths.specs.Walked.{leg_of};
 ghost use Rattle.trace_stitcher.specs.Legs.{AreGuardNames, nots_behind, one_leg};
 
+use crate::fresh_names::{TakenNames, not_base};
 use bril_tree::function_tree::{Dest, Item};
 use bril_tree::name::Name;
 use bril_tree::operation::Op;
 use bril_tree::sequence::Seq;
 use bril_tree::types::{Base, Ty};
 use std::alloc::{AllocError, Global};
-use trace_names::{TakenNames, not_base};
 use trace_paths::Leg;
 
 // ---- copies

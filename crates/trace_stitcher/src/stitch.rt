@@ -5,16 +5,16 @@ ghost use Rattle.bril_profile.specs.declared.profile.Profile.{Profile};
 ghost use Rattle.bril_tree.specs.Accepted.{IsAccepted};
 ghost use Rattle.bril_tree.specs.Size.{IsCounted};
 ghost use Rattle.trace_laws.specs.Trace.{trace_meaning};
-ghost use Rattle.trace_lines.specs.Traced.{IsTracedTree};
+ghost use Rattle.trace_laws.specs.lines.Traced.{IsTracedTree};
 
 use crate::edit::traced;
+use crate::matching::{added_items, fitting_entries};
 use bril_checker::Checked;
 use bril_profile::Profile;
 use bril_tree::program::Prog;
 use bril_tree::tree::Tree;
 use pass_make::{Edit, Edited, Made};
 use std::alloc::{AllocError, Global};
-use trace_fits::{added_items, fitting_entries};
 
 /// The pass `trace`, as clauses see it by its tally. Behind the label of each entry of the profile that fits it puts the path that the
 /// entry takes from there, between a `speculate` and a `commit`: each branch as a guard, by which a failed trace goes back to the old

@@ -2,7 +2,7 @@
 
 ghost use Rattle.std.specs.Prelude.{◌≡◌, ◌<◌, ◌≤◌, ◌+◌, ◌++◌, ◌∷◌, [], IfOk, OnOk, length, map};
 ghost use Rattle.bril_tree.specs.declared.function_tree.Item.TheVariants as variant;
-ghost use Rattle.pass_plan.specs.Spliced.{spliced};
+ghost use Rattle.pass_edit_laws.specs.plan.Spliced.{spliced};
 ghost use Rattle.trace_stitcher.specs.Inserted.{around, row};
 
 use crate::inserted::Inserted;

@@ -1,17 +1,17 @@
 // What an entry that fits puts into its function.
 
 ghost use Rattle.std.specs.Prelude.{◌≡◌, ◌≤◌, IfOk, length, map, slice_get};
-ghost use Rattle.trace_lines.specs.Lines.{TraceNames, bool_type, trace_lines};
+ghost use Rattle.trace_laws.specs.lines.Lines.{TraceNames, bool_type, trace_lines};
 ghost use Rattle.trace_paths.specs.Walked.{leg_of};
 ghost use Rattle.trace_stitcher.specs.Stops.{AreNamesHere, IsStop, put_stop};
 
+use crate::fresh_names::{TakenNames, trace_base};
 use crate::lines::trace_lines;
+use crate::matching::Fitting;
 use bril_tree::function_tree::Item;
 use bril_tree::name::Name;
 use bril_tree::sequence::Seq;
 use std::alloc::{AllocError, Global};
-use trace_fits::Fitting;
-use trace_names::{TakenNames, trace_base};
 
 /// What is put in for an entry: the lines behind its label, and the label before the item where its path stops, unless that is
 /// a label already.

@@ -16,7 +16,7 @@ use Rattle.bril_tree.specs.declared.value.Value.TheVariants.{Ptr}
 use Rattle.bril_tree.specs.Accepted.{IsAccepted, IsAcceptedFunction}
 use Rattle.bril_tree.specs.Edge.{item_branches, jump}
 use Rattle.bril_tree.specs.FunctionForm.{listed}
-use Rattle.bril_tree.specs.Memory.{allocation_fault, held, live_block, is_freeable, changed_block, new_block, cells_of}
+use Rattle.bril_tree.specs.Memory.{allocation_fault, held, live_block, is_freeable, changed_block, new_block, cells_of, ended_block}
 use Rattle.bril_tree.specs.Operand.{Variable, reads_of, dest_of}
 use Rattle.bril_tree.specs.Outcome.{HasEffect, outcome_of, action_outcome, argument, block_of, offset_of, int_of, bool_of, divided, char_from, undefined, shadow_given, is_scalar}
 use Rattle.bril_tree.specs.Shape.{is_action_shaped, fits_shape, shape_of}
@@ -29,7 +29,7 @@ use Rattle.bril_tree.specs.Membership.{In}
 use Rattle.bril_tree.proofs.Members.{in_map, contains_in}
 use Rattle.bril_tree.proofs.Elements.{in_index}
 use Rattle.bril_tree.proofs.Shapes.{shape-parts, no_dest, dest_none, dest_there}
-use Rattle.type_soundness.proofs.Blocks.{Remembers, Remembers-push, Remembers-changed, pushed-type, block-fits, stored-keeps, stored-typed, held-typed}
+use Rattle.type_soundness.proofs.Blocks.{ended-keeps, Remembers, Remembers-push, Remembers-changed, pushed-type, block-fits, stored-keeps, stored-typed, held-typed}
 use Rattle.type_soundness.proofs.Calls.{fault-runs, cond-runs, returns-runs, calls-runs}
 use Rattle.type_soundness.proofs.Frames.{Sits-more, before}
 use Rattle.type_soundness.proofs.Invariant.{Stack-more, Stands, Runs}
@@ -221,8 +221,8 @@ module _ (p : Prog) (limits : Limits) where
 
     frees-row : (pointer : Value) (ty : Option Ty) (dest : Option ℕ) (args funcs labels : List ℕ) → IsAt (Act dest ty op.Free args funcs labels) → IsShaped op.Free dest args funcs labels → Runs p (frees p limits pointer frame older s)
     frees-row pointer ty dest args funcs labels at shaped =
-        let after = changed_block s.blocks (block_of pointer) (λ b. record b { is_live = false }) in
-        let memory = Remembers-changed st.heap s.blocks (block_of pointer) (λ b. record b { is_live = false }) (λ c e b h. h) st.memory in
+        let after = changed_block s.blocks (block_of pointer) (λ b. ended_block) in
+        let memory = Remembers-changed st.heap s.blocks (block_of pointer) (λ b. ended_block) (λ c e b h. ended-keeps st.heap c) st.memory in
         cond-runs p limits accepted (is_freeable (live_block s.blocks (block_of pointer)) (offset_of pointer)) _ _
         (advances-runs (record s { blocks = after }) frame older (with-blocks s.blocks after frame older st memory) (Act dest ty op.Free args funcs labels) at (record { branch = λ code point. inl refl; keeps = refl; assigns = refl })
         (none_in op.Free dest args funcs labels refl shaped))

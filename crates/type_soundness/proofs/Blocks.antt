@@ -7,7 +7,7 @@ use Rattle.bril_tree.specs.declared.types.Base.{Base}
 use Rattle.bril_tree.specs.declared.types.Ty.{Ty}
 use Rattle.bril_tree.specs.declared.value.Value.{Value}
 use Rattle.bril_tree.specs.declared.value.Value.TheVariants.{Int, Bool as Boolean, Char, Ptr}
-use Rattle.bril_tree.specs.Memory.{live_block, if_live, cell_of, held, changed, changed_block, new_block, most_blocks, allocation_fault}
+use Rattle.bril_tree.specs.Memory.{live_block, if_live, cell_of, held, changed, changed_block, new_block, ended_block, most_blocks, allocation_fault}
 use Rattle.bril_tree.specs.Outcome.{block_of}
 use Rattle.bril_tree.specs.State.{Values, Block, with_value}
 use Rattle.bril_tree.specs.Typing.{points_to}
@@ -83,6 +83,10 @@ BlocksHold-changed heap (c ∷ cells) (b ∷ blocks) (suc k) change keeps h = (h
 pub Remembers-changed : (heap : List Cell) (blocks : List Block) (k : ℕ) (change : Block → Block) → ((c : Cell) → cell_type heap k ≡ Some c → Keeps heap c change) → Remembers heap blocks → Remembers heap (changed_block blocks k change)
 Remembers-changed heap blocks zero change keeps h = h
 Remembers-changed heap blocks (suc k) change keeps h = BlocksHold-changed heap heap blocks k change keeps h
+
+-- a block that was freed has no values
+pub ended-keeps : (heap : List Cell) (c : Cell) → CellsHold heap c ended_block.cells
+ended-keeps heap c n v e = absurd (let f : None ≡ Some v = e in cc)
 
 stored-by_test : (same : Bool) (heap : List Cell) (c : Cell) (m n : ℕ) (v w : Value) (cells : Values) → IsTyped heap c.depth c.base v → CellsHold heap c cells → cond same (Some v) (cells m) ≡ Some w → IsTyped heap c.depth c.base w
 stored-by_test true heap c m n v w cells t h e = let same : v ≡ w = cc in subst (λ u. IsTyped heap c.depth c.base u) same t

@@ -8,7 +8,7 @@ use Rattle.bril_tree.specs.declared.limits.End.TheVariants.{Ended, Faulted}
 use Rattle.bril_tree.specs.declared.limits.End.{End}
 use Rattle.bril_tree.specs.declared.limits.Limits.{Limits}
 use Rattle.bril_tree.specs.declared.program.Prog.{Prog}
-use Rattle.rv64_implements.specs.Implements.{image_after}
+use Rattle.rv64_image_laws.specs.Implements.{image_after}
 use Rattle.bril_commands.specs.Command.{Demo, OfProgram, NoArguments, ImageFor, Subject}
 use Rattle.bril_commands.specs.Outcome.{Outcome}
 use Rattle.bril_commands.specs.Profiles.{OwnRun}

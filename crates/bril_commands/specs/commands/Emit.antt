@@ -3,7 +3,7 @@ use Rattle.std.specs.Prelude.{ℕ, ◌≡◌, ◌+◌, ◌/◌, ◌%◌, ◌^◌
 use Rattle.bril_tree.specs.declared.limits.Limits.{Limits}
 use Rattle.bril_tree.specs.declared.program.Prog.{Prog}
 use Rattle.bril_words.specs.Defaults.{default_cells}
-use Rattle.rv64_implements.specs.Implements.{Implements}
+use Rattle.rv64_image_laws.specs.Implements.{Implements}
 use Rattle.rv64_words.specs.declared.image.Image.{Image}
 use Rattle.bril_commands.specs.Command.{LinkedFiles, OfProgram, NoArguments, ImageFor, AreLimitsOf}
 use Rattle.bril_commands.specs.Outcome.{writes}

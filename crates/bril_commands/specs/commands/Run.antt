@@ -8,8 +8,8 @@ use Rattle.bril_tree.specs.declared.limits.End.{End}
 use Rattle.bril_tree.specs.declared.limits.Limits.{Limits}
 use Rattle.bril_tree.specs.declared.program.Prog.{Prog}
 use Rattle.bril_tree.specs.declared.value.Value.{Value}
-use Rattle.rv64_implements.specs.Implements.{image_after}
-use Rattle.rv64_implements.specs.Shown.{ProgramShows}
+use Rattle.rv64_image_laws.specs.Implements.{image_after}
+use Rattle.rv64_image_laws.specs.Shown.{ProgramShows}
 use Rattle.rv64_words.specs.Machine.{machine_step}
 use Rattle.rv64_words.specs.Region.{sizes_of}
 use Rattle.rv64_words.specs.State.{State}

@@ -2,7 +2,7 @@ use Rattle.std.proofs.Common.{◌≡◌, ◌*◌, sym, ap, ◌∙◌, subst}
 use Rattle.bril_tree.specs.Accepted.{IsAccepted}
 use Rattle.bril_tree.specs.Literals.{AreLiteralsInRange}
 use Rattle.bril_tree.specs.Size.{IsCounted}
-use Rattle.rv64_layout.specs.Image.{IsImageOf, largest_frame}
+use Rattle.rv64_emit_laws.specs.layout.Image.{IsImageOf, largest_frame}
 use Rattle.rv64_emit.specs.Bounds.{AreLocationsKnown}
 use Rattle.rv64_emit.specs.Placed.{all_homes, placed_homes}
 use Rattle.rv64_emit.specs.Tables.{SlotsFit}

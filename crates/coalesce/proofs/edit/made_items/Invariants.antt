@@ -1,6 +1,6 @@
 use Rattle.std.proofs.Common.{◌≡◌, map, take}
 use Rattle.bril_tree.specs.Numbered.{item_tree, nop_item}
-use Rattle.pass_plan.specs.Marked.{with_nops}
+use Rattle.pass_edit_laws.specs.plan.Marked.{with_nops}
 use Rattle.coalesce.proofs.edit.made_items.Given as goal
 
 abbrev pub invariant-loop-point : goal.invariant-loop-point

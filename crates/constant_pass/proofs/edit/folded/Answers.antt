@@ -4,8 +4,8 @@ use Rattle.std.proofs.lemmas.Option.{slice_get-get_or}
 use Rattle.bril_tree.specs.declared.numbered_function.Func.{Func}
 use Rattle.bril_tree.specs.declared.program.Prog.{Prog}
 use Rattle.bril_tree.specs.Numbered.{names_of_functions}
-use Rattle.constant_table.specs.Consistent.{IsAtMost, IsConsistent, Table}
-use Rattle.constant_table.specs.Kept.{told}
+use Rattle.constant_pass.specs.constants.Consistent.{IsAtMost, IsConsistent, Table}
+use Rattle.constant_pass.specs.constants.Kept.{told}
 use Rattle.constant_pass.specs.Folded.{IsFoldedFunction}
 use Rattle.pass_make.proofs.Functions.{number_within, shaped_there, few_there, tree_there, long_there, more_there}
 use Rattle.constant_pass.proofs.Editing.{made-function}

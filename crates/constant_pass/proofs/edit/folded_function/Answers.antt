@@ -2,7 +2,7 @@ use Rattle.std.proofs.Common.{◌≡◌, ◌+◌, [], ◌∷◌, length, sym, su
 use Rattle.std.specs.Prelude.{is_some}
 use Rattle.std.proofs.lemmas.List.{length-append}
 use Rattle.flow_graph.proofs.BranchRows.{code_labelled}
-use Rattle.constant_table.specs.Kept.{told}
+use Rattle.constant_pass.specs.constants.Kept.{told}
 use Rattle.constant_pass.specs.Edit.{IsMade, AreMade}
 use Rattle.constant_pass.proofs.Editing.{made-more}
 use Rattle.constant_pass.proofs.edit.folded_function.Goals as goal

@@ -1,5 +1,5 @@
 use Rattle.std.proofs.Common.{◌≡◌, length}
-use Rattle.constant_table.specs.Kept.{told}
+use Rattle.constant_pass.specs.constants.Kept.{told}
 use Rattle.constant_pass.specs.Edit.{AreMade}
 use Rattle.constant_pass.proofs.edit.folded_function.Given as goal
 

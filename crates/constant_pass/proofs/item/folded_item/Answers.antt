@@ -1,7 +1,7 @@
 use Rattle.std.proofs.Common.{sym, ap, ◌∙◌}
 use Rattle.bril_tree.specs.Numbered.{item_tree, variable_names}
-use Rattle.constant_table.specs.Answer.{answer}
-use Rattle.constant_table.specs.Kept.{told}
+use Rattle.constant_pass.specs.constants.Answer.{answer}
+use Rattle.constant_pass.specs.constants.Kept.{told}
 use Rattle.constant_pass.specs.Edit.{constant_tree}
 use Rattle.constant_pass.specs.Items.{constant_or, literal_of}
 use Rattle.constant_pass.proofs.Editing.{constant-by, folds-other}

@@ -1,7 +1,7 @@
 use Rattle.std.proofs.Common.{◌≡◌, ◌∷◌, ◌++◌, [], cond, false, length, get_or, sym, ap, ◌∙◌, refl, arith}
 use Rattle.std.proofs.lemmas.List.{length-append}
 use Rattle.bril_tree.specs.Numbered.{nop_item}
-use Rattle.pass_plan.proofs.Marked.{nops-nil, nops-push}
+use Rattle.pass_edit_laws.proofs.lemmas.plan.Marked.{nops-nil, nops-push}
 use Rattle.dead_code.proofs.edit.emptied_function.Goals as goal
 
 pub loop-item-init : goal.loop-item-init

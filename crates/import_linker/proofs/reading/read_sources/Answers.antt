@@ -6,7 +6,7 @@ use Rattle.import_linker.specs.Order.{all_added, known_after, named_by, named_in
 use Rattle.import_linker.specs.Adding.{AddsTooMany}
 use Rattle.bril_tree.specs.declared.import.Import.{Import}
 use Rattle.import_linker.specs.Reading.{AreNext, bytes_of}
-use Rattle.bril_source.specs.Reading.{most_bytes}
+use Rattle.import_linker.specs.formats.Reading.{most_bytes}
 use Rattle.import_linker.specs.declared.sources.Source.{Source}
 use Rattle.import_linker.proofs.Knowing.{bytes_more, next_more}
 use Rattle.import_linker.proofs.Numbering.{paths_are}

@@ -2,7 +2,7 @@
 use Rattle.std.proofs.Common.{◌≡◌, ◌≤◌, ◌-◌, [], length}
 use Rattle.import_linker.specs.Order.{known_after, most_files}
 use Rattle.import_linker.specs.Reading.{AreNext, bytes_of}
-use Rattle.bril_source.specs.Reading.{most_bytes}
+use Rattle.import_linker.specs.formats.Reading.{most_bytes}
 use Rattle.import_linker.proofs.reading.read_sources.Given as goal
 
 abbrev pub invariant-loop-path : goal.invariant-loop-path

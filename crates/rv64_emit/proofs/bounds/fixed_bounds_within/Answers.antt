@@ -1,5 +1,5 @@
 use Rattle.std.proofs.Common.{[], sym, ap, ◌∙◌}
-use Rattle.rv64_implements.specs.WordBounds.{has_fixed_bounds}
+use Rattle.rv64_image_laws.specs.WordBounds.{has_fixed_bounds}
 use Rattle.rv64_emit.proofs.Within.{fixed_known}
 use Rattle.rv64_emit.proofs.bounds.fixed_bounds_within.Goals as goal
 

@@ -2,7 +2,7 @@ use Rattle.std.proofs.Common.{◌≡◌, Some, get_or, refl, sym, ap, ◌∙◌,
 use Rattle.std.specs.Prelude.{slice_get}
 use Rattle.std.proofs.lemmas.List.Sums.{sum_by_more}
 use Rattle.std.proofs.lemmas.Option.{slice_get_read}
-use Rattle.rv64_implements.specs.WordBounds.{function_bound}
+use Rattle.rv64_image_laws.specs.WordBounds.{function_bound}
 use Rattle.rv64_emit.specs.Bounds.{bound_with, locations_at}
 use Rattle.rv64_emit.proofs.bounds.program_bound.Goals as goal
 

@@ -1,6 +1,6 @@
 use Rattle.std.proofs.Common.{◌≡◌, ◌+◌, take}
 use Rattle.std.specs.List.{sum_by}
-use Rattle.rv64_implements.specs.WordBounds.{function_bound}
+use Rattle.rv64_image_laws.specs.WordBounds.{function_bound}
 use Rattle.rv64_emit.specs.Refusal.{capped}
 use Rattle.rv64_emit.proofs.bounds.program_bound.Given as goal
 

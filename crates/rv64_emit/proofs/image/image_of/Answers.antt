@@ -1,7 +1,7 @@
 use Rattle.std.proofs.Common.{◌≡◌, ◌++◌, length, map, ap, ◌∙◌, arith}
 use Rattle.rv64_words.specs.Encoding.{encoded}
-use Rattle.rv64_layout.specs.Image.{joined, start_at, head_words, function_words_at, image_guards}
-use Rattle.rv64_layout.proofs.Placing.{starts_most}
+use Rattle.rv64_emit_laws.specs.layout.Image.{joined, start_at, head_words, function_words_at, image_guards}
+use Rattle.rv64_emit_laws.proofs.lemmas.layout.Placing.{starts_most}
 use Rattle.rv64_emit.proofs.Appending.{put_then}
 use Rattle.rv64_emit.specs.Placed.{all_homes}
 use Rattle.rv64_emit.proofs.Placed.{starts_are}

@@ -1,5 +1,5 @@
 use Rattle.std.proofs.Common.{◌∙◌, arith}
-use Rattle.rv64_layout.proofs.Placing.{entries_most}
+use Rattle.rv64_emit_laws.proofs.lemmas.layout.Placing.{entries_most}
 use Rattle.rv64_emit.specs.Placed.{all_homes, homes_in}
 use Rattle.rv64_emit.proofs.Placed.{turn, entries_are, guards_next}
 use Rattle.rv64_emit.proofs.image.push_guards.Goals as goal

@@ -1,5 +1,5 @@
 use Rattle.std.proofs.Common.{◌≡◌, ◌++◌}
-use Rattle.rv64_layout.specs.Image.{joined, guard_at}
+use Rattle.rv64_emit_laws.specs.layout.Image.{joined, guard_at}
 use Rattle.rv64_emit.specs.Placed.{all_homes}
 use Rattle.rv64_emit.proofs.image.push_guards.Given as goal
 

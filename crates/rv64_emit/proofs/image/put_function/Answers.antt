@@ -1,7 +1,7 @@
 use Rattle.std.proofs.Common.{◌++◌, map, sym, ap, ◌∙◌, subst}
 use Rattle.std.specs.List.{AllByRecursion}
 use Rattle.rv64_words.specs.Encoding.{encoded}
-use Rattle.rv64_layout.specs.Fits.{IsReached}
+use Rattle.rv64_emit_laws.specs.layout.Fits.{IsReached}
 use Rattle.rv64_emit.specs.Moved.{AreRegistersNear}
 use Rattle.rv64_emit.specs.Placed.{all_homes, homes_in}
 use Rattle.rv64_emit.proofs.Placed.{function_put, opening_put}

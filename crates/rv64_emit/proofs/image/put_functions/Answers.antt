@@ -1,5 +1,5 @@
 use Rattle.std.proofs.Common.{◌∙◌, arith}
-use Rattle.rv64_layout.proofs.Placing.{starts_most}
+use Rattle.rv64_emit_laws.proofs.lemmas.layout.Placing.{starts_most}
 use Rattle.rv64_emit.specs.Placed.{all_homes}
 use Rattle.rv64_emit.proofs.Placed.{starts_are, function_here}
 use Rattle.rv64_emit.proofs.image.put_functions.Goals as goal

@@ -1,6 +1,6 @@
 use Rattle.std.proofs.Common.{◌≡◌, ◌++◌, map}
 use Rattle.rv64_words.specs.Encoding.{encoded}
-use Rattle.rv64_layout.specs.Image.{joined, function_words_at, function_guards_at}
+use Rattle.rv64_emit_laws.specs.layout.Image.{joined, function_words_at, function_guards_at}
 use Rattle.rv64_emit.specs.Placed.{all_homes}
 use Rattle.rv64_emit.proofs.image.put_functions.Given as goal
 

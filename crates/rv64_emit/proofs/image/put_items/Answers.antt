@@ -1,5 +1,5 @@
 use Rattle.std.proofs.Common.{arith}
-use Rattle.rv64_layout.proofs.Placing.{starts_most, entries_most}
+use Rattle.rv64_emit_laws.proofs.lemmas.layout.Placing.{starts_most, entries_most}
 use Rattle.rv64_emit.specs.Placed.{all_homes, homes_in}
 use Rattle.rv64_emit.proofs.Placed.{turn, starts_are, entries_are, here_is, items_next}
 use Rattle.rv64_emit.proofs.image.put_items.Goals as goal

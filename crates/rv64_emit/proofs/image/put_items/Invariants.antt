@@ -1,6 +1,6 @@
 use Rattle.std.proofs.Common.{◌≡◌, ◌++◌, map}
 use Rattle.rv64_words.specs.Encoding.{encoded}
-use Rattle.rv64_layout.specs.Image.{joined, item_words_at}
+use Rattle.rv64_emit_laws.specs.layout.Image.{joined, item_words_at}
 use Rattle.rv64_emit.specs.Placed.{all_homes}
 use Rattle.rv64_emit.proofs.image.put_items.Given as goal
 

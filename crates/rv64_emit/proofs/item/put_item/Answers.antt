@@ -1,8 +1,8 @@
 use Rattle.std.proofs.Common.{sym, subst}
 use Rattle.std.specs.List.{AllByRecursion}
 use Rattle.slot_code.specs.Laws.{slots_used}
-use Rattle.rv64_layout.specs.Fits.{IsReached}
-use Rattle.rv64_layout.specs.Homes.{variable_home}
+use Rattle.rv64_emit_laws.specs.layout.Fits.{IsReached}
+use Rattle.rv64_emit_laws.specs.layout.Homes.{variable_home}
 use Rattle.rv64_emit.specs.Placed.{homes_in}
 use Rattle.rv64_emit.proofs.Arguments.{call_arguments_are, printed_are}
 use Rattle.rv64_emit.proofs.item.put_item.Goals as goal

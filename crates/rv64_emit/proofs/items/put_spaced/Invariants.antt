@@ -1,6 +1,6 @@
 use Rattle.std.proofs.Common.{◌≡◌, ◌++◌, map, drop}
 use Rattle.rv64_words.specs.Encoding.{encoded}
-use Rattle.rv64_layout.specs.Items.{spaced_words}
+use Rattle.rv64_emit_laws.specs.layout.Items.{spaced_words}
 use Rattle.rv64_emit.specs.Placed.{homes_in}
 use Rattle.rv64_emit.proofs.items.put_spaced.Given as goal
 

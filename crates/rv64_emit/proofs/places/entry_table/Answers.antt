@@ -1,7 +1,7 @@
 use Rattle.std.proofs.Common.{◌≡◌, ◌+◌, length, map, sym, ap, ◌∙◌, subst, arith}
 use Rattle.std.specs.List.{range_with_len}
-use Rattle.rv64_layout.specs.Image.{entry_at, opening_size}
-use Rattle.rv64_layout.proofs.Placing.{entry_is}
+use Rattle.rv64_emit_laws.specs.layout.Image.{entry_at, opening_size}
+use Rattle.rv64_emit_laws.proofs.lemmas.layout.Placing.{entry_is}
 use Rattle.rv64_emit.specs.Moved.{AreRegistersNear}
 use Rattle.rv64_emit.specs.Placed.{all_homes, homes_in}
 use Rattle.rv64_emit.specs.Tables.{item_count}

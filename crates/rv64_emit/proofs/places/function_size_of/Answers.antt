@@ -1,5 +1,5 @@
 use Rattle.std.proofs.Common.{sym, subst, arith}
-use Rattle.rv64_layout.proofs.Placing.{words_most}
+use Rattle.rv64_emit_laws.proofs.lemmas.layout.Placing.{words_most}
 use Rattle.rv64_emit.specs.Moved.{AreRegistersNear}
 use Rattle.rv64_emit.specs.Placed.{all_homes, homes_in}
 use Rattle.rv64_emit.proofs.Placed.{turn, function_few}

@@ -1,5 +1,5 @@
 use Rattle.std.proofs.Common.{◌≡◌}
-use Rattle.rv64_layout.specs.Image.{words_before}
+use Rattle.rv64_emit_laws.specs.layout.Image.{words_before}
 use Rattle.rv64_emit.specs.Placed.{homes_in}
 use Rattle.rv64_emit.proofs.places.function_size_of.Given as goal
 

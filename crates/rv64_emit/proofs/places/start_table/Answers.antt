@@ -1,7 +1,7 @@
 use Rattle.std.proofs.Common.{◌≡◌, ◌+◌, length, map, ap, ◌∙◌, arith}
 use Rattle.std.specs.List.{range_with_len}
-use Rattle.rv64_layout.specs.Image.{start_at}
-use Rattle.rv64_layout.proofs.Placing.{starts_most}
+use Rattle.rv64_emit_laws.specs.layout.Image.{start_at}
+use Rattle.rv64_emit_laws.proofs.lemmas.layout.Placing.{starts_most}
 use Rattle.rv64_emit.specs.Placed.{all_homes}
 use Rattle.rv64_emit.proofs.Placed.{starts_next}
 use Rattle.rv64_emit.proofs.places.start_table.Goals as goal

@@ -1,6 +1,6 @@
 use Rattle.std.proofs.Common.{◌≡◌, map}
 use Rattle.std.specs.List.{range_with_len}
-use Rattle.rv64_layout.specs.Image.{start_at}
+use Rattle.rv64_emit_laws.specs.layout.Image.{start_at}
 use Rattle.rv64_emit.specs.Placed.{all_homes}
 use Rattle.rv64_emit.proofs.places.start_table.Given as goal
 

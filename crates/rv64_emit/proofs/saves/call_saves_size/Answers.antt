@@ -1,5 +1,5 @@
 use Rattle.std.proofs.Common.{◌≤◌, sym, ap, ◌∙◌, subst}
-use Rattle.rv64_sequences.specs.Moves.{save_size}
+use Rattle.rv64_words_laws.specs.sequences.Moves.{save_size}
 use Rattle.rv64_emit.specs.Placed.{homes_in}
 use Rattle.rv64_emit.proofs.Moving.{call_near, first_few}
 use Rattle.rv64_emit.proofs.saves.call_saves_size.Goals as goal

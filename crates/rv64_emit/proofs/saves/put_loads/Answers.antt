@@ -1,8 +1,8 @@
 use Rattle.std.proofs.Common.{◌≡◌, ◌++◌, map, subst}
 use Rattle.std.specs.Prelude.{OnOk}
 use Rattle.rv64_words.specs.Encoding.{encoded}
-use Rattle.rv64_sequences.specs.Moves.{restore_words}
-use Rattle.rv64_layout.specs.Fits.{IsReached}
+use Rattle.rv64_words_laws.specs.sequences.Moves.{restore_words}
+use Rattle.rv64_emit_laws.specs.layout.Fits.{IsReached}
 use Rattle.rv64_emit.specs.Placed.{homes_in}
 use Rattle.rv64_emit.proofs.Moving.{opening_near, first_few, first_hold}
 use Rattle.rv64_emit.proofs.saves.put_loads.Goals as goal

@@ -1,5 +1,5 @@
-use Rattle.rv64_sequences.specs.Moves.{restore_words}
-use Rattle.rv64_layout.specs.Homes.{moves_from}
+use Rattle.rv64_words_laws.specs.sequences.Moves.{restore_words}
+use Rattle.rv64_emit_laws.specs.layout.Homes.{moves_from}
 use Rattle.rv64_emit.specs.Moved.{is_moved}
 use Rattle.rv64_emit.specs.Placed.{homes_in}
 use Rattle.rv64_emit.proofs.Moving.{restores_more, words_next}

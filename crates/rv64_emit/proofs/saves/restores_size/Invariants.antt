@@ -1,6 +1,6 @@
 use Rattle.std.proofs.Common.{◌≡◌, ◌+◌, drop}
-use Rattle.rv64_sequences.specs.Moves.{restore_size}
-use Rattle.rv64_layout.specs.Homes.{moves_from}
+use Rattle.rv64_words_laws.specs.sequences.Moves.{restore_size}
+use Rattle.rv64_emit_laws.specs.layout.Homes.{moves_from}
 use Rattle.rv64_emit.specs.Moved.{is_moved}
 use Rattle.rv64_emit.specs.Placed.{homes_in}
 use Rattle.rv64_emit.proofs.saves.restores_size.Given as goal

@@ -1,5 +1,5 @@
 use Rattle.std.proofs.Common.{◌≡◌, ◌+◌, ◌*◌, ◌≤◌, drop}
-use Rattle.rv64_layout.specs.Items.{pass_size}
+use Rattle.rv64_emit_laws.specs.layout.Items.{pass_size}
 use Rattle.rv64_emit.specs.Placed.{homes_in}
 use Rattle.rv64_emit.proofs.sizes.pass_size_of.Given as goal
 

@@ -1,5 +1,5 @@
 use Rattle.pass_make.proofs.Functions.{long_there, number_within}
-use Rattle.trace_fits.proofs.Surveying.{read-there}
+use Rattle.trace_stitcher.proofs.lemmas.matching.Surveying.{read-there}
 use Rattle.trace_stitcher.proofs.Functions.{all-inside, functions-more, more-many}
 use Rattle.trace_stitcher.proofs.edit.traced.Goals as goal
 

@@ -1,8 +1,8 @@
 use Rattle.std.proofs.Common.{◌≡◌, List, length, map}
-use Rattle.trace_fits.specs.Fitting.{fit_of}
-use Rattle.trace_lines.specs.Lines.{bool_type}
-use Rattle.trace_lines.specs.Names.{trace_bases}
-use Rattle.trace_lines.specs.Traced.{AreLaid, AreTraced, Laying}
+use Rattle.trace_stitcher.specs.matching.Fitting.{fit_of}
+use Rattle.trace_laws.specs.lines.Lines.{bool_type}
+use Rattle.trace_laws.specs.lines.Names.{trace_bases}
+use Rattle.trace_laws.specs.lines.Traced.{AreLaid, AreTraced, Laying}
 use Rattle.trace_stitcher.proofs.edit.traced.Given as goal
 
 abbrev pub invariant-loop-number : goal.invariant-loop-number

@@ -1,5 +1,5 @@
 use Rattle.std.proofs.Common.{◌≡◌, ℕ, take}
-use Rattle.trace_lines.specs.Lines.{TraceNames}
+use Rattle.trace_laws.specs.lines.Lines.{TraceNames}
 use Rattle.trace_stitcher.specs.Inserted.{AreNamesFor, labels_before, lines_behind, row}
 use Rattle.trace_stitcher.proofs.inserted.put_all.Given as goal
 

@@ -1,7 +1,7 @@
 use Rattle.std.proofs.Common.{◌++◌, map}
 use Rattle.std.specs.Prelude.{slice_get}
 use Rattle.std.proofs.lemmas.List.{get_or_default}
-use Rattle.trace_lines.specs.Lines.{bool_type, leg_lines}
+use Rattle.trace_laws.specs.lines.Lines.{bool_type, leg_lines}
 use Rattle.trace_paths.specs.Walked.{leg_of}
 use Rattle.trace_stitcher.proofs.Legs.{few-more, legs-all, legs-step}
 use Rattle.trace_stitcher.proofs.lines.push_legs.Goals as goal

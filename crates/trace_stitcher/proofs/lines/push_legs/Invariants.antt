@@ -1,6 +1,6 @@
 use Rattle.std.proofs.Common.{◌≡◌, ◌≤◌, ◌++◌, map, drop}
 use Rattle.std.specs.Prelude.{slice_get}
-use Rattle.trace_lines.specs.Lines.{TraceNames, bool_type, leg_lines}
+use Rattle.trace_laws.specs.lines.Lines.{TraceNames, bool_type, leg_lines}
 use Rattle.trace_paths.specs.Walked.{leg_of}
 use Rattle.trace_stitcher.specs.Legs.{AreGuardNames}
 use Rattle.trace_stitcher.proofs.lines.push_legs.Given as goal

@@ -1,11 +1,11 @@
 use Rattle.std.proofs.Common.{◌≤◌, [], List, length, map, sym, ap, subst, arith}
 use Rattle.std.proofs.lemmas.List.{length-map}
 use Rattle.bril_profile.specs.declared.profile.Entry.{Entry}
-use Rattle.trace_fits.specs.declared.fitting.Fitting.{Fitting}
-use Rattle.trace_fits.specs.Fitting.{fit_of}
-use Rattle.trace_lines.specs.Names.{trace_bases}
-use Rattle.trace_lines.specs.Traced.{AreLaid}
-use Rattle.trace_lines.proofs.Entries.{fits-few}
+use Rattle.trace_stitcher.specs.declared.matching.fitting.Fitting.{Fitting}
+use Rattle.trace_stitcher.specs.matching.Fitting.{fit_of}
+use Rattle.trace_laws.specs.lines.Names.{trace_bases}
+use Rattle.trace_laws.specs.lines.Traced.{AreLaid}
+use Rattle.trace_laws.proofs.lemmas.lines.Entries.{fits-few}
 use Rattle.trace_paths.specs.Fits.{FitsAre}
 use Rattle.trace_stitcher.proofs.Existing.{laid-there}
 use Rattle.trace_stitcher.proofs.stitch.stitched.Goals as goal

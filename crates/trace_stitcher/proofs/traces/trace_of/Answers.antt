@@ -1,7 +1,7 @@
 use Rattle.std.proofs.Common.{◌++◌, ◌∙◌, List, map, sym, ap}
 use Rattle.std.specs.Prelude.{slice_get}
-use Rattle.trace_lines.specs.Lines.{bool_type, trace_lines}
-use Rattle.trace_lines.specs.Names.{trace_name}
+use Rattle.trace_laws.specs.lines.Lines.{bool_type, trace_lines}
+use Rattle.trace_laws.specs.lines.Names.{trace_name}
 use Rattle.trace_paths.specs.Walked.{leg_of}
 use Rattle.trace_paths.specs.declared.walk.Leg as kept
 use Rattle.trace_stitcher.specs.Stops.{put_stop}

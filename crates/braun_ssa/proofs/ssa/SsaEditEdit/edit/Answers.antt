@@ -3,8 +3,8 @@ use Rattle.bril_tree.specs.declared.program.Prog.{Prog}
 use Rattle.bril_tree.specs.Size.{item_count}
 use Rattle.pass_make.specs.Edited.{HasRoom, IsLinkedTo}
 use Rattle.pass_make.specs.declared.made.Made.TheVariants.{Tree}
-use Rattle.ssa_form.specs.Numbers.{IsSsaBound}
-use Rattle.ssa_form.specs.Ssa.{ssa_meaning}
+use Rattle.ssa_form_laws.specs.form.Numbers.{IsSsaBound}
+use Rattle.ssa_form_laws.specs.form.Ssa.{ssa_meaning}
 use Rattle.braun_ssa.proofs.Made.{edited}
 use Rattle.braun_ssa.proofs.ssa.SsaEditEdit.edit.Goals as goal
 

@@ -27,8 +27,8 @@ returns-then-count-self-clause-refused c =
     let fits = c.ranges.count in
     let some : int_lt c.args.count (pos 1) ≡ false = simp to_z-of_z at c.if-count-lt1.false in
     let few : length inside.blocks.items < most_blocks = omega (arith, c.if-len-ge-MOST_BLOCKS.false, c.len.ensures) in
-    let more : inside.limit < inside.given + nat_abs c.args.count = search rules in
-    rw (← c.self.view_is) (rw (fault-seen inside.limit inside.given inside.live inside.blocks.items c.args.count c.self.invariant some few, lt-ltb inside.limit (inside.given + nat_abs c.args.count) more) refl)
+    let more : inside.limit < inside.in_use + nat_abs c.args.count = search rules in
+    rw (← c.self.view_is) (rw (fault-seen inside.limit inside.in_use inside.live inside.blocks.items c.args.count c.self.invariant some few, lt-ltb inside.limit (inside.in_use + nat_abs c.args.count) more) refl)
 
 pub returns-in_err-push_empty-clause-refused : goal.returns-in_err-push_empty-clause-refused
 returns-in_err-push_empty-clause-refused c =
@@ -36,8 +36,8 @@ returns-in_err-push_empty-clause-refused c =
     let fits = c.ranges.count in
     let some : int_lt c.args.count (pos 1) ≡ false = simp to_z-of_z at c.if-count-lt1.false in
     let few : length inside.blocks.items < most_blocks = omega (arith, c.if-len-ge-MOST_BLOCKS.false, c.len.ensures) in
-    let room : inside.given + nat_abs c.args.count ≤ inside.limit = search rules in
-    rw (← c.self.view_is) (rw (fault-seen inside.limit inside.given inside.live inside.blocks.items c.args.count c.self.invariant some few, le-ltb inside.limit (inside.given + nat_abs c.args.count) room) (memory-wanting c.from_residual.result c.from_residual.ensures.1))
+    let room : inside.in_use + nat_abs c.args.count ≤ inside.limit = search rules in
+    rw (← c.self.view_is) (rw (fault-seen inside.limit inside.in_use inside.live inside.blocks.items c.args.count c.self.invariant some few, le-ltb inside.limit (inside.in_use + nat_abs c.args.count) room) (memory-wanting c.from_residual.result c.from_residual.ensures.1))
 
 pub returns-clause-allowed : goal.returns-clause-allowed
 returns-clause-allowed c =
@@ -45,8 +45,8 @@ returns-clause-allowed c =
     let fits = c.ranges.count in
     let some : int_lt c.args.count (pos 1) ≡ false = simp to_z-of_z at c.if-count-lt1.false in
     let few : length inside.blocks.items < most_blocks = omega (arith, c.if-len-ge-MOST_BLOCKS.false, c.len.ensures) in
-    let room : inside.given + nat_abs c.args.count ≤ inside.limit = search rules in
-    rw (← c.self.view_is) (rw (fault-seen inside.limit inside.given inside.live inside.blocks.items c.args.count c.self.invariant some few, le-ltb inside.limit (inside.given + nat_abs c.args.count) room) refl)
+    let room : inside.in_use + nat_abs c.args.count ≤ inside.limit = search rules in
+    rw (← c.self.view_is) (rw (fault-seen inside.limit inside.in_use inside.live inside.blocks.items c.args.count c.self.invariant some few, le-ltb inside.limit (inside.in_use + nat_abs c.args.count) room) refl)
 
 pub returns-clause-blocks : goal.returns-clause-blocks
 returns-clause-blocks c =

@@ -2,7 +2,7 @@ use Rattle.std.proofs.Common.{length, subst, sym, arith}
 use Rattle.bril_tree.specs.Numbered.{nop}
 use Rattle.dead_code.specs.Sweep.{IsSwept}
 use Rattle.dead_code.specs.Work.{remaining}
-use Rattle.pass_plan.proofs.Marked.{length-with_nops}
+use Rattle.pass_edit_laws.proofs.lemmas.plan.Marked.{length-with_nops}
 use Rattle.dead_code.proofs.Sweeping.{all-swept}
 use Rattle.dead_code.proofs.sweep.Sweep.new.Goals as goal
 

@@ -4,8 +4,8 @@ use Rattle.bril_tree.specs.declared.program.Prog.{Prog}
 use Rattle.bril_tree.proofs.Sizes.{counted-size}
 use Rattle.pass_law.specs.Bounds.{capped}
 use Rattle.pass_make.specs.Edited.{TellsBound}
-use Rattle.trace_fits.specs.Fitting.{added_by, fit_of}
-use Rattle.trace_lines.specs.Bound.{IsTraceBound}
+use Rattle.trace_stitcher.specs.matching.Fitting.{added_by, fit_of}
+use Rattle.trace_laws.specs.lines.Bound.{IsTraceBound}
 use Rattle.trace_paths.specs.Fits.{FitsAre}
 use Rattle.trace_laws.proofs.Numbers.{has-numbers}
 use Rattle.trace_stitcher.proofs.Bounding.{bound-told}

@@ -3,7 +3,7 @@ use Rattle.bril_tree.specs.declared.program.Prog.{Prog}
 use Rattle.bril_tree.specs.Accepted.{IsAccepted}
 use Rattle.bril_tree.specs.Size.{IsCounted}
 use Rattle.trace_laws.proofs.Made.{traces-link}
-use Rattle.trace_lines.specs.Traced.{IsTracedTree}
+use Rattle.trace_laws.specs.lines.Traced.{IsTracedTree}
 use Rattle.trace_stitcher.proofs.stitch.StitchEditEdit.edit.Goals as goal
 
 pub returns : goal.returns

@@ -1,0 +1,10 @@
+use Rattle.std.proofs.Common.{◌≡◌, ◌+◌, ◌≤◌, length, drop}
+use Rattle.constant_pass.specs.constants.Work.{IsWork, work_left}
+use Rattle.constant_pass.proofs.constants.work.Work.revisit.Given as goal
+
+abbrev pub invariant-loop-item : goal.invariant-loop-item
+invariant-loop-item l = record {
+  long : length l.self.reached.items ≡ length l.func.code + 1;
+  work : IsWork l.func l.self.known.items l.self.reached.items l.self.points.items l.self.risen.items (drop l.item-index l.item-items);
+  less : work_left l.self.known.items l.self.reached.items l.self.points.items l.self.risen.items ≤ work_left l.fn.self.known.items l.fn.self.reached.items l.fn.self.points.items l.fn.self.risen.items;
+}

@@ -1,8 +1,0 @@
-use Rattle.std.proofs.Common.{◌≡◌, sym, subst}
-use Rattle.bril_tree.specs.declared.numbered.Instr.TheVariants.{Act}
-use Rattle.constant_table.specs.Answer.{answer}
-use Rattle.constant_table.specs.Kept.{kept}
-use Rattle.constant_table.proofs.answer.operation_answer.Goals as goal
-
-pub returns-in-Get : goal.returns-in-Get
-returns-in-Get c = λ funcs labels. subst (λ o. c.get_answer.result ≡ answer (kept c.args.known.now) (Act c.args.dest c.args.ty o c.args.args.now funcs labels)) (sym c.in-Get.is) (c.get_answer.ensures funcs labels)

@@ -1,7 +1,0 @@
-use Rattle.std.proofs.Common.{◌≡◌, ◌↔◌, ℕ, ◌+◌, ◌*◌, ◌<◌, true}
-use Rattle.std.specs.Prelude.{slice_index}
-use Rattle.graph_search.specs.Sets.{has_bit}
-use Rattle.live_entry_count.proofs.lanes.lanes_behind.Given as goal
-
-abbrev pub invariant-loop-k : goal.invariant-loop-k
-invariant-loop-k l = (j : ℕ) → (has_bit l.bits j ≡ true) ↔ ((j < l.k) × (l.point < slice_index l.points (64 * l.head + j)))

@@ -1,6 +1,0 @@
-use Rattle.std.proofs.Common.{◌≡◌, ◌++◌, drop, map}
-use Rattle.live_entry_count.specs.Lanes.{seed_of}
-use Rattle.live_entry_count.proofs.search.push_nodes.Given as goal
-
-abbrev pub invariant-loop-node : goal.invariant-loop-node
-invariant-loop-node l = l.seeds.items ++ map (seed_of l.bits) (drop l.node-index l.nodes) ≡ l.fn.seeds.items ++ map (seed_of l.bits) l.nodes

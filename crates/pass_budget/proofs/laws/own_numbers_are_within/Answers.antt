@@ -1,5 +1,0 @@
-use Rattle.pass_budget.proofs.Costing.{own-within}
-use Rattle.pass_budget.proofs.laws.own_numbers_are_within.Goals as goal
-
-pub returns : goal.returns
-returns c = own-within

@@ -1,0 +1,6 @@
+pub mod acceptance
+pub mod names
+pub mod numbers
+pub mod plan
+pub mod steps
+pub mod walks

@@ -1,5 +1,0 @@
-use Rattle.pass_plan.proofs.Narrowing as narrowing
-use Rattle.pass_plan.proofs.narrowing_preserves.Goals as goal
-
-pub returns : goal.returns
-returns g c = narrowing.narrowing_preserves g.M.Planned.plan g.M.Narrowed.visited g.M.Narrowed.regular g.M.Narrowed.known

@@ -1,5 +1,0 @@
-use Rattle.rv64_blocks.proofs.Freeing.{frees_alike, free_keeps}
-use Rattle.rv64_blocks.proofs.frees_are_alike.Goals as goal
-
-pub returns : goal.returns
-returns c = λ z blocks c block offset h le fits. (frees_alike z blocks c h block offset le fits, free_keeps z blocks c h block offset)

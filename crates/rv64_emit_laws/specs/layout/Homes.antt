@@ -1,0 +1,92 @@
+-- The words of a frame, the homes of a function's slots, and the moves between them.
+--
+-- A frame is words of 64 bits from the address in register 2 on: word 0 is the way back, a pc in bytes, word 1 the caller's
+-- register 2, and word 2 + j the own word of slot j. What is kept of the slots as they were at open speculation l, from 1, stands
+-- in as many words after those of the speculation before it.
+use Rattle.std.specs.Prelude.{ℕ, suc, ◌+◌, ◌*◌, ◌==◌, ◌&&◌, Bool, true, false, not, nat_lt, if◌then◌else◌, List, [], ◌∷◌, length, Option, Some, None, slice_index}
+use Rattle.bril_tree.specs.declared.home.Home.{Home}
+use Rattle.bril_tree.specs.declared.home.Home.TheVariants.{Reg, Frame}
+use Rattle.slot_code.specs.declared.item.Slot.{Slot}
+use Rattle.slot_code.specs.declared.item.Slot.TheVariants.{Variable, Shadow}
+use Rattle.slot_code.specs.declared.slots.SlotFunction.{SlotFunction}
+use Rattle.slot_code.specs.Numbering.{slot_number}
+use Rattle.rv64_words_laws.specs.sequences.Moves.{Move}
+
+-- the word of the frame that is a slot's own
+abbrev pub slot_word : SlotFunction → Slot → ℕ
+slot_word g slot = 2 + slot_number g.shadow_numbers slot
+
+-- the first word of the slots as they were at open speculation `level`, from 1; level 0 is the slots as they are
+abbrev pub level_word : SlotFunction → ℕ → ℕ
+level_word g level = 2 + length g.slots * level
+
+-- how many speculations are open at a point of a function
+abbrev pub depth_at : SlotFunction → ℕ → ℕ
+depth_at g point = slice_index g.depths point
+
+-- ---- homes
+
+-- of one function: where each slot is, whether a speculation of a level, from 1, keeps it, and whether it is live at a point
+pub record FunctionHomes : Type 0 where
+  pub home : Slot → Home
+  pub saved : ℕ → Slot → Bool
+  pub live : ℕ → Slot → Bool
+
+abbrev pub variable_home : FunctionHomes → ℕ → Home
+variable_home homes x = homes.home (Variable x)
+
+-- ---- moves
+
+-- of slots that are numbered from i on, those that pass a test, each with the word of its number after a first one
+abbrev pub moves_from : FunctionHomes → ℕ → (Slot → Bool) → ℕ → List Slot → List Move
+moves_from homes first test i [] = []
+moves_from homes first test i (slot ∷ slots) =
+    if test slot then record { home = homes.home slot; word = first + i } ∷ moves_from homes first test (suc i) slots
+    else moves_from homes first test (suc i) slots
+
+-- of all slots of a function
+abbrev pub moves_of : FunctionHomes → SlotFunction → ℕ → (Slot → Bool) → List Move
+moves_of homes g first test = moves_from homes first test 0 g.slots
+
+abbrev pub in_register : Home → Bool
+in_register (Reg r) = true
+in_register (Frame o) = false
+
+-- the slot is this variable, if it is one
+abbrev pub is_variable : Option ℕ → Slot → Bool
+is_variable None slot = false
+is_variable (Some x) (Variable y) = x == y
+is_variable (Some x) (Shadow y) = false
+
+abbrev pub is_argument : SlotFunction → Slot → Bool
+is_argument g (Variable x) = nat_lt x g.args
+is_argument g (Shadow x) = false
+
+-- what the `speculate` at a point keeps: what its level keeps and is live there
+abbrev pub is_kept : FunctionHomes → SlotFunction → ℕ → Slot → Bool
+is_kept homes g point slot = homes.saved (suc (depth_at g point)) slot && homes.live point slot
+
+abbrev pub speculate_moves : FunctionHomes → SlotFunction → ℕ → List Move
+speculate_moves homes g point = moves_of homes g (level_word g (suc (depth_at g point))) (is_kept homes g point)
+
+-- what a guard at a point takes back: what its level keeps and is live at the guard's label
+abbrev pub is_taken_back : FunctionHomes → SlotFunction → ℕ → ℕ → Slot → Bool
+is_taken_back homes g point label slot = homes.saved (depth_at g point) slot && homes.live label slot
+
+abbrev pub guard_moves : FunctionHomes → SlotFunction → ℕ → ℕ → List Move
+guard_moves homes g point label = moves_of homes g (level_word g (depth_at g point)) (is_taken_back homes g point label)
+
+-- What the call at a point keeps of registers, each in its slot's own word: what is live after the call, but for the variable
+-- that gets its result.
+abbrev pub outlives : FunctionHomes → ℕ → Option ℕ → Slot → Bool
+outlives homes point dest slot = in_register (homes.home slot) && (homes.live (suc point) slot && not (is_variable dest slot))
+
+abbrev pub call_moves : FunctionHomes → SlotFunction → ℕ → Option ℕ → List Move
+call_moves homes g point dest = moves_of homes g 2 (outlives homes point dest)
+
+-- what a function loads as it begins: the arguments, which come in the frame, whose homes are registers
+abbrev pub is_loaded : FunctionHomes → SlotFunction → Slot → Bool
+is_loaded homes g slot = in_register (homes.home slot) && (is_argument g slot && homes.live 0 slot)
+
+abbrev pub opening_moves : FunctionHomes → SlotFunction → List Move
+opening_moves homes g = moves_of homes g 2 (is_loaded homes g)

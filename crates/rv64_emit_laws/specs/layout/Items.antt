@@ -1,0 +1,214 @@
+-- The words of each item of code over slots, and how many they are, by the homes of the function's slots.
+--
+-- Register 2 has the address of the frame, and register 8 the number of frames that may still be made. Operands that aren't in
+-- registers are brought into 5 and 7, and results that don't go to registers are left in 5 or 10; 6 has the address of a far
+-- word of the frame, and 7 that of a far frame.
+use Rattle.std.specs.Prelude.{ℕ, suc, ◌+◌, List, [], ◌∷◌, ◌++◌, Option, Some, None, pos, negsuc}
+use Rattle.bril_tree.specs.declared.types.Base.{Base}
+use Rattle.bril_tree.specs.declared.types.Base.TheVariants as base
+use Rattle.bril_tree.specs.declared.home.Home.{Home}
+use Rattle.bril_tree.specs.declared.operators.BinaryOp.{BinaryOp}
+use Rattle.bril_tree.specs.declared.operators.UnaryOp.{UnaryOp}
+use Rattle.bril_tree.specs.declared.operators.UnaryOp.TheVariants as unary
+use Rattle.bril_tree.specs.Value.{word_of}
+use Rattle.rv64_words.specs.declared.word.Word.{Word}
+use Rattle.rv64_words.specs.declared.word.Word.TheVariants.{Jal, Jalr, Ld, Ecall}
+use Rattle.rv64_words.specs.Mnemonics.{addi, beq, bne}
+use Rattle.slot_code.specs.declared.item.Printed.{Printed}
+use Rattle.slot_code.specs.declared.item.SlotItem.{SlotItem}
+use Rattle.slot_code.specs.declared.item.SlotItem.TheVariants.{Pass, Constant, Copy, Unary, Binary, Jump, Branch, Call, Return, Print, Alloc, Free, Store, Load, Speculate, Commit, Guard}
+use Rattle.slot_code.specs.declared.slots.SlotFunction.{SlotFunction}
+use Rattle.rv64_words_laws.specs.sequences.Operations.{unary_takes_any, unary_words, binary_takes_any, binary_words, alloc_words, free_words, cell_words, load_cell_words, mark_cell_words, store_cell_words, unary_size, binary_size}
+use Rattle.rv64_words_laws.specs.sequences.Moves.{register_for, source_words, source_size, target_words, target_size, copy_words, copy_size, operand_register, operand_words, operand_size, result_register, result_words, result_size, fetch_words, fetch_size, fill_words, fill_size, save_words, save_size, restore_words, restore_size}
+use Rattle.rv64_words_laws.specs.sequences.Sequences.{constant_words, store_words, fault_words, jump_offset, frame_up_words, constant_size, store_size, frame_up_size}
+use Rattle.rv64_emit_laws.specs.layout.Homes.{FunctionHomes, variable_home, call_moves, guard_moves, speculate_moves}
+
+-- ---- the frame
+
+-- word k of the slots of a frame that is made next, as a word of this frame
+abbrev pub argument_word : SlotFunction → ℕ → ℕ
+argument_word g k = g.words + (2 + k)
+
+-- ---- calls and returns
+
+-- the fault Frames where no frame may be made, else one less may be
+abbrev pub room_words : List Word
+room_words = bne 8 0 (pos 16) ∷ (fault_words 8 ++ addi 8 8 (negsuc 0) ∷ [])
+
+-- the arguments, from argument k on, into their slots of the new frame
+abbrev pub pass_words : FunctionHomes → SlotFunction → ℕ → List ℕ → List Word
+pass_words homes g k [] = []
+pass_words homes g k (a ∷ args) =
+    source_words 5 (variable_home homes a) ++ (store_words (register_for 5 (variable_home homes a)) (argument_word g k) ++ pass_words homes g (suc k) args)
+
+abbrev pub pass_size : FunctionHomes → SlotFunction → ℕ → List ℕ → ℕ
+pass_size homes g k [] = 0
+pass_size homes g k (a ∷ args) = source_size (variable_home homes a) + (store_size (argument_word g k) + pass_size homes g (suc k) args)
+
+-- the result, which comes in register 10, into its destination
+abbrev pub call_result_words : FunctionHomes → Option ℕ → List Word
+call_result_words homes None = []
+call_result_words homes (Some x) = fill_words 10 (variable_home homes x)
+
+abbrev pub call_result_size : FunctionHomes → Option ℕ → ℕ
+call_result_size homes None = 0
+call_result_size homes (Some x) = fill_size (variable_home homes x)
+
+-- how many words of the call at a point come before its jump
+abbrev pub before_call : FunctionHomes → SlotFunction → ℕ → Option ℕ → List ℕ → ℕ
+before_call homes g point dest args = 5 + (save_size (call_moves homes g point dest) + (pass_size homes g 0 args + frame_up_size g.words))
+
+-- the words after its jump: registers get back what the call kept, and the destination gets the result
+abbrev pub after_call : FunctionHomes → SlotFunction → ℕ → Option ℕ → List Word
+after_call homes g point dest = restore_words (call_moves homes g point dest) ++ call_result_words homes dest
+
+-- a call of the function at word `start`; the call itself begins at word `here`
+abbrev pub call_words : FunctionHomes → SlotFunction → (point here : ℕ) → Option ℕ → (start : ℕ) → List ℕ → List Word
+call_words homes g point here dest start args =
+    room_words ++ (save_words (call_moves homes g point dest) ++ (pass_words homes g 0 args ++ (frame_up_words g.words
+    ++ Jal 1 (jump_offset (here + before_call homes g point dest args) start) ∷ after_call homes g point dest)))
+
+-- the word to which the called function returns
+abbrev pub return_word : FunctionHomes → SlotFunction → (point here : ℕ) → Option ℕ → List ℕ → ℕ
+return_word homes g point here dest args = here + before_call homes g point dest args + 1
+
+-- the end of a function: one frame more may be made, and control goes to the caller's next word
+abbrev pub leave_words : List Word
+leave_words = Ld 1 2 (pos 0) ∷ Ld 2 2 (pos 8) ∷ addi 8 8 (pos 1) ∷ Jalr 0 1 (pos 0) ∷ []
+
+-- the returned value into register 10
+abbrev pub returned_words : FunctionHomes → Option ℕ → List Word
+returned_words homes None = []
+returned_words homes (Some x) = fetch_words 10 (variable_home homes x)
+
+abbrev pub returned_size : FunctionHomes → Option ℕ → ℕ
+returned_size homes None = 0
+returned_size homes (Some x) = fetch_size (variable_home homes x)
+
+-- ---- output
+
+-- the environment call of a number
+abbrev pub environment_words : ℕ → List Word
+environment_words number = addi 17 0 (pos number) ∷ Ecall ∷ []
+
+-- the environment call that prints a value
+abbrev pub print_call : Base → ℕ
+print_call base.Int = 1
+print_call base.Bool = 2
+print_call base.Char = 3
+
+abbrev pub value_words : FunctionHomes → Printed → List Word
+value_words homes a = fetch_words 10 (variable_home homes a.variable) ++ environment_words (print_call a.kind)
+
+-- each value after a space
+abbrev pub spaced_words : FunctionHomes → List Printed → List Word
+spaced_words homes [] = []
+spaced_words homes (a ∷ args) = environment_words 4 ++ (value_words homes a ++ spaced_words homes args)
+
+abbrev pub spaced_size : FunctionHomes → List Printed → ℕ
+spaced_size homes [] = 0
+spaced_size homes (a ∷ args) = 4 + (fetch_size (variable_home homes a.variable) + spaced_size homes args)
+
+-- the values, with a space between two, and a line feed
+abbrev pub print_words : FunctionHomes → List Printed → List Word
+print_words homes [] = environment_words 5
+print_words homes (a ∷ args) = value_words homes a ++ (spaced_words homes args ++ environment_words 5)
+
+abbrev pub print_size : FunctionHomes → List Printed → ℕ
+print_size homes [] = 2
+print_size homes (a ∷ args) = 4 + (fetch_size (variable_home homes a.variable) + spaced_size homes args)
+
+-- ---- speculation
+
+-- a word that does nothing
+abbrev pub nop_word : Word
+nop_word = addi 0 0 (pos 0)
+
+-- the words of the guard at a point before its last, the jump to its abort: over them where the condition holds, else what the
+-- newest open speculation kept goes back to its homes
+abbrev pub guard_front : FunctionHomes → SlotFunction → (point condition label : ℕ) → List Word
+guard_front homes g point condition label =
+    source_words 5 (variable_home homes condition) ++ beq (register_for 5 (variable_home homes condition)) 0 (pos 8) ∷ Jal 0 (jump_offset 0 (2 + restore_size (guard_moves homes g point label)))
+    ∷ restore_words (guard_moves homes g point label)
+
+abbrev pub guard_front_size : FunctionHomes → SlotFunction → (point condition label : ℕ) → ℕ
+guard_front_size homes g point condition label = source_size (variable_home homes condition) + (2 + restore_size (guard_moves homes g point label))
+
+-- ---- operations
+
+-- the number of a char is its word already, so that `char2int` is a copy
+abbrev pub unary_item_words : UnaryOp → (dest operand : Home) → List Word
+unary_item_words unary.CharToInt dest operand = copy_words dest operand
+unary_item_words operation dest operand =
+    let any = unary_takes_any operation in
+    operand_words any 5 operand ++ (unary_words operation (result_register any dest) (operand_register any 5 operand) ++ result_words any dest)
+
+abbrev pub unary_item_size : UnaryOp → (dest operand : Home) → ℕ
+unary_item_size unary.CharToInt dest operand = copy_size dest operand
+unary_item_size operation dest operand =
+    let any = unary_takes_any operation in
+    operand_size any operand + (unary_size operation + result_size any dest)
+
+abbrev pub binary_item_words : BinaryOp → (dest first second : Home) → List Word
+binary_item_words operation dest first second =
+    let any = binary_takes_any operation in
+    operand_words any 5 first ++ (operand_words any 7 second
+    ++ (binary_words operation (result_register any dest) (operand_register any 5 first) (operand_register any 7 second) ++ result_words any dest))
+
+abbrev pub binary_item_size : BinaryOp → (dest first second : Home) → ℕ
+binary_item_size operation dest first second =
+    let any = binary_takes_any operation in
+    operand_size any first + (operand_size any second + (binary_size operation + result_size any dest))
+
+-- ---- items
+
+-- how many words the item at a point has
+abbrev pub item_size : FunctionHomes → SlotFunction → ℕ → SlotItem → ℕ
+item_size homes g point Pass = 0
+item_size homes g point (Constant dest value) = constant_size (word_of value) + target_size (variable_home homes dest)
+item_size homes g point (Copy dest from) = copy_size (homes.home dest) (homes.home from)
+item_size homes g point (Unary operation dest operand) = unary_item_size operation (variable_home homes dest) (variable_home homes operand)
+item_size homes g point (Binary operation dest first second) = binary_item_size operation (variable_home homes dest) (variable_home homes first) (variable_home homes second)
+item_size homes g point (Jump to) = 1
+item_size homes g point (Branch condition then_to else_to) = source_size (variable_home homes condition) + 3
+item_size homes g point (Call dest function args) =
+    before_call homes g point dest args + (1 + (restore_size (call_moves homes g point dest) + call_result_size homes dest))
+item_size homes g point (Return value) = returned_size homes value + 4
+item_size homes g point (Print args) = print_size homes args
+item_size homes g point (Alloc dest count) = fetch_size (variable_home homes count) + (2 + fill_size (variable_home homes dest))
+item_size homes g point (Free pointer) = fetch_size (variable_home homes pointer) + 2
+item_size homes g point (Store pointer value) = fetch_size (variable_home homes pointer) + (16 + (source_size (variable_home homes value) + 1))
+item_size homes g point (Load dest pointer) = fetch_size (variable_home homes pointer) + (20 + target_size (variable_home homes dest))
+item_size homes g point Speculate = save_size (speculate_moves homes g point) + 1
+item_size homes g point Commit = 1
+item_size homes g point (Guard condition abort_to) = guard_front_size homes g point condition abort_to + 1
+
+-- where functions begin, where the items of this function begin, and where the item at this point does
+module _ (homes : FunctionHomes) (start entry : ℕ → ℕ) (g : SlotFunction) (point here : ℕ) where
+  -- the last word of a guard: it is executed where the condition doesn't hold
+  abbrev pub abort_word : ℕ → ℕ → Word
+  abort_word condition abort_to = Jal 0 (jump_offset (here + guard_front_size homes g point condition abort_to) (entry abort_to))
+
+  -- the words of the item at the point
+  abbrev pub item_words : SlotItem → List Word
+  item_words Pass = []
+  item_words (Constant dest value) = constant_words (register_for 5 (variable_home homes dest)) (word_of value) ++ target_words 5 (variable_home homes dest)
+  item_words (Copy dest from) = copy_words (homes.home dest) (homes.home from)
+  item_words (Unary operation dest operand) = unary_item_words operation (variable_home homes dest) (variable_home homes operand)
+  item_words (Binary operation dest first second) = binary_item_words operation (variable_home homes dest) (variable_home homes first) (variable_home homes second)
+  item_words (Jump to) = Jal 0 (jump_offset here (entry to)) ∷ []
+  item_words (Branch condition then_to else_to) =
+      let at = here + source_size (variable_home homes condition) in
+      source_words 5 (variable_home homes condition) ++ beq (register_for 5 (variable_home homes condition)) 0 (pos 8) ∷ Jal 0 (jump_offset (at + 1) (entry then_to)) ∷ Jal 0 (jump_offset (at + 2) (entry else_to)) ∷ []
+  item_words (Call dest function args) = call_words homes g point here dest (start function) args
+  item_words (Return value) = returned_words homes value ++ leave_words
+  item_words (Print args) = print_words homes args
+  item_words (Alloc dest count) = fetch_words 10 (variable_home homes count) ++ (alloc_words ++ fill_words 10 (variable_home homes dest))
+  item_words (Free pointer) = fetch_words 10 (variable_home homes pointer) ++ free_words
+  item_words (Store pointer value) =
+      fetch_words 5 (variable_home homes pointer) ++ (cell_words ++ (mark_cell_words ++ (source_words 5 (variable_home homes value) ++ store_cell_words (register_for 5 (variable_home homes value)))))
+  item_words (Load dest pointer) =
+      fetch_words 5 (variable_home homes pointer) ++ (cell_words ++ (load_cell_words (register_for 5 (variable_home homes dest)) ++ target_words 5 (variable_home homes dest)))
+  item_words Speculate = save_words (speculate_moves homes g point) ++ nop_word ∷ []
+  item_words Commit = nop_word ∷ []
+  item_words (Guard condition abort_to) = guard_front homes g point condition abort_to ++ abort_word condition abort_to ∷ []

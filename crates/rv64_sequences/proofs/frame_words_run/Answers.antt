@@ -1,5 +1,0 @@
-use Rattle.rv64_sequences.proofs.Stretches.{frame_loads, frame_stores}
-use Rattle.rv64_sequences.proofs.frame_words_run.Goals as goal
-
-pub returns : goal.returns
-returns c = record { loads = frame_loads; stores = frame_stores }

@@ -1,5 +1,0 @@
-use Rattle.rv64_values.proofs.Unary.{unary_gives, unary_faults}
-use Rattle.rv64_values.proofs.unary_words_compute.Goals as goal
-
-pub returns : goal.returns
-returns c = record { gives = unary_gives; faults = unary_faults }

@@ -1,0 +1,4 @@
+pub mod blocks
+pub mod sequences
+pub mod stretches
+pub mod values

@@ -1,9 +1,0 @@
-use Rattle.std.proofs.Common.{◌≡◌, ◌*◌, length}
-use Rattle.ssa_accesses.specs.Accesses.{AreAccessesBefore}
-use Rattle.ssa_accesses.proofs.accesses.block_accesses.Given as goal
-
-abbrev pub invariant-loop-point : goal.invariant-loop-point
-invariant-loop-point l = record {
-  long : length l.last.items ≡ 2 * length l.func.vars;
-  before : AreAccessesBefore l.func.code l.point l.last.items l.exposed.items l.firsts.items;
-}

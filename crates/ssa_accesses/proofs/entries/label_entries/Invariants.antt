@@ -1,9 +1,0 @@
-use Rattle.std.proofs.Common.{◌≡◌, length}
-use Rattle.ssa_accesses.specs.Entries.{AreEntriesBefore}
-use Rattle.ssa_accesses.proofs.entries.label_entries.Given as goal
-
-abbrev pub invariant-loop-point : goal.invariant-loop-point
-invariant-loop-point l = record {
-  nodes : l.reached.nodes ≡ length l.code;
-  before : AreEntriesBefore l.code l.point l.entries.items;
-}

@@ -1,5 +1,0 @@
-use Rattle.ssa_classes.proofs.Loop.{RoundKeeps}
-use Rattle.ssa_classes.proofs.trivial.Work.round.Given as goal
-
-abbrev pub invariant-loop-get : goal.invariant-loop-get
-invariant-loop-get l = RoundKeeps l.operands l.base l.todo l.fn.self.gone.items l.get-index l.joined l.self.classes l.self.gone.items l.self.ends.items l.self.firsts.items

@@ -1,6 +1,0 @@
-use Rattle.std.proofs.Common.{◌≡◌, take}
-use Rattle.ssa_code.specs.Items.{kept}
-use Rattle.ssa_code.proofs.copies.kept.Given as goal
-
-abbrev pub invariant-loop-get : goal.invariant-loop-get
-invariant-loop-get l = l.made.items ≡ kept l.find (take l.get-index l.gets)

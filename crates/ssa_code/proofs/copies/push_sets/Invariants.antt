@@ -1,6 +1,0 @@
-use Rattle.std.proofs.Common.{◌≡◌, ◌++◌, take}
-use Rattle.ssa_code.specs.Items.{set_items}
-use Rattle.ssa_code.proofs.copies.push_sets.Given as goal
-
-abbrev pub invariant-loop-get : goal.invariant-loop-get
-invariant-loop-get l = l.code ≡ l.fn.code ++ set_items l.names l.find l.now (take l.get-index l.gets)

@@ -1,6 +1,0 @@
-use Rattle.std.proofs.Common.{◌≡◌, map, take}
-use Rattle.ssa_code.specs.Items.{read_name}
-use Rattle.ssa_code.proofs.items.read_names.Given as goal
-
-abbrev pub invariant-loop-x : goal.invariant-loop-x
-invariant-loop-x l = l.made ≡ map (read_name l.names l.find l.now) (take l.x-index l.args)

@@ -1,7 +1,0 @@
-use Rattle.std.proofs.Common.{◌≡◌, map, take}
-use Rattle.bril_tree.specs.Operand.{dest_of}
-use Rattle.ssa_code.specs.Names.{or_none}
-use Rattle.ssa_code.proofs.names.variables_written.Given as goal
-
-abbrev pub invariant-loop-item : goal.invariant-loop-item
-invariant-loop-item l = l.variables.items ≡ map (λ item. or_none (dest_of item)) (take l.item-index l.code)

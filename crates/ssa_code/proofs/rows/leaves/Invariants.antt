@@ -1,6 +1,0 @@
-use Rattle.std.proofs.Common.{◌≡◌, take}
-use Rattle.ssa_code.specs.Rows.{leaves_of}
-use Rattle.ssa_code.proofs.rows.leaves.Given as goal
-
-abbrev pub invariant-loop-edge : goal.invariant-loop-edge
-invariant-loop-edge l = l.leaves.items ≡ leaves_of l.code (take l.edge-index l.edges)

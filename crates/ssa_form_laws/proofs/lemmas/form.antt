@@ -1,0 +1,11 @@
+pub mod Points
+pub mod Fronts
+pub mod Single
+pub mod Following
+pub mod Given
+pub mod Edges
+pub mod Needed
+pub mod Edits
+pub mod Sizes
+pub mod Trees
+pub mod Having

@@ -1,9 +1,0 @@
-use Rattle.std.proofs.Common.{◌≡◌, length, drop}
-use Rattle.ssa_gets.specs.Found.{with_values}
-use Rattle.ssa_gets.proofs.found.erase_firsts.Given as goal
-
-abbrev pub invariant-loop-point : goal.invariant-loop-point
-invariant-loop-point l = record {
-  long : length l.first.items ≡ length l.fn.first.items;
-  written : with_values (λ _. 4294967295) l.heads (drop l.point-index l.points) l.first.items ≡ with_values (λ _. 4294967295) l.heads l.points l.fn.first.items;
-}

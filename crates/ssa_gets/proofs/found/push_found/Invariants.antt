@@ -1,6 +1,0 @@
-use Rattle.std.proofs.Common.{◌≡◌, ◌++◌, drop, map}
-use Rattle.ssa_gets.specs.Found.{found_at}
-use Rattle.ssa_gets.proofs.found.push_found.Given as goal
-
-abbrev pub invariant-loop-label : goal.invariant-loop-label
-invariant-loop-label l = l.found.items ++ map (found_at l.location) (drop l.label-index l.labels) ≡ l.fn.found.items ++ map (found_at l.location) l.labels

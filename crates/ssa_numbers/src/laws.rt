@@ -1,9 +1,0 @@
-// What follows of a tree that is laid out in SSA form.
-
-ghost use Rattle.ssa_numbers.specs.Laws.{LaidTreesAreSsa};
-
-/// The program of a tree that is laid out in SSA form is in this form, with the heads and labels of the program that it was made of;
-/// nothing stays that no walk reaches but labels and `nop`s; and its numbers grow by no more than the bound allows. A call does nothing.
-pub fn laid_trees_are_ssa()
-    ensures { LaidTreesAreSsa }
-{}

@@ -1,0 +1,8 @@
+use Rattle.std.proofs.Common.{◌≡◌, length}
+use Rattle.ssa_search.proofs.live_entry_count.search.forget_points.Given as goal
+
+abbrev pub invariant-loop-point : goal.invariant-loop-point
+invariant-loop-point l = record {
+  heads : length l.lanes.lows.items ≡ length l.fn.lanes.lows.items;
+  points : l.lanes.points.items ≡ l.fn.lanes.points.items;
+}

@@ -1,9 +1,0 @@
-// What follows of code that is laid out.
-
-ghost use Rattle.ssa_tree.specs.Standing.{LaidItemsStand};
-
-/// In laid code each item of the function stands behind what was put in before it, and each of these pieces in its order. A call does
-/// nothing.
-pub fn laid_items_stand()
-    ensures { LaidItemsStand }
-{}

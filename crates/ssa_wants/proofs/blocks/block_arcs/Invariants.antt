@@ -1,7 +1,0 @@
-use Rattle.std.proofs.Common.{◌≡◌, ◌++◌, drop}
-use Rattle.std.specs.List.{flat_map}
-use Rattle.ssa_wants.specs.Blocks.{edge_arcs}
-use Rattle.ssa_wants.proofs.blocks.block_arcs.Given as goal
-
-abbrev pub invariant-loop-edge : goal.invariant-loop-edge
-invariant-loop-edge l = l.arcs.items ++ flat_map (edge_arcs l.code) (drop l.edge-index l.graph.edges) ≡ flat_map (edge_arcs l.code) l.graph.edges

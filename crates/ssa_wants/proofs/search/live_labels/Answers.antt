@@ -1,5 +1,0 @@
-use Rattle.ssa_wants.proofs.Found.{finds-live_labels}
-use Rattle.ssa_wants.proofs.search.live_labels.Goals as goal
-
-pub returns-clause-found : goal.returns-clause-found
-returns-clause-found c = finds-live_labels c.args.blocks.now.arcs c.args.seeds.now c.args.first.now c.search.new.self.found c.in_ok-search.ensures.found

@@ -1,0 +1,4 @@
+pub mod acceptance
+pub mod growth
+pub mod lines
+pub mod refinement

@@ -1,0 +1,2 @@
+pub mod fresh_names
+pub mod matching

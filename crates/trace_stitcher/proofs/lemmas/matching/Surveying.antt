@@ -1,0 +1,38 @@
+-- One survey more.
+use Rattle.std.proofs.Common.{◌≡◌, ℕ, ◌<◌, List, [], ◌∷◌, ◌++◌, length, get_or, Some, None, refl, sym, ap, subst, ◌∙◌}
+use Rattle.std.specs.Prelude.{is_some, slice_get}
+use Rattle.std.specs.List.{All}
+use Rattle.std.proofs.lemmas.Option.{same_Some, slice_get-get_or}
+use Rattle.bril_tree.specs.declared.numbered_function.Func.{Func}
+use Rattle.bril_tree.specs.declared.program.Prog.{Prog}
+use Rattle.bril_tree.specs.Accepted.{IsAccepted}
+use Rattle.bril_tree.specs.Shape.{shape_fault_of}
+use Rattle.bril_tree.proofs.Elements.{All-at}
+use Rattle.bril_tree.proofs.Acceptance.{accepted_function, shaped_function}
+use Rattle.trace_stitcher.specs.declared.matching.surveys.Survey.{Survey}
+use Rattle.trace_stitcher.specs.matching.Surveys.{IsSurvey, IsSurveyOf}
+
+-- the function of a number, as it is read
+pub read-there : (P : Prog) (funcs : List Func) (k : ℕ) (F : Func) → funcs ≡ P.funcs → k < length P.funcs → F ≡ get_or funcs k F → slice_get P.funcs k ≡ Some F
+read-there P funcs k F all within is = slice_get-get_or P.funcs k F within ∙ ap Some (sym (is ∙ ap (λ (fs : List Func). get_or fs k F) all))
+
+pub shaped-there : (P : Prog) (k : ℕ) (F : Func) → IsAccepted P → slice_get P.funcs k ≡ Some F → shape_fault_of (is_some F.ret) F.code ≡ None
+shaped-there P k F accepted there = shaped_function P F (accepted_function P k F accepted there)
+
+pub survey-there : (P : Prog) (k : ℕ) (F : Func) (s : Survey) → slice_get P.funcs k ≡ Some F → s.function ≡ k → IsSurveyOf F s → IsSurvey P s
+survey-there P k F s there number is G at = subst (λ (H : Func). IsSurveyOf H s) (same_Some F G (sym there ∙ ap (slice_get P.funcs) (sym number) ∙ at)) is
+
+pub last-is : {A : Type 0} (xs : List A) (x y : A) (k : ℕ) → k ≡ length xs → slice_get (xs ++ x ∷ []) k ≡ Some y → x ≡ y
+last-is {A} xs x y k e at = same_Some x y (sym (last xs) ∙ ap (slice_get (xs ++ x ∷ [])) (sym e) ∙ at)
+  where
+    last : (zs : List A) → slice_get (zs ++ x ∷ []) (length zs) ≡ Some x
+    last [] = refl
+    last (z ∷ zs) = last zs
+
+-- the survey at a place is that of the function
+pub survey-read : (P : Prog) (surveys : List Survey) (place f : ℕ) (F : Func) (s : Survey) → All (IsSurvey P) surveys → place < length surveys → ((z : Survey) → slice_get surveys place ≡ Some z → z.function ≡ f) → s ≡ get_or surveys place s → slice_get P.funcs f ≡ Some F
+    → (s.function ≡ f) × IsSurveyOf F s
+survey-read P surveys place f F s all within is read there =
+    let at = slice_get-get_or surveys place s within ∙ ap Some (sym read) in
+    let number = is s at in
+    (number, All-at (IsSurvey P) surveys place s all at F (ap (slice_get P.funcs) number ∙ there))

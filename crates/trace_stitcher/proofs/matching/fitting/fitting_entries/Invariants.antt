@@ -1,0 +1,13 @@
+use Rattle.std.proofs.Common.{take}
+use Rattle.std.specs.List.{All, AllPairs}
+use Rattle.trace_stitcher.specs.matching.Fitting.{FitSoFar, HasPath, IsElsewhere}
+use Rattle.trace_stitcher.specs.matching.Surveys.{IsSurvey}
+use Rattle.trace_stitcher.proofs.matching.fitting.fitting_entries.Given as goal
+
+abbrev pub invariant-loop-entry : goal.invariant-loop-entry
+invariant-loop-entry l = record {
+  surveys : All (IsSurvey l.prog) l.surveys.items;
+  fits : FitSoFar l.prog (take l.entry-index l.entries) l.found.items;
+  paths : All (HasPath l.prog) l.found.items;
+  apart : AllPairs IsElsewhere l.found.items;
+}
