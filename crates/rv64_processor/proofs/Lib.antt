@@ -1,9 +1,3 @@
-pub mod GroupProps
-pub mod GroupWords
 pub mod Moving
 pub mod Regions
-pub mod ResolvedSteps
-pub mod ResolvedWords
-pub mod SameWords
 pub mod Stretches
-pub mod Tables

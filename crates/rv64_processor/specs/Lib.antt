@@ -1,7 +1,6 @@
 pub mod Addresses
-pub mod Groups
 pub mod MemoryView
 pub mod Pc
 pub mod ProcessorView
 pub mod RegionView
-pub mod Resolved
+pub mod Runs

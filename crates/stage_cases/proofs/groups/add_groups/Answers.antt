@@ -1,5 +1,5 @@
 use Rattle.std.proofs.Common.{◌≤◌, length, ap, arith}
-use Rattle.rv64_processor.proofs.ResolvedWords.{resolved_len}
+use Rattle.rv64_groups.proofs.ResolvedWords.{resolved_len}
 use Rattle.stage_cases.proofs.groups.add_groups.Goals as goal
 
 pub groups_of-requires : goal.groups_of-requires

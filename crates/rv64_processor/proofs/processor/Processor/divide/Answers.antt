@@ -1,5 +1,5 @@
 use Rattle.std.proofs.Common.{[], ◌∷◌}
-use Rattle.rv64_processor.specs.declared.resolved.Resolved.TheVariants.{Div}
+use Rattle.rv64_groups.specs.declared.resolved.Resolved.TheVariants.{Div}
 use Rattle.rv64_processor.proofs.Stretches.{has_at, went_more}
 use Rattle.rv64_processor.proofs.processor.Processor.divide.Goals as goal
 
