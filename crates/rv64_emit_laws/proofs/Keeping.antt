@@ -8,6 +8,7 @@ use Rattle.bril_tree.specs.declared.home.Home.{Home}
 use Rattle.bril_tree.specs.declared.home.Home.TheVariants.{Reg, Frame}
 use Rattle.bril_tree.specs.declared.value.Value.{Value}
 use Rattle.bril_tree.specs.FunctionForm.{listed}
+use Rattle.bril_tree.specs.Home.{is_home_register}
 use Rattle.bril_tree.specs.Live.{IsLive}
 use Rattle.bril_tree.specs.Locals.{location_value}
 use Rattle.bril_tree.specs.Membership.{In}
@@ -20,7 +21,7 @@ use Rattle.placement_laws.specs.Homes.{slot_of}
 use Rattle.placement_laws.proofs.Calling.{needed_alone}
 use Rattle.rv64_emit_laws.specs.layout.Homes.{FunctionHomes, in_register, is_loaded, is_variable, moves_of, opening_moves, outlives, slot_word}
 use Rattle.rv64_emit_laws.proofs.lemmas.layout.Moving.{are_usable, homes_are_apart, move_in, slot_move, unmoved, words_are_apart}
-use Rattle.rv64_words_laws.specs.stretches.Core.{Core, is_home_register, written}
+use Rattle.rv64_words_laws.specs.stretches.Core.{Core, written}
 use Rattle.rv64_words_laws.proofs.lemmas.stretches.Cores.{apart_from, written_other}
 use Rattle.rv64_words_laws.proofs.lemmas.stretches.Going.{Going}
 use Rattle.rv64_words_laws.specs.sequences.Moves.{AreHomesApart, AreInside, AreUsable, IsUsable, Move, NoWordIsHome, Restored, Saved, home_word, restore_size, restore_words, save_size, save_words}

@@ -9,12 +9,12 @@ use Rattle.std.proofs.lemmas.List.FromFn.{get_or-map-range_with_len, length-map-
 use Rattle.std.proofs.lemmas.Option.{slice_get-get_or, slice_get-map, slice_get_within}
 use Rattle.bril_tree.specs.declared.home.Home.TheVariants.{Reg, Frame}
 use Rattle.bril_tree.specs.declared.numbered_function.Func.{Func}
+use Rattle.bril_tree.specs.Home.{is_home_register}
 use Rattle.bril_tree.specs.Operand.{Location, Variable, Shadow}
 use Rattle.slot_code.specs.declared.slots.SlotFunction.{SlotFunction}
 use Rattle.slot_code.specs.Lowered.{IsLoweredFunction}
 use Rattle.slot_code.proofs.Places.{slot_place}
 use Rattle.placement_laws.specs.Homes.{IsHomeOf, IsInRegister, IsSlotIn, number_in, slot_of}
-use Rattle.rv64_words_laws.specs.stretches.Core.{is_home_register}
 use Rattle.shadow_place.specs.declared.placed.FunctionHomes.{FunctionHomes}
 use Rattle.shadow_place.specs.Registers.{AreHomeRegisters, AreOwnRegisters, home_from, home_register, own_register}
 use Rattle.shadow_place.specs.Tables.{home_if, home_of}

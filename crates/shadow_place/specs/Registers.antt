@@ -2,7 +2,7 @@
 use Rattle.std.specs.Prelude.{◌≡◌, ◌≢◌, ℕ, ◌+◌, ◌<◌, ◌==◌, nat_lt, List, slice_index, IsTrue, if◌then◌else◌}
 use Rattle.bril_tree.specs.declared.home.Home.{Home}
 use Rattle.bril_tree.specs.declared.home.Home.TheVariants.{Reg, Frame}
-use Rattle.rv64_words_laws.specs.stretches.Core.{is_home_register}
+use Rattle.bril_tree.specs.Home.{is_home_register}
 
 -- so many registers are homes
 abbrev pub home_registers : ℕ
