@@ -3,6 +3,7 @@ pub mod Calls
 pub mod Encoding
 pub mod Environment
 pub mod Fields
+pub mod Hexadecimal
 pub mod Machine
 pub mod Mnemonics
 pub mod Region
