@@ -6,5 +6,6 @@ pub mod Fields
 pub mod Hexadecimal
 pub mod Machine
 pub mod Mnemonics
+pub mod Points
 pub mod Region
 pub mod State
