@@ -17,6 +17,7 @@ pub mod decoding;
 pub mod encoding;
 pub mod field;
 pub mod image;
+pub mod points;
 pub mod region;
 pub mod trap;
 pub mod word;
