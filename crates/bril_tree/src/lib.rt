@@ -10,7 +10,8 @@
 //!    (`src/operation.rt`), those on one and on two variables (`src/operators.rt`), the limits of a run (`src/limits.rt`).
 //! 4. What is asked of a program: shapes (`src/shape.rt`), sizes (`src/size.rt`), edges (`src/edge.rt`), labels
 //!    (`src/labels.rt`), literals (`src/literals.rt`); and when it is accepted (`specs/Accepted.antt`).
-//! 5. A variable or its shadow (`src/place.rt`), and where its value is (`src/home.rt`).
+//! 5. A variable or its shadow (`src/place.rt`), where its value is (`src/home.rt`), and in which registers it may
+//!    be (`specs/Home.antt`).
 //! 6. What a program does: a state (`specs/State.antt`), a step of it (`specs/Step.antt`), runs and when one program refines
 //!    another (`specs/Run.antt`).
 //! 7. What analyses and code generation say of programs: edges and where they leave (`specs/Leaving.antt`), live locations

@@ -1,7 +1,7 @@
 //! Laws alone: when an image of machine words does what a program does, and how large it may be.
 //!
-//! 1. An image does what a program does (`specs/Implements.antt`), and where a location's value is meanwhile
-//!    (`specs/Home.antt`).
+//! 1. An image does what a program does (`specs/Implements.antt`), where a location's value is meanwhile
+//!    (`specs/Home.antt`), and at which item the program stands (`specs/Stands.antt`).
 //! 2. The most words of an image and of its stack (`specs/WordBounds.antt`).
 //! 3. What so many words show of the program (`specs/Shown.antt`, `src/laws.rt`).
 #![tactic(auto)]

@@ -8,7 +8,9 @@
 //! 3. The regions of memory (`src/region.rt`, `specs/Region.antt`).
 //! 4. Environment calls and their numbers (`src/call.rt`), what they do, and how live blocks slide: `live_cells`,
 //!    `slid_cells`, `slid_table` (`specs/Environment.antt`).
-//! 5. Lemmas for the crates above: how many cells are live, and what slid cells and tables hold (`proofs/Live.antt`,
+//! 5. The points of an image, at which the items of its program begin (`src/points.rt`, `specs/Points.antt`), and hexadecimal
+//!    digits, in which words are listed (`specs/Hexadecimal.antt`).
+//! 6. Lemmas for the crates above: how many cells are live, and what slid cells and tables hold (`proofs/Live.antt`,
 //!    `proofs/Slid.antt`).
 #![tactic(auto)]
 
