@@ -1,8 +1,11 @@
-//! The pass `ssa`, which brings a program into SSA form.
+//! The pass `ssa`, which brings a program into SSA form (M. Braun and others, "Simple and Efficient Construction of Static
+//! Single Assignment Form", 2013). The four crates before it, from `ssa_laws` on, have its parts and their laws.
 //!
-//! What it makes and means stands in `ssa_form_laws::form` (`IsSsa`, `ssa_meaning`). Here is what it takes to be a pass: its bound on items, by the
-//! live entries of all functions (`src/bound.rt`), and the edit, which is the tree of `ssa_build::tree` (`src/ssa.rt`). That the tree is all that
-//! the pass is to make comes from the laws of `ssa_form_laws::laid`, `ssa_form_laws::form` and `ssa_form_laws::numbers` (`proofs/Made.antt`).
+//! What it makes and means stands in `ssa_form_laws::form` (`IsSsa`, `ssa_meaning`). Here is what it takes to be a pass.
+//!
+//! 1. Its bound on items, by the live entries of all functions (`src/bound.rt`).
+//! 2. The edit, which is the tree of `ssa_build::tree` (`src/ssa.rt`).
+//! 3. The tree is all that the pass is to make, by the laws of `ssa_form_laws` (`proofs/Made.antt`).
 #![tactic(auto)]
 
 mod bound;

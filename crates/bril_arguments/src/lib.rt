@@ -1,4 +1,7 @@
-//! The arguments of a program's `main`, read from words.
+//! The arguments of a program's `main`: exactly the values that the words spell, or the first fault.
+//!
+//! 1. The words of all arguments (`src/arguments.rt`; `AreSpelled`, `specs/Spelled.antt`), and one word (`src/spelling.rt`).
+//! 2. What is wrong with words (`src/fault.rt`, `specs/Faults.antt`).
 #![tactic(auto)]
 
 mod arguments;

@@ -2,7 +2,7 @@
 
 ghost use Rattle.std.specs.Prelude.{◌≡◌, ◌^◌, ◌-◌, ◌<◌, ◌≤◌, ◌+◌, ◌*◌, ◌||◌, ℕ, List, length, slice_index_or, Bool, false, count_by, EachIndex, IfOk};
 ghost use Rattle.std.specs.List.{list_any, range_with_len};
-ghost use Rattle.bril_tree.specs.FrameWords.{AreFrameWords, IsDepth, is_number, names_shadow};
+ghost use Rattle.bril_tree.specs.FrameWords.{AreFrameWords, IsDepth, is_number, names_shadow, frame_head};
 ghost use Rattle.bril_tree.specs.Sites.{AreSitesSound};
 ghost use Rattle.flow_graph.specs.Graph.{IsGraphOf};
 
@@ -105,7 +105,7 @@ fn depth(func: &Func, graph: &Graph) -> usize
 fn words_of(vars: &[VarInfo], shadows: usize, depth: usize) -> u64
     requires shadows { shadows ≤ length vars.now }
     requires depth { depth ≤ 8 }
-    ensures { result ≡ 2 + (length vars.now + shadows) * (1 + depth) }
+    ensures { result ≡ frame_head + (length vars.now + shadows) * (1 + depth) }
 {
     2 + (vars.len() as u64 + shadows as u64) * (1 + depth as u64)
 }

@@ -1,4 +1,9 @@
-//! The command line of Roolvist: what its words ask for is done, and the exit status says how it ended.
+//! The command line of Roolvist as a library: what its words ask for is done, and the exit status says how it ended. The
+//! contract of `bril_top` is the main theorem.
+//!
+//! 1. The main theorem (`src/top.rt`).
+//! 2. How a command line ends, also where the system gives no words (`src/end.rt`).
+//! 3. The list of shipped passes (`specs/Shipped.antt`).
 #![tactic(auto)]
 
 pub mod end;

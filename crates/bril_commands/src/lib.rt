@@ -1,11 +1,18 @@
-//! What the commands mean, and the stages that they share.
+//! What the commands mean, and the stages that they share. What the stages of a command answer is proved to add up to what
+//! the top call promises, once for every command.
 //!
-//! `specs/` says what the top call answers: `Command` is what a command is, `commands/` has a value for each of them, `Table` the
-//! table of all, `Outcome` what a command comes to, and `Answers` what each status says, and when it comes. `proofs/` shows once, for
-//! every command of this form, that what its stages answer adds up to what the top call promises.
-//!
-//! The functions are the stages from files to an accepted program, its arguments and what a list of passes makes of it, and the commands
-//! that make no image.
+//! 1. What a command is (`specs/Command.antt`), a value for each of them (`specs/commands/`), and the table of all
+//!    (`specs/Table.antt`).
+//! 2. What a command comes to (`specs/Outcome.antt`), its stages in turn (`specs/Driver.antt`), the profile that the passes
+//!    get (`specs/Profiles.antt`), and the entries of a recorded run (`specs/Recording.antt`).
+//! 3. What each status says, with the record `Promises` of the main theorem (`specs/Answers.antt`), and when a command is
+//!    done (`specs/When.antt`). For every command of this form what its stages answer adds up to that
+//!    (`proofs/Promises.antt`).
+//! 4. The stages: from files to their tree (`src/source.rt`), from a tree to its accepted program (`src/program.rt`), the
+//!    values that words spell (`src/arguments.rt`), from the path of a profile to its entries (`src/profile.rt`), lists of
+//!    passes (`src/list.rt`), and what a list makes with the profile that the words name (`src/making.rt`).
+//! 5. The commands that make no image (`src/commands/`): `check`, `interp`, `passes`, `text`, `json`, and `recording` for
+//!    `record` and for the run that `demo` records. What they put: `src/output.rt`.
 #![tactic(auto)]
 
 pub mod arguments;

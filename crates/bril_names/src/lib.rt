@@ -1,4 +1,9 @@
-//! Names become numbers: the numbered program of a tree, or the tree's first fault of a name, and back.
+//! Names become numbers, and back. `number` gives exactly the numbered program of a tree, or its first fault of a name;
+//! `unnumber` gives the tree back.
+//!
+//! 1. The faults of names (`specs/Faults.antt`).
+//! 2. From names to numbers (`src/numbering.rt` and `src/numbering/`).
+//! 3. From numbers to names (`src/unnumbering.rt` and `src/unnumbering/`).
 #![tactic(auto)]
 
 mod fault;

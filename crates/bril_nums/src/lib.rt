@@ -1,4 +1,8 @@
-//! Bril's ints: arithmetic, reading and writing. Nothing here allocates.
+//! Bril's ints: arithmetic, reading and writing, each exactly; and reading undoes writing. Nothing here allocates.
+//!
+//! 1. Arithmetic (`src/arith.rt`, `specs/Arith.antt`).
+//! 2. Ints in decimal, read and written (`src/decimal.rt`, `specs/Decimal.antt`).
+//! 3. Reading undoes writing (`src/laws.rt`).
 #![tactic(auto)]
 
 mod arith;

@@ -36,8 +36,12 @@ pub record IsDepth (code : List Instr) (depth : ℕ) : Type 0 where
   pub reaches : length (sites_of code deepest) ≡ depth
   pub most : (walk : List Branch) → IsWalk code walk → length (sites_of code walk) ≤ depth
 
--- Two words, and one for each location as it is and as it was at each open site.
+-- the words at the head of each frame: the way back, a pc in bytes, and where the caller's frame is
+abbrev pub frame_head : ℕ
+frame_head = 2
+
+-- Those at its head, and one for each location as it is and as it was at each open site.
 pub record AreFrameWords (f : Func) (words : ℕ) : Type 0 where
   pub depth : ℕ
   pub is : IsDepth f.code depth
-  pub are : words ≡ 2 + location_count f * (1 + depth)
+  pub are : words ≡ frame_head + location_count f * (1 + depth)

@@ -3,6 +3,7 @@ pub mod Assigned
 pub mod Edge
 pub mod FrameWords
 pub mod FunctionForm
+pub mod Home
 pub mod Identifier
 pub mod Labels
 pub mod Laws

@@ -1,4 +1,12 @@
-//! The words of the command line, read by `clap`: what they ask for.
+//! The words of the command line, read by `clap`: what they ask for, or how they are misused.
+//!
+//! 1. What words ask for (`specs/CommandLine.antt`), which words `clap` takes for certain (`specs/Plain.antt`), and the
+//!    commands as `clap` knows them (`specs/App.antt`).
+//! 2. Tables of the commands, and of what stands after them (`src/subcommands.rt`, `src/options.rt`), and what `clap` is told
+//!    of them (`src/builders.rt`).
+//! 3. The words cut and given to `clap` (`src/words.rt`), and the numbers and lists of its matches (`src/values.rt`,
+//!    `src/names.rt`).
+//! 4. What comes of it: a request (`src/request.rt`) or a misuse (`src/misuse.rt`).
 #![tactic(auto)]
 
 mod builders;

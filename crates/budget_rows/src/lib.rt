@@ -1,9 +1,10 @@
-//! Laws alone: what each pass that the program is shipped with makes is within the row of its name, by which a budget is computed.
+//! Laws alone: what each pass that the program is shipped with makes is within the row of its name, by which a budget is
+//! computed.
 //!
 //! 1. The bound of `ssa`: a program has no more live entries than its entries times its most locations (`specs/Entries.antt`,
 //!    `proofs/Entering.antt`).
-//! 2. From how a pass's numbers grow to its row (`proofs/Growing.antt`), and the rows (`specs/Rows.antt`, `proofs/Keeping.antt`,
-//!    `proofs/Renaming.antt`, `proofs/Tracing.antt`).
+//! 2. From how a pass's numbers grow to its row (`proofs/Growing.antt`), and each pass within its row (`src/laws.rt`): `ssa`
+//!    (`proofs/Renaming.antt`), `trace` (`proofs/Tracing.antt`), and those that make no program longer (`proofs/Keeping.antt`).
 #![tactic(auto)]
 
 mod laws;

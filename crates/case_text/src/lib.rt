@@ -1,6 +1,9 @@
-// The text form of rows: lines that stand for bytes, and bytes that are shown as lines.
-//
-// The programs of rows stand on it. No clause says what it gives: what it reads and writes is seen in their rows.
+//! The text form of cases: lines that stand for bytes, and bytes that are shown as lines. `command_cases` and `stage_cases`
+//! stand on it.
+//!
+//! No clause says what it gives: what it reads and writes is seen in the cases.
+//!
+//! 1. Bytes that a line writes with escapes (`src/escape.rt`), and bytes as lines (`src/lines.rt`).
 #![tactic(auto)]
 
 mod escape;

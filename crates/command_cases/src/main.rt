@@ -1,3 +1,10 @@
+//! A proved program that runs command lines through `bril_top`, over files and outputs in memory. `stdin` has its cases,
+//! `stdout` what must come, written by hand.
+//!
+//! 1. A case: the files and outputs that its lines set up, and its command lines (`src/case.rt`).
+//! 2. Machine words that a command wrote, executed (`src/listing.rt`), and how often the guards of a program failed
+//!    (`src/guards.rt`).
+
 // Runs the command lines of standard input, each over files and outputs in memory, and shows what they leave.
 //
 // Standard input is lines of text; `stdin` beside src/ has all cases, and `stdout` what they must come to, by hand.

@@ -1,4 +1,5 @@
-//! The pass `dead`: puts `nop` for removable items until none is left, and changes nothing else.
+//! The pass `dead`: puts `nop` for each computation of what isn't live and for each item that no walk reaches, until none is
+//! left, and changes nothing else.
 //!
 //! 1. Which items are removable (`specs/Removable.antt`), what the pass makes of them (`specs/Emptied.antt`), and what it
 //!    means (`specs/Dead.antt`).

@@ -1,5 +1,12 @@
-//! The flow graph of a function: its edges, the points to which walks lead, and their open speculation sites; and of each
-//! item what it reads, what it assigns and where control goes from it.
+//! The flow graph of a function, exactly: its edges, the points to which walks lead, and their open speculation sites; and of
+//! each item what it reads, what it assigns and where control goes from it.
+//!
+//! 1. Numbers of locations, and what an item assigns (`src/location.rt`); reads and assignments by location (`src/reads.rt`,
+//!    `src/accesses.rt`).
+//! 2. Where control goes from an item (`src/branches.rt`), and the edges, with the points where they leave (`src/edges.rt`).
+//! 3. First walks to points (`src/search.rt`, `src/visits.rt`).
+//! 4. The open sites of the first walk, and where sites fail (`src/open_sites.rt`, `src/sites.rt`).
+//! 5. All of it for a function (`src/graph.rt`).
 #![tactic(auto)]
 
 mod accesses;

@@ -2,8 +2,9 @@
 
 ghost use Rattle.std.specs.Prelude.{◌≡◌, ◌%◌};
 ghost use Rattle.bril_commands.specs.Outcome.{PutsPieces};
-ghost use Rattle.bril_commands.specs.commands.Emit.{hex_digit, word_line, listing};
+ghost use Rattle.bril_commands.specs.commands.Emit.{word_line, listing};
 ghost use Rattle.bril_report.specs.StageFaults.{status_of};
+ghost use Rattle.rv64_words.specs.Hexadecimal.{hex_digit};
 
 use bril_commands::output::hand_on;
 use bril_outside::sink::Sink;

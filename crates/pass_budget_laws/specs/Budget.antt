@@ -1,5 +1,6 @@
 -- How many words are always enough for what a list of passes makes of a program.
 use Rattle.std.specs.Prelude.{ℕ, ◌+◌, ◌*◌, List, [], ◌∷◌}
+use Rattle.bril_tree.specs.FrameWords.{frame_head}
 use Rattle.pass_budget_laws.specs.Numbers.{Numbers}
 use Rattle.pass_budget_laws.specs.Rows.{row_of}
 
@@ -17,7 +18,7 @@ module _ (traced : ℕ) where
 
 -- the words of one step of a program with these numbers
 abbrev pub step_words : Numbers → ℕ
-step_words n = 128 + 8 * (2 + n.locations * (1 + n.depth) + n.longest)
+step_words n = 128 + 8 * (frame_head + n.locations * (1 + n.depth) + n.longest)
 
 -- for a program with these numbers that ends in so many steps
 abbrev pub budget : (traced : ℕ) → List (List ℕ) → Numbers → (steps : ℕ) → ℕ

@@ -1,10 +1,16 @@
-//! From an edit of a program to a pass.
+//! From an edit of a program to a pass: where an edit keeps what it owes, the pass that is made of it keeps the law of
+//! passes.
 //!
-//! A pass is an edit and its proof: `Edit` has what is its own, and `Edited` is the pass. An edit makes a tree, or, where it
-//! goes in rounds, a program. The tree is numbered and checked by `finish`; the refusals of `number` and `check` other than
-//! out of memory are proved never to come, from what the edit says of its tree (`CanBeMade`, in `specs/`).
-//! `proofs/Each.antt` has what follows where a relation says what is made of each function, and `proofs/Functions.antt` is
-//! for the loop over the functions. The item that passes put in place of others is here too.
+//! A pass is an edit and its proof. An edit makes a tree, or, where it goes in rounds, a program. The refusals of `number`
+//! and `check` other than out of memory are proved never to come, from what the edit says of its tree (`CanBeMade`, in
+//! `specs/`).
+//!
+//! 1. `Edit` has what is a pass's own, and `Edited` is the pass (`src/edit.rt`, `specs/Edited.antt`).
+//! 2. What an edit makes (`src/made.rt`).
+//! 3. From an edited tree to a checked program: `finish` numbers and checks it (`src/from_tree.rt`). The item that passes put
+//!    in place of others is there too.
+//! 4. What follows where a relation says what is made of each function (`proofs/Each.antt`), and the loop over the functions
+//!    (`proofs/Functions.antt`).
 #![tactic(auto)]
 
 mod edit;

@@ -1,6 +1,6 @@
-//! The pass `pad`: one `nop` more before item 0 of each function.
+//! The pass `pad`: one `nop` more before item 0 of each function. It is the smallest pass, and the one to copy for another.
 //!
-//! It is the smallest pass, and the one to begin with for whoever writes another. A pass has these parts:
+//! A pass has these parts:
 //!
 //! 1. What it makes, by trees (`specs/Padded.antt`), and what it means (`specs/Pad.antt`).
 //! 2. The code: an edit of the tree (`src/edit.rt`), and what is the pass's own (`src/pad.rt`).

@@ -2,8 +2,9 @@
 use Rattle.std.specs.Prelude.{◌≡◌, ℕ, ◌+◌, ◌<◌, IsTrue}
 use Rattle.bril_tree.specs.declared.home.Home.{Home}
 use Rattle.bril_tree.specs.declared.home.Home.TheVariants.{Reg, Frame}
+use Rattle.bril_tree.specs.FrameWords.{frame_head}
+use Rattle.bril_tree.specs.Home.{is_home_register}
 use Rattle.bril_tree.specs.Operand.{Location, Variable, Shadow}
-use Rattle.rv64_words_laws.specs.stretches.Core.{is_home_register}
 use Rattle.slot_code.specs.declared.item.Slot.{Slot}
 use Rattle.slot_code.specs.declared.item.Slot.TheVariants as slot
 use Rattle.slot_code.specs.declared.slots.SlotFunction.{SlotFunction}
@@ -25,7 +26,7 @@ number_in g x = slot_number g.shadow_numbers (slot_of x)
 
 -- the word of the frame that is its own
 abbrev pub own_word : SlotFunction → Location → ℕ
-own_word g x = 2 + number_in g x
+own_word g x = frame_head + number_in g x
 
 -- A location is in its own word of the frame, or in a register; a call keeps the register in that word, which then has a
 -- number below 256.

@@ -1,4 +1,11 @@
-//! The text form of profiles: reading, with the first line that breaks it, and writing.
+//! The text form of profiles. `read_profile` gives the profile of which the bytes are the text, or the first line that breaks
+//! the form; `write_profile` writes exactly that text.
+//!
+//! 1. The text, line by line (`specs/Form.antt`), and the first line that breaks the form (`specs/Fault.antt`).
+//! 2. Reading (`src/reading.rt`): where bytes are cut (`src/lines.rt`), the line of an entry (`src/entry.rt`), its choices
+//!    (`src/choices.rt`).
+//! 3. Writing (`src/writing.rt`). A text is that of one profile, and a source has one first fault at most (`specs/Laws.antt`,
+//!    `src/laws.rt`).
 #![tactic(auto)]
 
 mod choices;

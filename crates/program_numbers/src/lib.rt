@@ -1,8 +1,9 @@
-//! Laws alone: the numbers of a program, in which bounds on passes and on the words of the machine are told.
+//! Laws alone: the numbers of a program, in which bounds on passes and on the words of the machine are told. There is one of
+//! each at most.
 //!
-//! `specs/` says what they are: the sum of entries and the greatest width of them, the greatest depth of sites and frame,
-//! the most locations, and the cost of a step. The function here says that there is one of each at most, and does nothing
-//! when it is called.
+//! 1. Edges into labels (`specs/Entries.antt`), and the machine words that a step costs (`specs/Cost.antt`).
+//! 2. Over all functions: the sum of entries and the greatest width of them, the greatest depth of sites and frame, and the
+//!    most locations (`specs/ProgramNumbers.antt`).
 #![tactic(auto)]
 
 mod laws;

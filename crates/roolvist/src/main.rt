@@ -1,4 +1,8 @@
-// The command line of Roolvist.
+//! The program: the command line of Roolvist over the system's words, files and outputs.
+//!
+//! 1. `main`; `with_passes`, which makes the passes and lends them to `carry_out`, which calls the command line
+//!    (`src/main.rt`).
+//! 2. `given_words`, which takes the system's words (`src/main.rt`, `specs/Words.antt`).
 #![tactic(auto)]
 
 ghost use Rattle.std.specs.Prelude.{◌≡◌, IfOk, IfErr, IsErrAnd};

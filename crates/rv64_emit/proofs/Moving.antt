@@ -4,6 +4,7 @@ use Rattle.std.specs.Prelude.{slice_get}
 use Rattle.std.specs.List.{AllByRecursion}
 use Rattle.std.proofs.lemmas.Bool.{and_parts}
 use Rattle.std.proofs.lemmas.List.{append-nil, length-take}
+use Rattle.bril_tree.specs.FrameWords.{frame_head}
 use Rattle.slot_code.specs.declared.item.Slot.{Slot}
 use Rattle.slot_code.specs.declared.slots.SlotFunction.{SlotFunction}
 use Rattle.rv64_words_laws.specs.sequences.Moves.{Move, save_one, save_words, save_size, restore_one, restore_words, restore_size}
@@ -81,13 +82,13 @@ module _ (homes : FunctionHomes) (first : ℕ) (test : Slot → Bool) where
 
 -- the first slots of a function
 module _ (homes : FunctionHomes) (g : SlotFunction) (near : AreRegistersNear homes g) (first : List Slot) (is : first ≡ take 254 g.slots) where
-  pub call_near : (point : ℕ) (dest : Option ℕ) → moves_from homes 2 (outlives homes point dest) 0 first ≡ call_moves homes g point dest
+  pub call_near : (point : ℕ) (dest : Option ℕ) → moves_from homes frame_head (outlives homes point dest) 0 first ≡ call_moves homes g point dest
   call_near point dest =
-      ap (moves_from homes 2 (outlives homes point dest) 0) is
-      ∙ near_moves homes 2 (outlives homes point dest) 254 g.slots 0 (λ k slot at passes. near k slot at (and_parts (in_register (homes.home slot)) _ passes).0)
+      ap (moves_from homes frame_head (outlives homes point dest) 0) is
+      ∙ near_moves homes frame_head (outlives homes point dest) 254 g.slots 0 (λ k slot at passes. near k slot at (and_parts (in_register (homes.home slot)) _ passes).0)
 
-  pub opening_near : moves_from homes 2 (is_loaded homes g) 0 first ≡ opening_moves homes g
-  opening_near = ap (moves_from homes 2 (is_loaded homes g) 0) is ∙ near_moves homes 2 (is_loaded homes g) 254 g.slots 0 (λ k slot at passes. near k slot at (and_parts (in_register (homes.home slot)) _ passes).0)
+  pub opening_near : moves_from homes frame_head (is_loaded homes g) 0 first ≡ opening_moves homes g
+  opening_near = ap (moves_from homes frame_head (is_loaded homes g) 0) is ∙ near_moves homes frame_head (is_loaded homes g) 254 g.slots 0 (λ k slot at passes. near k slot at (and_parts (in_register (homes.home slot)) _ passes).0)
 
 -- what holds of all slots holds of them, and they are few
 module _ (slots first : List Slot) (is : first ≡ take 254 slots) where

@@ -1,9 +1,18 @@
-//! Makes the machine words of an accepted program.
+//! Makes the machine words of an accepted program. `emit` gives exactly the image of `rv64_emit_laws::layout`, or answers the
+//! bound that is passed.
 //!
-//! The program becomes code over slots, and `shadow_place` gives each of them a home: a register, or its own word of the frame.
-//! A first pass over the code tells where functions and items begin, a second one appends their words; both take time in
-//! proportion to the words. `rv64_emit_laws::layout` says which words an item has and where they are, `rv64_emit_laws` that an image laid
-//! out so does what the program does.
+//! The program becomes code over slots, and `shadow_place` gives each of them a home: a register, or its own word of the
+//! frame. A first pass over the code tells where functions and items begin, a second one appends their words; both take time
+//! in proportion to the words. `rv64_emit_laws` says that an image laid out so does what the program does.
+//!
+//! 1. Words by their mnemonics (`src/assembly.rt`), what emitted code keeps in which register (`src/registers.rt`), short
+//!    sequences (`src/sequences.rt`), operations and cells (`src/operations.rt`).
+//! 2. Words of the frame (`src/frame.rt`), and the homes of slots, by a placement (`src/homes.rt`, `specs/Placed.antt`).
+//! 3. What homes have into registers and words of the frame, and back (`src/moves.rt`); which slots calls, `speculate` and
+//!    guards move, and these moves (`src/moved.rt`, `src/saves.rt`).
+//! 4. The words of items (`src/item.rt`, `src/items.rt`), how many they have, and where they begin (`src/sizes.rt`,
+//!    `src/places.rt`).
+//! 5. The whole image (`src/image.rt`), and the two bounds (`src/bounds.rt`).
 #![tactic(auto)]
 
 ghost use Rattle.std.specs.Prelude.{◌≡◌, ◌≤◌, length, IfOk, IfErr};

@@ -9,6 +9,7 @@ use Rattle.bril_tree.specs.declared.limits.Fault.TheVariants as fault
 use Rattle.bril_tree.specs.declared.value.Value.{Value}
 use Rattle.bril_tree.specs.Assigned.{assigns_at}
 use Rattle.bril_tree.specs.Edge as edge
+use Rattle.bril_tree.specs.FrameWords.{frame_head}
 use Rattle.bril_tree.specs.Live.{IsLive, Later}
 use Rattle.bril_tree.specs.Locals.{location_value}
 use Rattle.bril_tree.specs.Operand.{Location}
@@ -130,7 +131,7 @@ module _ (S : Setting) (s : bril.State) (t : State) (r : RunsAlike S s t) (dest 
         let n = r.holds.base + r.holds.function.words in
         let first : k ≢ n = (λ x. absurd (omega arith)) in
         let second : k ≢ n + 1 = (λ x. absurd (omega arith)) in
-        let low : k < n + (2 + 0) = omega arith in
+        let low : k < n + (frame_head + 0) = omega arith in
         opened k ∙ (ap (λ m. m k) c.tops ∙ (top_other c.passed.stack n (stack_base + 8 * r.holds.base) (4 * back) k first second ∙ c.passes.below k low))
 
     -- ---- what the caller needs
@@ -165,13 +166,13 @@ module _ (S : Setting) (s : bril.State) (t : State) (r : RunsAlike S s t) (dest 
 
     -- ---- what the called function needs
 
-    given : (i : ℕ) (v : Value) → slice_get values i ≡ Some v → HasWord (length s.blocks) v (c.made.stack (r.holds.base + r.holds.function.words + (2 + i)))
+    given : (i : ℕ) (v : Value) → slice_get values i ≡ Some v → HasWord (length s.blocks) v (c.made.stack (r.holds.base + r.holds.function.words + (frame_head + i)))
     given i v e =
         let n = r.holds.base + r.holds.function.words in
-        let first : n + (2 + i) ≢ n = (λ y. absurd (omega arith)) in
-        let second : n + (2 + i) ≢ n + 1 = (λ y. absurd (omega arith)) in
-        let place : n + (2 + (0 + i)) ≡ n + (2 + i) = omega arith in
-        let same : c.made.stack (n + (2 + i)) ≡ c.passed.stack (n + (2 + i)) = ap (λ m. m (n + (2 + i))) c.tops ∙ top_other c.passed.stack n (stack_base + 8 * r.holds.base) (4 * back) (n + (2 + i)) first second in
+        let first : n + (frame_head + i) ≢ n = (λ y. absurd (omega arith)) in
+        let second : n + (frame_head + i) ≢ n + 1 = (λ y. absurd (omega arith)) in
+        let place : n + (frame_head + (0 + i)) ≡ n + (frame_head + i) = omega arith in
+        let same : c.made.stack (n + (frame_head + i)) ≡ c.passed.stack (n + (frame_head + i)) = ap (λ m. m (n + (frame_head + i))) c.tops ∙ top_other c.passed.stack n (stack_base + 8 * r.holds.base) (4 * back) (n + (frame_head + i)) first second in
         subst (HasWord (length s.blocks) v) (ap c.passed.stack place ∙ sym same) (c.passes.holds i v e)
 
     few_values : length values ≤ finds.callee.args

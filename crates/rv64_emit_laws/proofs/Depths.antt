@@ -3,6 +3,7 @@ use Rattle.std.proofs.Common.{◌≡◌, ℕ, suc, ◌+◌, ◌*◌, ◌<◌, �
 use Rattle.std.specs.Prelude.{option_map, slice_get}
 use Rattle.std.proofs.lemmas.Option.{get_or_from_slice_get, slice_get-map}
 use Rattle.simulation.proofs.After.{after-suc}
+use Rattle.bril_tree.specs.FrameWords.{frame_head}
 use Rattle.bril_tree.specs.Run.{first_state}
 use Rattle.bril_tree.specs.Sites.{AreFirstSites, sites_of}
 use Rattle.bril_tree.specs.State as bril
@@ -49,12 +50,12 @@ module _ (S : Setting) (f : bril.Frame) (g : SlotFunction) (there : slice_get S.
           w.saves ∙ (ap length same ∙ sym (depth_is (Some sites) e))
 
   -- the frame has words for the slots as they are, and as they were at each open speculation
-  pub saves_fit : 2 + length g.slots * (1 + length f.saves) ≤ g.words
+  pub saves_fit : frame_head + length g.slots * (1 + length f.saves) ≤ g.words
   saves_fit =
       let most : length (sites_of w.function.code w.walk) ≤ lowered.words.depth = lowered.words.is.most w.walk w.is in
       let few : length f.saves ≤ lowered.words.depth = omega (arith, w.saves) in
       let all : length g.slots * (1 + length f.saves) ≤ length g.slots * (1 + lowered.words.depth) = mul-le-mul_left (length g.slots) (omega arith) in
-      let words : g.words ≡ 2 + length g.slots * (1 + lowered.words.depth) = lowered.words.are ∙ ap (λ n. 2 + n * (1 + lowered.words.depth)) (sym lowered.count) in
+      let words : g.words ≡ frame_head + length g.slots * (1 + lowered.words.depth) = lowered.words.are ∙ ap (λ n. frame_head + n * (1 + lowered.words.depth)) (sym lowered.count) in
       omega arith
 
   -- a step has the cost of all words of the frame

@@ -6,6 +6,7 @@ use Rattle.std.proofs.lemmas.Bool.Decides.{nat_tests}
 use Rattle.std.proofs.lemmas.Option.{same_Some, slice_get_within}
 use Rattle.bril_tree.specs.declared.numbered_function.Func.{Func}
 use Rattle.bril_tree.specs.declared.value.Value.{Value}
+use Rattle.bril_tree.specs.FrameWords.{frame_head}
 use Rattle.bril_tree.specs.Live.{IsLive}
 use Rattle.bril_tree.specs.Locals.{location_value}
 use Rattle.bril_tree.specs.Operand.{Location}
@@ -39,15 +40,15 @@ module _ (f : Func) (g : SlotFunction) (is : IsLoweredFunction f g) where
   number_one x y in_x in_y same = same_Some x y (sym (slot_place f g is x in_x) ∙ ap (slice_get g.slots) same ∙ slot_place f g is y in_y)
 
   -- a frame has the words of its slots and more
-  pub slots_fit : 2 + length g.slots ≤ g.words
+  pub slots_fit : frame_head + length g.slots ≤ g.words
   slots_fit =
       let words = g_words in
       more (length g.slots) is.words.depth g.words words
     where
-      g_words : g.words ≡ 2 + length g.slots * (1 + is.words.depth)
-      g_words = is.words.are ∙ ap (λ n. 2 + n * (1 + is.words.depth)) (sym is.count)
+      g_words : g.words ≡ frame_head + length g.slots * (1 + is.words.depth)
+      g_words = is.words.are ∙ ap (λ n. frame_head + n * (1 + is.words.depth)) (sym is.count)
 
-      more : (n d w : ℕ) → w ≡ 2 + n * (1 + d) → 2 + n ≤ w
+      more : (n d w : ℕ) → w ≡ frame_head + n * (1 + d) → frame_head + n ≤ w
       more n d w e = let split : n * (1 + d) ≡ n + n * d = grind arith in omega arith
 
   -- each variable is a slot
@@ -58,7 +59,7 @@ module _ (f : Func) (g : SlotFunction) (is : IsLoweredFunction f g) where
       by_number zero e = omega arith
       by_number (suc n) e = let last : n < g.variables = omega arith in let below : n < length g.slots = number_inside (Variable n) last in omega arith
 
-  pub slot_fits : (slot : Slot) → IsSlotOf g slot → 2 + slot_number g.shadow_numbers slot < g.words
+  pub slot_fits : (slot : Slot) → IsSlotOf g slot → frame_head + slot_number g.shadow_numbers slot < g.words
   slot_fits slot in_g = let inside = number_inside slot in_g in let fit = slots_fit in omega arith
 
 -- a slot that got a value has it

@@ -7,6 +7,7 @@ use Rattle.std.proofs.lemmas.Bool.Decides.{nat_tests}
 use Rattle.std.proofs.lemmas.Option.{same_Some}
 use Rattle.bril_tree.specs.declared.value.Value.TheVariants.{Bool as Boolean}
 use Rattle.bril_tree.specs.Edge.{Branch, branches_at, onward}
+use Rattle.bril_tree.specs.FrameWords.{frame_head}
 use Rattle.bril_tree.specs.Live.{IsLive}
 use Rattle.bril_tree.specs.Operand as location
 use Rattle.bril_tree.specs.Operand.{Location}
@@ -231,8 +232,8 @@ module _ (S : Setting) (s : bril.State) (t : State) (r : RunsAlike S s t) (condi
         let now = now_typed S s t r in
         let dear = frame_dear S r.frame g h.there now in
         let depth : d ≡ suc l = sym (saves_are S r.frame g h.there now) ∙ ap length saves_is in
-        let fit : 2 + n * (1 + length r.frame.saves) ≤ g.words = saves_fit S r.frame g h.there now in
-        let fit_level : 2 + n * (1 + suc l) ≤ g.words = subst (λ m. 2 + n * (1 + m) ≤ g.words) (ap length saves_is) fit in
+        let fit : frame_head + n * (1 + length r.frame.saves) ≤ g.words = saves_fit S r.frame g h.there now in
+        let fit_level : frame_head + n * (1 + suc l) ≤ g.words = subst (λ m. frame_head + n * (1 + m) ≤ g.words) (ap length saves_is) fit in
         let split : n * (1 + suc l) ≡ n * suc l + n = grind arith in
         let cs = restore_size back in
         let b = condition_brought held in_g in

@@ -8,6 +8,7 @@ use Rattle.bril_tree.specs.declared.numbered.Instr.{Instr}
 use Rattle.bril_tree.specs.declared.value.Value.{Value}
 use Rattle.bril_tree.specs.Assigned.{assigns_at}
 use Rattle.bril_tree.specs.Edge.{branches_at, onward}
+use Rattle.bril_tree.specs.Home.{is_home_register}
 use Rattle.bril_tree.specs.Live.{IsLive}
 use Rattle.bril_tree.specs.Locals.{location_value}
 use Rattle.bril_tree.specs.Operand.{Location}
@@ -21,7 +22,7 @@ use Rattle.placement_laws.proofs.Filling.{homes_filled}
 use Rattle.placement_laws.proofs.Steady.{homes_on, saves_on, steady_on}
 use Rattle.placement_laws.proofs.Homes.{location_back}
 use Rattle.rv64_emit_laws.specs.layout.Homes.{level_word, slot_word}
-use Rattle.rv64_words_laws.specs.stretches.Core.{Core, Keeps, is_home_register}
+use Rattle.rv64_words_laws.specs.stretches.Core.{Core, Keeps}
 use Rattle.rv64_words_laws.specs.sequences.Frames.{Reaches}
 use Rattle.rv64_words_laws.specs.sequences.Moves.{Filled, IsHomeInside, IsUsable, home_word}
 use Rattle.slot_code.specs.declared.item.Slot.{Slot}

@@ -8,6 +8,7 @@ use Rattle.bril_tree.specs.declared.numbered.Instr.{Instr}
 use Rattle.bril_tree.specs.declared.numbered_function.Func.{Func}
 use Rattle.bril_tree.specs.declared.program.Prog.{Prog}
 use Rattle.bril_tree.specs.FrameWords.{AreFrameWords}
+use Rattle.bril_tree.specs.Home.{is_home_register}
 use Rattle.bril_tree.specs.Operand.{Location, Variable, Shadow}
 use Rattle.bril_tree.specs.Sites.{AreSitesSound}
 use Rattle.bril_tree.specs.Step.{code_of, items_of}
@@ -20,7 +21,6 @@ use Rattle.rv64_emit_laws.specs.layout.Homes.{FunctionHomes, in_register, slot_w
 use Rattle.rv64_emit_laws.specs.layout.Laid.{AreHomes, HaveHomes}
 use Rattle.rv64_emit_laws.proofs.lemmas.layout.Bounding.{function_made}
 use Rattle.rv64_words_laws.specs.sequences.Moves.{IsUsable}
-use Rattle.rv64_words_laws.specs.stretches.Core.{is_home_register}
 use Rattle.slot_code.specs.declared.item.Slot.{Slot}
 use Rattle.slot_code.specs.declared.slots.SlotFunction.{SlotFunction}
 use Rattle.slot_code.specs.declared.slots.Slots.{Slots}

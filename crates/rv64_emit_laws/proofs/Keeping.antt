@@ -7,7 +7,9 @@ use Rattle.std.proofs.lemmas.Option.{slice_get_within}
 use Rattle.bril_tree.specs.declared.home.Home.{Home}
 use Rattle.bril_tree.specs.declared.home.Home.TheVariants.{Reg, Frame}
 use Rattle.bril_tree.specs.declared.value.Value.{Value}
+use Rattle.bril_tree.specs.FrameWords.{frame_head}
 use Rattle.bril_tree.specs.FunctionForm.{listed}
+use Rattle.bril_tree.specs.Home.{is_home_register}
 use Rattle.bril_tree.specs.Live.{IsLive}
 use Rattle.bril_tree.specs.Locals.{location_value}
 use Rattle.bril_tree.specs.Membership.{In}
@@ -20,7 +22,7 @@ use Rattle.placement_laws.specs.Homes.{slot_of}
 use Rattle.placement_laws.proofs.Calling.{needed_alone}
 use Rattle.rv64_emit_laws.specs.layout.Homes.{FunctionHomes, in_register, is_loaded, is_variable, moves_of, opening_moves, outlives, slot_word}
 use Rattle.rv64_emit_laws.proofs.lemmas.layout.Moving.{are_usable, homes_are_apart, move_in, slot_move, unmoved, words_are_apart}
-use Rattle.rv64_words_laws.specs.stretches.Core.{Core, is_home_register, written}
+use Rattle.rv64_words_laws.specs.stretches.Core.{Core, written}
 use Rattle.rv64_words_laws.proofs.lemmas.stretches.Cores.{apart_from, written_other}
 use Rattle.rv64_words_laws.proofs.lemmas.stretches.Going.{Going}
 use Rattle.rv64_words_laws.specs.sequences.Moves.{AreHomesApart, AreInside, AreUsable, IsUsable, Move, NoWordIsHome, Restored, Saved, home_word, restore_size, restore_words, save_size, save_words}
@@ -57,18 +59,18 @@ home_unwritten c (suc r) v b (Frame o) none usable = refl
 module _ (S : Setting) (f : ℕ) (g : SlotFunction) (there : slice_get S.slots.funcs f ≡ Some g) (point : ℕ) (test : Slot → Bool)
     (passes : (slot : Slot) → test slot ≡ true → (in_register ((S.homes f).home slot) ≡ true) × ((S.homes f).live point slot ≡ true)) where
   abbrev own_moves : List Move
-  own_moves = moves_of (S.homes f) g 2 test
+  own_moves = moves_of (S.homes f) g frame_head test
 
   -- none of their homes is in the frame
   not_framed : (m : Move) (o : ℕ) → In m own_moves → m.home ≡ Frame o → ⊥
   not_framed m o i e =
-      let w = slot_move (S.homes f) (origin S f g there).function g (origin S f g there).is 2 test m i in
+      let w = slot_move (S.homes f) (origin S f g there).function g (origin S f g there).is frame_head test m i in
       framed_clash ((S.homes f).home w.slot) o (passes w.slot w.passes).0 (sym w.home ∙ e)
 
   -- and none of their words is the home of a slot
   other_word : (slot : Slot) (o : ℕ) → IsSlotOf g slot → (S.homes f).home slot ≡ Frame o → (m : Move) → In m own_moves → o ≢ m.word
   other_word slot o in_g e m i same =
-      let w = slot_move (S.homes f) (origin S f g there).function g (origin S f g there).is 2 test m i in
+      let w = slot_move (S.homes f) (origin S f g there).function g (origin S f g there).is frame_head test m i in
       let own : o ≡ slot_word g slot = framed_in S f g there slot o in_g e in
       let numbers : slot_number g.shadow_numbers slot ≡ slot_number g.shadow_numbers w.slot = (let word = w.word in omega arith) in
       let one = number_one (origin S f g there).function g (origin S f g there).is slot w.slot in_g w.in_g numbers in
@@ -81,7 +83,7 @@ module _ (S : Setting) (f : ℕ) (g : SlotFunction) (there : slice_get S.slots.f
   own_holds b c e s slot in_g chosen = by ((S.homes f).home slot) refl
     where
       by : (home : Home) → (S.homes f).home slot ≡ home → e.stack (b + slot_word g slot) ≡ home_word c b ((S.homes f).home slot)
-      by (Reg r) same = s.got _ (move_in (S.homes f) (origin S f g there).function g (origin S f g there).is 2 test slot in_g (chosen (ap in_register same)))
+      by (Reg r) same = s.got _ (move_in (S.homes f) (origin S f g there).function g (origin S f g there).is frame_head test slot in_g (chosen (ap in_register same)))
       by (Frame o) same =
           let own : o ≡ slot_word g slot = framed_in S f g there slot o in_g same in
           s.others (b + slot_word g slot) (λ m i at. other_word slot o in_g same m i (omega arith)) ∙ (ap (λ n. c.stack (b + n)) (sym own) ∙ ap (home_word c b) (sym same))
@@ -96,7 +98,7 @@ module _ (S : Setting) (f : ℕ) (g : SlotFunction) (there : slice_get S.slots.f
 
   -- words below those of the slots stay
   pub low_kept : (b : ℕ) (c e : Core) → Saved b own_moves c e → (k : ℕ) → k < b + 2 → e.stack k ≡ c.stack k
-  low_kept b c e s k lt = s.others k (unmoved (S.homes f) (origin S f g there).function g (origin S f g there).is 2 test b k (inl lt))
+  low_kept b c e s k lt = s.others k (unmoved (S.homes f) (origin S f g there).function g (origin S f g there).is frame_head test b k (inl lt))
 
   -- ---- restored
 
@@ -105,7 +107,7 @@ module _ (S : Setting) (f : ℕ) (g : SlotFunction) (there : slice_get S.slots.f
   home_loaded b c e s slot in_g chosen = by ((S.homes f).home slot) refl
     where
       by : (home : Home) → (S.homes f).home slot ≡ home → home_word e b ((S.homes f).home slot) ≡ c.stack (b + slot_word g slot)
-      by (Reg r) same = s.got _ (move_in (S.homes f) (origin S f g there).function g (origin S f g there).is 2 test slot in_g (chosen (ap in_register same)))
+      by (Reg r) same = s.got _ (move_in (S.homes f) (origin S f g there).function g (origin S f g there).is frame_head test slot in_g (chosen (ap in_register same)))
       by (Frame o) same =
           let own : o ≡ slot_word g slot = framed_in S f g there slot o in_g same in
           ap (home_word e b) same ∙ (s.stack (b + o) (λ m p i at. absurd (not_framed m p i at)) ∙ ap (λ n. c.stack (b + n)) own)
@@ -122,7 +124,7 @@ module _ (S : Setting) (f : ℕ) (g : SlotFunction) (there : slice_get S.slots.f
 
       ten : (m : Move) → In m own_moves → m.home ≢ Reg 10
       ten m i e =
-          let w = slot_move (S.homes f) (origin S f g there).function g (origin S f g there).is 2 test m i in
+          let w = slot_move (S.homes f) (origin S f g there).function g (origin S f g there).is frame_head test m i in
           by m.home e (subst IsUsable (sym w.home) (usable_in S f g there w.slot w.in_g))
 
   -- ---- the words that do it
@@ -132,21 +134,21 @@ module _ (S : Setting) (f : ℕ) (g : SlotFunction) (there : slice_get S.slots.f
     none_is_home m n i j e = not_framed n m.word j e
 
     usable_all : AreUsable own_moves
-    usable_all = are_usable (S.homes f) (origin S f g there).function g (origin S f g there).is 2 test (usable_in S f g there)
+    usable_all = are_usable (S.homes f) (origin S f g there).function g (origin S f g there).is frame_head test (usable_in S f g there)
 
     inside_all : AreInside (sizes S) b own_moves
     inside_all m i =
-        let w = slot_move (S.homes f) (origin S f g there).function g (origin S f g there).is 2 test m i in
+        let w = slot_move (S.homes f) (origin S f g there).function g (origin S f g there).is frame_head test m i in
         let fits = slot_fits (origin S f g there).function g (origin S f g there).is w.slot w.in_g in
-        let word : m.word ≡ 2 + slot_number g.shadow_numbers w.slot = w.word in
+        let word : m.word ≡ frame_head + slot_number g.shadow_numbers w.slot = w.word in
         (omega arith, λ o e. absurd (not_framed m o i e))
 
     apart_all : AreHomesApart own_moves
-    apart_all = homes_are_apart (S.homes f) (origin S f g there).function g (origin S f g there).is 2 test
+    apart_all = homes_are_apart (S.homes f) (origin S f g there).function g (origin S f g there).is frame_head test
         (λ x y in_x in_y told_x told_y same. live_apart (code_of S.p f) (origin S f g there).function.args g (S.homes f) (serving S f g there) point x y (passes x told_x).1 (passes y told_y).1 (passes x told_x).0 same)
 
     pub saves_own : {k : ℕ} {c : Core} {n j : ℕ} (d : Core) (ws : List Word) → d.registers 2 ≡ stack_base + 8 * b → Going S.image (sizes S) k c n j d (save_words own_moves ++ ws) → AfterOne S.image (sizes S) (stack_few S) b (Saved b own_moves d) k c n j (save_size own_moves) ws
-    saves_own d ws two on = homes_saved S.image (sizes S) (stack_few S) b own_moves d ws (words_are_apart (S.homes f) (origin S f g there).function g (origin S f g there).is 2 test) none_is_home usable_all inside_all two on
+    saves_own d ws two on = homes_saved S.image (sizes S) (stack_few S) b own_moves d ws (words_are_apart (S.homes f) (origin S f g there).function g (origin S f g there).is frame_head test) none_is_home usable_all inside_all two on
 
     pub loads_own : {k : ℕ} {c : Core} {n j : ℕ} (d : Core) (ws : List Word) → d.registers 2 ≡ stack_base + 8 * b → Going S.image (sizes S) k c n j d (restore_words own_moves ++ ws) → AfterOne S.image (sizes S) (stack_few S) b (Restored b own_moves d) k c n j (restore_size own_moves) ws
     loads_own d ws two on = homes_restored S.image (sizes S) (stack_few S) b own_moves d ws apart_all none_is_home usable_all inside_all two on
@@ -182,7 +184,7 @@ other_variable (Some y) (location.Variable x) none = by (eqb y x) refl
 
 -- The arguments of a new frame, which are in its words, come to their homes.
 module _ (S : Setting) (made : ℕ) (f : ℕ) (g : SlotFunction) (there : slice_get S.slots.funcs f ≡ Some g) (vals : List Value) (few : length vals ≤ g.args) (b : ℕ) (e last : Core)
-    (loads : Restored b (opening_moves (S.homes f) g) e last) (given : (i : ℕ) (v : Value) → slice_get vals i ≡ Some v → HasWord made v (e.stack (b + (2 + i)))) where
+    (loads : Restored b (opening_moves (S.homes f) g) e last) (given : (i : ℕ) (v : Value) → slice_get vals i ≡ Some v → HasWord made v (e.stack (b + (frame_head + i)))) where
   none_some : {v : Value} → None ≡ Some v → ⊥
   none_some x = cc
 
@@ -194,7 +196,7 @@ module _ (S : Setting) (made : ℕ) (f : ℕ) (g : SlotFunction) (there : slice_
       let in_x = live_in S (new_frame f vals) g there (location.Variable x) 0 live in
       let told = ((serving S f g there).live 0 (location.Variable x)).1 live in
       let same = home_loaded S f g there 0 (is_loaded homes g) (opening_passes homes g) b e last loads (Variable x) in_x (λ register. opening_chooses homes g x (omega arith) told register) in
-      subst (HasWord made v) (sym same) (subst (λ i. HasWord made v (e.stack (b + (2 + i)))) at (given w.0 v w.2))
+      subst (HasWord made v) (sym same) (subst (λ i. HasWord made v (e.stack (b + (frame_head + i)))) at (given w.0 v w.2))
   argument x v live (inr w) = absurd (none_some w)
 
   at_home : (x : Location) (v : Value) → IsLive (code_of S.p f) x 0 → location_value (new_frame f vals).locations x ≡ Some v → HasWord made v (home_word last b (home_at (S.homes f) x))

@@ -5,6 +5,7 @@ use Rattle.std.specs.List.{AllByRecursion}
 use Rattle.bril_tree.specs.declared.home.Home.{Home}
 use Rattle.bril_tree.specs.declared.home.Home.TheVariants.{Reg, Frame}
 use Rattle.bril_tree.specs.declared.value.Value.{Value}
+use Rattle.bril_tree.specs.FrameWords.{frame_head}
 use Rattle.bril_tree.specs.State as bril
 use Rattle.bril_tree.specs.Live.{IsLive}
 use Rattle.bril_tree.specs.Operand as location
@@ -76,27 +77,27 @@ stored_rest d e o at v k = record {
 -- The values from argument j on are in the new frame, at word n, and what is below them stayed.
 pub record Passed (made : ℕ) (d e : Core) (n j : ℕ) (vals : List Value) : Type 0 where
   pub rest : KeepsRest d e
-  pub below : (k : ℕ) → k < n + (2 + j) → e.stack k ≡ d.stack k
-  pub holds : (i : ℕ) (v : Value) → slice_get vals i ≡ Some v → HasWord made v (e.stack (n + (2 + (j + i))))
+  pub below : (k : ℕ) → k < n + (frame_head + j) → e.stack k ≡ d.stack k
+  pub holds : (i : ℕ) (v : Value) → slice_get vals i ≡ Some v → HasWord made v (e.stack (n + (frame_head + (j + i))))
 
 -- one value was passed, and then the others
-one_passed : (made : ℕ) (d e last : Core) (at n j w : ℕ) (u : Value) (vals : List Value) → at ≡ n + (2 + j) → HasWord made u w → e.stack ≡ assigned d.stack at w → KeepsRest d e →
+one_passed : (made : ℕ) (d e last : Core) (at n j w : ℕ) (u : Value) (vals : List Value) → at ≡ n + (frame_head + j) → HasWord made u w → e.stack ≡ assigned d.stack at w → KeepsRest d e →
     Passed made e last n (suc j) vals → Passed made d last n j (u ∷ vals)
 one_passed made d e last at n j w u vals at_is word stacked kept rest = record {
   rest = rest_on d e last kept rest.rest;
-  below = λ k lt. (let low : k < n + (2 + suc j) = omega arith in let other : k ≢ at = (λ e. absurd (omega arith)) in rest.below k low ∙ (ap (λ f. f k) stacked ∙ assigned_other d.stack at w k other));
+  below = λ k lt. (let low : k < n + (frame_head + suc j) = omega arith in let other : k ≢ at = (λ e. absurd (omega arith)) in rest.below k low ∙ (ap (λ f. f k) stacked ∙ assigned_other d.stack at w k other));
   holds = by_place;
 }
   where
-    by_place : (i : ℕ) (v : Value) → slice_get (u ∷ vals) i ≡ Some v → HasWord made v (last.stack (n + (2 + (j + i))))
+    by_place : (i : ℕ) (v : Value) → slice_get (u ∷ vals) i ≡ Some v → HasWord made v (last.stack (n + (frame_head + (j + i))))
     by_place zero v e =
         let same_value : u ≡ v = cc in
-        let place : n + (2 + (j + 0)) ≡ at = omega arith in
-        let low : at < n + (2 + suc j) = omega arith in
-        let is : last.stack (n + (2 + (j + 0))) ≡ w = ap last.stack place ∙ (rest.below at low ∙ (ap (λ f. f at) stacked ∙ assigned_here d.stack at w)) in
+        let place : n + (frame_head + (j + 0)) ≡ at = omega arith in
+        let low : at < n + (frame_head + suc j) = omega arith in
+        let is : last.stack (n + (frame_head + (j + 0))) ≡ w = ap last.stack place ∙ (rest.below at low ∙ (ap (λ f. f at) stacked ∙ assigned_here d.stack at w)) in
         subst (HasWord made v) (sym is) (subst (λ x. HasWord made x w) same_value word)
     by_place (suc i) v e =
-        let place : n + (2 + (suc j + i)) ≡ n + (2 + (j + suc i)) = omega arith in
+        let place : n + (frame_head + (suc j + i)) ≡ n + (frame_head + (j + suc i)) = omega arith in
         subst (λ k. HasWord made v (last.stack k)) place (rest.holds i v e)
 
 module _ (S : Setting) (s : bril.State) (t : State) (r : RunsAlike S s t) (wide : ℕ) (room : r.holds.base + r.holds.function.words + wide ≤ S.image.stack) (few : S.image.stack ≤ 8388608) where
@@ -125,7 +126,7 @@ module _ (S : Setting) (s : bril.State) (t : State) (r : RunsAlike S s t) (wide 
     pub passed : Passed (length s.blocks) d core (r.holds.base + r.holds.function.words) j vals
     pub going : Going S.image (sizes S) (here S s t r) r.core (n + size) (i + size) core ws
 
-  pub arguments_passed : (args : List ℕ) (j : ℕ) {n i : ℕ} (d : Core) (ws : List Word) → d.registers 2 ≡ r.core.registers 2 → HasHomes d → 2 + (j + length args) ≤ wide →
+  pub arguments_passed : (args : List ℕ) (j : ℕ) {n i : ℕ} (d : Core) (ws : List Word) → d.registers 2 ≡ r.core.registers 2 → HasHomes d → frame_head + (j + length args) ≤ wide →
       AllByRecursion (λ a. HoldsValue r.frame.locations (Variable a)) args → AllByRecursion (λ a. IsSlotOf r.holds.function (Variable a)) args → AllByRecursion (λ a. IsLive (code_of S.p r.frame.function) (location.Variable a) r.frame.point) args →
       Going S.image (sizes S) (here S s t r) r.core n i d (pass_words (S.homes r.frame.function) r.holds.function j args ++ ws) →
       AfterPassing n i d j (pass_size (S.homes r.frame.function) r.holds.function j args) (map (bril.read r.frame.locations.vars) args) ws
@@ -157,7 +158,7 @@ module _ (S : Setting) (s : bril.State) (t : State) (r : RunsAlike S s t) (wide 
       let reach : Reaches (sizes S) e 2 h.base q = record { base = kept.frame_register ∙ (two ∙ h.at); inside = omega arith; few = few } in
       let g2 = frame_store S.image (sizes S) 2 rs h.base q two_not_six (found_not_six home usable) reach fetched.2 in
       let f = put (addressed e 2 q) (h.base + q) (e.registers rs) in
-      let at_is : h.base + q ≡ h.base + func.words + (2 + j) = omega arith in
+      let at_is : h.base + q ≡ h.base + func.words + (frame_head + j) = omega arith in
       let above : h.base + func.words ≤ h.base + q = omega arith in
       let rest = arguments_passed args (suc j) f ws (kept.frame_register ∙ two) (homes_stay d e q (h.base + q) (e.registers rs) same kept above) (omega arith) held.1 used.1 lives.1 g2 in
       let read_v : bril.read r.frame.locations.vars a ≡ v = read_is r.frame.locations (Variable a) v held.0.is in

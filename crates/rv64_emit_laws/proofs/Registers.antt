@@ -4,7 +4,8 @@ use Rattle.bril_tree.specs.declared.home.Home.{Home}
 use Rattle.bril_tree.specs.declared.home.Home.TheVariants.{Reg, Frame}
 use Rattle.bril_tree.specs.declared.operators.BinaryOp.{BinaryOp}
 use Rattle.bril_tree.specs.declared.operators.BinaryOp.TheVariants as binary
-use Rattle.rv64_words_laws.specs.stretches.Core.{Core, Keeps, KeepsBut, is_home_register}
+use Rattle.bril_tree.specs.Home.{is_home_register}
+use Rattle.rv64_words_laws.specs.stretches.Core.{Core, Keeps, KeepsBut}
 use Rattle.rv64_words_laws.proofs.lemmas.stretches.Cores.{apart_from}
 use Rattle.rv64_words_laws.specs.sequences.Moves.{IsUsable, operand_register, register_for, result_register}
 use Rattle.rv64_words_laws.specs.sequences.Operations.{binary_takes_any}

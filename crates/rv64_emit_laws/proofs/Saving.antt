@@ -6,6 +6,7 @@ use Rattle.bril_tree.specs.declared.home.Home.TheVariants.{Reg, Frame}
 use Rattle.bril_tree.specs.declared.numbered.Instr.{Instr}
 use Rattle.bril_tree.specs.declared.value.Value.{Value}
 use Rattle.bril_tree.specs.Edge.{Branch, branches_at, onward}
+use Rattle.bril_tree.specs.FrameWords.{frame_head}
 use Rattle.bril_tree.specs.Live.{IsLive}
 use Rattle.bril_tree.specs.Membership.{In}
 use Rattle.bril_tree.specs.Operand.{Location}
@@ -67,13 +68,13 @@ module _ (S : Setting) (made : ℕ) (f : bril.Frame) (older : List bril.Frame) (
       let split : length h.function.slots * suc level ≡ length h.function.slots * level + length h.function.slots = grind arith in
       omega arith
 
-  level_above : (level : ℕ) → 1 ≤ level → 2 + length h.function.slots ≤ level_word h.function level
+  level_above : (level : ℕ) → 1 ≤ level → frame_head + length h.function.slots ≤ level_word h.function level
   level_above level some =
       let more : length h.function.slots * 1 ≤ length h.function.slots * level = mul-le-mul_left (length h.function.slots) some in
       let one : length h.function.slots * 1 ≡ length h.function.slots = omega arith in
       omega arith
 
-  pub level_moves_can : (level : ℕ) (test : Slot → Bool) → 1 ≤ level → 2 + length h.function.slots * (1 + level) ≤ h.function.words →
+  pub level_moves_can : (level : ℕ) (test : Slot → Bool) → 1 ≤ level → frame_head + length h.function.slots * (1 + level) ≤ h.function.words →
       CanMove S h.base (moves_of (S.homes f.function) h.function (level_word h.function level) test)
   level_moves_can level test some fit =
       let origin = source S made f older c h in

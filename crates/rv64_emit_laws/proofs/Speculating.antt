@@ -2,6 +2,7 @@
 use Rattle.std.proofs.Common.{◌≡◌, ◌≢◌, ℕ, suc, ◌+◌, ◌*◌, ◌≤◌, ◌&&◌, Bool, true, inl, refl, sym, ap, ◌∙◌, subst, arith, List, [], ◌∷◌, ◌++◌, length, Some}
 use Rattle.std.specs.Prelude.{slice_get}
 use Rattle.bril_tree.specs.Edge.{onward}
+use Rattle.bril_tree.specs.FrameWords.{frame_head}
 use Rattle.bril_tree.specs.Live.{IsLive}
 use Rattle.bril_tree.specs.Operand.{Location}
 use Rattle.bril_tree.specs.State as bril
@@ -66,7 +67,7 @@ module _ (S : Setting) (s : bril.State) (t : State) (r : RunsAlike S s t) where
       let now = now_typed S s t r in
       let next = next_typed S s t r f r.older (ap (λ x. x.frames) stepped) in
       let depth = saves_are S r.frame g h.there now in
-      let fit : 2 + n * (1 + suc l) ≤ g.words = saves_fit S f g h.there next in
+      let fit : frame_head + n * (1 + suc l) ≤ g.words = saves_fit S f g h.there next in
       let dear = frame_dear S r.frame g h.there now in
       let split : n * (1 + suc l) ≡ n * suc l + n = grind arith in
       let kept = kept_moves homes g (suc l) r.frame.point in

@@ -11,6 +11,7 @@ use Rattle.bril_tree.specs.declared.types.Ty.{Ty}
 use Rattle.bril_tree.specs.declared.value.Value.{Value}
 use Rattle.bril_tree.specs.declared.value.Value.TheVariants.{Int, Bool as Boolean, Char, Ptr}
 use Rattle.bril_tree.specs.Accepted.{IsPlainType}
+use Rattle.bril_tree.specs.FrameWords.{frame_head}
 use Rattle.bril_tree.specs.Outcome.{block_of}
 use Rattle.bril_tree.specs.Run.{Suits, first_state, main_types, types_of}
 use Rattle.bril_tree.specs.State as bril
@@ -67,8 +68,8 @@ plain_argument (u ∷ args) (Some ty ∷ ts) zero v plain fit e =
 plain_argument (u ∷ args) (Some ty ∷ ts) (suc x) v plain fit e = plain_argument args ts x v (All-tail IsPlainType (Some ty) ts plain) fit.1 e
 
 -- an argument is in its word of the first frame
-argument_word : (args : List Value) (x : ℕ) (v : Value) → slice_get args x ≡ Some v → words_of (0 ∷ 0 ∷ map word_of args) (2 + x) ≡ word_of v
-argument_word args x v e = (let two : 2 + x ≡ suc (suc x) = omega arith in ap (slice_index (0 ∷ 0 ∷ map word_of args)) two) ∙ by_list args x e
+argument_word : (args : List Value) (x : ℕ) (v : Value) → slice_get args x ≡ Some v → words_of (0 ∷ 0 ∷ map word_of args) (frame_head + x) ≡ word_of v
+argument_word args x v e = (let two : frame_head + x ≡ suc (suc x) = omega arith in ap (slice_index (0 ∷ 0 ∷ map word_of args)) two) ∙ by_list args x e
   where
     by_list : (args : List Value) (x : ℕ) → slice_get args x ≡ Some v → slice_index (map word_of args) x ≡ word_of v
     by_list [] x e = cc
@@ -95,7 +96,7 @@ module _ (S : Setting) where
   main_function = let main = main-there (slice_get S.p.funcs S.p.main) S.p.formed.main_is in lowered_at S.p S.slots S.lowered S.p.main main.0 main.1
 
   -- the stack has room for the first frame
-  pub main_room : length S.args + 2 ≤ S.image.stack
+  pub main_room : length S.args + frame_head ≤ S.image.stack
   main_room =
       let main = main-there (slice_get S.p.funcs S.p.main) S.p.formed.main_is in
       let g = main_function.function in
@@ -164,13 +165,13 @@ module _ (S : Setting) where
     arrivals : e.arrivals ≡ (λ _. 0)
     printed : e.printed ≡ []
 
-  first_given : (e : Core) → Entered e → (x : ℕ) (v : Value) → slice_get S.args x ≡ Some v → HasWord 0 v (e.stack (0 + (2 + x)))
+  first_given : (e : Core) → Entered e → (x : ℕ) (v : Value) → slice_get S.args x ≡ Some v → HasWord 0 v (e.stack (0 + (frame_head + x)))
   first_given e entered x v held =
-      let place : 0 + (2 + x) ≡ 2 + x = omega arith in
-      let other : 2 + x ≢ 0 = (λ y. absurd (omega arith)) in
+      let place : 0 + (frame_head + x) ≡ frame_head + x = omega arith in
+      let other : frame_head + x ≢ 0 = (λ y. absurd (omega arith)) in
       let none = plain_argument S.args (main_types S.p) x v S.accepted.main.takes_plain S.fit held in
       record {
-        is = ap e.stack place ∙ (ap (λ m. m (2 + x)) entered.stack ∙ (assigned_other (words_of (0 ∷ 0 ∷ map word_of S.args)) 0 12 (2 + x) other ∙ argument_word S.args x v held));
+        is = ap e.stack place ∙ (ap (λ m. m (frame_head + x)) entered.stack ∙ (assigned_other (words_of (0 ∷ 0 ∷ map word_of S.args)) 0 12 (frame_head + x) other ∙ argument_word S.args x v held));
         known = omega arith;
       }
 

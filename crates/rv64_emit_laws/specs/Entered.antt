@@ -1,5 +1,5 @@
 -- When the machine is at the words of an item only where the program has come to that item.
-use Rattle.std.specs.Prelude.{◌≡◌, ◌≢◌, ℕ, ◌*◌, List, ◌∷◌, Some, None, slice_get}
+use Rattle.std.specs.Prelude.{◌≡◌, ◌≢◌, ℕ, ◌*◌, List, Some, None, slice_get}
 use Rattle.bril_tree.specs.declared.home.Home.{Home}
 use Rattle.bril_tree.specs.declared.limits.Limits.{Limits}
 use Rattle.bril_tree.specs.declared.program.Prog.{Prog}
@@ -8,6 +8,7 @@ use Rattle.bril_tree.specs.Operand.{Location}
 use Rattle.bril_tree.specs.Run.{state_after}
 use Rattle.bril_tree.specs.State as bril
 use Rattle.rv64_image_laws.specs.Implements.{CountsFailures, ShowsLive, image_after}
+use Rattle.rv64_image_laws.specs.Stands.{StandsAt}
 use Rattle.rv64_emit_laws.specs.layout.Homes.{FunctionHomes}
 use Rattle.rv64_emit_laws.specs.layout.Image.{entry_at}
 use Rattle.rv64_words.specs.declared.image.Image.{Image}
@@ -16,15 +17,6 @@ use Rattle.slot_code.specs.declared.item.SlotItem.{SlotItem}
 use Rattle.slot_code.specs.declared.item.SlotItem.TheVariants.{Pass}
 use Rattle.slot_code.specs.declared.slots.SlotFunction.{SlotFunction}
 use Rattle.slot_code.specs.declared.slots.Slots.{Slots}
-
--- The program runs, and its newest frame is at this item of this function.
-pub record StandsAt (s : bril.State) (f item : ℕ) : Type 0 where
-  pub frame : bril.Frame
-  pub older : List bril.Frame
-  pub frames : s.frames ≡ frame ∷ older
-  pub running : s.ended ≡ None
-  pub in_function : frame.function ≡ f
-  pub at_item : frame.point ≡ item
 
 -- The machine runs, and is before the first word of the item at this point of this function. The item is no label and no `nop`:
 -- these have no words.

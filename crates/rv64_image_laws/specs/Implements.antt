@@ -11,7 +11,7 @@ use Rattle.bril_tree.specs.declared.operation.Op.TheVariants as op
 use Rattle.bril_tree.specs.declared.program.Prog.{Prog}
 use Rattle.bril_tree.specs.declared.value.Value.{Value}
 use Rattle.program_numbers.specs.Cost.{IsCost}
-use Rattle.bril_tree.specs.FrameWords.{AreFrameWords}
+use Rattle.bril_tree.specs.FrameWords.{AreFrameWords, frame_head}
 use Rattle.bril_tree.specs.Live.{IsLive}
 use Rattle.bril_tree.specs.Locals.{location_value}
 use Rattle.bril_tree.specs.Operand.{Location}
@@ -96,7 +96,7 @@ ShowsLive homes image p limits s t =
 -- The image does what the program does with these arguments, the locations of each function at these homes.
 pub record ImplementsRun (homes : ℕ → Location → Home) (image : Image) (p : Prog) (limits : Limits) (args : List Value) : Type 0 where
   -- the stack has room for the two words that a frame begins with and the arguments
-  pub room : length args + 2 ≤ image.stack
+  pub room : length args + frame_head ≤ image.stack
   -- how many words the machine has executed when the program has made n steps: at most the cost of a step for each, and as
   -- many to begin
   pub count : ℕ → ℕ

@@ -1,8 +1,9 @@
 //! Laws alone: when an image of machine words does what a program does, and how large it may be.
 //!
-//! `specs/` has the definitions: `Implements` (an image does what a program does), `Home` (where a location's value is while
-//! the machine runs), `WordBounds` (the most words of an image and of its stack) and `Shown` (what so many words show of a
-//! program).
+//! 1. An image does what a program does (`specs/Implements.antt`), where a location's value is meanwhile
+//!    (`specs/Home.antt`), and at which item the program stands (`specs/Stands.antt`).
+//! 2. The most words of an image and of its stack (`specs/WordBounds.antt`).
+//! 3. What so many words show of the program (`specs/Shown.antt`, `src/laws.rt`).
 #![tactic(auto)]
 
 mod laws;

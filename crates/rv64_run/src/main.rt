@@ -1,6 +1,10 @@
-// Reads words in hexadecimal, one a line, from standard input. With the word `list` it prints each word's text, with
-// `run` and ints it runs the words as an image with these arguments of `main`, and tells on standard error how many
-// words were executed and how the run ended.
+//! A program that lists machine words as text, or runs them. `bench/words` and `bench/machine` use it.
+//!
+//! It reads words in hexadecimal, one a line, from standard input. With the word `list` it prints each word's text, with
+//! `run` and ints it runs the words as an image with these arguments of `main`, and tells on standard error how many words
+//! were executed and how the run ended.
+//!
+//! 1. The program (`src/main.rt`), and the text of a word, from its bits (`src/text.rt`).
 #![tactic(auto)]
 
 mod text;

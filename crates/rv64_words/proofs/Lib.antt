@@ -1,4 +1,5 @@
 pub mod Assigned
+pub mod Decodings
 pub mod Division
 pub mod Encodings
 pub mod Live

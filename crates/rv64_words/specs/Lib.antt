@@ -3,7 +3,9 @@ pub mod Calls
 pub mod Encoding
 pub mod Environment
 pub mod Fields
+pub mod Hexadecimal
 pub mod Machine
 pub mod Mnemonics
+pub mod Points
 pub mod Region
 pub mod State

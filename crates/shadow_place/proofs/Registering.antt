@@ -9,12 +9,13 @@ use Rattle.std.proofs.lemmas.List.FromFn.{get_or-map-range_with_len, length-map-
 use Rattle.std.proofs.lemmas.Option.{slice_get-get_or, slice_get-map, slice_get_within}
 use Rattle.bril_tree.specs.declared.home.Home.TheVariants.{Reg, Frame}
 use Rattle.bril_tree.specs.declared.numbered_function.Func.{Func}
+use Rattle.bril_tree.specs.FrameWords.{frame_head}
+use Rattle.bril_tree.specs.Home.{is_home_register}
 use Rattle.bril_tree.specs.Operand.{Location, Variable, Shadow}
 use Rattle.slot_code.specs.declared.slots.SlotFunction.{SlotFunction}
 use Rattle.slot_code.specs.Lowered.{IsLoweredFunction}
 use Rattle.slot_code.proofs.Places.{slot_place}
 use Rattle.placement_laws.specs.Homes.{IsHomeOf, IsInRegister, IsSlotIn, number_in, slot_of}
-use Rattle.rv64_words_laws.specs.stretches.Core.{is_home_register}
 use Rattle.shadow_place.specs.declared.placed.FunctionHomes.{FunctionHomes}
 use Rattle.shadow_place.specs.Registers.{AreHomeRegisters, AreOwnRegisters, home_from, home_register, own_register}
 use Rattle.shadow_place.specs.Tables.{home_if, home_of}
@@ -65,18 +66,18 @@ module _ (slots : ℕ) (registers : List ℕ) (are : registers ≡ map own_regis
 -- ---- homes
 
 module _ (registers : List ℕ) where
-  in_frame : (slot : ℕ) → slice_index registers slot ≡ 0 → home_from registers slot ≡ Frame (2 + slot)
-  in_frame slot none = let t : (slice_index registers slot == 0) ≡ true = grind (arith, nat_tests) in ap (λ b. if b then Frame (2 + slot) else Reg (slice_index registers slot)) t
+  in_frame : (slot : ℕ) → slice_index registers slot ≡ 0 → home_from registers slot ≡ Frame (frame_head + slot)
+  in_frame slot none = let t : (slice_index registers slot == 0) ≡ true = grind (arith, nat_tests) in ap (λ b. if b then Frame (frame_head + slot) else Reg (slice_index registers slot)) t
 
   in_register : (slot : ℕ) → slice_index registers slot ≢ 0 → home_from registers slot ≡ Reg (slice_index registers slot)
-  in_register slot some = ap (λ b. if b then Frame (2 + slot) else Reg (slice_index registers slot)) (ne_eqb (slice_index registers slot) 0 some)
+  in_register slot some = ap (λ b. if b then Frame (frame_head + slot) else Reg (slice_index registers slot)) (ne_eqb (slice_index registers slot) 0 some)
 
   -- two slots of one home have one register, or are one
   pub home_shared : (j k : ℕ) → home_from registers j ≡ home_from registers k → (j ≡ k) ⊎ ((slice_index registers j ≢ 0) × (slice_index registers j ≡ slice_index registers k))
   home_shared j k same = by (cases_eq (slice_index registers j) 0) (cases_eq (slice_index registers k) 0)
     where
-      frames : (m n : ℕ) → Frame (2 + m) ≡ Frame (2 + n) → m ≡ n
-      frames m n e = let same : 2 + m ≡ 2 + n = cc in omega arith
+      frames : (m n : ℕ) → Frame (frame_head + m) ≡ Frame (frame_head + n) → m ≡ n
+      frames m n e = let same : frame_head + m ≡ frame_head + n = cc in omega arith
 
       mixed : (m n : ℕ) → Frame m ≡ Reg n → ⊥
       mixed m n e = cc
@@ -86,8 +87,8 @@ module _ (registers : List ℕ) where
 
       by : (slice_index registers j ≡ 0) ⊎ (slice_index registers j ≢ 0) → (slice_index registers k ≡ 0) ⊎ (slice_index registers k ≢ 0) → (j ≡ k) ⊎ ((slice_index registers j ≢ 0) × (slice_index registers j ≡ slice_index registers k))
       by (inl a) (inl b) = inl (frames j k (sym (in_frame j a) ∙ (same ∙ in_frame k b)))
-      by (inl a) (inr b) = absurd (mixed (2 + j) (slice_index registers k) (sym (in_frame j a) ∙ (same ∙ in_register k b)))
-      by (inr a) (inl b) = absurd (mixed (2 + k) (slice_index registers j) (sym (in_frame k b) ∙ (sym same ∙ in_register j a)))
+      by (inl a) (inr b) = absurd (mixed (frame_head + j) (slice_index registers k) (sym (in_frame j a) ∙ (same ∙ in_register k b)))
+      by (inr a) (inl b) = absurd (mixed (frame_head + k) (slice_index registers j) (sym (in_frame k b) ∙ (sym same ∙ in_register j a)))
       by (inr a) (inr b) = inr (a, registers_same (slice_index registers j) (slice_index registers k) (sym (in_register j a) ∙ (same ∙ in_register k b)))
 
 module _ (f : Func) (g : SlotFunction) (is : IsLoweredFunction f g) (registers : List ℕ) (homes : FunctionHomes) (variables : homes.variables.items ≡ map (home_from registers) (range_with_len 0 g.variables)) (shadows : homes.shadows.items ≡ map (home_from registers) g.shadow_numbers) where

@@ -2,7 +2,8 @@
 use Rattle.std.specs.Prelude.{◌≡◌, ◌≢◌, ℕ, ◌+◌, ◌<◌, ◌==◌, nat_lt, List, slice_index, IsTrue, if◌then◌else◌}
 use Rattle.bril_tree.specs.declared.home.Home.{Home}
 use Rattle.bril_tree.specs.declared.home.Home.TheVariants.{Reg, Frame}
-use Rattle.rv64_words_laws.specs.stretches.Core.{is_home_register}
+use Rattle.bril_tree.specs.FrameWords.{frame_head}
+use Rattle.bril_tree.specs.Home.{is_home_register}
 
 -- so many registers are homes
 abbrev pub home_registers : ℕ
@@ -21,11 +22,11 @@ own_register slot = if nat_lt slot home_registers then home_register slot else 0
 
 -- the home of a slot, where each slot has a register, or 0 for none and is in its own word of the frame
 abbrev pub home_from : List ℕ → ℕ → Home
-home_from registers slot = if slice_index registers slot == 0 then Frame (2 + slot) else Reg (slice_index registers slot)
+home_from registers slot = if slice_index registers slot == 0 then Frame (frame_head + slot) else Reg (slice_index registers slot)
 
 -- a slot that has a register has one that is a home, and its own word has a number below 256
 abbrev pub AreHomeRegisters : List ℕ → Type 0
-AreHomeRegisters registers = (slot : ℕ) → slice_index registers slot ≢ 0 → IsTrue (is_home_register (slice_index registers slot)) × (2 + slot < 256)
+AreHomeRegisters registers = (slot : ℕ) → slice_index registers slot ≢ 0 → IsTrue (is_home_register (slice_index registers slot)) × (frame_head + slot < 256)
 
 -- slots of one register are one
 abbrev pub AreOwnRegisters : List ℕ → Type 0

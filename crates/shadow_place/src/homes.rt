@@ -2,6 +2,7 @@
 
 ghost use Rattle.std.specs.Prelude.{◌≡◌, ◌+◌, map, slice_index, IfOk};
 ghost use Rattle.std.specs.List.{range_with_len};
+ghost use Rattle.bril_tree.specs.FrameWords.{frame_head};
 ghost use Rattle.shadow_place.specs.Registers.{home_from};
 
 use bril_tree::home::Home;
@@ -19,7 +20,7 @@ fn register_of(registers: &[u8], slot: usize) -> u8
 
 // The slot's own word of the frame. A slot of a number that doesn't fit 32 bits is taken to need more memory than there is.
 fn own_word(slot: usize) -> Result<u32, AllocError>
-    ensures { IfOk result (λ word. word ≡ 2 + slot) }
+    ensures { IfOk result (λ word. word ≡ frame_head + slot) }
 {
     if slot >= u32::MAX as usize - 2 {
         return Err(AllocError);

@@ -1,11 +1,13 @@
-//! Homes for the locations of a program while the machine runs it, and which of them speculations save.
+//! Homes for the locations of a program while the machine runs it, and which of them speculations save. Both keep what
+//! `placement_laws` asks.
 //!
 //! 1. The home of each location is a register or its own word of the frame (`src/registers.rt`, `src/homes.rt`). A function
 //!    that has no more locations than there are registers gives each of them one; in any other, locations share a register
 //!    whose spans don't meet (`src/spans.rt`, `src/needs.rt`, `src/shared.rt`, `src/allocation.rt`).
 //! 2. What is saved at a level: the items that assign a location from which a walk leads to a guard at whose label it is live
 //!    are found by searches back from the guards (`src/arcs.rt`, `src/marks.rt`, `src/saved.rt`).
-//! 3. Both for each function, as tables (`src/placed.rt`, `src/placement.rt`).
+//! 3. Both for each function, by what is live in it (`place`, `src/placement.rt`, `src/lives.rt`), as tables (`Placed::home`,
+//!    `Placed::saved`, `src/placed.rt`). What is promised: `specs/Placement.antt`.
 #![tactic(auto)]
 
 mod allocation;

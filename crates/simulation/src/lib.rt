@@ -1,15 +1,18 @@
-//! Laws alone: systems that make steps, when one of them does what another does, and how that is shown by a
-//! relation between their states.
+//! Laws alone: systems that make steps, when one of them does what another does, and how a relation between their states
+//! shows that.
 //!
-//! A system has a step, says of a state how it ended or that it runs, and what it has printed. What
-//! is defined here, in `specs/`, speaks of any two such systems: of two programs, or of a program
-//! and the machine that runs it. Each function is a law; its contract says it, and a call of it does
-//! nothing. The laws of simulation, and that of a greater number, ask of the systems that a state which
-//! ended rests, and that a step takes back nothing of what was printed (`IsSystem`).
+//! A system has a step, says of a state how it ended or that it runs, and what it has printed. What is defined here, in
+//! `specs/`, speaks of any two such systems: of two programs, or of a program and the machine that runs it. Each function is
+//! a law; its contract says it, and a call of it does nothing. The laws of simulation, and that of a greater number, ask of
+//! the systems that a state which ended rests, and that a step takes back nothing of what was printed (`IsSystem`).
 //!
-//! The laws are those of forward simulation (N. Lynch and F. Vaandrager, "Forward and Backward
-//! Simulations", 1995), with bounds on the numbers of steps. `Plus` and `Star` are the "plus"
-//! and the "star" diagram of the CompCert compiler's `Smallstep.v`.
+//! The laws are those of forward simulation (N. Lynch and F. Vaandrager, "Forward and Backward Simulations", 1995), with
+//! bounds on the numbers of steps. `Plus` and `Star` are the "plus" and the "star" diagram of the CompCert compiler's
+//! `Smallstep.v`.
+//!
+//! 1. A system and its runs (`specs/System.antt`).
+//! 2. Refinement: one system does what another does (`Follows`, `specs/Refinement.antt`).
+//! 3. Simulation: the plus and the star diagram (`specs/Simulation.antt`). The laws themselves are in `src/lib.rt`.
 #![tactic(auto)]
 
 ghost use Rattle.simulation.specs.Laws.{FollowsItself, FollowsOn, FollowsSlower, SimulationFollows, PlusFollows, StarFollows, PlusTracks, StarTracks};

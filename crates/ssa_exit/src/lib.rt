@@ -5,7 +5,7 @@
 //! 2. The code: a stem with which no name begins (`src/fresh.rt`), which shadows are written (`src/written.rt`), the edit of
 //!    the tree (`src/edit.rt`), and the pass around it (`src/unssa.rt`).
 //! 3. The same by points (`proofs/Points.antt`). Shadows and what stands for them hold the same, so matched states go on: the
-//!    result refines the program (`proofs/Plan.antt`, `proofs/Refines.antt`).
+//!    result refines the program (`proofs/Refines.antt`).
 //! 4. The types and the walks of the result: it is accepted (`proofs/Types.antt`, `proofs/Accepted.antt`).
 //! 5. From the tree to its program: the tree can be numbered, and is as long (`proofs/Made.antt`).
 //! 6. No `get` or `set` is left, and no number of the program grows (`src/laws.rt`, `proofs/Numbers.antt`).

@@ -1,3 +1,11 @@
+//! A proved program that calls lower crates for what no command line shows. `stdin` has its calls, `stdout` what must come,
+//! written by hand, and for profiles by programs in another language.
+//!
+//! 1. The rows, by their calls (`src/row.rt`), and the programs of sources (`src/program.rt`).
+//! 2. The calls, a file for each topic: flow graphs (`src/graph.rt`), live locations (`src/live.rt`), constants
+//!    (`src/constants.rt`), SSA form (`src/ssa.rt`), profiles and their recorder (`src/profiles.rt`), single steps
+//!    (`src/steps.rt`), homes (`src/placed.rt`, `src/counted.rt`), machine words (`src/machine.rt`, `src/groups.rt`).
+
 // Makes the calls of standard input that no command line makes or shows, and shows what they answer.
 //
 // Standard input is lines of text, each with a call; `stdin` beside src/ has all of them, and `stdout` what they must come

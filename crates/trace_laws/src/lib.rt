@@ -1,12 +1,18 @@
-//! Laws alone: what the pass `trace` means, which lays the traces of a profile's entries behind their labels.
+//! Laws alone: what the pass `trace` means, which lays the traces of a profile's entries after their labels, and that a tree
+//! with such traces becomes a program that the pass may make.
 //!
-//! 1. What it means (`specs/Trace.antt`). There is one factor and one bound, since there is one list of entries that fit
-//!    (`proofs/Unique.antt`, `Existing.antt`, `Numbers.antt`).
-//! 2. A tree with traces becomes a program that the pass may make: it can be numbered, and the program is accepted, refines the given
-//!    one and is within the bound (`proofs/Made.antt`).
+//! The module of each part says which files its proofs are in.
 //!
-//! Before that stand the lines of a trace (`lines`), and that a program with them refines the given one (`refinement`), is accepted
-//! (`acceptance`), and how its numbers grow (`growth`).
+//! 1. The lines of a trace (`lines`; `specs/lines/Lines.antt`), fresh names (`Names.antt`), what is made of a program
+//!    (`Traced.antt`), and its bound (`Bound.antt`). The tree can be numbered.
+//! 2. A program with traces does what the program does, and its traces are quiet (`refinement`;
+//!    `specs/refinement/Stitched.antt`).
+//! 3. It is accepted: where each of its walks stands, and so the walks and the types are accepted (`acceptance`).
+//! 4. How its numbers grow (`growth`; `specs/growth/Numbers.antt`).
+//! 5. What the pass means (`specs/Trace.antt`). There is one factor and one bound, since there is one list of entries that
+//!    fit, and which fit can be decided (`proofs/Unique.antt`, `Existing.antt`, `Numbers.antt`).
+//! 6. All of it together: a tree with traces becomes a program that is accepted, refines the given one and is within the
+//!    bound (`proofs/Made.antt`).
 #![tactic(auto)]
 
 pub mod acceptance;

@@ -1,4 +1,10 @@
-//! The recorder: the profile of a run, taken while the run goes on.
+//! The recorder: `Recorder` takes exactly the profile of a run while the run goes on.
+//!
+//! 1. What a state shows, and arrivals (`specs/Sight.antt`); the profile of a run (`specs/Recorded.antt`).
+//! 2. When a recorder stands for a run, and what one state does to it (`specs/Standing.antt`); what its parts keep
+//!    (`specs/Counts.antt`, `specs/Kept.antt`).
+//! 3. The code: the calls (`src/recorder.rt`), how a state is seen (`src/parts.rt`, `src/seen.rt`, `src/arrival.rt`), an
+//!    entry that was begun (`src/kept.rt`), and the counts (`src/counts.rt`).
 #![tactic(auto)]
 
 mod arrival;

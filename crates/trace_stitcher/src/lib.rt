@@ -1,15 +1,18 @@
-//! The pass `trace`: behind the label of each entry of a profile that fits stands the path that the entry takes from there, which is
-//! run between a `speculate` and a `commit`, and given up where a branch goes another way.
+//! The pass `trace`: after the label of each entry of a profile that fits stands the path that the entry takes from there,
+//! which is run between a `speculate` and a `commit`, and given up where a branch goes another way.
 //!
-//! 1. The items of a trace (`src/lines.rt`, `specs/Legs.antt`), and what an entry puts into its function: its trace, and the label where
-//!    the trace goes on (`src/traces.rt`, `specs/Stops.antt`).
-//! 2. What is put in by all entries of a function, by points, and one sweep over its items (`src/inserted.rt`, `src/sweep.rt`,
-//!    `specs/Inserted.antt`, `proofs/Rows.antt`, `Splicing.antt`).
-//! 3. The edit of the tree (`src/edit.rt`). What is made is what the pass makes (`proofs/Traced.antt`, `Functions.antt`).
-//! 4. The pass around it (`src/stitch.rt`): the bound of the entries (`proofs/Bounding.antt`), and the link by the laws of
+//! 1. Which entries of a profile fit a program, each with its path, and how many items their traces bring (`matching`;
+//!    `specs/matching/Fitting.antt`): the entries in their order, with the bound (`src/matching/fitting.rt`), functions and
+//!    labels by their names (`places.rt`), and the flow graph of a function with entries, made once (`surveys.rt`).
+//! 2. Fresh names, with the least number of `_` in front that makes a name new (`fresh_names`): a set of names, and a fresh
+//!    one (`src/fresh_names/taken.rt`), and the names of a trace before any `_` (`bases.rt`). There is one fresh name.
+//! 3. The items of a trace (`src/lines.rt`, `specs/Legs.antt`), and what an entry puts into its function: its trace, and the
+//!    label where the trace goes on (`src/traces.rt`, `specs/Stops.antt`).
+//! 4. What is put in by all entries of a function, by points, and one sweep over its items (`src/inserted.rt`,
+//!    `src/sweep.rt`, `specs/Inserted.antt`, `proofs/Rows.antt`, `Splicing.antt`).
+//! 5. The edit of the tree (`src/edit.rt`). What is made is what the pass makes (`proofs/Traced.antt`, `Functions.antt`).
+//! 6. The pass around it (`src/stitch.rt`): the bound of the entries (`proofs/Bounding.antt`), and the link by the laws of
 //!    `trace_laws`.
-//!
-//! Which entries of a profile fit a program is found in `matching`, and fresh names are in `fresh_names`.
 #![tactic(auto)]
 
 mod edit;

@@ -1,19 +1,16 @@
 -- `emit`: the machine words of an accepted program are written.
-use Rattle.std.specs.Prelude.{ℕ, ◌≡◌, ◌+◌, ◌/◌, ◌%◌, ◌^◌, nat_lt, true, List, [], ◌∷◌, map, if◌then◌else◌}
+use Rattle.std.specs.Prelude.{ℕ, ◌≡◌, ◌/◌, ◌%◌, ◌^◌, true, List, [], ◌∷◌, map}
 use Rattle.bril_tree.specs.declared.limits.Limits.{Limits}
 use Rattle.bril_tree.specs.declared.program.Prog.{Prog}
 use Rattle.bril_words.specs.Defaults.{default_cells}
 use Rattle.rv64_image_laws.specs.Implements.{Implements}
 use Rattle.rv64_words.specs.declared.image.Image.{Image}
+use Rattle.rv64_words.specs.Hexadecimal.{hex_digit}
 use Rattle.bril_commands.specs.Command.{LinkedFiles, OfProgram, NoArguments, ImageFor, AreLimitsOf}
 use Rattle.bril_commands.specs.Outcome.{writes}
 use Rattle.bril_commands.specs.Profiles.{NamedFile}
 
 -- ---- the text of words
-
--- the code of a hexadecimal digit, in lower case
-abbrev pub hex_digit : ℕ → ℕ
-hex_digit d = if nat_lt d 10 then 48 + d else 87 + d
 
 -- a word in eight hexadecimal digits, and LF
 abbrev pub word_line : ℕ → List ℕ

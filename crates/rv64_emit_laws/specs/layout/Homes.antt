@@ -6,6 +6,7 @@
 use Rattle.std.specs.Prelude.{ℕ, suc, ◌+◌, ◌*◌, ◌==◌, ◌&&◌, Bool, true, false, not, nat_lt, if◌then◌else◌, List, [], ◌∷◌, length, Option, Some, None, slice_index}
 use Rattle.bril_tree.specs.declared.home.Home.{Home}
 use Rattle.bril_tree.specs.declared.home.Home.TheVariants.{Reg, Frame}
+use Rattle.bril_tree.specs.FrameWords.{frame_head}
 use Rattle.slot_code.specs.declared.item.Slot.{Slot}
 use Rattle.slot_code.specs.declared.item.Slot.TheVariants.{Variable, Shadow}
 use Rattle.slot_code.specs.declared.slots.SlotFunction.{SlotFunction}
@@ -14,11 +15,11 @@ use Rattle.rv64_words_laws.specs.sequences.Moves.{Move}
 
 -- the word of the frame that is a slot's own
 abbrev pub slot_word : SlotFunction → Slot → ℕ
-slot_word g slot = 2 + slot_number g.shadow_numbers slot
+slot_word g slot = frame_head + slot_number g.shadow_numbers slot
 
 -- the first word of the slots as they were at open speculation `level`, from 1; level 0 is the slots as they are
 abbrev pub level_word : SlotFunction → ℕ → ℕ
-level_word g level = 2 + length g.slots * level
+level_word g level = frame_head + length g.slots * level
 
 -- how many speculations are open at a point of a function
 abbrev pub depth_at : SlotFunction → ℕ → ℕ
@@ -82,11 +83,11 @@ abbrev pub outlives : FunctionHomes → ℕ → Option ℕ → Slot → Bool
 outlives homes point dest slot = in_register (homes.home slot) && (homes.live (suc point) slot && not (is_variable dest slot))
 
 abbrev pub call_moves : FunctionHomes → SlotFunction → ℕ → Option ℕ → List Move
-call_moves homes g point dest = moves_of homes g 2 (outlives homes point dest)
+call_moves homes g point dest = moves_of homes g frame_head (outlives homes point dest)
 
 -- what a function loads as it begins: the arguments, which come in the frame, whose homes are registers
 abbrev pub is_loaded : FunctionHomes → SlotFunction → Slot → Bool
 is_loaded homes g slot = in_register (homes.home slot) && (is_argument g slot && homes.live 0 slot)
 
 abbrev pub opening_moves : FunctionHomes → SlotFunction → List Move
-opening_moves homes g = moves_of homes g 2 (is_loaded homes g)
+opening_moves homes g = moves_of homes g frame_head (is_loaded homes g)

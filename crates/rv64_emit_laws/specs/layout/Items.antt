@@ -10,6 +10,7 @@ use Rattle.bril_tree.specs.declared.home.Home.{Home}
 use Rattle.bril_tree.specs.declared.operators.BinaryOp.{BinaryOp}
 use Rattle.bril_tree.specs.declared.operators.UnaryOp.{UnaryOp}
 use Rattle.bril_tree.specs.declared.operators.UnaryOp.TheVariants as unary
+use Rattle.bril_tree.specs.FrameWords.{frame_head}
 use Rattle.bril_tree.specs.Value.{word_of}
 use Rattle.rv64_words.specs.declared.word.Word.{Word}
 use Rattle.rv64_words.specs.declared.word.Word.TheVariants.{Jal, Jalr, Ld, Ecall}
@@ -27,7 +28,7 @@ use Rattle.rv64_emit_laws.specs.layout.Homes.{FunctionHomes, variable_home, call
 
 -- word k of the slots of a frame that is made next, as a word of this frame
 abbrev pub argument_word : SlotFunction → ℕ → ℕ
-argument_word g k = g.words + (2 + k)
+argument_word g k = g.words + (frame_head + k)
 
 -- ---- calls and returns
 

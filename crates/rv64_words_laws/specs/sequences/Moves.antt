@@ -4,10 +4,11 @@
 use Rattle.std.specs.Prelude.{◌≡◌, ◌≢◌, ℕ, ◌+◌, ◌<◌, ◌==◌, ◌||◌, Bool, true, false, IsTrue, List, [], ◌∷◌, ◌++◌}
 use Rattle.bril_tree.specs.declared.home.Home.{Home}
 use Rattle.bril_tree.specs.declared.home.Home.TheVariants.{Reg, Frame}
+use Rattle.bril_tree.specs.Home.{is_home_register}
 use Rattle.bril_tree.specs.Membership.{In}
 use Rattle.rv64_words.specs.declared.word.Word.{Word}
 use Rattle.rv64_words.specs.Region.{Sizes}
-use Rattle.rv64_words_laws.specs.stretches.Core.{Core, Keeps, is_home_register}
+use Rattle.rv64_words_laws.specs.stretches.Core.{Core, Keeps}
 use Rattle.rv64_words_laws.specs.sequences.Sequences.{copied_word, load_words, store_words, load_size, store_size}
 
 -- ---- a home and a register

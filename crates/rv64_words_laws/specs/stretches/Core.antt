@@ -1,5 +1,6 @@
 -- What words change of a machine that runs on: all of its state but the pc, the way it stops and the words done.
-use Rattle.std.specs.Prelude.{◌≡◌, ◌≢◌, ℕ, zero, suc, ◌+◌, ◌*◌, ◌^◌, ◌==◌, ◌&&◌, ◌||◌, Bool, IsTrue, List, ◌++◌, None, nat_le, if◌then◌else◌}
+use Rattle.std.specs.Prelude.{◌≡◌, ◌≢◌, ℕ, zero, suc, ◌+◌, ◌*◌, ◌^◌, IsTrue, List, ◌++◌, None, if◌then◌else◌}
+use Rattle.bril_tree.specs.Home.{is_home_register}
 use Rattle.bril_tree.specs.State.{counted}
 use Rattle.rv64_words.specs.Environment.{live_cells, slid_cells, slid_table, slides}
 use Rattle.rv64_words.specs.Region.{Sizes, cells_base}
@@ -96,11 +97,6 @@ abbrev pub without_block : ℕ → Core → Core
 without_block block c = record c { table = assigned c.table (2 * block + 1) 0 }
 
 -- ---- what stays
-
--- The registers in which locations may be: 3, 4, 9, 11 to 16 and 18 to 31. The others have uses of their own: 0, 1 for the way
--- back, 2 for the frame, 5 to 7, 10 and 17 for operands, addresses and environment calls, 8 for the frames that are left.
-abbrev pub is_home_register : ℕ → Bool
-is_home_register r = (r == 3) || ((r == 4) || ((r == 9) || ((nat_le 11 r && nat_le r 16) || (nat_le 18 r && nat_le r 31))))
 
 -- What the code between frames relies on is as it was: registers 0, 2 and 8, those in which locations may be, memory, and what
 -- can be seen from outside. Other registers may have changed.

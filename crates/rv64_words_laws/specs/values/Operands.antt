@@ -9,9 +9,10 @@ use Rattle.bril_tree.specs.declared.operators.UnaryOp.{UnaryOp}
 use Rattle.bril_tree.specs.declared.operators.UnaryOp.TheVariants as unary
 use Rattle.bril_tree.specs.declared.value.Value.{Value}
 use Rattle.bril_tree.specs.declared.value.Value.TheVariants.{Int, Bool as Boolean, Char, Ptr}
+use Rattle.bril_tree.specs.Home.{is_home_register}
 use Rattle.rv64_words.specs.declared.image.Image.{Image}
 use Rattle.rv64_words.specs.Region.{Sizes}
-use Rattle.rv64_words_laws.specs.stretches.Core.{Core, Keeps, KeepsBut, is_home_register}
+use Rattle.rv64_words_laws.specs.stretches.Core.{Core, Keeps, KeepsBut}
 use Rattle.rv64_words_laws.specs.stretches.Runs.{Runs, Ends}
 
 -- ---- operands

@@ -17,7 +17,7 @@ use Rattle.bril_tree.specs.declared.types.Base.{Base}
 use Rattle.bril_tree.specs.declared.types.Base.TheVariants as base
 use Rattle.bril_tree.specs.declared.types.Ty.{Ty}
 use Rattle.bril_tree.specs.Accepted.{IsAccepted}
-use Rattle.bril_tree.specs.FrameWords.{AreFrameWords, location_count}
+use Rattle.bril_tree.specs.FrameWords.{AreFrameWords, location_count, frame_head}
 use Rattle.bril_tree.specs.Literals.{AreLiteralsInRange, IsLiteralInRange}
 use Rattle.program_numbers.specs.ProgramNumbers.{greatest, IsLargestFrame}
 use Rattle.bril_tree.specs.Sites.{sites_of}
@@ -129,7 +129,7 @@ depth_most f g is point = by (slice_get graph.sites point) refl
 -- ---- frames
 
 -- a frame has more words than slots at each level
-levels_fit : (locations deepest depth words : ℕ) → words ≡ 2 + locations * (1 + deepest) → depth ≤ deepest → words ≤ 8388608 → locations * (depth + 2) < 2 ^ 26
+levels_fit : (locations deepest depth words : ℕ) → words ≡ frame_head + locations * (1 + deepest) → depth ≤ deepest → words ≤ 8388608 → locations * (depth + 2) < 2 ^ 26
 levels_fit locations deepest depth words is most few =
     let less : locations * (depth + 2) ≤ locations * (2 * (1 + deepest)) = mul-le-mul_left locations (omega arith) in
     let twice : locations * (2 * (1 + deepest)) ≡ 2 * (locations * (1 + deepest)) = grind arith in

@@ -11,6 +11,7 @@ use Rattle.bril_tree.specs.declared.types.Base.{Base}
 use Rattle.bril_tree.specs.declared.types.Base.TheVariants as base
 use Rattle.bril_tree.specs.declared.value.Value.{Value}
 use Rattle.bril_tree.specs.declared.value.Value.TheVariants.{Int, Bool as Boolean, Char, Ptr}
+use Rattle.bril_tree.specs.FrameWords.{frame_head}
 use Rattle.bril_tree.specs.FunctionForm.{listed}
 use Rattle.bril_tree.specs.Value.{IsInRange, word_of}
 use Rattle.bril_tree.specs.declared.home.Home.{Home}
@@ -160,7 +161,7 @@ module _ (homes : FunctionHomes) (start entry : ℕ → ℕ) (g : SlotFunction) 
       omega arith
 
   -- the words of all slots, from the frame's word 2 on
-  own_fits : length g.slots * (depth_at g point + 2) < 2 ^ 26 → 2 + (0 + length g.slots) ≤ 2 ^ 28
+  own_fits : length g.slots * (depth_at g point + 2) < 2 ^ 26 → frame_head + (0 + length g.slots) ≤ 2 ^ 28
   own_fits room = let least : length g.slots * 1 ≤ length g.slots * (depth_at g point + 2) = mul-le-mul_left (length g.slots) (omega arith) in omega arith
 
   pub item_encodable : (item : SlotItem) → ItemFits homes g point item → here + item_size homes g point item ≤ 250000 → AreWords (item_words homes start entry g point here item)

@@ -6,8 +6,9 @@ use Rattle.std.proofs.lemmas.Bool.Decides.{nat_tests}
 use Rattle.bril_tree.specs.declared.home.Home.{Home}
 use Rattle.bril_tree.specs.declared.home.Home.TheVariants.{Reg, Frame}
 use Rattle.bril_tree.specs.declared.numbered_function.Func.{Func}
+use Rattle.bril_tree.specs.FrameWords.{frame_head}
+use Rattle.bril_tree.specs.Home.{is_home_register}
 use Rattle.bril_tree.specs.Membership.{In}
-use Rattle.rv64_words_laws.specs.stretches.Core.{is_home_register}
 use Rattle.rv64_words_laws.specs.sequences.Moves.{Move, AreHomesApart, IsUsable, save_one_size, save_size, restore_one_size, restore_size}
 use Rattle.slot_code.specs.declared.item.Slot.{Slot}
 use Rattle.slot_code.specs.declared.slots.SlotFunction.{SlotFunction}
@@ -98,30 +99,30 @@ restores_one registers (m ∷ moves) all = omega (arith, one_restored registers 
 module _ (homes : FunctionHomes) (f : Func) (g : SlotFunction) (is : IsLoweredFunction f g) (are : AreHomes g homes) where
   -- what passes the test is in a register, and live at the point
   module _ (test : Slot → Bool) (point : ℕ) (registers : (slot : Slot) → test slot ≡ true → in_register (homes.home slot) ≡ true) (live : (slot : Slot) → test slot ≡ true → homes.live point slot ≡ true) where
-    pub registers_apart : AreHomesApart (moves_of homes g 2 test)
-    registers_apart = homes_are_apart homes f g is 2 test (λ x y of_x of_y told_x told_y same. are.apart point x y of_x of_y (live x told_x) (live y told_y) (registers x told_x) same)
+    pub registers_apart : AreHomesApart (moves_of homes g frame_head test)
+    registers_apart = homes_are_apart homes f g is frame_head test (λ x y of_x of_y told_x told_y same. are.apart point x y of_x of_y (live x told_x) (live y told_y) (registers x told_x) same)
 
-    register_move : (m : Move) → In m (moves_of homes g 2 test) → IsRegisterMove home_registers m
+    register_move : (m : Move) → In m (moves_of homes g frame_head test) → IsRegisterMove home_registers m
     register_move m i =
-        let w = slot_move homes f g is 2 test m i in
+        let w = slot_move homes f g is frame_head test m i in
         let inside = registers w.slot w.passes in
         let near = are.near w.slot w.in_g inside in
         by (homes.home w.slot) refl inside w.home (subst (λ n. n < 256) (sym w.word) near)
       where
-        by : (home : Home) → homes.home (slot_move homes f g is 2 test m i).slot ≡ home → in_register home ≡ true → m.home ≡ homes.home (slot_move homes f g is 2 test m i).slot → m.word < 256 → IsRegisterMove home_registers m
+        by : (home : Home) → homes.home (slot_move homes f g is frame_head test m i).slot ≡ home → in_register home ≡ true → m.home ≡ homes.home (slot_move homes f g is frame_head test m i).slot → m.word < 256 → IsRegisterMove home_registers m
         by (Reg r) e inside home near =
-            let w = slot_move homes f g is 2 test m i in
+            let w = slot_move homes f g is frame_head test m i in
             record { number = r; home = home ∙ e; among = listed r (subst (λ h. IsUsable h) e (are.usable w.slot w.in_g)); near = near }
         by (Frame o) e inside home near = absurd (false≢true inside)
 
-    few_moves : length (moves_of homes g 2 test) ≤ 23
-    few_moves = moves_few (moves_of homes g 2 test) home_registers registers_apart register_move
+    few_moves : length (moves_of homes g frame_head test) ≤ 23
+    few_moves = moves_few (moves_of homes g frame_head test) home_registers registers_apart register_move
 
-    saves_most : save_size (moves_of homes g 2 test) ≤ 23
-    saves_most = omega (arith, saves_one home_registers (moves_of homes g 2 test) register_move, few_moves)
+    saves_most : save_size (moves_of homes g frame_head test) ≤ 23
+    saves_most = omega (arith, saves_one home_registers (moves_of homes g frame_head test) register_move, few_moves)
 
-    restores_most : restore_size (moves_of homes g 2 test) ≤ 23
-    restores_most = omega (arith, restores_one home_registers (moves_of homes g 2 test) register_move, few_moves)
+    restores_most : restore_size (moves_of homes g frame_head test) ≤ 23
+    restores_most = omega (arith, restores_one home_registers (moves_of homes g frame_head test) register_move, few_moves)
 
   -- ---- what a call keeps
 

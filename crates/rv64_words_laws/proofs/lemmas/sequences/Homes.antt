@@ -2,10 +2,11 @@
 use Rattle.std.proofs.Common.{◌≡◌, ◌≢◌, ℕ, zero, suc, ◌+◌, ◌*◌, ◌/◌, ◌^◌, ◌≤◌, Bool, true, false, true≢false, IsTrue, refl, sym, ap, ◌∙◌, subst, arith, List, [], ◌∷◌, ◌++◌, append_assoc}
 use Rattle.bril_tree.specs.declared.home.Home.{Home}
 use Rattle.bril_tree.specs.declared.home.Home.TheVariants.{Reg, Frame}
+use Rattle.bril_tree.specs.Home.{is_home_register}
 use Rattle.rv64_words.specs.declared.image.Image.{Image}
 use Rattle.rv64_words.specs.declared.word.Word.{Word}
 use Rattle.rv64_words.specs.Region.{Sizes, stack_base, most_stack}
-use Rattle.rv64_words_laws.specs.stretches.Core.{Core, Keeps, KeepsBut, written, put, is_home_register}
+use Rattle.rv64_words_laws.specs.stretches.Core.{Core, Keeps, KeepsBut, written, put}
 use Rattle.rv64_words.proofs.Assigned.{assigned_here, assigned_other}
 use Rattle.rv64_words_laws.proofs.lemmas.stretches.Cores.{apart_from, written_here, written_other}
 use Rattle.rv64_words_laws.proofs.lemmas.stretches.Going.{Going, plain, is_core, is_place}

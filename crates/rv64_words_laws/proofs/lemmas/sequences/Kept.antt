@@ -2,7 +2,8 @@
 use Rattle.std.proofs.Common.{IsTrue, true≢false, cond, eqb, false, ◌≡◌, ◌≢◌, ℕ, zero, suc, refl, sym, ap, ◌∙◌, arith}
 use Rattle.std.proofs.lemmas.Bool.{ne_eqb}
 use Rattle.std.proofs.lemmas.Bool.Decides.{nat_tests}
-use Rattle.rv64_words_laws.specs.stretches.Core.{Core, written, Keeps, KeepsBut, is_home_register}
+use Rattle.bril_tree.specs.Home.{is_home_register}
+use Rattle.rv64_words_laws.specs.stretches.Core.{Core, written, Keeps, KeepsBut}
 use Rattle.rv64_words.proofs.Assigned.{assigned_other}
 use Rattle.rv64_words_laws.proofs.lemmas.stretches.Cores.{apart_from}
 use Rattle.rv64_words_laws.specs.sequences.Moves.{is_temporary}

@@ -1,7 +1,8 @@
 -- What is read of a core after a change.
 use Rattle.std.proofs.Common.{◌≡◌, ◌≢◌, ℕ, zero, suc, IsTrue, true, false, true≢false, refl, sym, ap, ◌∙◌}
+use Rattle.bril_tree.specs.Home.{is_home_register}
 use Rattle.rv64_words.proofs.Assigned.{assigned_twice, assigned_same, assigned_here, assigned_other}
-use Rattle.rv64_words_laws.specs.stretches.Core.{Core, written, is_home_register}
+use Rattle.rv64_words_laws.specs.stretches.Core.{Core, written}
 
 pub written_twice : (e : Core) (r a b : ℕ) → written (written e r a) r b ≡ written e r b
 written_twice e zero a b = refl
