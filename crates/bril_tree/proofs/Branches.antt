@@ -7,7 +7,8 @@ use Rattle.bril_tree.specs.declared.numbered.Instr.{Instr}
 use Rattle.bril_tree.specs.declared.numbered.Instr.TheVariants.{Label, Const, Act}
 use Rattle.bril_tree.specs.declared.operation.Op.{Op}
 use Rattle.bril_tree.specs.declared.operation.Op.TheVariants as op
-use Rattle.bril_tree.specs.Edge.{Branch, onward, jump, abort, branches_from, branches_at, action_branches, item_branches}
+use Rattle.bril_tree.specs.declared.types.Ty.{Ty}
+use Rattle.bril_tree.specs.Edge.{Branch, onward, jump, abort, branches_from, branches_at, action_branches, item_branches, leads_away}
 use Rattle.bril_tree.specs.Membership.{In}
 use Rattle.bril_tree.specs.Sites.{Closes, item_change, Opens}
 use Rattle.bril_tree.specs.Step.{point_of, is_label}
@@ -91,6 +92,20 @@ branch_at_item code p e h = by (slice_get code p) refl h
     by : (item : Option Instr) → slice_get code p ≡ item → In e (branches_from code p item) → p < length code
     by None at h = absurd h
     by (Some item) at h = slice_get_within code p item at
+
+-- ---- where control goes on, there is a branch on
+
+action-onward : (code : List Instr) (i : ℕ) (operation : Op) (dest : Option ℕ) (ty : Option Ty) (args funcs labels : List ℕ) → leads_away (Some (Act dest ty operation args funcs labels)) ≡ false → In (onward i) (action_branches code i operation labels)
+action-onward code i op.Jmp dest ty args funcs labels e = absurd cc
+action-onward code i op.Br dest ty args funcs labels e = absurd cc
+action-onward code i op.Ret dest ty args funcs labels e = absurd cc
+action-onward code i op.Guard dest ty args funcs labels e = inl refl
+action-onward code i _ dest ty args funcs labels e = inl refl
+
+pub item-onward : (code : List Instr) (i : ℕ) (item : Instr) → leads_away (Some item) ≡ false → In (onward i) (item_branches code i item)
+item-onward code i (Label l) e = inl refl
+item-onward code i (Const dest ty value) e = inl refl
+item-onward code i (Act dest ty operation args funcs labels) e = action-onward code i operation dest ty args funcs labels e
 
 -- ---- an abort closes a site
 

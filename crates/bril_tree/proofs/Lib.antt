@@ -3,6 +3,7 @@ pub mod Appearance
 pub mod Assignments
 pub mod Canonical
 pub mod Counting
+pub mod Deciding
 pub mod Equal
 pub mod Elements
 pub mod First

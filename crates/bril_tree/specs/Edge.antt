@@ -43,3 +43,13 @@ branches_from code p (Some item) = item_branches code p item
 
 abbrev pub branches_at : List Instr → ℕ → List Branch
 branches_at code p = branches_from code p (slice_get code p)
+
+-- Control doesn't go on from the item to the next point, also where a jump leads there.
+abbrev pub leads_away : Option Instr → Bool
+leads_away None = false
+leads_away (Some (Label l)) = false
+leads_away (Some (Const dest ty value)) = false
+leads_away (Some (Act dest ty op.Jmp args funcs labels)) = true
+leads_away (Some (Act dest ty op.Br args funcs labels)) = true
+leads_away (Some (Act dest ty op.Ret args funcs labels)) = true
+leads_away (Some (Act dest ty _ args funcs labels)) = false
