@@ -4,9 +4,7 @@ ghost use Rattle.std.specs.Prelude.{◌≡◌, ◌≤◌, ◌<◌, ◌++◌, tru
 ghost use Rattle.bril_tree.specs.Identifier.{begins_identifier};
 ghost use Rattle.bril_demo.specs.Demo.{calling, demo_function, demo_main, demo_tree, numbered_name, summing};
 
-use crate::items::{
-    binary, branch, call, constant, give_back, jump, label, name, plain, print, typed,
-};
+use crate::items::{binary, branch, call, constant, give_back, jump, label, plain, print, typed};
 use bril_tree::function_tree::{FuncTree, Item};
 use bril_tree::name::Name;
 use bril_tree::operation::Op;
@@ -54,7 +52,7 @@ fn numbered_name(alloc: Global, letter: u8, number: u32) -> Result<Name, AllocEr
     let mut bytes = Vec::from_slice(alloc, &[letter])?;
     let mut digits = Buffer::new();
     bytes.extend_from_slice(digits.format(number).as_bytes())?;
-    name(alloc, bytes.as_slice())
+    Name::of_identifier(alloc, bytes.as_slice())
 }
 
 // Function j of the demo of n functions.
@@ -93,7 +91,7 @@ fn demo_main(alloc: Global, n: u32) -> Result<FuncTree, AllocError>
         add_call(alloc, j, &mut code)?;
     }
     Ok(FuncTree {
-        name: name(alloc, b"main")?,
+        name: Name::of_identifier(alloc, b"main")?,
         args: Seq::new(alloc),
         ret: None,
         code,

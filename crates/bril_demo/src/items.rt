@@ -6,24 +6,12 @@ ghost use Rattle.bril_tree.specs.Identifier.{is_identifier};
 ghost use Rattle.bril_tree.specs.Numbered.{typed_name};
 
 use bril_tree::function_tree::{Dest, Item};
-use bril_tree::name::{IdentFault, Name};
+use bril_tree::name::Name;
 use bril_tree::operation::Op;
 use bril_tree::sequence::Seq;
 use bril_tree::types::{Base, Ty};
 use bril_tree::value::Lit;
 use std::alloc::{AllocError, Global};
-
-/// The name of these bytes, which are an identifier.
-pub(crate) fn name(alloc: Global, bytes: &[u8]) -> Result<Name, AllocError>
-    requires { IsTrue (is_identifier bytes.now) }
-    ensures { IfOk result (λ name. name ≡ bytes.now) }
-{
-    match Name::ident(alloc, bytes) {
-        Ok(made) => Ok(made),
-        Err(IdentFault::Memory) => Err(AllocError),
-        Err(IdentFault::NotIdent) => unreachable!(),
-    }
-}
 
 /// A type that is no pointer.
 pub(crate) fn plain(base: Base) -> Ty
@@ -38,7 +26,7 @@ pub(crate) fn typed(alloc: Global, variable: &[u8], base: Base) -> Result<Dest, 
     ensures { IfOk result (λ dest. dest ≡ typed_name variable.now (plain base)) }
 {
     Ok(Dest {
-        name: name(alloc, variable)?,
+        name: Name::of_identifier(alloc, variable)?,
         ty: plain(base),
     })
 }
@@ -49,7 +37,7 @@ fn one(alloc: Global, bytes: &[u8]) -> Result<Seq<Name>, AllocError>
     ensures { IfOk result (λ names. names ≡ bytes.now ∷ []) }
 {
     let mut names = Seq::new(alloc);
-    names.push(name(alloc, bytes)?)?;
+    names.push(Name::of_identifier(alloc, bytes)?)?;
     Ok(names)
 }
 
@@ -60,7 +48,7 @@ fn two(alloc: Global, first: &[u8], second: &[u8]) -> Result<Seq<Name>, AllocErr
     ensures { IfOk result (λ names. names ≡ first.now ∷ second.now ∷ []) }
 {
     let mut names = one(alloc, first)?;
-    names.push(name(alloc, second)?)?;
+    names.push(Name::of_identifier(alloc, second)?)?;
     Ok(names)
 }
 
@@ -68,7 +56,7 @@ pub(crate) fn label(alloc: Global, at: &[u8]) -> Result<Item, AllocError>
     requires { IsTrue (is_identifier at.now) }
     ensures { IfOk result (λ item. item ≡ label at.now) }
 {
-    Ok(Item::Label(name(alloc, at)?))
+    Ok(Item::Label(Name::of_identifier(alloc, at)?))
 }
 
 /// An int.
@@ -77,7 +65,7 @@ pub(crate) fn constant(alloc: Global, variable: &[u8], value: u32) -> Result<Ite
     ensures { IfOk result (λ item. item ≡ constant variable.now value) }
 {
     Ok(Item::Const {
-        dest: name(alloc, variable)?,
+        dest: Name::of_identifier(alloc, variable)?,
         ty: plain(Base::Int),
         value: Lit::Int(i64::from(value)),
     })

@@ -49,27 +49,9 @@ TookAll-append {s} {t} {u} {a} {b} one two = record {
   faults = omega arith;
 }
 
--- the first of a piece is the first of that piece with more behind it
-pub TookSome-longer : {s t : SinkSeen} {a : List ℕ} (b : List ℕ) → TookSome s a t → TookSome s (a ++ b) t
-TookSome-longer b some = record {
-  part = some.part;
-  rest = some.rest ++ b;
-  whole = ap (λ v. v ++ b) some.whole ∙ append_assoc some.part some.rest b;
-  took = some.took;
 }
 
--- all of one piece and the first of the next
-pub TookSome-after : {s t u : SinkSeen} {a b : List ℕ} → TookAll s a t → TookSome t b u → TookSome s (a ++ b) u
-TookSome-after {s} {t} {u} {a} {b} one some = record {
-  part = a ++ some.part;
-  rest = some.rest;
-  whole = ap (λ v. a ++ v) some.whole ∙ sym (append_assoc a some.part some.rest);
-  took = TookAll-append one some.took;
 }
-
--- nothing was held back
-pub Flushed-none : (s : SinkSeen) → Flushed s s
-Flushed-none s = record { written = refl; amount = refl; puts = refl; faults = omega arith }
 
 -- ---- puts
 
@@ -152,13 +134,6 @@ PutSome-after {s} {t} {u} {ps} {qs} one some = record {
   rose = Rose-after _ _ _ one.took.faults some.rose;
 }
 
--- what was taken of pieces is the first of their bytes
-pub PutSome-took : {s t : SinkSeen} {ps : List (List ℕ)} → PutSome s ps t → TookSome s (joined ps) t
-PutSome-took {s} {t} {ps} some = record {
-  part = joined (some.front ++ some.part ∷ []);
-  rest = some.rest ++ joined some.unput;
-  whole = ap joined some.whole ∙ joined-cut some.front some.part some.rest some.unput;
-  took = some.put.took;
 }
 
 -- ---- bytes by so many puts
@@ -206,13 +181,4 @@ FailedAfter-append {s} {t} {u} {a} {b} {ps} m n one two =
       rose = Rose-after _ _ _ one.took.faults two.rose;
     }
 
--- what was taken is the first of the bytes and of the pieces' bytes
-pub FailedAfter-took : {s t : SinkSeen} {a : List ℕ} {ps : List (List ℕ)} (n : ℕ) → FailedAfter s a n ps t → TookSome s (a ++ joined ps) t
-FailedAfter-took {s} {t} {a} {ps} n failed = record {
-  part = a ++ joined (failed.front ++ failed.part ∷ []);
-  rest = failed.rest ++ joined failed.unput;
-  whole =
-      ap (λ v. a ++ v) (ap joined failed.whole ∙ joined-cut failed.front failed.part failed.rest failed.unput)
-      ∙ sym (append_assoc a (joined (failed.front ++ failed.part ∷ [])) (failed.rest ++ joined failed.unput));
-  took = failed.took;
 }

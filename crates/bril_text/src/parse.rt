@@ -14,7 +14,7 @@ use crate::terminal::TerminalRef;
 use crate::terminals::Terminals;
 use bril_grammar::fault::{Fault, FaultKind};
 use bril_grammar::mark::Mark;
-use bril_tree::name::{IdentFault, Name};
+use bril_tree::name::Name;
 use std::alloc::{AllocError, Global};
 
 // Why the parser stopped: at a token that doesn't fit, or out of memory.
@@ -45,11 +45,7 @@ pub fn name_of(alloc: Global, text: &[u8]) -> Result<Name, ParseFault>
     ensures ok { IfOk result (λ name. name ≡ text.now) }
     ensures err { IfErr result (λ fault. fault ≡ Memory) }
 {
-    match Name::ident(alloc, text) {
-        Ok(name) => Ok(name),
-        Err(IdentFault::Memory) => Err(ParseFault::Memory),
-        Err(IdentFault::NotIdent) => unreachable!(),
-    }
+    Ok(Name::of_identifier(alloc, text)?)
 }
 
 // The terminals after this mark, which must come next.

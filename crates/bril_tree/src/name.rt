@@ -58,6 +58,16 @@ impl Name {
         })
     }
 
+    /// A copy of the bytes, which are an identifier, as a name. The only error is out of memory.
+    pub fn of_identifier(alloc: Global, bytes: &[u8]) -> Result<Name, AllocError>
+        requires { IsTrue (is_identifier bytes.now) }
+        ensures { IfOk result (λ name. name ≡ bytes.now) }
+    {
+        Ok(Name {
+            held: Vec::from_slice(alloc, bytes)?,
+        })
+    }
+
     /// The bytes of the name, which are an identifier. Takes no memory.
     pub fn as_bytes(&self) -> &[u8]
         ensures value { result.now ≡ self.now }

@@ -8,7 +8,7 @@ use Rattle.pass_edit_laws.proofs.lemmas.plan.Marked.{nops-push}
 use Rattle.std.proofs.lemmas.Option.{slice_get_within}
 use Rattle.bril_tree.specs.declared.numbered_function.Func.{Func}
 use Rattle.bril_names.specs.Range.{AreBelow}
-use Rattle.coalesce.specs.Classes.{is_marked}
+use Rattle.graph_search.specs.Marks.{is_marked}
 use Rattle.coalesce.specs.Rounds.{CopyWithin, MarksCopies, MarksFirst}
 
 pub below-at : (n : ℕ) (xs : List ℕ) (i d : ℕ) → AreBelow n xs → i < length xs → get_or xs i d < n

@@ -11,7 +11,7 @@ use Rattle.bril_tree.specs.declared.program.Prog.{Prog}
 use Rattle.bril_tree.specs.Numbered.{function_tree, item_tree, names_of_functions, nop_item, variable_names}
 use Rattle.pass_edit_laws.specs.plan.Marked.{with_nops}
 use Rattle.coalesce.proofs.lemmas.meaning.Copying.{copy-is}
-use Rattle.coalesce.specs.Classes.{is_marked}
+use Rattle.graph_search.specs.Marks.{is_marked}
 use Rattle.coalesce.specs.Copies.{copies_in, item_copies}
 use Rattle.coalesce.specs.Rounds.{IsRoundFunction, MarksCopies}
 

@@ -10,7 +10,8 @@ use Rattle.bril_tree.specs.Live.{IsLive}
 use Rattle.bril_tree.specs.Operand.{Variable, dest_of}
 use Rattle.bril_tree.specs.Walk.{IsReached}
 use Rattle.coalesce.specs.meaning.Apart.{source_of}
-use Rattle.coalesce.specs.Classes.{AddsClashes, AreClashes, Clashes, HasBoth, IsClash, clash, is_marked}
+use Rattle.graph_search.specs.Marks.{is_marked}
+use Rattle.coalesce.specs.Classes.{AddsClashes, AreClashes, Clashes, HasBoth, IsClash, clash}
 use Rattle.coalesce.specs.declared.clashes.Clash.{Clash}
 use Rattle.coalesce.proofs.Joining.{outside}
 use Rattle.coalesce.proofs.Looking.{take-next}

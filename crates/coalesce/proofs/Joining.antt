@@ -7,7 +7,8 @@ use Rattle.std.proofs.lemmas.List.{get_or-set_same, get_or-set_other, length-set
 use Rattle.bril_tree.specs.declared.numbered_function.Func.{Func}
 use Rattle.bril_tree.specs.Typing.{variable_type}
 use Rattle.coalesce.specs.meaning.Apart.{AreApart, HasShadow}
-use Rattle.coalesce.specs.Classes.{AreClashes, Clashes, Fits, IsRoundState, MayJoin, Misfits, OtherType, TwoShadows, KeptApart, class_of, clash, is_marked, is_source, shadows_joined, source_at}
+use Rattle.graph_search.specs.Marks.{is_marked}
+use Rattle.coalesce.specs.Classes.{AreClashes, Clashes, Fits, IsRoundState, MayJoin, Misfits, OtherType, TwoShadows, KeptApart, class_of, clash, is_source, shadows_joined, source_at}
 use Rattle.coalesce.specs.declared.clashes.Clash.{Clash}
 
 -- ---- lists

@@ -9,7 +9,8 @@ use Rattle.std.proofs.Math.Seq.{take-suc}
 use Rattle.std.proofs.lemmas.Option.{slice_get-get_or, same_Some}
 use Rattle.bril_tree.specs.declared.numbered.Instr.{Instr}
 use Rattle.bril_tree.specs.declared.numbered_function.Func.{Func}
-use Rattle.coalesce.specs.Classes.{AreClashes, Fits, Grows, IsRoundState, NoneKeepsApart, SomeKeepsApart, class_of, is_marked, keeps_apart, shadows_joined}
+use Rattle.graph_search.specs.Marks.{is_marked}
+use Rattle.coalesce.specs.Classes.{AreClashes, Fits, Grows, IsRoundState, NoneKeepsApart, SomeKeepsApart, class_of, keeps_apart, shadows_joined}
 use Rattle.coalesce.specs.declared.clashes.Clash.{Clash}
 use Rattle.coalesce.proofs.Joining.{class-here, class-other, put-state}
 

@@ -15,7 +15,8 @@ use Rattle.bril_tree.specs.Numbered.{function_tree, item_tree, names_of_function
 use Rattle.pass_edit_laws.specs.plan.Marked.{with_nops}
 use Rattle.pass_make.proofs.Each.{more-each, tree_of_function}
 use Rattle.coalesce.specs.meaning.Merged.{NoneApart}
-use Rattle.coalesce.specs.Classes.{AreClasses, is_marked}
+use Rattle.graph_search.specs.Marks.{is_marked}
+use Rattle.coalesce.specs.Classes.{AreClasses}
 use Rattle.coalesce.specs.Copies.{copies_in, copies_of_tree}
 use Rattle.coalesce.specs.Rounds.{HasCopyWithin, HasNoneApart, IsRoundFunction, MarksCopies, NamesClasses}
 use Rattle.coalesce.proofs.Fewer.{function-fewer, round-left}

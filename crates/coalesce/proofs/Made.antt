@@ -31,7 +31,7 @@ use Rattle.coalesce.proofs.lemmas.meaning.Accepted.{round-accepted}
 use Rattle.coalesce.proofs.lemmas.meaning.Composed.{IsMadeSoFar, all-made, first-round, one-more}
 use Rattle.coalesce.proofs.lemmas.meaning.Copying.{copy-is}
 use Rattle.coalesce.proofs.lemmas.meaning.Refines.{round-refines}
-use Rattle.coalesce.specs.Classes.{is_marked}
+use Rattle.graph_search.specs.Marks.{is_marked}
 use Rattle.coalesce.specs.Merge.{IsMadeBy, IsNextRound, merge_meaning}
 use Rattle.coalesce.specs.Rounds.{HasNoneApart, IsRoundFunction, IsRoundTree}
 use Rattle.coalesce.proofs.Rounds.{rename, tree-round}

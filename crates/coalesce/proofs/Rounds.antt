@@ -25,7 +25,7 @@ use Rattle.pass_edit_laws.specs.plan.Marked.{with_nops}
 use Rattle.pass_edit_laws.proofs.lemmas.plan.Marked.{with_nops-alive, with_nops-dead}
 use Rattle.coalesce.specs.meaning.Merged.{IsRenamedAt, IsRound, IsSelfCopy, IsSound, renamed_item}
 use Rattle.coalesce.proofs.lemmas.meaning.Names.{tree-renamed}
-use Rattle.coalesce.specs.Classes.{is_marked}
+use Rattle.graph_search.specs.Marks.{is_marked}
 use Rattle.coalesce.specs.Rounds.{CopyWithin, IsRoundFunction, IsRoundTree}
 use Rattle.coalesce.proofs.Naming.{arguments-kept, classes-sound, names-renamed, new-is, one-class, renamed_by}
 use Rattle.coalesce.proofs.Starting.{copy-below}

@@ -18,7 +18,8 @@ use Rattle.coalesce.specs.meaning.Merged.{NoneApart}
 use Rattle.coalesce.proofs.lemmas.meaning.Copying.{copy-is}
 use Rattle.bril_tree.specs.Walk.{IsReached}
 use Rattle.coalesce.specs.Rounds.{CopyWithin, HasCopyWithin, IsCopyWithin}
-use Rattle.coalesce.specs.Classes.{Grows, IsRelatedItem, MarksShadow, NotApart, Relates, is_marked}
+use Rattle.graph_search.specs.Marks.{is_marked}
+use Rattle.coalesce.specs.Classes.{Grows, IsRelatedItem, MarksShadow, NotApart, Relates}
 
 -- ---- related variables
 

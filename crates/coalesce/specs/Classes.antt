@@ -8,11 +8,9 @@ use Rattle.bril_tree.specs.Operand.{Variable, dest_of}
 use Rattle.bril_tree.specs.Typing.{variable_type}
 use Rattle.bril_tree.specs.Walk.{IsReached}
 use Rattle.flow_graph.specs.declared.reads.Access.{Access}
+use Rattle.graph_search.specs.Marks.{is_marked}
 use Rattle.coalesce.specs.meaning.Apart.{AreApart, Copies, HasShadow, shadows_of, source_of}
 use Rattle.coalesce.specs.declared.clashes.Clash.{Clash}
-
-abbrev pub is_marked : List Bool → ℕ → Bool
-is_marked marks k = slice_index_or marks k false
 
 -- ---- clashes
 

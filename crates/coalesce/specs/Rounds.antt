@@ -11,7 +11,8 @@ use Rattle.bril_tree.specs.Walk.{IsReached}
 use Rattle.pass_edit_laws.specs.plan.Marked.{with_nops}
 use Rattle.coalesce.specs.meaning.Apart.{Copies}
 use Rattle.coalesce.specs.meaning.Merged.{NoneApart}
-use Rattle.coalesce.specs.Classes.{AreClasses, class_of, is_marked}
+use Rattle.graph_search.specs.Marks.{is_marked}
+use Rattle.coalesce.specs.Classes.{AreClasses, class_of}
 
 -- the new names are those of the classes
 pub record NamesClasses (F : Func) (class : List ℕ) (news : List (List ℕ)) : Type 0 where

@@ -7,13 +7,14 @@ ghost use Rattle.bril_tree.specs.Operand.{Variable};
 ghost use Rattle.flow_graph.specs.Graph.{IsGraphOf};
 ghost use Rattle.live_sets.specs.Flow.{IsFlowOf};
 ghost use Rattle.coalesce.specs.meaning.Apart.{source_of};
-ghost use Rattle.coalesce.specs.Classes.{AddsClashes, AreClashes, Clashes, is_marked};
+ghost use Rattle.graph_search.specs.Marks.{is_marked};
+ghost use Rattle.coalesce.specs.Classes.{AddsClashes, AreClashes, Clashes};
 
 use crate::copies::{dest_of, source_of};
 use bril_tree::numbered::Instr;
 use bril_tree::numbered_function::Func;
 use flow_graph::{Graph, variable_number};
-use graph_search::Reached;
+use graph_search::{Reached, is_marked};
 use live_sets::Flow;
 use std::alloc::{AllocError, Global};
 
@@ -44,13 +45,6 @@ fn search(
     Ok(())
 }
 
-// Whether the variable is marked; none is that has no mark.
-pub(crate) fn is_marked(marks: &[bool], x: u32) -> bool
-    ensures { result ≡ is_marked marks.now x }
-{
-    (x as usize) < marks.len() && marks[x as usize]
-}
-
 // Whether the item copies x.
 fn is_copy_of(item: &Instr, x: u32) -> bool
     ensures copies { result ≡ true → source_of item.now ≡ Some x }
@@ -77,7 +71,7 @@ fn clashing(func: &Func, graph: &Graph, related: &[bool], x: u32, point: u32) ->
     }
     let item = &func.code.as_slice()[point as usize - 1];
     let dest = dest_of(item)?;
-    if dest == x || is_copy_of(item, x) || !is_marked(related, dest) {
+    if dest == x || is_copy_of(item, x) || !is_marked(related, dest as usize) {
         return None;
     }
     Some(dest)
@@ -153,7 +147,7 @@ fn push_variable(
     ensures points { reached.new.nodes ≡ reached.old.nodes }
     ensures adds { OnOk result (AddsClashes func.now.code related.now x (λ p. (is_marked related.now x ≡ true) × IsLive func.now.code (Variable x) p) list.old.items list.new.items) }
 {
-    if is_marked(related, x) {
+    if is_marked(related, x as usize) {
         search(alloc, func, flow, reached, x)?;
         push_clashes(list, func, graph, related, x, reached.found())?;
     }

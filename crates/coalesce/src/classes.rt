@@ -12,14 +12,16 @@ ghost use Rattle.coalesce.specs.meaning.Apart.{AreApart, HasShadow};
 ghost use Rattle.coalesce.specs.meaning.Merged.{NoneApart};
 ghost use Rattle.coalesce.specs.declared.clashes.Clash.{Clash};
 ghost use Rattle.coalesce.specs.Rounds.{HasCopyWithin, IsCopyWithin};
-ghost use Rattle.coalesce.specs.Classes.{AreAlone, AreClashes, AreClasses, Fits, Grows, MarksShadow, Relates, IsRelatedItem, IsRoundState, Misfits, NoneKeepsApart, NotApart, SomeKeepsApart, class_of, firsts_from, is_marked, is_source, keeps_apart, shadows_joined, source_at};
+ghost use Rattle.graph_search.specs.Marks.{is_marked};
+ghost use Rattle.coalesce.specs.Classes.{AreAlone, AreClashes, AreClasses, Fits, Grows, MarksShadow, Relates, IsRelatedItem, IsRoundState, Misfits, NoneKeepsApart, NotApart, SomeKeepsApart, class_of, firsts_from, is_source, keeps_apart, shadows_joined, source_at};
 
-use crate::clashes::{Clash, clashes_of, is_marked};
+use crate::clashes::{Clash, clashes_of};
 use crate::copies::{dest_of, shadow_of, source_of};
 use bril_tree::numbered::Instr;
 use bril_tree::numbered_function::Func;
 use bril_tree::typing::same_result;
 use flow_graph::{Access, AccessLists, Graph};
+use graph_search::is_marked;
 use live_sets::Flow;
 use std::alloc::{AllocError, Global};
 
@@ -276,7 +278,8 @@ impl Classes {
     fn are_shadowed(&self, x: u32, class: u32) -> bool
         ensures { result ≡ is_marked self.now.shadow.items x && is_marked self.now.shadow.items class }
     {
-        is_marked(self.shadow.as_slice(), x) && is_marked(self.shadow.as_slice(), class)
+        is_marked(self.shadow.as_slice(), x as usize)
+            && is_marked(self.shadow.as_slice(), class as usize)
     }
 
     // Whether x may get the name of the class.
@@ -319,7 +322,7 @@ impl Classes {
         self.class[x as usize] = class;
         self.alone[x as usize] = false;
         self.alone[class as usize] = false;
-        if is_marked(self.shadow.as_slice(), x) {
+        if is_marked(self.shadow.as_slice(), x as usize) {
             self.shadow[class as usize] = true;
         }
         self.joined = true;
@@ -331,7 +334,7 @@ impl Classes {
         ensures past { result ≡ true → func.now.args ≤ x }
         ensures stays { result ≡ false → is_marked self.now.alone.items x ≡ true → x < func.now.args }
     {
-        is_marked(self.alone.as_slice(), x) && x >= func.args
+        is_marked(self.alone.as_slice(), x as usize) && x >= func.args
     }
 
     // Puts x, which is alone and no argument, into the class of y, where that may be.

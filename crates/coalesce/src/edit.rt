@@ -10,7 +10,6 @@ ghost use Rattle.flow_graph.specs.Graph.{IsGraphOf};
 ghost use Rattle.coalesce.specs.Classes.{AreClasses, class_of};
 ghost use Rattle.coalesce.specs.Rounds.{CopyWithin, IsCopyWithin, MarksCopies, NamesClasses};
 
-use crate::clashes::is_marked;
 use crate::copies::{dest_of, source_of};
 use bril_tree::function_tree::{Dest, Item};
 use bril_tree::name::Name;
@@ -19,6 +18,7 @@ use bril_tree::numbered_function::Func;
 use bril_tree::sequence::Seq;
 use bril_tree::types::Ty;
 use flow_graph::Graph;
+use graph_search::is_marked;
 use pass_make::nop;
 use std::alloc::{AllocError, Global};
 
@@ -210,7 +210,7 @@ pub(crate) fn made_items(
     let labels = func.labels.as_slice();
     let mut code = Seq::new(alloc);
     for (point, item) in func.code.as_slice().iter().enumerate() {
-        let empty = is_marked(marks, point as u32);
+        let empty = is_marked(marks, point);
         code.push(made_item(alloc, funcs, vars, labels, item, empty)?)?;
     }
     Ok(code)

@@ -28,7 +28,8 @@ use Rattle.flow_graph.proofs.Locations.{assigned-location, location-assigned}
 use Rattle.dead_code.specs.Emptied.{IsCleared, WereRemovable, emptied}
 use Rattle.pass_edit_laws.specs.plan.Marked.{with_nops}
 use Rattle.dead_code.specs.Removable.{is_computation, is_silent, only_computes, IsUnused, IsIdle, IsRemovable}
-use Rattle.dead_code.specs.Work.{IsSearched, IsSettled, IsSound, IsWork, NoneIdle, assignment_if, assignments_from, is_marked, remaining}
+use Rattle.graph_search.specs.Marks.{is_marked}
+use Rattle.dead_code.specs.Work.{IsSearched, IsSettled, IsSound, IsWork, NoneIdle, assignment_if, assignments_from, remaining}
 use Rattle.dead_code.proofs.Chain.{Chain, chain, still_reached, was_reached}
 use Rattle.pass_edit_laws.proofs.lemmas.plan.Marked.{with_nops-alive, with_nops-dead, length-with_nops, nops-true, nops-false, nops-before}
 use Rattle.dead_code.proofs.Step.{set-here}

@@ -22,7 +22,8 @@ use Rattle.live_sets.proofs.Law.{AreReaders}
 use Rattle.live_sets.proofs.Readers.{readers_are}
 use Rattle.flow_graph.proofs.ReadLists.{reads-inside}
 use Rattle.pass_edit_laws.proofs.lemmas.plan.Elements.{all_in, in_all}
-use Rattle.dead_code.specs.Work.{IsLookedAt, IsReadBy, IsSearched, IsSound, IsWork, Queues, assignments_from, is_marked, reads_left, remaining}
+use Rattle.graph_search.specs.Marks.{is_marked}
+use Rattle.dead_code.specs.Work.{IsLookedAt, IsReadBy, IsSearched, IsSound, IsWork, Queues, assignments_from, reads_left, remaining}
 use Rattle.dead_code.proofs.Clearing.{is_assignment, removable, settled}
 use Rattle.pass_edit_laws.proofs.lemmas.plan.Marked.{with_nops-alive, with_nops-dead}
 use Rattle.dead_code.proofs.Searching.{found-live, live-found}

@@ -11,7 +11,8 @@ use Rattle.flow_graph.specs.Location.{number_of}
 use Rattle.flow_graph.specs.Reads.{access_at, item_reads}
 use Rattle.flow_graph.specs.declared.reads.Access.{Access}
 use Rattle.pass_edit_laws.proofs.lemmas.plan.Elements.{in_all}
-use Rattle.dead_code.specs.Work.{AreQueued, IsReadBy, Queues, is_marked}
+use Rattle.graph_search.specs.Marks.{is_marked}
+use Rattle.dead_code.specs.Work.{AreQueued, IsReadBy, Queues}
 
 only_one : (n l : ℕ) → In n (l ∷ []) → n ≡ l
 only_one n l (inl e) = e

@@ -18,7 +18,8 @@ use Rattle.bril_tree.proofs.Branches.{reached_on}
 use Rattle.bril_tree.proofs.Members.{contains_in, in_map}
 use Rattle.flow_graph.specs.Location.{number_of}
 use Rattle.dead_code.specs.Removable.{is_computation, is_silent, only_computes, IsRemovable}
-use Rattle.dead_code.specs.Work.{IsReadBy, IsSearched, IsSettled, IsSound, IsWork, NoneIdle, Queues, is_marked, reads_left, remaining}
+use Rattle.graph_search.specs.Marks.{is_marked}
+use Rattle.dead_code.specs.Work.{IsReadBy, IsSearched, IsSettled, IsSound, IsWork, NoneIdle, Queues, reads_left, remaining}
 use Rattle.dead_code.proofs.Chain.{Chain, chain, still_reached, was_reached}
 use Rattle.pass_edit_laws.proofs.lemmas.plan.Marked.{with_nops-set, with_nops-alive, with_nops-dead}
 use Rattle.dead_code.proofs.Step.{live-was, live-now, computation-on}

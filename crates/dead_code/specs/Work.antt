@@ -1,5 +1,5 @@
 -- The work list: what is dead so far, and the locations that are to be looked at.
-use Rattle.std.specs.Prelude.{◌≡◌, ◌≢◌, ◌⊎◌, ℕ, suc, ◌+◌, ◌<◌, ◌≤◌, Bool, true, false, List, [], ◌∷◌, ◌++◌, length, map, Some, slice_get, slice_index_or}
+use Rattle.std.specs.Prelude.{◌≡◌, ◌≢◌, ◌⊎◌, ℕ, suc, ◌+◌, ◌<◌, ◌≤◌, Bool, true, false, List, [], ◌∷◌, ◌++◌, length, map, Some, slice_get}
 use Rattle.std.specs.List.{All, Contains}
 use Rattle.std.specs.Option.{option_to_list}
 use Rattle.bril_tree.specs.Assigned.{assigns_of}
@@ -14,13 +14,11 @@ use Rattle.pass_edit_laws.specs.plan.Marked.{with_nops}
 use Rattle.dead_code.specs.Removable.{is_computation, is_silent}
 use Rattle.flow_graph.specs.Reads.{access_at}
 use Rattle.flow_graph.specs.declared.reads.Access.{Access}
+use Rattle.graph_search.specs.Marks.{is_marked}
 
 -- the code with `nop` for what is dead
 abbrev pub remaining : List Instr → List Bool → List Instr
 remaining code dead = with_nops nop dead code
-
-abbrev pub is_marked : List Bool → ℕ → Bool
-is_marked marks k = slice_index_or marks k false
 
 -- ---- what is dead so far
 

@@ -1,6 +1,6 @@
 // The edit of the tree.
 
-ghost use Rattle.std.specs.Prelude.{◌≡◌, IfOk, false, if◌then◌else◌, slice_index_or};
+ghost use Rattle.std.specs.Prelude.{◌≡◌, IfOk, if◌then◌else◌};
 ghost use Rattle.bril_tree.specs.Accepted.{IsAccepted};
 ghost use Rattle.bril_tree.specs.Numbered.{nop_item};
 ghost use Rattle.bril_tree.specs.Size.{IsCounted};
@@ -13,6 +13,7 @@ use bril_tree::function_tree::{FuncTree, Item};
 use bril_tree::program::Prog;
 use bril_tree::sequence::Seq;
 use bril_tree::tree::Tree;
+use graph_search::is_marked;
 use pass_make::nop;
 use std::alloc::{AllocError, Global};
 
@@ -45,7 +46,7 @@ fn emptied_function(
     let mut code = Seq::new(alloc);
     let mut point = 0;
     for item in function.code.into_items() {
-        code.push(emptied_item(alloc, item, is_dead(dead, point)))?;
+        code.push(emptied_item(alloc, item, is_marked(dead, point)))?;
         point += 1;
     }
     Ok(FuncTree {
@@ -54,13 +55,6 @@ fn emptied_function(
         ret: function.ret,
         code,
     })
-}
-
-// The mark of a point; false where it has none.
-fn is_dead(dead: &[bool], point: usize) -> bool
-    ensures { result ≡ slice_index_or dead.now point false }
-{
-    point < dead.len() && dead[point]
 }
 
 // The item, or `nop` where it is dead.

@@ -13,7 +13,8 @@ ghost use Rattle.flow_graph.specs.Location.{number_of};
 ghost use Rattle.flow_graph.specs.Reads.{reads_from};
 ghost use Rattle.dead_code.specs.Emptied.{IsCleared};
 ghost use Rattle.dead_code.specs.Removable.{IsIdle, is_computation, is_silent, only_computes};
-ghost use Rattle.dead_code.specs.Work.{AreQueued, IsLookedAt, IsReadBy, IsSearched, IsSound, IsWork, NoneIdle, Queues, Unqueues, assignment_if, assignments_from, is_marked, reads_left, remaining};
+ghost use Rattle.graph_search.specs.Marks.{is_marked};
+ghost use Rattle.dead_code.specs.Work.{AreQueued, IsLookedAt, IsReadBy, IsSearched, IsSound, IsWork, NoneIdle, Queues, Unqueues, assignment_if, assignments_from, reads_left, remaining};
 ghost use Rattle.live_sets.specs.Arcs.{AreBackArcs};
 
 use crate::sweep::swept;

@@ -8,13 +8,15 @@
 //!
 //! 1. Graphs by their arcs (`src/graph.rt`), arcs by node (`src/adjacency.rt`), and which arcs are open (`src/gate.rt`).
 //! 2. The search (`src/reached.rt`), and 64 searches at once, with a word of bits for each node (`src/reached_sets.rt`).
-//! 3. The words of nodes (`src/words.rt`, `src/bits.rt`), and which nodes are still to be looked at (`src/pending.rt`).
+//! 3. The words of nodes (`src/words.rt`, `src/bits.rt`), which nodes are still to be looked at (`src/pending.rt`), and lists of
+//!    marks (`src/marks.rt`).
 #![tactic(auto)]
 
 mod adjacency;
 mod bits;
 mod gate;
 mod graph;
+mod marks;
 mod pending;
 mod reached;
 mod reached_sets;
@@ -24,5 +26,6 @@ pub use adjacency::Adjacency;
 pub use bits::{all_bits, all_but, one_bit};
 pub use gate::{Gate, Gates, OtherThan};
 pub use graph::{Arc, ArcGraph};
+pub use marks::is_marked;
 pub use reached::Reached;
 pub use reached_sets::{ReachedSets, Seed};

@@ -8,7 +8,7 @@ ghost use Rattle.import_linker.specs.Names.{function_names};
 ghost use Rattle.import_linker.specs.Runs.{run_of};
 
 use bril_tree::function_tree::FuncTree;
-use bril_tree::name::{IdentFault, Name};
+use bril_tree::name::Name;
 use indexmap::IndexSet;
 use itoa::Buffer;
 use std::alloc::{AllocError, Global};
@@ -87,11 +87,7 @@ pub(crate) fn spelled_name(
         return name.copied(alloc);
     }
     let bytes = spelled_bytes(alloc, run, file, name.as_bytes())?;
-    match Name::ident(alloc, bytes.as_slice()) {
-        Ok(made) => Ok(made),
-        Err(IdentFault::Memory) => Err(AllocError),
-        Err(IdentFault::NotIdent) => unreachable!(),
-    }
+    Name::of_identifier(alloc, bytes.as_slice())
 }
 
 // So many `_`, the number, `.` and the name.

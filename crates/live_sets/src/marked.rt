@@ -5,6 +5,7 @@ ghost use Rattle.std.specs.List.{All, Contains};
 ghost use Rattle.flow_graph.specs.Faults.{IsLeastOf};
 ghost use Rattle.live_sets.specs.Greatest.{IsGreatestOf};
 
+use graph_search::is_marked;
 use std::alloc::{AllocError, Global};
 
 // A mark for each point of a function, which tells whether it is in the set.
@@ -29,8 +30,7 @@ impl MarkedPoints {
     pub fn contains(&self, point: u32) -> bool
         ensures { result ≡ slice_index_or self.now.marks.items point false }
     {
-        let point = point as usize;
-        point < self.marks.len() && self.marks[point]
+        is_marked(self.marks.as_slice(), point as usize)
     }
 
     // The first point that is marked, where there is one. Takes no memory.

@@ -14,7 +14,7 @@ use Rattle.flow_graph.proofs.Locations.{assigned-number, location-assigned}
 use Rattle.live_sets.specs.declared.live.Live.{Live}
 use Rattle.live_sets.specs.Liveness.{is_live}
 use Rattle.shadow_place.specs.Marks.{Adds, IsMarkedAt, IsMarkedIn}
-use Rattle.shadow_place.specs.Tables.{is_marked}
+use Rattle.graph_search.specs.Marks.{is_marked}
 
 -- ---- rows
 

@@ -34,7 +34,8 @@ use Rattle.slot_code.specs.declared.slots.SlotFunction.{SlotFunction}
 use Rattle.slot_code.specs.Lowered.{AreDepths, open_count}
 use Rattle.shadow_place.specs.Marks.{Adds, IsMarkedBefore, IsMarkedIn, IsMarkedOut}
 use Rattle.shadow_place.specs.Placement.{AreSavedRows, IsAcceptedLowered, IsSavedRow}
-use Rattle.shadow_place.specs.Tables.{is_marked, is_marked_if}
+use Rattle.graph_search.specs.Marks.{is_marked}
+use Rattle.shadow_place.specs.Tables.{is_marked_if}
 use Rattle.shadow_place.proofs.Depths.{depth_at_end, few_sites}
 use Rattle.shadow_place.proofs.Marking.{adds_for, adds_none, adds_then}
 

@@ -8,7 +8,7 @@ use Rattle.flow_graph.specs.Location.{number_of}
 use Rattle.live_sets.specs.declared.live.Live.{Live}
 use Rattle.live_sets.specs.Liveness.{is_live}
 use Rattle.placement_laws.specs.Open.{LeadsOut}
-use Rattle.shadow_place.specs.Tables.{is_marked}
+use Rattle.graph_search.specs.Marks.{is_marked}
 
 -- The row got the marks of numbers that meet a condition, of each one that has a place there, and kept those that it had.
 pub record Adds (P : ℕ → Type 0) (old new : List Bool) : Type 0 where

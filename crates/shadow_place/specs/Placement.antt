@@ -18,7 +18,8 @@ use Rattle.slot_code.specs.Lowered.{IsLoweredFunction}
 use Rattle.shadow_place.specs.declared.placed.FunctionHomes.{FunctionHomes}
 use Rattle.shadow_place.specs.declared.placed.Placed.{Placed}
 use Rattle.shadow_place.specs.Registers.{home_registers}
-use Rattle.shadow_place.specs.Tables.{home_in, home_of, is_marked, is_saved_in, is_saved_of}
+use Rattle.graph_search.specs.Marks.{is_marked}
+use Rattle.shadow_place.specs.Tables.{home_in, home_of, is_saved_in, is_saved_of}
 
 -- the table is that of the function
 abbrev pub TellsLiveIn : Func → Live → Type 0

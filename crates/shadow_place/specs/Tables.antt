@@ -1,9 +1,10 @@
 -- Homes and what is saved, as they are kept.
-use Rattle.std.specs.Prelude.{ℕ, Bool, false, List, Option, Some, None, slice_get, slice_index_or}
+use Rattle.std.specs.Prelude.{ℕ, Bool, false, List, Option, Some, None, slice_get}
 use Rattle.bril_tree.specs.declared.home.Home.{Home}
 use Rattle.bril_tree.specs.declared.home.Home.TheVariants.{Frame}
 use Rattle.bril_tree.specs.Operand.{Location, Variable, Shadow}
 use Rattle.flow_graph.specs.Location.{number_of}
+use Rattle.graph_search.specs.Marks.{is_marked}
 use Rattle.shadow_place.specs.declared.placed.FunctionHomes.{FunctionHomes}
 use Rattle.shadow_place.specs.declared.placed.Placed.{Placed}
 
@@ -15,10 +16,6 @@ home_if (Some home) = home
 abbrev pub home_of : FunctionHomes → Location → Home
 home_of homes (Variable x) = home_if (slice_get homes.variables.items x)
 home_of homes (Shadow x) = home_if (slice_get homes.shadows.items x)
-
--- whether a number is marked in a row
-abbrev pub is_marked : List Bool → ℕ → Bool
-is_marked row number = slice_index_or row number false
 
 -- in a row that may be there
 abbrev pub is_marked_if : Option (List Bool) → ℕ → Bool

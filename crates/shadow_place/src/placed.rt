@@ -2,11 +2,13 @@
 
 ghost use Rattle.std.specs.Prelude.{◌≡◌, slice_get};
 ghost use Rattle.bril_tree.specs.Place.{location_of};
-ghost use Rattle.shadow_place.specs.Tables.{home_if, home_in, home_of, is_marked, is_marked_if, is_saved_in, is_saved_of};
+ghost use Rattle.graph_search.specs.Marks.{is_marked};
+ghost use Rattle.shadow_place.specs.Tables.{home_if, home_in, home_of, is_marked_if, is_saved_in, is_saved_of};
 
 use bril_tree::home::Home;
 use bril_tree::place::Place;
 use bril_tree::sequence::Seq;
+use graph_search::is_marked;
 
 // Of a function: the home of each variable and of each variable's shadow; and for each level, from 0, whether a location is
 // saved there, by the location's number: twice that of a variable, and one more for its shadow.
@@ -31,13 +33,6 @@ fn home_at(homes: &[Home], x: u32) -> Home
         None => Home::Frame(0),
         Some(home) => *home,
     }
-}
-
-// Whether the number is marked; none is past the row's end.
-pub(crate) fn is_marked(row: &[bool], number: usize) -> bool
-    ensures { result ≡ is_marked row.now number }
-{
-    number < row.len() && row[number]
 }
 
 impl FunctionHomes {

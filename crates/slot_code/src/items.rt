@@ -8,7 +8,7 @@ ghost use Rattle.slot_code.specs.Lowered.{lowered_item, lowered_jump};
 
 use crate::item::SlotItem;
 use crate::kinds::printed_args;
-use crate::numbers::{copy_of, number_at, value_of};
+use crate::numbers::{copy_of, number_at};
 use crate::operations::lower_plain;
 use bril_tree::numbered::Instr;
 use bril_tree::numbered_function::Func;
@@ -44,7 +44,7 @@ fn lower_item(
         Instr::Label(_) => Ok(SlotItem::Pass),
         Instr::Const { dest, value, .. } => Ok(SlotItem::Constant {
             dest: *dest,
-            value: value_of(*value),
+            value: value.value(),
         }),
         Instr::Act {
             dest,

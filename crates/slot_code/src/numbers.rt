@@ -1,14 +1,12 @@
-// Lists of numbers, and the values of constants.
+// Lists of numbers, and the items of constants.
 
 ghost use Rattle.std.specs.Prelude.{◌≡◌, slice_index, IfOk};
-ghost use Rattle.bril_tree.specs.Value.{literal_value};
 ghost use Rattle.slot_code.specs.Lowered.{undefined_constant};
 
 use crate::item::SlotItem;
 use bril_tree::operation::Op;
 use bril_tree::sequence::Seq;
 use bril_tree::types::Ty;
-use bril_tree::value::{Lit, Value};
 use bril_values::{Outcome, compute};
 use std::alloc::{AllocError, Global};
 
@@ -31,17 +29,6 @@ pub fn copy_of(alloc: Global, numbers: &[u32]) -> Result<Seq<u32>, AllocError>
         copy.push(*number)?;
     }
     Ok(copy)
-}
-
-// The value of a literal.
-pub fn value_of(literal: Lit) -> Value
-    ensures { result ≡ literal_value literal }
-{
-    match literal {
-        Lit::Int(number) => Value::Int(number),
-        Lit::Bool(truth) => Value::Bool(truth),
-        Lit::Char(letter) => Value::Char(letter),
-    }
 }
 
 // The zero of a type as the constant of a variable.

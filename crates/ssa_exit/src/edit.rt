@@ -24,6 +24,7 @@ use bril_tree::program::Prog;
 use bril_tree::sequence::Seq;
 use bril_tree::tree::Tree;
 use bril_tree::types::Ty;
+use graph_search::is_marked;
 use pass_make::nop;
 use std::alloc::{AllocError, Global};
 
@@ -142,7 +143,7 @@ fn got(
     ensures { IfOk result (λ made. made ≡ got_item func.now (shadow_names stem.now func.now.vars) x ty) }
 {
     let name = &func.vars.as_slice()[x as usize].name;
-    if is_marked(written, x) {
+    if is_marked(written, x as usize) {
         let from = shadow_name(alloc, stem, name)?;
         return copy(alloc, name.copied(alloc)?, ty, from);
     }
@@ -165,13 +166,6 @@ fn set(alloc: Global, func: &Func, stem: &[u8], x: u32, y: u32) -> Result<Item, 
             copy(alloc, to, ty, vars[y as usize].name.copied(alloc)?)
         }
     }
-}
-
-// The mark of a variable; false where it has none.
-fn is_marked(marks: &[bool], x: u32) -> bool
-    ensures { result ≡ slice_index_or marks.now x false }
-{
-    (x as usize) < marks.len() && marks[x as usize]
 }
 
 // A copy.

@@ -5,7 +5,7 @@ ghost use Rattle.std.specs.List.{starts_with};
 ghost use Rattle.bril_tree.specs.Identifier.{is_identifier};
 ghost use Rattle.ssa_exit.specs.Fresh.{count_beginning, shadow_name};
 
-use bril_tree::name::{IdentFault, Name};
+use bril_tree::name::Name;
 use bril_tree::numbered::VarInfo;
 use std::alloc::{AllocError, Global};
 
@@ -68,9 +68,5 @@ pub(crate) fn shadow_name(alloc: Global, stem: &[u8], name: &Name) -> Result<Nam
     let mut bytes = Vec::from_slice(alloc, stem)?;
     bytes.push(b'.')?;
     bytes.extend_from_slice(name.as_bytes())?;
-    match Name::ident(alloc, bytes.as_slice()) {
-        Ok(made) => Ok(made),
-        Err(IdentFault::Memory) => Err(AllocError),
-        Err(IdentFault::NotIdent) => unreachable!(),
-    }
+    Name::of_identifier(alloc, bytes.as_slice())
 }

@@ -42,18 +42,9 @@ seen_is P (Some f) h item choice here at goes =
     let goes_so : choice ≡ choice_at item f.locations = goes f refl in
     (λ i. Some (record { function = func i; point = point i; item = item; choice = goes_so i })) ∙ sym (ap (sight_at f) there)
 
--- the arrival of a state
-pub no_frame : (P : Prog) (o : Option Frame) → None ≡ option_map place_in o → None ≡ arrival (sight_in P o)
-no_frame P None here = refl
-no_frame P (Some f) here = absurd (let n : None ≡ Some (place_in f) = here in cc)
-
 module _ (P : Prog) (f : Frame) (h : Here) (here : h ≡ place_in f) where
   pub item_there : item_at P f.function f.point ≡ item_at P h.func h.item
   item_there = ap₂ (λ a b. item_at P a b) (sym (ap (λ (z : Here). z.func) here)) (sym (ap (λ (z : Here). z.item) here))
-
-pub no_item : (P : Prog) (o : Option Frame) (h : Here) → Some h ≡ option_map place_in o → item_at P h.func h.item ≡ None → None ≡ arrival (sight_in P o)
-no_item P None h here at = refl
-no_item P (Some f) h here at = sym (ap (λ i. arrival (sight_at f i)) (item_there P f h (same_Some h (place_in f) here) ∙ at))
 
 pub arrival_is : (P : Prog) (o : Option Frame) (h : Here) (item : Instr) → Some h ≡ option_map place_in o → item_at P h.func h.item ≡ Some item → label_at h.func h.item item ≡ arrival (sight_in P o)
 arrival_is P None h item here at = absurd (let n : Some h ≡ None = here in cc)

@@ -12,7 +12,8 @@ use Rattle.constant_pass.specs.constants.Known.{IsBelow}
 use Rattle.constant_pass.specs.constants.Answer.{answer}
 use Rattle.constant_pass.specs.constants.Ways.{item_ways}
 use Rattle.constant_pass.specs.constants.Consistent.{IsAtMost, IsConsistent, Table}
-use Rattle.constant_pass.specs.constants.Kept.{is_marked, kept, table_of}
+use Rattle.graph_search.specs.Marks.{is_marked}
+use Rattle.constant_pass.specs.constants.Kept.{kept, table_of}
 
 -- ---- how much work is left
 

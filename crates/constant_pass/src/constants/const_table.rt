@@ -6,18 +6,20 @@ ghost use Rattle.bril_tree.specs.Shape.{shape_fault_of};
 ghost use Rattle.flow_graph.specs.Reads.{reads_from};
 ghost use Rattle.constant_pass.specs.constants.Answer.{answer};
 ghost use Rattle.constant_pass.specs.constants.Consistent.{IsAtMost, IsConsistent, Table};
-ghost use Rattle.constant_pass.specs.constants.Kept.{is_marked, kept, told};
+ghost use Rattle.graph_search.specs.Marks.{is_marked};
+ghost use Rattle.constant_pass.specs.constants.Kept.{kept, told};
 ghost use Rattle.constant_pass.specs.constants.Ways.{item_condition};
 ghost use Rattle.constant_pass.specs.constants.Work.{IsWork};
 ghost use Rattle.constant_pass.specs.declared.constants.known.Known.TheVariants.{Many, Nothing};
 
 use crate::constants::answer::{answer, shadow, variable};
 use crate::constants::known::Known;
-use crate::constants::work::{Work, condition, is_marked, settled};
+use crate::constants::work::{Work, condition, settled};
 use bril_checker::Checked;
 use bril_tree::numbered::Instr;
 use bril_tree::numbered_function::Func;
 use flow_graph::{AccessLists, all_reads};
+use graph_search::is_marked;
 use std::alloc::{AllocError, Global};
 
 /// What is known of each variable and each shadow of a function, and which of its points are reached as far as is known.

@@ -6,7 +6,8 @@ ghost use Rattle.bril_tree.specs.Shape.{shape_fault_of};
 ghost use Rattle.flow_graph.specs.Branches.{HasLabels};
 ghost use Rattle.flow_graph.specs.Reads.{reads_from};
 ghost use Rattle.constant_pass.specs.constants.Answer.{answer};
-ghost use Rattle.constant_pass.specs.constants.Kept.{is_marked, kept};
+ghost use Rattle.graph_search.specs.Marks.{is_marked};
+ghost use Rattle.constant_pass.specs.constants.Kept.{kept};
 ghost use Rattle.constant_pass.specs.constants.Ways.{chosen, item_condition, item_ways};
 ghost use Rattle.constant_pass.specs.constants.Work.{Assigns, IsWork, Raises, Reaches, work_left};
 
@@ -16,6 +17,7 @@ use bril_tree::numbered::Instr;
 use bril_tree::numbered_function::Func;
 use bril_values::bool_of;
 use flow_graph::{AccessLists, Branches, assigned_number, branches_of};
+use graph_search::is_marked;
 use std::alloc::{AllocError, Global};
 
 // What is known so far of each location, by its number; which points are reached; the reached points that weren't looked at;
@@ -26,13 +28,6 @@ pub(crate) struct Work {
     pub reached: Vec<bool>,
     pub points: Vec<u32>,
     pub risen: Vec<u32>,
-}
-
-// The mark of a point; false where it has none.
-pub(crate) fn is_marked(marks: &[bool], point: usize) -> bool
-    ensures { result ≡ is_marked marks.now point }
-{
-    point < marks.len() && marks[point]
 }
 
 // What is known of the condition of an item: of its first argument.

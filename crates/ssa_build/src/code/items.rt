@@ -4,7 +4,7 @@ ghost use Rattle.std.specs.Prelude.{◌≡◌, ◌*◌, ◌∷◌, [], ℕ, IfOk
 ghost use Rattle.ssa_build.specs.code.Items.{dest_with, laid_item, moved_item, name_in, read_name, standing, unreached_item};
 
 use bril_tree::function_tree::{Dest, Item};
-use bril_tree::name::{IdentFault, Name};
+use bril_tree::name::Name;
 use bril_tree::operation::Op;
 use bril_tree::sequence::Seq;
 use pass_make::nop;
@@ -28,11 +28,7 @@ pub(crate) fn standing(find: &[u32], now: &[u32], location: usize) -> u32
 fn plain_name(alloc: Global) -> Result<Name, AllocError>
     ensures { IfOk result (λ name. name ≡ 118 ∷ []) }
 {
-    match Name::ident(alloc, b"v".as_slice()) {
-        Ok(name) => Ok(name),
-        Err(IdentFault::Memory) => Err(AllocError),
-        Err(IdentFault::NotIdent) => unreachable!(),
-    }
+    Name::of_identifier(alloc, b"v".as_slice())
 }
 
 // The name of a definition.

@@ -5,7 +5,7 @@ ghost use Rattle.bril_tree.specs.Identifier.{is_identifier};
 ghost use Rattle.bril_tree.specs.Numbered.{named, variable_names};
 ghost use Rattle.ssa_build.specs.fresh_names.Names.{definition_name, front_of, has_dot, made_name, marks, stem_end};
 
-use bril_tree::name::{IdentFault, Name};
+use bril_tree::name::Name;
 use bril_tree::numbered::VarInfo;
 use itoa::Buffer;
 use std::alloc::{AllocError, Global};
@@ -88,11 +88,7 @@ fn made_name(alloc: Global, front: usize, name: &[u8], number: u32) -> Result<Na
     ensures { IfOk result (λ made. made ≡ made_name front name.now number) }
 {
     let bytes = made_bytes(alloc, front, name, number)?;
-    match Name::ident(alloc, bytes.as_slice()) {
-        Ok(made) => Ok(made),
-        Err(IdentFault::Memory) => Err(AllocError),
-        Err(IdentFault::NotIdent) => unreachable!(),
-    }
+    Name::of_identifier(alloc, bytes.as_slice())
 }
 
 /// The name of a definition. The first `args` variables are the arguments, and definitions by these numbers; of each further

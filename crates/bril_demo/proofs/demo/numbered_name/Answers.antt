@@ -4,8 +4,8 @@ use Rattle.bril_tree.specs.Identifier.{is_identifier}
 use Rattle.bril_demo.proofs.Names.{is_name}
 use Rattle.bril_demo.proofs.demo.numbered_name.Goals as goal
 
-pub name-requires : goal.name-requires
-name-requires c =
+pub of_identifier-requires : goal.of_identifier-requires
+of_identifier-requires c =
     let bytes : c.in_ok-bytes.bytes.items ++ c.as_bytes.result.now ≡ c.args.letter ∷ decimal c.args.number =
     ap (λ (l : List ℕ). l ++ c.as_bytes.result.now) c.in_ok-bytes.ensures.items ∙ ap (λ (l : List ℕ). c.args.letter ∷ l) (c.as_bytes.ensures.value ∙ c.format.ensures.text) in
     let same : c.as_slice.result.now ≡ c.args.letter ∷ decimal c.args.number = c.as_slice.ensures.value ∙ c.in_ok-extend_from_slice.ensures.items ∙ bytes in

@@ -2,7 +2,7 @@ use Rattle.std.proofs.Common.{◌≡◌, true, subst, sym}
 use Rattle.std.specs.List.{Contains}
 use Rattle.bril_tree.specs.Live.{IsLive}
 use Rattle.bril_tree.specs.Operand.{Variable}
-use Rattle.coalesce.specs.Classes.{is_marked}
+use Rattle.graph_search.specs.Marks.{is_marked}
 use Rattle.coalesce.proofs.Finding.{adds-all}
 use Rattle.coalesce.proofs.clashes.push_variable.Goals as goal
 

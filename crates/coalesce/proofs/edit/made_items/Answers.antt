@@ -3,7 +3,7 @@ use Rattle.bril_names.specs.Range.{AreInRange}
 use Rattle.bril_names.proofs.Items.{AreInRange-at}
 use Rattle.bril_tree.specs.Numbered.{item_tree, nop_item}
 use Rattle.pass_edit_laws.proofs.lemmas.plan.Marked.{nops-nil}
-use Rattle.coalesce.specs.Classes.{is_marked}
+use Rattle.graph_search.specs.Marks.{is_marked}
 use Rattle.coalesce.proofs.Editing.{nops-next}
 use Rattle.coalesce.proofs.edit.made_items.Goals as goal
 

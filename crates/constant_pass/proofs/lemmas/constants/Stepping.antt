@@ -7,7 +7,7 @@ use Rattle.bril_tree.proofs.Members.{in_append_left, in_append_right}
 use Rattle.constant_pass.specs.declared.constants.known.Known.{Known}
 use Rattle.constant_pass.specs.declared.constants.known.Known.TheVariants.{Nothing, One, Many}
 use Rattle.constant_pass.specs.constants.Known.{IsBelow}
-use Rattle.constant_pass.specs.constants.Kept.{is_marked}
+use Rattle.graph_search.specs.Marks.{is_marked}
 use Rattle.constant_pass.specs.constants.Work.{Raises, Reaches, height, heights, unmarked, unreached}
 use Rattle.constant_pass.proofs.lemmas.constants.Rules.{below-refl}
 

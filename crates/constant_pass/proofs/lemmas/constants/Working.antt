@@ -25,7 +25,8 @@ use Rattle.constant_pass.specs.constants.Known.{IsBelow}
 use Rattle.constant_pass.specs.constants.Answer.{Knowledge, answer}
 use Rattle.constant_pass.specs.constants.Ways.{item_ways}
 use Rattle.constant_pass.specs.constants.Consistent.{IsAtMost, IsConsistent, IsLeast, Table}
-use Rattle.constant_pass.specs.constants.Kept.{is_marked, kept, table_of}
+use Rattle.graph_search.specs.Marks.{is_marked}
+use Rattle.constant_pass.specs.constants.Kept.{kept, table_of}
 use Rattle.constant_pass.specs.constants.Work.{IsSettled, ReadsRisen, IsWork, Raises, Assigns, Reaches}
 use Rattle.constant_pass.proofs.lemmas.constants.Rules.{below-refl, below-same, below-trans, answer-same, answer-rises, ways-rise, ways-same}
 

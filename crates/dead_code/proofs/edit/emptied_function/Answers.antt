@@ -13,7 +13,7 @@ loop-item-preserved c =
     let dead = c.args.dead.now in
     let item = c.in-Some.item in
     let one : c.emptied_item.result ≡ cond (get_or dead (length c.loop-item.yielded) false) nop_item item =
-    c.emptied_item.ensures ∙ ap (λ b. cond b nop_item item) (c.is_dead.ensures ∙ ap (λ n. get_or dead n false) inv.0) in (
+    c.emptied_item.ensures ∙ ap (λ b. cond b nop_item item) (c.is_marked.ensures ∙ ap (λ n. get_or dead n false) inv.0) in (
       omega (arith, inv.0, length-append c.loop-item.yielded (item ∷ [])),
       c.in_ok-push.ensures.ok ∙ (λ i. inv.1 i ++ one i ∷ []) ∙ sym (nops-push nop_item dead c.loop-item.yielded item),
     )

@@ -5,7 +5,8 @@ use Rattle.std.proofs.lemmas.Option.{slice_get_within, get_or_from_slice_get}
 use Rattle.bril_tree.specs.Shape.{is_shaped}
 use Rattle.bril_checker.proofs.Positions.{all_pass}
 use Rattle.dead_code.specs.Emptied.{IsCleared}
-use Rattle.dead_code.specs.Work.{is_marked, remaining}
+use Rattle.graph_search.specs.Marks.{is_marked}
+use Rattle.dead_code.specs.Work.{remaining}
 use Rattle.dead_code.proofs.Clearing.{all-cleared}
 use Rattle.dead_code.proofs.work.cleared.Goals as goal
 

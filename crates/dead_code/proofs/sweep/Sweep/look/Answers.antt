@@ -6,7 +6,8 @@ use Rattle.bril_tree.specs.Numbered.{nop}
 use Rattle.bril_tree.proofs.Elements.{All-at}
 use Rattle.flow_graph.specs.Branches.{HasLabels}
 use Rattle.bril_tree.specs.declared.numbered.Instr.{Instr}
-use Rattle.dead_code.specs.Work.{IsSound, is_marked, remaining}
+use Rattle.graph_search.specs.Marks.{is_marked}
+use Rattle.dead_code.specs.Work.{IsSound, remaining}
 use Rattle.pass_edit_laws.proofs.lemmas.plan.Marked.{with_nops-alive, with_nops-dead}
 use Rattle.dead_code.proofs.Sweeping.{marked, nop-swept}
 use Rattle.dead_code.proofs.sweep.Sweep.look.Goals as goal

@@ -1,7 +1,7 @@
 use Rattle.std.proofs.Common.{◌≡◌, ◌↔◌, false, subst, arith}
 use Rattle.std.specs.List.{Contains}
 use Rattle.std.proofs.lemmas.List.{take_all}
-use Rattle.dead_code.specs.Work.{is_marked}
+use Rattle.graph_search.specs.Marks.{is_marked}
 use Rattle.dead_code.proofs.Queueing.{alive-more}
 use Rattle.dead_code.proofs.work.Work.alive.Goals as goal
 

@@ -1,6 +1,6 @@
 use Rattle.std.proofs.Common.{◌≡◌, ◌↔◌, ℕ, false, take}
 use Rattle.std.specs.List.{Contains}
-use Rattle.dead_code.specs.Work.{is_marked}
+use Rattle.graph_search.specs.Marks.{is_marked}
 use Rattle.dead_code.proofs.work.Work.alive.Given as goal
 
 abbrev pub invariant-loop-item : goal.invariant-loop-item

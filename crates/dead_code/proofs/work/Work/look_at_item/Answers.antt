@@ -3,7 +3,7 @@ use Rattle.std.specs.Prelude.{slice_get}
 use Rattle.std.specs.List.{Contains}
 use Rattle.std.proofs.lemmas.List.{get_or_read}
 use Rattle.std.proofs.lemmas.Option.{slice_get_read}
-use Rattle.dead_code.specs.Work.{is_marked}
+use Rattle.graph_search.specs.Marks.{is_marked}
 use Rattle.dead_code.proofs.Looking.{Looked, item-within, look-dead}
 use Rattle.dead_code.proofs.work.Work.look_at_item.Goals as goal
 use Rattle.dead_code.proofs.work.Work.look_at_item.Goals.{then-index-via-then-index, then-index-via-else-index+then-is_marked}

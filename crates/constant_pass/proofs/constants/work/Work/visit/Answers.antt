@@ -3,7 +3,7 @@ use Rattle.std.specs.Prelude.{slice_get}
 use Rattle.std.proofs.lemmas.Option.{slice_get_read}
 use Rattle.bril_tree.proofs.Elements.{All-at}
 use Rattle.flow_graph.specs.Branches.{HasLabels}
-use Rattle.constant_pass.specs.constants.Kept.{is_marked}
+use Rattle.graph_search.specs.Marks.{is_marked}
 use Rattle.constant_pass.proofs.lemmas.constants.Working.{visited-by}
 use Rattle.constant_pass.proofs.constants.work.Work.visit.Goals as goal
 
