@@ -12,6 +12,13 @@
 //!    `src/renaming/now.rt`; `TellsNow`, `specs/renaming/Tells.antt`, and past the `get`s after a label `Gets.antt`).
 //! 5. The number of live entries, counted by words of 64 locations before anything is made (`live_entry_count`;
 //!    `src/live_entry_count/lanes.rt`, `search.rt`, `count.rt`).
+//!
+//! Three searches find where locations are live, and none can stand for another. That of `live_sets` goes over points, since
+//! passes and placement ask for each point: it takes time in proportion to the points that it finds. Phis are placed by one over
+//! blocks, which finds labels alone and crosses a block in one step; over points it would take as long as there are items times
+//! variables. The count asks for numbers alone, of programs too that have far more live entries than SSA form may have copies:
+//! by one location at a time it would take as long as there are entries to count, by words of 64 it takes a sixty-fourth; but
+//! words look at every label, also where few locations are live, so they don't serve to place phis.
 #![tactic(auto)]
 
 pub mod accesses;

@@ -1,6 +1,6 @@
 // The labels at which each location is live.
 
-ghost use Rattle.std.specs.Prelude.{◌≡◌, ◌<◌, ◌≤◌, ◌+◌, ◌*◌, ◌^◌, ◌-◌, ◌++◌, ℕ, List, None, is_some, length, map, slice_index, IfOk, OnOk};
+ghost use Rattle.std.specs.Prelude.{◌≡◌, ◌<◌, ◌≤◌, ◌+◌, ◌^◌, ◌-◌, ◌++◌, ℕ, List, None, is_some, length, map, slice_index, IfOk, OnOk};
 ghost use Rattle.std.specs.List.{All};
 ghost use Rattle.bril_tree.specs.declared.numbered.Instr.{Instr};
 ghost use Rattle.bril_tree.specs.Shape.{shape_fault_of};
@@ -77,16 +77,6 @@ fn search_location(
     push_found(found, reached.found(), location)?;
     erase_firsts(first, blocks.heads.as_slice(), points.as_slice());
     Ok(())
-}
-
-// Two locations for each of so many variables. More than 2^31 - 1 variables are taken to need more memory than there is.
-pub(crate) fn location_count(variables: usize) -> Result<u32, AllocError>
-    ensures { IfOk result (λ count. count ≡ 2 * variables) }
-{
-    if variables > (u32::MAX / 2) as usize {
-        return Err(AllocError);
-    }
-    Ok(2 * variables as u32)
 }
 
 // The pairs in rows by their labels. As many as 2^32 - 1 are taken to need more memory than there is.

@@ -1,6 +1,6 @@
 // The number of live entries of a function.
 
-ghost use Rattle.std.specs.Prelude.{◌≡◌, ◌<◌, ◌+◌, ◌*◌, ◌^◌, ◌-◌, IfOk, None, is_some, length, min};
+ghost use Rattle.std.specs.Prelude.{◌≡◌, ◌<◌, ◌+◌, ◌^◌, ◌-◌, IfOk, None, is_some, length, min};
 ghost use Rattle.std.specs.Int.RustNames.{count_ones};
 ghost use Rattle.std.specs.List.{All};
 ghost use Rattle.bril_tree.specs.Shape.{shape_fault_of};
@@ -11,7 +11,7 @@ ghost use Rattle.ssa_search.specs.live_entry_count.Counted.{AreWords, CountsTo, 
 ghost use Rattle.ssa_search.specs.accesses.Accesses.{AreBlocksOf};
 ghost use Rattle.ssa_search.specs.accesses.Entries.{AreEntriesOf};
 
-use crate::accesses::{Blocks, Entry, blocks_of, label_entries};
+use crate::accesses::{Blocks, Entry, blocks_of, label_entries, location_count};
 use crate::live_entry_count::lanes::{LANES, Lanes};
 use crate::live_entry_count::search::search_lanes;
 use bril_tree::numbered_function::Func;
@@ -38,17 +38,6 @@ fn count_words(entries: &[Entry], words: &ReachedSets) -> u64
         count = count.saturating_add(ones_of(words.word(entry.label)));
     }
     count
-}
-
-// Two locations for each of so many variables. 2^31 - 64 variables and more are taken to need more memory than there is.
-fn location_count(variables: usize) -> Result<u32, AllocError>
-    ensures count { IfOk result (λ count. count ≡ 2 * variables) }
-    ensures few { IfOk result (λ count. count + 128 < 2 ^ 32) }
-{
-    if variables >= (u32::MAX / 2 - 64) as usize {
-        return Err(AllocError);
-    }
-    Ok(2 * variables as u32)
 }
 
 // Counts the live entries of the locations with numbers below a bound.
