@@ -2,10 +2,9 @@
 
 ghost use Rattle.std.specs.Prelude.{◌<◌, ◌^◌, length};
 
-use crate::program::checked_of;
 use crate::row::add_line;
 use bril_tree::numbered::VarInfo;
-use case_text::LineFault;
+use case_text::{LineFault, checked_of};
 use constant_pass::constants::{ConstTable, table};
 use std::alloc::{AllocError, Global};
 

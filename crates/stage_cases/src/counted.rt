@@ -1,11 +1,10 @@
 // Placements of large functions, told by counts.
 
 use crate::placed::place_of;
-use crate::program::checked_of;
 use crate::row::add_line;
 use bril_checker::Checked;
 use bril_tree::home::Home;
-use case_text::{LineFault, add_unescaped};
+use case_text::{LineFault, add_unescaped, checked_of};
 use shadow_place::{Placed, all_lives, place};
 use slot_code::{Slot, lower};
 use std::alloc::{AllocError, Global};

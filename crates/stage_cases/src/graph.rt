@@ -2,9 +2,8 @@
 
 ghost use Rattle.std.specs.Prelude.{◌≡◌, ◌+◌, ◌<◌, ◌^◌, length};
 
-use crate::program::program_of;
 use crate::row::add_line;
-use case_text::LineFault;
+use case_text::{LineFault, program_of};
 use flow_graph::{Graph, GraphFault};
 use std::alloc::{AllocError, Global};
 

@@ -3,10 +3,9 @@
 ghost use Rattle.std.specs.Prelude.{◌≡◌, ◌<◌, ◌≤◌, ◌^◌, IfOk, length};
 ghost use Rattle.rv64_words.specs.Region.{most_words};
 
-use crate::program::checked_of;
 use crate::row::add_line;
 use bril_tree::limits::Limits;
-use case_text::LineFault;
+use case_text::{LineFault, checked_of};
 use rv64_emit::{EmitFault, emit};
 use rv64_groups::group::{Group, groups_of};
 use rv64_groups::resolved::resolve_all;

@@ -1,7 +1,7 @@
 //! A proved program that calls lower crates for what no command line shows. `stdin` has its calls, `stdout` what must come,
 //! written by hand, and for profiles by programs in another language.
 //!
-//! 1. The rows, by their calls (`src/row.rt`), and the programs of sources (`src/program.rt`).
+//! 1. The rows, by their calls (`src/row.rt`).
 //! 2. The calls, a file for each topic: flow graphs (`src/graph.rt`), live locations (`src/live.rt`), constants
 //!    (`src/constants.rt`), SSA form (`src/ssa.rt`), profiles and their recorder (`src/profiles.rt`), single steps
 //!    (`src/steps.rt`), homes (`src/placed.rt`, `src/counted.rt`), machine words (`src/machine.rt`, `src/groups.rt`).
@@ -51,9 +51,9 @@ mod graph;
 mod groups;
 mod live;
 mod machine;
+mod numbered;
 mod placed;
 mod profiles;
-mod program;
 mod row;
 mod ssa;
 mod steps;

@@ -2,13 +2,12 @@
 
 ghost use Rattle.std.specs.Prelude.{◌<◌, ◌^◌, length};
 
-use crate::program::checked_of;
 use crate::row::add_line;
 use bril_checker::Checked;
 use bril_tree::home::Home;
 use bril_tree::numbered::VarInfo;
 use bril_tree::place::Place;
-use case_text::LineFault;
+use case_text::{LineFault, checked_of};
 use shadow_place::{Placed, all_lives, place};
 use slot_code::{Slot, lower};
 use std::alloc::{AllocError, Global};

@@ -3,7 +3,6 @@
 ghost use Rattle.std.specs.Prelude.{◌<◌, ◌≤◌, ◌^◌, length};
 ghost use Rattle.bril_tree.specs.Run.{FitMain};
 
-use crate::program::checked_of;
 use crate::row::add_line;
 use crate::steps::values_of;
 use bril_checker::Checked;
@@ -14,7 +13,7 @@ use bril_tree::bytes::Bytes;
 use bril_tree::limits::Limits;
 use bril_tree::sequence::Seq;
 use bril_tree::value::Value;
-use case_text::{LineFault, add_lines, add_unescaped};
+use case_text::{LineFault, add_lines, add_unescaped, checked_of};
 use profile_text::{ProfileFault, read_profile, write_profile};
 use std::alloc::{AllocError, Global};
 use trace_recorder::Recorder;

@@ -1,11 +1,8 @@
 // Programs in SSA form.
 
-ghost use Rattle.std.specs.Prelude.{◌<◌, ◌^◌, IfOk, length};
-ghost use Rattle.bril_tree.specs.Run.{FitMain};
+ghost use Rattle.std.specs.Prelude.{◌<◌, ◌^◌, length};
 
-use crate::program::checked_of;
 use crate::row::add_line;
-use bril_arguments::{ArgFault, read_args};
 use bril_checker::Checked;
 use bril_interpreter::Interp;
 use bril_outside::mem_sink::MemSink;
@@ -14,8 +11,7 @@ use bril_tree::bytes::Bytes;
 use bril_tree::limits::Limits;
 use bril_tree::sequence::Seq;
 use bril_tree::text::Text;
-use bril_tree::value::Value;
-use case_text::{LineFault, add_lines, add_unescaped};
+use case_text::{LineFault, add_lines, add_unescaped, checked_of, values_of};
 use ssa_build::tree::ssa_tree;
 use std::alloc::{AllocError, Global};
 
@@ -112,16 +108,4 @@ fn shown_run(alloc: Global, checked: &Checked, words: &[Text]) -> Result<Vec<u8>
     add_line(line.as_str(), &mut shown)?;
     add_lines(alloc, "", out.bytes(), &mut shown)?;
     Ok(shown)
-}
-
-// The arguments that the words spell.
-fn values_of(alloc: Global, checked: &Checked, words: &[Text]) -> Result<Seq<Value>, LineFault>
-    requires { length words.now < 2 ^ 32 }
-    ensures { IfOk result (λ values. FitMain checked.now.prog values) }
-{
-    match read_args(alloc, checked.prog(), words) {
-        Ok(values) => Ok(values),
-        Err(ArgFault::Memory) => Err(LineFault::Memory),
-        Err(_) => Err(LineFault::Form),
-    }
 }

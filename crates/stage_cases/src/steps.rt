@@ -3,7 +3,6 @@
 ghost use Rattle.std.specs.Prelude.{◌<◌, ◌^◌, IfOk, length};
 ghost use Rattle.bril_tree.specs.Run.{FitMain};
 
-use crate::program::checked_of;
 use crate::row::add_line;
 use bril_arguments::{ArgFault, read_args};
 use bril_checker::Checked;
@@ -12,7 +11,7 @@ use bril_outside::mem_sink::MemSink;
 use bril_tree::limits::Limits;
 use bril_tree::sequence::Seq;
 use bril_tree::value::Value;
-use case_text::{LineFault, add_lines};
+use case_text::{LineFault, add_lines, checked_of};
 use std::alloc::{AllocError, Global};
 
 // A run makes no more steps.
