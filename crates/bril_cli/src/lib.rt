@@ -3,7 +3,6 @@
 //!
 //! 1. The main theorem (`src/top.rt`).
 //! 2. How a command line ends, also where the system gives no words (`src/end.rt`).
-//! 3. The list of shipped passes (`specs/Shipped.antt`).
 #![tactic(auto)]
 
 pub mod end;

@@ -2,7 +2,7 @@
 
 ghost use Rattle.std.specs.Prelude.{◌≡◌, ◌≤◌, false};
 ghost use Rattle.std.specs.List.{All};
-ghost use Rattle.bril_cli.specs.Shipped.{AreShipped, MakesAsShipped};
+ghost use Rattle.shipped_passes.specs.Shipped.{AreShipped, MakesAsShipped, shipped_rows};
 ghost use Rattle.bril_commands.specs.Answers.{Promises};
 ghost use Rattle.bril_commands.specs.Budgets.{IsPastBudget};
 ghost use Rattle.bril_commands.specs.Call.{call_of};
@@ -40,7 +40,7 @@ use std::alloc::Global;
 /// `run`, `emit`, `passes` and `demo` give the program to the list of passes: each name to the first of `passes` that answers to it, and each
 /// pass gets what the one before it made, with the profile of the file that `--profile` names, or the one without entries, and for `demo` that of its own run. What is said below of a program's words is said of the
 /// program after the passes. It comes from the source by a chain of links, and the passes' tallies grow by these; no other command
-/// changes the passes. One that answers to the name of a pass that the program is shipped with (`specs/Shipped.antt`) is to make only
+/// changes the passes. One that answers to the name of a pass that the program is shipped with (`shipped_passes/specs/Shipped.antt`) is to make only
 /// what that one makes: so these names mean the same in every list.
 ///
 /// `run` makes the program into words of RV64I with multiplication and division, and a machine executes `--steps` of them at most. What
@@ -115,7 +115,7 @@ pub fn bril_top<F: Files, O: Sink, E: Sink>(
     ensures faults { (F.seen files.old).faults ≤ (F.seen files.new).faults }
     ensures same { AllSame (λ p. meaning p) passes.old passes.new }
     ensures promises { Promises result (call_of words.now (F.seen files.old) (F.seen files.new) (O.seen out.old) (O.seen out.new) (E.seen err.old) (E.seen err.new) (λ p. meaning p) (λ p. counts p) passes.old passes.new) }
-    ensures budget { AreShipped (λ p. meaning p) passes.old → result ≡ 3 → IsPastBudget (call_of words.now (F.seen files.old) (F.seen files.new) (O.seen out.old) (O.seen out.new) (E.seen err.old) (E.seen err.new) (λ p. meaning p) (λ p. counts p) passes.old passes.new) }
+    ensures budget { AreShipped (λ p. meaning p) passes.old → result ≡ 3 → IsPastBudget shipped_rows (call_of words.now (F.seen files.old) (F.seen files.new) (O.seen out.old) (O.seen out.new) (E.seen err.old) (E.seen err.new) (λ p. meaning p) (λ p. counts p) passes.old passes.new) }
     ensures plain { PlainAsk words.now }
     ensures refused { RefusedAlone words.now }
 {

@@ -5,6 +5,7 @@ use Rattle.bril_tree.specs.declared.limits.End.{End}
 use Rattle.bril_words.specs.declared.request.Action.TheVariants.{Run}
 use Rattle.bril_words.specs.declared.request.Action.{Action}
 use Rattle.pass_budget_laws.specs.Numbers.{Numbers}
+use Rattle.pass_budget_laws.specs.Rows.{Row}
 use Rattle.bril_commands.specs.Answers.{Promises}
 use Rattle.bril_commands.specs.Budgets.{AreWithinRows, GoesPastBudget, RunsPastBudget, SpentPastBudget}
 use Rattle.bril_commands.specs.Call.{Call, CommandComesTo, ProgramComesTo}
@@ -13,11 +14,11 @@ use Rattle.bril_commands.specs.PassList.{AreEnoughFor}
 use Rattle.bril_commands.specs.Table.{command}
 use Rattle.bril_commands.specs.commands.Run.{runs}
 
-module _ (c : Call) (rows : AreWithinRows c.passes) (path : List ℕ) (args : List (List ℕ)) (steps : ℕ) (told output : List (List ℕ)) where
+module _ (rows : List Row) (c : Call) (each : AreWithinRows rows c.passes) (path : List ℕ) (args : List (List ℕ)) (steps : ℕ) (told output : List (List ℕ)) where
   abbrev Goes : Outcome → Type 0
   Goes o = (steps ≡ o.steps) × o.Shows None told output
 
-  of-run : (frames cells words : ℕ) (stats : Bool) → ProgramComesTo (runs frames cells words stats) c path args Goes → RunsPastBudget c path args frames cells words
+  of-run : (frames cells words : ℕ) (stats : Bool) → ProgramComesTo (runs frames cells words stats) c path args Goes → RunsPastBudget rows c path args frames cells words
   of-run frames cells words stats x = record {
     source = x.program;
     file = x.file;
@@ -28,7 +29,7 @@ module _ (c : Call) (rows : AreWithinRows c.passes) (path : List ℕ) (args : Li
     limits = x.is.1.limits;
     are = x.is.1.are;
     runs = λ numbers n within enough.
-        let are_enough : AreEnoughFor c.passes x.entries x.program n words = record { rows = rows; numbers = numbers; within = within; enough = enough } in
+        let are_enough : AreEnoughFor c.passes x.entries x.program n words = record { rows = rows; each = each; numbers = numbers; within = within; enough = enough } in
         by numbers n are_enough (state_after x.program x.is.1.limits x.values n).ended refl;
   }
     where
@@ -36,11 +37,11 @@ module _ (c : Call) (rows : AreWithinRows c.passes) (path : List ℕ) (args : Li
       by numbers n enough None e = e
       by numbers n enough (Some end) e = let h = x.is.1.ends_by_list n end enough e in absurd (let none : ◌≡◌ {A = Option End} None (Some end) = h.0 in cc)
 
-  of-action : (action : Action) → CommandComesTo (command action) c path args Goes → GoesPastBudget action c path args
+  of-action : (action : Action) → CommandComesTo (command action) c path args Goes → GoesPastBudget rows action c path args
   of-action (Run frames cells words stats) x = of-run frames cells words stats x
   of-action _ x = tt
 
-pub spent-past_budget : (status : ℕ) (c : Call) → Promises status c → SpentPastBudget status c
-spent-past_budget status c promises rows is =
+pub spent-past_budget : (rows : List Row) (status : ℕ) (c : Call) → Promises status c → SpentPastBudget rows status c
+spent-past_budget rows status c promises each is =
     let goes = promises.spent is in
-    record { asks = goes.asks; goes = of-action c rows goes.asks.path goes.asks.args goes.steps goes.told goes.output goes.asks.action goes.comes }
+    record { asks = goes.asks; goes = of-action rows c each goes.asks.path goes.asks.args goes.steps goes.told goes.output goes.asks.action goes.comes }

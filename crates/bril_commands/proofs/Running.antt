@@ -63,8 +63,8 @@ module _ (l : PassList) (entries : List Entry) (p q : Prog) (made : IsMade l ent
         shows_source = shows_source p q Is chain.some chain.refines limits values fits words (joined output) ended executes.shows.program;
         ends = in_time ended (joined output) executes.shows.machine;
         ends_by_list = λ n end are_enough ends.
-            let within = chains-within_budget l.meaning l.before made.profile l.names p made.ran.programs q are_enough.numbers run.cost chain.some.0 n are_enough.rows accepted are_enough.within made.ran.chain run.is_cost chain.some.1 in
-            let same : budget (length made.profile.entries) l.names are_enough.numbers n ≡ budget (length entries) l.names are_enough.numbers n = ap (λ es. budget (length es) l.names are_enough.numbers n) made.has in
+            let within = chains-within_budget l.meaning are_enough.rows l.before made.profile l.names p made.ran.programs q are_enough.numbers run.cost chain.some.0 n are_enough.each accepted are_enough.within made.ran.chain run.is_cost chain.some.1 in
+            let same : budget are_enough.rows (length made.profile.entries) l.names are_enough.numbers n ≡ budget are_enough.rows (length entries) l.names are_enough.numbers n = ap (λ es. budget are_enough.rows (length es) l.names are_enough.numbers n) made.has in
             let enough = are_enough.enough in
             in_time ended (joined output) executes.shows.machine n run.cost chain.some.0 end run.is_cost chain.some.1 (omega (arith, within, same, enough)) ends;
       }

@@ -11,6 +11,7 @@ use Rattle.bril_words.specs.declared.request.Action.{Action}
 use Rattle.pass_budget_laws.specs.Budget.{budget}
 use Rattle.pass_budget_laws.specs.Laws.{IsWithinRows}
 use Rattle.pass_budget_laws.specs.Numbers.{Numbers, AreWithin}
+use Rattle.pass_budget_laws.specs.Rows.{Row}
 use Rattle.bril_commands.specs.Arguments.{AreOnlyValues}
 use Rattle.bril_commands.specs.Call.{Call}
 use Rattle.bril_commands.specs.CommandLine.{Asks}
@@ -18,12 +19,12 @@ use Rattle.bril_commands.specs.PassList.{PassList}
 use Rattle.bril_commands.specs.Profiles.{IsProfileAt}
 use Rattle.bril_commands.specs.Source.{IsProgramOf, WithImports}
 
-abbrev pub AreWithinRows : PassList → Type 0
-AreWithinRows l = All (λ pass. IsWithinRows (l.meaning pass)) l.before
+abbrev pub AreWithinRows : List Row → PassList → Type 0
+AreWithinRows rows l = All (λ pass. IsWithinRows rows (l.meaning pass)) l.before
 
 -- The files' program, with the arguments that the words spell, has not ended after any number of steps for which the words are at least the
--- budget of the list, by the number of the profile's entries and from numbers that the program's are at most.
-pub record RunsPastBudget (c : Call) (path : List ℕ) (args : List (List ℕ)) (frames cells words : ℕ) : Type 0 where
+-- budget of the list, by these rows and the number of the profile's entries and from numbers that the program's are at most.
+pub record RunsPastBudget (rows : List Row) (c : Call) (path : List ℕ) (args : List (List ℕ)) (frames cells words : ℕ) : Type 0 where
   pub source : Prog
   pub file : IsProgramOf WithImports c.files_before.holds path source
   pub values : List Value
@@ -32,17 +33,17 @@ pub record RunsPastBudget (c : Call) (path : List ℕ) (args : List (List ℕ)) 
   pub profiled : IsProfileAt c.profile c.files_before.holds entries
   pub limits : Limits
   pub are : (limits.frames ≡ frames) × (limits.cells ≡ cells)
-  pub runs : (numbers : Numbers) (n : ℕ) → AreWithin source numbers → budget (length entries) c.passes.names numbers n ≤ words → (state_after source limits values n).ended ≡ None
+  pub runs : (numbers : Numbers) (n : ℕ) → AreWithin source numbers → budget rows (length entries) c.passes.names numbers n ≤ words → (state_after source limits values n).ended ≡ None
 
 -- so it is with `run`; the steps of `interp` and `record` are those of the source
-abbrev pub GoesPastBudget : Action → Call → List ℕ → List (List ℕ) → Type 0
-GoesPastBudget (Run frames cells words stats) c path args = RunsPastBudget c path args frames cells words
-GoesPastBudget _ c path args = Unit {0}
+abbrev pub GoesPastBudget : List Row → Action → Call → List ℕ → List (List ℕ) → Type 0
+GoesPastBudget rows (Run frames cells words stats) c path args = RunsPastBudget rows c path args frames cells words
+GoesPastBudget rows _ c path args = Unit {0}
 
-pub record IsPastBudget (c : Call) : Type 0 where
+pub record IsPastBudget (rows : List Row) (c : Call) : Type 0 where
   pub asks : Asks c.words
-  pub goes : GoesPastBudget asks.action c asks.path asks.args
+  pub goes : GoesPastBudget rows asks.action c asks.path asks.args
 
 -- what 3 says, where each pass is within the rows of its names
-abbrev pub SpentPastBudget : ℕ → Call → Type 0
-SpentPastBudget status c = AreWithinRows c.passes → status ≡ 3 → IsPastBudget c
+abbrev pub SpentPastBudget : List Row → ℕ → Call → Type 0
+SpentPastBudget rows status c = AreWithinRows rows c.passes → status ≡ 3 → IsPastBudget rows c

@@ -10,6 +10,7 @@ use Rattle.bril_tree.specs.declared.program.Prog.{Prog}
 use Rattle.pass_budget_laws.specs.Budget.{budget}
 use Rattle.pass_budget_laws.specs.Laws.{IsWithinRows}
 use Rattle.pass_budget_laws.specs.Numbers.{Numbers, AreWithin}
+use Rattle.pass_budget_laws.specs.Rows.{Row}
 use Rattle.pass_law.specs.Chains.{or_else, first_answering, first_unknown, AreFactors, Ran, StoppedAt, CutOff, AllSame}
 use Rattle.pass_law.specs.Meaning.{Meaning}
 use Rattle.pass_law.specs.declared.tally.Tally.{Tally}
@@ -52,13 +53,14 @@ pub record IsMade (l : PassList) (entries : List Entry) (p q : Prog) : Type 0 wh
 abbrev pub AreFactorsOf : (l : PassList) (entries : List Entry) (p q : Prog) → IsMade l entries p q → ℕ → Type 0
 AreFactorsOf l entries p q made factor = AreFactors l.meaning l.before made.profile l.names p made.ran.programs factor
 
--- So many words are always enough for what the list makes of p, where p ends in so many steps: each pass is within the rows of its names, and
--- the words are at least the budget of the list, computed from numbers that p's are at most.
+-- So many words are always enough for what the list makes of p, where p ends in so many steps: each pass is within some rows of its names,
+-- and the words are at least the budget of the list, computed from numbers that p's are at most.
 pub record AreEnoughFor (l : PassList) (entries : List Entry) (p : Prog) (steps words : ℕ) : Type 0 where
-  pub rows : All (λ pass. IsWithinRows (l.meaning pass)) l.before
+  pub rows : List Row
+  pub each : All (λ pass. IsWithinRows rows (l.meaning pass)) l.before
   pub numbers : Numbers
   pub within : AreWithin p numbers
-  pub enough : budget (length entries) l.names numbers steps ≤ words
+  pub enough : budget rows (length entries) l.names numbers steps ≤ words
 
 -- ---- why a list makes no program
 

@@ -1,8 +1,9 @@
 // The demo: the number of words that it tells, and the passes that it needs.
 
+ghost use Rattle.std.specs.Prelude.{◌<◌, ◌^◌, length};
+
 use crate::lists::{Ended, call};
 use crate::passes::{boxed_pad, tally};
-use braun_ssa::Ssa;
 use bril_checker::{Checked, check};
 use bril_cli::end::end;
 use bril_demo::demo_tree;
@@ -17,19 +18,14 @@ use bril_tree::limits::{End, Limits};
 use bril_tree::sequence::Seq;
 use bril_tree::text::Text;
 use bril_tree::tree::Tree;
-use coalesce::Merge;
-use constant_pass::Const;
-use dead_code::Dead;
 use pass_law::{Pass, run_list};
 use profile_text::read_profile;
 use rv64_emit::emit;
 use rv64_machine::answer::RunAnswer;
 use rv64_machine::machine::Machine;
-use ssa_exit::Unssa;
+use shipped_passes::{Job, with_shipped_passes};
 use std::alloc::{AllocError, Global};
 use std::test::Fail;
-use tidy_code::Tidy;
-use trace_stitcher::Stitch;
 
 #[test]
 fn the_demo_tells_how_many_words_the_machine_executes(rt: HostRuntime) -> Result<(), Fail> {
@@ -61,24 +57,40 @@ fn the_demo_uses_the_passes_that_were_lent(rt: HostRuntime) -> Result<(), Fail> 
     Ok(())
 }
 
+// A command line, as what is done with the shipped passes.
+#[derive(Drop)]
+struct CommandLine<'a> {
+    alloc: Global,
+    words: Seq<Text>,
+    files: &'a mut MemFiles,
+    out: &'a mut MemSink,
+    err: &'a mut MemSink,
+}
+
+impl<'a> Job for CommandLine<'a> {
+    type Answer = u8;
+
+    fn work(self, passes: &mut [Box<dyn Pass>]) -> u8 {
+        end(self.alloc, Ok(self.words), self.files, self.out, self.err, passes)
+    }
+}
+
 // Calls the command line with these words and the shipped passes.
-fn call_shipped(alloc: Global, words: &[&str], files: &mut MemFiles) -> Result<Ended, AllocError> {
-    let trace: Box<dyn Pass> = Box::new(alloc, Stitch::new())?;
-    let ssa: Box<dyn Pass> = Box::new(alloc, Ssa::new())?;
-    let constant: Box<dyn Pass> = Box::new(alloc, Const::new())?;
-    let dead: Box<dyn Pass> = Box::new(alloc, Dead::new())?;
-    let unssa: Box<dyn Pass> = Box::new(alloc, Unssa::new())?;
-    let merge: Box<dyn Pass> = Box::new(alloc, Merge::new())?;
-    let tidy: Box<dyn Pass> = Box::new(alloc, Tidy::new())?;
-    let mut passes = [trace, ssa, constant, dead, unssa, merge, tidy];
-    let passes = passes.as_mut_slice();
-    let mut given = Seq::new(alloc);
-    for word in words {
-        given.push(Text::of(alloc, word)?)?;
+fn call_shipped(alloc: Global, given: &[&str], files: &mut MemFiles) -> Result<Ended, AllocError> {
+    let mut words = Seq::new(alloc);
+    for word in given {
+        words.push(Text::of(alloc, word)?)?;
     }
     let mut out = MemSink::new(alloc, 4096, Seq::new(alloc))?;
     let mut err = MemSink::new(alloc, 4096, Seq::new(alloc))?;
-    let status = end(alloc, Ok(given), files, &mut out, &mut err, passes);
+    let line = CommandLine {
+        alloc,
+        words,
+        files,
+        out: &mut out,
+        err: &mut err,
+    };
+    let status = with_shipped_passes(alloc, line)?;
     Ok(Ended { status, out, err })
 }
 
@@ -135,11 +147,6 @@ fn made_by_calls(alloc: Global, tree: &Tree, profile: &Profile) -> Option<Checke
         return None;
     }
     let checked = check(alloc, prog).ok()?;
-    let trace: Box<dyn Pass> = Box::new(alloc, Stitch::new()).ok()?;
-    let constant: Box<dyn Pass> = Box::new(alloc, Const::new()).ok()?;
-    let dead: Box<dyn Pass> = Box::new(alloc, Dead::new()).ok()?;
-    let tidy: Box<dyn Pass> = Box::new(alloc, Tidy::new()).ok()?;
-    let mut passes = [trace, constant, dead, tidy];
     let mut names = Seq::new(alloc);
     names.push(Text::of(alloc, "trace").ok()?).ok()?;
     names.push(Text::of(alloc, "const").ok()?).ok()?;
@@ -148,5 +155,29 @@ fn made_by_calls(alloc: Global, tree: &Tree, profile: &Profile) -> Option<Checke
     if names.as_slice().len() > 64 {
         return None;
     }
-    run_list(alloc, passes.as_mut_slice(), &names, checked, profile).ok()
+    let list = List {
+        alloc,
+        names,
+        checked,
+        profile,
+    };
+    with_shipped_passes(alloc, list).ok()?
+}
+
+// A list of passes on a program with a profile, as what is done with the shipped passes.
+#[derive(Drop)]
+struct List<'a> {
+    alloc: Global,
+    names: Seq<Text>,
+    checked: Checked,
+    profile: &'a Profile,
+    ghost few: { length names < 2 ^ 32 },
+}
+
+impl<'a> Job for List<'a> {
+    type Answer = Option<Checked>;
+
+    fn work(self, passes: &mut [Box<dyn Pass>]) -> Option<Checked> {
+        run_list(self.alloc, passes, &self.names, self.checked, self.profile).ok()
+    }
 }

@@ -4,7 +4,7 @@ ghost use Rattle.pass_law.specs.Tallies.{zero_tally};
 ghost use Rattle.pass_pad.specs.Pad.{pad_meaning};
 ghost use Rattle.std.specs.Prelude.{◌≡◌, true, IfOk};
 ghost use Rattle.std.specs.List.{All};
-ghost use Rattle.bril_cli.specs.Shipped.{MakesAsShipped};
+ghost use Rattle.shipped_passes.specs.Shipped.{MakesAsShipped};
 
 use crate::passes::{boxed_lacking, boxed_pad, tally};
 use bril_checker::Checked;
@@ -14,11 +14,9 @@ use bril_outside::mem_sink::MemSink;
 use bril_profile::Profile;
 use bril_tree::sequence::Seq;
 use bril_tree::text::Text;
-use dead_code::Dead;
 use pass_law::{Pass, PassFault, Tally, room};
 use std::alloc::{AllocError, Global};
 use std::test::Fail;
-use tidy_code::Tidy;
 
 // A program of two items.
 const ONE: &[u8] = b"@main { v: int = const 4; print v; }\n";
@@ -81,27 +79,6 @@ fn each_pass_of_a_list_gets_what_the_one_before_it_made(rt: HostRuntime) -> Resu
     // The first of two passes of one name is taken.
     assert_eq!(rt; ended.err.bytes(), b"pad runs 2 seen 5 made 7\n".as_slice());
     assert_eq!(rt; passes[1].tally(), Tally::zero());
-    Ok(())
-}
-
-#[test]
-fn a_pass_of_another_name_stands_among_shipped_passes(rt: HostRuntime) -> Result<(), Fail> {
-    let alloc = rt.alloc();
-    let mut passes = [boxed_pad(alloc)?, boxed_dead(alloc)?, boxed_tidy(alloc)?];
-    let ended = call(
-        alloc,
-        &["passes", "one.bril", "--passes", "pad,dead,pad,tidy,pad"],
-        passes.as_mut_slice(),
-    )?;
-    assert_eq!(rt; ended.status, 0);
-    assert_eq!(rt;
-        ended.out.bytes(),
-        b"@main {\n  nop;\n  v: int = const 4;\n  print v;\n}\n".as_slice()
-    );
-    assert_eq!(rt;
-        ended.err.bytes(),
-        b"pad runs 3 seen 7 made 10\ndead runs 1 seen 3 made 3\ntidy runs 1 seen 4 made 2\n".as_slice()
-    );
     Ok(())
 }
 
@@ -205,21 +182,6 @@ fn tallies_go_on_from_call_to_call(rt: HostRuntime) -> Result<(), Fail> {
     assert_eq!(rt; refused.status, 69);
     assert_eq!(rt; passes[0].tally(), tally(2, 4, 6));
     Ok(())
-}
-
-// Two of the shipped passes, in boxes.
-fn boxed_dead(alloc: Global) -> Result<Box<dyn Pass>, AllocError>
-    ensures { IfOk result (λ pass. MakesAsShipped (meaning pass)) }
-{
-    let dead: Box<dyn Pass> = Box::new(alloc, Dead::new())?;
-    Ok(dead)
-}
-
-fn boxed_tidy(alloc: Global) -> Result<Box<dyn Pass>, AllocError>
-    ensures { IfOk result (λ pass. MakesAsShipped (meaning pass)) }
-{
-    let tidy: Box<dyn Pass> = Box::new(alloc, Tidy::new())?;
-    Ok(tidy)
 }
 
 // Calls the top call with these words after the program's name, and lends it the passes, which can be lent again.

@@ -1,7 +1,7 @@
 // Lists of passes, and each law of passes at a pass.
 
 ghost use Rattle.std.specs.Prelude.{◌≡◌, [], codes, IfOk};
-ghost use Rattle.bril_cli.specs.Shipped.{MakesAsShipped};
+ghost use Rattle.shipped_passes.specs.Shipped.{MakesAsShipped};
 ghost use Rattle.pass_law.specs.Meaning.{is_name};
 ghost use Rattle.pass_law.specs.Tallies.{zero_tally};
 ghost use Rattle.pass_pad.specs.Pad.{pad_meaning};

@@ -2,7 +2,6 @@
 
 use crate::guards::add_fails;
 use crate::listing::execute;
-use braun_ssa::Ssa;
 use bril_cli::end::end;
 use bril_outside::files::{FileFault, Files};
 use bril_outside::mem_files::MemFiles;
@@ -12,18 +11,31 @@ use bril_tree::sequence::Seq;
 use bril_tree::text::Text;
 use bril_tree::value::Value;
 use case_text::{LineFault, add_lines, add_unescaped};
-use coalesce::Merge;
-use constant_pass::Const;
-use dead_code::Dead;
 use pass_law::Pass;
-use ssa_exit::Unssa;
+use shipped_passes::{Job, with_shipped_passes};
 use std::alloc::{AllocError, Global};
 use std::mem;
-use tidy_code::Tidy;
-use trace_stitcher::Stitch;
 
 // How many bytes an output takes where a case doesn't say it.
 const ROOM: u32 = 65_536;
+
+// A command line, as what is done with the shipped passes.
+#[derive(Drop)]
+struct CommandLine<'a> {
+    alloc: Global,
+    words: Seq<Text>,
+    files: &'a mut MemFiles,
+    out: &'a mut MemSink,
+    err: &'a mut MemSink,
+}
+
+impl<'a> Job for CommandLine<'a> {
+    type Answer = u8;
+
+    fn work(self, passes: &mut [Box<dyn Pass>]) -> u8 {
+        end(self.alloc, Ok(self.words), self.files, self.out, self.err, passes)
+    }
+}
 
 /// What the lines of a case have set up so far.
 #[derive(Drop)]
@@ -247,16 +259,9 @@ impl Case {
         out: &mut MemSink,
         err: &mut MemSink,
     ) -> Result<u8, AllocError> {
-        let trace: Box<dyn Pass> = Box::new(self.alloc, Stitch::new())?;
-        let ssa: Box<dyn Pass> = Box::new(self.alloc, Ssa::new())?;
-        let constant: Box<dyn Pass> = Box::new(self.alloc, Const::new())?;
-        let dead: Box<dyn Pass> = Box::new(self.alloc, Dead::new())?;
-        let unssa: Box<dyn Pass> = Box::new(self.alloc, Unssa::new())?;
-        let merge: Box<dyn Pass> = Box::new(self.alloc, Merge::new())?;
-        let tidy: Box<dyn Pass> = Box::new(self.alloc, Tidy::new())?;
-        let mut passes = [trace, ssa, constant, dead, unssa, merge, tidy];
-        let passes = passes.as_mut_slice();
-        Ok(end(self.alloc, Ok(words), &mut self.files, out, err, passes))
+        let alloc = self.alloc;
+        let files = &mut self.files;
+        with_shipped_passes(alloc, CommandLine { alloc, words, files, out, err })
     }
 }
 

@@ -9,3 +9,4 @@ pub mod Points
 pub mod Refines
 pub mod Typed
 pub mod lemmas
+pub mod Shipped

@@ -12,3 +12,4 @@ pub mod Looking
 pub mod Sweeping
 pub mod Made
 pub mod Numbers
+pub mod Shipped

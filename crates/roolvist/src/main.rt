@@ -1,17 +1,15 @@
 //! The program: the command line of Roolvist over the system's words, files and outputs.
 //!
-//! 1. `main`; `with_passes`, which makes the passes and lends them to `carry_out`, which calls the command line
-//!    (`src/main.rt`).
+//! 1. `main`; `with_passes`, which has the shipped passes lent to `carry_out`, which calls the command line (`src/main.rt`).
 //! 2. `given_words`, which takes the system's words (`src/main.rt`, `specs/Words.antt`).
 #![tactic(auto)]
 
 ghost use Rattle.std.specs.Prelude.{◌≡◌, IfOk, IfErr, IsErrAnd};
 ghost use Rattle.std.specs.IoError.{error_kind};
-ghost use Rattle.bril_cli.specs.Shipped.{AreShipped};
+ghost use Rattle.shipped_passes.specs.Shipped.{AreShipped};
 ghost use Rattle.bril_report.specs.declared.status.Status.TheVariants.{OutOfMemory};
 ghost use Rattle.roolvist.specs.Words.{AreAllOf, IsForNoWords};
 
-use braun_ssa::Ssa;
 use bril_cli::end::end;
 use bril_outside::os_files::OsFiles;
 use bril_outside::os_sink::OsSink;
@@ -19,17 +17,12 @@ use bril_report::{Status, status_number};
 use bril_tree::sequence::Seq;
 use bril_tree::text::Text;
 use bril_words::Misuse;
-use coalesce::Merge;
-use constant_pass::Const;
-use dead_code::Dead;
 use pass_law::Pass;
-use ssa_exit::Unssa;
+use shipped_passes::{Job, with_shipped_passes};
 use std::alloc::{AllocError, Global};
 use std::env::{self, Args};
 use std::io::{self, ErrorKind, IsTerminal, Stderr, Stdout};
 use std::process::ExitCode;
-use tidy_code::Tidy;
-use trace_stitcher::Stitch;
 
 fn main(rt: HostRuntime) -> ExitCode {
     ExitCode::from(exit_number(with_passes(&rt)))
@@ -46,19 +39,24 @@ fn exit_number(ended: Result<u8, AllocError>) -> u8
     }
 }
 
+// The command line, as what is done with the shipped passes.
+#[derive(Drop)]
+struct CommandLine<'a> {
+    rt: &'a HostRuntime,
+}
+
+impl<'a> Job for CommandLine<'a> {
+    type Answer = Result<u8, AllocError>;
+
+    fn work(self, passes: &mut [Box<dyn Pass>]) -> Result<u8, AllocError> {
+        carry_out(self.rt, passes)
+    }
+}
+
 // Does what the words of the command line ask for, with the shipped passes. Where there is no memory for these, or for the buffer of
 // standard output, nothing is read or written.
 fn with_passes(rt: &HostRuntime) -> Result<u8, AllocError> {
-    let alloc = rt.alloc();
-    let trace: Box<dyn Pass> = Box::new(alloc, Stitch::new())?;
-    let ssa: Box<dyn Pass> = Box::new(alloc, Ssa::new())?;
-    let constant: Box<dyn Pass> = Box::new(alloc, Const::new())?;
-    let dead: Box<dyn Pass> = Box::new(alloc, Dead::new())?;
-    let unssa: Box<dyn Pass> = Box::new(alloc, Unssa::new())?;
-    let merge: Box<dyn Pass> = Box::new(alloc, Merge::new())?;
-    let tidy: Box<dyn Pass> = Box::new(alloc, Tidy::new())?;
-    let mut passes = [trace, ssa, constant, dead, unssa, merge, tidy];
-    carry_out(rt, passes.as_mut_slice())
+    with_shipped_passes(rt.alloc(), CommandLine { rt })?
 }
 
 // Does what the words of the command line ask for, with these passes. Where there is no memory for the buffer of standard output, nothing

@@ -9,3 +9,4 @@ pub mod Types
 pub mod Accepted
 pub mod Numbers
 pub mod Made
+pub mod Shipped

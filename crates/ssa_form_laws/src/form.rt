@@ -2,6 +2,7 @@
 //
 // 1. What the pass into SSA form makes and means: SSA form (`specs/form/Form.antt`), its factor and its bound, and how the numbers of a
 //    program grow (`specs/form/Numbers.antt`), all in one (`specs/form/Ssa.antt`). There is one of each number (`proofs/lemmas/form/Having.antt`).
+//    Its row of a budget (`specs/form/Row.antt`; `proofs/lemmas/form/Entries.antt`, `proofs/Shipped.antt`).
 // 2. The points of laid code, and what stands there (`proofs/lemmas/form/Points.antt`, `Fronts.antt`).
 // 3. Each variable is assigned by one item, or is an argument and by none (`proofs/lemmas/form/Single.antt`); each `get` stands behind a label, with
 //    only `get`s between (`proofs/lemmas/form/Following.antt`), and has two `set`s that differ (`proofs/lemmas/form/Edges.antt`, `Needed.antt`).
@@ -11,6 +12,6 @@
 mod laws;
 
 pub use laws::{
-    laid_trees_are_edits, laid_trees_are_in_form, laid_trees_are_short, ssa_has_numbers,
-    ssa_keeps_numbers,
+    laid_trees_are_edits, laid_trees_are_in_form, laid_trees_are_short, live_entries_are_few,
+    ssa_has_numbers, ssa_keeps_numbers,
 };

@@ -7,3 +7,4 @@ pub mod Staying
 pub mod Made
 pub mod Turns
 pub mod Numbers
+pub mod Shipped

@@ -3,3 +3,4 @@ pub mod Made
 pub mod Numbers
 pub mod Unique
 pub mod lemmas
+pub mod Shipped

@@ -4,3 +4,4 @@ pub mod acceptance
 pub mod growth
 pub mod lines
 pub mod refinement
+pub mod Row

@@ -9,3 +9,4 @@ pub mod Edits
 pub mod Sizes
 pub mod Trees
 pub mod Having
+pub mod Entries

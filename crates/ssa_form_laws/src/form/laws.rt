@@ -2,6 +2,7 @@
 
 ghost use Rattle.pass_law.specs.Meaning.{HasNumbers};
 ghost use Rattle.ssa_form_laws.specs.form.Laws.{LaidTreesAreEdits, LaidTreesAreInForm, LaidTreesAreShort, SsaKeepsNumbers};
+ghost use Rattle.ssa_form_laws.specs.form.Row.{LiveEntriesAreFew};
 ghost use Rattle.ssa_form_laws.specs.form.Ssa.{ssa_meaning};
 
 /// In the tree that is made of an accepted program each variable has one item that assigns it, or is an argument and has none, and each
@@ -23,6 +24,11 @@ pub fn laid_trees_are_short()
 /// A program has one factor and one bound of the pass at most, and an accepted program has both. A call does nothing.
 pub fn ssa_has_numbers()
     ensures { HasNumbers ssa_meaning }
+{}
+
+/// An accepted program has at most as many live entries as entries, times the most locations of a function. A call does nothing.
+pub fn live_entries_are_few()
+    ensures { LiveEntriesAreFew }
 {}
 
 /// What the pass makes has no greater number of entries of labels, of labels that are entered from one leave point, of open sites and of

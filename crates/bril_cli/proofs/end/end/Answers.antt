@@ -1,5 +1,5 @@
 -- The passes make as the shipped ones do, and the status is what the top call promises of the words.
-use Rattle.bril_cli.proofs.Shipped.{AreShipped-make}
+use Rattle.shipped_passes.proofs.Making.{AreShipped-make}
 use Rattle.bril_cli.proofs.end.end.Goals as goal
 
 pub bril_top-requires : goal.bril_top-requires

@@ -5,7 +5,7 @@ use Rattle.bril_report.specs.Told.{Heard}
 use Rattle.bril_commands.proofs.Budgets.{spent-past_budget}
 use Rattle.bril_commands.specs.Answers.{Promises}
 use Rattle.bril_commands.specs.Call.{call_of}
-use Rattle.bril_cli.proofs.Budgets.{AreShipped-within}
+use Rattle.shipped_passes.proofs.Budgets.{AreShipped-within}
 use Rattle.bril_cli.proofs.top.bril_top.Goals as goal
 
 pub answer-requires : goal.answer-requires
@@ -26,7 +26,7 @@ returns-clause-promises g c =
 
 pub returns-clause-budget : goal.returns-clause-budget
 returns-clause-budget g c shipped =
-    spent-past_budget c.answer.result
+    spent-past_budget _ c.answer.result
     (call_of c.args.words.now (g.F.Files.seen c.args.files.now) (g.F.Files.seen c.answer.new.files)
     (g.O.Sink.seen c.args.out.now) (g.O.Sink.seen c.out-1.given.0) (g.E.Sink.seen c.args.err.now) (g.E.Sink.seen c.err-1.given.0)
     (λ p. (goal.Pass-dyn g (p.vtable, p.value)).meaning p.value) (λ p. (goal.Pass-dyn g (p.vtable, p.value)).counts p.value) c.args.passes.now c.answer.new.passes)

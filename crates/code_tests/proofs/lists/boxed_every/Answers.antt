@@ -1,6 +1,6 @@
 -- The pass in the box makes as a shipped pass does, or answers to no name of one.
 use Rattle.std.proofs.Common.{subst}
-use Rattle.bril_cli.specs.Shipped.{MakesAsShipped}
+use Rattle.shipped_passes.specs.Shipped.{MakesAsShipped}
 use Rattle.code_tests.proofs.Boxes.{box-makes, idle-makes}
 use Rattle.code_tests.proofs.lists.boxed_every.Goals as goal
 use Rattle.code_tests.proofs.lists.boxed_every.Hides.{has-1-1}

@@ -1,5 +1,5 @@
 -- No pass has changed its meaning.
-use Rattle.bril_cli.proofs.Shipped.{All-shipped-same}
+use Rattle.shipped_passes.proofs.Making.{All-shipped-same}
 use Rattle.code_tests.proofs.lists.call.Goals as goal
 
 pub returns : goal.returns

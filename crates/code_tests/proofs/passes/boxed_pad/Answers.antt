@@ -1,6 +1,6 @@
 -- The pass in the box makes as a shipped pass does, or answers to no name of one.
 use Rattle.std.proofs.Common.{subst}
-use Rattle.bril_cli.specs.Shipped.{MakesAsShipped}
+use Rattle.shipped_passes.specs.Shipped.{MakesAsShipped}
 use Rattle.code_tests.proofs.Boxes.{box-makes, pad-makes}
 use Rattle.code_tests.proofs.passes.boxed_pad.Goals as goal
 use Rattle.code_tests.proofs.passes.boxed_pad.Hides.{has-1-1}
