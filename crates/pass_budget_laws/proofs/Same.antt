@@ -1,5 +1,5 @@
 -- Passes that mean the same are within the same rows.
-use Rattle.std.proofs.Common.{◌≡◌, ℕ, Bool, true, List, sym, ap, ◌∙◌}
+use Rattle.std.proofs.Common.{ℕ, Bool, List, ap, ◌∙◌}
 use Rattle.pass_law.specs.Meaning.{Meaning, SameMeaning}
 use Rattle.pass_law.proofs.Same.{Link-same}
 use Rattle.pass_budget_laws.specs.Laws.{IsWithinRows}
