@@ -33,7 +33,22 @@ only_computes op.Cge = true
 only_computes op.Not = true
 only_computes op.And = true
 only_computes op.Or = true
-only_computes _ = false
+only_computes op.Div = false
+only_computes op.PtrAdd = false
+only_computes op.IntToChar = false
+only_computes op.Nop = false
+only_computes op.Jmp = false
+only_computes op.Br = false
+only_computes op.Call = false
+only_computes op.Ret = false
+only_computes op.Print = false
+only_computes op.Alloc = false
+only_computes op.Free = false
+only_computes op.Store = false
+only_computes op.Load = false
+only_computes op.Speculate = false
+only_computes op.Commit = false
+only_computes op.Guard = false
 
 abbrev pub is_computation : Instr → Bool
 is_computation (Label l) = false

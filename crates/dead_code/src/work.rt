@@ -98,7 +98,10 @@ fn only_computes(op: Op) -> bool
         Op::Eq | Op::Lt | Op::Gt | Op::Le | Op::Ge => true,
         Op::Ceq | Op::Clt | Op::Cgt | Op::Cle | Op::Cge => true,
         Op::Not | Op::And | Op::Or => true,
-        _ => false,
+        Op::Div | Op::PtrAdd | Op::IntToChar => false,
+        Op::Nop | Op::Jmp | Op::Br | Op::Call | Op::Ret | Op::Print => false,
+        Op::Alloc | Op::Free | Op::Store | Op::Load => false,
+        Op::Speculate | Op::Commit | Op::Guard => false,
     }
 }
 
