@@ -1,13 +1,11 @@
 -- The plan of a program with laid traces, outside of them.
-use Rattle.std.proofs.Common.{◌≡◌, ℕ, suc, Option, Some, None, refl, sym, subst, ◌∙◌, arith}
+use Rattle.std.proofs.Common.{◌≡◌, ℕ, suc, None, sym, subst, ◌∙◌, arith}
 use Rattle.std.specs.Prelude.{slice_get}
-use Rattle.bril_tree.specs.declared.numbered.Instr.{Instr}
 use Rattle.bril_tree.specs.declared.program.Prog.{Prog}
 use Rattle.bril_tree.specs.declared.types.Ty.{Ty}
 use Rattle.bril_tree.specs.Accepted.{IsAccepted}
 use Rattle.bril_tree.specs.Numbered.{names_in, tree_at}
 use Rattle.bril_tree.specs.Operand.{Location}
-use Rattle.bril_tree.specs.Step.{code_of, item_at}
 use Rattle.pass_edit_laws.specs.plan.Plan.{Plan, Preserves}
 use Rattle.pass_edit_laws.specs.names.Named.{SameLocation}
 use Rattle.pass_edit_laws.specs.names.NamedPlan.{NamePlan, plan, KeepsNames}
