@@ -156,7 +156,7 @@ module _ (P Q : Prog) (T : ℕ → Table) (t : Folded P Q T) where
     heads = t.heads;
     start = λ f. refl;
     same = λ f i j reached points regular. kept_tree P Q T t f i regular ∙ ap (tree_at Q f) points;
-    next = λ f i j reached points regular among. ap suc points;
+    next = λ f i j a reached points regular at stays. ap suc points;
     labels = λ f i j name reached at bt. label_once Q f i j name (sym (kept_tree P Q T t f i (label_kept P Q T t f i name at)) ∙ at) bt;
     reads = λ f i j a x reached points regular at h. tt;
     flows = λ f i w x reached among plain m none. tt;

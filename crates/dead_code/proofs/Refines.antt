@@ -104,7 +104,7 @@ module _ (P Q : Prog) (made : ℕ → List Instr) (t : Deadened P Q made) where
       heads = t.heads;
       start = λ f. refl;
       same = λ f i j reached points regular. staying-tree f i regular ∙ ap (tree_at Q f) points;
-      next = λ f i j reached points regular among. ap suc points;
+      next = λ f i j a reached points regular at stays. ap suc points;
       labels = λ f i j name reached at bt. label_once Q f i j name (sym (kept_label f i name reached at) ∙ at) bt;
       reads = λ f i j a x reached points regular at h. live-reads (made f) i a x (regular ∙ at) h;
       flows = λ f i w x reached among plain live none. flows-back f i w x reached among plain live none;

@@ -1,4 +1,5 @@
 pub mod acceptance
+pub mod labels
 pub mod names
 pub mod numbers
 pub mod plan

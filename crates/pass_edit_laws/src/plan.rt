@@ -8,7 +8,8 @@
 // What follows from a plan is in the crates above: `steps` for runs and `walks` for acceptance. The words are
 // those of the CompCert compiler's proofs, where a pass has a relation that matches states.
 //
-// `specs/plan/Spliced.antt` is for passes that put items in: lists with other lists put in before and after their items.
+// `specs/plan/Spliced.antt` is for passes that put items in: lists with other lists put in before and after their items. Some such
+// items are in `specs/plan/Lines.antt`.
 // `specs/plan/Marked.antt` is for passes that empty items: lists with one item in place of those that are marked.
 
 ghost use Rattle.std.specs.Prelude.{ℕ};

@@ -1,16 +1,14 @@
 -- A padded program refines the one that it is made from, with the factor 2: the plan, and where the result catches up.
-use Rattle.std.proofs.Common.{◌≡◌, ℕ, suc, Option, Some, None, refl, sym, ap, subst, ◌∙◌, inl, inr, ⊎_elim, arith}
+use Rattle.std.proofs.Common.{◌≡◌, ℕ, suc, Option, Some, None, refl, sym, ap, ◌∙◌, inl, inr, ⊎_elim, arith}
 use Rattle.std.specs.Prelude.{slice_get}
 use Rattle.bril_tree.specs.Numbered.{names_of_functions, nop, point_tree, tree_at}
 use Rattle.bril_tree.specs.declared.limits.Limits.{Limits}
 use Rattle.bril_tree.specs.declared.numbered_function.Func.{Func}
 use Rattle.bril_tree.specs.declared.program.Prog.{Prog}
 use Rattle.bril_tree.specs.Accepted.{IsAccepted}
-use Rattle.bril_tree.specs.Edge.{branches_from, onward}
 use Rattle.bril_tree.specs.Run.{Refines}
 use Rattle.bril_tree.specs.State.{Frame, State}
-use Rattle.bril_tree.specs.Step.{items_of, code_of, item_at}
-use Rattle.bril_tree.specs.Membership.{In}
+use Rattle.bril_tree.specs.Step.{items_of, item_at}
 use Rattle.pass_edit_laws.specs.names.NamedPlan.{KeepsNames}
 use Rattle.pass_edit_laws.proofs.lemmas.names.Preserving.{names_preserve, knows_nothing}
 use Rattle.pass_edit_laws.proofs.lemmas.names.Points.{label_once}
@@ -32,7 +30,7 @@ module _ (P Q : Prog) (t : PaddedAt P Q) where
     heads = t.heads;
     start = λ f. inr (refl, refl);
     same = λ f i j reached points regular. ⊎_elim (λ e. t.rest f i ∙ ap (tree_at Q f) (sym e)) (lacking f i j) regular;
-    next = λ f i j reached points regular among. ⊎_elim (λ e. inl (ap suc e)) (λ none. absurd (subst (λ o. In (onward i) (branches_from (code_of P f) i (slice_get (items_of o) i))) none among)) regular;
+    next = λ f i j a reached points regular at stays. ⊎_elim (λ e. inl (ap suc e)) (λ none. absurd (let e = ap (λ o. slice_get (items_of o) i) (sym none) ∙ at in cc)) regular;
     labels = λ f i j name reached at bt. inl (label_once Q f j (suc i) name bt (sym (t.rest f i) ∙ at));
     reads = λ f i j a x reached points regular at h. tt;
     flows = λ f i w x reached h e m n. tt;

@@ -118,7 +118,7 @@ module _ (P Q : Prog) (fresh : ℕ → ℕ → List ℕ) (accepted : IsAccepted 
     heads = t.heads;
     start = λ f. refl;
     same = λ f i j reached points regular. kept P Q fresh t f i regular ∙ ap (tree_at Q f) points;
-    next = λ f i j reached points regular among. ap suc points;
+    next = λ f i j a reached points regular at stays. ap suc points;
     labels = λ f i j name reached at bt. label_once Q f i j name (sym (kept P Q fresh t f i (label_stays f i name at)) ∙ at) bt;
     reads = λ f i j a x reached points regular at h. reads_variables a x (subst (λ o. names_a_shadow o ≡ false) at regular) h;
     flows = λ f i w x reached h e m n. m;

@@ -31,6 +31,7 @@ use Rattle.bril_names.specs.Faults.{Differ, IsKnown, IsSound, SameHead, IsSoundE
 use Rattle.bril_names.specs.Faults as fault
 use Rattle.bril_tree.proofs.Acceptance.{target_reached}
 use Rattle.bril_tree.proofs.Shapes.{shape-parts, dest_none}
+use Rattle.pass_edit_laws.proofs.lemmas.labels.Listed.{label-in}
 use Rattle.pass_edit_laws.proofs.lemmas.steps.Shapes.{shaped_here}
 use Rattle.pass_edit_laws.proofs.lemmas.names.Trees.{heads-of_trees}
 use Rattle.pass_edit_laws.proofs.lemmas.names.Points.{found, label_found}
@@ -84,16 +85,6 @@ nop-tree fs V l ret (Act d ty _ args fns ls) s n = absurd n
 
 label-works : (n : List ℕ) → item.Label n ≡ nop_item → ⊥
 label-works n e = cc
-
--- the label of an item stands among the labels
-label-in : (n : List ℕ) (xs : List Item) → In (item.Label n) xs → In n (labels_of xs)
-label-in n [] i = absurd i
-label-in n (item.Label m ∷ xs) (inl e) = inl cc
-label-in n (item.Label m ∷ xs) (inr i) = inr (label-in n xs i)
-label-in n (item.Const d ty v ∷ xs) (inl e) = absurd cc
-label-in n (item.Const d ty v ∷ xs) (inr i) = label-in n xs i
-label-in n (item.Act d o args fns ls ∷ xs) (inl e) = absurd cc
-label-in n (item.Act d o args fns ls ∷ xs) (inr i) = label-in n xs i
 
 -- labels that differ still differ
 differ-tidied : (code : List Instr) (i : ℕ) (xs ys : List Item) → AreStaying code i xs ys → Differ (labels_of xs) → Differ (labels_of ys) × ((n : List ℕ) → In n (labels_of ys) → In n (labels_of xs))
@@ -153,7 +144,7 @@ module _ (P : Prog) (accepted : IsAccepted P) where
     label-stays k a l n at reached m e =
         let here : item_at P f k ≡ Some a = ap (λ c. slice_get c k) code ∙ at in
         let goal = target_reached P accepted f k a l here (subst (λ c. IsReached c k) (sym code) reached) m in
-        label-in n g.code (stands (point_of l (code_of P f)) goal (label_found P f F l p (target_below F k a at l m)))
+        label-in g.code n (stands (point_of l (code_of P f)) goal (label_found P f F l p (target_below F k a at l m)))
       where
         stands : (q : ℕ) → IsReached (code_of P f) q → tree_at P f q ≡ Some (item.Label (named F.labels l)) → In (item.Label n) g.code
         stands q goal label =

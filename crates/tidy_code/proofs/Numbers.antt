@@ -38,8 +38,8 @@ use Rattle.tidy_code.proofs.Refines.{keeps, kept_label, nop-goes_on, preserves, 
 use Rattle.tidy_code.proofs.Walks.{drawn, matched_walks, nth-count, nth_kept}
 
 -- one label more
-abbrev one_more : List (Option ℕ)
-one_more = None ∷ []
+abbrev one_more : List ℕ
+one_more = 0 ∷ []
 
 module _ (P Q : Prog) (keep : ℕ → ℕ → Bool) (accepted : IsAccepted P) (accepted_q : IsAccepted Q) (t : Tidied P keep Q) (f : ℕ) (F G : Func) (p : slice_get P.funcs f ≡ Some F) (q : slice_get Q.funcs f ≡ Some G) where
   abbrev count : ℕ → ℕ
@@ -209,29 +209,29 @@ module _ (P Q : Prog) (keep : ℕ → ℕ → Bool) (accepted : IsAccepted P) (a
 
   -- ---- the labels that are entered from one leave point
 
-  leave-matched : (leave : Option ℕ) → LeaveMatched F G one_more leave
+  leave-matched : (leave : Option ℕ) → LeaveMatched F G ℕ one_more leave
   leave-matched None = record {
     from = None;
-    IsExtra = λ l. slice_get G.code 0 ≡ Some (Label l);
-    one = λ l k r s. one_label (slice_get G.code 0) l k r s;
-    labels = λ l h. inl (h, inl refl);
+    IsExtra = λ l x. slice_get G.code 0 ≡ Some (Label l);
+    one = λ l k x low high r s. one_label (slice_get G.code 0) l k r s;
+    labels = λ l h. inl (0, inl refl, h);
   }
   leave-matched (Some point) = record {
     from = Some place;
-    IsExtra = λ l. slice_get G.code (suc point) ≡ Some (Label l);
-    one = λ l k r s. one_label (slice_get G.code (suc point)) l k r s;
+    IsExtra = λ l x. slice_get G.code (suc point) ≡ Some (Label l);
+    one = λ l k x low high r s. one_label (slice_get G.code (suc point)) l k r s;
     labels = λ l h. by l (entry (Some point) l h);
   }
     where
       place : ℕ
       place = nth_kept (keep f) (length (code_of P f)) 0 point
 
-      by : (l : ℕ) → EntryMatched F G Leaves (Some point) l → ((slice_get G.code (suc point) ≡ Some (Label l)) × In None one_more) ⊎ ((m : ℕ) × Enters F.code (Some place) m × (named F.labels m ≡ named G.labels l))
+      by : (l : ℕ) → EntryMatched F G Leaves (Some point) l → ((x : ℕ) × In x one_more × (slice_get G.code (suc point) ≡ Some (Label l))) ⊎ ((m : ℕ) × Enters F.code (Some place) m × (named F.labels m ≡ named G.labels l))
       by l e = from e.from e.enters e.leaves
         where
-          from : (o : Option ℕ) → Enters F.code o e.to → Leaves (Some point) l o → ((slice_get G.code (suc point) ≡ Some (Label l)) × In None one_more) ⊎ ((m : ℕ) × Enters F.code (Some place) m × (named F.labels m ≡ named G.labels l))
+          from : (o : Option ℕ) → Enters F.code o e.to → Leaves (Some point) l o → ((x : ℕ) × In x one_more × (slice_get G.code (suc point) ≡ Some (Label l))) ⊎ ((m : ℕ) × Enters F.code (Some place) m × (named F.labels m ≡ named G.labels l))
           from None enters leaves = absurd (let n : Some point ≡ None = leaves in cc)
-          from (Some i) enters (inr r) = inl (ap (slice_get G.code) (sym (point_before-one (count i) point r.1)) ∙ r.2, inl refl)
+          from (Some i) enters (inr r) = inl (0, inl refl, ap (slice_get G.code) (sym (point_before-one (count i) point r.1)) ∙ r.2)
           from (Some i) enters (inl r) =
               let s = edge-leaves F.code enters.0 enters.1 in
               let low : i < length (code_of P f) = subst (λ n. n < length (code_of P f)) enters.2 (subst (λ c. enters.0.leave < length c) (sym here) (slice_get_within F.code enters.0.leave s.0 s.1)) in
@@ -247,7 +247,7 @@ module _ (P Q : Prog) (keep : ℕ → ℕ → Bool) (accepted : IsAccepted P) (a
       (λ j b at. let o = old-item P Q keep accepted t f F G p q j b (ap (λ c. slice_get c j) there ∙ at) in inr (o.i, sym o.tree))
 
   function_within : FunctionWithin 1 F G
-  function_within = function-within (tidy_plan P Q keep t) unchanged P Q accepted_q f F G p q walks of_items 1 (fewer-entries F G Leaves entry one-leave) (width-within F G one_more leave-matched)
+  function_within = function-within (tidy_plan P Q keep t) unchanged P Q accepted_q f F G p q walks of_items 1 (fewer-entries F G Leaves entry one-leave) (width-within F G ℕ one_more leave-matched)
 
 pub keeps_numbers : (P Q : Prog) → IsAccepted P → IsTidied P Q → NumbersWithin P Q 1
 keeps_numbers P Q accepted makes =

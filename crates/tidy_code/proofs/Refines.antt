@@ -12,8 +12,6 @@ use Rattle.bril_tree.specs.declared.numbered_function.Func.{Func}
 use Rattle.bril_tree.specs.declared.operation.Op.TheVariants as op
 use Rattle.bril_tree.specs.declared.program.Prog.{Prog}
 use Rattle.bril_tree.specs.Accepted.{IsAccepted}
-use Rattle.bril_tree.specs.Edge.{branches_at, branches_from, onward}
-use Rattle.bril_tree.specs.Membership.{In}
 use Rattle.bril_tree.specs.Numbered.{variable_names, item_tree, names_of_functions, point_tree, tree_at}
 use Rattle.bril_tree.specs.Run.{Refines}
 use Rattle.bril_tree.specs.State.{Frame, State}
@@ -115,7 +113,7 @@ module _ (P Q : Prog) (keep : ℕ → ℕ → Bool) (t : Tidied P keep Q) where
     heads = t.heads;
     start = λ f. refl;
     same = λ f i j reached points regular. subst (λ n. tree_at P f i ≡ tree_at Q f n) (sym points) (⊎_elim (λ e. same_kept f i reached e) (ends-both f i reached) regular);
-    next = λ f i j reached points regular among. ap suc points ∙ sym (next_count f i regular among);
+    next = λ f i j a reached points regular at stays. ap suc points ∙ sym (next_count f i a at regular);
     labels = λ f i j name reached at bt. label_once Q f j (kept_count (keep f) 0 i) name bt (sym (kept-tree f i (item.Label name) at (kept_label f i name reached at)) ∙ at);
     reads = λ f i j a x reached points regular at h. tt;
     flows = λ f i w x reached h e m n. tt;
@@ -130,9 +128,9 @@ module _ (P Q : Prog) (keep : ℕ → ℕ → Bool) (t : Tidied P keep Q) where
           by None h = ends-both f i reached h
           by (Some a) h = kept-tree f i _ (found P f i a h).tree e
 
-      next_count : (f i : ℕ) → (keep f i ≡ true) ⊎ (item_at P f i ≡ None) → In (onward i) (branches_at (code_of P f) i) → kept_count (keep f) 0 (suc i) ≡ suc (kept_count (keep f) 0 i)
-      next_count f i (inl e) among = count-kept (keep f) 0 i (let z : 0 + i ≡ i = omega arith in ap (keep f) z ∙ e)
-      next_count f i (inr none) among = absurd (subst (λ o. In (onward i) (branches_from (code_of P f) i o)) none among)
+      next_count : (f i : ℕ) (a : Instr) → item_at P f i ≡ Some a → (keep f i ≡ true) ⊎ (item_at P f i ≡ None) → kept_count (keep f) 0 (suc i) ≡ suc (kept_count (keep f) 0 i)
+      next_count f i a at (inl e) = count-kept (keep f) 0 i (let z : 0 + i ≡ i = omega arith in ap (keep f) z ∙ e)
+      next_count f i a at (inr none) = absurd (let h = sym none ∙ at in cc)
 
   module _ (accepted : IsAccepted P) where
     pub preserves : Preserves tidy_plan P Q

@@ -7,7 +7,7 @@
 //    (`specs/lines/Traced.antt`).
 // 2. Nothing between `speculate` and `commit` prints, stores, or calls (`proofs/lemmas/lines/Quiet.antt`).
 // 3. The bound on the items (`specs/lines/Bound.antt`) holds (`proofs/lemmas/lines/Bound.antt`).
-// 4. The tree can be numbered: its labels differ, and each that an item names is there (`proofs/lemmas/lines/Labels.antt`, `Differing.antt`,
+// 4. The tree can be numbered: its labels differ, and each that an item names is there (`proofs/lemmas/lines/Differing.antt`,
 //    `Known.antt`, `Sound.antt`).
 
 mod laws;

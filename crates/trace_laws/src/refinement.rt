@@ -5,8 +5,7 @@
 //
 // 1. Where the old items stand, and what stands between them (`specs/refinement/Stitched.antt`): so it is in what the pass makes
 //    (`proofs/lemmas/refinement/Laying.antt`).
-// 2. A laid item does the same in both programs: it faults, or it changes locations alone (`proofs/lemmas/refinement/Straight.antt`,
-//    `proofs/lemmas/refinement/Items.antt`).
+// 2. A laid item does the same in both programs: it faults, or it changes locations alone (`proofs/lemmas/refinement/Straight.antt`).
 // 3. The plan (`proofs/lemmas/refinement/Plans.antt`); along a trace the result gets to its end, or is back behind the label
 //    (`proofs/lemmas/refinement/Along.antt`); so it refines the program (`proofs/lemmas/refinement/Refining.antt`, `proofs/lemmas/refinement/Refines.antt`).
 // 4. Nothing between a trace's `speculate` and its `commit` prints, stores or calls (`proofs/lemmas/refinement/Quiet.antt`).

@@ -9,9 +9,10 @@ use Rattle.bril_tree.specs.Numbered.{named, names_in, tree_at}
 use Rattle.bril_tree.specs.Step.{item_at}
 use Rattle.pass_edit_laws.proofs.lemmas.names.Points.{found}
 use Rattle.trace_laws.specs.lines.Lines.{TraceNames}
-use Rattle.trace_laws.specs.lines.Names.{AreNames, Bases, IsFresh, is_label_item, labels_in}
+use Rattle.trace_laws.specs.lines.Names.{AreNames, Bases, is_label_item}
+use Rattle.pass_edit_laws.specs.labels.Fresh.{IsFresh, labels_in}
 use Rattle.trace_laws.specs.lines.Traced.{AreLaid, Laying}
-use Rattle.trace_stitcher.proofs.lemmas.fresh_names.Fresh.{fresh-there}
+use Rattle.pass_edit_laws.proofs.lemmas.labels.Fresh.{fresh-there}
 use Rattle.trace_paths.specs.Fits.{Fit, fit_path}
 
 module _ (bases : Bases) (P : Prog) where

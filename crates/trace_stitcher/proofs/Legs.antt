@@ -2,9 +2,11 @@
 use Rattle.std.proofs.Common.{◌≡◌, ℕ, zero, suc, ◌+◌, ◌<◌, ◌≤◌, true, false, List, [], ◌∷◌, ◌++◌, length, map, drop, get_or, Option, append_assoc, append-nil, refl, sym, ap, subst, ◌∙◌, arith, drop-cons}
 use Rattle.bril_tree.specs.declared.function_tree.Item.{Item}
 use Rattle.bril_tree.specs.declared.function_tree.Item.TheVariants as item
-use Rattle.trace_laws.specs.lines.Lines.{TraceNames, args_in, bool_type, commit_line, guard_line, jmp_line, leg_lines, not_line, speculate_line, trace_lines}
-use Rattle.trace_laws.specs.lines.Names.{IsFresh, trace_bases}
-use Rattle.trace_stitcher.proofs.lemmas.fresh_names.Fresh.{fresh-one}
+use Rattle.trace_laws.specs.lines.Lines.{TraceNames, args_in, bool_type, commit_line, guard_line, leg_lines, not_line, speculate_line, trace_lines}
+use Rattle.pass_edit_laws.specs.plan.Lines.{jmp_line}
+use Rattle.trace_laws.specs.lines.Names.{trace_bases}
+use Rattle.pass_edit_laws.specs.labels.Fresh.{IsFresh}
+use Rattle.pass_edit_laws.proofs.lemmas.labels.Fresh.{fresh-one}
 use Rattle.trace_paths.specs.Path.{Leg, Straight, Turn}
 use Rattle.trace_paths.specs.Walked.{leg_of}
 use Rattle.trace_paths.specs.declared.walk.Leg as kept

@@ -4,8 +4,9 @@ use Rattle.std.specs.Prelude.{slice_get}
 use Rattle.bril_tree.specs.declared.function_tree.Item.{Item}
 use Rattle.bril_tree.specs.declared.function_tree.Item.TheVariants as item
 use Rattle.trace_laws.specs.lines.Lines.{TraceNames}
-use Rattle.trace_laws.specs.lines.Names.{IsFresh, trace_bases}
-use Rattle.trace_stitcher.proofs.lemmas.fresh_names.Fresh.{fresh-one}
+use Rattle.trace_laws.specs.lines.Names.{trace_bases}
+use Rattle.pass_edit_laws.specs.labels.Fresh.{IsFresh}
+use Rattle.pass_edit_laws.proofs.lemmas.labels.Fresh.{fresh-one}
 use Rattle.trace_stitcher.specs.Legs.{AreGuardNames}
 use Rattle.trace_stitcher.specs.Stops.{AreNamesHere, IsStop}
 

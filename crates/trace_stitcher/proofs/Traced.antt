@@ -19,7 +19,8 @@ use Rattle.pass_edit_laws.specs.plan.Spliced.{spliced}
 use Rattle.trace_stitcher.specs.declared.matching.fitting.Fitting.{Fitting}
 use Rattle.trace_stitcher.specs.matching.Fitting.{HasPath, fit_of}
 use Rattle.trace_laws.specs.lines.Lines.{TraceNames, bool_type, trace_lines}
-use Rattle.trace_laws.specs.lines.Names.{AreNames, IsFresh, is_label_item, labels_here, labels_in, trace_bases}
+use Rattle.trace_laws.specs.lines.Names.{AreNames, is_label_item, trace_bases}
+use Rattle.pass_edit_laws.specs.labels.Fresh.{IsFresh, labels_here, labels_in}
 use Rattle.trace_laws.specs.lines.Traced as made
 use Rattle.trace_laws.specs.lines.Traced.{AreLaid, Laying, stop_lines, trace_at, trace_of}
 use Rattle.trace_paths.specs.Fits.{Fit, fit_path}

@@ -1,8 +1,10 @@
 -- The lines of one item that a path lays.
 use Rattle.std.specs.Prelude.{◌≡◌, ℕ, suc, true, false, List, [], ◌∷◌, Option}
 use Rattle.bril_tree.specs.declared.function_tree.Item.{Item}
-use Rattle.trace_laws.specs.lines.Lines.{TraceNames, args_in, bool_type, guard_line, listed_item, not_line}
-use Rattle.trace_laws.specs.lines.Names.{IsFresh, trace_bases}
+use Rattle.trace_laws.specs.lines.Lines.{TraceNames, args_in, bool_type, guard_line, not_line}
+use Rattle.pass_edit_laws.specs.plan.Lines.{listed_item}
+use Rattle.trace_laws.specs.lines.Names.{trace_bases}
+use Rattle.pass_edit_laws.specs.labels.Fresh.{IsFresh}
 use Rattle.trace_paths.specs.Path.{Leg, Straight, Turn}
 
 -- the number of the next `not` behind an item

@@ -3,7 +3,8 @@ use Rattle.std.specs.Prelude.{◌≡◌, ℕ, suc, List, Option, Some, None, sli
 use Rattle.bril_tree.specs.declared.function_tree.Item.{Item}
 use Rattle.bril_tree.specs.declared.function_tree.Item.TheVariants as item
 use Rattle.trace_laws.specs.lines.Lines.{TraceNames}
-use Rattle.trace_laws.specs.lines.Names.{IsFresh, trace_bases}
+use Rattle.trace_laws.specs.lines.Names.{trace_bases}
+use Rattle.pass_edit_laws.specs.labels.Fresh.{IsFresh}
 
 -- the label where a path stops before this item: the item itself, or a fresh one
 abbrev pub IsStop : List (List ℕ) → ℕ → Option Item → List ℕ → Type 0

@@ -8,13 +8,13 @@ ghost use Rattle.trace_laws.specs.lines.Lines.{TraceNames};
 ghost use Rattle.trace_stitcher.specs.Inserted.{AreNamesFor, IsInside, label_put, labels_before, lines_behind, lines_of, listed_name, row, stands_at};
 ghost use Rattle.trace_stitcher.specs.Stops.{AreNamesHere};
 
-use crate::fresh_names::{TakenNames, taken_labels, taken_variables};
 use crate::matching::Fitting;
 use crate::traces::trace_of;
 use bril_tree::function_tree::Item;
 use bril_tree::name::Name;
 use bril_tree::numbered_function::Func;
 use bril_tree::sequence::Seq;
+use pass_make::{TakenNames, taken_labels, taken_variables};
 use std::alloc::{AllocError, Global};
 
 /// The labels before each point of a function, and the lines behind each item.

@@ -4,8 +4,8 @@
 //! 1. Which entries of a profile fit a program, each with its path, and how many items their traces bring (`matching`;
 //!    `specs/matching/Fitting.antt`): the entries in their order, with the bound (`src/matching/fitting.rt`), functions and
 //!    labels by their names (`places.rt`), and the flow graph of a function with entries, made once (`surveys.rt`).
-//! 2. Fresh names, with the least number of `_` in front that makes a name new (`fresh_names`): a set of names, and a fresh
-//!    one (`src/fresh_names/taken.rt`), and the names of a trace before any `_` (`bases.rt`). There is one fresh name.
+//! 2. The names of a trace before any `_` (`fresh_names`; `src/fresh_names/bases.rt`), of which fresh ones are made by
+//!    `pass_make`. There is one fresh name of each.
 //! 3. The items of a trace (`src/lines.rt`, `specs/Legs.antt`), and what an entry puts into its function: its trace, and the
 //!    label where the trace goes on (`src/traces.rt`, `specs/Stops.antt`).
 //! 4. What is put in by all entries of a function, by points, and one sweep over its items (`src/inserted.rt`,

@@ -2,72 +2,21 @@
 
 ghost use Rattle.std.specs.Prelude.{◌≡◌, ◌+◌, ◌<◌, ◌≤◌, ◌^◌, ◌++◌, ◌∷◌, [], ℕ, IfOk, None, OnOk, length, map, slice_get};
 ghost use Rattle.bril_tree.specs.declared.function_tree.Item.TheVariants as item;
-ghost use Rattle.trace_laws.specs.lines.Lines.{TraceNames, args_in, bool_type, guard_line, jmp_line, leg_lines, listed_item, not_line, trace_lines};
+ghost use Rattle.trace_laws.specs.lines.Lines.{TraceNames, args_in, bool_type, guard_line, leg_lines, not_line, trace_lines};
+ghost use Rattle.pass_edit_laws.specs.plan.Lines.{jmp_line, listed_item};
 ghost use Rattle.trace_paths.specs.Path.{Turn};
 ghost use Rattle.trace_paths.specs.Walked.{leg_of};
 ghost use Rattle.trace_stitcher.specs.Legs.{AreGuardNames, nots_behind, one_leg};
 
-use crate::fresh_names::{TakenNames, not_base};
+use crate::fresh_names::not_base;
 use bril_tree::function_tree::{Dest, Item};
 use bril_tree::name::Name;
 use bril_tree::operation::Op;
 use bril_tree::sequence::Seq;
 use bril_tree::types::{Base, Ty};
+use pass_make::{TakenNames, copied_item, copied_names};
 use std::alloc::{AllocError, Global};
 use trace_paths::Leg;
-
-// ---- copies
-
-// The names, once more.
-fn copied_names(alloc: Global, names: &[Name]) -> Result<Seq<Name>, AllocError>
-    ensures { IfOk result (λ made. made ≡ names.now) }
-{
-    let mut made = Seq::new(alloc);
-    for name in names {
-        made.push(name.copied(alloc)?)?;
-    }
-    Ok(made)
-}
-
-// The destination, once more.
-fn copied_dest(alloc: Global, dest: &Option<Dest>) -> Result<Option<Dest>, AllocError>
-    ensures { IfOk result (λ made. made ≡ dest.now) }
-{
-    match dest {
-        None => Ok(None),
-        Some(dest) => Ok(Some(Dest {
-            name: dest.name.copied(alloc)?,
-            ty: dest.ty,
-        })),
-    }
-}
-
-// The item, once more.
-pub(crate) fn copied_item(alloc: Global, item: &Item) -> Result<Item, AllocError>
-    ensures { IfOk result (λ made. made ≡ item.now) }
-{
-    match item {
-        Item::Label(name) => Ok(Item::Label(name.copied(alloc)?)),
-        Item::Const { dest, ty, value } => Ok(Item::Const {
-            dest: dest.copied(alloc)?,
-            ty: *ty,
-            value: *value,
-        }),
-        Item::Act {
-            dest,
-            op,
-            args,
-            funcs,
-            labels,
-        } => Ok(Item::Act {
-            dest: copied_dest(alloc, dest)?,
-            op: *op,
-            args: copied_names(alloc, args.as_slice())?,
-            funcs: copied_names(alloc, funcs.as_slice())?,
-            labels: copied_names(alloc, labels.as_slice())?,
-        }),
-    }
-}
 
 // ---- items of a trace
 

@@ -6,10 +6,10 @@ ghost use Rattle.pass_edit_laws.specs.plan.Spliced.{spliced};
 ghost use Rattle.trace_stitcher.specs.Inserted.{around, row};
 
 use crate::inserted::Inserted;
-use crate::lines::copied_item;
 use bril_tree::function_tree::Item;
 use bril_tree::name::Name;
 use bril_tree::sequence::Seq;
+use pass_make::copied_item;
 use std::alloc::{AllocError, Global};
 
 // Adds labels of these names.

@@ -5,12 +5,13 @@ ghost use Rattle.trace_laws.specs.lines.Lines.{TraceNames, bool_type, trace_line
 ghost use Rattle.trace_paths.specs.Walked.{leg_of};
 ghost use Rattle.trace_stitcher.specs.Stops.{AreNamesHere, IsStop, put_stop};
 
-use crate::fresh_names::{TakenNames, trace_base};
+use crate::fresh_names::trace_base;
 use crate::lines::trace_lines;
 use crate::matching::Fitting;
 use bril_tree::function_tree::Item;
 use bril_tree::name::Name;
 use bril_tree::sequence::Seq;
+use pass_make::TakenNames;
 use std::alloc::{AllocError, Global};
 
 /// What is put in for an entry: the lines behind its label, and the label before the item where its path stops, unless that is

@@ -1,4 +1,5 @@
 pub mod Elements
+pub mod Lengths
 pub mod Outcomes
 pub mod Splicing
 pub mod Marked

@@ -8,7 +8,7 @@ use Rattle.bril_tree.specs.declared.value.Value.{Value}
 use Rattle.bril_tree.specs.Run.{types_of}
 use Rattle.bril_tree.specs.Accepted.{IsAccepted}
 use Rattle.bril_tree.specs.Assigned.{assigns_at}
-use Rattle.bril_tree.specs.Edge.{Branch, branches_at, onward}
+use Rattle.bril_tree.specs.Edge.{Branch, branches_at, leads_away}
 use Rattle.bril_tree.specs.Numbered.{tree_at, names_in, names_of_functions}
 use Rattle.bril_tree.specs.Operand.{Location, reads_of}
 use Rattle.bril_tree.specs.Sites.{sites_of}
@@ -54,10 +54,10 @@ module _ (P Q : Prog) (N : NamePlan) where
   -- What a pass that keeps names proves.
   pub record KeepsNames : Type 0 where
     pub heads : SameHeads P Q
-    -- points: the starts match, and the next points and the labels of one name after a regular pair
+    -- points: the starts match; after a regular pair the next points, where control goes on, and the labels of one name
     pub start : (f : ℕ) → N.PointsMatch f 0 0
     pub same : (f i j : ℕ) → IsReached (code_of P f) i → N.PointsMatch f i j → N.IsRegular f i j → tree_at P f i ≡ tree_at Q f j
-    pub next : (f i j : ℕ) → IsReached (code_of P f) i → N.PointsMatch f i j → N.IsRegular f i j → In (onward i) (branches_at (code_of P f) i) → N.PointsMatch f (suc i) (suc j)
+    pub next : (f i j : ℕ) (a : Instr) → IsReached (code_of P f) i → N.PointsMatch f i j → N.IsRegular f i j → item_at P f i ≡ Some a → leads_away (Some a) ≡ false → N.PointsMatch f (suc i) (suc j)
     pub labels : (f i j : ℕ) (name : List ℕ) → IsReached (code_of P f) i → tree_at P f i ≡ Some (item.Label name) → tree_at Q f j ≡ Some (item.Label name) → N.PointsMatch f i j
     -- locations: what an item reads matters, and what matters after an edge mattered before it or is assigned
     pub reads : (f i j : ℕ) (a : Instr) (x : Location) → IsReached (code_of P f) i → N.PointsMatch f i j → N.IsRegular f i j → item_at P f i ≡ Some a → In x (reads_of a) → N.Matters f i x

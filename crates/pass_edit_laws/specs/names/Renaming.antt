@@ -7,7 +7,7 @@ use Rattle.bril_tree.specs.declared.numbered.Instr.{Instr}
 use Rattle.bril_tree.specs.declared.numbered_function.Func.{Func}
 use Rattle.bril_tree.specs.declared.program.Prog.{Prog}
 use Rattle.bril_tree.specs.Assigned.{assigns_at}
-use Rattle.bril_tree.specs.Edge.{Branch, branches_at, onward}
+use Rattle.bril_tree.specs.Edge.{Branch, branches_at, leads_away}
 use Rattle.bril_tree.specs.Numbered.{item_tree, names_of_functions, names_in, tree_at}
 use Rattle.bril_tree.specs.Operand.{Location, reads_of}
 use Rattle.bril_tree.specs.declared.value.Value.{Value}
@@ -43,7 +43,7 @@ module _ (P Q : Prog) (names : ℕ → List (List ℕ)) (N : NamePlan) where
     pub start : (f : ℕ) → N.PointsMatch f 0 0
     pub fresh : (f : ℕ) (vs : List Value) → length vs ≡ length (types_of (slice_get P.funcs f)) → ValuesMatch (λ a b. SameLocation (names f) (names_in (slice_get Q.funcs f)) a b × N.Matters f 0 a) (new_frame f vs).locations (new_frame f vs).locations
     pub same : (f i j : ℕ) → IsReached (code_of P f) i → N.PointsMatch f i j → N.IsRegular f i j → renamed_tree (names_of_functions P.funcs) (names f) (slice_get P.funcs f) i ≡ tree_at Q f j
-    pub next : (f i j : ℕ) → IsReached (code_of P f) i → N.PointsMatch f i j → N.IsRegular f i j → In (onward i) (branches_at (code_of P f) i) → N.PointsMatch f (suc i) (suc j)
+    pub next : (f i j : ℕ) (a : Instr) → IsReached (code_of P f) i → N.PointsMatch f i j → N.IsRegular f i j → item_at P f i ≡ Some a → leads_away (Some a) ≡ false → N.PointsMatch f (suc i) (suc j)
     pub labels : (f i j : ℕ) (name : List ℕ) → IsReached (code_of P f) i → tree_at P f i ≡ Some (item.Label name) → tree_at Q f j ≡ Some (item.Label name) → N.PointsMatch f i j
     pub reads : (f i j : ℕ) (a : Instr) (x : Location) → IsReached (code_of P f) i → N.PointsMatch f i j → N.IsRegular f i j → item_at P f i ≡ Some a → In x (reads_of a) → N.Matters f i x
     pub flows : (f i : ℕ) (w : Branch) (x : Location) → IsReached (code_of P f) i → In w (branches_at (code_of P f) i) → w.aborts ≡ false → N.Matters f w.to x → (In x (assigns_at (item_at P f i)) → ⊥) → N.Matters f i x

@@ -4,7 +4,6 @@ pub mod Entries
 pub mod Functions
 pub mod Bound
 pub mod Bases
-pub mod Labels
 pub mod Differing
 pub mod Known
 pub mod Sound

@@ -1,4 +1,3 @@
-pub mod Items
 pub mod Straight
 pub mod Plans
 pub mod Along

@@ -7,6 +7,7 @@ use Rattle.bril_tree.specs.declared.operation.Op.TheVariants as op
 use Rattle.bril_tree.specs.declared.types.Base.TheVariants as base
 use Rattle.bril_tree.specs.declared.types.Ty.{Ty}
 use Rattle.bril_tree.specs.Numbered.{typed_name}
+use Rattle.pass_edit_laws.specs.plan.Lines.{jmp_line, listed_item}
 use Rattle.trace_paths.specs.Path.{Leg, Straight, Turn}
 
 -- The names of one trace: of the label behind it, to which its guards go; of the label to which it jumps; and of the variables of
@@ -27,9 +28,6 @@ speculate_line = item.Act None op.Speculate [] [] []
 abbrev pub commit_line : Item
 commit_line = item.Act None op.Commit [] [] []
 
-abbrev pub jmp_line : List ℕ → Item
-jmp_line label = item.Act None op.Jmp [] [] (label ∷ [])
-
 abbrev pub guard_line : List (List ℕ) → List ℕ → Item
 guard_line args bail = item.Act None op.Guard args [] (bail ∷ [])
 
@@ -43,10 +41,6 @@ args_in None = []
 args_in (Some (item.Label name)) = []
 args_in (Some (item.Const dest ty value)) = []
 args_in (Some (item.Act dest operation args funcs labels)) = args
-
-abbrev pub listed_item : Option Item → List Item
-listed_item None = []
-listed_item (Some a) = a ∷ []
 
 -- ---- a trace
 

@@ -1,32 +1,19 @@
 -- The names of what traces bring along.
-use Rattle.std.specs.Prelude.{◌≡◌, ℕ, zero, suc, ◌<◌, ◌≤◌, Bool, true, false, List, [], ◌∷◌, ◌++◌, codes, Option, Some, None, slice_get}
+use Rattle.std.specs.Prelude.{◌≡◌, ℕ, suc, ◌≤◌, Bool, true, false, List, ◌++◌, codes, Option, Some, None, slice_get}
 use Rattle.std.specs.Fmt.{decimal}
 use Rattle.bril_tree.specs.declared.function_tree.Item.TheVariants as item
 use Rattle.bril_tree.specs.declared.numbered.Instr.{Instr}
 use Rattle.bril_tree.specs.declared.numbered.Instr.TheVariants.{Label, Const, Act}
-use Rattle.bril_tree.specs.declared.numbered_function.Func.{Func}
 use Rattle.bril_tree.specs.declared.program.Prog.{Prog}
-use Rattle.bril_tree.specs.Membership.{In}
 use Rattle.bril_tree.specs.Numbered.{names_in, tree_at}
 use Rattle.bril_tree.specs.Step.{item_at}
+use Rattle.pass_edit_laws.specs.labels.Fresh.{IsFresh, IsUnmarked, labels_in}
 use Rattle.trace_laws.specs.lines.Lines.{TraceNames}
 use Rattle.trace_paths.specs.Fits.{Fit, fit_path}
 
--- ---- fresh names
+-- ---- before any `_`
 
--- with so many `_` in front
-abbrev pub underscored : ℕ → List ℕ → List ℕ
-underscored zero base = base
-underscored (suc n) base = 95 ∷ underscored n base
-
--- None of those that are taken, with as few `_` in front as it takes.
-pub record IsFresh (taken : List (List ℕ)) (base name : List ℕ) : Type 0 where
-  pub marks : ℕ
-  pub is : name ≡ underscored marks base
-  pub new : In name taken → ⊥
-  pub least : (n : ℕ) → n < marks → In (underscored n base) taken
-
--- The names of trace K, and of its `not` J, before any `_`.
+-- The names of trace K, and of its `not` J.
 pub record Bases : Type 0 where
   pub bail : ℕ → List ℕ
   pub stop : ℕ → List ℕ
@@ -44,14 +31,6 @@ trace_bases = record {
 
 -- ---- the names of a trace
 
-abbrev pub labels_here : Option Func → List (List ℕ)
-labels_here None = []
-labels_here (Some f) = f.labels
-
--- the names of a function's labels
-abbrev pub labels_in : Prog → ℕ → List (List ℕ)
-labels_in P f = labels_here (slice_get P.funcs f)
-
 abbrev pub is_label_item : Option Instr → Bool
 is_label_item None = false
 is_label_item (Some (Label l)) = true
@@ -66,17 +45,12 @@ pub record AreNames (bases : Bases) (P : Prog) (K : ℕ) (x : Fit) (names : Trac
   pub at_label : is_label_item (item_at P x.function (fit_path P x).stop) ≡ true → tree_at P x.function (fit_path P x).stop ≡ Some (item.Label names.stop)
   pub stop : is_label_item (item_at P x.function (fit_path P x).stop) ≡ false → IsFresh (labels_in P x.function) (bases.stop K) names.stop
 
--- ---- bases
-
--- it doesn't begin with `_`
-abbrev pub IsPlain : List ℕ → Type 0
-IsPlain [] = ⊥
-IsPlain (c ∷ cs) = c ≡ 95 → ⊥
+-- ---- names of different traces
 
 -- The labels' names don't begin with `_`, and each is one trace's, of the 64 that a profile may have.
 pub record AreBases (bases : Bases) : Type 0 where
-  pub bail_plain : (K : ℕ) → IsPlain (bases.bail K)
-  pub stop_plain : (K : ℕ) → IsPlain (bases.stop K)
+  pub bail_plain : (K : ℕ) → IsUnmarked (bases.bail K)
+  pub stop_plain : (K : ℕ) → IsUnmarked (bases.stop K)
   pub bail_once : (K L : ℕ) → K ≤ 64 → L ≤ 64 → bases.bail K ≡ bases.bail L → K ≡ L
   pub stop_once : (K L : ℕ) → K ≤ 64 → L ≤ 64 → bases.stop K ≡ bases.stop L → K ≡ L
   pub differ : (K L : ℕ) → bases.bail K ≡ bases.stop L → ⊥

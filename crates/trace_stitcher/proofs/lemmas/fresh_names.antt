@@ -1,4 +1,1 @@
-pub mod Fresh
 pub mod Identifiers
-pub mod Marks
-pub mod Taking

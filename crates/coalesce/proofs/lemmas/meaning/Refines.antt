@@ -186,7 +186,7 @@ module _ (P Q : Prog) (rename : ℕ → List ℕ → List ℕ) (t : IsRound P Q 
       start = λ f. refl;
       fresh = λ f vs count a b h. fresh f vs count a b h.0 h.1;
       same = λ f i j reached points regular. regular-tree f i regular ∙ ap (tree_at Q f) points;
-      next = λ f i j reached points regular among. ap suc points;
+      next = λ f i j a reached points regular at stays. ap suc points;
       labels = λ f i j name reached at bt. label_once Q f i j name (label-kept P Q f (rename f) (t.points f) i name at) bt;
       reads = λ f i j a x reached points regular at h. live-reads (code_of P f) i a x at h;
       flows = λ f i w x reached among plain live none. live-flows (code_of P f) i w x among plain live none;

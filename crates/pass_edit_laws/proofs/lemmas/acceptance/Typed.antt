@@ -17,6 +17,12 @@ type-at V W (x ∷ xs) [] k e l = absurd cc
 type-at V W (x ∷ xs) (y ∷ ys) zero e l = cc
 type-at V W (x ∷ xs) (y ∷ ys) (suc k) e l = let t : map V xs ≡ map W ys = cc in type-at V W xs ys k t (omega arith)
 
+-- where an item is typed, its operands are
+pub second-holds : (b c : Bool) → wrong_unless (b && c) ≡ None → c ≡ true
+second-holds true true e = refl
+second-holds true false e = absurd cc
+second-holds false c e = absurd cc
+
 module _ (P Q : Prog) (F G : Func) (callees : (g : ℕ) → types_of (slice_get P.funcs g) ≡ types_of (slice_get Q.funcs g)) (results : (g : ℕ) → return_type (slice_get P.funcs g) ≡ return_type (slice_get Q.funcs g)) (ret_same : F.ret ≡ G.ret) where
   first : (args result_args : List ℕ) → map (variable_type F.vars) args ≡ map (variable_type G.vars) result_args → (c : ℕ) → length args ≡ suc c → argument_type F.vars args 0 ≡ argument_type G.vars result_args 0
   first args result_args ts c n = type-at (variable_type F.vars) (variable_type G.vars) args result_args 0 ts (omega arith)

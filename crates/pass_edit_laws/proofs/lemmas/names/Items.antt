@@ -1,5 +1,5 @@
 -- Items of two functions whose trees are one.
-use Rattle.std.proofs.Common.{◌≡◌, ℕ, zero, suc, ◌<◌, Bool, true, List, [], ◌∷◌, length, map, Option, Some, None, refl, ap, subst, inl, inr, arith}
+use Rattle.std.proofs.Common.{◌≡◌, ℕ, zero, suc, ◌<◌, Bool, true, List, [], ◌∷◌, length, map, Option, Some, None, refl, sym, ap, subst, ◌∙◌, inl, inr, arith}
 use Rattle.std.specs.Prelude.{slice_index, is_some}
 use Rattle.std.specs.List.{AllZip}
 use Rattle.std.proofs.lemmas.Option.{same_Some}
@@ -16,7 +16,8 @@ use Rattle.bril_tree.specs.Operand.{dest_of, Location, Variable, locations_read,
 use Rattle.bril_tree.specs.Shape.{is_shaped, is_action_shaped, shape_of}
 use Rattle.bril_tree.specs.Membership.{In}
 use Rattle.bril_tree.proofs.Shapes.{shape-parts}
-use Rattle.bril_tree.proofs.Elements.{zip-long}
+use Rattle.bril_tree.proofs.Elements.{zip-find, zip-long}
+use Rattle.bril_tree.proofs.Trees.{none_from}
 use Rattle.bril_tree.proofs.Typings.{type_of}
 use Rattle.bril_names.specs.Faults.{Differ}
 use Rattle.bril_names.specs.Range.{AreBelow, IsInRange}
@@ -53,6 +54,35 @@ names-zip V W (x ∷ xs) (y ∷ ys) e a b =
     let rest : map (named V) xs ≡ map (named W) ys = cc in
     ((a.0, b.0, here), names-zip V W xs ys rest a.1 b.1)
 
+-- each has one of the same name in the other list
+pub name-source : (V W : List (List ℕ)) (xs ys : List ℕ) → map (named V) xs ≡ map (named W) ys → AreBelow (length V) xs → AreBelow (length W) ys → (y : ℕ) → In y ys → (x : ℕ) × In x xs × SameName V W x y
+name-source V W xs ys e a b y i = zip-find (SameName V W) xs ys y (names-zip V W xs ys e a b) i
+
+-- and the first ones have one name
+pub first_same : (V W : List (List ℕ)) (xs ys : List ℕ) → map (named V) xs ≡ map (named W) ys → AreBelow (length V) xs → AreBelow (length W) ys → 0 < length xs → SameName V W (slice_index xs 0) (slice_index ys 0)
+first_same V W xs ys e a b less = zip-at (SameName V W) xs ys 0 less (names-zip V W xs ys e a b)
+
+-- ---- lists of which the names are known
+
+pub name-none : (W : List (List ℕ)) (ys : List ℕ) → map (named W) ys ≡ [] → (y : ℕ) → In y ys → ⊥
+name-none W ys e y i = subst (In y) (none_from (named W) ys e) i
+
+pub one-of : (g : ℕ → List ℕ) (xs : List ℕ) (a : List ℕ) → map g xs ≡ a ∷ [] → xs ≡ slice_index xs 0 ∷ []
+one-of g [] a e = absurd cc
+one-of g (x ∷ []) a e = refl
+one-of g (x ∷ y ∷ xs) a e = absurd cc
+
+pub name-only : (W : List (List ℕ)) (ys : List ℕ) (name : List ℕ) → map (named W) ys ≡ name ∷ [] → AreBelow (length W) ys → (y : ℕ) → In y ys → (y < length W) × (named W y ≡ name)
+name-only W [] name e b y i = absurd i
+name-only W (z ∷ []) name e b y (inl s) = let n : named W z ≡ name = cc in (subst (λ k. k < length W) (sym s) b.0, ap (named W) s ∙ n)
+name-only W (z ∷ []) name e b y (inr i) = absurd i
+name-only W (z ∷ k ∷ ys) name e b y i = absurd cc
+
+-- the one argument of a name
+pub first_named : (W : List (List ℕ)) (ys : List ℕ) (name : List ℕ) → map (named W) ys ≡ name ∷ [] → AreBelow (length W) ys → (slice_index ys 0 < length W) × (named W (slice_index ys 0) ≡ name)
+first_named W [] name e b = absurd cc
+first_named W (y ∷ ys) name e b = let n : named W y ≡ name = cc in (b.0, n)
+
 -- ---- destinations
 
 pub record SameDest (V W : List (List ℕ)) (d e : Option ℕ) (s t : Option Ty) : Type 0 where
@@ -75,6 +105,24 @@ same_dest V W (Some x) (Some y) (Some s) (Some t) h a b bd be =
     let n : named V x ≡ named W y = ap (λ (z : Dest). z.name) one in
     let u : s ≡ t = ap (λ (z : Dest). z.ty) one in
     record { there = refl; ty = ap Some u; zip = ((bd.0, be.0, n), tt) }
+
+pub no-dest : (W : List (List ℕ)) (d : Option ℕ) (ty : Option Ty) → both_or_neither d ty ≡ true → dest_tree W d ty ≡ None → (d ≡ None) × (ty ≡ None)
+no-dest W None None t e = (refl, refl)
+no-dest W None (Some s) t e = absurd cc
+no-dest W (Some x) None t e = absurd cc
+no-dest W (Some x) (Some s) t e = absurd cc
+
+-- a destination of a name
+pub record DestNamed (W : List (List ℕ)) (d : Option ℕ) (name : List ℕ) : Type 0 where
+  pub x : ℕ
+  pub is : d ≡ Some x
+  pub within : x < length W
+  pub named_so : named W x ≡ name
+
+pub dest_named : (W : List (List ℕ)) (d : Option ℕ) (ty : Option Ty) (name : List ℕ) (t : Ty) → dest_tree W d ty ≡ Some (record { name = name; ty = t }) → AreBelow (length W) (listed d) → DestNamed W d name
+dest_named W None ty name t e b = absurd cc
+dest_named W (Some x) None name t e b = absurd cc
+dest_named W (Some x) (Some s) name t e b = record { x = x; is = refl; within = b.0; named_so = ap (λ (z : Dest). z.name) (same_Some _ _ e) }
 
 shadows : (V W : List (List ℕ)) (d e : Option ℕ) → is_some d ≡ is_some e → AllZip (SameName V W) (listed d) (listed e) → AllZip (SameLocation V W) (shadow_of d) (shadow_of e)
 shadows V W None None s h = tt

@@ -15,7 +15,7 @@ use Rattle.bril_tree.specs.Operand.{Location, reads_of}
 use Rattle.bril_tree.specs.Step.{items_of, code_of, item_at, point_of}
 use Rattle.bril_tree.specs.Walk.{IsReached}
 use Rattle.bril_tree.specs.Membership.{In}
-use Rattle.bril_tree.proofs.Branches.{reached_on}
+use Rattle.bril_tree.proofs.Branches.{reached_on, item-onward}
 use Rattle.bril_tree.proofs.Trees.{nothing_at}
 use Rattle.bril_names.specs.Range.{IsInRange}
 use Rattle.bril_names.proofs.Functions.{Differ-functions}
@@ -119,8 +119,8 @@ module _ (P Q : Prog) (names : ℕ → List (List ℕ)) (N : NamePlan) (accepted
       item_steps = record {
         same = shares.same;
         branches = branches-zip (SameName fa.function.labels fb.function.labels) (EdgesMatch M P Q f i j (Some a) (Some b)) (code_of P f) (code_of Q f) i j (M.LocationsMatch f i j) a b shares.same shares.targets
-            (λ h. goes (onward i) (onward j) refl refl h (k.next f i j reached points regular (at_branch (onward i) h)))
-            (λ l m s h. goes (jump (code_of P f) i l) (jump (code_of Q f) j m) refl refl h (labelled l m (jump (code_of P f) i l) s h refl))
+            (λ stays. goes (onward i) (onward j) refl refl (item-onward (code_of P f) i a stays) (k.next f i j a reached points regular at stays))
+            (λ leads l m s h. goes (jump (code_of P f) i l) (jump (code_of Q f) j m) refl refl h (labelled l m (jump (code_of P f) i l) s h refl))
             (λ l m s h. aborts (abort (code_of P f) i l) (abort (code_of Q f) j m) refl refl h (labelled l m (abort (code_of P f) i l) s h refl));
       }
 

@@ -104,38 +104,48 @@ module _ (F G : Func) where
 
   -- ---- how many labels from one leave point
 
-  -- the labels that are entered from one leave point of G are those from one of F, but for so many of which there is one
-  pub record LeaveMatched (extra : List (Option ℕ)) (leave : Option ℕ) : Type 1 where
+  -- The labels that are entered from one leave point of G are those from one of F, but for extra ones, each of which has one of
+  -- some things to itself.
+  pub record LeaveMatched (X : Type 0) (extra : List X) (leave : Option ℕ) : Type 1 where
     pub from : Option ℕ
-    pub IsExtra : ℕ → Type 0
-    pub one : (l k : ℕ) → IsExtra l → IsExtra k → l ≡ k
-    pub labels : (l : ℕ) → Enters G.code leave l → (IsExtra l × In None extra) ⊎ ((m : ℕ) × Enters F.code from m × (named F.labels m ≡ named G.labels l))
-
-  abbrev Related : (ℕ → Type 0) → ℕ → Option ℕ → Type 0
-  Related IsExtra k None = IsExtra k
-  Related IsExtra k (Some m) = SameLabel k m
+    pub IsExtra : ℕ → X → Type 0
+    pub one : (l k : ℕ) (x : X) → l < length G.labels → k < length G.labels → IsExtra l x → IsExtra k x → l ≡ k
+    pub labels : (l : ℕ) → Enters G.code leave l → ((x : X) × In x extra × IsExtra l x) ⊎ ((m : ℕ) × Enters F.code from m × (named F.labels m ≡ named G.labels l))
 
   -- those from one leave point of G are no more than F's width, and the extra ones
-  pub labels-within : (extra : List (Option ℕ)) (leave : Option ℕ) → LeaveMatched extra leave → (d e : ℕ) → IsEntryWidth F.code d → AreSoMany (Enters G.code leave) e → e ≤ d + length extra
-  labels-within extra leave l d e a b = ⊎_elim (λ less. absurd (not_uncounted (Enters F.code l.from) (range_with_len 0 (length F.labels)) (range-differ (length F.labels)) (against less))) (λ le. le) (cases_lt (d + length extra) e)
+  pub labels-within : (X : Type 0) (extra : List X) (leave : Option ℕ) → LeaveMatched X extra leave → (d e : ℕ) → IsEntryWidth F.code d → AreSoMany (Enters G.code leave) e → e ≤ d + length extra
+  labels-within X extra leave l d e a b = ⊎_elim (λ less. absurd (not_uncounted (Enters F.code l.from) (range_with_len 0 (length F.labels)) (range-differ (length F.labels)) (against less))) (λ le. le) (cases_lt (d + length extra) e)
     where
-      one_for : (x z : ℕ) (y : Option ℕ) → Related l.IsExtra x y → Related l.IsExtra z y → x ≡ z
-      one_for x z None r s = l.one x z r s
-      one_for x z (Some m) r s = one_named_label x z m r s
+      was : ℕ → ℕ ⊎ X
+      was m = inl m
+
+      new : X → ℕ ⊎ X
+      new x = inr x
+
+      Related : ℕ → ℕ ⊎ X → Type 0
+      Related k (inl m) = SameLabel k m
+      Related k (inr x) = (k < length G.labels) × l.IsExtra k x
+
+      one_for : (k z : ℕ) (y : ℕ ⊎ X) → Related k y → Related z y → k ≡ z
+      one_for k z (inl m) r s = one_named_label k z m r s
+      one_for k z (inr x) r s = l.one k z x r.0 s.0 r.1 s.1
 
       against : d + length extra < e → (ys : List ℕ) → AllPairs (λ x y. x ≢ y) ys → ((y : ℕ) → In y ys → Enters F.code l.from y × In y (range_with_len 0 (length F.labels))) → ((y : ℕ) → In y (range_with_len 0 (length F.labels)) → Enters F.code l.from y → In y ys) → ⊥
       against less ys differ are all =
           let there : (y : ℕ) → Enters F.code l.from y → In y ys = λ y h. all y (in_range 0 (length F.labels) y (omega arith) (let low = label-low F l.from y h in omega arith)) h in
           let most = a.most l.from (length ys) (record { members = ys; differ = differ; are = in_all (Enters F.code l.from) ys (λ y i. (are y i).0); all = λ y h. contains_in y ys (there y h); count = refl }) in
-          let few = no_more (Related l.IsExtra) b.members (extra ++ map Some ys) b.differ
+          let few = no_more Related b.members (map new extra ++ map was ys) b.differ
           (λ k i.
           let enters = all_in (Enters G.code leave) b.members b.are k i in
-          ⊎_elim (λ r. (None, in_append_left None extra (map Some ys) r.1, r.0)) (λ r. (Some r.0, in_append_right (Some r.0) extra (map Some ys) (in_map Some r.0 ys (there r.0 r.1)), (label-low G leave k enters, r.2))) (l.labels k enters)) one_for in
-          let both = length-append extra (map Some ys) in
-          let size = length-map ys Some in
+          let low = label-low G leave k enters in
+          ⊎_elim (λ r. (new r.0, in_append_left (new r.0) (map new extra) (map was ys) (in_map new r.0 extra r.1), (low, r.2)))
+          (λ r. (was r.0, in_append_right (was r.0) (map new extra) (map was ys) (in_map was r.0 ys (there r.0 r.1)), (low, r.2))) (l.labels k enters)) one_for in
+          let both = length-append (map new extra) (map was ys) in
+          let size = length-map ys was in
+          let more = length-map extra new in
           let count = b.count in
           omega arith
 
   -- so are those from all
-  pub width-within : (extra : List (Option ℕ)) → ((leave : Option ℕ) → LeaveMatched extra leave) → (d e : ℕ) → IsEntryWidth F.code d → IsEntryWidth G.code e → e ≤ d + length extra
-  width-within extra matched d e a b = labels-within extra b.widest (matched b.widest) d e a b.has
+  pub width-within : (X : Type 0) (extra : List X) → ((leave : Option ℕ) → LeaveMatched X extra leave) → (d e : ℕ) → IsEntryWidth F.code d → IsEntryWidth G.code e → e ≤ d + length extra
+  width-within X extra matched d e a b = labels-within X extra b.widest (matched b.widest) d e a b.has

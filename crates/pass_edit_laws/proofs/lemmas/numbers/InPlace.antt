@@ -65,4 +65,4 @@ module _ (m : Plan) (P Q : Prog) (f : ℕ) (F G : Func) (p : slice_get P.funcs f
 
   pub in_place-width : (d e : ℕ) → IsEntryWidth F.code d → IsEntryWidth G.code e → e ≤ d + 0
   in_place-width =
-      width-within F G [] (λ leave. record { from = leave; IsExtra = λ l. ⊥; one = λ l k r s. absurd r; labels = λ l h. inr (let k = entry leave l h in (k.to, subst (λ o. Enters F.code o k.to) (sym k.leaves) k.enters, k.same)) })
+      width-within F G ℕ [] (λ leave. record { from = leave; IsExtra = λ l x. ⊥; one = λ l k x low high r s. absurd r; labels = λ l h. inr (let k = entry leave l h in (k.to, subst (λ o. Enters F.code o k.to) (sym k.leaves) k.enters, k.same)) })

@@ -1,8 +1,10 @@
--- Where the items of a spliced list stand.
-use Rattle.std.proofs.Common.{◌≡◌, ℕ, zero, suc, ◌+◌, ◌<◌, ◌≤◌, List, [], ◌∷◌, ◌++◌, length, Some, None, refl, sym, ap, ◌∙◌, arith, append_assoc}
+-- Where the items of a spliced list stand, and what is in it.
+use Rattle.std.proofs.Common.{◌≡◌, ◌⊎◌, ℕ, zero, suc, ◌+◌, ◌<◌, ◌≤◌, List, [], ◌∷◌, ◌++◌, length, Some, None, refl, sym, ap, ◌∙◌, inl, inr, ⊎_elim, arith, append_assoc}
 use Rattle.std.specs.Prelude.{slice_get}
 use Rattle.std.proofs.lemmas.List.{length-append}
 use Rattle.std.proofs.lemmas.Option.{slice_get_past, slice_get_within}
+use Rattle.bril_tree.specs.Membership.{In}
+use Rattle.bril_tree.proofs.Members.{in_append_cases}
 use Rattle.pass_edit_laws.specs.plan.Spliced.{spliced, start_of, position_of, ItemsSpliced}
 
 pub get-right : {X : Type 0} (xs ys : List X) (n : ℕ) → slice_get (xs ++ ys) (length xs + n) ≡ slice_get ys n
@@ -81,6 +83,15 @@ module _ {X : Type 0} (before after : ℕ → List X) where
           let e : suc (position_of before after i) + n ≡ start_of before after i + (length (before i) + suc n) = omega arith in
           let z : i ≡ i + 0 = omega arith in
           ap (slice_get (spliced before after 0 items)) e ∙ from_front items i (length (before i) + suc n) s ∙ here s.rest (sym (s.from 0) ∙ ap (slice_get items) (sym z) ∙ at)
+
+-- what is in the list is one of its items, or was put before or after one
+pub in-spliced : {X : Type 0} (before behind : ℕ → List X) (x : X) (k : ℕ) (items : List X) → In x (spliced before behind k items) → ((i : ℕ) × (slice_get items i ≡ Some x)) ⊎ (((i : ℕ) × In x (before i)) ⊎ ((i : ℕ) × In x (behind i)))
+in-spliced before behind x k [] among = inr (inl (k, among))
+in-spliced before behind x k (a ∷ items) among = ⊎_elim (λ b. inr (inl (k, b))) (λ r. ⊎_elim (λ e. inl (0, ap Some (sym e))) (λ s. ⊎_elim (λ b. inr (inr (k, b))) (λ t. deeper (in-spliced before behind x (suc k) items t)) (in_append_cases x (behind k) (spliced before behind (suc k) items) s)) r) (in_append_cases x (before k) (a ∷ (behind k ++ spliced before behind (suc k) items)) among)
+  where
+    deeper : ((i : ℕ) × (slice_get items i ≡ Some x)) ⊎ (((i : ℕ) × In x (before i)) ⊎ ((i : ℕ) × In x (behind i))) → ((i : ℕ) × (slice_get (a ∷ items) i ≡ Some x)) ⊎ (((i : ℕ) × In x (before i)) ⊎ ((i : ℕ) × In x (behind i)))
+    deeper (inl h) = inl (suc h.0, h.1)
+    deeper (inr h) = inr h
 
 pub items_spliced : (X : Type 0) → ItemsSpliced X
 items_spliced X = record {

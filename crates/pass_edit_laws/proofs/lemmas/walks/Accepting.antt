@@ -1,19 +1,18 @@
 -- The walks of the new function are accepted where each of them is matched by a walk of the old one.
-use Rattle.std.proofs.Common.{◌≡◌, ℕ, ◌+◌, ◌≤◌, Bool, List, [], ◌∷◌, length, refl, sym, ap, ◌∙◌, ⊎_elim, arith, true≢false}
+use Rattle.std.proofs.Common.{◌≡◌, ℕ, Bool, List, [], ◌∷◌, refl, sym, ap, ◌∙◌, ⊎_elim, arith, true≢false}
 use Rattle.std.specs.Prelude.{slice_get, is_some}
 use Rattle.bril_tree.specs.declared.program.Prog.{Prog}
 use Rattle.bril_tree.specs.Accepted.{IsAccepted, AreWalksAccepted}
 use Rattle.bril_tree.specs.Assigned.{assigned_of}
 use Rattle.bril_tree.specs.Edge.{Branch, branches_at}
 use Rattle.bril_tree.specs.Operand.{Location}
-use Rattle.bril_tree.specs.Sites.{sites_of, most_sites}
 use Rattle.bril_tree.specs.Step.{code_of}
 use Rattle.bril_tree.specs.Walk.{IsWalk, end_of}
 use Rattle.bril_tree.specs.Membership.{In}
 use Rattle.bril_tree.proofs.Members.{in_contains}
 use Rattle.pass_edit_laws.specs.plan.Plan.{Plan, Preserves}
 use Rattle.pass_edit_laws.specs.walks.Matched.{WalksAccepted, MatchedWalk, IsHarmless, MatchesWalks}
-use Rattle.pass_edit_laws.proofs.lemmas.walks.Based.{Fine, Based, few_sites, regular-fine, based_walks_accepted}
+use Rattle.pass_edit_laws.proofs.lemmas.walks.Based.{Fine, Based, based_on, regular-fine, based_walks_accepted}
 
 module _ (m : Plan) (P Q : Prog) (f args result_args : ℕ) (walks : MatchesWalks m P Q f args result_args) where
   -- each walk of the result is matched
@@ -41,22 +40,8 @@ module _ (m : Plan) (P Q : Prog) (f args result_args : ℕ) (walks : MatchesWalk
             returns = λ e none. true≢false (sym h.there ∙ ap is_some none);
           }
 
-      few : length {A = ℕ} [] + length (sites_of (code_of P f) l.walk) ≤ most_sites
-      few = let h = few_sites (code_of P f) was.sites l.walk l.matches.is in omega arith
-
       abbrev based : Based m P Q f args result_args ret v
-      based = record {
-        base = l.walk;
-        is = l.matches.is;
-        own = [];
-        rest = sites_of (code_of Q f) v;
-        xs = (assigned_of (code_of P f) args l.walk).saved;
-        ys = (assigned_of (code_of Q f) result_args v).saved;
-        sites = refl;
-        zipped = l.matches.saved;
-        few = few;
-        fine = fine;
-      }
+      based = based_on m P Q f args result_args ret was v l.walk l.matches.is (assigned_of (code_of P f) args l.walk).saved (assigned_of (code_of Q f) result_args v).saved l.matches.saved fine
 
     pub walks_accepted : AreWalksAccepted (code_of Q f) result_args ret
     walks_accepted = based_walks_accepted m P Q f args result_args ret was walks.once based (λ v v' is is' e. (refl, (drawn v is).1 ∙ ap walks.old e ∙ sym (drawn v' is').1))

@@ -95,6 +95,21 @@ module _ (m : Plan) (P Q : Prog) (f args result_args : ℕ) (ret : Bool) where
     pub fine : Fine v
 
   module _ (was : AreWalksAccepted (code_of P f) args ret) where
+    -- over a walk whose sites match its own, with none besides
+    abbrev pub based_on : (v base : List Branch) → IsWalk (code_of P f) base → (xs ys : List (List Location)) → SavedSetsMatch m P Q f args result_args (sites_of (code_of P f) base) (sites_of (code_of Q f) v) xs ys → Fine v → Based v
+    based_on v base is xs ys zipped fine = record {
+      base = base;
+      is = is;
+      own = [];
+      rest = sites_of (code_of Q f) v;
+      xs = xs;
+      ys = ys;
+      sites = refl;
+      zipped = zipped;
+      few = (let h = few_sites (code_of P f) was.sites base is in omega arith);
+      fine = fine;
+    }
+
     -- at a regular pair all is as in P
     pub regular-fine : IsAccepted P → Preserves m P Q → (v : List Branch) (l : MatchedWalk m P Q f args result_args v) → m.IsRegular f (end_of l.walk) (end_of v) → Fine v
     regular-fine accepted preserves v l regular = record { needs = needs; alone = alone; reads = reads; returns = returns }

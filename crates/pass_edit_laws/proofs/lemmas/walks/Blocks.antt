@@ -1,8 +1,7 @@
 -- The points of a function into which items were put, by blocks. The block of an item is what was put before it, the item
 -- itself, and what was put behind it; the block of the end is what was put before the end.
-use Rattle.std.proofs.Common.{◌≡◌, ℕ, zero, suc, ◌+◌, ◌-◌, ◌<◌, ◌≤◌, List, length, sym, subst, ⊎_elim, arith}
+use Rattle.std.proofs.Common.{◌≡◌, ℕ, zero, suc, ◌+◌, ◌-◌, ◌<◌, ◌≤◌, sym, subst, ⊎_elim, arith}
 use Rattle.std.proofs.lemmas.Bool.{cases_lt, cases_eq}
-use Rattle.pass_edit_laws.specs.plan.Spliced.{position_of}
 
 -- `old i` is where item i stands, of `count` in all, and `before i` counts what was put before it.
 module _ (old before : ℕ → ℕ) (count : ℕ) (next : (i : ℕ) → i < count → suc (old i) + before (suc i) ≤ old (suc i)) where
@@ -51,7 +50,3 @@ module _ (old before : ℕ → ℕ) (count : ℕ) (next : (i : ℕ) → i < coun
     -- is one thing, where it is one for each block
     pub one-place : ((block point : ℕ) (x y : X) → Says block point x → Says block point y → x ≡ y) → (point : ℕ) (x y : X) → IsPlaced point x → IsPlaced point y → x ≡ y
     one-place one point x y a b = one a.block point x y a.says (subst (λ n. Says n point y) (sym (one-block point a.block b.block a.stands b.stands)) b.says)
-
--- in a spliced list
-pub spliced-next : {X : Type 0} (front behind : ℕ → List X) (i : ℕ) → suc (position_of front behind i) + length (front (suc i)) ≤ position_of front behind (suc i)
-spliced-next front behind i = omega arith

@@ -1,7 +1,6 @@
 -- A program with `get`s and `set`s put in refines the one that it is made from.
 use Rattle.std.proofs.Common.{◌≡◌, ◌⊎◌, ℕ, zero, suc, ◌-◌, ◌<◌, ◌≤◌, Bool, true, false, List, [], ◌∷◌, length, map, Option, Some, None, refl, sym, ap, subst, ◌∙◌, inl, inr, ⊎_elim, arith}
 use Rattle.std.specs.Prelude.{slice_get}
-use Rattle.std.specs.List.{AllZip}
 use Rattle.std.specs.Option.{option_map}
 use Rattle.std.proofs.lemmas.Option.{same_Some}
 use Rattle.simulation.specs.System.{after}
@@ -11,13 +10,12 @@ use Rattle.bril_tree.specs.declared.limits.Limits.{Limits}
 use Rattle.bril_tree.specs.declared.numbered.Instr.{Instr}
 use Rattle.bril_tree.specs.declared.numbered.Instr.TheVariants.{Label, Const, Act}
 use Rattle.bril_tree.specs.declared.numbered_function.Func.{Func}
-use Rattle.bril_tree.specs.declared.operation.Op.{Op}
 use Rattle.bril_tree.specs.declared.operation.Op.TheVariants as op
 use Rattle.bril_tree.specs.declared.program.Prog.{Prog}
 use Rattle.bril_tree.specs.declared.types.Ty.{Ty}
 use Rattle.bril_tree.specs.Accepted.{IsAccepted}
 use Rattle.bril_tree.specs.Assigned.{assigns_of, assigns_at}
-use Rattle.bril_tree.specs.Edge.{Branch, branches_at, branches_from, item_branches, action_branches, onward, jump, abort}
+use Rattle.bril_tree.specs.Edge.{Branch, branches_at, branches_from, item_branches, onward, jump, abort, leads_away}
 use Rattle.bril_tree.specs.Numbered.{named, item_tree}
 use Rattle.bril_tree.specs.Operand.{Location, Variable, Shadow, dest_of}
 use Rattle.bril_tree.specs.Run.{Refines}
@@ -25,11 +23,12 @@ use Rattle.bril_tree.specs.State.{Frame, State}
 use Rattle.bril_tree.specs.Step.{items_of, code_of, item_at, point_of, step}
 use Rattle.bril_tree.specs.Walk.{IsReached, end_of}
 use Rattle.bril_tree.specs.Membership.{In}
-use Rattle.bril_tree.proofs.Members.{contains_in, in_map}
+use Rattle.bril_tree.proofs.Branches.{item-onward}
+use Rattle.bril_tree.proofs.Members.{contains_in}
 use Rattle.bril_names.specs.Range.{IsInRange}
 use Rattle.bril_tree.specs.Numbered.{names_of_functions}
 use Rattle.bril_names.proofs.Functions.{Differ-functions}
-use Rattle.pass_edit_laws.specs.plan.Plan.{Plan, ValuesMatch, StaysMatched, ItemsMatch, EdgesMatch, StepsMatch, Preserves, StatesMatch}
+use Rattle.pass_edit_laws.specs.plan.Plan.{Plan, ValuesMatch, StaysMatched, EdgesMatch, StepsMatch, Preserves, StatesMatch}
 use Rattle.pass_edit_laws.proofs.lemmas.steps.Shapes.{shaped_here}
 use Rattle.bril_tree.proofs.Shapes.{dest_none}
 use Rattle.pass_edit_laws.proofs.lemmas.steps.Steps.{regular_steps_match}
@@ -42,40 +41,32 @@ use Rattle.pass_edit_laws.specs.steps.Refinement.{Progress, BothMove}
 use Rattle.pass_edit_laws.proofs.lemmas.steps.Refinement.{plan_refines}
 use Rattle.pass_edit_laws.proofs.lemmas.names.Points.{Found, label_found, label_once, Differ-in}
 use Rattle.pass_edit_laws.proofs.lemmas.names.Points.{found}
-use Rattle.pass_edit_laws.proofs.lemmas.names.Branches.{zip-map}
+use Rattle.pass_edit_laws.proofs.lemmas.names.Branches.{branches-zip}
 use Rattle.bril_tree.proofs.Trees.{nothing_at}
 use Rattle.bril_names.proofs.Naming.{one_number}
-use Rattle.bril_tree.specs.FunctionForm.{targets_of, listed}
+use Rattle.bril_tree.specs.FunctionForm.{listed}
 use Rattle.bril_tree.specs.Shape.{is_shaped, shape_of}
 use Rattle.bril_tree.specs.Numbered.{nop_item}
 use Rattle.ssa_laws.specs.inserted_copies.Inserted.{is_copy, is_jump, IsNamed, destination, source, sources, renamed, renamed_point, renamed_at, low, held, inserted_plan, AreInserted}
 use Rattle.ssa_laws.proofs.lemmas.inserted_copies.Copies.{ran, copy-changes, copy-branches, copy-keeps, ran-value}
 use Rattle.ssa_laws.proofs.lemmas.inserted_copies.Renamed.{Matches, item-matches}
 
--- ---- branches of items that do the same, those of jumps apart
+-- ---- where control goes on the item is no jump, and else its branches are those of a jump
 
-module _ (S : ℕ → ℕ → Type 0) (R : Branch → Branch → Type 0) (code result_code : List Instr) (i j : ℕ) where
-  act-branches : (d : Option ℕ) (ty : Option Ty) (args fns : List ℕ) (o : Op) (ls ms : List ℕ) → AllZip S ls ms → (is_jump (Some (Act d ty o args fns ls)) ≡ false → In (onward i) (action_branches code i o ls) → R (onward i) (onward j))
-      → (is_jump (Some (Act d ty o args fns ls)) ≡ true → (l m : ℕ) → S l m → In (jump code i l) (action_branches code i o ls) → R (jump code i l) (jump result_code j m))
-      → ((l m : ℕ) → S l m → In (abort code i l) (action_branches code i o ls) → R (abort code i l) (abort result_code j m)) → AllZip R (action_branches code i o ls) (action_branches result_code j o ms)
-  act-branches d ty args fns op.Jmp ls ms z on jm ab = zip-map S R (jump code i) (jump result_code j) ls ms z (λ l m s h. jm refl l m s (in_map (jump code i) l ls h))
-  act-branches d ty args fns op.Br ls ms z on jm ab = zip-map S R (jump code i) (jump result_code j) ls ms z (λ l m s h. jm refl l m s (in_map (jump code i) l ls h))
-  act-branches d ty args fns op.Ret ls ms z on jm ab = tt
-  act-branches d ty args fns op.Guard ls ms z on jm ab = (on refl (inl refl), zip-map S R (abort code i) (abort result_code j) ls ms z (λ l m s h. ab l m s (inr (in_map (abort code i) l ls h))))
-  act-branches d ty args fns _ ls ms z on jm ab = (on refl (inl refl), tt)
+no-jump : (a : Instr) → leads_away (Some a) ≡ false → is_jump (Some a) ≡ false
+no-jump (Label l) e = refl
+no-jump (Const d ty v) e = refl
+no-jump (Act d ty op.Jmp args fns ls) e = absurd cc
+no-jump (Act d ty op.Br args fns ls) e = absurd cc
+no-jump (Act d ty _ args fns ls) e = refl
 
-  branches-zip : (A : Location → Location → Type 0) (a b : Instr) → ItemsMatch A a b → AllZip S (targets_of a) (targets_of b) → (is_jump (Some a) ≡ false → In (onward i) (item_branches code i a) → R (onward i) (onward j))
-      → (is_jump (Some a) ≡ true → (l m : ℕ) → S l m → In (jump code i l) (item_branches code i a) → R (jump code i l) (jump result_code j m))
-      → ((l m : ℕ) → S l m → In (abort code i l) (item_branches code i a) → R (abort code i l) (abort result_code j m)) → AllZip R (item_branches code i a) (item_branches result_code j b)
-  branches-zip A (Label l) (Label m) same z on jm ab = (on refl (inl refl), tt)
-  branches-zip A (Label l) (Const y t w) same z on jm ab = absurd same
-  branches-zip A (Label l) (Act e t u result_args gns ms) same z on jm ab = absurd same
-  branches-zip A (Const x s v) (Label m) same z on jm ab = absurd same
-  branches-zip A (Const x s v) (Const y t w) same z on jm ab = (on refl (inl refl), tt)
-  branches-zip A (Const x s v) (Act e t u result_args gns ms) same z on jm ab = absurd same
-  branches-zip A (Act d s o args fns ls) (Label m) same z on jm ab = absurd same
-  branches-zip A (Act d s o args fns ls) (Const y t w) same z on jm ab = absurd same
-  branches-zip A (Act d s o args fns ls) (Act e t u result_args gns ms) same z on jm ab = subst (λ x. AllZip R (action_branches code i o ls) (action_branches result_code j x ms)) same.operation (act-branches d s args fns o ls ms z on jm ab)
+a-jump : (code : List Instr) (i : ℕ) (a : Instr) (w : Branch) → leads_away (Some a) ≡ true → In w (item_branches code i a) → is_jump (Some a) ≡ true
+a-jump code i (Label l) w e h = absurd cc
+a-jump code i (Const d ty v) w e h = absurd cc
+a-jump code i (Act d ty op.Jmp args fns ls) w e h = refl
+a-jump code i (Act d ty op.Br args fns ls) w e h = refl
+a-jump code i (Act d ty op.Ret args fns ls) w e h = absurd h
+a-jump code i (Act d ty _ args fns ls) w e h = absurd cc
 
 -- ---- trees under other names
 
@@ -317,7 +308,10 @@ module _ (P Q : Prog) (home : ℕ → ℕ → ℕ) (base : (f i : ℕ) → Locat
       item_steps : StepsMatch M P Q f i j (Some a) (Some b)
       item_steps = record {
         same = matches.same;
-        branches = branches-zip (SameName fa.function.labels fb.function.labels) (EdgesMatch M P Q f i j (Some a) (Some b)) (code_of P f) (code_of Q f) i j (H f i j) a b matches.same matches.targets on jumping aborting;
+        branches = branches-zip (SameName fa.function.labels fb.function.labels) (EdgesMatch M P Q f i j (Some a) (Some b)) (code_of P f) (code_of Q f) i j (H f i j) a b matches.same matches.targets
+            (λ stays. on (no-jump a stays) (item-onward (code_of P f) i a stays))
+            (λ leads l m s h. jumping (a-jump (code_of P f) i a (jump (code_of P f) i l) leads h) l m s h)
+            aborting;
       }
 
     point_steps : (o u : Option Instr) → item_at P f i ≡ o → item_at Q f j ≡ u → StepsMatch M P Q f i j o u

@@ -1,10 +1,11 @@
 -- A program with laid traces is accepted.
 use Rattle.bril_tree.specs.declared.function_tree.FuncTree.{FuncTree}
-use Rattle.pass_edit_laws.proofs.lemmas.names.Standing.{ActionAt, action_at}
+use Rattle.bril_tree.proofs.Trees.{none_from}
+use Rattle.pass_edit_laws.proofs.lemmas.names.Standing.{ActionAt, action_at, label_at}
 use Rattle.bril_tree.specs.declared.function_tree.Item.TheVariants as item
 use Rattle.bril_tree.specs.declared.operation.Op.TheVariants as op
 use Rattle.bril_tree.specs.declared.types.Base.TheVariants as base
-use Rattle.std.proofs.Common.{◌≡◌, ◌⊎◌, ℕ, suc, ◌<◌, ◌≤◌, Bool, true, false, List, [], ◌∷◌, length, map, Option, Some, None, refl, sym, ap, subst, ◌∙◌, inl, inr, ⊎_elim, arith}
+use Rattle.std.proofs.Common.{◌≡◌, ◌⊎◌, ℕ, suc, ◌<◌, ◌≤◌, Bool, true, List, [], ◌∷◌, length, map, Option, Some, None, refl, sym, ap, subst, ◌∙◌, inl, inr, ⊎_elim, arith}
 use Rattle.std.specs.Prelude.{slice_get, slice_index, ◌&&◌, is_some}
 use Rattle.std.proofs.lemmas.Bool.{cases_lt}
 use Rattle.std.proofs.lemmas.List.{length-map}
@@ -20,7 +21,7 @@ use Rattle.bril_tree.specs.declared.program.Prog.{Prog}
 use Rattle.bril_tree.specs.declared.types.Ty.{Ty}
 use Rattle.bril_tree.specs.Accepted.{IsAccepted, IsAcceptedFunction, AreWalksAccepted}
 use Rattle.bril_tree.specs.Edge.{Branch}
-use Rattle.bril_tree.specs.FunctionForm.{listed, both_or_neither, type_assigned}
+use Rattle.bril_tree.specs.FunctionForm.{listed, type_assigned}
 use Rattle.bril_tree.specs.Numbered.{named, variable_names, dest_tree, item_tree, function_tree, names_of_functions, names_in, tree_at, tree_of}
 use Rattle.bril_tree.specs.Operand.{dest_of}
 use Rattle.bril_tree.specs.Shape.{shape_of}
@@ -40,17 +41,18 @@ use Rattle.trace_laws.specs.lines.Lines.{not_line, args_in, trace_lines}
 use Rattle.pass_edit_laws.specs.plan.Spliced.{spliced, position_of}
 use Rattle.trace_laws.specs.lines.Traced.{Trace, Laying, stop_lines, trace_at, lines_behind, IsLaidTree}
 use Rattle.trace_laws.specs.refinement.Stitched.{Stitched}
-use Rattle.trace_laws.proofs.lemmas.refinement.Items.{label_at}
 use Rattle.trace_laws.proofs.lemmas.refinement.Straight.{turns-br}
 use Rattle.trace_laws.proofs.lemmas.refinement.Plans.{tracing}
-use Rattle.trace_laws.proofs.lemmas.refinement.Along.{first_same, first_named}
+use Rattle.pass_edit_laws.proofs.lemmas.names.Items.{first_named, first_same, no-dest, one-of}
 use Rattle.trace_laws.proofs.lemmas.lines.Layings.{IsLayable, located, stop_line}
 use Rattle.trace_laws.proofs.lemmas.refinement.Laying.{stitched, traces-are, traced, kept-at, heads, stands-in}
 use Rattle.trace_laws.proofs.lemmas.acceptance.Placing.{stitched-walks}
 use Rattle.pass_edit_laws.proofs.lemmas.acceptance.Heads.{start_matched}
 use Rattle.pass_edit_laws.proofs.lemmas.names.Heads.{first_names}
+use Rattle.pass_edit_laws.proofs.lemmas.acceptance.Typed.{second-holds}
 use Rattle.pass_edit_laws.proofs.lemmas.acceptance.Left.{dest-there, unlost-typed}
-use Rattle.trace_laws.proofs.lemmas.lines.Quiet.{legs-ok, in-spliced}
+use Rattle.trace_laws.proofs.lemmas.lines.Quiet.{legs-ok}
+use Rattle.pass_edit_laws.proofs.lemmas.plan.Splicing.{in-spliced}
 use Rattle.trace_laws.proofs.lemmas.acceptance.Sorted.{Line, Copy, Bare, Goto, Mark, Checks, Negates, ChecksNot, trace-line, dest_name, dest_type, dest-named, dest-typed-so, dest-number}
 use Rattle.bril_tree.specs.Membership.{In}
 use Rattle.bril_tree.proofs.Shapes.{shape-parts}
@@ -61,28 +63,6 @@ use Rattle.pass_edit_laws.proofs.lemmas.names.Points.{found}
 use Rattle.pass_edit_laws.proofs.lemmas.names.Heads.{same_args, main_same, types_same}
 use Rattle.pass_edit_laws.proofs.lemmas.acceptance.Staying.{dest_of_tree}
 use Rattle.bril_tree.proofs.Typings.{type_of, variable-has, type-assigned, type-assigned_own, first_type-is}
-
--- ---- lists of names
-
-nil-of : {X Y : Type 0} (g : X → Y) (xs : List X) → map g xs ≡ [] → xs ≡ []
-nil-of g [] e = refl
-nil-of g (x ∷ xs) e = absurd cc
-
-one-of : (g : ℕ → List ℕ) (xs : List ℕ) (a : List ℕ) → map g xs ≡ a ∷ [] → xs ≡ slice_index xs 0 ∷ []
-one-of g [] a e = absurd cc
-one-of g (x ∷ []) a e = refl
-one-of g (x ∷ y ∷ xs) a e = absurd cc
-
-no-dest : (W : List (List ℕ)) (d : Option ℕ) (ty : Option Ty) → both_or_neither d ty ≡ true → dest_tree W d ty ≡ None → (d ≡ None) × (ty ≡ None)
-no-dest W None None t e = (refl, refl)
-no-dest W None (Some s) t e = absurd cc
-no-dest W (Some x) None t e = absurd cc
-no-dest W (Some x) (Some s) t e = absurd cc
-
-second-holds : (b c : Bool) → wrong_unless (b && c) ≡ None → c ≡ true
-second-holds true true e = refl
-second-holds true false e = absurd cc
-second-holds false c e = absurd cc
 
 module _ (P Q : Prog) (bool : Ty) (same : same_type bool bool ≡ true) (plain : is_plain base.Bool bool ≡ true) (accepted : IsAccepted P) (laid : List Laying) (layable : (x : Laying) → In x laid → IsLayable P x) (most : length laid ≤ 64)
     (roomy : (x : Laying) → In x laid → (w : List Branch) → IsWalk (code_of P x.fit.function) w → end_of w ≡ x.fit.point → length (sites_of (code_of P x.fit.function) w) < most_sites) (sp : IsLaidTree P bool laid (tree_of Q)) where
@@ -267,7 +247,7 @@ module _ (P Q : Prog) (bool : Ty) (same : same_type bool bool ≡ true) (plain :
     exact : (o : Op) (j : ℕ) (args labels : List (List ℕ)) (n : ActionAt Q f j None o args [] labels) (xs ls : List ℕ) → n.arguments ≡ xs → n.targets ≡ ls → item_at Q f j ≡ Some (Act None None o xs [] ls)
     exact o j args labels n xs ls ex el =
         let d = no-dest (names_in (slice_get Q.funcs f)) n.assigned n.ty n.range.typed n.has_dest in
-        n.at ∙ (λ i. Some (Act (d.0 i) (d.1 i) o (ex i) (nil-of (named (names_of_functions Q.funcs)) n.callees n.has_funcs i) (el i)))
+        n.at ∙ (λ i. Some (Act (d.0 i) (d.1 i) o (ex i) (none_from (named (names_of_functions Q.funcs)) n.callees n.has_funcs i) (el i)))
 
     guard-alone : (y l : ℕ) → if_typed (is_plain base.Bool) (variable_type G.vars y) ≡ true → FitsByItself Q G (Act None None op.Guard (y ∷ []) [] (l ∷ []))
     guard-alone y l t = record { shaped = refl; calls = refl; typed = ap (λ c. wrong_unless (true && c)) t }
@@ -325,13 +305,13 @@ module _ (P Q : Prog) (bool : Ty) (same : same_type bool bool ≡ true) (plain :
     fits-line j b a at ta x among ef whole placed (Copy i met e) = inr (i, ta ∙ sym e)
     fits-line j b a at ta x among ef whole placed (Bare o (inl k) e) =
         let n = action_at Q f j None op.Speculate [] [] [] (ta ∙ ap Some (e ∙ ap (λ z. item.Act None z [] [] []) k)) in
-        inl (alone-at j b (Act None None op.Speculate [] [] []) at (exact op.Speculate j [] [] n [] [] (nil-of (named (names_in (slice_get Q.funcs f))) n.arguments n.has_args) (nil-of (named n.function.labels) n.targets n.has_labels)) (record { shaped = refl; calls = refl; typed = refl }))
+        inl (alone-at j b (Act None None op.Speculate [] [] []) at (exact op.Speculate j [] [] n [] [] (none_from (named (names_in (slice_get Q.funcs f))) n.arguments n.has_args) (none_from (named n.function.labels) n.targets n.has_labels)) (record { shaped = refl; calls = refl; typed = refl }))
     fits-line j b a at ta x among ef whole placed (Bare o (inr k) e) =
         let n = action_at Q f j None op.Commit [] [] [] (ta ∙ ap Some (e ∙ ap (λ z. item.Act None z [] [] []) k)) in
-        inl (alone-at j b (Act None None op.Commit [] [] []) at (exact op.Commit j [] [] n [] [] (nil-of (named (names_in (slice_get Q.funcs f))) n.arguments n.has_args) (nil-of (named n.function.labels) n.targets n.has_labels)) (record { shaped = refl; calls = refl; typed = refl }))
+        inl (alone-at j b (Act None None op.Commit [] [] []) at (exact op.Commit j [] [] n [] [] (none_from (named (names_in (slice_get Q.funcs f))) n.arguments n.has_args) (none_from (named n.function.labels) n.targets n.has_labels)) (record { shaped = refl; calls = refl; typed = refl }))
     fits-line j b a at ta x among ef whole placed (Goto l e) =
         let n = action_at Q f j None op.Jmp [] [] (l ∷ []) (ta ∙ ap Some e) in
-        inl (alone-at j b (Act None None op.Jmp [] [] (slice_index n.targets 0 ∷ [])) at (exact op.Jmp j [] (l ∷ []) n [] (slice_index n.targets 0 ∷ []) (nil-of (named (names_in (slice_get Q.funcs f))) n.arguments n.has_args) (one-of (named n.function.labels) n.targets l n.has_labels)) (record { shaped = refl; calls = refl; typed = refl }))
+        inl (alone-at j b (Act None None op.Jmp [] [] (slice_index n.targets 0 ∷ [])) at (exact op.Jmp j [] (l ∷ []) n [] (slice_index n.targets 0 ∷ []) (none_from (named (names_in (slice_get Q.funcs f))) n.arguments n.has_args) (one-of (named n.function.labels) n.targets l n.has_labels)) (record { shaped = refl; calls = refl; typed = refl }))
     fits-line j b a at ta x among ef whole placed (Mark l e) = let n = label_at Q f j l (ta ∙ ap Some e) in inl (alone-at j b (Label n.number) at n.at (record { shaped = refl; calls = refl; typed = refl }))
     fits-line j b a at ta x among ef whole placed (Checks i on off met e) =
         let n = action_at Q f j None op.Guard (args_in (tree_at P f i)) [] (x.names.bail ∷ []) (ta ∙ ap Some e) in
@@ -365,7 +345,7 @@ module _ (P Q : Prog) (bool : Ty) (same : same_type bool bool ≡ true) (plain :
         let d = not-dest j (args_in (tree_at P f i)) (x.names.nots m) n in
         let t = not-typed x among ef m d.x d.within d.named_so j (Act n.assigned n.ty op.Not n.arguments n.callees n.targets) n.at d.is in
         let item : item_at Q f j ≡ Some (Act (Some d.x) (Some bool) op.Not (slice_index n.arguments 0 ∷ []) [] []) =
-        n.at ∙ (λ z. Some (Act (d.is z) (d.ty z) op.Not (c.0 z) (nil-of (named (names_of_functions Q.funcs)) n.callees n.has_funcs z) (nil-of (named n.function.labels) n.targets n.has_labels z))) in
+        n.at ∙ (λ z. Some (Act (d.is z) (d.ty z) op.Not (c.0 z) (none_from (named (names_of_functions Q.funcs)) n.callees n.has_funcs z) (none_from (named n.function.labels) n.targets n.has_labels z))) in
         inl (alone-at j b (Act (Some d.x) (Some bool) op.Not (slice_index n.arguments 0 ∷ []) [] []) at item
         (record {
           shaped = refl;

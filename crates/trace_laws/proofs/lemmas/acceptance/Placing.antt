@@ -2,12 +2,12 @@
 use Rattle.pass_edit_laws.proofs.lemmas.walks.Blocks.{IsPlaced, one-place}
 use Rattle.trace_laws.proofs.lemmas.acceptance.Blocks.{next-item}
 use Rattle.trace_laws.proofs.lemmas.acceptance.Standing.{laid-item}
-use Rattle.pass_edit_laws.proofs.lemmas.names.Standing.{ActionAt, action_at}
+use Rattle.pass_edit_laws.proofs.lemmas.names.Items.{name-none, name-only, name-source}
+use Rattle.pass_edit_laws.proofs.lemmas.names.Standing.{ActionAt, action_at, label_at}
 use Rattle.trace_laws.proofs.lemmas.acceptance.Standing.{bailed}
 use Rattle.bril_tree.specs.declared.operation.Op.TheVariants as op
 use Rattle.std.proofs.Common.{◌≡◌, ◌⊎◌, ℕ, zero, suc, ◌+◌, ◌<◌, ◌≤◌, Bool, true, false, List, [], ◌∷◌, length, map, Option, Some, None, refl, sym, ap, subst, ◌∙◌, inl, inr, ⊎_elim, arith, true≢false}
 use Rattle.std.specs.Prelude.{slice_get, IsTrue}
-use Rattle.std.proofs.lemmas.Bool.{cases_lt}
 use Rattle.std.proofs.lemmas.List.{length-append}
 use Rattle.std.proofs.lemmas.Option.{slice_get_within, same_Some}
 use Rattle.bril_tree.specs.declared.function_tree.Item.{Item}
@@ -28,15 +28,13 @@ use Rattle.bril_tree.specs.Walk.{IsWalk, end_of}
 use Rattle.bril_names.specs.Range.{AreBelow, IsInRange}
 use Rattle.bril_names.proofs.Naming.{AreBelow-append}
 use Rattle.pass_edit_laws.specs.walks.Matched.{SavedSetsMatch, MatchedWalk}
-use Rattle.pass_edit_laws.specs.names.Named.{SameName}
 use Rattle.trace_paths.specs.Path.{Straight, Turn, Path, with_leg, Lays, Turns, item_met, chosen, path_from}
 use Rattle.trace_laws.specs.lines.Lines.{args_in, leg_lines, end_lines}
 use Rattle.trace_laws.specs.lines.Traced.{Trace}
 use Rattle.trace_laws.specs.refinement.Stitched.{IsTracedAt, Stitched}
-use Rattle.trace_laws.proofs.lemmas.refinement.Items.{label_at}
 use Rattle.trace_laws.proofs.lemmas.refinement.Straight.{turns-br, same-lays}
 use Rattle.trace_laws.proofs.lemmas.refinement.Plans.{PointsMatch, IsRegular, M, A, preserves}
-use Rattle.pass_edit_laws.proofs.lemmas.walks.Based.{Fine, Based, few_sites, regular-fine, based_walks_accepted}
+use Rattle.pass_edit_laws.proofs.lemmas.walks.Based.{Fine, Based, based_on, regular-fine, based_walks_accepted}
 use Rattle.trace_laws.proofs.lemmas.acceptance.Standing.{Under, bail, behind, Inner, tail_lines, InTrace, Door, OnPath, AtGuard, AtJmp, AtBail, Normal, Ended, Lay, Choose, normal}
 use Rattle.trace_laws.proofs.lemmas.acceptance.Walking.{At, Outside, Within, all-at}
 use Rattle.bril_tree.specs.Membership.{In}
@@ -45,25 +43,6 @@ use Rattle.pass_edit_laws.proofs.lemmas.walks.Items.{reads_same}
 use Rattle.bril_tree.proofs.Branches.{walk_within}
 use Rattle.pass_edit_laws.proofs.lemmas.names.Points.{found}
 use Rattle.bril_tree.proofs.Assignments.{in_or_not}
-
--- ---- names of arguments
-
-name-source : (V W : List (List ℕ)) (xs ys : List ℕ) → map (named V) xs ≡ map (named W) ys → AreBelow (length V) xs → AreBelow (length W) ys → (y : ℕ) → In y ys → (x : ℕ) × In x xs × SameName V W x y
-name-source V W [] [] e a b y i = absurd i
-name-source V W [] (z ∷ ys) e a b y i = absurd cc
-name-source V W (x ∷ xs) [] e a b y i = absurd i
-name-source V W (x ∷ xs) (z ∷ ys) e a b y (inl s) = let n : named V x ≡ named W z = cc in (x, inl refl, subst (SameName V W x) (sym s) (a.0, b.0, n))
-name-source V W (x ∷ xs) (z ∷ ys) e a b y (inr i) = let r : map (named V) xs ≡ map (named W) ys = cc in let q = name-source V W xs ys r a.1 b.1 y i in (q.0, inr q.1, q.2)
-
-name-only : (W : List (List ℕ)) (ys : List ℕ) (name : List ℕ) → map (named W) ys ≡ name ∷ [] → AreBelow (length W) ys → (y : ℕ) → In y ys → (y < length W) × (named W y ≡ name)
-name-only W [] name e b y i = absurd i
-name-only W (z ∷ []) name e b y (inl s) = let n : named W z ≡ name = cc in (subst (λ k. k < length W) (sym s) b.0, ap (named W) s ∙ n)
-name-only W (z ∷ []) name e b y (inr i) = absurd i
-name-only W (z ∷ k ∷ ys) name e b y i = absurd cc
-
-name-none : (W : List (List ℕ)) (ys : List ℕ) → map (named W) ys ≡ [] → (y : ℕ) → In y ys → ⊥
-name-none W [] e y i = i
-name-none W (z ∷ ys) e y i = cc
 
 lays-stays : (a : Instr) → item_met (Some a) ≡ Lays → leaves_frame (Some a) ≡ false
 lays-stays (Label l) e = refl
@@ -173,13 +152,9 @@ module _ (P Q : Prog) (bool : Ty) (accepted : IsAccepted P) (st : Stitched P Q b
     edge : (v : List Branch) (w0 : List Branch) → IsWalk (code_of P f) w0 → end_of w0 ≡ suc p → (xs ys : List (List Location)) → SavedSetsMatch (M P Q bool accepted st) P Q f args result_args (sites_of (code_of P f) w0) (sites_of (code_of Q f) v) xs ys
         → st.old f p < end_of v → end_of v ≤ bail P Q bool accepted st f args result_args p t is → (end_of v ≡ suc (st.old f p)) ⊎ (st.old f (suc p) ≤ end_of v + 2 + st.stops f (suc p)) → Fine (M P Q bool accepted st) P Q f args result_args ret v → Summed v
     edge v w0 is0 end0 xs ys zip low high near fine = record {
-      based = record { base = w0; is = is0; own = []; rest = sites_of (code_of Q f) v; xs = xs; ys = ys; sites = refl; zipped = zip; few = few (cases_lt most_sites (length (sites_of (code_of P f) w0))); fine = fine };
+      based = based_on (M P Q bool accepted st) P Q f args result_args ret was v w0 is0 xs ys zip fine;
       place = in-block (end_of v) [] (end_of w0) low high (AtEdge low near refl end0);
     }
-      where
-        few : (most_sites < length (sites_of (code_of P f) w0)) ⊎ (length (sites_of (code_of P f) w0) ≤ most_sites) → 0 + length (sites_of (code_of P f) w0) ≤ most_sites
-        few (inl l) = absurd (let h = few_sites (code_of P f) was.sites w0 is0 in omega arith)
-        few (inr l) = omega arith
 
     -- inside
     own-site : (v w : List Branch) (i : Inner P Q bool accepted st f args result_args p t is v w) → suc (suc (st.old f p)) ≤ end_of v → end_of v + 3 ≤ suc (bail P Q bool accepted st f args result_args p t is) → Fine (M P Q bool accepted st) P Q f args result_args ret v → Summed v
@@ -276,18 +251,7 @@ module _ (P Q : Prog) (bool : Ty) (accepted : IsAccepted P) (st : Stitched P Q b
 
   outside-summed : (v : List Branch) → MatchedWalk (M P Q bool accepted st) P Q f args result_args v → Sum v
   outside-summed v l = record {
-    based = record {
-      base = l.walk;
-      is = l.matches.is;
-      own = [];
-      rest = sites_of (code_of Q f) v;
-      xs = (assigned_of (code_of P f) args l.walk).saved;
-      ys = (assigned_of (code_of Q f) result_args v).saved;
-      sites = refl;
-      zipped = l.matches.saved;
-      few = few (cases_lt most_sites (length (sites_of (code_of P f) l.walk)));
-      fine = fine l.matches.points.0 l.matches.points.1 l.matches.points.2;
-    };
+    based = based_on (M P Q bool accepted st) P Q f args result_args ret was v l.walk l.matches.is (assigned_of (code_of P f) args l.walk).saved (assigned_of (code_of Q f) result_args v).saved l.matches.saved (fine l.matches.points.0 l.matches.points.1 l.matches.points.2);
     place = record {
       block = end_of l.walk;
       stands = record {
@@ -299,10 +263,6 @@ module _ (P Q : Prog) (bool : Ty) (accepted : IsAccepted P) (st : Stitched P Q b
     };
   }
     where
-      few : (most_sites < length (sites_of (code_of P f) l.walk)) ⊎ (length (sites_of (code_of P f) l.walk) ≤ most_sites) → 0 + length (sites_of (code_of P f) l.walk) ≤ most_sites
-      few (inl k) = absurd (let h = few_sites (code_of P f) was.sites l.walk l.matches.is in omega arith)
-      few (inr k) = omega arith
-
       at-item : (o : Option Trace) → st.traces f (end_of l.walk) ≡ o → end_of v ≡ st.old f (end_of l.walk) → Fine (M P Q bool accepted st) P Q f args result_args ret v
       at-item None none e = regular-fine (M P Q bool accepted st) P Q f args result_args ret was accepted (preserves P Q bool accepted st) v l (e, none)
       at-item (Some t) is e =

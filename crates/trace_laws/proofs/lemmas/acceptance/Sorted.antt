@@ -15,7 +15,8 @@ use Rattle.bril_tree.specs.Numbered.{named, item_tree}
 use Rattle.bril_tree.specs.Operand.{dest_of}
 use Rattle.bril_names.specs.Range.{IsInRange}
 use Rattle.trace_paths.specs.Path.{Leg, Straight, Turn, Lays, Turns, item_met}
-use Rattle.trace_laws.specs.lines.Lines.{TraceNames, jmp_line, guard_line, not_line, args_in, listed_item, leg_lines, end_lines, trace_lines}
+use Rattle.trace_laws.specs.lines.Lines.{TraceNames, guard_line, not_line, args_in, leg_lines, end_lines, trace_lines}
+use Rattle.pass_edit_laws.specs.plan.Lines.{jmp_line, listed_item}
 use Rattle.bril_tree.specs.Membership.{In}
 use Rattle.bril_tree.proofs.Members.{in_append_cases, in_append_left, in_append_right}
 use Rattle.bril_tree.proofs.Typings.{type_of}

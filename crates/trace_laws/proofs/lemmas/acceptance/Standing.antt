@@ -2,7 +2,7 @@
 -- a trace, where one more site is open.
 use Rattle.pass_edit_laws.proofs.lemmas.names.Standing.{SameItem, same_item}
 use Rattle.pass_edit_laws.proofs.lemmas.names.Points.{found}
-use Rattle.trace_laws.specs.lines.Lines.{listed_item}
+use Rattle.pass_edit_laws.specs.plan.Lines.{listed_item}
 use Rattle.bril_tree.specs.Numbered.{item_tree, names_of_functions}
 use Rattle.bril_tree.specs.declared.function_tree.Item.TheVariants as item
 use Rattle.bril_tree.specs.declared.operation.Op.TheVariants as op

@@ -1,6 +1,6 @@
 -- Each branch of the result keeps what its walks stand over.
 use Rattle.trace_laws.proofs.lemmas.acceptance.Standing.{laid-item}
-use Rattle.pass_edit_laws.proofs.lemmas.names.Standing.{ActionAt, action_at, one_target, SameItem}
+use Rattle.pass_edit_laws.proofs.lemmas.names.Standing.{ActionAt, action_at, one_target, SameItem, label_at}
 use Rattle.trace_laws.proofs.lemmas.acceptance.Standing.{bailed, Lines}
 use Rattle.bril_tree.specs.declared.function_tree.Item.TheVariants as item
 use Rattle.bril_tree.specs.declared.operation.Op.TheVariants as op
@@ -30,11 +30,10 @@ use Rattle.trace_paths.specs.Path.{Straight, Turn, Path, with_leg, Lays, Turns, 
 use Rattle.trace_laws.specs.lines.Lines.{guard_line, not_line, args_in, leg_lines, end_lines}
 use Rattle.trace_laws.specs.lines.Traced.{Trace}
 use Rattle.trace_laws.specs.refinement.Stitched.{StopsAt, Near, trace_path, IsTracedAt, Stitched}
-use Rattle.trace_laws.proofs.lemmas.refinement.Items.{label_at}
 use Rattle.trace_laws.proofs.lemmas.refinement.Straight.{lays-goes, IsBr, turns-br, same-lays}
 use Rattle.trace_laws.proofs.lemmas.refinement.Plans.{M, A, preserves}
 use Rattle.bril_tree.proofs.Elements.{in_index}
-use Rattle.trace_laws.proofs.lemmas.refinement.Along.{dest_named}
+use Rattle.pass_edit_laws.proofs.lemmas.names.Items.{dest_named}
 use Rattle.pass_edit_laws.proofs.lemmas.walks.Under.{Keeping, keeping-sites, keeping-assigned, sites-effect, assigned-effect, under-both, under-P, under-Q}
 use Rattle.trace_laws.proofs.lemmas.acceptance.Standing.{Under, bail, behind, next-lines, Inner, tail_lines, InTrace, Door, OnPath, AtGuard, AtJmp, AtBail, Normal, Ended, Lay, Choose, normal}
 use Rattle.bril_tree.specs.Membership.{In}

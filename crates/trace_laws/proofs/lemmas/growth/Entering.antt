@@ -4,7 +4,7 @@ use Rattle.trace_laws.proofs.lemmas.acceptance.Blocks as blocks
 use Rattle.trace_laws.proofs.lemmas.acceptance.Blocks.{same-block}
 use Rattle.pass_edit_laws.specs.plan.Plan.{Plan, StepsMatch}
 use Rattle.trace_laws.proofs.lemmas.acceptance.Standing.{laid-item}
-use Rattle.pass_edit_laws.proofs.lemmas.names.Standing.{ActionAt, action_at, one_target, same_item}
+use Rattle.pass_edit_laws.proofs.lemmas.names.Standing.{ActionAt, action_at, one_target, same_item, IsLabelAt, label_at}
 use Rattle.trace_laws.proofs.lemmas.acceptance.Standing.{bailed}
 use Rattle.bril_tree.specs.declared.function_tree.Item.TheVariants as item
 use Rattle.bril_tree.specs.declared.operation.Op.TheVariants as op
@@ -53,11 +53,11 @@ use Rattle.pass_edit_laws.proofs.lemmas.numbers.Shares.{owned}
 use Rattle.pass_edit_laws.proofs.lemmas.numbers.Edges.{label-back, edge-leaves}
 use Rattle.pass_edit_laws.proofs.lemmas.numbers.Entering.{EntryMatched, LeaveMatched, few-entries, label-low, labels-within, point_before}
 use Rattle.trace_paths.specs.Path.{Leg, Straight, Turn, stopped, Meeting, Over, To, Lays, Turns, Stops, item_met, operation_met, chosen, path_by, path_from, path_of}
-use Rattle.trace_laws.specs.lines.Lines.{TraceNames, guard_line, args_in, listed_item, leg_lines, end_lines}
+use Rattle.trace_laws.specs.lines.Lines.{TraceNames, guard_line, args_in, leg_lines, end_lines}
+use Rattle.pass_edit_laws.specs.plan.Lines.{listed_item}
 use Rattle.trace_laws.specs.lines.Traced.{Trace, Laying}
 use Rattle.trace_laws.specs.refinement.Stitched.{Stands, IsTracedAt, Stitched}
 use Rattle.trace_paths.specs.Fits.{fit_path}
-use Rattle.trace_laws.proofs.lemmas.refinement.Items.{IsLabelAt, label_at}
 use Rattle.trace_laws.proofs.lemmas.refinement.Straight.{Goes, over-goes, lays-goes, same-lays, to-jmp, IsBr, turns-br}
 use Rattle.trace_laws.proofs.lemmas.refinement.Plans.{M, A, preserves}
 use Rattle.trace_laws.proofs.lemmas.lines.Quiet.{LegOk, legs-ok}
@@ -706,21 +706,18 @@ module _ (P Q : Prog) (bool : Ty) (accepted : IsAccepted P) (st : Stitched P Q b
       by (Old from to was same leaves) (inl r) = inl r
       by (Old from to was same leaves) (inr r) = inr (λ k i. ⊎_elim (λ e. subst (OldEntry leave) (sym e) (record { from = from; to = to; was = was; same = same; leaves = leaves })) (r k) i)
 
-  abbrev no-extra : List (Option ℕ)
-  no-extra = []
-
   -- where all are old, they are no more than those of one leave point of P
   from-there : (d e : ℕ) → IsEntryWidth F.code d → (b : IsEntryWidth G.code e) → ((k : ℕ) → In k b.has.members → OldEntry b.widest k) → (from : Option ℕ) → HasItem from → L b.widest from → e ≤ d
-  from-there d e a b olds from has leaves = let few = labels-within F G no-extra b.widest matched d e a b.has in omega arith
+  from-there d e a b olds from has leaves = let few = labels-within F G ℕ [] b.widest matched d e a b.has in omega arith
     where
-      labels : (l : ℕ) → Enters G.code b.widest l → (⊥ × In None no-extra) ⊎ ((m : ℕ) × Enters F.code from m × (named F.labels m ≡ named G.labels l))
+      labels : (l : ℕ) → Enters G.code b.widest l → ((x : ℕ) × In x [] × ⊥) ⊎ ((m : ℕ) × Enters F.code from m × (named F.labels m ≡ named G.labels l))
       labels l enters =
           let o = olds l (in_contains l b.has.members (b.has.all l enters)) in
           let same : o.from ≡ from = from-one b.widest o.from from (enters-item o.from o.to o.was) has o.leaves leaves in
           inr (o.to, subst (λ z. Enters F.code z o.to) same o.was, o.same)
 
-      matched : LeaveMatched F G no-extra b.widest
-      matched = record { from = from; IsExtra = λ l. ⊥; one = λ l k r s. absurd r; labels = labels }
+      matched : LeaveMatched F G ℕ [] b.widest
+      matched = record { from = from; IsExtra = λ l x. ⊥; one = λ l k x low high r s. absurd r; labels = labels }
 
   -- no more than before, or one
   pub width-within : (d e : ℕ) → IsEntryWidth F.code d → IsEntryWidth G.code e → e ≤ max d 1

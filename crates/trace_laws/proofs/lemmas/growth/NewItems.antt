@@ -32,12 +32,13 @@ use Rattle.bril_tree.specs.declared.function_tree.FuncTree.{FuncTree}
 use Rattle.pass_edit_laws.specs.plan.Spliced.{spliced}
 use Rattle.trace_laws.proofs.lemmas.lines.Functions.{laid-heads}
 use Rattle.trace_paths.specs.Path.{Leg, Straight, Turn, path_of}
-use Rattle.trace_laws.specs.lines.Lines.{TraceNames, args_in, listed_item, leg_lines, end_lines, trace_lines}
+use Rattle.trace_laws.specs.lines.Lines.{TraceNames, args_in, leg_lines, end_lines, trace_lines}
+use Rattle.pass_edit_laws.specs.plan.Lines.{listed_item}
 use Rattle.trace_laws.specs.lines.Traced.{Trace, Laying, stop_lines, trace_at, lines_behind, IsLaidTree}
 use Rattle.trace_paths.specs.Fits.{fit_path}
 use Rattle.trace_laws.proofs.lemmas.growth.Entering.{laid_in, laid-in}
 use Rattle.trace_laws.proofs.lemmas.lines.Layings.{located, stop_line}
-use Rattle.trace_laws.proofs.lemmas.lines.Quiet.{in-spliced}
+use Rattle.pass_edit_laws.proofs.lemmas.plan.Splicing.{in-spliced}
 
 -- ---- lines
 

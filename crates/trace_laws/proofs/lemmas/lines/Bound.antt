@@ -1,11 +1,11 @@
 -- A program with laid traces has at most twice what each entry lays and five items more.
-use Rattle.std.proofs.lemmas.Bool.{eqb-false}
 use Rattle.bril_tree.specs.declared.function_tree.Item.TheVariants as item
 use Rattle.bril_tree.specs.declared.tree.Tree.{Tree}
 use Rattle.trace_laws.specs.lines.Bound.{bound_with}
-use Rattle.trace_laws.specs.lines.Lines.{TraceNames, end_lines, leg_lines, listed_item}
+use Rattle.trace_laws.specs.lines.Lines.{TraceNames, end_lines, leg_lines}
+use Rattle.pass_edit_laws.specs.plan.Lines.{listed_item}
 use Rattle.trace_paths.specs.Path.{Leg, Straight, Turn}
-use Rattle.std.proofs.Common.{◌≡◌, ℕ, zero, suc, ◌+◌, ◌*◌, ◌<◌, ◌≤◌, ◌&&◌, Bool, true, false, List, [], ◌∷◌, ◌++◌, length, Option, Some, None, refl, sym, ap, subst, ◌∙◌, cond, arith}
+use Rattle.std.proofs.Common.{◌≡◌, ℕ, zero, suc, ◌+◌, ◌*◌, ◌<◌, ◌≤◌, ◌&&◌, Bool, true, false, List, [], ◌∷◌, length, Option, Some, None, refl, sym, ap, subst, ◌∙◌, cond, arith}
 use Rattle.std.specs.Prelude.{slice_get, ◌==◌, not}
 use Rattle.std.specs.List.{sum_by}
 use Rattle.std.proofs.lemmas.Bool.{and_parts, eqb-true}
@@ -19,7 +19,7 @@ use Rattle.bril_tree.specs.Numbered.{tree_at, tree_of, tree_size}
 use Rattle.bril_tree.specs.Size.{item_count}
 use Rattle.bril_tree.specs.Step.{code_of, item_at}
 use Rattle.bril_tree.proofs.Sizes.{size-tree_of}
-use Rattle.pass_edit_laws.specs.plan.Spliced.{spliced}
+use Rattle.pass_edit_laws.proofs.lemmas.plan.Lengths.{grows-once, spliced-long, sum_from, sum_from-none}
 use Rattle.trace_laws.specs.lines.Lines.{trace_lines}
 use Rattle.trace_paths.specs.Path.{path_of}
 use Rattle.trace_laws.specs.lines.Traced.{Laying, AreLaid, stops_before, stop_lines, trace_of, trace_at, lines_behind, IsLaid}
@@ -45,38 +45,6 @@ pub trace_lines-few : (bool : Ty) (tree : ℕ → Option Item) (names : TraceNam
 trace_lines-few bool tree names legs =
     let r = leg_lines-few bool tree names 0 legs in let l = length-append (leg_lines bool tree names 0 legs) (end_lines bool tree names) in omega arith
 
--- ---- a spliced list
-
--- the sum of n + 1 numbers from the k-th on
-abbrev run_of : (ℕ → ℕ) → ℕ → ℕ → ℕ
-run_of size k zero = size k
-run_of size k (suc n) = size k + run_of size (suc k) n
-
-spliced-long : {X : Type 0} (before after : ℕ → List X) (k : ℕ) (items : List X) → length (spliced before after k items) ≤ length items + run_of (λ i. length (before i)) k (length items) + run_of (λ i. length (after i)) k (length items)
-spliced-long before after k [] = omega arith
-spliced-long before after k (a ∷ items) =
-    let rest = spliced-long before after (suc k) items in
-    let one = length-append (before k) (a ∷ (after k ++ spliced before after (suc k) items)) in
-    let two = length-append (after k) (spliced before after (suc k) items) in
-    omega arith
-
-run-none : (k n : ℕ) → run_of (λ i. 0) k n ≡ 0
-run-none k zero = refl
-run-none k (suc n) = let r = run-none (suc k) n in omega arith
-
--- where a size grows by a weight at one number alone
-grows-none : (p w : ℕ) (size more : ℕ → ℕ) → ((i : ℕ) → (i ≡ p → ⊥) → more i ≤ size i) → (n k : ℕ) → p < k → run_of more k n ≤ run_of size k n
-grows-none p w size more same zero k less = same k (λ e. omega (arith, e))
-grows-none p w size more same (suc n) k less = let a = same k (λ e. omega (arith, e)) in let r = grows-none p w size more same n (suc k) (omega arith) in omega arith
-
-grows-once : (p w : ℕ) (size more : ℕ → ℕ) → ((i : ℕ) → (i ≡ p → ⊥) → more i ≤ size i) → ((i : ℕ) → more i ≤ w + size i) → (n k : ℕ) → run_of more k n ≤ w + run_of size k n
-grows-once p w size more same grows zero k = grows k
-grows-once p w size more same grows (suc n) k = by (k == p) refl (grows-once p w size more same grows n (suc k))
-  where
-    by : (b : Bool) → (k == p) ≡ b → run_of more (suc k) n ≤ w + run_of size (suc k) n → more k + run_of more (suc k) n ≤ w + (size k + run_of size (suc k) n)
-    by true e rest = let here : k ≡ p = eqb-true k p e in let a = grows k in let r = grows-none p w size more same n (suc k) (omega (arith, here)) in omega arith
-    by false e rest = let a = same k (λ s. eqb-false k p e s) in omega arith
-
 -- ---- what is put into one function
 
 -- the weight of its entries
@@ -95,8 +63,8 @@ lines_total P f [] = 0
 lines_total P f (x ∷ laid) = cond (x.fit.function == f) (size_of P x) 0 + lines_total P f laid
 
 module _ (P : Prog) (bool : Ty) (f : ℕ) where
-  stops-few : (laid : List Laying) (k n : ℕ) → run_of (λ i. length (stop_lines P laid f i)) k n ≤ stops_total f laid
-  stops-few [] k n = let e = run-none k n in omega arith
+  stops-few : (laid : List Laying) (k n : ℕ) → sum_from (λ i. length (stop_lines P laid f i)) k n ≤ stops_total f laid
+  stops-few [] k n = let e = sum_from-none k n in omega arith
   stops-few (x ∷ laid) k n = by (x.fit.function == f) refl (stops-few laid k n)
     where
       before : ℕ → ℕ
@@ -123,14 +91,14 @@ module _ (P : Prog) (bool : Ty) (f : ℕ) where
               absurd (n (sym (eqb-true (fit_path P x.fit).stop i b.0)))
           one false e = omega arith
 
-      by : (b : Bool) → (x.fit.function == f) ≡ b → run_of (λ i. length (stop_lines P laid f i)) k n ≤ stops_total f laid → run_of (λ i. length (stop_lines P (x ∷ laid) f i)) k n ≤ cond b 1 0 + stops_total f laid
+      by : (b : Bool) → (x.fit.function == f) ≡ b → sum_from (λ i. length (stop_lines P laid f i)) k n ≤ stops_total f laid → sum_from (λ i. length (stop_lines P (x ∷ laid) f i)) k n ≤ cond b 1 0 + stops_total f laid
       by b e rest = let g = grows-once (fit_path P x.fit).stop (cond b 1 0) (λ i. length (stop_lines P laid f i)) (λ i. length (stop_lines P (x ∷ laid) f i)) apart (λ i. with-x b i e) n k in omega arith
 
   lines-long : List Laying → ℕ → ℕ
   lines-long laid i = length (lines_behind P bool f i (trace_at laid f i))
 
-  lines-few : (laid : List Laying) (k n : ℕ) → run_of (λ i. length (lines_behind P bool f i (trace_at laid f i))) k n ≤ lines_total P f laid
-  lines-few [] k n = let e = run-none k n in omega arith
+  lines-few : (laid : List Laying) (k n : ℕ) → sum_from (λ i. length (lines_behind P bool f i (trace_at laid f i))) k n ≤ lines_total P f laid
+  lines-few [] k n = let e = sum_from-none k n in omega arith
   lines-few (x ∷ laid) k n = by (x.fit.function == f) refl (lines-few laid k n)
     where
       here : (i : ℕ) → x.fit.function ≡ f → x.fit.point ≡ i → length (lines_behind P bool f i (Some (trace_of x))) ≤ size_of P x
@@ -157,7 +125,7 @@ module _ (P : Prog) (bool : Ty) (f : ℕ) where
           one true e = let a = and_parts (x.fit.function == f) (x.fit.point == i) e in absurd (n (sym (eqb-true x.fit.point i a.1)))
           one false e = omega arith
 
-      by : (b : Bool) → (x.fit.function == f) ≡ b → run_of (λ i. length (lines_behind P bool f i (trace_at laid f i))) k n ≤ lines_total P f laid → run_of (λ i. length (lines_behind P bool f i (trace_at (x ∷ laid) f i))) k n ≤ cond b (size_of P x) 0 + lines_total P f laid
+      by : (b : Bool) → (x.fit.function == f) ≡ b → sum_from (λ i. length (lines_behind P bool f i (trace_at laid f i))) k n ≤ lines_total P f laid → sum_from (λ i. length (lines_behind P bool f i (trace_at (x ∷ laid) f i))) k n ≤ cond b (size_of P x) 0 + lines_total P f laid
       by b e rest = let g = grows-once x.fit.point (cond b (size_of P x) 0) (λ i. length (lines_behind P bool f i (trace_at laid f i))) (λ i. length (lines_behind P bool f i (trace_at (x ∷ laid) f i))) apart (λ i. with-x b i e) n k in omega arith
 
 -- ---- all functions

@@ -1,8 +1,9 @@
 -- The labels of a function with laid traces differ.
 use Rattle.bril_tree.proofs.Members.{in_append_cases}
+use Rattle.pass_edit_laws.proofs.lemmas.labels.Listed.{labels-get}
 use Rattle.trace_laws.proofs.lemmas.lines.Layings.{parts}
 use Rattle.bril_tree.specs.declared.function_tree.Item.TheVariants as item
-use Rattle.std.proofs.Common.{◌≡◌, ℕ, zero, suc, ◌+◌, ◌<◌, ◌≤◌, Bool, true, false, List, [], ◌∷◌, ◌++◌, length, Option, Some, None, refl, sym, ap, subst, ◌∙◌, inl, inr, ⊎_elim, cond, arith}
+use Rattle.std.proofs.Common.{◌≡◌, ℕ, zero, suc, ◌+◌, ◌<◌, ◌≤◌, Bool, true, false, List, [], ◌∷◌, ◌++◌, length, Option, Some, None, refl, sym, ap, subst, ◌∙◌, ⊎_elim, cond, arith}
 use Rattle.std.specs.Prelude.{slice_get}
 use Rattle.std.proofs.lemmas.List.Elements.{filter_map-append}
 use Rattle.std.proofs.lemmas.Option.{same_Some, slice_get_within}
@@ -17,24 +18,15 @@ use Rattle.trace_laws.specs.lines.Lines.{leg_lines, end_lines}
 use Rattle.pass_edit_laws.specs.plan.Spliced.{spliced}
 use Rattle.trace_laws.specs.lines.Traced.{Trace, Laying, AreLaid, stops_before, stop_lines, trace_at, lines_behind}
 use Rattle.trace_paths.specs.Fits.{Fit, fit_path}
-use Rattle.trace_laws.specs.lines.Names.{IsFresh, labels_in, is_label_item, Bases, AreBases, AreNames}
+use Rattle.trace_laws.specs.lines.Names.{is_label_item, Bases, AreBases, AreNames}
+use Rattle.pass_edit_laws.specs.labels.Fresh.{IsFresh, labels_in}
 use Rattle.trace_laws.proofs.lemmas.lines.Layings.{located, StopLine, stop_line}
-use Rattle.trace_laws.proofs.lemmas.lines.Labels.{Apart, apart-append, differ-apart, spliced-apart, fresh-once}
+use Rattle.pass_edit_laws.proofs.lemmas.labels.Fresh.{fresh-once}
+use Rattle.pass_edit_laws.proofs.lemmas.labels.Spliced.{Apart, apart-append, differ-apart, empty-apart, spliced-apart}
 use Rattle.trace_laws.proofs.lemmas.lines.Quiet.{legs-ok, legs-quiet}
 use Rattle.bril_tree.specs.Membership.{In}
 use Rattle.pass_edit_laws.proofs.lemmas.names.Points.{label_once}
 use Rattle.bril_tree.proofs.Elements.{in_get, get_in}
-
-labels-get : (xs : List Item) (a : List ℕ) → In a (labels_of xs) → (k : ℕ) × (slice_get xs k ≡ Some (item.Label a))
-labels-get [] a i = absurd i
-labels-get (item.Label b ∷ xs) a (inl e) = (0, ap (λ z. Some (item.Label z)) (sym e))
-labels-get (item.Label b ∷ xs) a (inr i) = let r = labels-get xs a i in (suc r.0, r.1)
-labels-get (item.Const d t v ∷ xs) a i = let r = labels-get xs a i in (suc r.0, r.1)
-labels-get (item.Act d o ys fns ls ∷ xs) a i = let r = labels-get xs a i in (suc r.0, r.1)
-
-empty-apart : (xs : List (List ℕ)) → ((a : List ℕ) → In a xs → ⊥) → Apart xs
-empty-apart [] h = tt
-empty-apart (x ∷ xs) h = absurd (h x (inl refl))
 
 -- the names of the entry at a place
 names-at : (bases : Bases) (P : Prog) (K : ℕ) (fits : List Fit) (laid : List Laying) → AreLaid bases P K fits laid → (n : ℕ) (y : Laying) → slice_get laid n ≡ Some y → AreNames bases P (K + n) y.fit y.names

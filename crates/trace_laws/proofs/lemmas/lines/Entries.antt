@@ -1,19 +1,15 @@
 -- The entries that are laid are those that fit.
-use Rattle.std.proofs.Common.{◌≡◌, ℕ, zero, suc, ◌<◌, ◌≤◌, List, [], ◌∷◌, length, refl, sym, ap, subst, ◌∙◌, inl, inr, arith}
+use Rattle.std.proofs.Common.{◌≡◌, ℕ, suc, ◌≤◌, List, [], ◌∷◌, length, sym, ap, subst, ◌∙◌, inl, inr, arith}
 use Rattle.std.specs.Prelude.{slice_get}
 use Rattle.bril_tree.specs.declared.program.Prog.{Prog}
-use Rattle.bril_tree.specs.Numbered.{named, names_in}
+use Rattle.bril_tree.specs.Numbered.{names_in}
 use Rattle.bril_profile.specs.declared.profile.Entry.{Entry}
 use Rattle.trace_paths.specs.Fits.{Fit, IsFit, FitsAre}
+use Rattle.pass_edit_laws.proofs.lemmas.labels.Listed.{named-in}
 use Rattle.trace_laws.specs.lines.Names.{Bases, AreNames}
 use Rattle.trace_laws.specs.lines.Traced.{Laying, AreLaid}
 use Rattle.trace_laws.proofs.lemmas.lines.Layings.{IsLayable}
 use Rattle.bril_tree.specs.Membership.{In}
-
-pub named-in : (names : List (List ℕ)) (v : ℕ) → v < length names → In (named names v) names
-named-in [] v less = absurd (omega arith)
-named-in (x ∷ names) zero less = inl refl
-named-in (x ∷ names) (suc v) less = inr (named-in names v (omega arith))
 
 -- each fitting entry is one of the profile
 pub fits-few : (P : Prog) (seen : List Fit) (entries : List Entry) (fits : List Fit) → FitsAre P seen entries fits → length fits ≤ length entries

@@ -1,7 +1,7 @@
 -- Each item of a function with laid traces names functions and labels that are there.
 use Rattle.std.specs.List.{Contains}
 use Rattle.bril_tree.specs.declared.function_tree.Item.TheVariants as item
-use Rattle.std.proofs.Common.{◌≡◌, ◌⊎◌, ℕ, zero, suc, ◌<◌, ◌≤◌, Bool, true, false, List, [], ◌∷◌, length, get_or, Option, Some, None, refl, sym, ap, subst, ◌∙◌, inl, inr, ⊎_elim, arith}
+use Rattle.std.proofs.Common.{◌≡◌, ◌⊎◌, ℕ, zero, suc, ◌<◌, ◌≤◌, Bool, true, false, List, [], ◌∷◌, length, Option, Some, None, refl, sym, ap, subst, ◌∙◌, inl, inr, ⊎_elim, arith}
 use Rattle.std.specs.Prelude.{slice_get}
 use Rattle.std.proofs.lemmas.List.Elements.{All-nil, All-cons}
 use Rattle.std.proofs.lemmas.Option.{same_Some, slice_get_within}
@@ -11,37 +11,19 @@ use Rattle.bril_tree.specs.declared.types.Ty.{Ty}
 use Rattle.bril_tree.specs.Step.{code_of, item_at}
 use Rattle.bril_names.specs.Faults.{labels_of, callees_of, targets_of, AreAmong, IsKnown}
 use Rattle.trace_paths.specs.Path.{Leg, Straight, Turn, path_of}
-use Rattle.trace_laws.specs.lines.Lines.{TraceNames, listed_item, leg_lines, end_lines, trace_lines}
+use Rattle.pass_edit_laws.proofs.lemmas.labels.Listed.{among-more, label-in, labels-get}
+use Rattle.trace_laws.specs.lines.Lines.{TraceNames, leg_lines, end_lines, trace_lines}
+use Rattle.pass_edit_laws.specs.plan.Lines.{listed_item}
 use Rattle.pass_edit_laws.specs.plan.Spliced.{spliced}
 use Rattle.trace_laws.specs.lines.Traced.{Trace, Laying, stop_lines, trace_at, lines_behind}
 use Rattle.trace_paths.specs.Fits.{fit_path}
 use Rattle.trace_laws.specs.lines.Names.{is_label_item}
 use Rattle.trace_laws.proofs.lemmas.lines.Layings.{Located, located, stop_line, stop_number}
-use Rattle.trace_laws.proofs.lemmas.lines.Quiet.{in-spliced}
-use Rattle.pass_edit_laws.proofs.lemmas.plan.Splicing.{item-position, before-position, after-position}
+use Rattle.pass_edit_laws.proofs.lemmas.plan.Splicing.{in-spliced, item-position, before-position, after-position}
 use Rattle.bril_tree.specs.Membership.{In}
-use Rattle.bril_tree.proofs.Members.{in_append_cases, in_append_right, contains_in, in_contains}
+use Rattle.bril_tree.proofs.Members.{in_append_cases, in_append_right, contains_in}
 use Rattle.bril_tree.specs.Numbered.{tree_at}
 use Rattle.bril_tree.proofs.Elements.{in_get, get_in}
-
-label-in : (xs : List Item) (a : List ℕ) → In (item.Label a) xs → In a (labels_of xs)
-label-in [] a i = absurd i
-label-in (item.Label b ∷ xs) a (inl e) = inl (let h : a ≡ b = cc in h)
-label-in (item.Label b ∷ xs) a (inr i) = inr (label-in xs a i)
-label-in (item.Const d t v ∷ xs) a (inl e) = absurd cc
-label-in (item.Const d t v ∷ xs) a (inr i) = label-in xs a i
-label-in (item.Act d o ys fns ls ∷ xs) a (inl e) = absurd cc
-label-in (item.Act d o ys fns ls ∷ xs) a (inr i) = label-in xs a i
-
-labels-item : (xs : List Item) (a : List ℕ) → In a (labels_of xs) → In (item.Label a) xs
-labels-item [] a i = absurd i
-labels-item (item.Label b ∷ xs) a (inl e) = inl (ap item.Label e)
-labels-item (item.Label b ∷ xs) a (inr i) = inr (labels-item xs a i)
-labels-item (item.Const d t v ∷ xs) a i = inr (labels-item xs a i)
-labels-item (item.Act d o ys fns ls ∷ xs) a i = inr (labels-item xs a i)
-
-among-more : (known more names : List (List ℕ)) → ((a : List ℕ) → In a known → In a more) → AreAmong known names → AreAmong more names
-among-more known more names sub h = λ k d less. contains_in (get_or names k d) more (sub (get_or names k d) (in_contains (get_or names k d) known (h k d less)))
 
 -- a laid line is a copy, or goes to the last label at most
 data Goes (tree : ℕ → Option Item) (bail : List ℕ) (a : Item) : Type 0 where
@@ -86,7 +68,7 @@ module _ (P : Prog) (bool : Ty) (f : ℕ) (laid : List Laying) (functions : List
   old-known : (i : ℕ) (a : Item) → slice_get items i ≡ Some a → IsKnown functions (labels_of edited) a
   old-known i a e =
       let h = known a (get_in items i a e) in
-      (h.0, among-more (labels_of items) (labels_of edited) (targets_of a) (λ b j. let k = in_get (item.Label b) items (labels-item items b j) in label-in edited b (item-in k.0 (item.Label b) k.1)) h.1)
+      (h.0, among-more (labels_of items) (labels_of edited) (targets_of a) (λ b j. let k = labels-get items b j in label-in edited b (item-in k.0 (item.Label b) k.1)) h.1)
 
   plain-known : (a : Item) → callees_of a ≡ [] → targets_of a ≡ [] → IsKnown functions (labels_of edited) a
   plain-known a c t = (subst (AreAmong functions) (sym c) (All-nil (λ z. Contains functions z)), subst (AreAmong (labels_of edited)) (sym t) (All-nil (λ z. Contains (labels_of edited) z)))

@@ -1,13 +1,14 @@
 -- What a path lays, and that it is quiet.
 use Rattle.bril_tree.specs.declared.operation.Op.TheVariants as op
-use Rattle.std.proofs.Common.{◌≡◌, ◌⊎◌, ℕ, zero, suc, Bool, true, false, List, [], ◌∷◌, ◌++◌, Option, Some, None, refl, sym, ap, subst, ◌∙◌, inl, inr, ⊎_elim, cond}
+use Rattle.std.proofs.Common.{◌≡◌, ◌⊎◌, ℕ, zero, suc, Bool, true, false, List, [], ◌∷◌, Option, Some, None, refl, sym, ap, subst, ◌∙◌, inl, inr, ⊎_elim, cond}
 use Rattle.std.specs.Prelude.{slice_get}
 use Rattle.bril_tree.specs.declared.function_tree.Item.{Item}
 use Rattle.bril_tree.specs.declared.program.Prog.{Prog}
 use Rattle.bril_tree.specs.declared.types.Ty.{Ty}
 use Rattle.bril_tree.specs.Numbered.{tree_at, names_in, names_of_functions, item_tree}
 use Rattle.trace_paths.specs.Path.{Leg, Straight, Turn, path_of, Lays, item_met}
-use Rattle.trace_laws.specs.lines.Lines.{TraceNames, listed_item, leg_lines}
+use Rattle.trace_laws.specs.lines.Lines.{TraceNames, leg_lines}
+use Rattle.pass_edit_laws.specs.plan.Lines.{listed_item}
 use Rattle.bril_tree.specs.declared.numbered.Instr.{Instr}
 use Rattle.bril_tree.specs.declared.numbered.Instr.TheVariants.{Label as NLabel, Const as NConst, Act as NAct}
 use Rattle.bril_tree.specs.Step.{code_of, item_at}
@@ -18,7 +19,6 @@ use Rattle.pass_edit_laws.proofs.lemmas.names.Points.{found}
 use Rattle.std.specs.Prelude.{◌==◌}
 use Rattle.bril_tree.specs.Step.{point_of}
 use Rattle.trace_paths.specs.Path.{stopped, Meeting, Over, To, Turns, Stops, chosen, path_by, path_from}
-use Rattle.pass_edit_laws.specs.plan.Spliced.{spliced}
 use Rattle.trace_laws.specs.lines.Laws.{IsQuiet}
 
 -- ---- what a path lays
@@ -51,16 +51,6 @@ own-ok code own fuel rest room choices i false leg among = met-ok code own fuel 
 pub legs-ok : (code : List Instr) (own fuel : ℕ) → LegsOk code own fuel
 legs-ok code own zero room choices i leg among = absurd among
 legs-ok code own (suc fuel) room choices i leg among = own-ok code own fuel (legs-ok code own fuel) room choices i (i == own) leg among
-
--- ---- a spliced list
-
-pub in-spliced : {X : Type 0} (before behind : ℕ → List X) (x : X) (k : ℕ) (items : List X) → In x (spliced before behind k items) → ((i : ℕ) × (slice_get items i ≡ Some x)) ⊎ (((i : ℕ) × In x (before i)) ⊎ ((i : ℕ) × In x (behind i)))
-in-spliced before behind x k [] among = inr (inl (k, among))
-in-spliced before behind x k (a ∷ items) among = ⊎_elim (λ b. inr (inl (k, b))) (λ r. ⊎_elim (λ e. inl (0, ap Some (sym e))) (λ s. ⊎_elim (λ b. inr (inr (k, b))) (λ t. deeper (in-spliced before behind x (suc k) items t)) (in_append_cases x (behind k) (spliced before behind (suc k) items) s)) r) (in_append_cases x (before k) (a ∷ (behind k ++ spliced before behind (suc k) items)) among)
-  where
-    deeper : ((i : ℕ) × (slice_get items i ≡ Some x)) ⊎ (((i : ℕ) × In x (before i)) ⊎ ((i : ℕ) × In x (behind i))) → ((i : ℕ) × (slice_get (a ∷ items) i ≡ Some x)) ⊎ (((i : ℕ) × In x (before i)) ⊎ ((i : ℕ) × In x (behind i)))
-    deeper (inl h) = inl (suc h.0, h.1)
-    deeper (inr h) = inr h
 
 -- ---- quiet lines
 

@@ -9,49 +9,32 @@ use Rattle.bril_profile.specs.declared.profile.Entry.{Entry}
 use Rattle.bril_tree.specs.declared.function_tree.FuncTree.{FuncTree}
 use Rattle.bril_tree.specs.declared.function_tree.Item.{Item}
 use Rattle.bril_tree.specs.declared.function_tree.Item.TheVariants as item
-use Rattle.bril_tree.specs.declared.numbered.Instr.{Instr}
-use Rattle.bril_tree.specs.declared.numbered.Instr.TheVariants.{Label, Const, Act}
+use Rattle.bril_tree.specs.declared.numbered.Instr.TheVariants.{Label}
 use Rattle.bril_tree.specs.declared.numbered_function.Func.{Func}
 use Rattle.bril_tree.specs.declared.program.Prog.{Prog}
 use Rattle.bril_tree.specs.declared.tree.Tree.{Tree}
 use Rattle.bril_tree.specs.declared.types.Ty.{Ty}
 use Rattle.bril_tree.specs.Membership.{In}
-use Rattle.bril_tree.specs.Numbered.{function_tree, item_tree, named, names_in, names_of_functions, tree_at, tree_of, variable_names}
+use Rattle.bril_tree.specs.Numbered.{function_tree, item_tree, names_of_functions, tree_at, tree_of, variable_names}
 use Rattle.pass_edit_laws.specs.plan.Spliced.{spliced}
 use Rattle.std.specs.Option.{option_map}
 use Rattle.std.proofs.lemmas.List.{length-map}
 use Rattle.bril_tree.specs.Step.{code_of, item_at, items_of}
 use Rattle.bril_tree.proofs.Elements.{get_in}
-use Rattle.bril_tree.proofs.Trees.{nothing_at, tree_at-function, tree_of-numbered}
-use Rattle.pass_edit_laws.proofs.lemmas.names.Points.{Found, found}
-use Rattle.pass_edit_laws.proofs.lemmas.plan.Elements.{all_in, in_all}
+use Rattle.bril_tree.proofs.Trees.{tree_at-function, tree_of-numbered}
+use Rattle.pass_edit_laws.proofs.lemmas.plan.Elements.{all_in, in_all, zip-by_place}
+use Rattle.pass_edit_laws.proofs.lemmas.labels.Listed.{label-known}
 use Rattle.trace_laws.specs.lines.Laws.{TracesAreWellLaid}
 use Rattle.trace_laws.specs.lines.Lines.{bool_type}
-use Rattle.trace_laws.specs.lines.Names.{AreBases, Bases, is_label_item, labels_in, labels_here, trace_bases}
+use Rattle.trace_laws.specs.lines.Names.{AreBases, Bases, is_label_item, trace_bases}
 use Rattle.trace_laws.specs.lines.Traced.{IsLaid, Laying, lines_behind, stop_lines, trace_at}
 use Rattle.trace_laws.proofs.lemmas.lines.Bases.{trace_names}
 use Rattle.trace_laws.proofs.lemmas.lines.Bound.{laid-within}
 use Rattle.trace_laws.proofs.lemmas.lines.Differing.{laid-differ}
-use Rattle.trace_laws.proofs.lemmas.lines.Entries.{fits-few, laid-few, layable, named-in}
-use Rattle.trace_laws.proofs.lemmas.lines.Functions.{zip-by_place}
+use Rattle.trace_laws.proofs.lemmas.lines.Entries.{fits-few, laid-few, layable}
 use Rattle.trace_laws.proofs.lemmas.lines.Known.{laid-known}
 use Rattle.trace_laws.proofs.lemmas.lines.Layings.{IsLayable, stop_within}
 use Rattle.trace_paths.specs.Fits.{fit_path}
-
--- a label that stands in a function is one of its labels
-label-known : (P : Prog) (f i : ℕ) (name : List ℕ) → tree_at P f i ≡ Some (item.Label name) → In name (labels_in P f)
-label-known P f i name is = by (item_at P f i) refl
-  where
-    by_item : (a : Instr) (h : Found P f i a) → item_tree (names_of_functions P.funcs) (names_in (slice_get P.funcs f)) h.function.labels a ≡ item.Label name → In name (labels_in P f)
-    by_item (Label l) h e =
-        let same : named h.function.labels l ≡ name = cc in
-        subst (In name) (sym (ap labels_here h.there)) (subst (λ n. In n h.function.labels) same (named-in h.function.labels l h.range.places.0))
-    by_item (Const x t v) h e = absurd cc
-    by_item (Act d t u xs fns ls) h e = absurd cc
-
-    by : (o : Option Instr) → item_at P f i ≡ o → In name (labels_in P f)
-    by None at = absurd (let h = sym (nothing_at P f i at) ∙ is in cc)
-    by (Some a) at = let h = found P f i a at in by_item a h (same_Some _ _ (sym h.tree ∙ is))
 
 same-long : (P : Prog) (f : ℕ) (F : FuncTree) → slice_get (tree_of P).funcs f ≡ Some F → length (code_of P f) ≡ length F.code
 same-long P f F p = by (slice_get P.funcs f) refl

@@ -1,11 +1,10 @@
 -- The induction along a path: Q is in an attempted trace, and P makes the path's steps.
 use Rattle.bril_tree.proofs.Elements.{in_index}
-use Rattle.pass_edit_laws.proofs.lemmas.names.Standing.{ActionAt, action_at, SameItem, same_item}
+use Rattle.pass_edit_laws.proofs.lemmas.names.Standing.{ActionAt, action_at, SameItem, same_item, first_target}
 use Rattle.bril_tree.specs.declared.function_tree.Item.TheVariants as item
 use Rattle.bril_tree.specs.declared.operation.Op.TheVariants as op
 use Rattle.std.proofs.Common.{◌≡◌, ◌⊎◌, ℕ, zero, suc, ◌+◌, ◌*◌, ◌<◌, ◌≤◌, Bool, true, false, List, [], ◌∷◌, ◌++◌, length, map, Option, Some, None, refl, sym, ap, subst, ◌∙◌, inl, inr, cond, arith}
-use Rattle.std.specs.Prelude.{slice_get, slice_index, ◌==◌, is_some, IsSome, not, unwrap_or, pos}
-use Rattle.std.proofs.lemmas.Option.{same_Some}
+use Rattle.std.specs.Prelude.{slice_get, slice_index, ◌==◌, is_some, not, unwrap_or, pos}
 use Rattle.simulation.specs.System.{after}
 use Rattle.simulation.proofs.After.{after-add}
 use Rattle.bril_tree.specs.declared.function_tree.Dest.{Dest}
@@ -21,7 +20,7 @@ use Rattle.bril_tree.specs.declared.value.Value.TheVariants.{Int, Bool as Boolea
 use Rattle.bril_tree.specs.Accepted.{IsAccepted}
 use Rattle.bril_tree.specs.Edge.{Branch, branches_at, branches_from, item_branches, onward, jump}
 use Rattle.bril_tree.specs.FunctionForm.{listed}
-use Rattle.bril_tree.specs.Numbered.{named, dest_tree, item_tree, names_of_functions, names_in, tree_at}
+use Rattle.bril_tree.specs.Numbered.{named, item_tree, names_of_functions, names_in, tree_at}
 use Rattle.bril_tree.specs.Operand.{Location, Variable, Shadow}
 use Rattle.bril_tree.specs.Outcome.{argument, bool_of}
 use Rattle.bril_tree.specs.Shape.{shape_of}
@@ -32,14 +31,15 @@ use Rattle.bril_tree.specs.Walk.{IsWalk, end_of}
 use Rattle.bril_names.specs.Range.{AreBelow, IsInRange}
 use Rattle.bril_names.proofs.Naming.{one_number, AreBelow-append}
 use Rattle.pass_edit_laws.specs.plan.Plan.{Plan, ValuesMatch, SavesMatch, StacksMatch, StatesMatch}
+use Rattle.pass_edit_laws.specs.steps.Refinement.{EndedAlike}
 use Rattle.pass_edit_laws.proofs.lemmas.steps.Steps.{frame, state, matches}
 use Rattle.pass_edit_laws.proofs.lemmas.plan.Values.{assigned-other, read-agree}
 use Rattle.bril_tree.proofs.HeldValues.{with_value-same}
-use Rattle.pass_edit_laws.specs.names.Named.{SameName, SameLocation}
+use Rattle.pass_edit_laws.specs.names.Named.{SameLocation}
 use Rattle.trace_paths.specs.Path.{Straight, Turn, Path, stopped, with_leg, Meeting, Over, To, Lays, Turns, Stops, item_met, chosen, path_by, path_from}
-use Rattle.trace_laws.specs.lines.Lines.{TraceNames, args_in, listed_item, leg_lines, end_lines}
+use Rattle.trace_laws.specs.lines.Lines.{TraceNames, args_in, leg_lines, end_lines}
+use Rattle.pass_edit_laws.specs.plan.Lines.{listed_item}
 use Rattle.trace_laws.specs.refinement.Stitched.{Stands, StopsAt, Stitched}
-use Rattle.trace_laws.proofs.lemmas.refinement.Items.{first_target}
 use Rattle.pass_edit_laws.proofs.lemmas.steps.Attempts.{AttemptedAlike, Faults, Moves, attempted_alike}
 use Rattle.trace_laws.proofs.lemmas.refinement.Straight.{lays-attempted, lays-goes, over-passed, to-jmp, IsBr, turns-br}
 use Rattle.trace_laws.proofs.lemmas.refinement.Plans.{M, A, preserves}
@@ -47,36 +47,8 @@ use Rattle.bril_tree.specs.Membership.{In}
 use Rattle.bril_tree.proofs.Members.{in_map, contains_in}
 use Rattle.bril_tree.proofs.Shapes.{shape-parts}
 use Rattle.pass_edit_laws.proofs.lemmas.steps.Shapes.{Shaped, shaped_here}
+use Rattle.pass_edit_laws.proofs.lemmas.names.Items.{DestNamed, dest_named, first_named, first_same}
 use Rattle.pass_edit_laws.proofs.lemmas.names.Points.{found, Differ-in}
-
--- both ended matches
-pub record EndedAlike (s t : State) : Type 0 where
-  pub final : IsSome s.ended
-  pub ended : s.ended ≡ t.ended
-  pub printed : s.printed ≡ t.printed
-
--- the first of two lists of arguments that have the same names
-pub first_same : (V W : List (List ℕ)) (xs ys : List ℕ) → map (named V) xs ≡ map (named W) ys → AreBelow (length V) xs → AreBelow (length W) ys → 0 < length xs → SameName V W (slice_index xs 0) (slice_index ys 0)
-first_same V W [] ys e a b less = absurd (omega arith)
-first_same V W (x ∷ xs) [] e a b less = absurd cc
-first_same V W (x ∷ xs) (y ∷ ys) e a b less = let n : named V x ≡ named W y = cc in (a.0, b.0, n)
-
--- the one argument of a name
-pub first_named : (W : List (List ℕ)) (ys : List ℕ) (name : List ℕ) → map (named W) ys ≡ name ∷ [] → AreBelow (length W) ys → (slice_index ys 0 < length W) × (named W (slice_index ys 0) ≡ name)
-first_named W [] name e b = absurd cc
-first_named W (y ∷ ys) name e b = let n : named W y ≡ name = cc in (b.0, n)
-
--- a destination of a name
-pub record DestNamed (W : List (List ℕ)) (d : Option ℕ) (name : List ℕ) : Type 0 where
-  pub x : ℕ
-  pub is : d ≡ Some x
-  pub within : x < length W
-  pub named_so : named W x ≡ name
-
-pub dest_named : (W : List (List ℕ)) (d : Option ℕ) (ty : Option Ty) (name : List ℕ) (t : Ty) → dest_tree W d ty ≡ Some (record { name = name; ty = t }) → AreBelow (length W) (listed d) → DestNamed W d name
-dest_named W None ty name t e b = absurd cc
-dest_named W (Some x) None name t e b = absurd cc
-dest_named W (Some x) (Some s) name t e b = record { x = x; is = refl; within = b.0; named_so = ap (λ (z : Dest). z.name) (same_Some _ _ e) }
 
 module _ (P Q : Prog) (bool : Ty) (limits : Limits) (accepted : IsAccepted P) (st : Stitched P Q bool) where
   abbrev pub Met : State → State → Type 0

@@ -23,7 +23,7 @@ use Rattle.trace_laws.specs.lines.Traced.{Trace, Laying, stop_lines, trace_of, t
 use Rattle.trace_laws.specs.refinement.Stitched.{Stands, StopsAt, IsTracedAt, Stitched}
 use Rattle.trace_paths.specs.Fits.{fit_path}
 use Rattle.trace_laws.specs.lines.Names.{is_label_item}
-use Rattle.trace_laws.proofs.lemmas.refinement.Items.{label_at}
+use Rattle.pass_edit_laws.proofs.lemmas.names.Standing.{label_at}
 use Rattle.pass_edit_laws.proofs.lemmas.plan.Splicing.{item-position, before-position, after-position}
 use Rattle.bril_tree.specs.Membership.{In}
 use Rattle.pass_edit_laws.proofs.lemmas.names.Points.{found}

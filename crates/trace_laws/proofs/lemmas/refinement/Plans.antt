@@ -1,20 +1,16 @@
 -- The plan of a program with laid traces, outside of them.
-use Rattle.std.proofs.Common.{◌≡◌, ℕ, suc, Option, Some, None, refl, sym, subst, ◌∙◌, arith}
+use Rattle.std.proofs.Common.{◌≡◌, ℕ, suc, None, sym, subst, ◌∙◌, arith}
 use Rattle.std.specs.Prelude.{slice_get}
-use Rattle.bril_tree.specs.declared.numbered.Instr.{Instr}
 use Rattle.bril_tree.specs.declared.program.Prog.{Prog}
 use Rattle.bril_tree.specs.declared.types.Ty.{Ty}
 use Rattle.bril_tree.specs.Accepted.{IsAccepted}
-use Rattle.bril_tree.specs.Edge.{branches_at, branches_from, onward}
 use Rattle.bril_tree.specs.Numbered.{names_in, tree_at}
 use Rattle.bril_tree.specs.Operand.{Location}
-use Rattle.bril_tree.specs.Step.{code_of, item_at}
 use Rattle.pass_edit_laws.specs.plan.Plan.{Plan, Preserves}
 use Rattle.pass_edit_laws.specs.names.Named.{SameLocation}
 use Rattle.pass_edit_laws.specs.names.NamedPlan.{NamePlan, plan, KeepsNames}
 use Rattle.pass_edit_laws.proofs.lemmas.names.Preserving.{names_preserve, knows_nothing}
 use Rattle.trace_laws.specs.refinement.Stitched.{Near, Stitched}
-use Rattle.bril_tree.specs.Membership.{In}
 use Rattle.pass_edit_laws.proofs.lemmas.names.Points.{label_once}
 
 module _ (P Q : Prog) (bool : Ty) (accepted : IsAccepted P) (st : Stitched P Q bool) where
@@ -47,20 +43,13 @@ module _ (P Q : Prog) (bool : Ty) (accepted : IsAccepted P) (st : Stitched P Q b
     heads = st.heads;
     start = st.start;
     same = λ f i j reached points regular. subst (λ n. tree_at P f i ≡ tree_at Q f n) (sym regular.0) (st.kept f i reached);
-    next = λ f i j reached points regular among. next f i j regular among;
+    next = λ f i j a reached points regular at stays. (st.stops f (suc i), omega arith, (let h = st.next f i a at regular.1 in let g = regular.0 in omega arith));
     labels = λ f i j name reached at bt. subst (λ n. PointsMatch f i n) (label_once Q f (st.old f i) j name (sym (st.kept f i reached) ∙ at) bt) (at_old f i);
     reads = λ f i j a x reached points regular at h. tt;
     flows = λ f i w x reached h e m n. tt;
     back = λ f w x walk is h e s sites same m. tt;
     known = knows_nothing P Q tracing (λ f i a v h. h);
   }
-    where
-      next : (f i j : ℕ) → IsRegular f i j → In (onward i) (branches_at (code_of P f) i) → PointsMatch f (suc i) (suc j)
-      next f i j regular among = by (item_at P f i) refl
-        where
-          by : (o : Option Instr) → item_at P f i ≡ o → PointsMatch f (suc i) (suc j)
-          by None e = absurd (subst (λ o. In (onward i) (branches_from (code_of P f) i o)) e among)
-          by (Some a) e = (st.stops f (suc i), omega arith, (let h = st.next f i a e regular.1 in let g = regular.0 in omega arith))
 
   pub preserves : Preserves M P Q
   preserves = names_preserve P Q tracing accepted keeps

@@ -1,6 +1,6 @@
 -- A program with laid traces refines the one that it is made from, with the factor 520.
 use Rattle.bril_tree.proofs.Elements.{zip-long}
-use Rattle.pass_edit_laws.proofs.lemmas.names.Standing.{action_at}
+use Rattle.pass_edit_laws.proofs.lemmas.names.Standing.{action_at, label_at}
 use Rattle.bril_tree.specs.declared.function_tree.Item.TheVariants as item
 use Rattle.bril_tree.specs.declared.operation.Op.TheVariants as op
 use Rattle.std.proofs.Common.{◌≡◌, ℕ, zero, suc, ◌+◌, ◌≤◌, List, [], ◌∷◌, ◌++◌, length, Option, Some, None, refl, sym, ap, subst, ◌∙◌, inl, inr, ⊎_elim, arith}
@@ -29,7 +29,6 @@ use Rattle.pass_edit_laws.proofs.lemmas.steps.Steps.{frame, state, matches, regu
 use Rattle.trace_laws.specs.lines.Lines.{leg_lines, end_lines}
 use Rattle.trace_laws.specs.lines.Traced.{Trace}
 use Rattle.trace_laws.specs.refinement.Stitched.{Stands, trace_path, IsTracedAt, Stitched}
-use Rattle.trace_laws.proofs.lemmas.refinement.Items.{label_at}
 use Rattle.trace_laws.proofs.lemmas.refinement.Plans.{IsRegular, M, preserves}
 use Rattle.trace_laws.proofs.lemmas.refinement.Along.{Met, Reaches, reach, Later, Back, Outcome, along}
 use Rattle.bril_tree.specs.Numbered.{tree_at}

@@ -1,7 +1,7 @@
 use Rattle.std.proofs.Common.{◌∙◌, ◌++◌, append-nil, sym, ap}
 use Rattle.std.proofs.lemmas.Bool.{ltb-false}
 use Rattle.std.proofs.lemmas.Option.{slice_get_past}
-use Rattle.trace_laws.specs.lines.Lines.{listed_item}
+use Rattle.pass_edit_laws.specs.plan.Lines.{listed_item}
 use Rattle.trace_stitcher.proofs.lines.push_straight.Goals as goal
 
 pub returns-in_default : goal.returns-in_default

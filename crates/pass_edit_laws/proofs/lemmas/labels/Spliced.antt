@@ -1,15 +1,14 @@
--- The labels of a spliced list differ, and so do fresh names of different first forms.
-use Rattle.bril_tree.specs.declared.function_tree.Item.TheVariants as item
-use Rattle.std.proofs.Common.{◌≡◌, ◌≢◌, ℕ, zero, suc, ◌+◌, ◌<◌, ◌≤◌, List, [], ◌∷◌, ◌++◌, length, get_or, Some, refl, sym, ap, subst, ◌∙◌, inl, inr, ⊎_elim, arith}
+-- The labels of a spliced list differ.
+use Rattle.std.proofs.Common.{◌≡◌, ◌≢◌, ℕ, suc, ◌+◌, ◌≤◌, List, [], ◌∷◌, ◌++◌, get_or, Some, refl, sym, ap, subst, ◌∙◌, inl, inr, ⊎_elim, arith}
 use Rattle.std.specs.Prelude.{slice_get}
-use Rattle.std.proofs.lemmas.List.Elements.{filter_map-append}
+use Rattle.std.proofs.lemmas.List.Elements.{Contains-get_or, filter_map-append}
 use Rattle.std.proofs.lemmas.List.Kept.{AllPairs-cons}
 use Rattle.bril_tree.specs.declared.function_tree.Item.{Item}
-use Rattle.bril_names.specs.Faults.{Differ, label_of, labels_of}
-use Rattle.trace_laws.specs.lines.Names.{underscored, IsFresh, IsPlain}
-use Rattle.pass_edit_laws.specs.plan.Spliced.{spliced}
+use Rattle.bril_tree.specs.declared.function_tree.Item.TheVariants as item
 use Rattle.bril_tree.specs.Membership.{In}
-use Rattle.bril_tree.proofs.Members.{in_append_cases}
+use Rattle.bril_tree.proofs.Members.{in_append_cases, in_contains}
+use Rattle.bril_names.specs.Faults.{Differ, label_of, labels_of}
+use Rattle.pass_edit_laws.specs.plan.Spliced.{spliced}
 
 -- ---- lists without repetition
 
@@ -21,14 +20,13 @@ pub apart-append : (xs ys : List (List ℕ)) → Apart xs → Apart ys → ((a :
 apart-append [] ys h k cross = k
 apart-append (x ∷ xs) ys h k cross = ((λ i. ⊎_elim h.0 (λ j. cross x (inl refl) j) (in_append_cases x xs ys i)), apart-append xs ys h.1 k (λ a i j. cross a (inr i) j))
 
-get-in : (xs : List (List ℕ)) (k : ℕ) (d : List ℕ) → k < length xs → In (get_or xs k d) xs
-get-in [] k d less = absurd (omega arith)
-get-in (x ∷ xs) zero d less = inl refl
-get-in (x ∷ xs) (suc k) d less = inr (get-in xs k d (omega arith))
-
 pub differ-apart : (xs : List (List ℕ)) → Apart xs → Differ xs
 differ-apart [] h = λ i j d l within same. absurd (omega arith)
-differ-apart (x ∷ xs) h = AllPairs-cons (λ a b. a ≢ b) x xs (λ k d less same. h.0 (subst (λ z. In z xs) (sym same) (get-in xs k d less))) (differ-apart xs h.1)
+differ-apart (x ∷ xs) h = AllPairs-cons (λ a b. a ≢ b) x xs (λ k d less same. h.0 (subst (λ z. In z xs) (sym same) (in_contains (get_or xs k d) xs (Contains-get_or xs k d less)))) (differ-apart xs h.1)
+
+pub empty-apart : (xs : List (List ℕ)) → ((a : List ℕ) → In a xs → ⊥) → Apart xs
+empty-apart [] h = tt
+empty-apart (x ∷ xs) h = absurd (h x (inl refl))
 
 -- ---- a spliced list: each label has one block
 
@@ -83,17 +81,3 @@ module _ (before behind : ℕ → List Item) (Owned : ℕ → List ℕ → Type 
       (apart-append (labels_of (before k)) (labels_of (x ∷ []) ++ (labels_of (behind k) ++ labels_of (spliced before behind (suc k) items))) (firsts k) three
       (λ a i j. ⊎_elim (λ b. (one-label k x items h a b).1 i) (λ s. ⊎_elim (λ b. both k a i b) (λ b. later k items rest a (first k a i) b) (in_append_cases a (labels_of (behind k)) (labels_of (spliced before behind (suc k) items)) s))
       (in_append_cases a (labels_of (x ∷ [])) (labels_of (behind k) ++ labels_of (spliced before behind (suc k) items)) j)))
-
--- ---- fresh names
-
-pub one-base : (n m : ℕ) (a b : List ℕ) → IsPlain a → IsPlain b → underscored n a ≡ underscored m b → a ≡ b
-one-base zero zero a b pa pb e = e
-one-base zero (suc m) [] b pa pb e = absurd pa
-one-base zero (suc m) (c ∷ a) b pa pb e = absurd (pa (let h : c ≡ 95 = cc in h))
-one-base (suc n) zero a [] pa pb e = absurd pb
-one-base (suc n) zero a (c ∷ b) pa pb e = absurd (pb (let h : c ≡ 95 = cc in h))
-one-base (suc n) (suc m) a b pa pb e = one-base n m a b pa pb (let h : underscored n a ≡ underscored m b = cc in h)
-
--- equal fresh names have one first form
-pub fresh-once : (taken taken' : List (List ℕ)) (a b x y : List ℕ) → IsFresh taken a x → IsFresh taken' b y → IsPlain a → IsPlain b → x ≡ y → a ≡ b
-fresh-once taken taken' a b x y f g pa pb e = one-base f.marks g.marks a b pa pb (sym f.is ∙ e ∙ g.is)

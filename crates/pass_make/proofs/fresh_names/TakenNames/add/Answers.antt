@@ -1,8 +1,8 @@
 use Rattle.std.proofs.Common.{◌≡◌, map, subst}
 use Rattle.bril_names.specs.Numbering.{Adds}
 use Rattle.bril_names.proofs.Tables.{added}
-use Rattle.trace_stitcher.proofs.lemmas.fresh_names.Taking.{added-new}
-use Rattle.trace_stitcher.proofs.fresh_names.taken.TakenNames.add.Goals as goal
+use Rattle.pass_make.proofs.Taking.{added-new}
+use Rattle.pass_make.proofs.fresh_names.TakenNames.add.Goals as goal
 
 pub returns : goal.returns
 returns c =

@@ -1,10 +1,10 @@
-// Names that are taken, and fresh ones.
+// Names that are taken in a function, and fresh ones: with the least number of `_` in front that makes a name new.
 
 ghost use Rattle.std.specs.Prelude.{◌≡◌, ◌↔◌, ◌++◌, ◌∷◌, [], IfOk, IsTrue, OnOk};
 ghost use Rattle.std.specs.List.{Contains};
 ghost use Rattle.bril_tree.specs.Identifier.{is_identifier};
 ghost use Rattle.bril_tree.specs.Numbered.{variable_names};
-ghost use Rattle.trace_laws.specs.lines.Names.{IsFresh};
+ghost use Rattle.pass_edit_laws.specs.labels.Fresh.{IsFresh};
 
 use bril_tree::name::{IdentFault, Name};
 use bril_tree::numbered_function::Func;

@@ -1,10 +1,13 @@
--- Fresh names: there is one for each base.
-use Rattle.std.proofs.Common.{◌≡◌, ◌⊎◌, ℕ, zero, suc, ◌+◌, ◌<◌, ◌≤◌, List, [], ◌∷◌, length, refl, sym, ap, subst, ◌∙◌, inl, inr, ⊎_elim, zero-add, arith}
-use Rattle.std.specs.List.{sum_by}
-use Rattle.std.proofs.lemmas.Bool.{cases_order}
+-- Fresh names: there is one for each base, those of different bases differ, and they are identifiers.
+use Rattle.std.proofs.Common.{◌≡◌, ◌⊎◌, ◌||◌, ℕ, zero, suc, ◌+◌, ◌<◌, ◌≤◌, false, true, List, [], ◌∷◌, length, refl, sym, ap, subst, ◌∙◌, inl, inr, ⊎_elim, zero-add, arith}
+use Rattle.std.specs.Prelude.{◌==◌}
+use Rattle.std.specs.Char.{is_ascii_digit}
+use Rattle.std.specs.List.{list_all, sum_by}
+use Rattle.std.proofs.lemmas.Bool.{and_from, and_parts, cases_order}
 use Rattle.std.proofs.lemmas.List.Sums.{sum_by-cons}
+use Rattle.bril_tree.specs.Identifier.{begins_identifier, continues_identifier, is_identifier}
 use Rattle.bril_tree.specs.Membership.{In}
-use Rattle.trace_laws.specs.lines.Names.{underscored, IsFresh}
+use Rattle.pass_edit_laws.specs.labels.Fresh.{IsFresh, IsUnmarked, underscored}
 
 -- ---- lengths
 
@@ -67,3 +70,29 @@ fresh-from taken base (suc fuel) n long before = by (is_in (underscored n base) 
 
 pub fresh-there : (taken : List (List ℕ)) (base : List ℕ) → (name : List ℕ) × IsFresh taken base name
 fresh-there taken base = fresh-from taken base (suc (sum_by length taken)) 0 (omega arith) (λ m l. absurd (omega arith))
+
+-- ---- those of different bases differ
+
+pub one-base : (n m : ℕ) (a b : List ℕ) → IsUnmarked a → IsUnmarked b → underscored n a ≡ underscored m b → a ≡ b
+one-base zero zero a b pa pb e = e
+one-base zero (suc m) [] b pa pb e = absurd pa
+one-base zero (suc m) (c ∷ a) b pa pb e = absurd (pa (let h : c ≡ 95 = cc in h))
+one-base (suc n) zero a [] pa pb e = absurd pb
+one-base (suc n) zero a (c ∷ b) pa pb e = absurd (pb (let h : c ≡ 95 = cc in h))
+one-base (suc n) (suc m) a b pa pb e = one-base n m a b pa pb (let h : underscored n a ≡ underscored m b = cc in h)
+
+-- equal fresh names have one first form
+pub fresh-once : (taken taken' : List (List ℕ)) (a b x y : List ℕ) → IsFresh taken a x → IsFresh taken' b y → IsUnmarked a → IsUnmarked b → x ≡ y → a ≡ b
+fresh-once taken taken' a b x y f g pa pb e = one-base f.marks g.marks a b pa pb (sym f.is ∙ e ∙ g.is)
+
+-- ---- they are identifiers
+
+marked : (xs : List ℕ) → is_identifier xs ≡ true → is_identifier (95 ∷ xs) ≡ true
+marked [] h = absurd (let e : false ≡ true = h in cc)
+marked (x ∷ xs) h =
+    let parts = and_parts (begins_identifier x) (list_all continues_identifier xs) h in
+    and_from (continues_identifier x) (list_all continues_identifier xs) (ap (λ b. (b || (x == 46)) || is_ascii_digit x) parts.0) parts.1
+
+pub underscored-identifier : (n : ℕ) (base : List ℕ) → is_identifier base ≡ true → is_identifier (underscored n base) ≡ true
+underscored-identifier zero base h = h
+underscored-identifier (suc n) base h = marked (underscored n base) (underscored-identifier n base h)

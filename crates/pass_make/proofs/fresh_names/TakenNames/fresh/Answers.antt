@@ -3,8 +3,8 @@ use Rattle.std.specs.List.{Contains}
 use Rattle.std.proofs.lemmas.Bool.{true≢false}
 use Rattle.std.proofs.lemmas.Result.{IfOk-weaker}
 use Rattle.bril_tree.specs.Identifier.{is_identifier}
-use Rattle.trace_stitcher.proofs.lemmas.fresh_names.Marks.{one-more, marked-fresh, marked-identifier}
-use Rattle.trace_stitcher.proofs.fresh_names.taken.TakenNames.fresh.Goals as goal
+use Rattle.pass_make.proofs.Marks.{one-more, marked-fresh, marked-identifier}
+use Rattle.pass_make.proofs.fresh_names.TakenNames.fresh.Goals as goal
 
 pub marks-preserved : goal.marks-preserved
 marks-preserved c =

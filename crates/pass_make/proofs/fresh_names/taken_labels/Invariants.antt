@@ -1,5 +1,5 @@
 use Rattle.std.proofs.Common.{◌≡◌, take}
-use Rattle.trace_stitcher.proofs.fresh_names.taken.taken_labels.Given as goal
+use Rattle.pass_make.proofs.fresh_names.taken_labels.Given as goal
 
 abbrev pub invariant-loop-label : goal.invariant-loop-label
 invariant-loop-label l = l.taken ≡ take l.label-index l.func.labels

@@ -1,7 +1,7 @@
 use Rattle.std.proofs.Common.{◌+◌, ◌-◌, length}
 use Rattle.std.specs.List.{sum_by}
-use Rattle.trace_stitcher.proofs.lemmas.fresh_names.Marks.{AreMarked}
-use Rattle.trace_stitcher.proofs.fresh_names.taken.TakenNames.fresh.Given as goal
+use Rattle.pass_make.proofs.Marks.{AreMarked}
+use Rattle.pass_make.proofs.fresh_names.TakenNames.fresh.Given as goal
 
 abbrev pub invariant-marks : goal.invariant-marks
 invariant-marks l = AreMarked l.self l.fn.base.items l.bytes.items

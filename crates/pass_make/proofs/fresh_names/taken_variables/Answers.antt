@@ -2,8 +2,8 @@ use Rattle.std.proofs.Common.{◌≡◌, ◌∙◌, ◌<◌, ◌++◌, ◌∷◌
 use Rattle.std.specs.List.{Contains}
 use Rattle.bril_tree.specs.declared.numbered.VarInfo.{VarInfo}
 use Rattle.bril_names.proofs.Functions.{Differ-variables}
-use Rattle.trace_stitcher.proofs.lemmas.fresh_names.Taking.{name-new, name-joins}
-use Rattle.trace_stitcher.proofs.fresh_names.taken.taken_variables.Goals as goal
+use Rattle.pass_make.proofs.Taking.{name-new, name-joins}
+use Rattle.pass_make.proofs.fresh_names.taken_variables.Goals as goal
 
 pub add-requires : goal.add-requires
 add-requires c =

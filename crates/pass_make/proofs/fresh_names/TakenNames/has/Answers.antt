@@ -1,5 +1,5 @@
-use Rattle.trace_stitcher.proofs.lemmas.fresh_names.Taking.{has-tells}
-use Rattle.trace_stitcher.proofs.fresh_names.taken.TakenNames.has.Goals as goal
+use Rattle.pass_make.proofs.Taking.{has-tells}
+use Rattle.pass_make.proofs.fresh_names.TakenNames.has.Goals as goal
 
 pub returns : goal.returns
 returns c =
