@@ -9,14 +9,16 @@
 //! 2. What an edit makes (`src/made.rt`).
 //! 3. From an edited tree to a checked program: `finish` numbers and checks it (`src/from_tree.rt`). The item that passes put
 //!    in place of others is there too.
-//! 4. What follows where a relation says what is made of each function (`proofs/Each.antt`), and the loop over the functions
-//!    (`proofs/Functions.antt`).
+//! 4. From the edit of one function to the tree of a program: `each_function` (`src/by_function.rt`, `specs/Each.antt`). What
+//!    follows where a relation says what is made of each function: `proofs/Each.antt`.
 #![tactic(auto)]
 
+mod by_function;
 mod edit;
 mod from_tree;
 mod made;
 
+pub use by_function::each_function;
 pub use edit::{Edit, Edited};
 pub use from_tree::{finish, nop};
 pub use made::Made;
