@@ -1,2 +1,3 @@
 pub mod CanBeMade
 pub mod Edited
+pub mod Each

@@ -7,6 +7,8 @@ use Rattle.std.proofs.lemmas.List.{length-map}
 use Rattle.std.proofs.lemmas.List.Elements.{All-cons}
 use Rattle.std.proofs.lemmas.List.Sums.{sum_by-cons}
 use Rattle.std.proofs.lemmas.Option.{slice_get-map}
+use Rattle.std.proofs.lemmas.Simd.{map-map}
+use Rattle.std.proofs.lemmas.Slice.Zip.{AllZip-map}
 use Rattle.bril_tree.specs.declared.function_tree.FuncTree.{FuncTree}
 use Rattle.bril_tree.specs.declared.numbered_function.Func.{Func}
 use Rattle.bril_tree.specs.declared.program.Prog.{Prog}
@@ -84,16 +86,16 @@ padded-made P accepted room = record {
   items = each_within 4294967295 (padded_tree (tree_of P)).funcs (subst (λ n. n < 4294967295) (sym (size-padded P)) (⊎_elim (λ l. omega arith) (λ l. absurd (let some = (is_main P).within in let many = length-map P.funcs (λ (f : Func). f.name) in omega arith)) room));
 }
 
--- ---- by what the calls give: the tree of the program, its edit, and the program numbered of that
+-- ---- by what the calls give: each function, padded
 
-module _ (P : Prog) (tree made : Tree) (accepted : IsAccepted P) (of_p : Numbered tree P) (edited : made ≡ padded_tree tree) where
-  made-is : made ≡ padded_tree (tree_of P)
-  made-is = edited ∙ ap padded_tree (numbered-tree_of tree P of_p)
+pub all-padded : (P : Prog) (made : Tree) → made.imports ≡ [] → AllZip (λ F g. g ≡ padded_function (function_tree (names_of_functions P.funcs) F)) P.funcs made.funcs → made ≡ padded_tree (tree_of P)
+all-padded P made none each = λ i. record { imports = none i; funcs = (AllZip-map (λ F. padded_function (function_tree (names_of_functions P.funcs) F)) P.funcs made.funcs each ∙ sym (map-map padded_function (function_tree (names_of_functions P.funcs)) P.funcs)) i }
 
+module _ (P : Prog) (made : Tree) (accepted : IsAccepted P) (is : made ≡ padded_tree (tree_of P)) where
   linked : HasRoom (λ k. k ≡ padded_size P) (item_count P) → (profile : Profile) (Q : Prog) → Numbered made Q → IsAccepted Q → item_count Q ≡ tree_size made → Link pad_meaning profile P Q
   linked room profile Q of_q accepted_q size =
-      let makes : IsPadded P Q = sym (numbered-tree_of made Q of_q) ∙ made-is in
-      let many = size ∙ ap tree_size made-is ∙ size-padded P in
+      let makes : IsPadded P Q = sym (numbered-tree_of made Q of_q) ∙ is in
+      let many = size ∙ ap tree_size is ∙ size-padded P in
       record {
         makes = makes;
         accepted = accepted_q;
@@ -107,7 +109,7 @@ module _ (P : Prog) (tree made : Tree) (accepted : IsAccepted P) (of_p : Numbere
       }
 
   pub padded-linked : HasRoom (λ k. k ≡ padded_size P) (item_count P) → (profile : Profile) → IsLinkedTo pad_meaning profile P (making.Tree made)
-  padded-linked room profile = (subst (CanBeMade P) (sym made-is) (padded-made P accepted (room (padded_size P) refl)), linked room profile)
+  padded-linked room profile = (subst (CanBeMade P) (sym is) (padded-made P accepted (room (padded_size P) refl)), linked room profile)
 
 -- the factor and the bound are equations
 pub pad-numbers : HasNumbers pad_meaning

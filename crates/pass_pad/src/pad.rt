@@ -5,7 +5,6 @@ ghost use Rattle.pass_pad.specs.Plan.{padding, pad_plan};
 
 use crate::edit::padded;
 use bril_checker::Checked;
-use bril_names::unnumber;
 use bril_profile::Profile;
 use pass_edit_laws::names::PlannedByNames;
 use pass_edit_laws::plan::Planned;
@@ -40,7 +39,6 @@ impl Edit for PadEdit {
     }
 
     fn edit(alloc: Global, prog: &Checked, _profile: &Profile) -> Result<Made, AllocError> {
-        let tree = unnumber(alloc, prog.prog())?;
-        Ok(Made::Tree(padded(alloc, tree)?))
+        Ok(Made::Tree(padded(alloc, prog.prog())?))
     }
 }

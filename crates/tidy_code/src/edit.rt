@@ -9,7 +9,6 @@ ghost use Rattle.bril_tree.specs.Size.{IsCounted};
 ghost use Rattle.flow_graph.specs.Graph.{IsGraphOf};
 ghost use Rattle.tidy_code.specs.Tidied.{IsStaying, IsTidiedFunction, IsTidiedTree};
 
-use bril_names::function_of;
 use bril_tree::function_tree::{FuncTree, Item};
 use bril_tree::numbered_function::Func;
 use bril_tree::operation::Op;
@@ -17,6 +16,7 @@ use bril_tree::program::Prog;
 use bril_tree::sequence::Seq;
 use bril_tree::tree::Tree;
 use flow_graph::Graph;
+use pass_make::each_function;
 use std::alloc::{AllocError, Global};
 
 // The program's tree with what stays of each function.
@@ -25,14 +25,8 @@ pub(crate) fn tidied(alloc: Global, prog: &Prog) -> Result<Tree, AllocError>
     requires counted { IsCounted prog.now }
     ensures { IfOk result (λ tree. IsTidiedTree prog.now tree) }
 {
-    let mut funcs = Seq::new(alloc);
-    for (number, func) in prog.funcs.as_slice().iter().enumerate() {
-        let function = function_of(alloc, prog, number as u32)?;
-        funcs.push(tidied_function(alloc, func, function)?)?;
-    }
-    Ok(Tree {
-        imports: Seq::new(alloc),
-        funcs,
+    each_function(alloc, prog, |_number, func, function| {
+        tidied_function(alloc, func, function)
     })
 }
 
