@@ -10,5 +10,5 @@
 mod blocks;
 mod search;
 
-pub use blocks::{block_arcs, heads};
+pub use blocks::{block_arcs, heads, is_label_at};
 pub use search::live_labels;

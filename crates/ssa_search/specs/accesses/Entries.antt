@@ -1,5 +1,5 @@
 -- The entries of a function's labels: each leave point of each label once.
-use Rattle.std.specs.Prelude.{◌≡◌, ◌≢◌, ◌↔◌, ◌⊎◌, ℕ, ◌<◌, Bool, true, false, List, [], ◌∷◌, ◌++◌, map, Option, Some, None, slice_get}
+use Rattle.std.specs.Prelude.{◌≡◌, ◌≢◌, ◌⊎◌, ℕ, ◌<◌, Bool, true, false, List, [], ◌∷◌, Option, Some, None, slice_get}
 use Rattle.std.specs.List.{AllPairs, Contains}
 use Rattle.bril_tree.specs.declared.edge.Edge.{Edge}
 use Rattle.bril_tree.specs.declared.numbered.Instr.{Instr}
@@ -28,13 +28,6 @@ entry_of k p = record { leave = Some p; label = k }
 abbrev pub start_entries : Bool → List Entry
 start_entries true = record { leave = None; label = 0 } ∷ []
 start_entries false = []
-
--- the entries of a label, but for one from the start, were added
-pub record AddsEntries (code : List Instr) (k : ℕ) (old new : List Entry) : Type 0 where
-  pub leaves : List ℕ
-  pub grew : new ≡ old ++ map (entry_of k) leaves
-  pub differ : AllPairs (λ p q. p ≢ q) leaves
-  pub exact : (p : ℕ) → Contains leaves p ↔ EntersAt code (Some p) k
 
 -- the entries of the labels before a point
 pub record AreEntriesBefore (code : List Instr) (bound : ℕ) (entries : List Entry) : Type 0 where

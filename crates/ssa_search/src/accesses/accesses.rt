@@ -8,6 +8,7 @@ ghost use Rattle.flow_graph.specs.Graph.{IsGraphOf};
 ghost use Rattle.ssa_search.specs.accesses.Accesses.{AreAccessesBefore, AreBlockAccesses, exposed_if, exposed_read, exposed_reads, first_write, last_behind};
 ghost use Rattle.ssa_search.specs.placing.Wanted.{head_of, is_label};
 
+use crate::placing::is_label_at;
 use bril_tree::numbered::Instr;
 use bril_tree::numbered_function::Func;
 use flow_graph::{Access, AccessLists, Graph, assigned_number, item_reads};
@@ -96,16 +97,6 @@ fn note_assigned(
         last[x as usize] = point + 1;
     }
     Ok(())
-}
-
-// Whether a label stands at a point.
-fn is_label_at(code: &[Instr], point: u32) -> bool
-    ensures { result ≡ is_label (slice_get code.now point) }
-{
-    match code.get(point as usize) {
-        Some(Instr::Label(_)) => true,
-        _ => false,
-    }
 }
 
 // Whether the reads at a point count: walks lead to it, and its block begins with a label.

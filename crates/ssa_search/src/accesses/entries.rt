@@ -1,12 +1,13 @@
 // The entries of labels: each leave point of each label once.
 
-ghost use Rattle.std.specs.Prelude.{◌≡◌, ◌<◌, ◌↔◌, ◌^◌, ◌-◌, ◌++◌, [], ℕ, suc, true, length, map, slice_get, IfOk, OnOk};
+ghost use Rattle.std.specs.Prelude.{◌≡◌, ◌<◌, ◌↔◌, ◌^◌, ◌-◌, ◌++◌, [], ℕ, suc, length, map, slice_get, IfOk, OnOk};
 ghost use Rattle.std.specs.List.{All, Contains};
 ghost use Rattle.bril_tree.specs.Sites.{AreSitesSound};
 ghost use Rattle.flow_graph.specs.Graph.{IsGraphOf};
-ghost use Rattle.ssa_search.specs.accesses.Entries.{AddsEntries, AreEntriesBefore, AreEntriesOf, entry_of, start_entries};
+ghost use Rattle.ssa_search.specs.accesses.Entries.{AreEntriesBefore, AreEntriesOf, entry_of, start_entries};
 ghost use Rattle.ssa_search.specs.placing.Wanted.{is_label};
 
+use crate::placing::is_label_at;
 use bril_tree::edge::Edge;
 use bril_tree::numbered::Instr;
 use flow_graph::Graph;
@@ -19,16 +20,6 @@ use std::alloc::{AllocError, Global};
 pub struct Entry {
     pub leave: Option<u32>,
     pub label: u32,
-}
-
-// Whether a label stands at a point.
-fn is_label_at(code: &[Instr], point: u32) -> bool
-    ensures { result ≡ is_label (slice_get code.now point) }
-{
-    match code.get(point as usize) {
-        Some(Instr::Label(_)) => true,
-        _ => false,
-    }
 }
 
 // The points where these edges leave.
@@ -64,33 +55,8 @@ fn push_entries(entries: &mut Vec<Entry>, leaves: &[u32], label: u32) -> Result<
     Ok(())
 }
 
-// Adds the entries of a label, but for that from the start of the function. `code` has the function's items.
-fn add_entries(
-    alloc: Global,
-    entries: &mut Vec<Entry>,
-    code: &[Instr],
-    graph: &Graph,
-    reached: &mut Reached,
-    none: &ArcGraph,
-    label: u32,
-) -> Result<(), AllocError>
-    requires graph { IsGraphOf code.now graph.now }
-    requires sound { AreSitesSound code.now }
-    requires nodes { reached.old.nodes ≡ none.now.nodes }
-    requires points { none.now.nodes ≡ length code.now }
-    requires none { none.now.arcs ≡ [] }
-    requires label { label < length code.now }
-    requires is_label { is_label (slice_get code.now label) ≡ true }
-    ensures nodes { reached.new.nodes ≡ reached.old.nodes }
-    ensures added { OnOk result (AddsEntries code.now label entries.old.items entries.new.items) }
-{
-    let leaves = leaves_of(alloc, graph.preds(label))?;
-    distinct(reached, none, leaves.as_slice())?;
-    push_entries(entries, reached.found(), label)?;
-    Ok(())
-}
-
-// Adds the entries of the label at a point, where one stands there, but for that from the start of the function.
+// Adds the entries of the label at a point, where one stands there, but for that from the start of the function. `code` has the
+// function's items.
 fn push_label(
     alloc: Global,
     entries: &mut Vec<Entry>,
@@ -113,7 +79,9 @@ fn push_label(
     if !is_label_at(code, point) {
         return Ok(());
     }
-    add_entries(alloc, entries, code, graph, reached, none, point)?;
+    let leaves = leaves_of(alloc, graph.preds(point))?;
+    distinct(reached, none, leaves.as_slice())?;
+    push_entries(entries, reached.found(), point)?;
     Ok(())
 }
 

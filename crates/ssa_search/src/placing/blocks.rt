@@ -12,8 +12,8 @@ use flow_graph::Graph;
 use graph_search::Arc;
 use std::alloc::{AllocError, Global};
 
-// Whether a label stands at a point.
-fn is_label_at(code: &[Instr], point: u32) -> bool
+/// Whether a label stands at a point. Takes no memory.
+pub fn is_label_at(code: &[Instr], point: u32) -> bool
     ensures { result ≡ is_label (slice_get code.now point) }
 {
     match code.get(point as usize) {

@@ -1,5 +1,5 @@
 -- The entries of labels, label by label.
-use Rattle.std.proofs.Common.{◌≡◌, ◌≢◌, ◌↔◌, ◌⊎◌, ℕ, suc, ◌<◌, ◌≤◌, Bool, true, false, List, [], ◌∷◌, length, map, get_or, Option, Some, None, refl, sym, ap, subst, ◌∙◌, inl, inr, ⊎_elim, arith}
+use Rattle.std.proofs.Common.{◌≡◌, ◌≢◌, ◌↔◌, ◌⊎◌, ℕ, suc, ◌<◌, ◌≤◌, Bool, true, false, List, [], ◌∷◌, ◌++◌, length, map, get_or, Option, Some, None, refl, sym, ap, subst, ◌∙◌, inl, inr, ⊎_elim, arith}
 use Rattle.std.specs.Prelude.{◌==◌, slice_get}
 use Rattle.std.specs.List.{All, AllPairs, Contains, filter}
 use Rattle.std.proofs.lemmas.Bool.{cases_eq, eq-eqb, eqb-true}
@@ -17,7 +17,7 @@ use Rattle.graph_search.specs.Path.{IsReached}
 use Rattle.graph_search.proofs.Paths.{reached_all, reached_seed}
 use Rattle.pass_edit_laws.proofs.lemmas.numbers.Different.{differ-both, differ-map, filter_in, in_filter}
 use Rattle.ssa_search.specs.declared.accesses.entries.Entry.{Entry}
-use Rattle.ssa_search.specs.accesses.Entries.{AddsEntries, AreEntriesBefore, AreEntriesOf, EntersAt, entry_of, start_entries}
+use Rattle.ssa_search.specs.accesses.Entries.{AreEntriesBefore, AreEntriesOf, EntersAt, entry_of, start_entries}
 use Rattle.ssa_search.specs.placing.Wanted.{is_label}
 use Rattle.ssa_search.proofs.lemmas.placing.Arcs.{edge-within}
 
@@ -54,6 +54,13 @@ module _ (code : List Instr) (graph : GraphView) (is : IsGraphOf code graph) (so
         let among : In edge edges = subst (In edge) (sym same) (in_filter (λ (e : Edge). e.to == k) graph.edges edge listed (eq-eqb edge.to k e.1.3)) in
         contains_in p (map (λ e. e.leave) edges) (subst (λ q. In q (map (λ e. e.leave) edges)) e.1.2 (in_map (λ (e : Edge). e.leave) edge edges among))),
   )
+
+-- the entries of a label, but for one from the start, were added
+pub record AddsEntries (code : List Instr) (k : ℕ) (old new : List Entry) : Type 0 where
+  pub leaves : List ℕ
+  pub grew : new ≡ old ++ map (entry_of k) leaves
+  pub differ : AllPairs (λ p q. p ≢ q) leaves
+  pub exact : (p : ℕ) → Contains leaves p ↔ EntersAt code (Some p) k
 
 module _ (code : List Instr) where
   entry-one : (k p q : ℕ) → entry_of k p ≡ entry_of k q → p ≡ q

@@ -232,15 +232,6 @@ accesses-more code p item at last exposed firsts before reads counts reached lab
   firsts_only = firsts-only code p item at last exposed firsts before reads x is writes;
 }
 
-pub no-accesses : (code : List Instr) (last : List ℕ) → ((x : ℕ) → slice_index last x ≡ 0) → AreAccessesBefore code 0 last [] []
-no-accesses code last none = record {
-  last_write = λ a low. subst (IsLastWrite code a 0) (sym (none (number_of a))) (record { within = omega arith; stands = λ q e. absurd (omega (arith, e)); after = λ q from less. absurd (omega (arith, less)) });
-  exposed_there = λ a h x less. absurd (omega (arith, less));
-  exposed_only = λ a h c. absurd (in_contains _ [] c);
-  firsts_there = λ a q f less. absurd (omega (arith, less));
-  firsts_only = λ a q c. absurd (in_contains _ [] c);
-}
-
 pub assigned-within : (code : List Instr) (a : Location) (q : ℕ) → Contains (assigns_at (slice_get code q)) a → q < length code
 assigned-within code a q c = by (slice_get code q) refl
   where

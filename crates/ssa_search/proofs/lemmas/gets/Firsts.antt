@@ -1,9 +1,9 @@
 -- The array of first points: written at the heads of blocks, and blank again.
-use Rattle.std.proofs.Common.{◌≡◌, ◌↔◌, ◌⊎◌, ℕ, zero, suc, ◌+◌, ◌-◌, ◌<◌, ◌≤◌, true, List, [], ◌∷◌, length, drop, refl, sym, ap, subst, ◌∙◌, inl, inr, ⊎_elim, set, arith}
+use Rattle.std.proofs.Common.{◌≡◌, ◌↔◌, ◌⊎◌, ℕ, zero, suc, ◌+◌, ◌-◌, ◌<◌, ◌≤◌, true, List, [], ◌∷◌, length, refl, sym, ap, subst, ◌∙◌, inl, inr, ⊎_elim, set, arith}
 use Rattle.std.specs.Prelude.{nat_lt, slice_get, slice_index}
 use Rattle.std.specs.List.{Contains}
 use Rattle.std.proofs.lemmas.Bool.{cases_eq, cases_lt, lt-ltb, ltb-true}
-use Rattle.std.proofs.lemmas.List.{drop_all, get_or-set_same, get_or-set_other, length-set}
+use Rattle.std.proofs.lemmas.List.{get_or-set_same, get_or-set_other, length-set}
 use Rattle.bril_tree.specs.Assigned.{assigns_at}
 use Rattle.bril_tree.specs.declared.numbered.Instr.{Instr}
 use Rattle.bril_tree.specs.Membership.{In}
@@ -51,10 +51,6 @@ erased-blank heads points first blank i low =
     (λ w. w.3)
     (λ n. n.1 ∙ ⊎_elim (λ w. absurd (n.0 w.0 w.1 w.2)) (λ m. m.1 ∙ blank i inside) (written_by (λ p. p) heads points first i inside))
     (written_by (λ _. 4294967295) heads points (with_values (λ p. p) heads points first) i (omega (arith, long, inside)))
-
--- past the last point all are written
-pub all-written : (value : ℕ → ℕ) (heads points : List ℕ) (i : ℕ) (first : List ℕ) → length points ≤ i → with_values value heads (drop i points) first ≡ first
-all-written value heads points i first high = ap (λ ps. with_values value heads ps first) (drop_all i points high)
 
 -- ---- first points
 

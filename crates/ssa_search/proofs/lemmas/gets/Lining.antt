@@ -23,14 +23,6 @@ gets-numbered d [] t get e = absurd (let n : None ≡ Some get = e in cc)
 gets-numbered d (x ∷ xs) zero get e = sym (ap (λ (g : WantedGet). g.definition) (same_Some _ get e)) ∙ (let z : d ≡ d + 0 = omega arith in z)
 gets-numbered d (x ∷ xs) (suc t) get e = gets-numbered (suc d) xs t get e ∙ (let z : suc d + t ≡ d + suc t = omega arith in z)
 
--- one `get` more
-pub gets-more : (d : ℕ) (xs : List ℕ) (x : ℕ) (list : List WantedGet) (base : ℕ) → d ≡ base + length list → list ++ gets_from d (x ∷ xs) ≡ (list ++ record { location = x; definition = d } ∷ []) ++ gets_from (suc d) xs
-gets-more d xs x list base e = push list (record { location = x; definition = d }) (gets_from (suc d) xs)
-  where
-    push : (l : List WantedGet) (g : WantedGet) (rest : List WantedGet) → l ++ g ∷ rest ≡ (l ++ g ∷ []) ++ rest
-    push [] g rest = refl
-    push (h ∷ l) g rest = ap (λ z. h ∷ z) (push l g rest)
-
 appended-get : {A : Type 0} (xs ys : List A) (t : ℕ) (x : A) → slice_get (xs ++ ys) t ≡ Some x → (slice_get xs t ≡ Some x) ⊎ ((s : ℕ) × (t ≡ length xs + s) × (slice_get ys s ≡ Some x))
 appended-get [] ys t x e = inr (t, (let z : t ≡ 0 + t = omega arith in z), e)
 appended-get (y ∷ xs) ys zero x e = inl e

@@ -1,9 +1,9 @@
 -- The lanes of a search: first points that are written and taken out, and seeds.
-use Rattle.std.proofs.Common.{◌≡◌, ◌⊎◌, ◌↔◌, ℕ, suc, ◌+◌, ◌*◌, ◌<◌, ◌≤◌, true, List, [], ◌∷◌, ◌++◌, length, drop, map, refl, sym, ap, subst, ◌∙◌, inl, inr, ⊎_elim, set, arith}
+use Rattle.std.proofs.Common.{◌≡◌, ◌⊎◌, ◌↔◌, ℕ, suc, ◌+◌, ◌*◌, ◌<◌, ◌≤◌, true, List, [], ◌∷◌, ◌++◌, length, map, refl, sym, ap, subst, ◌∙◌, inl, inr, ⊎_elim, set, arith}
 use Rattle.std.specs.Prelude.{slice_get, slice_index}
 use Rattle.std.specs.List.{Contains, filter}
 use Rattle.std.proofs.lemmas.Bool.{cases_eq}
-use Rattle.std.proofs.lemmas.List.{drop_all, get_or-set_same, get_or-set_other, length-set}
+use Rattle.std.proofs.lemmas.List.{get_or-set_same, get_or-set_other, length-set}
 use Rattle.bril_tree.specs.declared.numbered.Instr.{Instr}
 use Rattle.bril_tree.specs.Membership.{In}
 use Rattle.bril_tree.specs.Operand.{Location}
@@ -55,9 +55,6 @@ lane_by value heads lane few (p ∷ ps) points head j small low =
       (λ same q i at. ⊎_elim (λ s. d (ap (λ k. 64 * k + lane) (ap (slice_index heads) (sym s) ∙ at) ∙ ap (λ k. 64 * head + k) (sym same))) (λ k. n.0 same q k at) i),
       n.1 ∙ get_or-set_other points (64 * slice_index heads p + lane) (64 * head + j) (value p) 0 (λ e. d (sym e)),
     )
-
-pub lane-all : (value : ℕ → ℕ) (heads : List ℕ) (lane : ℕ) (ps : List ℕ) (i : ℕ) (points : List ℕ) → length ps ≤ i → with_lane value heads lane (drop i ps) points ≡ points
-lane-all value heads lane ps i points high = ap (λ l. with_lane value heads lane l points) (drop_all i ps high)
 
 -- ---- seeds of a lane
 
