@@ -1,7 +1,7 @@
 -- The words of the operations that compute, and those of the memory extension. Most take their operands from any registers and
 -- put the result into any; some take them from registers 5 and 7 alone, and put it into 5. Registers 5, 6 and 7 may change; a
 -- fault ends the run.
-use Rattle.std.specs.Prelude.{ℕ, Bool, true, false, pos, negsuc, List, [], ◌∷◌, ◌++◌}
+use Rattle.std.specs.Prelude.{ℕ, Bool, true, false, pos, negsuc, List, [], ◌∷◌, ◌++◌, length}
 use Rattle.bril_tree.specs.declared.operators.BinaryOp.{BinaryOp}
 use Rattle.bril_tree.specs.declared.operators.BinaryOp.TheVariants as binary
 use Rattle.bril_tree.specs.declared.operators.UnaryOp.{UnaryOp}
@@ -28,10 +28,9 @@ unary_words unary.Not d a = sltiu d a (pos 1) ∷ []
 unary_words unary.CharToInt d a = []
 unary_words unary.IntToChar d a = int_to_char_words
 
+-- how many they are, whatever the registers
 abbrev pub unary_size : UnaryOp → ℕ
-unary_size unary.Not = 1
-unary_size unary.CharToInt = 0
-unary_size unary.IntToChar = 8
+unary_size operation = length (unary_words operation 0 0)
 
 -- ---- two operands
 
@@ -88,24 +87,9 @@ binary_words binary.And d a b = and d a b ∷ []
 binary_words binary.Or d a b = or d a b ∷ []
 binary_words binary.PtrAdd d a b = pointer_words
 
+-- how many they are, whatever the registers
 abbrev pub binary_size : BinaryOp → ℕ
-binary_size binary.Add = 1
-binary_size binary.Sub = 1
-binary_size binary.Mul = 1
-binary_size binary.Div = 5
-binary_size binary.Eq = 2
-binary_size binary.Lt = 1
-binary_size binary.Gt = 1
-binary_size binary.Le = 2
-binary_size binary.Ge = 2
-binary_size binary.Ceq = 2
-binary_size binary.Clt = 1
-binary_size binary.Cgt = 1
-binary_size binary.Cle = 2
-binary_size binary.Cge = 2
-binary_size binary.And = 1
-binary_size binary.Or = 1
-binary_size binary.PtrAdd = 14
+binary_size operation = length (binary_words operation 0 0 0)
 
 -- ---- memory
 
