@@ -26,6 +26,14 @@ pub struct Clash {
     pub other: u32,
 }
 
+// A function, its graph, and a mark for each variable that a copy relates to another.
+#[derive(Clone, Copy, Drop)]
+pub(crate) struct Related<'a> {
+    pub func: &'a Func,
+    pub graph: &'a Graph,
+    pub marks: &'a [bool],
+}
+
 // Finds where the variable is live.
 fn search(
     alloc: Global,
@@ -57,21 +65,21 @@ fn is_copy_of(item: &Instr, x: u32) -> bool
 }
 
 // The variable that the item before the point assigns, where that clashes with x, which is live at the point.
-fn clashing(func: &Func, graph: &Graph, related: &[bool], x: u32, point: u32) -> Option<u32>
-    requires graph { IsGraphOf func.now.code graph.now }
-    requires point { point < length func.now.code + 1 }
-    requires live { IsLive func.now.code (Variable x) point }
-    ensures some { IfSome result (λ dest. (item : ℕ) → suc item ≡ point → Clashes func.now.code item dest x) }
+fn clashing(related: Related<'_>, x: u32, point: u32) -> Option<u32>
+    requires graph { IsGraphOf related.func.now.code related.graph.now }
+    requires point { point < length related.func.now.code + 1 }
+    requires live { IsLive related.func.now.code (Variable x) point }
+    ensures some { IfSome result (λ dest. (item : ℕ) → suc item ≡ point → Clashes related.func.now.code item dest x) }
     ensures after { IfSome result (λ dest. 1 ≤ point) }
-    ensures alone { IfSome result (λ dest. (item y : ℕ) → suc item ≡ point → Clashes func.now.code item y x → y ≡ dest) }
-    ensures none { IfNone result ((item y : ℕ) → suc item ≡ point → is_marked related.now y ≡ true → Clashes func.now.code item y x → ⊥) }
+    ensures alone { IfSome result (λ dest. (item y : ℕ) → suc item ≡ point → Clashes related.func.now.code item y x → y ≡ dest) }
+    ensures none { IfNone result ((item y : ℕ) → suc item ≡ point → is_marked related.marks.now y ≡ true → Clashes related.func.now.code item y x → ⊥) }
 {
-    if point == 0 || !graph.reach(point - 1) {
+    if point == 0 || !related.graph.reach(point - 1) {
         return None;
     }
-    let item = &func.code.as_slice()[point as usize - 1];
+    let item = &related.func.code.as_slice()[point as usize - 1];
     let dest = dest_of(item)?;
-    if dest == x || is_copy_of(item, x) || !is_marked(related, dest as usize) {
+    if dest == x || is_copy_of(item, x) || !is_marked(related.marks, dest as usize) {
         return None;
     }
     Some(dest)
@@ -80,18 +88,16 @@ fn clashing(func: &Func, graph: &Graph, related: &[bool], x: u32, point: u32) ->
 // Adds the clash of the item before the point with x, which is live there, both ways round.
 fn push_clash(
     list: &mut Vec<Clash>,
-    func: &Func,
-    graph: &Graph,
-    related: &[bool],
+    related: Related<'_>,
     x: u32,
     point: u32,
 ) -> Result<(), AllocError>
-    requires graph { IsGraphOf func.now.code graph.now }
-    requires point { point < length func.now.code + 1 }
-    requires live { IsLive func.now.code (Variable x) point }
-    ensures { OnOk result (AddsClashes func.now.code related.now x (λ p. p ≡ point) list.old.items list.new.items) }
+    requires graph { IsGraphOf related.func.now.code related.graph.now }
+    requires point { point < length related.func.now.code + 1 }
+    requires live { IsLive related.func.now.code (Variable x) point }
+    ensures { OnOk result (AddsClashes related.func.now.code related.marks.now x (λ p. p ≡ point) list.old.items list.new.items) }
 {
-    match clashing(func, graph, related, x, point) {
+    match clashing(related, x, point) {
         None => Ok(()),
         Some(dest) => {
             let item = point - 1;
@@ -113,19 +119,17 @@ fn push_clash(
 // Adds the clashes of items with x, which is live at these points.
 fn push_clashes(
     list: &mut Vec<Clash>,
-    func: &Func,
-    graph: &Graph,
-    related: &[bool],
+    related: Related<'_>,
     x: u32,
     points: &[u32],
 ) -> Result<(), AllocError>
-    requires graph { IsGraphOf func.now.code graph.now }
-    requires points { All (λ point. point < length func.now.code + 1) points.now }
-    requires live { (point : ℕ) → Contains points.now point → IsLive func.now.code (Variable x) point }
-    ensures { OnOk result (AddsClashes func.now.code related.now x (Contains points.now) list.old.items list.new.items) }
+    requires graph { IsGraphOf related.func.now.code related.graph.now }
+    requires points { All (λ point. point < length related.func.now.code + 1) points.now }
+    requires live { (point : ℕ) → Contains points.now point → IsLive related.func.now.code (Variable x) point }
+    ensures { OnOk result (AddsClashes related.func.now.code related.marks.now x (Contains points.now) list.old.items list.new.items) }
 {
     for point in points {
-        push_clash(list, func, graph, related, x, *point)?;
+        push_clash(list, related, x, *point)?;
     }
     Ok(())
 }
@@ -134,22 +138,20 @@ fn push_clashes(
 fn push_variable(
     alloc: Global,
     list: &mut Vec<Clash>,
-    func: &Func,
-    graph: &Graph,
+    related: Related<'_>,
     flow: &Flow,
     reached: &mut Reached,
-    related: &[bool],
     x: u32,
 ) -> Result<(), AllocError>
-    requires graph { IsGraphOf func.now.code graph.now }
+    requires graph { IsGraphOf related.func.now.code related.graph.now }
     requires points { reached.old.nodes ≡ flow.now.points }
-    requires flow { IsFlowOf func.now.code flow.now }
+    requires flow { IsFlowOf related.func.now.code flow.now }
     ensures points { reached.new.nodes ≡ reached.old.nodes }
-    ensures adds { OnOk result (AddsClashes func.now.code related.now x (λ p. (is_marked related.now x ≡ true) × IsLive func.now.code (Variable x) p) list.old.items list.new.items) }
+    ensures adds { OnOk result (AddsClashes related.func.now.code related.marks.now x (λ p. (is_marked related.marks.now x ≡ true) × IsLive related.func.now.code (Variable x) p) list.old.items list.new.items) }
 {
-    if is_marked(related, x as usize) {
-        search(alloc, func, flow, reached, x)?;
-        push_clashes(list, func, graph, related, x, reached.found())?;
+    if is_marked(related.marks, x as usize) {
+        search(alloc, related.func, flow, reached, x)?;
+        push_clashes(list, related, x, reached.found())?;
     }
     Ok(())
 }
@@ -157,29 +159,18 @@ fn push_variable(
 // The clashes of related variables.
 pub(crate) fn clashes_of(
     alloc: Global,
-    func: &Func,
-    graph: &Graph,
+    related: Related<'_>,
     flow: &Flow,
-    related: &[bool],
 ) -> Result<Vec<Clash>, AllocError>
-    requires graph { IsGraphOf func.now.code graph.now }
-    requires flow { IsFlowOf func.now.code flow.now }
-    requires few { length related.now ≤ 2 ^ 32 }
-    ensures { IfOk result (λ list. AreClashes func.now.code related.now list.items) }
+    requires graph { IsGraphOf related.func.now.code related.graph.now }
+    requires flow { IsFlowOf related.func.now.code flow.now }
+    requires few { length related.marks.now ≤ 2 ^ 32 }
+    ensures { IfOk result (λ list. AreClashes related.func.now.code related.marks.now list.items) }
 {
     let mut reached = Reached::new(alloc, flow.points())?;
     let mut list = Vec::new(alloc);
-    for x in 0..related.len() {
-        push_variable(
-            alloc,
-            &mut list,
-            func,
-            graph,
-            flow,
-            &mut reached,
-            related,
-            x as u32,
-        )?;
+    for x in 0..related.marks.len() {
+        push_variable(alloc, &mut list, related, flow, &mut reached, x as u32)?;
     }
     Ok(list)
 }

@@ -15,7 +15,7 @@ ghost use Rattle.coalesce.specs.Rounds.{HasCopyWithin, IsCopyWithin};
 ghost use Rattle.graph_search.specs.Marks.{is_marked};
 ghost use Rattle.coalesce.specs.Classes.{AreAlone, AreClashes, AreClasses, Fits, Grows, MarksShadow, Relates, IsRelatedItem, IsRoundState, Misfits, NoneKeepsApart, NotApart, SomeKeepsApart, class_of, firsts_from, is_source, keeps_apart, shadows_joined, source_at};
 
-use crate::clashes::{Clash, clashes_of};
+use crate::clashes::{Clash, Related, clashes_of};
 use crate::copies::{dest_of, shadow_of, source_of};
 use bril_tree::numbered::Instr;
 use bril_tree::numbered_function::Func;
@@ -186,21 +186,18 @@ pub(crate) fn classes_in(alloc: Global, func: &Func, graph: &Graph) -> Result<Cl
     if func.vars.as_slice().len() > u32::MAX as usize {
         return Err(AllocError);
     }
-    let related = related_variables(alloc, func)?;
+    let marks = related_variables(alloc, func)?;
+    let related = Related {
+        func,
+        graph,
+        marks: marks.as_slice(),
+    };
     let flow = Flow::of(alloc, func, graph)?;
-    let list = clashes_of(alloc, func, graph, &flow, related.as_slice())?;
+    let list = clashes_of(alloc, related, &flow)?;
     let clashes = ClashRows::of(alloc, list)?;
-    let mut classes = Classes::new(alloc, func, related.as_slice())?;
+    let mut classes = Classes::new(alloc, func, related.marks)?;
     for (point, item) in func.code.as_slice().iter().enumerate() {
-        classes.look_at_point(
-            alloc,
-            func,
-            graph,
-            &clashes,
-            related.as_slice(),
-            item,
-            point as u32,
-        )?;
+        classes.look_at_point(alloc, related, &clashes, item, point as u32)?;
     }
     Ok(classes)
 }
@@ -341,29 +338,28 @@ impl Classes {
     fn join(
         &mut self,
         alloc: Global,
-        func: &Func,
+        related: Related<'_>,
         clashes: &ClashRows,
-        _related: &[bool],
         x: u32,
         y: u32,
     ) -> Result<(), AllocError>
-        requires clashes { AreClashes func.now.code _related.now clashes.now.list.items }
-        requires state { IsRoundState func.now _related.now self.old.class.items self.old.alone.items self.old.shadow.items self.old.joined }
+        requires clashes { AreClashes related.func.now.code related.marks.now clashes.now.list.items }
+        requires state { IsRoundState related.func.now related.marks.now self.old.class.items self.old.alone.items self.old.shadow.items self.old.joined }
         requires alone { is_marked self.old.alone.items x ≡ true }
-        requires past { func.now.args ≤ x }
+        requires past { related.func.now.args ≤ x }
         requires differ { x ≢ y }
-        requires x { x < length func.now.vars }
-        requires y { y < length func.now.vars }
-        requires relates_x { is_marked _related.now x ≡ true }
-        requires relates_y { is_marked _related.now y ≡ true }
-        ensures state { OnOk result (IsRoundState func.now _related.now self.new.class.items self.new.alone.items self.new.shadow.items self.new.joined) }
+        requires x { x < length related.func.now.vars }
+        requires y { y < length related.func.now.vars }
+        requires relates_x { is_marked related.marks.now x ≡ true }
+        requires relates_y { is_marked related.marks.now y ≡ true }
+        ensures state { OnOk result (IsRoundState related.func.now related.marks.now self.new.class.items self.new.alone.items self.new.shadow.items self.new.joined) }
         ensures kept { OnOk result (self.new.joined ≡ false → self.old.joined ≡ false) }
-        ensures misfits { OnOk result (self.new.joined ≡ false → Misfits func.now clashes.now.list.items self.old.class.items self.old.shadow.items x (class_of self.old.class.items y)) }
+        ensures misfits { OnOk result (self.new.joined ≡ false → Misfits related.func.now clashes.now.list.items self.old.class.items self.old.shadow.items x (class_of self.old.class.items y)) }
         ensures grows { OnOk result (Grows self.old.class.items self.new.class.items) }
         ensures within { OnOk result (self.new.joined ≡ true → (self.old.joined ≡ true) ⊎ (class_of self.new.class.items x ≡ class_of self.new.class.items y)) }
     {
         let class = self.class_of(y);
-        if self.fits(alloc, func, clashes, x, class)? {
+        if self.fits(alloc, related.func, clashes, x, class)? {
             self.put(x, class);
         }
         Ok(())
@@ -374,31 +370,30 @@ impl Classes {
     fn look_at_copy(
         &mut self,
         alloc: Global,
-        func: &Func,
+        related: Related<'_>,
         clashes: &ClashRows,
-        related: &[bool],
         x: u32,
         y: u32,
     ) -> Result<(), AllocError>
-        requires clashes { AreClashes func.now.code related.now clashes.now.list.items }
-        requires state { IsRoundState func.now related.now self.old.class.items self.old.alone.items self.old.shadow.items self.old.joined }
+        requires clashes { AreClashes related.func.now.code related.marks.now clashes.now.list.items }
+        requires state { IsRoundState related.func.now related.marks.now self.old.class.items self.old.alone.items self.old.shadow.items self.old.joined }
         requires differ { x ≢ y }
-        requires x { x < length func.now.vars }
-        requires y { y < length func.now.vars }
-        requires relates_x { is_marked related.now x ≡ true }
-        requires relates_y { is_marked related.now y ≡ true }
-        ensures state { OnOk result (IsRoundState func.now related.now self.new.class.items self.new.alone.items self.new.shadow.items self.new.joined) }
+        requires x { x < length related.func.now.vars }
+        requires y { y < length related.func.now.vars }
+        requires relates_x { is_marked related.marks.now x ≡ true }
+        requires relates_y { is_marked related.marks.now y ≡ true }
+        ensures state { OnOk result (IsRoundState related.func.now related.marks.now self.new.class.items self.new.alone.items self.new.shadow.items self.new.joined) }
         ensures kept { OnOk result (self.new.joined ≡ false → self.old.joined ≡ false) }
-        ensures apart { OnOk result (self.new.joined ≡ false → AreApart func.now x y → ⊥) }
+        ensures apart { OnOk result (self.new.joined ≡ false → AreApart related.func.now x y → ⊥) }
         ensures grows { OnOk result (Grows self.old.class.items self.new.class.items) }
         ensures within { OnOk result (self.new.joined ≡ true → (self.old.joined ≡ true) ⊎ (class_of self.new.class.items x ≡ class_of self.new.class.items y)) }
     {
-        if self.may_move(func, x) {
-            self.join(alloc, func, clashes, related, x, y)?;
+        if self.may_move(related.func, x) {
+            self.join(alloc, related, clashes, x, y)?;
             return Ok(());
         }
-        if self.may_move(func, y) {
-            self.join(alloc, func, clashes, related, y, x)?;
+        if self.may_move(related.func, y) {
+            self.join(alloc, related, clashes, y, x)?;
         }
         Ok(())
     }
@@ -407,23 +402,22 @@ impl Classes {
     pub(crate) fn look_at(
         &mut self,
         alloc: Global,
-        func: &Func,
+        related: Related<'_>,
         clashes: &ClashRows,
-        related: &[bool],
         item: &Instr,
     ) -> Result<(), AllocError>
-        requires clashes { AreClashes func.now.code related.now clashes.now.list.items }
-        requires state { IsRoundState func.now related.now self.old.class.items self.old.alone.items self.old.shadow.items self.old.joined }
-        requires item { IsRelatedItem func.now related.now item.now }
-        ensures state { OnOk result (IsRoundState func.now related.now self.new.class.items self.new.alone.items self.new.shadow.items self.new.joined) }
+        requires clashes { AreClashes related.func.now.code related.marks.now clashes.now.list.items }
+        requires state { IsRoundState related.func.now related.marks.now self.old.class.items self.old.alone.items self.old.shadow.items self.old.joined }
+        requires item { IsRelatedItem related.func.now related.marks.now item.now }
+        ensures state { OnOk result (IsRoundState related.func.now related.marks.now self.new.class.items self.new.alone.items self.new.shadow.items self.new.joined) }
         ensures kept { OnOk result (self.new.joined ≡ false → self.old.joined ≡ false) }
-        ensures apart { OnOk result (self.new.joined ≡ false → NotApart func.now item.now) }
+        ensures apart { OnOk result (self.new.joined ≡ false → NotApart related.func.now item.now) }
         ensures grows { OnOk result (Grows self.old.class.items self.new.class.items) }
         ensures within { OnOk result (self.new.joined ≡ true → (self.old.joined ≡ true) ⊎ IsCopyWithin item.now self.new.class.items) }
     {
         if let (Some(x), Some(y)) = (dest_of(item), source_of(item)) {
             if x != y {
-                self.look_at_copy(alloc, func, clashes, related, x, y)?;
+                self.look_at_copy(alloc, related, clashes, x, y)?;
             }
         }
         Ok(())
@@ -433,28 +427,26 @@ impl Classes {
     fn look_at_point(
         &mut self,
         alloc: Global,
-        func: &Func,
-        graph: &Graph,
+        related: Related<'_>,
         clashes: &ClashRows,
-        related: &[bool],
         item: &Instr,
         point: u32,
     ) -> Result<(), AllocError>
-        requires graph { IsGraphOf func.now.code graph.now }
-        requires point { point < length func.now.code }
-        requires clashes { AreClashes func.now.code related.now clashes.now.list.items }
-        requires state { IsRoundState func.now related.now self.old.class.items self.old.alone.items self.old.shadow.items self.old.joined }
-        requires item { IsRelatedItem func.now related.now item.now }
-        ensures state { OnOk result (IsRoundState func.now related.now self.new.class.items self.new.alone.items self.new.shadow.items self.new.joined) }
+        requires graph { IsGraphOf related.func.now.code related.graph.now }
+        requires point { point < length related.func.now.code }
+        requires clashes { AreClashes related.func.now.code related.marks.now clashes.now.list.items }
+        requires state { IsRoundState related.func.now related.marks.now self.old.class.items self.old.alone.items self.old.shadow.items self.old.joined }
+        requires item { IsRelatedItem related.func.now related.marks.now item.now }
+        ensures state { OnOk result (IsRoundState related.func.now related.marks.now self.new.class.items self.new.alone.items self.new.shadow.items self.new.joined) }
         ensures kept { OnOk result (self.new.joined ≡ false → self.old.joined ≡ false) }
-        ensures apart { OnOk result (self.new.joined ≡ false → IsReached func.now.code point → NotApart func.now item.now) }
+        ensures apart { OnOk result (self.new.joined ≡ false → IsReached related.func.now.code point → NotApart related.func.now item.now) }
         ensures grows { OnOk result (Grows self.old.class.items self.new.class.items) }
-        ensures within { OnOk result (self.new.joined ≡ true → (self.old.joined ≡ true) ⊎ (IsReached func.now.code point × IsCopyWithin item.now self.new.class.items)) }
+        ensures within { OnOk result (self.new.joined ≡ true → (self.old.joined ≡ true) ⊎ (IsReached related.func.now.code point × IsCopyWithin item.now self.new.class.items)) }
     {
-        if !graph.reach(point) {
+        if !related.graph.reach(point) {
             return Ok(());
         }
-        self.look_at(alloc, func, clashes, related, item)?;
+        self.look_at(alloc, related, clashes, item)?;
         Ok(())
     }
 }

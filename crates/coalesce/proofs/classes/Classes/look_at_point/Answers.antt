@@ -4,4 +4,4 @@ use Rattle.coalesce.proofs.classes.Classes.look_at_point.Goals as goal
 
 pub returns-clause-within : goal.returns-clause-within
 returns-clause-within c = λ e.
-    ⊎_elim inl (λ within. inr ((reach_tells c.args.func.now.code c.args.graph.now c.requires.graph c.args.point c.reach.result c.reach.ensures).0 c.if-not-reach.false, within)) (c.in_ok-look_at.ensures.within e)
+    ⊎_elim inl (λ within. inr ((reach_tells c.args.related.func.now.code c.args.related.graph.now c.requires.graph c.args.point c.reach.result c.reach.ensures).0 c.if-not-reach.false, within)) (c.in_ok-look_at.ensures.within e)
