@@ -6,7 +6,7 @@ ghost use Rattle.bril_tree.specs.Identifier.{is_identifier};
 ghost use Rattle.bril_tree.specs.Numbered.{variable_names};
 ghost use Rattle.pass_edit_laws.specs.labels.Fresh.{IsFresh};
 
-use bril_tree::name::{IdentFault, Name};
+use bril_tree::name::Name;
 use bril_tree::numbered_function::Func;
 use indexmap::IndexSet;
 use std::alloc::{AllocError, Global};
@@ -33,18 +33,6 @@ fn with_mark(alloc: Global, name: &[u8]) -> Result<Vec<u8>, AllocError>
     let mut marked = vec![in alloc; b'_']?;
     marked.extend_from_slice(name)?;
     Ok(marked)
-}
-
-// The bytes as a name.
-fn name_of(alloc: Global, bytes: &[u8]) -> Result<Name, AllocError>
-    requires { IsTrue (is_identifier bytes.now) }
-    ensures { IfOk result (λ name. name ≡ bytes.now) }
-{
-    match Name::ident(alloc, bytes) {
-        Ok(name) => Ok(name),
-        Err(IdentFault::Memory) => Err(AllocError),
-        Err(IdentFault::NotIdent) => unreachable!(),
-    }
 }
 
 impl<'t> TakenNames<'t> {
@@ -83,7 +71,7 @@ impl<'t> TakenNames<'t> {
         'marks: while self.has(bytes.as_slice()) {
             bytes = with_mark(alloc, bytes.as_slice())?;
         }
-        name_of(alloc, bytes.as_slice())
+        Name::of_identifier(alloc, bytes.as_slice())
     }
 }
 
