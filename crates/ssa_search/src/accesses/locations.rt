@@ -4,7 +4,7 @@ ghost use Rattle.std.specs.Prelude.{◌≡◌, ◌<◌, ◌+◌, ◌*◌, ◌^�
 
 use std::alloc::AllocError;
 
-// The number of locations of so many variables: two for each. 2^31 - 64 variables and more are taken to need more memory than
+// The number of locations of so many variables: two for each. 2^31 - 65 variables and more are taken to need more memory than
 // there is.
 pub(crate) fn location_count(variables: usize) -> Result<u32, AllocError>
     ensures count { IfOk result (λ count. count ≡ 2 * variables) }

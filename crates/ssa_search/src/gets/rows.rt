@@ -6,7 +6,7 @@ ghost use Rattle.ssa_search.specs.gets.Rows.{gets_from};
 use crate::renaming::WantedGet;
 use std::alloc::{AllocError, Global};
 
-// So many definitions are arguments and items. A sum from 2^32 - 1 on is taken to need more memory than there is.
+// So many definitions are arguments and items. A sum from 2^32 on is taken to need more memory than there is.
 pub(crate) fn base_of(args: u32, items: usize) -> Result<u32, AllocError>
     requires { items < 2 ^ 32 }
     ensures { IfOk result (λ base. base ≡ args + items) }
@@ -18,7 +18,7 @@ pub(crate) fn base_of(args: u32, items: usize) -> Result<u32, AllocError>
     Ok(args + items)
 }
 
-// The definition of the `get` behind so many others. A number from 2^32 - 2 on is taken to need more memory than there is.
+// The definition of the `get` behind so many others. A number from 2^32 - 1 on is taken to need more memory than there is.
 fn definition_of(base: u32, count: usize) -> Result<u32, AllocError>
     ensures number { IfOk result (λ definition. definition ≡ base + count) }
     ensures few { IfOk result (λ definition. base + count + 1 < 2 ^ 32) }

@@ -68,7 +68,7 @@ fn count_locations(
 
 /// The number of live entries of a function whose items have the shapes of their operations and whose open sites are sound, or
 /// 2^64 - 1 where it is greater. Takes memory in proportion to the items and their arguments, and time in proportion to these and,
-/// for each 64 locations, to the edges. The only error is want of memory, which a function is taken to have that has 2^31 - 64
+/// for each 64 locations, to the edges. The only error is want of memory, which a function is taken to have that has 2^31 - 65
 /// variables or more.
 pub fn count_live_entries(alloc: Global, func: &Func, graph: &Graph) -> Result<u64, AllocError>
     requires shaped { shape_fault_of (is_some func.now.ret) func.now.code ≡ None }
