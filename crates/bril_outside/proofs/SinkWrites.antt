@@ -49,10 +49,6 @@ TookAll-append {s} {t} {u} {a} {b} one two = record {
   faults = omega arith;
 }
 
-}
-
-}
-
 -- ---- puts
 
 -- no put
@@ -134,8 +130,6 @@ PutSome-after {s} {t} {u} {ps} {qs} one some = record {
   rose = Rose-after _ _ _ one.took.faults some.rose;
 }
 
-}
-
 -- ---- bytes by so many puts
 
 pub TookBy-none : (s : SinkSeen) → TookBy s [] 0 s
@@ -180,5 +174,3 @@ FailedAfter-append {s} {t} {u} {a} {b} {ps} m n one two =
       times = subst (λ k. PutTimes s k u) (let e : m + (n + length put) ≡ (m + n) + length put = omega arith in e) (PutTimes-append m (n + length put) one.times two.times);
       rose = Rose-after _ _ _ one.took.faults two.rose;
     }
-
-}

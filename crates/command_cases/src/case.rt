@@ -33,7 +33,14 @@ impl<'a> Job for CommandLine<'a> {
     type Answer = u8;
 
     fn work(self, passes: &mut [Box<dyn Pass>]) -> u8 {
-        end(self.alloc, Ok(self.words), self.files, self.out, self.err, passes)
+        end(
+            self.alloc,
+            Ok(self.words),
+            self.files,
+            self.out,
+            self.err,
+            passes,
+        )
     }
 }
 
@@ -261,7 +268,16 @@ impl Case {
     ) -> Result<u8, AllocError> {
         let alloc = self.alloc;
         let files = &mut self.files;
-        with_shipped_passes(alloc, CommandLine { alloc, words, files, out, err })
+        with_shipped_passes(
+            alloc,
+            CommandLine {
+                alloc,
+                words,
+                files,
+                out,
+                err,
+            },
+        )
     }
 }
 
