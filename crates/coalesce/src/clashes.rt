@@ -69,10 +69,10 @@ fn clashing(related: Related<'_>, x: u32, point: u32) -> Option<u32>
     requires graph { IsGraphOf related.func.now.code related.graph.now }
     requires point { point < length related.func.now.code + 1 }
     requires live { IsLive related.func.now.code (Variable x) point }
-    ensures some { IfSome result (λ dest. (item : ℕ) → suc item ≡ point → Clashes related.func.now.code item dest x) }
+    ensures some { IfSome result (λ dest. (item : ℕ) → suc item ≡ point → Clashes related.entry.func.now.code item dest x) }
     ensures after { IfSome result (λ dest. 1 ≤ point) }
-    ensures alone { IfSome result (λ dest. (item y : ℕ) → suc item ≡ point → Clashes related.func.now.code item y x → y ≡ dest) }
-    ensures none { IfNone result ((item y : ℕ) → suc item ≡ point → is_marked related.marks.now y ≡ true → Clashes related.func.now.code item y x → ⊥) }
+    ensures alone { IfSome result (λ dest. (item y : ℕ) → suc item ≡ point → Clashes related.entry.func.now.code item y x → y ≡ dest) }
+    ensures none { IfNone result ((item y : ℕ) → suc item ≡ point → is_marked related.entry.marks.now y ≡ true → Clashes related.entry.func.now.code item y x → ⊥) }
 {
     if point == 0 || !related.graph.reach(point - 1) {
         return None;
@@ -95,7 +95,7 @@ fn push_clash(
     requires graph { IsGraphOf related.func.now.code related.graph.now }
     requires point { point < length related.func.now.code + 1 }
     requires live { IsLive related.func.now.code (Variable x) point }
-    ensures { OnOk result (AddsClashes related.func.now.code related.marks.now x (λ p. p ≡ point) list.old.items list.new.items) }
+    ensures { OnOk result (AddsClashes related.entry.func.now.code related.entry.marks.now x (λ p. p ≡ point) list.old.items list.new.items) }
 {
     match clashing(related, x, point) {
         None => Ok(()),
@@ -126,7 +126,7 @@ fn push_clashes(
     requires graph { IsGraphOf related.func.now.code related.graph.now }
     requires points { All (λ point. point < length related.func.now.code + 1) points.now }
     requires live { (point : ℕ) → Contains points.now point → IsLive related.func.now.code (Variable x) point }
-    ensures { OnOk result (AddsClashes related.func.now.code related.marks.now x (Contains points.now) list.old.items list.new.items) }
+    ensures { OnOk result (AddsClashes related.entry.func.now.code related.entry.marks.now x (Contains points.now) list.old.items list.new.items) }
 {
     for point in points {
         push_clash(list, related, x, *point)?;
@@ -147,7 +147,7 @@ fn push_variable(
     requires points { reached.old.nodes ≡ flow.now.points }
     requires flow { IsFlowOf related.func.now.code flow.now }
     ensures points { reached.new.nodes ≡ reached.old.nodes }
-    ensures adds { OnOk result (AddsClashes related.func.now.code related.marks.now x (λ p. (is_marked related.marks.now x ≡ true) × IsLive related.func.now.code (Variable x) p) list.old.items list.new.items) }
+    ensures adds { OnOk result (AddsClashes related.entry.func.now.code related.entry.marks.now x (λ p. (is_marked related.entry.marks.now x ≡ true) × IsLive related.entry.func.now.code (Variable x) p) list.old.items list.new.items) }
 {
     if is_marked(related.marks, x as usize) {
         search(alloc, related.func, flow, reached, x)?;
@@ -165,7 +165,7 @@ pub(crate) fn clashes_of(
     requires graph { IsGraphOf related.func.now.code related.graph.now }
     requires flow { IsFlowOf related.func.now.code flow.now }
     requires few { length related.marks.now ≤ 2 ^ 32 }
-    ensures { IfOk result (λ list. AreClashes related.func.now.code related.marks.now list.items) }
+    ensures { IfOk result (λ list. AreClashes related.entry.func.now.code related.entry.marks.now list.items) }
 {
     let mut reached = Reached::new(alloc, flow.points())?;
     let mut list = Vec::new(alloc);

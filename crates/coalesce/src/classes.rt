@@ -352,9 +352,9 @@ impl Classes {
         requires y { y < length related.func.now.vars }
         requires relates_x { is_marked related.marks.now x ≡ true }
         requires relates_y { is_marked related.marks.now y ≡ true }
-        ensures state { OnOk result (IsRoundState related.func.now related.marks.now self.new.class.items self.new.alone.items self.new.shadow.items self.new.joined) }
+        ensures state { OnOk result (IsRoundState related.entry.func.now related.entry.marks.now self.new.class.items self.new.alone.items self.new.shadow.items self.new.joined) }
         ensures kept { OnOk result (self.new.joined ≡ false → self.old.joined ≡ false) }
-        ensures misfits { OnOk result (self.new.joined ≡ false → Misfits related.func.now clashes.now.list.items self.old.class.items self.old.shadow.items x (class_of self.old.class.items y)) }
+        ensures misfits { OnOk result (self.new.joined ≡ false → Misfits related.entry.func.now clashes.now.list.items self.old.class.items self.old.shadow.items x (class_of self.old.class.items y)) }
         ensures grows { OnOk result (Grows self.old.class.items self.new.class.items) }
         ensures within { OnOk result (self.new.joined ≡ true → (self.old.joined ≡ true) ⊎ (class_of self.new.class.items x ≡ class_of self.new.class.items y)) }
     {
@@ -382,9 +382,9 @@ impl Classes {
         requires y { y < length related.func.now.vars }
         requires relates_x { is_marked related.marks.now x ≡ true }
         requires relates_y { is_marked related.marks.now y ≡ true }
-        ensures state { OnOk result (IsRoundState related.func.now related.marks.now self.new.class.items self.new.alone.items self.new.shadow.items self.new.joined) }
+        ensures state { OnOk result (IsRoundState related.entry.func.now related.entry.marks.now self.new.class.items self.new.alone.items self.new.shadow.items self.new.joined) }
         ensures kept { OnOk result (self.new.joined ≡ false → self.old.joined ≡ false) }
-        ensures apart { OnOk result (self.new.joined ≡ false → AreApart related.func.now x y → ⊥) }
+        ensures apart { OnOk result (self.new.joined ≡ false → AreApart related.entry.func.now x y → ⊥) }
         ensures grows { OnOk result (Grows self.old.class.items self.new.class.items) }
         ensures within { OnOk result (self.new.joined ≡ true → (self.old.joined ≡ true) ⊎ (class_of self.new.class.items x ≡ class_of self.new.class.items y)) }
     {
@@ -409,9 +409,9 @@ impl Classes {
         requires clashes { AreClashes related.func.now.code related.marks.now clashes.now.list.items }
         requires state { IsRoundState related.func.now related.marks.now self.old.class.items self.old.alone.items self.old.shadow.items self.old.joined }
         requires item { IsRelatedItem related.func.now related.marks.now item.now }
-        ensures state { OnOk result (IsRoundState related.func.now related.marks.now self.new.class.items self.new.alone.items self.new.shadow.items self.new.joined) }
+        ensures state { OnOk result (IsRoundState related.entry.func.now related.entry.marks.now self.new.class.items self.new.alone.items self.new.shadow.items self.new.joined) }
         ensures kept { OnOk result (self.new.joined ≡ false → self.old.joined ≡ false) }
-        ensures apart { OnOk result (self.new.joined ≡ false → NotApart related.func.now item.now) }
+        ensures apart { OnOk result (self.new.joined ≡ false → NotApart related.entry.func.now item.now) }
         ensures grows { OnOk result (Grows self.old.class.items self.new.class.items) }
         ensures within { OnOk result (self.new.joined ≡ true → (self.old.joined ≡ true) ⊎ IsCopyWithin item.now self.new.class.items) }
     {
@@ -437,11 +437,11 @@ impl Classes {
         requires clashes { AreClashes related.func.now.code related.marks.now clashes.now.list.items }
         requires state { IsRoundState related.func.now related.marks.now self.old.class.items self.old.alone.items self.old.shadow.items self.old.joined }
         requires item { IsRelatedItem related.func.now related.marks.now item.now }
-        ensures state { OnOk result (IsRoundState related.func.now related.marks.now self.new.class.items self.new.alone.items self.new.shadow.items self.new.joined) }
+        ensures state { OnOk result (IsRoundState related.entry.func.now related.entry.marks.now self.new.class.items self.new.alone.items self.new.shadow.items self.new.joined) }
         ensures kept { OnOk result (self.new.joined ≡ false → self.old.joined ≡ false) }
-        ensures apart { OnOk result (self.new.joined ≡ false → IsReached related.func.now.code point → NotApart related.func.now item.now) }
+        ensures apart { OnOk result (self.new.joined ≡ false → IsReached related.entry.func.now.code point → NotApart related.entry.func.now item.now) }
         ensures grows { OnOk result (Grows self.old.class.items self.new.class.items) }
-        ensures within { OnOk result (self.new.joined ≡ true → (self.old.joined ≡ true) ⊎ (IsReached related.func.now.code point × IsCopyWithin item.now self.new.class.items)) }
+        ensures within { OnOk result (self.new.joined ≡ true → (self.old.joined ≡ true) ⊎ (IsReached related.entry.func.now.code point × IsCopyWithin item.now self.new.class.items)) }
     {
         if !related.graph.reach(point) {
             return Ok(());
