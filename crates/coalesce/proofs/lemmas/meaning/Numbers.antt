@@ -163,7 +163,7 @@ module _ (P Q : Prog) (accepted_q : IsAccepted Q) (heads : SameHeads P Q) (f : �
     arguments = no-longer-arguments r [] F G of_items;
     depth = λ d e a b. depth d e (subst (λ c. IsDepth c d) (sym code) a) (subst (λ c. IsDepth c e) (sym result_code) b);
     entries = fewer-entries F G Same entry (λ a c b l k s t. s ∙ sym t);
-    width = width-within F G [] (λ leave. record { from = leave; IsExtra = λ l. ⊥; one = λ l k s t. absurd s; labels = λ l h. inr (let k = entry leave l h in (k.to, subst (λ o. Enters F.code o k.to) (sym k.leaves) k.enters, k.same)) });
+    width = width-within F G ℕ [] (λ leave. record { from = leave; IsExtra = λ l x. ⊥; one = λ l k x low high s t. absurd s; labels = λ l h. inr (let k = entry leave l h in (k.to, subst (λ o. Enters F.code o k.to) (sym k.leaves) k.enters, k.same)) });
   }
 
 pub numbers-kept : MergeKeepsNumbers

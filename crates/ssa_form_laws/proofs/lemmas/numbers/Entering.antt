@@ -371,22 +371,22 @@ module _ (fs fs' : List (List ℕ)) (F G : Func) (g : FuncTree) (x : IsLaidFunct
           let one : k ≡ i = before-one k i j (omega arith) (omega arith) (omega arith) (omega arith) in
           e ∙ ap before-point (sym z ∙ one)
 
-  leave-matched : (leave : Option ℕ) → LeaveMatched F G [] leave
-  leave-matched None = record { from = None; IsExtra = λ l. ⊥; one = λ l k r s. absurd r; labels = λ l h. let n = entry None l h in inr (matched-by None None l n (from-none l n)) }
+  leave-matched : (leave : Option ℕ) → LeaveMatched F G ℕ [] leave
+  leave-matched None = record { from = None; IsExtra = λ l x. ⊥; one = λ l k x low high r s. absurd r; labels = λ l h. let n = entry None l h in inr (matched-by None None l n (from-none l n)) }
   leave-matched (Some j) = by (slice_get g.code j) refl
     where
-      from-is : (o : Option ℕ) → ((l : ℕ) → Enters G.code (Some j) l → (n : EntryIn (Some j) l) → n.from ≡ o) → LeaveMatched F G [] (Some j)
-      from-is o is = record { from = o; IsExtra = λ l. ⊥; one = λ l k r s. absurd r; labels = λ l h. let n = entry (Some j) l h in inr (matched-by (Some j) o l n (is l h n)) }
+      from-is : (o : Option ℕ) → ((l : ℕ) → Enters G.code (Some j) l → (n : EntryIn (Some j) l) → n.from ≡ o) → LeaveMatched F G ℕ [] (Some j)
+      from-is o is = record { from = o; IsExtra = λ l x. ⊥; one = λ l k x low high r s. absurd r; labels = λ l h. let n = entry (Some j) l h in inr (matched-by (Some j) o l n (is l h n)) }
 
-      at-point : (y : Item) → Point fs F g x j y → LeaveMatched F G [] (Some j)
+      at-point : (y : Item) → Point fs F g x j y → LeaveMatched F G ℕ [] (Some j)
       at-point y (Home i a here there e) = from-is (Some i) (λ l h n. from-home i j l there n)
       at-point y (Front i n low here there) = from-is (before-point i) (λ l h e. from-front i n j l (slice_get_within (front fs F g x i) n y here) there e)
 
-      by : (o : Option Item) → slice_get g.code j ≡ o → LeaveMatched F G [] (Some j)
+      by : (o : Option Item) → slice_get g.code j ≡ o → LeaveMatched F G ℕ [] (Some j)
       by None none =
           from-is None
           (λ l h n. absurd (let q = edge-leaves G.code h.0 h.1 in let at = result-item fs fs' F G g x same sound h.0.leave q.0 q.1 in let no : None ≡ Some (tree_in fs' G q.0) = sym none ∙ ap (slice_get g.code) (sym h.2) ∙ at in cc))
       by (Some y) at = at-point y (point fs F g x j y at)
 
   pub width-below : (d e : ℕ) → IsEntryWidth F.code d → IsEntryWidth G.code e → e ≤ d
-  width-below d e a b = let w = width-within F G [] leave-matched d e a b in omega arith
+  width-below d e a b = let w = width-within F G ℕ [] leave-matched d e a b in omega arith
