@@ -11,13 +11,14 @@ use Rattle.bril_tree.specs.Numbered.{item_tree}
 use Rattle.std.specs.Prelude.{slice_get}
 use Rattle.bril_tree.specs.declared.function_tree.FuncTree.{FuncTree}
 use Rattle.bril_tree.specs.declared.numbered_function.Func.{Func}
-use Rattle.bril_tree.specs.Numbered.{function_tree, variable_names}
+use Rattle.bril_tree.specs.declared.program.Prog.{Prog}
+use Rattle.bril_tree.specs.Numbered.{function_tree, names_of_functions, variable_names}
 use Rattle.constant_pass.specs.constants.Answer.{Knowledge, answer}
 use Rattle.constant_pass.specs.constants.Ways.{item_condition}
 use Rattle.constant_pass.specs.constants.Consistent.{Table}
-use Rattle.constant_pass.specs.Edit.{IsMade, AreMade, constant_tree, nop_tree}
+use Rattle.constant_pass.specs.Edit.{IsMade, AreMade, IsMadeByTable, constant_tree, nop_tree}
 use Rattle.constant_pass.specs.Items.{condition, constant_or, folded_item, jump_or, literal_of, nop_or}
-use Rattle.constant_pass.specs.Folded.{folded_by, folded_from}
+use Rattle.constant_pass.specs.Folded.{IsFoldedFunction, folded_from}
 
 module _ (fs V L : List (List ℕ)) where
   pub constant-by : (l : Option Lit) (d : Option ℕ) (ty : Option Ty) (o : Op) (args gs ls : List ℕ) → constant_tree l (item_tree fs V L (Act d ty o args gs ls)) ≡ item_tree fs V L (constant_or l d ty (Act d ty o args gs ls))
@@ -74,9 +75,10 @@ module _ (F : Func) (t : Table) where
       let rest = made-all fs (suc p) code made (λ k. let z : suc p + k ≡ p + suc k = omega arith in ap (slice_get F.code) z ∙ same (suc k)) h.1 in
       λ i. one i ∷ rest i
 
-  -- the function that the loop gives
-  pub made-function : (fs : List (List ℕ)) (function made : FuncTree) → AreMade F t 0 function.code made.code → made ≡ record function { code = made.code } → function ≡ function_tree fs F → made ≡ folded_by fs F t
-  made-function fs function made h is same =
-      let code : made.code ≡ map (item_tree fs (variable_names F.vars) F.labels) (folded_from t 0 F.code) =
-      made-all fs 0 F.code made.code (λ k. let z : 0 + k ≡ k = omega arith in ap (slice_get F.code) z) (subst (λ (g : FuncTree). AreMade F t 0 g.code made.code) same h) in
-      is ∙ (λ i. record (same i) { code = code i })
+-- the function that the loop gives
+pub made-function : (P : Prog) (F : Func) (function g : FuncTree) → function ≡ function_tree (names_of_functions P.funcs) F → IsMadeByTable F function g → IsFoldedFunction P F g
+made-function P F function g same m =
+    let fs = names_of_functions P.funcs in
+    let code : g.code ≡ map (item_tree fs (variable_names F.vars) F.labels) (folded_from m.table 0 F.code) =
+    made-all F m.table fs 0 F.code g.code (λ k. let z : 0 + k ≡ k = omega arith in ap (slice_get F.code) z) (subst (λ (f : FuncTree). AreMade F m.table 0 f.code g.code) same m.by_table.code) in
+    record { table = m.table; least = m.least; tree = m.by_table.head ∙ (λ i. record (same i) { code = code i }) }

@@ -7,7 +7,7 @@ use Rattle.bril_tree.specs.declared.value.Lit.{Lit}
 use Rattle.bril_tree.specs.declared.numbered.Instr.{Instr}
 use Rattle.bril_tree.specs.declared.numbered_function.Func.{Func}
 use Rattle.bril_tree.specs.Numbered.{item_tree, nop_item, variable_names}
-use Rattle.constant_pass.specs.constants.Consistent.{Table}
+use Rattle.constant_pass.specs.constants.Consistent.{IsLeast, Table}
 use Rattle.constant_pass.specs.Folded.{becomes}
 
 -- a `const` of the literal for an item with a destination
@@ -37,7 +37,13 @@ AreMade F t point [] (m ∷ made) = ⊥
 AreMade F t point (i ∷ items) [] = ⊥
 AreMade F t point (i ∷ items) (m ∷ made) = IsMade F t point i m × AreMade F t (suc point) items made
 
--- what the pass makes of the tree of a function
+-- what the pass makes of the tree of a function, of which a table tells
 pub record IsMadeFunction (F : Func) (t : Table) (function made : FuncTree) : Type 0 where
   pub code : AreMade F t 0 function.code made.code
   pub head : made ≡ record function { code = made.code }
+
+-- the same by the least table
+pub record IsMadeByTable (F : Func) (function made : FuncTree) : Type 0 where
+  pub table : Table
+  pub least : IsLeast F.code F.args table
+  pub by_table : IsMadeFunction F table function made

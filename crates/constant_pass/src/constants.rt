@@ -13,5 +13,6 @@ mod const_table;
 mod known;
 mod work;
 
+pub(crate) use const_table::table_in;
 pub use const_table::{ConstTable, table};
 pub use known::Known;

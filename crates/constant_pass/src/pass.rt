@@ -29,6 +29,6 @@ impl Edit for ConstEdit {
     }
 
     fn edit(alloc: Global, prog: &Checked, _profile: &Profile) -> Result<Made, AllocError> {
-        Ok(Made::Tree(folded(alloc, prog, prog.prog())?))
+        Ok(Made::Tree(folded(alloc, prog.prog())?))
     }
 }

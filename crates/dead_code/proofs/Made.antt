@@ -1,5 +1,5 @@
 -- From the tree that the pass makes to its program.
-use Rattle.std.proofs.Common.{◌≡◌, ◌⊎◌, Bool, ℕ, zero, suc, ◌≤◌, true, List, [], ◌∷◌, length, map, set, All, Option, Some, None, refl, sym, ap, subst, ◌∙◌, inl, inr, arith}
+use Rattle.std.proofs.Common.{◌≡◌, ◌⊎◌, ℕ, zero, suc, ◌≤◌, true, List, [], ◌∷◌, length, map, set, All, Option, Some, None, refl, sym, ap, subst, ◌∙◌, inl, inr, arith}
 use Rattle.std.specs.Prelude.{slice_get}
 use Rattle.std.specs.List.{AllZip, Contains}
 use Rattle.std.specs.Option.{option_map}
@@ -32,7 +32,7 @@ use Rattle.pass_edit_laws.proofs.lemmas.names.Trees.{heads-of_trees}
 use Rattle.dead_code.specs.Dead.{dead_meaning}
 use Rattle.dead_code.specs.Emptied.{IsCleared, IsClearedFunction, IsClearedTree, IsDeadened, WereRemovable, emptied, tree_with}
 use Rattle.pass_edit_laws.specs.plan.Marked.{with_nops}
-use Rattle.dead_code.specs.Work.{remaining}
+use Rattle.dead_code.specs.Work.{IsEmptiedFunction, remaining}
 use Rattle.dead_code.specs.Removable.{is_silent, IsUnused, IsIdle}
 use Rattle.dead_code.proofs.Accepted.{deadened-accepted}
 use Rattle.dead_code.proofs.Chain.{Chain, chain}
@@ -107,12 +107,11 @@ module _ (P : Prog) where
         omega arith
 
   -- what the calls give: the tree of the function with `nop` where items are dead
-  pub cleared-function : (F : Func) (function g : FuncTree) (marks dead : List Bool) → function ≡ tree_of_function P F → marks ≡ dead → IsCleared F.code (remaining F.code dead) → g ≡ record function { code = with_nops nop_item marks function.code } → IsClearedFunction P F g
-  cleared-function F function g marks dead same all cleared is = record {
-    made = remaining F.code dead;
-    cleared = cleared;
-    tree = is ∙ ap (λ (f : FuncTree). record f { code = with_nops nop_item marks f.code }) same
-        ∙ (λ i. record (tree_of_function P F) { code = with_nops nop_item (all i) (map (T F) F.code) }) ∙ (λ i. record (tree_of_function P F) { code = sym (with_nops-map (T F) nop dead F.code) i });
+  pub cleared-function : (F : Func) (function g : FuncTree) → function ≡ tree_of_function P F → IsEmptiedFunction F function g → IsClearedFunction P F g
+  cleared-function F function g same t = record {
+    made = remaining F.code t.dead;
+    cleared = t.cleared;
+    tree = t.tree ∙ ap (λ (f : FuncTree). record f { code = with_nops nop_item t.dead f.code }) same ∙ (λ i. record (tree_of_function P F) { code = sym (with_nops-map (T F) nop t.dead F.code) i });
   }
 
   names_made : (made : List FuncTree) → AllZip (IsClearedFunction P) P.funcs made → AllZip (IsSoundEdit (function_names (tree_of P))) (tree_of P).funcs made

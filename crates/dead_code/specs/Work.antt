@@ -4,12 +4,14 @@ use Rattle.std.specs.List.{All, Contains}
 use Rattle.std.specs.Option.{option_to_list}
 use Rattle.bril_tree.specs.Assigned.{assigns_of}
 use Rattle.bril_tree.specs.Live.{IsLive}
-use Rattle.bril_tree.specs.Numbered.{nop}
+use Rattle.bril_tree.specs.Numbered.{nop, nop_item}
 use Rattle.bril_tree.specs.Operand.{Location, reads_of}
 use Rattle.bril_tree.specs.Walk.{IsReached}
+use Rattle.bril_tree.specs.declared.function_tree.FuncTree.{FuncTree}
 use Rattle.bril_tree.specs.declared.numbered.Instr.{Instr}
+use Rattle.bril_tree.specs.declared.numbered_function.Func.{Func}
 use Rattle.flow_graph.specs.Location.{location_at, number_of}
-use Rattle.dead_code.specs.Emptied.{emptied, WereRemovable}
+use Rattle.dead_code.specs.Emptied.{IsCleared, emptied, WereRemovable}
 use Rattle.pass_edit_laws.specs.plan.Marked.{with_nops}
 use Rattle.dead_code.specs.Removable.{is_computation, is_silent}
 use Rattle.flow_graph.specs.Reads.{access_at}
@@ -19,6 +21,12 @@ use Rattle.graph_search.specs.Marks.{is_marked}
 -- the code with `nop` for what is dead
 abbrev pub remaining : List Instr → List Bool → List Instr
 remaining code dead = with_nops nop dead code
+
+-- a function of a tree and what the pass makes of it: dead items are `nop`
+pub record IsEmptiedFunction (F : Func) (function made : FuncTree) : Type 0 where
+  pub dead : List Bool
+  pub cleared : IsCleared F.code (remaining F.code dead)
+  pub tree : made ≡ record function { code = with_nops nop_item dead function.code }
 
 -- ---- what is dead so far
 

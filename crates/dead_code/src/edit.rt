@@ -1,20 +1,23 @@
 // The edit of the tree.
 
-ghost use Rattle.std.specs.Prelude.{◌≡◌, IfOk, if◌then◌else◌};
+ghost use Rattle.std.specs.Prelude.{◌≡◌, ◌<◌, ◌^◌, ◌-◌, IfOk, None, if◌then◌else◌, is_some, length};
 ghost use Rattle.bril_tree.specs.Accepted.{IsAccepted};
 ghost use Rattle.bril_tree.specs.Numbered.{nop_item};
+ghost use Rattle.bril_tree.specs.Shape.{shape_fault_of};
+ghost use Rattle.bril_tree.specs.Sites.{AreSitesSound};
 ghost use Rattle.bril_tree.specs.Size.{IsCounted};
 ghost use Rattle.dead_code.specs.Emptied.{IsClearedTree};
+ghost use Rattle.dead_code.specs.Work.{IsEmptiedFunction};
 ghost use Rattle.pass_edit_laws.specs.plan.Marked.{with_nops};
 
 use crate::work::dead_items;
-use bril_names::function_of;
 use bril_tree::function_tree::{FuncTree, Item};
+use bril_tree::numbered_function::Func;
 use bril_tree::program::Prog;
 use bril_tree::sequence::Seq;
 use bril_tree::tree::Tree;
 use graph_search::is_marked;
-use pass_make::nop;
+use pass_make::{each_function, nop};
 use std::alloc::{AllocError, Global};
 
 // The program's tree with `nop` for removable items, until none is left.
@@ -23,16 +26,20 @@ pub(crate) fn deadened(alloc: Global, prog: &Prog) -> Result<Tree, AllocError>
     requires counted { IsCounted prog.now }
     ensures { IfOk result (λ tree. IsClearedTree prog.now tree) }
 {
-    let mut funcs = Seq::new(alloc);
-    for (number, func) in prog.funcs.as_slice().iter().enumerate() {
-        let function = function_of(alloc, prog, number as u32)?;
-        let dead = dead_items(alloc, func)?;
-        funcs.push(emptied_function(alloc, function, dead.as_slice())?)?;
-    }
-    Ok(Tree {
-        imports: Seq::new(alloc),
-        funcs,
+    each_function(alloc, prog, |_number, func, function| {
+        deadened_function(alloc, func, function)
     })
+}
+
+// The function of this tree with `nop` for removable items, until none is left.
+fn deadened_function(alloc: Global, func: &Func, function: FuncTree) -> Result<FuncTree, AllocError>
+    requires shaped { shape_fault_of (is_some func.now.ret) func.now.code ≡ None }
+    requires sound { AreSitesSound func.now.code }
+    requires few { length func.now.code < 2 ^ 32 - 1 }
+    ensures { IfOk result (IsEmptiedFunction func.now function) }
+{
+    let dead = dead_items(alloc, func)?;
+    emptied_function(alloc, function, dead.as_slice())
 }
 
 // The function with `nop` for its dead items.
@@ -49,12 +56,7 @@ fn emptied_function(
         code.push(emptied_item(alloc, item, is_marked(dead, point)))?;
         point += 1;
     }
-    Ok(FuncTree {
-        name: function.name,
-        args: function.args,
-        ret: function.ret,
-        code,
-    })
+    Ok(FuncTree { code, ..function })
 }
 
 // The item, or `nop` where it is dead.

@@ -33,10 +33,5 @@ fn padded_function(alloc: Global, func: FuncTree) -> Result<FuncTree, AllocError
     for item in func.code.into_items() {
         code.push(item)?;
     }
-    Ok(FuncTree {
-        name: func.name,
-        args: func.args,
-        ret: func.ret,
-        code,
-    })
+    Ok(FuncTree { code, ..func })
 }

@@ -29,10 +29,10 @@ use Rattle.pass_make.specs.Edited.{IsLinkedTo}
 use Rattle.pass_make.specs.declared.made.Made.TheVariants as making
 use Rattle.pass_make.proofs.Each.{heads-each, items-each, names-each, size-each, tree_of_function}
 use Rattle.pass_edit_laws.proofs.lemmas.names.Trees.{heads-of_trees}
-use Rattle.ssa_exit.specs.Fresh.{AreFresh, count_beginning, shadow_names}
+use Rattle.ssa_exit.specs.Fresh.{AreFresh, shadow_names}
 use Rattle.ssa_exit.specs.Laws.{UnssaKeepsNumbers, UnssaLeavesNoShadow}
 use Rattle.ssa_exit.specs.Unssa.{unssa_meaning}
-use Rattle.ssa_exit.specs.Unssaed.{IsUnssaed, IsUnssaedFunction, IsUnssaedTree, copy_item, is_written, left_item, left_items, set_item, undef_item, unssaed_function}
+use Rattle.ssa_exit.specs.Unssaed.{IsLeftFunction, IsUnssaed, IsUnssaedFunction, IsUnssaedTree, copy_item, is_written, left_item, left_items, set_item, undef_item, unssaed_function}
 use Rattle.ssa_exit.proofs.Accepted.{unssaed-accepted}
 use Rattle.ssa_exit.proofs.Numbers.{leaves-none, numbers-within}
 use Rattle.ssa_exit.proofs.Points.{Unssaed}
@@ -120,12 +120,12 @@ module _ (P : Prog) where
         omega arith
 
   -- what the calls give: the function's tree, with what stands in place of its items
-  pub made-function : (F : Func) (function g : FuncTree) (stem : List ℕ) → function ≡ tree_of_function P F → count_beginning stem F.vars ≡ 0 → g ≡ record function { code = left_items F (shadow_names stem F.vars) F.code function.code } → IsUnssaedFunction P F g
-  made-function F function g stem same free is = record {
-    fresh = shadow_names stem F.vars;
-    are = are-fresh F stem free;
-    tree = is ∙ ap (λ (f : FuncTree). record f { code = left_items F (shadow_names stem F.vars) F.code f.code }) same
-        ∙ ap (λ (l : List Item). record (tree_of_function P F) { code = l }) (left-map F (shadow_names stem F.vars) (item_tree fs (variable_names F.vars) F.labels) F.code);
+  pub made-function : (F : Func) (function g : FuncTree) → function ≡ tree_of_function P F → IsLeftFunction F function g → IsUnssaedFunction P F g
+  made-function F function g same left = record {
+    fresh = shadow_names left.stem F.vars;
+    are = are-fresh F left.stem left.free;
+    tree = left.tree ∙ ap (λ (f : FuncTree). record f { code = left_items F (shadow_names left.stem F.vars) F.code f.code }) same
+        ∙ ap (λ (l : List Item). record (tree_of_function P F) { code = l }) (left-map F (shadow_names left.stem F.vars) (item_tree fs (variable_names F.vars) F.labels) F.code);
   }
 
   names_made : (made : List FuncTree) → AllZip (IsUnssaedFunction P) P.funcs made → AllZip (IsSoundEdit (function_names (tree_of P))) (tree_of P).funcs made

@@ -13,7 +13,7 @@ use Rattle.bril_tree.specs.declared.tree.Tree.{Tree}
 use Rattle.bril_tree.specs.declared.types.Ty.{Ty}
 use Rattle.bril_tree.specs.Numbered.{function_tree, item_tree, named, names_of_functions, nop_item, tree_of, typed_name, variable_names}
 use Rattle.bril_tree.specs.Typing.{variable_type}
-use Rattle.ssa_exit.specs.Fresh.{AreFresh}
+use Rattle.ssa_exit.specs.Fresh.{AreFresh, count_beginning, shadow_names}
 
 -- ---- shadows
 
@@ -85,6 +85,12 @@ pub record IsUnssaedFunction (P : Prog) (F : Func) (g : FuncTree) : Type 0 where
   pub fresh : ℕ → List ℕ
   pub are : AreFresh (variable_names F.vars) fresh
   pub tree : g ≡ unssaed_function P F fresh
+
+-- the same of a function's tree, by a stem with which no variable's name begins
+pub record IsLeftFunction (F : Func) (function made : FuncTree) : Type 0 where
+  pub stem : List ℕ
+  pub free : count_beginning stem F.vars ≡ 0
+  pub tree : made ≡ record function { code = left_items F (shadow_names stem F.vars) F.code function.code }
 
 -- the pass makes this tree of the program
 pub record IsUnssaedTree (P : Prog) (tree : Tree) : Type 0 where

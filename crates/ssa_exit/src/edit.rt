@@ -10,11 +10,10 @@ ghost use Rattle.bril_tree.specs.Shape.{is_shaped, shape_fault_of};
 ghost use Rattle.bril_tree.specs.Size.{IsCounted};
 ghost use Rattle.bril_tree.specs.Typing.{variable_type};
 ghost use Rattle.ssa_exit.specs.Fresh.{shadow_names};
-ghost use Rattle.ssa_exit.specs.Unssaed.{IsLeftAt, IsUnssaedTree, copy_item, got_item, is_written, left_item, left_items, set_item, undef_item};
+ghost use Rattle.ssa_exit.specs.Unssaed.{IsLeftAt, IsLeftFunction, IsUnssaedTree, copy_item, got_item, is_written, left_item, left_items, set_item, undef_item};
 
 use crate::fresh::{free_stem, shadow_name};
 use crate::written::{argument, written_shadows};
-use bril_names::function_of;
 use bril_tree::function_tree::{Dest, FuncTree, Item};
 use bril_tree::name::Name;
 use bril_tree::numbered::Instr;
@@ -25,7 +24,7 @@ use bril_tree::sequence::Seq;
 use bril_tree::tree::Tree;
 use bril_tree::types::Ty;
 use graph_search::is_marked;
-use pass_make::nop;
+use pass_make::{each_function, nop};
 use std::alloc::{AllocError, Global};
 
 // The program's tree, in which each shadow is a variable of its own.
@@ -34,17 +33,20 @@ pub(crate) fn unssaed(alloc: Global, prog: &Prog) -> Result<Tree, AllocError>
     requires counted { IsCounted prog.now }
     ensures { IfOk result (λ tree. IsUnssaedTree prog.now tree) }
 {
-    let mut funcs = Seq::new(alloc);
-    for (number, func) in prog.funcs.as_slice().iter().enumerate() {
-        let function = function_of(alloc, prog, number as u32)?;
-        let written = written_shadows(alloc, func)?;
-        let stem = free_stem(alloc, func.vars.as_slice())?;
-        funcs.push(left_function(alloc, func, function, written.as_slice(), stem.as_slice())?)?;
-    }
-    Ok(Tree {
-        imports: Seq::new(alloc),
-        funcs,
+    each_function(alloc, prog, |_number, func, function| {
+        unssaed_function(alloc, func, function)
     })
+}
+
+// The function of this tree, in which each shadow is a variable of its own.
+fn unssaed_function(alloc: Global, func: &Func, function: FuncTree) -> Result<FuncTree, AllocError>
+    requires shaped { shape_fault_of (is_some func.now.ret) func.now.code ≡ None }
+    requires long { length function.code ≡ length func.now.code }
+    ensures { IfOk result (IsLeftFunction func.now function) }
+{
+    let written = written_shadows(alloc, func)?;
+    let stem = free_stem(alloc, func.vars.as_slice())?;
+    left_function(alloc, func, function, written.as_slice(), stem.as_slice())
 }
 
 // The function of this tree, whose shadows become variables of names with this stem. The marks say which shadows are written.
@@ -67,12 +69,7 @@ fn left_function(
         code.push(left_at(alloc, func, written, stem, point, item)?)?;
         point += 1;
     }
-    Ok(FuncTree {
-        name: function.name,
-        args: function.args,
-        ret: function.ret,
-        code,
-    })
+    Ok(FuncTree { code, ..function })
 }
 
 // What stands in place of the item at a point of the function, which has this tree.

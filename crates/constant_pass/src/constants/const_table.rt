@@ -84,7 +84,7 @@ pub fn table(alloc: Global, prog: &Checked, func: u32) -> Result<ConstTable, All
 }
 
 // The table of a function.
-fn table_in(alloc: Global, func: &Func) -> Result<ConstTable, AllocError>
+pub(crate) fn table_in(alloc: Global, func: &Func) -> Result<ConstTable, AllocError>
     requires shaped { shape_fault_of (is_some func.now.ret) func.now.code ≡ None }
     requires few { length func.now.code < 2 ^ 32 - 1 }
     ensures consistent { IfOk result (λ table. IsConsistent func.now.code func.now.args (told table)) }

@@ -1,12 +1,10 @@
 -- The wanted `get`s behind a point, as the layout and as the tables take them.
-use Rattle.std.proofs.Common.{◌≡◌, ℕ, ◌+◌, ◌-◌, ◌*◌, ◌/◌, ◌<◌, ◌≤◌, Bool, true, false, cond, ◌&&◌, List, [], length, take, drop, map, get_or, Option, Some, refl, sym, ap, subst, ◌∙◌, arith, add-one}
-use Rattle.std.specs.Prelude.{nat_le, slice_get, slice_index, slice_range}
+use Rattle.std.proofs.Common.{◌≡◌, ℕ, ◌+◌, ◌-◌, ◌*◌, ◌/◌, ◌<◌, ◌≤◌, Bool, true, false, cond, ◌&&◌, List, [], length, take, drop, map, get_or, Option, refl, sym, ap, subst, ◌∙◌, arith, add-one}
+use Rattle.std.specs.Prelude.{nat_le, slice_index, slice_range}
 use Rattle.std.specs.List.{All}
 use Rattle.std.proofs.lemmas.Bool.{leb-false}
 use Rattle.std.proofs.lemmas.List.{length-append, length-map}
 use Rattle.std.proofs.lemmas.List.Elements.{Contains-get_or}
-use Rattle.std.proofs.lemmas.Option.{slice_get-get_or}
-use Rattle.bril_tree.specs.declared.program.Prog.{Prog}
 use Rattle.bril_tree.specs.declared.numbered.Instr.{Instr}
 use Rattle.bril_tree.specs.declared.numbered_function.Func.{Func}
 use Rattle.bril_tree.specs.Operand.{dest_of}
@@ -60,10 +58,6 @@ written-long code list =
     let a = length-map code (λ item. or_none (dest_of item)) in
     let b = length-map list (λ (get : WantedGet). get.location / 2) in
     omega (arith, h, a, b)
-
--- the function at a number, of the slice of all functions
-pub there : (P : Prog) (funcs : List Func) → funcs ≡ P.funcs → (at : ℕ) (F : Func) → at < length funcs → F ≡ get_or funcs at F → slice_get P.funcs at ≡ Some F
-there P funcs all at F within is = subst (λ (fs : List Func). slice_get fs at ≡ Some F) all (slice_get-get_or funcs at F within ∙ ap Some (sym is))
 
 -- what stands for definitions, in a slice
 pub solved-in : (F : Func) (v : WantsView) (items find : List ℕ) → find ≡ items → AreRepresentatives F.code F.args (gets_of v) (length items) (λ d. slice_index items d) → AreRepresentatives F.code F.args (gets_of v) (length find) (λ d. slice_index find d)
