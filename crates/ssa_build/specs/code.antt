@@ -1,4 +1,5 @@
 pub mod Items
 pub mod Sweep
+pub mod Layout
 pub mod Rows
 pub mod Names

@@ -4,14 +4,17 @@
 // 1. Items under other names (`src/code/items.rt`), and `get`s and `set`s (`src/code/copies.rt`, `specs/code/Items.antt`).
 // 2. The names of all definitions (`src/code/names.rt`), and for each point the labels for which `set`s stand before it
 //    (`src/code/rows.rt`).
-// 3. One sweep over the items of a function lays out its code (`src/code/sweep.rt`, `specs/code/Sweep.antt`, `proofs/lemmas/code/Laying.antt`).
+// 3. One sweep over the items of a function lays out its code (`src/code/sweep.rt`, `specs/code/Sweep.antt`, `proofs/lemmas/code/Laying.antt`),
+//    by what it is lent (`src/code/layout.rt`, `specs/code/Layout.antt`).
 
 mod copies;
 mod items;
+mod layout;
 mod names;
 mod rows;
 mod sweep;
 
+pub use layout::Layout;
 pub use names::{all_names, variables_written};
 pub use rows::leaving_rows;
 pub use sweep::laid_code;

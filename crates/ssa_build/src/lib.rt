@@ -12,7 +12,8 @@
 //!    `definition_name`, `specs/fresh_names/Names.antt`).
 //! 4. The code of a function in one sweep (`code`; `IsLaidCode`, `specs/code/Sweep.antt`): items under the names of
 //!    definitions (`src/code/items.rt`, `names.rt`), `get`s and `set`s (`copies.rt`), the labels for which `set`s stand
-//!    before a point (`rows.rt`, `specs/code/Rows.antt`), and the sweep (`src/code/sweep.rt`).
+//!    before a point (`rows.rt`, `specs/code/Rows.antt`), and the sweep (`src/code/sweep.rt`), by what it is lent (`layout.rt`,
+//!    `specs/code/Layout.antt`).
 //! 5. The whole tree (`tree`; `IsLaidTree`, `specs/tree/Made.antt`), and where its items stand (`specs/tree/Standing.antt`).
 #![tactic(auto)]
 

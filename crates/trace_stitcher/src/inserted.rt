@@ -6,10 +6,10 @@ ghost use Rattle.bril_tree.specs.Numbered.{variable_names};
 ghost use Rattle.trace_stitcher.specs.matching.Fitting.{IsElsewhere};
 ghost use Rattle.trace_laws.specs.lines.Lines.{TraceNames};
 ghost use Rattle.trace_stitcher.specs.Inserted.{AreNamesFor, IsInside, label_put, labels_before, lines_behind, lines_of, listed_name, row, stands_at};
-ghost use Rattle.trace_stitcher.specs.Stops.{AreNamesHere};
+ghost use Rattle.trace_stitcher.specs.Sources.{AreNamesAt, AreNamesIn};
 
 use crate::matching::Fitting;
-use crate::traces::trace_of;
+use crate::traces::{TracedFunction, trace_of};
 use bril_tree::function_tree::Item;
 use bril_tree::name::Name;
 use bril_tree::numbered_function::Func;
@@ -60,21 +60,18 @@ fn put(
     alloc: Global,
     before: &mut [Seq<Name>],
     behind: &mut [Seq<Item>],
-    code: &[Item],
-    labels: &TakenNames<'_>,
-    variables: &TakenNames<'_>,
-    function: u32,
+    function: &TracedFunction<'_, '_>,
     number: u32,
     fit: &Fitting,
 ) -> Result<(), AllocError>
-    requires long { length before.old ≡ length code.now + 1 }
-    requires items { length behind.old ≡ length code.now }
-    requires inside { IsInside function (length code.now) fit.now }
-    ensures before { OnOk result ((names : TraceNames) → (fit.now.function ≡ function → AreNamesHere labels.now variables.now code.now number fit.now.path.stop names) → (i : ℕ) → row before.new i ≡ row before.old i ++ label_put code.now function names fit.now i) }
-    ensures behind { OnOk result ((names : TraceNames) → (fit.now.function ≡ function → AreNamesHere labels.now variables.now code.now number fit.now.path.stop names) → (i : ℕ) → row behind.new i ≡ (if stands_at function fit.now i then lines_of code.now names fit.now else row behind.old i)) }
+    requires long { length before.old ≡ length function.now.code.now + 1 }
+    requires items { length behind.old ≡ length function.now.code.now }
+    requires inside { IsInside function.now.number (length function.now.code.now) fit.now }
+    ensures before { OnOk result ((names : TraceNames) → (fit.now.function ≡ function.now.number → AreNamesAt function.now number fit.now.path.stop names) → (i : ℕ) → row before.new i ≡ row before.old i ++ label_put function.now.code.now function.now.number names fit.now i) }
+    ensures behind { OnOk result ((names : TraceNames) → (fit.now.function ≡ function.now.number → AreNamesAt function.now number fit.now.path.stop names) → (i : ℕ) → row behind.new i ≡ (if stands_at function.now.number fit.now i then lines_of function.now.code.now names fit.now else row behind.old i)) }
 {
-    if fit.function == function {
-        let trace = trace_of(alloc, code, labels, variables, number, fit)?;
+    if fit.function == function.number {
+        let trace = trace_of(alloc, function, number, fit)?;
         put_before(before, fit.path.stop, trace.stop)?;
         put_behind(behind, fit.point, trace.lines);
     }
@@ -86,28 +83,23 @@ fn put_all(
     alloc: Global,
     before: &mut [Seq<Name>],
     behind: &mut [Seq<Item>],
-    code: &[Item],
-    labels: &TakenNames<'_>,
-    variables: &TakenNames<'_>,
-    function: u32,
+    function: &TracedFunction<'_, '_>,
     fits: &[Fitting],
 ) -> Result<(), AllocError>
-    requires long { length before.old ≡ length code.now + 1 }
-    requires items { length behind.old ≡ length code.now }
+    requires long { length before.old ≡ length function.now.code.now + 1 }
+    requires items { length behind.old ≡ length function.now.code.now }
     requires none_before { (i : ℕ) → row before.old i ≡ [] }
     requires none_behind { (i : ℕ) → row behind.old i ≡ [] }
-    requires inside { All (IsInside function (length code.now)) fits.now }
+    requires inside { All (IsInside function.now.number (length function.now.code.now)) fits.now }
     requires apart { AllPairs IsElsewhere fits.now }
     requires few { length fits.now ≤ 64 }
-    ensures before { OnOk result ((names : ℕ → TraceNames) → AreNamesFor labels.now variables.now code.now function fits.now names → (i : ℕ) → row before.new i ≡ labels_before code.now function names 1 fits.now i) }
-    ensures behind { OnOk result ((names : ℕ → TraceNames) → AreNamesFor labels.now variables.now code.now function fits.now names → (i : ℕ) → row behind.new i ≡ lines_behind code.now function names 1 fits.now i) }
+    ensures before { OnOk result ((names : ℕ → TraceNames) → AreNamesIn function.now fits.now names → (i : ℕ) → row before.new i ≡ labels_before function.now.code.now function.now.number names 1 fits.now i) }
+    ensures behind { OnOk result ((names : ℕ → TraceNames) → AreNamesIn function.now fits.now names → (i : ℕ) → row behind.new i ≡ lines_behind function.now.code.now function.now.number names 1 fits.now i) }
 {
     let mut number = 0;
     for fit in fits {
         number += 1;
-        put(
-            alloc, before, behind, code, labels, variables, function, number, fit,
-        )?;
+        put(alloc, before, behind, function, number, fit)?;
     }
     Ok(())
 }
@@ -133,14 +125,17 @@ pub(crate) fn inserted_in(
     let variables = taken_variables(alloc, func)?;
     let mut before = empty_rows(alloc, code.len() + 1)?;
     let mut behind = empty_rows(alloc, code.len())?;
+    let traced = TracedFunction {
+        number: function,
+        code,
+        labels: &labels,
+        variables: &variables,
+    };
     put_all(
         alloc,
         before.as_mut_slice(),
         behind.as_mut_slice(),
-        code,
-        &labels,
-        &variables,
-        function,
+        &traced,
         fits,
     )?;
     Ok(Inserted { before, behind })

@@ -7,7 +7,7 @@
 //! 2. The names of a trace before any `_` (`fresh_names`; `src/fresh_names/bases.rt`), of which fresh ones are made by
 //!    `pass_make`. There is one fresh name of each.
 //! 3. The items of a trace (`src/lines.rt`, `specs/Legs.antt`), and what an entry puts into its function: its trace, and the
-//!    label where the trace goes on (`src/traces.rt`, `specs/Stops.antt`).
+//!    label where the trace goes on (`src/traces.rt`, `specs/Stops.antt`), by what these are lent (`specs/Sources.antt`).
 //! 4. What is put in by all entries of a function, by points, and one sweep over its items (`src/inserted.rt`,
 //!    `src/sweep.rt`, `specs/Inserted.antt`, `proofs/Rows.antt`, `Splicing.antt`).
 //! 5. The edit of the tree (`src/edit.rt`). What is made is what the pass makes (`proofs/Traced.antt`, `Functions.antt`).

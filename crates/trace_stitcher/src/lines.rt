@@ -7,6 +7,7 @@ ghost use Rattle.pass_edit_laws.specs.plan.Lines.{jmp_line, listed_item};
 ghost use Rattle.trace_paths.specs.Path.{Turn};
 ghost use Rattle.trace_paths.specs.Walked.{leg_of};
 ghost use Rattle.trace_stitcher.specs.Legs.{AreGuardNames, nots_behind, one_leg};
+ghost use Rattle.trace_stitcher.specs.Sources.{AreNamesOf, item_of};
 
 use crate::fresh_names::not_base;
 use bril_tree::function_tree::{Dest, Item};
@@ -94,6 +95,18 @@ fn not(alloc: Global, name: Name, args: Seq<Name>) -> Item
     }
 }
 
+// ---- all lines
+
+// What the lines of a trace are made by: the items of its function, the names of the function's variables, the number of its entry,
+// and the label to which a failed guard goes.
+#[derive(Clone, Copy, Drop)]
+struct LineSource<'a, 't> {
+    code: &'a [Item],
+    variables: &'a TakenNames<'t>,
+    number: u32,
+    bail: &'a Name,
+}
+
 // The arguments of the item at a point; none where there is no such item.
 fn args_at(alloc: Global, code: &[Item], point: u32) -> Result<Seq<Name>, AllocError>
     ensures { IfOk result (λ args. args ≡ args_in (slice_get code.now point)) }
@@ -123,14 +136,13 @@ fn push_straight(
 fn push_taken(
     alloc: Global,
     lines: &mut Seq<Item>,
-    code: &[Item],
+    source: &LineSource<'_, '_>,
     point: u32,
-    bail: &Name,
 ) -> Result<(), AllocError>
-    ensures { OnOk result (lines.new ≡ lines.old ++ guard_line (args_in (slice_get code.now point)) bail.now ∷ []) }
+    ensures { OnOk result (lines.new ≡ lines.old ++ guard_line (args_in (item_of source.now point)) source.now.bail.now ∷ []) }
 {
-    let args = args_at(alloc, code, point)?;
-    lines.push(guard(alloc, args, bail)?)?;
+    let args = args_at(alloc, source.code, point)?;
+    lines.push(guard(alloc, args, source.bail)?)?;
     Ok(())
 }
 
@@ -138,90 +150,78 @@ fn push_taken(
 fn push_passed(
     alloc: Global,
     lines: &mut Seq<Item>,
-    code: &[Item],
+    source: &LineSource<'_, '_>,
     point: u32,
     name: Name,
-    bail: &Name,
 ) -> Result<(), AllocError>
-    ensures { OnOk result (lines.new ≡ lines.old ++ not_line bool_type name (args_in (slice_get code.now point)) ∷ guard_line (name ∷ []) bail.now ∷ []) }
+    ensures { OnOk result (lines.new ≡ lines.old ++ not_line bool_type name (args_in (item_of source.now point)) ∷ guard_line (name ∷ []) source.now.bail.now ∷ []) }
 {
     let args = listed(alloc, &name)?;
-    lines.push(not(alloc, name, args_at(alloc, code, point)?))?;
-    lines.push(guard(alloc, args, bail)?)?;
+    lines.push(not(alloc, name, args_at(alloc, source.code, point)?))?;
+    lines.push(guard(alloc, args, source.bail)?)?;
     Ok(())
 }
 
-// Adds the lines of a branch with its choice, for the entry of this number, and gives the number of the next `not`, from 0.
+// Adds the lines of a branch with its choice, and gives the number of the next `not`, from 0.
 fn push_branch(
     alloc: Global,
     lines: &mut Seq<Item>,
-    code: &[Item],
+    source: &LineSource<'_, '_>,
     point: u32,
     choice: bool,
-    variables: &TakenNames<'_>,
-    number: u32,
     nots: u32,
-    bail: &Name,
 ) -> Result<u32, AllocError>
     requires { nots < 2 ^ 31 }
     ensures next { IfOk result (λ next. next ≡ nots_behind nots (Turn point choice)) }
-    ensures lines { OnOk result ((names : TraceNames) → AreGuardNames variables.now number bail.now names → lines.new ≡ lines.old ++ one_leg (slice_get code.now) names nots (Turn point choice)) }
+    ensures lines { OnOk result ((names : TraceNames) → AreNamesOf source.now names → lines.new ≡ lines.old ++ one_leg (item_of source.now) names nots (Turn point choice)) }
 {
     if choice {
-        push_taken(alloc, lines, code, point, bail)?;
+        push_taken(alloc, lines, source, point)?;
         return Ok(nots);
     }
-    let base = not_base(alloc, number, nots + 1)?;
-    let name = variables.fresh(alloc, base)?;
-    push_passed(alloc, lines, code, point, name, bail)?;
+    let base = not_base(alloc, source.number, nots + 1)?;
+    let name = source.variables.fresh(alloc, base)?;
+    push_passed(alloc, lines, source, point, name)?;
     Ok(nots + 1)
 }
 
-// Adds the lines of an item that a path lays, for the entry of this number, and gives the number of the next `not`.
+// Adds the lines of an item that a path lays, and gives the number of the next `not`.
 fn push_leg(
     alloc: Global,
     lines: &mut Seq<Item>,
-    code: &[Item],
+    source: &LineSource<'_, '_>,
     leg: Leg,
-    variables: &TakenNames<'_>,
-    number: u32,
     nots: u32,
-    bail: &Name,
 ) -> Result<u32, AllocError>
     requires { nots < 2 ^ 31 }
     ensures next { IfOk result (λ next. next ≡ nots_behind nots (leg_of leg)) }
-    ensures lines { OnOk result ((names : TraceNames) → AreGuardNames variables.now number bail.now names → lines.new ≡ lines.old ++ one_leg (slice_get code.now) names nots (leg_of leg)) }
+    ensures lines { OnOk result ((names : TraceNames) → AreNamesOf source.now names → lines.new ≡ lines.old ++ one_leg (item_of source.now) names nots (leg_of leg)) }
 {
     match leg {
         Leg::Straight(point) => {
-            push_straight(alloc, lines, code, point)?;
+            push_straight(alloc, lines, source.code, point)?;
             Ok(nots)
         }
         Leg::Choice(point, choice) => {
-            let next = push_branch(
-                alloc, lines, code, point, choice, variables, number, nots, bail,
-            )?;
+            let next = push_branch(alloc, lines, source, point, choice, nots)?;
             Ok(next)
         }
     }
 }
 
-// Adds the lines of the items that a path lays, for the entry of this number.
+// Adds the lines of the items that a path lays.
 fn push_legs(
     alloc: Global,
     lines: &mut Seq<Item>,
-    code: &[Item],
+    source: &LineSource<'_, '_>,
     legs: &[Leg],
-    variables: &TakenNames<'_>,
-    number: u32,
-    bail: &Name,
 ) -> Result<(), AllocError>
     requires { length legs.now ≤ 256 }
-    ensures { OnOk result ((names : TraceNames) → AreGuardNames variables.now number bail.now names → lines.new ≡ lines.old ++ leg_lines bool_type (slice_get code.now) names 0 (map leg_of legs.now)) }
+    ensures { OnOk result ((names : TraceNames) → AreNamesOf source.now names → lines.new ≡ lines.old ++ leg_lines bool_type (item_of source.now) names 0 (map leg_of legs.now)) }
 {
     let mut nots = 0;
     for leg in legs {
-        nots = push_leg(alloc, lines, code, *leg, variables, number, nots, bail)?;
+        nots = push_leg(alloc, lines, source, *leg, nots)?;
     }
     Ok(())
 }
@@ -242,7 +242,13 @@ pub(crate) fn trace_lines(
 {
     let mut lines = Seq::new(alloc);
     lines.push(plain(alloc, Op::Speculate))?;
-    push_legs(alloc, &mut lines, code, legs, variables, number, &bail)?;
+    let source = LineSource {
+        code,
+        variables,
+        number,
+        bail: &bail,
+    };
+    push_legs(alloc, &mut lines, &source, legs)?;
     lines.push(plain(alloc, Op::Commit))?;
     lines.push(jmp(alloc, stop)?)?;
     lines.push(Item::Label(bail))?;

@@ -1,16 +1,28 @@
 -- The operands that a sweep over the items of a function finds, by where edges leave.
-use Rattle.std.specs.Prelude.{◌≡◌, ◌⊎◌, length, ℕ, zero, suc, ◌+◌, ◌-◌, ◌<◌, List, Option, Some, None, slice_index}
+use Rattle.std.specs.Prelude.{◌≡◌, ◌⊎◌, length, ℕ, zero, suc, ◌+◌, ◌-◌, ◌^◌, ◌<◌, List, Option, Some, None, is_some, slice_index}
 use Rattle.std.specs.List.{Contains}
 use Rattle.bril_tree.specs.declared.numbered.Instr.{Instr}
+use Rattle.bril_tree.specs.declared.numbered_function.Func.{Func}
 use Rattle.bril_tree.specs.Operand.{Location}
+use Rattle.bril_tree.specs.Shape.{shape_fault_of}
+use Rattle.bril_tree.specs.Sites.{AreSitesSound}
 use Rattle.ssa_search.specs.declared.accesses.entries.Entry.{Entry}
 use Rattle.ssa_search.specs.accesses.Entries.{AreEntriesOf, EntersAt}
 use Rattle.ssa_build.specs.declared.trivial_phis.operands.Operand.{Operand}
-use Rattle.ssa_search.specs.gets.Wants.{WantsView, row_of}
+use Rattle.ssa_search.specs.gets.Wants.{AreWantsOf, WantsView, gets_of, row_of}
 use Rattle.ssa_build.specs.operands.Operands.{base_of}
 use Rattle.ssa_search.specs.declared.renaming.now.WantedGet.{WantedGet}
+use Rattle.ssa_laws.specs.reaching_definitions.Laws.{IsTabled}
 use Rattle.ssa_laws.specs.reaching_definitions.Tables.{behind}
 use Rattle.ssa_laws.specs.reaching_definitions.Told.{argument, table_of}
+
+-- The items of a function are in form, and these are the `get`s that it wants.
+pub record IsSweepable (F : Func) (v : WantsView) : Type 0 where
+  pub shaped : shape_fault_of (is_some F.ret) F.code ≡ None
+  pub few : length F.code < 2 ^ 32 - 1
+  pub sound : AreSitesSound F.code
+  pub wants : AreWantsOf F v
+  pub tabled : IsTabled F.code F.args (gets_of v)
 
 -- the start of the function comes first, and then its points
 abbrev pub key_of : Option ℕ → ℕ

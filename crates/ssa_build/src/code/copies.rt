@@ -5,6 +5,7 @@ ghost use Rattle.bril_tree.specs.Typing.{variable_type};
 ghost use Rattle.ssa_build.specs.code.Items.{get_items, got_item, kept, put_item, set_items, stays};
 
 use crate::code::items::{name_in, standing};
+use crate::code::layout::Layout;
 use bril_tree::function_tree::{Dest, Item};
 use bril_tree::name::Name;
 use bril_tree::numbered::VarInfo;
@@ -102,16 +103,16 @@ pub(crate) fn push_gets(
 pub(crate) fn push_sets(
     alloc: Global,
     code: &mut Seq<Item>,
-    names: &[Name],
-    find: &[u32],
+    layout: &Layout<'_>,
     now: &[u32],
     gets: &[WantedGet],
 ) -> Result<(), AllocError>
-    ensures { OnOk result (code.new ≡ code.old ++ set_items names.now find.now now.now gets.now) }
+    ensures { OnOk result (code.new ≡ code.old ++ set_items layout.now.names.now layout.now.find.now now.now gets.now) }
 {
     for get in gets {
-        let name = name_in(alloc, names, get.definition)?;
-        let from = name_in(alloc, names, standing(find, now, get.location as usize))?;
+        let name = name_in(alloc, layout.names, get.definition)?;
+        let stands = standing(layout.find, now, get.location as usize);
+        let from = name_in(alloc, layout.names, stands)?;
         code.push(set_item(alloc, name, from)?)?;
     }
     Ok(())

@@ -3,6 +3,7 @@
 ghost use Rattle.std.specs.Prelude.{◌≡◌, ◌*◌, ◌∷◌, [], ℕ, IfOk, map, slice_index};
 ghost use Rattle.ssa_build.specs.code.Items.{dest_with, laid_item, moved_item, name_in, read_name, standing, unreached_item};
 
+use crate::code::layout::Layout;
 use bril_tree::function_tree::{Dest, Item};
 use bril_tree::name::Name;
 use bril_tree::operation::Op;
@@ -44,17 +45,16 @@ pub(crate) fn name_in(alloc: Global, names: &[Name], definition: u32) -> Result<
 // The names under which an item reads these variables.
 fn read_names(
     alloc: Global,
-    names: &[Name],
-    find: &[u32],
+    layout: &Layout<'_>,
     now: &[u32],
     args: &[u32],
 ) -> Result<Seq<Name>, AllocError>
-    ensures { IfOk result (λ made. made ≡ map (read_name names.now find.now now.now) args.now) }
+    ensures { IfOk result (λ made. made ≡ map (read_name layout.now.names.now layout.now.find.now now.now) args.now) }
 {
     let mut made = Seq::new(alloc);
     for x in args {
-        let definition = standing(find, now, 2 * *x as usize);
-        made.push(name_in(alloc, names, definition)?)?;
+        let definition = standing(layout.find, now, 2 * *x as usize);
+        made.push(name_in(alloc, layout.names, definition)?)?;
     }
     Ok(made)
 }
@@ -80,14 +80,13 @@ fn dest_with(
 // What stands in place of an item that walks reach, which names these variables.
 fn moved(
     alloc: Global,
-    names: &[Name],
-    find: &[u32],
+    layout: &Layout<'_>,
     now: &[u32],
     written: u32,
     args: &[u32],
     item: Item,
 ) -> Result<Item, AllocError>
-    ensures { IfOk result (λ made. made ≡ moved_item (map (read_name names.now find.now now.now) args.now) (name_in names.now written) item) }
+    ensures { IfOk result (λ made. made ≡ moved_item (map (read_name layout.now.names.now layout.now.find.now now.now) args.now) (name_in layout.now.names.now written) item) }
 {
     match item {
         Item::Label(label) => Ok(Item::Label(label)),
@@ -96,7 +95,7 @@ fn moved(
             ty,
             value,
         } => {
-            let dest = name_in(alloc, names, written)?;
+            let dest = name_in(alloc, layout.names, written)?;
             Ok(Item::Const { dest, ty, value })
         }
         Item::Act { op: Op::Get, .. } => Ok(nop(alloc)),
@@ -108,8 +107,8 @@ fn moved(
             funcs,
             labels,
         } => {
-            let dest = dest_with(alloc, names, written, dest)?;
-            let args = read_names(alloc, names, find, now, args)?;
+            let dest = dest_with(alloc, layout.names, written, dest)?;
+            let args = read_names(alloc, layout, now, args)?;
             Ok(Item::Act {
                 dest,
                 op,
@@ -133,22 +132,20 @@ fn unreached(alloc: Global, item: Item) -> Item
 
 /// What stands in place of an item of a function, which names these variables and has its destination as the definition
 /// `written`: the item under the names of definitions, `nop` for a `get` or a `set`, and for an item that no walk reaches `nop`,
-/// unless it is a label. `now` has the definition of each location, and `find` what stands for each definition. The only error
-/// is out of memory.
+/// unless it is a label. `now` has the definition of each location. The only error is out of memory.
 pub(crate) fn laid_item(
     alloc: Global,
-    names: &[Name],
-    find: &[u32],
+    layout: &Layout<'_>,
     now: &[u32],
     reached: bool,
     written: u32,
     args: &[u32],
     item: Item,
 ) -> Result<Item, AllocError>
-    ensures { IfOk result (λ made. made ≡ laid_item reached (map (read_name names.now find.now now.now) args.now) (name_in names.now written) item) }
+    ensures { IfOk result (λ made. made ≡ laid_item reached (map (read_name layout.now.names.now layout.now.find.now now.now) args.now) (name_in layout.now.names.now written) item) }
 {
     if reached {
-        return moved(alloc, names, find, now, written, args, item);
+        return moved(alloc, layout, now, written, args, item);
     }
     Ok(unreached(alloc, item))
 }

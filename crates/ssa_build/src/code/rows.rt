@@ -4,7 +4,6 @@ ghost use Rattle.std.specs.Prelude.{◌≡◌, ◌<◌, ◌+◌, ◌^◌, ◌-�
 ghost use Rattle.std.specs.List.{All};
 ghost use Rattle.ssa_build.specs.code.Rows.{AreRows, IsRow, leaves_before, leaves_of};
 ghost use Rattle.ssa_laws.specs.inserted_copies.Inserted.{is_jump};
-ghost use Rattle.ssa_search.specs.placing.Wanted.{is_label};
 
 use bril_tree::edge::Edge;
 use bril_tree::numbered::Instr;
@@ -13,17 +12,8 @@ use bril_tree::sequence::Seq;
 use flow_graph::{Access, AccessLists, Graph};
 use graph_search::{ArcGraph, Reached};
 use ssa_search::accesses::distinct;
+use ssa_search::placing::is_label_at;
 use std::alloc::{AllocError, Global};
-
-// Whether a label stands at a point.
-fn is_label_at(code: &[Instr], point: u32) -> bool
-    ensures { result ≡ is_label (slice_get code.now point) }
-{
-    match code.get(point as usize) {
-        Some(Instr::Label(_)) => true,
-        _ => false,
-    }
-}
 
 // Whether a jump stands at a point.
 fn is_jump_at(code: &[Instr], point: u32) -> bool

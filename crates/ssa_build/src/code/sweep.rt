@@ -1,23 +1,19 @@
 // The layout of a function's code, by one sweep over its items.
 
-ghost use Rattle.std.specs.Prelude.{◌≡◌, ◌<◌, ◌≤◌, ◌+◌, ◌*◌, ◌^◌, ◌-◌, ◌++◌, ◌∷◌, [], ℕ, List, Some, None, Option, IfOk, OnOk, is_some, length, slice_get, slice_index, slice_index_or};
-ghost use Rattle.std.specs.List.{All};
-ghost use Rattle.bril_tree.specs.declared.numbered.VarInfo.{VarInfo};
+ghost use Rattle.std.specs.Prelude.{◌≡◌, ◌<◌, ◌≤◌, ◌+◌, ◌*◌, ◌^◌, ◌-◌, ◌++◌, ◌∷◌, [], ℕ, Some, Option, IfOk, OnOk, length, slice_get, slice_index_or};
 ghost use Rattle.bril_tree.specs.Operand.{Location};
-ghost use Rattle.bril_tree.specs.Shape.{shape_fault_of};
-ghost use Rattle.ssa_build.specs.code.Sweep.{AreGets, IsLaidCode, IsLaidSoFar, before_at, falls_at, gets_before, goes_on, item_args, item_at, layout_of, reached_at, row_in, sets_falling, sets_leaving, sets_to};
+ghost use Rattle.ssa_build.specs.code.Layout.{AreGetsBy, IsLaidBy, IsLaidSoFarBy, IsLayout, before_by, item_by, row_of, view_of};
+ghost use Rattle.ssa_build.specs.code.Sweep.{falls_at, gets_before, goes_on, item_args, reached_at, sets_falling, sets_leaving, sets_to};
 ghost use Rattle.ssa_search.specs.renaming.Gets.{AreGetsOf};
-ghost use Rattle.ssa_search.specs.renaming.Tells.{IsItemWithin, TellsNow};
-ghost use Rattle.ssa_search.specs.declared.renaming.now.WantedGet.{WantedGet};
+ghost use Rattle.ssa_search.specs.renaming.Tells.{TellsNow};
 ghost use Rattle.ssa_laws.specs.reaching_definitions.Tables.{else_passed};
 ghost use Rattle.ssa_laws.specs.reaching_definitions.Told.{argument, passed_by};
 
 use crate::code::copies::{kept, push_gets, push_sets};
 use crate::code::items::{at, laid_item};
+use crate::code::layout::Layout;
 use bril_tree::function_tree::Item;
-use bril_tree::name::Name;
-use bril_tree::numbered::{Instr, VarInfo};
-use bril_tree::numbered_function::Func;
+use bril_tree::numbered::Instr;
 use bril_tree::operation::Op;
 use bril_tree::sequence::Seq;
 use flow_graph::Graph;
@@ -25,12 +21,13 @@ use ssa_search::renaming::{WantedGet, begin, enter, pass};
 use std::alloc::{AllocError, Global};
 
 // The `get`s that are wanted behind a point.
-fn row<'a>(starts: &[u32], list: &'a [WantedGet], point: usize) -> &'a [WantedGet]
+fn row<'a>(layout: &Layout<'a>, point: usize) -> &'a [WantedGet]
     requires { point < 2 ^ 32 }
-    ensures { result.now ≡ row_in starts.now list.now point }
+    ensures { result.now ≡ row_of layout.now point }
 {
-    let from = at(starts, point) as usize;
-    let to = at(starts, point + 1) as usize;
+    let list = layout.list;
+    let from = at(layout.starts, point) as usize;
+    let to = at(layout.starts, point + 1) as usize;
     if from <= to && to <= list.len() {
         &list[from..to]
     } else {
@@ -42,57 +39,48 @@ fn row<'a>(starts: &[u32], list: &'a [WantedGet], point: usize) -> &'a [WantedGe
 fn push_gets_before(
     alloc: Global,
     code: &mut Seq<Item>,
-    vars: &[VarInfo],
-    names: &[Name],
-    find: &[u32],
-    starts: &[u32],
-    list: &[WantedGet],
+    layout: &Layout<'_>,
     point: u32,
 ) -> Result<(), AllocError>
-    ensures { OnOk result ((rows : List (List ℕ)) → code.new ≡ code.old ++ gets_before (layout_of vars.now names.now find.now starts.now list.now rows) point) }
+    ensures { OnOk result (code.new ≡ code.old ++ gets_before (view_of layout.now) point) }
 {
     if point == 0 {
         return Ok(());
     }
-    let gets = kept(alloc, find, row(starts, list, point as usize - 1))?;
-    push_gets(alloc, code, vars, names, gets.as_slice())
+    let vars = layout.func.vars.as_slice();
+    let gets = kept(alloc, layout.find, row(layout, point as usize - 1))?;
+    push_gets(alloc, code, vars, layout.names, gets.as_slice())
 }
 
 // Adds the `set`s of a label's `get`s that stay.
 fn push_sets_to(
     alloc: Global,
     code: &mut Seq<Item>,
-    names: &[Name],
-    find: &[u32],
+    layout: &Layout<'_>,
     now: &[u32],
-    starts: &[u32],
-    list: &[WantedGet],
     label: u32,
 ) -> Result<(), AllocError>
-    ensures { OnOk result ((vars : List VarInfo) (rows : List (List ℕ)) → code.new ≡ code.old ++ sets_to (layout_of vars names.now find.now starts.now list.now rows) now.now label) }
+    ensures { OnOk result (code.new ≡ code.old ++ sets_to (view_of layout.now) now.now label) }
 {
-    let gets = kept(alloc, find, row(starts, list, label as usize))?;
-    push_sets(alloc, code, names, find, now, gets.as_slice())
+    let gets = kept(alloc, layout.find, row(layout, label as usize))?;
+    push_sets(alloc, code, layout, now, gets.as_slice())
 }
 
 // Adds those of a label at a point, where that is entered from the point before it.
 fn push_falling(
     alloc: Global,
     code: &mut Seq<Item>,
-    names: &[Name],
-    find: &[u32],
+    layout: &Layout<'_>,
     now: &[u32],
-    starts: &[u32],
-    list: &[WantedGet],
     falls: bool,
     point: u32,
 ) -> Result<(), AllocError>
-    ensures { OnOk result ((vars : List VarInfo) (rows : List (List ℕ)) → code.new ≡ code.old ++ sets_falling (layout_of vars names.now find.now starts.now list.now rows) now.now falls point) }
+    ensures { OnOk result (code.new ≡ code.old ++ sets_falling (view_of layout.now) now.now falls point) }
 {
     if !falls {
         return Ok(());
     }
-    push_sets_to(alloc, code, names, find, now, starts, list, point)?;
+    push_sets_to(alloc, code, layout, now, point)?;
     Ok(())
 }
 
@@ -100,17 +88,14 @@ fn push_falling(
 fn push_leaving(
     alloc: Global,
     code: &mut Seq<Item>,
-    names: &[Name],
-    find: &[u32],
+    layout: &Layout<'_>,
     now: &[u32],
-    starts: &[u32],
-    list: &[WantedGet],
     labels: &[u32],
 ) -> Result<(), AllocError>
-    ensures { OnOk result ((vars : List VarInfo) (rows : List (List ℕ)) → code.new ≡ code.old ++ sets_leaving (layout_of vars names.now find.now starts.now list.now rows) now.now labels.now) }
+    ensures { OnOk result (code.new ≡ code.old ++ sets_leaving (view_of layout.now) now.now labels.now) }
 {
     for label in labels {
-        push_sets_to(alloc, code, names, find, now, starts, list, *label)?;
+        push_sets_to(alloc, code, layout, now, *label)?;
     }
     Ok(())
 }
@@ -175,59 +160,39 @@ fn falls_at(code: &[Instr], graph: &Graph, point: u32) -> bool
 fn push_before(
     alloc: Global,
     made: &mut Seq<Item>,
-    func: &Func,
-    graph: &Graph,
-    names: &[Name],
-    find: &[u32],
+    layout: &Layout<'_>,
     now: &[u32],
-    starts: &[u32],
-    list: &[WantedGet],
-    rows: &[Seq<u32>],
     point: u32,
 ) -> Result<(), AllocError>
-    requires points { length graph.now.sites ≡ length func.now.code + 1 }
-    requires point { point ≤ length func.now.code }
-    ensures { OnOk result (made.new ≡ made.old ++ before_at func.now graph.now.sites (layout_of func.now.vars names.now find.now starts.now list.now rows.now) now.now point) }
+    requires layout { IsLayout layout.now }
+    requires point { point ≤ length layout.now.func.now.code }
+    ensures { OnOk result (made.new ≡ made.old ++ before_by layout.now now.now point) }
 {
-    let vars = func.vars.as_slice();
-    let code = func.code.as_slice();
-    let falls = falls_at(code, graph, point);
-    let labels = labels_at(rows, point as usize);
-    push_gets_before(alloc, made, vars, names, find, starts, list, point)?;
-    push_falling(alloc, made, names, find, now, starts, list, falls, point)?;
-    push_leaving(alloc, made, names, find, now, starts, list, labels)?;
+    let code = layout.func.code.as_slice();
+    let falls = falls_at(code, layout.graph, point);
+    let labels = labels_at(layout.rows, point as usize);
+    push_gets_before(alloc, made, layout, point)?;
+    push_falling(alloc, made, layout, now, falls, point)?;
+    push_leaving(alloc, made, layout, now, labels)?;
     Ok(())
 }
 
 // What stands in place of an item of the function.
 fn item_at(
     alloc: Global,
-    func: &Func,
-    graph: &Graph,
-    names: &[Name],
-    find: &[u32],
+    layout: &Layout<'_>,
     now: &[u32],
     point: u32,
     item: Item,
 ) -> Result<Item, AllocError>
-    requires points { length graph.now.sites ≡ length func.now.code + 1 }
-    requires point { point < length func.now.code }
-    requires few { func.now.args + length func.now.code < 2 ^ 32 }
-    ensures { IfOk result (λ made. (starts : List ℕ) (list : List WantedGet) (rows : List (List ℕ)) → made ≡ item_at func.now graph.now.sites (layout_of func.now.vars names.now find.now starts list rows) now.now point item) }
+    requires layout { IsLayout layout.now }
+    requires point { point < length layout.now.func.now.code }
+    ensures { IfOk result (λ made. made ≡ item_by layout.now now.now point item) }
 {
-    let instr = &func.code.as_slice()[point as usize];
-    let reached = reached_at(graph, point);
-    let args = args_of(instr);
-    let made = laid_item(
-        alloc,
-        names,
-        find,
-        now,
-        reached,
-        func.args + point,
-        args,
-        item,
-    )?;
+    let instr = &layout.func.code.as_slice()[point as usize];
+    let reached = reached_at(layout.graph, point);
+    let written = layout.func.args + point;
+    let made = laid_item(alloc, layout, now, reached, written, args_of(instr), item)?;
     Ok(made)
 }
 
@@ -235,43 +200,32 @@ fn item_at(
 fn lay_one(
     alloc: Global,
     made: &mut Seq<Item>,
-    func: &Func,
-    graph: &Graph,
-    names: &[Name],
-    find: &[u32],
+    layout: &Layout<'_>,
     now: &[u32],
-    starts: &[u32],
-    list: &[WantedGet],
-    rows: &[Seq<u32>],
     point: u32,
     item: Item,
 ) -> Result<(), AllocError>
-    requires points { length graph.now.sites ≡ length func.now.code + 1 }
-    requires point { point < length func.now.code }
-    requires few { func.now.args + length func.now.code < 2 ^ 32 }
-    ensures { OnOk result (made.new ≡ made.old ++ (before_at func.now graph.now.sites (layout_of func.now.vars names.now find.now starts.now list.now rows.now) now.now point ++ item_at func.now graph.now.sites (layout_of func.now.vars names.now find.now starts.now list.now rows.now) now.now point item ∷ [])) }
+    requires layout { IsLayout layout.now }
+    requires point { point < length layout.now.func.now.code }
+    ensures { OnOk result (made.new ≡ made.old ++ (before_by layout.now now.now point ++ item_by layout.now now.now point item ∷ [])) }
 {
-    push_before(
-        alloc, made, func, graph, names, find, now, starts, list, rows, point,
-    )?;
-    let laid = item_at(alloc, func, graph, names, find, now, point, item)?;
+    push_before(alloc, made, layout, now, point)?;
+    let laid = item_at(alloc, layout, now, point, item)?;
     made.push(laid)?;
     Ok(())
 }
 
 // The array of definitions goes on past an item and the `get`s behind it.
-fn go_on(now: &mut [u32], func: &Func, starts: &[u32], list: &[WantedGet], point: u32)
-    requires shaped { shape_fault_of (is_some func.now.ret) func.now.code ≡ None }
-    requires point { point < length func.now.code }
-    requires few { func.now.args + length func.now.code < 2 ^ 32 }
-    requires wide { length now.old ≡ 2 * length func.now.vars }
-    requires locations { All (λ get. get.location < 2 * length func.now.vars) (row_in starts.now list.now point) }
-    ensures { (known got : Location → Option ℕ) → AreGetsOf got (row_in starts.now list.now point) → TellsNow known now.old → TellsNow (λ a. else_passed (got a) (passed_by (slice_get func.now.code point) (func.now.args + point) known a)) now.new }
+fn go_on(now: &mut [u32], layout: &Layout<'_>, point: u32)
+    requires layout { IsLayout layout.now }
+    requires point { point < length layout.now.func.now.code }
+    requires wide { length now.old ≡ 2 * length layout.now.func.now.vars }
+    ensures { (known got : Location → Option ℕ) → AreGetsOf got (row_of layout.now point) → TellsNow known now.old → TellsNow (λ a. else_passed (got a) (passed_by (slice_get layout.now.func.now.code point) (layout.now.func.now.args + point) known a)) now.new }
 {
-    let code = func.code.as_slice();
+    let code = layout.func.code.as_slice();
     let item = &code[point as usize];
-    let gets = row(starts, list, point as usize);
-    pass(now, item, func.args + point);
+    let gets = row(layout, point as usize);
+    pass(now, item, layout.func.args + point);
     enter(now, gets);
 }
 
@@ -280,58 +234,38 @@ fn lay_all(
     alloc: Global,
     made: &mut Seq<Item>,
     now: &mut [u32],
-    func: &Func,
-    graph: &Graph,
+    layout: &Layout<'_>,
     items: Seq<Item>,
-    names: &[Name],
-    find: &[u32],
-    starts: &[u32],
-    list: &[WantedGet],
-    rows: &[Seq<u32>],
 ) -> Result<(), AllocError>
     requires none { made.old ≡ [] }
-    requires tells { TellsNow (argument func.now.args) now.old }
-    requires wide { length now.old ≡ 2 * length func.now.vars }
-    requires shaped { shape_fault_of (is_some func.now.ret) func.now.code ≡ None }
-    requires points { length graph.now.sites ≡ length func.now.code + 1 }
-    requires few { func.now.args + length func.now.code < 2 ^ 32 }
-    requires items { length items ≡ length func.now.code }
-    requires locations { (k : ℕ) → All (λ get. get.location < 2 * length func.now.vars) (row_in starts.now list.now k) }
-    ensures { OnOk result ((gets : ℕ → Location → Option ℕ) → AreGets func.now graph.now.sites (layout_of func.now.vars names.now find.now starts.now list.now rows.now) gets → IsLaidSoFar func.now graph.now.sites (layout_of func.now.vars names.now find.now starts.now list.now rows.now) gets (length items) items made.new now.new) }
+    requires tells { TellsNow (argument layout.now.func.now.args) now.old }
+    requires wide { length now.old ≡ 2 * length layout.now.func.now.vars }
+    requires layout { IsLayout layout.now }
+    requires items { length items ≡ length layout.now.func.now.code }
+    ensures { OnOk result ((gets : ℕ → Location → Option ℕ) → AreGetsBy layout.now gets → IsLaidSoFarBy layout.now gets (length items) items made.new now.new) }
 {
     let mut point = 0;
     for item in items.into_items() {
-        lay_one(
-            alloc, made, func, graph, names, find, now, starts, list, rows, point, item,
-        )?;
-        go_on(now, func, starts, list, point);
+        lay_one(alloc, made, layout, now, point, item)?;
+        go_on(now, layout, point);
         point += 1;
     }
     Ok(())
 }
 
 /// The code of a function in SSA form, which has these items, by names: each item under the names of definitions, the `get`s that
-/// stay behind their labels, and `set`s before the items where edges leave. `names` has the names of all definitions, and `find`
-/// what stands for each. For each point `starts` has where the wanted `get`s behind it begin in `list`, and `rows` the labels for
-/// which `set`s stand before it. The only error is out of memory, which a function of 2^32 variables is taken to have.
+/// stay behind their labels, and `set`s before the items where edges leave. The only error is out of memory, which a function of
+/// 2^32 variables is taken to have.
 pub fn laid_code(
     alloc: Global,
-    func: &Func,
-    graph: &Graph,
+    layout: &Layout<'_>,
     items: Seq<Item>,
-    names: &[Name],
-    find: &[u32],
-    starts: &[u32],
-    list: &[WantedGet],
-    rows: &[Seq<u32>],
 ) -> Result<Seq<Item>, AllocError>
-    requires shaped { shape_fault_of (is_some func.now.ret) func.now.code ≡ None }
-    requires points { length graph.now.sites ≡ length func.now.code + 1 }
-    requires few { func.now.args + length func.now.code < 2 ^ 32 }
-    requires items { length items ≡ length func.now.code }
-    requires locations { (k : ℕ) → All (λ get. get.location < 2 * length func.now.vars) (row_in starts.now list.now k) }
-    ensures { IfOk result (λ made. (gets : ℕ → Location → Option ℕ) → AreGets func.now graph.now.sites (layout_of func.now.vars names.now find.now starts.now list.now rows.now) gets → IsLaidCode func.now graph.now.sites (layout_of func.now.vars names.now find.now starts.now list.now rows.now) gets items made) }
+    requires layout { IsLayout layout.now }
+    requires items { length items ≡ length layout.now.func.now.code }
+    ensures { IfOk result (λ made. (gets : ℕ → Location → Option ℕ) → AreGetsBy layout.now gets → IsLaidBy layout.now gets items made) }
 {
+    let func = layout.func;
     let vars = func.vars.as_slice();
     let code = func.code.as_slice();
     if vars.len() > u32::MAX as usize {
@@ -339,32 +273,8 @@ pub fn laid_code(
     }
     let mut now = begin(alloc, func.args, vars.len() as u32)?;
     let mut made = Seq::new(alloc);
-    lay_all(
-        alloc,
-        &mut made,
-        now.as_mut_slice(),
-        func,
-        graph,
-        items,
-        names,
-        find,
-        starts,
-        list,
-        rows,
-    )?;
+    lay_all(alloc, &mut made, now.as_mut_slice(), layout, items)?;
     let end = code.len() as u32;
-    push_before(
-        alloc,
-        &mut made,
-        func,
-        graph,
-        names,
-        find,
-        now.as_slice(),
-        starts,
-        list,
-        rows,
-        end,
-    )?;
+    push_before(alloc, &mut made, layout, now.as_slice(), end)?;
     Ok(made)
 }

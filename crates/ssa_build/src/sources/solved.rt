@@ -1,13 +1,11 @@
 // Which definition stands for each once the trivial `get`s are left out.
 
-ghost use Rattle.std.specs.Prelude.{◌≡◌, ◌<◌, ◌+◌, ◌^◌, ◌-◌, IfOk, None, is_some, length, slice_index};
-ghost use Rattle.bril_tree.specs.Shape.{shape_fault_of};
-ghost use Rattle.bril_tree.specs.Sites.{AreSitesSound};
+ghost use Rattle.std.specs.Prelude.{◌≡◌, ◌+◌, IfOk, length, slice_index};
 ghost use Rattle.flow_graph.specs.Graph.{IsGraphOf};
-ghost use Rattle.ssa_search.specs.gets.Wants.{AreWantsOf, gets_of};
+ghost use Rattle.ssa_search.specs.gets.Wants.{gets_of};
 ghost use Rattle.ssa_build.specs.operands.Operands.{base_of};
 ghost use Rattle.ssa_build.specs.sources.Sources.{AreRepresentatives};
-ghost use Rattle.ssa_laws.specs.reaching_definitions.Laws.{IsTabled};
+ghost use Rattle.ssa_build.specs.sources.Sweeping.{IsSweepable};
 
 use crate::sources::sweep::operands_of;
 use crate::trivial_phis::representatives;
@@ -25,12 +23,8 @@ pub fn solved_gets(
     graph: &Graph,
     wants: &Wants,
 ) -> Result<Vec<u32>, AllocError>
-    requires shaped { shape_fault_of (is_some func.now.ret) func.now.code ≡ None }
-    requires few { length func.now.code < 2 ^ 32 - 1 }
+    requires sweepable { IsSweepable func.now wants.now }
     requires graph { IsGraphOf func.now.code graph.now }
-    requires sound { AreSitesSound func.now.code }
-    requires wants { AreWantsOf func.now wants.now }
-    requires tabled { IsTabled func.now.code func.now.args (gets_of wants.now) }
     ensures long { IfOk result (λ find. length find.items ≡ base_of func.now.code func.now.args + length wants.now.list) }
     ensures solved { IfOk result (λ find. AreRepresentatives func.now.code func.now.args (gets_of wants.now) (length find.items) (λ d. slice_index find.items d)) }
 {

@@ -8,7 +8,7 @@ ghost use Rattle.flow_graph.specs.Graph.{IsGraphOf};
 ghost use Rattle.ssa_build.specs.trivial_phis.Trivial.{sources_of};
 ghost use Rattle.ssa_search.specs.gets.Wants.{AreWantsOf, gets_of, row_of};
 ghost use Rattle.ssa_build.specs.operands.Operands.{AreOperands, base_of};
-ghost use Rattle.ssa_build.specs.sources.Sweeping.{AddsRow, AreEdgesOf, AreOperandsBefore, entry_key, key_of, operand_of, told_at};
+ghost use Rattle.ssa_build.specs.sources.Sweeping.{AddsRow, AreEdgesOf, AreOperandsBefore, IsSweepable, entry_key, key_of, operand_of, told_at};
 ghost use Rattle.ssa_search.specs.renaming.Tells.{TellsNow};
 ghost use Rattle.ssa_laws.specs.reaching_definitions.Laws.{IsTabled};
 ghost use Rattle.ssa_laws.specs.reaching_definitions.Told.{into_at};
@@ -215,12 +215,8 @@ fn sweep_items(
     now: &mut [u32],
     operands: &mut Vec<Operand>,
 ) -> Result<(), AllocError>
-    requires shaped { shape_fault_of (is_some func.now.ret) func.now.code ≡ None }
-    requires few { length func.now.code < 2 ^ 32 - 1 }
-    requires sound { AreSitesSound func.now.code }
+    requires sweepable { IsSweepable func.now wants.now }
     requires edges { AreEdgesOf func.now.code func.now.args edges.now.entries.items edges.now.rows.count edges.now.base }
-    requires wants { AreWantsOf func.now wants.now }
-    requires tabled { IsTabled func.now.code func.now.args (gets_of wants.now) }
     requires long { length now.old ≡ 2 * length func.now.vars }
     requires tells { TellsNow (into_at func.now.code func.now.args (gets_of wants.now) 0) now.old }
     requires before { AreOperandsBefore func.now.code func.now.args (gets_of wants.now) 1 operands.old.items }
@@ -240,12 +236,8 @@ fn swept(
     edges: &Edges,
     wants: &Wants,
 ) -> Result<Vec<Operand>, AllocError>
-    requires shaped { shape_fault_of (is_some func.now.ret) func.now.code ≡ None }
-    requires few { length func.now.code < 2 ^ 32 - 1 }
-    requires sound { AreSitesSound func.now.code }
+    requires sweepable { IsSweepable func.now wants.now }
     requires edges { AreEdgesOf func.now.code func.now.args edges.now.entries.items edges.now.rows.count edges.now.base }
-    requires wants { AreWantsOf func.now wants.now }
-    requires tabled { IsTabled func.now.code func.now.args (gets_of wants.now) }
     ensures { IfOk result (λ operands. AreOperandsBefore func.now.code func.now.args (gets_of wants.now) (suc (length func.now.code)) operands.items) }
 {
     let mut operands = Vec::new(alloc);
@@ -275,12 +267,8 @@ pub fn operands_of(
     graph: &Graph,
     wants: &Wants,
 ) -> Result<Operands, AllocError>
-    requires shaped { shape_fault_of (is_some func.now.ret) func.now.code ≡ None }
-    requires few { length func.now.code < 2 ^ 32 - 1 }
+    requires sweepable { IsSweepable func.now wants.now }
     requires graph { IsGraphOf func.now.code graph.now }
-    requires sound { AreSitesSound func.now.code }
-    requires wants { AreWantsOf func.now wants.now }
-    requires tabled { IsTabled func.now.code func.now.args (gets_of wants.now) }
     ensures operands { IfOk result (AreOperands func.now.code func.now.args (gets_of wants.now)) }
     ensures gets { IfOk result (λ operands. operands.gets ≡ length wants.now.list) }
     ensures within { IfOk result (λ operands. All (λ from. from < base_of func.now.code func.now.args + operands.gets) (sources_of operands)) }

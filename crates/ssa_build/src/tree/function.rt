@@ -7,7 +7,7 @@ ghost use Rattle.ssa_search.specs.gets.Wants.{AreWantsOf, WantsView, gets_of};
 ghost use Rattle.ssa_laws.specs.reaching_definitions.Laws.{IsTabled};
 ghost use Rattle.ssa_build.specs.tree.Made.{IsLaidFunction};
 
-use crate::code::{all_names, laid_code, leaving_rows, variables_written};
+use crate::code::{Layout, all_names, laid_code, leaving_rows, variables_written};
 use crate::sources::solved_gets;
 use bril_tree::function_tree::FuncTree;
 use bril_tree::numbered_function::Func;
@@ -43,17 +43,16 @@ pub(crate) fn laid_function(
     let names = named.as_slice();
     let left = leaving_rows(alloc, code, &graph)?;
     let rows = left.as_slice();
-    let made = laid_code(
-        alloc,
+    let layout = Layout {
         func,
-        &graph,
-        function.code,
+        graph: &graph,
         names,
         find,
         starts,
         list,
         rows,
-    )?;
+    };
+    let made = laid_code(alloc, &layout, function.code)?;
     Ok(FuncTree {
         name: function.name,
         args: function.args,

@@ -23,8 +23,8 @@ impl Model for Classes {
     ghost invariant = { λ c. AreClasses (record { parents = c.parents.items; stands = c.stands.items }) };
 }
 
-// The numbers below a count.
-fn numbers(alloc: Global, count: u32) -> Result<Vec<u32>, AllocError>
+/// The numbers below a count. The only error is out of memory.
+pub(crate) fn numbers(alloc: Global, count: u32) -> Result<Vec<u32>, AllocError>
     ensures long { IfOk result (λ list. length list.items ≡ count) }
     ensures own { IfOk result (λ list. (d : ℕ) → d < count → slice_index list.items d ≡ d) }
 {

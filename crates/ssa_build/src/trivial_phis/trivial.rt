@@ -6,7 +6,7 @@ ghost use Rattle.ssa_build.specs.trivial_phis.Classes.{SameClasses, count_of, fi
 ghost use Rattle.graph_search.specs.Adjacency.{EndsRow};
 ghost use Rattle.ssa_build.specs.trivial_phis.Trivial.{Differs, IsResolved, IsWork, Passes, Sets, Stays, Tells, keys_of, sources_of, standing};
 
-use crate::trivial_phis::classes::Classes;
+use crate::trivial_phis::classes::{Classes, numbers};
 use crate::trivial_phis::operands::Operands;
 use std::alloc::{AllocError, Global};
 use std::mem;
@@ -47,7 +47,7 @@ pub fn representatives(
     ensures resolved { IfOk result (λ find. IsResolved operands.now base (λ d. slice_index find.items d)) }
 {
     let mut work = Work::new(alloc, operands, base)?;
-    let mut todo = all_gets(alloc, operands.gets() as u32)?;
+    let mut todo = numbers(alloc, operands.gets() as u32)?;
     let mut full = true;
     loop {
         let mut again = Vec::new(alloc);
@@ -58,24 +58,12 @@ pub fn representatives(
         } else if full {
             break;
         } else {
-            todo = all_gets(alloc, operands.gets() as u32)?;
+            todo = numbers(alloc, operands.gets() as u32)?;
             full = true;
         }
     }
     let find = work.finds(alloc)?;
     Ok(find)
-}
-
-// The numbers of all `get`s.
-fn all_gets(alloc: Global, gets: u32) -> Result<Vec<u32>, AllocError>
-    ensures long { IfOk result (λ list. length list.items ≡ gets) }
-    ensures own { IfOk result (λ list. (t : ℕ) → t < gets → slice_index list.items t ≡ t) }
-{
-    let mut list = Vec::new(alloc);
-    for get in 0..gets {
-        list.push(get)?;
-    }
-    Ok(list)
 }
 
 // So many empty lists.

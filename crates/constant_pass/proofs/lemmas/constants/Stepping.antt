@@ -9,7 +9,6 @@ use Rattle.constant_pass.specs.declared.constants.known.Known.TheVariants.{Nothi
 use Rattle.constant_pass.specs.constants.Known.{IsBelow}
 use Rattle.graph_search.specs.Marks.{is_marked}
 use Rattle.constant_pass.specs.constants.Work.{Raises, Reaches, height, heights, unmarked, unreached}
-use Rattle.constant_pass.proofs.lemmas.constants.Rules.{below-refl}
 
 -- ---- heights
 
@@ -17,17 +16,6 @@ heights-set : (xs : List Known) (k : ℕ) (y : Known) → k < length xs → heig
 heights-set [] k y low = absurd (omega arith)
 heights-set (x ∷ xs) zero y low = omega arith
 heights-set (x ∷ xs) (suc k) y low = let h = heights-set xs k y (omega arith) in omega arith
-
-pub height-same : (k l : Known) → IsBelow k l → height l ≡ height k → l ≡ k
-height-same Nothing Nothing h e = refl
-height-same Nothing (One v) h e = absurd (omega arith)
-height-same Nothing Many h e = absurd (omega arith)
-height-same (One v) Nothing h e = absurd h
-height-same (One v) (One w) h e = ap One (sym h)
-height-same (One v) Many h e = absurd (omega arith)
-height-same Many Nothing h e = absurd h
-height-same Many (One w) h e = absurd h
-height-same Many Many h e = refl
 
 height-falls : (k l : Known) → IsBelow k l → height l ≤ height k
 height-falls Nothing Nothing h = omega arith
@@ -41,18 +29,6 @@ height-falls Many (One w) h = absurd h
 height-falls Many Many h = omega arith
 
 -- ---- an entry
-
--- the entry is at or above the answer already
-pub raised-already : (number : ℕ) (to : Known) (known : List Known) (risen : List ℕ) → IsBelow to (get_or known number Nothing) → Raises number to known known risen risen
-raised-already number to known risen h = record {
-  others = λ k n. refl;
-  above = h;
-  grows = below-refl (get_or known number Nothing);
-  least = λ bound a b. a;
-  queued = inl refl;
-  older = λ k i. i;
-  less = omega arith;
-}
 
 pub raised-up : (number : ℕ) (to was now : Known) (known : List Known) (risen : List ℕ) → number < length known → was ≡ get_or known number Nothing → IsBelow was now → IsBelow to now → ((bound : Known) → IsBelow was bound → IsBelow to bound → IsBelow now bound) → (height now ≡ height was → ⊥)
     → Raises number to known (set known number now) risen (risen ++ number ∷ [])
@@ -82,16 +58,6 @@ only_one : (p q : ℕ) → In p (q ∷ []) → p ≡ q
 only_one p q (inl e) = e
 only_one p q (inr i) = absurd i
 
-pub went-already : (to : ℕ) (marks : List Bool) (points : List ℕ) → get_or marks to false ≡ true → Reaches (to ∷ []) marks marks points points
-went-already to marks points e = record {
-  long = refl;
-  grows = λ p h. h;
-  there = λ p i. ap (λ q. get_or marks q false) (only_one p to i) ∙ e;
-  only = λ p h. inl h;
-  older = λ p i. i;
-  less = omega arith;
-}
-
 pub went-on : (to : ℕ) (marks : List Bool) (points : List ℕ) → to < length marks → get_or marks to false ≡ false → Reaches (to ∷ []) marks (set marks to true) points (points ++ to ∷ [])
 went-on to marks points low e =
     let here : get_or (set marks to true) to false ≡ true = get_or-set_same marks to true false low in
@@ -103,16 +69,6 @@ went-on to marks points low e =
       older = λ p i. in_append_left p points (to ∷ []) i;
       less = (let h = unreached-set marks to low e in let l = length-append points (to ∷ []) in omega arith);
     }
-
-pub went-nowhere : (marks : List Bool) (points : List ℕ) → Reaches [] marks marks points points
-went-nowhere marks points = record {
-  long = refl;
-  grows = λ p h. h;
-  there = λ p i. absurd i;
-  only = λ p h. inl h;
-  older = λ p i. i;
-  less = omega arith;
-}
 
 -- two points, one after the other
 pub went-both : (first second : ℕ) (marks more most : List Bool) (points longer longest : List ℕ) → Reaches (first ∷ []) marks more points longer → Reaches (second ∷ []) more most longer longest → Reaches (first ∷ second ∷ []) marks most points longest

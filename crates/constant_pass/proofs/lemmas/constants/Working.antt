@@ -28,20 +28,9 @@ use Rattle.constant_pass.specs.constants.Consistent.{IsAtMost, IsConsistent, IsL
 use Rattle.graph_search.specs.Marks.{is_marked}
 use Rattle.constant_pass.specs.constants.Kept.{kept, table_of}
 use Rattle.constant_pass.specs.constants.Work.{IsSettled, ReadsRisen, IsWork, Raises, Assigns, Reaches}
-use Rattle.constant_pass.proofs.lemmas.constants.Rules.{below-refl, below-same, below-trans, answer-same, answer-rises, ways-rise, ways-same}
+use Rattle.constant_pass.proofs.lemmas.constants.Rules.{below-same, below-trans, answer-same, answer-rises, ways-rise, ways-same}
 
 -- ---- what an item assigns
-
-pub assigned-none : (item : Instr) (known : List Known) (risen : List ℕ) → number_at (Some item) ≡ None → Assigns item known known risen risen
-assigned-none item known risen none = record {
-  others = λ x n. refl;
-  above = λ x i. absurd (let h = sym (assigned-number (Some item) x i) ∙ none in cc);
-  grows = λ x. below-refl (kept known x);
-  least = λ x bound i h g. h;
-  queued = λ x. inl refl;
-  older = λ k i. i;
-  less = omega arith;
-}
 
 pub assigned-one : (item : Instr) (number : ℕ) (old new : List Known) (risen longer : List ℕ) → number_at (Some item) ≡ Some number → Raises number (answer (kept old) item) old new risen longer → Assigns item old new risen longer
 assigned-one item number old new risen longer at r = record {

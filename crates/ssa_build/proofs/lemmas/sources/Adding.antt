@@ -1,5 +1,5 @@
 -- The operands of one place of the sweep.
-use Rattle.std.proofs.Common.{◌≡◌, ◌⊎◌, ℕ, zero, suc, ◌+◌, ◌-◌, ◌*◌, ◌<◌, ◌≤◌, List, ◌++◌, length, map, get_or, Option, Some, None, refl, sym, ap, subst, ◌∙◌, inl, inr, ⊎_elim, arith}
+use Rattle.std.proofs.Common.{◌≡◌, ◌⊎◌, ℕ, zero, suc, ◌+◌, ◌-◌, ◌<◌, ◌≤◌, List, ◌++◌, length, map, get_or, Option, Some, None, refl, sym, ap, subst, ◌∙◌, inl, inr, ⊎_elim, arith}
 use Rattle.std.specs.Prelude.{slice_get, slice_index}
 use Rattle.std.specs.List.{All, Contains}
 use Rattle.std.proofs.lemmas.Bool.{cases_eq, cases_lt}
@@ -170,10 +170,6 @@ module _ (F : Func) (wants : WantsView) (is : AreWantsOf F wants) (sound : AreSi
         (λ g. (key, omega arith, given-set o g))
         (adds.only o c);
   }
-
--- what the contracts of the row ask
-pub wants-within : (F : Func) (wants : WantsView) → AreWantsOf F wants → (long : ℕ) → long ≡ 2 * length F.vars → All (λ (get : WantedGet). get.location < long) wants.list
-wants-within F wants is long e i d low = let l = is.locations i d low in omega (arith, e, l)
 
 pub wants-above : (F : Func) (wants : WantsView) → AreWantsOf F wants → (base : ℕ) → base ≡ base_of F.code F.args → All (λ (get : WantedGet). base ≤ get.definition) wants.list
 wants-above F wants is base e i d low = let n = is.numbered i (get_or wants.list i d) (slice_get-get_or wants.list i d low) in omega (arith, e, n)

@@ -1,9 +1,6 @@
 -- One item of the sweep: its locations are in the array, and the array goes on to tell the tables.
-use Rattle.std.proofs.Common.{◌≡◌, ℕ, suc, ◌+◌, ◌*◌, ◌<◌, Bool, true, List, length, get_or, Option, Some, None, refl, sym, ap, subst, inl, arith}
+use Rattle.std.proofs.Common.{◌≡◌, ℕ, suc, ◌+◌, ◌*◌, ◌<◌, Bool, true, List, length, Option, Some, None, refl, sym, subst, inl, arith}
 use Rattle.std.specs.Prelude.{is_some, slice_get}
-use Rattle.std.specs.List.{All}
-use Rattle.std.proofs.lemmas.List.Elements.{Contains-get_or}
-use Rattle.std.proofs.lemmas.Option.{get_or_from_slice_get, slice_get_within}
 use Rattle.bril_tree.specs.declared.numbered.Instr.{Instr}
 use Rattle.bril_tree.specs.declared.numbered.Instr.TheVariants.{Label, Const, Act}
 use Rattle.bril_tree.specs.declared.numbered_function.Func.{Func}
@@ -45,16 +42,6 @@ module _ (ret : Bool) (many : ℕ) where
 
 pub item-within : (F : Func) → shape_fault_of (is_some F.ret) F.code ≡ None → (k : ℕ) (item : Instr) → slice_get F.code k ≡ Some item → (n : ℕ) → n ≡ 2 * length F.vars → IsItemWithin n item
 item-within F shaped k item at n e = subst (λ m. IsItemWithin m item) (sym e) (all-within (is_some F.ret) (length F.vars) item (shaped-at F shaped k item at) (function-below F k item at))
-
--- the `get`s behind a label are locations of the function
-pub row-within : (F : Func) (wants : WantsView) → AreWantsOf F wants → (k n : ℕ) → n ≡ 2 * length F.vars → All (λ (get : WantedGet). get.location < n) (row_of wants k)
-row-within F wants is k n e i d low =
-    let get = get_or (row_of wants k) i d in
-    let l = is.listed k get (Contains-get_or (row_of wants k) i d low) in
-    let at = get_or_from_slice_get wants.list l.0 get get l.1 in
-    let b = is.locations l.0 get (slice_get_within wants.list l.0 get l.1) in
-    let same = ap (λ (g : WantedGet). g.location) at in
-    omega (arith, b, same, e)
 
 -- behind an item and its `get`s
 pub told-behind : (F : Func) (wants : WantsView) → AreWantsOf F wants → (p : ℕ) (item : Instr) → slice_get F.code p ≡ Some item → (now passed entered : List ℕ) (gets : List WantedGet) → gets ≡ row_of wants p → TellsNow (into_at F.code F.args (gets_of wants) p) now

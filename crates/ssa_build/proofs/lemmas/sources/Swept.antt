@@ -1,5 +1,5 @@
 -- All operands of a function.
-use Rattle.std.proofs.Common.{◌≡◌, ℕ, zero, suc, ◌+◌, ◌<◌, ◌≤◌, Bool, true, false, cond, List, [], length, get_or, Option, Some, None, refl, sym, subst, ◌∙◌, arith}
+use Rattle.std.proofs.Common.{◌≡◌, ℕ, zero, suc, ◌+◌, ◌<◌, ◌≤◌, Bool, true, false, cond, List, length, get_or, Option, Some, None, refl, sym, subst, ◌∙◌, arith}
 use Rattle.std.specs.Prelude.{slice_get}
 use Rattle.std.specs.List.{All, Contains}
 use Rattle.std.proofs.lemmas.List.Elements.{All-map, Contains-get_or}
@@ -8,7 +8,6 @@ use Rattle.bril_tree.specs.declared.numbered.Instr.{Instr}
 use Rattle.bril_tree.specs.declared.numbered_function.Func.{Func}
 use Rattle.bril_tree.specs.Operand.{Location}
 use Rattle.bril_tree.specs.Sites.{AreSitesSound}
-use Rattle.bril_tree.proofs.Members.{in_contains}
 use Rattle.flow_graph.specs.Location.{number_of}
 use Rattle.ssa_build.specs.declared.trivial_phis.operands.Operand.{Operand}
 use Rattle.ssa_build.specs.trivial_phis.Trivial.{OperandsView, sources_of}
@@ -22,9 +21,6 @@ use Rattle.ssa_laws.specs.reaching_definitions.Tables.{else_passed, is_dest}
 use Rattle.ssa_laws.specs.reaching_definitions.Told.{Source, argument, into_at, passed_by, table_of}
 use Rattle.ssa_laws.proofs.lemmas.reaching_definitions.Tabled.{few}
 use Rattle.ssa_laws.proofs.lemmas.reaching_definitions.Made.{entered-same}
-
-pub no-operands : (code : List Instr) (args : ℕ) (gets : ℕ → Location → Option ℕ) → AreOperandsBefore code args gets 0 []
-no-operands code args gets = record { there = λ key t z less x. absurd (omega (arith, less)); only = λ o c. absurd (in_contains o [] c) }
 
 -- ---- the definitions that tables tell have numbers below a bound
 

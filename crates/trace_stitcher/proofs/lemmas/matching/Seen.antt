@@ -74,9 +74,6 @@ module _ (P : Prog) (entries : List Entry) (found : List Fitting) (e : Entry) (s
       by [] are = (none, are)
       by (y ∷ more) are = inr (none, are)
 
-pub none-yet : (P : Prog) → FitSoFar P [] []
-none-yet P rest fits are = are
-
 pub all-fit : (P : Prog) (entries : List Entry) (found : List Fitting) → FitSoFar P entries found → FitsAre P [] entries (map fit_of found)
 all-fit P entries found so_far = subst (FitsAre P [] entries) (append-nil (map fit_of found)) (subst (λ es. FitsAre P [] es (map fit_of found ++ [])) (append-nil entries) (so_far [] [] refl))
 

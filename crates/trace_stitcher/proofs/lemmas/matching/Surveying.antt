@@ -2,10 +2,13 @@
 use Rattle.std.proofs.Common.{◌≡◌, ℕ, ◌<◌, List, [], ◌∷◌, ◌++◌, length, get_or, Some, None, refl, sym, ap, subst, ◌∙◌}
 use Rattle.std.specs.Prelude.{is_some, slice_get}
 use Rattle.std.specs.List.{All}
+use Rattle.std.proofs.lemmas.List.{length-map}
 use Rattle.std.proofs.lemmas.Option.{same_Some, slice_get-get_or}
+use Rattle.bril_names.specs.Numbering.{Finds}
 use Rattle.bril_tree.specs.declared.numbered_function.Func.{Func}
 use Rattle.bril_tree.specs.declared.program.Prog.{Prog}
 use Rattle.bril_tree.specs.Accepted.{IsAccepted}
+use Rattle.bril_tree.specs.Numbered.{names_of_functions}
 use Rattle.bril_tree.specs.Shape.{shape_fault_of}
 use Rattle.bril_tree.proofs.Elements.{All-at}
 use Rattle.bril_tree.proofs.Acceptance.{accepted_function, shaped_function}
@@ -15,6 +18,12 @@ use Rattle.trace_stitcher.specs.matching.Surveys.{IsSurvey, IsSurveyOf}
 -- the function of a number, as it is read
 pub read-there : (P : Prog) (funcs : List Func) (k : ℕ) (F : Func) → funcs ≡ P.funcs → k < length P.funcs → F ≡ get_or funcs k F → slice_get P.funcs k ≡ Some F
 read-there P funcs k F all within is = slice_get-get_or P.funcs k F within ∙ ap Some (sym (is ∙ ap (λ (fs : List Func). get_or fs k F) all))
+
+-- the function of a name, as it is read: its number is found, and it is there
+pub named-there : (P : Prog) (funcs : List Func) (name : List ℕ) (k : ℕ) (F : Func) → funcs ≡ P.funcs → Finds (names_of_functions funcs) name (Some k) → F ≡ get_or funcs k F → Finds (names_of_functions P.funcs) name (Some k) × (slice_get P.funcs k ≡ Some F)
+named-there P funcs name k F all finds is =
+    let names : Finds (names_of_functions P.funcs) name (Some k) = subst (λ (fs : List Func). Finds (names_of_functions fs) name (Some k)) all finds in
+    (names, read-there P funcs k F all (subst (λ n. k < n) (length-map P.funcs (λ (g : Func). g.name)) names.0) is)
 
 pub shaped-there : (P : Prog) (k : ℕ) (F : Func) → IsAccepted P → slice_get P.funcs k ≡ Some F → shape_fault_of (is_some F.ret) F.code ≡ None
 shaped-there P k F accepted there = shaped_function P F (accepted_function P k F accepted there)

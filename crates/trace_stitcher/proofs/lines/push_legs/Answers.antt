@@ -14,10 +14,10 @@ loop-leg-preserved c =
     let inv = c.loop-leg.invariant in
     record {
       few = few-more n k next _ inv.few c.in_ok-nots.ensures.next;
-      same = λ names are. legs-step (slice_get c.args.code.now) names c.loop-leg.lines c.push_leg.new.lines (c.args.lines.now ++ leg_lines bool_type (slice_get c.args.code.now) names 0 (map leg_of c.args.legs.now)) c.args.legs.now k n next _ c.loop-leg-test.true (get_or_default c.args.legs.now k _ _ c.loop-leg-test.true)
+      same = λ names are. legs-step (slice_get c.args.source.now.code.now) names c.loop-leg.lines c.push_leg.new.lines (c.args.lines.now ++ leg_lines bool_type (slice_get c.args.source.now.code.now) names 0 (map leg_of c.args.legs.now)) c.args.legs.now k n next _ c.loop-leg-test.true (get_or_default c.args.legs.now k _ _ c.loop-leg-test.true)
           c.in_ok-nots.ensures.next (c.in_ok-nots.ensures.lines names are) (inv.same names are);
     }
 
 pub returns : goal.returns
 returns c = λ names are.
-    legs-all (slice_get c.args.code.now) names c.loop-leg.lines (c.args.lines.now ++ leg_lines bool_type (slice_get c.args.code.now) names 0 (map leg_of c.args.legs.now)) c.args.legs.now c.loop-leg.leg-index c.loop-leg.nots c.loop-leg-test.false (c.loop-leg.invariant.same names are)
+    legs-all (slice_get c.args.source.now.code.now) names c.loop-leg.lines (c.args.lines.now ++ leg_lines bool_type (slice_get c.args.source.now.code.now) names 0 (map leg_of c.args.legs.now)) c.args.legs.now c.loop-leg.leg-index c.loop-leg.nots c.loop-leg-test.false (c.loop-leg.invariant.same names are)

@@ -3,4 +3,4 @@ use Rattle.ssa_build.specs.code.Items.{read_name}
 use Rattle.ssa_build.proofs.code.items.read_names.Given as goal
 
 abbrev pub invariant-loop-x : goal.invariant-loop-x
-invariant-loop-x l = l.made ≡ map (read_name l.names l.find l.now) (take l.x-index l.args)
+invariant-loop-x l = l.made ≡ map (read_name l.layout.names.now l.layout.find.now l.now) (take l.x-index l.args)

@@ -1,15 +1,16 @@
 use Rattle.std.proofs.Common.{◌≡◌, ◌++◌, ℕ, List, length, take, drop, ap, sym, ◌∙◌}
 use Rattle.std.proofs.Math.Seq.{take-append_seam}
 use Rattle.bril_tree.specs.declared.numbered.Instr.{Instr}
-use Rattle.ssa_build.specs.code.Sweep.{before_at, layout_of}
+use Rattle.ssa_build.specs.code.Layout.{view_of}
+use Rattle.ssa_build.specs.code.Sweep.{before_at}
 use Rattle.ssa_build.proofs.lemmas.code.Laying.{so-all}
 use Rattle.ssa_build.proofs.code.sweep.laid_code.Goals as goal
 
 pub returns : goal.returns
 returns c gets are =
-    let F = c.args.func.now in
-    let sites = c.args.graph.now.sites in
-    let l = layout_of F.vars c.args.names.now c.args.find.now c.args.starts.now c.args.list.now c.args.rows.now in
+    let F = c.args.layout.now.func.now in
+    let sites = c.args.layout.now.graph.now.sites in
+    let l = view_of c.args.layout.now in
     let rest = drop (length c.lay_all.new.now) c.in_ok-now.now.items in
     let long : c.in_ok-now.now.len ≡ length c.lay_all.new.now = sym (c.lay_all.auto.now ∙ c.as_mut_slice.ensures.len) in
     let same : c.as_slice.result.now ≡ c.lay_all.new.now = c.as_slice.ensures.value ∙ ap (λ n. take n (c.lay_all.new.now ++ rest)) long ∙ take-append_seam c.lay_all.new.now rest in

@@ -1,15 +1,15 @@
 use Rattle.std.proofs.Common.{◌∷◌, [], ◌∙◌, arith}
 use Rattle.std.proofs.lemmas.List.{length-append}
-use Rattle.ssa_build.specs.code.Sweep.{layout_of}
+use Rattle.ssa_build.specs.code.Layout.{view_of}
 use Rattle.ssa_build.proofs.lemmas.code.Laying.{so-more, tells-into}
 use Rattle.ssa_laws.specs.reaching_definitions.Told.{into_at}
 use Rattle.ssa_build.proofs.code.sweep.lay_all.Goals as goal
 
 pub loop-item-preserved : goal.loop-item-preserved
 loop-item-preserved c =
-    let F = c.args.func.now in
-    let sites = c.args.graph.now.sites in
-    let l = layout_of F.vars c.args.names.now c.args.find.now c.args.starts.now c.args.list.now c.args.rows.now in
+    let F = c.args.layout.now.func.now in
+    let sites = c.args.layout.now.graph.now.sites in
+    let l = view_of c.args.layout.now in
     let inv = c.loop-item.invariant in
     record {
       count = let h = inv.count in let k = length-append c.loop-item.yielded (c.in-Some.item ∷ []) in omega (arith, h, k);

@@ -1,12 +1,10 @@
 use Rattle.std.proofs.Common.{◌++◌, ◌∷◌, [], List, ap, ◌∙◌, append_assoc}
 use Rattle.bril_tree.specs.declared.function_tree.Item.{Item}
-use Rattle.ssa_build.specs.code.Sweep.{before_at, layout_of}
+use Rattle.ssa_build.specs.code.Layout.{before_by}
 use Rattle.ssa_build.proofs.code.sweep.lay_one.Goals as goal
 
 pub returns : goal.returns
 returns c =
-    let F = c.args.func.now in
-    let l = layout_of F.vars c.args.names.now c.args.find.now c.args.starts.now c.args.list.now c.args.rows.now in
-    let b = before_at F c.args.graph.now.sites l c.args.now.now c.args.point in
+    let b = before_by c.args.layout.now c.args.now.now c.args.point in
     c.in_ok-push.ensures.ok ∙ ap (λ (m : List Item). m ++ c.in_ok-laid.laid ∷ []) c.in_ok-push_before.ensures ∙ append_assoc c.args.made.now b (c.in_ok-laid.laid ∷ [])
-    ∙ ap (λ (x : Item). c.args.made.now ++ (b ++ x ∷ [])) (c.in_ok-laid.ensures c.args.starts.now c.args.list.now c.args.rows.now)
+    ∙ ap (λ (x : Item). c.args.made.now ++ (b ++ x ∷ [])) c.in_ok-laid.ensures

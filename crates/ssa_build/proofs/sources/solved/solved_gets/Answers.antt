@@ -19,5 +19,5 @@ returns-clause-solved c =
       solved = resolved-solved F.code F.args gets v (λ d. slice_index find d) c.in_ok-operands.ensures.operands is;
       within = λ d low. let w = is.within d (omega (arith, low, long, same)) in omega (arith, w, long, same);
       own = λ d low. is.own d (omega (arith, low, long, same));
-      needed = λ k y a get stays. left-needed F.code F.args gets v (λ d. slice_index find d) c.requires.sound c.requires.tabled c.in_ok-operands.ensures.operands is k y a get stays;
+      needed = λ k y a get stays. left-needed F.code F.args gets v (λ d. slice_index find d) c.requires.sweepable.sound c.requires.sweepable.tabled c.in_ok-operands.ensures.operands is k y a get stays;
     }

@@ -1,4 +1,4 @@
-use Rattle.std.proofs.Common.{◌≡◌, ◌∙◌, ℕ, List, length, refl, ap, ap₂, sym, subst}
+use Rattle.std.proofs.Common.{◌≡◌, ◌+◌, ◌^◌, ◌<◌, ◌∙◌, ℕ, List, length, refl, ap, ap₂, sym, subst, arith}
 use Rattle.bril_tree.specs.declared.numbered.Instr.{Instr}
 use Rattle.bril_tree.specs.declared.numbered.VarInfo.{VarInfo}
 use Rattle.ssa_build.specs.code.Names.{AreNames, variables_written}
@@ -8,8 +8,13 @@ use Rattle.ssa_search.specs.declared.renaming.now.WantedGet.{WantedGet}
 use Rattle.ssa_build.proofs.lemmas.tree.Parts.{are-gets, located-in, solved-in, laid-in}
 use Rattle.ssa_build.proofs.tree.function.laid_function.Goals as goal
 
-pub laid_code-requires-clause-locations : goal.laid_code-requires-clause-locations
-laid_code-requires-clause-locations c = located-in c.args.func.now c.in_ok-wants.wants c.starts-starts.result.now c.list-list.result.now c.starts-starts.ensures.value c.list-list.ensures c.starts-starts.ensures.within c.in_ok-wants.ensures
+pub laid_code-requires-clause-layout : goal.laid_code-requires-clause-layout
+laid_code-requires-clause-layout c = record {
+  shaped = c.requires.shaped;
+  points = c.in_ok-graph.ensures.points;
+  few = let h = c.in_ok-wants.ensures.few in let k : c.args.func.now.args + length c.args.func.now.code < 2 ^ 32 = omega (arith, h) in k;
+  locations = located-in c.args.func.now c.in_ok-wants.wants c.starts-starts.result.now c.list-list.result.now c.starts-starts.ensures.value c.list-list.ensures c.starts-starts.ensures.within c.in_ok-wants.ensures;
+}
 
 pub returns : goal.returns
 returns c =
