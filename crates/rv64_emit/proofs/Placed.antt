@@ -5,6 +5,7 @@ use Rattle.std.specs.List.{range_with_len}
 use Rattle.std.proofs.lemmas.List.{length-map}
 use Rattle.std.proofs.lemmas.List.FromFn.{get_or-map-range_with_len, length-map-range_with_len, map-range_with_len_more}
 use Rattle.std.proofs.lemmas.Option.{slice_get_read, slice_get_past}
+use Rattle.bril_tree.proofs.Elements.{get_inside}
 use Rattle.rv64_words.specs.declared.image.GuardAt.{GuardAt}
 use Rattle.rv64_words.specs.Encoding.{encoded}
 use Rattle.slot_code.specs.declared.item.SlotItem.{SlotItem}
@@ -13,13 +14,13 @@ use Rattle.slot_code.specs.declared.slots.SlotFunction.{SlotFunction}
 use Rattle.slot_code.specs.declared.slots.Slots.{Slots}
 use Rattle.rv64_emit_laws.specs.layout.Fits.{ItemFits}
 use Rattle.rv64_emit_laws.specs.layout.Homes.{FunctionHomes}
-use Rattle.rv64_emit_laws.specs.layout.Image.{joined, opening_words, words_before, function_size, start_at, entry_at, item_words_or_none, item_words_at, function_words_or_none, function_words_at, guard_or_none, guard_at}
+use Rattle.rv64_emit_laws.specs.layout.Image.{joined, opening_words, words_before, function_size, function_size_or_none, start_at, entry_at, item_words_or_none, item_words_at, function_words_or_none, function_words_at, guard_or_none, guard_at}
 use Rattle.rv64_emit_laws.specs.layout.Items.{item_size, item_words, leave_words}
 use Rattle.rv64_emit_laws.proofs.lemmas.layout.Joining.{below_or, joined-more}
 use Rattle.rv64_emit_laws.proofs.lemmas.layout.Laid.{items_length, functions_length, opening_length}
 use Rattle.rv64_emit_laws.proofs.lemmas.layout.Placing.{words_next, words_at_end, entry_is, starts_rise, starts_most, function_inside, entries_most}
 use Rattle.rv64_emit.specs.Moved.{AreRegistersNear}
-use Rattle.rv64_emit.specs.Tables.{table_at, start_table, entry_table, item_count, items_or_none, items_at, guard_with, SlotsFit}
+use Rattle.rv64_emit.specs.Tables.{table_at, start_table, entry_table, entry_tables, item_count, items_or_none, items_at, guard_with, SlotsFit}
 use Rattle.rv64_emit.proofs.Appending.{put_then}
 
 -- ---- tables
@@ -42,6 +43,11 @@ table_of values n stays k = ⊎_elim (λ (less : k < n + 1). at k less) (λ (pas
 
     last : n < k → table_at table k ≡ values n
     last past = let place : min k (length table - 1) ≡ n = omega (arith, entries) in ap (λ i. get_or table i 0) place ∙ value n (omega arith)
+
+-- a table of one value more
+pub table_next : {X : Type 0} (values : ℕ → X) (table more : List X) (k : ℕ) (x : X) → more ≡ table ++ x ∷ [] → x ≡ values k → table ≡ map values (range_with_len 0 k) → more ≡ map values (range_with_len 0 (k + 1))
+table_next values table more k x pushed is so_far =
+    pushed ∙ ap (λ l. l ++ x ∷ []) so_far ∙ ap (λ y. map values (range_with_len 0 k) ++ y ∷ []) is ∙ sym (map-range_with_len_more values 0 k k (zero-add k))
 
 both_ways : (m n : ℕ) → m ≤ n → n ≤ m → m ≡ n
 both_ways m n h k = omega arith
@@ -68,14 +74,27 @@ module _ (homes : ℕ → FunctionHomes) (slots : Slots) where
   pub entries_are : (f : ℕ) (g : SlotFunction) → slice_get slots.funcs f ≡ Some g → (entries : List ℕ) → entries ≡ entry_table homes slots f → (k : ℕ) → table_at entries k ≡ entry_at homes slots f k
   entries_are f g is entries are k = ap (λ t. table_at t k) (table_is f g is entries are) ∙ table_of (entry_at homes slots f) (length g.code) (entries_stay f g is) k
 
-  -- a table of one value more
-  pub starts_next : (starts more : List ℕ) (k at : ℕ) → more ≡ starts ++ at ∷ [] → at ≡ start_at homes slots k → starts ≡ map (start_at homes slots) (range_with_len 0 k) → more ≡ map (start_at homes slots) (range_with_len 0 (k + 1))
-  starts_next starts more k at pushed is so_far =
-      pushed ∙ ap (λ l. l ++ at ∷ []) so_far ∙ ap (λ n. map (start_at homes slots) (range_with_len 0 k) ++ n ∷ []) is ∙ sym (map-range_with_len_more (start_at homes slots) 0 k k (zero-add k))
+  -- behind the words that leave a function begins the next one
+  pub next_start : (f : ℕ) → f < length slots.funcs → (entries : List ℕ) → entries ≡ entry_table homes slots f → (0 < length entries) × (table_at entries (length entries - 1) + 4 ≡ start_at homes slots (f + 1))
+  next_start f inside entries are =
+      let g = get_inside slots.funcs f inside in
+      let long : length entries ≡ length g.0.code + 1 = ap length (table_is f g.0 g.1 entries are) ∙ length-map-range_with_len (entry_at homes slots f) 0 (length g.0.code + 1) in
+      let last : table_at entries (length g.0.code) ≡ entry_at homes slots f (length g.0.code) = entries_are f g.0 g.1 entries are (length g.0.code) in
+      let size : function_size_or_none (homes f) (slice_get slots.funcs f) ≡ function_size (homes f) g.0 = ap (function_size_or_none (homes f)) g.1 in
+      let at : length entries - 1 ≡ length g.0.code = omega (arith, long) in (
+        omega (arith, long),
+        omega (arith, ap (table_at entries) at, last, size, entry_is homes slots f g.0 (length g.0.code) g.1, ap (start_at homes slots) (add-one f)),
+      )
 
-  pub entries_next : (f : ℕ) (entries more : List ℕ) (k at : ℕ) → more ≡ entries ++ at ∷ [] → at ≡ entry_at homes slots f k → entries ≡ map (entry_at homes slots f) (range_with_len 0 k) → more ≡ map (entry_at homes slots f) (range_with_len 0 (k + 1))
-  entries_next f entries more k at pushed is so_far =
-      pushed ∙ ap (λ l. l ++ at ∷ []) so_far ∙ ap (λ n. map (entry_at homes slots f) (range_with_len 0 k) ++ n ∷ []) is ∙ sym (map-range_with_len_more (entry_at homes slots f) 0 k k (zero-add k))
+  pub tables_long : (tables : List (List ℕ)) → tables ≡ entry_tables homes slots → length tables ≡ length slots.funcs
+  tables_long tables are = ap length are ∙ length-map-range_with_len (entry_table homes slots) 0 (length slots.funcs)
+
+  -- the table of a function among those of all
+  pub entries_at : (tables : List (List ℕ)) → tables ≡ entry_tables homes slots → (f : ℕ) (entries : List ℕ) → f < length tables → entries ≡ get_or tables f entries → (f < length slots.funcs) × (entries ≡ entry_table homes slots f)
+  entries_at tables are f entries less here =
+      let long : length tables ≡ length slots.funcs = tables_long tables are in
+      let inside : f < length slots.funcs = omega (arith, long) in
+      (inside, here ∙ (ap (λ t. get_or t f entries) are ∙ get_or-map-range_with_len (entry_table homes slots) 0 (length slots.funcs) f f entries inside (zero-add f)))
 
   -- ---- one item
 

@@ -32,6 +32,10 @@ module _ (homes : ℕ → FunctionHomes) (slots : Slots) where
   abbrev pub entry_table : ℕ → List ℕ
   entry_table f = map (entry_at homes slots f) (range_with_len 0 (item_count (slice_get slots.funcs f) + 1))
 
+  -- those of all functions, in their order
+  abbrev pub entry_tables : List (List ℕ)
+  entry_tables = map entry_table (range_with_len 0 (length slots.funcs))
+
   abbrev pub items_or_none : ℕ → Option SlotFunction → List Word
   items_or_none f None = []
   items_or_none f (Some g) = joined (item_words_at homes slots f g) (length g.code)

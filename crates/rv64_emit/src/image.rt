@@ -16,7 +16,7 @@ use crate::assembly::{addi, lui, sd};
 use crate::homes::{ProgramHomes, SlotHomes};
 use crate::item::put_item;
 use crate::items::leave;
-use crate::places::{entry_table, function_at, place, start_table};
+use crate::places::{function_at, place, tables_of};
 use crate::registers::{FRAME, FRAMES_LEFT, LINK};
 use crate::saves::put_loads;
 use crate::sequences::{high_digits, jump, low_digit, number as immediate, program_end, put};
@@ -164,24 +164,23 @@ fn push_guards(
 
 // The words and the guards of all functions.
 fn put_functions(
-    alloc: Global,
     code: &mut Seq<u32>,
     guards: &mut Seq<GuardAt>,
     homes: &ProgramHomes<'_>,
     slots: &Slots,
     starts: &[u32],
+    entries: &[Seq<u32>],
 ) -> Result<(), AllocError>
     requires fits { SlotsFit (all_homes homes.now) slots.now }
     requires starts { starts.now ≡ tables.start_table (all_homes homes.now) slots.now }
+    requires entries { entries.now ≡ tables.entry_tables (all_homes homes.now) slots.now }
     requires here { length code.old ≡ 6 }
     ensures words { OnOk result (code.new ≡ code.old ++ map encoded (joined (function_words_at (all_homes homes.now) slots.now) (length slots.now.funcs))) }
     ensures guards { OnOk result (guards.new ≡ guards.old ++ joined (function_guards_at (all_homes homes.now) slots.now) (length slots.now.funcs)) }
 {
-    for number in 0..slots.funcs.as_slice().len() {
-        let start = place(starts, number as u32);
-        let entries = entry_table(alloc, homes, slots, number, start)?;
-        put_function(code, homes, slots, number, starts, entries.as_slice())?;
-        push_guards(guards, homes, slots, number, entries.as_slice())?;
+    for (number, own) in entries.iter().enumerate() {
+        put_function(code, homes, slots, number, starts, own.as_slice())?;
+        push_guards(guards, homes, slots, number, own.as_slice())?;
     }
     Ok(())
 }
@@ -198,17 +197,18 @@ pub fn image_of(
     requires stack { stack ≡ limits.frames * largest_frame slots.now }
     ensures { IfOk result (IsImageOf (all_homes homes.now) slots.now limits) }
 {
-    let starts = start_table(alloc, homes, slots)?;
+    let tables = tables_of(alloc, homes, slots)?;
+    let starts = tables.starts.as_slice();
     let mut words = Seq::new(alloc);
-    put_head(&mut words, limits, place(starts.as_slice(), slots.main))?;
+    put_head(&mut words, limits, place(starts, slots.main))?;
     let mut guards = Seq::new(alloc);
     put_functions(
-        alloc,
         &mut words,
         &mut guards,
         homes,
         slots,
-        starts.as_slice(),
+        starts,
+        tables.entries.as_slice(),
     )?;
     Ok(Image {
         words,

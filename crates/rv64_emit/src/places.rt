@@ -1,6 +1,6 @@
 // Tables of the words at which functions and items begin.
 
-ghost use Rattle.std.specs.Prelude.{◌≡◌, ◌+◌, ◌<◌, ◌≤◌, ℕ, Some, length, slice_get, IfOk};
+ghost use Rattle.std.specs.Prelude.{◌≡◌, ◌+◌, ◌-◌, ◌<◌, ◌≤◌, ℕ, Some, length, slice_get, IfOk};
 ghost use Rattle.rv64_emit.specs.Tables as tables;
 ghost use Rattle.rv64_emit.specs.Tables.{SlotsFit, table_at};
 ghost use Rattle.rv64_emit.specs.Moved.{AreRegistersNear};
@@ -14,6 +14,15 @@ use crate::saves::loads_size;
 use bril_tree::sequence::Seq;
 use slot_code::{SlotFunction, Slots};
 use std::alloc::{AllocError, Global};
+
+/// Where the functions of a program begin, and the items of each.
+#[derive(Drop)]
+pub struct Tables {
+    /// Where each function begins, and at last where the image ends.
+    pub starts: Seq<u32>,
+    /// Of each function, where each item begins, and at last the words that leave the function.
+    pub entries: Seq<Seq<u32>>,
+}
 
 /// What a table has for a number, and past its end what it has last.
 pub fn place(table: &[u32], index: u32) -> u32
@@ -43,42 +52,8 @@ fn opening_size_of(homes: &SlotHomes<'_>, func: &SlotFunction) -> u32
     1 + loads_size(homes, func)
 }
 
-// How many words a function has.
-fn function_size_of(homes: &ProgramHomes<'_>, slots: &Slots, number: usize) -> u32
-    requires inside { number < length slots.now.funcs }
-    requires fits { SlotsFit (all_homes homes.now) slots.now }
-    ensures { start_at (all_homes homes.now) slots.now number + result ≡ start_at (all_homes homes.now) slots.now (number + 1) }
-{
-    let func = function_at(slots, number);
-    let own = homes.in_function(number as u32);
-    let mut size = opening_size_of(&own, func);
-    for (point, item) in func.code.as_slice().iter().enumerate() {
-        size += size_of(&own, func, point as u32, item);
-    }
-    size + 4
-}
-
-/// Where each function begins, and at last where the image ends.
-pub fn start_table(
-    alloc: Global,
-    homes: &ProgramHomes<'_>,
-    slots: &Slots,
-) -> Result<Seq<u32>, AllocError>
-    requires { SlotsFit (all_homes homes.now) slots.now }
-    ensures { IfOk result (λ starts. starts ≡ tables.start_table (all_homes homes.now) slots.now) }
-{
-    let mut starts = Seq::new(alloc);
-    let mut at = 6;
-    for number in 0..slots.funcs.as_slice().len() {
-        starts.push(at)?;
-        at += function_size_of(homes, slots, number);
-    }
-    starts.push(at)?;
-    Ok(starts)
-}
-
-/// Where each item of a function begins whose first word is `start`, and at last the words that leave the function.
-pub fn entry_table(
+// Where each item of a function begins whose first word is `start`, and at last the words that leave the function.
+fn entry_table(
     alloc: Global,
     homes: &ProgramHomes<'_>,
     slots: &Slots,
@@ -100,4 +75,35 @@ pub fn entry_table(
     }
     entries.push(at)?;
     Ok(entries)
+}
+
+// What a table has last.
+fn last_of(table: &[u32]) -> u32
+    requires { 0 < length table.now }
+    ensures { result ≡ table_at table.now (length table.now - 1) }
+{
+    table[table.len() - 1]
+}
+
+/// The tables of a program.
+pub fn tables_of(
+    alloc: Global,
+    homes: &ProgramHomes<'_>,
+    slots: &Slots,
+) -> Result<Tables, AllocError>
+    requires { SlotsFit (all_homes homes.now) slots.now }
+    ensures starts { IfOk result (λ t. t.starts ≡ tables.start_table (all_homes homes.now) slots.now) }
+    ensures entries { IfOk result (λ t. t.entries ≡ tables.entry_tables (all_homes homes.now) slots.now) }
+{
+    let mut starts = Seq::new(alloc);
+    let mut entries = Seq::new(alloc);
+    let mut at = 6;
+    for number in 0..slots.funcs.as_slice().len() {
+        starts.push(at)?;
+        let own = entry_table(alloc, homes, slots, number, at)?;
+        at = last_of(own.as_slice()) + 4;
+        entries.push(own)?;
+    }
+    starts.push(at)?;
+    Ok(Tables { starts, entries })
 }

@@ -134,8 +134,9 @@ module _ (S : Setting) (made : ℕ) (f : bril.Frame) (older : List bril.Frame) (
       (reworded (code_of S.p f.function) (home_at (S.homes f.function)) (saved_at (S.homes f.function)) (HasWord made) f.point f.locations f.saves (home_word c h.base) (home_word e h.base) (shadow_word h.function h.base c.stack)
       (λ x needed. home_same c e h.base (home_at (S.homes f.function) x) same (home_usable (slot_of x) (needed_in f.point x needed))) h.holds)
 
-  abbrev pub kept_holds : (e : Core) → SameHomes c e → FramesHold S made f older e
-  kept_holds e same = record {
+  -- at a point, by what it holds there
+  abbrev pub holds_at : (point : ℕ) (e : Core) → SameHomes c e → HoldsAt S made f point f.locations f.saves (home_word e h.base) (shadow_word h.function h.base e.stack) → FramesHold S made (at_point point f) older e
+  holds_at point e same holds = record {
     function = h.function;
     there = h.there;
     base = h.base;
@@ -143,31 +144,24 @@ module _ (S : Setting) (made : ℕ) (f : bril.Frame) (older : List bril.Frame) (
     zero_is = same.zero_register ∙ h.zero_is;
     left = ap (λ y. y + suc (length older)) same.frames_left ∙ h.left;
     deep = h.deep;
-    holds = same_words e same;
+    holds = holds;
     older_hold = subst (OlderHold S made f.function h.base older) (sym same.stack) h.older_hold;
   }
+
+  abbrev pub kept_holds : (e : Core) → SameHomes c e → FramesHold S made f older e
+  kept_holds e same = holds_at f.point e same (same_words e same)
 
   -- ---- it goes to another point
 
   pub moved_holds : Stands S f h.function → (point : ℕ) → Leads S f point → (e : Core) → SameHomes c e → FramesHold S made (at_point point f) older e
-  moved_holds st point l e same = record {
-    function = h.function;
-    there = h.there;
-    base = h.base;
-    at = same.frame_register ∙ h.at;
-    zero_is = same.zero_register ∙ h.zero_is;
-    left = ap (λ y. y + suc (length older)) same.frames_left ∙ h.left;
-    deep = h.deep;
-    holds = subst (λ k. HoldsAt S made f k f.locations f.saves (home_word e h.base) (shadow_word h.function h.base e.stack)) l.to (record {
-      homes_hold = homes_on (code_of S.p f.function) st.sound (home_at (S.homes f.function)) (saved_at (S.homes f.function)) st.serves.saved (HasWord made) st.walk l.branch st.is (goes_there S f h.function st l.branch l.at)
-          l.plain f.locations (home_word e h.base) none now.homes_hold;
-      saves_hold = saves_on (code_of S.p f.function) st.sound (home_at (S.homes f.function)) (saved_at (S.homes f.function)) st.serves.saved (HasWord made) st.walk l.branch st.is (goes_there S f h.function st l.branch l.at)
-          f.saves (shadow_word h.function h.base e.stack) (shadow_word h.function h.base e.stack) (few_saves S f h.function st) (λ level x some le o. refl) now.saves_hold;
-      steady = steady_on (code_of S.p f.function) st.sound (home_at (S.homes f.function)) (saved_at (S.homes f.function)) st.serves.saved (HasWord made) st.walk l.branch st.is (goes_there S f h.function st l.branch l.at)
-          f.locations f.locations f.saves (few_saves S f h.function st) (λ x n. refl) now.steady;
-    });
-    older_hold = subst (OlderHold S made f.function h.base older) (sym same.stack) h.older_hold;
-  }
+  moved_holds st point l e same = holds_at point e same (subst (λ k. HoldsAt S made f k f.locations f.saves (home_word e h.base) (shadow_word h.function h.base e.stack)) l.to (record {
+    homes_hold = homes_on (code_of S.p f.function) st.sound (home_at (S.homes f.function)) (saved_at (S.homes f.function)) st.serves.saved (HasWord made) st.walk l.branch st.is (goes_there S f h.function st l.branch l.at)
+        l.plain f.locations (home_word e h.base) none now.homes_hold;
+    saves_hold = saves_on (code_of S.p f.function) st.sound (home_at (S.homes f.function)) (saved_at (S.homes f.function)) st.serves.saved (HasWord made) st.walk l.branch st.is (goes_there S f h.function st l.branch l.at)
+        f.saves (shadow_word h.function h.base e.stack) (shadow_word h.function h.base e.stack) (few_saves S f h.function st) (λ level x some le o. refl) now.saves_hold;
+    steady = steady_on (code_of S.p f.function) st.sound (home_at (S.homes f.function)) (saved_at (S.homes f.function)) st.serves.saved (HasWord made) st.walk l.branch st.is (goes_there S f h.function st l.branch l.at)
+        f.locations f.locations f.saves (few_saves S f h.function st) (λ x n. refl) now.steady;
+    }))
     where
       none : (x : Location) → Contains (assigns_at (slice_get (code_of S.p f.function) (end_of st.walk))) x → ⊥
       none x c = l.none x (assigns_here S f h.function st x c)

@@ -17,6 +17,7 @@ use Rattle.bril_tree.proofs.Acceptance.{accepted_function}
 use Rattle.bril_tree.proofs.Branches.{branch_inside, walk_within}
 use Rattle.bril_tree.proofs.Elements.{none_past, pushed_get}
 use Rattle.bril_tree.proofs.Members.{in_contains}
+use Rattle.flow_graph.specs.Graph.{edges_to}
 use Rattle.flow_graph.specs.Location.{number_of}
 use Rattle.flow_graph.proofs.Locations.{number-one}
 use Rattle.graph_search.specs.declared.graph.Arc.{Arc}
@@ -32,11 +33,14 @@ use Rattle.placement_laws.proofs.Known.{assigned_slot}
 use Rattle.placement_laws.proofs.Saving.{reached_lead_out, saved_inside}
 use Rattle.slot_code.specs.declared.slots.SlotFunction.{SlotFunction}
 use Rattle.slot_code.specs.Lowered.{AreDepths, open_count}
+use Rattle.shadow_place.specs.declared.analyses.Analyses.{Analyses}
+use Rattle.shadow_place.specs.Arcs.{guards_of, open_arcs_of}
 use Rattle.shadow_place.specs.Marks.{Adds, IsMarkedBefore, IsMarkedIn, IsMarkedOut}
-use Rattle.shadow_place.specs.Placement.{AreSavedRows, IsAcceptedLowered, IsSavedRow}
+use Rattle.shadow_place.specs.Placement.{AreAnalyses, AreSavedRows, IsAcceptedLowered, IsSavedRow}
 use Rattle.graph_search.specs.Marks.{is_marked}
 use Rattle.shadow_place.specs.Tables.{is_marked_if}
-use Rattle.shadow_place.proofs.Depths.{depth_at_end, few_sites}
+use Rattle.shadow_place.proofs.Depths.{depth_at_end, few_sites, open_arcs_are}
+use Rattle.shadow_place.proofs.Guards.{guards_are}
 use Rattle.shadow_place.proofs.Marking.{adds_for, adds_none, adds_then}
 
 -- ---- labels
@@ -176,3 +180,19 @@ module _ (f : Func) (g : SlotFunction) (in_prog : IsAcceptedLowered f g) where
     long = omega (arith, ap length pushed, length-append rows (row ∷ []), are.long);
     at = λ l r e. ⊎_elim (λ h. are.at l r h) (λ h. subst (IsSavedRow f.code l) h.1 (subst (λ n. IsSavedRow f.code n row) (sym are.long ∙ sym h.0) is)) (pushed_get rows row l r (ap (λ ys. slice_get ys l) (sym pushed) ∙ e));
   }
+
+-- ---- searches
+
+-- the guards of a level that abort to a label, and the arcs back where it is open
+module _ (a : Analyses) (are : AreAnalyses a) (level : ℕ) where
+  pub guards_found : (label : ℕ) (guards : List ℕ) → guards ≡ guards_of a.lowered.now.depths level (edges_to label a.graph.now.edges) → AreGuards a.func.now.code level label guards
+  guards_found label guards same =
+      let f = a.func.now in
+      let g = a.lowered.now in
+      subst (AreGuards f.code level label) (sym same) (guards_are f.code (sound_code f g are.lowered) g.depths (depths_are f g are.lowered) a.graph.now are.graph level label)
+
+  pub arcs_found : (arcs : List Arc) → 0 < level → arcs ≡ open_arcs_of a.lowered.now.depths level a.graph.now.edges → AreOpenArcs a.func.now.code level arcs
+  arcs_found arcs some same =
+      let f = a.func.now in
+      let g = a.lowered.now in
+      subst (AreOpenArcs f.code level) (sym same) (open_arcs_are f.code (sound_code f g are.lowered) g.depths (depths_are f g are.lowered) a.graph.now are.graph level some)

@@ -1,11 +1,12 @@
 -- What placement promises of a program.
-use Rattle.std.specs.Prelude.{◌≡◌, ◌↔◌, ℕ, ◌≤◌, Bool, IsTrue, List, Some, length, slice_get}
+use Rattle.std.specs.Prelude.{◌≡◌, ◌↔◌, ℕ, ◌-◌, ◌^◌, ◌<◌, ◌≤◌, Bool, IsTrue, List, Some, length, slice_get}
 use Rattle.bril_tree.specs.declared.numbered.Instr.{Instr}
 use Rattle.bril_tree.specs.declared.numbered_function.Func.{Func}
 use Rattle.bril_tree.specs.declared.program.Prog.{Prog}
 use Rattle.bril_tree.specs.Accepted.{IsAccepted}
 use Rattle.bril_tree.specs.FrameWords.{location_count}
 use Rattle.bril_tree.specs.Operand.{Location}
+use Rattle.flow_graph.specs.Graph.{IsGraphOf}
 use Rattle.flow_graph.specs.Location.{number_of}
 use Rattle.live_sets.specs.declared.live.Live.{Live}
 use Rattle.live_sets.specs.Liveness.{TellsLive}
@@ -15,6 +16,7 @@ use Rattle.placement_laws.specs.Saved.{IsSaved, TellsSaved}
 use Rattle.slot_code.specs.declared.slots.SlotFunction.{SlotFunction}
 use Rattle.slot_code.specs.declared.slots.Slots.{Slots}
 use Rattle.slot_code.specs.Lowered.{IsLoweredFunction}
+use Rattle.shadow_place.specs.declared.analyses.Analyses.{Analyses}
 use Rattle.shadow_place.specs.declared.placed.FunctionHomes.{FunctionHomes}
 use Rattle.shadow_place.specs.declared.placed.Placed.{Placed}
 use Rattle.shadow_place.specs.Registers.{home_registers}
@@ -32,6 +34,13 @@ pub record IsAcceptedLowered (f : Func) (g : SlotFunction) : Type 0 where
   pub accepted : IsAccepted prog
   pub there : slice_get prog.funcs number ≡ Some f
   pub lowered : IsLoweredFunction f g
+
+-- Its graph, its code over slots, and what is live in it are those of a function of an accepted program.
+pub record AreAnalyses (a : Analyses) : Type 0 where
+  pub graph : IsGraphOf a.func.now.code a.graph.now
+  pub lowered : IsAcceptedLowered a.func.now a.lowered.now
+  pub few : length a.func.now.code < 2 ^ 32 - 1
+  pub live : TellsLive a.func.now.code a.live.now
 
 -- ---- one function
 

@@ -1,18 +1,14 @@
 // Which slots of a function are in registers.
 
-ghost use Rattle.std.specs.Prelude.{◌≡◌, ◌<◌, ◌≤◌, ◌-◌, ◌^◌, length, take, IfOk};
-ghost use Rattle.flow_graph.specs.Graph.{IsGraphOf};
-ghost use Rattle.live_sets.specs.Liveness.{TellsLive};
+ghost use Rattle.std.specs.Prelude.{◌≡◌, ◌≤◌, length, take, IfOk};
 ghost use Rattle.shadow_place.specs.Allocation.{IsAllocation};
-ghost use Rattle.shadow_place.specs.Placement.{IsAcceptedLowered};
+ghost use Rattle.shadow_place.specs.Placement.{AreAnalyses};
 
+use crate::analyses::Analyses;
 use crate::needs::slot_spans;
 use crate::registers::{HOME_REGISTERS, own_registers};
 use crate::shared::shared_registers;
-use bril_tree::numbered_function::Func;
-use flow_graph::Graph;
-use live_sets::Live;
-use slot_code::{Slot, SlotFunction};
+use slot_code::Slot;
 use std::alloc::{AllocError, Global};
 
 // So many of the first slots have words of the frame whose numbers are below 256.
@@ -36,27 +32,25 @@ fn first_slots(slots: &[Slot], many: usize) -> &[Slot]
 
 // The registers of a function's slots, 0 for none: each has one of its own where there are enough, else those share one whose
 // spans don't meet.
-pub(crate) fn registers_of(
-    alloc: Global,
-    func: &Func,
-    graph: &Graph,
-    lowered: &SlotFunction,
-    live: &Live,
-) -> Result<Vec<u8>, AllocError>
-    requires graph { IsGraphOf func.now.code graph.now }
-    requires lowered { IsAcceptedLowered func.now lowered.now }
-    requires few { length func.now.code < 2 ^ 32 - 1 }
-    requires live { TellsLive func.now.code live.now }
-    ensures { IfOk result (λ registers. IsAllocation func.now lowered.now registers.items) }
+pub(crate) fn registers_of(alloc: Global, known: &Analyses<'_>) -> Result<Vec<u8>, AllocError>
+    requires { AreAnalyses known.now }
+    ensures { IfOk result (λ registers. IsAllocation known.now.func.now known.now.lowered.now registers.items) }
 {
-    let slots = lowered.slots.as_slice();
+    let slots = known.lowered.slots.as_slice();
     if slots.len() <= HOME_REGISTERS {
         let registers = own_registers(alloc, slots.len())?;
         return Ok(registers);
     }
     let many = near_count(slots.len());
     let near = first_slots(slots, many);
-    let spans = slot_spans(alloc, func, graph, lowered, live, near)?;
+    let spans = slot_spans(
+        alloc,
+        known.func,
+        known.graph,
+        known.lowered,
+        known.live,
+        near,
+    )?;
     let registers = shared_registers(alloc, spans.as_slice())?;
     Ok(registers)
 }

@@ -6,11 +6,13 @@
 //!    whose spans don't meet (`src/spans.rt`, `src/needs.rt`, `src/shared.rt`, `src/allocation.rt`).
 //! 2. What is saved at a level: the items that assign a location from which a walk leads to a guard at whose label it is live
 //!    are found by searches back from the guards (`src/arcs.rt`, `src/marks.rt`, `src/saved.rt`).
-//! 3. Both for each function, by what is live in it (`place`, `src/placement.rt`, `src/lives.rt`), as tables (`Placed::home`,
-//!    `Placed::saved`, `src/placed.rt`). What is promised: `specs/Placement.antt`.
+//! 3. Both for each function, by its graph and what is live in it (`src/analyses.rt`, `src/lives.rt`; `place`,
+//!    `src/placement.rt`), as tables (`Placed::home`, `Placed::saved`, `src/placed.rt`). What is promised:
+//!    `specs/Placement.antt`.
 #![tactic(auto)]
 
 mod allocation;
+mod analyses;
 mod arcs;
 mod homes;
 mod lives;

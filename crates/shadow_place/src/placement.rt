@@ -7,6 +7,7 @@ ghost use Rattle.slot_code.specs.Lowered.{IsLowered};
 ghost use Rattle.shadow_place.specs.Placement.{FewAreInRegisters, HomesAreApart, HomesAreOwn, IsAcceptedLowered, IsPlacement, LiveAreApart, TellsAllSaved, TellsLiveIn};
 
 use crate::allocation::registers_of;
+use crate::analyses::Analyses;
 use crate::homes::{shadow_homes, variable_homes};
 use crate::placed::{FunctionHomes, Placed};
 use crate::saved::saved_rows;
@@ -31,12 +32,18 @@ fn place_function(
     ensures { IfOk result (λ homes. IsPlacement func.now lowered.now homes) }
 {
     let graph = Graph::of_sound(alloc, func)?;
-    let registers = registers_of(alloc, func, &graph, lowered, live)?;
+    let known = Analyses {
+        func,
+        graph: &graph,
+        lowered,
+        live,
+    };
+    let registers = registers_of(alloc, &known)?;
     let numbers = lowered.shadow_numbers.as_slice();
     Ok(FunctionHomes {
         variables: variable_homes(alloc, registers.as_slice(), lowered.variables)?,
         shadows: shadow_homes(alloc, registers.as_slice(), numbers)?,
-        saved: saved_rows(alloc, func, &graph, lowered, live)?,
+        saved: saved_rows(alloc, &known)?,
     })
 }
 

@@ -9,14 +9,14 @@ use Rattle.rv64_emit.proofs.image.image_of.Goals as goal
 
 pub place-requires-clause-few : goal.place-requires-clause-few
 place-requires-clause-few c =
-    let starts = c.as_slice.ensures ∙ c.in_ok-starts.ensures {u = tt} in
-    λ k. omega (arith, starts_are (all_homes c.args.homes.now) c.args.slots.now c.as_slice.result.now starts k, starts_most (all_homes c.args.homes.now) c.args.slots.now k, c.requires.fits.few)
+    let starts = c.as_slice-starts.ensures ∙ (c.in_ok-tables.ensures {u = tt}).starts in
+    λ k. omega (arith, starts_are (all_homes c.args.homes.now) c.args.slots.now c.as_slice-starts.result.now starts k, starts_most (all_homes c.args.homes.now) c.args.slots.now k, c.requires.fits.few)
 
 pub returns : goal.returns
 returns c =
     let slots = c.args.slots.now in
-    let starts = c.as_slice.ensures ∙ c.in_ok-starts.ensures {u = tt} in
-    let main : c.place.result ≡ start_at (all_homes c.args.homes.now) slots slots.main = c.place.ensures.value ∙ starts_are (all_homes c.args.homes.now) slots c.as_slice.result.now starts slots.main in
+    let starts = c.as_slice-starts.ensures ∙ (c.in_ok-tables.ensures {u = tt}).starts in
+    let main : c.place.result ≡ start_at (all_homes c.args.homes.now) slots slots.main = c.place.ensures.value ∙ starts_are (all_homes c.args.homes.now) slots c.as_slice-starts.result.now starts slots.main in
     let head = c.in_ok-put_head.ensures {u = tt} in
     let all = c.in_ok-put_functions.ensures {u = tt} in
     let functions = joined (function_words_at (all_homes c.args.homes.now) slots) (length slots.funcs) in

@@ -5,7 +5,7 @@ use Rattle.rv64_emit_laws.proofs.lemmas.layout.Placing.{entry_is}
 use Rattle.rv64_emit.specs.Moved.{AreRegistersNear}
 use Rattle.rv64_emit.specs.Placed.{all_homes, homes_in}
 use Rattle.rv64_emit.specs.Tables.{item_count}
-use Rattle.rv64_emit.proofs.Placed.{turn, function_few, entries_next}
+use Rattle.rv64_emit.proofs.Placed.{turn, function_few, table_next}
 use Rattle.rv64_emit.proofs.places.entry_table.Goals as goal
 
 pub opening_size_of-requires-clause-near : goal.opening_size_of-requires-clause-near
@@ -58,7 +58,7 @@ pub loop-point-preserved : goal.loop-point-preserved
 loop-point-preserved c =
     let t = turn (all_homes c.args.homes.now) c.args.slots.now c.requires.fits c.args.number c.function_at-func.result.now (homes_in c.in_function-own.result) c.function_at-func.ensures c.in_function-own.ensures c.as_slice-item-items.result.now c.as_slice-item-items.ensures c.loop-point.point c.item-item.result c.loop-point-test.true c.item-item.is in
     let pushed = c.in_ok-push.ensures {u = tt} in (
-      entries_next (all_homes c.args.homes.now) c.args.slots.now c.args.number c.loop-point.entries c.push.new.self c.loop-point.point c.loop-point.at pushed.ok c.loop-point.invariant.1 c.loop-point.invariant.0,
+      table_next (entry_at (all_homes c.args.homes.now) c.args.slots.now c.args.number) c.loop-point.entries c.push.new.self c.loop-point.point c.loop-point.at pushed.ok c.loop-point.invariant.1 c.loop-point.invariant.0,
       omega (arith, t.next, t.entry, t.next_entry, c.loop-point.invariant.1, c.size_of-at.ensures),
     )
 
@@ -67,6 +67,6 @@ returns c =
     let entry = entry_at (all_homes c.args.homes.now) c.args.slots.now c.args.number in
     let pushed = c.in_ok-push-2.ensures {u = tt} in
     let all : c.loop-point.point ≡ length c.function_at-func.result.now.code = omega (arith, ap length c.as_slice-item-items.ensures, c.loop-point-test.false, c.loop-point.auto.point-end) in
-    entries_next (all_homes c.args.homes.now) c.args.slots.now c.args.number c.loop-point.entries c.push-2.new.self c.loop-point.point c.loop-point.at pushed.ok c.loop-point.invariant.1 c.loop-point.invariant.0
+    table_next entry c.loop-point.entries c.push-2.new.self c.loop-point.point c.loop-point.at pushed.ok c.loop-point.invariant.1 c.loop-point.invariant.0
     ∙ ap (λ n. map entry (range_with_len 0 (n + 1))) all
     ∙ sym (ap (λ o. map entry (range_with_len 0 (item_count o + 1))) c.function_at-func.ensures)

@@ -8,18 +8,18 @@ use Rattle.shadow_place.proofs.allocation.registers_of.Goals as goal
 
 pub returns-then-slots-le-HOME_REGISTERS : goal.returns-then-slots-le-HOME_REGISTERS
 returns-then-slots-le-HOME_REGISTERS c =
-    let f = c.args.func.now in
-    let g = c.args.lowered.now in
+    let f = c.args.known.now.func.now in
+    let g = c.args.known.now.lowered.now in
     let registers = c.in_ok-registers.registers.items in
     own_allocation f g c.requires.lowered registers (c.in_ok-registers.ensures ∙ ap (λ slots. map own_register (range_with_len 0 (length slots))) c.as_slice-slots.ensures)
     (subst (λ slots. length slots ≤ 23) c.as_slice-slots.ensures c.if-slots-le-HOME_REGISTERS.true)
 
 pub returns : goal.returns
 returns c =
-    let f = c.args.func.now in
-    let g = c.args.lowered.now in
-    let graph = c.args.graph.now in
-    let live = c.args.live.now in
+    let f = c.args.known.now.func.now in
+    let g = c.args.known.now.lowered.now in
+    let graph = c.args.known.now.graph.now in
+    let live = c.args.known.now.live.now in
     let many = c.near_count-many.result in
     let spans = c.in_ok-spans.spans.items in
     let registers = c.in_ok-registers-2.registers.items in

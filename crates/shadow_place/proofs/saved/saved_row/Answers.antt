@@ -11,15 +11,15 @@ clash e = cc
 
 pub returns-then-not-is_reached : goal.returns-then-not-is_reached
 returns-then-not-is_reached c =
-    let f = c.args.func.now in
-    let g = c.args.lowered.now in
+    let f = c.args.known.now.func.now in
+    let g = c.args.known.now.lowered.now in
     let nowhere : SomeIndex g.depths (λ k. c.args.level ≤ slice_index g.depths k) → ⊥ =
     λ s. clash (sym c.if-not-is_reached.true ∙ c.is_reached.ensures.1 (subst (λ ds. SomeIndex ds (λ k. c.args.level ≤ slice_index ds k)) (sym c.as_slice.ensures) s)) in
-    subst (IsSavedRow f.code c.args.level) (sym c.new.ensures.items) (row_is_empty f g c.requires.lowered c.args.level nowhere)
+    subst (IsSavedRow f.code c.args.level) (sym c.new.ensures.items) (row_is_empty f g c.requires.known.lowered c.args.level nowhere)
 
 pub returns : goal.returns
 returns c =
-    let f = c.args.func.now in
-    let g = c.args.lowered.now in
-    row_is_saved f g c.requires.lowered c.args.live.now c.args.level c.mark_labels.new.row.items c.requires.live
-    (subst (λ row. Adds (IsMarkedBefore f.code c.args.live.now c.args.level (length f.code + 1)) row c.mark_labels.new.row.items) c.in_ok-row.ensures c.in_ok-mark_labels.ensures)
+    let f = c.args.known.now.func.now in
+    let g = c.args.known.now.lowered.now in
+    row_is_saved f g c.requires.known.lowered c.args.known.now.live.now c.args.level c.mark_labels.new.row.items c.requires.known.live
+    (subst (λ row. Adds (IsMarkedBefore f.code c.args.known.now.live.now c.args.level (length f.code + 1)) row c.mark_labels.new.row.items) c.in_ok-row.ensures c.in_ok-mark_labels.ensures)
