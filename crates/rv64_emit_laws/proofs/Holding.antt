@@ -161,7 +161,7 @@ module _ (S : Setting) (made : ℕ) (f : bril.Frame) (older : List bril.Frame) (
         f.saves (shadow_word h.function h.base e.stack) (shadow_word h.function h.base e.stack) (few_saves S f h.function st) (λ level x some le o. refl) now.saves_hold;
     steady = steady_on (code_of S.p f.function) st.sound (home_at (S.homes f.function)) (saved_at (S.homes f.function)) st.serves.saved (HasWord made) st.walk l.branch st.is (goes_there S f h.function st l.branch l.at)
         f.locations f.locations f.saves (few_saves S f h.function st) (λ x n. refl) now.steady;
-    }))
+  }))
     where
       none : (x : Location) → Contains (assigns_at (slice_get (code_of S.p f.function) (end_of st.walk))) x → ⊥
       none x c = l.none x (assigns_here S f h.function st x c)
