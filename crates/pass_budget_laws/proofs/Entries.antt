@@ -10,8 +10,9 @@ use Rattle.bril_tree.specs.Membership.{In}
 use Rattle.bril_tree.specs.Sites.{AreSitesSound}
 use Rattle.bril_tree.proofs.Members.{in_contains, in_flat_map, in_flat_map_source, in_map, in_map_source}
 use Rattle.ssa_laws.proofs.lemmas.live_entries.Deciding.{all-edges, edge-there}
-use Rattle.ssa_laws.proofs.lemmas.live_entries.Existing.{same-option, width-of, sum-there}
-use Rattle.ssa_laws.proofs.lemmas.live_entries.Selecting.{Decided, so-many}
+use Rattle.ssa_laws.proofs.lemmas.live_entries.Existing.{width-of, sum-there}
+use Rattle.bril_tree.proofs.Deciding.{Decided, same-option}
+use Rattle.ssa_laws.proofs.lemmas.live_entries.Selecting.{so-many}
 use Rattle.pass_edit_laws.proofs.lemmas.plan.Elements.{all_in}
 use Rattle.program_numbers.specs.Entries.{Enters, IsEntryCount}
 use Rattle.program_numbers.specs.ProgramNumbers.{AreEntries}
@@ -25,7 +26,7 @@ same-pair : (x y : Pair) → Decided (x ≡ y)
 same-pair (l, k) (m, j) = ⊎_elim
     (λ e. ⊎_elim (λ f. inl (λ i. (e i, f i))) (λ n. inr (λ h. n (ap (λ (z : Pair). z.1) h))) (cases_eq k j))
     (λ n. inr (λ h. n (ap (λ (z : Pair). z.0) h)))
-    (same-option l m)
+    (same-option cases_eq l m)
 
 module _ (code : List Instr) (sound : AreSitesSound code) where
   abbrev leaves : List (Option ℕ)

@@ -22,7 +22,7 @@ use Rattle.bril_tree.proofs.Elements.{All-at, get_inside}
 use Rattle.pass_edit_laws.proofs.lemmas.names.Points.{label_once}
 use Rattle.bril_tree.proofs.Trees.{tree_at-items}
 use Rattle.ssa_laws.proofs.lemmas.live_entries.Deciding.{decide-reached}
-use Rattle.ssa_laws.proofs.lemmas.live_entries.Selecting.{Decided}
+use Rattle.bril_tree.proofs.Deciding.{Decided}
 use Rattle.flow_graph.proofs.Told.{same_sites}
 use Rattle.trace_laws.specs.Laws.{FitsAreOneList}
 use Rattle.trace_laws.proofs.Unique.{fit-one, fits-one}

@@ -18,7 +18,8 @@ use Rattle.bril_tree.proofs.LabelPoints.{in_range}
 use Rattle.bril_tree.proofs.Members.{contains_in, in_append_cases, in_append_left, in_append_right, in_contains, in_flat_map, in_flat_map_source, in_map, in_map_source}
 use Rattle.flow_graph.proofs.Told.{same_sites}
 use Rattle.ssa_laws.proofs.lemmas.live_entries.Reaching.{Onward, Path, Start, Step, decide-path, join}
-use Rattle.ssa_laws.proofs.lemmas.live_entries.Selecting.{Decided, any-of, in-select, select, select-in}
+use Rattle.bril_tree.proofs.Deciding.{Decided}
+use Rattle.ssa_laws.proofs.lemmas.live_entries.Selecting.{any-of, in-select, select, select-in}
 
 module _ (code : List Instr) where
   branch-within : (o : Option Instr) (p : ℕ) → slice_get code p ≡ o → (b : Branch) → In b (branches_from code p o) → p < length code

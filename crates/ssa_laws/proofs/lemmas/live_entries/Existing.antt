@@ -29,19 +29,14 @@ use Rattle.pass_edit_laws.proofs.lemmas.plan.Elements.{all_in}
 use Rattle.ssa_laws.specs.live_entries.Laws.{LiveEntriesAreOne, LiveEntriesAreThere, LiveEntryCountsAreOne, LiveEntryCountsAreThere, WidthsAreThere}
 use Rattle.ssa_laws.specs.live_entries.LiveEntries.{IsLiveEntry, IsLiveEntryCount}
 use Rattle.ssa_laws.proofs.lemmas.live_entries.Deciding.{all-edges, decide-live, edge-only, edge-there, live-read}
-use Rattle.ssa_laws.proofs.lemmas.live_entries.Selecting.{Decided, in-select, select, select-in, so-many}
+use Rattle.bril_tree.proofs.Deciding.{Decided, same-option}
+use Rattle.ssa_laws.proofs.lemmas.live_entries.Selecting.{in-select, select, select-in, so-many}
 
 -- ---- equal pairs
 
 record Pair : Type 0 where
   leave : Option ℕ
   label : ℕ
-
-pub same-option : (x y : Option ℕ) → Decided (x ≡ y)
-same-option None None = inl refl
-same-option None (Some y) = inr (λ e. let n : None ≡ Some y = e in cc)
-same-option (Some x) None = inr (λ e. let n : Some x ≡ None = e in cc)
-same-option (Some x) (Some y) = ⊎_elim (λ e. inl (ap Some e)) (λ n. inr (λ e. n (same_Some x y e))) (cases_eq x y)
 
 abbrev Entry : Type 0
 Entry = Option ℕ × ℕ × Location
@@ -56,7 +51,7 @@ same-entry (l, k, a) (m, j, b) = ⊎_elim
     (λ n. inr (λ h. n (ap (λ (z : Entry). z.1) h)))
     (cases_eq k j))
     (λ n. inr (λ h. n (ap (λ (z : Entry). z.0) h)))
-    (same-option l m)
+    (same-option cases_eq l m)
 
 module _ (code : List Instr) (sound : AreSitesSound code) where
   -- ---- pairs of a leave point and a label
@@ -104,7 +99,7 @@ module _ (code : List Instr) (sound : AreSitesSound code) where
   -- ---- widths
 
   decide-leave : (leave : Option ℕ) (pair : Pair) → Decided (pair.leave ≡ leave)
-  decide-leave leave pair = same-option pair.leave leave
+  decide-leave leave pair = same-option cases_eq pair.leave leave
 
   abbrev labels-from : Option ℕ → List ℕ
   labels-from leave = map (λ (pair : Pair). pair.label) (select (λ (pair : Pair). pair.leave ≡ leave) (decide-leave leave) all-pairs)

@@ -2,7 +2,7 @@
 use Rattle.std.proofs.Common.{◌≡◌, ◌⊎◌, ℕ, List, [], ◌∷◌, refl, sym, ap, subst, inl, inr, ⊎_elim}
 use Rattle.std.proofs.lemmas.Bool.{cases_eq}
 use Rattle.bril_tree.specs.Membership.{In}
-use Rattle.ssa_laws.proofs.lemmas.live_entries.Selecting.{Decided}
+use Rattle.bril_tree.proofs.Deciding.{Decided}
 
 pub record Step : Type 0 where
   pub from : ℕ

@@ -6,10 +6,7 @@ use Rattle.bril_tree.specs.Membership.{In}
 use Rattle.bril_tree.proofs.Members.{contains_in}
 use Rattle.pass_edit_laws.proofs.lemmas.plan.Elements.{in_all}
 use Rattle.program_numbers.specs.Entries.{AreSoMany}
-
--- the fact holds, or it doesn't
-abbrev pub Decided : Type 0 → Type 0
-Decided P = P ⊎ (P → ⊥)
+use Rattle.bril_tree.proofs.Deciding.{Decided}
 
 module _ {A : Type 0} (P : A → Type 0) (decide : (x : A) → Decided (P x)) where
   one : (x : A) → Decided (P x) → List A → List A
