@@ -1,8 +1,7 @@
 -- Rows of marks, as they grow.
-use Rattle.std.proofs.Common.{◌≡◌, ◌≢◌, ◌⊎◌, inl, inr, ⊎_elim, ℕ, ◌+◌, ◌<◌, Bool, true, false, List, [], ◌∷◌, ◌++◌, length, get_or, take, set, length-set, Option, Some, None, refl, sym, ap, ◌∙◌, subst}
-use Rattle.std.specs.Prelude.{IsTrue, option_map, slice_get}
-use Rattle.std.proofs.lemmas.Bool.{cases_eq}
-use Rattle.std.proofs.lemmas.List.{get_or-set_same, get_or-set_other, take_more}
+use Rattle.std.proofs.Common.{◌≡◌, ◌⊎◌, inl, inr, ⊎_elim, ℕ, ◌+◌, ◌<◌, Bool, true, false, List, [], ◌∷◌, ◌++◌, length, get_or, take, Option, Some, None, refl, sym, ap, ◌∙◌, subst}
+use Rattle.std.specs.Prelude.{option_map, slice_get}
+use Rattle.std.proofs.lemmas.List.{take_more}
 use Rattle.std.proofs.lemmas.Option.{same_Some}
 use Rattle.bril_tree.specs.declared.numbered.Instr.{Instr}
 use Rattle.bril_tree.specs.Assigned.{assigns_at}
@@ -14,7 +13,6 @@ use Rattle.flow_graph.proofs.Locations.{assigned-number, location-assigned}
 use Rattle.live_sets.specs.declared.live.Live.{Live}
 use Rattle.live_sets.specs.Liveness.{is_live}
 use Rattle.shadow_place.specs.Marks.{Adds, IsMarkedAt, IsMarkedIn}
-use Rattle.graph_search.specs.Marks.{is_marked}
 
 -- ---- rows
 
@@ -39,31 +37,6 @@ adds_then P Q R old middle new first second split a b = record {
   came = λ n h. ⊎_elim (λ m. ⊎_elim inl (λ p. inr (first n p)) (a.came n m)) (λ q. inr (second n q)) (b.came n h);
   all = λ n less r. ⊎_elim (λ p. b.kept n (a.all n less p)) (λ q. b.all n (subst (λ k. n < k) (sym a.long) less) q) (split n r);
 }
-
--- one number
-pub adds_one : (row : List Bool) (k : ℕ) → k < length row → Adds (λ n. n ≡ k) row (set row k true)
-adds_one row k less = record {
-  long = length-set row k true;
-  kept = kept;
-  came = came;
-  all = λ n lt e. subst (λ m. IsTrue (is_marked (set row k true) m)) (sym e) here;
-}
-  where
-    here : IsTrue (is_marked (set row k true) k)
-    here = get_or-set_same row k true false less
-
-    other : (n : ℕ) → n ≢ k → is_marked (set row k true) n ≡ is_marked row n
-    other n ne = get_or-set_other row k n true false ne
-
-    kept : (n : ℕ) → IsTrue (is_marked row n) → IsTrue (is_marked (set row k true) n)
-    kept n h = ⊎_elim (λ e. subst (λ m. IsTrue (is_marked (set row k true) m)) (sym e) here) (λ ne. other n ne ∙ h) (cases_eq n k)
-
-    came : (n : ℕ) → IsTrue (is_marked (set row k true) n) → IsTrue (is_marked row n) ⊎ (n ≡ k)
-    came n h = ⊎_elim inr (λ ne. inl (sym (other n ne) ∙ h)) (cases_eq n k)
-
--- a number without a place
-pub adds_outside : (row : List Bool) (k : ℕ) → (k < length row → ⊥) → Adds (λ n. n ≡ k) row row
-adds_outside row k out = record { long = refl; kept = λ n h. h; came = λ n h. inl h; all = λ n less e. absurd (out (subst (λ m. m < length row) e less)) }
 
 -- ---- the location that an item assigns
 

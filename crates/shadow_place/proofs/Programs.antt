@@ -1,5 +1,5 @@
 -- The functions of a program, one by one.
-use Rattle.std.proofs.Common.{◌≡◌, ⊎_elim, ℕ, ◌+◌, ◌<◌, List, [], ◌∷◌, ◌++◌, length, get_or, Some, None, sym, ap, ◌∙◌, subst, arith}
+use Rattle.std.proofs.Common.{◌≡◌, ⊎_elim, ℕ, ◌+◌, ◌<◌, List, [], ◌∷◌, ◌++◌, length, get_or, Some, sym, ap, ◌∙◌, subst, arith}
 use Rattle.std.specs.Prelude.{slice_get}
 use Rattle.std.specs.List.{AllZip}
 use Rattle.std.proofs.lemmas.List.{length-append}
@@ -26,12 +26,6 @@ use Rattle.shadow_place.specs.Tables.{home_in_row, is_saved_in_row}
 pub record ArePlacements (funcs : List Func) (lowered : List SlotFunction) (many : ℕ) (list : List FunctionHomes) : Type 0 where
   pub long : length list ≡ many
   pub at : (k : ℕ) (f : Func) (g : SlotFunction) (homes : FunctionHomes) → slice_get funcs k ≡ Some f → slice_get lowered k ≡ Some g → slice_get list k ≡ Some homes → IsPlacement f g homes
-
-pub no_placements : (funcs : List Func) (lowered : List SlotFunction) (list : List FunctionHomes) → list ≡ [] → ArePlacements funcs lowered 0 list
-no_placements funcs lowered list is = record { long = ap length is; at = λ k f g homes a b e. absurd (none k homes (ap (λ l. slice_get l k) (sym is) ∙ e)) }
-  where
-    none : (k : ℕ) (homes : FunctionHomes) → slice_get [] k ≡ Some homes → ⊥
-    none k homes e = let n : None ≡ Some homes = e in cc
 
 pub more_placements : (funcs : List Func) (lowered : List SlotFunction) (many : ℕ) (list more : List FunctionHomes) (f : Func) (g : SlotFunction) (homes : FunctionHomes) → slice_get funcs many ≡ Some f → slice_get lowered many ≡ Some g → more ≡ list ++ homes ∷ [] →
     ArePlacements funcs lowered many list → IsPlacement f g homes → ArePlacements funcs lowered (many + 1) more

@@ -1,14 +1,12 @@
 -- Spans, as they grow.
-use Rattle.std.proofs.Common.{◌≡◌, ◌≢◌, ◌⊎◌, inl, inr, ⊎_elim, ℕ, ◌+◌, ◌<◌, ◌≤◌, List, [], ◌∷◌, ◌++◌, length, get_or, take, set, length-set, Option, Some, None, refl, sym, ap, ◌∙◌, subst, arith}
+use Rattle.std.proofs.Common.{◌≡◌, ◌⊎◌, inl, inr, ⊎_elim, ℕ, ◌+◌, ◌<◌, ◌≤◌, List, [], ◌∷◌, ◌++◌, length, get_or, take, Option, Some, None, refl, sym, ap, ◌∙◌, subst, arith}
 use Rattle.std.specs.Prelude.{slice_get}
 use Rattle.std.specs.List.{Contains}
 use Rattle.std.proofs.Math.Seq.{take-length}
-use Rattle.std.proofs.lemmas.Bool.{cases_eq}
 use Rattle.std.proofs.lemmas.List.{take_more}
-use Rattle.std.proofs.lemmas.Option.{same_Some, slice_get_within}
+use Rattle.std.proofs.lemmas.Option.{same_Some}
 use Rattle.bril_tree.specs.Membership.{In}
 use Rattle.bril_tree.proofs.Members.{contains_in, in_append_cases, in_contains}
-use Rattle.flow_graph.proofs.Searching.{get_set_other, get_set_same}
 use Rattle.shadow_place.specs.declared.spans.Span.{Span}
 use Rattle.shadow_place.specs.Spans.{HaveSites, IsCovered, IsInside, IsSiteAt, Widens}
 
@@ -24,36 +22,6 @@ widen_then P Q R old middle new split a b = record {
   kept = λ n p h. b.kept n p (a.kept n p h);
   all = λ n p h. ⊎_elim (λ x. b.kept n p (a.all n p x)) (λ y. b.all n p y) (split n p h);
 }
-
--- ---- one point
-
-pub widen_one : (spans : List Span) (k point : ℕ) (span wider : Span) → k < length spans → slice_get spans k ≡ Some span → IsInside wider point → wider.first ≤ span.first → span.last ≤ wider.last → Widens (λ n p. (n ≡ k) × (p ≡ point)) spans (set spans k wider)
-widen_one spans k point span wider less there here first last = record { long = length-set spans k wider; kept = kept; all = all }
-  where
-    now : slice_get (set spans k wider) k ≡ Some wider
-    now = get_set_same spans k wider less
-
-    grown : (p : ℕ) → IsInside span p → IsInside wider p
-    grown p h = let a = h.0 in let b = h.1 in (omega arith, omega arith)
-
-    kept : (n p : ℕ) → IsCovered spans n p → IsCovered (set spans k wider) n p
-    kept n p h s at = ⊎_elim same other (cases_eq n k)
-      where
-        same : n ≡ k → IsInside s p
-        same e =
-            let is : wider ≡ s = same_Some wider s (sym now ∙ (ap (slice_get (set spans k wider)) (sym e) ∙ at)) in
-            subst (λ x. IsInside x p) is (grown p (h span (ap (slice_get spans) e ∙ there)))
-
-        other : n ≢ k → IsInside s p
-        other ne = h s (sym (get_set_other spans k n wider ne) ∙ at)
-
-    all : (n p : ℕ) → (n ≡ k) × (p ≡ point) → IsCovered (set spans k wider) n p
-    all n p (e, f) s at =
-        let is : wider ≡ s = same_Some wider s (sym now ∙ (ap (slice_get (set spans k wider)) (sym e) ∙ at)) in
-        subst (λ x. IsInside x p) is (subst (IsInside wider) (sym f) here)
-
-pub widen_outside : (spans : List Span) (k point : ℕ) → (k < length spans → ⊥) → Widens (λ n p. (n ≡ k) × (p ≡ point)) spans spans
-widen_outside spans k point out = record { long = refl; kept = λ n p h. h; all = λ n p h s at. absurd (out (slice_get_within spans k s (ap (slice_get spans) (sym h.0) ∙ at))) }
 
 -- ---- a span
 
@@ -115,9 +83,6 @@ widen_next R i old middle new a b = widen_then (λ n p. (k : ℕ) × (k < i) × 
 
     split : (n p : ℕ) → (k : ℕ) × (k < i + 1) × R k n p → ((k : ℕ) × (k < i) × R k n p) ⊎ R i n p
     split n p (k, less, r) = ⊎_elim (λ e. inr (subst (λ m. R m n p) e r)) (λ before. inl (k, before, r)) (newest k less)
-
-pub widen_first : (R : ℕ → ℕ → ℕ → Type 0) (spans : List Span) → Widens (λ n p. (k : ℕ) × (k < 0) × R k n p) spans spans
-widen_first R spans = widen_none (λ n p. (k : ℕ) × (k < 0) × R k n p) spans (λ n p h. (let less = h.1 in omega arith))
 
 -- ---- sites
 
