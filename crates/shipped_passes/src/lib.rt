@@ -1,6 +1,6 @@
 //! The passes that come with the program, in their order. A pass is added to the list here, and nowhere else.
 //!
-//! Each pass's crate has what it is here, in `proofs/Shipped.antt`: what the pass means, its row of a budget, and that what it
+//! What a pass is here stands in its own crate, among its proofs (`Shipped`): what it means, its row of a budget, and that what it
 //! makes is within the row.
 //!
 //! 1. The list (`specs/Shipped.antt`), and what follows from it: each pass makes only what its name says
