@@ -46,12 +46,7 @@ fn tidied_function(alloc: Global, func: &Func, function: FuncTree) -> Result<Fun
         push_if(&mut code, item, staying)?;
         point += 1;
     }
-    Ok(FuncTree {
-        name: function.name,
-        args: function.args,
-        ret: function.ret,
-        code,
-    })
+    Ok(FuncTree { code, ..function })
 }
 
 // Adds the item where it stays.

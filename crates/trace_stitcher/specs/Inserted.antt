@@ -1,7 +1,10 @@
 -- What is put between the items of a function.
 use Rattle.std.specs.Prelude.{◌≡◌, ℕ, suc, ◌<◌, ◌≤◌, ◌&&◌, ◌==◌, Bool, List, [], ◌∷◌, ◌++◌, length, map, Option, Some, None, slice_get, slice_index_or, if◌then◌else◌}
+use Rattle.bril_tree.specs.declared.function_tree.FuncTree.{FuncTree}
 use Rattle.bril_tree.specs.declared.function_tree.Item.{Item}
 use Rattle.bril_tree.specs.declared.function_tree.Item.TheVariants as item
+use Rattle.bril_tree.specs.declared.numbered_function.Func.{Func}
+use Rattle.bril_tree.specs.Numbered.{variable_names}
 use Rattle.pass_edit_laws.specs.plan.Spliced.{spliced}
 use Rattle.trace_stitcher.specs.declared.matching.fitting.Fitting.{Fitting}
 use Rattle.trace_laws.specs.lines.Lines.{TraceNames, bool_type, trace_lines}
@@ -70,3 +73,7 @@ pub record IsInside (f long : ℕ) (x : Fitting) : Type 0 where
 -- it is of the function of a number
 abbrev pub has_function : ℕ → Fitting → Bool
 has_function f x = x.function == f
+
+-- the function of a tree, with the traces of these entries, whatever their names
+pub record IsTracedBy (F : Func) (f : ℕ) (fits : List Fitting) (tree made : FuncTree) : Type 0 where
+  pub by_names : (names : ℕ → TraceNames) → AreNamesFor F.labels (variable_names F.vars) tree.code f fits names → made ≡ record tree { code = traced_items tree.code f names fits }

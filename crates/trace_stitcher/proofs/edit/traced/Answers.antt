@@ -1,30 +1,24 @@
-use Rattle.pass_make.proofs.Functions.{long_there, number_within}
-use Rattle.trace_stitcher.proofs.lemmas.matching.Surveying.{read-there}
-use Rattle.trace_stitcher.proofs.Functions.{all-inside, functions-more, more-many}
+use Rattle.std.proofs.Common.{rules, subst}
+use Rattle.std.proofs.lemmas.Result.{IfOk-weaker}
+use Rattle.trace_laws.specs.lines.Lines.{bool_type}
+use Rattle.trace_laws.specs.lines.Traced.{IsTracedFunction}
+use Rattle.trace_stitcher.specs.Inserted.{IsTracedBy}
+use Rattle.trace_stitcher.proofs.Functions.{all-inside, function-traced, tree-laid}
+use Rattle.bril_tree.specs.declared.function_tree.FuncTree.{FuncTree}
 use Rattle.trace_stitcher.proofs.edit.traced.Goals as goal
 
-pub traced_function-requires-clause-inside : goal.traced_function-requires-clause-inside
-traced_function-requires-clause-inside c =
-    let P = c.args.prog.now in
-    let funcs = c.as_slice-func-items.result.now in
-    let f = c.loop-number.number in
-    let F = c.func-item.result in
-    let tree = c.in_ok-tree.tree in
-    let there = read-there P funcs f F c.as_slice-func-items.ensures (number_within P funcs c.as_slice-func-items.ensures f F c.loop-number-test.true c.func-item.is) c.func-item.is in
-    all-inside P f F there tree c.in_ok-tree.ensures (long_there P funcs c.as_slice-func-items.ensures f F c.loop-number-test.true c.func-item.is tree c.in_ok-tree.ensures) c.args.fits.now c.requires.paths
+pub each_function-requires-clause-takes : goal.each_function-requires-clause-takes
+each_function-requires-clause-takes c = λ number lent tree of.
+    let inside = all-inside c.args.prog.now number lent.now of.there tree of.tree of.long c.args.fits.now c.requires.paths in
+    search rules
 
-pub loop-number-preserved : goal.loop-number-preserved
-loop-number-preserved c =
+pub returns : goal.returns
+returns c =
     let P = c.args.prog.now in
-    let funcs = c.as_slice-func-items.result.now in
-    let f = c.loop-number.number in
-    let F = c.func-item.result in
-    let tree = c.in_ok-tree.tree in
-    let inv = c.loop-number.invariant in
-    let there = read-there P funcs f F c.as_slice-func-items.ensures (number_within P funcs c.as_slice-func-items.ensures f F c.loop-number-test.true c.func-item.is) c.func-item.is in
-    let long = long_there P funcs c.as_slice-func-items.ensures f F c.loop-number-test.true c.func-item.is tree c.in_ok-tree.ensures in
-    let made = c.in_ok-traced_function in
-    record {
-      many = more-many c.loop-number.funcs c.push.new.self made.field-0 f inv.many c.in_ok-push.ensures.ok;
-      traced = λ laid are. functions-more P f F there tree c.in_ok-tree.ensures long c.args.fits.now c.requires.paths made.field-0 made.ensures c.loop-number.funcs c.push.new.self inv.many c.in_ok-push.ensures.ok laid are (inv.traced laid are);
-    }
+    let fits = c.args.fits.now in
+    IfOk-weaker c.each_function.result _ _
+    (λ made e laid are. tree-laid _ P laid made e (λ f F g given.
+    let same = given.same in
+    let gave = given.gave in
+    let is : IsTracedBy F f fits given.function g = search rules in
+    subst (λ (t : FuncTree). IsTracedFunction P bool_type laid f t g) given.of.tree (function-traced P f F given.of.there given.function given.of.tree given.of.long fits c.requires.paths g is.by_names laid are))) c.each_function.ensures
