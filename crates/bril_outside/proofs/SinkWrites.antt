@@ -71,15 +71,6 @@ joined-append (p ∷ ps) qs =
     ∙ sym (append_assoc p (joined ps) (joined qs))
     ∙ ap (λ v. v ++ joined qs) (sym (joined-cons p ps))
 
--- the piece that was cut, and what comes after it
-joined-cut : (front : List (List ℕ)) (part rest : List ℕ) (unput : List (List ℕ))
-    → joined (front ++ (part ++ rest) ∷ unput) ≡ joined (front ++ part ∷ []) ++ (rest ++ joined unput)
-joined-cut front part rest unput =
-    joined-append front ((part ++ rest) ∷ unput)
-    ∙ ap (λ v. joined front ++ v) (joined-cons (part ++ rest) unput ∙ append_assoc part rest (joined unput))
-    ∙ sym (append_assoc (joined front) part (rest ++ joined unput))
-    ∙ ap (λ v. v ++ (rest ++ joined unput)) (sym (joined-append front (part ∷ [])))
-
 -- nothing is put
 pub PutAll-none : (s : SinkSeen) → PutAll s [] s
 PutAll-none s = record { took = TookAll-none s; times = PutTimes-none s }
