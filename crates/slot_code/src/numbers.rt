@@ -7,6 +7,7 @@ use crate::item::SlotItem;
 use bril_tree::operation::Op;
 use bril_tree::sequence::Seq;
 use bril_tree::types::Ty;
+use bril_tree::value::Value;
 use bril_values::{Outcome, compute};
 use std::alloc::{AllocError, Global};
 
