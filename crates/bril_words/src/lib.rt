@@ -21,6 +21,9 @@ mod words;
 pub use misuse::Misuse;
 pub use names::names_of;
 pub use options::Setting;
-pub use request::{Action, Request};
+pub use request::{
+    Action, FileAction, InterpretSettings, PassesAction, ProgramAction, RecordSettings, Request,
+    RunSettings, TreeAction,
+};
 pub use values::{CELLS, ENTRIES, FRAMES, HOT, STEPS};
 pub use words::read_words;

@@ -1,56 +1,89 @@
 // What words ask for.
 
+use bril_tree::limits::Limits;
 use bril_tree::text::Text;
 
-/// What a command does with its file.
-#[derive(Clone, Copy, PartialEq, Eq, Debug, Drop)]
+/// What a command does, by what it works on.
+#[derive(Clone, Copy, Drop)]
 pub enum Action {
-    /// Runs its program on the machine, with so many frames and cells at most and so many words, and tells the counts of
-    /// the run or doesn't.
-    Run {
-        frames: u32,
-        cells: u32,
-        steps: u64,
-        stats: bool,
-    },
-    /// Interprets its program, with so many frames and cells at most and so many steps.
-    Interpret {
-        frames: u32,
-        cells: u32,
-        steps: u64,
-    },
-    /// Interprets its program, with so many frames and cells at most and so many steps, and writes the profile of the run: a
-    /// label that was arrived at `hot` times has an entry, and there are `most` entries at most.
-    Record {
-        frames: u32,
-        cells: u32,
-        steps: u64,
-        hot: u32,
-        most: u32,
-    },
-    /// Writes the machine words of its program, with so many frames at most.
-    Emit {
-        frames: u32,
-    },
-    /// Writes its program after the passes.
-    Passes,
-    /// Writes how many functions and items its program has, where it is accepted.
-    Check,
-    /// Writes its program and all that this imports as one tree, in canonical text.
-    Link,
-    /// Makes the demo program of so many functions, records its run, compiles it with this profile and runs it, and writes how that went.
-    /// It has no file.
-    Demo {
-        functions: u32,
-    },
-    /// Writes its canonical text.
+    /// It works on the tree of its one file.
+    File(FileAction),
+    /// It works on the tree of its file and of all that this imports.
+    Tree(TreeAction),
+    /// It works on the accepted program of that tree.
+    Program(ProgramAction),
+    /// It has no file: it makes the demo program of so many functions, records its run, compiles it with this profile and runs it, and
+    /// writes how that went.
+    Demo { functions: u32 },
+}
+
+/// What is done with the tree of a file.
+#[derive(Clone, Copy, Drop)]
+pub enum FileAction {
+    /// Its canonical text is written.
     WriteText,
-    /// Writes its canonical JSON.
+    /// Its canonical JSON is written.
     WriteJson,
 }
 
-/// An action, the path of its file, empty where it has none, the list of passes, the path of the file with the profile, if one is
-/// named, and the arguments of the file's program.
+/// What is done with the tree of a file and of all that this imports.
+#[derive(Clone, Copy, Drop)]
+pub enum TreeAction {
+    /// It is written, in canonical text.
+    Link,
+}
+
+/// What is done with an accepted program.
+#[derive(Clone, Copy, Drop)]
+pub enum ProgramAction {
+    /// How many functions and items it has is written.
+    Check,
+    /// It is interpreted.
+    Interpret(InterpretSettings),
+    /// It is interpreted, and the profile of the run is written.
+    Record(RecordSettings),
+    /// It is given to a list of passes.
+    WithPasses(PassesAction),
+}
+
+/// What is done with the program that a list of passes makes.
+#[derive(Clone, Copy, Drop)]
+pub enum PassesAction {
+    /// It is run on the machine.
+    Run(RunSettings),
+    /// Its machine words are written, which are for these limits.
+    Emit { limits: Limits },
+    /// It is written, in canonical text.
+    Passes,
+}
+
+/// How a program is interpreted: under these limits, and for so many steps.
+#[derive(Clone, Copy, Drop)]
+pub struct InterpretSettings {
+    pub limits: Limits,
+    pub steps: u64,
+}
+
+/// How a program is recorded: under these limits, and for so many steps; so many arrivals make a label hot, and the profile has so many
+/// entries at most.
+#[derive(Clone, Copy, Drop)]
+pub struct RecordSettings {
+    pub limits: Limits,
+    pub steps: u64,
+    pub hot: u32,
+    pub most: u32,
+}
+
+/// How a program is run: under these limits, for so many words of the machine, and whether its counts are told.
+#[derive(Clone, Copy, Drop)]
+pub struct RunSettings {
+    pub limits: Limits,
+    pub steps: u64,
+    pub stats: bool,
+}
+
+/// An action, the path of its file, empty where it has none, the list of passes that the words give, the path of the file with the
+/// profile, if one is named, and the arguments of the file's program.
 #[derive(Clone, Copy, Drop)]
 pub struct Request<'a> {
     pub action: Action,

@@ -5,19 +5,23 @@ ghost use Rattle.std.specs.Option.{option_map};
 ghost use Rattle.std.specs.Result.{result_map_both};
 ghost use Rattle.clap.specs.Matches.{found_of};
 ghost use Rattle.clap.specs.Walk.{first_of, rows_of};
-ghost use Rattle.bril_words.specs.CommandLine.{action_of, in_range, is_true, list_for, list_of, texts_ask, texts_found, value_of};
+ghost use Rattle.bril_words.specs.CommandLine.{action_of, in_range, is_true, limits_of, list_of, texts_ask, texts_found, value_of, with_passes};
 ghost use Rattle.bril_words.specs.Names.{names_of};
 ghost use Rattle.bril_words.specs.Options.{option_name};
-ghost use Rattle.bril_words.specs.Request.{AreFunctions, AreLimits, AreRecorded, IsActionInRange};
+ghost use Rattle.bril_words.specs.Request.{AreFunctions, AreRecorded, AreSteps, IsActionInRange};
 ghost use Rattle.bril_words.specs.Seen.{misuse_seen, request_seen, text_seen};
 ghost use Rattle.bril_words.specs.declared.misuse.Misuse.TheVariants.{Value};
 
 use crate::misuse::Misuse;
 use crate::names::has_few_names;
 use crate::options::{Flag, Operand, Setting};
-use crate::request::{Action, Request};
+use crate::request::{
+    Action, FileAction, InterpretSettings, PassesAction, ProgramAction, RecordSettings, Request,
+    RunSettings, TreeAction,
+};
 use crate::subcommands::Subcommand;
 use bril_nums::read_int;
+use bril_tree::limits::Limits;
 use bril_tree::text::Text;
 use clap::ArgMatches;
 
@@ -50,14 +54,10 @@ pub const HOT: u32 = 16;
 /// The entries that a profile has at most, where no option says otherwise.
 pub const ENTRIES: u32 = 16;
 
-// The passes of the demo.
-const DEMO_PASSES: &str = "trace,const,dead,tidy";
-
-// The numbers of a run, and whether its counts are told.
+// The limits and numbers of a run, and whether its counts are told.
 #[derive(Clone, Copy, Drop)]
 pub(crate) struct Numbers {
-    pub(crate) frames: u32,
-    pub(crate) cells: u32,
+    pub(crate) limits: Limits,
     pub(crate) steps: u64,
     pub(crate) hot: u32,
     pub(crate) most: u32,
@@ -98,8 +98,7 @@ pub(crate) fn read_found<'a>(
     )
     .ok_or(Misuse::Functions)?;
     let numbers = Numbers {
-        frames: frames as u32,
-        cells: cells as u32,
+        limits: limits_of(frames as u32, cells as u32),
         steps,
         hot: hot as u32,
         most: most as u32,
@@ -109,7 +108,7 @@ pub(crate) fn read_found<'a>(
     Ok(Request {
         action: action_of(subcommand, numbers),
         path: found_text(found, Operand::File.id()).unwrap_or(""),
-        list: list_for(subcommand, list),
+        list,
         profile: found_text(found, Setting::Profile.name()),
         args,
     })
@@ -129,57 +128,65 @@ fn found_text<'a>(found: &ArgMatches<'a>, id: &str) -> Option<&'a str>
     found.get_str(id)
 }
 
+// The limits of so many frames and cells.
+fn limits_of(frames: u32, cells: u32) -> Limits
+    requires some_frames { 1 ≤ frames }
+    requires few_frames { frames ≤ 65536 }
+    requires some_cells { 1 ≤ cells }
+    requires few_cells { cells ≤ 4194304 }
+    ensures { result ≡ limits_of frames cells }
+{
+    Limits { frames, cells }
+}
+
 // The action of a command with these numbers.
 fn action_of(subcommand: Subcommand, numbers: Numbers) -> Action
-    requires limits { AreLimits numbers.frames numbers.cells numbers.steps }
+    requires steps { AreSteps numbers.steps }
     requires recorded { AreRecorded numbers.hot numbers.most }
     requires functions { AreFunctions numbers.functions }
     ensures is { result ≡ action_of subcommand numbers }
     ensures range { IsActionInRange result }
 {
+    let limits = numbers.limits;
+    let steps = numbers.steps;
     match subcommand {
-        Subcommand::Run => Action::Run {
-            frames: numbers.frames,
-            cells: numbers.cells,
-            steps: numbers.steps,
-            stats: numbers.stats,
-        },
-        Subcommand::Interp => Action::Interpret {
-            frames: numbers.frames,
-            cells: numbers.cells,
-            steps: numbers.steps,
-        },
-        Subcommand::Record => Action::Record {
-            frames: numbers.frames,
-            cells: numbers.cells,
-            steps: numbers.steps,
+        Subcommand::Run => {
+            let stats = numbers.stats;
+            with_passes(PassesAction::Run(RunSettings {
+                limits,
+                steps,
+                stats,
+            }))
+        }
+        Subcommand::Interp => {
+            Action::Program(ProgramAction::Interpret(InterpretSettings { limits, steps }))
+        }
+        Subcommand::Record => Action::Program(ProgramAction::Record(RecordSettings {
+            limits,
+            steps,
             hot: numbers.hot,
             most: numbers.most,
-        },
-        Subcommand::Emit => Action::Emit {
-            frames: numbers.frames,
-        },
-        Subcommand::Passes => Action::Passes,
-        Subcommand::Check => Action::Check,
-        Subcommand::Link => Action::Link,
-        Subcommand::WriteText => Action::WriteText,
-        Subcommand::WriteJson => Action::WriteJson,
+        })),
+        Subcommand::Emit => {
+            let limits = limits_of(limits.frames, CELLS);
+            with_passes(PassesAction::Emit { limits })
+        }
+        Subcommand::Passes => with_passes(PassesAction::Passes),
+        Subcommand::Check => Action::Program(ProgramAction::Check),
+        Subcommand::Link => Action::Tree(TreeAction::Link),
+        Subcommand::WriteText => Action::File(FileAction::WriteText),
+        Subcommand::WriteJson => Action::File(FileAction::WriteJson),
         Subcommand::Demo => Action::Demo {
             functions: numbers.functions,
         },
     }
 }
 
-// The list of passes that a command applies: the demo has one of its own.
-fn list_for<'a>(subcommand: Subcommand, list: &'a str) -> &'a str
-    requires { length (names_of list.now) ≤ 64 }
-    ensures is { result.now ≡ list_for subcommand list.now }
-    ensures few { length (names_of result.now) ≤ 64 }
+// What is done with the program that a list of passes makes.
+fn with_passes(action: PassesAction) -> Action
+    ensures { result ≡ with_passes action }
 {
-    match subcommand {
-        Subcommand::Demo => DEMO_PASSES,
-        _ => list,
-    }
+    Action::Program(ProgramAction::WithPasses(action))
 }
 
 // The list of passes: 64 names at most, and none where the option doesn't stand.
