@@ -3,7 +3,7 @@ use Rattle.std.proofs.Common.{◌≡◌, ℕ, ◌≤◌, sym, arith}
 use Rattle.std.proofs.Props.{props}
 use mathlib.Core.HLevel.{is_prop→PathP}
 use Rattle.bril_tree.specs.declared.limits.Limits.{Limits}
-use Rattle.bril_words.specs.CommandLine.{brought, limits_of}
+use Rattle.bril_words.specs.Defaults.{brought, limits_of}
 
 below-prop : (a b : ℕ) → IsProp (a ≤ b)
 below-prop a b = hlevel props

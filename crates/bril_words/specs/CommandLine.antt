@@ -1,34 +1,23 @@
 -- The words of a command line: what they ask for.
-use Rattle.std.specs.Prelude.{ℕ, ℤ, pos, negsuc, max, min, Bool, false, not, ◌&&◌, nat_le, List, [], ◌∷◌, Option, Some, None, Result, Ok, Err, if◌then◌else◌, codes, bytes_eq, unwrap_or}
-use Rattle.std.proofs.Common.{arith}
-use Rattle.std.proofs.Math.Nat.{le-max_left}
+use Rattle.std.specs.Prelude.{ℕ, ℤ, pos, negsuc, Bool, false, not, ◌&&◌, nat_le, List, [], ◌∷◌, Option, Some, None, Result, Ok, Err, if◌then◌else◌, codes, bytes_eq, unwrap_or}
 use Rattle.std.specs.List.{before_first, after_first}
 use Rattle.std.specs.Option.{option_map_or}
 use Rattle.bril_nums.specs.Decimal.{int_of}
-use Rattle.bril_tree.specs.declared.limits.Limits.{Limits}
 use Rattle.clap.specs.Faults.{fault_of}
 use Rattle.clap.specs.Simple.{subcommand_of}
 use Rattle.clap.specs.Walk.{Row, Text, first_of, is_empty}
 use Rattle.bril_words.specs.App.{whole_app}
-use Rattle.bril_words.specs.Defaults.{most_frames, most_cells, most_entries, most_functions, most_hot, most_steps, default_frames, default_cells, default_entries, default_hot, default_steps}
+use Rattle.bril_words.specs.Defaults.{most_frames, most_cells, most_entries, most_functions, most_hot, most_steps, default_frames, default_cells, default_entries, default_hot, default_steps, limits_of}
 use Rattle.bril_words.specs.Names.{has_few_names}
 use Rattle.bril_words.specs.Options.{option_name, flag_name, operand_id}
 use Rattle.bril_words.specs.Request.{Asked}
-use Rattle.bril_words.specs.Subcommands.{has_args, subcommand_named}
+use Rattle.bril_words.specs.Subcommands.{action_of, has_args, subcommand_named}
 use Rattle.bril_words.specs.declared.options.Flag.TheVariants.{Stats}
 use Rattle.bril_words.specs.declared.options.Operand.TheVariants.{File, Functions}
 use Rattle.bril_words.specs.declared.options.Setting.{Setting}
 use Rattle.bril_words.specs.declared.options.Setting.TheVariants.{Passes, Profile, Frames, Cells, Steps, Hot, Most}
-use Rattle.bril_words.specs.declared.request.Action.{Action}
-use Rattle.bril_words.specs.declared.request.Action.TheVariants as action
-use Rattle.bril_words.specs.declared.request.FileAction.TheVariants as file
-use Rattle.bril_words.specs.declared.request.PassesAction.{PassesAction}
-use Rattle.bril_words.specs.declared.request.PassesAction.TheVariants as passes
-use Rattle.bril_words.specs.declared.request.ProgramAction.TheVariants as program
-use Rattle.bril_words.specs.declared.request.TreeAction.TheVariants as tree
+use Rattle.bril_words.specs.declared.subcommands.Action.{Action}
 use Rattle.bril_words.specs.declared.subcommands.Subcommand.{Subcommand}
-use Rattle.bril_words.specs.declared.subcommands.Subcommand.TheVariants as subcommand
-use Rattle.bril_words.specs.declared.values.Numbers.{Numbers}
 
 -- ---- the cut at `--`
 
@@ -63,21 +52,6 @@ in_range most (Some (negsuc n)) = None
 abbrev pub value_of : ℕ → ℕ → Option (List ℕ) → Option ℕ
 value_of most default None = Some default
 value_of most default (Some text) = in_range most (int_of text)
-
--- a number brought into the range from 1 to the most
-abbrev pub brought : (most : ℕ) → ℕ → ℕ
-brought most n = max 1 (min n most)
-
--- the limits of so many frames and cells, each in its range
-unfoldable pub limits_of : (frames cells : ℕ) → Limits
-limits_of frames cells = record {
-  frames = brought most_frames frames;
-  cells = brought most_cells cells;
-  some_frames = le-max_left 1 (min frames most_frames);
-  few_frames = omega arith;
-  some_cells = le-max_left 1 (min cells most_cells);
-  few_cells = omega arith;
-}
 
 -- the list of passes, empty where it doesn't stand; it has 64 names at most
 abbrev pub list_of : Option (List ℕ) → Option (List ℕ)
@@ -124,23 +98,6 @@ pub data Refusal : Type 0 where
   not_taken : Refusal
   bad_value : Setting → Refusal
   bad_functions : Refusal
-
--- what is done with the program that a list of passes makes
-abbrev pub with_passes : PassesAction → Action
-with_passes does = action.Program (program.WithPasses does)
-
--- what a command does with these numbers
-abbrev pub action_of : Subcommand → Numbers → Action
-action_of subcommand.Run n = with_passes (passes.Run (record { limits = n.limits; steps = n.steps; stats = n.stats }))
-action_of subcommand.Interp n = action.Program (program.Interpret (record { limits = n.limits; steps = n.steps }))
-action_of subcommand.Record n = action.Program (program.Record (record { limits = n.limits; steps = n.steps; hot = n.hot; most = n.most }))
-action_of subcommand.Passes n = with_passes passes.Passes
-action_of subcommand.Emit n = with_passes (passes.Emit (limits_of n.limits.frames default_cells))
-action_of subcommand.Check n = action.Program program.Check
-action_of subcommand.Link n = action.Tree tree.Link
-action_of subcommand.WriteText n = action.File file.WriteText
-action_of subcommand.WriteJson n = action.File file.WriteJson
-action_of subcommand.Demo n = action.Demo n.functions
 
 -- an action on the file at a path, with this list of passes, this path of a profile and these arguments
 abbrev pub asked : Action → List ℕ → List ℕ → Option (List ℕ) → List (List ℕ) → Result Asked Refusal

@@ -1,11 +1,11 @@
 -- What words ask for.
 use Rattle.std.specs.Prelude.{ℕ, ◌≤◌, List, Option}
-use Rattle.bril_words.specs.declared.request.Action.{Action}
-use Rattle.bril_words.specs.declared.request.Action.TheVariants as action
-use Rattle.bril_words.specs.declared.request.PassesAction.{PassesAction}
-use Rattle.bril_words.specs.declared.request.PassesAction.TheVariants.{Run}
-use Rattle.bril_words.specs.declared.request.ProgramAction.{ProgramAction}
-use Rattle.bril_words.specs.declared.request.ProgramAction.TheVariants.{Interpret, Record, WithPasses}
+use Rattle.bril_words.specs.declared.subcommands.Action.{Action}
+use Rattle.bril_words.specs.declared.subcommands.Action.TheVariants as action
+use Rattle.bril_words.specs.declared.subcommands.PassesAction.{PassesAction}
+use Rattle.bril_words.specs.declared.subcommands.PassesAction.TheVariants.{Run}
+use Rattle.bril_words.specs.declared.subcommands.ProgramAction.{ProgramAction}
+use Rattle.bril_words.specs.declared.subcommands.ProgramAction.TheVariants.{Interpret, Record, WithPasses}
 
 -- an action, the path of its file, empty where it has none, the list of passes that the words give, the path of the file with the
 -- profile, if one is named, and the arguments of the file's program
@@ -45,3 +45,7 @@ abbrev pub IsActionInRange : Action → Type 0
 IsActionInRange (action.Program program) = IsProgramInRange program
 IsActionInRange (action.Demo functions) = AreFunctions functions
 IsActionInRange _ = Unit {0}
+
+-- what is done with the program that a list of passes makes
+abbrev pub with_passes : PassesAction → Action
+with_passes does = action.Program (WithPasses does)

@@ -1,61 +1,11 @@
-// What words ask for.
+// What words ask for, and the settings of runs.
 
+ghost use Rattle.std.specs.Prelude.{◌≡◌, ◌≤◌};
+ghost use Rattle.bril_words.specs.Defaults.{limits_of};
+
+use crate::subcommands::Action;
 use bril_tree::limits::Limits;
 use bril_tree::text::Text;
-
-/// What a command does, by what it works on.
-#[derive(Clone, Copy, Drop)]
-pub enum Action {
-    /// It works on the tree of its one file.
-    File(FileAction),
-    /// It works on the tree of its file and of all that this imports.
-    Tree(TreeAction),
-    /// It works on the accepted program of that tree.
-    Program(ProgramAction),
-    /// It has no file: it makes the demo program of so many functions, records its run, compiles it with this profile and runs it, and
-    /// writes how that went.
-    Demo { functions: u32 },
-}
-
-/// What is done with the tree of a file.
-#[derive(Clone, Copy, Drop)]
-pub enum FileAction {
-    /// Its canonical text is written.
-    WriteText,
-    /// Its canonical JSON is written.
-    WriteJson,
-}
-
-/// What is done with the tree of a file and of all that this imports.
-#[derive(Clone, Copy, Drop)]
-pub enum TreeAction {
-    /// It is written, in canonical text.
-    Link,
-}
-
-/// What is done with an accepted program.
-#[derive(Clone, Copy, Drop)]
-pub enum ProgramAction {
-    /// How many functions and items it has is written.
-    Check,
-    /// It is interpreted.
-    Interpret(InterpretSettings),
-    /// It is interpreted, and the profile of the run is written.
-    Record(RecordSettings),
-    /// It is given to a list of passes.
-    WithPasses(PassesAction),
-}
-
-/// What is done with the program that a list of passes makes.
-#[derive(Clone, Copy, Drop)]
-pub enum PassesAction {
-    /// It is run on the machine.
-    Run(RunSettings),
-    /// Its machine words are written, which are for these limits.
-    Emit { limits: Limits },
-    /// It is written, in canonical text.
-    Passes,
-}
 
 /// How a program is interpreted: under these limits, and for so many steps.
 #[derive(Clone, Copy, Drop)]
@@ -80,6 +30,28 @@ pub struct RunSettings {
     pub limits: Limits,
     pub steps: u64,
     pub stats: bool,
+}
+
+// What the words give for any command, or what is given by default.
+#[derive(Clone, Copy, Drop)]
+pub(crate) struct Numbers {
+    pub(crate) limits: Limits,
+    pub(crate) steps: u64,
+    pub(crate) hot: u32,
+    pub(crate) most: u32,
+    pub(crate) stats: bool,
+    pub(crate) functions: u32,
+}
+
+// The limits of so many frames and cells.
+pub(crate) fn limits_of(frames: u32, cells: u32) -> Limits
+    requires some_frames { 1 ≤ frames }
+    requires few_frames { frames ≤ 65536 }
+    requires some_cells { 1 ≤ cells }
+    requires few_cells { cells ≤ 4194304 }
+    ensures { result ≡ limits_of frames cells }
+{
+    Limits { frames, cells }
 }
 
 /// An action, the path of its file, empty where it has none, the list of passes that the words give, the path of the file with the

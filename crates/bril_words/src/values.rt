@@ -5,23 +5,19 @@ ghost use Rattle.std.specs.Option.{option_map};
 ghost use Rattle.std.specs.Result.{result_map_both};
 ghost use Rattle.clap.specs.Matches.{found_of};
 ghost use Rattle.clap.specs.Walk.{first_of, rows_of};
-ghost use Rattle.bril_words.specs.CommandLine.{action_of, in_range, is_true, limits_of, list_of, texts_ask, texts_found, value_of, with_passes};
+ghost use Rattle.bril_words.specs.CommandLine.{in_range, is_true, list_of, texts_ask, texts_found, value_of};
 ghost use Rattle.bril_words.specs.Names.{names_of};
 ghost use Rattle.bril_words.specs.Options.{option_name};
-ghost use Rattle.bril_words.specs.Request.{AreFunctions, AreRecorded, AreSteps, IsActionInRange};
+ghost use Rattle.bril_words.specs.Request.{IsActionInRange};
 ghost use Rattle.bril_words.specs.Seen.{misuse_seen, request_seen, text_seen};
 ghost use Rattle.bril_words.specs.declared.misuse.Misuse.TheVariants.{Value};
 
 use crate::misuse::Misuse;
 use crate::names::has_few_names;
 use crate::options::{Flag, Operand, Setting};
-use crate::request::{
-    Action, FileAction, InterpretSettings, PassesAction, ProgramAction, RecordSettings, Request,
-    RunSettings, TreeAction,
-};
+use crate::request::{Numbers, Request, limits_of};
 use crate::subcommands::Subcommand;
 use bril_nums::read_int;
-use bril_tree::limits::Limits;
 use bril_tree::text::Text;
 use clap::ArgMatches;
 
@@ -53,17 +49,6 @@ pub const HOT: u32 = 16;
 
 /// The entries that a profile has at most, where no option says otherwise.
 pub const ENTRIES: u32 = 16;
-
-// The limits and numbers of a run, and whether its counts are told.
-#[derive(Clone, Copy, Drop)]
-pub(crate) struct Numbers {
-    pub(crate) limits: Limits,
-    pub(crate) steps: u64,
-    pub(crate) hot: u32,
-    pub(crate) most: u32,
-    pub(crate) stats: bool,
-    pub(crate) functions: u32,
-}
 
 // What a command asks for, with what `clap` found for it and these arguments: its list of passes and its numbers, each what it is
 // by default where its option doesn't stand, and the path of its profile.
@@ -106,7 +91,7 @@ pub(crate) fn read_found<'a>(
         functions: functions as u32,
     };
     Ok(Request {
-        action: action_of(subcommand, numbers),
+        action: subcommand.action(numbers),
         path: found_text(found, Operand::File.id()).unwrap_or(""),
         list,
         profile: found_text(found, Setting::Profile.name()),
@@ -126,67 +111,6 @@ fn found_text<'a>(found: &ArgMatches<'a>, id: &str) -> Option<&'a str>
     ensures { text_seen result ≡ first_of id.now (rows_of (found_of found.now)) }
 {
     found.get_str(id)
-}
-
-// The limits of so many frames and cells.
-fn limits_of(frames: u32, cells: u32) -> Limits
-    requires some_frames { 1 ≤ frames }
-    requires few_frames { frames ≤ 65536 }
-    requires some_cells { 1 ≤ cells }
-    requires few_cells { cells ≤ 4194304 }
-    ensures { result ≡ limits_of frames cells }
-{
-    Limits { frames, cells }
-}
-
-// The action of a command with these numbers.
-fn action_of(subcommand: Subcommand, numbers: Numbers) -> Action
-    requires steps { AreSteps numbers.steps }
-    requires recorded { AreRecorded numbers.hot numbers.most }
-    requires functions { AreFunctions numbers.functions }
-    ensures is { result ≡ action_of subcommand numbers }
-    ensures range { IsActionInRange result }
-{
-    let limits = numbers.limits;
-    let steps = numbers.steps;
-    match subcommand {
-        Subcommand::Run => {
-            let stats = numbers.stats;
-            with_passes(PassesAction::Run(RunSettings {
-                limits,
-                steps,
-                stats,
-            }))
-        }
-        Subcommand::Interp => {
-            Action::Program(ProgramAction::Interpret(InterpretSettings { limits, steps }))
-        }
-        Subcommand::Record => Action::Program(ProgramAction::Record(RecordSettings {
-            limits,
-            steps,
-            hot: numbers.hot,
-            most: numbers.most,
-        })),
-        Subcommand::Emit => {
-            let limits = limits_of(limits.frames, CELLS);
-            with_passes(PassesAction::Emit { limits })
-        }
-        Subcommand::Passes => with_passes(PassesAction::Passes),
-        Subcommand::Check => Action::Program(ProgramAction::Check),
-        Subcommand::Link => Action::Tree(TreeAction::Link),
-        Subcommand::WriteText => Action::File(FileAction::WriteText),
-        Subcommand::WriteJson => Action::File(FileAction::WriteJson),
-        Subcommand::Demo => Action::Demo {
-            functions: numbers.functions,
-        },
-    }
-}
-
-// What is done with the program that a list of passes makes.
-fn with_passes(action: PassesAction) -> Action
-    ensures { result ≡ with_passes action }
-{
-    Action::Program(ProgramAction::WithPasses(action))
 }
 
 // The list of passes: 64 names at most, and none where the option doesn't stand.
