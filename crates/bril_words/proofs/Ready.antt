@@ -12,7 +12,7 @@ use Rattle.bril_words.specs.declared.subcommands.Subcommand.TheVariants as subco
 use Rattle.bril_words.specs.declared.options.Operand.{Operand}
 use Rattle.bril_words.specs.App.{subcommand_shape, whole_app}
 use Rattle.bril_words.specs.Options.{option_name, flag_name, operand_id}
-use Rattle.bril_words.specs.Subcommands.{name_of, options_of, flags_of, operands_of}
+use Rattle.bril_words.specs.Subcommands.{name_of, options_of, flags_of, operands_of, subcommand_named}
 use Rattle.bril_words.proofs.Pieces.{AllOf, HasFlag, HasOption, HaveOperands}
 
 -- a rule without a default, or with one that passes
@@ -33,6 +33,7 @@ spares id a = is_empty a.defaults || not (bytes_eq a.id id)
 
 pub record Ready (s : Shape) (c : Subcommand) : Type 0 where
   pub name : s.name ≡ name_of c
+  pub named : subcommand_named (name_of c) ≡ Some c
   pub options : AllOf (λ x. HasOption s (option_name x)) (options_of c)
   pub flags : AllOf (λ x. HasFlag s (flag_name x)) (flags_of c)
   pub operands : HaveOperands s 1 (operands_of c)
@@ -49,16 +50,16 @@ abbrev pub ready_shape : Subcommand → Shape
 ready_shape c = built_leaf (inherited (with_leaf_noted (marked_built top_shape)) (subcommand_shape c))
 
 pub ready : (c : Subcommand) → Ready (ready_shape c) c
-ready subcommand.Run = record { name = refl; options = (record { long = refl; by_id = refl }, (record { long = refl; by_id = refl }, (record { long = refl; by_id = refl }, (record { long = refl; by_id = refl }, (record { long = refl; by_id = refl }, tt))))); flags = (refl, tt); operands = (record { by_index = refl; by_id = refl }, tt); harmless = refl; quiet = refl; others = λ id e. rw e refl; check = λ rows given. rw given.0 refl }
-ready subcommand.Interp = record { name = refl; options = (record { long = refl; by_id = refl }, (record { long = refl; by_id = refl }, (record { long = refl; by_id = refl }, tt))); flags = tt; operands = (record { by_index = refl; by_id = refl }, tt); harmless = refl; quiet = refl; others = λ id e. refl; check = λ rows given. rw given.0 refl }
-ready subcommand.Record = record { name = refl; options = (record { long = refl; by_id = refl }, (record { long = refl; by_id = refl }, (record { long = refl; by_id = refl }, (record { long = refl; by_id = refl }, (record { long = refl; by_id = refl }, tt))))); flags = tt; operands = (record { by_index = refl; by_id = refl }, tt); harmless = refl; quiet = refl; others = λ id e. refl; check = λ rows given. rw given.0 refl }
-ready subcommand.Passes = record { name = refl; options = (record { long = refl; by_id = refl }, (record { long = refl; by_id = refl }, tt)); flags = tt; operands = (record { by_index = refl; by_id = refl }, tt); harmless = refl; quiet = refl; others = λ id e. refl; check = λ rows given. rw given.0 refl }
-ready subcommand.Emit = record { name = refl; options = (record { long = refl; by_id = refl }, (record { long = refl; by_id = refl }, (record { long = refl; by_id = refl }, tt))); flags = tt; operands = (record { by_index = refl; by_id = refl }, tt); harmless = refl; quiet = refl; others = λ id e. refl; check = λ rows given. rw given.0 refl }
-ready subcommand.Check = record { name = refl; options = tt; flags = tt; operands = (record { by_index = refl; by_id = refl }, tt); harmless = refl; quiet = refl; others = λ id e. refl; check = λ rows given. rw given.0 refl }
-ready subcommand.Link = record { name = refl; options = tt; flags = tt; operands = (record { by_index = refl; by_id = refl }, tt); harmless = refl; quiet = refl; others = λ id e. refl; check = λ rows given. rw given.0 refl }
-ready subcommand.WriteText = record { name = refl; options = tt; flags = tt; operands = (record { by_index = refl; by_id = refl }, tt); harmless = refl; quiet = refl; others = λ id e. refl; check = λ rows given. rw given.0 refl }
-ready subcommand.WriteJson = record { name = refl; options = tt; flags = tt; operands = (record { by_index = refl; by_id = refl }, tt); harmless = refl; quiet = refl; others = λ id e. refl; check = λ rows given. rw given.0 refl }
-ready subcommand.Demo = record { name = refl; options = tt; flags = tt; operands = (record { by_index = refl; by_id = refl }, tt); harmless = refl; quiet = refl; others = λ id e. refl; check = λ rows given. rw given.0 refl }
+ready subcommand.Run = record { name = refl; named = refl; options = (record { long = refl; by_id = refl }, (record { long = refl; by_id = refl }, (record { long = refl; by_id = refl }, (record { long = refl; by_id = refl }, (record { long = refl; by_id = refl }, tt))))); flags = (refl, tt); operands = (record { by_index = refl; by_id = refl }, tt); harmless = refl; quiet = refl; others = λ id e. rw e refl; check = λ rows given. rw given.0 refl }
+ready subcommand.Interp = record { name = refl; named = refl; options = (record { long = refl; by_id = refl }, (record { long = refl; by_id = refl }, (record { long = refl; by_id = refl }, tt))); flags = tt; operands = (record { by_index = refl; by_id = refl }, tt); harmless = refl; quiet = refl; others = λ id e. refl; check = λ rows given. rw given.0 refl }
+ready subcommand.Record = record { name = refl; named = refl; options = (record { long = refl; by_id = refl }, (record { long = refl; by_id = refl }, (record { long = refl; by_id = refl }, (record { long = refl; by_id = refl }, (record { long = refl; by_id = refl }, tt))))); flags = tt; operands = (record { by_index = refl; by_id = refl }, tt); harmless = refl; quiet = refl; others = λ id e. refl; check = λ rows given. rw given.0 refl }
+ready subcommand.Passes = record { name = refl; named = refl; options = (record { long = refl; by_id = refl }, (record { long = refl; by_id = refl }, tt)); flags = tt; operands = (record { by_index = refl; by_id = refl }, tt); harmless = refl; quiet = refl; others = λ id e. refl; check = λ rows given. rw given.0 refl }
+ready subcommand.Emit = record { name = refl; named = refl; options = (record { long = refl; by_id = refl }, (record { long = refl; by_id = refl }, (record { long = refl; by_id = refl }, tt))); flags = tt; operands = (record { by_index = refl; by_id = refl }, tt); harmless = refl; quiet = refl; others = λ id e. refl; check = λ rows given. rw given.0 refl }
+ready subcommand.Check = record { name = refl; named = refl; options = tt; flags = tt; operands = (record { by_index = refl; by_id = refl }, tt); harmless = refl; quiet = refl; others = λ id e. refl; check = λ rows given. rw given.0 refl }
+ready subcommand.Link = record { name = refl; named = refl; options = tt; flags = tt; operands = (record { by_index = refl; by_id = refl }, tt); harmless = refl; quiet = refl; others = λ id e. refl; check = λ rows given. rw given.0 refl }
+ready subcommand.WriteText = record { name = refl; named = refl; options = tt; flags = tt; operands = (record { by_index = refl; by_id = refl }, tt); harmless = refl; quiet = refl; others = λ id e. refl; check = λ rows given. rw given.0 refl }
+ready subcommand.WriteJson = record { name = refl; named = refl; options = tt; flags = tt; operands = (record { by_index = refl; by_id = refl }, tt); harmless = refl; quiet = refl; others = λ id e. refl; check = λ rows given. rw given.0 refl }
+ready subcommand.Demo = record { name = refl; named = refl; options = tt; flags = tt; operands = (record { by_index = refl; by_id = refl }, tt); harmless = refl; quiet = refl; others = λ id e. refl; check = λ rows given. rw given.0 refl }
 
 -- ---- all commands
 

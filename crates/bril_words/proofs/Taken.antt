@@ -1,5 +1,5 @@
 -- Words that `clap` takes name a command.
-use Rattle.std.proofs.Common.{◌≡◌, ◌∙◌, refl, sym, ap, Bool, true, false, not, List, [], ◌∷◌, drop, Option, Some, None, is_some, cond, Result, Err, true≢false}
+use Rattle.std.proofs.Common.{◌≡◌, ◌∙◌, refl, sym, ap, Bool, true, false, not, List, [], ◌∷◌, map, drop, Option, Some, None, is_some, cond, Result, Err, true≢false}
 use Rattle.std.proofs.lemmas.Bool.{not-false}
 use Rattle.std.specs.Prelude.{find}
 use Rattle.std.specs.Option.{option_map}
@@ -13,13 +13,13 @@ use Rattle.clap.proofs.SimpleLemmas.{is_nil}
 use Rattle.bril_words.specs.App.{whole_app}
 use Rattle.bril_words.specs.CommandLine.{Refusal, or_bad, or_bad_functions, Texts, arg_words, given_words, is_refused, list_of, matched, matches_ask, not_taken, texts_ask, texts_found, value_of, words_ask}
 use Rattle.bril_words.specs.Request.{Asked}
-use Rattle.bril_words.specs.Subcommands.{subcommand_named}
+use Rattle.bril_words.specs.Subcommands.{subcommand_named, subcommands}
 use Rattle.bril_words.specs.declared.subcommands.Subcommand.{Subcommand}
-use Rattle.bril_words.specs.declared.subcommands.Subcommand.TheVariants as subcommand
 use Rattle.bril_words.specs.Defaults.{most_frames, most_functions, most_cells, most_entries, most_hot, most_steps, default_frames, default_cells, default_entries, default_hot, default_steps}
 use Rattle.bril_words.specs.declared.options.Setting.{Setting}
 use Rattle.bril_words.specs.declared.options.Setting.TheVariants.{Passes, Frames, Cells, Steps, Hot, Most}
 use Rattle.bril_words.proofs.Pieces.{AllOf}
+use Rattle.bril_words.proofs.Ready.{ready, ready_shape}
 
 both_nil : (a b : Kinds) → or_else a b ≡ [] → (a ≡ []) × (b ≡ [])
 both_nil [] b e = (refl, e)
@@ -29,10 +29,13 @@ both_nil (k ∷ ks) b e = cc
 abbrev IsCommand : Shape → Type 0
 IsCommand s = (c : Subcommand) × (subcommand_named s.name ≡ Some c)
 
+commands_of : (cs : List Subcommand) → AllOf IsCommand (map ready_shape cs)
+commands_of [] = tt
+commands_of (c ∷ cs) = ((c, ap subcommand_named (ready c).name ∙ (ready c).named), commands_of cs)
+
 whole_commands : AllOf IsCommand (built whole_app).subs
 unfolding whole_app
-whole_commands =
-    ((subcommand.Run, refl), ((subcommand.Interp, refl), ((subcommand.Record, refl), ((subcommand.Passes, refl), ((subcommand.Emit, refl), ((subcommand.Check, refl), ((subcommand.Link, refl), ((subcommand.WriteText, refl), ((subcommand.WriteJson, refl), ((subcommand.Demo, refl), tt))))))))))
+whole_commands = commands_of subcommands
 
 whole_wants : ((built whole_app).top.subcommand_required ≡ true) × ((built whole_app).top.arg_required_else_help ≡ false)
 unfolding whole_app

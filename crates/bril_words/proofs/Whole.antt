@@ -23,7 +23,6 @@ use Rattle.bril_words.specs.declared.options.Operand.{Operand}
 use Rattle.bril_words.specs.declared.options.Operand.TheVariants.{File, Functions}
 use Rattle.bril_words.specs.declared.options.Setting.TheVariants.{Passes, Profile, Frames, Cells, Steps, Hot, Most}
 use Rattle.bril_words.specs.declared.subcommands.Subcommand.{Subcommand}
-use Rattle.bril_words.specs.declared.subcommands.Subcommand.TheVariants as subcommand
 use Rattle.bril_words.proofs.Defaults.{defaults_harmless, defaults_kept, defaults_quiet, defaults_spared, find_id}
 use Rattle.bril_words.proofs.Found.{all_operands, first_found, given_there, operand_there}
 use Rattle.bril_words.proofs.Fresh.{OperandsDiffer, are_new}
@@ -133,40 +132,10 @@ no_end c (flag x ∷ ps) fit = rw ((flag_word x).dash) (no_end c ps fit.1)
 no_end c (operand v ∷ ps) fit = rw ((plain_word_is v fit.0).dash) (no_end c ps fit.1)
 
 operands_differ : (c : Subcommand) → OperandsDiffer (operands_of c)
-operands_differ subcommand.Run = (tt, tt)
-operands_differ subcommand.Interp = (tt, tt)
-operands_differ subcommand.Record = (tt, tt)
-operands_differ subcommand.Passes = (tt, tt)
-operands_differ subcommand.Emit = (tt, tt)
-operands_differ subcommand.Check = (tt, tt)
-operands_differ subcommand.Link = (tt, tt)
-operands_differ subcommand.WriteText = (tt, tt)
-operands_differ subcommand.WriteJson = (tt, tt)
-operands_differ subcommand.Demo = (tt, tt)
+operands_differ c = (tt, tt)
 
 takes_args_is : (c : Subcommand) → takes_args (name_of c) ≡ has_args c
-takes_args_is subcommand.Run = refl
-takes_args_is subcommand.Interp = refl
-takes_args_is subcommand.Record = refl
-takes_args_is subcommand.Passes = refl
-takes_args_is subcommand.Emit = refl
-takes_args_is subcommand.Check = refl
-takes_args_is subcommand.Link = refl
-takes_args_is subcommand.WriteText = refl
-takes_args_is subcommand.WriteJson = refl
-takes_args_is subcommand.Demo = refl
-
-named_is : (c : Subcommand) → subcommand_named (name_of c) ≡ Some c
-named_is subcommand.Run = refl
-named_is subcommand.Interp = refl
-named_is subcommand.Record = refl
-named_is subcommand.Passes = refl
-named_is subcommand.Emit = refl
-named_is subcommand.Check = refl
-named_is subcommand.Link = refl
-named_is subcommand.WriteText = refl
-named_is subcommand.WriteJson = refl
-named_is subcommand.Demo = refl
+takes_args_is c = ap (λ (o : Option Subcommand). option_map_or has_args o false) (ready c).named
 
 -- ---- the cut
 
@@ -298,5 +267,5 @@ plain_asks words c ps args line =
     ap words_ask line.words_are ∙ asks_is (line.program ∷ name_of c ∷ (written ps ++ line.tail))
     ∙ ap₂ asks_of (given_is line.program c ps args line.tail line.fit line.ends) (args_are line.program c ps args line.tail line.fit line.ends)
     ∙ asks_taken (line.program ∷ name_of c ∷ written ps) args c (ready_shape c) (written ps) (taken c ps line.fit line.once line.operands line.program)
-    (rows c ps line.fit line.once line.operands line.program) (ap subcommand_named (ready c).name ∙ named_is c)
+    (rows c ps line.fit line.once line.operands line.program) (ap subcommand_named (ready c).name ∙ (ready c).named)
     ∙ ap (texts_ask c args) (texts_same c ps line.fit line.once line.operands)

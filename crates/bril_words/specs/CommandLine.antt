@@ -7,20 +7,17 @@ use Rattle.clap.specs.Faults.{fault_of}
 use Rattle.clap.specs.Simple.{subcommand_of}
 use Rattle.clap.specs.Walk.{Row, Text, first_of, is_empty}
 use Rattle.bril_words.specs.App.{whole_app}
-use Rattle.bril_words.specs.Defaults.{most_frames, most_cells, most_entries, most_functions, most_hot, most_steps, default_frames, default_cells, default_entries, default_hot, default_steps}
+use Rattle.bril_words.specs.Defaults.{most_frames, most_cells, most_entries, most_functions, most_hot, most_steps, default_frames, default_cells, default_entries, default_hot, default_steps, limits_of}
 use Rattle.bril_words.specs.Names.{has_few_names}
 use Rattle.bril_words.specs.Options.{option_name, flag_name, operand_id}
 use Rattle.bril_words.specs.Request.{Asked}
-use Rattle.bril_words.specs.Subcommands.{has_args, subcommand_named}
+use Rattle.bril_words.specs.Subcommands.{action_of, has_args, subcommand_named}
 use Rattle.bril_words.specs.declared.options.Flag.TheVariants.{Stats}
 use Rattle.bril_words.specs.declared.options.Operand.TheVariants.{File, Functions}
 use Rattle.bril_words.specs.declared.options.Setting.{Setting}
 use Rattle.bril_words.specs.declared.options.Setting.TheVariants.{Passes, Profile, Frames, Cells, Steps, Hot, Most}
-use Rattle.bril_words.specs.declared.request.Action.{Action}
-use Rattle.bril_words.specs.declared.request.Action.TheVariants as action
+use Rattle.bril_words.specs.declared.subcommands.Action.{Action}
 use Rattle.bril_words.specs.declared.subcommands.Subcommand.{Subcommand}
-use Rattle.bril_words.specs.declared.subcommands.Subcommand.TheVariants as subcommand
-use Rattle.bril_words.specs.declared.values.Numbers.{Numbers}
 
 -- ---- the cut at `--`
 
@@ -102,24 +99,6 @@ pub data Refusal : Type 0 where
   bad_value : Setting → Refusal
   bad_functions : Refusal
 
--- what a command does with these numbers
-abbrev pub action_of : Subcommand → Numbers → Action
-action_of subcommand.Run n = action.Run n.frames n.cells n.steps n.stats
-action_of subcommand.Interp n = action.Interpret n.frames n.cells n.steps
-action_of subcommand.Record n = action.Record n.frames n.cells n.steps n.hot n.most
-action_of subcommand.Passes n = action.Passes
-action_of subcommand.Emit n = action.Emit n.frames
-action_of subcommand.Check n = action.Check
-action_of subcommand.Link n = action.Link
-action_of subcommand.WriteText n = action.WriteText
-action_of subcommand.WriteJson n = action.WriteJson
-action_of subcommand.Demo n = action.Demo n.functions
-
--- the list of passes that a command applies: the demo has one of its own
-abbrev pub list_for : Subcommand → List ℕ → List ℕ
-list_for subcommand.Demo list = codes "trace,const,dead,tidy"
-list_for _ list = list
-
 -- an action on the file at a path, with this list of passes, this path of a profile and these arguments
 abbrev pub asked : Action → List ℕ → List ℕ → Option (List ℕ) → List (List ℕ) → Result Asked Refusal
 asked act path list profile args = Ok (record { action = act; path = path; list = list; profile = profile; args = args })
@@ -143,8 +122,8 @@ texts_ask c args t =
     or_bad Hot (value_of most_hot default_hot t.hot) (λ hot.
     or_bad Most (value_of most_entries default_entries t.most) (λ most.
     or_bad_functions (value_of most_functions 1 t.functions) (λ functions.
-    asked (action_of c (record { frames = frames; cells = cells; steps = steps; hot = hot; most = most; stats = t.stats; functions = functions }))
-    (unwrap_or t.file []) (list_for c list) t.profile args)))))))
+    asked (action_of c (record { limits = limits_of frames cells; steps = steps; hot = hot; most = most; stats = t.stats; functions = functions }))
+    (unwrap_or t.file []) list t.profile args)))))))
 
 -- ---- what the matches of `clap` ask for
 

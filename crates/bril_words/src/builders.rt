@@ -6,7 +6,7 @@ ghost use Rattle.clap.specs.Simple.{App};
 ghost use Rattle.bril_words.specs.App.{HasApp, bare_app, flag_rule, operand_rule, option_rule, subcommand_app, whole_app, with_rules, with_subcommands};
 
 use crate::options::{Flag, Operand, Setting};
-use crate::subcommands::{SUBCOMMANDS, Subcommand};
+use crate::subcommands::{Form, SUBCOMMANDS, Subcommand};
 use clap::{Arg, ArgAction, Command};
 use std::alloc::{AllocError, Global};
 
@@ -50,47 +50,23 @@ fn with_subcommands<'a>(
 fn command_of<'a>(alloc: Global, subcommand: Subcommand) -> Result<Command<'a>, AllocError>
     ensures { IfOk result (HasApp (subcommand_app subcommand)) }
 {
-    let command = with_help(Command::new(alloc, subcommand.name()), subcommand);
-    let command = with_operands(alloc, command, subcommand.operands())?;
-    let command = with_options(alloc, command, subcommand.options())?;
-    with_flags(alloc, command, subcommand.flags())
+    let form = subcommand.form();
+    let command = with_help(Command::new(alloc, form.name), form);
+    let command = command.arg(operand_arg(alloc, form.operand))?;
+    let command = with_options(alloc, command, form.options)?;
+    with_flags(alloc, command, form.flags)
 }
 
 // The command with its texts for help. `clap` knows nothing of the arguments of a program, so they stand in the usage line of
 // those that take some.
-fn with_help<'a>(command: Command<'a>, subcommand: Subcommand) -> Command<'a>
+fn with_help<'a>(command: Command<'a>, form: Form<'a>) -> Command<'a>
     ensures { (a : App) → HasApp a command.entry → HasApp a result }
 {
-    let command = command
-        .about(subcommand.about())
-        .after_help(subcommand.example());
-    match subcommand {
-        Subcommand::Run => command.override_usage("roolvist run [OPTIONS] <FILE> [-- ARGS]"),
-        Subcommand::Interp => command.override_usage("roolvist interp [OPTIONS] <FILE> [-- ARGS]"),
-        Subcommand::Record => command.override_usage("roolvist record [OPTIONS] <FILE> [-- ARGS]"),
-        Subcommand::Passes
-        | Subcommand::Emit
-        | Subcommand::Check
-        | Subcommand::Link
-        | Subcommand::WriteText
-        | Subcommand::WriteJson
-        | Subcommand::Demo => command,
+    let command = command.about(form.about).after_help(form.example);
+    match form.usage {
+        Some(usage) => command.override_usage(usage),
+        None => command,
     }
-}
-
-// The command with these operands more.
-fn with_operands<'a>(
-    alloc: Global,
-    command: Command<'a>,
-    operands: &[Operand],
-) -> Result<Command<'a>, AllocError>
-    ensures { IfOk result (λ c. (a : App) → HasApp a command.entry → HasApp (with_rules a (map operand_rule operands.now)) c) }
-{
-    let mut command = command;
-    for operand in operands {
-        command = command.arg(operand_arg(alloc, *operand))?;
-    }
-    Ok(command)
 }
 
 // The command with these options more.

@@ -2,8 +2,8 @@
 //!
 //! 1. What words ask for (`specs/CommandLine.antt`), which words `clap` takes for certain (`specs/Plain.antt`), and the
 //!    commands as `clap` knows them (`specs/App.antt`).
-//! 2. Tables of the commands, and of what stands after them (`src/subcommands.rt`, `src/options.rt`), and what `clap` is told
-//!    of them (`src/builders.rt`).
+//! 2. The commands, by what they work on, and a record of the words of each (`src/subcommands.rt`), what may stand after them
+//!    (`src/options.rt`), and what `clap` is told of them (`src/builders.rt`).
 //! 3. The words cut and given to `clap` (`src/words.rt`), and the numbers and lists of its matches (`src/values.rt`,
 //!    `src/names.rt`).
 //! 4. What comes of it: a request (`src/request.rt`) or a misuse (`src/misuse.rt`).
@@ -21,6 +21,7 @@ mod words;
 pub use misuse::Misuse;
 pub use names::names_of;
 pub use options::Setting;
-pub use request::{Action, Request};
+pub use request::{InterpretSettings, RecordSettings, Request, RunSettings};
+pub use subcommands::{Action, FileAction, PassesAction, ProgramAction, TreeAction};
 pub use values::{CELLS, ENTRIES, FRAMES, HOT, STEPS};
 pub use words::read_words;

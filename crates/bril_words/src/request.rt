@@ -1,56 +1,61 @@
-// What words ask for.
+// What words ask for, and the settings of runs.
 
+ghost use Rattle.std.specs.Prelude.{◌≡◌, ◌≤◌};
+ghost use Rattle.bril_words.specs.Defaults.{limits_of};
+
+use crate::subcommands::Action;
+use bril_tree::limits::Limits;
 use bril_tree::text::Text;
 
-/// What a command does with its file.
-#[derive(Clone, Copy, PartialEq, Eq, Debug, Drop)]
-pub enum Action {
-    /// Runs its program on the machine, with so many frames and cells at most and so many words, and tells the counts of
-    /// the run or doesn't.
-    Run {
-        frames: u32,
-        cells: u32,
-        steps: u64,
-        stats: bool,
-    },
-    /// Interprets its program, with so many frames and cells at most and so many steps.
-    Interpret {
-        frames: u32,
-        cells: u32,
-        steps: u64,
-    },
-    /// Interprets its program, with so many frames and cells at most and so many steps, and writes the profile of the run: a
-    /// label that was arrived at `hot` times has an entry, and there are `most` entries at most.
-    Record {
-        frames: u32,
-        cells: u32,
-        steps: u64,
-        hot: u32,
-        most: u32,
-    },
-    /// Writes the machine words of its program, with so many frames at most.
-    Emit {
-        frames: u32,
-    },
-    /// Writes its program after the passes.
-    Passes,
-    /// Writes how many functions and items its program has, where it is accepted.
-    Check,
-    /// Writes its program and all that this imports as one tree, in canonical text.
-    Link,
-    /// Makes the demo program of so many functions, records its run, compiles it with this profile and runs it, and writes how that went.
-    /// It has no file.
-    Demo {
-        functions: u32,
-    },
-    /// Writes its canonical text.
-    WriteText,
-    /// Writes its canonical JSON.
-    WriteJson,
+/// How a program is interpreted: under these limits, and for so many steps.
+#[derive(Clone, Copy, Drop)]
+pub struct InterpretSettings {
+    pub limits: Limits,
+    pub steps: u64,
 }
 
-/// An action, the path of its file, empty where it has none, the list of passes, the path of the file with the profile, if one is
-/// named, and the arguments of the file's program.
+/// How a program is recorded: under these limits, and for so many steps; so many arrivals make a label hot, and the profile has so many
+/// entries at most.
+#[derive(Clone, Copy, Drop)]
+pub struct RecordSettings {
+    pub limits: Limits,
+    pub steps: u64,
+    pub hot: u32,
+    pub most: u32,
+}
+
+/// How a program is run: under these limits, for so many words of the machine, and whether its counts are told.
+#[derive(Clone, Copy, Drop)]
+pub struct RunSettings {
+    pub limits: Limits,
+    pub steps: u64,
+    pub stats: bool,
+}
+
+// What the words give for any command, or what is given by default.
+#[derive(Clone, Copy, Drop)]
+pub(crate) struct Numbers {
+    pub(crate) limits: Limits,
+    pub(crate) steps: u64,
+    pub(crate) hot: u32,
+    pub(crate) most: u32,
+    pub(crate) stats: bool,
+    pub(crate) functions: u32,
+}
+
+// The limits of so many frames and cells.
+pub(crate) fn limits_of(frames: u32, cells: u32) -> Limits
+    requires some_frames { 1 ≤ frames }
+    requires few_frames { frames ≤ 65536 }
+    requires some_cells { 1 ≤ cells }
+    requires few_cells { cells ≤ 4194304 }
+    ensures { result ≡ limits_of frames cells }
+{
+    Limits { frames, cells }
+}
+
+/// An action, the path of its file, empty where it has none, the list of passes that the words give, the path of the file with the
+/// profile, if one is named, and the arguments of the file's program.
 #[derive(Clone, Copy, Drop)]
 pub struct Request<'a> {
     pub action: Action,

@@ -1,9 +1,68 @@
-// The commands, which are subcommands to `clap`, and what each takes. A new one is a row in each function here.
+// The commands, which are subcommands to `clap`: what each does, and a record of its words.
 
-ghost use Rattle.std.specs.Prelude.{◌≡◌};
-ghost use Rattle.bril_words.specs.Subcommands.{name_of, options_of, flags_of, operands_of, has_args, subcommand_named};
+ghost use Rattle.std.specs.Prelude.{◌≡◌, find, is_some};
+ghost use Rattle.std.specs.Str.{bytes_eq};
+ghost use Rattle.bril_words.specs.Request.{AreFunctions, AreRecorded, AreSteps, IsActionInRange, with_passes};
+ghost use Rattle.bril_words.specs.Subcommands.{action_of, form_of, name_of, subcommand_named};
 
 use crate::options::{Flag, Operand, Setting};
+use crate::request::{InterpretSettings, Numbers, RecordSettings, RunSettings, limits_of};
+use crate::values::CELLS;
+use bril_tree::limits::Limits;
+
+/// What a command does, by what it works on.
+#[derive(Clone, Copy, Drop)]
+pub enum Action {
+    /// It works on the tree of its one file.
+    File(FileAction),
+    /// It works on the tree of its file and of all that this imports.
+    Tree(TreeAction),
+    /// It works on the accepted program of that tree.
+    Program(ProgramAction),
+    /// It has no file: it makes the demo program of so many functions, records its run, compiles it with this profile and runs it, and
+    /// writes how that went.
+    Demo { functions: u32 },
+}
+
+/// What is done with the tree of a file.
+#[derive(Clone, Copy, Drop)]
+pub enum FileAction {
+    /// Its canonical text is written.
+    WriteText,
+    /// Its canonical JSON is written.
+    WriteJson,
+}
+
+/// What is done with the tree of a file and of all that this imports.
+#[derive(Clone, Copy, Drop)]
+pub enum TreeAction {
+    /// It is written, in canonical text.
+    Link,
+}
+
+/// What is done with an accepted program.
+#[derive(Clone, Copy, Drop)]
+pub enum ProgramAction {
+    /// How many functions and items it has is written.
+    Check,
+    /// It is interpreted.
+    Interpret(InterpretSettings),
+    /// It is interpreted, and the profile of the run is written.
+    Record(RecordSettings),
+    /// It is given to a list of passes.
+    WithPasses(PassesAction),
+}
+
+/// What is done with the program that a list of passes makes.
+#[derive(Clone, Copy, Drop)]
+pub enum PassesAction {
+    /// It is run on the machine.
+    Run(RunSettings),
+    /// Its machine words are written, which are for these limits.
+    Emit { limits: Limits },
+    /// It is written, in canonical text.
+    Passes,
+}
 
 // A command.
 #[derive(Clone, Copy, PartialEq, Eq, Debug, Drop)]
@@ -34,6 +93,25 @@ pub(crate) const SUBCOMMANDS: [Subcommand; 10] = [
     Subcommand::Demo,
 ];
 
+// The words of a command, and what help tells of it.
+#[derive(Clone, Copy, Drop)]
+pub(crate) struct Form<'a> {
+    // Its own word.
+    pub(crate) name: &'a str,
+    // The word that it wants.
+    pub(crate) operand: Operand,
+    // Its options with a value.
+    pub(crate) options: &'a [Setting],
+    // Its options without one.
+    pub(crate) flags: &'a [Flag],
+    // Its usage line, where it takes `--` and arguments, of which `clap` knows nothing.
+    pub(crate) usage: Option<&'a str>,
+    // What it does.
+    pub(crate) about: &'a str,
+    // An example, for the end of its help.
+    pub(crate) example: &'a str,
+}
+
 static OF_RUN: [Setting; 5] = [
     Setting::Passes,
     Setting::Profile,
@@ -62,148 +140,175 @@ static STATS: [Flag; 1] = [Flag::Stats];
 
 static NO_FLAGS: [Flag; 0] = [];
 
-static FILE: [Operand; 1] = [Operand::File];
-
-static FUNCTIONS: [Operand; 1] = [Operand::Functions];
-
 impl Subcommand {
-    // Its word.
-    pub(crate) fn name<'a>(self) -> &'a str
-        ensures { result.now ≡ name_of self }
+    // The words of each command.
+    pub(crate) fn form<'a>(self) -> Form<'a>
+        ensures name { result.name.now ≡ (form_of self).name }
+        ensures operand { result.operand ≡ (form_of self).operand }
+        ensures options { result.options.now ≡ (form_of self).options }
+        ensures flags { result.flags.now ≡ (form_of self).flags }
+        ensures args { is_some result.usage ≡ (form_of self).has_args }
     {
         match self {
-            Subcommand::Run => "run",
-            Subcommand::Interp => "interp",
-            Subcommand::Record => "record",
-            Subcommand::Passes => "passes",
-            Subcommand::Emit => "emit",
-            Subcommand::Check => "check",
-            Subcommand::Link => "link",
-            Subcommand::WriteText => "text",
-            Subcommand::WriteJson => "json",
-            Subcommand::Demo => "demo",
+            Subcommand::Run => Form {
+                name: "run",
+                operand: Operand::File,
+                options: OF_RUN.as_slice(),
+                flags: STATS.as_slice(),
+                usage: Some("roolvist run [OPTIONS] <FILE> [-- ARGS]"),
+                about: "Compile a program to machine words and run these",
+                example: "ARGS are the arguments of the program's main function.{n}{n}Example: roolvist run examples/collatz.bril --stats -- 27",
+            },
+            Subcommand::Interp => Form {
+                name: "interp",
+                operand: Operand::File,
+                options: OF_INTERP.as_slice(),
+                flags: NO_FLAGS.as_slice(),
+                usage: Some("roolvist interp [OPTIONS] <FILE> [-- ARGS]"),
+                about: "Interpret a program",
+                example: "ARGS are the arguments of the program's main function.{n}{n}Example: roolvist interp examples/divisor.bril -- 1071 462",
+            },
+            Subcommand::Record => Form {
+                name: "record",
+                operand: Operand::File,
+                options: OF_RECORD.as_slice(),
+                flags: NO_FLAGS.as_slice(),
+                usage: Some("roolvist record [OPTIONS] <FILE> [-- ARGS]"),
+                about: "Interpret a program and write a profile of the run",
+                example: "ARGS are the arguments of the program's main function.{n}{n}Example: roolvist record examples/divisor.bril --hot 2 -- 1071 462",
+            },
+            Subcommand::Passes => Form {
+                name: "passes",
+                operand: Operand::File,
+                options: OF_PASSES.as_slice(),
+                flags: NO_FLAGS.as_slice(),
+                usage: None,
+                about: "Write what a list of passes makes of a program",
+                example: "Example: roolvist passes examples/leftovers.bril --passes dead,tidy",
+            },
+            Subcommand::Emit => Form {
+                name: "emit",
+                operand: Operand::File,
+                options: OF_EMIT.as_slice(),
+                flags: NO_FLAGS.as_slice(),
+                usage: None,
+                about: "Write the machine words of a program",
+                example: "Example: roolvist emit examples/empty.bril --frames 100",
+            },
+            Subcommand::Check => Form {
+                name: "check",
+                operand: Operand::File,
+                options: NO_OPTIONS.as_slice(),
+                flags: NO_FLAGS.as_slice(),
+                usage: None,
+                about: "Check a program and count its functions and items",
+                example: "Example: roolvist check examples/fibonacci.bril",
+            },
+            Subcommand::Link => Form {
+                name: "link",
+                operand: Operand::File,
+                options: NO_OPTIONS.as_slice(),
+                flags: NO_FLAGS.as_slice(),
+                usage: None,
+                about: "Link a program with its imports and write it as text",
+                example: "Example: roolvist link examples/imports.bril",
+            },
+            Subcommand::WriteText => Form {
+                name: "text",
+                operand: Operand::File,
+                options: NO_OPTIONS.as_slice(),
+                flags: NO_FLAGS.as_slice(),
+                usage: None,
+                about: "Write a file in the canonical text form",
+                example: "Example: roolvist text examples/one.json",
+            },
+            Subcommand::WriteJson => Form {
+                name: "json",
+                operand: Operand::File,
+                options: NO_OPTIONS.as_slice(),
+                flags: NO_FLAGS.as_slice(),
+                usage: None,
+                about: "Write a file in the canonical JSON form",
+                example: "Example: roolvist json examples/fibonacci.bril",
+            },
+            Subcommand::Demo => Form {
+                name: "demo",
+                operand: Operand::Functions,
+                options: NO_OPTIONS.as_slice(),
+                flags: NO_FLAGS.as_slice(),
+                usage: None,
+                about: "Make a program, compile it and run it",
+                example: "Example: roolvist demo 150",
+            },
         }
     }
 
-    // Its options with a value.
-    pub(crate) fn options(self) -> &'static [Setting]
-        ensures { result.now ≡ options_of self }
+    // What each command does with these numbers.
+    pub(crate) fn action(self, numbers: Numbers) -> Action
+        requires steps { AreSteps numbers.steps }
+        requires recorded { AreRecorded numbers.hot numbers.most }
+        requires functions { AreFunctions numbers.functions }
+        ensures is { result ≡ action_of self numbers }
+        ensures range { IsActionInRange result }
     {
+        let limits = numbers.limits;
+        let steps = numbers.steps;
         match self {
-            Subcommand::Run => OF_RUN.as_slice(),
-            Subcommand::Interp => OF_INTERP.as_slice(),
-            Subcommand::Record => OF_RECORD.as_slice(),
-            Subcommand::Passes => OF_PASSES.as_slice(),
-            Subcommand::Emit => OF_EMIT.as_slice(),
-            Subcommand::Check
-            | Subcommand::Link
-            | Subcommand::WriteText
-            | Subcommand::WriteJson
-            | Subcommand::Demo => NO_OPTIONS.as_slice(),
-        }
-    }
-
-    // Its options without a value.
-    pub(crate) fn flags(self) -> &'static [Flag]
-        ensures { result.now ≡ flags_of self }
-    {
-        match self {
-            Subcommand::Run => STATS.as_slice(),
-            Subcommand::Interp
-            | Subcommand::Record
-            | Subcommand::Passes
-            | Subcommand::Emit
-            | Subcommand::Check
-            | Subcommand::Link
-            | Subcommand::WriteText
-            | Subcommand::WriteJson
-            | Subcommand::Demo => NO_FLAGS.as_slice(),
-        }
-    }
-
-    // The words that it wants, in their order.
-    pub(crate) fn operands(self) -> &'static [Operand]
-        ensures { result.now ≡ operands_of self }
-    {
-        match self {
-            Subcommand::Run
-            | Subcommand::Interp
-            | Subcommand::Record
-            | Subcommand::Passes
-            | Subcommand::Emit
-            | Subcommand::Check
-            | Subcommand::Link
-            | Subcommand::WriteText
-            | Subcommand::WriteJson => FILE.as_slice(),
-            Subcommand::Demo => FUNCTIONS.as_slice(),
-        }
-    }
-
-    // Whether it takes `--` and the arguments of a program.
-    pub(crate) fn has_args(self) -> bool
-        ensures { result ≡ has_args self }
-    {
-        matches!(
-            self,
-            Subcommand::Run | Subcommand::Interp | Subcommand::Record
-        )
-    }
-
-    // What it does, for help.
-    pub(crate) fn about<'a>(self) -> &'a str {
-        match self {
-            Subcommand::Run => "Compile a program to machine words and run these",
-            Subcommand::Interp => "Interpret a program",
-            Subcommand::Record => "Interpret a program and write a profile of the run",
-            Subcommand::Passes => "Write what a list of passes makes of a program",
-            Subcommand::Emit => "Write the machine words of a program",
-            Subcommand::Check => "Check a program and count its functions and items",
-            Subcommand::Link => "Link a program with its imports and write it as text",
-            Subcommand::WriteText => "Write a file in the canonical text form",
-            Subcommand::WriteJson => "Write a file in the canonical JSON form",
-            Subcommand::Demo => "Make a program, compile it and run it",
-        }
-    }
-
-    // An example, for the end of its help.
-    pub(crate) fn example<'a>(self) -> &'a str {
-        match self {
-            Subcommand::Run => {
-                "ARGS are the arguments of the program's main function.{n}{n}Example: roolvist run examples/collatz.bril --stats -- 27"
-            }
+            Subcommand::Run => with_passes(PassesAction::Run(RunSettings {
+                limits,
+                steps,
+                stats: numbers.stats,
+            })),
             Subcommand::Interp => {
-                "ARGS are the arguments of the program's main function.{n}{n}Example: roolvist interp examples/divisor.bril -- 1071 462"
+                Action::Program(ProgramAction::Interpret(InterpretSettings { limits, steps }))
             }
-            Subcommand::Record => {
-                "ARGS are the arguments of the program's main function.{n}{n}Example: roolvist record examples/divisor.bril --hot 2 -- 1071 462"
-            }
-            Subcommand::Passes =>
-                "Example: roolvist passes examples/leftovers.bril --passes dead,tidy",
-            Subcommand::Emit => "Example: roolvist emit examples/empty.bril --frames 100",
-            Subcommand::Check => "Example: roolvist check examples/fibonacci.bril",
-            Subcommand::Link => "Example: roolvist link examples/imports.bril",
-            Subcommand::WriteText => "Example: roolvist text examples/one.json",
-            Subcommand::WriteJson => "Example: roolvist json examples/fibonacci.bril",
-            Subcommand::Demo => "Example: roolvist demo 150",
+            Subcommand::Record => Action::Program(ProgramAction::Record(RecordSettings {
+                limits,
+                steps,
+                hot: numbers.hot,
+                most: numbers.most,
+            })),
+            Subcommand::Passes => with_passes(PassesAction::Passes),
+            Subcommand::Emit => with_passes(PassesAction::Emit {
+                limits: limits_of(limits.frames, CELLS),
+            }),
+            Subcommand::Check => Action::Program(ProgramAction::Check),
+            Subcommand::Link => Action::Tree(TreeAction::Link),
+            Subcommand::WriteText => Action::File(FileAction::WriteText),
+            Subcommand::WriteJson => Action::File(FileAction::WriteJson),
+            Subcommand::Demo => Action::Demo {
+                functions: numbers.functions,
+            },
         }
     }
+}
+
+// What is done with the program that a list of passes makes.
+fn with_passes(action: PassesAction) -> Action
+    ensures { result ≡ with_passes action }
+{
+    Action::Program(ProgramAction::WithPasses(action))
 }
 
 // The command of a word.
 pub(crate) fn subcommand_named(word: &str) -> Option<Subcommand>
     ensures { result ≡ subcommand_named word.now }
 {
-    match word {
-        "run" => Some(Subcommand::Run),
-        "interp" => Some(Subcommand::Interp),
-        "record" => Some(Subcommand::Record),
-        "passes" => Some(Subcommand::Passes),
-        "emit" => Some(Subcommand::Emit),
-        "check" => Some(Subcommand::Check),
-        "link" => Some(Subcommand::Link),
-        "text" => Some(Subcommand::WriteText),
-        "json" => Some(Subcommand::WriteJson),
-        "demo" => Some(Subcommand::Demo),
-        _ => None,
+    first_named(SUBCOMMANDS.as_slice(), word)
+}
+
+// The first of these commands whose word this is.
+fn first_named(subcommands: &[Subcommand], word: &str) -> Option<Subcommand>
+    ensures { result ≡ find (λ c. bytes_eq word.now (name_of c)) subcommands.now }
+{
+    match subcommands.split_first() {
+        None => None,
+        Some((first, rest)) => {
+            if word == first.form().name {
+                Some(*first)
+            } else {
+                first_named(rest, word)
+            }
+        }
     }
 }

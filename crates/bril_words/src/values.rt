@@ -5,17 +5,17 @@ ghost use Rattle.std.specs.Option.{option_map};
 ghost use Rattle.std.specs.Result.{result_map_both};
 ghost use Rattle.clap.specs.Matches.{found_of};
 ghost use Rattle.clap.specs.Walk.{first_of, rows_of};
-ghost use Rattle.bril_words.specs.CommandLine.{action_of, in_range, is_true, list_for, list_of, texts_ask, texts_found, value_of};
+ghost use Rattle.bril_words.specs.CommandLine.{in_range, is_true, list_of, texts_ask, texts_found, value_of};
 ghost use Rattle.bril_words.specs.Names.{names_of};
 ghost use Rattle.bril_words.specs.Options.{option_name};
-ghost use Rattle.bril_words.specs.Request.{AreFunctions, AreLimits, AreRecorded, IsActionInRange};
+ghost use Rattle.bril_words.specs.Request.{IsActionInRange};
 ghost use Rattle.bril_words.specs.Seen.{misuse_seen, request_seen, text_seen};
 ghost use Rattle.bril_words.specs.declared.misuse.Misuse.TheVariants.{Value};
 
 use crate::misuse::Misuse;
 use crate::names::has_few_names;
 use crate::options::{Flag, Operand, Setting};
-use crate::request::{Action, Request};
+use crate::request::{Numbers, Request, limits_of};
 use crate::subcommands::Subcommand;
 use bril_nums::read_int;
 use bril_tree::text::Text;
@@ -50,21 +50,6 @@ pub const HOT: u32 = 16;
 /// The entries that a profile has at most, where no option says otherwise.
 pub const ENTRIES: u32 = 16;
 
-// The passes of the demo.
-const DEMO_PASSES: &str = "trace,const,dead,tidy";
-
-// The numbers of a run, and whether its counts are told.
-#[derive(Clone, Copy, Drop)]
-pub(crate) struct Numbers {
-    pub(crate) frames: u32,
-    pub(crate) cells: u32,
-    pub(crate) steps: u64,
-    pub(crate) hot: u32,
-    pub(crate) most: u32,
-    pub(crate) stats: bool,
-    pub(crate) functions: u32,
-}
-
 // What a command asks for, with what `clap` found for it and these arguments: its list of passes and its numbers, each what it is
 // by default where its option doesn't stand, and the path of its profile.
 //
@@ -98,8 +83,7 @@ pub(crate) fn read_found<'a>(
     )
     .ok_or(Misuse::Functions)?;
     let numbers = Numbers {
-        frames: frames as u32,
-        cells: cells as u32,
+        limits: limits_of(frames as u32, cells as u32),
         steps,
         hot: hot as u32,
         most: most as u32,
@@ -107,9 +91,9 @@ pub(crate) fn read_found<'a>(
         functions: functions as u32,
     };
     Ok(Request {
-        action: action_of(subcommand, numbers),
+        action: subcommand.action(numbers),
         path: found_text(found, Operand::File.id()).unwrap_or(""),
-        list: list_for(subcommand, list),
+        list,
         profile: found_text(found, Setting::Profile.name()),
         args,
     })
@@ -127,59 +111,6 @@ fn found_text<'a>(found: &ArgMatches<'a>, id: &str) -> Option<&'a str>
     ensures { text_seen result ≡ first_of id.now (rows_of (found_of found.now)) }
 {
     found.get_str(id)
-}
-
-// The action of a command with these numbers.
-fn action_of(subcommand: Subcommand, numbers: Numbers) -> Action
-    requires limits { AreLimits numbers.frames numbers.cells numbers.steps }
-    requires recorded { AreRecorded numbers.hot numbers.most }
-    requires functions { AreFunctions numbers.functions }
-    ensures is { result ≡ action_of subcommand numbers }
-    ensures range { IsActionInRange result }
-{
-    match subcommand {
-        Subcommand::Run => Action::Run {
-            frames: numbers.frames,
-            cells: numbers.cells,
-            steps: numbers.steps,
-            stats: numbers.stats,
-        },
-        Subcommand::Interp => Action::Interpret {
-            frames: numbers.frames,
-            cells: numbers.cells,
-            steps: numbers.steps,
-        },
-        Subcommand::Record => Action::Record {
-            frames: numbers.frames,
-            cells: numbers.cells,
-            steps: numbers.steps,
-            hot: numbers.hot,
-            most: numbers.most,
-        },
-        Subcommand::Emit => Action::Emit {
-            frames: numbers.frames,
-        },
-        Subcommand::Passes => Action::Passes,
-        Subcommand::Check => Action::Check,
-        Subcommand::Link => Action::Link,
-        Subcommand::WriteText => Action::WriteText,
-        Subcommand::WriteJson => Action::WriteJson,
-        Subcommand::Demo => Action::Demo {
-            functions: numbers.functions,
-        },
-    }
-}
-
-// The list of passes that a command applies: the demo has one of its own.
-fn list_for<'a>(subcommand: Subcommand, list: &'a str) -> &'a str
-    requires { length (names_of list.now) ≤ 64 }
-    ensures is { result.now ≡ list_for subcommand list.now }
-    ensures few { length (names_of result.now) ≤ 64 }
-{
-    match subcommand {
-        Subcommand::Demo => DEMO_PASSES,
-        _ => list,
-    }
 }
 
 // The list of passes: 64 names at most, and none where the option doesn't stand.

@@ -72,7 +72,7 @@ fn takes_args(word: &str) -> bool
     ensures { result ≡ takes_args word.now }
 {
     match subcommand_named(word) {
-        Some(subcommand) => subcommand.has_args(),
+        Some(subcommand) => subcommand.form().usage.is_some(),
         None => false,
     }
 }
