@@ -18,7 +18,7 @@ mod tallies;
 
 pub use error_output::ErrorOutput;
 pub use outputs::Outputs;
-pub use report::{say, status_number};
+pub use report::{exit_number, say, status_number};
 pub use stats::{put_guard, put_words};
 pub use status::Status;
 pub use tallies::put_tally;

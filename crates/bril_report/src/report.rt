@@ -1,6 +1,6 @@
 // What is told of how a command ended: its number, and its line on the error output.
 
-ghost use Rattle.std.specs.Prelude.{◌≡◌, [], ◌∷◌, ◌++◌, codes, None, Some};
+ghost use Rattle.std.specs.Prelude.{◌≡◌, [], ◌∷◌, ◌++◌, codes, None, Some, IfOk, IfErr};
 ghost use Rattle.std.specs.Fmt.{decimal};
 ghost use Rattle.bril_report.specs.Lines.{text_front, text_position, json_front, json_position, name_front, name_position, number_or_dash, position_of, variable_name, fault_line, misuse_line};
 ghost use Rattle.bril_report.specs.Report.{status_number, status_pieces, position_pieces, number_pieces, misread_pieces, misnamed_pieces, item_pieces, main_pieces, unassigned_pieces, unaccepted_pieces, count_pieces, pass_pieces};
@@ -20,6 +20,7 @@ use bril_tree::text::Text;
 use bril_words::{Misuse, Setting};
 use import_linker::formats::ReadFault;
 use itoa::Buffer;
+use std::alloc::AllocError;
 
 // A function and an item by their numbers, where a fault stands in one.
 #[derive(Clone, Copy, Drop)]
@@ -54,6 +55,17 @@ pub fn status_number(status: &Status) -> u8
         Status::UnknownPass { .. } => 70,
         Status::OutOfMemory => 71,
         Status::CannotWrite => 74,
+    }
+}
+
+/// The exit status of a call that was answered with this number, or had no memory for what it needs before it begins: 71.
+pub fn exit_number(ended: Result<u8, AllocError>) -> u8
+    ensures answered { IfOk ended (λ status. result ≡ status) }
+    ensures memory { IfErr ended (λ _. result ≡ 71) }
+{
+    match ended {
+        Ok(status) => status,
+        Err(AllocError) => status_number(&Status::OutOfMemory),
     }
 }
 

@@ -13,7 +13,7 @@ ghost use Rattle.roolvist.specs.Words.{AreAllOf, IsForNoWords};
 use bril_cli::end::end;
 use bril_outside::os_files::OsFiles;
 use bril_outside::os_sink::OsSink;
-use bril_report::{Status, status_number};
+use bril_report::{Status, exit_number};
 use bril_tree::sequence::Seq;
 use bril_tree::text::Text;
 use bril_words::Misuse;
@@ -26,17 +26,6 @@ use std::process::ExitCode;
 
 fn main(rt: HostRuntime) -> ExitCode {
     ExitCode::from(exit_number(with_passes(&rt)))
-}
-
-// The exit status: what was answered, or 71 where there was no memory for the passes or for the buffer of standard output.
-fn exit_number(ended: Result<u8, AllocError>) -> u8
-    ensures answered { IfOk ended (λ status. result ≡ status) }
-    ensures memory { IfErr ended (λ _. result ≡ 71) }
-{
-    match ended {
-        Ok(status) => status,
-        Err(AllocError) => status_number(&Status::OutOfMemory),
-    }
 }
 
 // The command line, as what is done with the shipped passes.
@@ -94,10 +83,7 @@ fn given_words(alloc: Global, args: io::Result<Args>) -> Result<Seq<Text>, Statu
     ensures none { IfErr args (λ fault. IsErrAnd result (IsForNoWords (error_kind fault))) }
 {
     match args {
-        Ok(args) => match collected(alloc, args) {
-            Ok(words) => Ok(words),
-            Err(AllocError) => Err(Status::OutOfMemory),
-        },
+        Ok(args) => Ok(collected(alloc, args)?),
         Err(fault) => Err(no_words(alloc, fault.kind())),
     }
 }
