@@ -1,5 +1,5 @@
 -- What a round makes of a tree, function by function.
-use Rattle.std.specs.Prelude.{◌≡◌, ℕ, ◌<◌, Bool, true, false, List, [], length, map, Some, slice_get}
+use Rattle.std.specs.Prelude.{◌≡◌, ℕ, ◌<◌, ◌≤◌, Bool, true, false, List, [], length, map, Some, slice_get}
 use Rattle.std.specs.List.{AllZip}
 use Rattle.bril_tree.specs.declared.function_tree.FuncTree.{FuncTree}
 use Rattle.bril_tree.specs.declared.numbered.Instr.{Instr}
@@ -13,6 +13,7 @@ use Rattle.coalesce.specs.meaning.Apart.{Copies}
 use Rattle.coalesce.specs.meaning.Merged.{NoneApart}
 use Rattle.graph_search.specs.Marks.{is_marked}
 use Rattle.coalesce.specs.Classes.{AreClasses, class_of}
+use Rattle.coalesce.specs.Copies.{copies_in, copies_of_code}
 
 -- the new names are those of the classes
 pub record NamesClasses (F : Func) (class : List ℕ) (news : List (List ℕ)) : Type 0 where
@@ -35,7 +36,7 @@ pub record MarksCopies (F : Func) (class : List ℕ) (marks : List Bool) : Type 
   pub only : (point : ℕ) → is_marked marks point ≡ true → CopyWithin F class point
   pub all : (point : ℕ) → is_marked marks point ≡ false → CopyWithin F class point → ⊥
 
--- a function, and what a round makes of it
+-- a function, and what a round makes of it: where it leaves as many copies, none of them is apart
 pub record IsRoundFunction (P : Prog) (F : Func) (g : FuncTree) : Type 0 where
   pub class : List ℕ
   pub are : AreClasses F class
@@ -44,6 +45,7 @@ pub record IsRoundFunction (P : Prog) (F : Func) (g : FuncTree) : Type 0 where
   pub marks : List Bool
   pub marked : MarksCopies F class marks
   pub tree : g ≡ record (function_tree (names_of_functions P.funcs) F) { code = with_nops nop_item marks (map (item_tree (names_of_functions P.funcs) news F.labels) F.code) }
+  pub settled : copies_of_code F.code ≤ copies_in g.code → NoneApart F
 
 pub record IsRoundTree (P : Prog) (tree : Tree) : Type 0 where
   pub imports : tree.imports ≡ []
@@ -66,3 +68,7 @@ HasCopyWithin F class joined = joined ≡ true → (point : ℕ) × CopyWithin F
 -- in no function of the program a reached copy is left between two different variables that are apart
 abbrev pub HasNoneApart : Prog → Type 0
 HasNoneApart P = (f : ℕ) (F : Func) → slice_get P.funcs f ≡ Some F → NoneApart F
+
+-- the same, in its first functions
+abbrev pub HasNoneBelow : Prog → ℕ → Type 0
+HasNoneBelow P n = (f : ℕ) (F : Func) → f < n → slice_get P.funcs f ≡ Some F → NoneApart F

@@ -1,7 +1,6 @@
 // The edit of the tree: new names, and `nop` for copies inside a class.
 
 ghost use Rattle.std.specs.Prelude.{◌≡◌, ◌<◌, ◌^◌, ◌-◌, true, false, Some, IfOk, if◌then◌else◌, length, map, slice_get};
-ghost use Rattle.std.specs.List.{list_any};
 ghost use Rattle.bril_tree.specs.Numbered.{dest_tree, item_tree, named, nop_item, variable_names};
 ghost use Rattle.bril_names.specs.Range.{AreBelow, AreInRange, IsInRange};
 ghost use Rattle.pass_edit_laws.specs.plan.Marked.{with_nops};
@@ -74,13 +73,6 @@ pub(crate) fn self_copies(
         marks.push(is_reached_copy(func, graph, class, item, point as u32))?;
     }
     Ok(marks)
-}
-
-// Whether any is marked.
-pub(crate) fn has_mark(marks: &[bool]) -> bool
-    ensures { result ≡ list_any (λ mark. mark) marks.now }
-{
-    marks.iter().any(|mark| *mark)
 }
 
 // The name of a variable.

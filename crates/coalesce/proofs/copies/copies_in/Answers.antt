@@ -1,0 +1,11 @@
+use Rattle.std.proofs.Common.{◌∙◌, rules, tests}
+use Rattle.std.proofs.lemmas.Iterator.{YieldsList-from_slice}
+use Rattle.std.proofs.lemmas.Iterator.Consumers.{YieldsList-from_filter, count_from_yields_List}
+use Rattle.std.proofs.lemmas.List.Sums.{length-filter}
+use Rattle.coalesce.specs.Copies.{is_named_copy}
+use Rattle.coalesce.proofs.copies.copies_in.Goals as goal
+
+pub returns : goal.returns
+returns c =
+    count_from_yields_List c.filter.result _ c.count.ensures.ran (YieldsList-from_filter _ is_named_copy (YieldsList-from_slice c.args.items.now (cc)) c.filter.ensures.closure (λ x b q k. search (rules, tests)))
+    ∙ length-filter is_named_copy c.args.items.now
