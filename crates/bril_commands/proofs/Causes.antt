@@ -23,7 +23,7 @@ use Rattle.bril_tree.specs.declared.tree.Tree.{Tree}
 use Rattle.bril_tree.specs.declared.value.Value.{Value}
 use Rattle.bril_words.specs.Request.{Asked}
 use Rattle.bril_words.specs.CommandLine.{Refusal}
-use Rattle.bril_words.specs.declared.request.Action.{Action}
+use Rattle.bril_words.specs.declared.subcommands.Action.{Action}
 use Rattle.import_linker.specs.declared.fault.LinkFault.{LinkFault}
 use Rattle.import_linker.specs.declared.fault.LinkFault.TheVariants as link
 use Rattle.bril_commands.proofs.Profiles.{not_refused_from, refused_from_once}
@@ -149,13 +149,13 @@ asks_program : (k : Command) (how : Status) (l : PassList) (f g : FilesSeen) (tr
     → Stage (RefusesProgram how tree) (IsIdle l told s t) (λ p. IsAcceptedProgram tree p) (λ p is. DoesAccepted k how l f g p named args told s t)
 asks_program (OnFile outcome) how l f g tree named args told s t needs does = absurd needs
 asks_program (OnTree outcome) how l f g tree named args told s t needs does = absurd needs
-asks_program (OnProgram does) how l f g tree named args told s t needs goes = goes
+asks_program (OnProgram origin does) how l f g tree named args told s t needs goes = goes
 
 -- a command that gives a program arguments asks for it
 needs_program : (k : Command) → GivesArguments k → NeedsProgram k
 needs_program (OnFile outcome) gives = absurd gives
 needs_program (OnTree outcome) gives = absurd gives
-needs_program (OnProgram does) gives = tt
+needs_program (OnProgram origin does) gives = tt
 
 -- From asking for a program: memory ran out, or the tree has a fault of a name, or a program with a fault of the checker, or its accepted program was dealt with.
 module _ (how : Status) (tree : Tree) (Silent : Type 0) (Goes : Prog → Type 0) (asks : Stage (RefusesProgram how tree) Silent (λ p. IsAcceptedProgram tree p) (λ p is. Goes p)) where
@@ -173,7 +173,7 @@ given : (k : Command) (how : Status) (l : PassList) (f g : FilesSeen) (p : Prog)
     → (RefusesArgs how p args × (told ≡ [])) ⊎ ((fault : ArgFault) → HasArgFault (main_types p) args fault → ⊥)
 given (OnFile outcome) how l f g p named args told s t gives does = absurd gives
 given (OnTree outcome) how l f g p named args told s t gives does = absurd gives
-given (OnProgram does) how l f g p named args told s t gives goes = spelled does.arguments gives (⊎_elim (λ refused. inl (refused.0, refused.1.0.0)) (λ values. inr (values.0, values.1)) goes)
+given (OnProgram origin does) how l f g p named args told s t gives goes = spelled does.arguments gives (⊎_elim (λ refused. inl (refused.0, refused.1.0.0)) (λ values. inr (values.0, values.1)) goes)
   where
     spelled : (arguments : Arguments) → TakesArguments arguments → (RefusesGiven arguments how p args × (told ≡ [])) ⊎ ((values : List Value) × AreGiven arguments p args values)
         → (RefusesArgs how p args × (told ≡ [])) ⊎ ((fault : ArgFault) → HasArgFault (main_types p) args fault → ⊥)
@@ -195,7 +195,7 @@ same_values OfMain p args given values are spelled = are.only values spelled
 values_need : (k : Command) (p : Prog) (args : List (List ℕ)) (values : List Value) → GivesValues k p args values → NeedsProgram k
 values_need (OnFile outcome) p args values gives = absurd gives
 values_need (OnTree outcome) p args values gives = absurd gives
-values_need (OnProgram does) p args values gives = tt
+values_need (OnProgram origin does) p args values gives = tt
 
 -- the refusal of the profile's file was answered, or memory ran out
 module _ (k : Command) (f g : FilesSeen) (sound : ¬ Rose f.faults g.faults) (how why : Status) (ample : why ≢ status.OutOfMemory) (l : PassList) (p : Prog) (named : Option (List ℕ)) (args told : List (List ℕ)) (s t : SinkSeen) (values : List Value) where
@@ -205,7 +205,7 @@ module _ (k : Command) (f g : FilesSeen) (sound : ¬ Rose f.faults g.faults) (ho
       by : (k : Command) → GivesValues k p args values → IsSourceTold (profile_of k) named f.holds → RefusesProfileFrom (profile_of k) named why f g → DoesAccepted k how l f g p named args told s t → (how ≡ status.OutOfMemory) ⊎ ((how ≡ why) × (told ≡ []))
       by (OnFile outcome) gives are refuses does = absurd gives
       by (OnTree outcome) gives are refuses does = absurd gives
-      by (OnProgram does) gives are refuses goes =
+      by (OnProgram origin does) gives are refuses goes =
           ⊎_elim (λ refused. inl (no_refusal does.arguments how p args values gives refused.0))
           (λ values. ⊎_elim (λ refused. ⊎_elim inl (λ same. inr (same, refused.1.0.0)) (refused_from_once f g sound does.profile named how why are refused.0 refuses ample))
           (λ given. absurd (ample (not_refused_from f g sound does.profile named p given.0 why are given.1 refuses)))

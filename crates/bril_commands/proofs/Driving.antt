@@ -15,10 +15,10 @@ module _ (how : Status) (l : PassList) (f g : FilesSeen) (tree : Tree) (named : 
   pub DoesTree-refused : (k : Command) → NeedsProgram k → RefusesProgram how tree → IsIdle l told s t → DoesTree k how l f g tree named args told s t
   DoesTree-refused (OnFile outcome) needs refuses idle = absurd needs
   DoesTree-refused (OnTree outcome) needs refuses idle = absurd needs
-  DoesTree-refused (OnProgram does) needs refuses idle = inl (refuses, idle)
+  DoesTree-refused (OnProgram origin does) needs refuses idle = inl (refuses, idle)
 
   -- it was dealt with
   pub DoesTree-accepted : (k : Command) (p : Prog) → IsAcceptedProgram tree p → DoesAccepted k how l f g p named args told s t → DoesTree k how l f g tree named args told s t
   DoesTree-accepted (OnFile outcome) p is does = absurd does
   DoesTree-accepted (OnTree outcome) p is does = absurd does
-  DoesTree-accepted (OnProgram does) p is goes = inr (p, is, goes)
+  DoesTree-accepted (OnProgram origin does) p is goes = inr (p, is, goes)

@@ -1,19 +1,17 @@
 -- Where the files are told, a profile's file gives one list of entries or one refusal, and never both: reads that failed and want of
 -- memory apart. A run gives one list of entries.
 use Rattle.std.proofs.Common.{◌≡◌, ◌⊎◌, ℕ, ◌≤◌, List, [], length, Option, Some, None, refl, sym, ap, ◌∙◌, subst, arith, inl, inr, ⊎_elim}
-use Rattle.std.proofs.Props.{props}
 use Rattle.std.specs.Prelude.{◌<◌, ◌≢◌}
-use mathlib.Core.HLevel.{is_prop→PathP}
 use Rattle.bril_outside.proofs.SinkWrites.{Rose-after}
 use Rattle.bril_outside.specs.Files.{FileMap, FilesSeen, LacksFile, MayHold}
 use Rattle.bril_outside.specs.Sink.{Rose, SinkSeen}
 use Rattle.bril_profile.specs.declared.profile.Entry.{Entry}
 use Rattle.bril_report.specs.declared.status.Status.TheVariants as status
 use Rattle.bril_report.specs.declared.status.Status.{Status}
-use Rattle.bril_tree.specs.declared.limits.Limits.{Limits}
 use Rattle.bril_tree.specs.declared.program.Prog.{Prog}
 use Rattle.bril_tree.specs.declared.tree.Tree.{Tree}
 use Rattle.bril_tree.specs.declared.value.Value.{Value}
+use Rattle.bril_words.proofs.Limits.{limits_same}
 use Rattle.profile_text.proofs.Faults.{faults_are_one, texts_differ, texts_have_no_fault}
 use Rattle.profile_text.specs.Fault.{IsFirstFault}
 use Rattle.trace_recorder.specs.Recorded.{recorded}
@@ -80,20 +78,6 @@ module _ (before after : FilesSeen) (map : FileMap) (told : before.holds ≡ Som
 
 -- ---- the run of a program
 
-below-prop : (a b : ℕ) → IsProp (a ≤ b)
-below-prop a b = hlevel props
-
--- limits are the same where they have as many frames and cells
-limits_same : (a b : Limits) → a.frames ≡ b.frames → a.cells ≡ b.cells → a ≡ b
-limits_same a b f c = λ i. record {
-  frames = f i;
-  cells = c i;
-  some_frames = is_prop→PathP (λ j. 1 ≤ f j) (λ j. below-prop 1 (f j)) a.some_frames b.some_frames i;
-  few_frames = is_prop→PathP (λ j. f j ≤ 65536) (λ j. below-prop (f j) 65536) a.few_frames b.few_frames i;
-  some_cells = is_prop→PathP (λ j. 1 ≤ c j) (λ j. below-prop 1 (c j)) a.some_cells b.some_cells i;
-  few_cells = is_prop→PathP (λ j. c j ≤ 4194304) (λ j. below-prop (c j) 4194304) a.few_cells b.few_cells i;
-}
-
 recorded_once : (p : Prog) (values : List Value) (frames cells steps hot most : ℕ) (xs ys : List Entry) → AreRecorded p values frames cells steps hot most xs → AreRecorded p values frames cells steps hot most ys → xs ≡ ys
 recorded_once p values frames cells steps hot most xs ys a b =
     let same : a.limits ≡ b.limits = limits_same a.limits b.limits (a.frames_are ∙ sym b.frames_are) (a.cells_are ∙ sym b.cells_are) in
@@ -157,7 +141,7 @@ module _ (f m g : FilesSeen) (stay : m.holds ≡ f.holds) (le : f.faults ≤ m.f
   pub DoesTree-from : (k : Command) (how : Status) (l : PassList) (tree : Tree) (named : Option (List ℕ)) (args told : List (List ℕ)) (s t : SinkSeen) → DoesTree k how l m g tree named args told s t → DoesTree k how l f g tree named args told s t
   DoesTree-from (OnFile outcome) how l tree named args told s t does = does
   DoesTree-from (OnTree outcome) how l tree named args told s t does = does
-  DoesTree-from (OnProgram does) how l tree named args told s t goes =
+  DoesTree-from (OnProgram origin does) how l tree named args told s t goes =
       ⊎_elim inl (λ program. inr (
         program.0,
         program.1,

@@ -11,8 +11,8 @@ use Rattle.bril_words.specs.CommandLine.{Refusal, bad_functions, not_taken, bad_
 use Rattle.bril_words.specs.declared.misuse.Misuse.{Misuse}
 use Rattle.bril_words.specs.declared.misuse.Misuse.TheVariants as misuse
 use Rattle.bril_tree.specs.declared.tree.Tree.{Tree}
-use Rattle.bril_words.specs.declared.request.Action.{Action}
-use Rattle.bril_words.specs.declared.request.Action.TheVariants as action
+use Rattle.bril_words.specs.declared.subcommands.Action.{Action}
+use Rattle.bril_words.specs.declared.subcommands.Action.TheVariants as action
 use Rattle.bril_tree.specs.Numbered.{Numbered}
 use Rattle.bril_names.specs.Faults as names
 use Rattle.bril_demo.proofs.Acceptance.{demo_faultless, demo_is_accepted}
@@ -181,7 +181,7 @@ module _ (c : Call) (refusal : Refusal) (refused : words_ask c.words ≡ Err ref
 done_exhausted : (k : Command) (c : Call) (tree : Tree) (args : List (List ℕ)) → CommandDone k 71 c tree args
 done_exhausted (OnFile outcome) c tree args = inl refl
 done_exhausted (OnTree outcome) c tree args = inl refl
-done_exhausted (OnProgram does) c tree args = λ p values entries numbered accepted spelled profiled. inl refl
+done_exhausted (OnProgram origin does) c tree args = λ p values entries numbered accepted spelled profiled. inl refl
 
 -- of words for whose reading memory ran out
 Promises-exhausted : (c : Call) → c.passes.after ≡ c.passes.before → c.out_after ≡ c.out_before → Puts c.err_before (codes "out of memory\n" ∷ []) c.err_after → Promises 71 c

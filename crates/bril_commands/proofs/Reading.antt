@@ -39,7 +39,7 @@ memory_refuses (OfDemo functions) before after path = (fault.Memory, refl, refl)
 pub needs_alone : (k : Command) (holds : Option FileMap) (path : List ℕ) (tree : Tree) → IsTreeAt (reach k) holds path tree → NeedsProgram k → tree.imports ≡ []
 needs_alone (OnFile outcome) holds path tree at needs = absurd needs
 needs_alone (OnTree outcome) holds path tree at needs = absurd needs
-needs_alone (OnProgram does) holds path tree at needs = by does.origin at
+needs_alone (OnProgram origin does) holds path tree at needs = by origin at
   where
     by : (o : Origin) → IsTreeAt (reach_of o) holds path tree → tree.imports ≡ []
     by LinkedFiles linked = linked.links.imports

@@ -19,7 +19,7 @@ use Rattle.bril_tree.specs.declared.value.Value.{Value}
 use Rattle.bril_commands.specs.Answers.{Answers, FilesRefused, HasLongCode, HasLongStack, ListBegan, ProfileRefused}
 use Rattle.bril_commands.specs.Arguments.{argument_pieces, HasOnlyArgFault, RefusesArgs}
 use Rattle.bril_commands.specs.Call.{Call, CommandComesTo, ComesTo}
-use Rattle.bril_commands.specs.Command.{Command, OnFile, OnTree, OnProgram, OfProgram, Arguments, NoArguments, OfMain, TakesArguments, AreGiven, RefusesGiven, Makes, RefusesMaking, AreLimitsOf, Fits, RefusesEmission, NeedsProgram, GivesArguments, MakesImage, profile_of, reach, takes_passes}
+use Rattle.bril_commands.specs.Command.{Command, OnFile, OnTree, OnProgram, OfProgram, Origin, Arguments, NoArguments, OfMain, TakesArguments, AreGiven, RefusesGiven, Makes, RefusesMaking, AreLimitsOf, Fits, RefusesEmission, NeedsProgram, GivesArguments, MakesImage, profile_of, reach, takes_passes}
 use Rattle.bril_commands.specs.CommandLine.{Asks}
 use Rattle.bril_commands.specs.Driver.{IsSilent, subject, DoesProgram, DoesTree, DoesFiles}
 use Rattle.bril_commands.specs.Images.{RefusesImage}
@@ -29,7 +29,7 @@ use Rattle.bril_commands.specs.Profiles.{IsProfileFrom, NamedFile, NoProfile, Ow
 use Rattle.bril_commands.specs.Source.{IsProgramOf, IsTreeAt, RefusesFiles}
 use Rattle.bril_commands.specs.Stages.{IsAcceptedProgram, RefusesTree, RefusesProgram}
 use Rattle.bril_commands.specs.Table.{command, Keeps, KeepsPasses}
-use Rattle.bril_words.specs.declared.request.Action.{Action}
+use Rattle.bril_words.specs.declared.subcommands.Action.{Action}
 use Rattle.pass_law.specs.Chains.{Ran}
 use Rattle.import_linker.specs.declared.fault.LinkFault.{LinkFault}
 use Rattle.import_linker.specs.declared.fault.LinkFault.TheVariants as fault
@@ -304,7 +304,7 @@ module _ (c : Call) (asks : Asks c.words) (keeps : KeepsPasses c.passes.meaning 
 
       -- ---- a command on an accepted program
 
-      module _ (does : OfProgram) (is : command asks.action ≡ OnProgram does) where
+      module _ (origin : Origin) (does : OfProgram) (is : command asks.action ≡ OnProgram origin does) where
         makes_image : (limits : Limits) → AreLimitsOf does.emission limits → MakesImage (command asks.action) limits
         makes_image limits are = subst (λ k. MakesImage k limits) (sym is) are
 
@@ -359,9 +359,9 @@ module _ (c : Call) (asks : Asks c.words) (keeps : KeepsPasses c.passes.meaning 
         works_on outcome (λ Is holds. subst (λ k. CommandComesTo k c asks.path asks.args Is) (sym is) (record { tree = tree; file = at; is = holds })) (ap takes_passes is) how told says
     Answers-tree (OnTree outcome) is at how told says =
         works_on outcome (λ Is holds. subst (λ k. CommandComesTo k c asks.path asks.args Is) (sym is) (record { tree = tree; file = at; is = holds })) (ap takes_passes is) how told says
-    Answers-tree (OnProgram does) is at how told says =
+    Answers-tree (OnProgram origin does) is at how told says =
         ⊎_elim (λ refused. Answers-refused (subst (λ k. IsTreeAt (reach k) c.files_before.holds asks.path tree) (sym is) at) (subst NeedsProgram (sym is) tt) how (plain told (status_pieces how) refused.1.0.0 says) refused.0 refused.1.0.1 refused.1.1)
-        (λ goes. Answers-program (subst (λ k. IsTreeAt (reach k) c.files_before.holds asks.path tree) (sym is) at) does is goes.0 goes.1 how told says goes.2)
+        (λ goes. Answers-program (subst (λ k. IsTreeAt (reach k) c.files_before.holds asks.path tree) (sym is) at) origin does is goes.0 goes.1 how told says goes.2)
 
 -- what each status says
 pub Answers-of : (c : Call) (asks : Asks c.words) (how : Status) → Ends c asks how → Answers (status_number how) c

@@ -12,7 +12,7 @@ use Rattle.bril_tree.specs.declared.limits.Limits.{Limits}
 use Rattle.bril_tree.specs.declared.program.Prog.{Prog}
 use Rattle.bril_tree.specs.declared.tree.Tree.{Tree}
 use Rattle.bril_tree.specs.declared.value.Value.{Value}
-use Rattle.bril_words.specs.declared.request.Action.{Action}
+use Rattle.bril_words.specs.declared.subcommands.Action.{Action}
 use Rattle.rv64_image_laws.proofs.Sizes.{within_not_beyond}
 use Rattle.rv64_image_laws.specs.WordBounds.{IsWithin}
 use Rattle.bril_commands.proofs.Causes.{by_tree, exhausted, no_refusal, same_args, same_values, with_program}
@@ -131,7 +131,7 @@ module _ (c : Call) (asks : Asks c.words) (how : Status) (ends : Ends c asks how
     command_done : (k : Command) → command action ≡ k → HaveTree (reach (command action)) c.files_before.holds reads.path tree → CommandDone k (status_number how) c tree reads.args
     command_done (OnFile outcome) is have = tree_done (OnFile outcome) is outcome (λ h does. does) have
     command_done (OnTree outcome) is have = tree_done (OnTree outcome) is outcome (λ h does. does) have
-    command_done (OnProgram does) is have = λ p values entries numbered accepted spelled profiled.
+    command_done (OnProgram origin does) is have = λ p values entries numbered accepted spelled profiled.
         let told : IsSourceTold does.profile c.profile c.files_before.holds = subst (λ k. IsSourceTold (profile_of k) c.profile c.files_before.holds) is reads.told_profile in
         let here : Spell does.arguments p asks.args values = subst (λ a. Spell does.arguments p a values) (same_args c asks how ends action reads) spelled in
         with_program c asks how ends action (subst NeedsProgram (sym is) tt) reads tree have _ p numbered (exhausted how _)

@@ -26,8 +26,8 @@ use Rattle.bril_tree.specs.declared.program.Prog.{Prog}
 use Rattle.bril_tree.specs.declared.tree.Tree.{Tree}
 use Rattle.bril_tree.specs.declared.value.Value.{Value}
 use Rattle.bril_words.specs.CommandLine.{Refusal, words_ask}
-use Rattle.bril_words.specs.declared.request.Action.{Action}
-use Rattle.bril_words.specs.declared.request.Action.TheVariants as action
+use Rattle.bril_words.specs.declared.subcommands.Action.{Action}
+use Rattle.bril_words.specs.declared.subcommands.Action.TheVariants as action
 use Rattle.import_linker.specs.declared.fault.LinkFault.{LinkFault}
 use Rattle.import_linker.specs.declared.fault.LinkFault.TheVariants.{Read, Bad, NotThere, Clash, TooManyFiles, TooManyBytes}
 use Rattle.pass_law.specs.Bounds.{capped}

@@ -6,8 +6,10 @@ use Rattle.bril_tree.specs.Run.{state_after}
 use Rattle.bril_tree.specs.declared.limits.Limits.{Limits}
 use Rattle.bril_tree.specs.declared.program.Prog.{Prog}
 use Rattle.bril_tree.specs.declared.value.Value.{Value}
-use Rattle.bril_words.specs.declared.request.Action.TheVariants.{Run}
-use Rattle.bril_words.specs.declared.request.Action.{Action}
+use Rattle.bril_words.specs.declared.subcommands.Action.TheVariants.{Program}
+use Rattle.bril_words.specs.declared.subcommands.Action.{Action}
+use Rattle.bril_words.specs.declared.subcommands.PassesAction.TheVariants.{Run}
+use Rattle.bril_words.specs.declared.subcommands.ProgramAction.TheVariants.{WithPasses}
 use Rattle.pass_budget_laws.specs.Budget.{budget}
 use Rattle.pass_budget_laws.specs.Laws.{IsWithinRows}
 use Rattle.pass_budget_laws.specs.Numbers.{Numbers, AreWithin}
@@ -36,7 +38,7 @@ pub record RunsPastBudget (c : Call) (path : List ℕ) (args : List (List ℕ)) 
 
 -- so it is with `run`; the steps of `interp` and `record` are those of the source
 abbrev pub GoesPastBudget : Action → Call → List ℕ → List (List ℕ) → Type 0
-GoesPastBudget (Run frames cells words stats) c path args = RunsPastBudget c path args frames cells words
+GoesPastBudget (Program (WithPasses (Run settings))) c path args = RunsPastBudget c path args settings.limits.frames settings.limits.cells settings.steps
 GoesPastBudget _ c path args = Unit {0}
 
 pub record IsPastBudget (c : Call) : Type 0 where

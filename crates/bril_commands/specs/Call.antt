@@ -11,12 +11,12 @@ use Rattle.bril_tree.specs.declared.limits.End.{End}
 use Rattle.bril_tree.specs.declared.program.Prog.{Prog}
 use Rattle.bril_tree.specs.declared.tree.Tree.{Tree}
 use Rattle.bril_tree.specs.declared.value.Value.{Value}
-use Rattle.bril_words.specs.declared.request.Action.{Action}
+use Rattle.bril_words.specs.declared.subcommands.Action.{Action}
 use Rattle.bril_words.specs.CommandLine.{words_ask}
 use Rattle.bril_words.specs.Names.{names_of}
 use Rattle.pass_law.specs.Meaning.{Meaning}
 use Rattle.pass_law.specs.declared.tally.Tally.{Tally}
-use Rattle.bril_commands.specs.Command.{Command, OnFile, OnTree, OnProgram, OfProgram, AreGiven, Makes, Fits, profile_of, reach, reach_of}
+use Rattle.bril_commands.specs.Command.{Command, OnFile, OnTree, OnProgram, OfProgram, Origin, AreGiven, Makes, Fits, profile_of, reach, reach_of}
 use Rattle.bril_commands.specs.CommandLine.{Asks, AsksFor, list_asked, profile_asked}
 use Rattle.bril_commands.specs.Driver.{subject}
 use Rattle.bril_commands.specs.Outcome.{Outcome}
@@ -86,9 +86,9 @@ pub record TreeComesTo (reach : Reach) (outcome : Tree → Outcome) (c : Call) (
 -- The files are linked into an accepted program, or the demo is one, the words spell its arguments, the file of the profile has these
 -- entries, the list of passes makes a program of it that is within the bounds of an image, each where the command asks for it, and this
 -- holds of what it comes to.
-pub record ProgramComesTo (does : OfProgram) (c : Call) (path : List ℕ) (args : List (List ℕ)) (Is : Outcome → Type 0) : Type 0 where
+pub record ProgramComesTo (origin : Origin) (does : OfProgram) (c : Call) (path : List ℕ) (args : List (List ℕ)) (Is : Outcome → Type 0) : Type 0 where
   pub program : Prog
-  pub file : IsProgramOf (reach_of does.origin) c.files_before.holds path program
+  pub file : IsProgramOf (reach_of origin) c.files_before.holds path program
   pub values : List Value
   pub given : AreGiven does.arguments program args values
   pub entries : List Entry
@@ -102,7 +102,7 @@ pub record ProgramComesTo (does : OfProgram) (c : Call) (path : List ℕ) (args 
 abbrev pub CommandComesTo : Command → Call → List ℕ → List (List ℕ) → (Outcome → Type 0) → Type 0
 CommandComesTo (OnFile outcome) c path args Is = TreeComesTo Alone outcome c path Is
 CommandComesTo (OnTree outcome) c path args Is = TreeComesTo WithImports outcome c path Is
-CommandComesTo (OnProgram does) c path args Is = ProgramComesTo does c path args Is
+CommandComesTo (OnProgram origin does) c path args Is = ProgramComesTo origin does c path args Is
 
 -- this holds of what the command comes to that the words ask for
 abbrev pub ComesTo : (c : Call) → Asks c.words → (Outcome → Type 0) → Type 0

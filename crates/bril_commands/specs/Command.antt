@@ -112,59 +112,59 @@ abbrev pub reach_of : Origin → Reach
 reach_of LinkedFiles = WithImports
 reach_of (Demo functions) = OfDemo functions
 
--- A command on an accepted program.
+-- What is done with an accepted program.
 pub record OfProgram : Type 1 where
-  pub origin : Origin
   pub arguments : Arguments
   pub profile : ProfileSource
   pub takes_passes : Bool
   pub emission : Emission
   pub outcome : Subject → Outcome
 
--- A command works on the tree of its one file, on that of all files which are linked with it, or on the accepted program of the latter.
+-- A command works on the tree of its one file, on that of all files which are linked with it, or on the accepted program of the latter
+-- or of the demo's tree.
 pub data Command : Type 1 where
   OnFile : (outcome : Tree → Outcome) → Command
   OnTree : (outcome : Tree → Outcome) → Command
-  OnProgram : OfProgram → Command
+  OnProgram : (origin : Origin) → OfProgram → Command
 
 -- the files that it reads
 abbrev pub reach : Command → Reach
 reach (OnFile outcome) = Alone
 reach (OnTree outcome) = WithImports
-reach (OnProgram does) = reach_of does.origin
+reach (OnProgram origin does) = reach_of origin
 
 -- it needs the accepted program
 abbrev pub NeedsProgram : Command → Type 0
 NeedsProgram (OnFile outcome) = ⊥
 NeedsProgram (OnTree outcome) = ⊥
-NeedsProgram (OnProgram does) = Unit {0}
+NeedsProgram (OnProgram origin does) = Unit {0}
 
 -- it gives the program arguments
 abbrev pub GivesArguments : Command → Type 0
 GivesArguments (OnFile outcome) = ⊥
 GivesArguments (OnTree outcome) = ⊥
-GivesArguments (OnProgram does) = TakesArguments does.arguments
+GivesArguments (OnProgram origin does) = TakesArguments does.arguments
 
 -- these values are the arguments that words spell of the program that it needs
 abbrev pub GivesValues : Command → Prog → List (List ℕ) → List Value → Type 0
 GivesValues (OnFile outcome) p args values = ⊥
 GivesValues (OnTree outcome) p args values = ⊥
-GivesValues (OnProgram does) p args values = Spell does.arguments p args values
+GivesValues (OnProgram origin does) p args values = Spell does.arguments p args values
 
 -- where it has its profile from
 abbrev pub profile_of : Command → ProfileSource
 profile_of (OnFile outcome) = NoProfile
 profile_of (OnTree outcome) = NoProfile
-profile_of (OnProgram does) = does.profile
+profile_of (OnProgram origin does) = does.profile
 
 -- it takes a list of passes
 abbrev pub takes_passes : Command → Bool
 takes_passes (OnFile outcome) = false
 takes_passes (OnTree outcome) = false
-takes_passes (OnProgram does) = does.takes_passes
+takes_passes (OnProgram origin does) = does.takes_passes
 
 -- it makes an image for these limits
 abbrev pub MakesImage : Command → Limits → Type 0
 MakesImage (OnFile outcome) limits = ⊥
 MakesImage (OnTree outcome) limits = ⊥
-MakesImage (OnProgram does) limits = AreLimitsOf does.emission limits
+MakesImage (OnProgram origin does) limits = AreLimitsOf does.emission limits

@@ -4,7 +4,8 @@ use Rattle.bril_words.specs.CommandLine.{Refusal, bad_functions, not_taken, bad_
 use Rattle.bril_report.specs.Lines.{misuse_line}
 use Rattle.bril_words.specs.Request.{Asked}
 use Rattle.bril_words.specs.declared.misuse.Misuse.TheVariants.{Functions, Value}
-use Rattle.bril_words.specs.declared.request.Action.{Action}
+use Rattle.bril_words.specs.declared.subcommands.Action.{Action}
+use Rattle.bril_commands.specs.Table.{list_for}
 
 -- the words ask for an action, the path of its file, and the arguments of the file's program
 abbrev pub AsksFor : List (List ℕ) → Action → List ℕ → List (List ℕ) → Type 0
@@ -17,9 +18,9 @@ pub record Asks (words : List (List ℕ)) : Type 0 where
   pub args : List (List ℕ)
   pub asked : AsksFor words action path args
 
--- the list of passes that is asked for
+-- the list of passes that is asked for, or that of the demo
 abbrev pub list_asked : Result Asked Refusal → List ℕ
-list_asked (Ok request) = request.list
+list_asked (Ok request) = list_for request.action request.list
 list_asked (Err refusal) = []
 
 -- the path of the file with the profile that is asked for

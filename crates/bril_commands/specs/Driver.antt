@@ -54,13 +54,13 @@ DoesProgram does how l f g p named args told s t =
 abbrev pub DoesAccepted : Command → Status → PassList → FilesSeen → FilesSeen → Prog → Option (List ℕ) → List (List ℕ) → List (List ℕ) → SinkSeen → SinkSeen → Type 0
 DoesAccepted (OnFile outcome) how l f g p named args told s t = ⊥
 DoesAccepted (OnTree outcome) how l f g p named args told s t = ⊥
-DoesAccepted (OnProgram does) how l f g p named args told s t = DoesProgram does how l f g p named args told s t
+DoesAccepted (OnProgram origin does) how l f g p named args told s t = DoesProgram does how l f g p named args told s t
 
 -- what a command answers on a tree
 abbrev pub DoesTree : Command → Status → PassList → FilesSeen → FilesSeen → Tree → Option (List ℕ) → List (List ℕ) → List (List ℕ) → SinkSeen → SinkSeen → Type 0
 DoesTree (OnFile outcome) how l f g tree named args told s t = Works (outcome tree) how told s t
 DoesTree (OnTree outcome) how l f g tree named args told s t = Works (outcome tree) how told s t
-DoesTree (OnProgram does) how l f g tree named args told s t =
+DoesTree (OnProgram origin does) how l f g tree named args told s t =
     Stage (RefusesProgram how tree) (IsIdle l told s t) (λ p. IsAcceptedProgram tree p) (λ p is. DoesProgram does how l f g p named args told s t)
 
 -- what a command answers on its files, of which the first is at a path

@@ -1,12 +1,22 @@
 -- The table of commands.
-use Rattle.std.specs.Prelude.{◌≡◌, Bool, true, false, List}
-use Rattle.bril_words.specs.declared.request.Action.TheVariants.{Run, Interpret, Record, Emit, Passes, Check, Link, WriteText, WriteJson, Demo}
-use Rattle.bril_words.specs.declared.request.Action.{Action}
+use Rattle.std.specs.Prelude.{◌≡◌, ℕ, Bool, true, false, List}
+use Rattle.bril_tree.specs.declared.tree.Tree.{Tree}
+use Rattle.bril_words.specs.declared.subcommands.Action.TheVariants as action
+use Rattle.bril_words.specs.declared.subcommands.Action.{Action}
+use Rattle.bril_words.specs.declared.subcommands.FileAction.TheVariants as file
+use Rattle.bril_words.specs.declared.subcommands.FileAction.{FileAction}
+use Rattle.bril_words.specs.declared.subcommands.PassesAction.TheVariants as passes
+use Rattle.bril_words.specs.declared.subcommands.PassesAction.{PassesAction}
+use Rattle.bril_words.specs.declared.subcommands.ProgramAction.TheVariants as program
+use Rattle.bril_words.specs.declared.subcommands.ProgramAction.{ProgramAction}
+use Rattle.bril_words.specs.declared.subcommands.TreeAction.TheVariants as tree
+use Rattle.bril_words.specs.declared.subcommands.TreeAction.{TreeAction}
 use Rattle.pass_law.specs.Chains.{AllSame}
 use Rattle.pass_law.specs.Meaning.{Meaning}
-use Rattle.bril_commands.specs.Command.{Command, OnProgram, takes_passes}
+use Rattle.bril_commands.specs.Command.{Command, OnFile, OnTree, OnProgram, OfProgram, LinkedFiles, Demo, takes_passes}
+use Rattle.bril_commands.specs.Outcome.{Outcome}
 use Rattle.bril_commands.specs.commands.Check.{checks}
-use Rattle.bril_commands.specs.commands.Demo.{demonstrates}
+use Rattle.bril_commands.specs.commands.Demo.{demo_list, demonstrates}
 use Rattle.bril_commands.specs.commands.Emit.{emits_words}
 use Rattle.bril_commands.specs.commands.Interp.{interprets}
 use Rattle.bril_commands.specs.commands.Json.{writes_as_json}
@@ -16,18 +26,39 @@ use Rattle.bril_commands.specs.commands.Record.{records}
 use Rattle.bril_commands.specs.commands.Run.{runs}
 use Rattle.bril_commands.specs.commands.Text.{writes_as_text}
 
+-- what the tree of a file comes to
+abbrev pub on_file : FileAction → Tree → Outcome
+on_file file.WriteText = writes_as_text
+on_file file.WriteJson = writes_as_json
+
+-- what the tree of all files comes to
+abbrev pub on_tree : TreeAction → Tree → Outcome
+on_tree tree.Link = writes_linked
+
+-- what is done with a program that is given to a list of passes
+abbrev pub on_made : PassesAction → OfProgram
+on_made (passes.Run settings) = runs settings.limits.frames settings.limits.cells settings.steps settings.stats
+on_made (passes.Emit limits) = emits_words limits.frames limits.cells
+on_made passes.Passes = transforms
+
+-- what is done with a program
+abbrev pub on_program : ProgramAction → OfProgram
+on_program program.Check = checks
+on_program (program.Interpret settings) = interprets settings.limits.frames settings.limits.cells settings.steps
+on_program (program.Record settings) = records settings.limits.frames settings.limits.cells settings.steps settings.hot settings.most
+on_program (program.WithPasses does) = on_made does
+
 -- the command of an action
 abbrev pub command : Action → Command
-command (Run frames cells steps stats) = OnProgram (runs frames cells steps stats)
-command (Interpret frames cells steps) = OnProgram (interprets frames cells steps)
-command (Record frames cells steps hot most) = OnProgram (records frames cells steps hot most)
-command (Emit frames) = OnProgram (emits_words frames)
-command Passes = OnProgram transforms
-command Check = OnProgram checks
-command Link = writes_linked
-command WriteText = writes_as_text
-command WriteJson = writes_as_json
-command (Demo functions) = OnProgram (demonstrates functions)
+command (action.File does) = OnFile (on_file does)
+command (action.Tree does) = OnTree (on_tree does)
+command (action.Program does) = OnProgram LinkedFiles (on_program does)
+command (action.Demo functions) = OnProgram (Demo functions) (demonstrates functions)
+
+-- the list of passes of an action, where the words give this one: the demo has its own
+abbrev pub list_for : Action → List ℕ → List ℕ
+list_for (action.Demo functions) list = demo_list
+list_for _ list = list
 
 -- passes are left as they are, or with what they mean where a list of them is taken
 abbrev pub Keeps : {B : Type 0} → (B → Meaning) → Bool → List B → List B → Type 0

@@ -11,7 +11,7 @@ use Rattle.bril_tree.specs.declared.limits.Limits.{Limits}
 use Rattle.bril_tree.specs.declared.program.Prog.{Prog}
 use Rattle.bril_tree.specs.declared.tree.Tree.{Tree}
 use Rattle.bril_tree.specs.declared.value.Value.{Value}
-use Rattle.bril_words.specs.declared.request.Action.{Action}
+use Rattle.bril_words.specs.declared.subcommands.Action.{Action}
 use Rattle.rv64_image_laws.specs.WordBounds.{IsWithin}
 use Rattle.bril_commands.specs.Call.{Call, SaysAlone, ReadsWell, UnlessMemory, TellsRun}
 use Rattle.bril_commands.specs.Command.{Command, OnFile, OnTree, OnProgram, Makes, Emission, NoImage, ImageFor, AreLimitsOf, Spell, reach}
@@ -74,7 +74,7 @@ IsDoneUnless number c o = ¬ Rose c.out_before.faults c.out_after.faults → IsD
 abbrev pub CommandDone : Command → ℕ → Call → Tree → List (List ℕ) → Type 0
 CommandDone (OnFile outcome) number c tree args = UnlessMemory number (IsDoneUnless number c (outcome tree))
 CommandDone (OnTree outcome) number c tree args = UnlessMemory number (IsDoneUnless number c (outcome tree))
-CommandDone (OnProgram does) number c tree args =
+CommandDone (OnProgram origin does) number c tree args =
     (p : Prog) (values : List Value) (entries : List Entry) → Numbered tree p → IsAccepted p → Spell does.arguments p args values → IsProfileFrom does.profile c.profile c.files_before.holds p entries →
     UnlessMemory number (AfterPasses does.takes_passes number c entries p (λ q makes. AfterEmission does.emission number q (IsDoneUnless number c (does.outcome (subject does c.passes entries p q makes values)))))
 

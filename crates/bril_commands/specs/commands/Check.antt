@@ -3,7 +3,7 @@ use Rattle.std.specs.Fmt.{decimal}
 use Rattle.std.specs.Prelude.{ℕ, false, List, ◌++◌, length, codes}
 use Rattle.bril_tree.specs.Size.{item_count}
 use Rattle.bril_tree.specs.declared.program.Prog.{Prog}
-use Rattle.bril_commands.specs.Command.{LinkedFiles, OfProgram, NoArguments, NoImage}
+use Rattle.bril_commands.specs.Command.{OfProgram, NoArguments, NoImage}
 use Rattle.bril_commands.specs.Outcome.{writes_text}
 use Rattle.bril_commands.specs.Profiles.{NoProfile}
 
@@ -13,4 +13,4 @@ accepted_line p = codes "ok " ++ decimal (length p.funcs) ++ codes " " ++ decima
 
 -- The line of the accepted program is written.
 abbrev pub checks : OfProgram
-checks = record { origin = LinkedFiles; arguments = NoArguments; profile = NoProfile; takes_passes = false; emission = NoImage; outcome = λ on. writes_text (accepted_line on.source) }
+checks = record { arguments = NoArguments; profile = NoProfile; takes_passes = false; emission = NoImage; outcome = λ on. writes_text (accepted_line on.source) }

@@ -9,12 +9,15 @@ use Rattle.bril_tree.specs.declared.limits.End.{End}
 use Rattle.bril_tree.specs.declared.limits.Limits.{Limits}
 use Rattle.bril_tree.specs.declared.program.Prog.{Prog}
 use Rattle.rv64_image_laws.specs.Implements.{image_after}
-use Rattle.bril_commands.specs.Command.{Demo, OfProgram, NoArguments, ImageFor, Subject}
+use Rattle.bril_commands.specs.Command.{OfProgram, NoArguments, ImageFor, Subject}
 use Rattle.bril_commands.specs.Outcome.{Outcome}
 use Rattle.bril_commands.specs.Profiles.{OwnRun}
 use Rattle.bril_commands.specs.commands.Run.{Executes, RunShows}
 
--- ---- its limits
+-- ---- its list of passes, and its limits
+
+abbrev pub demo_list : List ℕ
+demo_list = codes "trace,const,dead,tidy"
 
 abbrev pub demo_frames : ℕ
 demo_frames = 8192
@@ -112,7 +115,6 @@ SourceRuns on ended printed words =
 -- The demo of so many functions is given to its list of passes, with the profile of its own run, and the image of what this makes is run.
 abbrev pub demonstrates : (functions : ℕ) → OfProgram
 demonstrates functions = record {
-  origin = Demo functions;
   arguments = NoArguments;
   profile = OwnRun demo_frames demo_cells demo_words demo_hot demo_most;
   takes_passes = true;

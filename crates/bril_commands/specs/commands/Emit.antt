@@ -2,11 +2,10 @@
 use Rattle.std.specs.Prelude.{ℕ, ◌≡◌, ◌/◌, ◌%◌, ◌^◌, true, List, [], ◌∷◌, map}
 use Rattle.bril_tree.specs.declared.limits.Limits.{Limits}
 use Rattle.bril_tree.specs.declared.program.Prog.{Prog}
-use Rattle.bril_words.specs.Defaults.{default_cells}
 use Rattle.rv64_image_laws.specs.Implements.{Implements}
 use Rattle.rv64_words.specs.declared.image.Image.{Image}
 use Rattle.rv64_words.specs.Hexadecimal.{hex_digit}
-use Rattle.bril_commands.specs.Command.{LinkedFiles, OfProgram, NoArguments, ImageFor, AreLimitsOf}
+use Rattle.bril_commands.specs.Command.{OfProgram, NoArguments, ImageFor, AreLimitsOf}
 use Rattle.bril_commands.specs.Outcome.{writes}
 use Rattle.bril_commands.specs.Profiles.{NamedFile}
 
@@ -39,7 +38,6 @@ pub record ShowsImage (shows : Image → List (List ℕ)) (q : Prog) (frames cel
 -- The image of the program that the list makes, for limits of so many frames and cells, is written as `shows` has it.
 abbrev pub emits : (Image → List (List ℕ)) → (frames cells : ℕ) → OfProgram
 emits shows frames cells = record {
-  origin = LinkedFiles;
   arguments = NoArguments;
   profile = NamedFile;
   takes_passes = true;
@@ -47,6 +45,6 @@ emits shows frames cells = record {
   outcome = λ on. writes [] (ShowsImage shows on.made frames cells);
 }
 
--- The words of the image are written, for the default number of cells.
-abbrev pub emits_words : (frames : ℕ) → OfProgram
-emits_words frames = emits shown frames default_cells
+-- The words of the image are written.
+abbrev pub emits_words : (frames cells : ℕ) → OfProgram
+emits_words = emits shown

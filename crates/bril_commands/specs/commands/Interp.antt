@@ -9,7 +9,7 @@ use Rattle.bril_tree.specs.declared.limits.End.{End}
 use Rattle.bril_tree.specs.declared.limits.Limits.{Limits}
 use Rattle.bril_tree.specs.declared.program.Prog.{Prog}
 use Rattle.bril_tree.specs.declared.value.Value.{Value}
-use Rattle.bril_commands.specs.Command.{LinkedFiles, OfProgram, OfMain, NoImage}
+use Rattle.bril_commands.specs.Command.{OfProgram, OfMain, NoImage}
 use Rattle.bril_commands.specs.Outcome.{Outcome}
 use Rattle.bril_commands.specs.Profiles.{NoProfile}
 
@@ -62,7 +62,6 @@ interpreted p values frames cells steps = record {
 -- The program is interpreted for so many steps, under limits of so many frames and cells.
 abbrev pub interprets : (frames cells steps : ℕ) → OfProgram
 interprets frames cells steps = record {
-  origin = LinkedFiles;
   arguments = OfMain;
   profile = NoProfile;
   takes_passes = false;

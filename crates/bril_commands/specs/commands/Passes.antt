@@ -4,7 +4,7 @@ use Rattle.bril_text.specs.Canonical.{canonical_text}
 use Rattle.bril_tree.specs.Numbered.{Numbered}
 use Rattle.bril_tree.specs.declared.program.Prog.{Prog}
 use Rattle.bril_tree.specs.declared.tree.Tree.{Tree}
-use Rattle.bril_commands.specs.Command.{LinkedFiles, OfProgram, NoArguments, NoImage}
+use Rattle.bril_commands.specs.Command.{OfProgram, NoArguments, NoImage}
 use Rattle.bril_commands.specs.Outcome.{writes}
 use Rattle.bril_commands.specs.PassList.{tallies_told}
 use Rattle.bril_commands.specs.Profiles.{NamedFile}
@@ -23,4 +23,4 @@ pub record PutsTextOf (q : Prog) (output : List (List ℕ)) : Type 0 where
 
 -- The text of the program that the list makes is written, and the tallies of the passes that it used are told.
 abbrev pub transforms : OfProgram
-transforms = record { origin = LinkedFiles; arguments = NoArguments; profile = NamedFile; takes_passes = true; emission = NoImage; outcome = λ on. writes (tallies_told on.passes) (PutsTextOf on.made) }
+transforms = record { arguments = NoArguments; profile = NamedFile; takes_passes = true; emission = NoImage; outcome = λ on. writes (tallies_told on.passes) (PutsTextOf on.made) }

@@ -7,7 +7,7 @@ use Rattle.bril_tree.specs.declared.program.Prog.{Prog}
 use Rattle.bril_tree.specs.declared.value.Value.{Value}
 use Rattle.profile_text.specs.Form.{profile_text}
 use Rattle.trace_recorder.specs.Recorded.{recorded}
-use Rattle.bril_commands.specs.Command.{LinkedFiles, OfProgram, OfMain, NoImage}
+use Rattle.bril_commands.specs.Command.{OfProgram, OfMain, NoImage}
 use Rattle.bril_commands.specs.Outcome.{Outcome}
 use Rattle.bril_commands.specs.Profiles.{NoProfile}
 use Rattle.bril_commands.specs.Recording.{states_within}
@@ -36,7 +36,6 @@ recorded_run p values frames cells steps hot most = record {
 -- that was arrived at `hot` times has an entry, and there are `most` entries at most.
 abbrev pub records : (frames cells steps hot most : ℕ) → OfProgram
 records frames cells steps hot most = record {
-  origin = LinkedFiles;
   arguments = OfMain;
   profile = NoProfile;
   takes_passes = false;

@@ -14,7 +14,7 @@ use Rattle.rv64_words.specs.Machine.{machine_step}
 use Rattle.rv64_words.specs.Region.{sizes_of}
 use Rattle.rv64_words.specs.State.{State}
 use Rattle.rv64_words.specs.declared.image.Image.{Image}
-use Rattle.bril_commands.specs.Command.{LinkedFiles, OfProgram, OfMain, ImageFor, AreLimitsOf, Subject}
+use Rattle.bril_commands.specs.Command.{OfProgram, OfMain, ImageFor, AreLimitsOf, Subject}
 use Rattle.bril_commands.specs.Images.{MachineShows}
 use Rattle.bril_commands.specs.Outcome.{Outcome}
 use Rattle.bril_commands.specs.Profiles.{NamedFile}
@@ -80,7 +80,6 @@ ran on frames cells words stats = record {
 -- The image of the program that the list makes, for limits of so many frames and cells, is run for so many words.
 abbrev pub runs : (frames cells words : ℕ) → Bool → OfProgram
 runs frames cells words stats = record {
-  origin = LinkedFiles;
   arguments = OfMain;
   profile = NamedFile;
   takes_passes = true;

@@ -14,13 +14,14 @@ use bril_checker::Checked;
 use bril_interpreter::{Interp, StepAnswer};
 use bril_outside::sink::{Failed, Sink};
 use bril_report::Status;
-use bril_tree::limits::{End, Limits};
+use bril_tree::limits::End;
 use bril_tree::program::Prog;
 use bril_tree::text::Text;
 use bril_tree::value::Value;
+use bril_words::InterpretSettings;
 use std::alloc::Global;
 
-/// Interprets the program under the limits for so many steps, with the values that the words spell as the arguments of
+/// Interprets the program under the limits and for the steps of these settings, with the values that the words spell as the arguments of
 /// its `main`: what it prints goes to `out`.
 ///
 /// `ArgumentCount`, `BadArgument`: the words spell no such values, and nothing is put. `Faulted`, `Spent`: the program stopped
@@ -30,14 +31,13 @@ pub fn interpret<O: Sink>(
     alloc: Global,
     checked: &Checked,
     words: &[Text],
-    limits: Limits,
-    steps: u64,
+    settings: InterpretSettings,
     out: &mut O,
 ) -> Result<(), Status>
-    ensures { Stage (RefusesArgs (status_of result) checked.now.prog words.now) (IsSilent [] (O.seen out.old) (O.seen out.new)) (λ values. AreOnlyValues checked.now.prog words.now values) (λ values are. Works (interpreted checked.now.prog values limits.frames limits.cells steps) (status_of result) [] (O.seen out.old) (O.seen out.new)) }
+    ensures { Stage (RefusesArgs (status_of result) checked.now.prog words.now) (IsSilent [] (O.seen out.old) (O.seen out.new)) (λ values. AreOnlyValues checked.now.prog words.now values) (λ values are. Works (interpreted checked.now.prog values settings.limits.frames settings.limits.cells settings.steps) (status_of result) [] (O.seen out.old) (O.seen out.new)) }
 {
     let values = values_of(alloc, checked.prog(), words)?;
-    run_with(alloc, checked, values.as_slice(), limits, steps, out)
+    run_with(alloc, checked, values.as_slice(), settings, out)
 }
 
 // Interprets the program with these values.
@@ -45,19 +45,18 @@ fn run_with<O: Sink>(
     alloc: Global,
     checked: &Checked,
     values: &[Value],
-    limits: Limits,
-    steps: u64,
+    settings: InterpretSettings,
     out: &mut O,
 ) -> Result<(), Status>
     requires { FitMain checked.now.prog values.now }
-    ensures { Works (interpreted checked.now.prog values.now limits.frames limits.cells steps) (status_of result) [] (O.seen out.old) (O.seen out.new) }
+    ensures { Works (interpreted checked.now.prog values.now settings.limits.frames settings.limits.cells settings.steps) (status_of result) [] (O.seen out.old) (O.seen out.new) }
 {
-    let Ok(mut interp) = Interp::new(alloc, checked, limits, values) else {
+    let Ok(mut interp) = Interp::new(alloc, checked, settings.limits, values) else {
         return Err(Status::OutOfMemory);
     };
-    let ended = make_steps(&mut interp, checked.prog(), limits, values, steps, out)?;
+    let ended = make_steps(&mut interp, checked.prog(), values, settings, out)?;
     hand_on(out)?;
-    answer(ended, steps)
+    answer(ended, settings.steps)
 }
 
 // Makes so many steps. `Ok`: how the program ended, or that it goes on, for `None`. Where memory ran out, the output has handed on
@@ -65,16 +64,15 @@ fn run_with<O: Sink>(
 fn make_steps<O: Sink>(
     interp: &mut Interp<'_>,
     program: &Prog,
-    limits: Limits,
     values: &[Value],
-    steps: u64,
+    settings: InterpretSettings,
     out: &mut O,
 ) -> Result<Option<End>, Status>
-    requires { IsFresh interp.old program.now limits values.now }
-    ensures ok { IfOk result (λ ended. ShowsPut (interpreted program.now values.now limits.frames limits.cells steps) ended [] (O.seen out.old) (O.seen out.new)) }
-    ensures err { IfErr result (λ status. Works (interpreted program.now values.now limits.frames limits.cells steps) status [] (O.seen out.old) (O.seen out.new)) }
+    requires { IsFresh interp.old program.now settings.limits values.now }
+    ensures ok { IfOk result (λ ended. ShowsPut (interpreted program.now values.now settings.limits.frames settings.limits.cells settings.steps) ended [] (O.seen out.old) (O.seen out.new)) }
+    ensures err { IfErr result (λ status. Works (interpreted program.now values.now settings.limits.frames settings.limits.cells settings.steps) status [] (O.seen out.old) (O.seen out.new)) }
 {
-    match interp.run(steps, out) {
+    match interp.run(settings.steps, out) {
         StepAnswer::Go => Ok(None),
         StepAnswer::End(end) => Ok(Some(end)),
         StepAnswer::WriteFault => Err(Status::CannotWrite),

@@ -22,23 +22,14 @@ use bril_outside::sink::Sink;
 use bril_profile::Profile;
 use bril_report::Status;
 use bril_tree::bytes::Bytes;
-use bril_tree::limits::{End, Limits};
+use bril_tree::limits::End;
 use bril_tree::program::Prog;
 use bril_tree::text::Text;
 use bril_tree::value::Value;
+use bril_words::RecordSettings;
 use profile_text::write_profile;
 use std::alloc::{AllocError, Global};
 use trace_recorder::Recorder;
-
-/// How a program is recorded: under these limits, for so many steps; so many arrivals make a label hot, and the profile has so many
-/// entries at most.
-#[derive(Clone, Copy, Drop)]
-pub struct RecordSettings {
-    pub limits: Limits,
-    pub steps: u64,
-    pub hot: u32,
-    pub most: u32,
-}
 
 /// A run that was recorded: its profile, and how it ended, or that it goes on, for `None`.
 #[derive(Drop)]

@@ -25,12 +25,12 @@ returns-in_err-ended g c =
 pub returns-in_err-hand_on : goal.returns-in_err-hand_on
 returns-in_err-hand_on g c =
     let e = err_from_is_err_and c.from_residual-in_err-hand_on.result c.from_residual-in_err-hand_on.ensures.1 in
-    let o = interpreted c.args.checked.now.prog c.args.values.now c.args.limits.frames c.args.limits.cells c.args.steps in
+    let o = interpreted c.args.checked.now.prog c.args.values.now c.args.settings.limits.frames c.args.settings.limits.cells c.args.settings.steps in
     let put = rw c.prog.ensures.value at c.in_ok-ended.ensures.ok in
     rw (e.1, e.2) (refl, Shows-unflushed o put c.in_err-hand_on.ensures.kept c.in_err-hand_on.ensures.err)
 
 pub returns : goal.returns
 returns g c =
-    let o = interpreted c.args.checked.now.prog c.args.values.now c.args.limits.frames c.args.limits.cells c.args.steps in
+    let o = interpreted c.args.checked.now.prog c.args.values.now c.args.settings.limits.frames c.args.settings.limits.cells c.args.settings.steps in
     let put = rw c.prog.ensures.value at c.in_ok-ended.ensures.ok in
     rw c.answer.ensures (Works-ended o c.in_ok-ended.ended _ _ _ (Shows-flushed o put c.in_ok-hand_on.ensures.kept c.in_ok-hand_on.ensures.ok))
