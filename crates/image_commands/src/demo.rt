@@ -22,7 +22,7 @@ ghost use Rattle.rv64_words.specs.Region.{most_words, most_stack};
 
 use crate::image::image_of;
 use bril_checker::Checked;
-use bril_commands::commands::recording::{RecordSettings, recorded_run};
+use bril_commands::commands::recording::recorded_run;
 use bril_commands::list::transformed;
 use bril_commands::output::hand_on;
 use bril_outside::count_sink::CountSink;
@@ -33,11 +33,15 @@ use bril_tree::limits::Limits;
 use bril_tree::program::Prog;
 use bril_tree::sequence::Seq;
 use bril_tree::text::Text;
+use bril_words::RecordSettings;
 use image_runs::demo::{DemoCounts, WORDS, count_printed, counts_of, show};
 use pass_law::Pass;
 use rv64_machine::machine::Machine;
 use rv64_words::image::Image;
 use std::alloc::{AllocError, Global};
+
+/// The list of passes to which the demo gives its program.
+pub const PASSES: &str = "trace,const,dead,tidy";
 
 // The limits of the run.
 const FRAMES: u32 = 8_192;

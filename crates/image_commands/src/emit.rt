@@ -3,7 +3,7 @@
 ghost use Rattle.std.specs.Prelude.{length, ◌≡◌, ◌≤◌, []};
 ghost use Rattle.bril_commands.specs.Driver.{DoesProgram};
 ghost use Rattle.bril_commands.specs.PassList.{pass_list};
-ghost use Rattle.bril_commands.specs.commands.Emit.{shown, emits};
+ghost use Rattle.bril_commands.specs.commands.Emit.{emits_words};
 ghost use Rattle.bril_report.specs.StageFaults.{status_of};
 ghost use Rattle.bril_words.specs.Seen.{text_seen};
 ghost use Rattle.pass_law.specs.Chains.{AllSame};
@@ -39,7 +39,7 @@ pub fn put_image<F: Files, O: Sink>(
     requires { length names.now ≤ 64 }
     ensures holds { (F.seen files.new).holds ≡ (F.seen files.old).holds }
     ensures faults { (F.seen files.old).faults ≤ (F.seen files.new).faults }
-    ensures does { DoesProgram (emits shown limits.frames limits.cells) (status_of result) (pass_list (λ p. meaning p) (λ p. counts p) passes.old passes.new names.now) (F.seen files.old) (F.seen files.new) checked.prog (text_seen profile.entry) [] [] (O.seen out.old) (O.seen out.new) }
+    ensures does { DoesProgram (emits_words limits.frames limits.cells) (status_of result) (pass_list (λ p. meaning p) (λ p. counts p) passes.old passes.new names.now) (F.seen files.old) (F.seen files.new) checked.prog (text_seen profile.entry) [] [] (O.seen out.old) (O.seen out.new) }
     ensures same { AllSame (λ p. meaning p) passes.old passes.new }
 {
     let made = made_program(alloc, checked, profile, files, passes, names)?;

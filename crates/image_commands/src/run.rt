@@ -22,8 +22,8 @@ use bril_report::{Outputs, Status};
 use bril_tree::sequence::Seq;
 use bril_tree::text::Text;
 use bril_tree::value::Value;
-use bril_words::Request;
-use image_runs::run::{RunSettings, run_image};
+use bril_words::{Request, RunSettings};
+use image_runs::run::run_image;
 use pass_law::Pass;
 use std::alloc::Global;
 

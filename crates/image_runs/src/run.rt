@@ -16,21 +16,14 @@ use crate::stats::tell_stats;
 use bril_commands::output::{answer, hand_on};
 use bril_outside::sink::Sink;
 use bril_report::{Outputs, Status};
-use bril_tree::limits::{End, Limits};
+use bril_tree::limits::End;
 use bril_tree::program::Prog;
 use bril_tree::value::Value;
+use bril_words::RunSettings;
 use rv64_machine::answer::RunAnswer;
 use rv64_machine::machine::Machine;
 use rv64_words::image::Image;
 use std::alloc::Global;
-
-/// How a program is run: under these limits, for so many words, and whether its counts are told.
-#[derive(Clone, Copy, Drop)]
-pub struct RunSettings {
-    pub limits: Limits,
-    pub steps: u64,
-    pub stats: bool,
-}
 
 /// Runs an image that implements the program, with these values as the arguments of its `main`. Once it has stopped or gone on to the end
 /// of the steps, the output hands on what it holds back, and the counts are told.
