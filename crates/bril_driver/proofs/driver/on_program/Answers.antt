@@ -1,11 +1,16 @@
--- What a command does with its program that takes no passes.
+-- What was done with the program.
 use Rattle.std.proofs.Common.{◌≡◌, [], ◌∷◌, inl, inr, refl, ⊎_elim}
 use Rattle.bril_report.proofs.Telling.{Tells-none}
 use Rattle.bril_report.specs.StageFaults.{status_of}
 use Rattle.bril_commands.proofs.Works.{Works-put}
 use Rattle.bril_commands.specs.commands.Check.{accepted_line}
-use Rattle.bril_driver.proofs.Requests.{taken}
-use Rattle.bril_driver.proofs.driver.do_program.Goals as goal
+use Rattle.bril_driver.proofs.driver.on_program.Goals as goal
+
+pub returns-in-Check-clause-does : goal.returns-in-Check-clause-does
+returns-in-Check-clause-does g c =
+    let p = c.args.program.prog in
+    let works = Works-put (λ output. output ≡ accepted_line p ∷ []) (accepted_line p ∷ []) refl (status_of c.put_counts.result) _ _ c.put_counts.ensures in
+    rw c.in-Check.is (record { same_output = refl; told = []; does = inr ([], refl, inr ([], refl, inr (p, refl, inr (tt, works)))); tells = Tells-none g.E.Sink.seen c.args.outputs.now.err })
 
 pub returns-in-Interpret-clause-does : goal.returns-in-Interpret-clause-does
 returns-in-Interpret-clause-does g c =
@@ -25,11 +30,5 @@ returns-in-Record-clause-does g c =
       tells = Tells-none g.E.Sink.seen c.args.outputs.now.err;
     })
 
-pub returns-in-Check-clause-does : goal.returns-in-Check-clause-does
-returns-in-Check-clause-does g c =
-    let p = c.args.program.prog in
-    let works = Works-put (λ output. output ≡ accepted_line p ∷ []) (accepted_line p ∷ []) refl (status_of c.put_counts.result) _ _ c.put_counts.ensures in
-    rw c.in-Check.is (record { same_output = refl; told = []; does = inr ([], refl, inr ([], refl, inr (p, refl, inr (tt, works)))); tells = Tells-none g.E.Sink.seen c.args.outputs.now.err })
-
-pub do_with_passes-requires-clause-takes : goal.do_with_passes-requires-clause-takes
-do_with_passes-requires-clause-takes g c = taken c.args.request.action c.in-Run.is
+pub returns-in-WithPasses-clause-does : goal.returns-in-WithPasses-clause-does
+returns-in-WithPasses-clause-does g c = rw c.in-WithPasses.is c.on_made.ensures.does
