@@ -1,22 +1,20 @@
 -- There is no tree, or it has no accepted program, or it was dealt with.
-use Rattle.std.proofs.Common.{◌≡◌, [], ◌∷◌, refl, ap, subst, sym, inl, inr}
+use Rattle.std.proofs.Common.{[], refl, ap, subst, inl, inr}
 use Rattle.std.proofs.lemmas.Result.{err_from_is_err_and}
 use Rattle.bril_commands.proofs.Keeping.{kept}
 use Rattle.bril_commands.proofs.Profiles.{DoesTree-from}
 use Rattle.bril_commands.proofs.Reading.{memory_refuses}
-use Rattle.bril_commands.proofs.Works.{Works-put}
 use Rattle.bril_commands.specs.Command.{takes_passes}
 use Rattle.bril_commands.specs.PassList.{pass_list}
 use Rattle.bril_commands.specs.Source.{OfDemo}
 use Rattle.bril_commands.specs.Table.{command}
-use Rattle.bril_demo.specs.Demo.{demo_tree}
 use Rattle.bril_report.proofs.Telling.{Tells-none}
 use Rattle.bril_report.specs.StageFaults.{status_of}
-use Rattle.bril_text.specs.Canonical.{canonical_text}
 use Rattle.bril_tree.specs.Numbered.{Numbered}
 use Rattle.bril_tree.specs.declared.tree.Tree.{Tree}
 use Rattle.bril_words.specs.Seen.{text_seen}
 use Rattle.bril_words.specs.declared.subcommands.Action.TheVariants.{Program}
+use Rattle.bril_driver.proofs.Linking.{Works-linked}
 use Rattle.bril_driver.proofs.driver.do_action.Goals as goal
 
 -- ---- one file
@@ -29,6 +27,19 @@ returns-in_err-tree-in-File-clause-does g c =
 pub returns-in_ok-tree-in-File-clause-does : goal.returns-in_ok-tree-in-File-clause-does
 returns-in_ok-tree-in-File-clause-does g c =
     rw c.in-File.is (record { same_output = refl; told = []; does = inr (c.in_ok-tree-in-File.tree, c.in_ok-tree-in-File.ensures.ok, c.on_file.ensures); tells = Tells-none g.E.Sink.seen c.args.outputs.now.err })
+
+-- ---- linked files
+
+pub returns-in_err-tree-in-Tree-Link-clause-does : goal.returns-in_err-tree-in-Tree-Link-clause-does
+returns-in_err-tree-in-Tree-Link-clause-does g c =
+    let e = err_from_is_err_and c.from_residual-in_err-tree-in-Tree-Link.result c.from_residual-in_err-tree-in-Tree-Link.ensures.1 in
+    rw (c.in-Tree-Link.is, e.1, e.2) (record { same_output = refl; told = []; does = inl (c.in_err-tree-in-Tree-Link.ensures.err, ((refl, refl), refl)); tells = Tells-none g.E.Sink.seen c.args.outputs.now.err })
+
+pub returns-in_ok-tree-in-Tree-Link-clause-does : goal.returns-in_ok-tree-in-Tree-Link-clause-does
+returns-in_ok-tree-in-Tree-Link-clause-does g c =
+    let tree = c.in_ok-tree-in-Tree-Link.tree in
+    let works = Works-linked c.in-Tree-Link.field-0 tree (status_of c.put_text.result) _ _ c.put_text.ensures in
+    rw c.in-Tree-Link.is (record { same_output = refl; told = []; does = inr (tree, c.in_ok-tree-in-Tree-Link.ensures.ok, works); tells = Tells-none g.E.Sink.seen c.args.outputs.now.err })
 
 -- ---- their program
 
