@@ -3,6 +3,7 @@ use Rattle.std.proofs.Common.{ℕ, ◌+◌, ◌*◌, ◌≤◌, refl, arith}
 use Rattle.std.proofs.lemmas.Nat.{mul-le}
 use Rattle.bril_tree.specs.declared.program.Prog.{Prog}
 use Rattle.bril_tree.specs.Accepted.{IsAccepted}
+use Rattle.pass_budget_laws.specs.Laws.{IsWithinRow}
 use Rattle.pass_budget_laws.specs.Numbers.{Numbers, AreWithin}
 use Rattle.pass_budget_laws.specs.Shipped.{Shipped}
 use Rattle.pass_budget_laws.proofs.Entries.{program-entries-there}
@@ -48,15 +49,13 @@ leads-ssa n bound few = record {
 long : {a : ℕ} (b c : ℕ) → a ≤ b → b ≤ c → a ≤ c
 long b c l m = omega arith
 
-abbrev pub ssa_shipped : Shipped
-ssa_shipped = record {
-  meaning = ssa_meaning;
-  row = ssa_row;
-  answers = λ name. refl;
-  within = record {
-    factor = λ P profile n k accepted within is. factor-few P n k within is;
-    after = λ P Q profile n accepted within link.
-        let few = bound-few P n link.bound accepted within link.is_bound in
-        grows-within P Q (ssa_growth link.bound) n (ssa_row.after 0 n) accepted within (link.makes.numbers link.bound link.is_bound) (leads-ssa n link.bound few) (long link.bound (ssa_items n) link.within few);
-  };
+pub ssa-within_row : IsWithinRow ssa_meaning ssa_row
+ssa-within_row = record {
+  factor = λ P profile n k accepted within is. factor-few P n k within is;
+  after = λ P Q profile n accepted within link.
+      let few = bound-few P n link.bound accepted within link.is_bound in
+      grows-within P Q (ssa_growth link.bound) n (ssa_row.after 0 n) accepted within (link.makes.numbers link.bound link.is_bound) (leads-ssa n link.bound few) (long link.bound (ssa_items n) link.within few);
 }
+
+abbrev pub ssa_shipped : Shipped
+ssa_shipped = record { meaning = ssa_meaning; row = ssa_row; answers = λ name. refl; within = ssa-within_row }

@@ -5,6 +5,7 @@ use Rattle.std.proofs.lemmas.List.Sums.{sum_by-cons}
 use Rattle.bril_profile.specs.declared.profile.Profile.{Profile}
 use Rattle.bril_tree.specs.declared.program.Prog.{Prog}
 use Rattle.bril_tree.specs.Step.{code_of}
+use Rattle.pass_budget_laws.specs.Laws.{IsWithinRow}
 use Rattle.pass_budget_laws.specs.Numbers.{Numbers, AreWithin}
 use Rattle.pass_budget_laws.specs.Shipped.{Shipped}
 use Rattle.pass_budget_laws.proofs.Growing.{Leads, grows-within}
@@ -53,20 +54,18 @@ bound-few P profile n bound within is =
     let e = is.is in
     omega (arith, few, sum, items, e)
 
-abbrev pub trace_shipped : Shipped
-trace_shipped = record {
-  meaning = trace_meaning;
-  row = trace_row;
-  answers = λ name. refl;
-  within = record {
-    factor = λ P profile n k accepted within is. omega (arith, is);
-    after = λ P Q profile n accepted within link.
-        let made = link.makes in
-        let few = fits-few P [] profile.entries made.fits made.are_fits in
-        let laid = laid-sum P made.fits in
-        let bound = bound-few P profile n link.bound within link.is_bound in
-        let size = link.within in
-        grows-within P Q (trace_growth (length made.fits) (sum_by (laid_count P) made.fits)) n (trace_row.after (length profile.entries) n) accepted within (trace-keeps_numbers P Q profile accepted made)
-        (leads-trace n (length made.fits) (sum_by (laid_count P) made.fits) (length profile.entries) few (omega (arith, few, laid))) (omega (arith, size, bound));
-  };
+pub trace-within_row : IsWithinRow trace_meaning trace_row
+trace-within_row = record {
+  factor = λ P profile n k accepted within is. omega (arith, is);
+  after = λ P Q profile n accepted within link.
+      let made = link.makes in
+      let few = fits-few P [] profile.entries made.fits made.are_fits in
+      let laid = laid-sum P made.fits in
+      let bound = bound-few P profile n link.bound within link.is_bound in
+      let size = link.within in
+      grows-within P Q (trace_growth (length made.fits) (sum_by (laid_count P) made.fits)) n (trace_row.after (length profile.entries) n) accepted within (trace-keeps_numbers P Q profile accepted made)
+      (leads-trace n (length made.fits) (sum_by (laid_count P) made.fits) (length profile.entries) few (omega (arith, few, laid))) (omega (arith, size, bound));
 }
+
+abbrev pub trace_shipped : Shipped
+trace_shipped = record { meaning = trace_meaning; row = trace_row; answers = λ name. refl; within = trace-within_row }
