@@ -71,14 +71,14 @@ impl<'a> Job for CommandLine<'a> {
     type Answer = u8;
 
     fn work(self, passes: &mut [Box<dyn Pass>]) -> u8 {
-        end(
-            self.alloc,
-            Ok(self.words),
-            self.files,
-            self.out,
-            self.err,
-            passes,
-        )
+        let CommandLine {
+            alloc,
+            words,
+            files,
+            out,
+            err,
+        } = self;
+        end(alloc, Ok(words), files, out, err, passes)
     }
 }
 
