@@ -185,6 +185,7 @@ impl<'a> Job for List<'a> {
     type Answer = Option<Checked>;
 
     fn work(self, passes: &mut [Box<dyn Pass>]) -> Option<Checked> {
-        run_list(self.alloc, passes, &self.names, self.checked, self.profile).ok()
+        let checked = self.checked;
+        run_list(self.alloc, passes, &self.names, checked, self.profile).ok()
     }
 }
