@@ -1,0 +1,2 @@
+bril-profile 1
+trace @main .next TTT
