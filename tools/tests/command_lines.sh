@@ -60,7 +60,7 @@ replay_one() {
 
 replay show <examples/runs
 
-for page in README.md docs/COMMANDS.md docs/PASSES.md CONTRIBUTING.md; do
+for page in README.md CONTRIBUTING.md docs/*.md; do
     awk '/^```console$/ { inside = 1; next } /^```$/ { inside = 0 } inside' "$page" >"$scratch/page"
     replay show_plainly <"$scratch/page"
 done
