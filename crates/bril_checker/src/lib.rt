@@ -1,4 +1,4 @@
-//! Which programs are accepted. `check` takes exactly these, and answers exactly the first fault of any other.
+//! Which programs are accepted. `check` accepts exactly these, and returns exactly the first fault of any other.
 //!
 //! 1. The rules in their order (`src/checker.rt`; the faults are in `specs/Faults.antt`): operands and types
 //!    (`src/operands.rt`, `src/types.rt`), the first item that is wrong (`src/mistakes.rt`), and walks (`src/walks.rt`).

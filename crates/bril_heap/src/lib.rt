@@ -1,4 +1,4 @@
-//! The blocks of memory of a running program. Each call answers exactly by the table of faults, and a block that is freed
+//! The blocks of memory of a running program. Each call faults exactly by the table of faults, and a block that is freed
 //! gives its memory back.
 //!
 //! 1. The blocks, and how many cells are live (`src/cells.rt`).

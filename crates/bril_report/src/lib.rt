@@ -1,4 +1,4 @@
-//! What is told of how a command ended, and of the counts of a run. Each status has its number, and its line on the error
+//! What is reported of how a command ended, and of the counts of a run. Each status has its number, and its line on the error
 //! output is exactly as it is defined.
 //!
 //! 1. Statuses (`src/status.rt`), their numbers and lines (`src/report.rt`; `specs/Report.antt`, `specs/Lines.antt`), and the

@@ -24,7 +24,7 @@ fn bare_command<'a>(alloc: Global) -> Result<Command<'a>, AllocError>
     Command::new(alloc, "roolvist")
         .about("Ahead-of-time tracing compiler for Bril, on a RISC-V machine of its own")
         .after_help(
-            "Examples:{n}  roolvist run examples/divisor.bril -- 1071 462{n}  roolvist passes examples/leftovers.bril --passes dead,tidy{n}{n}`roolvist COMMAND --help` tells the options of a command.",
+            "Examples:{n}  roolvist run examples/divisor.bril -- 1071 462{n}  roolvist passes examples/leftovers.bril --passes dead,tidy{n}{n}`roolvist COMMAND --help` lists the options of a command.",
         )
         .subcommand_required(true)
         .disable_help_subcommand(true)

@@ -11,7 +11,7 @@
 //!    (`proofs/Editing.antt`).
 //! 4. The cases of an item (`proofs/Fates.antt`), and the items of the result with its numbers (`proofs/Points.antt`).
 //! 5. What is known where a walk along the table leads (`proofs/Along.antt`), and two plans: one for all walks, and one for
-//!    the walks along the table, where what is live holds what the table tells (`proofs/Plans.antt`).
+//!    the walks along the table, where what is live holds what the table says (`proofs/Plans.antt`).
 //! 6. Matched states go on: the result refines the program (`proofs/Refines.antt`).
 //! 7. The values of a table are of the types of their locations (`proofs/Typed.antt`), so the items of the result are typed,
 //!    and its walks are the program's: it is accepted (`proofs/Accepted.antt`).

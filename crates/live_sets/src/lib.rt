@@ -6,7 +6,7 @@
 //!
 //! On the way into SSA form liveness is found by two searches of its own, over blocks: the head of `ssa_search` says why.
 //!
-//! 1. The table of what is live (`src/live.rt`), and what it tells (`TellsLive`, `specs/Liveness.antt`).
+//! 1. The table of what is live (`src/live.rt`), and what it says (`TellsLive`, `specs/Liveness.antt`).
 //! 2. The searches (`src/flow.rt`), and the arcs that they go over (`src/arcs.rt`).
 //! 3. Sets of points (`src/points.rt`, `src/sorted.rt`).
 #![tactic(auto)]

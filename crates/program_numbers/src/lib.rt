@@ -1,4 +1,4 @@
-//! Laws alone: the numbers of a program, in which bounds on passes and on the words of the machine are told. There is one of
+//! Laws alone: the numbers of a program, in which bounds on passes and on the words of the machine are stated. There is one of
 //! each at most.
 //!
 //! 1. Edges into labels (`specs/Entries.antt`), and the machine words that a step costs (`specs/Cost.antt`).

@@ -1,4 +1,4 @@
-//! A machine that runs images of RISC-V words. It makes exactly the steps of its words, and each answer comes exactly by its
+//! A machine that runs images of RISC-V words. It makes exactly the steps of its words, and each result comes exactly by its
 //! cause.
 //!
 //! 1. The state, steps and runs (`src/machine.rt`).

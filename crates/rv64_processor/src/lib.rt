@@ -5,7 +5,7 @@
 //!    (`src/operation.rt`).
 //! 2. Memory: a region, filled as it is written (`src/region.rt`), and the three regions (`src/memory.rt`).
 //! 3. How groups are executed (`src/register_steps.rt`, `src/memory_steps.rt`, `src/call_steps.rt`, `src/frame_steps.rt`), and
-//!    how runs are (`src/group_steps.rt`, `specs/Runs.antt`). Which words a group stands for is told in `rv64_groups`.
+//!    how runs are (`src/group_steps.rt`, `specs/Runs.antt`). Which words a group stands for is defined in `rv64_groups`.
 #![tactic(auto)]
 
 mod call_steps;
