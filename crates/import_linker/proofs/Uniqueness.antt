@@ -18,7 +18,7 @@ use Rattle.import_linker.proofs.Once.{none_lacking, not_misread, not_too_long, n
 
 module _ (map : FileMap) (faults : ℕ) (after : FilesSeen) (root : List ℕ) where
   abbrev before : FilesSeen
-  before = record { holds = Some map; faults = faults }
+  before = record { holds = Some map; reads = reads; faults = faults }
 
   abbrev HasRisen : Type 0
   HasRisen = Rose faults after.faults
@@ -156,8 +156,8 @@ module _ (map : FileMap) (faults : ℕ) (after : FilesSeen) (root : List ℕ) wh
 -- ---- the laws
 
 -- files that are told
-told_as : (s : FilesSeen) (map : FileMap) → s.holds ≡ Some map → s ≡ record { holds = Some map; faults = s.faults }
-told_as s map told i = record { holds = told i; faults = s.faults }
+told_as : (s : FilesSeen) (map : FileMap) → s.holds ≡ Some map → s ≡ record { holds = Some map; reads = s.reads; faults = s.faults }
+told_as s map told i = record { holds = told i; reads = s.reads; faults = s.faults }
 
 pub linked_not_refused : LinkedAreNotRefused
 linked_not_refused map before after root tree f told linked h =
