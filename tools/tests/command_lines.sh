@@ -1,5 +1,5 @@
 # Cases of tools/test: the command lines of examples/runs and of the pages, that the programs of examples/ do the same in all
-# ways, that output which can't be written is told, and the canonical texts.
+# ways, that output which can't be written is told, that a terminal gets each line at once, and the canonical texts.
 
 # Runs a command line, and leaves what it writes on the two outputs in `out` and `err`, and its status in $status.
 run() {
@@ -91,6 +91,30 @@ for command in run interp; do
     cannot_write "$command, a pipe that is closed in the middle" \
         "{ ./roolvist $command examples/primes.bril -- 200000; echo \$? >'$scratch/status'; } | head -n 1 >/dev/null"
 done
+
+# On a terminal each line is written at once, so it is there although the program runs on until it is killed; elsewhere it is held
+# back until there is more.
+cat >"$scratch/endless.bril" <<'EOF'
+@main {
+  one: int = const 1;
+  print one;
+.again:
+  jmp .again;
+}
+EOF
+until_killed() {
+    is_wanted "$1" || return
+    printf "$2" >"$scratch/expected"
+    run "$3"
+    ends "$1" "$scratch/expected" "$scratch/out"
+}
+if has "the cases on a terminal" script timeout tr; then
+    for command in run interp; do
+        endless="./roolvist $command $scratch/endless.bril --steps 1000000000000"
+        until_killed "$command, a line on a terminal" '1\n' "timeout 3 script -qc '$endless' /dev/null | tr -d '\\r'"
+        until_killed "$command, a line in a pipe" '' "timeout 3 $endless | cat"
+    done
+fi
 
 # Each program that is interpreted or run in examples/runs prints and ends alike in three ways: interpreted, as machine words,
 # and as machine words after passes. One that ends or stops with a fault is recorded too, with two numbers of arrivals after

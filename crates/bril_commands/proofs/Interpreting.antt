@@ -5,7 +5,7 @@ use Rattle.bril_interpreter.specs.Line.{next_print, pieces_of, puts_of}
 use Rattle.bril_interpreter.specs.StepAnswers.{Ran, RunFailed, WantsMemory, reached_after, print_at, puts_within}
 use Rattle.bril_interpreter.specs.Interpreter.{InterpView}
 use Rattle.bril_outside.proofs.SinkWrites.{PutSome-longer, joined-append}
-use Rattle.bril_outside.specs.Sink.{SinkSeen, Rose, Flushed, TookAll, TookBy, PutTimes, PutAll, PutSome, joined}
+use Rattle.bril_outside.specs.Sink.{SinkSeen, Rose, Flushed, Took, TookAll, TookBy, PutTimes, PutSome, joined}
 use Rattle.bril_report.specs.Puts.{PutsAll}
 use Rattle.bril_tree.specs.declared.limits.End.{End}
 use Rattle.bril_tree.specs.declared.limits.Limits.{Limits}
@@ -110,8 +110,8 @@ module _ (i : InterpView) (p : Prog) (limits : Limits) (values : List Value) (fr
           rest = put.rest;
           unput = put.unput;
           whole = ap (λ ps. before ++ ps) here ∙ sym (append_assoc before put.front ((put.part ++ put.rest) ∷ put.unput));
-          put = subst (λ ps. PutAll s ps t) same
-              record { took = subst (λ b. TookAll s b t) bytes put.took; times = subst (λ n. PutTimes s n t) puts put.times };
+          took = subst (λ b. Took s b t) (bytes ∙ ap joined same) put.took;
+          times = subst (λ n. PutTimes s n t) (puts ∙ ap length same) put.times;
           rose = put.rose;
         }
 

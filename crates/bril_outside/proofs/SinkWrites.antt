@@ -2,7 +2,7 @@
 use Rattle.std.proofs.Common.{◌≡◌, ◌≢◌, ℕ, ◌+◌, ◌^◌, ◌<◌, ◌≤◌, List, [], ◌∷◌, ◌++◌, length, Option, Some, None, refl, ap, sym, subst, ◌∙◌, append_assoc, append-nil, length-append, zero-add, arith}
 use Rattle.std.proofs.lemmas.Grind.{common_steps}
 use Rattle.std.specs.Option.{option_map}
-use Rattle.bril_outside.specs.Sink.{SinkSeen, Rose, Flushed, amount_after, TookAll, TookSome, PutTimes, joined, PutAll, PutSome, TookBy, FailedAfter}
+use Rattle.bril_outside.specs.Sink.{SinkSeen, Rose, Flushed, amount_after, Took, TookAll, TookSome, PutTimes, joined, PutAll, PutSome, TookBy, FailedAfter}
 
 -- nothing more leaves an amount
 pub amount_after-zero : (a : Option ℕ) → amount_after a 0 ≡ a
@@ -39,15 +39,21 @@ Rose-after a b c h r = omega arith
 
 -- a sink takes nothing by doing nothing
 pub TookAll-none : (s : SinkSeen) → TookAll s [] s
-TookAll-none s = record { written = sym (written-none s.written); amount = sym (amount_after-zero s.amount); faults = omega arith }
+TookAll-none s = record {
+  took = record { written = sym (written-none s.written); amount = sym (amount_after-zero s.amount); faults = omega arith };
+  sound = refl;
+}
 
 -- two pieces that were taken are one
-pub TookAll-append : {s t u : SinkSeen} {a b : List ℕ} → TookAll s a t → TookAll t b u → TookAll s (a ++ b) u
-TookAll-append {s} {t} {u} {a} {b} one two = record {
+pub Took-append : {s t u : SinkSeen} {a b : List ℕ} → Took s a t → Took t b u → Took s (a ++ b) u
+Took-append {s} {t} {u} {a} {b} one two = record {
   written = two.written ∙ (ap (option_map (λ v. v ++ b)) one.written ∙ written-twice s.written a b);
   amount = two.amount ∙ (ap (λ n. amount_after n (length b)) one.amount ∙ (amount_after-twice s.amount (length a) (length b) ∙ ap (amount_after s.amount) (sym (length-append a b))));
-  faults = omega arith;
+  faults = omega (arith, one.faults, two.faults);
 }
+
+pub TookAll-append : {s t u : SinkSeen} {a b : List ℕ} → TookAll s a t → TookAll t b u → TookAll s (a ++ b) u
+TookAll-append one two = record { took = Took-append one.took two.took; sound = two.sound ∙ one.sound }
 
 -- ---- puts
 
@@ -86,7 +92,8 @@ PutSome-one took times rose = record {
   rest = took.rest;
   unput = [];
   whole = ap (λ v. v ∷ []) took.whole;
-  put = PutAll-one took.took times;
+  took = took.took;
+  times = times;
   rose = rose;
 }
 
@@ -105,21 +112,26 @@ PutSome-longer {s} {t} {ps} qs some = record {
   rest = some.rest;
   unput = some.unput ++ qs;
   whole = ap (λ v. v ++ qs) some.whole ∙ append_assoc some.front ((some.part ++ some.rest) ∷ some.unput) qs;
-  put = some.put;
+  took = some.took;
+  times = some.times;
   rose = some.rose;
 }
 
 -- a put fails after all of some pieces
 pub PutSome-after : {s t u : SinkSeen} {ps qs : List (List ℕ)} → PutAll s ps t → PutSome t qs u → PutSome s (ps ++ qs) u
-PutSome-after {s} {t} {u} {ps} {qs} one some = record {
-  front = ps ++ some.front;
-  part = some.part;
-  rest = some.rest;
-  unput = some.unput;
-  whole = ap (λ v. ps ++ v) some.whole ∙ sym (append_assoc ps some.front ((some.part ++ some.rest) ∷ some.unput));
-  put = subst (λ v. PutAll s v u) (sym (append_assoc ps some.front (some.part ∷ []))) (PutAll-append one some.put);
-  rose = Rose-after _ _ _ one.took.faults some.rose;
-}
+PutSome-after {s} {t} {u} {ps} {qs} one some =
+    let put : List (List ℕ) = some.front ++ some.part ∷ [] in
+    let all : ps ++ put ≡ (ps ++ some.front) ++ some.part ∷ [] = sym (append_assoc ps some.front (some.part ∷ [])) in
+    record {
+      front = ps ++ some.front;
+      part = some.part;
+      rest = some.rest;
+      unput = some.unput;
+      whole = ap (λ v. ps ++ v) some.whole ∙ sym (append_assoc ps some.front ((some.part ++ some.rest) ∷ some.unput));
+      took = subst (λ v. Took s v u) (sym (joined-append ps put) ∙ ap joined all) (Took-append one.took.took some.took);
+      times = subst (λ n. PutTimes s n u) (sym (length-append ps put) ∙ ap length all) (PutTimes-append (length ps) (length put) one.times some.times);
+      rose = Rose-after _ _ _ one.took.took.faults some.rose;
+    }
 
 -- ---- bytes by so many puts
 
@@ -146,8 +158,8 @@ FailedAfter-none {s} {t} {ps} some = record {
   rest = some.rest;
   unput = some.unput;
   whole = some.whole;
-  took = some.put.took;
-  times = subst (λ n. PutTimes s n t) (sym (zero-add (length (some.front ++ some.part ∷ [])))) some.put.times;
+  took = some.took;
+  times = subst (λ n. PutTimes s n t) (sym (zero-add (length (some.front ++ some.part ∷ [])))) some.times;
   rose = some.rose;
 }
 
@@ -161,7 +173,7 @@ FailedAfter-append {s} {t} {u} {a} {b} {ps} m n one two =
       rest = two.rest;
       unput = two.unput;
       whole = two.whole;
-      took = subst (λ v. TookAll s v u) (sym (append_assoc a b (joined put))) (TookAll-append one.took two.took);
+      took = subst (λ v. Took s v u) (sym (append_assoc a b (joined put))) (Took-append one.took.took two.took);
       times = subst (λ k. PutTimes s k u) (let e : m + (n + length put) ≡ (m + n) + length put = omega arith in e) (PutTimes-append m (n + length put) one.times two.times);
-      rose = Rose-after _ _ _ one.took.faults two.rose;
+      rose = Rose-after _ _ _ one.took.took.faults two.rose;
     }

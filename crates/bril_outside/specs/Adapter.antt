@@ -51,9 +51,9 @@ pub record FoundMore (old new : Option (List ℕ)) (most : ℕ) (before after : 
   pub stops : length bytes ≤ most + most_at_once
   pub stays : after ≡ before
 
--- what is told of files whose content is not: their faults
+-- what is told of files whose content and reads are not: their faults
 abbrev pub untold_files : ℕ → FilesSeen
-untold_files faults = record { holds = None; faults = faults }
+untold_files faults = record { holds = None; reads = None; faults = faults }
 
 -- the count of faults of files after an answer: one more exactly where a read failed
 abbrev pub faults_after : Result Bool FileFault → ℕ → ℕ

@@ -1,16 +1,21 @@
 -- What contracts say of files.
 use Rattle.std.specs.Prelude.{ℕ, ◌≡◌, ◌<◌, ◌≤◌, ◌⊎◌, List, ◌++◌, length, Option, Some, None}
-use Rattle.bril_outside.specs.Sink.{Rose}
+use Rattle.bril_outside.specs.Sink.{Rose, amount_after}
 
 -- the bytes at each path that has a file
 abbrev pub FileMap : Type 0
 FileMap = List ℕ → Option (List ℕ)
 
--- What is told of files: the bytes at each path, where that is told, and how many reads failed. The second
--- never falls, and stays at the end of its type.
+-- What is told of files: the bytes at each path, and how often a file was read, each where that is told; and how many reads failed. The
+-- last never falls, and stays at the end of its type.
 pub record FilesSeen : Type 0 where
   pub holds : Option FileMap
+  pub reads : Option ℕ
   pub faults : ℕ
+
+-- files were read so many times
+pub record ReadTimes (s : FilesSeen) (reads : ℕ) (t : FilesSeen) : Type 0 where
+  pub told : t.reads ≡ amount_after s.reads reads
 
 -- where the files are told, these bytes are at the path
 abbrev pub MayHold : Option FileMap → List ℕ → List ℕ → Type 0

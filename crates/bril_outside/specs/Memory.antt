@@ -48,11 +48,11 @@ after_put m piece =
       faults = if takes_all m piece then m.faults else next_count m.faults;
     }
 
--- Files in memory: the files, how many times one was read, the numbers of the reads that are to fail, and
--- how many failed.
+-- Files in memory: the files, how many times one was read, as long as they know that, the numbers of the reads that are to
+-- fail, and how many failed.
 pub record FilesMemory : Type 0 where
   pub files : List StoredFile
-  pub reads : ℕ
+  pub reads : Option ℕ
   pub fails : List ℕ
   pub faults : ℕ
 
@@ -62,11 +62,11 @@ file_at files path = option_map (λ f. f.bytes) (find (λ f. bytes_eq f.path pat
 
 -- they tell all that they hold
 abbrev pub files_seen : FilesMemory → FilesSeen
-files_seen m = record { holds = Some (file_at m.files); faults = m.faults }
+files_seen m = record { holds = Some (file_at m.files); reads = m.reads; faults = m.faults }
 
 -- whether the next read is one that is to fail
 abbrev pub next_read_fails : FilesMemory → Bool
-next_read_fails m = list_any (λ n. n == next_count m.reads) m.fails
+next_read_fails m = has_number m.fails (amount_after m.reads 1)
 
 -- the answer to a read of what is at a path
 abbrev pub answer_at : Option (List ℕ) → ℕ → Result Bool FileFault
@@ -87,7 +87,7 @@ AnswersRead answer (Err Memory) = answer ≡ Ok true
 abbrev pub after_read : FilesMemory → FilesMemory
 after_read m =
     record m {
-      reads = next_count m.reads;
+      reads = amount_after m.reads 1;
       faults = if next_read_fails m then next_count m.faults else m.faults;
     }
 

@@ -25,18 +25,23 @@ abbrev pub amount_after : Option ℕ → ℕ → Option ℕ
 amount_after None more = None
 amount_after (Some n) more = if nat_le more ((2 ^ 64 - 1) - n) then Some (n + more) else None
 
--- the sink took all of the bytes
-pub record TookAll (s : SinkSeen) (bytes : List ℕ) (t : SinkSeen) : Type 0 where
+-- the sink took these bytes, and may have counted faults
+pub record Took (s : SinkSeen) (bytes : List ℕ) (t : SinkSeen) : Type 0 where
   pub written : t.written ≡ option_map (λ w. w ++ bytes) s.written
   pub amount : t.amount ≡ amount_after s.amount (length bytes)
   pub faults : s.faults ≤ t.faults
+
+-- the sink took all of the bytes, and counted no fault
+pub record TookAll (s : SinkSeen) (bytes : List ℕ) (t : SinkSeen) : Type 0 where
+  pub took : Took s bytes t
+  pub sound : t.faults ≡ s.faults
 
 -- the sink took the first of the bytes
 pub record TookSome (s : SinkSeen) (bytes : List ℕ) (t : SinkSeen) : Type 0 where
   pub part : List ℕ
   pub rest : List ℕ
   pub whole : bytes ≡ part ++ rest
-  pub took : TookAll s part t
+  pub took : Took s part t
 
 -- What was put is told as it was; the faults may have risen.
 pub record Flushed (s t : SinkSeen) : Type 0 where
@@ -57,7 +62,7 @@ joined [] = []
 joined (piece ∷ []) = piece
 joined (piece ∷ next ∷ more) = piece ++ joined (next ∷ more)
 
--- each of the pieces was put by one put, in this order, and the sink took all of them
+-- each of the pieces was put by one put, in this order, and the sink took all of them and counted no fault
 pub record PutAll (s : SinkSeen) (pieces : List (List ℕ)) (t : SinkSeen) : Type 0 where
   pub took : TookAll s (joined pieces) t
   pub times : PutTimes s (length pieces) t
@@ -70,7 +75,8 @@ pub record PutSome (s : SinkSeen) (pieces : List (List ℕ)) (t : SinkSeen) : Ty
   pub rest : List ℕ
   pub unput : List (List ℕ)
   pub whole : pieces ≡ front ++ (part ++ rest) ∷ unput
-  pub put : PutAll s (front ++ part ∷ []) t
+  pub took : Took s (joined (front ++ part ∷ [])) t
+  pub times : PutTimes s (length (front ++ part ∷ [])) t
   pub rose : Rose s.faults t.faults
 
 -- the sink took the bytes by so many puts, and stays where there is nothing to take
@@ -87,7 +93,7 @@ pub record FailedAfter (s : SinkSeen) (bytes : List ℕ) (puts : ℕ) (pieces : 
   pub rest : List ℕ
   pub unput : List (List ℕ)
   pub whole : pieces ≡ front ++ (part ++ rest) ∷ unput
-  pub took : TookAll s (bytes ++ joined (front ++ part ∷ [])) t
+  pub took : Took s (bytes ++ joined (front ++ part ∷ [])) t
   pub times : PutTimes s (puts + length (front ++ part ∷ [])) t
   pub rose : Rose s.faults t.faults
 

@@ -1,7 +1,7 @@
 // Files: what bytes are read from, by a path.
 
 ghost use Rattle.std.specs.Prelude.{◌≡◌, ◌≤◌, ◌++◌, nat_le, length, if◌then◌else◌, IfOk, IfErr, OnErr, MatchBool};
-ghost use Rattle.bril_outside.specs.Files.{FilesSeen, AppendedFile, FoundLonger, MayFail};
+ghost use Rattle.bril_outside.specs.Files.{FilesSeen, AppendedFile, FoundLonger, MayFail, ReadTimes};
 ghost use Rattle.bril_outside.specs.declared.files.FileFault.TheVariants.{Memory};
 
 use bril_tree::bytes::Bytes;
@@ -38,7 +38,8 @@ pub trait Files {
     /// `Ok(true)`: the whole file was appended to `into`. `Ok(false)`: the file has more than `most`
     /// bytes, and `into` stays. `Failed`: a fault was counted in this call, or the files are told and have
     /// none at the path. `Memory`: memory was wanting. `into` stays after either error. Where the files are
-    /// told, the answer follows them, and they stay; the faults never fall.
+    /// told, the answer follows them, and they stay; the faults never fall. Each call is one read, also one
+    /// that fails; a number of reads that would pass `u64::MAX` is no longer told.
     fn read(
         &mut self,
         alloc: Global,
@@ -48,6 +49,7 @@ pub trait Files {
     ) -> Result<bool, FileFault>
         ensures holds { (seen self.new).holds ≡ (seen self.old).holds }
         ensures faults { (seen self.old).faults ≤ (seen self.new).faults }
+        ensures times { ReadTimes (seen self.old) 1 (seen self.new) }
         ensures ok { IfOk result (λ whole. MatchBool whole
             (AppendedFile (seen self.old).holds path.now most into.old into.new)
             (FoundLonger (seen self.old).holds path.now most into.old into.new)) }

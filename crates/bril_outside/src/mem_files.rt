@@ -1,13 +1,14 @@
 // Files in memory.
 
-ghost use Rattle.std.specs.Prelude.{◌≡◌, ◌≤◌, ◌++◌, [], IfOk, IfErr, OnOk, OnErr, MatchBool, position};
+ghost use Rattle.std.specs.Prelude.{◌≡◌, ◌≤◌, ◌++◌, [], IfOk, IfErr, OnOk, OnErr, MatchBool, Some, position};
 ghost use Rattle.std.specs.Option.{option_copied};
 ghost use Rattle.std.specs.Str.{bytes_eq};
 ghost use Rattle.bril_outside.specs.Files.{AppendedFile, FoundLonger};
 ghost use Rattle.bril_outside.specs.Memory.{FilesMemory, files_seen, file_at, AnswersRead, read_answer, after_read, ChangesFile};
 
+use crate::count_sink::count_after;
 use crate::files::{FileFault, Files, append_short};
-use crate::mem_sink::is_listed;
+use crate::mem_sink::has_number;
 use crate::stored_file::StoredFile;
 use bril_tree::bytes::Bytes;
 use bril_tree::sequence::Seq;
@@ -17,13 +18,13 @@ use std::marker::Model;
 
 /// Files that lie in memory.
 ///
-/// They count their reads from 1, and a read whose number is on their list fails. The count stays at
-/// `u64::MAX`. The faults that they tell are these failed reads alone.
+/// They count their reads from 1 until that would pass `u64::MAX`, and a read whose number is on their list fails. The faults that
+/// they tell are these failed reads alone.
 #[derive(Drop)]
 pub struct MemFiles {
     alloc: Global,
     files: Vec<StoredFile>,
-    reads: u64,
+    reads: Option<u64>,
     fails: Seq<u64>,
     faults: u64,
 }
@@ -45,12 +46,12 @@ impl MemFiles {
     /// No files; those that are added will lie in memory of `alloc`. `fails` lists the numbers of the
     /// reads, from 1, that are to fail. Takes no memory.
     pub fn new(alloc: Global, fails: Seq<u64>) -> MemFiles
-        ensures { result ≡ record { files = []; reads = 0; fails = fails; faults = 0 } }
+        ensures { result ≡ record { files = []; reads = Some 0; fails = fails; faults = 0 } }
     {
         MemFiles {
             alloc,
             files: Vec::new(alloc),
-            reads: 0,
+            reads: Some(0),
             fails,
             faults: 0,
         }
@@ -97,8 +98,8 @@ impl Files for MemFiles {
             (FoundLonger (files_seen self.old).holds path.now most into.old into.new)) }
         ensures err { OnErr result (into.new ≡ into.old) }
     {
-        self.reads = self.reads.saturating_add(1);
-        if is_listed(self.fails.as_slice(), self.reads) {
+        self.reads = count_after(self.reads, 1);
+        if has_number(self.fails.as_slice(), self.reads) {
             self.faults = self.faults.saturating_add(1);
             return Err(FileFault::Failed);
         }

@@ -105,7 +105,7 @@ impl Sink for MemSink {
 }
 
 /// Whether the number, where there is one, is on the list. Takes no memory.
-fn has_number(list: &[u64], number: Option<u64>) -> bool
+pub(crate) fn has_number(list: &[u64], number: Option<u64>) -> bool
     ensures { result ≡ has_number list.now number }
 {
     match number {
@@ -115,7 +115,7 @@ fn has_number(list: &[u64], number: Option<u64>) -> bool
 }
 
 /// Whether the number is on the list. Takes no memory.
-pub(crate) fn is_listed(list: &[u64], number: u64) -> bool
+fn is_listed(list: &[u64], number: u64) -> bool
     ensures { result ≡ list_any (λ n. n == number) list.now }
 {
     list.iter().any(|n| *n == number)

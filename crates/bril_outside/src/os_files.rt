@@ -2,7 +2,7 @@
 
 ghost use Rattle.std.specs.Prelude.{◌≡◌, ◌≤◌, ◌^◌, ◌-◌, ◌+◌, min, None, IfOk, IfErr, OnErr, MatchBool, length};
 ghost use Rattle.bril_outside.specs.Adapter.{ReadsUpTo, AppendedRest, FoundMore, untold_files, faults_after};
-ghost use Rattle.bril_outside.specs.Files.{AppendedFile, FoundLonger, MayFail};
+ghost use Rattle.bril_outside.specs.Files.{AppendedFile, FoundLonger, MayFail, ReadTimes};
 
 use crate::files::{FileFault, Files, append_short};
 use bril_tree::bytes::Bytes;
@@ -61,6 +61,7 @@ impl<'a, R: std::rt::Files> Files for OsFiles<'a, R> {
             (FoundLonger None path.now most into.old into.new)) }
         ensures err { OnErr result (into.new ≡ into.old) }
         ensures faults { self.old ≤ self.new }
+        ensures times { ReadTimes (untold_files self.old) 1 (untold_files self.new) }
         ensures counted { self.new ≡ faults_after result self.old }
         ensures failed { IfErr result (λ e. e ≡ FileFault.Failed →
             MayFail (untold_files self.old) (untold_files self.new) path.now) }

@@ -1,6 +1,6 @@
 // A sink over a writer of the system.
 
-ghost use Rattle.std.specs.Prelude.{◌≡◌, ◌≤◌, ◌+◌, ◌-◌, ◌++◌, [], IfOk, OnOk, OnErr, None, true, is_ok, if◌then◌else◌, length, take, drop, vec_len, vec_capacity};
+ghost use Rattle.std.specs.Prelude.{◌≡◌, ◌≤◌, ◌+◌, ◌-◌, ◌++◌, [], IfOk, OnOk, OnErr, None, true, false, is_ok, if◌then◌else◌, length, take, drop, vec_len, vec_capacity};
 ghost use Rattle.std.specs.Io.KnownBytes.{Appends, Keeps, append_known};
 ghost use Rattle.bril_outside.specs.Sink.{next_count};
 ghost use Rattle.bril_outside.specs.Adapter.{AppendsFirst, bytes_over};
@@ -25,14 +25,14 @@ pub struct OsSink<W> {
 }
 
 impl<W> Model for OsSink<W> {
-    ghost use Rattle.std.specs.Prelude.{◌≤◌, vec_len, vec_capacity};
+    ghost use Rattle.std.specs.Prelude.{◌≡◌, ◌≤◌, true, [], vec_len, vec_capacity};
     ghost use Rattle.bril_outside.specs.Adapter.{SinkOver};
 
     ghost Value = { SinkOver W };
 
     ghost view = { λ s. record { out = s.out; held = s.held.items; faults = s.faults; is_out = s.is_out } };
 
-    ghost invariant = { λ s. (vec_len s.held ≤ s.room) × (s.room ≤ vec_capacity s.held) };
+    ghost invariant = { λ s. (vec_len s.held ≤ s.room) × (s.room ≤ vec_capacity s.held) × (s.is_out ≡ true → s.held.items ≡ []) };
 }
 
 impl<W: Write + Drop> OsSink<W> {
@@ -77,6 +77,8 @@ impl<W: Write + Drop> OsSink<W> {
     // Writes a piece for which there is no room beside what is held, or after which the sink may be flushed.
     #[inline(never)]
     fn put_through(&mut self, piece: &[u8]) -> Result<(), Failed>
+        requires held { self.old.is_out ≡ false }
+        ensures held { self.new.is_out ≡ false }
         ensures ok { OnOk result (Appends (bytes_over W.contents self.old) (bytes_over W.contents self.new) piece.now) }
         ensures err { OnErr result
             (AppendsFirst (bytes_over W.contents self.old) (bytes_over W.contents self.new) piece.now) }
@@ -91,6 +93,8 @@ impl<W: Write + Drop> OsSink<W> {
 
     // Holds the piece, or hands it on where it is longer than the buffer; before that what is held, where it has no room beside it.
     fn hold(&mut self, piece: &[u8]) -> Result<(), Failed>
+        requires held { self.old.is_out ≡ false }
+        ensures held { self.new.is_out ≡ false }
         ensures ok { OnOk result (Appends (bytes_over W.contents self.old) (bytes_over W.contents self.new) piece.now) }
         ensures err { OnErr result
             (AppendsFirst (bytes_over W.contents self.old) (bytes_over W.contents self.new) piece.now) }

@@ -28,4 +28,4 @@ PutsAll-append {s} {t} {u} {ps} {qs} one two = record {
 
 -- a failure is counted
 pub WritesSome-rose : {s t : SinkSeen} {pieces : List (List ℕ)} → WritesSome s pieces t → Rose s.faults t.faults
-WritesSome-rose {s} {t} some = ⊎_elim (λ put. put.rose) (λ lost. Rose-after _ _ _ lost.puts.put.took.faults lost.rose) some
+WritesSome-rose {s} {t} some = ⊎_elim (λ put. put.rose) (λ lost. Rose-after _ _ _ lost.puts.put.took.took.faults lost.rose) some

@@ -2,7 +2,7 @@
 // command that takes it.
 
 ghost use Rattle.std.specs.Prelude.{◌≡◌};
-ghost use Rattle.bril_words.specs.Options.{option_name, flag_name, operand_id};
+ghost use Rattle.bril_words.specs.Options.{option_name, option_help, flag_name, flag_help, operand_id, operand_help};
 
 /// An option of a command, with a value.
 #[derive(Clone, Copy, PartialEq, Eq, Debug, Drop)]
@@ -49,7 +49,9 @@ impl Setting {
     }
 
     // What it does, its range and its default, for help.
-    pub(crate) fn help<'a>(self) -> &'a str {
+    pub(crate) fn help<'a>(self) -> &'a str
+        ensures { result.now ≡ option_help self }
+    {
         match self {
             Setting::Passes => "Passes to apply, with commas between their names [default: none]",
             Setting::Profile => "File with a profile for the passes [default: none]",
@@ -81,7 +83,9 @@ impl Flag {
     }
 
     // What it does, for help.
-    pub(crate) fn help<'a>(self) -> &'a str {
+    pub(crate) fn help<'a>(self) -> &'a str
+        ensures { result.now ≡ flag_help self }
+    {
         match self {
             Flag::Stats => "Tell the counts of the run on standard error",
         }
@@ -117,7 +121,9 @@ impl Operand {
     }
 
     // What it is, for help.
-    pub(crate) fn help<'a>(self) -> &'a str {
+    pub(crate) fn help<'a>(self) -> &'a str
+        ensures { result.now ≡ operand_help self }
+    {
         match self {
             Operand::File => "Bril program: JSON where the name ends in .json, else text",
             Operand::Functions => "Functions of the demo program beside main, 1 to 150",

@@ -3,7 +3,7 @@ use Rattle.std.proofs.Common.{◌≡◌, ◌≢◌, ℕ, zero, suc, ◌+◌, ◌
 use Rattle.std.proofs.lemmas.List.{append_cancel_left}
 use Rattle.std.specs.Option.{option_map}
 use Rattle.bril_outside.proofs.SinkWrites.{PutSome-longer, joined-append}
-use Rattle.bril_outside.specs.Sink.{SinkSeen, TookAll, PutTimes, PutSome, amount_after, joined}
+use Rattle.bril_outside.specs.Sink.{SinkSeen, Took, PutTimes, PutSome, amount_after, joined}
 use Rattle.bril_tree.specs.Run.{FitMain}
 use Rattle.bril_tree.specs.declared.limits.End.{End}
 use Rattle.bril_tree.specs.declared.limits.Limits.{Limits}
@@ -133,7 +133,7 @@ module _ (image : Image) (p : Prog) (limits : Limits) (values : List Value) (imp
           let here : (image_after image limits values words).stopped ≡ option_map Finished ended = ap (λ (u : State). u.stopped) (sym (reached words)) ∙ ends in (
             pieces,
             (executes_at false ended here, ap (λ (u : State). u.done) ran.became.state ∙ ap (λ (u : State). u.done) (reached words)),
-            ran.printed.took.amount ∙ ap (λ bytes. amount_after s.amount (length bytes)) (sym (printed_at words)),
+            ran.printed.took.took.amount ∙ ap (λ bytes. amount_after s.amount (length bytes)) (sym (printed_at words)),
           )
 
       pub no_trap : (trap : _) → Ran (run.Trap trap) words m m' s t → ⊥
@@ -176,7 +176,8 @@ module _ (image : Image) (p : Prog) (limits : Limits) (values : List Value) (imp
               rest = print.took.rest;
               unput = [];
               whole = ap (λ ps. before ++ ps) (piece-some next some ∙ ap (λ b. b ∷ []) cut_piece);
-              put = record { took = subst (λ b. TookAll s b t) bytes print.took.took; times = subst (λ n. PutTimes s n t) puts print.times };
+              took = subst (λ b. Took s b t) bytes print.took.took;
+              times = subst (λ n. PutTimes s n t) puts print.times;
               rose = print.rose;
             }
 

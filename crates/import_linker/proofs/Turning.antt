@@ -2,11 +2,12 @@
 use Rattle.std.proofs.Common.{◌≡◌, ◌∙◌, refl, sym, ap, subst, ℕ, zero, suc, ◌+◌, ◌-◌, ◌<◌, ◌≤◌, List, [], ◌∷◌, ◌++◌, length, arith, Option, Some, None, inl, inr}
 use Rattle.std.specs.Prelude.{slice_get}
 use Rattle.std.proofs.lemmas.List.{length-append}
-use Rattle.bril_outside.specs.Files.{FileMap, FilesSeen, LacksFile, MayFail, MayHold}
-use Rattle.bril_outside.proofs.SinkWrites.{Rose-after}
+use Rattle.bril_outside.specs.Files.{FileMap, FilesSeen, LacksFile, MayFail, MayHold, ReadTimes}
+use Rattle.bril_outside.proofs.SinkWrites.{Rose-after, amount_after-twice}
+use Rattle.bril_outside.specs.Sink.{amount_after}
 use Rattle.import_linker.specs.Adding.{AddsTooMany}
 use Rattle.import_linker.specs.Order.{all_added, known_after, most_files, named_by}
-use Rattle.import_linker.specs.Reading.{AreNext, IsNext, IsNextPath, IsRead, RefusesReading, RefusesSource, bytes_of}
+use Rattle.import_linker.specs.Reading.{AreNext, IsNext, IsNextPath, IsRead, IsTriedOnce, RefusesReading, RefusesSource, bytes_of}
 use Rattle.import_linker.specs.formats.Format.{format_of}
 use Rattle.import_linker.specs.formats.Reading.{IsOnlyFault, most_bytes}
 use Rattle.import_linker.specs.declared.fault.LinkFault.{LinkFault}
@@ -18,6 +19,13 @@ use Rattle.import_linker.proofs.Knowing.{all_added_grows, known_more}
 fails_after : (s t u : FilesSeen) (path : List ℕ) → t.holds ≡ s.holds → s.faults ≤ t.faults → MayFail t u path → MayFail s u path
 fails_after s t u path stay le (inl rose) = inl (Rose-after s.faults t.faults u.faults le rose)
 fails_after s t u path stay le (inr lacks) = inr (subst (λ (h : Option FileMap). LacksFile h path) stay lacks)
+
+-- some reads and one more
+read_again : (s t u : FilesSeen) (n : ℕ) → ReadTimes s n t → ReadTimes t 1 u → ReadTimes s (n + 1) u
+read_again s t u n one two = record { told = two.told ∙ ap (λ a. amount_after a 1) one.told ∙ amount_after-twice s.reads n 1 }
+
+pub read_more : (s t u : FilesSeen) (sources : List Source) (x : Source) → ReadTimes s (length sources) t → ReadTimes t 1 u → ReadTimes s (length (sources ++ x ∷ [])) u
+read_more s t u sources x one two = subst (λ n. ReadTimes s n u) (sym (length-append sources (x ∷ []))) (read_again s t u (length sources) one two)
 
 pub got_inside : {X : Type 0} (xs : List X) (i : ℕ) (x : X) → slice_get xs i ≡ Some x → i < length xs
 got_inside [] zero x e = cc
@@ -109,3 +117,27 @@ module _ (root : List ℕ) (sources : List Source) (known : List (List ℕ)) (is
       long = let same = total_is in omega (arith, h.2);
     }
     refuses_source middle after fault.Memory path total at holds_is le total_is short h = tt
+
+    pub tried_source : (middle after : FilesSeen) (e : LinkFault) (path : List ℕ) (most : ℕ) → slice_get known (length sources) ≡ Some path → ReadTimes before (length sources) middle
+        → ReadTimes middle 1 after → RefusesSource e middle after path most → IsTriedOnce e before after root
+    tried_source middle after (fault.Read other) path most at one two h = record {
+      done = sources;
+      stops = record { read = read; next = is_next_path path at ∙ ap Some (sym h.0) };
+      times = read_again before middle after (length sources) one two;
+    }
+    tried_source middle after (fault.Bad other why) path most at one two h = tt
+    tried_source middle after (fault.NotThere other name) path most at one two h = tt
+    tried_source middle after (fault.Clash other name) path most at one two h = tt
+    tried_source middle after fault.TooManyFiles path most at one two h = tt
+    tried_source middle after fault.TooManyBytes path most at one two h = tt
+    tried_source middle after fault.Memory path most at one two h = tt
+
+-- another file than can be known isn't read
+pub tried_adding : (before after : FilesSeen) (root : List ℕ) (e : LinkFault) (known more : List (List ℕ)) → AddsTooMany e known more → IsTriedOnce e before after root
+tried_adding before after root (fault.Read other) known more h = absurd h
+tried_adding before after root (fault.Bad other why) known more h = tt
+tried_adding before after root (fault.NotThere other name) known more h = tt
+tried_adding before after root (fault.Clash other name) known more h = tt
+tried_adding before after root fault.TooManyFiles known more h = tt
+tried_adding before after root fault.TooManyBytes known more h = tt
+tried_adding before after root fault.Memory known more h = tt

@@ -16,9 +16,9 @@ use Rattle.import_linker.specs.declared.sources.Source.{Source}
 use Rattle.import_linker.proofs.Alone.{Stopped, one_stop}
 use Rattle.import_linker.proofs.Once.{none_lacking, not_misread, not_too_long, not_too_many, same_files}
 
-module _ (map : FileMap) (faults : ℕ) (after : FilesSeen) (root : List ℕ) where
+module _ (map : FileMap) (reads : Option ℕ) (faults : ℕ) (after : FilesSeen) (root : List ℕ) where
   abbrev before : FilesSeen
-  before = record { holds = Some map; faults = faults }
+  before = record { holds = Some map; reads = reads; faults = faults }
 
   abbrev HasRisen : Type 0
   HasRisen = Rose faults after.faults
@@ -156,18 +156,18 @@ module _ (map : FileMap) (faults : ℕ) (after : FilesSeen) (root : List ℕ) wh
 -- ---- the laws
 
 -- files that are told
-told_as : (s : FilesSeen) (map : FileMap) → s.holds ≡ Some map → s ≡ record { holds = Some map; faults = s.faults }
-told_as s map told i = record { holds = told i; faults = s.faults }
+told_as : (s : FilesSeen) (map : FileMap) → s.holds ≡ Some map → s ≡ record { holds = Some map; reads = s.reads; faults = s.faults }
+told_as s map told i = record { holds = told i; reads = s.reads; faults = s.faults }
 
 pub linked_not_refused : LinkedAreNotRefused
 linked_not_refused map before after root tree f told linked h =
-    not_refused map before.faults after root tree f (subst (λ (o : Option FileMap). Linked o root tree) told linked)
+    not_refused map before.reads before.faults after root tree f (subst (λ (o : Option FileMap). Linked o root tree) told linked)
     (subst (λ (s : FilesSeen). RefusesLink f s after root) (told_as before map told) h)
 
 pub refused_once : RefusedOnce
 refused_once map before after root f g told a b =
     let same = told_as before map told in
-    once map before.faults after root f g (subst (λ (s : FilesSeen). RefusesLink f s after root) same a) (subst (λ (s : FilesSeen). RefusesLink g s after root) same b)
+    once map before.reads before.faults after root f g (subst (λ (s : FilesSeen). RefusesLink f s after root) same a) (subst (λ (s : FilesSeen). RefusesLink g s after root) same b)
 
 pub lacking_not_linked : LackingAreNotLinked
 lacking_not_linked map root path done tree at lacks linked = none_lacking map root linked.sources linked.files done path at.read at.next lacks
@@ -175,6 +175,6 @@ lacking_not_linked map root path done tree at lacks linked = none_lacking map ro
 pub lacking_not_read : LackingAreNotRead
 lacking_not_read map before after root path done f told at lacks h =
     let same = told_as before map told in
-    lacking_unread map before.faults after root done path
+    lacking_unread map before.reads before.faults after root done path
     (subst (λ (o : Option FileMap). StopsAt o root path done) told at) (subst (λ (o : Option FileMap). LacksFile o path) told lacks)
     f (subst (λ (s : FilesSeen). RefusesLink f s after root) same h)

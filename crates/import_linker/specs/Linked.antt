@@ -1,9 +1,9 @@
 -- The tree of a program's files: their functions under names of their own.
-use Rattle.std.specs.Prelude.{ℕ, ◌≡◌, ◌<◌, ◌+◌, ◌==◌, ◌&&◌, Bool, zero, suc, true, false, List, [], ◌∷◌, ◌++◌, map, Option, None, get_or, bytes_eq, if◌then◌else◌, replicate}
+use Rattle.std.specs.Prelude.{ℕ, ◌≡◌, ◌<◌, ◌+◌, ◌==◌, ◌&&◌, Bool, zero, suc, true, false, List, [], ◌∷◌, ◌++◌, length, map, Option, None, get_or, bytes_eq, if◌then◌else◌, replicate}
 use Rattle.std.specs.Char.{is_ascii_digit}
 use Rattle.std.specs.Fmt.{decimal}
 use Rattle.std.specs.List.{list_any, position_or_len}
-use Rattle.bril_outside.specs.Files.{FileMap}
+use Rattle.bril_outside.specs.Files.{FileMap, FilesSeen, ReadTimes}
 use Rattle.bril_tree.specs.declared.function_tree.FuncTree.{FuncTree}
 use Rattle.bril_tree.specs.declared.function_tree.Item.{Item}
 use Rattle.bril_tree.specs.declared.function_tree.Item.TheVariants as item
@@ -73,3 +73,8 @@ pub record Linked (holds : Option FileMap) (root : List ℕ) (tree : Tree) : Typ
   pub sources : List Source
   pub files : AreFiles holds root sources
   pub links : IsTreeOf sources tree
+
+-- It is, and each of its files was read once.
+pub record LinkedByReads (before after : FilesSeen) (root : List ℕ) (tree : Tree) : Type 0 where
+  pub linked : Linked before.holds root tree
+  pub times : ReadTimes before (length linked.sources) after

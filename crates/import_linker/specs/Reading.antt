@@ -1,7 +1,7 @@
 -- The reading of a program's files, one after another.
 use Rattle.std.specs.Prelude.{ℕ, ◌≡◌, ◌<◌, ◌≤◌, ◌+◌, List, [], ◌∷◌, ◌++◌, length, Option, Some, slice_get}
 use Rattle.std.specs.List.{sum_by}
-use Rattle.bril_outside.specs.Files.{FileMap, FilesSeen, MayHold, MayFail}
+use Rattle.bril_outside.specs.Files.{FileMap, FilesSeen, MayHold, MayFail, ReadTimes}
 use Rattle.import_linker.specs.Order.{known_after, most_files}
 use Rattle.import_linker.specs.formats.Format.{format_of}
 use Rattle.import_linker.specs.formats.Reading.{IsOnlyTree, IsOnlyFault, most_bytes}
@@ -87,6 +87,17 @@ RefusesReading (fault.Clash path name) before after root = ⊥
 RefusesReading fault.TooManyFiles before after root = PassesFiles before.holds root
 RefusesReading fault.TooManyBytes before after root = PassesBytes before.holds root
 RefusesReading fault.Memory before after root = Unit {0}
+
+-- The file at the path was tried once, after the files before it, which were read once each.
+pub record TriedOnce (before after : FilesSeen) (root path : List ℕ) : Type 0 where
+  pub done : List Source
+  pub stops : StopsAt before.holds root path done
+  pub times : ReadTimes before (length done + 1) after
+
+-- a file that was not read was tried once
+abbrev pub IsTriedOnce : LinkFault → FilesSeen → FilesSeen → List ℕ → Type 0
+IsTriedOnce (fault.Read path) before after root = TriedOnce before after root path
+IsTriedOnce _ before after root = Unit {0}
 
 -- why the file at a path, of at most so many bytes, was not read
 abbrev pub RefusesSource : LinkFault → FilesSeen → FilesSeen → List ℕ → ℕ → Type 0

@@ -1,8 +1,9 @@
 // A file and all that it imports, as one tree.
 
 ghost use Rattle.std.specs.Prelude.{◌≡◌, ◌<◌, ◌≤◌, ◌++◌, IfOk, IfErr, OnOk};
-ghost use Rattle.import_linker.specs.Linked.{linked_file, IsFreshRun, IsTreeOf, Linked};
+ghost use Rattle.import_linker.specs.Linked.{linked_file, IsFreshRun, IsTreeOf, Linked, LinkedByReads};
 ghost use Rattle.import_linker.specs.Names.{fault_from, names_at, paths_of};
+ghost use Rattle.import_linker.specs.Reading.{IsTriedOnce};
 ghost use Rattle.import_linker.specs.Refusing.{AreNamed, RefusesLink};
 ghost use Rattle.import_linker.specs.Tables.{fault_by};
 
@@ -41,7 +42,9 @@ pub fn link<F: Files>(alloc: Global, files: &mut F, root: &Text) -> Result<Tree,
     ensures holds { (F.seen files.new).holds ≡ (F.seen files.old).holds }
     ensures faults { (F.seen files.old).faults ≤ (F.seen files.new).faults }
     ensures ok { IfOk result (Linked (F.seen files.old).holds root.now) }
+    ensures times { IfOk result (LinkedByReads (F.seen files.old) (F.seen files.new) root.now) }
     ensures err { IfErr result (λ fault. RefusesLink fault (F.seen files.old) (F.seen files.new) root.now) }
+    ensures tried { IfErr result (λ fault. IsTriedOnce fault (F.seen files.old) (F.seen files.new) root.now) }
 {
     let read = read_sources(alloc, files, root)?;
     let tree = linked_tree(alloc, &read.paths, read.sources.as_slice())?;

@@ -1,8 +1,9 @@
 // The reading of a program's files, one after another.
 
-ghost use Rattle.std.specs.Prelude.{◌≡◌, ◌≤◌, IfOk, IfErr};
+ghost use Rattle.std.specs.Prelude.{◌≡◌, ◌≤◌, IfOk, IfErr, length};
+ghost use Rattle.bril_outside.specs.Files.{ReadTimes};
 ghost use Rattle.import_linker.specs.Names.{paths_of};
-ghost use Rattle.import_linker.specs.Reading.{AreFiles, RefusesReading, RefusesSource, IsRead};
+ghost use Rattle.import_linker.specs.Reading.{AreFiles, IsTriedOnce, RefusesReading, RefusesSource, IsRead};
 ghost use Rattle.import_linker.specs.formats.Reading.{most_bytes};
 
 use crate::fault::LinkFault;
@@ -34,7 +35,9 @@ pub(crate) fn read_sources<F: Files>(
     ensures faults { (F.seen files.old).faults ≤ (F.seen files.new).faults }
     ensures ok { IfOk result (λ read. AreFiles (F.seen files.old).holds root.now read.sources) }
     ensures paths { IfOk result (λ read. read.paths ≡ paths_of read.sources) }
+    ensures times { IfOk result (λ read. ReadTimes (F.seen files.old) (length read.sources) (F.seen files.new)) }
     ensures err { IfErr result (λ fault. RefusesReading fault (F.seen files.old) (F.seen files.new) root.now) }
+    ensures tried { IfErr result (λ fault. IsTriedOnce fault (F.seen files.old) (F.seen files.new) root.now) }
 {
     let mut known = KnownPaths::new(alloc);
     known.add(alloc, root.as_str())?;
@@ -71,6 +74,7 @@ pub fn read_source<F: Files>(
     requires { most ≤ most_bytes }
     ensures holds { (F.seen files.new).holds ≡ (F.seen files.old).holds }
     ensures faults { (F.seen files.old).faults ≤ (F.seen files.new).faults }
+    ensures times { ReadTimes (F.seen files.old) 1 (F.seen files.new) }
     ensures path { IfOk result (λ s. s.path ≡ path) }
     ensures short { IfOk result (λ s. s.size ≤ most) }
     ensures read { IfOk result (IsRead (F.seen files.old).holds) }

@@ -27,3 +27,6 @@ returns-clause-ok g c = record {
   files = c.in_ok-read.ensures.ok;
   links = subst (λ (l : List Source). IsTreeOf l c.in_ok-tree.tree) c.as_slice.ensures c.in_ok-tree.ensures.ok;
 }
+
+pub returns-clause-times : goal.returns-clause-times
+returns-clause-times g c = record { linked = returns-clause-ok g c; times = c.in_ok-read.ensures.times }

@@ -2,6 +2,7 @@
 use Rattle.std.proofs.Common.{◌≡◌, ◌∙◌, ◌≤◌, ◌+◌, ap, sym, subst, arith, length, [], List, Some}
 use Rattle.std.proofs.lemmas.Result.{err_from_is_err_and}
 use Rattle.std.specs.Prelude.{slice_get}
+use Rattle.bril_outside.specs.Files.{ReadTimes}
 use Rattle.import_linker.specs.Order.{all_added, known_after, named_by, named_in}
 use Rattle.import_linker.specs.Adding.{AddsTooMany}
 use Rattle.bril_tree.specs.declared.import.Import.{Import}
@@ -10,7 +11,7 @@ use Rattle.import_linker.specs.formats.Reading.{most_bytes}
 use Rattle.import_linker.specs.declared.sources.Source.{Source}
 use Rattle.import_linker.proofs.Knowing.{bytes_more, next_more}
 use Rattle.import_linker.proofs.Numbering.{paths_are}
-use Rattle.import_linker.proofs.Turning.{all_read, knows, next_is, refuses_adding, started_more}
+use Rattle.import_linker.proofs.Turning.{all_read, knows, next_is, read_more, refuses_adding, started_more, tried_adding}
 use Rattle.import_linker.proofs.reading.read_sources.Goals as goal
 
 pub returns-in_err-add_imports-clause-err : goal.returns-in_err-add_imports-clause-err
@@ -24,6 +25,11 @@ returns-in_err-add_imports-clause-err g c =
     (g.F.Files.seen c.loop-path.files).holds c.in_ok-source.source c.in_ok-path.path c.loop-path.total at c.in_ok-source.ensures.path c.loop-path.invariant.holds c.in_ok-source.ensures.read
     c.loop-path.invariant.total short
     (subst (λ (i : List Import). AddsTooMany c.in_err-add_imports.field-0.0 c.loop-path.known (named_in c.in_ok-source.source.path i)) c.as_slice-in-Some.ensures c.in_err-add_imports.ensures.err))
+
+pub returns-in_err-add_imports-clause-tried : goal.returns-in_err-add_imports-clause-tried
+returns-in_err-add_imports-clause-tried g c =
+    let e = err_from_is_err_and c.from_residual-in_err-add_imports.result c.from_residual-in_err-add_imports.ensures.1 in
+    rw (e.1, e.2) (tried_adding _ _ c.args.root.now c.in_err-add_imports.field-0.0 c.loop-path.known (named_in c.in_ok-source.source.path c.as_slice-in-Some.result.now) c.in_err-add_imports.ensures.err)
 
 pub loop-path-preserved : goal.loop-path-preserved
 loop-path-preserved g c =
@@ -41,6 +47,8 @@ loop-path-preserved g c =
     record {
       holds = c.in_ok-source.ensures.holds ∙ c.loop-path.invariant.holds;
       faults = omega (arith, c.in_ok-source.ensures.faults, c.loop-path.invariant.faults);
+      times = subst (λ (l : List Source). ReadTimes (g.F.Files.seen c.args.files.now) (length l) (g.F.Files.seen c.read_source.new.files)) (sym pushed)
+          (read_more (g.F.Files.seen c.args.files.now) (g.F.Files.seen c.loop-path.files) (g.F.Files.seen c.read_source.new.files) sources s c.loop-path.invariant.times c.in_ok-source.ensures.times);
       known = knows c.args.root.now sources c.loop-path.known c.loop-path.invariant.known s c.add_imports.new.known adds
           ∙ sym (ap (known_after c.args.root.now) pushed);
       few = c.in_ok-add_imports.ensures.few;

@@ -1,5 +1,6 @@
 -- The files so far were read in order, and what they name is known.
 use Rattle.std.proofs.Common.{◌≡◌, ◌≤◌, ◌-◌, [], length}
+use Rattle.bril_outside.specs.Files.{ReadTimes}
 use Rattle.import_linker.specs.Order.{known_after, most_files}
 use Rattle.import_linker.specs.Reading.{AreNext, bytes_of}
 use Rattle.import_linker.specs.formats.Reading.{most_bytes}
@@ -9,6 +10,7 @@ abbrev pub invariant-loop-path : goal.invariant-loop-path
 invariant-loop-path g l = record {
   holds : (g.F.Files.seen l.files).holds ≡ (g.F.Files.seen l.fn.files).holds;
   faults : (g.F.Files.seen l.fn.files).faults ≤ (g.F.Files.seen l.files).faults;
+  times : ReadTimes (g.F.Files.seen l.fn.files) (length l.sources) (g.F.Files.seen l.files);
   known : l.known ≡ known_after l.root l.sources;
   few : length l.known ≤ most_files;
   started : length l.sources ≤ length l.known;
