@@ -6,6 +6,7 @@ pub mod Given
 pub mod Edges
 pub mod Needed
 pub mod Edits
+pub mod Others
 pub mod Sizes
 pub mod Trees
 pub mod Having
