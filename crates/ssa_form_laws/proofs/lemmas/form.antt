@@ -1,12 +1,12 @@
 pub mod Points
 pub mod Fronts
+pub mod Others
 pub mod Single
 pub mod Following
 pub mod Given
 pub mod Edges
 pub mod Needed
 pub mod Edits
-pub mod Others
 pub mod Sizes
 pub mod Trees
 pub mod Having
