@@ -11,9 +11,9 @@ use std::alloc::{AllocError, Global};
 
 /// The pass `ssa`, as clauses see it by its tally. It brings a program into SSA form (Braun and others, "Simple and Efficient Construction
 /// of Static Single Assignment Form", 2013): each variable has one item that assigns it, or is an argument and has none; where two ways
-/// meet, a `get` stands behind the label, and `set`s where each way leaves for it. Its factor is 1 + 2·X·(D + 1), where X is the most
-/// locations of a function and D the most labels to which edges go from one leave point; its bound is the items and two for each leave
-/// point, label that is entered from it, and location that is live at the label.
+/// meet, a `get` stands behind the label, and `set`s where each way leaves for it. Beside these there are as many items as before. Its factor is
+/// 1 + 2·X·(D + 1), where X is the most locations of a function and D the most labels to which edges go from one leave point; its bound
+/// is the items and two for each leave point, label that is entered from it, and location that is live at the label.
 pub type Ssa = Edited<SsaEdit>;
 
 /// The edit of the pass `ssa`.

@@ -5,8 +5,10 @@
 //    Its row of a budget (`specs/form/Row.antt`; `proofs/lemmas/form/Entries.antt`, `proofs/Shipped.antt`).
 // 2. The points of laid code, and what stands there (`proofs/lemmas/form/Points.antt`, `Fronts.antt`).
 // 3. Each variable is assigned by one item, or is an argument and by none (`proofs/lemmas/form/Single.antt`); each `get` stands behind a label, with
-//    only `get`s between (`proofs/lemmas/form/Following.antt`), and has two `set`s that differ (`proofs/lemmas/form/Edges.antt`, `Needed.antt`).
-// 4. The tree can be numbered (`proofs/lemmas/form/Edits.antt`), and has at most two items more for each live entry (`proofs/lemmas/form/Sizes.antt`).
+//    only `get`s between (`proofs/lemmas/form/Following.antt`), and has two `set`s that differ (`proofs/lemmas/form/Edges.antt`, `Needed.antt`);
+//    what a `set` assigns has a `get` (`proofs/lemmas/form/Given.antt`).
+// 4. The tree can be numbered (`proofs/lemmas/form/Edits.antt`). Beside `get`s and `set`s it has as many items as the
+//    program has in all (`proofs/lemmas/form/Others.antt`), and at most two items more for each live entry (`proofs/lemmas/form/Sizes.antt`).
 // 5. So it is for all functions of a program (`proofs/lemmas/form/Trees.antt`).
 
 mod laws;

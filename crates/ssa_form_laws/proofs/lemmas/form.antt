@@ -1,5 +1,6 @@
 pub mod Points
 pub mod Fronts
+pub mod Others
 pub mod Single
 pub mod Following
 pub mod Given

@@ -6,7 +6,8 @@ use Rattle.ssa_laws.specs.live_entries.LiveEntries.{AreLiveEntries}
 use Rattle.pass_edit_laws.specs.numbers.Numbers.{Growth}
 use Rattle.program_numbers.specs.ProgramNumbers.{IsGreatestWidth, most_locations}
 
--- Before an item stand a `get` and a `set` at most for each location, and a `set` for each label that is entered from there.
+-- Before an item stand a `get` and a `set` at most for each location, and a `set` of each location for each label that is entered from
+-- there.
 pub record IsSsaFactor (P : Prog) (k : ℕ) : Type 0 where
   pub width : ℕ
   pub is_width : IsGreatestWidth P width

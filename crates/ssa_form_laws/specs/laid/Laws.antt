@@ -12,7 +12,7 @@ use Rattle.ssa_build.specs.tree.Made.{IsLaidTree}
 use Rattle.ssa_form_laws.specs.laid.Tables.{gets, names, sets, tables}
 
 -- The tables of a tree of an accepted program in SSA form are those by which its code is laid out. Before an item stand a `get` and a
--- `set` at most for each location, and a `set` for each label that is entered from there.
+-- `set` at most for each location, and a `set` of each location for each label that is entered from there.
 abbrev pub LaidTreesAreLaid : Type 0
 LaidTreesAreLaid = (P Q : Prog) (tree : Tree) → IsAccepted P → (t : IsLaidTree P tree) → Numbered tree Q → (width : ℕ) → IsGreatestWidth P width
     → Laid P Q (tables P tree t) (names P tree t) (gets P tree t) (sets P tree t) (2 * most_locations P * (width + 1))

@@ -5,8 +5,8 @@ ghost use Rattle.ssa_form_laws.specs.form.Laws.{LaidTreesAreEdits, LaidTreesAreI
 ghost use Rattle.ssa_form_laws.specs.form.Row.{LiveEntriesAreFew};
 ghost use Rattle.ssa_form_laws.specs.form.Ssa.{ssa_meaning};
 
-/// In the tree that is made of an accepted program each variable has one item that assigns it, or is an argument and has none, and each
-/// `get` stands behind a label and isn't trivial. A call does nothing.
+/// In the tree that is made of an accepted program each variable has one item that assigns it, or is an argument and has none; each
+/// `get` stands behind a label and isn't trivial; and each variable whose shadow a `set` assigns has a `get`. A call does nothing.
 pub fn laid_trees_are_in_form()
     ensures { LaidTreesAreInForm }
 {}

@@ -19,19 +19,10 @@ use Rattle.ssa_build.specs.code.Items.{laid_item, name_in, read_name}
 use Rattle.ssa_build.specs.code.Sweep.{item_args, laid_items, reached_at}
 use Rattle.ssa_build.specs.tree.Made.{IsLaidFunction}
 use Rattle.ssa_form_laws.proofs.lemmas.form.Fronts.{AtLabel, Falls, InFront, Leaves, in-front}
+use Rattle.ssa_form_laws.proofs.lemmas.form.Others.{own-label_of}
 use Rattle.ssa_form_laws.proofs.lemmas.form.Points.{Front, Home, Point, code-made, front, item-there, now, own, piece, point, tree_in}
 
 -- ---- labels
-
-label-kept : (r : Bool) (args : List (List ℕ)) (w : List ℕ) (t : Item) → label_of (laid_item r args w t) ≡ label_of t
-label-kept true args w (item.Label l) = refl
-label-kept false args w (item.Label l) = refl
-label-kept true args w (item.Const dest ty value) = refl
-label-kept false args w (item.Const dest ty value) = refl
-label-kept false args w (item.Act dest o old fns ls) = refl
-label-kept true args w (item.Act dest op.Get old fns ls) = refl
-label-kept true args w (item.Act dest op.Set old fns ls) = refl
-label-kept true args w (item.Act dest _ old fns ls) = refl
 
 -- items of which none is a label
 no-labels : (xs : List Item) → ((y : Item) → In y xs → label_of y ≡ None) → labels_of xs ≡ []
@@ -87,8 +78,7 @@ module _ (fs : List (List ℕ)) (F : Func) (g : FuncTree) (x : IsLaidFunction F 
       ∙ filter_map-append label_of (laid_items (piece (front fs F g x) (own fs F g x)) 0 (function_tree fs F).code) (front fs F g x (length F.code))
       ∙ ap (λ l. labels_of (laid_items (piece (front fs F g x) (own fs F g x)) 0 (function_tree fs F).code) ++ l) (no-labels (front fs F g x (length F.code)) (front-no_label (length F.code)))
       ∙ append-nil (labels_of (laid_items (piece (front fs F g x) (own fs F g x)) 0 (function_tree fs F).code))
-      ∙ labels-laid (front fs F g x) (own fs F g x) front-no_label
-      (λ i t. label-kept (reached_at (slice_get x.graph.sites i)) (map (read_name x.names x.find (now fs F g x i)) (item_args (slice_get F.code i))) (name_in x.names (F.args + i)) t) 0 (function_tree fs F).code)
+      ∙ labels-laid (front fs F g x) (own fs F g x) front-no_label (own-label_of fs F g x) 0 (function_tree fs F).code)
 
   pub same-head : SameHead (function_tree fs F) g
   same-head = record { name = sym (ap (λ (h : FuncTree). h.name) x.tree); args = sym (ap (λ (h : FuncTree). h.args) x.tree); ret = sym (ap (λ (h : FuncTree). h.ret) x.tree) }

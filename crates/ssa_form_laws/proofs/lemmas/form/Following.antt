@@ -7,26 +7,16 @@ use Rattle.bril_tree.specs.declared.function_tree.Item.{Item}
 use Rattle.bril_tree.specs.declared.function_tree.Item.TheVariants as item
 use Rattle.bril_tree.specs.declared.numbered.Instr.TheVariants.{Label}
 use Rattle.bril_tree.specs.declared.numbered_function.Func.{Func}
-use Rattle.bril_tree.specs.declared.operation.Op.TheVariants as op
 use Rattle.bril_tree.specs.Numbered.{function_tree, named}
 use Rattle.bril_tree.proofs.Elements.{get_in, get_inside}
 use Rattle.ssa_build.specs.code.Items.{laid_item, name_in, read_name}
 use Rattle.ssa_build.specs.code.Sweep.{item_args, reached_at}
 use Rattle.ssa_laws.specs.layout.Form.{FollowsLabel, IsGetAt, IsGetOf}
 use Rattle.ssa_build.specs.tree.Made.{IsLaidFunction}
+use Rattle.ssa_form_laws.specs.form.Form.{is_get_or_set}
+use Rattle.ssa_form_laws.proofs.lemmas.form.Others.{get-counts, own-other}
 use Rattle.ssa_form_laws.proofs.lemmas.form.Fronts.{FrontAt, GotAt, PutAt, front-at, gets-part, got-front, is-got, is-staying, staying}
 use Rattle.ssa_form_laws.proofs.lemmas.form.Points.{Front, Home, Point, begin, front-item, home, home-item, now, point, tree_in}
-
--- what stands in place of an item is no `get`
-own-no_get : (r : Bool) (args : List (List ℕ)) (w : List ℕ) (t : Item) (name : List ℕ) → IsGetOf name (laid_item r args w t) → ⊥
-own-no_get true args w (item.Label l) name h = h
-own-no_get false args w (item.Label l) name h = h
-own-no_get true args w (item.Const dest ty value) name h = h
-own-no_get false args w (item.Const dest ty value) name h = h
-own-no_get false args w (item.Act dest o old funcs labels) name h = h
-own-no_get true args w (item.Act dest op.Get old funcs labels) name h = h
-own-no_get true args w (item.Act dest op.Set old funcs labels) name h = h
-own-no_get true args w (item.Act dest _ old funcs labels) name h = h
 
 -- a label stays as it is
 pub own-label : (r : Bool) (args : List (List ℕ)) (w l : List ℕ) → laid_item r args w (item.Label l) ≡ item.Label l
@@ -71,8 +61,7 @@ module _ (fs : List (List ℕ)) (F : Func) (g : FuncTree) (x : IsLaidFunction F 
       front-by i n there (PutAt p) = absurd (subst (IsGetOf name) p.2 get.2)
 
       by : Point fs F g x j get.0 → GotBehind j get.0
-      by (Home i b at there is) =
-          absurd (own-no_get (reached_at (slice_get x.graph.sites i)) (map (read_name x.names x.find (now fs F g x i)) (item_args (slice_get F.code i))) (name_in x.names (F.args + i)) (tree_in fs F b) name (subst (IsGetOf name) is get.2))
+      by (Home i b at there is) = absurd (let h : true ≡ false = sym (get-counts get.0 name get.2) ∙ ap is_get_or_set is ∙ own-other fs F g x i (tree_in fs F b) in cc)
       by (Front i n low at there) = front-by i n there (front-at fs F g x i n get.0 at)
 
   pub behind : (j : ℕ) (name : List ℕ) → IsGetAt g.code j name → FollowsLabel g.code j

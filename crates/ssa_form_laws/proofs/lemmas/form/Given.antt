@@ -1,14 +1,11 @@
 -- Each `set` of laid code gives to the shadow of a variable that a `get` there assigns.
-use Rattle.std.proofs.Common.{◌≡◌, ℕ, zero, suc, ◌+◌, ◌*◌, ◌/◌, ◌<◌, ◌≤◌, Bool, true, false, List, [], ◌∷◌, map, Option, Some, None, refl, sym, ap, subst, ◌∙◌, inl, inr, arith}
-use Rattle.std.specs.Prelude.{slice_get}
+use Rattle.std.proofs.Common.{◌≡◌, ℕ, suc, ◌+◌, ◌*◌, ◌/◌, true, false, List, [], ◌∷◌, Some, refl, sym, ap, subst, ◌∙◌, inl, arith}
 use Rattle.std.proofs.lemmas.Option.{slice_get_within}
 use Rattle.bril_tree.specs.declared.function_tree.FuncTree.{FuncTree}
 use Rattle.bril_tree.specs.declared.function_tree.Item.{Item}
 use Rattle.bril_tree.specs.declared.function_tree.Item.TheVariants as item
-use Rattle.bril_tree.specs.declared.numbered.Instr.{Instr}
 use Rattle.bril_tree.specs.declared.numbered.Instr.TheVariants.{Label}
 use Rattle.bril_tree.specs.declared.numbered_function.Func.{Func}
-use Rattle.bril_tree.specs.declared.operation.Op.TheVariants as op
 use Rattle.bril_tree.specs.declared.program.Prog.{Prog}
 use Rattle.bril_tree.specs.declared.types.Ty.{Ty}
 use Rattle.bril_tree.specs.Accepted.{IsAcceptedFunction}
@@ -23,36 +20,18 @@ use Rattle.bril_tree.proofs.Elements.{get_in, in_get}
 use Rattle.bril_tree.proofs.Members.{contains_in, in_flat_map}
 use Rattle.flow_graph.specs.Location.{number_of}
 use Rattle.ssa_laws.proofs.lemmas.live_entries.Deciding.{live-read}
-use Rattle.ssa_build.specs.code.Items.{get_item, got_item, laid_item, name_in, read_name, set_item, typed_get}
-use Rattle.ssa_build.specs.code.Sweep.{item_args, reached_at}
-use Rattle.ssa_laws.specs.layout.Form.{IsGetAt}
+use Rattle.ssa_build.specs.code.Items.{get_item, got_item, name_in, typed_get}
+use Rattle.ssa_laws.specs.layout.Form.{IsGetAt, IsGetOf}
 use Rattle.ssa_laws.specs.layout.Laid.{set_tree}
 use Rattle.ssa_search.specs.declared.renaming.now.WantedGet.{WantedGet}
 use Rattle.ssa_build.specs.tree.Made.{IsLaidFunction}
 use Rattle.type_soundness.proofs.Locals.{reads-there}
-use Rattle.ssa_form_laws.specs.form.Form.{IsSet}
+use Rattle.ssa_form_laws.specs.form.Form.{IsSet, is_get_or_set}
+use Rattle.ssa_form_laws.proofs.lemmas.form.Others.{own-other}
 use Rattle.ssa_form_laws.proofs.lemmas.form.Fronts.{AtLabel, Falls, InFront, IsPut, Leaves, gets-part, got-front, in-front, is-staying, staying}
 use Rattle.ssa_form_laws.proofs.lemmas.form.Points.{Front, Home, Point, begin, front, front-item, now, point, tree_in}
 
 -- ---- items
-
--- a `set` of the shadow of this name
-abbrev IsSetOf : List ℕ → Item → Type 0
-IsSetOf name (item.Label l) = ⊥
-IsSetOf name (item.Const dest ty value) = ⊥
-IsSetOf name (item.Act dest op.Set args funcs labels) = (from : List ℕ) × (args ≡ name ∷ from ∷ [])
-IsSetOf name (item.Act dest _ args funcs labels) = ⊥
-
--- what stands in place of an item is no `set`
-own-no_set : (r : Bool) (args : List (List ℕ)) (w : List ℕ) (t : Item) (name : List ℕ) → IsSetOf name (laid_item r args w t) → ⊥
-own-no_set true args w (item.Label l) name h = h
-own-no_set false args w (item.Label l) name h = h
-own-no_set true args w (item.Const dest ty value) name h = h
-own-no_set false args w (item.Const dest ty value) name h = h
-own-no_set false args w (item.Act dest o old funcs labels) name h = h
-own-no_set true args w (item.Act dest op.Get old funcs labels) name h = h
-own-no_set true args w (item.Act dest op.Set old funcs labels) name h = h
-own-no_set true args w (item.Act dest _ old funcs labels) name h = h
 
 abbrev first_of : List (List ℕ) → List ℕ
 first_of [] = []
@@ -104,11 +83,10 @@ module _ (fs : List (List ℕ)) (F : Func) (g : FuncTree) (x : IsLaidFunction F 
   given name from s = by (point fs F g x s.0 (set_tree name from) s.1)
     where
       ahead : (i : ℕ) → InFront fs F g x i (set_tree name from) → (j : ℕ) × IsGetAt g.code j name
-      ahead i (AtLabel k e got) = absurd (subst (IsSetOf name) got.is (from, refl))
+      ahead i (AtLabel k e got) = absurd (subst (IsGetOf (name_in x.names got.get.definition)) (sym got.is) refl)
       ahead i (Falls e p) = put-there i (now fs F g x i) name from p
       ahead i (Leaves k among p) = put-there k (now fs F g x i) name from p
 
       by : Point fs F g x s.0 (set_tree name from) → (j : ℕ) × IsGetAt g.code j name
-      by (Home i b at there is) =
-          absurd (own-no_set (reached_at (slice_get x.graph.sites i)) (map (read_name x.names x.find (now fs F g x i)) (item_args (slice_get F.code i))) (name_in x.names (F.args + i)) (tree_in fs F b) name (subst (IsSetOf name) is (from, refl)))
+      by (Home i b at there is) = absurd (let h : true ≡ false = ap is_get_or_set is ∙ own-other fs F g x i (tree_in fs F b) in cc)
       by (Front i n low at there) = ahead i (in-front fs F g x i (set_tree name from) (get_in (front fs F g x i) n (set_tree name from) at))

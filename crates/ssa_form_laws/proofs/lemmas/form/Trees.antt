@@ -20,22 +20,25 @@ use Rattle.program_numbers.specs.ProgramNumbers.{IsSum}
 use Rattle.ssa_search.specs.gets.Wants.{gets_of}
 use Rattle.ssa_build.proofs.lemmas.operands.Accepted.{accepted-tabled}
 use Rattle.ssa_build.specs.tree.Made.{IsLaidFunction, IsLaidTree}
-use Rattle.ssa_form_laws.specs.form.Form.{IsSsaForm}
+use Rattle.ssa_form_laws.specs.form.Form.{IsSsaForm, other_items}
 use Rattle.ssa_form_laws.specs.form.Laws.{LaidTreesAreEdits, LaidTreesAreInForm, LaidTreesAreShort}
 use Rattle.ssa_form_laws.proofs.lemmas.form.Edits.{labels-same, sound-edit}
 use Rattle.ssa_form_laws.proofs.lemmas.form.Following.{behind}
 use Rattle.ssa_form_laws.proofs.lemmas.form.Given.{given}
 use Rattle.ssa_form_laws.proofs.lemmas.form.Needed.{needed}
+use Rattle.ssa_form_laws.proofs.lemmas.form.Others.{items-same}
 use Rattle.ssa_form_laws.proofs.lemmas.form.Single.{apart, once}
 use Rattle.ssa_form_laws.proofs.lemmas.form.Sizes.{few-more}
 
 -- ---- lists
 
-zip-labels : (fs : List (List ℕ)) (xs : List Func) (ys : List FuncTree) → AllZip (λ F g. IsLaidFunction F (function_tree fs F) g) xs ys → AllZip (λ (f g : FuncTree). labels_of f.code ≡ labels_of g.code) (map (function_tree fs) xs) ys
-zip-labels fs [] [] z = tt
-zip-labels fs [] (y ∷ ys) z = absurd z
-zip-labels fs (x ∷ xs) [] z = absurd z
-zip-labels fs (x ∷ xs) (y ∷ ys) z = (labels-same fs x y z.0, zip-labels fs xs ys z.1)
+-- what holds of the tree of each function and of what is made of it
+zip-trees : (R : FuncTree → FuncTree → Type 0) (fs : List (List ℕ)) → ((F : Func) (g : FuncTree) → IsLaidFunction F (function_tree fs F) g → R (function_tree fs F) g) → (xs : List Func) (ys : List FuncTree)
+    → AllZip (λ F g. IsLaidFunction F (function_tree fs F) g) xs ys → AllZip R (map (function_tree fs) xs) ys
+zip-trees R fs each [] [] z = tt
+zip-trees R fs each [] (y ∷ ys) z = absurd z
+zip-trees R fs each (x ∷ xs) [] z = absurd z
+zip-trees R fs each (x ∷ xs) (y ∷ ys) z = (each x y z.0, zip-trees R fs each xs ys z.1)
 
 module _ (P : Prog) (accepted : IsAccepted P) where
   abbrev fs : List (List ℕ)
@@ -96,8 +99,12 @@ laid-in_form P tree accepted t =
 pub laid-edits : LaidTreesAreEdits
 laid-edits P tree t = (
   names-each P (λ F g. IsLaidFunction F (tree_of_function P F) g) (λ f F g p sound x. sound-edit (names_of_functions P.funcs) F g x (function_names (tree_of P)) sound) tree.funcs t.functions,
-  zip-labels (names_of_functions P.funcs) P.funcs tree.funcs t.functions,
+  zip-trees (λ (f g : FuncTree). labels_of f.code ≡ labels_of g.code) (names_of_functions P.funcs) (labels-same (names_of_functions P.funcs)) P.funcs tree.funcs t.functions,
 )
+
+-- beside `get`s and `set`s each function has as many items as it had in all
+pub laid-items : (P : Prog) (tree : Tree) → IsLaidTree P tree → AllZip (λ (f g : FuncTree). other_items g.code ≡ length f.code) (tree_of P).funcs tree.funcs
+laid-items P tree t = zip-trees (λ (f g : FuncTree). other_items g.code ≡ length f.code) (names_of_functions P.funcs) (items-same (names_of_functions P.funcs)) P.funcs tree.funcs t.functions
 
 pub laid-short : LaidTreesAreShort
 laid-short P tree n accepted t entries = tree-short P accepted tree t n entries

@@ -26,9 +26,9 @@ use Rattle.pass_edit_laws.specs.numbers.Numbers.{FunctionGrows, NumbersGrow, add
 use Rattle.pass_edit_laws.proofs.lemmas.numbers.Programs.{functions_grow, none-added}
 use Rattle.program_numbers.specs.ProgramNumbers.{IsSum}
 use Rattle.ssa_build.specs.tree.Made.{IsLaidFunction, IsLaidTree}
-use Rattle.ssa_form_laws.specs.form.Form.{IsSilent, IsSsa, IsSsaForm}
+use Rattle.ssa_form_laws.specs.form.Form.{IsSilent, IsSsa, IsSsaForm, other_items}
 use Rattle.ssa_form_laws.specs.form.Numbers.{IsSsaBound, ssa_growth}
-use Rattle.ssa_form_laws.proofs.lemmas.form.Trees.{laid-edits, laid-in_form}
+use Rattle.ssa_form_laws.proofs.lemmas.form.Trees.{laid-edits, laid-in_form, laid-items}
 use Rattle.ssa_form_laws.specs.numbers.Laws.{LaidTreesAreSsa}
 use Rattle.ssa_form_laws.proofs.lemmas.numbers.Entering.{depth-within, entries-within, width-below}
 use Rattle.ssa_form_laws.proofs.lemmas.numbers.Names.{few-locations, no-longer}
@@ -124,6 +124,7 @@ module _ (P Q : Prog) (tree : Tree) (accepted : IsAccepted P) (t : IsLaidTree P 
       record {
         heads = subst (λ (s : Tree). AllZip SameHead (tree_of P).funcs s.funcs) tree-is (heads-of_edits (function_names (tree_of P)) (tree_of P).funcs tree.funcs edits.0);
         labels = subst (λ (s : Tree). AllZip (λ (f h : FuncTree). labels_of f.code ≡ labels_of h.code) (tree_of P).funcs s.funcs) tree-is edits.1;
+        items = subst (λ (s : Tree). AllZip (λ (f g : FuncTree). other_items g.code ≡ length f.code) (tree_of P).funcs s.funcs) tree-is (laid-items P tree t);
         form = subst (λ (s : Tree). All IsSsaForm s.funcs) tree-is (laid-in_form P tree accepted t);
         silent = silent-at;
         numbers = numbers;
