@@ -25,7 +25,11 @@ use Rattle.trace_laws.specs.lines.Names.{trace_bases}
 use Rattle.trace_laws.specs.lines.Traced.{IsTracedTree}
 use Rattle.trace_laws.proofs.lemmas.lines.Bound.{function-within}
 use Rattle.trace_laws.proofs.lemmas.lines.Sound.{traces-well_laid}
+use Rattle.trace_laws.proofs.lemmas.growth.Numbers.{trace-keeps_numbers}
+use Rattle.trace_laws.proofs.lemmas.refinement.Attempting.{traces-give_back}
+use Rattle.trace_laws.proofs.lemmas.refinement.Quiet.{traces-quiet}
 use Rattle.trace_laws.proofs.lemmas.refinement.Refines.{traces-refine}
+use Rattle.trace_laws.proofs.lemmas.refinement.Starting.{traces-start_alike}
 use Rattle.trace_laws.specs.Laws.{TracesLink}
 use Rattle.trace_laws.specs.Trace.{trace_meaning}
 
@@ -69,7 +73,13 @@ module _ (P : Prog) (profile : Profile) (tree : Tree) (accepted : IsAccepted P) 
       let makes = subst (IsTracedTree P profile) (numbered-tree_of tree Q numbered) made in
       let w = within in
       record {
-        makes = makes;
+        makes = record {
+          traced = makes;
+          quiet = traces-quiet P Q profile makes;
+          starts_alike = λ f point t at. traces-start_alike P Q profile accepted makes f point t at (traces-quiet P Q profile makes f point t at);
+          gives_back = λ f point t at. traces-give_back P Q f point t (traces-quiet P Q profile makes f point t at);
+          numbers = trace-keeps_numbers P Q profile accepted makes;
+        };
         accepted = accepted_q;
         factor = 520;
         is_factor = refl;

@@ -14,7 +14,6 @@ use Rattle.trace_laws.specs.Trace.{trace_meaning}
 use Rattle.trace_laws.specs.lines.Bound.{IsTraceBound, laid_count}
 use Rattle.trace_laws.proofs.lemmas.lines.Entries.{fits-few}
 use Rattle.trace_laws.specs.growth.Numbers.{trace_growth}
-use Rattle.trace_laws.proofs.lemmas.growth.Numbers.{trace-keeps_numbers}
 use Rattle.trace_paths.specs.Fits.{Fit}
 use Rattle.trace_paths.proofs.Short.{paths_are_short}
 
@@ -58,12 +57,12 @@ pub trace-within_row : IsWithinRow trace_meaning trace_row
 trace-within_row = record {
   factor = λ P profile n k accepted within is. omega (arith, is);
   after = λ P Q profile n accepted within link.
-      let made = link.makes in
+      let made = link.makes.traced in
       let few = fits-few P [] profile.entries made.fits made.are_fits in
       let laid = laid-sum P made.fits in
       let bound = bound-few P profile n link.bound within link.is_bound in
       let size = link.within in
-      grows-within P Q (trace_growth (length made.fits) (sum_by (laid_count P) made.fits)) n (trace_row.after (length profile.entries) n) accepted within (trace-keeps_numbers P Q profile accepted made)
+      grows-within P Q (trace_growth (length made.fits) (sum_by (laid_count P) made.fits)) n (trace_row.after (length profile.entries) n) accepted within link.makes.numbers
       (leads-trace n (length made.fits) (sum_by (laid_count P) made.fits) (length profile.entries) few (omega (arith, few, laid))) (omega (arith, size, bound));
 }
 

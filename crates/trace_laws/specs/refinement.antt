@@ -1,2 +1,3 @@
 pub mod Stitched
+pub mod Attempts
 pub mod Laws

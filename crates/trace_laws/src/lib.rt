@@ -5,8 +5,8 @@
 //!
 //! 1. The lines of a trace (`lines`; `specs/lines/Lines.antt`), fresh names (`Names.antt`), what is made of a program
 //!    (`Traced.antt`), and its bound (`Bound.antt`). The tree can be numbered.
-//! 2. A program with traces does what the program does, and its traces are quiet (`refinement`;
-//!    `specs/refinement/Stitched.antt`).
+//! 2. A program with traces does what the program does, its traces are quiet, and one that fails gives back what was there
+//!    (`refinement`; `specs/refinement/Stitched.antt`, `Attempts.antt`).
 //! 3. It is accepted: where each of its walks stands, and so the walks and the types are accepted (`acceptance`).
 //! 4. How its numbers grow (`growth`; `specs/growth/Numbers.antt`).
 //! 5. What the pass means (`specs/Trace.antt`). There is one factor and one bound, since there is one list of entries that

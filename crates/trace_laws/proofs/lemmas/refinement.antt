@@ -1,7 +1,10 @@
 pub mod Straight
 pub mod Plans
 pub mod Along
+pub mod Behind
 pub mod Refining
 pub mod Laying
 pub mod Refines
 pub mod Quiet
+pub mod Attempting
+pub mod Starting

@@ -1,5 +1,5 @@
 -- What follows of the lines alone.
-use Rattle.std.specs.Prelude.{◌≤◌}
+use Rattle.std.specs.Prelude.{◌≡◌, ℕ, ◌≤◌, List, [], ◌∷◌}
 use Rattle.std.specs.List.{AllZip}
 use Rattle.bril_names.specs.Faults.{IsSoundEdit, function_names}
 use Rattle.bril_profile.specs.declared.profile.Profile.{Profile}
@@ -14,22 +14,23 @@ use Rattle.trace_laws.specs.lines.Traced.{IsTracedTree}
 
 -- ---- quiet lines
 
--- The item prints, stores, takes and frees nothing, and calls and leaves no function. It is no label, goes to none but by a guard, and
--- neither begins nor ends a speculation.
-abbrev pub IsQuiet : Item → Type 0
-IsQuiet (item.Label l) = ⊥
-IsQuiet (item.Const d ty v) = Unit {0}
-IsQuiet (item.Act d op.Print args funcs labels) = ⊥
-IsQuiet (item.Act d op.Store args funcs labels) = ⊥
-IsQuiet (item.Act d op.Alloc args funcs labels) = ⊥
-IsQuiet (item.Act d op.Free args funcs labels) = ⊥
-IsQuiet (item.Act d op.Call args funcs labels) = ⊥
-IsQuiet (item.Act d op.Ret args funcs labels) = ⊥
-IsQuiet (item.Act d op.Speculate args funcs labels) = ⊥
-IsQuiet (item.Act d op.Commit args funcs labels) = ⊥
-IsQuiet (item.Act d op.Jmp args funcs labels) = ⊥
-IsQuiet (item.Act d op.Br args funcs labels) = ⊥
-IsQuiet (item.Act d _ args funcs labels) = Unit {0}
+-- The item prints, stores, takes and frees nothing, and calls and leaves no function. It is no label, goes to none but by a guard to
+-- the label of this name, and neither begins nor ends a speculation.
+abbrev pub IsQuiet : (bail : List ℕ) → Item → Type 0
+IsQuiet bail (item.Label l) = ⊥
+IsQuiet bail (item.Const d ty v) = Unit {0}
+IsQuiet bail (item.Act d op.Print args funcs labels) = ⊥
+IsQuiet bail (item.Act d op.Store args funcs labels) = ⊥
+IsQuiet bail (item.Act d op.Alloc args funcs labels) = ⊥
+IsQuiet bail (item.Act d op.Free args funcs labels) = ⊥
+IsQuiet bail (item.Act d op.Call args funcs labels) = ⊥
+IsQuiet bail (item.Act d op.Ret args funcs labels) = ⊥
+IsQuiet bail (item.Act d op.Speculate args funcs labels) = ⊥
+IsQuiet bail (item.Act d op.Commit args funcs labels) = ⊥
+IsQuiet bail (item.Act d op.Jmp args funcs labels) = ⊥
+IsQuiet bail (item.Act d op.Br args funcs labels) = ⊥
+IsQuiet bail (item.Act d op.Guard args funcs labels) = labels ≡ bail ∷ []
+IsQuiet bail (item.Act d _ args funcs labels) = Unit {0}
 
 -- ---- trees
 

@@ -1,6 +1,6 @@
 -- What a path lays, and that it is quiet.
 use Rattle.bril_tree.specs.declared.operation.Op.TheVariants as op
-use Rattle.std.proofs.Common.{◌≡◌, ◌⊎◌, ℕ, zero, suc, Bool, true, false, List, [], ◌∷◌, Option, Some, None, refl, sym, ap, subst, ◌∙◌, inl, inr, ⊎_elim, cond}
+use Rattle.std.proofs.Common.{◌≡◌, ℕ, zero, suc, Bool, true, false, List, [], ◌∷◌, Option, Some, None, refl, sym, ap, subst, ◌∙◌, inl, inr, ⊎_elim, cond}
 use Rattle.std.specs.Prelude.{slice_get}
 use Rattle.bril_tree.specs.declared.function_tree.Item.{Item}
 use Rattle.bril_tree.specs.declared.program.Prog.{Prog}
@@ -54,38 +54,38 @@ legs-ok code own (suc fuel) room choices i leg among = own-ok code own fuel (leg
 
 -- ---- quiet lines
 
-laid-quiet : (fs vs ls : List (List ℕ)) (b : Instr) → item_met (Some b) ≡ Lays → IsQuiet (item_tree fs vs ls b)
-laid-quiet fs vs ls (NLabel l) e = absurd (cc)
-laid-quiet fs vs ls (NConst d t v) e = tt
-laid-quiet fs vs ls (NAct d t op.Nop xs fns ms) e = tt
-laid-quiet fs vs ls (NAct d t op.Guard xs fns ms) e = absurd (cc)
-laid-quiet fs vs ls (NAct d t op.Print xs fns ms) e = absurd (cc)
-laid-quiet fs vs ls (NAct d t op.Store xs fns ms) e = absurd (cc)
-laid-quiet fs vs ls (NAct d t op.Alloc xs fns ms) e = absurd (cc)
-laid-quiet fs vs ls (NAct d t op.Free xs fns ms) e = absurd (cc)
-laid-quiet fs vs ls (NAct d t op.Call xs fns ms) e = absurd (cc)
-laid-quiet fs vs ls (NAct d t op.Ret xs fns ms) e = absurd (cc)
-laid-quiet fs vs ls (NAct d t op.Speculate xs fns ms) e = absurd (cc)
-laid-quiet fs vs ls (NAct d t op.Commit xs fns ms) e = absurd (cc)
-laid-quiet fs vs ls (NAct d t op.Jmp xs fns ms) e = absurd (cc)
-laid-quiet fs vs ls (NAct d t op.Br xs fns ms) e = absurd (cc)
-laid-quiet fs vs ls (NAct d t _ xs fns ms) e = tt
+pub laid-quiet : (bail : List ℕ) (fs vs ls : List (List ℕ)) (b : Instr) → item_met (Some b) ≡ Lays → IsQuiet bail (item_tree fs vs ls b)
+laid-quiet bail fs vs ls (NLabel l) e = absurd (cc)
+laid-quiet bail fs vs ls (NConst d t v) e = tt
+laid-quiet bail fs vs ls (NAct d t op.Nop xs fns ms) e = tt
+laid-quiet bail fs vs ls (NAct d t op.Guard xs fns ms) e = absurd (cc)
+laid-quiet bail fs vs ls (NAct d t op.Print xs fns ms) e = absurd (cc)
+laid-quiet bail fs vs ls (NAct d t op.Store xs fns ms) e = absurd (cc)
+laid-quiet bail fs vs ls (NAct d t op.Alloc xs fns ms) e = absurd (cc)
+laid-quiet bail fs vs ls (NAct d t op.Free xs fns ms) e = absurd (cc)
+laid-quiet bail fs vs ls (NAct d t op.Call xs fns ms) e = absurd (cc)
+laid-quiet bail fs vs ls (NAct d t op.Ret xs fns ms) e = absurd (cc)
+laid-quiet bail fs vs ls (NAct d t op.Speculate xs fns ms) e = absurd (cc)
+laid-quiet bail fs vs ls (NAct d t op.Commit xs fns ms) e = absurd (cc)
+laid-quiet bail fs vs ls (NAct d t op.Jmp xs fns ms) e = absurd (cc)
+laid-quiet bail fs vs ls (NAct d t op.Br xs fns ms) e = absurd (cc)
+laid-quiet bail fs vs ls (NAct d t _ xs fns ms) e = tt
 
 module _ (P : Prog) (f : ℕ) (bool : Ty) (names : TraceNames) (a : Item) where
-  copied : (i : ℕ) (o : Option Instr) → item_at P f i ≡ o → item_met o ≡ Lays → tree_at P f i ≡ Some a → IsQuiet a
+  copied : (i : ℕ) (o : Option Instr) → item_at P f i ≡ o → item_met o ≡ Lays → tree_at P f i ≡ Some a → IsQuiet names.bail a
   copied i None none met e = absurd (cc)
-  copied i (Some b) at met e = let h = found P f i b at in subst IsQuiet (same_Some _ _ (sym h.tree ∙ e)) (laid-quiet (names_of_functions P.funcs) (names_in (slice_get P.funcs f)) h.function.labels b met)
+  copied i (Some b) at met e = let h = found P f i b at in subst (IsQuiet names.bail) (same_Some _ _ (sym h.tree ∙ e)) (laid-quiet names.bail (names_of_functions P.funcs) (names_in (slice_get P.funcs f)) h.function.labels b met)
 
-  in-listed : (i : ℕ) → item_met (slice_get (code_of P f) i) ≡ Lays → (o : Option Item) → tree_at P f i ≡ o → In a (listed_item o) → IsQuiet a
+  in-listed : (i : ℕ) → item_met (slice_get (code_of P f) i) ≡ Lays → (o : Option Item) → tree_at P f i ≡ o → In a (listed_item o) → IsQuiet names.bail a
   in-listed i ok None e among = absurd among
   in-listed i ok (Some b) e (inl s) = copied i (item_at P f i) refl ok (e ∙ ap Some (sym s))
   in-listed i ok (Some b) e (inr n) = absurd n
 
-  pub legs-quiet : (n : ℕ) (legs : List Leg) → ((leg : Leg) → In leg legs → LegOk (code_of P f) leg) → In a (leg_lines bool (tree_at P f) names n legs) → IsQuiet a
+  pub legs-quiet : (n : ℕ) (legs : List Leg) → ((leg : Leg) → In leg legs → LegOk (code_of P f) leg) → In a (leg_lines bool (tree_at P f) names n legs) → IsQuiet names.bail a
   legs-quiet n [] ok among = absurd among
   legs-quiet n (Straight i ∷ legs) ok among = ⊎_elim (in-listed i (ok (Straight i) (inl refl)) (tree_at P f i) refl) (legs-quiet n legs (λ l j. ok l (inr j))) (in_append_cases a (listed_item (tree_at P f i)) (leg_lines bool (tree_at P f) names n legs) among)
-  legs-quiet n (Turn i true ∷ legs) ok among = ⊎_elim (λ e. subst IsQuiet (sym e) tt) (legs-quiet n legs (λ l j. ok l (inr j))) among
-  legs-quiet n (Turn i false ∷ legs) ok among = ⊎_elim (λ e. subst IsQuiet (sym e) tt) (λ r. ⊎_elim (λ e. subst IsQuiet (sym e) tt) (legs-quiet (suc n) legs (λ l j. ok l (inr j))) r) among
+  legs-quiet n (Turn i true ∷ legs) ok among = ⊎_elim (λ e. subst (IsQuiet names.bail) (sym e) refl) (legs-quiet n legs (λ l j. ok l (inr j))) among
+  legs-quiet n (Turn i false ∷ legs) ok among = ⊎_elim (λ e. subst (IsQuiet names.bail) (sym e) tt) (λ r. ⊎_elim (λ e. subst (IsQuiet names.bail) (sym e) refl) (legs-quiet (suc n) legs (λ l j. ok l (inr j))) r) among
 
-  pub lines-quiet : (own : ℕ) (choices : List Bool) → In a (leg_lines bool (tree_at P f) names 0 (path_of (code_of P f) own choices).legs) → IsQuiet a
+  pub lines-quiet : (own : ℕ) (choices : List Bool) → In a (leg_lines bool (tree_at P f) names 0 (path_of (code_of P f) own choices).legs) → IsQuiet names.bail a
   lines-quiet own choices among = legs-quiet 0 (path_of (code_of P f) own choices).legs (legs-ok (code_of P f) own 1023 256 choices (suc own)) among

@@ -1,6 +1,7 @@
--- The induction along a path: Q is in an attempted trace, and P makes the path's steps.
+-- The induction along a path: Q is in an attempted trace, and P makes the path's steps. Up to the end Q stands at no `speculate`.
 use Rattle.bril_tree.proofs.Elements.{in_index}
 use Rattle.pass_edit_laws.proofs.lemmas.names.Standing.{ActionAt, action_at, SameItem, same_item, first_target}
+use Rattle.bril_tree.specs.declared.function_tree.Item.{Item}
 use Rattle.bril_tree.specs.declared.function_tree.Item.TheVariants as item
 use Rattle.bril_tree.specs.declared.operation.Op.TheVariants as op
 use Rattle.std.proofs.Common.{◌≡◌, ◌⊎◌, ℕ, zero, suc, ◌+◌, ◌*◌, ◌<◌, ◌≤◌, Bool, true, false, List, [], ◌∷◌, ◌++◌, length, map, Option, Some, None, refl, sym, ap, subst, ◌∙◌, inl, inr, cond, arith}
@@ -37,8 +38,10 @@ use Rattle.pass_edit_laws.proofs.lemmas.plan.Values.{assigned-other, read-agree}
 use Rattle.bril_tree.proofs.HeldValues.{with_value-same}
 use Rattle.pass_edit_laws.specs.names.Named.{SameLocation}
 use Rattle.trace_paths.specs.Path.{Straight, Turn, Path, stopped, with_leg, Meeting, Over, To, Lays, Turns, Stops, item_met, chosen, path_by, path_from}
-use Rattle.trace_laws.specs.lines.Lines.{TraceNames, args_in, leg_lines, end_lines}
-use Rattle.pass_edit_laws.specs.plan.Lines.{listed_item}
+use Rattle.trace_laws.specs.lines.Laws.{IsQuiet}
+use Rattle.trace_laws.specs.lines.Lines.{TraceNames, args_in, commit_line, end_lines, guard_line, leg_lines, not_line, speculate_line}
+use Rattle.trace_laws.proofs.lemmas.lines.Quiet.{laid-quiet}
+use Rattle.pass_edit_laws.specs.plan.Lines.{jmp_line, listed_item}
 use Rattle.trace_laws.specs.refinement.Stitched.{Stands, StopsAt, Stitched}
 use Rattle.pass_edit_laws.proofs.lemmas.steps.Attempts.{AttemptedAlike, Faults, Moves, attempted_alike}
 use Rattle.trace_laws.proofs.lemmas.refinement.Straight.{lays-attempted, lays-goes, over-passed, to-jmp, IsBr, turns-br}
@@ -49,6 +52,29 @@ use Rattle.bril_tree.proofs.Shapes.{shape-parts}
 use Rattle.pass_edit_laws.proofs.lemmas.steps.Shapes.{Shaped, shaped_here}
 use Rattle.pass_edit_laws.proofs.lemmas.names.Items.{DestNamed, dest_named, first_named, first_same}
 use Rattle.pass_edit_laws.proofs.lemmas.names.Points.{found, Differ-in}
+
+-- the newest frame stands at an item that is no `speculate`
+pub record Elsewhere (Q : Prog) (z : State) : Type 0 where
+  pub frame : Frame
+  pub older : List Frame
+  pub frames : z.frames ≡ frame ∷ older
+  pub line : Item
+  pub at : tree_at Q frame.function frame.point ≡ Some line
+  pub other : line ≡ speculate_line → ⊥
+
+-- so it does for some steps
+module _ (Q : Prog) (limits : Limits) where
+  pub no-steps : (t : State) (n : ℕ) → n < 0 → Elsewhere Q (after (step Q limits) n t)
+  no-steps t n less = absurd (omega arith)
+
+  pub one-more : (m : ℕ) (t : State) → Elsewhere Q t → ((n : ℕ) → n < m → Elsewhere Q (after (step Q limits) n (step Q limits t))) → (n : ℕ) → n < suc m → Elsewhere Q (after (step Q limits) n t)
+  one-more m t h rest zero less = h
+  one-more m t h rest (suc n) less = rest n (omega arith)
+
+  pub first-and : (m moves : ℕ) (t t' : State) → after (step Q limits) m t ≡ t' → ((n : ℕ) → n < m → Elsewhere Q (after (step Q limits) n t)) → ((n : ℕ) → n < moves → Elsewhere Q (after (step Q limits) n t')) → (n : ℕ) → n < m + moves → Elsewhere Q (after (step Q limits) n t)
+  first-and zero moves t t' e front rest n less = subst (λ z. Elsewhere Q (after (step Q limits) n z)) (sym e) (rest n (omega arith))
+  first-and (suc m) moves t t' e front rest zero less = front 0 (omega arith)
+  first-and (suc m) moves t t' e front rest (suc n) less = first-and m moves (step Q limits t) t' e (λ i l. front (suc i) (omega arith)) rest n (omega arith)
 
 module _ (P Q : Prog) (bool : Ty) (limits : Limits) (accepted : IsAccepted P) (st : Stitched P Q bool) where
   abbrev pub Met : State → State → Type 0
@@ -106,17 +132,24 @@ module _ (P Q : Prog) (bool : Ty) (limits : Limits) (accepted : IsAccepted P) (s
       pub within : moves ≤ 2 * early + 2
       pub quiet : (after (step P limits) early s).printed ≡ printed
       pub running : (after (step P limits) early s).ended ≡ None
+      pub between : (n : ℕ) → n < moves → Elsewhere Q (after (step Q limits) n t)
       pub again : Met (after (step P limits) (suc early) s) (after (step Q limits) moves t)
 
     -- a guard failed
     pub record Back (room : ℕ) (t : State) : Type 0 where
       pub moves : ℕ
       pub within : moves ≤ 2 * room
+      pub between : (n : ℕ) → n < moves → Elsewhere Q (after (step Q limits) n t)
       pub failures : ℕ → ℕ → ℕ
       pub is : after (step Q limits) moves t ≡ state (frame k bail q0 qs ∷ gs) blocks printed None failures
 
     abbrev pub Outcome : ℕ → State → State → Type 0
     Outcome room s t = Later s t ⊎ Back room t
+
+    -- ---- where Q stands
+
+    at-line : (j : ℕ) (q : Locals) (line : Item) → tree_at Q k j ≡ Some line → (line ≡ speculate_line → ⊥) → Elsewhere Q (atQ j q)
+    at-line j q line at other = record { frame = frame k j q (q0 ∷ qs); older = gs; frames = refl; line = line; at = at; other = other }
 
     -- ---- one step in front
 
@@ -124,8 +157,8 @@ module _ (P Q : Prog) (bool : Ty) (limits : Limits) (accepted : IsAccepted P) (s
     before i p s' e = record { runs = refl; quiet = refl; steps = e }
 
     -- P makes a step, and Q some
-    leg-later : (s : State) (i : ℕ) (p : Locals) (t t' : State) (m : ℕ) → m ≤ 2 → Before s (atP i p) → after (step Q limits) m t ≡ t' → Later (atP i p) t' → Later s t
-    leg-later s i p t t' m few b e l =
+    leg-later : (s : State) (i : ℕ) (p : Locals) (t t' : State) (m : ℕ) → m ≤ 2 → Before s (atP i p) → after (step Q limits) m t ≡ t' → ((n : ℕ) → n < m → Elsewhere Q (after (step Q limits) n t)) → Later (atP i p) t' → Later s t
+    leg-later s i p t t' m few b e front l =
         let h = l.within in
         record {
           early = suc l.early;
@@ -133,33 +166,35 @@ module _ (P Q : Prog) (bool : Ty) (limits : Limits) (accepted : IsAccepted P) (s
           within = omega arith;
           quiet = ap (λ z. (after (step P limits) l.early z).printed) b.steps ∙ l.quiet;
           running = ap (λ z. (after (step P limits) l.early z).ended) b.steps ∙ l.running;
+          between = first-and Q limits m l.moves t t' e front l.between;
           again = subst (λ z. Met (after (step P limits) (suc l.early) z) (after (step Q limits) (m + l.moves) t)) (sym b.steps)
               (subst (λ z. Met (after (step P limits) (suc l.early) (atP i p)) z) (sym (after-add (step Q limits) m l.moves t))
               (subst (λ z. Met (after (step P limits) (suc l.early) (atP i p)) (after (step Q limits) l.moves z)) (sym e) l.again));
         }
 
-    leg-back : (room : ℕ) (t t' : State) (m : ℕ) → m ≤ 2 → after (step Q limits) m t ≡ t' → Back room t' → Back (suc room) t
-    leg-back room t t' m few e b =
+    leg-back : (room : ℕ) (t t' : State) (m : ℕ) → m ≤ 2 → after (step Q limits) m t ≡ t' → ((n : ℕ) → n < m → Elsewhere Q (after (step Q limits) n t)) → Back room t' → Back (suc room) t
+    leg-back room t t' m few e front b =
         let h = b.within in
-        record { moves = m + b.moves; within = omega arith; failures = b.failures; is = after-add (step Q limits) m b.moves t ∙ ap (after (step Q limits) b.moves) e ∙ b.is }
+        record { moves = m + b.moves; within = omega arith; between = first-and Q limits m b.moves t t' e front b.between; failures = b.failures; is = after-add (step Q limits) m b.moves t ∙ ap (after (step Q limits) b.moves) e ∙ b.is }
 
-    leg : (room : ℕ) (s : State) (i : ℕ) (p : Locals) (t t' : State) (m : ℕ) → m ≤ 2 → Before s (atP i p) → after (step Q limits) m t ≡ t' → Outcome room (atP i p) t' → Outcome (suc room) s t
-    leg room s i p t t' m few b e (inl l) = inl (leg-later s i p t t' m few b e l)
-    leg room s i p t t' m few b e (inr l) = inr (leg-back room t t' m few e l)
+    leg : (room : ℕ) (s : State) (i : ℕ) (p : Locals) (t t' : State) (m : ℕ) → m ≤ 2 → Before s (atP i p) → after (step Q limits) m t ≡ t' → ((n : ℕ) → n < m → Elsewhere Q (after (step Q limits) n t)) → Outcome room (atP i p) t' → Outcome (suc room) s t
+    leg room s i p t t' m few b e front (inl l) = inl (leg-later s i p t t' m few b e front l)
+    leg room s i p t t' m few b e front (inr l) = inr (leg-back room t t' m few e front l)
 
     -- P walks over an item
     over : (room : ℕ) (s : State) (i : ℕ) (p : Locals) (t : State) → Before s (atP i p) → Outcome room (atP i p) t → Outcome room s t
-    over room s i p t b (inl l) = inl (leg-later s i p t t 0 (omega arith) b refl l)
+    over room s i p t b (inl l) = inl (leg-later s i p t t 0 (omega arith) b refl (no-steps Q limits t) l)
     over room s i p t b (inr l) = inr l
 
     -- both fault
-    fault-leg : (room : ℕ) (s : State) (i j : ℕ) (p q : Locals) (kind : Fault) → Before s (atP i p) → step P limits (atP i p) ≡ faulted kind (atP i p) → step Q limits (atQ j q) ≡ faulted kind (atQ j q) → Outcome room s (atQ j q)
-    fault-leg room s i j p q kind b ep eq = inl (record {
+    fault-leg : (room : ℕ) (s : State) (i j : ℕ) (p q : Locals) (kind : Fault) → Elsewhere Q (atQ j q) → Before s (atP i p) → step P limits (atP i p) ≡ faulted kind (atP i p) → step Q limits (atQ j q) ≡ faulted kind (atQ j q) → Outcome room s (atQ j q)
+    fault-leg room s i j p q kind h b ep eq = inl (record {
       early = 1;
       moves = 1;
       within = omega arith;
       quiet = ap (λ (z : State). z.printed) b.steps;
       running = ap (λ (z : State). z.ended) b.steps;
+      between = one-more Q limits 0 (atQ j q) h (no-steps Q limits (step Q limits (atQ j q)));
       again = subst (λ z. Met (step P limits z) (step Q limits (atQ j q))) (sym b.steps)
           (subst (λ z. Met z (step Q limits (atQ j q))) (sym ep)
           (subst (λ z. Met (faulted kind (atP i p)) z) (sym eq) (inr (record { final = refl; ended = refl; printed = refl }))));
@@ -182,6 +217,7 @@ module _ (P Q : Prog) (bool : Ty) (limits : Limits) (accepted : IsAccepted P) (s
         let to = first_target Q k (suc j) None op.Jmp [] [] names.stop g stop.point stop.at in
         let first : step Q limits (atQ j q) ≡ committed = stepQ j q _ c.at in
         let second : step Q limits committed ≡ ended = ap (λ o. item_step Q limits o (frame k (suc j) q qs) gs committed) g.at ∙ ap (λ n. state (frame k n q qs ∷ gs) blocks printed None y) to in
+        let jumps : Elsewhere Q committed = record { frame = frame k (suc j) q qs; older = gs; frames = refl; line = jmp_line names.stop; at = stands.1.0; other = λ n. cc } in
         let there : StatesMatch N P Q (atP i p) ended =
         matches N P Q limits accepted (preserves P Q bool accepted st) (frame k i p ps) (frame k stop.point q qs) fs gs blocks printed None x y
         (record { function = refl; contents = record { walk = r.walk; is = r.is; ends = r.ends; points = stop.near; locations = agree; known = λ a v h. absurd h; saves = r.saves } }) callers in
@@ -191,6 +227,7 @@ module _ (P Q : Prog) (bool : Ty) (limits : Limits) (accepted : IsAccepted P) (s
           within = omega arith;
           quiet = b.quiet;
           running = b.runs;
+          between = one-more Q limits 1 (atQ j q) (at-line j q commit_line stands.0 (λ n. cc)) (subst (λ z. (n : ℕ) → n < 1 → Elsewhere Q (after (step Q limits) n z)) (sym first) (one-more Q limits 0 committed jumps (no-steps Q limits (step Q limits committed))));
           again = subst (λ z. Met z (step Q limits (step Q limits (atQ j q)))) (sym b.steps) (inl (subst (λ z. StatesMatch N P Q (atP i p) z) (sym (ap (step Q limits) first ∙ second)) there));
         })
 
@@ -321,16 +358,16 @@ module _ (P Q : Prog) (bool : Ty) (limits : Limits) (accepted : IsAccepted P) (s
           subst (λ o. Stands P Q bool k j ((listed_item o ++ leg_lines bool (tree_at P k) names n (next room choices (suc i)).legs) ++ end_lines bool (tree_at P k) names)) h.tree facts.stands in
           let both = same_item P Q accepted st.heads.names k i j a at (h.tree ∙ sym stands.0) in
           let goes = lays-goes a met in
-          by both stands.1 (subst (λ z. AttemptedAlike (A P Q bool accepted st k) P Q limits (atP i p) (atQ j q) (λ p'. atP (suc i) p') (λ q'. atQ (suc j) q') (step P limits (atP i p)) z) (sym (stepQ j q both.item both.at))
+          by both (at-line j q (item_tree (names_of_functions P.funcs) V h.function.labels a) stands.0 (λ e. subst (IsQuiet names.bail) e (laid-quiet names.bail (names_of_functions P.funcs) V h.function.labels a met))) stands.1 (subst (λ z. AttemptedAlike (A P Q bool accepted st k) P Q limits (atP i p) (atQ j q) (λ p'. atP (suc i) p') (λ q'. atQ (suc j) q') (step P limits (atP i p)) z) (sym (stepQ j q both.item both.at))
           (subst (λ z. AttemptedAlike (A P Q bool accepted st k) P Q limits (atP i p) (atQ j q) (λ p'. atP (suc i) p') (λ q'. atQ (suc j) q') z (item_step Q limits (Some both.item) (frame k j q (q0 ∷ qs)) gs (atQ j q))) (sym (stepP i p a at))
           (attempted_alike (A P Q bool accepted st k) P Q limits k i j p q agree ps (q0 ∷ qs) fs gs blocks printed x y a both.item both.same (shaped_here P accepted k i a at) both.kept (lays-attempted a met))))
         where
-          by : SameItem P Q k j a → Stands P Q bool k (suc j) (leg_lines bool (tree_at P k) names n (next room choices (suc i)).legs ++ end_lines bool (tree_at P k) names)
+          by : SameItem P Q k j a → Elsewhere Q (atQ j q) → Stands P Q bool k (suc j) (leg_lines bool (tree_at P k) names n (next room choices (suc i)).legs ++ end_lines bool (tree_at P k) names)
               → AttemptedAlike (A P Q bool accepted st k) P Q limits (atP i p) (atQ j q) (λ p'. atP (suc i) p') (λ q'. atQ (suc j) q') (step P limits (atP i p)) (step Q limits (atQ j q)) → Outcome (suc room) s (atQ j q)
-          by both stands (Faults kind ep eq) = fault-leg (suc room) s i j p q kind b ep eq
-          by both stands (Moves p' q' ep eq agree') =
+          by both here stands (Faults kind ep eq) = fault-leg (suc room) s i j p q kind here b ep eq
+          by both here stands (Moves p' q' ep eq agree') =
               let goes = lays-goes a met in
-              leg room s i p (atQ j q) (atQ (suc j) q') 1 (omega arith) b eq
+              leg room s i p (atQ j q) (atQ (suc j) q') 1 (omega arith) b eq (one-more Q limits 0 (atQ j q) here (no-steps Q limits (step Q limits (atQ j q))))
               (rest room choices (suc i) (suc j) n p' q' (atP i p) (before i p (atP (suc i) p') ep)
               (reach i a at r (onward i) refl refl (subst (λ l. In (onward i) l) (sym (goes.branches (code_of P k) i)) (inl refl)) goes.keeps) agree' (record { stands = stands; stop = facts.stop }))
 
@@ -343,14 +380,17 @@ module _ (P Q : Prog) (bool : Ty) (limits : Limits) (accepted : IsAccepted P) (s
           same : bool_of (argument p h.br.args 0) ≡ bool_of (argument q g.arguments 0)
           same = ap bool_of (condition i j p q a on off h agree g.arguments g.has_args (below_args j None op.Guard (args_in (tree_at P k i)) [] (names.bail ∷ []) g))
 
+          front : (n : ℕ) → n < 1 → Elsewhere Q (after (step Q limits) n (atQ j q))
+          front = one-more Q limits 0 (atQ j q) (at-line j q (guard_line (args_in (tree_at P k i)) names.bail) facts.stands.0 (λ n. cc)) (no-steps Q limits (step Q limits (atQ j q)))
+
           by : (c : Bool) → bool_of (argument p h.br.args 0) ≡ c → Outcome (suc room) s (atQ j q)
           by true e =
-              leg room s i p (atQ j q) (atQ (suc j) q) 1 (omega arith) b (guard-holds j q (args_in (tree_at P k i)) g (sym same ∙ e))
+              leg room s i p (atQ j q) (atQ (suc j) q) 1 (omega arith) b (guard-holds j q (args_in (tree_at P k i)) g (sym same ∙ e)) front
               (rest room choices (point_of (chosen true on off) (code_of P k)) (suc j) n p q (atP i p) (before i p (atP (point_of (chosen true on off) (code_of P k)) p) (turned i p a on off at h true e))
               (reach-turned i a on off at h true r) agree (record { stands = facts.stands.1; stop = facts.stop }))
           by false e =
               let f = guard-fails j q (args_in (tree_at P k i)) g (sym same ∙ e) in
-              inr (record { moves = 1; within = omega arith; failures = f.failures; is = f.is })
+              inr (record { moves = 1; within = omega arith; between = front; failures = f.failures; is = f.is })
 
       turn-false : (room : ℕ) (choices : List Bool) (a : Instr) (on off : ℕ) → item_at P k i ≡ Some a → Turning i a on off → Facts (with_leg (Turn i false) (next room choices (point_of (chosen false on off) (code_of P k)))) j n → Outcome (suc room) s (atQ j q)
       turn-false room choices a on off at h facts = by (bool_of (argument p h.br.args 0)) refl
@@ -376,17 +416,24 @@ module _ (P Q : Prog) (bool : Ty) (limits : Limits) (accepted : IsAccepted P) (s
           read_back : bool_of (argument (assigned m.assigned (negation (argument q m.arguments 0)) q) g.arguments 0) ≡ not (bool_of (argument p h.br.args 0))
           read_back = ap bool_of (made.holds g.arguments g.has_args (below_args (suc j) None op.Guard (names.nots n ∷ []) [] (names.bail ∷ []) g)) ∙ ap not (sym same)
 
+          front : (n : ℕ) → n < 2 → Elsewhere Q (after (step Q limits) n (atQ j q))
+          front =
+              let q' = assigned m.assigned (negation (argument q m.arguments 0)) q in
+              one-more Q limits 1 (atQ j q) (at-line j q (not_line bool (names.nots n) (args_in (tree_at P k i))) facts.stands.0 (λ n. cc))
+              (subst (λ z. (n : ℕ) → n < 1 → Elsewhere Q (after (step Q limits) n z)) (sym negated)
+              (one-more Q limits 0 (atQ (suc j) q') (at-line (suc j) q' (guard_line (names.nots n ∷ []) names.bail) facts.stands.1.0 (λ n. cc)) (no-steps Q limits (step Q limits (atQ (suc j) q')))))
+
           by : (c : Bool) → bool_of (argument p h.br.args 0) ≡ c → Outcome (suc room) s (atQ j q)
           by false e =
               let q' = assigned m.assigned (negation (argument q m.arguments 0)) q in
               leg room s i p (atQ j q) (atQ (suc (suc j)) q') 2 (omega arith) b
-              (ap (step Q limits) negated ∙ guard-holds (suc j) q' (names.nots n ∷ []) g (read_back ∙ ap not e))
+              (ap (step Q limits) negated ∙ guard-holds (suc j) q' (names.nots n ∷ []) g (read_back ∙ ap not e)) front
               (rest room choices (point_of (chosen false on off) (code_of P k)) (suc (suc j)) (suc n) p q' (atP i p) (before i p (atP (point_of (chosen false on off) (code_of P k)) p) (turned i p a on off at h false e))
               (reach-turned i a on off at h false r) made.agree (record { stands = facts.stands.1.1; stop = facts.stop }))
           by true e =
               let q' = assigned m.assigned (negation (argument q m.arguments 0)) q in
               let f = guard-fails (suc j) q' (names.nots n ∷ []) g (read_back ∙ ap not e) in
-              inr (record { moves = 2; within = omega arith; failures = f.failures; is = ap (step Q limits) negated ∙ f.is })
+              inr (record { moves = 2; within = omega arith; between = front; failures = f.failures; is = ap (step Q limits) negated ∙ f.is })
 
       by_meeting : (room : ℕ) (choices : List Bool) (a : Instr) → item_at P k i ≡ Some a → (met : Meeting) → item_met (Some a) ≡ met → Facts (path_by (code_of P k) next met room choices i) j n → Outcome room s (atQ j q)
       by_meeting room choices a at Over met facts =

@@ -135,7 +135,7 @@ module _ (P Q : Prog) (bool : Ty) (laid : List Laying) (layable : (x : Laying) �
       let at : j ≡ start_of (before f) (behind f) i + (stops f i - suc m) = omega arith in
       (line.x, line.among, line.function, line.stop, b.ofQ j ∙ ap (slice_get (spliced (before f) (behind f) 0 b.code)) at ∙ before-position (before f) (behind f) b.code i (stops f i - suc m) (omega arith) (omega arith) ∙ line.is)
 
-  stop_label : (f i j m : ℕ) → suc m ≤ stops f i → j + suc m ≡ old f i → (name : List ℕ) × (tree_at Q f j ≡ Some (item.Label name))
+  pub stop_label : (f i j m : ℕ) → suc m ≤ stops f i → j + suc m ≡ old f i → (name : List ℕ) × (tree_at Q f j ≡ Some (item.Label name))
   stop_label f i j m few e = let o = stop_owner f i j m few e in (o.0.names.stop, o.4)
 
   -- none stands before a label

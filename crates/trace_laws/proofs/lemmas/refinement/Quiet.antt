@@ -1,9 +1,12 @@
 -- What stands between the `speculate` of a trace and its `commit`.
-use Rattle.std.proofs.Common.{◌≡◌, ℕ, zero, suc, ◌+◌, ◌≤◌, List, [], ◌∷◌, ◌++◌, length, Some, None, sym, ap, subst, ◌∙◌, arith}
+use Rattle.bril_tree.specs.declared.function_tree.Item.TheVariants as item
+use Rattle.std.proofs.Common.{◌≡◌, ℕ, zero, suc, ◌+◌, ◌-◌, ◌<◌, ◌≤◌, List, [], ◌∷◌, ◌++◌, length, Some, None, sym, ap, subst, ◌∙◌, arith}
 use Rattle.std.specs.Prelude.{slice_get}
-use Rattle.std.proofs.lemmas.Option.{same_Some}
+use Rattle.std.proofs.lemmas.List.{length-append}
+use Rattle.std.proofs.lemmas.Option.{same_Some, slice_get_within}
 use Rattle.bril_profile.specs.declared.profile.Profile.{Profile}
 use Rattle.bril_tree.specs.declared.function_tree.Item.{Item}
+use Rattle.bril_tree.specs.declared.numbered.Instr.TheVariants.{Label}
 use Rattle.bril_tree.specs.declared.program.Prog.{Prog}
 use Rattle.bril_tree.specs.declared.types.Ty.{Ty}
 use Rattle.bril_tree.specs.Membership.{In}
@@ -12,6 +15,8 @@ use Rattle.trace_paths.specs.Path.{path_of}
 use Rattle.bril_tree.specs.Step.{code_of}
 use Rattle.bril_tree.specs.Walk.{IsReached}
 use Rattle.bril_tree.proofs.Elements.{get_in, get_inside}
+use Rattle.pass_edit_laws.proofs.lemmas.names.Points.{found}
+use Rattle.pass_edit_laws.proofs.lemmas.names.Standing.{label_at}
 use Rattle.trace_laws.specs.lines.Laws.{IsQuiet}
 use Rattle.trace_laws.specs.lines.Lines.{bool_type, end_lines, leg_lines}
 use Rattle.trace_laws.specs.lines.Names.{trace_bases}
@@ -21,7 +26,7 @@ use Rattle.trace_laws.proofs.lemmas.lines.Layings.{IsLayable, located}
 use Rattle.trace_laws.proofs.lemmas.lines.Quiet.{lines-quiet}
 use Rattle.trace_laws.specs.refinement.Laws.{HasQuietTrace, TracesAreQuiet}
 use Rattle.trace_laws.specs.refinement.Stitched.{IsTracedAt, Stands}
-use Rattle.trace_laws.proofs.lemmas.refinement.Laying.{kept, old, stops, traced}
+use Rattle.trace_laws.proofs.lemmas.refinement.Laying.{kept, kept-at, old, stop_label, stops, traced}
 use Rattle.trace_laws.proofs.lemmas.refinement.Refining.{stands_append}
 
 -- one of the items that stand from a point on
@@ -31,10 +36,10 @@ stands-at P Q bool f j (x ∷ xs) ys s zero a e = let z : j + zero ≡ j = omega
 stands-at P Q bool f j (x ∷ xs) ys s (suc k) a e = let z : j + suc k ≡ suc j + k = omega arith in ap (tree_at Q f) z ∙ stands-at P Q bool f (suc j) xs ys s.1 k a e
 
 module _ (P Q : Prog) (profile : Profile) (made : IsTraced P profile Q) (f point : ℕ) (t : Trace) (at : trace_at made.laid f point ≡ Some t) where
-  lay : (x : Laying) → In x made.laid → IsLayable P x
+  pub lay : (x : Laying) → In x made.laid → IsLayable P x
   lay = layable trace_bases P profile.entries made.fits made.laid made.are_fits made.are_laid
 
-  most : length made.laid ≤ 64
+  pub most : length made.laid ≤ 64
   most = let a = fits-few P [] profile.entries made.fits made.are_fits in let b = laid-few trace_bases P 1 made.fits made.laid made.are_laid in let c = profile.few in omega arith
 
   abbrev label : ℕ
@@ -49,23 +54,47 @@ module _ (P Q : Prog) (profile : Profile) (made : IsTraced P profile Q) (f point
   trace : IsTracedAt P Q bool_type (old P Q bool_type made.laid lay most made.spliced_so) (stops P Q bool_type made.laid lay most made.spliced_so) f point t
   trace = traced P Q bool_type made.laid lay most made.spliced_so f point t at
 
-  reached : IsReached (code_of P f) point
+  pub reached : IsReached (code_of P f) point
   reached =
       let l = located P made.laid f point t at in
       let fit = fit-of P [] profile.entries made.fits l.x.fit made.are_fits (laid-of trace_bases P 1 made.fits made.laid l.x made.are_laid l.among).among in
       subst (λ n. IsReached (code_of P f) n) l.point (subst (λ n. IsReached (code_of P n) l.x.fit.point) l.function fit.1.reached)
 
-  has-quiet : HasQuietTrace P Q f point
+  -- what stands behind the laid items
+  tail : Stands P Q bool_type f (suc (suc label) + length legs) ends
+  tail = stands_append P Q bool_type f (suc (suc label)) legs ends trace.lines.1
+
+  -- the old code behind the trace
+  abbrev between : ℕ
+  between = stops P Q bool_type made.laid lay most made.spliced_so f (suc point)
+
+  next : suc (suc label) + length legs + 3 + between ≡ old P Q bool_type made.laid lay most made.spliced_so f (suc point)
+  next = let b = trace.behind in let l = length-append legs ends in omega arith
+
+  follows : tree_at P f (suc point) ≡ tree_at Q f (suc (suc label) + length legs + 3 + between)
+  follows =
+      let l = label_at P f point trace.label trace.labelled in
+      let h = found P f point (Label l.number) l.at in
+      kept-at P Q bool_type made.laid lay most made.spliced_so f h.function h.there (suc point) (let w = slice_get_within (code_of P f) point (Label l.number) l.at in omega arith) ∙ ap (tree_at Q f) (sym next)
+
+  labelled : (k : ℕ) → k < between → (name : List ℕ) × (tree_at Q f (suc (suc label) + length legs + 3 + k) ≡ Some (item.Label name))
+  labelled k less = stop_label P Q bool_type made.laid lay most made.spliced_so f (suc point) (suc (suc label) + length legs + 3 + k) (between - suc k) (omega arith) (let n = next in omega (arith, n, less))
+
+  has-quiet : HasQuietTrace P Q f point t
   has-quiet = record {
     label = label;
     size = length legs;
     stands = kept P Q bool_type made.laid lay most made.spliced_so f point reached;
     opens = trace.lines.0;
-    closes = (stands_append P Q bool_type f (suc (suc label)) legs ends trace.lines.1).0;
+    closes = tail.0;
+    bails = (let z : suc (suc label) + length legs + 2 ≡ suc (suc (suc (suc label) + length legs)) = omega arith in ap (tree_at Q f) z ∙ tail.1.1.0);
     quiet = λ k a less stands.
         let x = get_inside legs k less in
         let same : x.0 ≡ a = same_Some x.0 a (sym (stands-at P Q bool_type f (suc (suc label)) legs ends trace.lines.1 k x.0 x.1) ∙ stands) in
-        subst IsQuiet same (lines-quiet P f bool_type t.names x.0 point t.choices (get_in legs k x.0 x.1));
+        subst (IsQuiet t.names.bail) same (lines-quiet P f bool_type t.names x.0 point t.choices (get_in legs k x.0 x.1));
+    between = between;
+    follows = follows;
+    labelled = labelled;
   }
 
 pub traces-quiet : TracesAreQuiet

@@ -1,14 +1,17 @@
--- A program with laid traces refines the one that it is made from, with the factor 520.
+-- A program with laid traces refines the one that it is made from, with the factor 520. Where it stands at the `speculate` of a trace,
+-- that one stands behind the label.
+use Rattle.bril_tree.proofs.Branches.{walk_within}
 use Rattle.bril_tree.proofs.Elements.{zip-long}
 use Rattle.pass_edit_laws.proofs.lemmas.names.Standing.{action_at, label_at}
 use Rattle.bril_tree.specs.declared.function_tree.Item.TheVariants as item
 use Rattle.bril_tree.specs.declared.operation.Op.TheVariants as op
-use Rattle.std.proofs.Common.{◌≡◌, ℕ, zero, suc, ◌+◌, ◌≤◌, List, [], ◌∷◌, ◌++◌, length, Option, Some, None, refl, sym, ap, subst, ◌∙◌, inl, inr, ⊎_elim, arith}
+use Rattle.std.proofs.Common.{◌≡◌, ℕ, zero, suc, ◌+◌, ◌-◌, ◌<◌, ◌≤◌, List, [], ◌∷◌, ◌++◌, length, Option, Some, None, refl, sym, ap, subst, ◌∙◌, inl, inr, ⊎_elim, arith}
 use Rattle.std.specs.Prelude.{slice_get, IsSome}
+use Rattle.std.proofs.lemmas.Bool.{cases_lt}
 use Rattle.std.proofs.lemmas.List.{length-append}
-use Rattle.simulation.specs.System.{after}
+use Rattle.simulation.specs.System.{IsFinal, after}
 use Rattle.simulation.specs.Simulation.{Chunk, Simulation}
-use Rattle.simulation.proofs.After.{after-suc, after-add_one}
+use Rattle.simulation.proofs.After.{after-add, after-add_one, after-final, after-sub, after-suc, final_or_running, running-not_final}
 use Rattle.simulation.proofs.Simulation.{Follows-from_simulation}
 use Rattle.bril_tree.specs.declared.function_tree.Item.{Item}
 use Rattle.bril_tree.specs.declared.limits.End.{End}
@@ -28,9 +31,11 @@ use Rattle.pass_edit_laws.proofs.lemmas.steps.Moves.{result_moves}
 use Rattle.pass_edit_laws.proofs.lemmas.steps.Steps.{frame, state, matches, regular_steps_match, first_states_match}
 use Rattle.trace_laws.specs.lines.Lines.{leg_lines, end_lines}
 use Rattle.trace_laws.specs.lines.Traced.{Trace}
+use Rattle.trace_laws.specs.refinement.Attempts.{ComesBehind, RunsIn, StatesAlike}
 use Rattle.trace_laws.specs.refinement.Stitched.{Stands, trace_path, IsTracedAt, Stitched}
+use Rattle.trace_laws.proofs.lemmas.refinement.Behind.{AtTrace, contents-alike, newest-same, not-elsewhere, not-old, one-point, stacks-alike}
 use Rattle.trace_laws.proofs.lemmas.refinement.Plans.{IsRegular, M, preserves}
-use Rattle.trace_laws.proofs.lemmas.refinement.Along.{Met, Reaches, reach, Later, Back, Outcome, along}
+use Rattle.trace_laws.proofs.lemmas.refinement.Along.{Back, Elsewhere, Later, Met, Outcome, Reaches, along, first-and, no-steps, one-more, reach}
 use Rattle.bril_tree.specs.Numbered.{tree_at}
 
 pub stands_append : (P Q : Prog) (bool : Ty) (f j : ℕ) (xs ys : List Item) → Stands P Q bool f j (xs ++ ys) → Stands P Q bool f (j + length xs) ys
@@ -47,8 +52,10 @@ module _ (P Q : Prog) (bool : Ty) (limits : Limits) (accepted : IsAccepted P) (s
   abbrev R : State → State → Type 0
   R = Met P Q bool limits accepted st
 
-  abbrev Chunks : State → State → Type 0
-  Chunks s t = Chunk (program P limits) (program Q limits) 520 R s t
+  -- a chunk of both runs, and that where Q stands within it at the `speculate` of a trace, P comes from s to stand behind the label
+  pub record Chunks (s t : State) : Type 0 where
+    pub chunk : Chunk (program P limits) (program Q limits) 520 R s t
+    pub between : (n : ℕ) → n ≤ chunk.moves → (f point : ℕ) → AtTrace P Q bool st f point (after (step Q limits) n t) → ComesBehind P Q limits f point s (after (step Q limits) n t)
 
   -- ---- at the label of a trace
 
@@ -90,13 +97,44 @@ module _ (P Q : Prog) (bool : Ty) (limits : Limits) (accepted : IsAccepted P) (s
     reached = record { walk = contents.walk; is = contents.is; ends = contents.ends }
 
     -- past the label and the speculate
+    labelled : tree_at Q k (st.old k i) ≡ Some (item.Label h.label)
+    labelled = sym (st.kept k i reached) ∙ h.labelled
+
+    -- at the speculate
+    abbrev past : State
+    past = state (frame k (suc (st.old k i)) q qs ∷ gs) blocks printed None y
+
+    passed : step Q limits t0 ≡ past
+    passed = let l = label_at Q k (st.old k i) h.label labelled in ap (λ o. item_step Q limits o (frame k (st.old k i) q qs) gs t0) l.at
+
     opened : step Q limits (step Q limits t0) ≡ InQ (suc (suc (st.old k i))) q
-    opened =
-        let l = label_at Q k (st.old k i) h.label (sym (st.kept k i reached) ∙ h.labelled) in
-        let o = action_at Q k (suc (st.old k i)) None op.Speculate [] [] [] h.lines.0 in
-        let past : State = state (frame k (suc (st.old k i)) q qs ∷ gs) blocks printed None y in
-        let first : step Q limits t0 ≡ past = ap (λ o. item_step Q limits o (frame k (st.old k i) q qs) gs t0) l.at in
-        ap (step Q limits) first ∙ ap (λ o. item_step Q limits o (frame k (suc (st.old k i)) q qs) gs past) o.at
+    opened = let o = action_at Q k (suc (st.old k i)) None op.Speculate [] [] [] h.lines.0 in ap (step Q limits) passed ∙ ap (λ o. item_step Q limits o (frame k (suc (st.old k i)) q qs) gs past) o.at
+
+    at-label : Elsewhere Q t0
+    at-label = record { frame = frame k (st.old k i) q qs; older = gs; frames = refl; line = item.Label h.label; at = labelled; other = λ n. cc }
+
+    -- there P stands behind the label, and holds the same
+    behind-label : (f point : ℕ) → AtTrace P Q bool st f point (step Q limits t0) → ComesBehind P Q limits f point s0 (step Q limits t0)
+    behind-label f point a =
+        let here = newest-same (frame k (suc (st.old k i)) q qs) (frame f (suc (st.old f point)) a.locations a.saves) gs a.older (step Q limits t0).frames (ap (λ (z : State). z.frames) passed) a.runs.frames in
+        let function : k ≡ f = ap (λ (z : Frame). z.function) here in
+        let inside : i ≤ length (code_of P f) = subst (λ n. i ≤ length (code_of P n)) function (let w = walk_within (code_of P k) contents.walk contents.is in let e = contents.ends in omega arith) in
+        let same : i ≡ point = one-point P Q bool st f point a.trace a.is i inside (ap (λ n. suc (st.old n i)) (sym function) ∙ ap (λ (z : Frame). z.point) here) in
+        record {
+          steps = 1;
+          locations = p;
+          saves = ps;
+          older = fs;
+          stands = record { frames = ap (λ (z : State). z.frames) stepped ∙ (λ z. frame (function z) (suc (same z)) p ps ∷ fs); ended = ap (λ (z : State). z.ended) stepped };
+          alike = subst (λ z. StatesAlike P Q z (step Q limits t0)) (sym stepped) (subst (λ z. StatesAlike P Q (InP (suc i) p) z) (sym passed)
+              (record { frames = (contents-alike P Q bool accepted st k i (st.old k i) (suc i) (suc (st.old k i)) p q ps qs contents, stacks-alike P Q bool accepted st k fs gs callers); effects = record { blocks = refl; printed = refl }; ended = refl }));
+        }
+
+    -- Q may be at the speculate only then
+    at-speculate : (moves : ℕ) → ((n : ℕ) → n < moves → Elsewhere Q (after (step Q limits) n (InQ (suc (suc (st.old k i))) q))) → (n : ℕ) → n ≤ suc moves → (f point : ℕ) → AtTrace P Q bool st f point (after (step Q limits) n t0) → ComesBehind P Q limits f point s0 (after (step Q limits) n t0)
+    at-speculate moves elsewhere zero few f point a = absurd (not-elsewhere P Q bool st f point t0 at-label a)
+    at-speculate moves elsewhere (suc zero) few f point a = behind-label f point a
+    at-speculate moves elsewhere (suc (suc n)) few f point a = absurd (not-elsewhere P Q bool st f point (after (step Q limits) (suc (suc n)) t0) (subst (λ z. Elsewhere Q (after (step Q limits) n z)) (sym opened) (elsewhere n (omega arith))) a)
 
     abbrev Came : ℕ → Type 0
     Came n = Reaches P Q bool limits accepted st k i t.names h.apart bail bailed ps qs q fs gs callers blocks printed x y n
@@ -119,12 +157,15 @@ module _ (P Q : Prog) (bool : Ty) (limits : Limits) (accepted : IsAccepted P) (s
         through l =
             let w = l.within in
             record {
-              early = l.early;
-              moves = suc l.moves;
-              within = omega arith;
-              quiet = l.quiet;
-              running = l.running;
-              again = subst (λ z. R (after (step P limits) (suc l.early) s0) (after (step Q limits) l.moves z)) (sym opened) l.again;
+              chunk = record {
+                early = l.early;
+                moves = suc l.moves;
+                within = omega arith;
+                quiet = l.quiet;
+                running = l.running;
+                again = subst (λ z. R (after (step P limits) (suc l.early) s0) (after (step Q limits) l.moves z)) (sym opened) l.again;
+              };
+              between = at-speculate l.moves l.between;
             }
 
         back : Back P Q bool limits accepted st k i t.names h.apart bail bailed ps qs q fs gs callers blocks printed x y 256 (InQ (suc (suc (st.old k i))) q) → Chunks s0 t0
@@ -140,12 +181,15 @@ module _ (P Q : Prog) (bool : Ty) (limits : Limits) (accepted : IsAccepted P) (s
             matches N P Q limits accepted (preserves P Q bool accepted st) (frame k (suc i) p ps) (frame k (suc bail) q qs) fs gs blocks printed None x b.failures
             (record { function = refl; contents = record { walk = came.walk; is = came.is; ends = came.ends; points = (st.stops k (suc i), omega arith, behind); locations = contents.locations; known = λ a v h. absurd h; saves = came.saves } }) callers in
             record {
-              early = 0;
-              moves = suc (b.moves + 1);
-              within = omega arith;
-              quiet = refl;
-              running = refl;
-              again = subst (λ z. R z (after (step Q limits) (suc (suc (b.moves + 1))) t0)) (sym stepped) (inl (subst (λ z. StatesMatch N P Q (InP (suc i) p) z) (sym moved) related));
+              chunk = record {
+                early = 0;
+                moves = suc (b.moves + 1);
+                within = omega arith;
+                quiet = refl;
+                running = refl;
+                again = subst (λ z. R z (after (step Q limits) (suc (suc (b.moves + 1))) t0)) (sym stepped) (inl (subst (λ z. StatesMatch N P Q (InP (suc i) p) z) (sym moved) related));
+              };
+              between = at-speculate (b.moves + 1) (first-and Q limits b.moves 1 (InQ (suc (suc (st.old k i))) q) failed b.is b.between (one-more Q limits 0 failed (record { frame = frame k bail q qs; older = gs; frames = refl; line = item.Label t.names.bail; at = bailed; other = λ n. cc }) (no-steps Q limits (step Q limits failed))));
             }
 
   -- ---- elsewhere
@@ -155,11 +199,31 @@ module _ (P Q : Prog) (bool : Ty) (limits : Limits) (accepted : IsAccepted P) (s
     count : ℕ
     few : count ≤ c
     points : StatesMatch N P Q s (after (step Q limits) count t)
+    between : (n : ℕ) → n ≤ count → (f point : ℕ) → AtTrace P Q bool st f point (after (step Q limits) n t) → ⊥
     same : points.frame ≡ F
     at : points.result_frame.point ≡ st.old F.function F.point
 
+  -- at an old item Q stands at no `speculate` of a trace
+  at-old_item : (s t : State) (r : StatesMatch N P Q s t) → r.result_frame.point ≡ st.old r.frame.function r.frame.point → (f point : ℕ) → AtTrace P Q bool st f point t → ⊥
+  at-old_item s t r at f point a =
+      let here = newest-same r.result_frame (frame f (suc (st.old f point)) a.locations a.saves) r.result_older a.older t.frames r.result_frames a.runs.frames in
+      let function : r.frame.function ≡ f = r.newest.function ∙ ap (λ (z : Frame). z.function) here in
+      let c = r.newest.contents in
+      let inside : r.frame.point ≤ length (code_of P r.frame.function) = let w = walk_within (code_of P r.frame.function) c.walk c.is in let e = c.ends in omega arith in
+      not-old P Q bool st f point a.trace a.is r.frame.point (subst (λ n. r.frame.point ≤ length (code_of P n)) function inside)
+      (ap (λ n. st.old n r.frame.point) (sym function) ∙ sym at ∙ ap (λ (z : Frame). z.point) here)
+
+  only-now : (t : State) → ((f point : ℕ) → AtTrace P Q bool st f point t → ⊥) → (n : ℕ) → n ≤ 0 → (f point : ℕ) → AtTrace P Q bool st f point (after (step Q limits) n t) → ⊥
+  only-now t h zero few = h
+  only-now t h (suc n) few = absurd (omega arith)
+
+  and-later : (count : ℕ) (t : State) → ((f point : ℕ) → AtTrace P Q bool st f point t → ⊥) → ((n : ℕ) → n ≤ count → (f point : ℕ) → AtTrace P Q bool st f point (after (step Q limits) n (step Q limits t)) → ⊥)
+      → (n : ℕ) → n ≤ suc count → (f point : ℕ) → AtTrace P Q bool st f point (after (step Q limits) n t) → ⊥
+  and-later count t h rest zero few = h
+  and-later count t h rest (suc n) few = rest n (omega arith)
+
   to_old : (m : ℕ) (s t : State) (r : StatesMatch N P Q s t) → s.ended ≡ None → m ≤ st.stops r.frame.function r.frame.point → r.result_frame.point + m ≡ st.old r.frame.function r.frame.point → AtOld m r.frame s t
-  to_old zero s t r runs few e = record { count = 0; few = omega arith; points = r; same = refl; at = omega arith }
+  to_old zero s t r runs few e = let at : r.result_frame.point ≡ st.old r.frame.function r.frame.point = omega arith in record { count = 0; few = omega arith; points = r; between = only-now t (at-old_item s t r at); same = refl; at = at }
   to_old (suc m) s t r runs few e =
       let F = r.frame in
       let G = r.result_frame in
@@ -172,7 +236,9 @@ module _ (P Q : Prog) (bool : Ty) (limits : Limits) (accepted : IsAccepted P) (s
       (subst (λ (z : Frame). m ≤ st.stops z.function z.point) (sym n.1) (omega arith))
       (subst (λ (z : Frame). n.0.result_frame.point + m ≡ st.old z.function z.point) (sym n.1) (omega arith)) in
       let c = rest.few in
-      record { count = suc rest.count; few = omega arith; points = rest.points; same = rest.same ∙ n.1; at = rest.at ∙ ap (λ (z : Frame). st.old z.function z.point) n.1 }
+      let tree : tree_at Q G.function G.point ≡ Some (item.Label name.0) = ap (λ n. tree_at Q n G.point) (sym r.newest.function) ∙ name.1 in
+      let here : Elsewhere Q t = record { frame = G; older = r.result_older; frames = r.result_frames; line = item.Label name.0; at = tree; other = λ n. cc } in
+      record { count = suc rest.count; few = omega arith; points = rest.points; between = and-later rest.count t (λ f point. not-elsewhere P Q bool st f point t here) rest.between; same = rest.same ∙ n.1; at = rest.at ∙ ap (λ (z : Frame). st.old z.function z.point) n.1 }
 
   plain-chunk : (s t : State) (r : StatesMatch N P Q s t) → s.ended ≡ None → st.traces r.frame.function r.frame.point ≡ None → Chunks s t
   plain-chunk s t r runs none =
@@ -183,12 +249,15 @@ module _ (P Q : Prog) (bool : Ty) (limits : Limits) (accepted : IsAccepted P) (s
       let m = b.1 in
       let regular : IsRegular P Q bool accepted st o.points.frame.function o.points.frame.point o.points.result_frame.point = (o.at ∙ ap (λ (z : Frame). st.old z.function z.point) (sym o.same), ap (λ (z : Frame). st.traces z.function z.point) o.same ∙ none) in
       record {
-        early = 0;
-        moves = o.count;
-        within = omega arith;
-        quiet = refl;
-        running = runs;
-        again = subst (λ z. R (step P limits s) z) (sym (after-suc (step Q limits) o.count t)) (inl (regular_steps_match N P Q limits accepted (preserves P Q bool accepted st) s (after (step Q limits) o.count t) o.points runs regular));
+        chunk = record {
+          early = 0;
+          moves = o.count;
+          within = omega arith;
+          quiet = refl;
+          running = runs;
+          again = subst (λ z. R (step P limits s) z) (sym (after-suc (step Q limits) o.count t)) (inl (regular_steps_match N P Q limits accepted (preserves P Q bool accepted st) s (after (step Q limits) o.count t) o.points runs regular));
+        };
+        between = λ n less f point a. absurd (o.between n less f point a);
       }
 
   tracing-chunk : (s t : State) (r : StatesMatch N P Q s t) → s.ended ≡ None → (tr : Trace) → st.traces r.frame.function r.frame.point ≡ Some tr → Chunks s t
@@ -222,7 +291,46 @@ module _ (P Q : Prog) (bool : Ty) (limits : Limits) (accepted : IsAccepted P) (s
   agreeing s t (inr e) = (e.ended, e.printed)
 
   pub simulates : Simulation (program P limits) (program Q limits) 520 R
-  simulates = record { agrees = agreeing; chunk = any-chunk }
+  simulates = record { agrees = agreeing; chunk = λ s t r runs. (any-chunk s t r runs).chunk }
+
+  -- ---- within a run
+
+  -- what has ended stands at no item
+  still-runs : (n : ℕ) (s t : State) → R s t → (f point : ℕ) → AtTrace P Q bool st f point (after (step Q limits) n t) → s.ended ≡ None
+  still-runs n s t r f point a = ⊎_elim ended (λ runs. runs) (final_or_running s.ended)
+    where
+      ended : IsFinal s.ended → s.ended ≡ None
+      ended final =
+          let end : IsFinal t.ended = subst (λ (o : Option End). IsSome o) (agreeing s t r).0 final in
+          let rests : after (step Q limits) n t ≡ t = after-final (program Q limits) (program_is_system Q limits) n t end in
+          absurd (running-not_final (after (step Q limits) n t).ended a.runs.ended (subst (λ (z : State). IsSome z.ended) (sym rests) end))
+
+  -- Q is past a chunk
+  past-chunk : (n : ℕ) (s t : State) (f point : ℕ) (c : Chunks s t) → suc c.chunk.moves ≤ n
+      → ComesBehind P Q limits f point (after (step P limits) (suc c.chunk.early) s) (after (step Q limits) (n - suc c.chunk.moves) (after (step Q limits) (suc c.chunk.moves) t)) → ComesBehind P Q limits f point s (after (step Q limits) n t)
+  past-chunk n s t f point c more h =
+      let same = after-add (step P limits) (suc c.chunk.early) h.steps s in
+      record {
+        steps = suc c.chunk.early + h.steps;
+        locations = h.locations;
+        saves = h.saves;
+        older = h.older;
+        stands = subst (λ z. RunsIn (frame f (suc point) h.locations h.saves) h.older z) (sym same) h.stands;
+        alike = subst (λ z. StatesAlike P Q z (after (step Q limits) n t)) (sym same)
+            (subst (λ z. StatesAlike P Q (after (step P limits) h.steps (after (step P limits) (suc c.chunk.early) s)) z) (sym (after-sub (step Q limits) (suc c.chunk.moves) n t more)) h.alike);
+      }
+
+  -- Q goes on from related states
+  pub comes-behind : (fuel n : ℕ) → n < fuel → (s t : State) → R s t → (f point : ℕ) → AtTrace P Q bool st f point (after (step Q limits) n t) → ComesBehind P Q limits f point s (after (step Q limits) n t)
+  comes-behind zero n few s t r f point a = absurd (omega arith)
+  comes-behind (suc fuel) n few s t r f point a =
+      let c = any-chunk s t r (still-runs n s t r f point a) in
+      ⊎_elim
+      (λ less. c.between n (omega (arith, less)) f point a)
+      (λ more. past-chunk n s t f point c more
+      (comes-behind fuel (n - suc c.chunk.moves) (omega (arith, few, more)) (after (step P limits) (suc c.chunk.early) s) (after (step Q limits) (suc c.chunk.moves) t) c.chunk.again f point
+      (subst (λ z. AtTrace P Q bool st f point z) (after-sub (step Q limits) (suc c.chunk.moves) n t more) a)))
+      (cases_lt n (suc c.chunk.moves))
 
 pub stitched-refines : (P Q : Prog) (bool : Ty) → IsAccepted P → Stitched P Q bool → Refines P Q 520
 stitched-refines P Q bool accepted st = record {

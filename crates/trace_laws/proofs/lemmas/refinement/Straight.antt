@@ -17,34 +17,14 @@ use Rattle.pass_edit_laws.specs.plan.Plan.{ItemsMatch}
 use Rattle.pass_edit_laws.proofs.lemmas.steps.Attempts.{is_attempted, is_attempted_operation}
 use Rattle.trace_paths.specs.Path.{Over, To, Lays, Turns, item_met, operation_met}
 
--- the items that a path lays look at no saves
-lays-operation : (o : Op) (ls : List ℕ) → operation_met o ls ≡ Lays → is_attempted_operation o ≡ true
-lays-operation op.Nop ls e = absurd (cc)
-lays-operation op.Jmp ls e = absurd (cc)
-lays-operation op.Br ls e = absurd (cc)
-lays-operation op.Print ls e = absurd (cc)
-lays-operation op.Store ls e = absurd (cc)
-lays-operation op.Alloc ls e = absurd (cc)
-lays-operation op.Free ls e = absurd (cc)
-lays-operation op.Call ls e = absurd (cc)
-lays-operation op.Ret ls e = absurd (cc)
-lays-operation op.Speculate ls e = absurd (cc)
-lays-operation op.Commit ls e = absurd (cc)
-lays-operation op.Guard ls e = absurd (cc)
-lays-operation _ ls e = refl
-
-pub lays-attempted : (a : Instr) → item_met (Some a) ≡ Lays → is_attempted a ≡ true
-lays-attempted (Label l) e = absurd (cc)
-lays-attempted (Const d t v) e = refl
-lays-attempted (Act d s o args fns ls) e = lays-operation o ls e
-
 -- ---- what the path does at an item
 
 pub record Goes (a : Instr) : Type 0 where
   pub branches : (code : List Instr) (point : ℕ) → item_branches code point a ≡ onward point ∷ []
   pub keeps : item_change (Some a) false ≡ Keeps
 
-lays-act : (o : Op) (d : Option ℕ) (s : Option Ty) (args fns ls : List ℕ) → operation_met o ls ≡ Lays → Goes (Act d s o args fns ls)
+-- the items that a path lays look at no saves, and go on to the next point
+lays-act : (o : Op) (d : Option ℕ) (s : Option Ty) (args fns ls : List ℕ) → operation_met o ls ≡ Lays → (is_attempted_operation o ≡ true) × Goes (Act d s o args fns ls)
 lays-act op.Nop d s args fns ls e = absurd (cc)
 lays-act op.Jmp d s args fns ls e = absurd (cc)
 lays-act op.Br d s args fns ls e = absurd (cc)
@@ -57,12 +37,17 @@ lays-act op.Ret d s args fns ls e = absurd (cc)
 lays-act op.Speculate d s args fns ls e = absurd (cc)
 lays-act op.Commit d s args fns ls e = absurd (cc)
 lays-act op.Guard d s args fns ls e = absurd (cc)
-lays-act _ d s args fns ls e = record { branches = λ c n. refl; keeps = refl }
+lays-act _ d s args fns ls e = (refl, record { branches = λ c n. refl; keeps = refl })
+
+pub lays-attempted : (a : Instr) → item_met (Some a) ≡ Lays → is_attempted a ≡ true
+lays-attempted (Label l) e = absurd (cc)
+lays-attempted (Const d t v) e = refl
+lays-attempted (Act d s o args fns ls) e = (lays-act o d s args fns ls e).0
 
 pub lays-goes : (a : Instr) → item_met (Some a) ≡ Lays → Goes a
 lays-goes (Label l) e = absurd (cc)
 lays-goes (Const d t v) e = record { branches = λ c n. refl; keeps = refl }
-lays-goes (Act d s o args fns ls) e = lays-act o d s args fns ls e
+lays-goes (Act d s o args fns ls) e = (lays-act o d s args fns ls e).1
 
 -- a label or a nop
 pub record Passed (P : Prog) (limits : Limits) (a : Instr) : Type 0 where

@@ -1,22 +1,24 @@
 -- An entry of a profile, and whether it fits.
-use Rattle.std.proofs.Common.{◌≡◌, ◌≢◌, ℕ, ◌<◌, ◌≤◌, List, [], length, get_or, Option, Some, None, refl, sym, ap, subst, ◌∙◌}
+use Rattle.std.proofs.Common.{◌≡◌, ◌≢◌, ℕ, ◌<◌, ◌≤◌, List, [], length, get_or, Option, Some, None, sym, ap, subst, ◌∙◌}
 use Rattle.std.specs.Prelude.{slice_get}
 use Rattle.std.specs.List.{Contains}
-use Rattle.std.proofs.lemmas.List.{get_or-map, get_or_default, length-map}
-use Rattle.std.proofs.lemmas.Option.{same_Some, slice_get_within}
+use Rattle.std.proofs.lemmas.List.{get_or-map, length-map}
+use Rattle.std.proofs.lemmas.Option.{slice_get_within}
 use Rattle.bril_names.proofs.Functions.{Differ-functions}
 use Rattle.bril_names.proofs.Naming.{one_number}
 use Rattle.bril_profile.specs.declared.profile.Entry.{Entry}
 use Rattle.bril_tree.specs.declared.function_tree.Item.TheVariants as item
-use Rattle.bril_tree.specs.declared.numbered.Instr.{Instr}
-use Rattle.bril_tree.specs.declared.numbered.Instr.TheVariants.{Label, Const, Act}
+use Rattle.bril_tree.specs.declared.numbered.Instr.TheVariants.{Label}
 use Rattle.bril_tree.specs.declared.numbered_function.Func.{Func}
 use Rattle.bril_tree.specs.declared.program.Prog.{Prog}
-use Rattle.bril_tree.specs.Numbered.{item_tree, named, names_in, names_of_functions, tree_at}
-use Rattle.bril_tree.specs.Step.{code_of, item_at, items_of, point_of}
-use Rattle.bril_tree.proofs.Trees.{nothing_at}
+use Rattle.bril_tree.specs.Numbered.{named, names_of_functions, tree_at}
+use Rattle.bril_tree.specs.Step.{code_of, items_of, point_of}
+use Rattle.bril_tree.specs.Membership.{In}
 use Rattle.bril_tree.proofs.LabelPoints.{label-point}
-use Rattle.pass_edit_laws.proofs.lemmas.names.Points.{Found, found, label_found, label_once}
+use Rattle.bril_tree.proofs.Members.{contains_in}
+use Rattle.pass_edit_laws.specs.labels.Fresh.{labels_here}
+use Rattle.pass_edit_laws.proofs.lemmas.labels.Listed.{label-known}
+use Rattle.pass_edit_laws.proofs.lemmas.names.Points.{label_found, label_once}
 use Rattle.trace_stitcher.specs.declared.matching.fitting.Fitting.{Fitting}
 use Rattle.trace_stitcher.specs.matching.Fitting.{IsFound, IsFoundAt, MaySpeculate, candidate, fit_of, seen_of}
 use Rattle.trace_paths.specs.Fits.{Fit, IsFit, Repeats, fit_path}
@@ -26,22 +28,6 @@ use Rattle.trace_paths.specs.Path.{path_of}
 pub name-read : (funcs : List Func) (k : ℕ) (F : Func) → k < length funcs → F ≡ get_or funcs k F → named (names_of_functions funcs) k ≡ F.name
 name-read funcs k F within is = get_or-map (λ (f : Func). f.name) funcs k F [] within ∙ ap (λ (f : Func). f.name) (sym is)
 
--- the label at a point is one of the function's
-pub label-known : (P : Prog) (f i : ℕ) (F : Func) (name : List ℕ) → slice_get P.funcs f ≡ Some F → tree_at P f i ≡ Some (item.Label name) → Contains F.labels name
-label-known P f i F name there at = by (item_at P f i) refl
-  where
-    by_item : (a : Instr) (h : Found P f i a) → item_tree (names_of_functions P.funcs) (names_in (slice_get P.funcs f)) h.function.labels a ≡ item.Label name → Contains F.labels name
-    by_item (Label l) h e =
-        let is : named h.function.labels l ≡ name = cc in
-        let same : h.function ≡ F = same_Some h.function F (sym h.there ∙ there) in
-        subst (λ (G : Func). Contains G.labels name) same (l, h.range.places.0, get_or_default h.function.labels l name [] h.range.places.0 ∙ is)
-    by_item (Const d ty v) h e = absurd cc
-    by_item (Act d ty o args fns ls) h e = absurd cc
-
-    by : (o : Option Instr) → item_at P f i ≡ o → Contains F.labels name
-    by None here = absurd (let h = sym (nothing_at P f i here) ∙ at in cc)
-    by (Some a) here = let h = found P f i a here in by_item a h (same_Some _ _ (sym h.tree ∙ at))
-
 module _ (P : Prog) (e : Entry) (among : List Fitting) (f : ℕ) (F : Func) (there : slice_get P.funcs f ≡ Some F) (within : f < length (names_of_functions P.funcs)) (named_so : named (names_of_functions P.funcs) f ≡ e.func) where
   function-is : (y : Fit) → IsFit P e y → y.function ≡ f
   function-is y fit = one_number (names_of_functions P.funcs) (Differ-functions P) y.function f fit.function within (fit.named_so ∙ sym named_so)
@@ -50,7 +36,7 @@ module _ (P : Prog) (e : Entry) (among : List Fitting) (f : ℕ) (F : Func) (the
   code-is = ap items_of there
 
   pub no-label : ¬ Contains F.labels e.label → IsFound P e among None
-  no-label none y fit = absurd (none (label-known P f y.point F e.label there (ap (λ n. tree_at P n y.point) (sym (function-is y fit)) ∙ fit.label)))
+  no-label none y fit = absurd (none (contains_in e.label F.labels (subst (λ o. In e.label (labels_here o)) there (label-known P f y.point e.label (ap (λ n. tree_at P n y.point) (sym (function-is y fit)) ∙ fit.label)))))
 
   module _ (l : ℕ) (low : l < length F.labels) (is_label : named F.labels l ≡ e.label) where
     label-at : tree_at P f (point_of l F.code) ≡ Some (item.Label e.label)

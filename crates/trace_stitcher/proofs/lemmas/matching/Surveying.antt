@@ -19,12 +19,6 @@ use Rattle.trace_stitcher.specs.matching.Surveys.{IsSurvey, IsSurveyOf}
 pub read-there : (P : Prog) (funcs : List Func) (k : ℕ) (F : Func) → funcs ≡ P.funcs → k < length P.funcs → F ≡ get_or funcs k F → slice_get P.funcs k ≡ Some F
 read-there P funcs k F all within is = slice_get-get_or P.funcs k F within ∙ ap Some (sym (is ∙ ap (λ (fs : List Func). get_or fs k F) all))
 
--- the function of a name, as it is read: its number is found, and it is there
-pub named-there : (P : Prog) (funcs : List Func) (name : List ℕ) (k : ℕ) (F : Func) → funcs ≡ P.funcs → Finds (names_of_functions funcs) name (Some k) → F ≡ get_or funcs k F → Finds (names_of_functions P.funcs) name (Some k) × (slice_get P.funcs k ≡ Some F)
-named-there P funcs name k F all finds is =
-    let names : Finds (names_of_functions P.funcs) name (Some k) = subst (λ (fs : List Func). Finds (names_of_functions fs) name (Some k)) all finds in
-    (names, read-there P funcs k F all (subst (λ n. k < n) (length-map P.funcs (λ (g : Func). g.name)) names.0) is)
-
 pub shaped-there : (P : Prog) (k : ℕ) (F : Func) → IsAccepted P → slice_get P.funcs k ≡ Some F → shape_fault_of (is_some F.ret) F.code ≡ None
 shaped-there P k F accepted there = shaped_function P F (accepted_function P k F accepted there)
 
@@ -38,10 +32,19 @@ last-is {A} xs x y k e at = same_Some x y (sym (last xs) ∙ ap (slice_get (xs +
     last [] = refl
     last (z ∷ zs) = last zs
 
--- the survey at a place is that of the function
-pub survey-read : (P : Prog) (surveys : List Survey) (place f : ℕ) (F : Func) (s : Survey) → All (IsSurvey P) surveys → place < length surveys → ((z : Survey) → slice_get surveys place ≡ Some z → z.function ≡ f) → s ≡ get_or surveys place s → slice_get P.funcs f ≡ Some F
-    → (s.function ≡ f) × IsSurveyOf F s
-survey-read P surveys place f F s all within is read there =
-    let at = slice_get-get_or surveys place s within ∙ ap Some (sym read) in
-    let number = is s at in
-    (number, All-at (IsSurvey P) surveys place s all at F (ap (slice_get P.funcs) number ∙ there))
+-- the function of a name, as it is read: its number is found, and it is there, with its shapes and its survey
+module _ (P : Prog) (funcs : List Func) (name : List ℕ) (k : ℕ) (F : Func) (all : funcs ≡ P.funcs) (finds : Finds (names_of_functions funcs) name (Some k)) (is : F ≡ get_or funcs k F) where
+  pub named-there : Finds (names_of_functions P.funcs) name (Some k) × (slice_get P.funcs k ≡ Some F)
+  named-there =
+      let names : Finds (names_of_functions P.funcs) name (Some k) = subst (λ (fs : List Func). Finds (names_of_functions fs) name (Some k)) all finds in
+      (names, read-there P funcs k F all (subst (λ n. k < n) (length-map P.funcs (λ (g : Func). g.name)) names.0) is)
+
+  pub shaped-named : IsAccepted P → shape_fault_of (is_some F.ret) F.code ≡ None
+  shaped-named accepted = shaped-there P k F accepted named-there.1
+
+  pub survey-read : (surveys : List Survey) (place : ℕ) (s : Survey) → All (IsSurvey P) surveys → place < length surveys → ((z : Survey) → slice_get surveys place ≡ Some z → z.function ≡ k) → s ≡ get_or surveys place s
+      → (s.function ≡ k) × IsSurveyOf F s
+  survey-read surveys place s known within number read =
+      let at = slice_get-get_or surveys place s within ∙ ap Some (sym read) in
+      let same = number s at in
+      (same, All-at (IsSurvey P) surveys place s known at F (ap (slice_get P.funcs) same ∙ named-there.1))

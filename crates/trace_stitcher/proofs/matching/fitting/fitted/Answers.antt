@@ -6,7 +6,7 @@ use Rattle.bril_tree.specs.Step.{point_of}
 use Rattle.trace_stitcher.specs.declared.matching.fitting.Fitting.{Fitting}
 use Rattle.trace_stitcher.specs.matching.Fitting.{IsFoundAt}
 use Rattle.trace_stitcher.proofs.lemmas.matching.Entries.{found-there, no-label}
-use Rattle.trace_stitcher.proofs.lemmas.matching.Surveying.{named-there, shaped-there, survey-read}
+use Rattle.trace_stitcher.proofs.lemmas.matching.Surveying.{named-there, shaped-named, survey-read}
 use Rattle.trace_stitcher.proofs.matching.fitting.fitted.Goals as goal
 
 pub returns-in_default-label_named-clause-found : goal.returns-in_default-label_named-clause-found
@@ -20,19 +20,12 @@ returns-in_default-label_named-clause-found c =
 
 pub fitting_at-requires-clause-shaped : goal.fitting_at-requires-clause-shaped
 fitting_at-requires-clause-shaped c =
-    let P = c.args.prog.now in
-    let f = c.in-Some.function in
-    let F = c.index-funcs-function.result in
-    let t = named-there P c.as_slice-funcs.result.now c.args.entry.now.func f F c.as_slice-funcs.ensures c.in-Some.ensures c.index-funcs-function.is in
-    shaped-there P f F c.requires.accepted t.1
+    shaped-named c.args.prog.now c.as_slice-funcs.result.now c.args.entry.now.func c.in-Some.function c.index-funcs-function.result c.as_slice-funcs.ensures c.in-Some.ensures c.index-funcs-function.is c.requires.accepted
 
 pub fitting_at-requires-clause-survey : goal.fitting_at-requires-clause-survey
 fitting_at-requires-clause-survey c =
-    let P = c.args.prog.now in
-    let f = c.in-Some.function in
-    let F = c.index-funcs-function.result in
-    let t = named-there P c.as_slice-funcs.result.now c.args.entry.now.func f F c.as_slice-funcs.ensures c.in-Some.ensures c.index-funcs-function.is in
-    (survey-read P c.surveyed.new.surveys.items c.in_ok-place.place f F c.index.result.now c.in_ok-place.ensures.surveys c.in_ok-place.ensures.within c.in_ok-place.ensures.is c.index.ensures t.1).1
+    (survey-read c.args.prog.now c.as_slice-funcs.result.now c.args.entry.now.func c.in-Some.function c.index-funcs-function.result c.as_slice-funcs.ensures c.in-Some.ensures c.index-funcs-function.is
+    c.surveyed.new.surveys.items c.in_ok-place.place c.index.result.now c.in_ok-place.ensures.surveys c.in_ok-place.ensures.within c.in_ok-place.ensures.is c.index.ensures).1
 
 pub returns-clause-found : goal.returns-clause-found
 returns-clause-found c =
@@ -41,7 +34,7 @@ returns-clause-found c =
     let f = c.in-Some.function in
     let F = c.index-funcs-function.result in
     let t = named-there P c.as_slice-funcs.result.now e.func f F c.as_slice-funcs.ensures c.in-Some.ensures c.index-funcs-function.is in
-    let survey = survey-read P c.surveyed.new.surveys.items c.in_ok-place.place f F c.index.result.now c.in_ok-place.ensures.surveys c.in_ok-place.ensures.within c.in_ok-place.ensures.is c.index.ensures t.1 in
+    let survey = survey-read P c.as_slice-funcs.result.now e.func f F c.as_slice-funcs.ensures c.in-Some.ensures c.index-funcs-function.is c.surveyed.new.surveys.items c.in_ok-place.place c.index.result.now c.in_ok-place.ensures.surveys c.in_ok-place.ensures.within c.in_ok-place.ensures.is c.index.ensures in
     let l = c.in-Some-label_named.label in
     let label : Finds F.labels e.label (Some l) = subst (λ ls. Finds ls e.label (Some l)) c.as_slice.ensures c.in-Some-label_named.ensures in
     IfOk-weaker c.fitting_at.result _ _
