@@ -6,6 +6,7 @@ ghost use Rattle.shipped_passes.specs.Shipped.{AreShipped, shipped_rows};
 ghost use Rattle.bril_commands.specs.Answers.{Promises};
 ghost use Rattle.bril_commands.specs.Budgets.{IsPastBudget};
 ghost use Rattle.bril_commands.specs.Call.{call_of};
+ghost use Rattle.bril_commands.specs.RunIsCorrect.{RunIsCorrect};
 ghost use Rattle.bril_report.specs.Report.{status_number};
 
 use crate::top::bril_top;
@@ -29,6 +30,7 @@ pub fn end<F: Files, O: Sink, E: Sink>(
 ) -> u8
     requires shipped { AreShipped (λ p. meaning p) passes.old }
     ensures words { IfOk words (λ words. Promises result (call_of words (F.seen files.old) (F.seen files.new) (O.seen out.old) (O.seen out.new) (E.seen err.old) (E.seen err.new) (λ p. meaning p) (λ p. counts p) passes.old passes.new)) }
+    ensures run { IfOk words (λ words. RunIsCorrect result (call_of words (F.seen files.old) (F.seen files.new) (O.seen out.old) (O.seen out.new) (E.seen err.old) (E.seen err.new) (λ p. meaning p) (λ p. counts p) passes.old passes.new)) }
     ensures budget { IfOk words (λ words. result ≡ 3 → IsPastBudget shipped_rows (call_of words (F.seen files.old) (F.seen files.new) (O.seen out.old) (O.seen out.new) (E.seen err.old) (E.seen err.new) (λ p. meaning p) (λ p. counts p) passes.old passes.new)) }
     ensures none { IfErr words (λ status. result ≡ status_number status) }
     ensures kept { IfErr words (λ _. passes.new ≡ passes.old) }

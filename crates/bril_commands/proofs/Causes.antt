@@ -30,7 +30,8 @@ use Rattle.bril_commands.proofs.Profiles.{not_refused_from, refused_from_once}
 use Rattle.bril_commands.proofs.Reading.{faultless, lacking_fault, lacking_no_tree, lack_told, lacking_unread, not_refused as tree_not_refused, one_refusal, one_tree}
 use Rattle.bril_commands.proofs.Statuses.{Ends, plain}
 use Rattle.bril_commands.specs.Arguments.{argument_pieces, HasArgFault, HasOnlyArgFault, RefusesArgs}
-use Rattle.bril_commands.specs.Call.{Call, ReadsWell, UnlessMemory}
+use Rattle.bril_commands.specs.Call.{Call}
+use Rattle.bril_commands.specs.Comes.{ReadsWell, UnlessMemory}
 use Rattle.bril_commands.specs.Command.{Command, OnFile, OnTree, OnProgram, Arguments, NoArguments, OfMain, TakesArguments, AreGiven, RefusesGiven, NeedsProgram, GivesArguments, GivesValues, Spell, profile_of, reach}
 use Rattle.bril_commands.specs.CommandLine.{Asks, AsksFor}
 use Rattle.bril_commands.specs.Driver.{IsIdle, Stage, DoesAccepted, DoesTree}

@@ -10,6 +10,7 @@ pub mod Profiles
 pub mod Promises
 pub mod Reading
 pub mod Recording
+pub mod RunIsCorrect
 pub mod Running
 pub mod Sources
 pub mod Statuses

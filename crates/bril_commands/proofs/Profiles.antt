@@ -18,7 +18,8 @@ use Rattle.trace_recorder.specs.Recorded.{recorded}
 use Rattle.bril_commands.specs.Command.{Command, OnFile, OnTree, OnProgram}
 use Rattle.bril_commands.specs.Driver.{DoesTree}
 use Rattle.bril_commands.specs.PassList.{PassList}
-use Rattle.bril_commands.specs.Profiles.{HoldsBrokenLine, HoldsLongProfile, HoldsProfile, IsProfileAt, IsProfileFrom, IsProfileTold, IsSourceTold, NamedFile, NoProfile, OwnRun, ProfileSource, RefusesProfile, RefusesProfileFile, RefusesProfileFrom, most_profile_bytes}
+use Rattle.bril_commands.specs.ProfileFiles.{HoldsBrokenLine, HoldsLongProfile, HoldsProfile, IsProfileAt, IsProfileTold, RefusesProfile, RefusesProfileFile, most_profile_bytes}
+use Rattle.bril_commands.specs.Profiles.{IsProfileFrom, IsSourceTold, NamedFile, NoProfile, OwnRun, ProfileSource, RefusesProfileFrom}
 use Rattle.bril_commands.specs.Recording.{AreRecorded, states_within}
 
 -- ---- one file

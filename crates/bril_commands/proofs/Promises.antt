@@ -19,8 +19,9 @@ use Rattle.bril_demo.proofs.Acceptance.{demo_faultless, demo_is_accepted}
 use Rattle.bril_demo.specs.Demo.{demo_tree}
 use Rattle.import_linker.specs.declared.fault.LinkFault.{LinkFault}
 use Rattle.import_linker.specs.declared.fault.LinkFault.TheVariants as link
-use Rattle.bril_commands.specs.Answers.{Answers, FilesRefused, Misused, Promises, SourceRefused, TooLarge}
-use Rattle.bril_commands.specs.Call.{Call, ReadsWell, SaysAlone, UnlessMemory}
+use Rattle.bril_commands.specs.Answers.{Answers, FilesRefused, Promises, SourceRefused, TooLarge}
+use Rattle.bril_commands.specs.Call.{Call}
+use Rattle.bril_commands.specs.Comes.{ReadsWell, SaysAlone, UnlessMemory}
 use Rattle.bril_commands.specs.Command.{Command, OnFile, OnTree, OnProgram, reach, takes_passes}
 use Rattle.bril_commands.specs.CommandLine.{Asks, AsksFor, AskNothing, IsToldOf}
 use Rattle.bril_commands.specs.Source.{IsTreeAt, RefusesFiles}
@@ -92,11 +93,8 @@ module _ (c : Call) (asks : Asks c.words) (how : Status) (ends : Ends c asks how
   told : Answers (status_number how) c
   told = Answers-of c asks how ends
 
-  at_status : (n : ℕ) → status_number how ≡ n → Answers n c
-  at_status n e = subst (λ k. Answers k c) e told
-
-  usage : status_number how ≡ 64 → Misused c
-  usage e = at_status 64 e
+  program_refused : status_number how ≡ 65 → SourceRefused c
+  program_refused e = subst (λ k. Answers k c) e told
 
   asked_something : AskNothing c.words → UnlessMemory (status_number how) (status_number how ≡ 64)
   asked_something none = let e : Ok (request_of asks.action asks.path asks.asked.0 asks.asked.1 asks.args) ≡ Err none.0 = sym asks.asked.2 ∙ none.1 in absurd (Ok_not_Err e)
@@ -104,18 +102,7 @@ module _ (c : Call) (asks : Asks c.words) (how : Status) (ends : Ends c asks how
   pub Promises-driven : Promises (status_number how) c
   Promises-driven = record {
     answers = told;
-    done = at_status 0;
-    faulted = at_status 2;
-    spent = at_status 3;
-    refused = at_status 65;
-    read = at_status 66;
-    profile = at_status 67;
-    size = at_status 68;
-    argued = at_status 69;
-    unknown = at_status 70;
-    write = at_status 74;
     silent = silent_at how c told;
-    misused = λ e. ((usage e).refusal, (usage e).unasked);
     unasked = asked_something;
     does = done_where c asks how ends;
     misargued = misargued_where c asks how ends;
@@ -130,7 +117,7 @@ module _ (c : Call) (asks : Asks c.words) (how : Status) (ends : Ends c asks how
     lacking_profile = λ path action reads tree p values have numbered accepted spelled. refused_where c asks how ends action reads tree p have numbered accepted values spelled (status.CannotRead path) (λ e. cc);
     misread_profile = λ line action reads tree p values have numbered accepted spelled. refused_where c asks how ends action reads tree p have numbered accepted values spelled (status.MisreadProfile line) (λ e. cc);
     long_profile = λ action reads tree p values have numbered accepted spelled. refused_where c asks how ends action reads tree p have numbered accepted values spelled status.ProfileTooLarge (λ e. cc);
-    demo = λ functions path args few asked number. demo_accepted c functions few (at_status 65 number) (asked_action c (at_status 65 number).asks (action.Demo functions) path args asked);
+    demo = λ functions path args few asked number. demo_accepted c functions few (program_refused number) (asked_action c (program_refused number).asks (action.Demo functions) path args asked);
     keeps = λ action path args asked. subst (λ (a : Action). KeepsPasses c.passes.meaning a c.passes.before c.passes.after) (sym (asked_action c asks action path args asked)) ends.keeps;
   }
 
@@ -147,18 +134,7 @@ module _ (c : Call) (refusal : Refusal) (refused : words_ask c.words ≡ Err ref
   Promises-misused : c.files_after ≡ c.files_before → c.passes.after ≡ c.passes.before → (line : List ℕ) → IsToldOf refusal line → SaysAlone c (line ∷ []) → Promises 64 c
   Promises-misused unread kept line told alone = record {
     answers = record { refusal = refusal; unasked = refused; unread = unread; kept = kept; line = line; told = told; alone = alone };
-    done = λ e. absurd (omega arith);
-    faulted = λ e. absurd (omega arith);
-    spent = λ e. absurd (omega arith);
-    refused = λ e. absurd (omega arith);
-    read = λ e. absurd (omega arith);
-    profile = λ e. absurd (omega arith);
-    size = λ e. absurd (omega arith);
-    argued = λ e. absurd (omega arith);
-    unknown = λ e. absurd (omega arith);
-    write = λ e. absurd (omega arith);
     silent = λ low high. alone.silent;
-    misused = λ e. (refusal, refused);
     unasked = λ none. inr refl;
     does = λ action reads tree have. not_read action reads;
     misargued = λ action gives reads tree p fault linked numbered accepted ample is. not_read action reads;
@@ -187,18 +163,7 @@ done_exhausted (OnProgram origin does) c tree args = λ p values entries numbere
 Promises-exhausted : (c : Call) → c.passes.after ≡ c.passes.before → c.out_after ≡ c.out_before → Puts c.err_before (codes "out of memory\n" ∷ []) c.err_after → Promises 71 c
 Promises-exhausted c same silent says = record {
   answers = record { tallies = inl (ap (map c.passes.counts) same); leaves = inl silent; says = says };
-  done = λ e. absurd (omega arith);
-  faulted = λ e. absurd (omega arith);
-  spent = λ e. absurd (omega arith);
-  refused = λ e. absurd (omega arith);
-  read = λ e. absurd (omega arith);
-  profile = λ e. absurd (omega arith);
-  size = λ e. absurd (omega arith);
-  argued = λ e. absurd (omega arith);
-  unknown = λ e. absurd (omega arith);
-  write = λ e. absurd (omega arith);
   silent = λ low high. absurd (omega arith);
-  misused = λ e. absurd (omega arith);
   unasked = λ none. inl refl;
   does = λ action reads tree have. done_exhausted (command action) c tree reads.args;
   misargued = λ action gives reads tree p fault linked numbered accepted ample is. inl refl;

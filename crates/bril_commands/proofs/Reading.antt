@@ -1,5 +1,5 @@
 -- Where the files are told, a command's files have one tree or one fault, and never both: reads that failed and want of memory apart.
-use Rattle.std.proofs.Common.{◌≡◌, ◌⊎◌, ℕ, ◌≤◌, List, [], length, Option, Some, None, refl, sym, ap, ap₂, ◌∙◌, subst, arith, inl, inr, ⊎_elim}
+use Rattle.std.proofs.Common.{◌≡◌, ◌⊎◌, ℕ, ◌≤◌, List, length, Option, Some, None, refl, sym, ap, ap₂, ◌∙◌, subst, arith, inl, inr, ⊎_elim}
 use Rattle.bril_outside.specs.Files.{FileMap, FilesSeen, LacksFile, MayFail, MayHold}
 use Rattle.bril_outside.specs.Sink.{Rose}
 use Rattle.bril_report.specs.StageFaults.{link_status}
@@ -15,7 +15,6 @@ use Rattle.import_linker.specs.Reading.{IsRead, RefusesSource, StopsAt}
 use Rattle.import_linker.specs.declared.fault.LinkFault.{LinkFault}
 use Rattle.import_linker.specs.declared.fault.LinkFault.TheVariants as fault
 use Rattle.import_linker.specs.declared.sources.Source.{Source}
-use Rattle.bril_commands.specs.Command.{Command, OnFile, OnTree, OnProgram, Origin, LinkedFiles, Demo, NeedsProgram, reach, reach_of}
 use Rattle.bril_commands.specs.Source.{Reach, Alone, WithImports, OfDemo, AreTold, FileHasFault, HaveFault, HaveTree, HoldsTree, IsFileTree, IsTreeAt, LackFile, RefusesFiles}
 use Rattle.bril_commands.specs.Stages.{RefusesTree}
 
@@ -34,16 +33,6 @@ pub memory_refuses : (reach : Reach) (before after : FilesSeen) (path : List ℕ
 memory_refuses Alone before after path = (fault.Memory, refl, tt)
 memory_refuses WithImports before after path = (fault.Memory, refl, tt)
 memory_refuses (OfDemo functions) before after path = (fault.Memory, refl, refl)
-
--- the tree of a command that needs a program has no imports
-pub needs_alone : (k : Command) (holds : Option FileMap) (path : List ℕ) (tree : Tree) → IsTreeAt (reach k) holds path tree → NeedsProgram k → tree.imports ≡ []
-needs_alone (OnFile outcome) holds path tree at needs = absurd needs
-needs_alone (OnTree outcome) holds path tree at needs = absurd needs
-needs_alone (OnProgram origin does) holds path tree at needs = by origin at
-  where
-    by : (o : Origin) → IsTreeAt (reach_of o) holds path tree → tree.imports ≡ []
-    by LinkedFiles linked = linked.links.imports
-    by (Demo functions) is = ap (λ (t : Tree). t.imports) is
 
 -- ---- one file
 

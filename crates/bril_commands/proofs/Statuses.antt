@@ -16,16 +16,18 @@ use Rattle.bril_tree.specs.declared.limits.Limits.{Limits}
 use Rattle.bril_tree.specs.declared.program.Prog.{Prog}
 use Rattle.bril_tree.specs.declared.tree.Tree.{Tree}
 use Rattle.bril_tree.specs.declared.value.Value.{Value}
-use Rattle.bril_commands.specs.Answers.{Answers, FilesRefused, HasLongCode, HasLongStack, ListBegan, ProfileRefused}
+use Rattle.bril_commands.specs.Answers.{Answers, FilesRefused, HasLongCode, HasLongStack, IsReady, ListBegan, ProfileRefused}
 use Rattle.bril_commands.specs.Arguments.{argument_pieces, HasOnlyArgFault, RefusesArgs}
-use Rattle.bril_commands.specs.Call.{Call, CommandComesTo, ComesTo}
-use Rattle.bril_commands.specs.Command.{Command, OnFile, OnTree, OnProgram, OfProgram, Origin, Arguments, NoArguments, OfMain, TakesArguments, AreGiven, RefusesGiven, Makes, RefusesMaking, AreLimitsOf, Fits, RefusesEmission, NeedsProgram, GivesArguments, MakesImage, profile_of, reach, takes_passes}
+use Rattle.bril_commands.specs.Call.{Call}
+use Rattle.bril_commands.specs.Comes.{CommandComesTo, ComesTo}
+use Rattle.bril_commands.specs.Command.{Command, OnFile, OnTree, OnProgram, OfProgram, Origin, Arguments, NoArguments, OfMain, TakesArguments, AreGiven, RefusesGiven, Makes, RefusesMaking, AreLimitsOf, Fits, RefusesEmission, NeedsProgram, GivesArguments, GivesValues, MakesImage, Spell, profile_of, reach, takes_passes}
 use Rattle.bril_commands.specs.CommandLine.{Asks}
 use Rattle.bril_commands.specs.Driver.{IsSilent, subject, DoesProgram, DoesTree, DoesFiles}
 use Rattle.bril_commands.specs.Images.{RefusesImage}
 use Rattle.bril_commands.specs.Outcome.{Outcome, Works}
 use Rattle.bril_commands.specs.PassList.{PassList, AreUnused, IsMade, IsCutOff, RefusesList}
-use Rattle.bril_commands.specs.Profiles.{IsProfileFrom, NamedFile, NoProfile, OwnRun, ProfileSource, RefusesProfile, RefusesProfileFile, RefusesProfileFrom}
+use Rattle.bril_commands.specs.ProfileFiles.{RefusesProfile, RefusesProfileFile}
+use Rattle.bril_commands.specs.Profiles.{IsProfileFrom, NamedFile, NoProfile, OwnRun, ProfileSource, RefusesProfileFrom}
 use Rattle.bril_commands.specs.Source.{IsProgramOf, IsTreeAt, RefusesFiles}
 use Rattle.bril_commands.specs.Stages.{IsAcceptedProgram, RefusesTree, RefusesProgram}
 use Rattle.bril_commands.specs.Table.{command, Keeps, KeepsPasses}
@@ -37,6 +39,11 @@ use Rattle.import_linker.specs.declared.fault.LinkFault.TheVariants as fault
 -- where nothing was told, the line stands alone
 pub plain : {s t : SinkSeen} (told line : List (List ℕ)) → told ≡ [] → Puts s (told ++ line) t → Puts s line t
 plain {s} {t} told line none says = subst (λ (ps : List (List ℕ)). Puts s (ps ++ line) t) none says
+
+-- the words spell the values that are given
+spelled_of : (arguments : Arguments) (p : Prog) (args : List (List ℕ)) (values : List Value) → AreGiven arguments p args values → Spell arguments p args values
+spelled_of NoArguments p args values given = given
+spelled_of OfMain p args values given = given.spelled
 
 -- a list that made a program ran to its end
 IsMade-cut : (l : PassList) (entries : List Entry) (p q : Prog) → IsMade l entries p q → IsCutOff l entries p
@@ -204,109 +211,117 @@ module _ (c : Call) (asks : Asks c.words) (keeps : KeepsPasses c.passes.meaning 
         Answers-given NoArguments gives how says refuses silent unused = absurd refuses
         Answers-given OfMain gives how says refuses silent unused = Answers-args (gives tt) how says refuses silent unused
 
-        -- the profile's file is refused
-        profile_refused : (how : Status) (line : List (List ℕ)) → RefusesProfileFrom (profile_of (command asks.action)) c.profile how c.files_before c.files_after → Puts c.err_before line c.err_after → c.out_after ≡ c.out_before → AreUnused c.passes → ProfileRefused c asks how line
-        profile_refused how line refuses says silent unused = record { program = p; file = program_file; refuses = refuses; unused = unused; alone = record { silent = silent; says = says } }
+        -- the arguments are values
+        module _ (values : List Value) (given : GivesValues (command asks.action) p asks.args values) where
+          -- the profile's file is refused
+          profile_refused : (how : Status) (line : List (List ℕ)) → RefusesProfileFrom (profile_of (command asks.action)) c.profile how c.files_before c.files_after → Puts c.err_before line c.err_after → c.out_after ≡ c.out_before → AreUnused c.passes → ProfileRefused c asks how line
+          profile_refused how line refuses says silent unused = record { program = p; file = program_file; values = values; given = given; refuses = refuses; unused = unused; alone = record { silent = silent; says = says } }
 
-        module _ (path : List ℕ) (source : profile_of (command asks.action) ≡ NamedFile) (named : c.profile ≡ Some path) where
-          named_refused : (how : Status) → RefusesProfileFile how c.files_before c.files_after path → RefusesProfileFrom (profile_of (command asks.action)) c.profile how c.files_before c.files_after
-          named_refused how refuses =
-              subst (λ (k : ProfileSource). RefusesProfileFrom k c.profile how c.files_before c.files_after) (sym source)
-              (subst (λ (o : Option (List ℕ)). RefusesProfile o how c.files_before c.files_after) (sym named) refuses)
+          module _ (path : List ℕ) (source : profile_of (command asks.action) ≡ NamedFile) (named : c.profile ≡ Some path) where
+            named_refused : (how : Status) → RefusesProfileFile how c.files_before c.files_after path → RefusesProfileFrom (profile_of (command asks.action)) c.profile how c.files_before c.files_after
+            named_refused how refuses =
+                subst (λ (k : ProfileSource). RefusesProfileFrom k c.profile how c.files_before c.files_after) (sym source)
+                (subst (λ (o : Option (List ℕ)). RefusesProfile o how c.files_before c.files_after) (sym named) refuses)
 
-          Answers-profile : (how : Status) → Said how → RefusesProfileFile how c.files_before c.files_after path → c.out_after ≡ c.out_before → AreUnused c.passes → Answers (status_number how) c
-          Answers-profile (status.CannotRead other) says refuses silent unused =
-              record { asks = asks; path = other; because = inr (profile_refused (status.CannotRead other) (unread_pieces other) (named_refused (status.CannotRead other) refuses) says silent unused) }
-          Answers-profile status.ProfileTooLarge says refuses silent unused =
-              record { asks = asks; because = inr (inr (inr (inr (profile_refused status.ProfileTooLarge long_profile_pieces (named_refused status.ProfileTooLarge refuses) says silent unused)))) }
-          Answers-profile (status.MisreadProfile line) says refuses silent unused =
-              record { asks = asks; line = line; refused = profile_refused (status.MisreadProfile line) (profile_pieces line) (named_refused (status.MisreadProfile line) refuses) says silent unused }
-          Answers-profile status.OutOfMemory says refuses silent unused = Answers-exhausted (inl unused) says silent
-          Answers-profile _ says refuses silent unused = absurd refuses
+            Answers-profile : (how : Status) → Said how → RefusesProfileFile how c.files_before c.files_after path → c.out_after ≡ c.out_before → AreUnused c.passes → Answers (status_number how) c
+            Answers-profile (status.CannotRead other) says refuses silent unused =
+                record { asks = asks; path = other; because = inr (profile_refused (status.CannotRead other) (unread_pieces other) (named_refused (status.CannotRead other) refuses) says silent unused) }
+            Answers-profile status.ProfileTooLarge says refuses silent unused =
+                record { asks = asks; because = inr (inr (inr (inr (profile_refused status.ProfileTooLarge long_profile_pieces (named_refused status.ProfileTooLarge refuses) says silent unused)))) }
+            Answers-profile (status.MisreadProfile line) says refuses silent unused =
+                record { asks = asks; line = line; refused = profile_refused (status.MisreadProfile line) (profile_pieces line) (named_refused (status.MisreadProfile line) refuses) says silent unused }
+            Answers-profile status.OutOfMemory says refuses silent unused = Answers-exhausted (inl unused) says silent
+            Answers-profile _ says refuses silent unused = absurd refuses
 
-        Answers-named : profile_of (command asks.action) ≡ NamedFile → (path : Option (List ℕ)) → c.profile ≡ path → (how : Status) → Said how → RefusesProfile path how c.files_before c.files_after → c.out_after ≡ c.out_before → AreUnused c.passes → Answers (status_number how) c
-        Answers-named source None named how says refuses silent unused = absurd refuses
-        Answers-named source (Some path) named how says refuses silent unused = Answers-profile path source named how says refuses silent unused
+          Answers-named : profile_of (command asks.action) ≡ NamedFile → (path : Option (List ℕ)) → c.profile ≡ path → (how : Status) → Said how → RefusesProfile path how c.files_before c.files_after → c.out_after ≡ c.out_before → AreUnused c.passes → Answers (status_number how) c
+          Answers-named source None named how says refuses silent unused = absurd refuses
+          Answers-named source (Some path) named how says refuses silent unused = Answers-profile path source named how says refuses silent unused
 
-        Answers-from : (source : ProfileSource) → profile_of (command asks.action) ≡ source → (how : Status) → Said how → RefusesProfileFrom source c.profile how c.files_before c.files_after → c.out_after ≡ c.out_before → AreUnused c.passes → Answers (status_number how) c
-        Answers-from NoProfile is how says refuses silent unused = absurd refuses
-        Answers-from NamedFile is how says refuses silent unused = Answers-named is c.profile refl how says refuses silent unused
-        Answers-from (OwnRun frames cells steps hot most) is how says refuses silent unused =
-            subst (λ (h : Status). Answers (status_number h) c) (sym refuses) (Answers-exhausted (inl unused) (subst Said refuses says) silent)
+          Answers-from : (source : ProfileSource) → profile_of (command asks.action) ≡ source → (how : Status) → Said how → RefusesProfileFrom source c.profile how c.files_before c.files_after → c.out_after ≡ c.out_before → AreUnused c.passes → Answers (status_number how) c
+          Answers-from NoProfile is how says refuses silent unused = absurd refuses
+          Answers-from NamedFile is how says refuses silent unused = Answers-named is c.profile refl how says refuses silent unused
+          Answers-from (OwnRun frames cells steps hot most) is how says refuses silent unused =
+              subst (λ (h : Status). Answers (status_number h) c) (sym refuses) (Answers-exhausted (inl unused) (subst Said refuses says) silent)
 
-        module _ (entries : List Entry) (profiled : IsProfileFrom (profile_of (command asks.action)) c.profile c.files_before.holds p entries) where
-          -- the list was begun
-          began : takes_passes (command asks.action) ≡ true → IsCutOff c.passes entries p → ListBegan c asks
-          began takes cut = record { takes = takes; program = p; file = program_file; entries = entries; profiled = profiled; cut = cut }
+          module _ (entries : List Entry) (profiled : IsProfileFrom (profile_of (command asks.action)) c.profile c.files_before.holds p entries) where
+            ready : IsReady c asks p entries
+            ready = record { file = program_file; values = values; given = given; profiled = profiled }
 
-          -- the list of passes makes no program of it
-          Answers-list : takes_passes (command asks.action) ≡ true → (how : Status) → Said how → RefusesList how c.passes entries p → c.out_after ≡ c.out_before → Answers (status_number how) c
-          Answers-list takes (status.UnknownPass place) says refuses silent = record {
-            asks = asks;
-            takes = takes;
-            program = p;
-            file = program_file;
-            place = place;
-            unknown = refuses.0;
-            unused = refuses.1;
-            alone = record { silent = silent; says = says };
-          }
-          Answers-list takes (status.PassTooLarge place bound) says refuses silent = record {
-            asks = asks;
-            because = inr (inr (inr (inl (record {
+            -- the list was begun
+            began : takes_passes (command asks.action) ≡ true → IsCutOff c.passes entries p → ListBegan c asks
+            began takes cut = record { takes = takes; program = p; entries = entries; ready = ready; cut = cut }
+
+            -- the list of passes makes no program of it
+            Answers-list : takes_passes (command asks.action) ≡ true → (how : Status) → Said how → RefusesList how c.passes entries p → c.out_after ≡ c.out_before → Answers (status_number how) c
+            Answers-list takes (status.UnknownPass place) says refuses silent = record {
+              asks = asks;
               takes = takes;
               program = p;
-              file = program_file;
               entries = entries;
-              profiled = profiled;
+              ready = ready;
               place = place;
-              bound = bound;
-              refused = refuses;
+              unknown = refuses.0;
+              unused = refuses.1;
               alone = record { silent = silent; says = says };
-            }))));
-          }
-          Answers-list takes status.OutOfMemory says refuses silent = Answers-exhausted (inr (began takes refuses)) says silent
-          Answers-list takes _ says refuses silent = absurd refuses
-
-          Answers-making : (by_list : Bool) → (by_list ≡ true → takes_passes (command asks.action) ≡ true) → (how : Status) → Said how → RefusesMaking by_list how c.passes entries p → c.out_after ≡ c.out_before → Answers (status_number how) c
-          Answers-making false takes how says refuses silent = absurd refuses
-          Answers-making true takes how says refuses silent = Answers-list (takes refl) how says refuses silent
-
-          -- how the passes were left by a command that made a program by its list, or without one
-          tallies_of : (by_list : Bool) → takes_passes (command asks.action) ≡ by_list → (q : Prog) → Makes by_list c.passes entries p q → AreUnused c.passes ⊎ ListBegan c asks
-          tallies_of false takes q makes = inl (unused_by c asks.action takes keeps)
-          tallies_of true takes q makes = inr (began takes (IsMade-cut c.passes entries p q makes))
-
-          -- an image was to be made of the program that the list makes, and it is too large
-          module _ (q : Prog) (by : Makes (takes_passes (command asks.action)) c.passes entries p q) (limits : Limits) (makes : MakesImage (command asks.action) limits) where
-            long_program : HasLongCode c q ⊎ HasLongStack c q limits → Answers 68 c
-            long_program because = record {
-              asks = asks;
-              because = inr (inr (inl (record { limits = limits; makes = makes; program = p; file = program_file; entries = entries; profiled = profiled; made = q; by = by; because = because })));
             }
+            Answers-list takes (status.PassTooLarge place bound) says refuses silent = record {
+              asks = asks;
+              because = inr (inr (inr (inl (record {
+                takes = takes;
+                program = p;
+                entries = entries;
+                ready = ready;
+                place = place;
+                bound = bound;
+                refused = refuses;
+                alone = record { silent = silent; says = says };
+              }))));
+            }
+            Answers-list takes status.OutOfMemory says refuses silent = Answers-exhausted (inr (began takes refuses)) says silent
+            Answers-list takes _ says refuses silent = absurd refuses
 
-            Answers-image : (how : Status) → Said how → RefusesImage how q limits → c.out_after ≡ c.out_before → Answers (status_number how) c
-            Answers-image (status.CodeTooBig words) says refuses silent =
-                long_program (inl (record {
-                  long = refuses.0;
-                  alone = record { silent = silent; says = subst (λ n. Puts c.err_before (code_pieces n) c.err_after) refuses.1 says };
-                }))
-            Answers-image (status.StackTooBig words) says refuses silent =
-                long_program (inr (record {
-                  short_code = refuses.0;
-                  stack = refuses.1.0;
-                  size = refuses.1.1;
-                  long = refuses.1.2;
-                  alone = record { silent = silent; says = subst (λ n. Puts c.err_before (stack_pieces n) c.err_after) refuses.1.3 says };
-                }))
-            Answers-image status.OutOfMemory says refuses silent = Answers-exhausted (tallies_of (takes_passes (command asks.action)) refl q by) says silent
-            Answers-image _ says refuses silent = absurd refuses
+            Answers-making : (by_list : Bool) → (by_list ≡ true → takes_passes (command asks.action) ≡ true) → (how : Status) → Said how → RefusesMaking by_list how c.passes entries p → c.out_after ≡ c.out_before → Answers (status_number how) c
+            Answers-making false takes how says refuses silent = absurd refuses
+            Answers-making true takes how says refuses silent = Answers-list (takes refl) how says refuses silent
+
+            -- how the passes were left by a command that made a program by its list, or without one
+            tallies_of : (by_list : Bool) → takes_passes (command asks.action) ≡ by_list → (q : Prog) → Makes by_list c.passes entries p q → AreUnused c.passes ⊎ ListBegan c asks
+            tallies_of false takes q makes = inl (unused_by c asks.action takes keeps)
+            tallies_of true takes q makes = inr (began takes (IsMade-cut c.passes entries p q makes))
+
+            -- an image was to be made of the program that the list makes, and it is too large
+            module _ (q : Prog) (by : Makes (takes_passes (command asks.action)) c.passes entries p q) (limits : Limits) (makes : MakesImage (command asks.action) limits) where
+              long_program : HasLongCode c q ⊎ HasLongStack c q limits → Answers 68 c
+              long_program because = record {
+                asks = asks;
+                because = inr (inr (inl (record { limits = limits; makes = makes; program = p; entries = entries; ready = ready; made = q; by = by; because = because })));
+              }
+
+              Answers-image : (how : Status) → Said how → RefusesImage how q limits → c.out_after ≡ c.out_before → Answers (status_number how) c
+              Answers-image (status.CodeTooBig words) says refuses silent =
+                  long_program (inl (record {
+                    long = refuses.0;
+                    alone = record { silent = silent; says = subst (λ n. Puts c.err_before (code_pieces n) c.err_after) refuses.1 says };
+                  }))
+              Answers-image (status.StackTooBig words) says refuses silent =
+                  long_program (inr (record {
+                    short_code = refuses.0;
+                    stack = refuses.1.0;
+                    size = refuses.1.1;
+                    long = refuses.1.2;
+                    alone = record { silent = silent; says = subst (λ n. Puts c.err_before (stack_pieces n) c.err_after) refuses.1.3 says };
+                  }))
+              Answers-image status.OutOfMemory says refuses silent = Answers-exhausted (tallies_of (takes_passes (command asks.action)) refl q by) says silent
+              Answers-image _ says refuses silent = absurd refuses
 
       -- ---- a command on an accepted program
 
       module _ (origin : Origin) (does : OfProgram) (is : command asks.action ≡ OnProgram origin does) where
         makes_image : (limits : Limits) → AreLimitsOf does.emission limits → MakesImage (command asks.action) limits
         makes_image limits are = subst (λ k. MakesImage k limits) (sym is) are
+
+        gives_values : (p : Prog) (values : List Value) → AreGiven does.arguments p asks.args values → GivesValues (command asks.action) p asks.args values
+        gives_values p values given = subst (λ k. GivesValues k p asks.args values) (sym is) (spelled_of does.arguments p asks.args values given)
 
         made_by : (entries : List Entry) (p q : Prog) → Makes does.takes_passes c.passes entries p q → Makes (takes_passes (command asks.action)) c.passes entries p q
         made_by entries p q makes = subst (λ by_list. Makes by_list c.passes entries p q) (sym (ap takes_passes is)) makes
@@ -334,15 +349,15 @@ module _ (c : Call) (asks : Asks c.words) (keeps : KeepsPasses c.passes.meaning 
             → (RefusesEmission does.emission how q × IsSilent told c.out_before c.out_after) ⊎ (Fits does.emission q × Works (does.outcome (subject does c.passes entries p q makes values)) how told c.out_before c.out_after)
             → Answers (status_number how) c
         Answers-made p program values given entries profiled q makes how told says =
-            ⊎_elim (λ long. Answers-image p program entries (profiled_by p entries profiled) q (made_by entries p q makes) long.0.0 (makes_image long.0.0 long.0.1) how (plain told (status_pieces how) long.1.0 says) long.0.2 long.1.1)
-            (λ goes. Answers-works (does.outcome (subject does c.passes entries p q makes values)) (comes_to p program values given entries profiled q makes goes.0) (tallies_of p program entries (profiled_by p entries profiled) (takes_passes (command asks.action)) refl q (made_by entries p q makes)) how told says goes.1)
+            ⊎_elim (λ long. Answers-image p program values (gives_values p values given) entries (profiled_by p entries profiled) q (made_by entries p q makes) long.0.0 (makes_image long.0.0 long.0.1) how (plain told (status_pieces how) long.1.0 says) long.0.2 long.1.1)
+            (λ goes. Answers-works (does.outcome (subject does c.passes entries p q makes values)) (comes_to p program values given entries profiled q makes goes.0) (tallies_of p program values (gives_values p values given) entries (profiled_by p entries profiled) (takes_passes (command asks.action)) refl q (made_by entries p q makes)) how told says goes.1)
 
         Answers-program : (p : Prog) (program : IsAcceptedProgram tree p) (how : Status) (told : List (List ℕ)) → Puts c.err_before (told ++ status_pieces how) c.err_after
             → DoesProgram does how c.passes c.files_before c.files_after p c.profile asks.args told c.out_before c.out_after → Answers (status_number how) c
         Answers-program p program how told says =
             ⊎_elim (λ refused. Answers-given p program does.arguments (λ takes. subst GivesArguments (sym is) takes) how (plain told (status_pieces how) refused.1.0.0 says) refused.0 refused.1.0.1 refused.1.1)
-            (λ values. ⊎_elim (λ refused. Answers-from p program does.profile (ap profile_of is) how (plain told (status_pieces how) refused.1.0.0 says) refused.0 refused.1.0.1 refused.1.1)
-            (λ given. ⊎_elim (λ refused. Answers-making p program given.0 (profiled_by p given.0 given.1) does.takes_passes (λ takes. ap takes_passes is ∙ takes) how (plain told (status_pieces how) refused.1.0 says) refused.0 refused.1.1)
+            (λ values. ⊎_elim (λ refused. Answers-from p program values.0 (gives_values p values.0 values.1) does.profile (ap profile_of is) how (plain told (status_pieces how) refused.1.0.0 says) refused.0 refused.1.0.1 refused.1.1)
+            (λ given. ⊎_elim (λ refused. Answers-making p program values.0 (gives_values p values.0 values.1) given.0 (profiled_by p given.0 given.1) does.takes_passes (λ takes. ap takes_passes is ∙ takes) how (plain told (status_pieces how) refused.1.0 says) refused.0 refused.1.1)
             (λ made. Answers-made p program values.0 values.1 given.0 given.1 made.0 made.1 how told says made.2)
             given.2)
             values.2)

@@ -18,7 +18,8 @@ use Rattle.rv64_image_laws.specs.WordBounds.{IsWithin}
 use Rattle.bril_commands.proofs.Causes.{by_tree, exhausted, no_refusal, same_args, same_values, with_program}
 use Rattle.bril_commands.proofs.Profiles.{not_refused_from, same_entries_from}
 use Rattle.bril_commands.proofs.Statuses.{Ends, plain}
-use Rattle.bril_commands.specs.Call.{Call, ReadsWell, UnlessMemory}
+use Rattle.bril_commands.specs.Call.{Call}
+use Rattle.bril_commands.specs.Comes.{ReadsWell, UnlessMemory}
 use Rattle.bril_commands.specs.Command.{Command, OnFile, OnTree, OnProgram, OfProgram, Emission, NoImage, ImageFor, Makes, RefusesMaking, Fits, RefusesEmission, NeedsProgram, Spell, profile_of, reach}
 use Rattle.bril_commands.specs.CommandLine.{Asks}
 use Rattle.bril_commands.specs.Driver.{IsSilent, subject, DoesAccepted, DoesGiven, DoesProgram, DoesTree}

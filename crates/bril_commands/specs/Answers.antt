@@ -34,7 +34,8 @@ use Rattle.pass_law.specs.Bounds.{capped}
 use Rattle.rv64_image_laws.specs.WordBounds.{word_bounds, IsStackSize}
 use Rattle.rv64_words.specs.Region.{most_words, most_stack}
 use Rattle.bril_commands.specs.Arguments.{HasOnlyArgFault, argument_pieces}
-use Rattle.bril_commands.specs.Call.{Call, SaysAlone, ReadsWell, UnlessMemory, ComesTo}
+use Rattle.bril_commands.specs.Call.{Call}
+use Rattle.bril_commands.specs.Comes.{SaysAlone, ReadsWell, UnlessMemory, ComesTo}
 use Rattle.bril_commands.specs.Command.{Makes, NeedsProgram, GivesArguments, GivesValues, MakesImage, profile_of, reach, takes_passes}
 use Rattle.bril_commands.specs.CommandLine.{Asks, AsksFor, AskNothing, IsToldOf}
 use Rattle.bril_commands.specs.PassList.{AreUnused, IsFirstUnknown, IsRefusedPass, IsCutOff}
@@ -44,7 +45,8 @@ use Rattle.bril_commands.specs.Table.{command, KeepsPasses}
 use Rattle.bril_commands.specs.When.{DoneWhere}
 
 -- What is put on the output and on the error output is given in pieces, of which each is one put. Nothing is put on either after a put
--- on it that failed. Before a status is told, and before a command tells anything, the output has handed on all that it held back.
+-- on it that failed. In the end the output has handed on all that it held back, where the status is 0, 2 or 3. Which of the two outputs a
+-- piece is put on first isn't said.
 
 -- 0: all was done, and the output took all that the command puts; the error output what it tells.
 pub record Finished (c : Call) : Type 0 where
@@ -131,11 +133,21 @@ pub record SourceRefused (c : Call) : Type 0 where
   pub asks : Asks c.words
   pub because : MisreadFile c asks ⊎ (LacksFunction c asks ⊎ (RepeatsFunction c asks ⊎ (NeedsProgram (command asks.action) × (MisnamedTree c asks ⊎ UnacceptedTree c asks))))
 
--- 66, 67 and 68: the files are linked into an accepted program, and the file of the profile that the words name is refused so. No pass
--- ran.
+-- The files are linked into this accepted program, whose arguments the words spell, and the profile has these entries: it can be given to
+-- the list of passes.
+pub record IsReady (c : Call) (asks : Asks c.words) (program : Prog) (entries : List Entry) : Type 0 where
+  pub file : IsProgramOf (reach (command asks.action)) c.files_before.holds asks.path program
+  pub values : List Value
+  pub given : GivesValues (command asks.action) program asks.args values
+  pub profiled : IsProfileFrom (profile_of (command asks.action)) c.profile c.files_before.holds program entries
+
+-- 66, 67 and 68: the files are linked into an accepted program, whose arguments the words spell, and the file of the profile that the
+-- words name is refused so. No pass ran.
 pub record ProfileRefused (c : Call) (asks : Asks c.words) (how : Status) (line : List (List ℕ)) : Type 0 where
   pub program : Prog
   pub file : IsProgramOf (reach (command asks.action)) c.files_before.holds asks.path program
+  pub values : List Value
+  pub given : GivesValues (command asks.action) program asks.args values
   pub refuses : RefusesProfileFrom (profile_of (command asks.action)) c.profile how c.files_before c.files_after
   pub unused : AreUnused c.passes
   pub alone : SaysAlone c line
@@ -152,14 +164,14 @@ pub record ProfileMisread (c : Call) : Type 0 where
   pub line : ℕ
   pub refused : ProfileRefused c asks (status.MisreadProfile line) (profile_pieces line)
 
--- 68: the files have too many bytes, or are too many, or the profile's file has too many bytes, and no pass ran; or a pass may make too many items, or the program that is to be
--- run or emitted has too many words of code or of stack.
+-- 68: the files have too many bytes, or are too many, or the profile's file has too many bytes, and no pass ran; or, of a
+-- program that is ready, a pass may make too many items, or what the list makes, which is to be run or emitted, has too many words of code or
+-- of stack.
 pub record LongPass (c : Call) (asks : Asks c.words) : Type 0 where
   pub takes : takes_passes (command asks.action) ≡ true
   pub program : Prog
-  pub file : IsProgramOf (reach (command asks.action)) c.files_before.holds asks.path program
   pub entries : List Entry
-  pub profiled : IsProfileFrom (profile_of (command asks.action)) c.profile c.files_before.holds program entries
+  pub ready : IsReady c asks program entries
   pub place : ℕ
   pub bound : ℕ
   pub refused : IsRefusedPass c.passes entries program place bound
@@ -181,9 +193,8 @@ pub record LongProgram (c : Call) (asks : Asks c.words) : Type 0 where
   pub limits : Limits
   pub makes : MakesImage (command asks.action) limits
   pub program : Prog
-  pub file : IsProgramOf (reach (command asks.action)) c.files_before.holds asks.path program
   pub entries : List Entry
-  pub profiled : IsProfileFrom (profile_of (command asks.action)) c.profile c.files_before.holds program entries
+  pub ready : IsReady c asks program entries
   pub made : Prog
   pub by : Makes (takes_passes (command asks.action)) c.passes entries program made
   pub because : HasLongCode c made ⊎ HasLongStack c made limits
@@ -203,24 +214,24 @@ pub record Misargued (c : Call) : Type 0 where
   pub unused : AreUnused c.passes
   pub alone : SaysAlone c (argument_pieces fault)
 
--- 70: no pass answers to a name of the list, this one being the first such; no pass ran.
+-- 70: the program is ready, and no pass answers to a name of the list, this one being the first such. No pass ran.
 pub record UnknownPass (c : Call) : Type 0 where
   pub asks : Asks c.words
   pub takes : takes_passes (command asks.action) ≡ true
   pub program : Prog
-  pub file : IsProgramOf (reach (command asks.action)) c.files_before.holds asks.path program
+  pub entries : List Entry
+  pub ready : IsReady c asks program entries
   pub place : ℕ
   pub unknown : IsFirstUnknown c.passes (Some place)
   pub unused : AreUnused c.passes
   pub alone : SaysAlone c (unknown_pass_pieces place)
 
--- The command gave its program to the list of passes, of which the first ones ran.
+-- The command gave its program to the list of passes, with these entries of the profile, and the first passes ran.
 pub record ListBegan (c : Call) (asks : Asks c.words) : Type 0 where
   pub takes : takes_passes (command asks.action) ≡ true
   pub program : Prog
-  pub file : IsProgramOf (reach (command asks.action)) c.files_before.holds asks.path program
   pub entries : List Entry
-  pub profiled : IsProfileFrom (profile_of (command asks.action)) c.profile c.files_before.holds program entries
+  pub ready : IsReady c asks program entries
   pub cut : IsCutOff c.passes entries program
 
 -- 71: memory ran out, perhaps while the words were read, and nothing was put but what the command may have put by then; for `run`
@@ -340,19 +351,8 @@ DemoAccepted number c = (functions : ℕ) (path : List ℕ) (args : List (List �
 pub record Promises (status : ℕ) (c : Call) : Type 0 where
   -- what each status says
   pub answers : Answers status c
-  pub done : status ≡ 0 → Finished c
-  pub faulted : status ≡ 2 → Stopped c
-  pub spent : status ≡ 3 → GoesOn c
-  pub refused : status ≡ 65 → SourceRefused c
-  pub read : status ≡ 66 → CannotRead c
-  pub profile : status ≡ 67 → ProfileMisread c
-  pub size : status ≡ 68 → TooLarge c
-  pub argued : status ≡ 69 → Misargued c
-  pub unknown : status ≡ 70 → UnknownPass c
-  pub write : status ≡ 74 → CannotWrite c
   pub silent : 64 ≤ status → status ≤ 70 → c.out_after ≡ c.out_before
   -- when each status comes; out of memory, 71 comes in place of each
-  pub misused : status ≡ 64 → AskNothing c.words
   pub unasked : AskNothing c.words → UnlessMemory status (status ≡ 64)
   pub does : DoneWhere status c
   pub misargued : MisarguedWhere status c

@@ -18,7 +18,7 @@ use Rattle.bril_commands.specs.Arguments.{AreOnlyValues}
 use Rattle.bril_commands.specs.Call.{Call}
 use Rattle.bril_commands.specs.CommandLine.{Asks}
 use Rattle.bril_commands.specs.PassList.{PassList}
-use Rattle.bril_commands.specs.Profiles.{IsProfileAt}
+use Rattle.bril_commands.specs.ProfileFiles.{IsProfileAt}
 use Rattle.bril_commands.specs.Source.{IsProgramOf, WithImports}
 
 abbrev pub AreWithinRows : List Row → PassList → Type 0

@@ -1,29 +1,13 @@
--- What is seen of a call of the top call, and what it reads of its files.
-use Rattle.std.specs.Prelude.{ℕ, ◌≡◌, ◌⊎◌, List, [], ◌∷◌, ◌++◌, Option, Some, None}
+-- What is seen of a call of the top call.
+use Rattle.std.specs.Prelude.{ℕ, List, Option}
 use Rattle.bril_outside.specs.Files.{FilesSeen}
-use Rattle.bril_outside.specs.Sink.{SinkSeen, Rose}
-use Rattle.bril_profile.specs.declared.profile.Entry.{Entry}
-use Rattle.bril_report.specs.Lines.{fault_line}
-use Rattle.bril_report.specs.Puts.{Puts}
-use Rattle.bril_report.specs.Report.{spent_pieces}
-use Rattle.bril_tree.specs.declared.limits.End.TheVariants.{Ended, Faulted}
-use Rattle.bril_tree.specs.declared.limits.End.{End}
-use Rattle.bril_tree.specs.declared.program.Prog.{Prog}
-use Rattle.bril_tree.specs.declared.tree.Tree.{Tree}
-use Rattle.bril_tree.specs.declared.value.Value.{Value}
-use Rattle.bril_words.specs.declared.subcommands.Action.{Action}
+use Rattle.bril_outside.specs.Sink.{SinkSeen}
 use Rattle.bril_words.specs.CommandLine.{words_ask}
 use Rattle.bril_words.specs.Names.{names_of}
 use Rattle.pass_law.specs.Meaning.{Meaning}
 use Rattle.pass_law.specs.declared.tally.Tally.{Tally}
-use Rattle.bril_commands.specs.Command.{Command, OnFile, OnTree, OnProgram, OfProgram, Origin, AreGiven, Makes, Fits, profile_of, reach, reach_of}
-use Rattle.bril_commands.specs.CommandLine.{Asks, AsksFor, list_asked, profile_asked}
-use Rattle.bril_commands.specs.Driver.{subject}
-use Rattle.bril_commands.specs.Outcome.{Outcome}
+use Rattle.bril_commands.specs.CommandLine.{list_asked, profile_asked}
 use Rattle.bril_commands.specs.PassList.{PassList, pass_list}
-use Rattle.bril_commands.specs.Profiles.{IsProfileFrom, IsSourceTold}
-use Rattle.bril_commands.specs.Source.{Reach, Alone, WithImports, AreTold, IsProgramOf, IsTreeAt}
-use Rattle.bril_commands.specs.Table.{command}
 
 -- What is seen of a call: its words, and its files, its two outputs and the passes that it was lent before and after it.
 pub record Call : Type 1 where
@@ -50,60 +34,3 @@ call_of words files files' out out' err err' meaning counts passes passes' = rec
   passes = pass_list meaning counts passes passes' (names_of (list_asked (words_ask words)));
   profile = profile_asked (words_ask words);
 }
-
--- nothing was put on the output, and this line on the error output, in these pieces
-pub record SaysAlone (c : Call) (line : List (List ℕ)) : Type 0 where
-  pub silent : c.out_after ≡ c.out_before
-  pub says : Puts c.err_before line c.err_after
-
--- The words ask for this of files that are told, where it reads some, and no read of them failed.
-pub record ReadsWell (c : Call) (action : Action) : Type 0 where
-  pub path : List ℕ
-  pub args : List (List ℕ)
-  pub asked : AsksFor c.words action path args
-  pub told : AreTold (reach (command action)) c.files_before.holds
-  pub told_profile : IsSourceTold (profile_of (command action)) c.profile c.files_before.holds
-  pub sound : ¬ Rose c.files_before.faults c.files_after.faults
-
--- this status, unless memory ran out
-abbrev pub UnlessMemory : ℕ → Type 0 → Type 0
-UnlessMemory status answer = (status ≡ 71) ⊎ answer
-
--- what is said of a run of so many steps, or words of the machine, that has ended so, None where it goes on, after what is told
-abbrev pub TellsRun : Option End → ℕ → List (List ℕ) → ℕ → Call → Type 0
-TellsRun None steps told number c = (number ≡ 3) × Puts c.err_before (told ++ spent_pieces steps) c.err_after
-TellsRun (Some Ended) steps told number c = (number ≡ 0) × Puts c.err_before told c.err_after
-TellsRun (Some (Faulted fault)) steps told number c = (number ≡ 2) × Puts c.err_before (told ++ fault_line fault ∷ []) c.err_after
-
--- ---- what a command comes to
-
--- The files, of which the first is at the path, have a tree, and this holds of what it comes to.
-pub record TreeComesTo (reach : Reach) (outcome : Tree → Outcome) (c : Call) (path : List ℕ) (Is : Outcome → Type 0) : Type 0 where
-  pub tree : Tree
-  pub file : IsTreeAt reach c.files_before.holds path tree
-  pub is : Is (outcome tree)
-
--- The files are linked into an accepted program, or the demo is one, the words spell its arguments, the file of the profile has these
--- entries, the list of passes makes a program of it that is within the bounds of an image, each where the command asks for it, and this
--- holds of what it comes to.
-pub record ProgramComesTo (origin : Origin) (does : OfProgram) (c : Call) (path : List ℕ) (args : List (List ℕ)) (Is : Outcome → Type 0) : Type 0 where
-  pub program : Prog
-  pub file : IsProgramOf (reach_of origin) c.files_before.holds path program
-  pub values : List Value
-  pub given : AreGiven does.arguments program args values
-  pub entries : List Entry
-  pub profiled : IsProfileFrom does.profile c.profile c.files_before.holds program entries
-  pub made : Prog
-  pub makes : Makes does.takes_passes c.passes entries program made
-  pub fits : Fits does.emission made
-  pub is : Is (does.outcome (subject does c.passes entries program made makes values))
-
--- this holds of what a command comes to on the files of which the first is at a path, with these arguments
-abbrev pub CommandComesTo : Command → Call → List ℕ → List (List ℕ) → (Outcome → Type 0) → Type 0
-CommandComesTo (OnFile outcome) c path args Is = TreeComesTo Alone outcome c path Is
-CommandComesTo (OnTree outcome) c path args Is = TreeComesTo WithImports outcome c path Is
-CommandComesTo (OnProgram origin does) c path args Is = ProgramComesTo origin does c path args Is
-
--- this holds of what the command comes to that the words ask for
-abbrev pub ComesTo : (c : Call) → Asks c.words → (Outcome → Type 0) → Type 0
-ComesTo c asks Is = CommandComesTo (command asks.action) c asks.path asks.args Is

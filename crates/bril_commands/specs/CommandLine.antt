@@ -1,11 +1,11 @@
 -- What a command line asks for.
-use Rattle.std.specs.Prelude.{◌≡◌, ℕ, List, [], Option, None, Result, Ok, Err}
+use Rattle.std.specs.Prelude.{◌≡◌, ℕ, List, [], Option, None, Result, Ok, Err, codes}
 use Rattle.bril_words.specs.CommandLine.{Refusal, bad_functions, not_taken, bad_value, asked, words_ask}
 use Rattle.bril_report.specs.Lines.{misuse_line}
 use Rattle.bril_words.specs.Request.{Asked}
 use Rattle.bril_words.specs.declared.misuse.Misuse.TheVariants.{Functions, Value}
 use Rattle.bril_words.specs.declared.subcommands.Action.{Action}
-use Rattle.bril_commands.specs.Table.{list_for}
+use Rattle.bril_words.specs.declared.subcommands.Action.TheVariants as action
 
 -- the words ask for an action, the path of its file, and the arguments of the file's program
 abbrev pub AsksFor : List (List ℕ) → Action → List ℕ → List (List ℕ) → Type 0
@@ -17,6 +17,15 @@ pub record Asks (words : List (List ℕ)) : Type 0 where
   pub path : List ℕ
   pub args : List (List ℕ)
   pub asked : AsksFor words action path args
+
+-- the list of passes of the demo
+abbrev pub demo_list : List ℕ
+demo_list = codes "trace,const,dead,tidy"
+
+-- the list of an action, where the words give this one: the demo has its own
+abbrev pub list_for : Action → List ℕ → List ℕ
+list_for (action.Demo functions) list = demo_list
+list_for _ list = list
 
 -- the list of passes that is asked for, or that of the demo
 abbrev pub list_asked : Result Asked Refusal → List ℕ

@@ -4,13 +4,16 @@ pub mod Budgets
 pub mod Call
 pub mod Command
 pub mod CommandLine
+pub mod Comes
 pub mod Driver
 pub mod Images
 pub mod Making
 pub mod Outcome
 pub mod PassList
+pub mod ProfileFiles
 pub mod Profiles
 pub mod Recording
+pub mod RunIsCorrect
 pub mod Source
 pub mod Sources
 pub mod Stages

@@ -5,7 +5,7 @@ use Rattle.bril_profile.specs.declared.profile.Entry.{Entry}
 use Rattle.bril_report.specs.declared.status.Status.{Status}
 use Rattle.bril_tree.specs.declared.program.Prog.{Prog}
 use Rattle.bril_commands.specs.PassList.{PassList, AreUnused, IsMade, RefusesList}
-use Rattle.bril_commands.specs.Profiles.{IsProfileAt, RefusesProfile}
+use Rattle.bril_commands.specs.ProfileFiles.{IsProfileAt, RefusesProfile}
 
 -- These are the entries of the profile, and the list made q of p with them.
 pub record IsMadeWith (l : PassList) (named : Option (List ℕ)) (holds : Option FileMap) (p q : Prog) : Type 0 where

@@ -1,5 +1,5 @@
 -- The table of commands.
-use Rattle.std.specs.Prelude.{◌≡◌, ℕ, Bool, true, false, List}
+use Rattle.std.specs.Prelude.{◌≡◌, Bool, true, false, List}
 use Rattle.bril_tree.specs.declared.tree.Tree.{Tree}
 use Rattle.bril_words.specs.declared.subcommands.Action.TheVariants as action
 use Rattle.bril_words.specs.declared.subcommands.Action.{Action}
@@ -16,7 +16,7 @@ use Rattle.pass_law.specs.Meaning.{Meaning}
 use Rattle.bril_commands.specs.Command.{Command, OnFile, OnTree, OnProgram, OfProgram, LinkedFiles, Demo, takes_passes}
 use Rattle.bril_commands.specs.Outcome.{Outcome}
 use Rattle.bril_commands.specs.commands.Check.{checks}
-use Rattle.bril_commands.specs.commands.Demo.{demo_list, demonstrates}
+use Rattle.bril_commands.specs.commands.Demo.{demonstrates}
 use Rattle.bril_commands.specs.commands.Emit.{emits_words}
 use Rattle.bril_commands.specs.commands.Interp.{interprets}
 use Rattle.bril_commands.specs.commands.Json.{writes_as_json}
@@ -54,11 +54,6 @@ command (action.File does) = OnFile (on_file does)
 command (action.Tree does) = OnTree (on_tree does)
 command (action.Program does) = OnProgram LinkedFiles (on_program does)
 command (action.Demo functions) = OnProgram (Demo functions) (demonstrates functions)
-
--- the list of passes of an action, where the words give this one: the demo has its own
-abbrev pub list_for : Action → List ℕ → List ℕ
-list_for (action.Demo functions) list = demo_list
-list_for _ list = list
 
 -- passes are left as they are, or with what they mean where a list of them is taken
 abbrev pub Keeps : {B : Type 0} → (B → Meaning) → Bool → List B → List B → Type 0

@@ -13,7 +13,8 @@ use Rattle.bril_tree.specs.declared.tree.Tree.{Tree}
 use Rattle.bril_tree.specs.declared.value.Value.{Value}
 use Rattle.bril_words.specs.declared.subcommands.Action.{Action}
 use Rattle.rv64_image_laws.specs.WordBounds.{IsWithin}
-use Rattle.bril_commands.specs.Call.{Call, SaysAlone, ReadsWell, UnlessMemory, TellsRun}
+use Rattle.bril_commands.specs.Call.{Call}
+use Rattle.bril_commands.specs.Comes.{SaysAlone, ReadsWell, UnlessMemory, TellsRun}
 use Rattle.bril_commands.specs.Command.{Command, OnFile, OnTree, OnProgram, Makes, Emission, NoImage, ImageFor, AreLimitsOf, Spell, reach}
 use Rattle.bril_commands.specs.Driver.{subject}
 use Rattle.bril_commands.specs.Outcome.{Outcome}

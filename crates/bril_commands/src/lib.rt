@@ -5,9 +5,9 @@
 //!    (`specs/Table.antt`).
 //! 2. What a command comes to (`specs/Outcome.antt`), its stages in turn (`specs/Driver.antt`), the profile that the passes
 //!    get (`specs/Profiles.antt`), and the entries of a recorded run (`specs/Recording.antt`).
-//! 3. What each status says, with the record `Promises` of the main theorem (`specs/Answers.antt`), and when a command is
-//!    done (`specs/When.antt`). For every command of this form what its stages answer adds up to that
-//!    (`proofs/Promises.antt`).
+//! 3. The main theorem, which is of `run` (`specs/RunIsCorrect.antt`). It follows from the record `Promises`, of every
+//!    command: what each status says (`specs/Answers.antt`), and when a command is done (`specs/When.antt`). For every
+//!    command of this form what its stages answer adds up to that (`proofs/Promises.antt`).
 //! 4. The stages: from files to their tree (`src/source.rt`), from a tree to its accepted program (`src/program.rt`), the
 //!    values that words spell (`src/arguments.rt`), from the path of a profile to its entries (`src/profile.rt`), lists of
 //!    passes (`src/list.rt`), and what a list makes with the profile that the words name (`src/making.rt`).

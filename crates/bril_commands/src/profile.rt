@@ -1,7 +1,7 @@
 // The profile that a command gives to its list of passes.
 
 ghost use Rattle.std.specs.Prelude.{◌≡◌, ◌≤◌, IfOk, IfErr};
-ghost use Rattle.bril_commands.specs.Profiles.{HoldsProfile, IsProfileAt, RefusesProfile, RefusesProfileFile};
+ghost use Rattle.bril_commands.specs.ProfileFiles.{HoldsProfile, IsProfileAt, RefusesProfile, RefusesProfileFile};
 ghost use Rattle.bril_words.specs.Seen.{text_seen};
 
 use bril_outside::files::{FileFault, Files};

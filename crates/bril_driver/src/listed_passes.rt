@@ -1,7 +1,7 @@
 // The passes that a command was lent, and a list of their names, as one.
 
 ghost use Rattle.std.specs.Prelude.{◌≡◌, ◌≤◌, length};
-ghost use Rattle.bril_commands.specs.Table.{list_for};
+ghost use Rattle.bril_commands.specs.CommandLine.{list_for};
 ghost use Rattle.bril_words.specs.Names.{names_of};
 
 use bril_tree::sequence::Seq;

@@ -14,10 +14,7 @@ use Rattle.bril_commands.specs.Outcome.{Outcome}
 use Rattle.bril_commands.specs.Profiles.{OwnRun}
 use Rattle.bril_commands.specs.commands.Run.{Executes, RunShows}
 
--- ---- its list of passes, and its limits
-
-abbrev pub demo_list : List ℕ
-demo_list = codes "trace,const,dead,tidy"
+-- ---- its limits
 
 abbrev pub demo_frames : ℕ
 demo_frames = 8192

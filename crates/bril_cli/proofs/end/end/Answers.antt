@@ -7,3 +7,6 @@ bril_top-requires g c = record { shipped = AreShipped-make (λ p. (goal.Pass-dyn
 
 pub returns-in-Ok-clause-budget : goal.returns-in-Ok-clause-budget
 returns-in-Ok-clause-budget g c = rw c.in-Ok.is (rw c.as_slice.ensures at (c.bril_top.ensures.budget c.requires.shipped))
+
+pub returns-in-Ok-clause-run : goal.returns-in-Ok-clause-run
+returns-in-Ok-clause-run g c = rw c.in-Ok.is (rw c.as_slice.ensures at c.bril_top.ensures.run)

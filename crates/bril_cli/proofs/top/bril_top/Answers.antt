@@ -3,6 +3,7 @@ use Rattle.std.proofs.Common.{◌≡◌, ap, subst, rules}
 use Rattle.bril_outside.specs.Sink.{SinkSeen}
 use Rattle.bril_report.specs.Told.{Heard}
 use Rattle.bril_commands.proofs.Budgets.{spent-past_budget}
+use Rattle.bril_commands.proofs.RunIsCorrect.{RunIsCorrect-promised}
 use Rattle.bril_commands.specs.Answers.{Promises}
 use Rattle.bril_commands.specs.Call.{call_of}
 use Rattle.shipped_passes.proofs.Budgets.{AreShipped-within}
@@ -31,3 +32,6 @@ returns-clause-budget g c shipped =
     (g.O.Sink.seen c.args.out.now) (g.O.Sink.seen c.out-1.given.0) (g.E.Sink.seen c.args.err.now) (g.E.Sink.seen c.err-1.given.0)
     (λ p. (goal.Pass-dyn g (p.vtable, p.value)).meaning p.value) (λ p. (goal.Pass-dyn g (p.vtable, p.value)).counts p.value) c.args.passes.now c.answer.new.passes)
     (returns-clause-promises g c) (AreShipped-within (λ p. (goal.Pass-dyn g (p.vtable, p.value)).meaning p.value) c.args.passes.now shipped)
+
+pub returns-clause-run : goal.returns-clause-run
+returns-clause-run g c = RunIsCorrect-promised _ _ (returns-clause-promises g c)

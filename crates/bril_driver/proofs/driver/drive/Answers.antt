@@ -6,7 +6,8 @@ use Rattle.bril_commands.proofs.Reading.{memory_refuses}
 use Rattle.bril_commands.specs.Command.{takes_passes, reach}
 use Rattle.bril_commands.specs.Driver.{DoesFiles}
 use Rattle.bril_commands.specs.PassList.{pass_list}
-use Rattle.bril_commands.specs.Table.{command, KeepsPasses, list_for}
+use Rattle.bril_commands.specs.CommandLine.{list_for}
+use Rattle.bril_commands.specs.Table.{command, KeepsPasses}
 use Rattle.bril_report.proofs.Telling.{Tells-none}
 use Rattle.bril_report.specs.StageFaults.{status_of}
 use Rattle.bril_words.specs.Names.{names_of}
