@@ -17,6 +17,8 @@ use Rattle.pass_law.specs.declared.fault.ListFault.{ListFault}
 use Rattle.pass_law.specs.declared.fault.ListFault.TheVariants as list
 use Rattle.profile_text.specs.declared.fault.ProfileFault.{ProfileFault}
 use Rattle.profile_text.specs.declared.fault.ProfileFault.TheVariants as profile
+use Rattle.rv64_words.specs.declared.fault.EmitFault.{EmitFault}
+use Rattle.rv64_words.specs.declared.fault.EmitFault.TheVariants as emit
 
 -- the status of a command that was done, or ended so
 abbrev pub status_of : Result Unit Status → Status
@@ -78,3 +80,9 @@ abbrev pub list_status : ListFault → Status
 list_status (list.Unknown place prog) = status.UnknownPass place
 list_status (list.TooLarge place bound prog) = status.PassTooLarge place bound
 list_status list.Memory = status.OutOfMemory
+
+-- the status of a program that gets no image
+abbrev pub emit_status : EmitFault → Status
+emit_status (emit.CodeTooBig words) = status.CodeTooBig words
+emit_status (emit.StackTooBig words) = status.StackTooBig words
+emit_status emit.Memory = status.OutOfMemory

@@ -1,7 +1,7 @@
 // The status of each stage's fault, so that `?` hands it on, and of how a command ended.
 
 ghost use Rattle.std.specs.Prelude.{◌≡◌};
-ghost use Rattle.bril_report.specs.StageFaults.{status_of, misuse_status, link_status, name_status, check_status, argument_status, profile_status, list_status};
+ghost use Rattle.bril_report.specs.StageFaults.{status_of, misuse_status, link_status, name_status, check_status, argument_status, profile_status, list_status, emit_status};
 ghost use Rattle.bril_report.specs.declared.status.Status.TheVariants.{OutOfMemory, CannotWrite};
 
 use crate::status::Status;
@@ -14,6 +14,7 @@ use bril_words::Misuse;
 use import_linker::LinkFault;
 use pass_law::ListFault;
 use profile_text::ProfileFault;
+use rv64_words::fault::EmitFault;
 use std::alloc::AllocError;
 
 /// `Done` of a command that was done, and else the status with which it ended.
@@ -149,6 +150,19 @@ impl From<ListFault> for Status {
             ListFault::Unknown { place, .. } => Status::UnknownPass { place },
             ListFault::TooLarge { place, bound, .. } => Status::PassTooLarge { place, bound },
             ListFault::Memory => Status::OutOfMemory,
+        }
+    }
+}
+
+/// A program gets no image.
+impl From<EmitFault> for Status {
+    ghost from_gives = { λ fault status. status ≡ emit_status fault };
+
+    fn from(fault: EmitFault) -> Status {
+        match fault {
+            EmitFault::CodeTooBig { words } => Status::CodeTooBig { words },
+            EmitFault::StackTooBig { words } => Status::StackTooBig { words },
+            EmitFault::Memory => Status::OutOfMemory,
         }
     }
 }

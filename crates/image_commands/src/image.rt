@@ -1,7 +1,6 @@
 // The image of an accepted program.
 
 ghost use Rattle.std.specs.Prelude.{◌≡◌, ◌≤◌, length, IfOk, IfErr};
-ghost use Rattle.image_commands.specs.Images.{emit_status};
 ghost use Rattle.bril_commands.specs.Images.{RefusesImage};
 ghost use Rattle.rv64_image_laws.specs.Implements.{Implements};
 ghost use Rattle.rv64_image_laws.specs.WordBounds.{IsWithin};
@@ -10,7 +9,7 @@ ghost use Rattle.rv64_words.specs.Region.{most_words, most_stack};
 use bril_checker::Checked;
 use bril_report::Status;
 use bril_tree::limits::Limits;
-use rv64_emit::{EmitFault, emit};
+use rv64_emit::emit;
 use rv64_words::image::Image;
 use std::alloc::Global;
 
@@ -28,17 +27,6 @@ pub fn image_of(alloc: Global, checked: &Checked, limits: Limits) -> Result<Imag
 {
     match emit(alloc, checked, limits) {
         Ok(image) => Ok(image),
-        Err(fault) => Err(emit_status(fault)),
-    }
-}
-
-// The status of a program that gets no image.
-fn emit_status(fault: EmitFault) -> Status
-    ensures { result ≡ emit_status fault }
-{
-    match fault {
-        EmitFault::CodeTooBig { words } => Status::CodeTooBig { words },
-        EmitFault::StackTooBig { words } => Status::StackTooBig { words },
-        EmitFault::Memory => Status::OutOfMemory,
+        Err(fault) => Err(Status::from(fault)),
     }
 }

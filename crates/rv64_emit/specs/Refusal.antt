@@ -2,8 +2,8 @@
 use Rattle.std.specs.Prelude.{ℕ, ◌≡◌, ◌-◌, ◌^◌, ◌<◌, ◌≤◌, IsTrue, min}
 use Rattle.bril_tree.specs.declared.limits.Limits.{Limits}
 use Rattle.bril_tree.specs.declared.program.Prog.{Prog}
-use Rattle.rv64_emit.specs.declared.EmitFault.{EmitFault}
-use Rattle.rv64_emit.specs.declared.EmitFault.TheVariants.{CodeTooBig, StackTooBig, Memory}
+use Rattle.rv64_words.specs.declared.fault.EmitFault.{EmitFault}
+use Rattle.rv64_words.specs.declared.fault.EmitFault.TheVariants.{CodeTooBig, StackTooBig, Memory}
 use Rattle.rv64_image_laws.specs.WordBounds.{has_fixed_bounds, word_bounds, IsStackSize, IsWithin}
 use Rattle.rv64_words.specs.Region.{most_words, most_stack}
 

@@ -6,17 +6,17 @@ ghost use Rattle.program_numbers.specs.ProgramNumbers.{IsLargestFrame};
 ghost use Rattle.std.specs.List.{list_all};
 ghost use Rattle.rv64_emit.specs.Bounds.{AreLocationsKnown, bound_with, locations_at};
 ghost use Rattle.rv64_emit.specs.Refusal.{capped, EmitRefuses};
-ghost use Rattle.rv64_emit.specs.declared.EmitFault.TheVariants.{Memory};
+ghost use Rattle.rv64_words.specs.declared.fault.EmitFault.TheVariants.{Memory};
 ghost use Rattle.rv64_image_laws.specs.WordBounds as bounds;
 ghost use Rattle.rv64_image_laws.specs.WordBounds.{operation_bound, word_bound, word_bounds, IsStackSize, IsWithin};
 
-use crate::EmitFault;
 use bril_checker::Checked;
 use bril_tree::limits::Limits;
 use bril_tree::numbered::Instr;
 use bril_tree::numbered_function::Func;
 use bril_tree::operation::Op;
 use bril_tree::program::Prog;
+use rv64_words::fault::EmitFault;
 use rv64_words::region::{MOST_STACK, MOST_WORDS};
 use slot_code::SlotFunction;
 

@@ -16,7 +16,6 @@
 #![tactic(auto)]
 
 ghost use Rattle.std.specs.Prelude.{◌≡◌, ◌≤◌, length, IfOk, IfErr};
-ghost use Rattle.rv64_emit.specs.declared.EmitFault.TheVariants.{Memory};
 ghost use Rattle.rv64_emit.specs.Refusal.{EmitRefuses};
 ghost use Rattle.rv64_emit.specs.Registers.{ImplementsInRegisters};
 ghost use Rattle.rv64_image_laws.specs.Implements.{Implements};
@@ -45,33 +44,11 @@ use crate::image::image_of;
 use bril_checker::Checked;
 use bril_tree::limits::Limits;
 use bril_tree::literals::literals_are_in_range;
+use rv64_words::fault::EmitFault;
 use rv64_words::image::Image;
 use shadow_place::{all_lives, place};
 use slot_code::lower;
-use std::alloc::{AllocError, Global};
-use thiserror::Error;
-
-/// Why no image is made of a program.
-#[derive(Clone, Copy, PartialEq, Eq, Debug, Drop, Error)]
-pub enum EmitFault {
-    /// The sum of the bounds on the items' words passes 250,000. It is this sum, or `u64::MAX` where that is greater.
-    #[error("the code may have {words} words")]
-    CodeTooBig { words: u64 },
-    /// The frames' words pass 8,388,608. They are so many, or `u64::MAX` where that is greater.
-    #[error("the stack has {words} words")]
-    StackTooBig { words: u64 },
-    /// Memory ran out.
-    #[error("out of memory")]
-    Memory,
-}
-
-impl From<AllocError> for EmitFault {
-    ghost from_gives = { λ _ e. e ≡ Memory };
-
-    fn from(_fault: AllocError) -> EmitFault {
-        EmitFault::Memory
-    }
-}
+use std::alloc::Global;
 
 /// The image of an accepted program for runs under these limits: it does what the program does, on the machine of
 /// `rv64_words`. While it runs, each location of a function of at most 23 locations is in a register. It has at most 250,000

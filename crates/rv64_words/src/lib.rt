@@ -2,7 +2,7 @@
 //! Unprivileged ISA manual defines them. Encoding and decoding are each other's inverse.
 //!
 //! 1. Words (`src/word.rt`) and their fields (`src/field.rt`), from a word to its bits and back (`src/encoding.rt`,
-//!    `src/decoding.rt`; `specs/Encoding.antt`), and images of words (`src/image.rt`).
+//!    `src/decoding.rt`; `specs/Encoding.antt`), images of words (`src/image.rt`), and why a program has none (`src/fault.rt`).
 //! 2. What operations compute (`specs/Arithmetic.antt`), and what each word does to the machine (`specs/Machine.antt`); its
 //!    traps are in `src/trap.rt`.
 //! 3. The regions of memory (`src/region.rt`, `specs/Region.antt`).
@@ -17,6 +17,7 @@
 pub mod call;
 pub mod decoding;
 pub mod encoding;
+pub mod fault;
 pub mod field;
 pub mod image;
 pub mod points;
