@@ -1,7 +1,7 @@
 -- A run comes as its source has it, by what the top call promises.
 use Rattle.std.proofs.Common.{◌≡◌, ℕ, ◌⊎◌, true, false, Bool, append-nil, List, [], ◌∷◌, ◌++◌, Option, Some, None, refl, sym, ap, ◌∙◌, subst, arith, inl, inr, ⊎_elim}
 use Rattle.bril_outside.specs.Files.{FileMap}
-use Rattle.bril_outside.specs.Sink.{SinkSeen, TookAll, joined}
+use Rattle.bril_outside.specs.Sink.{SinkSeen, Took, joined}
 use Rattle.bril_profile.specs.declared.profile.Profile.{Profile}
 use Rattle.bril_report.specs.Lines.{fault_line}
 use Rattle.bril_report.specs.Puts.{Puts, WritesAll}
@@ -39,11 +39,11 @@ use Rattle.bril_commands.specs.commands.Run.{RunShows, runs}
 -- ---- what is put
 
 -- the output took all pieces, and so their bytes
-took_bytes : {s t : SinkSeen} {pieces : List (List ℕ)} {bytes : List ℕ} → joined pieces ≡ bytes → WritesAll s pieces t → TookAll s bytes t
-took_bytes {s} {t} {pieces} {bytes} same wrote = subst (λ (bs : List ℕ). TookAll s bs t) same (record {
-  written = wrote.flushed.written ∙ wrote.puts.put.took.written;
-  amount = wrote.flushed.amount ∙ wrote.puts.put.took.amount;
-  faults = let put = wrote.puts.put.took.faults in let flushed = wrote.flushed.faults in omega (arith, put, flushed);
+took_bytes : {s t : SinkSeen} {pieces : List (List ℕ)} {bytes : List ℕ} → joined pieces ≡ bytes → WritesAll s pieces t → Took s bytes t
+took_bytes {s} {t} {pieces} {bytes} same wrote = subst (λ (bs : List ℕ). Took s bs t) same (record {
+  written = wrote.flushed.written ∙ wrote.puts.put.took.took.written;
+  amount = wrote.flushed.amount ∙ wrote.puts.put.took.took.amount;
+  faults = let put = wrote.puts.put.took.took.faults in let flushed = wrote.flushed.faults in omega (arith, put, flushed);
 })
 
 -- ---- what is asked

@@ -3,7 +3,7 @@
 use Rattle.std.specs.Prelude.{ℕ, ◌≡◌, ◌⊎◌, ◌+◌, ◌*◌, ◌≤◌, true, false, List, [], ◌∷◌, ◌++◌, Some, None}
 use Rattle.bril_arguments.specs.Spelled.{AreSpelled}
 use Rattle.bril_outside.specs.Files.{FileMap}
-use Rattle.bril_outside.specs.Sink.{Rose, TookAll}
+use Rattle.bril_outside.specs.Sink.{Rose, Took}
 use Rattle.bril_profile.specs.declared.profile.Entry.{Entry}
 use Rattle.bril_report.specs.Lines.{fault_line}
 use Rattle.bril_report.specs.Puts.{Puts}
@@ -80,7 +80,7 @@ pub record HasEnded (c : Call) (run : AsksToRun c) (end : End) (line : List (Lis
   pub steps : ℕ
   pub ended : (source_after run steps).ended ≡ Some end
   -- the output took exactly what it has printed by then, and handed on all of it
-  pub took : TookAll c.out_before (source_after run steps).printed c.out_after
+  pub took : Took c.out_before (source_after run steps).printed c.out_after
   pub out : c.out_after.is_out ≡ true
   -- the error output got this line
   pub says : Says c run line
@@ -89,7 +89,7 @@ pub record HasEnded (c : Call) (run : AsksToRun c) (end : End) (line : List (Lis
 pub record RunsOn (c : Call) (run : AsksToRun c) : Type 0 where
   -- the output took exactly this, and handed on all of it
   pub output : List ℕ
-  pub took : TookAll c.out_before output c.out_after
+  pub took : Took c.out_before output c.out_after
   pub out : c.out_after.is_out ≡ true
   -- what the source has printed after so many steps begins with it
   pub steps : ℕ
