@@ -10,6 +10,6 @@ pub mod Queueing
 pub mod Clearing
 pub mod Looking
 pub mod Sweeping
-pub mod Made
 pub mod Numbers
+pub mod Made
 pub mod Shipped
