@@ -33,9 +33,10 @@ use Rattle.dead_code.specs.Dead.{dead_meaning}
 use Rattle.dead_code.specs.Emptied.{IsCleared, IsClearedFunction, IsClearedTree, WereRemovable, emptied, tree_with}
 use Rattle.pass_edit_laws.specs.plan.Marked.{with_nops}
 use Rattle.dead_code.specs.Work.{IsEmptiedFunction, remaining}
-use Rattle.dead_code.specs.Removable.{is_silent, IsUnused, IsIdle}
+use Rattle.dead_code.specs.Removable.{is_silent, IsIdle, IsRemovable, IsUnused}
 use Rattle.dead_code.proofs.Accepted.{deadened-accepted}
 use Rattle.dead_code.proofs.Chain.{Chain, chain}
+use Rattle.dead_code.proofs.Left.{none-removable}
 use Rattle.dead_code.proofs.Numbers.{numbers-within}
 use Rattle.pass_edit_laws.proofs.lemmas.plan.Marked.{with_nops-map}
 use Rattle.dead_code.proofs.Points.{Deadened}
@@ -175,8 +176,15 @@ module _ (P : Prog) where
         by None p = absurd (let n : None ≡ Some a = ap (λ c. slice_get c i) (sym (made_none P.funcs (tree_of Q).funcs is.functions f p)) ∙ at in cc)
         by (Some F) p = let m = made_at P.funcs (tree_of Q).funcs is.functions f F p in m.cleared.stays i a at
 
+    none-removable_in : (f i : ℕ) → ¬ IsRemovable (made f) i
+    none-removable_in f i r = by (slice_get P.funcs f) refl
+      where
+        by : (o : Option Func) → slice_get P.funcs f ≡ o → ⊥
+        by None p = absurd (let n : None ≡ Some r.item = ap (λ c. slice_get c i) (sym (made_none P.funcs (tree_of Q).funcs is.functions f p)) ∙ r.here in cc)
+        by (Some F) p = (made_at P.funcs (tree_of Q).funcs is.functions f F p).cleared.none i r
+
     pub deadened-points : Deadened P Q made
-    deadened-points = record { heads = heads-of_trees P Q (heads-each P (IsClearedFunction P) head (tree_of Q).funcs is.functions); chain = chains; tree = trees; stays = staying }
+    deadened-points = record { heads = heads-of_trees P Q (heads-each P (IsClearedFunction P) head (tree_of Q).funcs is.functions); chain = chains; tree = trees; stays = staying; none = none-removable_in }
 
   -- ---- by what the calls give: the tree that was made, and the program numbered of that
 
@@ -198,7 +206,7 @@ module _ (P : Prog) where
         let points = deadened-points Q is in
         let h = size-each P (IsClearedFunction P) as-long tree.funcs t.functions in
         record {
-          makes = record { tree = is; numbers = numbers-within P Q (made Q is) accepted accepted_q points };
+          makes = record { tree = is; none = none-removable P Q (made Q is) accepted points; numbers = numbers-within P Q (made Q is) accepted accepted_q points };
           accepted = accepted_q;
           factor = 1;
           is_factor = refl;
