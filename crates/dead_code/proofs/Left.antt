@@ -32,6 +32,7 @@ use Rattle.pass_edit_laws.proofs.lemmas.names.Locations.{kept-apart, to_left}
 use Rattle.pass_edit_laws.proofs.lemmas.names.Points.{Differ-in, found}
 use Rattle.pass_edit_laws.proofs.lemmas.names.Preserving.{own_tree}
 use Rattle.pass_edit_laws.proofs.lemmas.names.Renaming.{items_share}
+use Rattle.pass_edit_laws.proofs.lemmas.names.Standing.{OneName}
 use Rattle.dead_code.specs.Removable.{IsIdle, IsRemovable, IsUnused, is_computation, is_silent, only_computes}
 use Rattle.dead_code.proofs.Accepted.{also_reached, branch-there, walk-there}
 use Rattle.dead_code.proofs.Chain.{was_reached}
@@ -79,9 +80,6 @@ module _ (P Q : Prog) (made : ℕ → List Instr) (accepted : IsAccepted P) (t :
   abbrev W : List (List ℕ)
   W = names_in (slice_get Q.funcs f)
 
-  abbrev OneName : Location → Location → Type 0
-  OneName x y = SameLocation V W x y × Unit {0}
-
   -- a location of P has one of the same name at most
   one-name : (x y z : Location) → SameLocation V W x y → SameLocation V W x z → y ≡ z
   one-name x y z a b = ⊎_elim (λ h. only h.1) (λ h. absurd (h.0 (inl refl))) (kept-apart V W (Differ-in (slice_get Q.funcs f)) (λ l. Unit {0}) (x ∷ []) (z ∷ []) (b, tt) x y a (λ n. tt) (λ i. inl refl))
@@ -95,7 +93,7 @@ module _ (P Q : Prog) (made : ℕ → List Instr) (accepted : IsAccepted P) (t :
   -- what remains at a point, and the item of Q there
   data Beside (i : ℕ) : Type 0 where
     End : slice_get (made f) i ≡ None → item_at Q f i ≡ None → Beside i
-    Pair : (a b : Instr) → slice_get (made f) i ≡ Some a → item_at Q f i ≡ Some b → ItemsMatch OneName a b → AllZip (SameLocation V W) (assigns_of a) (assigns_of b) → Beside i
+    Pair : (a b : Instr) → slice_get (made f) i ≡ Some a → item_at Q f i ≡ Some b → ItemsMatch (OneName P Q f) a b → AllZip (SameLocation V W) (assigns_of a) (assigns_of b) → Beside i
 
   beside : (i : ℕ) → Beside i
   beside i = ⊎_elim stays (λ g. Pair nop nop g.is (gone-nop P Q made t f i g) (record { operation = refl; ty = refl; dest = refl; count = refl; reads = tt; funcs = refl }) tt) ((t.chain f).became i)
@@ -120,10 +118,10 @@ module _ (P Q : Prog) (made : ℕ → List Instr) (accepted : IsAccepted P) (t :
     where
       by : Beside i → item_change (slice_get (made f) i) aborts ≡ item_change (item_at Q f i) aborts
       by (End none bt) = ap (λ o. item_change o aborts) (none ∙ sym bt)
-      by (Pair a b here bt same assigns) = ap (λ o. item_change o aborts) here ∙ (alike OneName a b same).change aborts ∙ ap (λ o. item_change o aborts) (sym bt)
+      by (Pair a b here bt same assigns) = ap (λ o. item_change o aborts) here ∙ (alike (OneName P Q f) a b same).change aborts ∙ ap (λ o. item_change o aborts) (sym bt)
 
   -- a location that isn't assigned there isn't in Q
-  unassigned : (i : ℕ) (x y : Location) → SameLocation V W x y → ¬ Contains (assigns_at (slice_get (made f) i)) x → ¬ Contains (assigns_at (item_at Q f i)) y
+  unassigned : (i : ℕ) (x y : Location) → SameLocation V W x y → ¬ Contains (assigns_at (slice_get (made f) i)) x → Contains (assigns_at (item_at Q f i)) y → ⊥
   unassigned i x y named none c = by (beside i) (in_contains y (assigns_at (item_at Q f i)) c)
     where
       by : Beside i → In y (assigns_at (item_at Q f i)) → ⊥
@@ -163,7 +161,7 @@ module _ (P Q : Prog) (made : ℕ → List Instr) (accepted : IsAccepted P) (t :
       by (End none bt) = absurd (let n : None ≡ Some item = sym none ∙ at in cc)
       by (Pair a b here bt same assigns) =
           let one : item ≡ a = same_Some item a (sym at ∙ here) in
-          let read = zip-partner OneName (reads_of a) (reads_of b) x (alike OneName a b same).reads (subst (λ (z : Instr). In x (reads_of z)) one (in_contains x (reads_of item) reads)) in
+          let read = zip-partner (OneName P Q f) (reads_of a) (reads_of b) x (alike (OneName P Q f) a b same).reads (subst (λ (z : Instr). In x (reads_of z)) one (in_contains x (reads_of item) reads)) in
           live-reads (code_of Q f) i b y bt (subst (λ l. In l (reads_of b)) (one-name x read.0 y read.2.0 named) read.1)
   live-there x y named i reached (Later _ b leaves none live) =
       Later i b (leaves-there i b reached leaves) (unassigned i x y named none) (live-there x y named b.to (reached-next (made f) i b reached leaves) live)
@@ -180,8 +178,8 @@ module _ (P Q : Prog) (made : ℕ → List Instr) (accepted : IsAccepted P) (t :
           is : b ≡ r.item
           is = same_Some b r.item (sym bt ∙ r.here)
 
-          both : Alike OneName a b
-          both = alike OneName a b same
+          both : Alike (OneName P Q f) a b
+          both = alike (OneName P Q f) a b same
 
           unused : IsUnused (code_of Q f) i r.item → IsUnused (made f) i a ⊎ IsIdle (made f) i a
           unused u =
@@ -201,5 +199,5 @@ module _ (P Q : Prog) (made : ℕ → List Instr) (accepted : IsAccepted P) (t :
             does = both.silent ∙ ap is_silent is ∙ u.does;
           })
 
-  pub none-removable : (i : ℕ) → ¬ IsRemovable (code_of Q f) i
+  pub none-removable : (i : ℕ) → IsRemovable (code_of Q f) i → ⊥
   none-removable i r = t.none f i (was-removable i r)

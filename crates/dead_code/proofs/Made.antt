@@ -176,7 +176,7 @@ module _ (P : Prog) where
         by None p = absurd (let n : None ≡ Some a = ap (λ c. slice_get c i) (sym (made_none P.funcs (tree_of Q).funcs is.functions f p)) ∙ at in cc)
         by (Some F) p = let m = made_at P.funcs (tree_of Q).funcs is.functions f F p in m.cleared.stays i a at
 
-    none-removable_in : (f i : ℕ) → ¬ IsRemovable (made f) i
+    none-removable_in : (f i : ℕ) → IsRemovable (made f) i → ⊥
     none-removable_in f i r = by (slice_get P.funcs f) refl
       where
         by : (o : Option Func) → slice_get P.funcs f ≡ o → ⊥
