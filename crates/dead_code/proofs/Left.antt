@@ -184,8 +184,8 @@ module _ (P Q : Prog) (made : ℕ → List Instr) (accepted : IsAccepted P) (t :
           unused : IsUnused (code_of Q f) i r.item → IsUnused (made f) i a ⊎ IsIdle (made f) i a
           unused u =
               let computes : is_computation a ≡ true = both.computes ∙ ap is_computation is ∙ u.computes in
-              let reached = ⊎_elim (λ s. absurd (true≢false (sym s ∙ computation-loud a computes))) (λ h. h) (t.stays f i a here) in
-              let next = reached_on (made f) i (onward i) reached (subst (λ o. In (onward i) (branches_from (made f) i o)) (sym here) (subst (In (onward i)) (sym (computation-on (made f) i a computes)) (inl refl))) in
+              let reached : IsReached (made f) i = ⊎_elim (λ s. absurd (true≢false (sym s ∙ computation-loud a computes))) (λ h. h) (t.stays f i a here) in
+              let next : IsReached (made f) (suc i) = reached_on (made f) i (onward i) reached (subst (λ o. In (onward i) (branches_from (made f) i o)) (sym here) (subst (In (onward i)) (sym (computation-on (made f) i a computes)) (inl refl))) in
               inl (record {
                 computes = computes;
                 unused = λ x c live.
