@@ -35,9 +35,10 @@ use Rattle.pass_edit_laws.proofs.lemmas.names.Trees.{heads-of_trees}
 use Rattle.constant_pass.specs.declared.constants.known.Known.TheVariants.{Many}
 use Rattle.constant_pass.specs.constants.Consistent.{IsLeast, Table}
 use Rattle.constant_pass.specs.Const.{const_meaning}
-use Rattle.constant_pass.specs.Folded.{IsFolded, IsFoldedFunction, IsFoldedTree, becomes, folded_by, folded_from}
+use Rattle.constant_pass.specs.Folded.{IsFoldedFunction, IsFoldedTree, becomes, folded_by, folded_from}
 use Rattle.constant_pass.proofs.Accepted.{folded-accepted}
 use Rattle.constant_pass.proofs.Fates.{Fate, Stays, Folds, Jumps, Passes, fate_at}
+use Rattle.constant_pass.proofs.Numbers.{numbers-within}
 use Rattle.constant_pass.proofs.Points.{Folded}
 use Rattle.constant_pass.proofs.Refines.{folded-refines}
 
@@ -154,13 +155,13 @@ module _ (P : Prog) where
   head : (F : Func) (g : FuncTree) → IsFoldedFunction P F g → SameHead (function_tree fs F) g
   head F g t = subst (SameHead (function_tree fs F)) (sym t.tree) (record { name = refl; args = refl; ret = refl })
 
-  module _ (Q : Prog) (makes : IsFolded P Q) where
+  module _ (Q : Prog) (is : IsFoldedTree P (tree_of Q)) where
     abbrev pub tables : ℕ → Table
-    tables = table_in P.funcs (tree_of Q).funcs makes.functions
+    tables = table_in P.funcs (tree_of Q).funcs is.functions
 
     trees : (f i : ℕ) (F : Func) → slice_get P.funcs f ≡ Some F → tree_at Q f i ≡ option_map (I F) (option_map (becomes (tables f) i) (slice_get F.code i))
     trees f i F p =
-        let m = table_at P.funcs (tree_of Q).funcs makes.functions f F p in
+        let m = table_at P.funcs (tree_of Q).funcs is.functions f F p in
         tree_at-function Q f i m.g m.at ∙ ap (λ (g : FuncTree). slice_get g.code i) m.tree ∙ slice_get-map (I F) (folded_from (tables f) 0 F.code) i
         ∙ ap (option_map (I F)) (folded-get (tables f) 0 F.code i ∙ ap (λ n. option_map (becomes (tables f) n) (slice_get F.code i)) (zero_plus i))
       where
@@ -169,36 +170,37 @@ module _ (P : Prog) where
 
     pub folded-points : Folded P Q tables
     folded-points = record {
-      heads = heads-of_trees P Q (heads-each P (IsFoldedFunction P) head (tree_of Q).funcs makes.functions);
-      start = table_starts P.funcs (tree_of Q).funcs makes.functions;
-      least = λ f F p. (table_at P.funcs (tree_of Q).funcs makes.functions f F p).least;
+      heads = heads-of_trees P Q (heads-each P (IsFoldedFunction P) head (tree_of Q).funcs is.functions);
+      start = table_starts P.funcs (tree_of Q).funcs is.functions;
+      least = λ f F p. (table_at P.funcs (tree_of Q).funcs is.functions f F p).least;
       tree = trees;
     }
 
   -- ---- by what the calls give: the tree that was made, and the program numbered of that
 
   module _ (accepted : IsAccepted P) (tree : Tree) (t : IsFoldedTree P tree) where
-    makes-of_tree : (Q : Prog) → Numbered tree Q → IsFolded P Q
-    makes-of_tree Q of_q = subst (IsFoldedTree P) (numbered-tree_of tree Q of_q) t
+    of_numbered : (Q : Prog) → Numbered tree Q → IsFoldedTree P (tree_of Q)
+    of_numbered Q of_q = subst (IsFoldedTree P) (numbered-tree_of tree Q of_q) t
 
     const-made : IsCounted P → CanBeMade P tree
     const-made c = record {
       imports = t.imports;
       names = names-each P (IsFoldedFunction P) (λ f F g p s h. can_be_numbered F g h (accepted_function P f F accepted p).shaped s) tree.funcs t.functions;
-      accepted = λ Q of_q. let makes = makes-of_tree Q of_q in folded-accepted P Q (tables Q makes) accepted (folded-points Q makes);
+      accepted = λ Q of_q. let is = of_numbered Q of_q in folded-accepted P Q (tables Q is) accepted (folded-points Q is);
       items = items-each P (IsFoldedFunction P) as-long tree.funcs t.functions c.items;
     }
 
     linked : (profile : Profile) (Q : Prog) → Numbered tree Q → IsAccepted Q → item_count Q ≡ tree_size tree → Link const_meaning profile P Q
     linked profile Q of_q accepted_q size =
-        let makes = makes-of_tree Q of_q in
+        let is = of_numbered Q of_q in
+        let points = folded-points Q is in
         let h = size-each P (IsFoldedFunction P) as-long tree.funcs t.functions in
         record {
-          makes = makes;
+          makes = record { tree = is; numbers = numbers-within P Q (tables Q is) accepted accepted_q points };
           accepted = accepted_q;
           factor = 1;
           is_factor = refl;
-          refines = folded-refines P Q (tables Q makes) (folded-points Q makes) accepted;
+          refines = folded-refines P Q (tables Q is) points accepted;
           bound = item_count P;
           is_bound = refl;
           within = omega (arith, size);

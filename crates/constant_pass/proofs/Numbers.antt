@@ -33,10 +33,9 @@ use Rattle.constant_pass.specs.constants.Answer.{answer, locals_of}
 use Rattle.constant_pass.specs.constants.Consistent.{Table}
 use Rattle.bril_tree.specs.Value.{literal_value}
 use Rattle.constant_pass.specs.Items.{jump_to}
-use Rattle.constant_pass.specs.Folded.{IsFolded, becomes}
-use Rattle.constant_pass.proofs.Accepted.{kept_by, br_label, shaped, walks, folded-accepted}
+use Rattle.constant_pass.specs.Folded.{becomes}
+use Rattle.constant_pass.proofs.Accepted.{kept_by, br_label, shaped, walks}
 use Rattle.constant_pass.proofs.Fates.{Fate, Stays, Folds, Jumps, Passes, fate_at, literal-one, one-answer, given-outcome}
-use Rattle.constant_pass.proofs.Made.{folded-points, tables}
 use Rattle.constant_pass.proofs.Plans.{walk_plan, walks_preserve}
 use Rattle.constant_pass.proofs.Points.{Folded, IsKept, kept_tree, const_there, const_name, jump_there, nop_there}
 
@@ -178,8 +177,5 @@ module _ (P Q : Prog) (T : ℕ → Table) (accepted : IsAccepted P) (accepted_q 
   function_within =
       function-within (walk_plan P Q T t) unchanged P Q accepted_q f F G p q matches of_items 0 (in_place-entries (walk_plan P Q T t) P Q f F G p q matches one-label edge-same) (in_place-width (walk_plan P Q T t) P Q f F G p q matches one-label edge-same)
 
-pub keeps_numbers : (P Q : Prog) → IsAccepted P → IsFolded P Q → NumbersWithin P Q 0
-keeps_numbers P Q accepted makes =
-    let t = folded-points P Q makes in
-    let accepted_q = folded-accepted P Q (tables P Q makes) accepted t in
-    functions_bound P Q 0 accepted (by-functions P Q t.heads.names (FunctionWithin 0) (λ f F G p q. function_within P Q (tables P Q makes) accepted accepted_q t f F G p q))
+pub numbers-within : (P Q : Prog) (T : ℕ → Table) → IsAccepted P → IsAccepted Q → Folded P Q T → NumbersWithin P Q 0
+numbers-within P Q T accepted accepted_q t = functions_bound P Q 0 accepted (by-functions P Q t.heads.names (FunctionWithin 0) (λ f F G p q. function_within P Q T accepted accepted_q t f F G p q))

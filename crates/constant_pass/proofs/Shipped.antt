@@ -1,7 +1,6 @@
 -- The pass as it comes with the program: its row, and that what it makes is within it.
 use Rattle.std.proofs.Common.{refl}
 use Rattle.std.specs.Prelude.{codes}
-use Rattle.constant_pass.proofs.Numbers.{keeps_numbers}
 use Rattle.constant_pass.specs.Const.{const_meaning}
 use Rattle.pass_budget_laws.specs.Rows.{keeps}
 use Rattle.pass_budget_laws.specs.Shipped.{Shipped}
@@ -13,5 +12,5 @@ const_shipped = record {
   meaning = const_meaning;
   row = keeps (codes "const");
   answers = λ name. refl;
-  within = keeps-row const_meaning (codes "const") (record { factor = λ P profile k is. is; bound = λ P profile k is. is }) (λ P Q profile accepted link. keeps_numbers P Q accepted link.makes);
+  within = keeps-row const_meaning (codes "const") (record { factor = λ P profile k is. is; bound = λ P profile k is. is }) (λ P Q profile accepted link. link.makes.numbers);
 }

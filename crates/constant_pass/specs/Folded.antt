@@ -9,6 +9,7 @@ use Rattle.bril_tree.specs.declared.tree.Tree.{Tree}
 use Rattle.bril_tree.specs.Numbered.{function_tree, item_tree, names_of_functions, tree_of, variable_names}
 use Rattle.constant_pass.specs.constants.Consistent.{IsLeast, Table}
 use Rattle.constant_pass.specs.Items.{folded_item}
+use Rattle.pass_edit_laws.specs.numbers.Numbers.{NumbersWithin}
 
 -- what becomes of the item at a point
 abbrev pub becomes : Table → ℕ → Instr → Instr
@@ -34,6 +35,7 @@ pub record IsFoldedTree (P : Prog) (tree : Tree) : Type 0 where
   pub imports : tree.imports ≡ []
   pub functions : AllZip (IsFoldedFunction P) P.funcs tree.funcs
 
--- in Q each item of P became what the least table of its function tells
-abbrev pub IsFolded : Prog → Prog → Type 0
-IsFolded P Q = IsFoldedTree P (tree_of Q)
+-- In Q each item of P became what the least table of its function tells. No number of Q is greater than that of P.
+pub record IsFolded (P Q : Prog) : Type 0 where
+  pub tree : IsFoldedTree P (tree_of Q)
+  pub numbers : NumbersWithin P Q 0

@@ -2,5 +2,4 @@ pub mod Const
 pub mod Edit
 pub mod Folded
 pub mod Items
-pub mod Numbers
 pub mod constants

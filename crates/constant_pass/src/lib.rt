@@ -15,16 +15,14 @@
 //! 6. Matched states go on: the result refines the program (`proofs/Refines.antt`).
 //! 7. The values of a table are of the types of their locations (`proofs/Typed.antt`), so the items of the result are typed,
 //!    and its walks are the program's: it is accepted (`proofs/Accepted.antt`).
-//! 8. From the tree to its program: the tree can be numbered, and is as long (`proofs/Made.antt`).
-//! 9. No number of the program grows (`src/laws.rt`, `proofs/Numbers.antt`).
+//! 8. No number of the program grows (`proofs/Numbers.antt`).
+//! 9. From the tree to its program: the tree can be numbered, and is as long (`proofs/Made.antt`).
 #![tactic(auto)]
 
 pub mod constants;
 mod edit;
 mod item;
-mod laws;
 mod pass;
 
 pub use crate::constants::{ConstTable, Known, table};
-pub use laws::const_keeps_numbers;
 pub use pass::{Const, ConstEdit};

@@ -11,7 +11,8 @@ use std::alloc::{AllocError, Global};
 /// The pass `const`, as clauses see it by its tally. At the points that the table of constants of a function reaches it puts a
 /// `const` for each item with a destination to which the item's row gives one int, bool or char; a `jmp` for each `br` whose
 /// condition is known; and `nop` for each `guard` whose condition is known to be true. All else stays as it is. Its factor is
-/// 1, and its bound the number of items.
+/// 1, and its bound the number of items. No number of a program grows: its locations, its longest list of arguments, the depth
+/// of its open sites, its entries of labels, and the labels that are entered from one leave point.
 pub type Const = Edited<ConstEdit>;
 
 /// The edit of the pass `const`.

@@ -19,17 +19,18 @@ use Rattle.bril_tree.specs.Operand.{Variable, reads_of}
 use Rattle.bril_tree.specs.Shape.{is_shaped, shape_of}
 use Rattle.bril_tree.specs.Step.{code_of, item_at}
 use Rattle.bril_tree.specs.Walk.{IsWalk, IsReached, end_of}
-use Rattle.bril_tree.proofs.Members.{in_append_cases}
+use Rattle.bril_tree.proofs.Members.{contains_in, in_append_cases, in_contains}
 use Rattle.bril_tree.proofs.Shapes.{shape-parts}
 use Rattle.bril_tree.proofs.Trees.{nothing_at}
-use Rattle.bril_tree.proofs.Branches.{reached_on}
+use Rattle.bril_tree.proofs.Branches.{branch_from}
+use Rattle.bril_tree.proofs.Elements.{zip-partner}
 use Rattle.bril_tree.proofs.Assignments.{went_on}
 use Rattle.pass_edit_laws.specs.acceptance.Edited.{IsNew, LosesNoDestination, IsOld, Edits}
 use Rattle.pass_edit_laws.proofs.lemmas.acceptance.Heads.{start_matched}
 use Rattle.pass_edit_laws.proofs.lemmas.acceptance.Alone.{both_alone}
-use Rattle.pass_edit_laws.proofs.lemmas.acceptance.Reaching.{ReachedBeside, regular-reaches, reached_points}
 use Rattle.pass_edit_laws.proofs.lemmas.acceptance.Edited.{nop-new, edit_accepted}
 use Rattle.pass_edit_laws.proofs.lemmas.steps.Shapes.{shaped_here}
+use Rattle.pass_edit_laws.specs.plan.Plan.{EdgesMatch}
 use Rattle.pass_edit_laws.specs.walks.Matched.{Covers, WalksMatch, MatchedWalk, MatchesWalks}
 use Rattle.pass_edit_laws.proofs.lemmas.walks.Items.{harmless_item}
 use Rattle.pass_edit_laws.proofs.lemmas.walks.Walks.{regular_branch_matched}
@@ -60,19 +61,34 @@ module _ (fs V W lP lQ : List (List ℕ)) (ret : Bool) where
   silent-reads (Act d ty _ args fns ls) b s e same = absurd cc
 
 module _ (P Q : Prog) (made : ℕ → List Instr) (accepted : IsAccepted P) (t : Deadened P Q made) (f : ℕ) where
-  -- a reached point is reached in Q
-  onwards : (i : ℕ) → IsReached (code_of P f) i → ReachedBeside (dead_plan P Q made t) P Q f i → (w : Branch) → In w (branches_at (code_of P f) i) → ReachedBeside (dead_plan P Q made t) P Q f w.to
-  onwards i was r w among = ⊎_elim (λ same. regular-reaches (dead_plan P Q made t) P Q f (preserves P Q made t accepted) i r.j was r.points r.reached same w among) gone ((t.chain f).became i)
+  -- a branch from a reached point is one in Q
+  pub branch-there : (i : ℕ) (w : Branch) → IsReached (code_of P f) i → In w (branches_at (code_of P f) i) → In w (branches_at (code_of Q f) i)
+  branch-there i w reached among = ⊎_elim regular gone ((t.chain f).became i)
     where
-      gone : Gone (code_of P f) (made f) i → ReachedBeside (dead_plan P Q made t) P Q f w.to
-      gone g =
-          let c = (g.why was).computes in
-          let branch : w ≡ onward i = ⊎_elim (λ s. s) (λ n. absurd n) (subst (In w) (computation-on (code_of P f) i g.item c) (subst (λ o. In w (branches_from (code_of P f) i o)) g.was among)) in
-          let here : In (onward i) (branches_at (code_of Q f) i) = subst (λ o. In (onward i) (branches_from (code_of Q f) i o)) (sym (gone-nop P Q made t f i g)) (inl refl) in
-          record { j = suc i; points = ap (λ (v : Branch). v.to) branch; reached = reached_on (code_of Q f) i (onward i) (subst (IsReached (code_of Q f)) (sym r.points) r.reached) here }
+      regular : slice_get (made f) i ≡ item_at P f i → In w (branches_at (code_of Q f) i)
+      regular same =
+          let steps = (preserves P Q made t accepted).steps f i i reached refl same in
+          let v = zip-partner (EdgesMatch (dead_plan P Q made t) P Q f i i (item_at P f i) (item_at Q f i)) (branches_at (code_of P f) i) (branches_at (code_of Q f) i) w steps.branches among in
+          let matches = v.2 in
+          let from : v.0.from ≡ w.from = branch_from (code_of Q f) i v.0 v.1 ∙ sym (branch_from (code_of P f) i w among) in
+          let one : v.0 ≡ w = (λ k. record { from = from k; to = sym matches.points k; aborts = sym matches.aborts k }) in
+          subst (λ (b : Branch). In b (branches_at (code_of Q f) i)) one v.1
 
-  also_reached : (i : ℕ) → IsReached (code_of P f) i → IsReached (code_of Q f) i
-  also_reached i was = let r = reached_points (dead_plan P Q made t) P Q f (preserves P Q made t accepted) onwards i was in subst (IsReached (code_of Q f)) (sym r.points) r.reached
+      gone : Gone (code_of P f) (made f) i → In w (branches_at (code_of Q f) i)
+      gone g =
+          let on = computation-on (code_of P f) i g.item (g.why reached).computes in
+          let branch : w ≡ onward i = ⊎_elim (λ s. s) (λ n. absurd n) (subst (In w) on (subst (λ o. In w (branches_from (code_of P f) i o)) g.was among)) in
+          subst (λ (b : Branch). In b (branches_at (code_of Q f) i)) (sym branch) (subst (λ o. In (onward i) (branches_from (code_of Q f) i o)) (sym (gone-nop P Q made t f i g)) (inl refl))
+
+  -- so a walk of P is one of Q
+  pub walk-there : (w : List Branch) → IsWalk (code_of P f) w → IsWalk (code_of Q f) w
+  walk-there [] is = tt
+  walk-there (b ∷ w) is =
+      let among = branch-there (end_of w) b (record { walk = w; is = is.1; ends = refl }) (in_contains b (branches_at (code_of P f) (end_of w)) is.0) in
+      (contains_in b (branches_at (code_of Q f) (end_of w)) among, walk-there w is.1)
+
+  pub also_reached : (i : ℕ) → IsReached (code_of P f) i → IsReached (code_of Q f) i
+  also_reached i was = record { walk = was.walk; is = walk-there was.walk was.is; ends = was.ends }
 
   module _ (F G : Func) (p : slice_get P.funcs f ≡ Some F) (q : slice_get Q.funcs f ≡ Some G) where
     no-reads : (b : Instr) → reads_of b ≡ [] → LosesNoDestination P Q f F G b

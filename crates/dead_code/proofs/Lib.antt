@@ -10,6 +10,7 @@ pub mod Queueing
 pub mod Clearing
 pub mod Looking
 pub mod Sweeping
-pub mod Made
+pub mod Left
 pub mod Numbers
+pub mod Made
 pub mod Shipped

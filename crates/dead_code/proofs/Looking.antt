@@ -23,7 +23,7 @@ use Rattle.live_sets.proofs.Readers.{readers_are}
 use Rattle.flow_graph.proofs.ReadLists.{reads-inside}
 use Rattle.pass_edit_laws.proofs.lemmas.plan.Elements.{all_in, in_all}
 use Rattle.graph_search.specs.Marks.{is_marked}
-use Rattle.dead_code.specs.Work.{IsLookedAt, IsReadBy, IsSearched, IsSound, IsWork, Queues, assignments_from, reads_left, remaining}
+use Rattle.dead_code.specs.Work.{IsLookedAt, IsLooking, IsReadBy, IsSearched, IsSound, IsWork, Queues, assignments_from, reads_left, remaining}
 use Rattle.dead_code.proofs.Clearing.{is_assignment, removable, settled}
 use Rattle.pass_edit_laws.proofs.lemmas.plan.Marked.{with_nops-alive, with_nops-dead}
 use Rattle.dead_code.proofs.Searching.{found-live, live-found}
@@ -75,8 +75,7 @@ module _ (code : List Instr) (dead : List Bool) (list : List Access) (reads : li
 
 -- what looking at an item leaves
 pub record Looked (code : List Instr) (dead more : List Bool) (queue longer : List ℕ) (queued marked : List Bool) (number : ℕ) (found : List ℕ) (item : ℕ) : Type 0 where
-  pub work : IsWork code more longer marked (λ n. n ≡ number)
-  pub searched : IsSearched code more marked number found
+  pub looking : IsLooking code more longer marked number found
   pub looked : IsLookedAt more found item
   pub kept : (k : ℕ) → is_marked dead k ≡ true → is_marked more k ≡ true
   pub less : reads_left (remaining code more) + length longer ≤ reads_left (remaining code dead) + length queue
@@ -84,19 +83,23 @@ pub record Looked (code : List Instr) (dead more : List Bool) (queue longer : Li
 pub item-within : (code : List Instr) (number item : ℕ) → Accesses (assignments_from 0 code) number item → item < length code
 item-within code number item a = let r = is_assignment code number item a in slice_get_within code item r.item r.at
 
-pub look-dead : (code : List Instr) (dead : List Bool) (queue longer : List ℕ) (queued marked : List Bool) (number item : ℕ) (found : List ℕ) (instr : Instr) → number < length queued → IsWork code dead queue queued (λ n. n ≡ number) → IsSearched code dead queued number found → Accesses (assignments_from 0 code) number item
+pub look-dead : (code : List Instr) (dead : List Bool) (queue longer : List ℕ) (queued marked : List Bool) (number item : ℕ) (found : List ℕ) (instr : Instr) → IsLooking code dead queue queued number found → Accesses (assignments_from 0 code) number item
     → is_marked dead item ≡ false → (Contains found (suc item) → ⊥) → slice_get code item ≡ Some instr → Queues (IsReadBy instr) (length (reads_of instr)) queue longer queued marked → Looked code dead (set dead item true) queue longer queued marked number found item
-look-dead code dead queue longer queued marked number item found instr inside w s access alive away at q =
+look-dead code dead queue longer queued marked number item found instr l access alive away at q =
+    let w = l.work in
     let a = is_assignment code number item access in
-    let r = removable code dead queued number item found w.sound w.none_idle s a alive away in
+    let r = removable code dead queued number item found w.sound w.none_idle l.searched a alive away in
     let same : instr ≡ r.0.item = same_Some instr a.item (sym at ∙ a.at) ∙ sym r.1 in
     let queues : Queues (IsReadBy r.0.item) (length (reads_of r.0.item)) queue longer queued marked = subst (λ (i : Instr). Queues (IsReadBy i) (length (reads_of i)) queue longer queued marked) same q in
-    let low : item < length dead = (let l = w.sound.long in let k = item-within code number item access in omega arith) in
+    let low : item < length dead = (let d = w.sound.long in let k = item-within code number item access in omega arith) in
     let fewer = fewer-reads code dead w.sound item low r.0 in
     let few = queues.few in
     record {
-      work = more-work code dead w.sound item low r.0 queue longer queued marked queues (λ n. n ≡ number) w;
-      searched = more-searched code dead w.sound item low r.0 queue longer queued marked queues number found inside s;
+      looking = record {
+        inside = subst (λ n. number < n) (sym queues.long) l.inside;
+        work = more-work code dead w.sound item low r.0 queue longer queued marked queues (λ n. n ≡ number) w;
+        searched = more-searched code dead w.sound item low r.0 queue longer queued marked queues number found l.inside l.searched;
+      };
       looked = inl (get_or-set_same dead item true false low);
       kept = λ k e. ⊎_elim (λ h. ap (is_marked (set dead item true)) h ∙ get_or-set_same dead item true false low) (λ d. get_or-set_other dead item k true false d ∙ e) (cases_eq k item);
       less = omega arith;
@@ -112,15 +115,15 @@ looked-more dead more found items i item low is kept all one =
 -- ---- a location
 
 pub looked-at : (code : List Instr) (dead : List Bool) (queue : List ℕ) (queued : List Bool) (number : ℕ) (found items : List ℕ) (list : List Access) → list ≡ assignments_from 0 code → ((item : ℕ) → Contains items item ↔ Accesses list number item) → All (IsLookedAt dead found) items
-    → IsWork code dead queue queued (λ n. n ≡ number) → IsSearched code dead queued number found → IsWork code dead queue queued (λ n. ⊥)
-looked-at code dead queue queued number found items list same exact all w s = record {
-  sound = w.sound;
-  none_idle = w.none_idle;
-  are = w.are;
+    → IsLooking code dead queue queued number found → IsWork code dead queue queued (λ n. ⊥)
+looked-at code dead queue queued number found items list same exact all l = record {
+  sound = l.work.sound;
+  none_idle = l.work.none_idle;
+  are = l.work.are;
   settled = λ x inside off free. ⊎_elim
-      (λ e. settled code dead queued number found w.sound w.none_idle s (ap (is_marked queued) (sym e) ∙ off)
-      (λ k a. all_in (IsLookedAt dead found) items all k (in_contains k items ((exact k).1 (subst (λ l. Accesses l number k) (sym same) a)))) x e)
-      (λ d. w.settled x inside off d) (cases_eq (number_of x) number);
+      (λ e. settled code dead queued number found l.work.sound l.work.none_idle l.searched (ap (is_marked queued) (sym e) ∙ off)
+      (λ k a. all_in (IsLookedAt dead found) items all k (in_contains k items ((exact k).1 (subst (λ c. Accesses c number k) (sym same) a)))) x e)
+      (λ d. l.work.settled x inside off d) (cases_eq (number_of x) number);
 }
 
 -- the items of a location are assignments

@@ -30,12 +30,14 @@ use Rattle.pass_make.specs.CanBeMade.{CanBeMade}
 use Rattle.pass_make.proofs.Each.{tree_of_function, names-each, heads-each, items-each, size-each}
 use Rattle.pass_edit_laws.proofs.lemmas.names.Trees.{heads-of_trees}
 use Rattle.dead_code.specs.Dead.{dead_meaning}
-use Rattle.dead_code.specs.Emptied.{IsCleared, IsClearedFunction, IsClearedTree, IsDeadened, WereRemovable, emptied, tree_with}
+use Rattle.dead_code.specs.Emptied.{IsCleared, IsClearedFunction, IsClearedTree, WereRemovable, emptied, tree_with}
 use Rattle.pass_edit_laws.specs.plan.Marked.{with_nops}
 use Rattle.dead_code.specs.Work.{IsEmptiedFunction, remaining}
-use Rattle.dead_code.specs.Removable.{is_silent, IsUnused, IsIdle}
+use Rattle.dead_code.specs.Removable.{is_silent, IsIdle, IsRemovable, IsUnused}
 use Rattle.dead_code.proofs.Accepted.{deadened-accepted}
 use Rattle.dead_code.proofs.Chain.{Chain, chain}
+use Rattle.dead_code.proofs.Left.{none-removable}
+use Rattle.dead_code.proofs.Numbers.{numbers-within}
 use Rattle.pass_edit_laws.proofs.lemmas.plan.Marked.{with_nops-map}
 use Rattle.dead_code.proofs.Points.{Deadened}
 use Rattle.dead_code.proofs.Refines.{deadened-refines}
@@ -146,9 +148,9 @@ module _ (P : Prog) where
   made_none (H ∷ xs) (g ∷ ys) z zero p = absurd (let n : Some H ≡ None = p in cc)
   made_none (H ∷ xs) (g ∷ ys) z (suc f) p = made_none xs ys z.1 f p
 
-  module _ (Q : Prog) (makes : IsDeadened P Q) where
+  module _ (Q : Prog) (is : IsClearedTree P (tree_of Q)) where
     abbrev pub made : ℕ → List Instr
-    made = made_in P.funcs (tree_of Q).funcs makes.functions
+    made = made_in P.funcs (tree_of Q).funcs is.functions
 
     head : (F : Func) (g : FuncTree) → IsClearedFunction P F g → SameHead (function_tree fs F) g
     head F g t = subst (SameHead (function_tree fs F)) (sym t.tree) (record { name = refl; args = refl; ret = refl })
@@ -157,50 +159,58 @@ module _ (P : Prog) where
     chains f = by (slice_get P.funcs f) refl
       where
         by : (o : Option Func) → slice_get P.funcs f ≡ o → Chain (code_of P f) (made f)
-        by None p = subst (λ c. Chain c (made f)) (sym (ap items_of p)) (subst (Chain []) (sym (made_none P.funcs (tree_of Q).funcs makes.functions f p)) (chain [] [] tt))
+        by None p = subst (λ c. Chain c (made f)) (sym (ap items_of p)) (subst (Chain []) (sym (made_none P.funcs (tree_of Q).funcs is.functions f p)) (chain [] [] tt))
         by (Some F) p =
-            let m = made_at P.funcs (tree_of Q).funcs makes.functions f F p in
+            let m = made_at P.funcs (tree_of Q).funcs is.functions f F p in
             subst (λ c. Chain c (made f)) (sym (ap items_of p)) (subst (Chain F.code) (sym m.cleared.is) (chain F.code m.cleared.points m.cleared.were))
 
     trees : (f i : ℕ) (F : Func) → slice_get P.funcs f ≡ Some F → tree_at Q f i ≡ option_map (item_tree fs (variable_names F.vars) F.labels) (slice_get (made f) i)
     trees f i F p =
-        let m = made_at P.funcs (tree_of Q).funcs makes.functions f F p in
+        let m = made_at P.funcs (tree_of Q).funcs is.functions f F p in
         tree_at-function Q f i m.g m.at ∙ ap (λ (g : FuncTree). slice_get g.code i) m.tree ∙ slice_get-map (item_tree fs (variable_names F.vars) F.labels) (made f) i
 
     staying : (f i : ℕ) (a : Instr) → slice_get (made f) i ≡ Some a → (is_silent a ≡ true) ⊎ IsReached (made f) i
     staying f i a at = by (slice_get P.funcs f) refl
       where
         by : (o : Option Func) → slice_get P.funcs f ≡ o → (is_silent a ≡ true) ⊎ IsReached (made f) i
-        by None p = absurd (let n : None ≡ Some a = ap (λ c. slice_get c i) (sym (made_none P.funcs (tree_of Q).funcs makes.functions f p)) ∙ at in cc)
-        by (Some F) p = let m = made_at P.funcs (tree_of Q).funcs makes.functions f F p in m.cleared.stays i a at
+        by None p = absurd (let n : None ≡ Some a = ap (λ c. slice_get c i) (sym (made_none P.funcs (tree_of Q).funcs is.functions f p)) ∙ at in cc)
+        by (Some F) p = let m = made_at P.funcs (tree_of Q).funcs is.functions f F p in m.cleared.stays i a at
+
+    none-removable_in : (f i : ℕ) → IsRemovable (made f) i → ⊥
+    none-removable_in f i r = by (slice_get P.funcs f) refl
+      where
+        by : (o : Option Func) → slice_get P.funcs f ≡ o → ⊥
+        by None p = absurd (let n : None ≡ Some r.item = ap (λ c. slice_get c i) (sym (made_none P.funcs (tree_of Q).funcs is.functions f p)) ∙ r.here in cc)
+        by (Some F) p = (made_at P.funcs (tree_of Q).funcs is.functions f F p).cleared.none i r
 
     pub deadened-points : Deadened P Q made
-    deadened-points = record { heads = heads-of_trees P Q (heads-each P (IsClearedFunction P) head (tree_of Q).funcs makes.functions); chain = chains; tree = trees; stays = staying }
+    deadened-points = record { heads = heads-of_trees P Q (heads-each P (IsClearedFunction P) head (tree_of Q).funcs is.functions); chain = chains; tree = trees; stays = staying; none = none-removable_in }
 
   -- ---- by what the calls give: the tree that was made, and the program numbered of that
 
   module _ (accepted : IsAccepted P) (tree : Tree) (t : IsClearedTree P tree) where
-    makes-of_tree : (Q : Prog) → Numbered tree Q → IsDeadened P Q
-    makes-of_tree Q of_q = subst (IsClearedTree P) (numbered-tree_of tree Q of_q) t
+    of_numbered : (Q : Prog) → Numbered tree Q → IsClearedTree P (tree_of Q)
+    of_numbered Q of_q = subst (IsClearedTree P) (numbered-tree_of tree Q of_q) t
 
     dead-made : IsCounted P → CanBeMade P tree
     dead-made c = record {
       imports = t.imports;
       names = names_made tree.funcs t.functions;
-      accepted = λ Q of_q. let makes = makes-of_tree Q of_q in deadened-accepted P Q (made Q makes) accepted (deadened-points Q makes);
+      accepted = λ Q of_q. let is = of_numbered Q of_q in deadened-accepted P Q (made Q is) accepted (deadened-points Q is);
       items = items-each P (IsClearedFunction P) as-long tree.funcs t.functions c.items;
     }
 
     linked : (profile : Profile) (Q : Prog) → Numbered tree Q → IsAccepted Q → item_count Q ≡ tree_size tree → Link dead_meaning profile P Q
     linked profile Q of_q accepted_q size =
-        let makes = makes-of_tree Q of_q in
+        let is = of_numbered Q of_q in
+        let points = deadened-points Q is in
         let h = size-each P (IsClearedFunction P) as-long tree.funcs t.functions in
         record {
-          makes = makes;
+          makes = record { tree = is; none = none-removable P Q (made Q is) accepted points; numbers = numbers-within P Q (made Q is) accepted accepted_q points };
           accepted = accepted_q;
           factor = 1;
           is_factor = refl;
-          refines = deadened-refines P Q (made Q makes) (deadened-points Q makes) accepted;
+          refines = deadened-refines P Q (made Q is) points accepted;
           bound = item_count P;
           is_bound = refl;
           within = omega (arith, size);

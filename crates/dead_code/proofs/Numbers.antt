@@ -20,11 +20,9 @@ use Rattle.pass_edit_laws.proofs.lemmas.numbers.Edges.{edge-back, label-back}
 use Rattle.pass_edit_laws.proofs.lemmas.numbers.InPlace.{EdgeBack, branch-back, in_place-entries, in_place-width}
 use Rattle.pass_edit_laws.proofs.lemmas.numbers.Items.{IsOfItems, items-back, unchanged}
 use Rattle.pass_edit_laws.proofs.lemmas.numbers.Programs.{by-functions, function-within, functions_bound}
-use Rattle.dead_code.specs.Emptied.{IsDeadened}
-use Rattle.dead_code.proofs.Accepted.{deadened-accepted, walks}
+use Rattle.dead_code.proofs.Accepted.{walks}
 use Rattle.dead_code.proofs.Chain.{Gone}
 use Rattle.dead_code.proofs.Step.{computation-on}
-use Rattle.dead_code.proofs.Made.{deadened-points, made}
 use Rattle.dead_code.proofs.Points.{Deadened}
 use Rattle.dead_code.proofs.Refines.{dead_plan, gone-nop, preserves, staying-tree}
 
@@ -73,8 +71,5 @@ module _ (P Q : Prog) (made : ℕ → List Instr) (accepted : IsAccepted P) (acc
   function_within =
       function-within (dead_plan P Q made t) unchanged P Q accepted_q f F G p q matches of_items 0 (in_place-entries (dead_plan P Q made t) P Q f F G p q matches one-label edge-same) (in_place-width (dead_plan P Q made t) P Q f F G p q matches one-label edge-same)
 
-pub keeps_numbers : (P Q : Prog) → IsAccepted P → IsDeadened P Q → NumbersWithin P Q 0
-keeps_numbers P Q accepted makes =
-    let t = deadened-points P Q makes in
-    let accepted_q = deadened-accepted P Q (made P Q makes) accepted t in
-    functions_bound P Q 0 accepted (by-functions P Q t.heads.names (FunctionWithin 0) (λ f F G p q. function_within P Q (made P Q makes) accepted accepted_q t f F G p q))
+pub numbers-within : (P Q : Prog) (made : ℕ → List Instr) → IsAccepted P → IsAccepted Q → Deadened P Q made → NumbersWithin P Q 0
+numbers-within P Q made accepted accepted_q t = functions_bound P Q 0 accepted (by-functions P Q t.heads.names (FunctionWithin 0) (λ f F G p q. function_within P Q made accepted accepted_q t f F G p q))

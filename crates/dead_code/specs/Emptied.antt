@@ -7,8 +7,10 @@ use Rattle.bril_tree.specs.declared.numbered_function.Func.{Func}
 use Rattle.bril_tree.specs.declared.program.Prog.{Prog}
 use Rattle.bril_tree.specs.declared.tree.Tree.{Tree}
 use Rattle.bril_tree.specs.Numbered.{function_tree, item_tree, names_of_functions, nop, tree_of, variable_names}
+use Rattle.bril_tree.specs.Step.{code_of}
 use Rattle.bril_tree.specs.Walk.{IsReached}
 use Rattle.dead_code.specs.Removable.{IsRemovable, is_silent}
+use Rattle.pass_edit_laws.specs.numbers.Numbers.{NumbersWithin}
 
 -- the code after the items at these points, the last one first, became `nop`
 abbrev pub emptied : List Instr → List ℕ → List Instr
@@ -44,6 +46,9 @@ pub record IsClearedTree (P : Prog) (tree : Tree) : Type 0 where
   pub imports : tree.imports ≡ []
   pub functions : AllZip (IsClearedFunction P) P.funcs tree.funcs
 
--- in Q removable items of P are `nop`, and none is left; all else is as in P
-abbrev pub IsDeadened : Prog → Prog → Type 0
-IsDeadened P Q = IsClearedTree P (tree_of Q)
+-- In Q removable items of P are `nop`, and all else is as in P. No item of Q is removable, and no number of Q is greater than that
+-- of P.
+pub record IsDeadened (P Q : Prog) : Type 0 where
+  pub tree : IsClearedTree P (tree_of Q)
+  pub none : (f point : ℕ) → ¬ IsRemovable (code_of Q f) point
+  pub numbers : NumbersWithin P Q 0

@@ -2,5 +2,4 @@ pub mod Removable
 pub mod Emptied
 pub mod Dead
 pub mod Work
-pub mod Numbers
 pub mod Sweep

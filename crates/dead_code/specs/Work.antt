@@ -79,6 +79,12 @@ pub record IsSearched (code : List Instr) (dead queued : List Bool) (number : �
   pub live : (x : Location) → number_of x ≡ number → is_marked queued number ≡ false → (point : ℕ) → IsReached code point → Contains found point → IsLive (remaining code dead) x point
   pub not_live : (x : Location) → number_of x ≡ number → (point : ℕ) → IsReached code point → ¬ Contains found point → ¬ IsLive (remaining code dead) x point
 
+-- The state while the computations of a location are looked at, of which this was found: that location alone may not be settled.
+pub record IsLooking (code : List Instr) (dead : List Bool) (queue : List ℕ) (queued : List Bool) (number : ℕ) (found : List ℕ) : Type 0 where
+  pub inside : number < length queued
+  pub work : IsWork code dead queue queued (λ n. n ≡ number)
+  pub searched : IsSearched code dead queued number found
+
 -- the item is dead, or what it computes is live at the next point
 abbrev pub IsLookedAt : List Bool → List ℕ → ℕ → Type 0
 IsLookedAt dead found item = (is_marked dead item ≡ true) ⊎ Contains found (suc item)

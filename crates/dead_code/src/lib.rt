@@ -8,15 +8,13 @@
 //! 3. One item becomes `nop` (`proofs/Step.antt`), and one after another (`proofs/Chain.antt`).
 //! 4. Matched states go on: the result refines the program (`proofs/Refines.antt`).
 //! 5. The items and the walks of the result: it is accepted (`proofs/Accepted.antt`).
-//! 6. From the tree to its program: the tree can be numbered, and is as long (`proofs/Made.antt`).
-//! 7. No number of the program grows (`src/laws.rt`, `proofs/Numbers.antt`).
+//! 6. No item of the result is removable (`proofs/Left.antt`), and no number of the program grows (`proofs/Numbers.antt`).
+//! 7. From the tree to its program: the tree can be numbered, and is as long (`proofs/Made.antt`).
 #![tactic(auto)]
 
 mod dead;
 mod edit;
-mod laws;
 mod sweep;
 mod work;
 
 pub use dead::{Dead, DeadEdit};
-pub use laws::dead_keeps_numbers;

@@ -14,7 +14,7 @@ ghost use Rattle.flow_graph.specs.Reads.{reads_from};
 ghost use Rattle.dead_code.specs.Emptied.{IsCleared};
 ghost use Rattle.dead_code.specs.Removable.{IsIdle, is_computation, is_silent, only_computes};
 ghost use Rattle.graph_search.specs.Marks.{is_marked};
-ghost use Rattle.dead_code.specs.Work.{AreQueued, IsLookedAt, IsReadBy, IsSearched, IsSound, IsWork, NoneIdle, Queues, Unqueues, assignment_if, assignments_from, reads_left, remaining};
+ghost use Rattle.dead_code.specs.Work.{AreQueued, IsLookedAt, IsLooking, IsReadBy, IsSearched, IsSound, IsWork, NoneIdle, Queues, Unqueues, assignment_if, assignments_from, reads_left, remaining};
 ghost use Rattle.live_sets.specs.Arcs.{AreBackArcs};
 
 use crate::sweep::swept;
@@ -302,14 +302,11 @@ impl Work {
         _location: u32,
     ) -> Result<(), AllocError>
         requires few { length func.now.code < 2 ^ 32 - 1 }
-        requires inside { _location < length self.old.queued.items }
-        requires work { IsWork func.now.code self.old.dead.items self.old.queue.items self.old.queued.items (λ n. n ≡ _location) }
-        requires searched { IsSearched func.now.code self.old.dead.items self.old.queued.items _location reached.now.found }
+        requires looking { IsLooking func.now.code self.old.dead.items self.old.queue.items self.old.queued.items _location reached.now.found }
         requires item { Accesses (assignments_from 0 func.now.code) _location item }
         requires points { reached.now.nodes ≡ length func.now.code + 1 }
         ensures count { OnOk result (length self.new.queued.items ≡ length self.old.queued.items) }
-        ensures work { OnOk result (IsWork func.now.code self.new.dead.items self.new.queue.items self.new.queued.items (λ n. n ≡ _location)) }
-        ensures searched { OnOk result (IsSearched func.now.code self.new.dead.items self.new.queued.items _location reached.now.found) }
+        ensures looking { OnOk result (IsLooking func.now.code self.new.dead.items self.new.queue.items self.new.queued.items _location reached.now.found) }
         ensures looked { OnOk result (IsLookedAt self.new.dead.items reached.now.found item) }
         ensures kept { OnOk result ((k : ℕ) → is_marked self.old.dead.items k ≡ true → is_marked self.new.dead.items k ≡ true) }
         ensures less { OnOk result (reads_left (remaining func.now.code self.new.dead.items) + length self.new.queue.items ≤ reads_left (remaining func.now.code self.old.dead.items) + length self.old.queue.items) }
@@ -332,14 +329,11 @@ impl Work {
         location: u32,
     ) -> Result<(), AllocError>
         requires few { length func.now.code < 2 ^ 32 - 1 }
-        requires inside { location < length self.old.queued.items }
-        requires work { IsWork func.now.code self.old.dead.items self.old.queue.items self.old.queued.items (λ n. n ≡ location) }
-        requires searched { IsSearched func.now.code self.old.dead.items self.old.queued.items location reached.now.found }
+        requires looking { IsLooking func.now.code self.old.dead.items self.old.queue.items self.old.queued.items location reached.now.found }
         requires items { All (Accesses (assignments_from 0 func.now.code) location) items.now }
         requires points { reached.now.nodes ≡ length func.now.code + 1 }
         ensures count { OnOk result (length self.new.queued.items ≡ length self.old.queued.items) }
-        ensures work { OnOk result (IsWork func.now.code self.new.dead.items self.new.queue.items self.new.queued.items (λ n. n ≡ location)) }
-        ensures searched { OnOk result (IsSearched func.now.code self.new.dead.items self.new.queued.items location reached.now.found) }
+        ensures looking { OnOk result (IsLooking func.now.code self.new.dead.items self.new.queue.items self.new.queued.items location reached.now.found) }
         ensures looked { OnOk result (All (IsLookedAt self.new.dead.items reached.now.found) items.now) }
         ensures less { OnOk result (reads_left (remaining func.now.code self.new.dead.items) + length self.new.queue.items ≤ reads_left (remaining func.now.code self.old.dead.items) + length self.old.queue.items) }
     {

@@ -22,7 +22,7 @@ use Rattle.bril_tree.specs.Typing.{both_typed, same_base, same_type, variable_ty
 use Rattle.bril_tree.proofs.Elements.{in_get}
 use Rattle.bril_tree.proofs.Formed.{variable_below}
 use Rattle.bril_tree.proofs.Members.{in_contains}
-use Rattle.bril_tree.proofs.Trees.{nop-at}
+use Rattle.bril_tree.proofs.Trees.{none_from, nop-at}
 use Rattle.bril_tree.proofs.Typings.{IsDestination, type_of, typed_by}
 use Rattle.bril_names.proofs.Functions.{Differ-variables}
 use Rattle.bril_names.proofs.Naming.{one_number}
@@ -31,9 +31,8 @@ use Rattle.pass_edit_laws.proofs.lemmas.names.Heads.{argument-stays}
 use Rattle.pass_edit_laws.specs.acceptance.Edited.{Edits, IsNew, IsOld, KeepsTypes}
 use Rattle.pass_edit_laws.specs.acceptance.Stays.{FitsByItself}
 use Rattle.pass_edit_laws.proofs.lemmas.acceptance.Edited.{edit_accepted, nop-new}
-use Rattle.ssa_exit.specs.Laws.{names_a_shadow}
-use Rattle.ssa_exit.specs.Unssaed.{is_written, writes_shadow}
-use Rattle.ssa_exit.proofs.Items.{CopyThere, at-point, copy_there, gives_there, in-code, in-names, is-name, names-long, none_named}
+use Rattle.ssa_exit.specs.Unssaed.{is_written, names_a_shadow, writes_shadow}
+use Rattle.ssa_exit.proofs.Items.{CopyThere, at-point, copy_there, gives_there, in-code, in-names, is-name, names-long}
 use Rattle.ssa_exit.proofs.Points.{Unssaed, Kind, Stays, Gets, Sets, kind, kept, new-name, Got, Copied, Undefined, got, Put, Given, Gone, put}
 use Rattle.ssa_exit.proofs.Refines.{preserves, unssa_plan}
 use Rattle.ssa_exit.proofs.Types.{dest-stays, stands-typed}
@@ -149,9 +148,9 @@ module _ (P Q : Prog) (fresh : ℕ → ℕ → List ℕ) (accepted : IsAccepted 
               (λ keeps dt. copy-fits Q G c.dest c.source ty dt source) typed (in-code Q f G q j _ c.at))
           of (Undefined w tree) =
               let c = gives_there Q f j (named V x) ty op.Undef [] tree in
-              subst (IsNew P Q f F G) (is-b _ (c.at ∙ ap (λ l. Some (Act (Some c.dest) (Some ty) op.Undef l [] [])) (none_named _ c.args c.args_are)))
+              subst (IsNew P Q f F G) (is-b _ (c.at ∙ ap (λ l. Some (Act (Some c.dest) (Some ty) op.Undef l [] [])) (none_from _ c.args c.args_are)))
               (gives-new j x c.dest ty (Act (Some x) (Some ty) op.Get args fns ls) (Act (Some c.dest) (Some ty) op.Undef [] [] []) at refl refl refl refl (in-names Q f G q c.dest c.dest_in) (is-name Q f G q c.dest _ c.dest_is) (omega (arith, names-long P f F p, below))
-              (λ keeps dt. undef-fits Q G c.dest ty dt) typed (in-code Q f G q j _ (c.at ∙ ap (λ l. Some (Act (Some c.dest) (Some ty) op.Undef l [] [])) (none_named _ c.args c.args_are))))
+              (λ keeps dt. undef-fits Q G c.dest ty dt) typed (in-code Q f G q j _ (c.at ∙ ap (λ l. Some (Act (Some c.dest) (Some ty) op.Undef l [] [])) (none_from _ c.args c.args_are))))
       by (Sets sty x y fns ls at) = inl (of (put P Q fresh t f F p j sty x y fns ls at))
         where
           below : x < length F.vars

@@ -20,11 +20,10 @@ use Rattle.bril_tree.specs.Membership.{In}
 use Rattle.bril_tree.specs.Numbered.{dest_tree, item_tree, named, names_in, names_of_functions, tree_at, typed_name, variable_names}
 use Rattle.bril_tree.specs.Operand.{Location, Variable, Shadow, reads_of}
 use Rattle.bril_tree.specs.Step.{item_at, items_of}
-use Rattle.bril_tree.proofs.Trees.{nothing_at}
+use Rattle.bril_tree.proofs.Trees.{none_from, nothing_at}
 use Rattle.bril_names.specs.Range.{AreBelow}
 use Rattle.pass_edit_laws.proofs.lemmas.names.Points.{Found, found}
-use Rattle.ssa_exit.specs.Laws.{names_a_shadow}
-use Rattle.ssa_exit.specs.Unssaed.{copy_item, left_item, left_items}
+use Rattle.ssa_exit.specs.Unssaed.{copy_item, left_item, left_items, names_a_shadow}
 
 -- ---- items that name no shadow
 
@@ -104,10 +103,6 @@ pub record GivesThere (X : Prog) (f i : ℕ) (to : List ℕ) (s : Ty) (o : Op) (
   pub args_in : AreBelow (length (names_in (slice_get X.funcs f))) args
   pub args_are : map (named (names_in (slice_get X.funcs f))) args ≡ from
 
-pub none_named : (names : List (List ℕ)) (xs : List ℕ) → map (named names) xs ≡ [] → xs ≡ []
-none_named names [] e = refl
-none_named names (x ∷ xs) e = absurd cc
-
 module _ (X : Prog) (f i : ℕ) (to : List ℕ) (s : Ty) (o : Op) (from : List (List ℕ)) where
   abbrev W : List (List ℕ)
   W = names_in (slice_get X.funcs f)
@@ -132,8 +127,8 @@ module _ (X : Prog) (f i : ℕ) (to : List ℕ) (s : Ty) (o : Op) (from : List (
           let ea : map (named W) args ≡ from = cc in
           let ef : map (named (names_of_functions X.funcs)) fns ≡ [] = cc in
           let el : map (named h.function.labels) ls ≡ [] = cc in
-          let nf = none_named (names_of_functions X.funcs) fns ef in
-          let nl = none_named h.function.labels ls el in
+          let nf = none_from (named (names_of_functions X.funcs)) fns ef in
+          let nl = none_from (named h.function.labels) ls el in
           parts d ty args (at ∙ (λ k. Some (Act d ty (eo k) args (nf k) (nl k)))) ed ea h.range.variables
 
       by : (u : Option Instr) → item_at X f i ≡ u → GivesThere X f i to s o from

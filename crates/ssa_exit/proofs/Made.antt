@@ -30,9 +30,8 @@ use Rattle.pass_make.specs.declared.made.Made.TheVariants as making
 use Rattle.pass_make.proofs.Each.{heads-each, items-each, names-each, size-each, tree_of_function}
 use Rattle.pass_edit_laws.proofs.lemmas.names.Trees.{heads-of_trees}
 use Rattle.ssa_exit.specs.Fresh.{AreFresh, shadow_names}
-use Rattle.ssa_exit.specs.Laws.{UnssaKeepsNumbers, UnssaLeavesNoShadow}
 use Rattle.ssa_exit.specs.Unssa.{unssa_meaning}
-use Rattle.ssa_exit.specs.Unssaed.{IsLeftFunction, IsUnssaed, IsUnssaedFunction, IsUnssaedTree, copy_item, is_written, left_item, left_items, set_item, undef_item, unssaed_function}
+use Rattle.ssa_exit.specs.Unssaed.{IsLeftFunction, IsUnssaedFunction, IsUnssaedTree, copy_item, is_written, left_item, left_items, set_item, undef_item, unssaed_function}
 use Rattle.ssa_exit.proofs.Accepted.{unssaed-accepted}
 use Rattle.ssa_exit.proofs.Numbers.{leaves-none, numbers-within}
 use Rattle.ssa_exit.proofs.Points.{Unssaed}
@@ -153,46 +152,47 @@ module _ (P : Prog) where
   made_at (H ∷ xs) (g ∷ ys) z zero F p = subst (λ (K : Func). MadeAt K (g ∷ ys) 0 (fresh_in (H ∷ xs) (g ∷ ys) z 0)) (same_Some H F p) (record { g = g; at = refl; are = z.0.are; tree = z.0.tree })
   made_at (H ∷ xs) (g ∷ ys) z (suc f) F p = let r = made_at xs ys z.1 f F p in record { g = r.g; at = r.at; are = r.are; tree = r.tree }
 
-  module _ (Q : Prog) (makes : IsUnssaed P Q) where
+  module _ (Q : Prog) (is : IsUnssaedTree P (tree_of Q)) where
     abbrev pub fresh : ℕ → ℕ → List ℕ
-    fresh = fresh_in P.funcs (tree_of Q).funcs makes.functions
+    fresh = fresh_in P.funcs (tree_of Q).funcs is.functions
 
     head : (F : Func) (g : FuncTree) → IsUnssaedFunction P F g → SameHead (function_tree fs F) g
     head F g t = subst (SameHead (function_tree fs F)) (sym t.tree) (record { name = refl; args = refl; ret = refl })
 
     pub unssaed-points : Unssaed P Q fresh
     unssaed-points = record {
-      heads = heads-of_trees P Q (heads-each P (IsUnssaedFunction P) head (tree_of Q).funcs makes.functions);
-      are = λ f F p. (made_at P.funcs (tree_of Q).funcs makes.functions f F p).are;
+      heads = heads-of_trees P Q (heads-each P (IsUnssaedFunction P) head (tree_of Q).funcs is.functions);
+      are = λ f F p. (made_at P.funcs (tree_of Q).funcs is.functions f F p).are;
       tree = λ f i F p.
-          let m = made_at P.funcs (tree_of Q).funcs makes.functions f F p in
+          let m = made_at P.funcs (tree_of Q).funcs is.functions f F p in
           tree_at-function Q f i m.g m.at ∙ ap (λ (g : FuncTree). slice_get g.code i) m.tree ∙ slice_get-map (λ a. left_item F (fresh f) a (item_tree fs (variable_names F.vars) F.labels a)) F.code i;
     }
 
   -- ---- by what the calls give: the tree that was made, and the program numbered of that
 
   module _ (accepted : IsAccepted P) (tree : Tree) (t : IsUnssaedTree P tree) where
-    makes-of_tree : (Q : Prog) → Numbered tree Q → IsUnssaed P Q
-    makes-of_tree Q of_q = subst (IsUnssaedTree P) (numbered-tree_of tree Q of_q) t
+    of_numbered : (Q : Prog) → Numbered tree Q → IsUnssaedTree P (tree_of Q)
+    of_numbered Q of_q = subst (IsUnssaedTree P) (numbered-tree_of tree Q of_q) t
 
     unssa-made : IsCounted P → CanBeMade P tree
     unssa-made c = record {
       imports = t.imports;
       names = names_made tree.funcs t.functions;
-      accepted = λ Q of_q. let makes = makes-of_tree Q of_q in unssaed-accepted P Q (fresh Q makes) accepted (unssaed-points Q makes);
+      accepted = λ Q of_q. let is = of_numbered Q of_q in unssaed-accepted P Q (fresh Q is) accepted (unssaed-points Q is);
       items = items-each P (IsUnssaedFunction P) as-long tree.funcs t.functions c.items;
     }
 
     linked : (profile : Profile) (Q : Prog) → Numbered tree Q → IsAccepted Q → item_count Q ≡ tree_size tree → Link unssa_meaning profile P Q
     linked profile Q of_q accepted_q size =
-        let makes = makes-of_tree Q of_q in
+        let is = of_numbered Q of_q in
+        let points = unssaed-points Q is in
         let h = size-each P (IsUnssaedFunction P) as-long tree.funcs t.functions in
         record {
-          makes = makes;
+          makes = record { tree = is; no_shadow = leaves-none P Q (fresh Q is) accepted points; numbers = numbers-within P Q (fresh Q is) accepted points };
           accepted = accepted_q;
           factor = 1;
           is_factor = refl;
-          refines = unssaed-refines P Q (fresh Q makes) accepted (unssaed-points Q makes);
+          refines = unssaed-refines P Q (fresh Q is) accepted points;
           bound = item_count P;
           is_bound = refl;
           within = omega (arith, size);
@@ -205,11 +205,3 @@ module _ (P : Prog) where
 -- the factor and the bound are equations
 pub unssa-numbers : HasNumbers unssa_meaning
 unssa-numbers = record { factor = equation_number (λ P profile. 1); bound = equation_number (λ P profile. item_count P) }
-
--- ---- the laws
-
-pub unssa-leaves_none : UnssaLeavesNoShadow
-unssa-leaves_none P Q accepted makes f i = leaves-none P Q (fresh P Q makes) accepted (unssaed-points P Q makes) f i
-
-pub unssa-within : UnssaKeepsNumbers
-unssa-within P Q accepted makes = numbers-within P Q (fresh P Q makes) accepted (unssaed-points P Q makes)

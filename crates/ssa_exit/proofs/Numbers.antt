@@ -35,7 +35,7 @@ use Rattle.pass_edit_laws.proofs.lemmas.numbers.InPlace.{EdgeBack, branch-back, 
 use Rattle.pass_edit_laws.proofs.lemmas.numbers.Items.{IsNamed, unchanged}
 use Rattle.pass_edit_laws.proofs.lemmas.numbers.Locations.{IsLocationOf, location-listed, locations-counted, locations-few, locations_of}
 use Rattle.pass_edit_laws.proofs.lemmas.numbers.Programs.{by-functions, functions_bound}
-use Rattle.ssa_exit.specs.Laws.{names_a_shadow}
+use Rattle.ssa_exit.specs.Unssaed.{names_a_shadow}
 use Rattle.ssa_exit.proofs.Items.{at-point, copy_there, gives_there, names-long}
 use Rattle.ssa_exit.proofs.Points.{Unssaed, Kind, Stays, Gets, Sets, kind, kept, Got, Copied, Undefined, got, Put, Given, Gone, put}
 use Rattle.ssa_exit.proofs.Refines.{preserves, unssa_plan}

@@ -32,8 +32,7 @@ use Rattle.pass_edit_laws.specs.names.NamedPlan.{SameHeads}
 use Rattle.pass_edit_laws.proofs.lemmas.names.Heads.{no_partner}
 use Rattle.pass_edit_laws.proofs.lemmas.steps.Shapes.{shaped_here}
 use Rattle.ssa_exit.specs.Fresh.{AreFresh}
-use Rattle.ssa_exit.specs.Laws.{names_a_shadow}
-use Rattle.ssa_exit.specs.Unssaed.{copy_item, is_written, left_item, set_item, undef_item, writes_shadow}
+use Rattle.ssa_exit.specs.Unssaed.{copy_item, is_written, left_item, names_a_shadow, set_item, undef_item, writes_shadow}
 use Rattle.ssa_exit.proofs.Items.{left-same}
 
 -- `fresh f x` is the name of what stands for the shadow of x in function f

@@ -42,7 +42,7 @@ use Rattle.pass_edit_laws.proofs.lemmas.names.Locations.{kept-apart, to_left}
 use Rattle.pass_edit_laws.proofs.lemmas.names.Points.{Differ-in, found, label_once}
 use Rattle.pass_edit_laws.proofs.lemmas.names.Preserving.{knows_nothing, names_preserve, own_tree}
 use Rattle.pass_edit_laws.proofs.lemmas.names.Renaming.{items_share}
-use Rattle.ssa_exit.specs.Laws.{names_a_shadow}
+use Rattle.ssa_exit.specs.Unssaed.{names_a_shadow}
 use Rattle.ssa_exit.proofs.Items.{IsVariable, assigns_variables, copy_there, in_variables, names-long, reads_variables}
 use Rattle.ssa_exit.proofs.Points.{Unssaed, Kind, Stays, Gets, Sets, kind, kept, new-name, Got, Copied, Undefined, got, Put, Given, Gone, put, reached-written}
 use Rattle.ssa_exit.proofs.Variables.{none-stands}

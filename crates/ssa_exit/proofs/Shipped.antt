@@ -1,7 +1,6 @@
 -- The pass as it comes with the program: its row, and that what it makes is within it.
 use Rattle.std.proofs.Common.{refl}
 use Rattle.std.specs.Prelude.{codes}
-use Rattle.ssa_exit.proofs.Made.{unssa-within}
 use Rattle.ssa_exit.specs.Unssa.{unssa_meaning}
 use Rattle.pass_budget_laws.specs.Rows.{keeps}
 use Rattle.pass_budget_laws.specs.Shipped.{Shipped}
@@ -13,5 +12,5 @@ unssa_shipped = record {
   meaning = unssa_meaning;
   row = keeps (codes "unssa");
   answers = λ name. refl;
-  within = keeps-row unssa_meaning (codes "unssa") (record { factor = λ P profile k is. is; bound = λ P profile k is. is }) (λ P Q profile accepted link. unssa-within P Q accepted link.makes);
+  within = keeps-row unssa_meaning (codes "unssa") (record { factor = λ P profile k is. is; bound = λ P profile k is. is }) (λ P Q profile accepted link. link.makes.numbers);
 }

@@ -28,7 +28,7 @@ use Rattle.pass_edit_laws.specs.names.Named.{SameLocation}
 use Rattle.pass_edit_laws.proofs.lemmas.names.Points.{Differ-in, found}
 use Rattle.pass_edit_laws.proofs.lemmas.acceptance.Alone.{both_alone}
 use Rattle.pass_edit_laws.proofs.lemmas.acceptance.Heads.{start-covers, start-shadow}
-use Rattle.ssa_exit.specs.Laws.{names_a_shadow}
+use Rattle.ssa_exit.specs.Unssaed.{names_a_shadow}
 use Rattle.ssa_exit.proofs.Items.{CopyThere, copy_there, names-long}
 use Rattle.ssa_exit.proofs.Points.{Unssaed, Kind, Stays, Gets, Sets, kind, Got, Copied, Undefined, got, Put, Given, Gone, put, read-assigned, reached-written}
 use Rattle.ssa_exit.proofs.Refines.{preserves, unssa_plan}

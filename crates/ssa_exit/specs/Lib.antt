@@ -1,4 +1,3 @@
 pub mod Fresh
 pub mod Unssaed
 pub mod Unssa
-pub mod Laws

@@ -1,5 +1,5 @@
 -- A program in which each shadow is a variable of its own: each `get` and `set` became a copy.
-use Rattle.std.specs.Prelude.{◌≡◌, ℕ, Bool, false, ◌==◌, List, [], ◌∷◌, map, Option, Some, None, slice_get, slice_index, if◌then◌else◌}
+use Rattle.std.specs.Prelude.{◌≡◌, ℕ, Bool, true, false, ◌==◌, List, [], ◌∷◌, map, Option, Some, None, slice_get, slice_index, if◌then◌else◌}
 use Rattle.std.specs.List.{AllZip, list_any}
 use Rattle.bril_tree.specs.declared.function_tree.FuncTree.{FuncTree}
 use Rattle.bril_tree.specs.declared.function_tree.Item.{Item}
@@ -12,10 +12,21 @@ use Rattle.bril_tree.specs.declared.program.Prog.{Prog}
 use Rattle.bril_tree.specs.declared.tree.Tree.{Tree}
 use Rattle.bril_tree.specs.declared.types.Ty.{Ty}
 use Rattle.bril_tree.specs.Numbered.{function_tree, item_tree, named, names_of_functions, nop_item, tree_of, typed_name, variable_names}
+use Rattle.bril_tree.specs.Step.{item_at}
 use Rattle.bril_tree.specs.Typing.{variable_type}
+use Rattle.pass_edit_laws.specs.numbers.Numbers.{NumbersWithin}
 use Rattle.ssa_exit.specs.Fresh.{AreFresh, count_beginning, shadow_names}
 
 -- ---- shadows
+
+-- the item is a `get` or a `set`
+abbrev pub names_a_shadow : Option Instr → Bool
+names_a_shadow None = false
+names_a_shadow (Some (Label l)) = false
+names_a_shadow (Some (Const dest ty value)) = false
+names_a_shadow (Some (Act dest ty op.Get args funcs labels)) = true
+names_a_shadow (Some (Act dest ty op.Set args funcs labels)) = true
+names_a_shadow (Some (Act dest ty _ args funcs labels)) = false
 
 -- the item is a `set` of the shadow of the variable
 abbrev pub writes_shadow : ℕ → Instr → Bool
@@ -97,6 +108,9 @@ pub record IsUnssaedTree (P : Prog) (tree : Tree) : Type 0 where
   pub imports : tree.imports ≡ []
   pub functions : AllZip (IsUnssaedFunction P) P.funcs tree.funcs
 
--- in Q the shadows of P are variables of fresh names; all else is as in P
-abbrev pub IsUnssaed : Prog → Prog → Type 0
-IsUnssaed P Q = IsUnssaedTree P (tree_of Q)
+-- In Q the shadows of P are variables of fresh names, and no `get` and no `set` is left; all else is as in P. No number of Q is
+-- greater than that of P.
+pub record IsUnssaed (P Q : Prog) : Type 0 where
+  pub tree : IsUnssaedTree P (tree_of Q)
+  pub no_shadow : (f point : ℕ) → names_a_shadow (item_at Q f point) ≡ false
+  pub numbers : NumbersWithin P Q 0

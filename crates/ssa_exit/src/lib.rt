@@ -7,15 +7,13 @@
 //! 3. The same by points (`proofs/Points.antt`). Shadows and what stands for them hold the same, so matched states go on: the
 //!    result refines the program (`proofs/Refines.antt`).
 //! 4. The types and the walks of the result: it is accepted (`proofs/Types.antt`, `proofs/Accepted.antt`).
-//! 5. From the tree to its program: the tree can be numbered, and is as long (`proofs/Made.antt`).
-//! 6. No `get` or `set` is left, and no number of the program grows (`src/laws.rt`, `proofs/Numbers.antt`).
+//! 5. No `get` or `set` is left, and no number of the program grows (`proofs/Numbers.antt`).
+//! 6. From the tree to its program: the tree can be numbered, and is as long (`proofs/Made.antt`).
 #![tactic(auto)]
 
 mod edit;
 mod fresh;
-mod laws;
 mod unssa;
 mod written;
 
-pub use laws::{unssa_keeps_numbers, unssa_leaves_no_shadow};
 pub use unssa::{Unssa, UnssaEdit};

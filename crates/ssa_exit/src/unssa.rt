@@ -9,8 +9,10 @@ use pass_make::{Edit, Edited, Made};
 use std::alloc::{AllocError, Global};
 
 /// The pass `unssa`, as clauses see it by its tally. Each shadow becomes a variable of a fresh name, and each `get` and `set`
-/// an `id`; a `get` whose shadow no `set` writes becomes `undef`, and a `set` of a variable without a type `nop`. Its factor
-/// is 1, and its bound the number of items.
+/// an `id`; a `get` whose shadow no `set` writes becomes `undef`, and a `set` of a variable without a type `nop`. No `get` and
+/// no `set` is left. Its factor is 1, and its bound the number of items. No number of a program grows: its locations, its
+/// longest list of arguments, the depth of its open sites, its entries of labels, and the labels that are entered from one
+/// leave point.
 pub type Unssa = Edited<UnssaEdit>;
 
 /// The edit of the pass `unssa`.

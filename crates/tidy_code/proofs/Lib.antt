@@ -4,7 +4,7 @@ pub mod Refines
 pub mod Walks
 pub mod Accepted
 pub mod Staying
+pub mod Numbers
 pub mod Made
 pub mod Turns
-pub mod Numbers
 pub mod Shipped

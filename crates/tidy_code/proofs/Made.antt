@@ -21,7 +21,6 @@ use Rattle.bril_profile.specs.declared.profile.Profile.{Profile}
 use Rattle.bril_tree.specs.Accepted.{IsAccepted}
 use Rattle.bril_tree.specs.FunctionForm.{targets_of}
 use Rattle.bril_tree.specs.Numbered.{Numbered, function_tree, item_tree, variable_names, named, names_of_functions, point_tree, tree_at, tree_of, tree_size, nop_item}
-use Rattle.bril_tree.specs.Run.{Refines}
 use Rattle.bril_tree.specs.Shape.{is_shaped, shape_of}
 use Rattle.bril_tree.specs.Step.{items_of, code_of, item_at, point_of}
 use Rattle.bril_tree.specs.Walk.{IsReached}
@@ -44,8 +43,9 @@ use Rattle.pass_edit_laws.proofs.lemmas.plan.Elements.{all_in, in_all}
 use Rattle.pass_make.proofs.Each.{names-each, heads-each, items-each, size-each}
 use Rattle.tidy_code.proofs.Points.{kept_items, IsNop, code_tree, Tidied}
 use Rattle.tidy_code.specs.Tidy.{tidy_meaning}
-use Rattle.tidy_code.specs.Tidied.{AreStaying, IsTidiedFunction, IsTidiedTree, IsTidied}
+use Rattle.tidy_code.specs.Tidied.{AreStaying, IsTidiedFunction, IsTidiedTree}
 use Rattle.tidy_code.proofs.Accepted.{tidied-accepted}
+use Rattle.tidy_code.proofs.Numbers.{numbers-within}
 use Rattle.tidy_code.proofs.Refines.{tidied-refines}
 use Rattle.bril_tree.specs.Size.{item_count, IsCounted}
 use Rattle.bril_tree.proofs.Formed.{target_below}
@@ -202,12 +202,12 @@ module _ (P : Prog) (accepted : IsAccepted P) where
   made_at (H ∷ rest) (g ∷ ys) z zero F p = subst (λ (K : Func). MadeAt K (g ∷ ys) 0 (keep_in (H ∷ rest) (g ∷ ys) z 0)) (same_Some H F p) (record { g = g; at = refl; tidies = z.0; keeps = keeping H.code 0 (function_tree fs H).code g.code z.0.items; same = refl })
   made_at (H ∷ xs) (g ∷ ys) z (suc f) F p = let r = made_at xs ys z.1 f F p in record { g = r.g; at = r.at; tidies = r.tidies; keeps = r.keeps; same = r.same }
 
-  module _ (Q : Prog) (makes : IsTidied P Q) where
+  module _ (Q : Prog) (is : IsTidiedTree P (tree_of Q)) where
     abbrev pub keep : ℕ → ℕ → Bool
-    keep = keep_in P.funcs (tree_of Q).funcs makes.functions
+    keep = keep_in P.funcs (tree_of Q).funcs is.functions
 
     heads : AllZip SameHead (tree_of P).funcs (tree_of Q).funcs
-    heads = heads-each P IsMade (λ F g t. t.head) (tree_of Q).funcs makes.functions
+    heads = heads-each P IsMade (λ F g t. t.head) (tree_of Q).funcs is.functions
 
     module _ (f i : ℕ) (a : Instr) (at : item_at P f i ≡ Some a) where
       record Stands : Type 0 where
@@ -223,7 +223,7 @@ module _ (P : Prog) (accepted : IsAccepted P) where
             F = fa.function;
             p = fa.there;
             there = slice_get-map (item_tree fs (variable_names fa.function.vars) fa.function.labels) fa.function.code i ∙ ap (option_map (item_tree fs (variable_names fa.function.vars) fa.function.labels)) (ap (λ c. slice_get c i) (sym (ap items_of fa.there)) ∙ at);
-            m = made_at P.funcs (tree_of Q).funcs makes.functions f fa.function fa.there;
+            m = made_at P.funcs (tree_of Q).funcs is.functions f fa.function fa.there;
           }
 
       dropped : keep f i ≡ false → IsReached (code_of P f) i → IsNop a
@@ -246,7 +246,7 @@ module _ (P : Prog) (accepted : IsAccepted P) where
               (subst (λ c. IsReached c i) (sym (ap items_of s.p)) (subst (IsReached s.F.code) z stay.reached), λ n. stay.works (nop-tree fs (variable_names s.F.vars) s.F.labels shaped.ret a shaped.shaped n))
 
     codes : (f : ℕ) (F G : Func) → slice_get P.funcs f ≡ Some F → slice_get Q.funcs f ≡ Some G → code_tree Q G ≡ kept_items (keep f) 0 (code_tree P F)
-    codes f F G p q = by (made_at P.funcs (tree_of Q).funcs makes.functions f F p)
+    codes f F G p q = by (made_at P.funcs (tree_of Q).funcs is.functions f F p)
       where
         by : MadeAt F (tree_of Q).funcs f (keep f) → code_tree Q G ≡ kept_items (keep f) 0 (code_tree P F)
         by m =
@@ -256,17 +256,6 @@ module _ (P : Prog) (accepted : IsAccepted P) where
     -- the points of the old function that stay, in order
     pub tidied-points : Tidied P keep Q
     tidied-points = record { heads = heads-of_trees P Q heads; dropped = dropped; kept = kept; code = codes }
-
-  -- ---- what the function needs
-
-  pub makes-of_tree : (tree : Tree) → IsTidiedTree P tree → (Q : Prog) → Numbered tree Q → IsTidied P Q
-  makes-of_tree tree t Q of_q = subst (IsTidiedTree P) (numbered-tree_of tree Q of_q) t
-
-  pub tidy-accepted : (Q : Prog) → IsTidied P Q → IsAccepted Q
-  tidy-accepted Q makes = tidied-accepted P Q (keep Q makes) accepted (tidied-points Q makes)
-
-  pub tidy-refines : (Q : Prog) → IsTidied P Q → Refines P Q 1
-  tidy-refines Q makes = tidied-refines P Q (keep Q makes) (tidied-points Q makes) accepted
 
   -- no function has more items than it had
   shorter : (code : List Instr) (i : ℕ) (xs ys : List Item) → AreStaying code i xs ys → length ys ≤ length xs
@@ -280,33 +269,39 @@ module _ (P : Prog) (accepted : IsAccepted P) where
       let size = length-map F.code (item_tree fs (variable_names F.vars) F.labels) in
       omega arith
 
-  tidy-made : (tree : Tree) → IsCounted P → IsTidiedTree P tree → CanBeMade P tree
-  tidy-made tree c t = record {
-    imports = t.imports;
-    names = names_made tree.funcs t.functions;
-    accepted = λ Q of_q. tidy-accepted Q (makes-of_tree tree t Q of_q);
-    items = items-each P IsMade no_longer tree.funcs t.functions c.items;
-  }
-
   -- ---- by what the calls give: the tree that was made, and the program numbered of that
 
-  linked : (tree : Tree) → IsTidiedTree P tree → (profile : Profile) (Q : Prog) → Numbered tree Q → IsAccepted Q → item_count Q ≡ tree_size tree → Link tidy_meaning profile P Q
-  linked tree t profile Q of_q accepted_q size =
-      let h = size-each P IsMade no_longer tree.funcs t.functions in
-      record {
-        makes = makes-of_tree tree t Q of_q;
-        accepted = accepted_q;
-        factor = 1;
-        is_factor = refl;
-        refines = tidy-refines Q (makes-of_tree tree t Q of_q);
-        bound = item_count P;
-        is_bound = refl;
-        within = omega (arith, size);
-        fits = λ l. let more = l.more in omega arith;
-      }
+  module _ (tree : Tree) (t : IsTidiedTree P tree) where
+    of_numbered : (Q : Prog) → Numbered tree Q → IsTidiedTree P (tree_of Q)
+    of_numbered Q of_q = subst (IsTidiedTree P) (numbered-tree_of tree Q of_q) t
 
-  pub edited : (tree : Tree) → IsTidiedTree P tree → IsCounted P → (profile : Profile) → IsLinkedTo tidy_meaning profile P (making.Tree tree)
-  edited tree t c profile = (tidy-made tree c t, linked tree t profile)
+    tidy-made : IsCounted P → CanBeMade P tree
+    tidy-made c = record {
+      imports = t.imports;
+      names = names_made tree.funcs t.functions;
+      accepted = λ Q of_q. let is = of_numbered Q of_q in tidied-accepted P Q (keep Q is) accepted (tidied-points Q is);
+      items = items-each P IsMade no_longer tree.funcs t.functions c.items;
+    }
+
+    linked : (profile : Profile) (Q : Prog) → Numbered tree Q → IsAccepted Q → item_count Q ≡ tree_size tree → Link tidy_meaning profile P Q
+    linked profile Q of_q accepted_q size =
+        let is = of_numbered Q of_q in
+        let points = tidied-points Q is in
+        let h = size-each P IsMade no_longer tree.funcs t.functions in
+        record {
+          makes = record { tree = is; numbers = numbers-within P Q (keep Q is) accepted accepted_q points };
+          accepted = accepted_q;
+          factor = 1;
+          is_factor = refl;
+          refines = tidied-refines P Q (keep Q is) points accepted;
+          bound = item_count P;
+          is_bound = refl;
+          within = omega (arith, size);
+          fits = λ l. let more = l.more in omega arith;
+        }
+
+    pub edited : IsCounted P → (profile : Profile) → IsLinkedTo tidy_meaning profile P (making.Tree tree)
+    edited c profile = (tidy-made c, linked profile)
 
 -- the factor and the bound are equations
 pub tidy-numbers : HasNumbers tidy_meaning

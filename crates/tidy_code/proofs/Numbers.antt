@@ -29,10 +29,8 @@ use Rattle.pass_edit_laws.proofs.lemmas.numbers.Entering.{EntryMatched, LeaveMat
 use Rattle.pass_edit_laws.proofs.lemmas.numbers.Existing.{one_label}
 use Rattle.pass_edit_laws.proofs.lemmas.numbers.Items.{IsOfItems, items-back, unchanged}
 use Rattle.pass_edit_laws.proofs.lemmas.numbers.Programs.{by-functions, function-within, functions_bound}
-use Rattle.tidy_code.specs.Tidied.{IsTidied}
-use Rattle.tidy_code.proofs.Accepted.{old-item, tidied-accepted}
+use Rattle.tidy_code.proofs.Accepted.{old-item}
 use Rattle.tidy_code.proofs.Kept.{count-dropped, count-kept}
-use Rattle.tidy_code.proofs.Made.{keep, tidied-points}
 use Rattle.tidy_code.proofs.Points.{kept_count, Tidied}
 use Rattle.tidy_code.proofs.Refines.{keeps, kept_label, nop-goes_on, preserves, tidy_plan, tidying}
 use Rattle.tidy_code.proofs.Walks.{drawn, matched_walks, nth-count, nth_kept}
@@ -249,8 +247,5 @@ module _ (P Q : Prog) (keep : ℕ → ℕ → Bool) (accepted : IsAccepted P) (a
   function_within : FunctionWithin 1 F G
   function_within = function-within (tidy_plan P Q keep t) unchanged P Q accepted_q f F G p q walks of_items 1 (fewer-entries F G Leaves entry one-leave) (width-within F G ℕ one_more leave-matched)
 
-pub keeps_numbers : (P Q : Prog) → IsAccepted P → IsTidied P Q → NumbersWithin P Q 1
-keeps_numbers P Q accepted makes =
-    let t = tidied-points P accepted Q makes in
-    let accepted_q = tidied-accepted P Q (keep P accepted Q makes) accepted t in
-    functions_bound P Q 1 accepted (by-functions P Q t.heads.names (FunctionWithin 1) (λ f F G p q. function_within P Q (keep P accepted Q makes) accepted accepted_q t f F G p q))
+pub numbers-within : (P Q : Prog) (keep : ℕ → ℕ → Bool) → IsAccepted P → IsAccepted Q → Tidied P keep Q → NumbersWithin P Q 1
+numbers-within P Q keep accepted accepted_q t = functions_bound P Q 1 accepted (by-functions P Q t.heads.names (FunctionWithin 1) (λ f F G p q. function_within P Q keep accepted accepted_q t f F G p q))

@@ -1,7 +1,6 @@
 -- The pass as it comes with the program: its row, and that what it makes is within it.
 use Rattle.std.proofs.Common.{refl}
 use Rattle.std.specs.Prelude.{codes}
-use Rattle.tidy_code.proofs.Numbers.{keeps_numbers}
 use Rattle.tidy_code.specs.Tidy.{tidy_meaning}
 use Rattle.pass_budget_laws.specs.Rows.{widens}
 use Rattle.pass_budget_laws.specs.Shipped.{Shipped}
@@ -13,5 +12,5 @@ tidy_shipped = record {
   meaning = tidy_meaning;
   row = widens 1 (codes "tidy");
   answers = λ name. refl;
-  within = widens-row tidy_meaning (codes "tidy") 1 (record { factor = λ P profile k is. is; bound = λ P profile k is. is }) (λ P Q profile accepted link. keeps_numbers P Q accepted link.makes);
+  within = widens-row tidy_meaning (codes "tidy") 1 (record { factor = λ P profile k is. is; bound = λ P profile k is. is }) (λ P Q profile accepted link. link.makes.numbers);
 }

@@ -1,3 +1,2 @@
 pub mod Tidied
 pub mod Tidy
-pub mod Numbers

@@ -9,6 +9,7 @@ use Rattle.bril_tree.specs.declared.program.Prog.{Prog}
 use Rattle.bril_tree.specs.declared.tree.Tree.{Tree}
 use Rattle.bril_tree.specs.Numbered.{function_tree, names_of_functions, nop_item, tree_of}
 use Rattle.bril_tree.specs.Walk.{IsReached}
+use Rattle.pass_edit_laws.specs.numbers.Numbers.{NumbersWithin}
 
 -- the item at the point stays: a walk leads to it, and it is no `nop`
 pub record IsStaying (code : List Instr) (point : ℕ) (x : Item) : Type 0 where
@@ -30,6 +31,8 @@ pub record IsTidiedTree (P : Prog) (tree : Tree) : Type 0 where
   pub imports : tree.imports ≡ []
   pub functions : AllZip (λ F g. IsTidiedFunction F.code (function_tree (names_of_functions P.funcs) F) g) P.funcs tree.funcs
 
--- Q has exactly the reachable items of P other than `nop`, in order
-abbrev pub IsTidied : Prog → Prog → Type 0
-IsTidied P Q = IsTidiedTree P (tree_of Q)
+-- Q has exactly the reachable items of P other than `nop`, in order. No number of Q is greater than that of P, but that one label
+-- more may be entered from a leave point: the one to which a dropped `nop` went on.
+pub record IsTidied (P Q : Prog) : Type 0 where
+  pub tree : IsTidiedTree P (tree_of Q)
+  pub numbers : NumbersWithin P Q 1

@@ -5,14 +5,11 @@
 //! 3. The same by points (`proofs/Points.antt`), with where the items that stay stand (`proofs/Kept.antt`).
 //! 4. Matched states go on: the result refines the program (`proofs/Refines.antt`).
 //! 5. The items and the walks of the result: it is accepted (`proofs/Walks.antt`, `proofs/Accepted.antt`).
-//! 6. From the tree to its program: the tree can be numbered, and is no longer (`proofs/Staying.antt`, `proofs/Made.antt`).
-//! 7. No number of the program grows, but the labels that are entered from one leave point by one (`src/laws.rt`,
-//!    `proofs/Numbers.antt`).
+//! 6. No number of the program grows, but the labels that are entered from one leave point by one (`proofs/Numbers.antt`).
+//! 7. From the tree to its program: the tree can be numbered, and is no longer (`proofs/Staying.antt`, `proofs/Made.antt`).
 #![tactic(auto)]
 
 mod edit;
-mod laws;
 mod tidy;
 
-pub use laws::tidy_keeps_numbers;
 pub use tidy::{Tidy, TidyEdit};

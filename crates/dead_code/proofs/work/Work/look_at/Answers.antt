@@ -5,6 +5,9 @@ use Rattle.dead_code.specs.Work.{IsLookedAt, assignments_from}
 use Rattle.dead_code.proofs.Looking.{items-assign, looked-at}
 use Rattle.dead_code.proofs.work.Work.look_at.Goals as goal
 
+pub look_at_items-requires-clause-looking : goal.look_at_items-requires-clause-looking
+look_at_items-requires-clause-looking c = record { inside = c.requires.inside; work = c.requires.work; searched = c.in_ok-search.ensures.searched }
+
 pub look_at_items-requires-clause-items : goal.look_at_items-requires-clause-items
 look_at_items-requires-clause-items c =
     let code = c.args.func.now.code in
@@ -17,4 +20,4 @@ returns-clause-work c =
     let found = c.search.new.reached.found in
     let done = c.in_ok-look_at_items.ensures in
     looked-at c.args.func.now.code new.dead.items new.queue.items new.queued.items c.args.location found c.in_ok-items.items.items c.args.assignments.now.list c.requires.assignments c.in_ok-items.ensures
-    (subst (All (IsLookedAt new.dead.items found)) c.as_slice.ensures.value done.looked) done.work done.searched
+    (subst (All (IsLookedAt new.dead.items found)) c.as_slice.ensures.value done.looked) done.looking
