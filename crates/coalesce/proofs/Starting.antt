@@ -14,12 +14,18 @@ use Rattle.bril_tree.proofs.Formed.{variable_below}
 use Rattle.bril_tree.proofs.Shapes.{shape-parts}
 use Rattle.bril_checker.proofs.Positions.{all_pass}
 use Rattle.coalesce.specs.meaning.Apart.{Copies, HasShadow, shadows_of}
+use Rattle.coalesce.specs.meaning.Linked.{AreLinked, Same}
 use Rattle.coalesce.specs.meaning.Merged.{NoneApart}
 use Rattle.coalesce.proofs.lemmas.meaning.Copying.{copy-is}
 use Rattle.bril_tree.specs.Walk.{IsReached}
 use Rattle.coalesce.specs.Rounds.{CopyWithin, HasCopyWithin, IsCopyWithin}
 use Rattle.graph_search.specs.Marks.{is_marked}
-use Rattle.coalesce.specs.Classes.{Grows, IsRelatedItem, MarksShadow, NotApart, Relates}
+use Rattle.coalesce.specs.Classes.{AreAlone, AreRelated, Grows, IsRelatedItem, MarksShadow, NotApart, Relates, class_of}
+
+-- ---- each variable alone
+
+pub alone_linked : (F : Func) (class : List ℕ) → AreAlone class → (x : ℕ) → AreLinked F x (class_of class x)
+alone_linked F class own x = subst (AreLinked F x) (sym (own x)) (Same x)
 
 -- ---- related variables
 
@@ -46,16 +52,19 @@ related-more F shaped old new items same n item low is long r before point a les
     there : slice_get F.code n ≡ Some item
     there = ap (λ l. slice_get l n) (sym same) ∙ slice_get-get_or items n item low ∙ ap Some (sym is)
 
-    here : point ≡ n → (x < length F.vars) × (y < length F.vars) × (is_marked new x ≡ true) × (is_marked new y ≡ true)
+    marked : is_marked new x ≡ true → is_marked new y ≡ true → AreRelated F new x y
+    marked first second = record { differ = d; first_below = below.0; second_below = below.1; first_marked = first; second_marked = second }
+
+    here : point ≡ n → AreRelated F new x y
     here e =
         let one : a ≡ item = same_Some a item (sym at ∙ ap (slice_get F.code) e ∙ there) in
         let b = r.both x y (subst (λ z. Copies z x y) one c) in
         let bx = below.0 in
         let by = below.1 in
-        (below.0, below.1, b.0 (omega (arith, long)), b.1 (omega (arith, long)))
+        marked (b.0 (omega (arith, long))) (b.1 (omega (arith, long)))
 
-    earlier : (point ≡ n → ⊥) → (x < length F.vars) × (y < length F.vars) × (is_marked new x ≡ true) × (is_marked new y ≡ true)
-    earlier e = let h = before point a (⊎_elim (λ l. l) (λ high. absurd (e (omega arith))) (cases_lt point n)) at x y c d in (h.0, h.1, r.kept x h.2, r.kept y h.3)
+    earlier : (point ≡ n → ⊥) → AreRelated F new x y
+    earlier e = let h = before point a (⊎_elim (λ l. l) (λ high. absurd (e (omega arith))) (cases_lt point n)) at x y c d in marked (r.kept x h.first_marked) (r.kept y h.second_marked)
 
 -- ---- shadows
 
