@@ -1,8 +1,9 @@
 -- Where a round begins: each variable is alone, and marks tell which are related and which have a shadow that items name.
-use Rattle.std.proofs.Common.{◌≡◌, ◌⊎◌, ℕ, ◌+◌, ◌<◌, ◌≤◌, Bool, true, false, List, [], ◌∷◌, length, get_or, Some, None, refl, sym, ap, subst, ◌∙◌, inl, inr, ⊎_elim, arith}
+use Rattle.std.proofs.Common.{◌≡◌, ◌⊎◌, ℕ, ◌+◌, ◌<◌, ◌≤◌, Bool, true, false, List, [], ◌∷◌, length, get_or, replicate, Some, None, refl, sym, ap, subst, ◌∙◌, inl, inr, ⊎_elim, arith}
 use Rattle.std.specs.Prelude.{slice_get, slice_index, is_some}
 use Rattle.std.specs.List.{Contains}
 use Rattle.std.proofs.lemmas.Bool.{cases_eq, cases_lt}
+use Rattle.std.proofs.lemmas.List.{get_or-replicate, length-replicate}
 use Rattle.std.proofs.lemmas.Option.{get_or_from_slice_get, slice_get_within, slice_get-get_or, same_Some}
 use Rattle.bril_tree.specs.declared.numbered.Instr.{Instr}
 use Rattle.bril_tree.specs.declared.numbered_function.Func.{Func}
@@ -20,12 +21,34 @@ use Rattle.coalesce.proofs.lemmas.meaning.Copying.{copy-is}
 use Rattle.bril_tree.specs.Walk.{IsReached}
 use Rattle.coalesce.specs.Rounds.{CopyWithin, HasCopyWithin, IsCopyWithin}
 use Rattle.graph_search.specs.Marks.{is_marked}
-use Rattle.coalesce.specs.Classes.{AreAlone, AreRelated, Grows, IsRelatedItem, MarksShadow, NotApart, Relates, class_of}
+use Rattle.coalesce.specs.Classes.{AreAlone, AreRelated, Grows, IsRelatedItem, IsRoundState, MarksShadow, NotApart, Relates, class_of}
 
 -- ---- each variable alone
 
-pub alone_linked : (F : Func) (class : List ℕ) → AreAlone class → (x : ℕ) → AreLinked F x (class_of class x)
-alone_linked F class own x = subst (AreLinked F x) (sym (own x)) (Same x)
+pub first-state : (F : Func) (related : List Bool) (class : List ℕ) (alone shadow : List Bool) (n : ℕ) → n ≡ length F.vars → length class ≡ n → AreAlone class → alone ≡ replicate n true → length shadow ≡ length F.vars
+    → ((x : ℕ) → x < length F.vars → HasShadow F.code x → is_marked shadow x ≡ true) → ((x : ℕ) → is_marked shadow x ≡ true → HasShadow F.code x) → IsRoundState F related class alone shadow false
+first-state F related class alone shadow n many long own same shadow_long all only = record {
+  are = record {
+    long = long ∙ many;
+    inside = λ x low. subst (λ y. y < length F.vars) (sym (own x)) low;
+    arguments = λ x low. own x;
+    named = λ x. ap (class_of class) (own x);
+    linked = λ x. subst (AreLinked F x) (sym (own x)) (Same x);
+    joined = λ x y differ e. absurd (differ (one x y e));
+  };
+  alone_long = ap length same ∙ length-replicate n true ∙ many;
+  shadow_long = shadow_long;
+  own = λ x e. own x;
+  single = λ x y e c. sym (own y) ∙ c;
+  relates = λ x y differ e. absurd (differ (one x y e));
+  unshadowed = λ x e low h. let f : true ≡ false = sym (all x low h) ∙ sym (ap (is_marked shadow) (own x)) ∙ e in cc;
+  apart = λ e x. own x;
+  all_alone = λ e x low. ap (λ l. is_marked l x) same ∙ get_or-replicate n x true false (subst (λ m. x < m) (sym many) low);
+  shadowed = λ e x h. only x h;
+}
+  where
+    one : (x y : ℕ) → class_of class x ≡ class_of class y → x ≡ y
+    one x y e = sym (own x) ∙ e ∙ own y
 
 -- ---- related variables
 

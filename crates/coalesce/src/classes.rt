@@ -204,7 +204,6 @@ pub(crate) fn classes_in(alloc: Global, func: &Func, graph: &Graph) -> Result<Cl
 
 impl Classes {
     // Each variable alone.
-    #[tactic(auto, using(crate::proofs::Starting::alone_linked))]
     fn new(alloc: Global, func: &Func, _related: &[bool]) -> Result<Classes, AllocError>
         requires { length func.now.vars ≤ 2 ^ 32 }
         ensures state { IfOk result (λ classes. IsRoundState func.now _related.now classes.class.items classes.alone.items classes.shadow.items classes.joined) }

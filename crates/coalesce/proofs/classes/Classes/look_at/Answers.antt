@@ -2,8 +2,8 @@ use Rattle.std.proofs.Common.{◌∙◌, sym}
 use Rattle.coalesce.specs.meaning.Apart.{Copies}
 use Rattle.coalesce.proofs.classes.Classes.look_at.Goals as goal
 
-pub look_at_copy-requires-clause-may : goal.look_at_copy-requires-clause-may
-look_at_copy-requires-clause-may c =
+pub look_at_copy-requires : goal.look_at_copy-requires
+look_at_copy-requires c =
     let x = c.in-Some-Some.x in
     let y = c.in-Some-Some.y in
     let copies : Copies c.args.item.now x y = (sym c.dest_of.ensures ∙ c.in-Some-Some.is-0, sym c.source_of.ensures ∙ c.in-Some-Some.is-1) in
