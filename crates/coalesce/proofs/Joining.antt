@@ -7,6 +7,7 @@ use Rattle.std.proofs.lemmas.List.{get_or-set_same, get_or-set_other, length-set
 use Rattle.bril_tree.specs.declared.numbered_function.Func.{Func}
 use Rattle.bril_tree.specs.Typing.{variable_type}
 use Rattle.coalesce.specs.meaning.Apart.{AreApart, HasShadow}
+use Rattle.coalesce.specs.meaning.Linked.{AreLinked}
 use Rattle.graph_search.specs.Marks.{is_marked}
 use Rattle.coalesce.specs.Classes.{AreClashes, Clashes, Fits, IsRoundState, MayJoin, Misfits, OtherType, TwoShadows, KeptApart, class_of, clash, is_source, shadows_joined, source_at}
 use Rattle.coalesce.specs.declared.clashes.Clash.{Clash}
@@ -59,7 +60,7 @@ source-found class x k None e = absurd cc
 source-found class x k (Some z) e = (z, refl, ⊎_elim (λ h. inl (eqb-true z x h)) (λ h. inr (eqb-true (class_of class z) k h)) (or_cases (eqb z x) (eqb (class_of class z) k) e))
 
 module _ (F : Func) (related : List Bool) (list : List Clash) (clashes : AreClashes F.code related list) (class : List ℕ) (alone shadow : List Bool) (joined : Bool) (s : IsRoundState F related class alone shadow joined) where
-  module _ (x k : ℕ) (there : is_marked alone x ≡ true) (behind : F.args ≤ x) (names : class_of class k ≡ k) (inside : k < length F.vars) (differ : x ≢ k) (relates_x : is_marked related x ≡ true) (relates_k : is_marked related k ≡ true) (fits : Fits F list class shadow x k) where
+  module _ (x k : ℕ) (there : is_marked alone x ≡ true) (behind : F.args ≤ x) (names : class_of class k ≡ k) (inside : k < length F.vars) (differ : x ≢ k) (relates_x : is_marked related x ≡ true) (relates_k : is_marked related k ≡ true) (linked : AreLinked F x k) (fits : Fits F list class shadow x k) where
     abbrev new : List ℕ
     new = set class x k
 
@@ -163,13 +164,14 @@ module _ (F : Func) (related : List Bool) (list : List Clash) (clashes : AreClas
         long = length-set class x k ∙ s.are.long;
         inside = λ z low. ⊎_elim (λ e. subst (λ n. n < length F.vars) (sym (ap (class_of new) e ∙ here)) inside) (λ n. subst (λ m. m < length F.vars) (sym (other z n)) (s.are.inside z low)) (cases_eq z x);
         arguments = λ z low. other z (λ e. omega (arith, e)) ∙ s.are.arguments z low;
+        named = new-named;
+        linked = λ z. ⊎_elim (λ e. subst (λ n. AreLinked F n (class_of new n)) (sym e) (subst (AreLinked F x) (sym here) linked)) (λ n. subst (AreLinked F z) (sym (other z n)) (s.are.linked z)) (cases_eq z x);
         joined = new-joined;
       };
       alone_long = length-set (set alone x false) k false ∙ length-set alone x false ∙ s.alone_long;
       shadow_long = long-shadow (is_marked shadow x);
       own = λ z e. let w = was-alone z e in other z w.1 ∙ s.own z w.0;
       single = λ z y e c. let w = was-alone z e in ⊎_elim (λ h. absurd (w.2 (sym c ∙ ap (class_of new) h ∙ here))) (λ n. s.single z y w.0 (sym (other y n) ∙ c)) (cases_eq y x);
-      named = new-named;
       relates = λ p q d e. ⊎_elim (λ h. subst (λ n. is_marked related n ≡ true) (sym h) relates_x) (λ n. ⊎_elim (λ h. related-q p (sym (other p n) ∙ e ∙ ap (class_of new) h ∙ here)) (λ m. s.relates p q d (sym (other p n) ∙ e ∙ other q m)) (cases_eq q x)) (cases_eq p x);
       unshadowed = λ z e low h. ⊎_elim
           (λ g. let w = was-unshadowed k (subst (λ n. is_marked (shadows_joined shadow x k) n ≡ false) (ap (class_of new) g ∙ here) e) in
@@ -195,7 +197,7 @@ module _ (F : Func) (related : List Bool) (list : List Clash) (clashes : AreClas
             elsewhere n =
                 let c = other z n in
                 let d : class_of class z ≡ x → ⊥ = λ e. n (s.single x z there e) in
-                ap (class_of new) c ∙ other (class_of class z) d ∙ s.named z ∙ sym c
+                ap (class_of new) c ∙ other (class_of class z) d ∙ s.are.named z ∙ sym c
 
   -- ---- where nothing was joined
 

@@ -1,5 +1,5 @@
 -- What a look at a copy does.
-use Rattle.std.proofs.Common.{◌≡◌, ◌≢◌, ℕ, suc, ◌+◌, ◌<◌, ◌≤◌, Bool, true, false, List, length, get_or, set, take, Some, sym, ap, subst, ◌∙◌, ⊎_elim, arith}
+use Rattle.std.proofs.Common.{◌≡◌, ℕ, suc, ◌+◌, ◌<◌, ◌≤◌, Bool, true, false, List, length, get_or, set, take, Some, sym, ap, subst, ◌∙◌, ⊎_elim, arith}
 use Rattle.std.specs.Prelude.{slice_get}
 use Rattle.std.specs.List.{Contains}
 use Rattle.std.proofs.lemmas.Bool.{cases_eq}
@@ -10,35 +10,54 @@ use Rattle.std.proofs.lemmas.Option.{slice_get-get_or, same_Some}
 use Rattle.bril_tree.specs.declared.numbered.Instr.{Instr}
 use Rattle.bril_tree.specs.declared.numbered_function.Func.{Func}
 use Rattle.graph_search.specs.Marks.{is_marked}
-use Rattle.coalesce.specs.Classes.{AreClashes, Fits, Grows, IsRoundState, NoneKeepsApart, SomeKeepsApart, class_of, keeps_apart, shadows_joined}
+use Rattle.coalesce.specs.meaning.Linked.{AreLinked}
+use Rattle.coalesce.specs.Classes.{AreRelated, Fits, Grows, IsNextState, IsRoundState, MayLookAt, NoneKeepsApart, SomeKeepsApart, class_of, keeps_apart, shadows_joined}
 use Rattle.coalesce.specs.declared.clashes.Clash.{Clash}
+use Rattle.coalesce.proofs.lemmas.meaning.Linking.{linked-onwards, linked-turned}
 use Rattle.coalesce.proofs.Joining.{class-here, class-other, put-state}
 
-module _ (F : Func) (related : List Bool) (list : List Clash) (clashes : AreClashes F.code related list) (class : List ℕ) (alone shadow : List Bool) (joined : Bool) (s : IsRoundState F related class alone shadow joined)
-    (x y : ℕ) (there : is_marked alone x ≡ true) (behind : F.args ≤ x) (differ : x ≢ y) (low : y < length F.vars) (relates_x : is_marked related x ≡ true) (relates_y : is_marked related y ≡ true)
-    (k : ℕ) (is : k ≡ class_of class y) (fits : Fits F list class shadow x k) where
+module _ (F : Func) (related : List Bool) (list : List Clash) (class : List ℕ) (alone shadow : List Bool) (joined : Bool) (x y : ℕ) (may : MayLookAt F related list class alone shadow joined x y)
+    (there : is_marked alone x ≡ true) (behind : F.args ≤ x) (k : ℕ) (is : k ≡ class_of class y) (fits : Fits F list class shadow x k) where
+  abbrev s : IsRoundState F related class alone shadow joined
+  s = may.state
+
+  abbrev both : AreRelated F related x y
+  both = may.both
+
   names : class_of class k ≡ k
-  names = ap (class_of class) is ∙ s.named y ∙ sym is
+  names = ap (class_of class) is ∙ s.are.named y ∙ sym is
 
   joined-state : IsRoundState F related (set class x k) (set (set alone x false) k false) (shadows_joined shadow x k) true
   joined-state =
-      put-state F related list clashes class alone shadow joined s x k there behind names (subst (λ n. n < length F.vars) (sym is) (s.are.inside y low)) (λ e. differ (sym (s.single x y there (sym is ∙ sym e)))) relates_x
-      (⊎_elim (λ e. subst (λ n. is_marked related n ≡ true) (sym e) relates_y) (λ n. s.relates k y n (names ∙ is)) (cases_eq k y)) fits
-
-  pub put-joined : (class' : List ℕ) (alone' shadow' : List Bool) (joined' : Bool) → class' ≡ set class x k → alone' ≡ set (set alone x false) k false → shadow' ≡ shadows_joined shadow x k → joined' ≡ true → IsRoundState F related class' alone' shadow' joined'
-  put-joined class' alone' shadow' joined' a b c d =
-      subst (λ z. IsRoundState F related z alone' shadow' joined') (sym a)
-      (subst (λ z. IsRoundState F related (set class x k) z shadow' joined') (sym b)
-      (subst (λ z. IsRoundState F related (set class x k) (set (set alone x false) k false) z joined') (sym c)
-      (subst (IsRoundState F related (set class x k) (set (set alone x false) k false) (shadows_joined shadow x k)) (sym d) joined-state)))
+      put-state F related list may.clashes class alone shadow joined s x k there behind names (subst (λ n. n < length F.vars) (sym is) (s.are.inside y both.second_below)) (λ e. both.differ (sym (s.single x y there (sym is ∙ sym e)))) both.first_marked
+      (⊎_elim (λ e. subst (λ n. is_marked related n ≡ true) (sym e) both.second_marked) (λ n. s.relates k y n (names ∙ is)) (cases_eq k y)) (subst (AreLinked F x) (sym is) (linked-onwards F x y (class_of class y) may.linked (s.are.linked y))) fits
 
   -- what is of one class stays so, and x is of the class of y
-  pub put-grows : (class' : List ℕ) → class' ≡ set class x k → Grows class class'
+  put-grows : (class' : List ℕ) → class' ≡ set class x k → Grows class class'
   put-grows class' a p q e = subst (λ l. class_of l p ≡ class_of l q) (sym a) (⊎_elim (λ c. ⊎_elim (λ d. ap (class_of (set class x k)) (c ∙ sym d)) (λ n. absurd (n (s.single x q there (sym e ∙ ap (class_of class) c ∙ s.own x there)))) (cases_eq q x))
       (λ n. ⊎_elim (λ d. absurd (n (s.single x p there (e ∙ ap (class_of class) d ∙ s.own x there)))) (λ m. class-other class x k p n ∙ e ∙ sym (class-other class x k q m)) (cases_eq q x)) (cases_eq p x))
 
-  pub put-within : (class' : List ℕ) → class' ≡ set class x k → x < length F.vars → class_of class' x ≡ class_of class' y
-  put-within class' a inside = subst (λ l. class_of l x ≡ class_of l y) (sym a) (class-here class x k (omega (arith, s.are.long)) ∙ is ∙ sym (class-other class x k y (λ e. differ (sym e))))
+  pub put-within : (class' : List ℕ) → class' ≡ set class x k → class_of class' x ≡ class_of class' y
+  put-within class' a = let inside = both.first_below in subst (λ l. class_of l x ≡ class_of l y) (sym a) (class-here class x k (omega (arith, s.are.long)) ∙ is ∙ sym (class-other class x k y (λ e. both.differ (sym e))))
+
+  pub put-next : (class' : List ℕ) (alone' shadow' : List Bool) (joined' : Bool) → class' ≡ set class x k → alone' ≡ set (set alone x false) k false → shadow' ≡ shadows_joined shadow x k → joined' ≡ true → IsNextState F related class class' alone' shadow' joined joined'
+  put-next class' alone' shadow' joined' a b c d = record {
+    state = subst (λ z. IsRoundState F related z alone' shadow' joined') (sym a)
+        (subst (λ z. IsRoundState F related (set class x k) z shadow' joined') (sym b)
+        (subst (λ z. IsRoundState F related (set class x k) (set (set alone x false) k false) z joined') (sym c)
+        (subst (IsRoundState F related (set class x k) (set (set alone x false) k false) (shadows_joined shadow x k)) (sym d) joined-state)));
+    grows = put-grows class' a;
+    kept = λ e. absurd (let h : true ≡ false = sym d ∙ e in cc);
+  }
+
+-- the variables the other way round
+pub turned-look : (F : Func) (related : List Bool) (list : List Clash) (class : List ℕ) (alone shadow : List Bool) (joined : Bool) (x y : ℕ) → MayLookAt F related list class alone shadow joined x y → MayLookAt F related list class alone shadow joined y x
+turned-look F related list class alone shadow joined x y may = record {
+  clashes = may.clashes;
+  state = may.state;
+  both = let r = may.both in record { differ = λ e. r.differ (sym e); first_below = r.second_below; second_below = r.first_below; first_marked = r.second_marked; second_marked = r.first_marked };
+  linked = linked-turned F x y may.linked;
+}
 
 -- ---- the loop over clashes
 

@@ -150,7 +150,7 @@ module _ (P : Prog) (accepted : IsAccepted P) where
   }
 
   pub made-by : (Q : Prog) → IsFarther P Q → HasNoneApart Q → IsMadeBy P Q
-  made-by Q so_far none = record { merged = all-made P Q so_far.made none; accepted = so_far.made.accepted; refines = so_far.refines; size = so_far.size }
+  made-by Q so_far none = record { merged = all-made P Q so_far.made accepted none; accepted = so_far.made.accepted; refines = so_far.refines; size = so_far.size }
 
 -- ---- the pass
 

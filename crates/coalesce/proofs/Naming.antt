@@ -1,7 +1,7 @@
 -- New names by classes, as a function on names, and what classes say of it.
-use Rattle.std.proofs.Common.{◌≡◌, ◌≢◌, ℕ, zero, suc, ◌<◌, Bool, true, false, cond, ◌&&◌, eqb, List, [], ◌∷◌, length, map, Some, refl, sym, ap, ◌∙◌, ⊎_elim, arith}
+use Rattle.std.proofs.Common.{◌≡◌, ◌≢◌, ℕ, zero, suc, ◌<◌, Bool, true, false, cond, ◌&&◌, eqb, List, [], ◌∷◌, length, map, Some, refl, sym, ap, subst, ◌∙◌, ⊎_elim, arith}
 use Rattle.std.specs.Prelude.{slice_get}
-use Rattle.std.specs.List.{AllPairs}
+use Rattle.std.specs.List.{AllPairs, Contains}
 use Rattle.std.proofs.lemmas.Bool.{and_parts, cases_lt, eq-eqb, eqb-true}
 use Rattle.std.proofs.lemmas.List.{length-map}
 use Rattle.bril_tree.specs.declared.numbered.VarInfo.{VarInfo}
@@ -12,7 +12,8 @@ use Rattle.bril_names.proofs.Functions.{Differ-variables}
 use Rattle.bril_names.proofs.Naming.{one_number}
 use Rattle.coalesce.specs.meaning.Apart.{source_of}
 use Rattle.coalesce.proofs.lemmas.meaning.Names.{named-map}
-use Rattle.coalesce.specs.meaning.Merged.{IsSound, new_name}
+use Rattle.coalesce.specs.meaning.Linked.{AreLinked, Both}
+use Rattle.coalesce.specs.meaning.Merged.{AreNewNames, IsSound, new_name}
 use Rattle.coalesce.specs.Classes.{AreClasses, Clashes, class_of, source_at}
 use Rattle.coalesce.specs.Rounds.{NamesClasses}
 use Rattle.coalesce.proofs.Joining.{outside}
@@ -50,6 +51,17 @@ by_test : (b : Bool) (w m : List ℕ) → b ≡ false → cond b w m ≡ m
 by_test true w m e = absurd cc
 by_test false w m e = refl
 
+-- a name that isn't in the list stays
+pub renamed-other : (names news : List (List ℕ)) (n : List ℕ) → ¬ Contains names n → renamed_by names news n ≡ n
+unfolding renamed_by
+renamed-other [] news n lacks = refl
+renamed-other (v ∷ names) [] n lacks = refl
+renamed-other (v ∷ names) (w ∷ news) n lacks = by_test (same_name v n) w (renamed_by names news n) (other (same_name v n) refl) ∙ renamed-other names news n (λ c. lacks (suc c.0, (let l = c.1 in omega arith), c.2))
+  where
+    other : (b : Bool) → same_name v n ≡ b → b ≡ false
+    other true e = absurd (lacks (0, omega arith, name-is v n e))
+    other false e = refl
+
 pub renamed-is : (names news : List (List ℕ)) → AllPairs (λ a b. a ≢ b) names → length names ≡ length news → (x : ℕ) → x < length names → renamed_by names news (named names x) ≡ named news x
 unfolding renamed_by
 renamed-is [] news differ long x less = absurd (omega arith)
@@ -73,25 +85,32 @@ module _ (P : Prog) (f : ℕ) (F : Func) (p : slice_get P.funcs f ≡ Some F) (c
   size : length V ≡ length F.vars
   size = length-map F.vars (λ (v : VarInfo). v.name)
 
-  pub new-is : (x : ℕ) → x < length F.vars → new_name P f rename x ≡ named V (class_of class x)
-  new-is x less = ap (λ o. rename (named (names_in o) x)) p ∙ renamed-is V news (Differ-variables F) (size ∙ sym n.long) x (let s = size in omega arith) ∙ n.names x less
+  has-name : (x : ℕ) → x < length F.vars → rename (named V x) ≡ named V (class_of class x)
+  has-name x less = renamed-is V news (Differ-variables F) (size ∙ sym n.long) x (let s = size in omega arith) ∙ n.names x less
 
-  pub one-class : (x y : ℕ) → x < length F.vars → y < length F.vars → new_name P f rename x ≡ new_name P f rename y → class_of class x ≡ class_of class y
-  one-class x y a b e =
+  pub new-is : (x : ℕ) → x < length F.vars → new_name P f rename x ≡ named V (class_of class x)
+  new-is x less = ap (λ o. rename (named (names_in o) x)) p ∙ has-name x less
+
+  same-class : (x y : ℕ) → x < length F.vars → y < length F.vars → named V (class_of class x) ≡ named V (class_of class y) → class_of class x ≡ class_of class y
+  same-class x y a b e =
       let s = size in
       let i = are.inside x a in
       let j = are.inside y b in
-      one_number V (Differ-variables F) (class_of class x) (class_of class y) (omega arith) (omega arith) (sym (new-is x a) ∙ e ∙ new-is y b)
+      one_number V (Differ-variables F) (class_of class x) (class_of class y) (omega arith) (omega arith) e
+
+  pub one-class : (x y : ℕ) → x < length F.vars → y < length F.vars → new_name P f rename x ≡ new_name P f rename y → class_of class x ≡ class_of class y
+  one-class x y a b e = same-class x y a b (sym (new-is x a) ∙ e ∙ new-is y b)
 
   -- what is of a class of the function's variables is one of them
   of-function : (z x : ℕ) → x < length F.vars → class_of class z ≡ class_of class x → z < length F.vars
   of-function z x a e = ⊎_elim (λ l. l) (λ high. let own : class_of class z ≡ z = outside class z z (omega (arith, are.long)) in let i = are.inside x a in omega (arith, own, e)) (cases_lt z (length F.vars))
 
-  pub arguments-kept : (x : ℕ) → x < F.args → rename (named V x) ≡ named V x
-  arguments-kept x less =
-      let few = F.formed.few_args in
-      let low : x < length F.vars = omega arith in
-      renamed-is V news (Differ-variables F) (size ∙ sym n.long) x (let s = size in omega arith) ∙ n.names x low ∙ ap (named V) (are.arguments x less)
+  pub classes-named : AreNewNames F rename
+  classes-named = record {
+    arguments = λ x less. let few = F.formed.few_args in has-name x (omega arith) ∙ ap (named V) (are.arguments x less);
+    own = λ x less. (class_of class x, are.inside x less, has-name x less, has-name (class_of class x) (are.inside x less) ∙ ap (named V) (are.named x));
+    linked = λ x y a b e. Both x y (class_of class x) (are.linked x) (subst (AreLinked F y) (sym (same-class x y a b (sym (has-name x a) ∙ e ∙ has-name y b))) (are.linked y));
+  }
 
   pub classes-sound : IsSound P f F rename
   classes-sound x y a b differ same =

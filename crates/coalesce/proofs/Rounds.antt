@@ -1,5 +1,5 @@
 -- From the tree that a round makes to its program.
-use Rattle.std.proofs.Common.{◌≡◌, ℕ, zero, suc, ◌<◌, Bool, true, false, List, [], ◌∷◌, map, Option, Some, None, refl, sym, ap, subst, ◌∙◌, inl, inr}
+use Rattle.std.proofs.Common.{◌≡◌, ℕ, zero, suc, Bool, true, false, List, [], ◌∷◌, map, Option, Some, None, refl, sym, ap, subst, ◌∙◌, inl, inr}
 use Rattle.std.specs.Prelude.{slice_get, is_some}
 use Rattle.std.specs.List.{AllZip}
 use Rattle.std.specs.Option.{option_map}
@@ -23,11 +23,11 @@ use Rattle.pass_edit_laws.specs.names.NamedPlan.{SameHeads}
 use Rattle.pass_edit_laws.specs.names.Renaming.{renamed_tree}
 use Rattle.pass_edit_laws.specs.plan.Marked.{with_nops}
 use Rattle.pass_edit_laws.proofs.lemmas.plan.Marked.{with_nops-alive, with_nops-dead}
-use Rattle.coalesce.specs.meaning.Merged.{IsRenamedAt, IsRound, IsSelfCopy, IsSound, renamed_item}
+use Rattle.coalesce.specs.meaning.Merged.{AreNewNames, IsRenamedAt, IsRound, IsSelfCopy, IsSound, renamed_item}
 use Rattle.coalesce.proofs.lemmas.meaning.Names.{tree-renamed}
 use Rattle.graph_search.specs.Marks.{is_marked}
 use Rattle.coalesce.specs.Rounds.{CopyWithin, IsRoundFunction, IsRoundTree}
-use Rattle.coalesce.proofs.Naming.{arguments-kept, classes-sound, names-renamed, new-is, one-class, renamed_by}
+use Rattle.coalesce.proofs.Naming.{classes-named, classes-sound, names-renamed, new-is, one-class, renamed-other, renamed_by}
 use Rattle.coalesce.proofs.Starting.{copy-below}
 
 module _ (P : Prog) (accepted : IsAccepted P) where
@@ -77,8 +77,8 @@ module _ (P : Prog) (accepted : IsAccepted P) where
       code : code_of P f ≡ F.code
       code = ap items_of p
 
-      arguments-own : (x : ℕ) → x < F.args → own (named (variable_names F.vars) x) ≡ named (variable_names F.vars) x
-      arguments-own x less = arguments-kept P f F p m.round.class m.round.are m.round.news m.round.names x less
+      names-own : AreNewNames F own
+      names-own = classes-named P f F p m.round.class m.round.are m.round.news m.round.names
 
       sound-own : IsSound P f F own
       sound-own = classes-sound P f F p m.round.class m.round.are m.round.news m.round.names
@@ -131,7 +131,8 @@ module _ (P : Prog) (accepted : IsAccepted P) where
     pub tree-round : IsRound P Q rename
     tree-round = record {
       heads = heads;
-      arguments = λ f F p x less. ap (λ r. r (named (variable_names F.vars) x)) (m f F p).same ∙ arguments-own f F p x less;
+      names = λ f F p. subst (AreNewNames F) (sym (m f F p).same) (names-own f F p);
+      others = λ f F p name lacks. ap (λ r. r name) (m f F p).same ∙ renamed-other (variable_names F.vars) (m f F p).round.news name lacks;
       points = points;
       sound = λ f F p. subst (IsSound P f F) (sym (m f F p).same) (sound-own f F p);
     }

@@ -1,7 +1,6 @@
 -- The pass as it comes with the program: its row, and that what it makes is within it.
 use Rattle.std.proofs.Common.{refl}
 use Rattle.std.specs.Prelude.{codes}
-use Rattle.coalesce.proofs.lemmas.meaning.Numbers.{numbers-kept}
 use Rattle.coalesce.specs.Merge.{merge_meaning}
 use Rattle.pass_budget_laws.specs.Rows.{keeps}
 use Rattle.pass_budget_laws.specs.Shipped.{Shipped}
@@ -13,5 +12,5 @@ merge_shipped = record {
   meaning = merge_meaning;
   row = keeps (codes "merge");
   answers = λ name. refl;
-  within = keeps-row merge_meaning (codes "merge") (record { factor = λ P profile k is. is; bound = λ P profile k is. is }) (λ P Q profile accepted link. numbers-kept P Q accepted link.accepted link.makes);
+  within = keeps-row merge_meaning (codes "merge") (record { factor = λ P profile k is. is; bound = λ P profile k is. is }) (λ P Q profile accepted link. link.makes.numbers);
 }

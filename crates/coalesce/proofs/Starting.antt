@@ -1,8 +1,9 @@
 -- Where a round begins: each variable is alone, and marks tell which are related and which have a shadow that items name.
-use Rattle.std.proofs.Common.{◌≡◌, ◌⊎◌, ℕ, ◌+◌, ◌<◌, ◌≤◌, Bool, true, false, List, [], ◌∷◌, length, get_or, Some, None, refl, sym, ap, subst, ◌∙◌, inl, inr, ⊎_elim, arith}
+use Rattle.std.proofs.Common.{◌≡◌, ◌⊎◌, ℕ, ◌+◌, ◌<◌, ◌≤◌, Bool, true, false, List, [], ◌∷◌, length, get_or, replicate, Some, None, refl, sym, ap, subst, ◌∙◌, inl, inr, ⊎_elim, arith}
 use Rattle.std.specs.Prelude.{slice_get, slice_index, is_some}
 use Rattle.std.specs.List.{Contains}
 use Rattle.std.proofs.lemmas.Bool.{cases_eq, cases_lt}
+use Rattle.std.proofs.lemmas.List.{get_or-replicate, length-replicate}
 use Rattle.std.proofs.lemmas.Option.{get_or_from_slice_get, slice_get_within, slice_get-get_or, same_Some}
 use Rattle.bril_tree.specs.declared.numbered.Instr.{Instr}
 use Rattle.bril_tree.specs.declared.numbered_function.Func.{Func}
@@ -14,12 +15,40 @@ use Rattle.bril_tree.proofs.Formed.{variable_below}
 use Rattle.bril_tree.proofs.Shapes.{shape-parts}
 use Rattle.bril_checker.proofs.Positions.{all_pass}
 use Rattle.coalesce.specs.meaning.Apart.{Copies, HasShadow, shadows_of}
+use Rattle.coalesce.specs.meaning.Linked.{AreLinked, Same}
 use Rattle.coalesce.specs.meaning.Merged.{NoneApart}
 use Rattle.coalesce.proofs.lemmas.meaning.Copying.{copy-is}
 use Rattle.bril_tree.specs.Walk.{IsReached}
 use Rattle.coalesce.specs.Rounds.{CopyWithin, HasCopyWithin, IsCopyWithin}
 use Rattle.graph_search.specs.Marks.{is_marked}
-use Rattle.coalesce.specs.Classes.{Grows, IsRelatedItem, MarksShadow, NotApart, Relates}
+use Rattle.coalesce.specs.Classes.{AreAlone, AreRelated, Grows, IsRelatedItem, IsRoundState, MarksShadow, NotApart, Relates, class_of}
+
+-- ---- each variable alone
+
+pub first-state : (F : Func) (related : List Bool) (class : List ℕ) (alone shadow : List Bool) (n : ℕ) → n ≡ length F.vars → length class ≡ n → AreAlone class → alone ≡ replicate n true → length shadow ≡ length F.vars
+    → ((x : ℕ) → x < length F.vars → HasShadow F.code x → is_marked shadow x ≡ true) → ((x : ℕ) → is_marked shadow x ≡ true → HasShadow F.code x) → IsRoundState F related class alone shadow false
+first-state F related class alone shadow n many long own same shadow_long all only = record {
+  are = record {
+    long = long ∙ many;
+    inside = λ x low. subst (λ y. y < length F.vars) (sym (own x)) low;
+    arguments = λ x low. own x;
+    named = λ x. ap (class_of class) (own x);
+    linked = λ x. subst (AreLinked F x) (sym (own x)) (Same x);
+    joined = λ x y differ e. absurd (differ (one x y e));
+  };
+  alone_long = ap length same ∙ length-replicate n true ∙ many;
+  shadow_long = shadow_long;
+  own = λ x e. own x;
+  single = λ x y e c. sym (own y) ∙ c;
+  relates = λ x y differ e. absurd (differ (one x y e));
+  unshadowed = λ x e low h. let f : true ≡ false = sym (all x low h) ∙ sym (ap (is_marked shadow) (own x)) ∙ e in cc;
+  apart = λ e x. own x;
+  all_alone = λ e x low. ap (λ l. is_marked l x) same ∙ get_or-replicate n x true false (subst (λ m. x < m) (sym many) low);
+  shadowed = λ e x h. only x h;
+}
+  where
+    one : (x y : ℕ) → class_of class x ≡ class_of class y → x ≡ y
+    one x y e = sym (own x) ∙ e ∙ own y
 
 -- ---- related variables
 
@@ -46,16 +75,19 @@ related-more F shaped old new items same n item low is long r before point a les
     there : slice_get F.code n ≡ Some item
     there = ap (λ l. slice_get l n) (sym same) ∙ slice_get-get_or items n item low ∙ ap Some (sym is)
 
-    here : point ≡ n → (x < length F.vars) × (y < length F.vars) × (is_marked new x ≡ true) × (is_marked new y ≡ true)
+    marked : is_marked new x ≡ true → is_marked new y ≡ true → AreRelated F new x y
+    marked first second = record { differ = d; first_below = below.0; second_below = below.1; first_marked = first; second_marked = second }
+
+    here : point ≡ n → AreRelated F new x y
     here e =
         let one : a ≡ item = same_Some a item (sym at ∙ ap (slice_get F.code) e ∙ there) in
         let b = r.both x y (subst (λ z. Copies z x y) one c) in
         let bx = below.0 in
         let by = below.1 in
-        (below.0, below.1, b.0 (omega (arith, long)), b.1 (omega (arith, long)))
+        marked (b.0 (omega (arith, long))) (b.1 (omega (arith, long)))
 
-    earlier : (point ≡ n → ⊥) → (x < length F.vars) × (y < length F.vars) × (is_marked new x ≡ true) × (is_marked new y ≡ true)
-    earlier e = let h = before point a (⊎_elim (λ l. l) (λ high. absurd (e (omega arith))) (cases_lt point n)) at x y c d in (h.0, h.1, r.kept x h.2, r.kept y h.3)
+    earlier : (point ≡ n → ⊥) → AreRelated F new x y
+    earlier e = let h = before point a (⊎_elim (λ l. l) (λ high. absurd (e (omega arith))) (cases_lt point n)) at x y c d in marked (r.kept x h.first_marked) (r.kept y h.second_marked)
 
 -- ---- shadows
 

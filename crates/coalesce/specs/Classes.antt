@@ -10,6 +10,7 @@ use Rattle.bril_tree.specs.Walk.{IsReached}
 use Rattle.flow_graph.specs.declared.reads.Access.{Access}
 use Rattle.graph_search.specs.Marks.{is_marked}
 use Rattle.coalesce.specs.meaning.Apart.{AreApart, Copies, HasShadow, shadows_of, source_of}
+use Rattle.coalesce.specs.meaning.Linked.{AreLinked}
 use Rattle.coalesce.specs.declared.clashes.Clash.{Clash}
 
 -- ---- clashes
@@ -66,11 +67,14 @@ pub record MayJoin (F : Func) (class : List ℕ) (x y : ℕ) : Type 0 where
   pub shadows : HasShadow F.code x → HasShadow F.code y → ⊥
   pub spares : (item : ℕ) → Clashes F.code item x y → (z : ℕ) × (source_at (slice_get F.code item) ≡ Some z) × (class_of class z ≡ class_of class x)
 
--- The classes of a function's variables: each is named by one of its variables, an argument by itself.
+-- The classes of a function's variables: each is named by one of its variables, with which copies link the others, and that of an
+-- argument by the argument.
 pub record AreClasses (F : Func) (class : List ℕ) : Type 0 where
   pub long : length class ≡ length F.vars
   pub inside : (x : ℕ) → x < length F.vars → class_of class x < length F.vars
   pub arguments : (x : ℕ) → x < F.args → class_of class x ≡ x
+  pub named : (x : ℕ) → class_of class (class_of class x) ≡ class_of class x
+  pub linked : (x : ℕ) → AreLinked F x (class_of class x)
   pub joined : (x y : ℕ) → x ≢ y → class_of class x ≡ class_of class y → MayJoin F class x y
 
 -- The state of a round: which classes have one variable, and which have a variable whose shadow is named.
@@ -81,8 +85,6 @@ pub record IsRoundState (F : Func) (related : List Bool) (class : List ℕ) (alo
   -- a variable that is alone names its class, which has no other
   pub own : (x : ℕ) → is_marked alone x ≡ true → class_of class x ≡ x
   pub single : (x y : ℕ) → is_marked alone x ≡ true → class_of class y ≡ x → y ≡ x
-  -- the variable that names a class is of it
-  pub named : (x : ℕ) → class_of class (class_of class x) ≡ class_of class x
   pub relates : (x y : ℕ) → x ≢ y → class_of class x ≡ class_of class y → is_marked related x ≡ true
   pub unshadowed : (x : ℕ) → is_marked shadow (class_of class x) ≡ false → x < length F.vars → HasShadow F.code x → ⊥
   -- where nothing was joined
@@ -118,13 +120,38 @@ shadows_joined shadow x k = if is_marked shadow x then slice_set shadow k true e
 abbrev pub Grows : (class more : List ℕ) → Type 0
 Grows class more = (x y : ℕ) → class_of class x ≡ class_of class y → class_of more x ≡ class_of more y
 
+-- The next state of a round: the classes grow, and once two variables were joined that stays so.
+pub record IsNextState (F : Func) (related : List Bool) (class more : List ℕ) (alone shadow : List Bool) (joined new : Bool) : Type 0 where
+  pub state : IsRoundState F related more alone shadow new
+  pub grows : Grows class more
+  pub kept : new ≡ false → joined ≡ false
+
+-- two different variables of the function, both related
+pub record AreRelated (F : Func) (related : List Bool) (x y : ℕ) : Type 0 where
+  pub differ : x ≢ y
+  pub first_below : x < length F.vars
+  pub second_below : y < length F.vars
+  pub first_marked : is_marked related x ≡ true
+  pub second_marked : is_marked related y ≡ true
+
+-- In this state of a round, with these clashes, the variables may be joined if they fit: copies relate and link them.
+pub record MayLookAt (F : Func) (related : List Bool) (list : List Clash) (class : List ℕ) (alone shadow : List Bool) (joined : Bool) (x y : ℕ) : Type 0 where
+  pub clashes : AreClashes F.code related list
+  pub state : IsRoundState F related class alone shadow joined
+  pub both : AreRelated F related x y
+  pub linked : AreLinked F x y
+
 -- the copies that were looked at aren't apart, where nothing was joined
 abbrev pub NotApart : Func → Instr → Type 0
 NotApart F item = (x y : ℕ) → Copies item x y → x ≢ y → AreApart F x y → ⊥
 
 -- where the item copies one variable to another, both are related, and of the function
 abbrev pub IsRelatedItem : Func → List Bool → Instr → Type 0
-IsRelatedItem F related item = (x y : ℕ) → Copies item x y → x ≢ y → (x < length F.vars) × (y < length F.vars) × (is_marked related x ≡ true) × (is_marked related y ≡ true)
+IsRelatedItem F related item = (x y : ℕ) → Copies item x y → x ≢ y → AreRelated F related x y
+
+-- where it copies one variable to another, copies link both
+abbrev pub IsLinkedItem : Func → Instr → Type 0
+IsLinkedItem F item = (x y : ℕ) → Copies item x y → AreLinked F x y
 
 -- ---- how clashes are found
 

@@ -1,6 +1,6 @@
 // Classes of variables, which grow by one variable at a time.
 
-ghost use Rattle.std.specs.Prelude.{◌≡◌, ◌≢◌, ◌⊎◌, Some, ◌<◌, ◌≤◌, ◌^◌, ◌-◌, ◌&&◌, ℕ, true, false, None, is_some, IfOk, OnOk, length, slice_get, slice_set};
+ghost use Rattle.std.specs.Prelude.{◌≡◌, ◌⊎◌, Some, ◌<◌, ◌≤◌, ◌^◌, ◌-◌, ◌&&◌, ℕ, true, false, None, is_some, IfOk, OnOk, length, slice_get, slice_set};
 ghost use Rattle.std.specs.List.{All, Contains};
 ghost use Rattle.bril_tree.specs.Typing.{variable_type};
 ghost use Rattle.bril_tree.specs.Shape.{shape_fault_of};
@@ -13,7 +13,7 @@ ghost use Rattle.coalesce.specs.meaning.Merged.{NoneApart};
 ghost use Rattle.coalesce.specs.declared.clashes.Clash.{Clash};
 ghost use Rattle.coalesce.specs.Rounds.{HasCopyWithin, IsCopyWithin};
 ghost use Rattle.graph_search.specs.Marks.{is_marked};
-ghost use Rattle.coalesce.specs.Classes.{AreAlone, AreClashes, AreClasses, Fits, Grows, MarksShadow, Relates, IsRelatedItem, IsRoundState, Misfits, NoneKeepsApart, NotApart, SomeKeepsApart, class_of, firsts_from, is_source, keeps_apart, shadows_joined, source_at};
+ghost use Rattle.coalesce.specs.Classes.{AreAlone, AreClashes, AreClasses, Fits, MarksShadow, MayLookAt, Relates, IsLinkedItem, IsNextState, IsRelatedItem, IsRoundState, Misfits, NoneKeepsApart, NotApart, SomeKeepsApart, class_of, firsts_from, is_source, keeps_apart, shadows_joined, source_at};
 
 use crate::clashes::{Clash, Related, clashes_of};
 use crate::copies::{dest_of, shadow_of, source_of};
@@ -343,19 +343,11 @@ impl Classes {
         x: u32,
         y: u32,
     ) -> Result<(), AllocError>
-        requires clashes { AreClashes related.func.now.code related.marks.now clashes.now.list.items }
-        requires state { IsRoundState related.func.now related.marks.now self.old.class.items self.old.alone.items self.old.shadow.items self.old.joined }
         requires alone { is_marked self.old.alone.items x ≡ true }
         requires past { related.func.now.args ≤ x }
-        requires differ { x ≢ y }
-        requires x { x < length related.func.now.vars }
-        requires y { y < length related.func.now.vars }
-        requires relates_x { is_marked related.marks.now x ≡ true }
-        requires relates_y { is_marked related.marks.now y ≡ true }
-        ensures state { OnOk result (IsRoundState related.entry.func.now related.entry.marks.now self.new.class.items self.new.alone.items self.new.shadow.items self.new.joined) }
-        ensures kept { OnOk result (self.new.joined ≡ false → self.old.joined ≡ false) }
+        requires may { MayLookAt related.func.now related.marks.now clashes.now.list.items self.old.class.items self.old.alone.items self.old.shadow.items self.old.joined x y }
+        ensures next { OnOk result (IsNextState related.entry.func.now related.entry.marks.now self.old.class.items self.new.class.items self.new.alone.items self.new.shadow.items self.old.joined self.new.joined) }
         ensures misfits { OnOk result (self.new.joined ≡ false → Misfits related.entry.func.now clashes.now.list.items self.old.class.items self.old.shadow.items x (class_of self.old.class.items y)) }
-        ensures grows { OnOk result (Grows self.old.class.items self.new.class.items) }
         ensures within { OnOk result (self.new.joined ≡ true → (self.old.joined ≡ true) ⊎ (class_of self.new.class.items x ≡ class_of self.new.class.items y)) }
     {
         let class = self.class_of(y);
@@ -375,17 +367,9 @@ impl Classes {
         x: u32,
         y: u32,
     ) -> Result<(), AllocError>
-        requires clashes { AreClashes related.func.now.code related.marks.now clashes.now.list.items }
-        requires state { IsRoundState related.func.now related.marks.now self.old.class.items self.old.alone.items self.old.shadow.items self.old.joined }
-        requires differ { x ≢ y }
-        requires x { x < length related.func.now.vars }
-        requires y { y < length related.func.now.vars }
-        requires relates_x { is_marked related.marks.now x ≡ true }
-        requires relates_y { is_marked related.marks.now y ≡ true }
-        ensures state { OnOk result (IsRoundState related.entry.func.now related.entry.marks.now self.new.class.items self.new.alone.items self.new.shadow.items self.new.joined) }
-        ensures kept { OnOk result (self.new.joined ≡ false → self.old.joined ≡ false) }
+        requires may { MayLookAt related.func.now related.marks.now clashes.now.list.items self.old.class.items self.old.alone.items self.old.shadow.items self.old.joined x y }
+        ensures next { OnOk result (IsNextState related.entry.func.now related.entry.marks.now self.old.class.items self.new.class.items self.new.alone.items self.new.shadow.items self.old.joined self.new.joined) }
         ensures apart { OnOk result (self.new.joined ≡ false → AreApart related.entry.func.now x y → ⊥) }
-        ensures grows { OnOk result (Grows self.old.class.items self.new.class.items) }
         ensures within { OnOk result (self.new.joined ≡ true → (self.old.joined ≡ true) ⊎ (class_of self.new.class.items x ≡ class_of self.new.class.items y)) }
     {
         if self.may_move(related.func, x) {
@@ -408,11 +392,10 @@ impl Classes {
     ) -> Result<(), AllocError>
         requires clashes { AreClashes related.func.now.code related.marks.now clashes.now.list.items }
         requires state { IsRoundState related.func.now related.marks.now self.old.class.items self.old.alone.items self.old.shadow.items self.old.joined }
-        requires item { IsRelatedItem related.func.now related.marks.now item.now }
-        ensures state { OnOk result (IsRoundState related.entry.func.now related.entry.marks.now self.new.class.items self.new.alone.items self.new.shadow.items self.new.joined) }
-        ensures kept { OnOk result (self.new.joined ≡ false → self.old.joined ≡ false) }
+        requires related { IsRelatedItem related.func.now related.marks.now item.now }
+        requires linked { IsLinkedItem related.func.now item.now }
+        ensures next { OnOk result (IsNextState related.entry.func.now related.entry.marks.now self.old.class.items self.new.class.items self.new.alone.items self.new.shadow.items self.old.joined self.new.joined) }
         ensures apart { OnOk result (self.new.joined ≡ false → NotApart related.entry.func.now item.now) }
-        ensures grows { OnOk result (Grows self.old.class.items self.new.class.items) }
         ensures within { OnOk result (self.new.joined ≡ true → (self.old.joined ≡ true) ⊎ IsCopyWithin item.now self.new.class.items) }
     {
         if let (Some(x), Some(y)) = (dest_of(item), source_of(item)) {
@@ -434,13 +417,12 @@ impl Classes {
     ) -> Result<(), AllocError>
         requires graph { IsGraphOf related.func.now.code related.graph.now }
         requires point { point < length related.func.now.code }
+        requires here { slice_get related.func.now.code point ≡ Some item.now }
         requires clashes { AreClashes related.func.now.code related.marks.now clashes.now.list.items }
         requires state { IsRoundState related.func.now related.marks.now self.old.class.items self.old.alone.items self.old.shadow.items self.old.joined }
-        requires item { IsRelatedItem related.func.now related.marks.now item.now }
-        ensures state { OnOk result (IsRoundState related.entry.func.now related.entry.marks.now self.new.class.items self.new.alone.items self.new.shadow.items self.new.joined) }
-        ensures kept { OnOk result (self.new.joined ≡ false → self.old.joined ≡ false) }
+        requires related { IsRelatedItem related.func.now related.marks.now item.now }
+        ensures next { OnOk result (IsNextState related.entry.func.now related.entry.marks.now self.old.class.items self.new.class.items self.new.alone.items self.new.shadow.items self.old.joined self.new.joined) }
         ensures apart { OnOk result (self.new.joined ≡ false → IsReached related.entry.func.now.code point → NotApart related.entry.func.now item.now) }
-        ensures grows { OnOk result (Grows self.old.class.items self.new.class.items) }
         ensures within { OnOk result (self.new.joined ≡ true → (self.old.joined ≡ true) ⊎ (IsReached related.entry.func.now.code point × IsCopyWithin item.now self.new.class.items)) }
     {
         if !related.graph.reach(point) {

@@ -15,10 +15,10 @@ use bril_tree::program::Prog;
 use pass_make::{Edit, Edited, Made, finish};
 use std::alloc::{AllocError, Global};
 
-/// The pass `merge`, as clauses see it by its tally. It gives one name to variables of one type that copies relate, where
-/// none of them is assigned while another is live, and `nop` for each reachable copy of a variable onto itself; it goes in
-/// rounds until no reachable `id` has two different variables that are apart. Its factor is 1, and its bound the number of
-/// items.
+/// The pass `merge`, as clauses see it by its tally. It gives variables of one type that reachable copies link the name of
+/// one of them, where none is assigned while another is live, and puts `nop` for each reachable copy of a variable onto
+/// itself; it goes in rounds until no reachable `id` has two different variables that are apart. No number of the program
+/// grows. Its factor is 1, and its bound the number of items.
 pub type Merge = Edited<MergeEdit>;
 
 /// The edit of the pass `merge`.

@@ -1,12 +1,11 @@
 // A round over the functions of a program.
 
-ghost use Rattle.std.specs.Prelude.{◌≡◌, ◌<◌, ◌≤◌, ◌^◌, ◌-◌, None, false, true, IfOk, is_some, length};
+ghost use Rattle.std.specs.Prelude.{◌≡◌, ◌<◌, ◌≤◌, false, true, IfOk, length};
 ghost use Rattle.bril_names.specs.Range.{AreInRange};
 ghost use Rattle.bril_tree.specs.Accepted.{IsAccepted};
-ghost use Rattle.bril_tree.specs.Numbered.{function_tree, names_of_functions, tree_of};
-ghost use Rattle.bril_tree.specs.Shape.{shape_fault_of};
-ghost use Rattle.bril_tree.specs.Sites.{AreSitesSound};
+ghost use Rattle.bril_tree.specs.Numbered.{names_of_functions, tree_of};
 ghost use Rattle.bril_tree.specs.Size.{IsCounted};
+ghost use Rattle.pass_make.specs.Each.{IsFunctionOf};
 ghost use Rattle.coalesce.specs.Copies.{copies_in, copies_of_code, copies_of_tree};
 ghost use Rattle.coalesce.specs.Rounds.{HasNoneApart, IsRoundFunction, IsRoundTree};
 
@@ -45,16 +44,14 @@ fn function_names(alloc: Global, prog: &Prog) -> Result<Seq<Name>, AllocError>
 fn round_function(
     alloc: Global,
     _prog: &Prog,
+    _number: u32,
     names: &[Name],
     func: &Func,
     function: FuncTree,
 ) -> Result<FuncTree, AllocError>
-    requires shaped { shape_fault_of (is_some func.now.ret) func.now.code ≡ None }
-    requires few { length func.now.code < 2 ^ 32 - 1 }
-    requires sound { AreSitesSound func.now.code }
+    requires of { IsFunctionOf _prog.now _number func.now function }
     requires names { names.now ≡ names_of_functions _prog.now.funcs }
     requires range { AreInRange (length names.now) (length func.now.vars) (length func.now.labels) func.now.code }
-    requires tree { function ≡ function_tree (names_of_functions _prog.now.funcs) func.now }
     ensures { IfOk result (IsRoundFunction _prog.now func.now) }
 {
     let graph = Graph::of_sound(alloc, func)?;
@@ -73,8 +70,8 @@ fn round_tree(alloc: Global, prog: &Prog) -> Result<Tree, AllocError>
 {
     let owned = function_names(alloc, prog)?;
     let names = owned.as_slice();
-    each_function(alloc, prog, |_number, func, function| {
-        round_function(alloc, prog, names, func, function)
+    each_function(alloc, prog, |number, func, function| {
+        round_function(alloc, prog, number, names, func, function)
     })
 }
 

@@ -1,6 +1,7 @@
--- What the pass makes: other names of variables, `nop` for reached copies of a variable onto itself, and no reached copy left
--- between two different variables that are apart.
+-- What the pass makes: other names of variables, one for variables that copies link; `nop` for reached copies of a variable onto
+-- itself; and no reached copy left between two different variables that are apart.
 use Rattle.std.specs.Prelude.{◌≡◌, ◌≢◌, ◌⊎◌, ℕ, suc, ◌<◌, List, length, map, Option, Some, None, slice_get}
+use Rattle.std.specs.List.{Contains}
 use Rattle.std.specs.Option.{option_map}
 use Rattle.bril_tree.specs.declared.function_tree.Dest.{Dest}
 use Rattle.bril_tree.specs.declared.function_tree.Item.{Item}
@@ -15,7 +16,9 @@ use Rattle.bril_tree.specs.Step.{code_of, item_at}
 use Rattle.bril_tree.specs.Typing.{variable_type}
 use Rattle.bril_tree.specs.Walk.{IsReached}
 use Rattle.pass_edit_laws.specs.names.NamedPlan.{SameHeads}
+use Rattle.pass_edit_laws.specs.numbers.Numbers.{NumbersWithin}
 use Rattle.coalesce.specs.meaning.Apart.{AreApart, Copies, HasShadow, source_of}
+use Rattle.coalesce.specs.meaning.Linked.{AreLinked}
 
 -- ---- an item with other names of its variables
 
@@ -49,21 +52,32 @@ module _ (P : Prog) (f : ℕ) (rename : List ℕ → List ℕ) where
   abbrev pub IsRenamedAt : Prog → ℕ → Type 0
   IsRenamedAt Q point = (IsSelfCopy point × (tree_at Q f point ≡ Some nop_item)) ⊎ ((IsSelfCopy point → ⊥) × (tree_at Q f point ≡ option_map (renamed_item rename) (tree_at P f point)))
 
--- the function has other names of its variables; arguments keep theirs
+abbrev pub name_of : Func → ℕ → List ℕ
+name_of F x = named (variable_names F.vars) x
+
+-- The new names of a function's variables: arguments keep theirs, each is the name of one of the variables that get it, and copies
+-- link any two that get one name.
+pub record AreNewNames (F : Func) (rename : List ℕ → List ℕ) : Type 0 where
+  pub arguments : (x : ℕ) → x < F.args → rename (name_of F x) ≡ name_of F x
+  pub own : (x : ℕ) → x < length F.vars → (y : ℕ) × (y < length F.vars) × (rename (name_of F x) ≡ name_of F y) × (rename (name_of F y) ≡ name_of F y)
+  pub linked : (x y : ℕ) → x < length F.vars → y < length F.vars → rename (name_of F x) ≡ rename (name_of F y) → AreLinked F x y
+
+-- the function has other names of its variables
 pub record IsRenamed (P Q : Prog) (f : ℕ) (F : Func) : Type 0 where
   pub rename : List ℕ → List ℕ
-  pub arguments : (x : ℕ) → x < F.args → rename (named (variable_names F.vars) x) ≡ named (variable_names F.vars) x
+  pub names : AreNewNames F rename
   pub points : (point : ℕ) → IsRenamedAt P f rename Q point
 
 -- no reached copy is left between two different variables that are apart
 abbrev pub NoneApart : Func → Type 0
 NoneApart F = (point : ℕ) (item : Instr) (x y : ℕ) → IsReached F.code point → slice_get F.code point ≡ Some item → Copies item x y → x ≢ y → ¬ AreApart F x y
 
--- What the pass makes.
+-- What the pass makes. No number of it is greater than that of the program.
 pub record IsMerged (P Q : Prog) : Type 0 where
   pub heads : SameHeads P Q
   pub renamed : (f : ℕ) (F : Func) → slice_get P.funcs f ≡ Some F → IsRenamed P Q f F
   pub none : (f : ℕ) (F : Func) → slice_get Q.funcs f ≡ Some F → NoneApart F
+  pub numbers : NumbersWithin P Q 0
 
 -- ---- a round
 
@@ -77,9 +91,10 @@ pub record IsSoundFor (P : Prog) (f : ℕ) (F : Func) (rename : List ℕ → Lis
 abbrev pub IsSound : (P : Prog) (f : ℕ) (F : Func) (rename : List ℕ → List ℕ) → Type 0
 IsSound P f F rename = (x y : ℕ) → x < length F.vars → y < length F.vars → x ≢ y → new_name P f rename x ≡ new_name P f rename y → IsSoundFor P f F rename x y
 
--- What a round makes, with the new names of each function.
+-- What a round makes, with the new names of each function; what is no variable's name stays.
 pub record IsRound (P Q : Prog) (rename : ℕ → List ℕ → List ℕ) : Type 0 where
   pub heads : SameHeads P Q
-  pub arguments : (f : ℕ) (F : Func) → slice_get P.funcs f ≡ Some F → (x : ℕ) → x < F.args → rename f (named (variable_names F.vars) x) ≡ named (variable_names F.vars) x
+  pub names : (f : ℕ) (F : Func) → slice_get P.funcs f ≡ Some F → AreNewNames F (rename f)
+  pub others : (f : ℕ) (F : Func) → slice_get P.funcs f ≡ Some F → (name : List ℕ) → ¬ Contains (variable_names F.vars) name → rename f name ≡ name
   pub points : (f point : ℕ) → IsRenamedAt P f (rename f) Q point
   pub sound : (f : ℕ) (F : Func) → slice_get P.funcs f ≡ Some F → IsSound P f F (rename f)

@@ -5,6 +5,7 @@ use Rattle.std.specs.Prelude.{slice_get, slice_index}
 use Rattle.std.specs.List.{AllZip}
 use Rattle.std.specs.Option.{option_map}
 use Rattle.std.proofs.lemmas.List.{get_or-take, length-map, take-map}
+use Rattle.std.proofs.lemmas.Option.{same_Some}
 use Rattle.bril_tree.specs.declared.function_tree.Dest.{Dest}
 use Rattle.bril_tree.specs.declared.function_tree.Item.{Item}
 use Rattle.bril_tree.specs.declared.function_tree.Item.TheVariants as item
@@ -18,13 +19,15 @@ use Rattle.bril_tree.specs.Accepted.{IsAccepted}
 use Rattle.bril_tree.specs.Edge.{Branch, branches_at, branches_from, onward}
 use Rattle.bril_tree.specs.FunctionForm.{listed}
 use Rattle.bril_tree.specs.Membership.{In}
-use Rattle.bril_tree.specs.Numbered.{named, names_in, names_of_functions, nop_item, tree_at, variable_names}
+use Rattle.bril_tree.specs.Numbered.{named, names_in, names_of_functions, nop, nop_item, tree_at, variable_names}
 use Rattle.bril_tree.specs.Operand.{Location, dest_of}
 use Rattle.bril_tree.specs.Shape.{is_shaped, shape_of}
-use Rattle.bril_tree.specs.Step.{code_of, item_at}
+use Rattle.bril_tree.specs.Step.{code_of, item_at, items_of}
 use Rattle.bril_tree.specs.Walk.{IsReached}
+use Rattle.bril_tree.proofs.Acceptance.{accepted_function, shaped_function}
 use Rattle.bril_tree.proofs.Branches.{reached_on}
 use Rattle.bril_tree.proofs.Shapes.{shape-parts}
+use Rattle.bril_tree.proofs.Trees.{nop-at}
 use Rattle.bril_names.proofs.Functions.{Differ-functions}
 use Rattle.pass_edit_laws.proofs.lemmas.acceptance.Reaching.{ReachedBeside, regular-reaches, reached_points}
 use Rattle.pass_edit_laws.specs.names.Named.{args_of, SameName}
@@ -38,9 +41,13 @@ use Rattle.coalesce.specs.meaning.Apart.{Copies, source_in}
 use Rattle.coalesce.specs.meaning.Merged.{IsMerged, IsRenamed, IsRenamedAt, IsRound, NoneApart, IsSelfCopy, renamed_dest, renamed_item}
 use Rattle.coalesce.proofs.lemmas.meaning.Accepted.{walks}
 use Rattle.coalesce.proofs.lemmas.meaning.Copying.{copy-is}
+use Rattle.coalesce.proofs.lemmas.meaning.Linking.{copy-links}
 use Rattle.coalesce.proofs.lemmas.meaning.Names.{named-map}
+use Rattle.coalesce.proofs.lemmas.meaning.Numbers.{numbers-kept}
 use Rattle.coalesce.proofs.lemmas.meaning.Points.{both, no-item, no-older}
 use Rattle.coalesce.proofs.lemmas.meaning.Refines.{copy-nop, merge_plan, preserves}
+use Rattle.coalesce.proofs.lemmas.meaning.Renamings.{AreOldCopies, OldCopy, names-twice}
+use Rattle.coalesce.proofs.Starting.{copy-below}
 
 -- ---- a round reaches the same points
 
@@ -234,12 +241,34 @@ module _ (P Q R : Prog) (so_far : IsMadeSoFar P Q) (accepted : IsAccepted P) (re
                 let c = copy-there P Q so_far.heads accepted so_far.accepted f i m.rename k.1 s.item s.at s.x s.y s.copies in
                 record { reached = so_far.reaches f i s.reached; item = c.b; at = c.bt; x = c.x'; y = c.y'; copies = c.copies; same = sym (ap (rename f) c.dest) ∙ s.same ∙ ap (rename f) c.source }
 
+    -- a reached copy of the later program stands for one of the first
+    old-copy : AreOldCopies F G m.rename
+    old-copy i b reached at v w copies = ⊎_elim (λ s. absurd (no-copy (same_Some nop b (sym (nop-at Q f i s.1) ∙ here)))) kept (m.points i)
+      where
+        here : item_at Q f i ≡ Some b
+        here = ap (λ o. slice_get (items_of o) i) q ∙ at
+
+        no-copy : nop ≡ b → ⊥
+        no-copy e = let h : None ≡ Some v = ap dest_of e ∙ copies.0 in cc
+
+        kept : (IsSelfCopy P f m.rename i → ⊥) × (tree_at Q f i ≡ option_map (renamed_item m.rename) (tree_at P f i)) → OldCopy F G m.rename v w
+        kept k =
+            let c = copy-back P Q so_far.heads accepted so_far.accepted f i m.rename k.1 b here v w copies in
+            let there : slice_get F.code i ≡ Some c.a = ap (λ o. slice_get (items_of o) i) (sym p) ∙ c.at in
+            let below = copy-below F (shaped_function P F (accepted_function P f F accepted p)) i c.a there c.x c.y c.copies in
+            let was = subst (λ o. IsReached (items_of o) i) p (so_far.was f F p i (subst (λ o. IsReached (items_of o) i) (sym q) reached)) in
+            record {
+              x = c.x;
+              y = c.y;
+              first = record { below = below.0; name = ap (λ o. m.rename (named (names_in o) c.x)) (sym p) ∙ c.dest ∙ ap (λ o. named (names_in o) v) q };
+              second = record { below = below.1; name = ap (λ o. m.rename (named (names_in o) c.y)) (sym p) ∙ c.source ∙ ap (λ o. named (names_in o) w) q };
+              linked = copy-links F i c.a was there c.x c.y c.copies;
+            }
+
     once_more : IsRenamed P R f F
     once_more = record {
       rename = twice;
-      arguments = λ x less.
-          let n = argument-name P Q so_far.heads f F G p q x less in
-          ap (rename f) (m.arguments x less ∙ n.1) ∙ t.arguments f G q x n.0 ∙ sym n.1;
+      names = names-twice F G m.rename m.names (rename f) (t.names f G q) (t.others f G q) old-copy (argument-name P Q so_far.heads f F G p q);
       points = further;
     }
 
@@ -263,12 +292,12 @@ module _ (P Q R : Prog) (so_far : IsMadeSoFar P Q) (accepted : IsAccepted P) (re
 pub first-round : (P Q : Prog) (rename : ℕ → List ℕ → List ℕ) → IsRound P Q rename → IsAccepted P → IsAccepted Q → IsMadeSoFar P Q
 first-round P Q rename t accepted accepted_q = record {
   heads = t.heads;
-  renamed = λ f F p. record { rename = rename f; arguments = t.arguments f F p; points = t.points f };
+  renamed = λ f F p. record { rename = rename f; names = t.names f F p; points = t.points f };
   reaches = λ f i reached. round-reaches P Q rename t accepted f i reached;
   was = λ f F p i reached. let G = partner P Q t.heads f F p in round-was P Q rename t accepted f F G.0 p G.1 i reached;
   accepted = accepted_q;
 }
 
 -- where no copy is apart any more, it is what the pass makes
-pub all-made : (P Q : Prog) → IsMadeSoFar P Q → ((f : ℕ) (F : Func) → slice_get Q.funcs f ≡ Some F → NoneApart F) → IsMerged P Q
-all-made P Q m none = record { heads = m.heads; renamed = m.renamed; none = none }
+pub all-made : (P Q : Prog) → IsMadeSoFar P Q → IsAccepted P → ((f : ℕ) (F : Func) → slice_get Q.funcs f ≡ Some F → NoneApart F) → IsMerged P Q
+all-made P Q m accepted none = record { heads = m.heads; renamed = m.renamed; none = none; numbers = numbers-kept P Q accepted m.accepted m.heads m.renamed }

@@ -34,10 +34,9 @@ use Rattle.pass_edit_laws.proofs.lemmas.numbers.ItemTrees.{dest_names, item_name
 use Rattle.pass_edit_laws.proofs.lemmas.numbers.Items.{IsItemOf, IsOfItems, nop-plain, plain-item, renamed-item}
 use Rattle.pass_edit_laws.proofs.lemmas.numbers.Locations.{accepted-locations}
 use Rattle.pass_edit_laws.proofs.lemmas.numbers.Programs.{by-functions, functions_bound}
-use Rattle.pass_edit_laws.specs.numbers.Numbers.{FunctionWithin}
+use Rattle.pass_edit_laws.specs.numbers.Numbers.{FunctionWithin, NumbersWithin}
 use Rattle.program_numbers.specs.Entries.{Enters}
-use Rattle.coalesce.specs.meaning.Merged.{IsRenamedAt, IsSelfCopy, renamed_dest, renamed_item}
-use Rattle.coalesce.specs.meaning.Numbers.{MergeKeepsNumbers}
+use Rattle.coalesce.specs.meaning.Merged.{IsRenamed, IsRenamedAt, IsSelfCopy, renamed_dest, renamed_item}
 use Rattle.coalesce.proofs.lemmas.meaning.Names.{tree-renamed}
 use Rattle.coalesce.proofs.lemmas.meaning.Points.{alike, no-older, nop-there}
 
@@ -166,6 +165,6 @@ module _ (P Q : Prog) (accepted_q : IsAccepted Q) (heads : SameHeads P Q) (f : �
     width = width-within F G ℕ [] (λ leave. record { from = leave; IsExtra = λ l x. ⊥; one = λ l k x low high s t. absurd s; labels = λ l h. inr (let k = entry leave l h in (k.to, subst (λ o. Enters F.code o k.to) (sym k.leaves) k.enters, k.same)) });
   }
 
-pub numbers-kept : MergeKeepsNumbers
-numbers-kept P Q accepted accepted_q makes =
-    functions_bound P Q 0 accepted (by-functions P Q makes.heads.names (FunctionWithin 0) (λ f F G p q. let m = makes.renamed f F p in function-within P Q accepted_q makes.heads f F G p q m.rename m.arguments m.points))
+pub numbers-kept : (P Q : Prog) → IsAccepted P → IsAccepted Q → SameHeads P Q → ((f : ℕ) (F : Func) → slice_get P.funcs f ≡ Some F → IsRenamed P Q f F) → NumbersWithin P Q 0
+numbers-kept P Q accepted accepted_q heads renamed =
+    functions_bound P Q 0 accepted (by-functions P Q heads.names (FunctionWithin 0) (λ f F G p q. let m = renamed f F p in function-within P Q accepted_q heads f F G p q m.rename m.names.arguments m.points))

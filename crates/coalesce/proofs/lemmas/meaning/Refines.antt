@@ -100,7 +100,7 @@ module _ (P Q : Prog) (rename : ℕ → List ℕ → List ℕ) (t : IsRound P Q 
         old F p (Variable x) (Variable y) h i =
             let s = sized f in
             let l = h.0 in
-            let same : new_name P f (rename f) x ≡ named (names_in (slice_get P.funcs f)) x = subst (λ o. rename f (named (names_in o) x) ≡ named (names_in o) x) (sym p) (t.arguments f F p x (start-high F.args x i)) in
+            let same : new_name P f (rename f) x ≡ named (names_in (slice_get P.funcs f)) x = subst (λ o. rename f (named (names_in o) x) ≡ named (names_in o) x) (sym p) ((t.names f F p).arguments x (start-high F.args x i)) in
             (omega arith, h.1, sym same ∙ sym (name-is f x h.0) ∙ h.2)
         old F p (Variable x) (Shadow y) h i = h
         old F p (Shadow x) (Variable y) h i = h

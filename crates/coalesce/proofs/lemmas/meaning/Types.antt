@@ -71,7 +71,7 @@ module _ (P Q : Prog) (rename : ℕ → List ℕ → List ℕ) (t : IsRound P Q 
       sym (get_or-take F.args (variable_names F.vars) x [] less)
       ∙ ap (λ names. named names x) (take-map (λ (v : VarInfo). v.name) F.args F.vars ∙ ap (map (λ (v : VarInfo). v.name)) both.variables ∙ sym (take-map (λ (v : VarInfo). v.name) G.args G.vars))
       ∙ get_or-take G.args (variable_names G.vars) x [] (omega (arith, both.count)) in
-      let own : new_name P f (rename f) x ≡ named (variable_names F.vars) x = ap (λ o. rename f (named (names_in o) x)) p ∙ t.arguments f F p x less in
+      let own : new_name P f (rename f) x ≡ named (variable_names F.vars) x = ap (λ o. rename f (named (names_in o) x)) p ∙ (t.names f F p).arguments x less in
       (omega arith, omega (arith, both.count), name-is P Q rename t f x (omega arith) ∙ own ∙ here ∙ sym (ap (λ o. named (names_in o) x) q))
 
   one-W : (y z : ℕ) → y < length W → z < length W → named W y ≡ named W z → y ≡ z
@@ -254,7 +254,7 @@ module _ (P Q : Prog) (rename : ℕ → List ℕ → List ℕ) (t : IsRound P Q 
       let k = argument-kept y was in
       let s = sized P Q rename t f in
       let kl = k.0 in
-      let names_y : named (variable_names F.vars) y ≡ named (variable_names G.vars) y = sym (t.arguments f F p y was) ∙ ap (λ o. rename f (named (names_in o) y)) (sym p) ∙ sym (name-is P Q rename t f y k.0) ∙ k.2 ∙ ap (λ o. named (names_in o) y) q in
+      let names_y : named (variable_names F.vars) y ≡ named (variable_names G.vars) y = sym ((t.names f F p).arguments y was) ∙ ap (λ o. rename f (named (names_in o) y)) (sym p) ∙ sym (name-is P Q rename t f y k.0) ∙ k.2 ∙ ap (λ o. named (names_in o) y) q in
       one-type x y y n k
       ∙ argument-typed P Q t.heads f F G p q y y (subst (λ o. y < length (names_in o)) p (omega arith), subst (λ o. y < length (names_in o)) q k.1, names_y) less
 
