@@ -10,7 +10,7 @@ use crate::arcs::{arcs_of, arcs_turned};
 use crate::window::{Window, place_of, windowed};
 use bril_tree::numbered_function::Func;
 use flow_graph::{Access, AccessLists, Graph, all_reads};
-use graph_search::{ArcGraph, ReachedSets, Seed, one_bit};
+use graph_search::{ArcGraph, ReachedSets, Seed, number_of_length, one_bit};
 use std::alloc::{AllocError, Global};
 
 // The reads of a function with `args` arguments, their indices in rows by the windows of what they read, and the arcs along
@@ -59,9 +59,8 @@ impl Flow {
         let code = func.code.as_slice();
         let reads = all_reads(alloc, code)?;
         let arcs = arcs_of(alloc, code, graph.edges())?;
-        if reads.len() >= u32::MAX as usize || arcs.len() >= u32::MAX as usize {
-            return Err(AllocError);
-        }
+        number_of_length(reads.len())?;
+        number_of_length(arcs.len())?;
         let nodes = code.len() + 1;
         let backward = ArcGraph::of(alloc, nodes, arcs_turned(alloc, arcs.as_slice())?)?;
         let forward = ArcGraph::of(alloc, nodes, arcs)?;

@@ -19,7 +19,7 @@ use bril_checker::Checked;
 use bril_tree::numbered::Instr;
 use bril_tree::numbered_function::Func;
 use flow_graph::{AccessLists, all_reads};
-use graph_search::is_marked;
+use graph_search::{is_marked, number_of_length};
 use std::alloc::{AllocError, Global};
 
 /// What is known of each variable and each shadow of a function, and which of its points are reached as far as is known.
@@ -106,9 +106,7 @@ fn reads_of(alloc: Global, code: &[Instr]) -> Result<AccessLists, AllocError>
     ensures { IfOk result (λ reads. reads.list ≡ reads_from 0 code.now) }
 {
     let reads = all_reads(alloc, code)?;
-    if reads.len() >= u32::MAX as usize {
-        return Err(AllocError);
-    }
+    number_of_length(reads.len())?;
     AccessLists::of(alloc, reads)
 }
 
