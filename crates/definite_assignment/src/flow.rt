@@ -48,7 +48,7 @@ impl Flow {
     ghost use Rattle.definite_assignment.specs.Reads.{IsOpen, IsFirstOpen, Lowers};
     ghost use Rattle.definite_assignment.specs.Window.{IsFound, place_of, window_of};
 
-    // The reads and the arcs of a function.
+    // The reads and the arcs of a function. As many as 2^32 - 1 of either are taken to need more memory than there is.
     pub fn of(alloc: Global, func: &Func, graph: &Graph) -> Result<Flow, AllocError>
         requires few { length func.now.code < 2 ^ 32 - 1 }
         requires graph { IsGraphOf func.now.code graph.now }

@@ -9,7 +9,7 @@ use std::alloc::AllocError;
 pub fn number_of_length(length: usize) -> Result<u32, AllocError>
     ensures number { IfOk result (λ number. number ≡ length) }
     ensures fits { IfOk result (λ _. length < 2 ^ 32 - 1) }
-    ensures refused { IfErr result (λ _. 2 ^ 32 - 1 ≤ length) }
+    ensures fault { IfErr result (λ _. 2 ^ 32 - 1 ≤ length) }
 {
     if length >= u32::MAX as usize {
         return Err(AllocError);

@@ -22,7 +22,7 @@ fn register_of(registers: &[u8], slot: usize) -> u8
 // other.
 fn own_word(slot: usize) -> Result<u32, AllocError>
     ensures number { IfOk result (λ word. word ≡ frame_head + slot) }
-    ensures refused { IfErr result (λ _. 2 ^ 32 ≤ frame_head + slot) }
+    ensures fault { IfErr result (λ _. 2 ^ 32 ≤ frame_head + slot) }
 {
     if slot > u32::MAX as usize - 2 {
         return Err(AllocError);

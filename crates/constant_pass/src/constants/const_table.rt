@@ -100,7 +100,7 @@ pub(crate) fn table_in(alloc: Global, func: &Func) -> Result<ConstTable, AllocEr
     })
 }
 
-// The reads of all items, by their locations.
+// The reads of all items, by their locations. As many as 2^32 - 1 are taken to need more memory than there is.
 fn reads_of(alloc: Global, code: &[Instr]) -> Result<AccessLists, AllocError>
     requires { length code.now < 2 ^ 32 - 1 }
     ensures { IfOk result (λ reads. reads.list ≡ reads_from 0 code.now) }
@@ -110,7 +110,8 @@ fn reads_of(alloc: Global, code: &[Instr]) -> Result<AccessLists, AllocError>
     AccessLists::of(alloc, reads)
 }
 
-// At first arguments may be many, and nothing is known of any other location.
+// At first arguments may be many, and nothing is known of any other location. A function with 2^32 variables or more is taken to
+// need more memory than there is.
 fn first_known(alloc: Global, args: u32, variables: usize) -> Result<Vec<Known>, AllocError>
     requires few { args ≤ variables }
     ensures arguments { IfOk result (λ known. (x : ℕ) → x < args → kept known.items (Variable x) ≡ Many) }

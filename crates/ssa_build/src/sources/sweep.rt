@@ -246,7 +246,7 @@ fn swept(
 // The number of variables. More than 2^32 - 1 are taken to need more memory than there is, and no fewer.
 fn variable_count(func: &Func) -> Result<u32, AllocError>
     ensures count { IfOk result (λ count. count ≡ length func.now.vars) }
-    ensures refused { IfErr result (λ _. 2 ^ 32 ≤ length func.now.vars) }
+    ensures fault { IfErr result (λ _. 2 ^ 32 ≤ length func.now.vars) }
 {
     let count = func.vars.as_slice().len();
     if count > u32::MAX as usize {
@@ -257,7 +257,7 @@ fn variable_count(func: &Func) -> Result<u32, AllocError>
 
 /// What each wanted `get` of a function is set from, over all edges that lead to its label; the start of the function leads to its
 /// first item, and brings the arguments. Takes time and memory in proportion to the items and the operands. The only error is want of
-/// memory, which 2^32 - 1 operands are taken to have.
+/// memory, which 2^32 - 1 operands or more, or as many entries, are taken to have, and 2^32 variables or more.
 pub fn operands_of(
     alloc: Global,
     func: &Func,

@@ -9,7 +9,7 @@ use std::alloc::AllocError;
 pub(crate) fn location_count(variables: usize) -> Result<u32, AllocError>
     ensures count { IfOk result (λ count. count ≡ 2 * variables) }
     ensures few { IfOk result (λ count. count + 128 < 2 ^ 32) }
-    ensures refused { IfErr result (λ _. 2 ^ 32 ≤ 2 * variables + 128) }
+    ensures fault { IfErr result (λ _. 2 ^ 32 ≤ 2 * variables + 128) }
 {
     if variables > (u32::MAX / 2 - 64) as usize {
         return Err(AllocError);

@@ -11,7 +11,7 @@ use std::alloc::{AllocError, Global};
 pub(crate) fn base_of(args: u32, items: usize) -> Result<u32, AllocError>
     requires { items < 2 ^ 32 }
     ensures sum { IfOk result (λ base. base ≡ args + items) }
-    ensures refused { IfErr result (λ _. 2 ^ 32 ≤ args + items) }
+    ensures fault { IfErr result (λ _. 2 ^ 32 ≤ args + items) }
 {
     let items = items as u32;
     if args > u32::MAX - items {
@@ -25,7 +25,7 @@ pub(crate) fn base_of(args: u32, items: usize) -> Result<u32, AllocError>
 fn definition_of(base: u32, count: usize) -> Result<u32, AllocError>
     ensures number { IfOk result (λ definition. definition ≡ base + count) }
     ensures few { IfOk result (λ definition. base + count + 1 < 2 ^ 32) }
-    ensures refused { IfErr result (λ _. 2 ^ 32 ≤ base + count + 1) }
+    ensures fault { IfErr result (λ _. 2 ^ 32 ≤ base + count + 1) }
 {
     if count >= (u32::MAX - base) as usize {
         return Err(AllocError);
