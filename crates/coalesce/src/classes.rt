@@ -21,7 +21,7 @@ use bril_tree::numbered::Instr;
 use bril_tree::numbered_function::Func;
 use bril_tree::typing::same_result;
 use flow_graph::{Access, AccessLists, Graph};
-use graph_search::is_marked;
+use graph_search::{is_marked, number_of_length};
 use live_sets::Flow;
 use std::alloc::{AllocError, Global};
 
@@ -63,9 +63,7 @@ impl ClashRows {
     pub(crate) fn of(alloc: Global, list: Vec<Clash>) -> Result<ClashRows, AllocError>
         ensures { IfOk result (λ rows. rows.list.items ≡ list.items) }
     {
-        if list.len() >= u32::MAX as usize {
-            return Err(AllocError);
-        }
+        number_of_length(list.len())?;
         let keys = first_variables(alloc, list.as_slice())?;
         let rows = AccessLists::of(alloc, keys)?;
         Ok(ClashRows { list, rows })

@@ -10,7 +10,7 @@ use crate::arcs::{arcs_of, arcs_turned};
 use crate::window::{Window, place_of, windowed};
 use bril_tree::numbered_function::Func;
 use flow_graph::{Access, AccessLists, Graph, all_reads};
-use graph_search::{ArcGraph, ReachedSets, Seed, one_bit};
+use graph_search::{ArcGraph, ReachedSets, Seed, number_of_length, one_bit};
 use std::alloc::{AllocError, Global};
 
 // The reads of a function with `args` arguments, their indices in rows by the windows of what they read, and the arcs along
@@ -48,7 +48,7 @@ impl Flow {
     ghost use Rattle.definite_assignment.specs.Reads.{IsOpen, IsFirstOpen, Lowers};
     ghost use Rattle.definite_assignment.specs.Window.{IsFound, place_of, window_of};
 
-    // The reads and the arcs of a function.
+    // The reads and the arcs of a function. As many as 2^32 - 1 of either are taken to need more memory than there is.
     pub fn of(alloc: Global, func: &Func, graph: &Graph) -> Result<Flow, AllocError>
         requires few { length func.now.code < 2 ^ 32 - 1 }
         requires graph { IsGraphOf func.now.code graph.now }
@@ -59,9 +59,8 @@ impl Flow {
         let code = func.code.as_slice();
         let reads = all_reads(alloc, code)?;
         let arcs = arcs_of(alloc, code, graph.edges())?;
-        if reads.len() >= u32::MAX as usize || arcs.len() >= u32::MAX as usize {
-            return Err(AllocError);
-        }
+        number_of_length(reads.len())?;
+        number_of_length(arcs.len())?;
         let nodes = code.len() + 1;
         let backward = ArcGraph::of(alloc, nodes, arcs_turned(alloc, arcs.as_slice())?)?;
         let forward = ArcGraph::of(alloc, nodes, arcs)?;

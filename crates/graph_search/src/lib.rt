@@ -8,14 +8,15 @@
 //!
 //! 1. Graphs by their arcs (`src/graph.rt`), arcs by node (`src/adjacency.rt`), and which arcs are open (`src/gate.rt`).
 //! 2. The search (`src/reached.rt`), and 64 searches at once, with a word of bits for each node (`src/reached_sets.rt`).
-//! 3. The words of nodes (`src/words.rt`, `src/bits.rt`), which nodes are still to be looked at (`src/pending.rt`), and lists of
-//!    marks (`src/marks.rt`).
+//! 3. The words of nodes (`src/words.rt`, `src/bits.rt`), which nodes are still to be looked at (`src/pending.rt`), lists of
+//!    marks (`src/marks.rt`), and which lists are short enough (`src/lengths.rt`).
 #![tactic(auto)]
 
 mod adjacency;
 mod bits;
 mod gate;
 mod graph;
+mod lengths;
 mod marks;
 mod pending;
 mod reached;
@@ -26,6 +27,7 @@ pub use adjacency::Adjacency;
 pub use bits::{all_bits, all_but, one_bit};
 pub use gate::{Gate, Gates, OtherThan};
 pub use graph::{Arc, ArcGraph};
+pub use lengths::number_of_length;
 pub use marks::is_marked;
 pub use reached::Reached;
 pub use reached_sets::{ReachedSets, Seed};

@@ -15,7 +15,7 @@ ghost use Rattle.live_sets.specs.Flow.{IsFlowOf};
 use crate::arcs::back_arcs;
 use bril_tree::numbered_function::Func;
 use flow_graph::{AccessLists, Graph, all_reads};
-use graph_search::{ArcGraph, OtherThan, Reached};
+use graph_search::{ArcGraph, OtherThan, Reached, number_of_length};
 use std::alloc::{AllocError, Global};
 use std::marker::Model;
 
@@ -51,9 +51,8 @@ impl Flow {
     {
         let reads = all_reads(alloc, func.code.as_slice())?;
         let arcs = back_arcs(alloc, func, graph)?;
-        if reads.len() >= u32::MAX as usize || arcs.len() >= u32::MAX as usize {
-            return Err(AllocError);
-        }
+        number_of_length(reads.len())?;
+        number_of_length(arcs.len())?;
         let nodes = func.code.as_slice().len() + 1;
         Ok(Flow {
             reads: AccessLists::of(alloc, reads)?,

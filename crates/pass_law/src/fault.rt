@@ -26,7 +26,7 @@ impl From<AllocError> for PassFault {
     }
 }
 
-/// Why a list of passes stopped. Locals of names count from 1.
+/// Why a list of passes stopped. Places of names count from 1.
 #[derive(Drop)]
 pub enum ListFault {
     /// No pass answers to the name at the place, the first such. No pass ran, and the program is handed back.

@@ -1,15 +1,17 @@
--- Lines of entries: what they lack, and that they tell the entry.
-use Rattle.std.proofs.Common.{◌≡◌, ◌≢◌, ℕ, zero, suc, ◌+◌, ◌<◌, ◌≤◌, Bool, true, false, not, append_assoc, get_or, take, List, [], ◌∷◌, ◌++◌, length, map, refl, sym, ap, ap₂, ◌∙◌, arith}
-use Rattle.std.specs.Prelude.{codes, ◌==◌}
+-- Lines of entries: what they lack, that they tell the entry, and which lines they are.
+use Rattle.std.proofs.Common.{◌≡◌, ◌≢◌, ℕ, ◌+◌, ◌<◌, ◌≤◌, Bool, true, false, not, append_assoc, get_or, take, List, [], ◌∷◌, ◌++◌, length, map, refl, sym, ap, ap₂, subst, ◌∙◌, arith}
+use Rattle.std.specs.Prelude.{codes, IsTrue, MatchBool, ◌==◌, ◌||◌}
 use Rattle.std.specs.List.{All, list_all}
-use Rattle.std.proofs.lemmas.List.{append_cancel_left, flat_map_more, map-append, take_more}
+use Rattle.std.proofs.lemmas.Bool.Decides.{Decides-eqb}
+use Rattle.std.proofs.lemmas.List.{append_cancel_left, flat_map_more, length-map, map-append, take_more}
 use Rattle.std.proofs.lemmas.List.Concat.{flat_map-append}
 use Rattle.std.proofs.lemmas.List.Elements.{All-nil, All-cons, All-head, All-tail, All-append, All-weaker}
 use Rattle.std.proofs.lemmas.List.Sums.{AllPass-from_list_all}
 use Rattle.bril_tree.specs.Identifier.{is_identifier, continues_identifier}
 use Rattle.bril_tree.proofs.Identifiers.{identifier_continues}
 use Rattle.bril_profile.specs.declared.profile.Entry.{Entry}
-use Rattle.profile_text.specs.Form.{Lacks, choice_letter, choices_text, parts_line, entry_line, IsEntry, first_line, profile_lines, text_of}
+use Rattle.profile_text.specs.declared.entry.Parts.{Parts}
+use Rattle.profile_text.specs.Form.{Lacks, choice_letter, choices_text, is_letter, SpellChoices, parts_line, line_of, AreParts, entry_line, IsEntry, first_line, profile_lines, text_of}
 use Rattle.profile_text.proofs.Cuts.{cut_once, lacks_at, line_front}
 
 -- ---- what names lack
@@ -114,31 +116,74 @@ entries_same (x ∷ xs) (y ∷ ys) vx vy e = by (entry_line x) (entry_line y) (m
     by : (a b : List ℕ) (cs ds : List (List ℕ)) → a ∷ cs ≡ b ∷ ds → (a ≡ b → x ≡ y) → (cs ≡ ds → xs ≡ ys) → x ∷ xs ≡ y ∷ ys
     by a b cs ds e first rest = ap₂ (λ z (zs : List Entry). z ∷ zs) (first cc) (rest cc)
 
--- ---- where letters, a line and a profile go wrong
+-- ---- which letters spell choices
 
-pub no_choices : (letters : List ℕ) (k : ℕ) → k < length letters → ((c : Bool) → choice_letter c ≡ get_or letters k 0 → ⊥) → (letters ≡ 45 ∷ [] → ⊥) → (choices : List Bool) → choices_text choices ≡ letters → ⊥
-no_choices letters k less none other [] e = other (sym e)
-no_choices letters k less none other (c ∷ cs) e = by (c ∷ cs) letters k less none e
+one_letter : (b : ℕ) (t f : Bool) → (b == 84) ≡ t → (b == 70) ≡ f → (t || f) ≡ true → choice_letter (b == 84) ≡ b
+one_letter b true f e g h = ap choice_letter e ∙ sym ((Decides-eqb b 84).0 e)
+one_letter b false true e g h = ap choice_letter e ∙ sym ((Decides-eqb b 70).0 g)
+one_letter b false false e g h = absurd (let k : false ≡ true = h in cc)
+
+letters_back : (letters : List ℕ) → All (λ b. is_letter b ≡ true) letters → map choice_letter (map (λ b. b == 84) letters) ≡ letters
+letters_back [] all = refl
+letters_back (b ∷ bs) all =
+    ap₂ (λ x (xs : List ℕ). x ∷ xs) (one_letter b (b == 84) (b == 70) refl refl (All-head (λ c. is_letter c ≡ true) b bs all)) (letters_back bs (All-tail (λ c. is_letter c ≡ true) b bs all))
+
+choices_back : (choices : List Bool) → map (λ b. b == 84) (map choice_letter choices) ≡ choices
+choices_back [] = refl
+choices_back (true ∷ cs) = ap (λ z. true ∷ z) (choices_back cs)
+choices_back (false ∷ cs) = ap (λ z. false ∷ z) (choices_back cs)
+
+letters_pass : (choices : List Bool) → list_all is_letter (map choice_letter choices) ≡ true
+letters_pass [] = refl
+letters_pass (true ∷ cs) = letters_pass cs
+letters_pass (false ∷ cs) = letters_pass cs
+
+spelled : (letters : List ℕ) → (letters ≡ [] → ⊥) → length letters ≤ 256 → list_all is_letter letters ≡ true → SpellChoices letters
+spelled [] some short all = absurd (some refl)
+spelled (b ∷ bs) some short all = record {
+  choices = map (λ c. c == 84) (b ∷ bs);
+  short = (let e = length-map (b ∷ bs) (λ c. c == 84) in omega arith);
+  text = letters_back (b ∷ bs) (AllPass-from_list_all is_letter (b ∷ bs) all);
+}
+
+unspelled : (letters : List ℕ) → (letters ≡ 45 ∷ [] → ⊥) → list_all is_letter letters ≡ false → SpellChoices letters → ⊥
+unspelled letters other none s = by s.choices s.text
   where
-    by : (cs : List Bool) (letters : List ℕ) (k : ℕ) → k < length letters → ((c : Bool) → choice_letter c ≡ get_or letters k 0 → ⊥) → map choice_letter cs ≡ letters → ⊥
-    by cs [] k less none e = absurd (omega arith)
-    by [] (l ∷ ls) k less none e = let h : [] ≡ l ∷ ls = e in cc
-    by (c ∷ cs) (l ∷ ls) zero less none e = let h : choice_letter c ∷ map choice_letter cs ≡ l ∷ ls = e in none c cc
-    by (c ∷ cs) (l ∷ ls) (suc k) less none e = let h : choice_letter c ∷ map choice_letter cs ≡ l ∷ ls = e in by cs ls k (omega arith) none cc
+    by : (cs : List Bool) → choices_text cs ≡ letters → ⊥
+    by [] e = other (sym e)
+    by (c ∷ cs) e = let k : true ≡ false = sym (letters_pass (c ∷ cs)) ∙ ap (list_all is_letter) e ∙ none in cc
 
--- the first name of a line is no identifier, the second isn't, or the choices are none
-pub bad_func : (line f l c : List ℕ) → line ≡ parts_line f l c → Lacks 32 f → Lacks 32 l → is_identifier f ≡ false → (entry : Entry) → IsEntry entry → entry_line entry ≡ line → ⊥
-bad_func line f l c is lf ll bad entry valid e =
-    let p = parts_of_entry entry valid f l c lf ll (e ∙ is) in
-    let k : true ≡ false = sym valid.func ∙ ap is_identifier p.0 ∙ bad in cc
+pub tells_spelled : (letters : List ℕ) (r : Bool) → r ≡ list_all is_letter letters → (letters ≡ [] → ⊥) → (letters ≡ 45 ∷ [] → ⊥) → length letters ≤ 256 → MatchBool r (SpellChoices letters) (SpellChoices letters → ⊥)
+tells_spelled letters true is some other short = spelled letters some short (sym is)
+tells_spelled letters false is some other short = unspelled letters other (sym is)
 
-pub bad_label : (line f l c : List ℕ) → line ≡ parts_line f l c → Lacks 32 f → Lacks 32 l → is_identifier l ≡ false → (entry : Entry) → IsEntry entry → entry_line entry ≡ line → ⊥
-bad_label line f l c is lf ll bad entry valid e =
-    let p = parts_of_entry entry valid f l c lf ll (e ∙ is) in
-    let k : true ≡ false = sym valid.label ∙ ap is_identifier p.1.0 ∙ bad in cc
+-- the letters of choices give them back
+pub choices_read : (letters : List ℕ) (s : SpellChoices letters) (choices : List Bool) → (letters ≡ 45 ∷ [] → ⊥) → choices ≡ map (λ b. b == 84) letters → choices ≡ s.choices
+choices_read letters s choices other is = by s.choices s.text
+  where
+    by : (cs : List Bool) → choices_text cs ≡ letters → choices ≡ cs
+    by [] e = absurd (other (sym e))
+    by (c ∷ cs) e = is ∙ ap (map (λ b. b == 84)) (sym e) ∙ choices_back (c ∷ cs)
 
-pub bad_choices : (line f l c : List ℕ) → line ≡ parts_line f l c → Lacks 32 f → Lacks 32 l → ((choices : List Bool) → length choices ≤ 256 → choices_text choices ≡ c → ⊥) → (entry : Entry) → IsEntry entry → entry_line entry ≡ line → ⊥
-bad_choices line f l c is lf ll bad entry valid e = bad entry.choices valid.short (parts_of_entry entry valid f l c lf ll (e ∙ is)).1.1
+-- ---- where a line is an entry's, and where it is none's
+
+abbrev pub entry_from : (p : Parts) → AreParts p → Entry
+entry_from p are = record { func = p.func.now; label = p.label.now; choices = are.letters.choices }
+
+pub entry_from_is : (p : Parts) (are : AreParts p) → IsEntry (entry_from p are)
+entry_from_is p are = record { func = are.func; label = are.label; short = are.letters.short }
+
+pub entry_from_line : (p : Parts) (are : AreParts p) → entry_line (entry_from p are) ≡ line_of p
+entry_from_line p are = ap (λ z. parts_line p.func.now p.label.now z) are.letters.text
+
+pub bad_parts : (line : List ℕ) (p : Parts) → line ≡ line_of p → Lacks 32 p.func.now → Lacks 32 p.label.now → (AreParts p → ⊥) → (entry : Entry) → IsEntry entry → entry_line entry ≡ line → ⊥
+bad_parts line p is lf ll bad e valid same =
+    let q = parts_of_entry e valid p.func.now p.label.now p.letters.now lf ll (same ∙ is) in
+    bad (record {
+      func = subst (λ n. IsTrue (is_identifier n)) q.0 valid.func;
+      label = subst (λ n. IsTrue (is_identifier n)) q.1.0 valid.label;
+      letters = record { choices = e.choices; short = valid.short; text = q.1.1 };
+    })
 
 -- ---- one entry more
 

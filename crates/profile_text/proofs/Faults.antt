@@ -1,8 +1,8 @@
 -- First lines that break the form, and texts.
-use Rattle.std.proofs.Common.{◌≡◌, ◌≢◌, ◌⊎◌, inl, inr, ⊎_elim, ℕ, zero, suc, ◌+◌, ◌<◌, ◌≤◌, List, [], ◌∷◌, ◌++◌, length, map, Result, Ok, Err, refl, sym, ap, subst, ◌∙◌, arith, append_assoc, append-nil}
-use Rattle.std.specs.Prelude.{IfOk, IfErr, MatchResult}
+use Rattle.std.proofs.Common.{◌≡◌, ◌≢◌, ◌⊎◌, inl, inr, ⊎_elim, ℕ, zero, suc, ◌+◌, ◌<◌, ◌≤◌, List, [], ◌∷◌, ◌++◌, length, map, Result, Ok, Err, refl, sym, ap, subst, ◌∙◌, arith, append_assoc, append-nil, length-append}
+use Rattle.std.specs.Prelude.{IfOk, IfErr, IsErrOf, MatchResult}
 use Rattle.std.specs.List.{All}
-use Rattle.std.proofs.lemmas.List.Elements.{All-head, All-tail, All-same}
+use Rattle.std.proofs.lemmas.List.Elements.{All-head, All-push, All-tail, All-same}
 use Rattle.bril_profile.specs.declared.profile.Entry.{Entry}
 use Rattle.bril_profile.specs.declared.profile.Profile.{Profile}
 use Rattle.profile_text.specs.declared.fault.ProfileFault.{ProfileFault}
@@ -11,7 +11,7 @@ use Rattle.profile_text.specs.Form.{Lacks, IsEntry, AreEntries, entry_line, firs
 use Rattle.profile_text.specs.Fault.{AreFirstLines, IsFirstFault, IsFaultOf, HasNoEntry}
 use Rattle.profile_text.specs.Laws.{TextsDiffer, FaultsAreOne, TextsHaveNoFault}
 use Rattle.profile_text.proofs.Cuts.{line_front, lines_longer, all_front, cut_once, lacks_at}
-use Rattle.profile_text.proofs.Entries.{lines_lack, line_lacks, first_line_lacks, entries_same}
+use Rattle.profile_text.proofs.Entries.{lines_lack, line_lacks, first_line_lacks, entries_same, source_more}
 
 -- ---- first lines
 
@@ -168,10 +168,10 @@ reads_text source (Err (Line line)) found valid fault entries v e = absurd (text
 reads_text source (Err Memory) found valid fault entries v e = refl
 
 pub tells_fault : (source : List ℕ) (r : Result Profile ProfileFault) → IfOk r (λ profile. profile_text profile.entries ≡ source) → IfOk r (λ profile. AreEntries profile.entries) → IfErr r (IsFaultOf source)
-    → (line : ℕ) → IsFirstFault source line → MatchResult r (λ _. ⊥) (λ fault. (fault ≡ Line line) ⊎ (fault ≡ Memory))
-tells_fault source (Ok profile) found valid fault line f = texts_have_no_fault profile.entries line valid (subst (λ s. IsFirstFault s line) (sym found) f)
-tells_fault source (Err (Line other)) found valid fault line f = inl (ap Line (faults_are_one source other line fault f))
-tells_fault source (Err Memory) found valid fault line f = inr refl
+    → (line : ℕ) → IsFirstFault source line → IsErrOf r (Line line)
+tells_fault source (Ok profile) found valid fault line f = absurd (texts_have_no_fault profile.entries line valid (subst (λ s. IsFirstFault s line) (sym found) f))
+tells_fault source (Err (Line other)) found valid fault line f = ap (λ z. Err (Line z)) (faults_are_one source other line fault f)
+tells_fault source (Err Memory) found valid fault line f = absurd (texts_have_no_fault fault.entries line fault.valid (subst (λ s. IsFirstFault s line) (sym fault.text) f))
 
 -- ---- where a line is no entry's
 
@@ -183,11 +183,34 @@ no_entry rest first behind is l none next after e entry valid same =
     let p = cut_once 10 next first after behind (subst (Lacks 10) same (line_lacks entry valid)) l (sym e ∙ is) in
     none entry valid (same ∙ p.0)
 
-pub fault_of_entry : (entries : List Entry) (source rest : List ℕ) (line : ℕ) (fault : ProfileFault) → text_of (map entry_line entries) ++ rest ≡ source → All IsEntry entries → line ≡ length entries + 2 → line ≤ 66 → rest ≢ []
-    → ((fault ≡ Memory) ⊎ ((fault ≡ Line line) × (line ≤ 65 → HasNoEntry rest))) → IsFaultOf (first_line ++ 10 ∷ source) fault
-fault_of_entry entries source rest line fault is all place low there why =
-    ⊎_elim (λ e. subst (IsFaultOf (first_line ++ 10 ∷ source)) (sym e) tt)
-    (λ h. subst (IsFaultOf (first_line ++ 10 ∷ source)) (sym h.0) (fault_behind entries source rest line is all place low there h.1)) why
+-- ---- lines that were looked at
+
+-- The source begins with the lines of these entries; behind them stands the rest, in this line, from 1, of the whole.
+pub record AreReadTo (source rest : List ℕ) (line : ℕ) (entries : List Entry) : Type 0 where
+  pub same : text_of (map entry_line entries) ++ rest ≡ source
+  pub all : All IsEntry entries
+  pub place : line ≡ length entries + 2
+  pub low : line ≤ 66
+
+pub record IsReadTo (source rest : List ℕ) (line : ℕ) : Type 0 where
+  pub entries : List Entry
+  pub so_far : AreReadTo source rest line entries
+
+pub read_more : (source rest after : List ℕ) (line : ℕ) (entries more : List Entry) (entry : Entry) → AreReadTo source rest line entries → more ≡ entries ++ entry ∷ [] → IsEntry entry → rest ≡ entry_line entry ++ 10 ∷ after → line ≤ 65
+    → AreReadTo source after (line + 1) more
+read_more source rest after line entries more entry so_far is valid first low =
+    let size : length more ≡ length entries + 1 = ap length is ∙ length-append entries (entry ∷ []) in
+    record {
+      same = source_more entries more entry rest after source is first so_far.same;
+      all = All-same IsEntry more (entries ++ entry ∷ []) is (All-push IsEntry entries entry so_far.all valid);
+      place = (let h = so_far.place in omega arith);
+      low = omega arith;
+    }
+
+pub fault_at : (source rest : List ℕ) (line : ℕ) (fault : ProfileFault) → IsReadTo source rest line → rest ≢ [] → (fault ≡ Line line) × (line ≤ 65 → HasNoEntry rest) → IsFaultOf (first_line ++ 10 ∷ source) fault
+fault_at source rest line fault read there why =
+    let so_far = read.so_far in
+    subst (IsFaultOf (first_line ++ 10 ∷ source)) (sym why.0) (fault_behind read.entries source rest line so_far.same so_far.all so_far.place so_far.low there why.1)
 
 pub no_first_line : (source first behind : List ℕ) → source ≡ first ++ 10 ∷ behind → Lacks 10 first → (first ≡ first_line → ⊥) → IsFirstFault source 1
 no_first_line source first behind is l other = fault_first source bad

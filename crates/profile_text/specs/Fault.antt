@@ -3,7 +3,7 @@ use Rattle.std.specs.Prelude.{◌≡◌, ◌≢◌, ℕ, suc, List, [], ◌∷�
 use Rattle.bril_profile.specs.declared.profile.Entry.{Entry}
 use Rattle.profile_text.specs.declared.fault.ProfileFault.{ProfileFault}
 use Rattle.profile_text.specs.declared.fault.ProfileFault.TheVariants.{Line, Memory}
-use Rattle.profile_text.specs.Form.{AreEntries, IsEntry, entry_line, profile_lines, text_of}
+use Rattle.profile_text.specs.Form.{AreEntries, IsEntry, entry_line, profile_lines, profile_text, text_of}
 
 -- These are the first lines of some profile.
 pub record AreFirstLines (lines : List (List ℕ)) : Type 0 where
@@ -23,10 +23,16 @@ pub record IsFirstFault (source : List ℕ) (line : ℕ) : Type 0 where
   pub broken : (next after : List ℕ) → rest ≡ next ++ 10 ∷ after → AreFirstLines (before ++ next ∷ []) → ⊥
   pub there : before ≢ [] → rest ≢ []
 
--- what a source's fault says of it; memory may be wanting at any source
+-- The source is the text of a profile.
+pub record IsText (source : List ℕ) : Type 0 where
+  pub entries : List Entry
+  pub valid : AreEntries entries
+  pub text : profile_text entries ≡ source
+
+-- what a source's fault says of it; memory may be wanting for any text of a profile
 abbrev pub IsFaultOf : List ℕ → ProfileFault → Type 0
 IsFaultOf source (Line line) = IsFirstFault source line
-IsFaultOf source Memory = Unit {0}
+IsFaultOf source Memory = IsText source
 
 -- no entry's line stands at the front, with its LF
 abbrev pub HasNoEntry : List ℕ → Type 0

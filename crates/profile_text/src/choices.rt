@@ -1,43 +1,54 @@
 // The choices of an entry, as letters.
 
-ghost use Rattle.std.specs.Prelude.{◌≡◌, ◌≤◌, ◌++◌, ◌∷◌, [], List, Bool, length, IfOk, OnOk, IfSome, IfNone, MatchOption, map};
-ghost use Rattle.profile_text.specs.Form.{choice_letter, choices_text};
+ghost use Rattle.std.specs.Prelude.{◌≡◌, ◌≤◌, ◌==◌, ◌||◌, ◌++◌, ◌∷◌, [], length, IfOk, OnOk, MatchBool, map};
+ghost use Rattle.std.specs.List.{list_all};
+ghost use Rattle.profile_text.specs.Form.{SpellChoices, choice_letter, choices_text, is_letter};
 
 use bril_tree::bytes::Bytes;
 use bril_tree::sequence::Seq;
 use std::alloc::{AllocError, Global};
 
-// The choices that the letters spell; None where they spell none.
-pub fn read_choices(alloc: Global, letters: &[u8]) -> Result<Option<Seq<bool>>, AllocError>
-    ensures found { IfOk result (λ o. IfSome o (λ choices. choices_text choices ≡ letters.now)) }
-    ensures short { IfOk result (λ o. IfSome o (λ choices. length choices ≤ 256)) }
-    ensures none { IfOk result (λ o. IfNone o ((choices : List Bool) → length choices ≤ 256 → choices_text choices ≡ letters.now → ⊥)) }
+// Whether the letters spell choices, 256 at most. Takes no memory.
+pub fn spell_choices(letters: &[u8]) -> bool
+    ensures { MatchBool result (SpellChoices letters.now) (SpellChoices letters.now → ⊥) }
 {
     if letters == b"-".as_slice() {
-        return Ok(Some(Seq::new(alloc)));
+        return true;
     }
     if letters.is_empty() || letters.len() > 256 {
-        return Ok(None);
+        return false;
     }
-    let mut choices = Seq::new(alloc);
-    for letter in letters {
-        let Some(choice) = choice_of(*letter) else {
-            return Ok(None);
-        };
-        choices.push(choice)?;
-    }
-    Ok(Some(choices))
+    are_letters(letters)
 }
 
-// The choice of a letter.
-fn choice_of(letter: u8) -> Option<bool>
-    ensures { MatchOption result ((choice : Bool) → choice_letter choice ≡ letter → ⊥) (λ choice. choice_letter choice ≡ letter) }
+// Whether each byte is the letter of a choice.
+fn are_letters(letters: &[u8]) -> bool
+    ensures { result ≡ list_all is_letter letters.now }
 {
-    match letter {
-        b'T' => Some(true),
-        b'F' => Some(false),
-        _ => None,
+    letters.iter().all(|letter| is_choice(*letter))
+}
+
+// Whether the byte is the letter of a choice.
+fn is_choice(letter: u8) -> bool
+    ensures { result ≡ is_letter letter }
+{
+    letter == b'T' || letter == b'F'
+}
+
+// The choices that the letters spell.
+pub fn read_choices(alloc: Global, letters: &[u8]) -> Result<Seq<bool>, AllocError>
+    requires spelled { SpellChoices letters.now }
+    ensures text { IfOk result (λ choices. choices_text choices ≡ letters.now) }
+    ensures short { IfOk result (λ choices. length choices ≤ 256) }
+{
+    let mut choices = Seq::new(alloc);
+    if letters == b"-".as_slice() {
+        return Ok(choices);
     }
+    for letter in letters {
+        choices.push(*letter == b'T')?;
+    }
+    Ok(choices)
 }
 
 // Appends the letters of the choices.

@@ -1,47 +1,50 @@
 // The line of an entry.
 
-ghost use Rattle.std.specs.Prelude.{◌≡◌, ◌++◌, ◌∷◌, [], ℕ, List, IsTrue, false, IfOk, OnOk, IfSome, IfNone, MatchOption};
+ghost use Rattle.std.specs.Prelude.{◌≡◌, ◌++◌, ◌∷◌, [], ℕ, List, IsTrue, IfOk, OnOk, MatchBool, MatchOption};
 ghost use Rattle.bril_tree.specs.Identifier.{is_identifier};
 ghost use Rattle.bril_profile.specs.declared.profile.Entry.{Entry};
-ghost use Rattle.profile_text.specs.Form.{Lacks, parts_line, entry_line, IsEntry};
+ghost use Rattle.profile_text.specs.Form.{Lacks, parts_line, line_of, entry_line, AreParts, IsEntry};
 
-use crate::choices::{put_choices, read_choices};
+use crate::choices::{put_choices, read_choices, spell_choices};
 use crate::lines::{behind, split_at_byte};
 use bril_profile::Entry;
 use bril_tree::bytes::Bytes;
-use bril_tree::name::{IdentFault, Name};
+use bril_tree::name::{Name, is_ident};
 use std::alloc::{AllocError, Global};
 
-// The entry of a line; None where it is no entry's.
-pub fn read_entry(alloc: Global, line: &[u8]) -> Result<Option<Entry>, AllocError>
-    ensures found { IfOk result (λ o. IfSome o (λ entry. entry_line entry ≡ line.now)) }
-    ensures valid { IfOk result (λ o. IfSome o IsEntry) }
-    ensures none { IfOk result (λ o. IfNone o ((entry : Entry) → IsEntry entry → entry_line entry ≡ line.now → ⊥)) }
-{
-    let Some((func, label, choices)) = parts_of(line) else {
-        return Ok(None);
-    };
-    let Some(func) = read_name(alloc, func)? else {
-        return Ok(None);
-    };
-    let Some(label) = read_name(alloc, label)? else {
-        return Ok(None);
-    };
-    let Some(choices) = read_choices(alloc, choices)? else {
-        return Ok(None);
-    };
-    Ok(Some(Entry {
-        func,
-        label,
-        choices,
-    }))
+// The parts of a line: the two names, and the letters of the choices.
+#[derive(Clone, Copy, Drop)]
+pub struct Parts<'a> {
+    pub func: &'a [u8],
+    pub label: &'a [u8],
+    pub letters: &'a [u8],
 }
 
-// The two names and the choices of a line; None where it isn't of the form.
-fn parts_of(line: &[u8]) -> Option<(&[u8], &[u8], &[u8])>
+// The parts of an entry's line; None where it is no entry's. Takes no memory.
+pub fn entry_parts(line: &[u8]) -> Option<Parts<'_>>
+    ensures { MatchOption result ((entry : Entry) → IsEntry entry → entry_line entry ≡ line.now → ⊥) (λ parts. (line.now ≡ line_of parts) × AreParts parts) }
+{
+    let Some(parts) = parts_of(line) else {
+        return None;
+    };
+    if are_parts(parts) {
+        return Some(parts);
+    }
+    None
+}
+
+// Whether the parts are an entry's.
+fn are_parts(parts: Parts<'_>) -> bool
+    ensures { MatchBool result (AreParts parts.entry) (AreParts parts.entry → ⊥) }
+{
+    is_ident(parts.func) && is_ident(parts.label) && spell_choices(parts.letters)
+}
+
+// The parts of a line; None where it isn't of the form.
+fn parts_of(line: &[u8]) -> Option<Parts<'_>>
     ensures { MatchOption result
-        ((func label choices : List ℕ) → Lacks 32 func → Lacks 32 label → line.now ≡ parts_line func label choices → ⊥)
-        (λ p. (line.now ≡ parts_line p.0.now p.1.now p.2.now) × (Lacks 32 p.0.now × Lacks 32 p.1.now)) }
+        ((func label letters : List ℕ) → Lacks 32 func → Lacks 32 label → line.now ≡ parts_line func label letters → ⊥)
+        (λ parts. (line.now ≡ line_of parts) × (Lacks 32 parts.func.now × Lacks 32 parts.label.now)) }
 {
     let Some(rest) = behind(line, b"trace @") else {
         return None;
@@ -52,23 +55,27 @@ fn parts_of(line: &[u8]) -> Option<(&[u8], &[u8], &[u8])>
     let Some(rest) = behind(rest, b".") else {
         return None;
     };
-    let Some((label, choices)) = split_at_byte(rest, b' ') else {
+    let Some((label, letters)) = split_at_byte(rest, b' ') else {
         return None;
     };
-    Some((func, label, choices))
+    Some(Parts {
+        func,
+        label,
+        letters,
+    })
 }
 
-// The name of these bytes; None where they are no identifier.
-fn read_name(alloc: Global, bytes: &[u8]) -> Result<Option<Name>, AllocError>
-    ensures found { IfOk result (λ o. IfSome o (λ name. name ≡ bytes.now)) }
-    ensures ident { IfOk result (λ o. IfSome o (λ name. IsTrue (is_identifier name))) }
-    ensures none { IfOk result (λ o. IfNone o (is_identifier bytes.now ≡ false)) }
+// The entry of these parts.
+pub fn entry_of(alloc: Global, parts: Parts<'_>) -> Result<Entry, AllocError>
+    requires { AreParts parts }
+    ensures line { IfOk result (λ entry. entry_line entry ≡ line_of parts.entry) }
+    ensures valid { IfOk result IsEntry }
 {
-    match Name::ident(alloc, bytes) {
-        Ok(name) => Ok(Some(name)),
-        Err(IdentFault::NotIdent) => Ok(None),
-        Err(IdentFault::Memory) => Err(AllocError),
-    }
+    Ok(Entry {
+        func: Name::of_identifier(alloc, parts.func)?,
+        label: Name::of_identifier(alloc, parts.label)?,
+        choices: read_choices(alloc, parts.letters)?,
+    })
 }
 
 // Appends the line of an entry, with its LF.

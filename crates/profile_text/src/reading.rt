@@ -1,12 +1,12 @@
 // Reading a profile.
 
-ghost use Rattle.std.specs.Prelude.{◌≡◌, ◌⊎◌, ◌<◌, ◌≤◌, ◌+◌, ◌^◌, ◌∷◌, [], ◌++◌, ℕ, List, All, length, map, IfOk, IfErr, OnOk, MatchResult};
+ghost use Rattle.std.specs.Prelude.{◌≡◌, ◌≤◌, ◌∷◌, ◌++◌, ℕ, List, map, IfOk, IfErr, OnOk, IsErrOf, MatchResult};
 ghost use Rattle.bril_profile.specs.declared.profile.Entry.{Entry};
-ghost use Rattle.profile_text.specs.Form.{AreEntries, IsEntry, entry_line, first_line, profile_text, text_of};
-ghost use Rattle.profile_text.specs.Fault.{HasNoEntry, IsFaultOf, IsFirstFault};
+ghost use Rattle.profile_text.specs.Form.{AreEntries, AreParts, entry_line, first_line, line_of, profile_text, text_of};
+ghost use Rattle.profile_text.specs.Fault.{HasNoEntry, IsFaultOf, IsFirstFault, IsText};
 ghost use Rattle.profile_text.specs.declared.fault.ProfileFault.TheVariants.{Line, Memory};
 
-use crate::entry::read_entry;
+use crate::entry::{Parts, entry_of, entry_parts};
 use crate::fault::ProfileFault;
 use crate::lines::split_at_byte;
 use bril_profile::{Entry, Profile};
@@ -20,7 +20,8 @@ use std::alloc::Global;
 /// line ends with LF, there are at most 64 entries, and there is nothing else.
 ///
 /// Errors: `Line` with the first line that breaks this, counted from 1. An empty source breaks it in line 1, a last line
-/// without LF in that line, a 65th entry in line 66. `Memory` may come at any time, when memory runs out.
+/// without LF in that line, a 65th entry in line 66. `Memory`, when memory runs out for the text of a profile: all lines are
+/// looked at before any memory is taken.
 ///
 /// Takes time in proportion to the source.
 pub fn read_profile(alloc: Global, source: &[u8]) -> Result<Profile, ProfileFault>
@@ -30,10 +31,9 @@ pub fn read_profile(alloc: Global, source: &[u8]) -> Result<Profile, ProfileFaul
     ensures reads { (entries : List Entry) → AreEntries entries → profile_text entries ≡ source.now
         → MatchResult result (λ profile. profile.entries ≡ entries) (λ fault. fault ≡ Memory) }
 
-    // The line is the first that breaks the form, and the first that does is answered.
+    // The line is the first that breaks the form, and the first that does is answered. Memory is wanting for a text alone.
     ensures fault { IfErr result (IsFaultOf source.now) }
-    ensures faults { (line : ℕ) → IsFirstFault source.now line
-        → MatchResult result (λ _. ⊥) (λ fault. (fault ≡ Line line) ⊎ (fault ≡ Memory)) }
+    ensures faults { (line : ℕ) → IsFirstFault source.now line → IsErrOf result (Line line) }
 {
     profile_of(alloc, source)
 }
@@ -50,12 +50,29 @@ fn profile_of(alloc: Global, source: &[u8]) -> Result<Profile, ProfileFault>
     if first != b"bril-profile 1".as_slice() {
         return Err(ProfileFault::Line { line: 1 });
     }
+    look_at_lines(rest)?;
     let entries = read_entries(alloc, rest)?;
     Ok(Profile { entries })
 }
 
-// The entries of the lines behind the first.
+// Looks for a fault in the lines behind the first. Takes no memory.
+fn look_at_lines(source: &[u8]) -> Result<(), ProfileFault>
+    ensures text { OnOk result (IsText (first_line ++ 10 ∷ source.now)) }
+    ensures fault { IfErr result (IsFaultOf (first_line ++ 10 ∷ source.now)) }
+{
+    let mut rest = source;
+    let mut line: u32 = 2;
+    'lines: while !rest.is_empty() {
+        let (_, after) = next_parts(rest, line)?;
+        rest = after;
+        line += 1;
+    }
+    Ok(())
+}
+
+// The entries of the lines behind the first, in which there is no fault.
 fn read_entries(alloc: Global, source: &[u8]) -> Result<Seq<Entry>, ProfileFault>
+    requires { IsText (first_line ++ 10 ∷ source.now) }
     ensures found { IfOk result (λ entries. text_of (map entry_line entries) ≡ source.now) }
     ensures valid { IfOk result AreEntries }
     ensures fault { IfErr result (IsFaultOf (first_line ++ 10 ∷ source.now)) }
@@ -64,20 +81,21 @@ fn read_entries(alloc: Global, source: &[u8]) -> Result<Seq<Entry>, ProfileFault
     let mut rest = source;
     let mut line: u32 = 2;
     'lines: while !rest.is_empty() {
-        let (entry, after) = next_entry(alloc, rest, line)?;
-        entries.push(entry)?;
+        let (parts, after) = next_parts(rest, line)?;
+        entries.push(entry_of(alloc, parts)?)?;
         rest = after;
         line += 1;
     }
     Ok(entries)
 }
 
-// The entry of the first line of `rest`, which is that line of the source, and what stands behind it.
-fn next_entry(alloc: Global, rest: &[u8], line: u32) -> Result<(Entry, &[u8]), ProfileFault>
-    ensures found { IfOk result (λ p. rest.now ≡ entry_line p.0 ++ 10 ∷ p.1.now) }
-    ensures valid { IfOk result (λ p. IsEntry p.0) }
+// The parts of the entry in the first line of `rest`, which is that line of the source, and what stands behind it. Takes no
+// memory.
+fn next_parts(rest: &[u8], line: u32) -> Result<(Parts<'_>, &[u8]), ProfileFault>
+    ensures found { IfOk result (λ p. rest.now ≡ line_of p.0 ++ 10 ∷ p.1.now) }
+    ensures valid { IfOk result (λ p. AreParts p.0) }
     ensures few { OnOk result (line ≤ 65) }
-    ensures fault { IfErr result (λ fault. (fault ≡ Memory) ⊎ ((fault ≡ Line line) × (line ≤ 65 → HasNoEntry rest.now))) }
+    ensures fault { IfErr result (λ fault. (fault ≡ Line line) × (line ≤ 65 → HasNoEntry rest.now)) }
 {
     if line > 65 {
         return Err(ProfileFault::Line { line });
@@ -85,8 +103,8 @@ fn next_entry(alloc: Global, rest: &[u8], line: u32) -> Result<(Entry, &[u8]), P
     let Some((next, after)) = split_at_byte(rest, b'\n') else {
         return Err(ProfileFault::Line { line });
     };
-    let Some(entry) = read_entry(alloc, next)? else {
-        return Err(ProfileFault::Line { line });
-    };
-    Ok((entry, after))
+    match entry_parts(next) {
+        Some(parts) => Ok((parts, after)),
+        None => Err(ProfileFault::Line { line }),
+    }
 }

@@ -1,6 +1,6 @@
 // The homes of variables and of shadows, by the registers of their slots.
 
-ghost use Rattle.std.specs.Prelude.{◌≡◌, ◌+◌, map, slice_index, IfOk};
+ghost use Rattle.std.specs.Prelude.{◌≡◌, ◌≤◌, ◌+◌, ◌^◌, map, slice_index, IfOk, IfErr};
 ghost use Rattle.std.specs.List.{range_with_len};
 ghost use Rattle.bril_tree.specs.FrameWords.{frame_head};
 ghost use Rattle.shadow_place.specs.Registers.{home_from};
@@ -18,11 +18,13 @@ fn register_of(registers: &[u8], slot: usize) -> u8
     }
 }
 
-// The slot's own word of the frame. A slot of a number that doesn't fit 32 bits is taken to need more memory than there is.
+// The slot's own word of the frame. A word whose number doesn't fit 32 bits is taken to need more memory than there is, and no
+// other.
 fn own_word(slot: usize) -> Result<u32, AllocError>
-    ensures { IfOk result (λ word. word ≡ frame_head + slot) }
+    ensures number { IfOk result (λ word. word ≡ frame_head + slot) }
+    ensures fault { IfErr result (λ _. 2 ^ 32 ≤ frame_head + slot) }
 {
-    if slot >= u32::MAX as usize - 2 {
+    if slot > u32::MAX as usize - 2 {
         return Err(AllocError);
     }
     Ok(2 + slot as u32)

@@ -10,7 +10,7 @@ use crate::analyses::Analyses;
 use crate::arcs::{guards_to, is_reached, open_arcs};
 use crate::marks::mark_points;
 use bril_tree::sequence::Seq;
-use graph_search::{ArcGraph, OtherThan, Reached};
+use graph_search::{ArcGraph, OtherThan, Reached, number_of_length};
 use std::alloc::{AllocError, Global};
 
 // The most speculations that are open at once.
@@ -88,9 +88,7 @@ fn open_graph(alloc: Global, known: &Analyses<'_>, level: usize) -> Result<ArcGr
         known.lowered.depths.as_slice(),
         level,
     )?;
-    if arcs.len() >= u32::MAX as usize {
-        return Err(AllocError);
-    }
+    number_of_length(arcs.len())?;
     let arcs = ArcGraph::of(alloc, known.func.code.as_slice().len() + 1, arcs)?;
     Ok(arcs)
 }

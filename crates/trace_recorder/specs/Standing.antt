@@ -1,5 +1,5 @@
 -- What a recorder holds, and when it stands for a run.
-use Rattle.std.specs.Prelude.{◌≡◌, ◌⊎◌, ℕ, ◌-◌, ◌^◌, ◌==◌, ◌&&◌, zero, suc, nat_lt, if◌then◌else◌, Bool, List, [], ◌∷◌, ◌++◌, length, map, min, take, Option, Some, None, slice_index, slice_index_or}
+use Rattle.std.specs.Prelude.{◌≡◌, ◌⊎◌, ℕ, ◌-◌, ◌^◌, ◌==◌, ◌&&◌, zero, suc, nat_lt, if◌then◌else◌, Bool, List, [], ◌∷◌, ◌++◌, length, map, min, take, Option, Some, None, IsSome, slice_index, slice_index_or}
 use Rattle.bril_profile.specs.declared.profile.Entry.{Entry}
 use Rattle.bril_tree.specs.declared.numbered_function.Func.{Func}
 use Rattle.bril_tree.specs.declared.program.Prog.{Prog}
@@ -116,3 +116,7 @@ begun_at P (Some a) = begun P a ∷ []
 abbrev pub begins : RecorderView → Option Arrival → Option Arrival
 begins r None = None
 begins r (Some a) = if (suc (count_in r.counts a.func a.label) == r.hot) && nat_lt (length r.held) r.most then Some a else None
+
+-- seeing the state takes memory: for the counts, where it is the first, or for an entry that begins
+abbrev pub TakesMemory : RecorderView → Prog → State → Type 0
+TakesMemory r P s = (r.counts ≡ []) ⊎ IsSome (begins r (arrival (sight P s)))

@@ -1,6 +1,6 @@
 // What a recorder holds, and how it sees a state.
 
-ghost use Rattle.std.specs.Prelude.{◌≡◌, ◌<◌, ◌≤◌, ◌∷◌, [], ◌++◌, ℕ, List, All, None, Some, length, map, vec_capacity, MatchBool, OnOk, OnErr, IfOk};
+ghost use Rattle.std.specs.Prelude.{◌≡◌, ◌<◌, ◌≤◌, ◌∷◌, [], ◌++◌, ℕ, List, All, None, Some, length, map, vec_capacity, IsSome, MatchBool, OnOk, OnErr, IfOk, IfErr};
 ghost use Rattle.std.specs.Option.{option_map};
 ghost use Rattle.bril_interpreter.specs.Interpreter.{state_of};
 ghost use Rattle.bril_tree.specs.State.{State};
@@ -8,7 +8,7 @@ ghost use Rattle.trace_recorder.specs.declared.arrival.Arrival.{Arrival as Arriv
 ghost use Rattle.trace_recorder.specs.Counts.{AreFirst, IsPlaceOf, counted_at, counts_from};
 ghost use Rattle.trace_recorder.specs.Kept.{view_of, held_of, sight_seen, any_open, IsKept, IsSound};
 ghost use Rattle.trace_recorder.specs.Sight.{sight, arrival as arrival_of};
-ghost use Rattle.trace_recorder.specs.Standing.{StandsFor, begins, begun, begun_at, first_seeing};
+ghost use Rattle.trace_recorder.specs.Standing.{StandsFor, TakesMemory, begins, begun, begun_at, first_seeing};
 
 use crate::arrival::{Arrival, arrival_at};
 use crate::counts::{count, count_at, is_hot, zero_counts};
@@ -42,6 +42,7 @@ impl Parts {
         ensures ok { OnOk result ((hot most : ℕ) (run : List State) → StandsFor (view_of self.old) now.now.checked.prog hot most run
             → StandsFor (view_of self.new) now.now.checked.prog hot most (run ++ state_of now.now ∷ [])) }
         ensures err { OnErr result (view_of self.new ≡ view_of self.old) }
+        ensures memory { OnErr result (TakesMemory (view_of self.old) now.now.checked.prog (state_of now.now)) }
     {
         let arrival = arrival_at(now);
         if !self.open {
@@ -71,6 +72,7 @@ impl Parts {
         ensures ok { OnOk result ((hot most : ℕ) (run : List State) → StandsFor (view_of self.old) now.now.checked.prog hot most run
             → StandsFor (view_of self.new) now.now.checked.prog hot most (run ++ state_of now.now ∷ [])) }
         ensures err { OnErr result (view_of self.new ≡ view_of self.old) }
+        ensures memory { OnErr result (TakesMemory (view_of self.old) now.now.checked.prog (state_of now.now)) }
     {
         let prog = now.prog().prog();
         let first = self.first_counts(prog)?;
@@ -83,7 +85,8 @@ impl Parts {
 
     // The counts before the first state, where there are none yet.
     fn first_counts(&self, prog: &Prog) -> Result<Option<Vec<Vec<u32>>>, AllocError>
-        ensures { IfOk result (λ first. AreFirst prog.now (view_of self.now).counts (option_map (λ counts. map (λ c. c.items) counts.items) first)) }
+        ensures memory { IfErr result (λ _. (view_of self.now).counts ≡ []) }
+        ensures first { IfOk result (λ first. AreFirst prog.now (view_of self.now).counts (option_map (λ counts. map (λ c. c.items) counts.items) first)) }
     {
         if !self.counts.is_empty() {
             return Ok(None);
@@ -100,6 +103,7 @@ impl Parts {
           held = (view_of self.old).held ++ begun_at prog.now (begins (view_of self.old) arrival);
         }) }
         ensures err { OnErr result (view_of self.new ≡ view_of self.old) }
+        ensures memory { OnErr result (IsSome (begins (view_of self.old) arrival)) }
     {
         let Some(arrival) = arrival else {
             return Ok(());

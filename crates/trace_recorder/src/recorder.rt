@@ -5,7 +5,7 @@ ghost use Rattle.bril_interpreter.specs.Interpreter.{state_of};
 ghost use Rattle.bril_tree.specs.State.{State};
 ghost use Rattle.bril_tree.specs.declared.program.Prog.{Prog};
 ghost use Rattle.trace_recorder.specs.Recorded.{recorded};
-ghost use Rattle.trace_recorder.specs.Standing.{StandsFor};
+ghost use Rattle.trace_recorder.specs.Standing.{StandsFor, TakesMemory};
 
 use crate::parts::Parts;
 use bril_interpreter::Interp;
@@ -57,12 +57,14 @@ impl Recorder {
 
     /// Sees the state of a run before a step: to be called before each step that is made, of one run.
     ///
-    /// An error means out of memory, and leaves the recorder as it was. Takes time for a look-up; while the path of an
-    /// entry goes on, in proportion to the entries.
+    /// An error means out of memory, and leaves the recorder as it was. It comes only at the first state, when the counts of
+    /// arrivals are made, and at one where an entry begins: no other takes memory. Takes time for a look-up; while the path
+    /// of an entry goes on, in proportion to the entries.
     pub fn see(&mut self, now: &Interp<'_>) -> Result<(), AllocError>
         ensures ok { OnOk result ((hot most : ℕ) (run : List State) → StandsFor self.old now.now.checked.prog hot most run
             → StandsFor self.new now.now.checked.prog hot most (run ++ state_of now.now ∷ [])) }
         ensures err { OnErr result (self.new ≡ self.old) }
+        ensures memory { OnErr result (TakesMemory self.old now.now.checked.prog (state_of now.now)) }
     {
         self.parts.see(now)
     }

@@ -19,7 +19,7 @@ use bril_checker::Checked;
 use bril_tree::numbered::Instr;
 use bril_tree::numbered_function::Func;
 use flow_graph::{AccessLists, all_reads};
-use graph_search::is_marked;
+use graph_search::{is_marked, number_of_length};
 use std::alloc::{AllocError, Global};
 
 /// What is known of each variable and each shadow of a function, and which of its points are reached as far as is known.
@@ -100,19 +100,18 @@ pub(crate) fn table_in(alloc: Global, func: &Func) -> Result<ConstTable, AllocEr
     })
 }
 
-// The reads of all items, by their locations.
+// The reads of all items, by their locations. As many as 2^32 - 1 are taken to need more memory than there is.
 fn reads_of(alloc: Global, code: &[Instr]) -> Result<AccessLists, AllocError>
     requires { length code.now < 2 ^ 32 - 1 }
     ensures { IfOk result (λ reads. reads.list ≡ reads_from 0 code.now) }
 {
     let reads = all_reads(alloc, code)?;
-    if reads.len() >= u32::MAX as usize {
-        return Err(AllocError);
-    }
+    number_of_length(reads.len())?;
     AccessLists::of(alloc, reads)
 }
 
-// At first arguments may be many, and nothing is known of any other location.
+// At first arguments may be many, and nothing is known of any other location. A function with 2^32 variables or more is taken to
+// need more memory than there is.
 fn first_known(alloc: Global, args: u32, variables: usize) -> Result<Vec<Known>, AllocError>
     requires few { args ≤ variables }
     ensures arguments { IfOk result (λ known. (x : ℕ) → x < args → kept known.items (Variable x) ≡ Many) }

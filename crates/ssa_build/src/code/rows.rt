@@ -10,7 +10,7 @@ use bril_tree::numbered::Instr;
 use bril_tree::operation::Op;
 use bril_tree::sequence::Seq;
 use flow_graph::{Access, AccessLists, Graph};
-use graph_search::{ArcGraph, Reached};
+use graph_search::{ArcGraph, Reached, number_of_length};
 use ssa_search::accesses::distinct;
 use ssa_search::placing::is_label_at;
 use std::alloc::{AllocError, Global};
@@ -55,9 +55,7 @@ fn leave_lists(alloc: Global, code: &[Instr], edges: &[Edge]) -> Result<AccessLi
     ensures { IfOk result (λ lists. lists.list ≡ leaves_of code.now edges.now) }
 {
     let leaves = leaves(alloc, code, edges)?;
-    if leaves.len() >= u32::MAX as usize {
-        return Err(AllocError);
-    }
+    number_of_length(leaves.len())?;
     AccessLists::of(alloc, leaves)
 }
 

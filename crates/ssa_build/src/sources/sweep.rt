@@ -1,6 +1,6 @@
 // The operands of the wanted `get`s, by a sweep over all items.
 
-ghost use Rattle.std.specs.Prelude.{◌≡◌, ◌≤◌, ◌<◌, ◌+◌, ◌*◌, ◌^◌, ◌-◌, ◌++◌, suc, IfOk, OnOk, None, is_some, length, map};
+ghost use Rattle.std.specs.Prelude.{◌≡◌, ◌≤◌, ◌<◌, ◌+◌, ◌*◌, ◌^◌, ◌-◌, ◌++◌, suc, IfOk, IfErr, OnOk, None, is_some, length, map};
 ghost use Rattle.std.specs.List.{All};
 ghost use Rattle.bril_tree.specs.Shape.{shape_fault_of};
 ghost use Rattle.bril_tree.specs.Sites.{AreSitesSound};
@@ -16,7 +16,7 @@ ghost use Rattle.ssa_laws.specs.reaching_definitions.Told.{into_at};
 use crate::trivial_phis::{Operand, Operands};
 use bril_tree::numbered_function::Func;
 use flow_graph::Graph;
-use graph_search::Adjacency;
+use graph_search::{Adjacency, number_of_length};
 use ssa_search::accesses::{Entry, label_entries};
 use ssa_search::gets::Wants;
 use ssa_search::renaming::{WantedGet, begin, enter, pass};
@@ -53,9 +53,7 @@ fn leave_rows(alloc: Global, entries: &[Entry], keys: usize) -> Result<Adjacency
     ensures keys { IfOk result (λ rows. rows.keys ≡ map entry_key entries.now) }
 {
     let list = entry_keys(alloc, entries)?;
-    if list.len() >= u32::MAX as usize {
-        return Err(AllocError);
-    }
+    number_of_length(list.len())?;
     Adjacency::of(alloc, keys, list)
 }
 
@@ -128,9 +126,7 @@ fn operand_rows(alloc: Global, gets: usize, list: Vec<Operand>) -> Result<Operan
     ensures gets { IfOk result (λ operands. operands.gets ≡ gets) }
     ensures list { IfOk result (λ operands. operands.list ≡ list.items) }
 {
-    if list.len() >= u32::MAX as usize {
-        return Err(AllocError);
-    }
+    number_of_length(list.len())?;
     Operands::of(alloc, gets, list)
 }
 
@@ -247,9 +243,10 @@ fn swept(
     Ok(operands)
 }
 
-// The number of variables. More than 2^32 - 1 are taken to need more memory than there is.
+// The number of variables. More than 2^32 - 1 are taken to need more memory than there is, and no fewer.
 fn variable_count(func: &Func) -> Result<u32, AllocError>
-    ensures { IfOk result (λ count. count ≡ length func.now.vars) }
+    ensures count { IfOk result (λ count. count ≡ length func.now.vars) }
+    ensures fault { IfErr result (λ _. 2 ^ 32 ≤ length func.now.vars) }
 {
     let count = func.vars.as_slice().len();
     if count > u32::MAX as usize {
@@ -260,7 +257,7 @@ fn variable_count(func: &Func) -> Result<u32, AllocError>
 
 /// What each wanted `get` of a function is set from, over all edges that lead to its label; the start of the function leads to its
 /// first item, and brings the arguments. Takes time and memory in proportion to the items and the operands. The only error is want of
-/// memory, which 2^32 - 1 operands are taken to have.
+/// memory, which 2^32 - 1 operands or more, or as many entries, are taken to have, and 2^32 variables or more.
 pub fn operands_of(
     alloc: Global,
     func: &Func,

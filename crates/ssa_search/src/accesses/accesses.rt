@@ -12,6 +12,7 @@ use crate::placing::is_label_at;
 use bril_tree::numbered::Instr;
 use bril_tree::numbered_function::Func;
 use flow_graph::{Access, AccessLists, Graph, assigned_number, item_reads};
+use graph_search::number_of_length;
 use std::alloc::{AllocError, Global};
 
 /// For each location the labels of the blocks that read it before they assign it, in the place of items, and the points that
@@ -130,9 +131,7 @@ fn none_assigned(alloc: Global, variables: usize) -> Result<Vec<u32>, AllocError
 fn access_lists(alloc: Global, list: Vec<Access>) -> Result<AccessLists, AllocError>
     ensures { IfOk result (λ accesses. accesses.list ≡ list.items) }
 {
-    if list.len() >= u32::MAX as usize {
-        return Err(AllocError);
-    }
+    number_of_length(list.len())?;
     AccessLists::of(alloc, list)
 }
 

@@ -13,7 +13,7 @@ use crate::placing::{block_arcs, heads};
 use bril_tree::numbered::Instr;
 use bril_tree::numbered_function::Func;
 use flow_graph::Graph;
-use graph_search::{Arc, ArcGraph};
+use graph_search::{Arc, ArcGraph, number_of_length};
 use std::alloc::{AllocError, Global};
 
 /// The blocks of a function: the head of each point's block, the arcs from each label back to those of the blocks from which edges
@@ -36,9 +36,7 @@ fn arc_graph(alloc: Global, code: &[Instr], arcs: Vec<Arc>) -> Result<ArcGraph, 
     ensures nodes { IfOk result (λ graph. graph.nodes ≡ length code.now) }
     ensures arcs { IfOk result (λ graph. AreBlockArcs code.now graph.arcs) }
 {
-    if arcs.len() >= u32::MAX as usize {
-        return Err(AllocError);
-    }
+    number_of_length(arcs.len())?;
     ArcGraph::of(alloc, code.len(), arcs)
 }
 

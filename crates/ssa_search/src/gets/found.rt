@@ -14,7 +14,7 @@ use crate::accesses::{Blocks, blocks_of};
 use crate::placing::live_labels;
 use bril_tree::numbered_function::Func;
 use flow_graph::{Access, AccessLists, Graph};
-use graph_search::Reached;
+use graph_search::{Reached, number_of_length};
 use std::alloc::{AllocError, Global};
 
 // Writes the points that assign a location first into the array, each at the head of its block.
@@ -83,9 +83,7 @@ fn search_location(
 fn label_rows(alloc: Global, found: Vec<Access>) -> Result<AccessLists, AllocError>
     ensures { IfOk result (λ rows. rows.list ≡ found.items) }
 {
-    if found.len() >= u32::MAX as usize {
-        return Err(AllocError);
-    }
+    number_of_length(found.len())?;
     AccessLists::of(alloc, found)
 }
 

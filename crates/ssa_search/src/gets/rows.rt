@@ -1,15 +1,17 @@
 // Rows of `get`s in one list.
 
-ghost use Rattle.std.specs.Prelude.{◌≡◌, ◌<◌, ◌+◌, ◌^◌, ◌-◌, ◌++◌, ◌∷◌, [], length, IfOk, OnOk};
+ghost use Rattle.std.specs.Prelude.{◌≡◌, ◌≤◌, ◌<◌, ◌+◌, ◌^◌, ◌-◌, ◌++◌, ◌∷◌, [], length, IfOk, IfErr, OnOk};
 ghost use Rattle.ssa_search.specs.gets.Rows.{gets_from};
 
 use crate::renaming::WantedGet;
 use std::alloc::{AllocError, Global};
 
-// So many definitions are arguments and items. A sum from 2^32 on is taken to need more memory than there is.
+// So many definitions are arguments and items. A sum from 2^32 on is taken to need more memory than there is, and no smaller
+// one.
 pub(crate) fn base_of(args: u32, items: usize) -> Result<u32, AllocError>
     requires { items < 2 ^ 32 }
-    ensures { IfOk result (λ base. base ≡ args + items) }
+    ensures sum { IfOk result (λ base. base ≡ args + items) }
+    ensures fault { IfErr result (λ _. 2 ^ 32 ≤ args + items) }
 {
     let items = items as u32;
     if args > u32::MAX - items {
@@ -18,10 +20,12 @@ pub(crate) fn base_of(args: u32, items: usize) -> Result<u32, AllocError>
     Ok(args + items)
 }
 
-// The definition of the `get` behind so many others. A number from 2^32 - 1 on is taken to need more memory than there is.
+// The definition of the `get` behind so many others. A number from 2^32 - 1 on is taken to need more memory than there is, and
+// no smaller one.
 fn definition_of(base: u32, count: usize) -> Result<u32, AllocError>
     ensures number { IfOk result (λ definition. definition ≡ base + count) }
     ensures few { IfOk result (λ definition. base + count + 1 < 2 ^ 32) }
+    ensures fault { IfErr result (λ _. 2 ^ 32 ≤ base + count + 1) }
 {
     if count >= (u32::MAX - base) as usize {
         return Err(AllocError);

@@ -1,9 +1,15 @@
+use Rattle.std.proofs.Common.{◌≤◌, [], ◌∷◌, length, map, ap, ◌∙◌, arith}
+use Rattle.std.specs.Prelude.{◌==◌}
+use Rattle.std.proofs.lemmas.List.{take_all}
+use Rattle.profile_text.specs.Form.{choices_text}
 use Rattle.profile_text.proofs.Cuts.{equal_not}
-use Rattle.profile_text.proofs.Entries.{no_choices}
-use Rattle.std.proofs.Common.{[], ◌∷◌}
+use Rattle.profile_text.proofs.Entries.{choices_read}
 use Rattle.profile_text.proofs.choices.read_choices.Goals as goal
 
-pub returns-in_default-clause-none : goal.returns-in_default-clause-none
-returns-in_default-clause-none c = λ choices short.
-    no_choices c.args.letters.now c.loop-letter.letter-index c.loop-letter-test.true c.in_default.ensures
-    (equal_not c.args.letters.now c.as_slice.result.now (45 ∷ []) c.eq.result c.eq.ensures c.if-eq.false c.as_slice.ensures) choices
+pub returns-clause-text : goal.returns-clause-text
+returns-clause-text c =
+    let letters = c.args.letters.now in
+    let at_end : length letters ≤ c.loop-letter.letter-index = (let h = c.loop-letter-test.false in omega arith) in
+    let other = equal_not letters c.as_slice.result.now (45 ∷ []) c.eq.result c.eq.ensures c.if-eq.false c.as_slice.ensures in
+    ap choices_text (choices_read letters c.requires.spelled c.loop-letter.choices other (c.loop-letter.invariant ∙ ap (map (λ b. b == 84)) (take_all c.loop-letter.letter-index letters at_end)))
+    ∙ c.requires.spelled.text

@@ -21,5 +21,5 @@ returns-clause-ok c =
     let size : c.len-before.result ≡ length c.args.self.now.held.items = (let a = c.len-before.ensures in omega arith) in
     seeing_on c.args.now.now.checked.prog c.prog-prog.result.now (view_of c.args.self.now) (view_of c.begin_if_hot.new.self) (view_of c.follow.new.self) (view_of c.count.new.self) c.len-before.result (state_of c.args.now.now)
     (option_map (λ (t : Vec (Vec ℕ Global) Global). map (λ (r : Vec ℕ Global). r.items) t.items) c.in_ok-first.first) (sight c.args.now.now.checked.prog (state_of c.args.now.now)) c.args.arrival
-    same refl c.requires.arrival (size ∙ sym (length-map c.args.self.now.held.items held_of)) c.requires.sound.hot c.in_ok-first.ensures
+    same refl c.requires.arrival (size ∙ sym (length-map c.args.self.now.held.items held_of)) c.requires.sound.hot c.in_ok-first.ensures.first
     c.in_ok-begin_if_hot.ensures.ok c.follow.ensures.view c.count.ensures.view
