@@ -1,3 +1,4 @@
 pub mod Moving
 pub mod Regions
 pub mod Stretches
+pub mod Tries
