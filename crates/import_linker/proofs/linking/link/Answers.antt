@@ -29,4 +29,5 @@ returns-clause-ok g c = record {
 }
 
 pub returns-clause-times : goal.returns-clause-times
+unfolding returns-clause-ok
 returns-clause-times g c = record { linked = returns-clause-ok g c; times = c.in_ok-read.ensures.times }
