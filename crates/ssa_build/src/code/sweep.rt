@@ -255,7 +255,7 @@ fn lay_all(
 
 /// The code of a function in SSA form, which has these items, by names: each item under the names of definitions, the `get`s that
 /// stay behind their labels, and `set`s before the items where edges leave. The only error is out of memory, which a function of
-/// 2^32 variables is taken to have.
+/// 2^32 variables or more is taken to have.
 pub fn laid_code(
     alloc: Global,
     layout: &Layout<'_>,
