@@ -1,11 +1,9 @@
 -- Each `set` of laid code gives to the shadow of a variable that a `get` there assigns.
-use Rattle.std.proofs.Common.{◌≡◌, ℕ, zero, suc, ◌+◌, ◌*◌, ◌/◌, ◌<◌, ◌≤◌, true, false, List, [], ◌∷◌, Option, Some, None, refl, sym, ap, subst, ◌∙◌, inl, inr, arith}
-use Rattle.std.specs.Prelude.{slice_get}
+use Rattle.std.proofs.Common.{◌≡◌, ℕ, suc, ◌+◌, ◌*◌, ◌/◌, true, false, List, [], ◌∷◌, Some, refl, sym, ap, subst, ◌∙◌, inl, arith}
 use Rattle.std.proofs.lemmas.Option.{slice_get_within}
 use Rattle.bril_tree.specs.declared.function_tree.FuncTree.{FuncTree}
 use Rattle.bril_tree.specs.declared.function_tree.Item.{Item}
 use Rattle.bril_tree.specs.declared.function_tree.Item.TheVariants as item
-use Rattle.bril_tree.specs.declared.numbered.Instr.{Instr}
 use Rattle.bril_tree.specs.declared.numbered.Instr.TheVariants.{Label}
 use Rattle.bril_tree.specs.declared.numbered_function.Func.{Func}
 use Rattle.bril_tree.specs.declared.program.Prog.{Prog}
@@ -22,7 +20,7 @@ use Rattle.bril_tree.proofs.Elements.{get_in, in_get}
 use Rattle.bril_tree.proofs.Members.{contains_in, in_flat_map}
 use Rattle.flow_graph.specs.Location.{number_of}
 use Rattle.ssa_laws.proofs.lemmas.live_entries.Deciding.{live-read}
-use Rattle.ssa_build.specs.code.Items.{get_item, got_item, name_in, set_item, typed_get}
+use Rattle.ssa_build.specs.code.Items.{get_item, got_item, name_in, typed_get}
 use Rattle.ssa_laws.specs.layout.Form.{IsGetAt, IsGetOf}
 use Rattle.ssa_laws.specs.layout.Laid.{set_tree}
 use Rattle.ssa_search.specs.declared.renaming.now.WantedGet.{WantedGet}
