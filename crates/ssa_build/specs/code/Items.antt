@@ -32,7 +32,7 @@ abbrev pub dest_with : List ℕ → Option Dest → Option Dest
 dest_with name None = None
 dest_with name (Some d) = Some (typed_name name d.ty)
 
--- what stands in place of an item that walks reach: it under these names, and nothing for a `get` or a `set`
+-- what stands in place of an item that walks reach: it under these names, and a `nop` for a `get` or a `set`
 abbrev pub moved_item : List (List ℕ) → List ℕ → Item → Item
 moved_item args name (item.Label label) = item.Label label
 moved_item args name (item.Const dest ty value) = item.Const name ty value
@@ -40,7 +40,7 @@ moved_item args name (item.Act dest op.Get old funcs labels) = nop_item
 moved_item args name (item.Act dest op.Set old funcs labels) = nop_item
 moved_item args name (item.Act dest o old funcs labels) = item.Act (dest_with name dest) o args funcs labels
 
--- what stands in place of one that no walk reaches
+-- what stands in place of one that no walk reaches: a `nop`, unless it is a label
 abbrev pub unreached_item : Item → Item
 unreached_item (item.Label label) = item.Label label
 unreached_item (item.Const dest ty value) = nop_item
@@ -57,7 +57,7 @@ got_item name ty = item.Act (Some (typed_name name ty)) op.Get [] [] []
 abbrev pub put_item : List ℕ → List ℕ → Item
 put_item name from = item.Act None op.Set (name ∷ from ∷ []) [] []
 
--- those of these `get`s that stay: what stands for themselves
+-- those of these `get`s that stay: each of them stands for itself
 abbrev pub stays : List ℕ → WantedGet → Bool
 stays find get = slice_index find get.definition == get.definition
 

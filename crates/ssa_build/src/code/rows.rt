@@ -102,7 +102,7 @@ fn rows_of(
 
 /// For each point of a function the labels to which edges leave from a jump there, or by an abort from the speculation that begins
 /// there, each once. Takes time and memory in proportion to the items and the edges. The only error is out of memory, which 2^32 - 1
-/// such edges are taken to need.
+/// such edges or more are taken to need.
 pub fn leaving_rows(
     alloc: Global,
     code: &[Instr],

@@ -52,8 +52,8 @@ fn front_of(name: &[u8]) -> usize
     if has_dot(name) { marks(name) + 1 } else { 0 }
 }
 
-/// How many `_` the names of definitions begin with at least: none where no argument's name has a `.`, and else one more than
-/// the arguments that have one. The first `args` variables are the arguments. Takes no memory.
+/// How many `_` the names of definitions begin with at least: none where no argument's name has a `.`, and else one more than any
+/// argument with a `.` begins with. The first `args` variables are the arguments. Takes no memory.
 pub fn front(vars: &[VarInfo], args: u32) -> usize
     requires { args ≤ length vars.now }
     ensures enough { (x : ℕ) → x < args → front_of (named (variable_names vars.now) x) ≤ result }

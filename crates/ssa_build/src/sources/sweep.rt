@@ -257,7 +257,7 @@ fn variable_count(func: &Func) -> Result<u32, AllocError>
 
 /// What each wanted `get` of a function is set from, over all edges that lead to its label; the start of the function leads to its
 /// first item, and brings the arguments. Takes time and memory in proportion to the items and the operands. The only error is want of
-/// memory, which 2^32 - 1 operands or more, or as many entries, are taken to have, and 2^32 variables or more.
+/// memory, which a function is taken to have with 2^32 - 1 operands or more, or as many entries of labels, or 2^32 variables or more.
 pub fn operands_of(
     alloc: Global,
     func: &Func,

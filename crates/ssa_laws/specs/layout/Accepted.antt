@@ -22,7 +22,7 @@ use Rattle.ssa_laws.specs.reaching_definitions.Tables.{Tables}
 
 -- what is asked of the tables of a function, so that each `set` reads what every walk has assigned
 pub record Tight (P : Prog) (table : ℕ → Tables) (sets : ℕ → ℕ → List Setting) (f : ℕ) : Type 0 where
-  -- only reachable labels have `get`s, and what is got is still told behind it
+  -- only reachable labels have `get`s, and where there is one the location has a definition behind the label too
   pub reached : (k y : ℕ) (a : Location) → (table f).gets k a ≡ Some y → IsReached (code_of P f) k
   pub goes : (k y : ℕ) (a : Location) → (table f).gets k a ≡ Some y → (z : ℕ) × (((table f).into (suc k) a ≡ Some z) ⊎ ((table f).gets (suc k) a ≡ Some z))
   -- before an item each `get` is set once

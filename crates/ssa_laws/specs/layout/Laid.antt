@@ -69,7 +69,7 @@ module _ (P Q : Prog) (table : ℕ → Tables) (name : ℕ → ℕ → List ℕ)
     Falls : (a : Location) (p : ℕ) → i ≡ suc p → (table f).gets i a ≡ Some s.get → behind (code_of P f) (table f) p a ≡ Some s.from → IsSetBefore f i s
     Leaves : (a : Location) (k : ℕ) → LeavesTo (code_of P f) i k → (table f).gets k a ≡ Some s.get → (table f).into i a ≡ Some s.from → IsSetBefore f i s
 
-  -- the name of a definition that is told
+  -- the name of a definition, and no name where there is none
   abbrev pub name_of : ℕ → Option ℕ → List ℕ
   name_of f None = []
   name_of f (Some y) = name f y

@@ -25,7 +25,7 @@ pub record IsTabled (code : List Instr) (args : ℕ) (gets : ℕ → Location �
 abbrev pub IsArgument : ℕ → ℕ → Type 0
 IsArgument args y = (a : Location) × (argument args a ≡ Some y)
 
--- Of each location that is live at a reached point the tables tell a definition, or a `get` behind the point is one.
+-- Each location that is live at a reached point has a definition by the tables, or a `get` behind the point is one.
 abbrev pub TablesTellLive : Type 0
 TablesTellLive = (code : List Instr) (args : ℕ) (gets : ℕ → Location → Option ℕ) → IsTabled code args gets
     → (i : ℕ) (a : Location) → IsReached code i → IsLive code a i → (y : ℕ) × ((into_at code args gets i a ≡ Some y) ⊎ (gets i a ≡ Some y))
@@ -37,7 +37,7 @@ TablesAgree = (code : List Instr) (args : ℕ) (gets : ℕ → Location → Opti
     → AreConsistent code (table_of code args gets) (IsArgument args)
     × ((find : ℕ → ℕ) → IsSolved code (table_of code args gets) args (args + length code) find → AreConsistent code (resolve (table_of code args gets) find) (IsArgument args))
 
--- Without the trivial `get`s, what the tables tell of a location at a reached point is a definition of the location's type,
+-- Without the trivial `get`s, the definition that a location has at a reached point by the tables is one of the location's type,
 -- where that has one.
 abbrev pub TablesKeepTypes : Type 0
 TablesKeepTypes = (code : List Instr) (args : ℕ) (gets : ℕ → Location → Option ℕ) (find : ℕ → ℕ) (type_at : Location → Option Ty) (types : ℕ → Option Ty)

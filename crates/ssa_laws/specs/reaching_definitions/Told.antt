@@ -1,5 +1,5 @@
--- The tables of a function, made item by item from what its `get`s are: what is told of a point is computed from the one
--- before it.
+-- The tables of a function, made item by item: which definition reaches a point follows from those that reach the point before
+-- it, and behind a label from the label's `get`s.
 use Rattle.std.specs.Prelude.{◌≡◌, ◌⊎◌, ℕ, zero, suc, ◌+◌, ◌<◌, ◌≤◌, true, false, List, ◌∷◌, length, Option, Some, None, slice_get, nat_lt, if◌then◌else◌}
 use Rattle.bril_tree.specs.declared.numbered.Instr.{Instr}
 use Rattle.bril_tree.specs.declared.numbered.Instr.TheVariants.{Label}
@@ -22,12 +22,12 @@ abbrev pub argument : ℕ → Location → Option ℕ
 argument args (Variable x) = if nat_lt x args then Some x else None
 argument args (Shadow x) = None
 
--- nothing is told just before a label: the `get`s behind it tell
+-- just before a label no location has a definition: those behind it are its `get`s
 abbrev pub entered : Option Instr → Option ℕ → Option ℕ
 entered (Some (Label l)) o = None
 entered _ o = o
 
--- behind an item, from what is told before it
+-- which definition reaches behind an item, from those that reach it; `w` is the item's own
 abbrev pub passed_by : Option Instr → ℕ → (Location → Option ℕ) → Location → Option ℕ
 passed_by o w known a = if is_copy o then known (source o a) else (if is_dest (destination o) a then Some w else known a)
 
@@ -66,7 +66,7 @@ pub data Source (code : List Instr) (n : Tables) (args k : ℕ) (a : Location) (
 abbrev pub AreSources : List Instr → Tables → ℕ → (ℕ → ℕ → Type 0) → Type 0
 AreSources code n args Sets = (k y z : ℕ) (a : Location) → n.gets k a ≡ Some y → ((Source code n args k a z → Sets y z) × (Sets y z → Source code n args k a z))
 
--- What is asked of the definitions that stand for others, once no trivial `get` is left: `base` definitions are no `get`s.
+-- What is asked of the definitions that stand for others, once no trivial `get` is left: those below `base` are no `get`s.
 pub record IsSolved (code : List Instr) (n : Tables) (args base : ℕ) (find : ℕ → ℕ) : Type 0 where
   pub fixed : (d : ℕ) → d < base → find d ≡ d
   -- what is left out is set from one definition alone
@@ -74,7 +74,7 @@ pub record IsSolved (code : List Instr) (n : Tables) (args base : ℕ) (find : �
 
 -- ---- types of definitions
 
--- What is told of the types of definitions: each has that of the location that it is a definition of.
+-- The types of definitions: each has that of the location that it is a definition of.
 pub record AreTyped (code : List Instr) (n : Tables) (args : ℕ) (type_at : Location → Option Ty) (types : ℕ → Option Ty) : Type 0 where
   pub argument : (a : Location) (y : ℕ) → argument args a ≡ Some y → types y ≡ type_at a
   pub write : (i x : ℕ) → is_copy (slice_get code i) ≡ false → destination (slice_get code i) ≡ Some x → types (n.writes i) ≡ type_at (Variable x)

@@ -2,8 +2,8 @@
 
 ghost use Rattle.ssa_laws.specs.reaching_definitions.Laws.{TablesAgree, TablesKeepTypes, TablesTellLive};
 
-/// Of each location that is live at a reached point the tables tell a definition, or a `get` behind the point is one. A call
-/// does nothing.
+/// Each location that is live at a reached point has a definition by the tables, or a `get` behind the point is one. A call does
+/// nothing.
 pub fn tables_tell_live()
     ensures { TablesTellLive }
 {}

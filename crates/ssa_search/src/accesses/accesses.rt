@@ -168,7 +168,8 @@ fn pass_item(
 
 /// What the blocks of a function read before they assign it, and what they assign first. `heads` has the head of each point's
 /// block. Takes time and memory in proportion to the items, their arguments and the variables. The only error is want of memory,
-/// which a function is taken to have that names a variable of a number from 2^31 on, or has 2^32 - 1 of these accesses or more.
+/// which a function is taken to have that names a variable of a number from 2^31 on, or has 2^32 - 1 or more of these reads or of
+/// these assignments.
 pub(crate) fn block_accesses(
     alloc: Global,
     func: &Func,

@@ -42,7 +42,8 @@ fn arc_graph(alloc: Global, code: &[Instr], arcs: Vec<Arc>) -> Result<ArcGraph, 
 
 /// The blocks of a function whose items have the shapes of their operations and whose open sites are sound. Takes time and memory
 /// in proportion to the items, their arguments, the edges and the variables. The only error is want of memory, which a function is
-/// taken to have that names a variable of a number from 2^31 on, or has 2^32 - 1 edges between blocks or accesses or more.
+/// taken to have that names a variable of a number from 2^31 on, or has 2^32 - 1 or more edges between blocks, reads of locations that
+/// their blocks didn't assign before, or first assignments.
 pub fn blocks_of(alloc: Global, func: &Func, graph: &Graph) -> Result<Blocks, AllocError>
     requires shaped { shape_fault_of (is_some func.now.ret) func.now.code ≡ None }
     requires few { length func.now.code < 2 ^ 32 - 1 }

@@ -116,7 +116,7 @@ fn rows_of(
 /// The wanted `get`s of a function whose items have the shapes of their operations and whose open sites are sound: one for each
 /// pair of a reached label and a location that is live there. Takes time and memory in proportion to the items, their arguments and
 /// the branches that lead to what is found. The only error is want of memory, which a function is taken to have where arguments,
-/// items and `get`s are 2^32 or more together, or that has 2^31 - 65 variables or more.
+/// items and `get`s are 2^32 or more together, or that has 2^31 - 65 variables or more, or where `blocks_of` takes it to be lacking.
 pub fn wanted_gets(alloc: Global, func: &Func, graph: &Graph) -> Result<Wants, AllocError>
     requires shaped { shape_fault_of (is_some func.now.ret) func.now.code ≡ None }
     requires few { length func.now.code < 2 ^ 32 - 1 }

@@ -40,7 +40,8 @@ fn count_words(entries: &[Entry], words: &ReachedSets) -> u64
     count
 }
 
-// Counts the live entries of the locations with numbers below a bound.
+// Counts the live entries of the locations with numbers below a bound, up to 2^64 - 1. It goes in steps of 64 locations, so it may
+// count those of a few numbers from the bound on, which are no location's where the bound is above all of them.
 fn count_locations(
     alloc: Global,
     func: &Func,
@@ -67,9 +68,9 @@ fn count_locations(
 }
 
 /// The number of live entries of a function whose items have the shapes of their operations and whose open sites are sound, or
-/// 2^64 - 1 where it is greater. Takes memory in proportion to the items and their arguments, and time in proportion to these and,
-/// for each 64 locations, to the edges. The only error is want of memory, which a function is taken to have that has 2^31 - 65
-/// variables or more.
+/// 2^64 - 1 where it is greater. Takes memory in proportion to the items, their arguments and the variables, and time in proportion to
+/// these and, for each 64 locations, to the edges. The only error is want of memory, which a function is taken to have that has
+/// 2^31 - 65 variables or more, or where `blocks_of` takes it to be lacking.
 pub fn count_live_entries(alloc: Global, func: &Func, graph: &Graph) -> Result<u64, AllocError>
     requires shaped { shape_fault_of (is_some func.now.ret) func.now.code ≡ None }
     requires few { length func.now.code < 2 ^ 32 - 1 }
