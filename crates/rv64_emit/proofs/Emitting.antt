@@ -8,7 +8,7 @@ use Rattle.bril_tree.specs.Literals.{AreLiteralsInRange}
 use Rattle.bril_tree.specs.Size.{IsCounted}
 use Rattle.bril_tree.proofs.Elements.{All-at, zip-long}
 use Rattle.live_sets.specs.declared.live.Live.{Live}
-use Rattle.rv64_image_laws.specs.Implements.{Implements}
+use Rattle.rv64_image_laws.specs.Implements.{Implements, ImplementsAt}
 use Rattle.rv64_image_laws.specs.WordBounds.{IsStackSize, IsWithin}
 use Rattle.rv64_words.specs.declared.image.Image.{Image}
 use Rattle.rv64_words.specs.Encoding.{encoded}
@@ -22,18 +22,18 @@ use Rattle.rv64_emit_laws.proofs.lemmas.layout.Bounding.{image_bounded, function
 use Rattle.rv64_emit_laws.proofs.lemmas.layout.Fitting.{all_reached, item_fits, largest_is}
 use Rattle.rv64_emit_laws.proofs.lemmas.layout.Guarding.{guards_counted}
 use Rattle.rv64_emit_laws.proofs.lemmas.layout.Laid.{functions_length}
-use Rattle.rv64_emit_laws.specs.Homes.{AllHomesServe, homes_of}
+use Rattle.rv64_emit_laws.specs.Homes.{AllHomesServe}
 use Rattle.rv64_emit_laws.proofs.Homes.{have_homes}
 use Rattle.rv64_emit_laws.proofs.Theorem.{implements, implements_at}
 use Rattle.rv64_emit.specs.Placed.{placed_homes}
-use Rattle.rv64_emit.specs.Registers.{ImplementsInRegisters}
+use Rattle.rv64_emit.specs.PlacedImage.{ImplementsPlaced}
 use Rattle.rv64_emit.specs.Tables.{SlotsFit}
-use Rattle.rv64_emit.proofs.Serving.{IsPlacedBy, all_serve, few_in_registers, registers_near}
+use Rattle.rv64_emit.proofs.Serving.{IsPlacedBy, all_serve, few_in_registers, homes_placed, registers_near}
 
 -- what is said of an image
 pub record IsEmitted (p : Prog) (limits : Limits) (image : Image) : Type 0 where
   pub implements : Implements image p limits
-  pub registers : ImplementsInRegisters image p limits
+  pub placed : ImplementsPlaced image p limits
   pub words : length image.words ≤ 250000
   pub guards : length image.guards ≤ length image.words
   pub stack : IsStackSize p limits image.stack
@@ -59,8 +59,12 @@ module _ (p : Prog) (slots : Slots) (limits : Limits) (accepted : IsAccepted p) 
         let same : length g.code ≡ length made.0.code = ap length made.2.code ∙ length-map made.0.code (lowered_item made.0) in
         let few_items = All-at (λ h. length h.code < 2 ^ 32 - 1) p.funcs f made.0 counted.items made.1 in
         omega arith);
-    reached = all_reached p slots limits accepted literals is within homes have;
-    near = λ f g at. (let made = function_made p slots is f g at in registers_near made.0 g made.2 (homes f) (have f g at));
+    movable = λ f g at. (
+        let made = function_made p slots is f g at in
+        record {
+          reached = all_reached p slots limits accepted literals is within homes have f g at;
+          near = registers_near made.0 g made.2 (homes f) (have f g at);
+        });
     items = item_fits p slots limits accepted literals is within homes have;
     few = few;
   }
@@ -85,7 +89,14 @@ module _ (p : Prog) (slots : Slots) (limits : Limits) (accepted : IsAccepted p) 
   pub emitted : (stack : ℕ) → IsStackSize p limits stack → (image : Image) → IsImageOf homes slots limits image → IsEmitted p limits image
   emitted stack size image laid = record {
     implements = implements p homes slots limits image accepted literals is within serve laid;
-    registers = record { homes = homes_of homes; implements = implements_at p homes slots limits image accepted literals is within serve laid; registers = few_in_registers p slots lives placed by is };
+    placed = record {
+      slots = slots;
+      lowered = is;
+      placed = placed;
+      are = by.are;
+      implements = subst (λ h. ImplementsAt h image p limits) (homes_placed placed lives) (implements_at p homes slots limits image accepted literals is within serve laid);
+      registers = few_in_registers p slots lives placed by is;
+    };
     words = words_few image laid;
     guards = guards_few image laid;
     stack = subst (IsStackSize p limits) (sym (laid.stack ∙ sym (stack_is stack size))) size;

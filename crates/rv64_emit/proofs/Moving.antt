@@ -7,43 +7,48 @@ use Rattle.std.proofs.lemmas.List.{append-nil, length-take}
 use Rattle.bril_tree.specs.FrameWords.{frame_head}
 use Rattle.slot_code.specs.declared.item.Slot.{Slot}
 use Rattle.slot_code.specs.declared.slots.SlotFunction.{SlotFunction}
-use Rattle.rv64_words_laws.specs.sequences.Moves.{Move, save_one, save_words, save_size, restore_one, restore_words, restore_size}
+use Rattle.rv64_words_laws.specs.sequences.Moves.{Move, save_one, save_words, restore_one, restore_words}
 use Rattle.rv64_emit_laws.specs.layout.Homes.{FunctionHomes, call_moves, in_register, is_loaded, moves_from, opening_moves, outlives}
 use Rattle.rv64_words.specs.declared.word.Word.{Word}
 use Rattle.rv64_words.specs.Encoding.{encoded}
+use Rattle.rv64_emit.specs.declared.moves.Transfer.{Transfer}
+use Rattle.rv64_emit.specs.declared.moves.Transfer.TheVariants.{Save, Restore}
 use Rattle.rv64_emit.specs.Moved.{AreRegistersNear}
+use Rattle.rv64_emit.specs.SlotMoves.{size_by, words_by}
 use Rattle.rv64_emit.proofs.Appending.{put_then}
 
 -- ---- one slot after another
 
-module _ (homes : FunctionHomes) (first : ℕ) (test : Slot → Bool) where
-  pub saves_more : (i : ℕ) (slot : Slot) (slots : List Slot) → save_words (moves_from homes first test i (slot ∷ slots)) ≡ save_words (moves_from homes first test i (slot ∷ [])) ++ save_words (moves_from homes first test (suc i) slots)
-  saves_more i slot slots = by (test slot) (record { home = homes.home slot; word = first + i }) (moves_from homes first test (suc i) slots)
-    where
-      by : (t : Bool) (m : Move) (rest : List Move) → save_words (cond t (m ∷ rest) rest) ≡ save_words (cond t (m ∷ []) []) ++ save_words rest
-      by true m rest = ap (λ ws. ws ++ save_words rest) (sym (append-nil (save_one m.home m.word)))
-      by false m rest = refl
+words_cons : (t : Transfer) (m : Move) (moves : List Move) → words_by t (m ∷ moves) ≡ words_by t (m ∷ []) ++ words_by t moves
+words_cons Save m moves = ap (λ ws. ws ++ save_words moves) (sym (append-nil (save_one m.home m.word)))
+words_cons Restore m moves = ap (λ ws. ws ++ restore_words moves) (sym (append-nil (restore_one m.home m.word)))
 
-  pub restores_more : (i : ℕ) (slot : Slot) (slots : List Slot) → restore_words (moves_from homes first test i (slot ∷ slots)) ≡ restore_words (moves_from homes first test i (slot ∷ [])) ++ restore_words (moves_from homes first test (suc i) slots)
-  restores_more i slot slots = by (test slot) (record { home = homes.home slot; word = first + i }) (moves_from homes first test (suc i) slots)
-    where
-      by : (t : Bool) (m : Move) (rest : List Move) → restore_words (cond t (m ∷ rest) rest) ≡ restore_words (cond t (m ∷ []) []) ++ restore_words rest
-      by true m rest = ap (λ ws. ws ++ restore_words rest) (sym (append-nil (restore_one m.home m.word)))
-      by false m rest = refl
+words_none : (t : Transfer) → words_by t [] ≡ []
+words_none Save = refl
+words_none Restore = refl
 
-  pub save_size_more : (i : ℕ) (slot : Slot) (slots : List Slot) → save_size (moves_from homes first test i (slot ∷ slots)) ≡ save_size (moves_from homes first test i (slot ∷ [])) + save_size (moves_from homes first test (suc i) slots)
-  save_size_more i slot slots = by (test slot) (record { home = homes.home slot; word = first + i }) (moves_from homes first test (suc i) slots)
-    where
-      by : (t : Bool) (m : Move) (rest : List Move) → save_size (cond t (m ∷ rest) rest) ≡ save_size (cond t (m ∷ []) []) + save_size rest
-      by true m rest = omega arith
-      by false m rest = sym (zero-add _)
+size_cons : (t : Transfer) (m : Move) (moves : List Move) → size_by t (m ∷ moves) ≡ size_by t (m ∷ []) + size_by t moves
+size_cons Save m moves = omega arith
+size_cons Restore m moves = omega arith
 
-  pub restore_size_more : (i : ℕ) (slot : Slot) (slots : List Slot) → restore_size (moves_from homes first test i (slot ∷ slots)) ≡ restore_size (moves_from homes first test i (slot ∷ [])) + restore_size (moves_from homes first test (suc i) slots)
-  restore_size_more i slot slots = by (test slot) (record { home = homes.home slot; word = first + i }) (moves_from homes first test (suc i) slots)
+size_none : (t : Transfer) → size_by t [] ≡ 0
+size_none Save = refl
+size_none Restore = refl
+
+module _ (t : Transfer) (homes : FunctionHomes) (first : ℕ) (test : Slot → Bool) where
+  pub words_more : (i : ℕ) (slot : Slot) (slots : List Slot) → words_by t (moves_from homes first test i (slot ∷ slots)) ≡ words_by t (moves_from homes first test i (slot ∷ [])) ++ words_by t (moves_from homes first test (suc i) slots)
+  words_more i slot slots = by (test slot) (record { home = homes.home slot; word = first + i }) (moves_from homes first test (suc i) slots)
     where
-      by : (t : Bool) (m : Move) (rest : List Move) → restore_size (cond t (m ∷ rest) rest) ≡ restore_size (cond t (m ∷ []) []) + restore_size rest
-      by true m rest = omega arith
-      by false m rest = sym (zero-add _)
+      by : (meant : Bool) (m : Move) (rest : List Move) → words_by t (cond meant (m ∷ rest) rest) ≡ words_by t (cond meant (m ∷ []) []) ++ words_by t rest
+      by true m rest = words_cons t m rest
+      by false m rest = ap (λ ws. ws ++ words_by t rest) (sym (words_none t))
+
+  pub size_more : (i : ℕ) (slot : Slot) (slots : List Slot) → size_by t (moves_from homes first test i (slot ∷ slots)) ≡ size_by t (moves_from homes first test i (slot ∷ [])) + size_by t (moves_from homes first test (suc i) slots)
+  size_more i slot slots = by (test slot) (record { home = homes.home slot; word = first + i }) (moves_from homes first test (suc i) slots)
+    where
+      by : (meant : Bool) (m : Move) (rest : List Move) → size_by t (cond meant (m ∷ rest) rest) ≡ size_by t (cond meant (m ∷ []) []) + size_by t rest
+      by true m rest = size_cons t m rest
+      by false m rest = omega (arith, size_none t)
 
 -- words that are appended slot by slot
 pub words_next : (words : ℕ → List Slot → List Word) → ((i : ℕ) (slot : Slot) (slots : List Slot) → words i (slot ∷ slots) ≡ words i (slot ∷ []) ++ words (suc i) slots) → (slots : List Slot) (k : ℕ) (d : Slot) (code next whole : List ℕ) →

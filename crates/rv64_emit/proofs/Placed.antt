@@ -19,8 +19,8 @@ use Rattle.rv64_emit_laws.specs.layout.Items.{item_size, item_words, leave_words
 use Rattle.rv64_emit_laws.proofs.lemmas.layout.Joining.{below_or, joined-more}
 use Rattle.rv64_emit_laws.proofs.lemmas.layout.Laid.{items_length, functions_length, opening_length}
 use Rattle.rv64_emit_laws.proofs.lemmas.layout.Placing.{words_next, words_at_end, entry_is, starts_rise, starts_most, function_inside, entries_most}
-use Rattle.rv64_emit.specs.Moved.{AreRegistersNear}
-use Rattle.rv64_emit.specs.Tables.{table_at, start_table, entry_table, entry_tables, item_count, items_or_none, items_at, guard_with, SlotsFit}
+use Rattle.rv64_emit.specs.Moved.{AreMovableAt}
+use Rattle.rv64_emit.specs.Tables.{table_at, start_table, entry_table, entry_tables, item_count, guard_with, SlotsFit}
 use Rattle.rv64_emit.proofs.Appending.{put_then}
 
 -- ---- tables
@@ -102,8 +102,7 @@ module _ (homes : ℕ → FunctionHomes) (slots : Slots) where
   pub record Turn (f : ℕ) (g : SlotFunction) (own : FunctionHomes) (point : ℕ) (item : SlotItem) : Type 0 where
     pub there : slice_get g.code point ≡ Some item
     pub fits : ItemFits own g point item
-    pub near : AreRegistersNear own g
-    pub small : point < 2 ^ 32 - 1
+    pub movable : AreMovableAt own g point
     pub next : words_before own g (point + 1) ≡ words_before own g point + item_size own g point item
     pub entry : entry_at homes slots f point ≡ start_at homes slots f + words_before own g point
     pub next_entry : entry_at homes slots f (point + 1) ≡ start_at homes slots f + words_before own g (point + 1)
@@ -118,8 +117,11 @@ module _ (homes : ℕ → FunctionHomes) (slots : Slots) where
   turn fit f g own is own_is items same point item less here = subst (λ h. Turn f g h point item) (sym own_is) (record {
     there = there;
     fits = fit.items f g point item is there;
-    near = fit.near f g is;
-    small = let few = fit.points f g is in let long = ap length same in omega arith;
+    movable = record {
+      slots = fit.movable f g is;
+      levels = (fit.items f g point item is there).levels;
+      small = let few = fit.points f g is in let long = ap length same in omega arith;
+    };
     next = ap (words_before (homes f) g) (add-one point) ∙ words_next (homes f) g point item there;
     entry = entry_is homes slots f g point is;
     next_entry = entry_is homes slots f g (point + 1) is;
@@ -168,12 +170,12 @@ module _ (homes : ℕ → FunctionHomes) (slots : Slots) where
       let same : begun ≡ first ++ map encoded words = put ∙ ap (λ h. first ++ map encoded (opening_words h g)) own_is in
       omega (arith, ap length same, length-append first (map encoded words), length-map words encoded, opening_length (homes f) g, entry_is homes slots f g 0 is)
 
-  pub function_put : (f : ℕ) (g : SlotFunction) (own : FunctionHomes) → slice_get slots.funcs f ≡ Some g → own ≡ homes f → (first begun items left : List ℕ) → begun ≡ first ++ map encoded (opening_words own g) → items ≡ begun ++ map encoded (items_at homes slots f) →
+  pub function_put : (f : ℕ) (g : SlotFunction) (own : FunctionHomes) → slice_get slots.funcs f ≡ Some g → own ≡ homes f → (first begun items left : List ℕ) → begun ≡ first ++ map encoded (opening_words own g) → items ≡ begun ++ map encoded (joined (item_words_at homes slots f g) (length g.code)) →
       left ≡ items ++ map encoded leave_words → left ≡ first ++ map encoded (function_words_at homes slots f)
   function_put f g own is own_is first begun items left one two three =
-      put_then first begun left (opening_words own g) (items_at homes slots f ++ leave_words) one (put_then begun items left (items_at homes slots f) leave_words two three)
-      ∙ ap (λ h. first ++ map encoded (opening_words h g ++ (items_at homes slots f ++ leave_words))) own_is
-      ∙ ap (λ o. first ++ map encoded (opening_words (homes f) g ++ (items_or_none homes slots f o ++ leave_words))) is ∙ ap (λ o. first ++ map encoded (function_words_or_none homes slots f o)) (sym is)
+      let words = joined (item_words_at homes slots f g) (length g.code) in
+      put_then first begun left (opening_words own g) (words ++ leave_words) one (put_then begun items left words leave_words two three)
+      ∙ ap (λ h. first ++ map encoded (opening_words h g ++ (words ++ leave_words))) own_is ∙ ap (λ o. first ++ map encoded (function_words_or_none homes slots f o)) (sym is)
 
   -- where the words of the next function begin
   pub function_here : (first code : List ℕ) (f : ℕ) → length first ≡ 6 → code ≡ first ++ map encoded (joined (function_words_at homes slots) f) → length code ≡ start_at homes slots f

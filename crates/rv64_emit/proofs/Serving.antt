@@ -10,7 +10,7 @@ use Rattle.bril_tree.specs.Operand.{Location}
 use Rattle.bril_tree.proofs.Elements.{get_inside, zip-get, zip-long}
 use Rattle.live_sets.specs.declared.live.Live.{Live}
 use Rattle.live_sets.specs.Liveness.{TellsLive, is_live}
-use Rattle.placement_laws.specs.Homes.{IsHomeOf, IsInRegister, slot_of}
+use Rattle.placement_laws.specs.Homes.{IsHomeOf, slot_of}
 use Rattle.placement_laws.specs.Placed.{IsPlaced}
 use Rattle.placement_laws.proofs.Homes.{location_back}
 use Rattle.rv64_emit_laws.specs.Homes.{AllHomesServe, HomesServe, home_at, homes_of, live_at, saved_at}
@@ -19,7 +19,7 @@ use Rattle.rv64_emit_laws.proofs.Sources.{lowered_at}
 use Rattle.rv64_emit_laws.specs.layout.Homes.{FunctionHomes, slot_word}
 use Rattle.rv64_emit_laws.specs.layout.Laid.{AreHomes}
 use Rattle.shadow_place.specs.declared.placed.Placed.{Placed}
-use Rattle.shadow_place.specs.Placement.{FewAreInRegisters, HomesAreApart, HomesAreOwn, LiveAreApart, TellsAllSaved, TellsLiveIn}
+use Rattle.shadow_place.specs.Placement.{TellsLiveIn}
 use Rattle.shadow_place.specs.Tables.{home_in, is_saved_in}
 use Rattle.slot_code.specs.declared.slots.SlotFunction.{SlotFunction}
 use Rattle.slot_code.specs.declared.slots.Slots.{Slots}
@@ -27,15 +27,11 @@ use Rattle.slot_code.specs.Lowered.{IsLowered, IsLoweredFunction}
 use Rattle.slot_code.proofs.Places.{slots_are_numbered}
 use Rattle.rv64_emit.specs.Moved.{AreRegistersNear}
 use Rattle.rv64_emit.specs.Placed.{is_live_if, placed_homes}
-use Rattle.rv64_emit.specs.Registers.{AreFewInRegisters}
+use Rattle.rv64_emit.specs.PlacedImage.{AreFewInRegisters, ArePlaced}
 
 -- what is known of a placement
 pub record IsPlacedBy (p : Prog) (slots : Slots) (lives : List Live) (placed : Placed) : Type 0 where
-  pub apart : HomesAreApart p placed
-  pub live : LiveAreApart p placed
-  pub saved : TellsAllSaved p placed
-  pub own : HomesAreOwn slots placed
-  pub registers : FewAreInRegisters p slots placed
+  pub are : ArePlaced p slots placed
   pub tells : AllZip TellsLiveIn p.funcs lives
 
 module _ (p : Prog) (slots : Slots) (lives : List Live) (placed : Placed) (is : IsPlacedBy p slots lives placed) where
@@ -52,7 +48,7 @@ module _ (p : Prog) (slots : Slots) (lives : List Live) (placed : Placed) (is : 
     saved_same = λ i level x. ap (is_saved_in placed k level) (sym (location_back x)) i
 
     stay_apart : IsPlaced f.code f.args (home_at own) (saved_at own)
-    stay_apart = subst (λ homes. IsPlaced f.code f.args homes (saved_at own)) homes_same (subst (IsPlaced f.code f.args (home_in placed k)) saved_same (is.apart k f there))
+    stay_apart = subst (λ homes. IsPlaced f.code f.args homes (saved_at own)) homes_same (subst (IsPlaced f.code f.args (home_in placed k)) saved_same (is.are.apart k f there))
 
     table : (live : Live) × (slice_get lives k ≡ Some live) × TellsLive f.code live
     table =
@@ -70,10 +66,10 @@ module _ (p : Prog) (slots : Slots) (lives : List Live) (placed : Placed) (is : 
     serves : (g : SlotFunction) → slice_get slots.funcs k ≡ Some g → HomesServe f.code f.args g own
     serves g is_g = record {
       placed = stay_apart;
-      saved = λ level x saved. ap (is_saved_in placed k level) (location_back x) ∙ (is.saved k f there level x).1 saved;
-      own = λ x in_g. subst (IsHomeOf g x) (ap (home_in placed k) (sym (location_back x))) (is.own k g x is_g in_g);
+      saved = λ level x saved. ap (is_saved_in placed k level) (location_back x) ∙ (is.are.saved k f there level x).1 saved;
+      own = λ x in_g. subst (IsHomeOf g x) (ap (home_in placed k) (sym (location_back x))) (is.are.own k g x is_g in_g);
       live = tells_live;
-      registers = λ point x y live_x live_y register same. is.live k f there point x y live_x live_y (ap (home_in placed k) (sym (location_back x)) ∙ (same ∙ ap (home_in placed k) (location_back y)));
+      registers = λ point x y live_x live_y register same. is.are.live k f there point x y live_x live_y (ap (home_in placed k) (sym (location_back x)) ∙ (same ∙ ap (home_in placed k) (location_back y)));
     }
 
   -- ---- a program
@@ -81,10 +77,12 @@ module _ (p : Prog) (slots : Slots) (lives : List Live) (placed : Placed) (is : 
   pub all_serve : AllHomesServe (placed_homes placed lives) p slots
   all_serve k f g there is_g = serves k f there g is_g
 
-  pub few_in_registers : IsLowered p slots → AreFewInRegisters (homes_of (placed_homes placed lives)) p
-  few_in_registers lowered k f x there few location =
-      let g = lowered_at p slots lowered k f there in
-      subst IsInRegister (ap (home_in placed k) (sym (location_back x))) (is.registers k f g.function x there g.there few (slot_in f g.function g.is x location))
+  pub few_in_registers : IsLowered p slots → AreFewInRegisters (home_in placed) p
+  few_in_registers lowered k f x there few location = let g = lowered_at p slots lowered k f there in is.are.registers k f g.function x there g.there few (slot_in f g.function g.is x location)
+
+-- the homes of slots are those of their locations
+pub homes_placed : (placed : Placed) (lives : List Live) → homes_of (placed_homes placed lives) ≡ home_in placed
+homes_placed placed lives = λ i k x. home_in placed k (location_back x i)
 
 -- slots in registers are among the first ones
 pub registers_near : (f : Func) (g : SlotFunction) → IsLoweredFunction f g → (homes : FunctionHomes) → AreHomes g homes → AreRegistersNear homes g

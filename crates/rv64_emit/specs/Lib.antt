@@ -1,6 +1,7 @@
 pub mod Bounds
 pub mod Moved
 pub mod Placed
+pub mod PlacedImage
 pub mod Refusal
-pub mod Registers
+pub mod SlotMoves
 pub mod Tables

@@ -1,13 +1,11 @@
 // The image of code over slots.
 
 ghost use Rattle.std.specs.Prelude.{◌≡◌, ◌+◌, ◌*◌, ◌<◌, ◌≤◌, ◌++◌, map, length, OnOk, IfOk};
-ghost use Rattle.std.specs.List.{AllByRecursion};
-ghost use Rattle.rv64_emit.specs.Moved.{AreRegistersNear};
+ghost use Rattle.rv64_emit.specs.Moved.{AreMovable, AreMovableAt};
 ghost use Rattle.rv64_emit.specs.Placed.{all_homes, homes_in};
 ghost use Rattle.rv64_emit.specs.Tables as tables;
-ghost use Rattle.rv64_emit.specs.Tables.{SlotsFit, items_at, guard_with, table_at};
-ghost use Rattle.rv64_emit_laws.specs.layout.Image.{joined, start_at, entry_at, head_words, opening_words, function_words_at, function_guards_at, largest_frame, IsImageOf};
-ghost use Rattle.rv64_emit_laws.specs.layout.Fits.{IsReached, ItemFits};
+ghost use Rattle.rv64_emit.specs.Tables.{SlotsFit, guard_with};
+ghost use Rattle.rv64_emit_laws.specs.layout.Image.{joined, start_at, head_words, opening_words, function_words_at, function_guards_at, largest_frame, IsImageOf};
 ghost use Rattle.rv64_emit_laws.specs.layout.Items as layout;
 ghost use Rattle.rv64_words.specs.Encoding.{encoded};
 ghost use Rattle.rv64_words.specs.Region.{most_words};
@@ -16,9 +14,10 @@ use crate::assembly::{addi, lui, sd};
 use crate::homes::{ProgramHomes, SlotHomes};
 use crate::item::put_item;
 use crate::items::leave;
+use crate::moves::Transfer;
 use crate::places::{function_at, place, tables_of};
 use crate::registers::{FRAME, FRAMES_LEFT, LINK};
-use crate::saves::put_loads;
+use crate::saves::SlotMoves;
 use crate::sequences::{high_digits, jump, low_digit, number as immediate, program_end, put};
 use crate::sizes::guard_front_size;
 use bril_tree::limits::Limits;
@@ -52,36 +51,11 @@ fn put_opening(
     homes: &SlotHomes<'_>,
     func: &SlotFunction,
 ) -> Result<(), AllocError>
-    requires slots { AllByRecursion (λ slot. IsReached ((homes_in homes.now).home slot)) func.now.slots }
-    requires near { AreRegistersNear (homes_in homes.now) func.now }
+    requires { AreMovable (homes_in homes.now) func.now }
     ensures { OnOk result (code.new ≡ code.old ++ map encoded (opening_words (homes_in homes.now) func.now)) }
 {
     put(code, &[sd(FRAME, LINK, immediate(0))])?;
-    put_loads(code, homes, func)
-}
-
-// The words of a function's items.
-fn put_items(
-    code: &mut Seq<u32>,
-    homes: &ProgramHomes<'_>,
-    slots: &Slots,
-    number: usize,
-    starts: &[u32],
-    entries: &[u32],
-) -> Result<(), AllocError>
-    requires inside { number < length slots.now.funcs }
-    requires fits { SlotsFit (all_homes homes.now) slots.now }
-    requires starts { starts.now ≡ tables.start_table (all_homes homes.now) slots.now }
-    requires entries { entries.now ≡ tables.entry_table (all_homes homes.now) slots.now number }
-    requires here { length code.old ≡ entry_at (all_homes homes.now) slots.now number 0 }
-    ensures { OnOk result (code.new ≡ code.old ++ map encoded (items_at (all_homes homes.now) slots.now number)) }
-{
-    let func = function_at(slots, number);
-    let own = homes.in_function(number as u32);
-    for (point, item) in func.code.as_slice().iter().enumerate() {
-        put_item(code, starts, entries, &own, func, point as u32, item)?;
-    }
-    Ok(())
+    SlotMoves::loaded(homes, func).put(code, Transfer::Restore)
 }
 
 // The words of a function.
@@ -101,8 +75,11 @@ fn put_function(
     ensures { OnOk result (code.new ≡ code.old ++ map encoded (function_words_at (all_homes homes.now) slots.now number)) }
 {
     let func = function_at(slots, number);
-    put_opening(code, &homes.in_function(number as u32), func)?;
-    put_items(code, homes, slots, number, starts, entries)?;
+    let own = homes.in_function(number as u32);
+    put_opening(code, &own, func)?;
+    for (point, item) in func.code.as_slice().iter().enumerate() {
+        put_item(code, starts, entries, &own, func, point as u32, item)?;
+    }
     put(code, &leave())?;
     Ok(())
 }
@@ -117,7 +94,7 @@ fn push_guard(
     place: GuardAt,
     item: &SlotItem,
 ) -> Result<(), AllocError>
-    requires fits { ItemFits (homes_in homes.now) func.now place.item item.now }
+    requires movable { AreMovableAt (homes_in homes.now) func.now place.item }
     requires few { place.word + layout.item_size (homes_in homes.now) func.now place.item item.now ≤ most_words }
     ensures { OnOk result (guards.new ≡ guards.old ++ guard_with (homes_in homes.now) place.word place.func func.now place.item item.now) }
 {

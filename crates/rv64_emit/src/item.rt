@@ -1,7 +1,7 @@
 // The words of an item, and how many they are.
 
-ghost use Rattle.std.specs.Prelude.{◌≡◌, ◌+◌, ◌-◌, ◌^◌, ◌<◌, ◌≤◌, ◌++◌, ℕ, map, length, OnOk};
-ghost use Rattle.rv64_emit.specs.Moved.{AreRegistersNear};
+ghost use Rattle.std.specs.Prelude.{◌≡◌, ◌+◌, ◌<◌, ◌≤◌, ◌++◌, ℕ, map, length, OnOk};
+ghost use Rattle.rv64_emit.specs.Moved.{AreMovableAt};
 ghost use Rattle.rv64_emit.specs.Placed.{homes_in};
 ghost use Rattle.rv64_emit.specs.Tables.{table_at};
 ghost use Rattle.rv64_emit_laws.specs.layout.Fits.{ItemFits};
@@ -16,10 +16,10 @@ use crate::items::{
     put_load_item, put_print, put_return, put_speculate, put_store_item, put_unary_item, put_value,
 };
 use crate::moves::{
-    copy_size_of, fetch_size_of, fill_size_of, put_copy, source_size_of, target_size_of,
+    Transfer, copy_size_of, fetch_size_of, fill_size_of, put_copy, source_size_of, target_size_of,
 };
 use crate::places::place;
-use crate::saves::speculate_saves_size;
+use crate::saves::SlotMoves;
 use crate::sequences::constant_size_of;
 use crate::sizes::{
     after_call_size, before_call_size, binary_item_size, guard_front_size, print_size_of,
@@ -44,8 +44,7 @@ pub fn put_item(
     requires few_starts { (k : ℕ) → table_at starts.now k ≤ most_words }
     requires some_entries { 0 < length entries.now }
     requires few_entries { (k : ℕ) → table_at entries.now k ≤ most_words }
-    requires point { point < 2 ^ 32 - 1 }
-    requires near { AreRegistersNear (homes_in homes.now) func.now }
+    requires movable { AreMovableAt (homes_in homes.now) func.now point }
     requires fits { ItemFits (homes_in homes.now) func.now point item.now }
     requires here { length code.old + item_size (homes_in homes.now) func.now point item.now ≤ most_words }
     ensures { OnOk result (code.new ≡ code.old ++ map encoded
@@ -147,8 +146,7 @@ pub fn put_item(
 
 /// How many words the item at a point of a function has.
 pub fn size_of(homes: &SlotHomes<'_>, func: &SlotFunction, point: u32, item: &SlotItem) -> u32
-    requires point { point < 2 ^ 32 - 1 }
-    requires near { AreRegistersNear (homes_in homes.now) func.now }
+    requires movable { AreMovableAt (homes_in homes.now) func.now point }
     requires fits { ItemFits (homes_in homes.now) func.now point item.now }
     requires few { item_size (homes_in homes.now) func.now point item.now ≤ most_words }
     ensures { result ≡ item_size (homes_in homes.now) func.now point item.now }
@@ -198,7 +196,7 @@ pub fn size_of(homes: &SlotHomes<'_>, func: &SlotFunction, point: u32, item: &Sl
         SlotItem::Load { dest, pointer } => fetch_size_of(homes.variable(*pointer))
             + 20
             + target_size_of(homes.variable(*dest)),
-        SlotItem::Speculate => speculate_saves_size(homes, func, point) + 1,
+        SlotItem::Speculate => { SlotMoves::kept(homes, func, point).size(Transfer::Save) + 1 }
         SlotItem::Commit => 1,
         SlotItem::Guard {
             condition,

@@ -1,14 +1,14 @@
 // The words of items at the end of an image.
 
-ghost use Rattle.std.specs.Prelude.{ℕ, ◌≡◌, ◌+◌, ◌*◌, ◌-◌, ◌^◌, ◌<◌, ◌≤◌, ◌∷◌, [], ◌++◌, map, pos, length, OnOk};
+ghost use Rattle.std.specs.Prelude.{ℕ, ◌≡◌, ◌+◌, ◌^◌, ◌<◌, ◌≤◌, ◌∷◌, [], ◌++◌, map, pos, length, OnOk};
 ghost use Rattle.std.specs.List.{AllByRecursion};
 ghost use Rattle.bril_tree.specs.FunctionForm.{listed};
 ghost use Rattle.bril_tree.specs.Value as values;
-ghost use Rattle.rv64_emit.specs.Moved.{AreRegistersNear};
+ghost use Rattle.rv64_emit.specs.Moved.{AreMovableAt};
 ghost use Rattle.rv64_emit.specs.Placed.{homes_in};
 ghost use Rattle.rv64_emit.specs.Tables.{table_at};
 ghost use Rattle.rv64_emit_laws.specs.layout.Fits.{IsReached, frame_reach};
-ghost use Rattle.rv64_emit_laws.specs.layout.Homes.{depth_at, guard_moves, speculate_moves, variable_home};
+ghost use Rattle.rv64_emit_laws.specs.layout.Homes.{speculate_moves, variable_home};
 ghost use Rattle.rv64_emit_laws.specs.layout.Items as items;
 ghost use Rattle.rv64_words_laws.specs.sequences.Moves as moves;
 ghost use Rattle.rv64_words_laws.specs.sequences.Operations as operations;
@@ -22,7 +22,7 @@ use crate::assembly::{addi, branch, jalr, ld};
 use crate::frame::{argument_word, word_of};
 use crate::homes::SlotHomes;
 use crate::moves::{
-    operand_register, put_copy, put_fetch, put_fill, put_operand, put_result, put_source,
+    Transfer, operand_register, put_copy, put_fetch, put_fill, put_operand, put_result, put_source,
     put_target, register_for, source_size_of,
 };
 use crate::operations::{
@@ -31,9 +31,7 @@ use crate::operations::{
 };
 use crate::places::place;
 use crate::registers::{ARGUMENT, FIRST, FRAME, FRAMES_LEFT, LINK, SECOND, ZERO};
-use crate::saves::{
-    guard_back_size, put_call_restores, put_call_saves, put_guard_restores, put_speculate_saves,
-};
+use crate::saves::SlotMoves;
 use crate::sequences::{
     environment_call, fault, jump, number, put, put_constant, put_frame_up, put_store,
 };
@@ -255,13 +253,11 @@ fn put_after_call(
     point: u32,
     dest: Option<u32>,
 ) -> Result<(), AllocError>
-    requires point { point < 2 ^ 32 - 1 }
-    requires slots { AllByRecursion (λ slot. IsReached ((homes_in homes.now).home slot)) func.now.slots }
-    requires near { AreRegistersNear (homes_in homes.now) func.now }
+    requires movable { AreMovableAt (homes_in homes.now) func.now point }
     requires dest { AllByRecursion (λ x. IsReached (variable_home (homes_in homes.now) x)) (listed dest) }
     ensures { OnOk result (code.new ≡ code.old ++ map encoded (items.after_call (homes_in homes.now) func.now point dest)) }
 {
-    put_call_restores(code, homes, func, point, dest)?;
+    SlotMoves::outliving(homes, func, point, dest).put(code, Transfer::Restore)?;
     put_call_result(code, homes, dest)
 }
 
@@ -278,11 +274,9 @@ pub fn put_call(
 ) -> Result<(), AllocError>
     requires here { length code.old + items.before_call (homes_in homes.now) func.now point dest args.now ≤ most_words }
     requires start { start ≤ most_words }
-    requires point { point < 2 ^ 32 - 1 }
     requires frame { func.now.words < frame_reach }
     requires few { length args.now < frame_reach }
-    requires slots { AllByRecursion (λ slot. IsReached ((homes_in homes.now).home slot)) func.now.slots }
-    requires near { AreRegistersNear (homes_in homes.now) func.now }
+    requires movable { AreMovableAt (homes_in homes.now) func.now point }
     requires dest { AllByRecursion (λ x. IsReached (variable_home (homes_in homes.now) x)) (listed dest) }
     requires args { AllByRecursion (λ x. IsReached (variable_home (homes_in homes.now) x)) args.now }
     ensures { OnOk result (code.new ≡ code.old ++ map encoded
@@ -290,7 +284,7 @@ pub fn put_call(
 {
     let from = code.as_slice().len() as u32 + before_call_size(homes, func, point, dest, args);
     put_room(code)?;
-    put_call_saves(code, homes, func, point, dest)?;
+    SlotMoves::outliving(homes, func, point, dest).put(code, Transfer::Save)?;
     put_arguments(code, homes, func, args)?;
     put_frame_up(code, func.words)?;
     put(code, &[jump(LINK, from, start)])?;
@@ -470,12 +464,11 @@ pub fn put_speculate(
     func: &SlotFunction,
     point: u32,
 ) -> Result<(), AllocError>
-    requires slots { AllByRecursion (λ slot. IsReached ((homes_in homes.now).home slot)) func.now.slots }
-    requires levels { length func.now.slots * (depth_at func.now point + 2) < frame_reach }
+    requires { AreMovableAt (homes_in homes.now) func.now point }
     ensures { OnOk result (code.new ≡ code.old ++ map encoded
         (moves.save_words (speculate_moves (homes_in homes.now) func.now point) ++ items.nop_word ∷ [])) }
 {
-    put_speculate_saves(code, homes, func, point)?;
+    SlotMoves::kept(homes, func, point).put(code, Transfer::Save)?;
     put_commit(code)
 }
 
@@ -509,21 +502,18 @@ fn put_guard_front(
     label: u32,
 ) -> Result<(), AllocError>
     requires condition { IsReached (variable_home (homes_in homes.now) condition) }
-    requires slots { AllByRecursion (λ slot. IsReached ((homes_in homes.now).home slot)) func.now.slots }
-    requires levels { length func.now.slots * (depth_at func.now point + 2) < frame_reach }
+    requires movable { AreMovableAt (homes_in homes.now) func.now point }
     requires few { items.guard_front_size (homes_in homes.now) func.now point condition label ≤ most_words }
     ensures { OnOk result (code.new ≡ code.old ++ map encoded (items.guard_front (homes_in homes.now) func.now point condition label)) }
 {
     let home = homes.variable(condition);
+    let back = SlotMoves::taken_back(homes, func, point, label);
     put_source(code, FIRST, home)?;
     put(
         code,
-        &over_rest(
-            register_for(FIRST, home),
-            guard_back_size(homes, func, point, label),
-        ),
+        &over_rest(register_for(FIRST, home), back.size(Transfer::Restore)),
     )?;
-    put_guard_restores(code, homes, func, point, label)
+    back.put(code, Transfer::Restore)
 }
 
 /// The guard at a point: where its variable doesn't hold true, slots are taken back from the newest level, and control goes to
@@ -540,8 +530,7 @@ pub fn put_guard(
 ) -> Result<(), AllocError>
     requires here { length code.old + items.guard_front_size (homes_in homes.now) func.now point condition label ≤ most_words }
     requires condition { IsReached (variable_home (homes_in homes.now) condition) }
-    requires slots { AllByRecursion (λ slot. IsReached ((homes_in homes.now).home slot)) func.now.slots }
-    requires levels { length func.now.slots * (depth_at func.now point + 2) < frame_reach }
+    requires movable { AreMovableAt (homes_in homes.now) func.now point }
     requires abort_to { abort_to ≤ most_words }
     ensures { OnOk result (code.new ≡ code.old ++ map encoded (items.guard_front (homes_in homes.now) func.now point condition label
         ++ Word.Jal 0 (jump_offset (length code.old + items.guard_front_size (homes_in homes.now) func.now point condition label) abort_to) ∷ [])) }

@@ -17,7 +17,7 @@
 
 ghost use Rattle.std.specs.Prelude.{◌≡◌, ◌≤◌, length, IfOk, IfErr};
 ghost use Rattle.rv64_emit.specs.Refusal.{EmitRefuses};
-ghost use Rattle.rv64_emit.specs.Registers.{ImplementsInRegisters};
+ghost use Rattle.rv64_emit.specs.PlacedImage.{ImplementsPlaced};
 ghost use Rattle.rv64_image_laws.specs.Implements.{Implements};
 ghost use Rattle.rv64_image_laws.specs.WordBounds.{IsStackSize, IsWithin};
 ghost use Rattle.rv64_words.specs.Region.{most_words};
@@ -51,8 +51,9 @@ use slot_code::lower;
 use std::alloc::Global;
 
 /// The image of an accepted program for runs under these limits: it does what the program does, on the machine of
-/// `rv64_words`. While it runs, each location of a function of at most 23 locations is in a register. It has at most 250,000
-/// words, and its stack has the words of the largest frame, `limits.frames` times.
+/// `rv64_words`, with each location at a home of which all holds that `shadow_place::place` promises; so each location of a
+/// function of at most 23 locations is in a register. It has at most 250,000 words, and its stack has the words of the largest
+/// frame, `limits.frames` times.
 ///
 /// `CodeTooBig` comes exactly where the sum of the word bounds passes 250,000: 32, 40 for each function, and each item's.
 /// `StackTooBig` comes exactly where the code fits and the stack would pass 8,388,608 words. `Memory` comes only where both are
@@ -60,7 +61,7 @@ use std::alloc::Global;
 /// function's locations, and memory is taken to count them. In any other program both bounds are told before any memory is taken.
 pub fn emit(alloc: Global, prog: &Checked, limits: Limits) -> Result<Image, EmitFault>
     ensures implements { IfOk result (λ image. Implements image prog.now.prog limits) }
-    ensures registers { IfOk result (λ image. ImplementsInRegisters image prog.now.prog limits) }
+    ensures placed { IfOk result (λ image. ImplementsPlaced image prog.now.prog limits) }
     ensures words { IfOk result (λ image. length image.words ≤ most_words) }
     ensures guards { IfOk result (λ image. length image.guards ≤ length image.words) }
     ensures stack { IfOk result (λ image. IsStackSize prog.now.prog limits image.stack) }

@@ -2,7 +2,9 @@
 
 ghost use Rattle.std.specs.Prelude.{◌≡◌, ◌^◌, ◌<◌, ◌≤◌, ◌++◌, map, OnOk};
 ghost use Rattle.rv64_emit_laws.specs.layout.Fits.{IsReached};
+ghost use Rattle.rv64_emit.specs.SlotMoves.{one_size_by, one_words_by};
 ghost use Rattle.rv64_words_laws.specs.sequences.Moves as moves;
+ghost use Rattle.rv64_words_laws.specs.sequences.Sequences.{load_words, store_words};
 ghost use Rattle.rv64_words.specs.Encoding.{encoded};
 
 use crate::assembly::srli;
@@ -216,56 +218,52 @@ pub fn put_result(code: &mut Seq<u32>, any: bool, home: Home) -> Result<(), Allo
 
 // ---- homes and words of the frame
 
-/// How many words bring what a home has into a word of the frame.
-pub fn save_one_size_of(home: Home, word: u64) -> u32
-    ensures value { result ≡ moves.save_one_size home word }
+/// Which way: what a home has into a word of the frame, or a word of the frame into a home.
+#[derive(Clone, Copy, Drop)]
+pub enum Transfer {
+    Save,
+    Restore,
+}
+
+/// How many words bring what a home has into a word of the frame, or back.
+pub fn transfer_size_of(transfer: Transfer, home: Home, word: u64) -> u32
+    ensures value { result ≡ one_size_by transfer home word }
     ensures few { result ≤ 6 }
 {
-    match home {
-        Home::Reg(_) => store_size_of(word),
-        Home::Frame(own) => load_size_of(own as u64) + store_size_of(word),
+    match (transfer, home) {
+        (Transfer::Save, Home::Reg(_)) => store_size_of(word),
+        (Transfer::Restore, Home::Reg(_)) => load_size_of(word),
+        (Transfer::Save, Home::Frame(own)) => load_size_of(own as u64) + store_size_of(word),
+        (Transfer::Restore, Home::Frame(own)) => load_size_of(word) + store_size_of(own as u64),
     }
 }
 
-/// How many words bring a word of the frame into a home.
-pub fn restore_one_size_of(home: Home, word: u64) -> u32
-    ensures value { result ≡ moves.restore_one_size home word }
-    ensures few { result ≤ 6 }
-{
-    match home {
-        Home::Reg(_) => load_size_of(word),
-        Home::Frame(own) => load_size_of(word) + store_size_of(own as u64),
-    }
-}
-
-/// What a home has into a word of the frame, by register 5 where it isn't in a register.
+// A word of the frame into another one, by register 5.
 #[tactic(auto, using(crate::proofs::Appending::put_then))]
-pub fn put_save(code: &mut Seq<u32>, home: Home, word: u64) -> Result<(), AllocError>
+fn put_word(code: &mut Seq<u32>, from: u64, to: u64) -> Result<(), AllocError>
+    requires from { from < 2 ^ 28 }
+    requires to { to < 2 ^ 28 }
+    ensures { OnOk result (code.new ≡ code.old ++ map encoded (load_words 5 from ++ store_words 5 to)) }
+{
+    put_load(code, FIRST, from)?;
+    put_store(code, FIRST, to)
+}
+
+/// What a home has into a word of the frame, or back.
+pub fn put_transfer(
+    code: &mut Seq<u32>,
+    transfer: Transfer,
+    home: Home,
+    word: u64,
+) -> Result<(), AllocError>
     requires home { IsReached home }
     requires word { word < 2 ^ 28 }
-    ensures { OnOk result (code.new ≡ code.old ++ map encoded (moves.save_one home word)) }
+    ensures { OnOk result (code.new ≡ code.old ++ map encoded (one_words_by transfer home word)) }
 {
-    match home {
-        Home::Reg(register) => put_store(code, register, word),
-        Home::Frame(own) => {
-            put_load(code, FIRST, own as u64)?;
-            put_store(code, FIRST, word)
-        }
-    }
-}
-
-/// A word of the frame into a home, by register 5 where it isn't in a register.
-#[tactic(auto, using(crate::proofs::Appending::put_then))]
-pub fn put_restore(code: &mut Seq<u32>, home: Home, word: u64) -> Result<(), AllocError>
-    requires home { IsReached home }
-    requires word { word < 2 ^ 28 }
-    ensures { OnOk result (code.new ≡ code.old ++ map encoded (moves.restore_one home word)) }
-{
-    match home {
-        Home::Reg(register) => put_load(code, register, word),
-        Home::Frame(own) => {
-            put_load(code, FIRST, word)?;
-            put_store(code, FIRST, own as u64)
-        }
+    match (transfer, home) {
+        (Transfer::Save, Home::Reg(register)) => put_store(code, register, word),
+        (Transfer::Restore, Home::Reg(register)) => put_load(code, register, word),
+        (Transfer::Save, Home::Frame(own)) => put_word(code, own as u64, word),
+        (Transfer::Restore, Home::Frame(own)) => put_word(code, word, own as u64),
     }
 }

@@ -3,14 +3,15 @@
 ghost use Rattle.std.specs.Prelude.{◌≡◌, ◌+◌, ◌-◌, ◌<◌, ◌≤◌, ℕ, Some, length, slice_get, IfOk};
 ghost use Rattle.rv64_emit.specs.Tables as tables;
 ghost use Rattle.rv64_emit.specs.Tables.{SlotsFit, table_at};
-ghost use Rattle.rv64_emit.specs.Moved.{AreRegistersNear};
+ghost use Rattle.rv64_emit.specs.Moved.{AreMovable};
 ghost use Rattle.rv64_emit.specs.Placed.{all_homes, homes_in};
 ghost use Rattle.rv64_emit_laws.specs.layout.Image.{opening_size, start_at};
 ghost use Rattle.rv64_words.specs.Region.{most_words};
 
 use crate::homes::{ProgramHomes, SlotHomes};
 use crate::item::size_of;
-use crate::saves::loads_size;
+use crate::moves::Transfer;
+use crate::saves::SlotMoves;
 use bril_tree::sequence::Seq;
 use slot_code::{SlotFunction, Slots};
 use std::alloc::{AllocError, Global};
@@ -45,11 +46,11 @@ pub fn function_at(slots: &Slots, number: usize) -> &SlotFunction
 
 // How many words of a function come before its first item.
 fn opening_size_of(homes: &SlotHomes<'_>, func: &SlotFunction) -> u32
-    requires near { AreRegistersNear (homes_in homes.now) func.now }
+    requires movable { AreMovable (homes_in homes.now) func.now }
     requires few { opening_size (homes_in homes.now) func.now ≤ most_words }
     ensures { result ≡ opening_size (homes_in homes.now) func.now }
 {
-    1 + loads_size(homes, func)
+    1 + SlotMoves::loaded(homes, func).size(Transfer::Restore)
 }
 
 // Where each item of a function begins whose first word is `start`, and at last the words that leave the function.

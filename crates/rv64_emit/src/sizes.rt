@@ -1,10 +1,10 @@
 // How many words items have.
 
-ghost use Rattle.std.specs.Prelude.{◌≡◌, ◌+◌, ◌*◌, ◌-◌, ◌^◌, ◌≤◌, ◌<◌, length};
-ghost use Rattle.rv64_emit.specs.Moved.{AreRegistersNear};
+ghost use Rattle.std.specs.Prelude.{◌≡◌, ◌+◌, ◌*◌, ◌≤◌, ◌<◌, length};
+ghost use Rattle.rv64_emit.specs.Moved.{AreMovableAt};
 ghost use Rattle.rv64_emit.specs.Placed.{homes_in};
 ghost use Rattle.rv64_emit_laws.specs.layout.Fits.{frame_reach};
-ghost use Rattle.rv64_emit_laws.specs.layout.Homes.{call_moves, depth_at, variable_home};
+ghost use Rattle.rv64_emit_laws.specs.layout.Homes.{call_moves, variable_home};
 ghost use Rattle.rv64_emit_laws.specs.layout.Items as items;
 ghost use Rattle.rv64_words_laws.specs.sequences.Moves as moves;
 ghost use Rattle.rv64_words_laws.specs.sequences.Operations.{unary_size, unary_takes_any};
@@ -13,12 +13,13 @@ ghost use Rattle.rv64_words.specs.Region.{most_words};
 use crate::frame::argument_word;
 use crate::homes::SlotHomes;
 use crate::moves::{
-    copy_size_of, fetch_size_of, fill_size_of, operand_size_of, result_size_of, source_size_of,
+    Transfer, copy_size_of, fetch_size_of, fill_size_of, operand_size_of, result_size_of,
+    source_size_of,
 };
 use crate::operations::{
     binary_size_of, binary_takes_any_registers, unary_size_of, unary_takes_any_register,
 };
-use crate::saves::{call_restores_size, call_saves_size, guard_back_size};
+use crate::saves::SlotMoves;
 use crate::sequences::{frame_up_size_of, store_size_of};
 use bril_tree::home::Home;
 use bril_tree::operators::{BinaryOp, UnaryOp};
@@ -83,14 +84,13 @@ pub fn before_call_size(
     dest: Option<u32>,
     args: &[u32],
 ) -> u32
-    requires point { point < 2 ^ 32 - 1 }
     requires frame { func.now.words < frame_reach }
     requires passed { length args.now < frame_reach }
-    requires near { AreRegistersNear (homes_in homes.now) func.now }
+    requires movable { AreMovableAt (homes_in homes.now) func.now point }
     requires few { items.before_call (homes_in homes.now) func.now point dest args.now ≤ most_words }
     ensures { result ≡ items.before_call (homes_in homes.now) func.now point dest args.now }
 {
-    let saves = call_saves_size(homes, func, point, dest);
+    let saves = SlotMoves::outliving(homes, func, point, dest).size(Transfer::Save);
     5 + saves + pass_size_of(homes, func, args) + frame_up_size_of(func.words)
 }
 
@@ -112,12 +112,12 @@ pub fn after_call_size(
     point: u32,
     dest: Option<u32>,
 ) -> u32
-    requires point { point < 2 ^ 32 - 1 }
-    requires near { AreRegistersNear (homes_in homes.now) func.now }
+    requires movable { AreMovableAt (homes_in homes.now) func.now point }
     requires few { moves.restore_size (call_moves (homes_in homes.now) func.now point dest) ≤ most_words }
     ensures { result ≡ moves.restore_size (call_moves (homes_in homes.now) func.now point dest) + items.call_result_size (homes_in homes.now) dest }
 {
-    call_restores_size(homes, func, point, dest) + call_result_size_of(homes, dest)
+    let restores = SlotMoves::outliving(homes, func, point, dest).size(Transfer::Restore);
+    restores + call_result_size_of(homes, dest)
 }
 
 /// How many words bring a returned value.
@@ -174,9 +174,10 @@ pub fn guard_front_size(
     condition: u32,
     label: u32,
 ) -> u32
-    requires levels { length func.now.slots * (depth_at func.now point + 2) < frame_reach }
+    requires movable { AreMovableAt (homes_in homes.now) func.now point }
     requires few { items.guard_front_size (homes_in homes.now) func.now point condition label ≤ most_words }
     ensures { result ≡ items.guard_front_size (homes_in homes.now) func.now point condition label }
 {
-    source_size_of(homes.variable(condition)) + 2 + guard_back_size(homes, func, point, label)
+    let back = SlotMoves::taken_back(homes, func, point, label).size(Transfer::Restore);
+    source_size_of(homes.variable(condition)) + 2 + back
 }

@@ -28,7 +28,7 @@ ready c =
     let stack = c.in_ok-stack.ensures {u = tt} in
     let placed = c.in_ok-placed.ensures {u = tt} in
     let by : IsPlacedBy p slots c.in_ok-lives.lives c.in_ok-placed.placed =
-    record { apart = placed.apart; live = placed.live; saved = placed.saved; own = placed.own; registers = placed.registers; tells = c.in_ok-lives.ensures {u = tt} } in
+    record { are = record { apart = placed.apart; live = placed.live; saved = placed.saved; own = placed.own; registers = placed.registers }; tells = c.in_ok-lives.ensures {u = tt} } in
     let homes : all_homes c.of-homes.result ≡ placed_homes c.in_ok-placed.placed c.in_ok-lives.lives = c.of-homes.ensures ∙ ap (placed_homes c.in_ok-placed.placed) c.as_slice-2.ensures in (
       subst (λ h. SlotsFit h slots) (sym homes) (slots_fit p slots c.args.limits accepted literals lowered.code stack.within c.in_ok-lives.lives c.in_ok-placed.placed by counted),
       stack_is p slots c.args.limits accepted literals lowered.code stack.within c.in_ok-lives.lives c.in_ok-placed.placed by c.in_ok-stack.stack stack.stack,
@@ -45,7 +45,7 @@ made c =
     let stack = c.in_ok-stack.ensures {u = tt} in
     let placed = c.in_ok-placed.ensures {u = tt} in
     let by : IsPlacedBy p slots c.in_ok-lives.lives c.in_ok-placed.placed =
-    record { apart = placed.apart; live = placed.live; saved = placed.saved; own = placed.own; registers = placed.registers; tells = c.in_ok-lives.ensures {u = tt} } in
+    record { are = record { apart = placed.apart; live = placed.live; saved = placed.saved; own = placed.own; registers = placed.registers }; tells = c.in_ok-lives.ensures {u = tt} } in
     let homes : all_homes c.of-homes.result ≡ placed_homes c.in_ok-placed.placed c.in_ok-lives.lives = c.of-homes.ensures ∙ ap (placed_homes c.in_ok-placed.placed) c.as_slice-2.ensures in
     emitted p slots c.args.limits accepted literals lowered.code stack.within c.in_ok-lives.lives c.in_ok-placed.placed by c.in_ok-stack.stack stack.stack c.in_ok-image_of.field-0
     (subst (λ h. IsImageOf h slots c.args.limits c.in_ok-image_of.field-0) homes (c.in_ok-image_of.ensures {u = tt}))
@@ -59,8 +59,8 @@ image_of-requires-clause-stack c = (ready c).1
 pub returns-clause-implements : goal.returns-clause-implements
 returns-clause-implements c = (made c).implements
 
-pub returns-clause-registers : goal.returns-clause-registers
-returns-clause-registers c = (made c).registers
+pub returns-clause-placed : goal.returns-clause-placed
+returns-clause-placed c = (made c).placed
 
 pub returns-clause-words : goal.returns-clause-words
 returns-clause-words c = (made c).words

@@ -7,10 +7,10 @@ use Rattle.rv64_emit.proofs.image.push_guards.Goals as goal
 pub place-requires-clause-few : goal.place-requires-clause-few
 place-requires-clause-few c = λ k. omega (arith, entries_are (all_homes c.args.homes.now) c.args.slots.now c.args.number c.function_at-func.result.now c.function_at-func.ensures c.args.entries.now c.requires.entries k, entries_most (all_homes c.args.homes.now) c.args.slots.now c.args.number k, c.requires.fits.few)
 
-pub push_guard-requires-clause-fits : goal.push_guard-requires-clause-fits
-push_guard-requires-clause-fits c =
+pub push_guard-requires-clause-movable : goal.push_guard-requires-clause-movable
+push_guard-requires-clause-movable c =
     let t = turn (all_homes c.args.homes.now) c.args.slots.now c.requires.fits c.args.number c.function_at-func.result.now (homes_in c.in_function-own.result) c.function_at-func.ensures c.in_function-own.ensures c.as_slice-item-items.result.now c.as_slice-item-items.ensures c.loop-point.point c.item-item.result c.loop-point-test.true c.item-item.is in
-    t.fits
+    t.movable
 
 pub push_guard-requires-clause-few : goal.push_guard-requires-clause-few
 push_guard-requires-clause-few c =

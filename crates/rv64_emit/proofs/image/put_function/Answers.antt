@@ -1,24 +1,51 @@
-use Rattle.std.proofs.Common.{◌++◌, map, sym, ap, ◌∙◌, subst}
-use Rattle.std.specs.List.{AllByRecursion}
+use Rattle.std.proofs.Common.{◌≡◌, ◌++◌, length, map, sym, ap, ◌∙◌, subst, arith}
 use Rattle.rv64_words.specs.Encoding.{encoded}
-use Rattle.rv64_emit_laws.specs.layout.Fits.{IsReached}
-use Rattle.rv64_emit.specs.Moved.{AreRegistersNear}
+use Rattle.rv64_emit_laws.specs.layout.Image.{joined, item_words_at}
+use Rattle.rv64_emit_laws.proofs.lemmas.layout.Placing.{starts_most, entries_most}
+use Rattle.rv64_emit.specs.Moved.{AreMovable}
 use Rattle.rv64_emit.specs.Placed.{all_homes, homes_in}
-use Rattle.rv64_emit.proofs.Placed.{function_put, opening_put}
+use Rattle.rv64_emit.proofs.Placed.{turn, starts_are, entries_are, here_is, items_next, function_put, opening_put}
 use Rattle.rv64_emit.proofs.image.put_function.Goals as goal
 
-pub put_opening-requires-clause-slots : goal.put_opening-requires-clause-slots
-put_opening-requires-clause-slots c = subst (λ own. AllByRecursion (λ slot. IsReached (own.home slot)) c.function_at-func.result.now.slots) (sym c.in_function.ensures) (c.requires.fits.reached c.args.number c.function_at-func.result.now c.function_at-func.ensures)
+pub put_opening-requires : goal.put_opening-requires
+put_opening-requires c = subst (λ own. AreMovable own c.function_at-func.result.now) (sym c.in_function-own.ensures) (c.requires.fits.movable c.args.number c.function_at-func.result.now c.function_at-func.ensures)
 
-pub put_opening-requires-clause-near : goal.put_opening-requires-clause-near
-put_opening-requires-clause-near c = subst (λ own. AreRegistersNear own c.function_at-func.result.now) (sym c.in_function.ensures) (c.requires.fits.near c.args.number c.function_at-func.result.now c.function_at-func.ensures)
+pub put_item-requires-clause-few_starts : goal.put_item-requires-clause-few_starts
+put_item-requires-clause-few_starts c = λ k. omega (arith, starts_are (all_homes c.args.homes.now) c.args.slots.now c.args.starts.now c.requires.starts k, starts_most (all_homes c.args.homes.now) c.args.slots.now k, c.requires.fits.few)
 
-pub put_items-requires-clause-here : goal.put_items-requires-clause-here
-put_items-requires-clause-here c =
-    opening_put (all_homes c.args.homes.now) c.args.slots.now c.args.number c.function_at-func.result.now (homes_in c.in_function.result) c.function_at-func.ensures c.in_function.ensures c.args.code.now c.put_opening.new.code c.requires.here (c.in_ok-put_opening.ensures {u = tt})
+pub put_item-requires-clause-few_entries : goal.put_item-requires-clause-few_entries
+put_item-requires-clause-few_entries c = λ k. omega (arith, entries_are (all_homes c.args.homes.now) c.args.slots.now c.args.number c.function_at-func.result.now c.function_at-func.ensures c.args.entries.now c.requires.entries k, entries_most (all_homes c.args.homes.now) c.args.slots.now c.args.number k, c.requires.fits.few)
+
+pub put_item-requires-clause-movable : goal.put_item-requires-clause-movable
+put_item-requires-clause-movable c =
+    let t = turn (all_homes c.args.homes.now) c.args.slots.now c.requires.fits c.args.number c.function_at-func.result.now (homes_in c.in_function-own.result) c.function_at-func.ensures c.in_function-own.ensures c.as_slice-item-items.result.now c.as_slice-item-items.ensures c.loop-point.point c.item-item.result c.loop-point-test.true c.item-item.is in
+    t.movable
+
+pub put_item-requires-clause-fits : goal.put_item-requires-clause-fits
+put_item-requires-clause-fits c =
+    let t = turn (all_homes c.args.homes.now) c.args.slots.now c.requires.fits c.args.number c.function_at-func.result.now (homes_in c.in_function-own.result) c.function_at-func.ensures c.in_function-own.ensures c.as_slice-item-items.result.now c.as_slice-item-items.ensures c.loop-point.point c.item-item.result c.loop-point-test.true c.item-item.is in
+    t.fits
+
+pub put_item-requires-clause-here : goal.put_item-requires-clause-here
+put_item-requires-clause-here c =
+    let t = turn (all_homes c.args.homes.now) c.args.slots.now c.requires.fits c.args.number c.function_at-func.result.now (homes_in c.in_function-own.result) c.function_at-func.ensures c.in_function-own.ensures c.as_slice-item-items.result.now c.as_slice-item-items.ensures c.loop-point.point c.item-item.result c.loop-point-test.true c.item-item.is in
+    let begun = opening_put (all_homes c.args.homes.now) c.args.slots.now c.args.number c.function_at-func.result.now (homes_in c.in_function-own.result) c.function_at-func.ensures c.in_function-own.ensures c.args.code.now c.put_opening.new.code c.requires.here (c.in_ok-put_opening.ensures {u = tt}) in
+    let at = here_is (all_homes c.args.homes.now) c.args.slots.now c.args.number c.function_at-func.result.now c.function_at-func.ensures c.put_opening.new.code c.loop-point.code c.loop-point.point begun c.loop-point.invariant in
+    omega (arith, at, t.next, t.inside, t.entry)
+
+pub loop-point-preserved : goal.loop-point-preserved
+loop-point-preserved c =
+    let t = turn (all_homes c.args.homes.now) c.args.slots.now c.requires.fits c.args.number c.function_at-func.result.now (homes_in c.in_function-own.result) c.function_at-func.ensures c.in_function-own.ensures c.as_slice-item-items.result.now c.as_slice-item-items.ensures c.loop-point.point c.item-item.result c.loop-point-test.true c.item-item.is in
+    let begun = opening_put (all_homes c.args.homes.now) c.args.slots.now c.args.number c.function_at-func.result.now (homes_in c.in_function-own.result) c.function_at-func.ensures c.in_function-own.ensures c.args.code.now c.put_opening.new.code c.requires.here (c.in_ok-put_opening.ensures {u = tt}) in
+    items_next (all_homes c.args.homes.now) c.args.slots.now c.args.number c.function_at-func.result.now (homes_in c.in_function-own.result) c.function_at-func.ensures c.in_function-own.ensures c.args.starts.now c.args.entries.now c.requires.starts c.requires.entries
+    c.put_opening.new.code c.loop-point.code c.put_item.new.code c.loop-point.point c.item-item.result begun t.there c.loop-point.invariant (c.in_ok-put_item.ensures {u = tt})
 
 pub returns : goal.returns
 returns c =
+    let homes = all_homes c.args.homes.now in
+    let func = c.function_at-func.result.now in
+    let all : c.loop-point.point ≡ length func.code = omega (arith, ap length c.as_slice-item-items.ensures, c.loop-point-test.false, c.loop-point.auto.point-end) in
+    let items = c.loop-point.invariant ∙ ap (λ n. c.put_opening.new.code ++ map encoded (joined (item_words_at homes c.args.slots.now c.args.number func) n)) all in
     let left = c.in_ok-put.ensures {u = tt} in
-    function_put (all_homes c.args.homes.now) c.args.slots.now c.args.number c.function_at-func.result.now (homes_in c.in_function.result) c.function_at-func.ensures c.in_function.ensures c.args.code.now c.put_opening.new.code c.put_items.new.code c.put.new.code
-    (c.in_ok-put_opening.ensures {u = tt}) (c.in_ok-put_items.ensures {u = tt}) (left ∙ ap (λ ws. c.put_items.new.code ++ map encoded ws) c.leave.ensures)
+    function_put homes c.args.slots.now c.args.number func (homes_in c.in_function-own.result) c.function_at-func.ensures c.in_function-own.ensures c.args.code.now c.put_opening.new.code c.loop-point.code c.put.new.code
+    (c.in_ok-put_opening.ensures {u = tt}) items (left ∙ ap (λ ws. c.loop-point.code ++ map encoded ws) c.leave.ensures)

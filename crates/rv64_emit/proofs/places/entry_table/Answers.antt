@@ -2,14 +2,14 @@ use Rattle.std.proofs.Common.{◌≡◌, ◌+◌, length, map, sym, ap, ◌∙�
 use Rattle.std.specs.List.{range_with_len}
 use Rattle.rv64_emit_laws.specs.layout.Image.{entry_at, opening_size}
 use Rattle.rv64_emit_laws.proofs.lemmas.layout.Placing.{entry_is}
-use Rattle.rv64_emit.specs.Moved.{AreRegistersNear}
+use Rattle.rv64_emit.specs.Moved.{AreMovable}
 use Rattle.rv64_emit.specs.Placed.{all_homes, homes_in}
 use Rattle.rv64_emit.specs.Tables.{item_count}
 use Rattle.rv64_emit.proofs.Placed.{turn, function_few, table_next}
 use Rattle.rv64_emit.proofs.places.entry_table.Goals as goal
 
-pub opening_size_of-requires-clause-near : goal.opening_size_of-requires-clause-near
-opening_size_of-requires-clause-near c = subst (λ own. AreRegistersNear own c.function_at-func.result.now) (sym c.in_function-own.ensures) (c.requires.fits.near c.args.number c.function_at-func.result.now c.function_at-func.ensures)
+pub opening_size_of-requires-clause-movable : goal.opening_size_of-requires-clause-movable
+opening_size_of-requires-clause-movable c = subst (λ own. AreMovable own c.function_at-func.result.now) (sym c.in_function-own.ensures) (c.requires.fits.movable c.args.number c.function_at-func.result.now c.function_at-func.ensures)
 
 pub opening_size_of-requires-clause-few : goal.opening_size_of-requires-clause-few
 opening_size_of-requires-clause-few c =
@@ -21,15 +21,10 @@ overflow_add-at c =
     let few = function_few (all_homes c.args.homes.now) c.args.slots.now c.requires.fits c.args.number c.function_at-func.result.now (homes_in c.in_function-own.result) c.function_at-func.ensures c.in_function-own.ensures in
     omega (arith, c.requires.start, c.opening_size_of.ensures)
 
-pub size_of-at-requires-clause-point : goal.size_of-at-requires-clause-point
-size_of-at-requires-clause-point c =
+pub size_of-at-requires-clause-movable : goal.size_of-at-requires-clause-movable
+size_of-at-requires-clause-movable c =
     let t = turn (all_homes c.args.homes.now) c.args.slots.now c.requires.fits c.args.number c.function_at-func.result.now (homes_in c.in_function-own.result) c.function_at-func.ensures c.in_function-own.ensures c.as_slice-item-items.result.now c.as_slice-item-items.ensures c.loop-point.point c.item-item.result c.loop-point-test.true c.item-item.is in
-    t.small
-
-pub size_of-at-requires-clause-near : goal.size_of-at-requires-clause-near
-size_of-at-requires-clause-near c =
-    let t = turn (all_homes c.args.homes.now) c.args.slots.now c.requires.fits c.args.number c.function_at-func.result.now (homes_in c.in_function-own.result) c.function_at-func.ensures c.in_function-own.ensures c.as_slice-item-items.result.now c.as_slice-item-items.ensures c.loop-point.point c.item-item.result c.loop-point-test.true c.item-item.is in
-    t.near
+    t.movable
 
 pub size_of-at-requires-clause-fits : goal.size_of-at-requires-clause-fits
 size_of-at-requires-clause-fits c =
