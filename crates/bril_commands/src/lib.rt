@@ -11,8 +11,7 @@
 //! 4. The stages: from files to their tree (`src/source.rt`), from a tree to its accepted program (`src/program.rt`), the
 //!    values that words spell (`src/arguments.rt`), from the path of a profile to its entries (`src/profile.rt`), lists of
 //!    passes (`src/list.rt`), and what a list makes with the profile that the words name (`src/making.rt`).
-//! 5. The commands that make no image (`src/commands/`): `check`, `interp`, `passes`, `text`, `json`, and `recording` for
-//!    `record` and for the run that `demo` records. What they put: `src/output.rt`.
+//! 5. The commands that make no image, and the run that `demo` records (`src/commands/`). What they put: `src/output.rt`.
 #![tactic(auto)]
 
 pub mod arguments;
