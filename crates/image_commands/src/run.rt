@@ -25,6 +25,7 @@ use bril_tree::value::Value;
 use bril_words::{Request, RunSettings};
 use image_runs::run::run_image;
 use pass_law::Pass;
+use rv64_machine::machine::Machine;
 use std::alloc::Global;
 
 /// Gives the program to a list of passes, with the profile that the request names, and runs what this makes on the machine under the
@@ -68,12 +69,16 @@ fn run_with<O: Sink, E: Sink>(
     ensures { Telling O.seen E.seen (λ told s t. (RefusesEmission (ImageFor settings.limits.frames settings.limits.cells) (status_of result) checked.now.prog × IsSilent told s t) ⊎ (Fits (ImageFor settings.limits.frames settings.limits.cells) checked.now.prog × Works (executed checked.now.prog settings.limits values.now settings.steps settings.stats) (status_of result) told s t)) outputs.old outputs.new }
 {
     let image = image_of(alloc, checked, settings.limits)?;
+    let values = values.as_slice();
+    let Ok(mut machine) = Machine::new(alloc, &image, values, settings.limits) else {
+        return Err(Status::OutOfMemory);
+    };
     run_image(
-        alloc,
         &image,
         checked.prog(),
-        values.as_slice(),
+        values,
         settings,
+        &mut machine,
         outputs,
     )
 }

@@ -1,7 +1,7 @@
 // `run --stats`: what is told of a run of the machine on the error output, before the line of the status.
 
 ghost use Rattle.std.specs.Prelude.{◌≡◌, ◌^◌, ◌<◌, length};
-ghost use Rattle.bril_commands.specs.Stats.{stats_pieces, stats_told};
+ghost use Rattle.bril_commands.specs.Stats.{stats_told};
 ghost use Rattle.bril_report.specs.Told.{Tells};
 ghost use Rattle.rv64_machine.specs.MachineView.{state_of, image_in};
 
@@ -11,7 +11,8 @@ use bril_tree::program::Prog;
 use rv64_machine::machine::Machine;
 use rv64_words::image::GuardAt;
 
-/// Tells how many words the machine executed, and how often the word of each guard, where that is asked for.
+/// Tells how many words the machine executed, and how often the word of each guard, where that is asked for: the lines, each piece of
+/// them by one put.
 pub fn tell_stats<E: Sink>(
     stats: bool,
     program: &Prog,
@@ -23,22 +24,9 @@ pub fn tell_stats<E: Sink>(
     requires few { length guards.now < 2 ^ 32 }
     ensures { Tells E.seen err.old (stats_told stats program.now guards.now (state_of machine.now)) err.new }
 {
-    if stats {
-        put_stats(program, guards, machine, err);
+    if !stats {
+        return;
     }
-}
-
-// Puts the lines, each piece of them by one put.
-fn put_stats<E: Sink>(
-    program: &Prog,
-    guards: &[GuardAt],
-    machine: &Machine,
-    err: &mut ErrorOutput<'_, E>,
-)
-    requires guards { guards.now ≡ (image_in machine.now).guards }
-    requires few { length guards.now < 2 ^ 32 }
-    ensures { Tells E.seen err.old (stats_pieces program.now guards.now (state_of machine.now)) err.new }
-{
     put_words(err, machine.done());
     for (number, guard) in guards.iter().enumerate() {
         let fails = machine.fails(number as u32);

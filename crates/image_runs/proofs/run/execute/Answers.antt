@@ -1,5 +1,5 @@
 -- The machine ended as the program does, or goes on; or a write fails.
-use Rattle.std.proofs.Common.{refl, Some, None}
+use Rattle.std.proofs.Common.{Some, None}
 use Rattle.image_runs.proofs.Runs.{whole, partly, no_trap}
 use Rattle.image_runs.proofs.run.execute.Goals as goal
 
@@ -18,4 +18,4 @@ returns-in-Spent-clause-ok g c =
 
 pub returns-in-WriteFault-clause-err : goal.returns-in-WriteFault-clause-err
 returns-in-WriteFault-clause-err g c =
-    (refl, partly c.args.image.now c.args.program.now c.args.settings.limits c.args.values.now c.requires.implements c.requires.fits c.args.settings.steps c.args.machine.now c.requires.fresh _ _ _ c.args.settings.stats c.in-WriteFault.ensures.ran)
+    partly c.args.image.now c.args.program.now c.args.settings.limits c.args.values.now c.requires.implements c.requires.fits c.args.settings.steps c.args.machine.now c.requires.fresh _ _ _ c.args.settings.stats c.in-WriteFault.ensures.ran
