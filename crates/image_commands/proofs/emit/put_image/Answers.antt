@@ -19,7 +19,7 @@ returns-in_err-image-clause-does g c =
 
 pub returns-clause-does : goal.returns-clause-does
 returns-clause-does g c =
-    let put = rw c.as_slice.ensures at c.put_words.ensures in
+    let put = rw c.as_slice.ensures at c.put_words.ensures.does in
     let made = c.in_ok-made.ensures.ok in
     let q = c.in_ok-made.made.prog in
     let image = c.in_ok-image.image in
