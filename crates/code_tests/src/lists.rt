@@ -169,18 +169,43 @@ fn tallies_go_on_from_call_to_call(rt: HostRuntime) -> Result<(), Fail> {
         second.err.bytes(),
         b"pad runs 2 seen 4 made 6\n".as_slice()
     );
-    // A command that takes no list leaves them.
+    assert_eq!(rt; passes[0].tally(), tally(2, 4, 6));
+    Ok(())
+}
+
+#[test]
+fn a_command_that_takes_no_list_leaves_tallies(rt: HostRuntime) -> Result<(), Fail> {
+    let alloc = rt.alloc();
+    let mut passes = [boxed_pad(alloc)?];
+    let first = call(
+        alloc,
+        &["passes", "one.bril", "--passes", "pad"],
+        passes.as_mut_slice(),
+    )?;
+    assert_eq!(rt; first.status, 0);
     let checked = call(alloc, &["check", "one.bril"], passes.as_mut_slice())?;
     assert_eq!(rt; checked.status, 0);
-    assert_eq!(rt; passes[0].tally(), tally(2, 4, 6));
-    // Where the arguments are refused no pass runs.
+    assert_eq!(rt; passes[0].tally(), tally(1, 2, 3));
+    Ok(())
+}
+
+#[test]
+fn no_pass_runs_where_the_arguments_are_refused(rt: HostRuntime) -> Result<(), Fail> {
+    let alloc = rt.alloc();
+    let mut passes = [boxed_pad(alloc)?];
+    let first = call(
+        alloc,
+        &["passes", "one.bril", "--passes", "pad"],
+        passes.as_mut_slice(),
+    )?;
+    assert_eq!(rt; first.status, 0);
     let refused = call(
         alloc,
         &["run", "one.bril", "--passes", "pad", "--", "1"],
         passes.as_mut_slice(),
     )?;
     assert_eq!(rt; refused.status, 69);
-    assert_eq!(rt; passes[0].tally(), tally(2, 4, 6));
+    assert_eq!(rt; passes[0].tally(), tally(1, 2, 3));
     Ok(())
 }
 
