@@ -4,8 +4,8 @@
 //! The definitions in `specs/` are the language; docs/MAP.md leads from each rule to its definition.
 //!
 //! 1. Lists, bytes, texts and names (`src/sequence.rt`, `src/bytes.rt`, `src/text.rt`, `src/name.rt`).
-//! 2. Programs by names (`src/tree.rt`, `src/function_tree.rt`, `src/import.rt`) and by numbers (`src/program.rt`,
-//!    `src/numbered_function.rt`, `src/numbered.rt`).
+//! 2. Programs by names (`src/tree.rt`, `src/function_tree.rt`, with copies of items, `src/import.rt`) and by numbers
+//!    (`src/program.rt`, `src/numbered_function.rt`, `src/numbered.rt`).
 //! 3. Types and whether two are one (`src/types.rt`, `src/typing.rt`), values (`src/value.rt`), operations
 //!    (`src/operation.rt`), those on one and on two variables (`src/operators.rt`), the limits of a run (`src/limits.rt`).
 //! 4. What is asked of a program: shapes (`src/shape.rt`), sizes (`src/size.rt`), edges (`src/edge.rt`), labels

@@ -9,7 +9,7 @@ use crate::fault::LinkFault;
 use crate::fresh_run::spelled_name;
 use crate::table::Table;
 use crate::taken::not_there;
-use bril_tree::function_tree::{Dest, FuncTree, Item};
+use bril_tree::function_tree::{Dest, FuncTree, Item, copied_dest, copied_names};
 use bril_tree::name::Name;
 use bril_tree::sequence::Seq;
 use bril_tree::text::Text;
@@ -54,38 +54,7 @@ fn copied_arguments(alloc: Global, args: &[Dest]) -> Result<Seq<Dest>, AllocErro
 {
     let mut copies = Seq::new(alloc);
     for arg in args {
-        copies.push(copied_dest(alloc, arg)?)?;
-    }
-    Ok(copies)
-}
-
-// A copy of a name with its type.
-fn copied_dest(alloc: Global, dest: &Dest) -> Result<Dest, AllocError>
-    ensures { IfOk result (λ made. made ≡ dest.now) }
-{
-    Ok(Dest {
-        name: dest.name.copied(alloc)?,
-        ty: dest.ty,
-    })
-}
-
-// A copy of a destination, where there is one.
-fn copied_option(alloc: Global, dest: &Option<Dest>) -> Result<Option<Dest>, AllocError>
-    ensures { IfOk result (λ made. made ≡ dest.now) }
-{
-    match dest {
-        Some(dest) => Ok(Some(copied_dest(alloc, dest)?)),
-        None => Ok(None),
-    }
-}
-
-// Copies of names.
-fn copied_names(alloc: Global, names: &[Name]) -> Result<Seq<Name>, AllocError>
-    ensures { IfOk result (λ copies. copies ≡ names.now) }
-{
-    let mut copies = Seq::new(alloc);
-    for name in names {
-        copies.push(name.copied(alloc)?)?;
+        copies.push(arg.copied(alloc)?)?;
     }
     Ok(copies)
 }
@@ -123,12 +92,6 @@ fn renamed_one(
     ensures all { HasAll path.now (first_unknown names.now (callees_of item.now)) result }
 {
     match item {
-        Item::Label(name) => Ok(Item::Label(name.copied(alloc)?)),
-        Item::Const { dest, ty, value } => Ok(Item::Const {
-            dest: dest.copied(alloc)?,
-            ty: *ty,
-            value: *value,
-        }),
         Item::Act {
             dest,
             op,
@@ -138,13 +101,14 @@ fn renamed_one(
         } => {
             let funcs = names_beside(alloc, path, names, spelled, funcs.as_slice())?;
             Ok(Item::Act {
-                dest: copied_option(alloc, dest)?,
+                dest: copied_dest(alloc, dest)?,
                 op: *op,
                 args: copied_names(alloc, args.as_slice())?,
                 funcs,
                 labels: copied_names(alloc, labels.as_slice())?,
             })
         }
+        _ => Ok(item.copied(alloc)?),
     }
 }
 

@@ -10,20 +10,18 @@
 //! 3. From an edited tree to a checked program: `finish` numbers and checks it (`src/from_tree.rt`). The item that passes put
 //!    in place of others is there too.
 //! 4. For passes that put items in: fresh names, each with the least number of `_` in front that makes it differ from all that
-//!    are taken (`src/fresh_names.rt`, `proofs/Marks.antt`, `Taking.antt`), and copies of items (`src/copies.rt`).
+//!    are taken (`src/fresh_names.rt`, `proofs/Marks.antt`, `Taking.antt`).
 //! 5. From the edit of one function to the tree of a program: `each_function` (`src/by_function.rt`, `specs/Each.antt`). What
 //!    follows where a relation says what is made of each function: `proofs/Each.antt`.
 #![tactic(auto)]
 
 mod by_function;
-mod copies;
 mod edit;
 mod fresh_names;
 mod from_tree;
 mod made;
 
 pub use by_function::each_function;
-pub use copies::{copied_item, copied_names};
 pub use edit::{Edit, Edited};
 pub use fresh_names::{TakenNames, taken_labels, taken_variables};
 pub use from_tree::{finish, nop};

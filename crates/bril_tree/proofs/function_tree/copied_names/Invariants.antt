@@ -1,5 +1,5 @@
 use Rattle.std.proofs.Common.{◌≡◌, take}
-use Rattle.pass_make.proofs.copies.copied_names.Given as goal
+use Rattle.bril_tree.proofs.function_tree.copied_names.Given as goal
 
 abbrev pub invariant-loop-name : goal.invariant-loop-name
 invariant-loop-name l = l.made ≡ take l.name-index l.names

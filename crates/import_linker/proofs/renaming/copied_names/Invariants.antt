@@ -1,6 +1,0 @@
--- The copies so far.
-use Rattle.std.proofs.Common.{◌≡◌, take}
-use Rattle.import_linker.proofs.renaming.copied_names.Given as goal
-
-abbrev pub invariant-loop-name : goal.invariant-loop-name
-invariant-loop-name l = l.copies ≡ take l.name-index l.names
