@@ -2,7 +2,7 @@
 use Rattle.std.proofs.Common.{◌≡◌, ◌≢◌, ℕ, ◌+◌, ◌^◌, ◌<◌, ◌≤◌, List, [], ◌∷◌, ◌++◌, length, Option, Some, None, refl, ap, sym, subst, ◌∙◌, append_assoc, append-nil, length-append, zero-add, arith}
 use Rattle.std.proofs.lemmas.Grind.{common_steps}
 use Rattle.std.specs.Option.{option_map}
-use Rattle.bril_outside.specs.Sink.{SinkSeen, Rose, Flushed, amount_after, Took, TookAll, TookSome, PutTimes, joined, PutAll, PutSome, TookBy, FailedAfter}
+use Rattle.bril_outside.specs.Sink.{SinkSeen, Rose, amount_after, Took, TookAll, TookSome, PutTimes, joined, PutAll, PutSome, TookBy, FailedAfter}
 
 -- nothing more leaves an amount
 pub amount_after-zero : (a : Option ℕ) → amount_after a 0 ≡ a

@@ -25,6 +25,11 @@ pub record AppendsFirst (old new : Option (List ℕ)) (bytes : List ℕ) : Type 
   pub whole : bytes ≡ part ++ rest
   pub grew : Appends old new part
 
+-- what a write does to known bytes: these grow by the bytes that were to be written, or after an error by the first of them
+abbrev pub Writes : {A E : Type 0} → Option (List ℕ) → Option (List ℕ) → List ℕ → Result A E → Type 0
+Writes old new bytes (Ok done) = Appends old new bytes
+Writes old new bytes (Err fault) = AppendsFirst old new bytes
+
 -- the most bytes that one read takes
 abbrev pub most_at_once : ℕ
 most_at_once = 4096

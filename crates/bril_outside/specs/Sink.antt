@@ -50,6 +50,11 @@ pub record Flushed (s t : SinkSeen) : Type 0 where
   pub puts : t.puts ≡ s.puts
   pub faults : s.faults ≤ t.faults
 
+-- all that was put is out, and no fault was counted on the way
+pub record HandedOn (s t : SinkSeen) : Type 0 where
+  pub out : t.is_out ≡ true
+  pub sound : t.faults ≡ s.faults
+
 -- ---- puts
 
 -- the sink was put to so many times

@@ -3,7 +3,7 @@
 ghost use Rattle.std.specs.Prelude.{◌≡◌, ◌≤◌, ◌+◌, ◌-◌, ◌++◌, [], IfOk, OnOk, OnErr, None, true, false, is_ok, if◌then◌else◌, length, take, drop, vec_len, vec_capacity};
 ghost use Rattle.std.specs.Io.KnownBytes.{Appends, Keeps, append_known};
 ghost use Rattle.bril_outside.specs.Sink.{next_count};
-ghost use Rattle.bril_outside.specs.Adapter.{AppendsFirst, bytes_over};
+ghost use Rattle.bril_outside.specs.Adapter.{Writes, bytes_over};
 
 use crate::mem_sink::append_within;
 use crate::sink::{Failed, Sink};
@@ -79,9 +79,7 @@ impl<W: Write + Drop> OsSink<W> {
     fn put_through(&mut self, piece: &[u8]) -> Result<(), Failed>
         requires held { self.old.is_out ≡ false }
         ensures held { self.new.is_out ≡ false }
-        ensures ok { OnOk result (Appends (bytes_over W.contents self.old) (bytes_over W.contents self.new) piece.now) }
-        ensures err { OnErr result
-            (AppendsFirst (bytes_over W.contents self.old) (bytes_over W.contents self.new) piece.now) }
+        ensures bytes { Writes (bytes_over W.contents self.old) (bytes_over W.contents self.new) piece.now result }
         ensures faults { self.new.faults ≡ self.old.faults }
     {
         self.hold(piece)?;
@@ -95,9 +93,7 @@ impl<W: Write + Drop> OsSink<W> {
     fn hold(&mut self, piece: &[u8]) -> Result<(), Failed>
         requires held { self.old.is_out ≡ false }
         ensures held { self.new.is_out ≡ false }
-        ensures ok { OnOk result (Appends (bytes_over W.contents self.old) (bytes_over W.contents self.new) piece.now) }
-        ensures err { OnErr result
-            (AppendsFirst (bytes_over W.contents self.old) (bytes_over W.contents self.new) piece.now) }
+        ensures bytes { Writes (bytes_over W.contents self.old) (bytes_over W.contents self.new) piece.now result }
         ensures faults { self.new.faults ≡ self.old.faults }
     {
         if piece.len() > self.room as usize - self.held.len() {
@@ -120,9 +116,7 @@ impl<W: Write + Drop> Sink for OsSink<W> {
     /// the piece, or by the first of it after an error.
     #[inline]
     fn put(&mut self, piece: &[u8]) -> Result<(), Failed>
-        ensures ok { OnOk result (Appends (bytes_over W.contents self.old) (bytes_over W.contents self.new) piece.now) }
-        ensures err { OnErr result
-            (AppendsFirst (bytes_over W.contents self.old) (bytes_over W.contents self.new) piece.now) }
+        ensures bytes { Writes (bytes_over W.contents self.old) (bytes_over W.contents self.new) piece.now result }
         ensures faults { self.new.faults
             ≡ (if is_ok result then self.old.faults else next_count self.old.faults) }
     {
@@ -217,8 +211,7 @@ fn flush_writer<W: Write>(out: &mut W) -> Result<(), Failed>
 
 // Writes all of the bytes.
 fn write_whole<W: Write>(out: &mut W, bytes: &[u8]) -> Result<(), Failed>
-    ensures ok { OnOk result (Appends (W.contents out.old) (W.contents out.new) bytes.now) }
-    ensures err { OnErr result (AppendsFirst (W.contents out.old) (W.contents out.new) bytes.now) }
+    ensures { Writes (W.contents out.old) (W.contents out.new) bytes.now result }
 {
     let (_, done) = write_first(out, bytes);
     done

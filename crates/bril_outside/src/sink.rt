@@ -1,7 +1,7 @@
 // Sinks: what bytes are written to.
 
-ghost use Rattle.std.specs.Prelude.{◌≡◌, true, OnOk, OnErr, [], ◌∷◌};
-ghost use Rattle.bril_outside.specs.Sink.{SinkSeen, Rose, Flushed, TookAll, TookSome, PutTimes, PutAll, PutSome, AmountIsLength};
+ghost use Rattle.std.specs.Prelude.{OnOk, OnErr, [], ◌∷◌};
+ghost use Rattle.bril_outside.specs.Sink.{SinkSeen, Rose, Flushed, HandedOn, TookAll, TookSome, PutTimes, PutAll, PutSome, AmountIsLength};
 
 use thiserror::Error;
 
@@ -30,11 +30,11 @@ pub trait Sink {
 
     /// Hands on all that was written and is still held back. Takes no memory.
     ///
-    /// `Ok`: all of it is out. `Failed`: the sink counted a fault in this call, and some of it may be lost. Either way what
-    /// the sink tells stays, but for its faults. It is no put.
+    /// `Ok`: all of it is out, and the sink counted no fault in this call. `Failed`: the sink counted a fault in this call,
+    /// and some of it may be lost. Either way what the sink tells stays, but for its faults. It is no put.
     fn flush(&mut self) -> Result<(), Failed>
         ensures kept { Flushed (seen self.old) (seen self.new) }
-        ensures ok { OnOk result ((seen self.new).is_out ≡ true) }
+        ensures ok { OnOk result (HandedOn (seen self.old) (seen self.new)) }
         ensures err { OnErr result (Rose (seen self.old).faults (seen self.new).faults) };
 
     /// The amount is the length of what was written, where both are told.

@@ -1,6 +1,6 @@
 -- Pieces that are put on a sink, each by one put.
-use Rattle.std.specs.Prelude.{ℕ, ◌≡◌, ◌⊎◌, true, List, []}
-use Rattle.bril_outside.specs.Sink.{SinkSeen, Rose, Flushed, PutAll, PutSome}
+use Rattle.std.specs.Prelude.{ℕ, ◌≡◌, ◌⊎◌, List, []}
+use Rattle.bril_outside.specs.Sink.{SinkSeen, Rose, Flushed, HandedOn, PutAll, PutSome}
 
 -- The pieces were put, each by one put, in this order, and the sink took all of them. It stays as it was where there are none.
 pub record PutsAll (s : SinkSeen) (pieces : List (List ℕ)) (t : SinkSeen) : Type 0 where
@@ -11,12 +11,12 @@ pub record PutsAll (s : SinkSeen) (pieces : List (List ℕ)) (t : SinkSeen) : Ty
 abbrev pub Puts : SinkSeen → List (List ℕ) → SinkSeen → Type 0
 Puts s pieces t = PutsAll s pieces t ⊎ PutSome s pieces t
 
--- The pieces were put, and the sink took all of them and then handed on all that it held back.
+-- The pieces were put, and the sink took all of them and then handed on all that it held back. It counted no fault.
 pub record WritesAll (s : SinkSeen) (pieces : List (List ℕ)) (t : SinkSeen) : Type 0 where
   pub between : SinkSeen
   pub puts : PutsAll s pieces between
   pub flushed : Flushed between t
-  pub out : t.is_out ≡ true
+  pub out : HandedOn between t
 
 -- The pieces were put, and the sink took all of them and then failed to hand on what it held back.
 pub record HoldsBack (s : SinkSeen) (pieces : List (List ℕ)) (t : SinkSeen) : Type 0 where

@@ -8,6 +8,7 @@ use Rattle.bril_tree.specs.declared.import.Taken.{Taken}
 use Rattle.bril_tree.specs.declared.operation.Op.{Op}
 use Rattle.bril_tree.specs.declared.tree.Tree.{Tree}
 use Rattle.bril_tree.specs.declared.types.Ty.{Ty}
+use Rattle.bril_lex.specs.Lexeme.{Lexeme}
 use Rattle.bril_grammar.specs.declared.fault.Fault.{Fault}
 use Rattle.bril_grammar.specs.declared.fault.FaultKind.{FaultKind}
 use Rattle.bril_grammar.specs.declared.fault.FaultKind.TheVariants.{Grammar}
@@ -16,10 +17,10 @@ use Rattle.bril_grammar.specs.declared.keyword.Keyword.TheVariants as keyword
 use Rattle.bril_grammar.specs.declared.mark.Mark.{Mark}
 use Rattle.bril_grammar.specs.Fault.{front}
 use Rattle.bril_grammar.specs.Keyword.{keyword_of}
-use Rattle.bril_grammar.specs.Machine.{Move, run, decided, go_on, begins_with_colon, same_mark}
-use Rattle.bril_grammar.specs.State.{Begun, Importing, Acting}
+use Rattle.bril_grammar.specs.Machine.{Move, run, with_item, decided, go_on, begins_with_colon, same_mark}
+use Rattle.bril_grammar.specs.State.{State, AtItem, Begun, Importing, Acting}
 use Rattle.bril_tree.specs.Path.{ImportPath}
-use Rattle.bril_grammar.specs.Terminal.{Terminal, Name, Punctuation}
+use Rattle.bril_grammar.specs.Terminal.{Terminal, terminals_of, Name, Punctuation}
 use Rattle.bril_text.specs.declared.operands.Operands.{Operands}
 use Rattle.bril_text.specs.declared.parse.ParseFault.{ParseFault}
 use Rattle.bril_text.specs.declared.parse.ParseFault.TheVariants.{At, Memory}
@@ -33,6 +34,12 @@ Fails before Memory = Unit {0}
 abbrev pub Runs : {X : Type 0} → Result Tree Fault → Result X ParseFault → (X → Result Tree Fault) → Type 0
 Runs before (Ok x) after = before ≡ after x
 Runs before (Err fault) after = Fails before fault
+
+-- the run from where a function was begun and from these terminals is the one that is left after an item, with that item in the function, or
+-- it fails
+abbrev pub ReadsItem : (Begun → State) → List Terminal → Result (Item × List Lexeme) ParseFault → Type 0
+ReadsItem from terminals result =
+    (begun : Begun) → Runs (run (from begun) terminals) result (λ x. run (AtItem (with_item begun x.0)) (terminals_of x.1))
 
 -- the same, where what is left isn't determined by what was read
 abbrev pub LeadsTo : {X : Type 0} → Result Tree Fault → Result X ParseFault → (X → Type 0) → Type 0

@@ -7,11 +7,11 @@ ghost use Rattle.bril_tree.specs.declared.import.Import.{Import};
 ghost use Rattle.bril_tree.specs.declared.types.Ty.{Ty};
 ghost use Rattle.bril_tree.specs.Identifier.{is_identifier};
 ghost use Rattle.bril_grammar.specs.Machine.{run, with_item, dest_type, finished, act};
-ghost use Rattle.bril_grammar.specs.State.{Begun, AtItem, AtOperation, AtLiteral, AtOperand, Expect};
+ghost use Rattle.bril_grammar.specs.State.{AtItem, AtOperation, AtLiteral, AtOperand, Expect};
 ghost use Rattle.bril_grammar.specs.Terminal.{terminals_of, Name};
 ghost use Rattle.bril_grammar.specs.declared.mark.Mark.TheVariants.{Colon};
 ghost use Rattle.std.specs.Prelude.{IsTrue, ℕ};
-ghost use Rattle.bril_text.specs.Parse.{Runs, begun_with};
+ghost use Rattle.bril_text.specs.Parse.{Runs, ReadsItem, begun_with};
 
 use crate::keyword::keyword;
 use crate::literal::literal_at;
@@ -66,9 +66,7 @@ fn label_at<'a>(
     terminals: Terminals<'a>,
 ) -> Result<(Item, Terminals<'a>), ParseFault>
     requires { IsTrue (is_identifier text.now) }
-    ensures runs { (begun : Begun) →
-        Runs (run (Expect Colon (AtItem (with_item begun (Item.Label text.now)))) (terminals_of terminals.entry)) result
-        (λ x. run (AtItem (with_item begun x.0)) (terminals_of x.1)) }
+    ensures runs { ReadsItem (λ begun. Expect Colon (AtItem (with_item begun (Item.Label text.now)))) (terminals_of terminals.entry) result }
     ensures shorter { IfOk result (λ x. length x.1 < length terminals.entry) }
 {
     let terminals = expect(Mark::Colon, terminals)?;
@@ -82,9 +80,7 @@ fn instruction_at<'a>(
     terminals: Terminals<'a>,
 ) -> Result<(Item, Terminals<'a>), ParseFault>
     requires { IsTrue (is_identifier text.now) }
-    ensures runs { (begun : Begun) →
-        Runs (run (AtItem begun) (Name text.now ∷ terminals_of terminals.entry)) result
-        (λ x. run (AtItem (with_item begun x.0)) (terminals_of x.1)) }
+    ensures runs { ReadsItem AtItem (Name text.now ∷ terminals_of terminals.entry) result }
     ensures shorter { IfOk result (λ x. length x.1 < length terminals.entry) }
 {
     if terminals.begins_with(Mark::Colon) {
@@ -104,9 +100,7 @@ fn assignment_at<'a>(
     terminals: Terminals<'a>,
 ) -> Result<(Item, Terminals<'a>), ParseFault>
     requires { IsTrue (is_identifier text.now) }
-    ensures runs { (begun : Begun) →
-        Runs (run (Expect Colon (dest_type begun text.now)) (terminals_of terminals.entry)) result
-        (λ x. run (AtItem (with_item begun x.0)) (terminals_of x.1)) }
+    ensures runs { ReadsItem (λ begun. Expect Colon (dest_type begun text.now)) (terminals_of terminals.entry) result }
     ensures shorter { IfOk result (λ x. length x.1 < length terminals.entry) }
 {
     let terminals = expect(Mark::Colon, terminals)?;
@@ -122,9 +116,7 @@ fn operation_at<'a>(
     dest: Dest,
     terminals: Terminals<'a>,
 ) -> Result<(Item, Terminals<'a>), ParseFault>
-    ensures runs { (begun : Begun) →
-        Runs (run (AtOperation begun dest) (terminals_of terminals.entry)) result
-        (λ x. run (AtItem (with_item begun x.0)) (terminals_of x.1)) }
+    ensures runs { ReadsItem (λ begun. AtOperation begun dest) (terminals_of terminals.entry) result }
     ensures shorter { IfOk result (λ x. length x.1 < length terminals.entry) }
 {
     let left = terminals.left();
@@ -143,9 +135,7 @@ fn operation_at<'a>(
 
 // The rest of a constant, after `const`.
 fn constant_at(dest: Dest, terminals: Terminals<'_>) -> Result<(Item, Terminals<'_>), ParseFault>
-    ensures runs { (begun : Begun) →
-        Runs (run (AtLiteral begun dest) (terminals_of terminals.entry)) result
-        (λ x. run (AtItem (with_item begun x.0)) (terminals_of x.1)) }
+    ensures runs { ReadsItem (λ begun. AtLiteral begun dest) (terminals_of terminals.entry) result }
     ensures shorter { IfOk result (λ x. length x.1 < length terminals.entry) }
 {
     let (value, terminals) = literal_at(terminals)?;
@@ -168,9 +158,7 @@ fn act_at<'a>(
     op: Op,
     terminals: Terminals<'a>,
 ) -> Result<(Item, Terminals<'a>), ParseFault>
-    ensures runs { (begun : Begun) →
-        Runs (run (AtOperand (act begun dest op)) (terminals_of terminals.entry)) result
-        (λ x. run (AtItem (with_item begun x.0)) (terminals_of x.1)) }
+    ensures runs { ReadsItem (λ begun. AtOperand (act begun dest op)) (terminals_of terminals.entry) result }
     ensures shorter { IfOk result (λ x. length x.1 < length terminals.entry) }
 {
     let (operands, terminals) = operands_at(alloc, terminals)?;

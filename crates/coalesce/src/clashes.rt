@@ -1,6 +1,6 @@
 // Clashes of the variables that copies relate: one is assigned while the other is live.
 
-ghost use Rattle.std.specs.Prelude.{◌≡◌, ◌↔◌, ◌<◌, ◌≤◌, ◌+◌, ◌*◌, ◌^◌, ◌-◌, ℕ, suc, true, false, Some, IfOk, OnOk, IfSome, IfNone, None, length};
+ghost use Rattle.std.specs.Prelude.{◌≡◌, ◌↔◌, ◌<◌, ◌≤◌, ◌+◌, ◌^◌, ◌-◌, ℕ, suc, true, false, Some, IfOk, OnOk, IfSome, IfNone, None, length};
 ghost use Rattle.std.specs.List.{All, Contains};
 ghost use Rattle.bril_tree.specs.Live.{IsLive};
 ghost use Rattle.bril_tree.specs.Operand.{Variable};

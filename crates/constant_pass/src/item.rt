@@ -1,9 +1,8 @@
 // What becomes of an item.
 
-ghost use Rattle.std.specs.Prelude.{◌≡◌, ◌<◌, ◌∷◌, [], ℕ, List, All, IfOk, None, Some, length, slice_index, if◌then◌else◌};
-ghost use Rattle.bril_tree.specs.Numbered.{item_tree, nop_item, variable_names};
+ghost use Rattle.std.specs.Prelude.{◌≡◌, ◌<◌, ℕ, List, All, IfOk, None, Some, length};
+ghost use Rattle.bril_tree.specs.Numbered.{item_tree, variable_names};
 ghost use Rattle.flow_graph.specs.Branches.{HasLabels};
-ghost use Rattle.bril_tree.specs.Numbered.{named};
 ghost use Rattle.constant_pass.specs.constants.Kept.{told};
 ghost use Rattle.constant_pass.specs.Edit.{IsMade, constant_of, constant_tree, nop_tree};
 ghost use Rattle.bril_tree.specs.declared.numbered.Instr.{Instr};

@@ -1,5 +1,5 @@
 -- Where the words of functions and items are while an image is made.
-use Rattle.std.proofs.Common.{◌≡◌, ℕ, ◌+◌, ◌-◌, ◌^◌, ◌<◌, ◌≤◌, ⊎_elim, min, List, [], ◌∷◌, ◌++◌, length, map, get_or, Some, refl, sym, ap, ◌∙◌, subst, arith, add-one, zero-add, length-append, append_assoc}
+use Rattle.std.proofs.Common.{◌≡◌, ℕ, ◌+◌, ◌-◌, ◌<◌, ◌≤◌, ⊎_elim, min, List, [], ◌∷◌, ◌++◌, length, map, get_or, Some, refl, sym, ap, ◌∙◌, subst, arith, add-one, zero-add, length-append, append_assoc}
 use Rattle.std.specs.Prelude.{slice_get}
 use Rattle.std.specs.List.{range_with_len}
 use Rattle.std.proofs.lemmas.List.{length-map}
@@ -8,6 +8,7 @@ use Rattle.std.proofs.lemmas.Option.{slice_get_read, slice_get_past}
 use Rattle.bril_tree.proofs.Elements.{get_inside}
 use Rattle.rv64_words.specs.declared.image.GuardAt.{GuardAt}
 use Rattle.rv64_words.specs.Encoding.{encoded}
+use Rattle.rv64_words.specs.Region.{most_words}
 use Rattle.slot_code.specs.declared.item.SlotItem.{SlotItem}
 use Rattle.slot_code.specs.declared.item.SlotItem.TheVariants.{Pass, Constant, Copy, Unary, Binary, Jump, Branch, Call, Return, Print, Alloc, Free, Store, Load, Speculate, Commit, Guard}
 use Rattle.slot_code.specs.declared.slots.SlotFunction.{SlotFunction}
@@ -73,6 +74,13 @@ module _ (homes : ℕ → FunctionHomes) (slots : Slots) where
 
   pub entries_are : (f : ℕ) (g : SlotFunction) → slice_get slots.funcs f ≡ Some g → (entries : List ℕ) → entries ≡ entry_table homes slots f → (k : ℕ) → table_at entries k ≡ entry_at homes slots f k
   entries_are f g is entries are k = ap (λ t. table_at t k) (table_is f g is entries are) ∙ table_of (entry_at homes slots f) (length g.code) (entries_stay f g is) k
+
+  -- what tables have is no more than the words of an image
+  pub starts_few : SlotsFit homes slots → (starts : List ℕ) → starts ≡ start_table homes slots → (k : ℕ) → table_at starts k ≤ most_words
+  starts_few fit starts is k = let few = fit.few in omega (arith, starts_are starts is k, starts_most homes slots k, few)
+
+  pub entries_few : SlotsFit homes slots → (f : ℕ) (g : SlotFunction) → slice_get slots.funcs f ≡ Some g → (entries : List ℕ) → entries ≡ entry_table homes slots f → (k : ℕ) → table_at entries k ≤ most_words
+  entries_few fit f g is entries are k = let few = fit.few in omega (arith, entries_are f g is entries are k, entries_most homes slots f k, few)
 
   -- behind the words that leave a function begins the next one
   pub next_start : (f : ℕ) → f < length slots.funcs → (entries : List ℕ) → entries ≡ entry_table homes slots f → (0 < length entries) × (table_at entries (length entries - 1) + 4 ≡ start_at homes slots (f + 1))

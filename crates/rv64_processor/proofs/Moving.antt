@@ -1,12 +1,11 @@
 -- Words of a list that move to the front, and words that are cut off.
-use Rattle.std.proofs.Common.{◌≡◌, ℕ, ◌+◌, ◌-◌, ◌<◌, ◌≤◌, Bool, true, false, ◌&&◌, cond, leb, ltb, List, length, take, refl, sym, ap, ◌∙◌, ⊎_elim, arith}
+use Rattle.std.proofs.Common.{◌≡◌, ℕ, ◌+◌, ◌-◌, ◌<◌, ◌≤◌, Bool, true, false, ◌&&◌, cond, leb, ltb, List, refl, sym, ap, ◌∙◌, ⊎_elim, arith}
 use Rattle.std.specs.List.{CopiedTo, SameBelow, SameFrom}
 use Rattle.std.proofs.lemmas.Bool.{cases_lt}
 use Rattle.std.proofs.lemmas.Bool.Decides.{nat_tests}
-use Rattle.std.proofs.lemmas.List.{get_or-take, get_or_past, length-take-le, take_all}
 use Rattle.rv64_words.specs.State.{words_of}
 use Rattle.rv64_words.proofs.Words.{same_words}
-use Rattle.rv64_processor.specs.RegionView.{moved_down, first_words}
+use Rattle.rv64_processor.specs.RegionView.{moved_down}
 
 pub words_of-moved : (xs ys : List ℕ) (from to count : ℕ) → CopiedTo xs ys from to count → SameBelow xs ys to → SameFrom xs ys (to + count) → words_of ys ≡ moved_down (words_of xs) from to count
 words_of-moved xs ys from to count copied below past = same_words _ _ (λ i. ⊎_elim (before i) (λ le. ⊎_elim (inside i le) (after i) (cases_lt i (to + count))) (cases_lt i to))
@@ -50,18 +49,3 @@ moved-none words from to = same_words _ _ (λ i. ap (λ t. cond t (words (from +
   where
     out : (i : ℕ) → (leb to i && ltb i (to + 0)) ≡ false
     out i = grind (arith, nat_tests)
-
-pub words_of-taken : (xs : List ℕ) (n : ℕ) → words_of (take n xs) ≡ first_words (words_of xs) n
-words_of-taken xs n = same_words _ _ (λ i. ⊎_elim (here i) (past i) (cases_lt i n))
-  where
-    less : (i : ℕ) → i < n → ltb i n ≡ true
-    less i lt = grind (arith, nat_tests)
-
-    more : (i : ℕ) → n ≤ i → ltb i n ≡ false
-    more i le = grind (arith, nat_tests)
-
-    here : (i : ℕ) → i < n → words_of (take n xs) i ≡ first_words (words_of xs) n i
-    here i lt = get_or-take n xs i 0 lt ∙ ap (λ t. cond t (words_of xs i) 0) (sym (less i lt))
-
-    past : (i : ℕ) → n ≤ i → words_of (take n xs) i ≡ first_words (words_of xs) n i
-    past i le = get_or_past (take n xs) i 0 (⊎_elim (λ (lt : length xs < n). (let l : length (take n xs) ≡ length xs = ap length (take_all n xs (omega arith)) in omega arith)) (λ (fits : n ≤ length xs). (let l : length (take n xs) ≡ n = length-take-le n xs fits in omega arith)) (cases_lt (length xs) n)) ∙ ap (λ t. cond t (words_of xs i) 0) (sym (more i le))

@@ -3,7 +3,6 @@ use Rattle.std.proofs.Common.{◌≡◌, List, [], ◌∷◌, sym, subst}
 use Rattle.std.specs.declared.dyn_box.DynBox.{DynBox}
 use Rattle.pass_budget_laws.specs.Shipped.{Shipped}
 use Rattle.pass_law.specs.Meaning.{Meaning, SameMeaning}
-use Rattle.pass_law.proofs.Same.{SameMeaning-refl}
 use Rattle.shipped_passes.specs.Shipped.{shipped, MeanEach, AreShipped}
 
 module _ {I A : Type 0} {F : I → Type 0} (meaning : DynBox I A F → Meaning) where

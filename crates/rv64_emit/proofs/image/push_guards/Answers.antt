@@ -1,11 +1,10 @@
 use Rattle.std.proofs.Common.{◌∙◌, arith}
-use Rattle.rv64_emit_laws.proofs.lemmas.layout.Placing.{entries_most}
 use Rattle.rv64_emit.specs.Placed.{all_homes, homes_in}
-use Rattle.rv64_emit.proofs.Placed.{turn, entries_are, guards_next}
+use Rattle.rv64_emit.proofs.Placed.{turn, entries_are, entries_few, guards_next}
 use Rattle.rv64_emit.proofs.image.push_guards.Goals as goal
 
 pub place-requires-clause-few : goal.place-requires-clause-few
-place-requires-clause-few c = λ k. omega (arith, entries_are (all_homes c.args.homes.now) c.args.slots.now c.args.number c.function_at-func.result.now c.function_at-func.ensures c.args.entries.now c.requires.entries k, entries_most (all_homes c.args.homes.now) c.args.slots.now c.args.number k, c.requires.fits.few)
+place-requires-clause-few c = entries_few (all_homes c.args.homes.now) c.args.slots.now c.requires.fits c.args.number c.function_at-func.result.now c.function_at-func.ensures c.args.entries.now c.requires.entries
 
 pub push_guard-requires-clause-movable : goal.push_guard-requires-clause-movable
 push_guard-requires-clause-movable c =

@@ -1,20 +1,19 @@
 use Rattle.std.proofs.Common.{◌≡◌, ◌++◌, length, map, sym, ap, ◌∙◌, subst, arith}
 use Rattle.rv64_words.specs.Encoding.{encoded}
 use Rattle.rv64_emit_laws.specs.layout.Image.{joined, item_words_at}
-use Rattle.rv64_emit_laws.proofs.lemmas.layout.Placing.{starts_most, entries_most}
 use Rattle.rv64_emit.specs.Moved.{AreMovable}
 use Rattle.rv64_emit.specs.Placed.{all_homes, homes_in}
-use Rattle.rv64_emit.proofs.Placed.{turn, starts_are, entries_are, here_is, items_next, function_put, opening_put}
+use Rattle.rv64_emit.proofs.Placed.{turn, starts_few, entries_few, here_is, items_next, function_put, opening_put}
 use Rattle.rv64_emit.proofs.image.put_function.Goals as goal
 
 pub put_opening-requires : goal.put_opening-requires
 put_opening-requires c = subst (λ own. AreMovable own c.function_at-func.result.now) (sym c.in_function-own.ensures) (c.requires.fits.movable c.args.number c.function_at-func.result.now c.function_at-func.ensures)
 
 pub put_item-requires-clause-few_starts : goal.put_item-requires-clause-few_starts
-put_item-requires-clause-few_starts c = λ k. omega (arith, starts_are (all_homes c.args.homes.now) c.args.slots.now c.args.starts.now c.requires.starts k, starts_most (all_homes c.args.homes.now) c.args.slots.now k, c.requires.fits.few)
+put_item-requires-clause-few_starts c = starts_few (all_homes c.args.homes.now) c.args.slots.now c.requires.fits c.args.starts.now c.requires.starts
 
 pub put_item-requires-clause-few_entries : goal.put_item-requires-clause-few_entries
-put_item-requires-clause-few_entries c = λ k. omega (arith, entries_are (all_homes c.args.homes.now) c.args.slots.now c.args.number c.function_at-func.result.now c.function_at-func.ensures c.args.entries.now c.requires.entries k, entries_most (all_homes c.args.homes.now) c.args.slots.now c.args.number k, c.requires.fits.few)
+put_item-requires-clause-few_entries c = entries_few (all_homes c.args.homes.now) c.args.slots.now c.requires.fits c.args.number c.function_at-func.result.now c.function_at-func.ensures c.args.entries.now c.requires.entries
 
 pub put_item-requires-clause-movable : goal.put_item-requires-clause-movable
 put_item-requires-clause-movable c =
