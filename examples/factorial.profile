@@ -1,3 +1,3 @@
-bril-profile 1
-trace @main .next T
-trace @main .times T
+bril-profile 2
+trace @main .next T 20
+trace @main .times T 19

@@ -1,2 +1,2 @@
-bril-profile 1
-trace @main .next TTT
+bril-profile 2
+trace @main .next TTT 101

@@ -1,2 +1,2 @@
-bril-profile 1
-trace @main .next T
+bril-profile 2
+trace @main .next T 20

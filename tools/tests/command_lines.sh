@@ -118,8 +118,8 @@ fi
 
 # Each program that is interpreted or run in examples/runs prints and ends alike in three ways: interpreted, as machine words,
 # and as machine words after passes. One that ends or stops with a fault is recorded too, with two numbers of arrivals after
-# which a label counts as hot, and prints and ends alike after all passes, with its own profile and with that of the run
-# before. Steps and counts are left out, since they differ.
+# which a label counts as hot, and prints and ends alike after all passes, with its own profile, with that in version 1, and
+# with that of the run before. Steps and counts are left out, since they differ.
 all_passes=trace,ssa,const,dead,unssa,merge,tidy
 
 # What is left of a run is expected of the others, but for the name of the command in a usage line.
@@ -134,7 +134,7 @@ as_interpreted() {
 }
 
 other=$scratch/other.profile
-printf 'bril-profile 1\n' >"$other"
+printf 'bril-profile 2\n' >"$other"
 grep -E '^\$ ./roolvist (interp|run) examples/' examples/runs | grep -v -e '--steps' -e '--stats' -e '--passes' -e '--profile' |
     sed -E 's/^\$ .\/roolvist (interp|run) //' | sort -u >"$scratch/programs"
 while IFS= read -r words; do
@@ -153,7 +153,8 @@ while IFS= read -r words; do
     for hot in 1 2; do
         run_program "record --hot $hot $words"
         cp "$scratch/out" "$scratch/own.profile"
-        for profile in "$scratch/own.profile" "$other"; do
+        sed -e '1s/2$/1/' -e '1!s/ [0-9]*$//' "$scratch/own.profile" >"$scratch/first.profile"
+        for profile in "$scratch/own.profile" "$scratch/first.profile" "$other"; do
             as_interpreted "all ways: $words" "run $file --passes $all_passes --profile $profile$rest"
         done
         cp "$scratch/own.profile" "$other"

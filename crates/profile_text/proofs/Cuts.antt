@@ -8,6 +8,13 @@ use Rattle.std.proofs.lemmas.Bool.Decides.{Decides-eqb}
 use Rattle.std.proofs.lemmas.Slice.Eq.{slice_eq-Decides}
 use Rattle.profile_text.specs.Form.{Lacks, text_of}
 
+-- how a list that isn't empty begins, and goes on
+pub heads : {X : Type 0} (a b : X) (xs ys : List X) → a ∷ xs ≡ b ∷ ys → a ≡ b
+heads a b xs ys e = cc
+
+pub tails : {X : Type 0} (a b : X) (xs ys : List X) → a ∷ xs ≡ b ∷ ys → xs ≡ ys
+tails a b xs ys e = cc
+
 -- what stands before the first such byte, and behind it, is determined
 pub cut_once : (b : ℕ) (x y r s : List ℕ) → Lacks b x → Lacks b y → x ++ b ∷ r ≡ y ++ b ∷ s → (x ≡ y) × (r ≡ s)
 cut_once b [] [] r s lx ly e = (refl, cc)

@@ -1,8 +1,10 @@
 -- Lines of entries: what they lack, that they tell the entry, and which lines they are.
 use Rattle.std.proofs.Common.{◌≡◌, ◌≢◌, ℕ, ◌+◌, ◌<◌, ◌≤◌, Bool, true, false, not, append_assoc, get_or, take, List, [], ◌∷◌, ◌++◌, length, map, refl, sym, ap, ap₂, subst, ◌∙◌, arith}
-use Rattle.std.specs.Prelude.{codes, IsTrue, MatchBool, ◌==◌, ◌||◌}
+use Rattle.std.specs.Fmt.{decimal}
+use Rattle.std.specs.Prelude.{bytes_eq, codes, IsTrue, MatchBool, ◌==◌, ◌||◌}
 use Rattle.std.specs.List.{All, list_all}
 use Rattle.std.proofs.lemmas.Bool.Decides.{Decides-eqb}
+use Rattle.std.proofs.lemmas.Fmt.{decimal_injective}
 use Rattle.std.proofs.lemmas.List.{append_cancel_left, flat_map_more, length-map, map-append, take_more}
 use Rattle.std.proofs.lemmas.List.Concat.{flat_map-append}
 use Rattle.std.proofs.lemmas.List.Elements.{All-nil, All-cons, All-head, All-tail, All-append, All-weaker}
@@ -11,8 +13,11 @@ use Rattle.bril_tree.specs.Identifier.{is_identifier, continues_identifier}
 use Rattle.bril_tree.proofs.Identifiers.{identifier_continues}
 use Rattle.bril_profile.specs.declared.profile.Entry.{Entry}
 use Rattle.profile_text.specs.declared.entry.Parts.{Parts}
-use Rattle.profile_text.specs.Form.{Lacks, choice_letter, choices_text, is_letter, SpellChoices, parts_line, line_of, AreParts, entry_line, IsEntry, first_line, profile_lines, text_of}
-use Rattle.profile_text.proofs.Cuts.{cut_once, lacks_at, line_front}
+use Rattle.profile_text.specs.declared.version.Version.{Version}
+use Rattle.profile_text.specs.declared.version.Version.TheVariants.{First, Second}
+use Rattle.profile_text.specs.Form.{Lacks, choice_letter, choices_text, is_letter, SpellChoices, IsCount, ending, parts_line, line_of, AreCut, AreParts, entry_line, IsEntry, first_line, profile_lines, text_of}
+use Rattle.profile_text.proofs.Counts.{count_lacks}
+use Rattle.profile_text.proofs.Cuts.{cut_once, heads, lacks_at, line_front, tails}
 
 -- ---- what names lack
 
@@ -33,32 +38,42 @@ plain_lacks bytes h = All-weaker (λ b. not (b == 10) ≡ true) (λ b. b ≢ 10)
     other : (c : ℕ) → not (c == 10) ≡ true → c ≢ 10
     other c inside e = let k : true ≡ false = sym inside ∙ ap (λ b. not (b == 10)) e in cc
 
-letters_lack : (choices : List Bool) → Lacks 10 (map choice_letter choices)
-letters_lack [] = All-nil (λ c. c ≢ 10)
-letters_lack (true ∷ cs) = All-append (λ c. c ≢ 10) (84 ∷ []) (map choice_letter cs) (plain_lacks (84 ∷ []) refl) (letters_lack cs)
-letters_lack (false ∷ cs) = All-append (λ c. c ≢ 10) (70 ∷ []) (map choice_letter cs) (plain_lacks (70 ∷ []) refl) (letters_lack cs)
+-- a byte below `-`
+letters_lack : (b : ℕ) → b < 45 → (choices : List Bool) → Lacks b (map choice_letter choices)
+letters_lack b low [] = All-nil (λ c. c ≢ b)
+letters_lack b low (true ∷ cs) = All-cons (λ c. c ≢ b) 84 (map choice_letter cs) (λ e. let k : 84 ≡ b = e in omega arith) (letters_lack b low cs)
+letters_lack b low (false ∷ cs) = All-cons (λ c. c ≢ b) 70 (map choice_letter cs) (λ e. let k : 70 ≡ b = e in omega arith) (letters_lack b low cs)
 
-choices_lack : (choices : List Bool) → Lacks 10 (choices_text choices)
-choices_lack [] = plain_lacks (45 ∷ []) refl
-choices_lack (c ∷ cs) = letters_lack (c ∷ cs)
+choices_lack : (b : ℕ) → b < 45 → (choices : List Bool) → Lacks b (choices_text choices)
+choices_lack b low [] = All-cons (λ c. c ≢ b) 45 [] (λ e. let k : 45 ≡ b = e in omega arith) (All-nil (λ c. c ≢ b))
+choices_lack b low (c ∷ cs) = letters_lack b low (c ∷ cs)
 
-pub line_lacks : (entry : Entry) → IsEntry entry → Lacks 10 (entry_line entry)
-line_lacks e valid =
-    All-append (λ c. c ≢ 10) (codes "trace @") (e.func ++ (32 ∷ 46 ∷ (e.label ++ (32 ∷ choices_text e.choices)))) (plain_lacks (codes "trace @") refl)
-    (All-append (λ c. c ≢ 10) e.func (32 ∷ 46 ∷ (e.label ++ (32 ∷ choices_text e.choices))) (name_lacks 10 e.func refl valid.func)
-    (All-append (λ c. c ≢ 10) (32 ∷ 46 ∷ []) (e.label ++ (32 ∷ choices_text e.choices)) (plain_lacks (32 ∷ 46 ∷ []) refl)
-    (All-append (λ c. c ≢ 10) e.label (32 ∷ choices_text e.choices) (name_lacks 10 e.label refl valid.label)
-    (All-append (λ c. c ≢ 10) (32 ∷ []) (choices_text e.choices) (plain_lacks (32 ∷ []) refl) (choices_lack e.choices)))))
+ending_lacks : (version : Version) (choices : List Bool) (count : ℕ) → IsCount version count → Lacks 10 (ending version (choices_text choices) count)
+ending_lacks First choices count fits = choices_lack 10 (omega arith) choices
+ending_lacks Second choices count fits =
+    All-append (λ c. c ≢ 10) (choices_text choices) (32 ∷ decimal count) (choices_lack 10 (omega arith) choices)
+    (All-append (λ c. c ≢ 10) (32 ∷ []) (decimal count) (plain_lacks (32 ∷ []) refl) (count_lacks 10 count (omega arith) fits.1))
 
-entry_lines_lack : (entries : List Entry) → All IsEntry entries → All (Lacks 10) (map entry_line entries)
-entry_lines_lack [] all = All-nil (Lacks 10)
-entry_lines_lack (e ∷ es) all = All-cons (Lacks 10) (entry_line e) (map entry_line es) (line_lacks e (All-head IsEntry e es all)) (entry_lines_lack es (All-tail IsEntry e es all))
+pub line_lacks : (version : Version) (entry : Entry) → IsEntry version entry → Lacks 10 (entry_line version entry)
+line_lacks version e valid =
+    let behind : List ℕ = ending version (choices_text e.choices) e.count in
+    All-append (λ c. c ≢ 10) (codes "trace @") (e.func ++ (32 ∷ 46 ∷ (e.label ++ (32 ∷ behind)))) (plain_lacks (codes "trace @") refl)
+    (All-append (λ c. c ≢ 10) e.func (32 ∷ 46 ∷ (e.label ++ (32 ∷ behind))) (name_lacks 10 e.func refl valid.func)
+    (All-append (λ c. c ≢ 10) (32 ∷ 46 ∷ []) (e.label ++ (32 ∷ behind)) (plain_lacks (32 ∷ 46 ∷ []) refl)
+    (All-append (λ c. c ≢ 10) e.label (32 ∷ behind) (name_lacks 10 e.label refl valid.label)
+    (All-append (λ c. c ≢ 10) (32 ∷ []) behind (plain_lacks (32 ∷ []) refl) (ending_lacks version e.choices e.count valid.count)))))
 
-pub first_line_lacks : Lacks 10 first_line
-first_line_lacks = plain_lacks first_line refl
+entry_lines_lack : (version : Version) (entries : List Entry) → All (IsEntry version) entries → All (Lacks 10) (map (entry_line version) entries)
+entry_lines_lack version [] all = All-nil (Lacks 10)
+entry_lines_lack version (e ∷ es) all =
+    All-cons (Lacks 10) (entry_line version e) (map (entry_line version) es) (line_lacks version e (All-head (IsEntry version) e es all)) (entry_lines_lack version es (All-tail (IsEntry version) e es all))
 
-pub lines_lack : (entries : List Entry) → All IsEntry entries → All (Lacks 10) (profile_lines entries)
-lines_lack entries all = All-cons (Lacks 10) first_line (map entry_line entries) first_line_lacks (entry_lines_lack entries all)
+pub first_line_lacks : (version : Version) → Lacks 10 (first_line version)
+first_line_lacks First = plain_lacks (first_line First) refl
+first_line_lacks Second = plain_lacks (first_line Second) refl
+
+pub lines_lack : (version : Version) (entries : List Entry) → All (IsEntry version) entries → All (Lacks 10) (profile_lines version entries)
+lines_lack version entries all = All-cons (Lacks 10) (first_line version) (map (entry_line version) entries) (first_line_lacks version) (entry_lines_lack version entries all)
 
 -- ---- what lines tell
 
@@ -96,25 +111,43 @@ choices_same [] (d ∷ ds) e = absurd (let h : 45 ∷ [] ≡ choice_letter d ∷
 choices_same (c ∷ cs) [] e = absurd (let h : choice_letter c ∷ map choice_letter cs ≡ 45 ∷ [] = e in letter_is_none c cc)
 choices_same (c ∷ cs) (d ∷ ds) e = letters_same (c ∷ cs) (d ∷ ds) e
 
-pub entry_same : (a b : Entry) → IsEntry a → IsEntry b → entry_line a ≡ entry_line b → a ≡ b
-entry_same a b va vb e =
-    let p = parts_same a.func b.func a.label b.label (choices_text a.choices) (choices_text b.choices)
+-- the letters and the count behind a label
+ending_same : (version : Version) (l m : List ℕ) (a b : ℕ) → AreCut version l → AreCut version m → IsCount version a → IsCount version b → ending version l a ≡ ending version m b → (l ≡ m) × (a ≡ b)
+ending_same First l m a b cl cm fa fb e = (e, fa ∙ sym fb)
+ending_same Second l m a b cl cm fa fb e =
+    let p = cut_once 32 l m (decimal a) (decimal b) cl cm e in
+    (p.0, decimal_injective a b (let h = fa.1 in omega arith) (let h = fb.1 in omega arith) p.1)
+
+choices_cut : (version : Version) (choices : List Bool) → AreCut version (choices_text choices)
+choices_cut First choices = tt
+choices_cut Second choices = choices_lack 32 (omega arith) choices
+
+pub entry_same : (version : Version) (a b : Entry) → IsEntry version a → IsEntry version b → entry_line version a ≡ entry_line version b → a ≡ b
+entry_same version a b va vb e =
+    let p = parts_same a.func b.func a.label b.label (ending version (choices_text a.choices) a.count) (ending version (choices_text b.choices) b.count)
     (name_lacks 32 a.func refl va.func) (name_lacks 32 b.func refl vb.func) (name_lacks 32 a.label refl va.label) (name_lacks 32 b.label refl vb.label) e in
-    let q = choices_same a.choices b.choices p.1.1 in
-    λ i. record { func = p.0 i; label = p.1.0 i; choices = q i }
+    let q = ending_same version (choices_text a.choices) (choices_text b.choices) a.count b.count (choices_cut version a.choices) (choices_cut version b.choices) va.count vb.count p.1.1 in
+    let choices = choices_same a.choices b.choices q.0 in
+    λ i. record { func = p.0 i; label = p.1.0 i; choices = choices i; count = q.1 i }
 
--- the names and the choices of a line that is an entry's
-pub parts_of_entry : (entry : Entry) → IsEntry entry → (f l c : List ℕ) → Lacks 32 f → Lacks 32 l → entry_line entry ≡ parts_line f l c → (entry.func ≡ f) × ((entry.label ≡ l) × (choices_text entry.choices ≡ c))
-parts_of_entry e valid f l c lf ll same = parts_same e.func f e.label l (choices_text e.choices) c (name_lacks 32 e.func refl valid.func) lf (name_lacks 32 e.label refl valid.label) ll same
+pub entries_same : (version : Version) (xs ys : List Entry) → All (IsEntry version) xs → All (IsEntry version) ys → map (entry_line version) xs ≡ map (entry_line version) ys → xs ≡ ys
+entries_same version [] [] vx vy e = refl
+entries_same version [] (y ∷ ys) vx vy e = absurd (let h : [] ≡ entry_line version y ∷ map (entry_line version) ys = e in cc)
+entries_same version (x ∷ xs) [] vx vy e = absurd (let h : entry_line version x ∷ map (entry_line version) xs ≡ [] = e in cc)
+entries_same version (x ∷ xs) (y ∷ ys) vx vy e =
+    ap₂ (λ z (zs : List Entry). z ∷ zs)
+    (entry_same version x y (All-head (IsEntry version) x xs vx) (All-head (IsEntry version) y ys vy) (heads (entry_line version x) (entry_line version y) (map (entry_line version) xs) (map (entry_line version) ys) e))
+    (entries_same version xs ys (All-tail (IsEntry version) x xs vx) (All-tail (IsEntry version) y ys vy) (tails (entry_line version x) (entry_line version y) (map (entry_line version) xs) (map (entry_line version) ys) e))
 
-pub entries_same : (xs ys : List Entry) → All IsEntry xs → All IsEntry ys → map entry_line xs ≡ map entry_line ys → xs ≡ ys
-entries_same [] [] vx vy e = refl
-entries_same [] (y ∷ ys) vx vy e = absurd (let h : [] ≡ entry_line y ∷ map entry_line ys = e in cc)
-entries_same (x ∷ xs) [] vx vy e = absurd (let h : entry_line x ∷ map entry_line xs ≡ [] = e in cc)
-entries_same (x ∷ xs) (y ∷ ys) vx vy e = by (entry_line x) (entry_line y) (map entry_line xs) (map entry_line ys) e (entry_same x y (All-head IsEntry x xs vx) (All-head IsEntry y ys vy)) (entries_same xs ys (All-tail IsEntry x xs vx) (All-tail IsEntry y ys vy))
-  where
-    by : (a b : List ℕ) (cs ds : List (List ℕ)) → a ∷ cs ≡ b ∷ ds → (a ≡ b → x ≡ y) → (cs ≡ ds → xs ≡ ys) → x ∷ xs ≡ y ∷ ys
-    by a b cs ds e first rest = ap₂ (λ z (zs : List Entry). z ∷ zs) (first cc) (rest cc)
+-- the first line tells the version
+first_lines_differ : first_line First ≡ first_line Second → ⊥
+first_lines_differ e = let k : true ≡ false = ap (λ xs. bytes_eq xs (first_line First)) e in cc
+
+pub version_same : (v w : Version) → first_line v ≡ first_line w → v ≡ w
+version_same First First e = refl
+version_same First Second e = absurd (first_lines_differ e)
+version_same Second First e = absurd (first_lines_differ (sym e))
+version_same Second Second e = refl
 
 -- ---- which letters spell choices
 
@@ -168,40 +201,59 @@ choices_read letters s choices other is = by s.choices s.text
 -- ---- where a line is an entry's, and where it is none's
 
 abbrev pub entry_from : (p : Parts) → AreParts p → Entry
-entry_from p are = record { func = p.func.now; label = p.label.now; choices = are.letters.choices }
+entry_from p are = record { func = p.func.now; label = p.label.now; choices = are.letters.choices; count = p.count }
 
-pub entry_from_is : (p : Parts) (are : AreParts p) → IsEntry (entry_from p are)
-entry_from_is p are = record { func = are.func; label = are.label; short = are.letters.short }
+pub entry_from_is : (version : Version) (p : Parts) (are : AreParts p) → IsCount version p.count → IsEntry version (entry_from p are)
+entry_from_is version p are fits = record { func = are.func; label = are.label; short = are.letters.short; count = fits }
 
-pub entry_from_line : (p : Parts) (are : AreParts p) → entry_line (entry_from p are) ≡ line_of p
-entry_from_line p are = ap (λ z. parts_line p.func.now p.label.now z) are.letters.text
+pub entry_from_line : (version : Version) (p : Parts) (are : AreParts p) → entry_line version (entry_from p are) ≡ line_of version p
+entry_from_line version p are = ap (λ z. parts_line p.func.now p.label.now (ending version z p.count)) are.letters.text
 
-pub bad_parts : (line : List ℕ) (p : Parts) → line ≡ line_of p → Lacks 32 p.func.now → Lacks 32 p.label.now → (AreParts p → ⊥) → (entry : Entry) → IsEntry entry → entry_line entry ≡ line → ⊥
-bad_parts line p is lf ll bad e valid same =
-    let q = parts_of_entry e valid p.func.now p.label.now p.letters.now lf ll (same ∙ is) in
+-- where no names are told
+pub bad_names : (version : Version) (line : List ℕ) → ((f l c : List ℕ) → Lacks 32 f → Lacks 32 l → line ≡ parts_line f l c → ⊥) → (entry : Entry) → IsEntry version entry → entry_line version entry ≡ line → ⊥
+bad_names version line bad e valid same = bad e.func e.label (ending version (choices_text e.choices) e.count) (name_lacks 32 e.func refl valid.func) (name_lacks 32 e.label refl valid.label) (sym same)
+
+-- of the names in a line and what stands behind them, those that are an entry's
+names_of_entry : (version : Version) (e : Entry) → IsEntry version e → (f l c : List ℕ) → Lacks 32 f → Lacks 32 l → entry_line version e ≡ parts_line f l c → (e.func ≡ f) × ((e.label ≡ l) × (ending version (choices_text e.choices) e.count ≡ c))
+names_of_entry version e valid f l c lf ll same = parts_same e.func f e.label l (ending version (choices_text e.choices) e.count) c (name_lacks 32 e.func refl valid.func) lf (name_lacks 32 e.label refl valid.label) ll same
+
+-- where no letters and no count stand behind them
+pub bad_ending : (version : Version) (line f l c : List ℕ) → line ≡ parts_line f l c → Lacks 32 f → Lacks 32 l → ((letters : List ℕ) (count : ℕ) → AreCut version letters → IsCount version count → c ≡ ending version letters count → ⊥)
+    → (entry : Entry) → IsEntry version entry → entry_line version entry ≡ line → ⊥
+bad_ending version line f l c is lf ll bad e valid same =
+    bad (choices_text e.choices) e.count (choices_cut version e.choices) valid.count (sym (names_of_entry version e valid f l c lf ll (same ∙ is)).1.1)
+
+-- where the names or the letters aren't an entry's
+pub bad_parts : (version : Version) (line : List ℕ) (p : Parts) → line ≡ line_of version p → Lacks 32 p.func.now → Lacks 32 p.label.now → AreCut version p.letters.now → IsCount version p.count → (AreParts p → ⊥)
+    → (entry : Entry) → IsEntry version entry → entry_line version entry ≡ line → ⊥
+bad_parts version line p is lf ll cut fits bad e valid same =
+    let q = names_of_entry version e valid p.func.now p.label.now (ending version p.letters.now p.count) lf ll (same ∙ is) in
+    let t = ending_same version (choices_text e.choices) p.letters.now e.count p.count (choices_cut version e.choices) cut valid.count fits q.1.1 in
     bad (record {
       func = subst (λ n. IsTrue (is_identifier n)) q.0 valid.func;
       label = subst (λ n. IsTrue (is_identifier n)) q.1.0 valid.label;
-      letters = record { choices = e.choices; short = valid.short; text = q.1.1 };
+      letters = record { choices = e.choices; short = valid.short; text = t.0 };
     })
 
 -- ---- one entry more
 
-pub text_more : (entries : List Entry) (i : ℕ) (e : Entry) (old now next : List ℕ) → i < length entries → e ≡ get_or entries i e → now ≡ old ++ text_of (map entry_line (take i entries)) → next ≡ now ++ (entry_line e ++ 10 ∷ [])
-    → next ≡ old ++ text_of (map entry_line (take (i + 1) entries))
+pub text_more : (entries : List Entry) (i : ℕ) (e : Entry) (old now next : List ℕ) → i < length entries → e ≡ get_or entries i e → now ≡ old ++ text_of (map (entry_line Second) (take i entries)) → next ≡ now ++ (entry_line Second e ++ 10 ∷ [])
+    → next ≡ old ++ text_of (map (entry_line Second) (take (i + 1) entries))
 text_more entries i e old now next less at so made =
-    made ∙ ap (λ z. z ++ (entry_line e ++ 10 ∷ [])) so ∙ flat_map_more (λ (line : List ℕ). line ++ 10 ∷ []) old (map entry_line (take i entries)) (entry_line e)
-    ∙ ap (λ z. old ++ text_of z) (sym (map-append entry_line (take i entries) (e ∷ [])))
-    ∙ ap (λ z. old ++ text_of (map entry_line z)) (ap (λ z. take i entries ++ z ∷ []) at ∙ sym (take_more entries i e less))
+    let line : Entry → List ℕ = entry_line Second in
+    made ∙ ap (λ z. z ++ (line e ++ 10 ∷ [])) so ∙ flat_map_more (λ (line : List ℕ). line ++ 10 ∷ []) old (map line (take i entries)) (line e)
+    ∙ ap (λ z. old ++ text_of z) (sym (map-append line (take i entries) (e ∷ [])))
+    ∙ ap (λ z. old ++ text_of (map line z)) (ap (λ z. take i entries ++ z ∷ []) at ∙ sym (take_more entries i e less))
 
-pub source_more : (entries new : List Entry) (entry : Entry) (rest after source : List ℕ) → new ≡ entries ++ entry ∷ [] → rest ≡ entry_line entry ++ 10 ∷ after → text_of (map entry_line entries) ++ rest ≡ source
-    → text_of (map entry_line new) ++ after ≡ source
-source_more entries new entry rest after source is first so =
-    ap (λ (z : List Entry). text_of (map entry_line z) ++ after) is
-    ∙ ap (λ z. text_of z ++ after) (map-append entry_line entries (entry ∷ []))
-    ∙ ap (λ z. z ++ after) (flat_map-append (λ (line : List ℕ). line ++ 10 ∷ []) (map entry_line entries) (entry_line entry ∷ []))
-    ∙ append_assoc (text_of (map entry_line entries)) (text_of (entry_line entry ∷ [])) after
-    ∙ ap (λ z. text_of (map entry_line entries) ++ z) (line_front (entry_line entry) [] after ∙ sym first) ∙ so
+pub source_more : (version : Version) (entries new : List Entry) (entry : Entry) (rest after source : List ℕ) → new ≡ entries ++ entry ∷ [] → rest ≡ entry_line version entry ++ 10 ∷ after → text_of (map (entry_line version) entries) ++ rest ≡ source
+    → text_of (map (entry_line version) new) ++ after ≡ source
+source_more version entries new entry rest after source is first so =
+    let line : Entry → List ℕ = entry_line version in
+    ap (λ (z : List Entry). text_of (map line z) ++ after) is
+    ∙ ap (λ z. text_of z ++ after) (map-append line entries (entry ∷ []))
+    ∙ ap (λ z. z ++ after) (flat_map-append (λ (line : List ℕ). line ++ 10 ∷ []) (map line entries) (line entry ∷ []))
+    ∙ append_assoc (text_of (map line entries)) (text_of (line entry ∷ [])) after
+    ∙ ap (λ z. text_of (map line entries) ++ z) (line_front (line entry) [] after ∙ sym first) ∙ so
 
 -- ---- where a line has no parts
 

@@ -32,6 +32,8 @@ use Rattle.trace_laws.proofs.lemmas.refinement.Refines.{traces-refine}
 use Rattle.trace_laws.proofs.lemmas.refinement.Starting.{traces-start_alike}
 use Rattle.trace_laws.specs.Laws.{TracesLink}
 use Rattle.trace_laws.specs.Trace.{trace_meaning}
+use Rattle.trace_paths.specs.Fits.{count_of}
+use Rattle.trace_paths.specs.Taken.{taken}
 
 module _ (P : Prog) (profile : Profile) (tree : Tree) (accepted : IsAccepted P) (counted : IsCounted P) (room : HasRoom (IsTraceBound P profile) (item_count P)) (made : IsTracedTree P profile tree) where
   abbrev bound : ℕ
@@ -57,7 +59,7 @@ module _ (P : Prog) (profile : Profile) (tree : Tree) (accepted : IsAccepted P) 
           let F = get_inside P.funcs k.0 (omega arith) in
           let low = All-at (λ (f : Func). length f.code < 4294967295) P.funcs k.0 F.0 counted.items F.1 in
           let long = length-map F.0.code (item_tree (names_of_functions P.funcs) (variable_names F.0.vars) F.0.labels) in
-          let more = function-within trace_bases P bool_type profile.entries tree made k.0 (function_tree (names_of_functions P.funcs) F.0) G (function_at P k.0 F.0 F.1) k.1 in
+          let more = function-within trace_bases P bool_type (taken count_of profile.entries) tree made k.0 (function_tree (names_of_functions P.funcs) F.0) G (function_at P k.0 F.0 F.1) k.1 in
           omega arith
 
   can-be-made : CanBeMade P tree

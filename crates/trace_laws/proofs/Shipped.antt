@@ -14,7 +14,9 @@ use Rattle.trace_laws.specs.Trace.{trace_meaning}
 use Rattle.trace_laws.specs.lines.Bound.{IsTraceBound, laid_count}
 use Rattle.trace_laws.proofs.lemmas.lines.Entries.{fits-few}
 use Rattle.trace_laws.specs.growth.Numbers.{trace_growth}
-use Rattle.trace_paths.specs.Fits.{Fit}
+use Rattle.trace_paths.specs.Fits.{Fit, count_of}
+use Rattle.trace_paths.specs.Taken.{taken}
+use Rattle.trace_paths.proofs.Order.{length-taken}
 use Rattle.trace_paths.proofs.Short.{paths_are_short}
 
 few-laid : (P : Prog) (x : Fit) → laid_count P x ≤ 256
@@ -47,23 +49,25 @@ leads-trace n traces laid traced few short = record {
 
 bound-few : (P : Prog) (profile : Profile) (n : Numbers) (bound : ℕ) → AreWithin P n → IsTraceBound P profile bound → bound ≤ n.items + 517 * length profile.entries
 bound-few P profile n bound within is =
-    let few = fits-few P [] profile.entries is.fits is.are_fits in
+    let few = fits-few P [] (taken count_of profile.entries) is.fits is.are_fits in
+    let long = length-taken count_of profile.entries in
     let sum = bound-sum P is.fits in
     let items = within.items in
     let e = is.is in
-    omega (arith, few, sum, items, e)
+    omega (arith, few, long, sum, items, e)
 
 pub trace-within_row : IsWithinRow trace_meaning trace_row
 trace-within_row = record {
   factor = λ P profile n k accepted within is. omega (arith, is);
   after = λ P Q profile n accepted within link.
       let made = link.makes.traced in
-      let few = fits-few P [] profile.entries made.fits made.are_fits in
+      let few = fits-few P [] (taken count_of profile.entries) made.fits made.are_fits in
+      let long = length-taken count_of profile.entries in
       let laid = laid-sum P made.fits in
       let bound = bound-few P profile n link.bound within link.is_bound in
       let size = link.within in
       grows-within P Q (trace_growth (length made.fits) (sum_by (laid_count P) made.fits)) n (trace_row.after (length profile.entries) n) accepted within link.makes.numbers
-      (leads-trace n (length made.fits) (sum_by (laid_count P) made.fits) (length profile.entries) few (omega (arith, few, laid))) (omega (arith, size, bound));
+      (leads-trace n (length made.fits) (sum_by (laid_count P) made.fits) (length profile.entries) (omega (arith, few, long)) (omega (arith, few, long, laid))) (omega (arith, size, bound));
 }
 
 abbrev pub trace_shipped : Shipped

@@ -7,7 +7,8 @@ use Rattle.bril_names.proofs.Functions.{Differ-functions}
 use Rattle.bril_names.proofs.Naming.{one_number}
 use Rattle.pass_edit_laws.proofs.lemmas.names.Points.{label_once}
 use Rattle.bril_profile.specs.declared.profile.Entry.{Entry}
-use Rattle.trace_paths.specs.Fits.{Fit, IsFit, FitsAre}
+use Rattle.trace_paths.specs.Fits.{Fit, IsFit, FitsAre, count_of}
+use Rattle.trace_paths.specs.Taken.{taken}
 use Rattle.trace_laws.specs.lines.Bound.{bound_with, IsTraceBound}
 
 pub fit-one : (P : Prog) (e : Entry) (x y : Fit) → IsFit P e x → IsFit P e y → x ≡ y
@@ -33,4 +34,4 @@ fits-one P seen (e ∷ es) (x ∷ xs) (y ∷ ys) (inr a) (inl b) = absurd (b.1 (
 fits-one P seen (e ∷ es) (x ∷ xs) (y ∷ ys) (inr a) (inr b) = fits-one P seen es (x ∷ xs) (y ∷ ys) a.1 b.1
 
 pub bound-one : (P : Prog) (profile : Profile) (b c : ℕ) → IsTraceBound P profile b → IsTraceBound P profile c → b ≡ c
-bound-one P profile b c x y = x.is ∙ ap (bound_with P) (fits-one P [] profile.entries x.fits y.fits x.are_fits y.are_fits) ∙ sym y.is
+bound-one P profile b c x y = x.is ∙ ap (bound_with P) (fits-one P [] (taken count_of profile.entries) x.fits y.fits x.are_fits y.are_fits) ∙ sym y.is

@@ -10,9 +10,10 @@ use Rattle.trace_laws.specs.lines.Bound.{IsTraceBound, laid_count}
 use Rattle.trace_laws.specs.lines.Traced.{IsTraced, Trace, trace_at}
 use Rattle.trace_laws.specs.refinement.Laws.{GivesBack, HasQuietTrace, StartsAlike}
 
--- What the pass makes of P by the profile: P with the traces of the entries that fit. Between the `speculate` and the `commit` of each
--- stands nothing that prints, stores, takes or frees a block, or calls. An attempt begins with what P holds just behind the entry's label,
--- and gives that back where a guard fails. The program's numbers grow by no more than the entries allow.
+-- What the pass makes of P by the profile: P with the traces of the entries that fit, as they are taken: by falling count, equal counts
+-- in the profile's order. Between the `speculate` and the `commit` of each stands nothing that prints, stores, takes or frees a block,
+-- or calls. An attempt begins with what P holds just behind the entry's label, and gives that back where a guard fails. The program's
+-- numbers grow by no more than the entries allow.
 pub record IsTraceOf (P : Prog) (profile : Profile) (Q : Prog) : Type 0 where
   pub traced : IsTraced P profile Q
   pub quiet : (f point : ℕ) (t : Trace) → trace_at traced.laid f point ≡ Some t → HasQuietTrace P Q f point t

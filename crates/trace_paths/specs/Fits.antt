@@ -43,6 +43,6 @@ FitsAre P seen (e ∷ entries) (x ∷ fits) =
     (IsFit P e x × (Repeats seen x → ⊥) × FitsAre P (x ∷ seen) entries fits)
     ⊎ (((y : Fit) → IsFit P e y → Repeats seen y) × FitsAre P seen entries (x ∷ fits))
 
--- the order in which the entries of a profile are taken: that of the profile
-abbrev pub taken : List Entry → List Entry
-taken entries = entries
+-- the count by which entries are taken
+abbrev pub count_of : Entry → ℕ
+count_of e = e.count

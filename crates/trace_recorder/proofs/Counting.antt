@@ -101,10 +101,10 @@ first_sized P counts (Some t) a sized = ap (map length) a.1 ∙ zero-sized P.fun
 
 -- ---- one arrival more
 
-rows-same : (rows : List (List ℕ)) (f l : ℕ) (row : List ℕ) → f < length rows → count_in (slice_set rows f row) f l ≡ slice_index row l
+pub rows-same : (rows : List (List ℕ)) (f l : ℕ) (row : List ℕ) → f < length rows → count_in (slice_set rows f row) f l ≡ slice_index row l
 rows-same rows f l row h = ap (λ (r : List ℕ). slice_index r l) (get_or-set_same rows f row [] h)
 
-rows-other : (rows : List (List ℕ)) (f g l : ℕ) (row : List ℕ) → (f ≡ g → ⊥) → count_in (slice_set rows f row) g l ≡ count_in rows g l
+pub rows-other : (rows : List (List ℕ)) (f g l : ℕ) (row : List ℕ) → (f ≡ g → ⊥) → count_in (slice_set rows f row) g l ≡ count_in rows g l
 rows-other rows f g l row n = ap (λ (r : List ℕ). slice_index r l) (get_or-set_other rows f g row [] (λ e. n (sym e)))
 
 -- the counts are those of a run, up to the end of their type

@@ -1,4 +1,12 @@
 pub mod Appending
 pub mod Counting
+pub mod Finding
+pub mod Following
+pub mod Going
+pub mod Keeping
 pub mod Moving
+pub mod OneEntry
+pub mod AllEntries
+pub mod Ranking
 pub mod Seeing
+pub mod Shapes

@@ -1,15 +1,14 @@
 -- The profile of a run.
-use Rattle.std.specs.Prelude.{ℕ, zero, suc, ◌&&◌, ◌==◌, Bool, List, [], ◌∷◌, ◌++◌, map, take, Option, Some, None, slice_get, if◌then◌else◌}
+use Rattle.std.specs.Prelude.{ℕ, zero, suc, ◌-◌, ◌^◌, ◌&&◌, ◌==◌, Bool, List, [], ◌∷◌, ◌++◌, map, min, take, Option, Some, None, slice_get, if◌then◌else◌}
 use Rattle.bril_profile.specs.declared.profile.Entry.{Entry}
 use Rattle.bril_tree.specs.declared.numbered_function.Func.{Func}
 use Rattle.bril_tree.specs.declared.program.Prog.{Prog}
 use Rattle.bril_tree.specs.Numbered.{named, names_of_functions}
 use Rattle.bril_tree.specs.State.{State}
-use Rattle.trace_paths.specs.Fits.{taken}
+use Rattle.trace_paths.specs.Fits.{count_of}
 use Rattle.trace_paths.specs.Path.{Meeting, Over, To, Lays, Turns, Stops, item_met}
+use Rattle.trace_paths.specs.Taken.{taken}
 use Rattle.trace_recorder.specs.declared.arrival.Arrival.{Arrival}
-use Rattle.trace_recorder.specs.declared.kept.Move.{Move}
-use Rattle.trace_recorder.specs.declared.kept.Move.TheVariants.{Ends, Goes, Chooses}
 use Rattle.trace_recorder.specs.Sight.{Sight, sight, arrival}
 
 -- ---- the choices of one entry
@@ -18,6 +17,12 @@ use Rattle.trace_recorder.specs.Sight.{Sight, sight, arrival}
 pub record Own : Type 0 where
   pub function : ℕ
   pub point : ℕ
+
+-- what a path does at a state: it ends, goes on, or goes on by a choice; so many items may be met and laid behind it
+pub data Move : Type 0 where
+  Ends : Move
+  Goes : (fuel room : ℕ) → Move
+  Chooses : (choice : Bool) (fuel room : ℕ) → Move
 
 -- what the path of an entry does at an item, where so many items may be met behind it, and so many laid
 abbrev pub met : Meeting → Bool → (fuel room : ℕ) → Move
@@ -49,7 +54,7 @@ abbrev pub choices_on : Own → (fuel room : ℕ) → List (Option Sight) → Li
 choices_on own fuel room [] = []
 choices_on own fuel room (s ∷ run) = chosen_on (λ fuel room. choices_on own fuel room run) (move own fuel room s)
 
--- ---- all entries
+-- ---- counts
 
 -- how often each label of each function was arrived at
 abbrev pub counted : Option Arrival → (ℕ → ℕ → ℕ) → ℕ → ℕ → ℕ
@@ -58,6 +63,17 @@ counted (Some a) counts function label = if (a.func == function) && (a.label == 
 
 abbrev pub no_counts : ℕ → ℕ → ℕ
 no_counts function label = 0
+
+-- the same behind the states of a run, where so many arrivals were before them
+abbrev pub counts_on : (ℕ → ℕ → ℕ) → List (Option Sight) → ℕ → ℕ → ℕ
+counts_on counts [] = counts
+counts_on counts (s ∷ run) = counts_on (counted (arrival s) counts) run
+
+-- the most that a count tells
+abbrev pub most_count : ℕ
+most_count = 2 ^ 32 - 1
+
+-- ---- all entries
 
 -- the arrival is the `hot`-th at its label
 abbrev pub is_hot : ℕ → (ℕ → ℕ → ℕ) → Option Arrival → Option Arrival
@@ -68,23 +84,36 @@ abbrev pub labels_of : Option Func → List (List ℕ)
 labels_of None = []
 labels_of (Some f) = f.labels
 
--- the entry of an arrival, by its names, with these choices
-abbrev pub entry_at : Prog → Arrival → List Bool → Entry
-entry_at P a choices = record { func = named (names_of_functions P.funcs) a.func; label = named (labels_of (slice_get P.funcs a.func)) a.label; choices = choices }
+-- the names of an arrival's function and label
+abbrev pub func_name : Prog → Arrival → List ℕ
+func_name P a = named (names_of_functions P.funcs) a.func
+
+abbrev pub label_name : Prog → Arrival → List ℕ
+label_name P a = named (labels_of (slice_get P.funcs a.func)) a.label
 
 abbrev pub own_of : Arrival → Own
 own_of a = record { function = a.func; point = a.point }
 
--- the label is the first of 1,024 items that may be met, and 256 may be laid
-abbrev pub entry_on : Prog → Option Arrival → List (Option Sight) → List Entry
-entry_on P None run = []
-entry_on P (Some a) run = entry_at P a (choices_on (own_of a) 1023 256 run) ∷ []
+-- the entry of an arrival by the states behind it: its label is the first of 1,024 items that may be met, and 256 may be laid;
+-- `total` has the arrivals of the whole run
+abbrev pub entry_on : Prog → (total : ℕ → ℕ → ℕ) → Option Arrival → List (Option Sight) → List Entry
+entry_on P total None run = []
+entry_on P total (Some a) run = record {
+  func = func_name P a;
+  label = label_name P a;
+  choices = choices_on (own_of a) 1023 256 run;
+  count = min (total a.func a.label) most_count;
+} ∷ []
 
 -- the entries of a run, in the order of the hot arrivals, where so many arrivals were before it
-abbrev pub entries_on : Prog → ℕ → (ℕ → ℕ → ℕ) → List (Option Sight) → List Entry
-entries_on P hot counts [] = []
-entries_on P hot counts (s ∷ run) = entry_on P (is_hot hot counts (arrival s)) run ++ entries_on P hot (counted (arrival s) counts) run
+abbrev pub entries_on : Prog → ℕ → (total counts : ℕ → ℕ → ℕ) → List (Option Sight) → List Entry
+entries_on P hot total counts [] = []
+entries_on P hot total counts (s ∷ run) = entry_on P total (is_hot hot counts (arrival s)) run ++ entries_on P hot total (counted (arrival s) counts) run
+
+-- the first `most` entries of what a run shows, by falling count
+abbrev pub recorded_of : Prog → (hot most : ℕ) → List (Option Sight) → List Entry
+recorded_of P hot most run = take most (taken count_of (entries_on P hot (counts_on no_counts run) no_counts run))
 
 -- the entries of a run with these states, which are those before each step that was made, the first first
 abbrev pub recorded : Prog → (hot most : ℕ) → List State → List Entry
-recorded P hot most run = take most (taken (entries_on P hot no_counts (map (sight P) run)))
+recorded P hot most run = recorded_of P hot most (map (sight P) run)

@@ -1,15 +1,33 @@
-// How often each label of each function was arrived at.
+// How often each label of each function was arrived at, and which entry it has.
 
 ghost use Rattle.std.specs.Prelude.{◌≡◌, ◌==◌, ◌+◌, ◌-◌, ◌^◌, suc, map, min, slice_index, slice_set, IfOk};
-ghost use Rattle.trace_recorder.specs.Counts.{counted_in, zero_counts};
+ghost use Rattle.trace_recorder.specs.Counts.{counted_in, with_number, zero_counts};
 ghost use Rattle.trace_recorder.specs.Standing.{count_in};
 
 use crate::arrival::Arrival;
 use bril_tree::numbered_function::Func;
 use std::alloc::{AllocError, Global};
 
+// How often each label of each function was arrived at, and the number of its entry, counted from 1, 0 where it has none.
+#[derive(Drop)]
+pub struct Tables {
+    pub counts: Vec<Vec<u32>>,
+    pub numbers: Vec<Vec<u32>>,
+}
+
+// The tables before the first arrival.
+pub fn first_tables(alloc: Global, funcs: &[Func]) -> Result<Tables, AllocError>
+    ensures counts { IfOk result (λ tables. map (λ c. c.items) tables.counts.items ≡ zero_counts funcs.now) }
+    ensures numbers { IfOk result (λ tables. map (λ c. c.items) tables.numbers.items ≡ zero_counts funcs.now) }
+{
+    Ok(Tables {
+        counts: zero_counts(alloc, funcs)?,
+        numbers: zero_counts(alloc, funcs)?,
+    })
+}
+
 // A count of 0 for each label of each function.
-pub fn zero_counts(alloc: Global, funcs: &[Func]) -> Result<Vec<Vec<u32>>, AllocError>
+fn zero_counts(alloc: Global, funcs: &[Func]) -> Result<Vec<Vec<u32>>, AllocError>
     ensures { IfOk result (λ counts. map (λ c. c.items) counts.items ≡ zero_counts funcs.now) }
 {
     let mut counts = Vec::with_capacity(alloc, funcs.len())?;
@@ -48,6 +66,25 @@ fn count_label(counts: &mut Vec<u32>, label: usize)
 {
     if label < counts.len() {
         counts[label] = counts[label].saturating_add(1);
+    }
+}
+
+// The label of the arrival gets this number.
+pub fn set_number(numbers: &mut Vec<Vec<u32>>, arrival: Arrival, number: u32)
+    ensures { map (λ c. c.items) numbers.new.items ≡ with_number (map (λ c. c.items) numbers.old.items) arrival number }
+{
+    let func = arrival.func as usize;
+    if func < numbers.len() {
+        set_at(&mut numbers[func], arrival.label as usize, number);
+    }
+}
+
+// The same among the labels of a function.
+fn set_at(numbers: &mut Vec<u32>, label: usize, number: u32)
+    ensures { numbers.new.items ≡ slice_set numbers.old.items label number }
+{
+    if label < numbers.len() {
+        numbers[label] = number;
     }
 }
 

@@ -1,13 +1,15 @@
 // The recorder.
 
-ghost use Rattle.std.specs.Prelude.{◌≡◌, ◌≤◌, ◌++◌, ◌∷◌, [], ℕ, List, OnOk, OnErr};
+ghost use Rattle.std.specs.Prelude.{◌≡◌, ◌≤◌, ◌++◌, ◌∷◌, [], ℕ, List, IfOk, OnOk, OnErr};
 ghost use Rattle.bril_interpreter.specs.Interpreter.{state_of};
 ghost use Rattle.bril_tree.specs.State.{State};
 ghost use Rattle.bril_tree.specs.declared.program.Prog.{Prog};
 ghost use Rattle.trace_recorder.specs.Recorded.{recorded};
 ghost use Rattle.trace_recorder.specs.Standing.{StandsFor, TakesMemory};
 
+use crate::counts::Tables;
 use crate::parts::Parts;
+use crate::paths::Paths;
 use bril_interpreter::Interp;
 use bril_profile::Profile;
 use bril_tree::sequence::Seq;
@@ -18,7 +20,7 @@ use std::marker::Model;
 ///
 /// An entry belongs to a label that was arrived at `hot` times, in all frames together. It has the choices of each `br`
 /// from there on, true where the first label was taken, until the path of the entry ends (see `trace_paths`) or the run
-/// does.
+/// does. Its count tells how often the run arrived at the label, up to 2^32 - 1.
 #[derive(Drop)]
 pub struct Recorder {
     parts: Parts,
@@ -47,19 +49,20 @@ impl Recorder {
                 alloc,
                 hot,
                 most,
-                counts: Vec::new(alloc),
-                held: Vec::new(alloc),
-                slots: Vec::new(alloc),
-                open: false,
+                tables: Tables {
+                    counts: Vec::new(alloc),
+                    numbers: Vec::new(alloc),
+                },
+                paths: Paths::new(alloc),
             },
         }
     }
 
     /// Sees the state of a run before a step: to be called before each step that is made, of one run.
     ///
-    /// An error means out of memory, and leaves the recorder as it was. It comes only at the first state, when the counts of
-    /// arrivals are made, and at one where an entry begins: no other takes memory. Takes time for a look-up; while the path
-    /// of an entry goes on, in proportion to the entries.
+    /// An error means out of memory, or that an entry is to begin and 2^32 - 1 were begun before. It leaves the recorder as it
+    /// was, and comes only at the first state, when the counts of arrivals are made, at one where an entry begins, and at a
+    /// `br` that the path of some entry may lay: no other takes memory. Takes time for a look-up; while paths go on, in proportion to the entries whose paths end there.
     pub fn see(&mut self, now: &Interp<'_>) -> Result<(), AllocError>
         ensures ok { OnOk result ((hot most : ℕ) (run : List State) → StandsFor self.old now.now.checked.prog hot most run
             → StandsFor self.new now.now.checked.prog hot most (run ++ state_of now.now ∷ [])) }
@@ -69,13 +72,16 @@ impl Recorder {
         self.parts.see(now)
     }
 
-    /// The profile of the run: the entries stand in the order of the arrivals that made their labels hot. Takes no memory.
-    pub fn into_profile(self) -> Profile
-        ensures { (P : Prog) (hot most : ℕ) (run : List State) → StandsFor self P hot most run → result.entries ≡ recorded P hot most run }
+    /// The profile of the run: the entries stand by falling count, equal counts in the order of the arrivals that made their
+    /// labels hot, and only the first ones are kept, as many as the profile may have.
+    ///
+    /// An error means out of memory; the recorder is gone. Takes time in proportion to the entries times those that are kept.
+    pub fn into_profile(self) -> Result<Profile, AllocError>
+        ensures { (P : Prog) (hot most : ℕ) (run : List State) → StandsFor self P hot most run → IfOk result (λ profile. profile.entries ≡ recorded P hot most run) }
     {
         let Recorder { parts } = self;
-        Profile {
-            entries: Seq::of_items(parts.into_entries()),
-        }
+        Ok(Profile {
+            entries: Seq::of_items(parts.entries()?),
+        })
     }
 }

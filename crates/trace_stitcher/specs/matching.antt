@@ -1,2 +1,3 @@
 pub mod Fitting
+pub mod Ranking
 pub mod Surveys

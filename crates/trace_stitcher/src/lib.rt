@@ -2,8 +2,9 @@
 //! which is run between a `speculate` and a `commit`, and given up where a branch goes another way.
 //!
 //! 1. Which entries of a profile fit a program, each with its path, and how many items their traces bring (`matching`;
-//!    `specs/matching/Fitting.antt`): the entries in their order, with the bound (`src/matching/fitting.rt`), functions and
-//!    labels by their names (`places.rt`), and the flow graph of a function with entries, made once (`surveys.rt`).
+//!    `specs/matching/Fitting.antt`): the entries by falling count (`src/matching/ranking.rt`), each where it fits, with the
+//!    bound (`fitting.rt`), functions and labels by their names (`places.rt`), and the flow graph of a function with
+//!    entries, made once (`surveys.rt`).
 //! 2. The names of a trace before any `_` (`fresh_names`; `src/fresh_names/bases.rt`), of which fresh ones are made by
 //!    `pass_make`. There is one fresh name of each.
 //! 3. The items of a trace (`src/lines.rt`, `specs/Legs.antt`), and what an entry puts into its function: its trace, and the

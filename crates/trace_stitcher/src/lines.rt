@@ -10,12 +10,12 @@ ghost use Rattle.trace_stitcher.specs.Legs.{AreGuardNames, nots_behind, one_leg}
 ghost use Rattle.trace_stitcher.specs.Sources.{AreNamesOf, item_of};
 
 use crate::fresh_names::not_base;
-use bril_tree::function_tree::{Dest, Item};
+use bril_tree::function_tree::{Dest, Item, copied_names};
 use bril_tree::name::Name;
 use bril_tree::operation::Op;
 use bril_tree::sequence::Seq;
 use bril_tree::types::{Base, Ty};
-use pass_make::{TakenNames, copied_item, copied_names};
+use pass_make::TakenNames;
 use std::alloc::{AllocError, Global};
 use trace_paths::Leg;
 
@@ -127,7 +127,7 @@ fn push_straight(
     ensures { OnOk result (lines.new ≡ lines.old ++ listed_item (slice_get code.now point)) }
 {
     if let Some(item) = code.get(point as usize) {
-        lines.push(copied_item(alloc, item)?)?;
+        lines.push(item.copied(alloc)?)?;
     }
     Ok(())
 }

@@ -9,7 +9,6 @@ use crate::inserted::Inserted;
 use bril_tree::function_tree::Item;
 use bril_tree::name::Name;
 use bril_tree::sequence::Seq;
-use pass_make::copied_item;
 use std::alloc::{AllocError, Global};
 
 // Adds labels of these names.
@@ -27,7 +26,7 @@ fn push_lines(alloc: Global, made: &mut Seq<Item>, lines: &[Item]) -> Result<(),
     ensures { OnOk result (made.new ≡ made.old ++ lines.now) }
 {
     for line in lines {
-        made.push(copied_item(alloc, line)?)?;
+        made.push(line.copied(alloc)?)?;
     }
     Ok(())
 }

@@ -14,8 +14,9 @@ use Rattle.bril_tree.specs.Step.{code_of, item_at}
 use Rattle.pass_edit_laws.specs.plan.Spliced.{spliced}
 use Rattle.trace_laws.specs.lines.Lines.{TraceNames, bool_type, trace_lines}
 use Rattle.trace_laws.specs.lines.Names.{AreNames, Bases, is_label_item, trace_bases}
-use Rattle.trace_paths.specs.Fits.{Fit, FitsAre, fit_path}
+use Rattle.trace_paths.specs.Fits.{Fit, FitsAre, count_of, fit_path}
 use Rattle.trace_paths.specs.Path.{path_of}
+use Rattle.trace_paths.specs.Taken.{taken}
 
 -- ---- the entries that are laid
 
@@ -77,7 +78,7 @@ pub record IsLaidTree (P : Prog) (bool : Ty) (laid : List Laying) (tree : Tree) 
   pub many : length (tree_of P).funcs ≡ length tree.funcs
   pub functions : AreTraced P bool laid tree.funcs
 
--- The same for the entries that fit, in their order.
+-- The same for those of these entries that fit, in their order.
 pub record IsLaid (bases : Bases) (P : Prog) (bool : Ty) (entries : List Entry) (tree : Tree) : Type 0 where
   pub fits : List Fit
   pub laid : List Laying
@@ -85,9 +86,9 @@ pub record IsLaid (bases : Bases) (P : Prog) (bool : Ty) (entries : List Entry) 
   pub are_laid : AreLaid bases P 1 fits laid
   pub spliced_so : IsLaidTree P bool laid tree
 
--- the pass makes this tree of the program by the profile
+-- The pass makes this tree of the program by the profile. It takes the entries by falling count, equal counts in their order.
 abbrev pub IsTracedTree : Prog → Profile → Tree → Type 0
-IsTracedTree P profile tree = IsLaid trace_bases P bool_type profile.entries tree
+IsTracedTree P profile tree = IsLaid trace_bases P bool_type (taken count_of profile.entries) tree
 
 -- Q is P with the traces of the profile's entries
 abbrev pub IsTraced : Prog → Profile → Prog → Type 0

@@ -1,5 +1,6 @@
 pub mod AtLabel
 pub mod Entries
 pub mod Paths
+pub mod Ranking
 pub mod Seen
 pub mod Surveying

@@ -9,9 +9,11 @@ ghost use Rattle.bril_tree.specs.Size.{IsCounted};
 ghost use Rattle.bril_tree.specs.Step.{point_of};
 ghost use Rattle.trace_stitcher.specs.matching.Fitting.{HasPath, IsElsewhere, IsFound, IsFoundAt, added_by, fit_of, has_room, is_at, listed_fit};
 ghost use Rattle.trace_stitcher.specs.matching.Surveys.{IsSurvey, IsSurveyOf};
-ghost use Rattle.trace_paths.specs.Fits.{FitsAre, taken};
+ghost use Rattle.trace_paths.specs.Fits.{FitsAre, count_of};
+ghost use Rattle.trace_paths.specs.Taken.{taken};
 
 use crate::matching::places::{function_named, label_named};
+use crate::matching::ranking::{entry_at, ranked};
 use crate::matching::surveys::{Survey, surveyed};
 use bril_profile::Entry;
 use bril_tree::numbered_function::Func;
@@ -127,8 +129,9 @@ fn push_found(found: &mut Vec<Fitting>, fit: Option<Fitting>) -> Result<(), Allo
     Ok(())
 }
 
-/// The entries that fit the program, in their order, each with its path. Takes time in proportion to the functions that have
-/// entries. The only error is out of memory.
+/// The entries that fit the program, each with its path, in the order in which they are taken: by falling count, equal counts
+/// in the order given. The only error is out of memory. Takes time in proportion to the functions that have entries, and to
+/// the square of the number of entries.
 pub fn fitting_entries(
     alloc: Global,
     prog: &Prog,
@@ -136,13 +139,15 @@ pub fn fitting_entries(
 ) -> Result<Vec<Fitting>, AllocError>
     requires accepted { IsAccepted prog.now }
     requires counted { IsCounted prog.now }
-    ensures fits { IfOk result (λ found. FitsAre prog.now [] (taken entries.now) (map fit_of found.items)) }
+    ensures fits { IfOk result (λ found. FitsAre prog.now [] (taken count_of entries.now) (map fit_of found.items)) }
     ensures paths { IfOk result (λ found. All (HasPath prog.now) found.items) }
     ensures apart { IfOk result (λ found. AllPairs IsElsewhere found.items) }
 {
+    let ranks = ranked(alloc, entries)?;
     let mut surveys = Vec::new(alloc);
     let mut found = Vec::new(alloc);
-    for entry in entries {
+    for rank in ranks.as_slice() {
+        let entry = entry_at(entries, rank.place);
         let fit = fitted(alloc, prog, &mut surveys, entry, found.as_slice())?;
         push_found(&mut found, fit)?;
     }

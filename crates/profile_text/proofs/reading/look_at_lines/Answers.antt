@@ -9,7 +9,7 @@ pub returns-in_err-after-clause-fault : goal.returns-in_err-after-clause-fault
 returns-in_err-after-clause-fault c =
     let p = err_from_is_err_and c.from_residual.result c.from_residual.ensures.1 in
     rw (p.1, p.2)
-    (fault_at c.args.source.now c.lines.rest.now c.lines.line c.in_err-after.field-0.0 c.lines.invariant
+    (fault_at c.args.version c.args.source.now c.lines.rest.now c.lines.line c.in_err-after.field-0.0 c.lines.invariant
     (nonempty c.lines.rest.now c.is_empty.result c.is_empty.ensures c.lines-test.true) c.in_err-after.ensures.fault)
 
 pub lines-preserved : goal.lines-preserved
@@ -19,6 +19,6 @@ lines-preserved c =
     let read = c.lines.invariant in
     record {
       entries = read.entries ++ entry_from parts are ∷ [];
-      so_far = read_more c.args.source.now c.lines.rest.now c.in_ok-after.after.now c.lines.line read.entries (read.entries ++ entry_from parts are ∷ []) (entry_from parts are) read.so_far refl (entry_from_is parts are)
-          (c.in_ok-after.ensures.found ∙ ap (λ z. z ++ 10 ∷ c.in_ok-after.after.now) (sym (entry_from_line parts are))) c.in_ok-after.ensures.few;
+      so_far = read_more c.args.version c.args.source.now c.lines.rest.now c.in_ok-after.after.now c.lines.line read.entries (read.entries ++ entry_from parts are ∷ []) (entry_from parts are) read.so_far refl (entry_from_is c.args.version parts are c.in_ok-after.ensures.count)
+          (c.in_ok-after.ensures.found ∙ ap (λ z. z ++ 10 ∷ c.in_ok-after.after.now) (sym (entry_from_line c.args.version parts are))) c.in_ok-after.ensures.few;
     }

@@ -3,7 +3,7 @@ use Rattle.profile_text.proofs.Faults.{AreReadTo}
 use Rattle.profile_text.proofs.reading.read_entries.Given as goal
 
 abbrev pub invariant-lines : goal.invariant-lines
-invariant-lines l = AreReadTo l.source l.rest l.line l.entries
+invariant-lines l = AreReadTo l.version l.source l.rest l.line l.entries
 
 abbrev pub decreases-lines : goal.decreases-lines
 decreases-lines l = length l.rest

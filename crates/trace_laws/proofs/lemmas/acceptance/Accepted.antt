@@ -1,6 +1,8 @@
 -- What the pass makes is accepted.
 use Rattle.std.proofs.Common.{◌≡◌, ◌<◌, ◌≤◌, true, List, [], length, refl, arith}
 use Rattle.bril_profile.specs.declared.profile.Entry.{Entry}
+use Rattle.trace_paths.specs.Fits.{count_of}
+use Rattle.trace_paths.specs.Taken.{taken}
 use Rattle.bril_tree.specs.declared.program.Prog.{Prog}
 use Rattle.bril_tree.specs.declared.types.Base.TheVariants as base
 use Rattle.bril_tree.specs.declared.types.Ty.{Ty}
@@ -15,7 +17,7 @@ use Rattle.bril_tree.specs.Walk.{IsWalk, end_of}
 use Rattle.trace_laws.specs.lines.Lines.{bool_type}
 use Rattle.trace_laws.specs.lines.Names.{Bases, trace_bases}
 use Rattle.trace_laws.specs.lines.Traced.{IsLaid, Laying}
-use Rattle.trace_laws.proofs.lemmas.lines.Entries.{fit-of, fits-few, laid-few, laid-of, layable}
+use Rattle.trace_laws.proofs.lemmas.lines.Entries.{fit-of, fits-few, laid-few, laid-of, layable, taken-few}
 use Rattle.trace_laws.specs.acceptance.Laws.{TracesAreAccepted}
 use Rattle.trace_laws.proofs.lemmas.acceptance.Accepting.{spliced-accepted}
 
@@ -31,4 +33,4 @@ laid-accepted bases P Q bool same plain entries accepted few l =
         e.1.few w is ends
 
 pub traces-accepted : TracesAreAccepted
-traces-accepted P Q profile accepted made = laid-accepted trace_bases P Q bool_type refl refl profile.entries accepted profile.few made
+traces-accepted P Q profile accepted made = laid-accepted trace_bases P Q bool_type refl refl (taken count_of profile.entries) accepted (taken-few profile) made

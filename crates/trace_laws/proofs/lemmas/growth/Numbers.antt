@@ -28,7 +28,8 @@ use Rattle.pass_edit_laws.specs.walks.Matched.{MatchedWalk}
 use Rattle.trace_laws.specs.lines.Traced.{Laying, AreLaid, IsLaid, Trace}
 use Rattle.trace_laws.specs.lines.Names.{Bases, trace_bases}
 use Rattle.bril_profile.specs.declared.profile.Entry.{Entry}
-use Rattle.trace_paths.specs.Fits.{Fit, IsFit}
+use Rattle.trace_paths.specs.Fits.{Fit, IsFit, count_of}
+use Rattle.trace_paths.specs.Taken.{taken}
 use Rattle.trace_laws.specs.refinement.Stitched.{Stitched}
 use Rattle.trace_laws.proofs.lemmas.lines.Layings.{IsLayable, Located, located}
 use Rattle.trace_laws.proofs.lemmas.refinement.Laying.{stitched, heads, traces-are, stitched-owner, stitched-plain}
@@ -42,7 +43,7 @@ use Rattle.trace_laws.specs.lines.Bound.{laid_count}
 use Rattle.trace_laws.specs.growth.Numbers.{TraceKeepsNumbers, trace_growth}
 use Rattle.trace_laws.proofs.lemmas.growth.NewItems.{all_nots, all_laid, nots-few, of-items}
 use Rattle.trace_laws.proofs.lemmas.acceptance.Accepted.{traces-accepted}
-use Rattle.trace_laws.proofs.lemmas.lines.Entries.{layable, laid-of, fit-of, fits-few, laid-few}
+use Rattle.trace_laws.proofs.lemmas.lines.Entries.{layable, laid-of, fit-of, fits-few, laid-few, taken-few}
 
 -- ---- the program
 
@@ -139,4 +140,4 @@ module _ (bases : Bases) (P Q : Prog) (bool : Ty) (entries : List Entry) (accept
       (function-grows accepted_q)
 
 pub trace-keeps_numbers : TraceKeepsNumbers
-trace-keeps_numbers P Q profile accepted made = numbers trace_bases P Q bool_type profile.entries accepted profile.few made (traces-accepted P Q profile accepted made)
+trace-keeps_numbers P Q profile accepted made = numbers trace_bases P Q bool_type (taken count_of profile.entries) accepted (taken-few profile) made (traces-accepted P Q profile accepted made)

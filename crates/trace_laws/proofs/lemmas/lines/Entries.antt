@@ -4,7 +4,10 @@ use Rattle.std.specs.Prelude.{slice_get}
 use Rattle.bril_tree.specs.declared.program.Prog.{Prog}
 use Rattle.bril_tree.specs.Numbered.{names_in}
 use Rattle.bril_profile.specs.declared.profile.Entry.{Entry}
-use Rattle.trace_paths.specs.Fits.{Fit, IsFit, FitsAre}
+use Rattle.bril_profile.specs.declared.profile.Profile.{Profile}
+use Rattle.trace_paths.specs.Fits.{Fit, IsFit, FitsAre, count_of}
+use Rattle.trace_paths.specs.Taken.{taken}
+use Rattle.trace_paths.proofs.Order.{length-taken}
 use Rattle.pass_edit_laws.proofs.lemmas.labels.Listed.{named-in}
 use Rattle.trace_laws.specs.lines.Names.{Bases, AreNames}
 use Rattle.trace_laws.specs.lines.Traced.{Laying, AreLaid}
@@ -17,6 +20,13 @@ fits-few P seen [] fits h = let e = ap length h in omega arith
 fits-few P seen (e ∷ entries) [] h = omega arith
 fits-few P seen (e ∷ entries) (x ∷ fits) (inl h) = let r = fits-few P (x ∷ seen) entries fits h.2 in omega arith
 fits-few P seen (e ∷ entries) (x ∷ fits) (inr h) = let r = fits-few P seen entries (x ∷ fits) h.1 in omega arith
+
+-- as many are taken as the profile has
+pub taken-few : (profile : Profile) → length (taken count_of profile.entries) ≤ 64
+taken-few profile =
+    let long = length-taken count_of profile.entries in
+    let few = profile.few in
+    omega (arith, long, few)
 
 pub fit-of : (P : Prog) (seen : List Fit) (entries : List Entry) (fits : List Fit) (x : Fit) → FitsAre P seen entries fits → In x fits → (e : Entry) × IsFit P e x
 fit-of P seen [] fits x h i = absurd (subst (In x) h i)

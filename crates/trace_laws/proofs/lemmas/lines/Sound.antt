@@ -30,10 +30,11 @@ use Rattle.trace_laws.specs.lines.Traced.{IsLaid, Laying, lines_behind, stop_lin
 use Rattle.trace_laws.proofs.lemmas.lines.Bases.{trace_names}
 use Rattle.trace_laws.proofs.lemmas.lines.Bound.{laid-within}
 use Rattle.trace_laws.proofs.lemmas.lines.Differing.{laid-differ}
-use Rattle.trace_laws.proofs.lemmas.lines.Entries.{fits-few, laid-few, layable}
+use Rattle.trace_laws.proofs.lemmas.lines.Entries.{fits-few, laid-few, layable, taken-few}
 use Rattle.trace_laws.proofs.lemmas.lines.Known.{laid-known}
 use Rattle.trace_laws.proofs.lemmas.lines.Layings.{IsLayable, stop_within}
-use Rattle.trace_paths.specs.Fits.{fit_path}
+use Rattle.trace_paths.specs.Fits.{count_of, fit_path}
+use Rattle.trace_paths.specs.Taken.{taken}
 
 same-long : (P : Prog) (f : ℕ) (F : FuncTree) → slice_get (tree_of P).funcs f ≡ Some F → length (code_of P f) ≡ length F.code
 same-long P f F p = by (slice_get P.funcs f) refl
@@ -97,6 +98,6 @@ module _ (bases : Bases) (ok : AreBases bases) (P : Prog) (bool : Ty) (entries :
 
 pub traces-well_laid : TracesAreWellLaid
 traces-well_laid P profile tree made = record {
-  names = laid-sound trace_bases trace_names P bool_type profile.entries profile.few tree made;
-  within = laid-within trace_bases P bool_type profile.entries tree made;
+  names = laid-sound trace_bases trace_names P bool_type (taken count_of profile.entries) (taken-few profile) tree made;
+  within = laid-within trace_bases P bool_type (taken count_of profile.entries) tree made;
 }

@@ -11,7 +11,9 @@ use Rattle.bril_tree.specs.declared.program.Prog.{Prog}
 use Rattle.bril_tree.specs.declared.types.Ty.{Ty}
 use Rattle.bril_tree.specs.Membership.{In}
 use Rattle.bril_tree.specs.Numbered.{tree_at}
+use Rattle.trace_paths.specs.Fits.{count_of}
 use Rattle.trace_paths.specs.Path.{path_of}
+use Rattle.trace_paths.specs.Taken.{taken}
 use Rattle.bril_tree.specs.Step.{code_of}
 use Rattle.bril_tree.specs.Walk.{IsReached}
 use Rattle.bril_tree.proofs.Elements.{get_in, get_inside}
@@ -21,7 +23,7 @@ use Rattle.trace_laws.specs.lines.Laws.{IsQuiet}
 use Rattle.trace_laws.specs.lines.Lines.{bool_type, end_lines, leg_lines}
 use Rattle.trace_laws.specs.lines.Names.{trace_bases}
 use Rattle.trace_laws.specs.lines.Traced.{IsTraced, Laying, Trace, trace_at}
-use Rattle.trace_laws.proofs.lemmas.lines.Entries.{fit-of, fits-few, laid-few, laid-of, layable}
+use Rattle.trace_laws.proofs.lemmas.lines.Entries.{fit-of, fits-few, laid-few, laid-of, layable, taken-few}
 use Rattle.trace_laws.proofs.lemmas.lines.Layings.{IsLayable, located}
 use Rattle.trace_laws.proofs.lemmas.lines.Quiet.{lines-quiet}
 use Rattle.trace_laws.specs.refinement.Laws.{HasQuietTrace, TracesAreQuiet}
@@ -37,10 +39,10 @@ stands-at P Q bool f j (x ∷ xs) ys s (suc k) a e = let z : j + suc k ≡ suc j
 
 module _ (P Q : Prog) (profile : Profile) (made : IsTraced P profile Q) (f point : ℕ) (t : Trace) (at : trace_at made.laid f point ≡ Some t) where
   pub lay : (x : Laying) → In x made.laid → IsLayable P x
-  lay = layable trace_bases P profile.entries made.fits made.laid made.are_fits made.are_laid
+  lay = layable trace_bases P (taken count_of profile.entries) made.fits made.laid made.are_fits made.are_laid
 
   pub most : length made.laid ≤ 64
-  most = let a = fits-few P [] profile.entries made.fits made.are_fits in let b = laid-few trace_bases P 1 made.fits made.laid made.are_laid in let c = profile.few in omega arith
+  most = let a = fits-few P [] (taken count_of profile.entries) made.fits made.are_fits in let b = laid-few trace_bases P 1 made.fits made.laid made.are_laid in let c = taken-few profile in omega arith
 
   abbrev label : ℕ
   label = old P Q bool_type made.laid lay most made.spliced_so f point
@@ -57,7 +59,7 @@ module _ (P Q : Prog) (profile : Profile) (made : IsTraced P profile Q) (f point
   pub reached : IsReached (code_of P f) point
   reached =
       let l = located P made.laid f point t at in
-      let fit = fit-of P [] profile.entries made.fits l.x.fit made.are_fits (laid-of trace_bases P 1 made.fits made.laid l.x made.are_laid l.among).among in
+      let fit = fit-of P [] (taken count_of profile.entries) made.fits l.x.fit made.are_fits (laid-of trace_bases P 1 made.fits made.laid l.x made.are_laid l.among).among in
       subst (λ n. IsReached (code_of P f) n) l.point (subst (λ n. IsReached (code_of P n) l.x.fit.point) l.function fit.1.reached)
 
   -- what stands behind the laid items
