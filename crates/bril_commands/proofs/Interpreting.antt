@@ -1,11 +1,11 @@
 -- What a run of an interpreter leaves.
-use Rattle.std.proofs.Common.{◌≡◌, ◌⊎◌, true, ℕ, zero, suc, ◌+◌, ◌-◌, ◌≤◌, List, [], ◌∷◌, ◌++◌, length, Option, Some, None, refl, sym, ap, ◌∙◌, subst, arith, inl, inr, ⊎_elim, true≢false, append_assoc, length-append}
+use Rattle.std.proofs.Common.{◌≡◌, ◌⊎◌, ℕ, zero, suc, ◌+◌, ◌-◌, ◌≤◌, List, [], ◌∷◌, ◌++◌, length, Option, Some, None, refl, sym, ap, ◌∙◌, subst, arith, inl, inr, ⊎_elim, true≢false, append_assoc, length-append}
 use Rattle.bril_interpreter.specs.declared.answer.StepAnswer.TheVariants as run
 use Rattle.bril_interpreter.specs.Line.{next_print, pieces_of, puts_of}
 use Rattle.bril_interpreter.specs.StepAnswers.{Ran, RunFailed, WantsMemory, reached_after, print_at, puts_within}
 use Rattle.bril_interpreter.specs.Interpreter.{InterpView}
 use Rattle.bril_outside.proofs.SinkWrites.{PutSome-longer, joined-append}
-use Rattle.bril_outside.specs.Sink.{SinkSeen, Rose, Flushed, Took, TookAll, TookBy, PutTimes, PutSome, joined}
+use Rattle.bril_outside.specs.Sink.{SinkSeen, Rose, Flushed, HandedOn, Took, TookAll, TookBy, PutTimes, PutSome, joined}
 use Rattle.bril_report.specs.Puts.{PutsAll}
 use Rattle.bril_tree.specs.declared.limits.End.{End}
 use Rattle.bril_tree.specs.declared.limits.Limits.{Limits}
@@ -75,7 +75,7 @@ module _ (i : InterpView) (p : Prog) (limits : Limits) (values : List Value) (fr
     pub goes_on : Ran run.Go steps i i' s t → ShowsPut (interpreted p values limits.frames limits.cells steps) None [] s t
     goes_on ran = whole None ran.0 ran.1.printed
 
-    pub exhausted : {u : SinkSeen} → Ran run.Memory steps i i' s t → Flushed t u → (u.is_out ≡ true) ⊎ Rose t.faults u.faults → StopsShort (interpreted p values limits.frames limits.cells steps) s u
+    pub exhausted : {u : SinkSeen} → Ran run.Memory steps i i' s t → Flushed t u → HandedOn t u ⊎ Rose t.faults u.faults → StopsShort (interpreted p values limits.frames limits.cells steps) s u
     exhausted ran flushed either = inr (
       pieces_within p limits values ran.made,
       record {

@@ -14,6 +14,7 @@ use Rattle.bril_tree.specs.declared.value.Value.{Value}
 use Rattle.bril_words.proofs.Limits.{limits_same}
 use Rattle.profile_text.proofs.Faults.{faults_are_one, texts_differ, texts_have_no_fault}
 use Rattle.profile_text.specs.Fault.{IsFirstFault}
+use Rattle.profile_text.specs.Form.{IsProfileText}
 use Rattle.trace_recorder.specs.Recorded.{recorded}
 use Rattle.bril_commands.specs.Command.{Command, OnFile, OnTree, OnProgram}
 use Rattle.bril_commands.specs.Driver.{DoesTree}
@@ -65,7 +66,7 @@ module _ (before after : FilesSeen) (map : FileMap) (told : before.holds ≡ Som
 
   unsaid : (entries : List Entry) (how : Status) (holds : HoldsProfile before.holds path entries) → Says (Some holds.bytes) how → ⊥
   unsaid entries how holds (inl x) = not_both (length holds.bytes) x.1 holds.short
-  unsaid entries how holds (inr x) = texts_have_no_fault entries x.0 holds.valid (subst (λ (l : List ℕ). IsFirstFault l x.0) (sym holds.text) x.3)
+  unsaid entries how holds (inr x) = texts_have_no_fault holds.bytes entries x.0 holds.text x.3
 
   file_not_refused : (entries : List Entry) (how : Status) → HoldsProfile before.holds path entries → RefusesProfileFile how before after path → how ≡ status.OutOfMemory
   file_not_refused entries how holds refuses =
@@ -75,7 +76,7 @@ module _ (before after : FilesSeen) (map : FileMap) (told : before.holds ≡ Som
   file_once xs ys a b =
       let both : Some a.bytes ≡ Some b.bytes = sym (held_is a.bytes a.held) ∙ held_is b.bytes b.held in
       let same : a.bytes ≡ b.bytes = cc in
-      texts_differ xs ys a.valid b.valid (a.text ∙ same ∙ sym b.text)
+      texts_differ b.bytes xs ys (subst (λ (l : List ℕ). IsProfileText l xs) same a.text) b.text
 
 -- ---- the run of a program
 

@@ -1,5 +1,5 @@
 -- What a recorder saw of a run, step by step.
-use Rattle.std.proofs.Common.{◌≡◌, ◌⊎◌, ℕ, zero, suc, ◌+◌, ◌-◌, ◌<◌, ◌≤◌, false, true≢false, List, [], ◌∷◌, ◌++◌, map, min, take, append-nil, add-zero, add-suc, Option, Some, None, sym, ap, ◌∙◌, subst, arith, ⊎_elim}
+use Rattle.std.proofs.Common.{◌≡◌, ◌⊎◌, ℕ, zero, suc, ◌+◌, ◌-◌, ◌<◌, ◌≤◌, false, true≢false, List, [], ◌∷◌, ◌++◌, map, min, append-nil, add-zero, add-suc, Option, Some, None, sym, ap, ◌∙◌, subst, arith, ⊎_elim}
 use Rattle.std.specs.Prelude.{◌^◌}
 use Rattle.std.proofs.lemmas.List.{map-append}
 use Rattle.bril_checker.specs.Checked.{CheckedView}
@@ -15,9 +15,9 @@ use Rattle.bril_tree.specs.declared.limits.End.{End}
 use Rattle.bril_tree.specs.declared.limits.Limits.{Limits}
 use Rattle.bril_tree.specs.declared.program.Prog.{Prog}
 use Rattle.bril_tree.specs.declared.value.Value.{Value}
-use Rattle.trace_recorder.specs.Recorded.{no_counts}
+use Rattle.trace_recorder.specs.Recorded.{counts_on, most_count, no_counts}
 use Rattle.trace_recorder.specs.Sight.{sight}
-use Rattle.trace_recorder.specs.Standing.{RecorderView, StandsFor, counts_on, held_on}
+use Rattle.trace_recorder.specs.Standing.{RecorderView, StandsFor, held_on}
 use Rattle.bril_commands.proofs.Interpreting.{reached}
 use Rattle.bril_commands.specs.Recording.{Records, before_step, states_within}
 use Rattle.bril_commands.specs.commands.Interp.{IsFresh}
@@ -27,9 +27,9 @@ StandsFor-alike : (r : RecorderView) (p : Prog) (hot most : ℕ) (run other : Li
 StandsFor-alike r p hot most run other same stands = record {
   hot_is = stands.hot_is;
   most_is = stands.most_is;
-  held = stands.held ∙ ap (λ seen. take most (held_on p hot no_counts seen)) same;
+  held = stands.held ∙ ap (held_on p hot no_counts) same;
   sized = stands.sized;
-  counts = λ function label. stands.counts function label ∙ ap (λ seen. min (counts_on no_counts seen function label) (2 ^ 32 - 1)) same;
+  counts = λ function label. stands.counts function label ∙ ap (λ seen. min (counts_on no_counts seen function label) most_count) same;
 }
 
 -- So many steps were made, none of which ended the run, and the recorder saw the state before each of them.

@@ -29,7 +29,7 @@ use Rattle.bril_commands.specs.Command.{Emission, FactorOf, AreEnough, ImageFor,
 use Rattle.bril_commands.specs.CommandLine.{Asks}
 use Rattle.bril_commands.specs.Driver.{subject}
 use Rattle.bril_commands.specs.ProfileFiles.{IsProfileAt, IsProfileTold}
-use Rattle.bril_commands.specs.RunIsCorrect.{AsksToRun, ComesAsSource, HasEnded, IsTooLarge, RunIsCorrect, RunsOn, Says}
+use Rattle.bril_commands.specs.RunIsCorrect.{AsksToRun, ComesAsSource, HasEnded, IsTooLarge, RunsOn, Says}
 use Rattle.bril_commands.specs.Sources.{SourceRunsOn, SourceShows}
 use Rattle.bril_commands.specs.Stats.{stats_told}
 use Rattle.bril_commands.specs.Table.{command}
@@ -55,7 +55,7 @@ profile_told (Some path) map told = (map, told)
 
 -- the profile without entries
 no_profile : Profile
-no_profile = record { entries = []; few = omega arith; short = λ k d h. absurd (omega arith) }
+no_profile = record { entries = []; few = omega arith; short = λ k d h. absurd (omega arith); counted = λ k d h. absurd (omega arith) }
 
 None_not_Some : {place : ℕ} → ◌≡◌ {A = Option ℕ} None (Some place) → ⊥
 None_not_Some e = cc
@@ -129,7 +129,7 @@ module _ (status : ℕ) (c : Call) (promises : Promises status c) (run : AsksToR
     has_ended : (end : End) → Shows (Some end) → (line : List (List ℕ)) → Puts c.err_before (told ++ line) c.err_after → HasEnded c run end line
     has_ended end shows line puts =
         let source : ProgramEnds run.source run.settings.limits run.values end (joined output) = source_shows (Some end) shows in
-        record { steps = source.steps; ended = source.ended; took = took_bytes (sym source.prints) took; out = took.out; says = said (Some end) shows line puts }
+        record { steps = source.steps; ended = source.ended; took = took_bytes (sym source.prints) took; out = took.out.out; says = said (Some end) shows line puts }
 
     runs_on : Shows None → Puts c.err_before (told ++ spent_pieces run.settings.steps) c.err_after → RunsOn c run
     runs_on shows puts =
@@ -137,7 +137,7 @@ module _ (status : ℕ) (c : Call) (promises : Promises status c) (run : AsksToR
         record {
           output = joined output;
           took = took_bytes refl took;
-          out = took.out;
+          out = took.out.out;
           steps = source.steps;
           begins = source.begins;
           made = made;

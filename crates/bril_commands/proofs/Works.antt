@@ -1,11 +1,11 @@
 -- Work that is carried out as one outcome says is carried out as another says.
-use Rattle.std.proofs.Common.{◌≡◌, ◌≢◌, true, ℕ, List, [], Option, Some, None, refl, ◌∙◌, inl, inr, ⊎_elim}
-use Rattle.bril_outside.specs.Sink.{SinkSeen, Rose, Flushed}
+use Rattle.std.proofs.Common.{◌≡◌, ℕ, List, [], Option, Some, None, refl, ◌∙◌, inl, inr, ⊎_elim}
+use Rattle.bril_outside.specs.Sink.{SinkSeen, Rose, Flushed, HandedOn}
 use Rattle.bril_report.specs.declared.status.Status.TheVariants as status
 use Rattle.bril_report.specs.declared.status.Status.{Status}
 use Rattle.bril_tree.specs.declared.limits.End.TheVariants.{Ended, Faulted}
 use Rattle.bril_tree.specs.declared.limits.End.{End}
-use Rattle.bril_commands.specs.Outcome.{Outcome, PutsPieces, ShowsPut, ShowsWhole, ShowsPartly, Works, end_status, writes}
+use Rattle.bril_commands.specs.Outcome.{Outcome, WritesPieces, PutsPieces, ShowsPut, ShowsWhole, ShowsPartly, Works, end_status, writes}
 
 module _ (a b : Outcome) (steps : a.steps ≡ b.steps) (unwritten : a.unwritten ≡ b.unwritten) (shows : (ended : Option End) (told output : List (List ℕ)) → a.Shows ended told output → b.Shows ended told output) (exhausts : (output : List (List ℕ)) → a.Exhausts output → b.Exhausts output) (told : List (List ℕ)) (s t : SinkSeen) where
   whole : (ended : Option End) → ShowsWhole a ended told s t → ShowsWhole b ended told s t
@@ -28,19 +28,16 @@ module _ (a b : Outcome) (steps : a.steps ≡ b.steps) (unwritten : a.unwritten 
   Works-as status.OutOfMemory works = (works.0, ⊎_elim inl (λ short. inr (short.0, exhausts short.0 short.1, short.2)) works.1)
   Works-as _ works = absurd works
 
+-- pieces were put, and this is told either way
+pub Works-told : (told : List (List ℕ)) (IsOutput : List (List ℕ) → Type 0) (pieces : List (List ℕ)) → IsOutput pieces → (how : Status) (s t : SinkSeen) → WritesPieces how pieces s t → Works (writes told IsOutput) how told s t
+Works-told told IsOutput pieces is status.Done s t puts = record { output = pieces; shows = (refl, refl, is); took = puts }
+Works-told told IsOutput pieces is status.CannotWrite s t puts = (refl, record { ended = _; told = _; output = pieces; shows = (refl, refl, is); took = puts })
+Works-told told IsOutput pieces is _ s t puts = absurd puts
+
 -- pieces were put, and nothing is told
 pub Works-put : (IsOutput : List (List ℕ) → Type 0) (pieces : List (List ℕ)) → IsOutput pieces → (how : Status) (s t : SinkSeen) → PutsPieces how pieces s t → Works (writes [] IsOutput) how [] s t
-Works-put IsOutput pieces is status.Done s t puts = record { output = pieces; shows = (refl, refl, is); took = puts }
-Works-put IsOutput pieces is status.CannotWrite s t puts = (refl, record { ended = _; told = _; output = pieces; shows = (refl, refl, is); took = puts })
 Works-put IsOutput pieces is status.OutOfMemory s t puts = (refl, inl puts)
-Works-put IsOutput pieces is _ s t puts = absurd puts
-
--- pieces were put, and this is told either way
-pub Works-told : (told : List (List ℕ)) (IsOutput : List (List ℕ) → Type 0) (pieces : List (List ℕ)) → IsOutput pieces → (how : Status) (s t : SinkSeen) → PutsPieces how pieces s t → how ≢ status.OutOfMemory → Works (writes told IsOutput) how told s t
-Works-told told IsOutput pieces is status.Done s t puts ample = record { output = pieces; shows = (refl, refl, is); took = puts }
-Works-told told IsOutput pieces is status.CannotWrite s t puts ample = (refl, record { ended = _; told = _; output = pieces; shows = (refl, refl, is); took = puts })
-Works-told told IsOutput pieces is status.OutOfMemory s t puts ample = absurd (ample refl)
-Works-told told IsOutput pieces is _ s t puts ample = absurd puts
+Works-put IsOutput pieces is how s t puts = Works-told [] IsOutput pieces is how s t puts
 
 -- it ended so, or goes on after the steps
 pub Works-ended : (o : Outcome) (ended : Option End) (told : List (List ℕ)) (s t : SinkSeen) → ShowsWhole o ended told s t → Works o (end_status ended o.steps) told s t
@@ -51,7 +48,7 @@ Works-ended o None told s t whole = (refl, whole)
 -- ---- all was put, and then the output was to hand on what it held back
 
 module _ (o : Outcome) {ended : Option End} {told : List (List ℕ)} {s t u : SinkSeen} (put : ShowsPut o ended told s t) (flushed : Flushed t u) where
-  pub Shows-flushed : u.is_out ≡ true → ShowsWhole o ended told s u
+  pub Shows-flushed : HandedOn t u → ShowsWhole o ended told s u
   Shows-flushed out = record { output = put.output; shows = put.shows; took = record { between = t; puts = put.puts; flushed = flushed; out = out } }
 
   pub Shows-unflushed : Rose t.faults u.faults → ShowsPartly o s u

@@ -120,6 +120,15 @@ pub record OfProgram : Type 1 where
   pub emission : Emission
   pub outcome : Subject → Outcome
 
+-- What is done with an accepted program as it stands.
+pub record OfSource : Type 1 where
+  pub arguments : Arguments
+  pub outcome : Prog → List Value → Outcome
+
+-- the same as what is done with a program: there is no profile, no list of passes and no image
+abbrev pub as_it_stands : OfSource → OfProgram
+as_it_stands does = record { arguments = does.arguments; profile = NoProfile; takes_passes = false; emission = NoImage; outcome = λ on. does.outcome on.source on.values }
+
 -- A command works on the tree of its one file, on that of all files which are linked with it, or on the accepted program of the latter
 -- or of the demo's tree.
 pub data Command : Type 1 where

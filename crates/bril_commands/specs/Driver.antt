@@ -7,7 +7,7 @@ use Rattle.bril_report.specs.declared.status.Status.{Status}
 use Rattle.bril_tree.specs.declared.program.Prog.{Prog}
 use Rattle.bril_tree.specs.declared.tree.Tree.{Tree}
 use Rattle.bril_tree.specs.declared.value.Value.{Value}
-use Rattle.bril_commands.specs.Command.{Command, OnFile, OnTree, OnProgram, OfProgram, Subject, AreGiven, RefusesGiven, Makes, RefusesMaking, FactorOf, AreEnough, Fits, RefusesEmission, reach}
+use Rattle.bril_commands.specs.Command.{Command, OnFile, OnTree, OnProgram, OfProgram, OfSource, Subject, AreGiven, RefusesGiven, Makes, RefusesMaking, FactorOf, AreEnough, Fits, RefusesEmission, reach}
 use Rattle.bril_commands.specs.Outcome.{Works}
 use Rattle.bril_commands.specs.PassList.{PassList, AreUnused}
 use Rattle.bril_commands.specs.Profiles.{IsProfileFrom, RefusesProfileFrom}
@@ -25,6 +25,11 @@ IsIdle l told s t = IsSilent told s t × AreUnused l
 -- A stage refuses, and there is silence; or it hands on something of which this holds, and the command goes on with it.
 abbrev pub Stage : {X : Type 0} → (Refuses : Type 0) → (Silent : Type 0) → (Is : X → Type 0) → ((x : X) → Is x → Type 0) → Type 0
 Stage {X} Refuses Silent Is GoesOn = (Refuses × Silent) ⊎ ((x : X) × (is : Is x) × GoesOn x is)
+
+-- what a command answers that works on an accepted program as it stands, with these arguments; it tells nothing
+abbrev pub DoesSource : OfSource → Status → Prog → List (List ℕ) → SinkSeen → SinkSeen → Type 0
+DoesSource does how p args s t =
+    Stage (RefusesGiven does.arguments how p args) (IsSilent [] s t) (λ values. AreGiven does.arguments p args values) (λ values given. Works (does.outcome p values) how [] s t)
 
 -- what a command works on, once its list made a program by which the values are taken
 abbrev pub subject : (does : OfProgram) (l : PassList) (entries : List Entry) (p q : Prog) → Makes does.takes_passes l entries p q → List Value → Subject

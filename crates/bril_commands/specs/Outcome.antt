@@ -74,9 +74,13 @@ Works o status.CannotWrite told s t = (told ≡ o.unwritten) × ShowsPartly o s 
 Works o status.OutOfMemory told s t = (told ≡ []) × StopsShort o s t
 Works o _ told s t = ⊥
 
--- what putting pieces by itself answers
+-- what putting pieces by itself answers, where it takes no memory
+abbrev pub WritesPieces : Status → List (List ℕ) → SinkSeen → SinkSeen → Type 0
+WritesPieces status.Done pieces s t = WritesAll s pieces t
+WritesPieces status.CannotWrite pieces s t = WritesSome s pieces t
+WritesPieces _ pieces s t = ⊥
+
+-- the same, where it takes memory before anything is put
 abbrev pub PutsPieces : Status → List (List ℕ) → SinkSeen → SinkSeen → Type 0
-PutsPieces status.Done pieces s t = WritesAll s pieces t
-PutsPieces status.CannotWrite pieces s t = WritesSome s pieces t
 PutsPieces status.OutOfMemory pieces s t = t ≡ s
-PutsPieces _ pieces s t = ⊥
+PutsPieces how pieces s t = WritesPieces how pieces s t

@@ -5,7 +5,7 @@ use Rattle.bril_profile.specs.declared.profile.Entry.{Entry}
 use Rattle.bril_report.specs.declared.status.Status.TheVariants as status
 use Rattle.bril_report.specs.declared.status.Status.{Status}
 use Rattle.profile_text.specs.Fault.{IsFirstFault}
-use Rattle.profile_text.specs.Form.{AreEntries, profile_text}
+use Rattle.profile_text.specs.Form.{IsProfileText}
 
 -- the most bytes that the file of a profile may have
 abbrev pub most_profile_bytes : ℕ
@@ -18,8 +18,7 @@ pub record HoldsProfile (holds : Option FileMap) (path : List ℕ) (entries : Li
   pub bytes : List ℕ
   pub held : MayHold holds path bytes
   pub short : length bytes ≤ most_profile_bytes
-  pub valid : AreEntries entries
-  pub text : profile_text entries ≡ bytes
+  pub text : IsProfileText bytes entries
 
 -- The bytes at the path are few enough, and this line, from 1, is the first that breaks the form.
 pub record HoldsBrokenLine (holds : Option FileMap) (path : List ℕ) (line : ℕ) : Type 0 where

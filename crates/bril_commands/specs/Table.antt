@@ -9,11 +9,13 @@ use Rattle.bril_words.specs.declared.subcommands.PassesAction.TheVariants as pas
 use Rattle.bril_words.specs.declared.subcommands.PassesAction.{PassesAction}
 use Rattle.bril_words.specs.declared.subcommands.ProgramAction.TheVariants as program
 use Rattle.bril_words.specs.declared.subcommands.ProgramAction.{ProgramAction}
+use Rattle.bril_words.specs.declared.subcommands.SourceAction.TheVariants as source
+use Rattle.bril_words.specs.declared.subcommands.SourceAction.{SourceAction}
 use Rattle.bril_words.specs.declared.subcommands.TreeAction.TheVariants as tree
 use Rattle.bril_words.specs.declared.subcommands.TreeAction.{TreeAction}
 use Rattle.pass_law.specs.Chains.{AllSame}
 use Rattle.pass_law.specs.Meaning.{Meaning}
-use Rattle.bril_commands.specs.Command.{Command, OnFile, OnTree, OnProgram, OfProgram, LinkedFiles, Demo, takes_passes}
+use Rattle.bril_commands.specs.Command.{Command, OnFile, OnTree, OnProgram, OfProgram, OfSource, LinkedFiles, Demo, as_it_stands, takes_passes}
 use Rattle.bril_commands.specs.Outcome.{Outcome}
 use Rattle.bril_commands.specs.commands.Check.{checks}
 use Rattle.bril_commands.specs.commands.Demo.{demonstrates}
@@ -41,11 +43,15 @@ on_made (passes.Run settings) = runs settings.limits.frames settings.limits.cell
 on_made (passes.Emit limits) = emits_words limits.frames limits.cells
 on_made passes.Passes = transforms
 
+-- what is done with a program as it stands
+abbrev pub on_source : SourceAction → OfSource
+on_source source.Check = checks
+on_source (source.Interpret settings) = interprets settings.limits.frames settings.limits.cells settings.steps
+on_source (source.Record settings) = records settings.limits.frames settings.limits.cells settings.steps settings.hot settings.most
+
 -- what is done with a program
 abbrev pub on_program : ProgramAction → OfProgram
-on_program program.Check = checks
-on_program (program.Interpret settings) = interprets settings.limits.frames settings.limits.cells settings.steps
-on_program (program.Record settings) = records settings.limits.frames settings.limits.cells settings.steps settings.hot settings.most
+on_program (program.AsItStands does) = as_it_stands (on_source does)
 on_program (program.WithPasses does) = on_made does
 
 -- the command of an action

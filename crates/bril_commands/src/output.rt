@@ -1,10 +1,9 @@
 // What is put on the output, and what is answered of a run.
 
-ghost use Rattle.std.specs.Prelude.{◌≡◌, ◌≢◌, true, [], ◌∷◌, OnOk, OnErr};
-ghost use Rattle.bril_commands.specs.Outcome.{PutsPieces, end_status};
-ghost use Rattle.bril_outside.specs.Sink.{Rose, Flushed};
+ghost use Rattle.std.specs.Prelude.{◌≡◌, [], ◌∷◌, OnOk, OnErr};
+ghost use Rattle.bril_commands.specs.Outcome.{Works, WritesPieces, end_status, writes_text};
+ghost use Rattle.bril_outside.specs.Sink.{Rose, Flushed, HandedOn};
 ghost use Rattle.bril_report.specs.StageFaults.{status_of};
-ghost use Rattle.bril_report.specs.declared.status.Status.TheVariants.{OutOfMemory};
 
 use bril_outside::sink::{Failed, Sink};
 use bril_report::Status;
@@ -14,12 +13,20 @@ use bril_tree::limits::End;
 ///
 /// `CannotWrite`: the put failed, or the output failed to hand it on.
 pub fn put_text<O: Sink>(text: &[u8], out: &mut O) -> Result<(), Status>
-    ensures does { PutsPieces (status_of result) (text.now ∷ []) (O.seen out.old) (O.seen out.new) }
-    ensures memory { status_of result ≢ OutOfMemory }
+    ensures { WritesPieces (status_of result) (text.now ∷ []) (O.seen out.old) (O.seen out.new) }
 {
     out.put(text)?;
     hand_on(out)?;
     Ok(())
+}
+
+/// Does the work of a command that puts this text alone, as `put_text` does.
+///
+/// `CannotWrite`: the put failed, or the output failed to hand it on.
+pub fn put_alone<O: Sink>(text: &[u8], out: &mut O) -> Result<(), Status>
+    ensures { Works (writes_text text.now) (status_of result) [] (O.seen out.old) (O.seen out.new) }
+{
+    put_text(text, out)
 }
 
 /// Has the output hand on all that it holds back. Takes no memory.
@@ -27,7 +34,7 @@ pub fn put_text<O: Sink>(text: &[u8], out: &mut O) -> Result<(), Status>
 /// `Failed`: it failed to, and counted a fault.
 pub fn hand_on<O: Sink>(out: &mut O) -> Result<(), Failed>
     ensures kept { Flushed (O.seen out.old) (O.seen out.new) }
-    ensures ok { OnOk result ((O.seen out.new).is_out ≡ true) }
+    ensures ok { OnOk result (HandedOn (O.seen out.old) (O.seen out.new)) }
     ensures err { OnErr result (Rose (O.seen out.old).faults (O.seen out.new).faults) }
 {
     out.flush()

@@ -1,12 +1,11 @@
 // The driver: the stages from the files to what a command does with them, in order. Each is a call that gives a result, and
 // `?` hands its refusal on.
 
-ghost use Rattle.std.specs.Prelude.{◌≡◌, ◌≤◌, [], length};
+ghost use Rattle.std.specs.Prelude.{◌≡◌, ◌≤◌, length};
 ghost use Rattle.bril_commands.specs.Driver.{DoesFiles, DoesProgram};
-ghost use Rattle.bril_commands.specs.Outcome.{Works};
 ghost use Rattle.bril_commands.specs.PassList.{pass_list};
 ghost use Rattle.bril_commands.specs.CommandLine.{list_for};
-ghost use Rattle.bril_commands.specs.Table.{command, Keeps, KeepsPasses, on_file, on_made, on_program};
+ghost use Rattle.bril_commands.specs.Table.{command, Keeps, KeepsPasses, on_made, on_program};
 ghost use Rattle.bril_report.specs.StageFaults.{status_of};
 ghost use Rattle.bril_report.specs.Telling.{Telling};
 ghost use Rattle.bril_words.specs.Names.{names_of};
@@ -14,21 +13,16 @@ ghost use Rattle.bril_words.specs.Request.{IsActionInRange, IsProgramInRange};
 ghost use Rattle.bril_words.specs.Seen.{text_seen};
 
 use crate::listed_passes::{ListedPasses, list_for};
+use crate::unchanged::{on_file, on_source, on_tree};
 use bril_checker::Checked;
-use bril_commands::commands::check::put_counts;
-use bril_commands::commands::interp::interpret;
-use bril_commands::commands::json::put_json;
 use bril_commands::commands::passes::put_transformed;
-use bril_commands::commands::recording::put_recorded;
-use bril_commands::commands::text::put_text;
 use bril_commands::program::accepted_program;
 use bril_commands::source::{file_tree, linked_tree};
 use bril_demo::demo_tree;
 use bril_outside::files::Files;
 use bril_outside::sink::Sink;
 use bril_report::{Outputs, Status};
-use bril_tree::tree::Tree;
-use bril_words::{Action, FileAction, PassesAction, ProgramAction, Request, TreeAction, names_of};
+use bril_words::{Action, PassesAction, ProgramAction, Request, names_of};
 use image_commands::demo::demo;
 use image_commands::emit::put_image;
 use image_commands::run::run;
@@ -84,9 +78,9 @@ fn do_action<F: Files, O: Sink, E: Sink>(
             let tree = file_tree(alloc, request.path, files)?;
             on_file(alloc, action, &tree, outputs.out)
         }
-        Action::Tree(TreeAction::Link) => {
+        Action::Tree(action) => {
             let tree = linked_tree(alloc, request.path, files)?;
-            put_text(alloc, &tree, outputs.out)
+            on_tree(alloc, action, &tree, outputs.out)
         }
         Action::Program(action) => {
             let tree = linked_tree(alloc, request.path, files)?;
@@ -99,21 +93,6 @@ fn do_action<F: Files, O: Sink, E: Sink>(
             let names = passes.names;
             demo(alloc, functions, program, passes.boxes, names, outputs)
         }
-    }
-}
-
-// Does this with the tree of a file.
-fn on_file<O: Sink>(
-    alloc: Global,
-    action: FileAction,
-    tree: &Tree,
-    out: &mut O,
-) -> Result<(), Status>
-    ensures { Works (on_file action tree.now) (status_of result) [] (O.seen out.old) (O.seen out.new) }
-{
-    match action {
-        FileAction::WriteText => put_text(alloc, tree, out),
-        FileAction::WriteJson => put_json(alloc, tree, out),
     }
 }
 
@@ -134,14 +113,9 @@ fn on_program<F: Files, O: Sink, E: Sink>(
     ensures does { Telling O.seen E.seen (λ told s t. DoesProgram (on_program action) (status_of result) (pass_list (λ p. meaning p) (λ p. counts p) passes.old.boxes.now passes.new.boxes.now passes.old.names.now) (F.seen files.old) (F.seen files.new) program.prog (text_seen request.entry.profile) request.entry.args.now told s t) outputs.old outputs.new }
     ensures keeps { Keeps (λ p. meaning p) (on_program action).takes_passes passes.old.boxes.now passes.new.boxes.now }
 {
-    let args = request.args;
     match action {
-        ProgramAction::Check => put_counts(alloc, &program, outputs.out),
-        ProgramAction::Interpret(settings) => {
-            interpret(alloc, &program, args, settings, outputs.out)
-        }
-        ProgramAction::Record(settings) => {
-            put_recorded(alloc, &program, args, settings, outputs.out)
+        ProgramAction::AsItStands(action) => {
+            on_source(alloc, action, &program, request.args, outputs.out)
         }
         ProgramAction::WithPasses(action) => {
             on_made(alloc, action, request, program, files, passes, outputs)

@@ -1,5 +1,5 @@
 -- What is known of each built command.
-use Rattle.std.proofs.Common.{◌≡◌, refl, Bool, true, false, List, [], ◌∷◌, Some, codes, ◌||◌, not}
+use Rattle.std.proofs.Common.{◌≡◌, refl, Bool, true, false, List, [], ◌∷◌, Some, codes, ◌||◌, not, rules}
 use Rattle.std.specs.Prelude.{find}
 use Rattle.std.specs.List.{list_all}
 use Rattle.std.specs.Str.{bytes_eq}
@@ -50,16 +50,8 @@ abbrev pub ready_shape : Subcommand → Shape
 ready_shape c = built_leaf (inherited (with_leaf_noted (marked_built top_shape)) (subcommand_shape c))
 
 pub ready : (c : Subcommand) → Ready (ready_shape c) c
-ready subcommand.Run = record { name = refl; named = refl; options = (record { long = refl; by_id = refl }, (record { long = refl; by_id = refl }, (record { long = refl; by_id = refl }, (record { long = refl; by_id = refl }, (record { long = refl; by_id = refl }, tt))))); flags = (refl, tt); operands = (record { by_index = refl; by_id = refl }, tt); harmless = refl; quiet = refl; others = λ id e. rw e refl; check = λ rows given. rw given.0 refl }
-ready subcommand.Interp = record { name = refl; named = refl; options = (record { long = refl; by_id = refl }, (record { long = refl; by_id = refl }, (record { long = refl; by_id = refl }, tt))); flags = tt; operands = (record { by_index = refl; by_id = refl }, tt); harmless = refl; quiet = refl; others = λ id e. refl; check = λ rows given. rw given.0 refl }
-ready subcommand.Record = record { name = refl; named = refl; options = (record { long = refl; by_id = refl }, (record { long = refl; by_id = refl }, (record { long = refl; by_id = refl }, (record { long = refl; by_id = refl }, (record { long = refl; by_id = refl }, tt))))); flags = tt; operands = (record { by_index = refl; by_id = refl }, tt); harmless = refl; quiet = refl; others = λ id e. refl; check = λ rows given. rw given.0 refl }
-ready subcommand.Passes = record { name = refl; named = refl; options = (record { long = refl; by_id = refl }, (record { long = refl; by_id = refl }, tt)); flags = tt; operands = (record { by_index = refl; by_id = refl }, tt); harmless = refl; quiet = refl; others = λ id e. refl; check = λ rows given. rw given.0 refl }
-ready subcommand.Emit = record { name = refl; named = refl; options = (record { long = refl; by_id = refl }, (record { long = refl; by_id = refl }, (record { long = refl; by_id = refl }, tt))); flags = tt; operands = (record { by_index = refl; by_id = refl }, tt); harmless = refl; quiet = refl; others = λ id e. refl; check = λ rows given. rw given.0 refl }
-ready subcommand.Check = record { name = refl; named = refl; options = tt; flags = tt; operands = (record { by_index = refl; by_id = refl }, tt); harmless = refl; quiet = refl; others = λ id e. refl; check = λ rows given. rw given.0 refl }
-ready subcommand.Link = record { name = refl; named = refl; options = tt; flags = tt; operands = (record { by_index = refl; by_id = refl }, tt); harmless = refl; quiet = refl; others = λ id e. refl; check = λ rows given. rw given.0 refl }
-ready subcommand.WriteText = record { name = refl; named = refl; options = tt; flags = tt; operands = (record { by_index = refl; by_id = refl }, tt); harmless = refl; quiet = refl; others = λ id e. refl; check = λ rows given. rw given.0 refl }
-ready subcommand.WriteJson = record { name = refl; named = refl; options = tt; flags = tt; operands = (record { by_index = refl; by_id = refl }, tt); harmless = refl; quiet = refl; others = λ id e. refl; check = λ rows given. rw given.0 refl }
-ready subcommand.Demo = record { name = refl; named = refl; options = tt; flags = tt; operands = (record { by_index = refl; by_id = refl }, tt); harmless = refl; quiet = refl; others = λ id e. refl; check = λ rows given. rw given.0 refl }
+ready subcommand.Check = record { name = refl; named = refl; options = search rules; flags = search rules; operands = (record { by_index = refl; by_id = refl }, tt); harmless = refl; quiet = refl; others = λ id e. search (rules, e); check = λ rows given. rw given.0 refl }
+ready _ = record { name = refl; named = refl; options = search rules; flags = search rules; operands = (record { by_index = refl; by_id = refl }, tt); harmless = refl; quiet = refl; others = λ id e. search (rules, e); check = λ rows given. rw given.0 refl }
 
 -- ---- all commands
 
@@ -81,13 +73,5 @@ whole_is_simple = refl
 
 pub meets : (c : Subcommand) → Meets (built whole_app) c (ready_shape c)
 unfolding whole_app walked defaults_fault
-meets subcommand.Run = record { first = refl; free = refl; leaf = refl; defaults = refl; check = refl }
-meets subcommand.Interp = record { first = refl; free = refl; leaf = refl; defaults = refl; check = refl }
-meets subcommand.Record = record { first = refl; free = refl; leaf = refl; defaults = refl; check = refl }
-meets subcommand.Passes = record { first = refl; free = refl; leaf = refl; defaults = refl; check = refl }
-meets subcommand.Emit = record { first = refl; free = refl; leaf = refl; defaults = refl; check = refl }
 meets subcommand.Check = record { first = refl; free = refl; leaf = refl; defaults = refl; check = refl }
-meets subcommand.Link = record { first = refl; free = refl; leaf = refl; defaults = refl; check = refl }
-meets subcommand.WriteText = record { first = refl; free = refl; leaf = refl; defaults = refl; check = refl }
-meets subcommand.WriteJson = record { first = refl; free = refl; leaf = refl; defaults = refl; check = refl }
-meets subcommand.Demo = record { first = refl; free = refl; leaf = refl; defaults = refl; check = refl }
+meets _ = record { first = refl; free = refl; leaf = refl; defaults = refl; check = refl }

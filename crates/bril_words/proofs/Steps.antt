@@ -1,5 +1,5 @@
 -- One word after another: what the walk does at the words of a piece.
-use Rattle.std.proofs.Common.{◌≡◌, ◌∙◌, refl, sym, ap, Bool, true, false, not, ℕ, List, [], ◌∷◌, ◌++◌, true≢false, Option, Some, None, min, ◌+◌, codes}
+use Rattle.std.proofs.Common.{◌≡◌, refl, sym, Bool, true, false, ℕ, List, [], ◌∷◌, ◌++◌, true≢false, Option, Some, None, min, ◌+◌, codes}
 use Rattle.std.proofs.lemmas.Bool.{not-true}
 use Rattle.std.specs.Prelude.{◌==◌}
 use Rattle.std.specs.Str.{bytes_eq}

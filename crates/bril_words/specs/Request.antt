@@ -5,7 +5,9 @@ use Rattle.bril_words.specs.declared.subcommands.Action.TheVariants as action
 use Rattle.bril_words.specs.declared.subcommands.PassesAction.{PassesAction}
 use Rattle.bril_words.specs.declared.subcommands.PassesAction.TheVariants.{Run}
 use Rattle.bril_words.specs.declared.subcommands.ProgramAction.{ProgramAction}
-use Rattle.bril_words.specs.declared.subcommands.ProgramAction.TheVariants.{Interpret, Record, WithPasses}
+use Rattle.bril_words.specs.declared.subcommands.ProgramAction.TheVariants.{AsItStands, WithPasses}
+use Rattle.bril_words.specs.declared.subcommands.SourceAction.{SourceAction}
+use Rattle.bril_words.specs.declared.subcommands.SourceAction.TheVariants.{Interpret, Record}
 
 -- an action, the path of its file, empty where it has none, the list of passes that the words give, the path of the file with the
 -- profile, if one is named, and the arguments of the file's program
@@ -35,16 +37,23 @@ abbrev pub ArePassesInRange : PassesAction → Type 0
 ArePassesInRange (Run settings) = AreSteps settings.steps
 ArePassesInRange _ = Unit {0}
 
+abbrev pub IsSourceInRange : SourceAction → Type 0
+IsSourceInRange (Interpret settings) = AreSteps settings.steps
+IsSourceInRange (Record settings) = AreSteps settings.steps × AreRecorded settings.hot settings.most
+IsSourceInRange _ = Unit {0}
+
 abbrev pub IsProgramInRange : ProgramAction → Type 0
-IsProgramInRange (Interpret settings) = AreSteps settings.steps
-IsProgramInRange (Record settings) = AreSteps settings.steps × AreRecorded settings.hot settings.most
-IsProgramInRange (WithPasses passes) = ArePassesInRange passes
-IsProgramInRange _ = Unit {0}
+IsProgramInRange (AsItStands does) = IsSourceInRange does
+IsProgramInRange (WithPasses does) = ArePassesInRange does
 
 abbrev pub IsActionInRange : Action → Type 0
 IsActionInRange (action.Program program) = IsProgramInRange program
 IsActionInRange (action.Demo functions) = AreFunctions functions
 IsActionInRange _ = Unit {0}
+
+-- what is done with an accepted program as it stands
+abbrev pub as_it_stands : SourceAction → Action
+as_it_stands does = action.Program (AsItStands does)
 
 -- what is done with the program that a list of passes makes
 abbrev pub with_passes : PassesAction → Action

@@ -1,7 +1,7 @@
 -- The commands, and the words and the action of each.
 use Rattle.std.specs.Prelude.{ℕ, Bool, true, false, List, [], ◌∷◌, Option, codes, bytes_eq, find}
 use Rattle.bril_words.specs.Defaults.{default_cells, limits_of}
-use Rattle.bril_words.specs.Request.{with_passes}
+use Rattle.bril_words.specs.Request.{as_it_stands, with_passes}
 use Rattle.bril_words.specs.declared.options.Flag.{Flag}
 use Rattle.bril_words.specs.declared.options.Flag.TheVariants.{Stats}
 use Rattle.bril_words.specs.declared.options.Operand.{Operand}
@@ -13,7 +13,7 @@ use Rattle.bril_words.specs.declared.subcommands.Action.{Action}
 use Rattle.bril_words.specs.declared.subcommands.Action.TheVariants as action
 use Rattle.bril_words.specs.declared.subcommands.FileAction.TheVariants as file
 use Rattle.bril_words.specs.declared.subcommands.PassesAction.TheVariants as passes
-use Rattle.bril_words.specs.declared.subcommands.ProgramAction.TheVariants as program
+use Rattle.bril_words.specs.declared.subcommands.SourceAction.TheVariants as source
 use Rattle.bril_words.specs.declared.subcommands.TreeAction.TheVariants as tree
 use Rattle.bril_words.specs.declared.subcommands.Subcommand.{Subcommand}
 use Rattle.bril_words.specs.declared.subcommands.Subcommand.TheVariants as subcommand
@@ -46,7 +46,7 @@ form_of subcommand.Interp = record {
   options = Frames ∷ Cells ∷ Steps ∷ [];
   flags = [];
   has_args = true;
-  action = λ n. action.Program (program.Interpret (record { limits = n.limits; steps = n.steps }));
+  action = λ n. as_it_stands (source.Interpret (record { limits = n.limits; steps = n.steps }));
 }
 form_of subcommand.Record = record {
   name = codes "record";
@@ -54,7 +54,7 @@ form_of subcommand.Record = record {
   options = Frames ∷ Cells ∷ Steps ∷ Hot ∷ Most ∷ [];
   flags = [];
   has_args = true;
-  action = λ n. action.Program (program.Record (record { limits = n.limits; steps = n.steps; hot = n.hot; most = n.most }));
+  action = λ n. as_it_stands (source.Record (record { limits = n.limits; steps = n.steps; hot = n.hot; most = n.most }));
 }
 form_of subcommand.Passes = record {
   name = codes "passes";
@@ -78,7 +78,7 @@ form_of subcommand.Check = record {
   options = [];
   flags = [];
   has_args = false;
-  action = λ n. action.Program program.Check;
+  action = λ n. as_it_stands source.Check;
 }
 form_of subcommand.Link = record {
   name = codes "link";

@@ -2,7 +2,7 @@
 
 ghost use Rattle.std.specs.Prelude.{◌≡◌, find, is_some};
 ghost use Rattle.std.specs.Str.{bytes_eq};
-ghost use Rattle.bril_words.specs.Request.{AreFunctions, AreRecorded, AreSteps, IsActionInRange, with_passes};
+ghost use Rattle.bril_words.specs.Request.{AreFunctions, AreRecorded, AreSteps, IsActionInRange, as_it_stands, with_passes};
 ghost use Rattle.bril_words.specs.Subcommands.{action_of, form_of, name_of, subcommand_named};
 
 use crate::options::{Flag, Operand, Setting};
@@ -43,14 +43,21 @@ pub enum TreeAction {
 /// What is done with an accepted program.
 #[derive(Clone, Copy, Drop)]
 pub enum ProgramAction {
+    /// It is taken as it stands.
+    AsItStands(SourceAction),
+    /// It is given to a list of passes.
+    WithPasses(PassesAction),
+}
+
+/// What is done with an accepted program as it stands.
+#[derive(Clone, Copy, Drop)]
+pub enum SourceAction {
     /// How many functions and items it has is written.
     Check,
     /// It is interpreted.
     Interpret(InterpretSettings),
     /// It is interpreted, and the profile of the run is written.
     Record(RecordSettings),
-    /// It is given to a list of passes.
-    WithPasses(PassesAction),
 }
 
 /// What is done with the program that a list of passes makes.
@@ -260,9 +267,9 @@ impl Subcommand {
                 stats: numbers.stats,
             })),
             Subcommand::Interp => {
-                Action::Program(ProgramAction::Interpret(InterpretSettings { limits, steps }))
+                as_it_stands(SourceAction::Interpret(InterpretSettings { limits, steps }))
             }
-            Subcommand::Record => Action::Program(ProgramAction::Record(RecordSettings {
+            Subcommand::Record => as_it_stands(SourceAction::Record(RecordSettings {
                 limits,
                 steps,
                 hot: numbers.hot,
@@ -272,7 +279,7 @@ impl Subcommand {
             Subcommand::Emit => with_passes(PassesAction::Emit {
                 limits: limits_of(limits.frames, CELLS),
             }),
-            Subcommand::Check => Action::Program(ProgramAction::Check),
+            Subcommand::Check => as_it_stands(SourceAction::Check),
             Subcommand::Link => Action::Tree(TreeAction::Link),
             Subcommand::WriteText => Action::File(FileAction::WriteText),
             Subcommand::WriteJson => Action::File(FileAction::WriteJson),
@@ -281,6 +288,13 @@ impl Subcommand {
             },
         }
     }
+}
+
+// What is done with an accepted program as it stands.
+fn as_it_stands(action: SourceAction) -> Action
+    ensures { result ≡ as_it_stands action }
+{
+    Action::Program(ProgramAction::AsItStands(action))
 }
 
 // What is done with the program that a list of passes makes.

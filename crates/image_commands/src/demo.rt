@@ -1,6 +1,6 @@
 // `demo`: the demo program is recorded, and made into machine words, which the machine executes.
 
-ghost use Rattle.std.specs.Prelude.{◌≡◌, ◌≤◌, ◌⊎◌, [], length, IfOk};
+ghost use Rattle.std.specs.Prelude.{◌≤◌, ◌⊎◌, [], length, IfOk};
 ghost use Rattle.image_commands.specs.Demo.{DoesRecorded};
 ghost use Rattle.bril_commands.specs.Command.{AreLimitsOf, ImageFor, RefusesEmission};
 ghost use Rattle.bril_commands.specs.Driver.{IsSilent};
@@ -57,8 +57,8 @@ const MOST: u32 = 64;
 /// Records the run of the demo program of so many functions, for 10^12 steps with 8,192 frames and 1,048,576 cells, where 16 arrivals make
 /// a label hot and the profile has 64 entries at most. Gives the program to the list of passes with this profile, and runs what this makes
 /// on the machine, for 10^12 words and with as many frames and cells. What it prints is counted alone. Its line goes to the output by one put: how many functions and
-/// items the program has, how many bytes it printed, and 0, or 2 where it stopped with a fault. Where it has ended, the number of words
-/// that were executed is told on the error output.
+/// items the program has, how many bytes it printed, and 0, or 2 where it stopped with a fault. The number of words that were executed is
+/// told on the error output.
 ///
 /// `UnknownPass`, `PassTooLarge`: the list makes no program. `CodeTooBig`, `StackTooBig`: what it makes may have more than 250,000
 /// words, or needs more than 8,388,608 words of stack. `Spent`: the machine goes on after so many words. With these, and out of memory,
@@ -123,7 +123,7 @@ fn demo_limits() -> Limits
     }
 }
 
-// Runs an image that implements the program. Once it has ended, its line is put, and the number of words is told.
+// Runs an image that implements the program. Once it has ended, or stopped, its line is put, and the number of words is told.
 fn run_image<O: Sink, E: Sink>(
     alloc: Global,
     image: &Image,

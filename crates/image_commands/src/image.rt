@@ -1,6 +1,6 @@
 // The image of an accepted program.
 
-ghost use Rattle.std.specs.Prelude.{◌≡◌, ◌≤◌, length, IfOk, IfErr};
+ghost use Rattle.std.specs.Prelude.{◌≤◌, length, IfOk, IfErr};
 ghost use Rattle.bril_commands.specs.Images.{RefusesImage};
 ghost use Rattle.rv64_image_laws.specs.Implements.{Implements};
 ghost use Rattle.rv64_image_laws.specs.WordBounds.{IsWithin};

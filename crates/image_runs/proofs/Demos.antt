@@ -5,6 +5,7 @@ use Rattle.std.specs.Prelude.{codes, min, nat_le, unwrap_or}
 use Rattle.std.proofs.lemmas.Bool.Decides.{nat_tests}
 use Rattle.bril_outside.specs.Sink.{Counted, SinkSeen, amount_after, count_seen, joined}
 use Rattle.bril_report.proofs.Puts.{PutsAll-none}
+use Rattle.bril_report.specs.Stats.{words_pieces}
 use Rattle.bril_report.specs.declared.status.Status.{Status}
 use Rattle.bril_tree.specs.declared.limits.End.{End}
 use Rattle.bril_tree.specs.declared.limits.End.TheVariants.{Ended}
@@ -12,7 +13,7 @@ use Rattle.bril_tree.specs.declared.limits.Limits.{Limits}
 use Rattle.bril_tree.specs.declared.program.Prog.{Prog}
 use Rattle.bril_commands.proofs.Works.{Works-as}
 use Rattle.bril_commands.specs.Outcome.{ShowsPut, Works}
-use Rattle.bril_commands.specs.commands.Demo.{DemoSize, DemoShows, MadeRuns, demonstrated, line_of, shown_status, words_told}
+use Rattle.bril_commands.specs.commands.Demo.{DemoSize, DemoShows, MadeRuns, demonstrated, line_of, shown_status}
 use Rattle.rv64_machine.specs.MachineView.{has_failed}
 use Rattle.rv64_machine.specs.StepAnswers.{Ran}
 use Rattle.rv64_machine.specs.declared.answer.RunAnswer.TheVariants as run
@@ -49,7 +50,7 @@ line_added size bytes end begun functions all items printed ended line b f a i p
 
 module _ (size : DemoSize) (q : Prog) (limits : Limits) (words : ℕ) (count : Counted) where
   ends_shown : (end : End) → CountsPrinted q limits (Some end) words count → (ended : Option End) (told output : List (List ℕ))
-      → (ended ≡ Some Ended) × (told ≡ words_told end words) × (output ≡ line_of size (unwrap_or count.amount (2 ^ 64 - 1)) end ∷ []) → DemoShows size (MadeRuns q limits) ended told output
+      → (ended ≡ Some Ended) × (told ≡ words_pieces words) × (output ≡ line_of size (unwrap_or count.amount (2 ^ 64 - 1)) end ∷ []) → DemoShows size (MadeRuns q limits) ended told output
   ends_shown end counts ended told output is =
       let line = ap (λ n. line_of size n end ∷ []) (ap (λ a. unwrap_or a (2 ^ 64 - 1)) counts.counted ∙ bytes_counted (length (joined counts.printed))) in
       subst (λ (e : Option End). DemoShows size (MadeRuns q limits) e told output) (sym is.0) (record { end = end; printed = counts.printed; words = words; runs = counts.runs; line = is.2 ∙ line; tells = is.1 })

@@ -1,9 +1,10 @@
 -- The size of the program of a demo, and what its run comes to.
 use Rattle.std.specs.Prelude.{◌≡◌, ℕ, List, [], ◌∷◌, length, Option, Some}
 use Rattle.bril_commands.specs.Outcome.{Outcome}
-use Rattle.bril_commands.specs.commands.Demo.{DemoSize, MadeRuns, demo_words, line_of, words_told}
+use Rattle.bril_commands.specs.commands.Demo.{DemoSize, MadeRuns, demo_words, line_of}
 use Rattle.image_runs.specs.declared.demo.DemoCounts.{DemoCounts}
 use Rattle.bril_outside.specs.Sink.{Counted, amount_after, joined}
+use Rattle.bril_report.specs.Stats.{words_pieces}
 use Rattle.bril_tree.specs.declared.limits.End.{End}
 use Rattle.bril_tree.specs.declared.limits.End.TheVariants.{Ended}
 use Rattle.bril_tree.specs.declared.limits.Limits.{Limits}
@@ -23,7 +24,7 @@ pub record CountsPrinted (q : Prog) (limits : Limits) (ended : Option End) (word
 abbrev pub shows_line : DemoSize → (bytes : ℕ) → End → (words : ℕ) → Outcome
 shows_line size bytes end words = record {
   steps = demo_words;
-  Shows = λ ended told output. (ended ≡ Some Ended) × (told ≡ words_told end words) × (output ≡ line_of size bytes end ∷ []);
+  Shows = λ ended told output. (ended ≡ Some Ended) × (told ≡ words_pieces words) × (output ≡ line_of size bytes end ∷ []);
   Exhausts = λ output. ⊥;
   unwritten = [];
 }

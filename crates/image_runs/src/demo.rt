@@ -3,12 +3,11 @@
 ghost use Rattle.std.specs.Fmt.{decimal};
 ghost use Rattle.std.specs.Prelude.{◌≡◌, [], ◌++◌, IfOk, OnOk, Some};
 ghost use Rattle.bril_commands.specs.Outcome.{Works};
-ghost use Rattle.bril_commands.specs.commands.Demo.{line_of, shown_status, size_of, words_told};
+ghost use Rattle.bril_commands.specs.commands.Demo.{line_of, shown_status, size_of};
 ghost use Rattle.image_runs.specs.Demo.{CountsPrinted, shows_line, size_seen};
 ghost use Rattle.image_runs.specs.Machines.{IsFresh};
 ghost use Rattle.bril_report.specs.StageFaults.{status_of};
 ghost use Rattle.bril_report.specs.Telling.{Telling};
-ghost use Rattle.bril_report.specs.Told.{Tells};
 ghost use Rattle.bril_tree.specs.Run.{FitMain};
 ghost use Rattle.bril_tree.specs.Size.{IsCounted};
 ghost use Rattle.rv64_image_laws.specs.Implements.{Implements};
@@ -17,7 +16,7 @@ ghost use Rattle.rv64_machine.specs.MachineView.{state_of};
 use bril_commands::output::hand_on;
 use bril_outside::count_sink::CountSink;
 use bril_outside::sink::Sink;
-use bril_report::{ErrorOutput, Outputs, Status, put_words};
+use bril_report::{Outputs, Status, put_words};
 use bril_tree::bytes::Bytes;
 use bril_tree::limits::{End, Limits};
 use bril_tree::program::Prog;
@@ -86,18 +85,8 @@ pub fn show<O: Sink, E: Sink>(
     let line = demo_line(alloc, counts, bytes, end)?;
     outputs.out.put(line.as_slice())?;
     hand_on(outputs.out)?;
-    tell_words(end, words, &mut outputs.err);
+    put_words(&mut outputs.err, words);
     Ok(())
-}
-
-// Tells the number of words where the program has ended.
-fn tell_words<E: Sink>(end: End, words: u64, err: &mut ErrorOutput<'_, E>)
-    ensures { Tells E.seen err.old (words_told end words) err.new }
-{
-    match end {
-        End::Ended => put_words(err, words),
-        End::Faulted(_) => {}
-    }
 }
 
 // The line of a demo that printed so many bytes and ended so.

@@ -1,10 +1,9 @@
 // The words of an image as text, a line each.
 
-ghost use Rattle.std.specs.Prelude.{◌≡◌, ◌≢◌, ◌%◌};
-ghost use Rattle.bril_commands.specs.Outcome.{PutsPieces};
+ghost use Rattle.std.specs.Prelude.{◌≡◌, ◌%◌};
+ghost use Rattle.bril_commands.specs.Outcome.{WritesPieces};
 ghost use Rattle.bril_commands.specs.commands.Emit.{word_line, listing};
 ghost use Rattle.bril_report.specs.StageFaults.{status_of};
-ghost use Rattle.bril_report.specs.declared.status.Status.TheVariants.{OutOfMemory};
 ghost use Rattle.rv64_words.specs.Hexadecimal.{hex_digit};
 
 use bril_commands::output::hand_on;
@@ -16,8 +15,7 @@ use bril_report::Status;
 ///
 /// `CannotWrite`: a put failed, or the output failed to hand on.
 pub fn put_words<O: Sink>(words: &[u32], out: &mut O) -> Result<(), Status>
-    ensures does { PutsPieces (status_of result) (listing words.now) (O.seen out.old) (O.seen out.new) }
-    ensures memory { status_of result ≢ OutOfMemory }
+    ensures { WritesPieces (status_of result) (listing words.now) (O.seen out.old) (O.seen out.new) }
 {
     for word in words {
         out.put(&word_line(*word))?;

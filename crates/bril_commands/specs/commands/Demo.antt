@@ -63,23 +63,18 @@ line_of size bytes end =
 abbrev pub demo_line : DemoSize → (printed : List ℕ) → End → List ℕ
 demo_line size printed end = line_of size (bytes_shown printed) end
 
--- the number of words that were executed is told where the program has ended
-abbrev pub words_told : End → ℕ → List (List ℕ)
-words_told Ended words = words_pieces words
-words_told (Faulted fault) words = []
-
 -- ---- its run
 
 -- `Runs` says of a run how it ended, or that it goes on for None, what it printed, in pieces, and how many words were executed.
 module _ (size : DemoSize) (Runs : Option End → (printed : List (List ℕ)) → (words : ℕ) → Type 0) where
-  -- The machine has ended, and this is put and told of it.
+  -- The machine has ended, or stopped with a fault, and this is put and told of it.
   pub record DemoEnds (told output : List (List ℕ)) : Type 0 where
     pub end : End
     pub printed : List (List ℕ)
     pub words : ℕ
     pub runs : Runs (Some end) printed words
     pub line : output ≡ demo_line size (joined printed) end ∷ []
-    pub tells : told ≡ words_told end words
+    pub tells : told ≡ words_pieces words
 
   -- The machine goes on, and nothing is put or told.
   pub record DemoGoesOn (told output : List (List ℕ)) : Type 0 where

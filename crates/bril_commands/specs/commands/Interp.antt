@@ -9,9 +9,8 @@ use Rattle.bril_tree.specs.declared.limits.End.{End}
 use Rattle.bril_tree.specs.declared.limits.Limits.{Limits}
 use Rattle.bril_tree.specs.declared.program.Prog.{Prog}
 use Rattle.bril_tree.specs.declared.value.Value.{Value}
-use Rattle.bril_commands.specs.Command.{OfProgram, OfMain, NoImage}
+use Rattle.bril_commands.specs.Command.{OfSource, OfMain}
 use Rattle.bril_commands.specs.Outcome.{Outcome}
-use Rattle.bril_commands.specs.Profiles.{NoProfile}
 
 -- ---- the run
 
@@ -60,11 +59,5 @@ interpreted p values frames cells steps = record {
 }
 
 -- The program is interpreted for so many steps, under limits of so many frames and cells.
-abbrev pub interprets : (frames cells steps : ℕ) → OfProgram
-interprets frames cells steps = record {
-  arguments = OfMain;
-  profile = NoProfile;
-  takes_passes = false;
-  emission = NoImage;
-  outcome = λ on. interpreted on.source on.values frames cells steps;
-}
+abbrev pub interprets : (frames cells steps : ℕ) → OfSource
+interprets frames cells steps = record { arguments = OfMain; outcome = λ p values. interpreted p values frames cells steps }

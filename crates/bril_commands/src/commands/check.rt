@@ -1,12 +1,12 @@
 // `check`: how many functions and items the accepted program of a file has.
 
-ghost use Rattle.std.specs.Prelude.{◌≡◌, [], ◌∷◌, IfOk};
-ghost use Rattle.bril_commands.specs.Outcome.{PutsPieces};
-ghost use Rattle.bril_commands.specs.commands.Check.{accepted_line};
+ghost use Rattle.std.specs.Prelude.{◌≡◌, [], IfOk};
+ghost use Rattle.bril_commands.specs.Driver.{DoesSource};
+ghost use Rattle.bril_commands.specs.commands.Check.{accepted_line, checks};
 ghost use Rattle.bril_report.specs.StageFaults.{status_of};
 ghost use Rattle.bril_tree.specs.Size.{IsCounted};
 
-use crate::output;
+use crate::output::put_alone;
 use bril_checker::Checked;
 use bril_outside::sink::Sink;
 use bril_report::Status;
@@ -17,10 +17,10 @@ use std::alloc::{AllocError, Global};
 
 /// Puts the line of an accepted program on the output, by one put: how many functions and items it has.
 pub fn put_counts<O: Sink>(alloc: Global, checked: &Checked, out: &mut O) -> Result<(), Status>
-    ensures { PutsPieces (status_of result) (accepted_line checked.now.prog ∷ []) (O.seen out.old) (O.seen out.new) }
+    ensures { DoesSource checks (status_of result) checked.now.prog [] (O.seen out.old) (O.seen out.new) }
 {
     let line = accepted_line(alloc, checked.prog())?;
-    output::put_text(line.as_slice(), out)
+    put_alone(line.as_slice(), out)
 }
 
 // The line of an accepted program: how many functions and items it has.

@@ -1,10 +1,9 @@
 // `interp`: an accepted program is interpreted with the arguments that the words spell.
 
 ghost use Rattle.std.specs.Prelude.{[], IfOk, IfErr};
-ghost use Rattle.bril_commands.specs.Arguments.{AreOnlyValues, RefusesArgs};
-ghost use Rattle.bril_commands.specs.Driver.{IsSilent, Stage};
+ghost use Rattle.bril_commands.specs.Driver.{DoesSource};
 ghost use Rattle.bril_commands.specs.Outcome.{ShowsPut, Works};
-ghost use Rattle.bril_commands.specs.commands.Interp.{IsFresh, interpreted};
+ghost use Rattle.bril_commands.specs.commands.Interp.{IsFresh, interpreted, interprets};
 ghost use Rattle.bril_report.specs.StageFaults.{status_of};
 ghost use Rattle.bril_tree.specs.Run.{FitMain};
 
@@ -34,7 +33,7 @@ pub fn interpret<O: Sink>(
     settings: InterpretSettings,
     out: &mut O,
 ) -> Result<(), Status>
-    ensures { Stage (RefusesArgs (status_of result) checked.now.prog words.now) (IsSilent [] (O.seen out.old) (O.seen out.new)) (λ values. AreOnlyValues checked.now.prog words.now values) (λ values are. Works (interpreted checked.now.prog values settings.limits.frames settings.limits.cells settings.steps) (status_of result) [] (O.seen out.old) (O.seen out.new)) }
+    ensures { DoesSource (interprets settings.limits.frames settings.limits.cells settings.steps) (status_of result) checked.now.prog words.now (O.seen out.old) (O.seen out.new) }
 {
     let values = values_of(alloc, checked.prog(), words)?;
     run_with(alloc, checked, values.as_slice(), settings, out)

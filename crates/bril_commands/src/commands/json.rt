@@ -1,11 +1,11 @@
 // `json`: the file in canonical JSON, and LF.
 
-ghost use Rattle.std.specs.Prelude.{[], ◌∷◌};
-ghost use Rattle.bril_commands.specs.Outcome.{PutsPieces};
-ghost use Rattle.bril_commands.specs.commands.Json.{json_line};
+ghost use Rattle.std.specs.Prelude.{[]};
+ghost use Rattle.bril_commands.specs.Outcome.{Works};
+ghost use Rattle.bril_commands.specs.commands.Json.{writes_as_json};
 ghost use Rattle.bril_report.specs.StageFaults.{status_of};
 
-use crate::output;
+use crate::output::put_alone;
 use bril_json::write_json;
 use bril_outside::sink::Sink;
 use bril_report::Status;
@@ -15,10 +15,10 @@ use std::alloc::Global;
 
 /// Puts the canonical JSON of a tree, and LF, on the output, by one put.
 pub fn put_json<O: Sink>(alloc: Global, tree: &Tree, out: &mut O) -> Result<(), Status>
-    ensures { PutsPieces (status_of result) (json_line tree.now ∷ []) (O.seen out.old) (O.seen out.new) }
+    ensures { Works (writes_as_json tree.now) (status_of result) [] (O.seen out.old) (O.seen out.new) }
 {
     let mut text = Bytes::new(alloc);
     write_json(alloc, tree, &mut text)?;
     text.add(b"\n")?;
-    output::put_text(text.as_slice(), out)
+    put_alone(text.as_slice(), out)
 }

@@ -10,6 +10,7 @@ ghost use Rattle.bril_commands.specs.commands.Record.{recorded_run};
 ghost use Rattle.bril_report.specs.StageFaults.{status_of};
 ghost use Rattle.bril_tree.specs.Run.{FitMain, state_after};
 ghost use Rattle.profile_text.specs.Form.{profile_text};
+ghost use Rattle.profile_text.specs.declared.version.Version.TheVariants.{Second};
 ghost use Rattle.trace_recorder.specs.Recorded.{recorded};
 ghost use Rattle.trace_recorder.specs.Standing.{StandsFor};
 
@@ -78,7 +79,7 @@ fn put_run<O: Sink>(
 
 // The text of a profile.
 fn text_of(alloc: Global, profile: &Profile) -> Result<Bytes, AllocError>
-    ensures { IfOk result (λ text. text ≡ profile_text profile.now.entries) }
+    ensures { IfOk result (λ text. text ≡ profile_text Second profile.now.entries) }
 {
     let mut text = Bytes::new(alloc);
     write_profile(profile, &mut text)?;
@@ -100,10 +101,8 @@ pub fn recorded_run(
     let mut interp = Interp::new(alloc, checked, settings.limits, values)?;
     let mut recorder = Recorder::new(alloc, settings.hot, settings.most);
     let ended = make_steps(&mut interp, &mut recorder, checked.prog(), values, settings)?;
-    Ok(RecordedRun {
-        profile: recorder.into_profile(),
-        ended,
-    })
+    let profile = recorder.into_profile()?;
+    Ok(RecordedRun { profile, ended })
 }
 
 // Makes so many steps, each of which the recorder sees before it. `Ok`: how the program ended, or that it goes on, for `None`.

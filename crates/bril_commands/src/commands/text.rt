@@ -1,11 +1,11 @@
 // `text`: the file in canonical text.
 
-ghost use Rattle.std.specs.Prelude.{[], ◌∷◌};
-ghost use Rattle.bril_commands.specs.Outcome.{PutsPieces};
+ghost use Rattle.std.specs.Prelude.{[]};
+ghost use Rattle.bril_commands.specs.Outcome.{Works};
+ghost use Rattle.bril_commands.specs.commands.Text.{writes_as_text};
 ghost use Rattle.bril_report.specs.StageFaults.{status_of};
-ghost use Rattle.bril_text.specs.Canonical.{canonical_text};
 
-use crate::output;
+use crate::output::put_alone;
 use bril_outside::sink::Sink;
 use bril_report::Status;
 use bril_text::write_text;
@@ -15,9 +15,9 @@ use std::alloc::Global;
 
 /// Puts the canonical text of a tree on the output, by one put.
 pub fn put_text<O: Sink>(alloc: Global, tree: &Tree, out: &mut O) -> Result<(), Status>
-    ensures { PutsPieces (status_of result) (canonical_text tree.now ∷ []) (O.seen out.old) (O.seen out.new) }
+    ensures { Works (writes_as_text tree.now) (status_of result) [] (O.seen out.old) (O.seen out.new) }
 {
     let mut text = Bytes::new(alloc);
     write_text(tree, &mut text)?;
-    output::put_text(text.as_slice(), out)
+    put_alone(text.as_slice(), out)
 }

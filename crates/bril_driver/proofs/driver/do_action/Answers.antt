@@ -14,7 +14,6 @@ use Rattle.bril_tree.specs.Numbered.{Numbered}
 use Rattle.bril_tree.specs.declared.tree.Tree.{Tree}
 use Rattle.bril_words.specs.Seen.{text_seen}
 use Rattle.bril_words.specs.declared.subcommands.Action.TheVariants.{Program}
-use Rattle.bril_driver.proofs.Linking.{Works-linked}
 use Rattle.bril_driver.proofs.driver.do_action.Goals as goal
 
 -- ---- one file
@@ -30,16 +29,14 @@ returns-in_ok-tree-in-File-clause-does g c =
 
 -- ---- linked files
 
-pub returns-in_err-tree-in-Tree-Link-clause-does : goal.returns-in_err-tree-in-Tree-Link-clause-does
-returns-in_err-tree-in-Tree-Link-clause-does g c =
-    let e = err_from_is_err_and c.from_residual-in_err-tree-in-Tree-Link.result c.from_residual-in_err-tree-in-Tree-Link.ensures.1 in
-    rw (c.in-Tree-Link.is, e.1, e.2) (record { same_output = refl; told = []; does = inl (c.in_err-tree-in-Tree-Link.ensures.err, ((refl, refl), refl)); tells = Tells-none g.E.Sink.seen c.args.outputs.now.err })
+pub returns-in_err-tree-in-Tree-clause-does : goal.returns-in_err-tree-in-Tree-clause-does
+returns-in_err-tree-in-Tree-clause-does g c =
+    let e = err_from_is_err_and c.from_residual-in_err-tree-in-Tree.result c.from_residual-in_err-tree-in-Tree.ensures.1 in
+    rw (c.in-Tree.is, e.1, e.2) (record { same_output = refl; told = []; does = inl (c.in_err-tree-in-Tree.ensures.err, ((refl, refl), refl)); tells = Tells-none g.E.Sink.seen c.args.outputs.now.err })
 
-pub returns-in_ok-tree-in-Tree-Link-clause-does : goal.returns-in_ok-tree-in-Tree-Link-clause-does
-returns-in_ok-tree-in-Tree-Link-clause-does g c =
-    let tree = c.in_ok-tree-in-Tree-Link.tree in
-    let works = Works-linked c.in-Tree-Link.field-0 tree (status_of c.put_text.result) _ _ c.put_text.ensures in
-    rw c.in-Tree-Link.is (record { same_output = refl; told = []; does = inr (tree, c.in_ok-tree-in-Tree-Link.ensures.ok, works); tells = Tells-none g.E.Sink.seen c.args.outputs.now.err })
+pub returns-in_ok-tree-in-Tree-clause-does : goal.returns-in_ok-tree-in-Tree-clause-does
+returns-in_ok-tree-in-Tree-clause-does g c =
+    rw c.in-Tree.is (record { same_output = refl; told = []; does = inr (c.in_ok-tree-in-Tree.tree, c.in_ok-tree-in-Tree.ensures.ok, c.on_tree.ensures); tells = Tells-none g.E.Sink.seen c.args.outputs.now.err })
 
 -- ---- their program
 

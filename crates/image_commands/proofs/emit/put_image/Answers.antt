@@ -2,7 +2,7 @@
 use Rattle.std.proofs.Common.{[], refl, inl, inr, ⊎_elim}
 use Rattle.std.proofs.lemmas.Result.{err_from_is_err_and}
 use Rattle.bril_report.specs.StageFaults.{status_of}
-use Rattle.bril_commands.proofs.Works.{Works-put}
+use Rattle.bril_commands.proofs.Works.{Works-told}
 use Rattle.bril_commands.specs.commands.Emit.{listing, shown, ShowsImage}
 use Rattle.image_commands.proofs.emit.put_image.Goals as goal
 
@@ -19,10 +19,10 @@ returns-in_err-image-clause-does g c =
 
 pub returns-clause-does : goal.returns-clause-does
 returns-clause-does g c =
-    let put = rw c.as_slice.ensures at c.put_words.ensures.does in
+    let put = rw c.as_slice.ensures at c.put_words.ensures in
     let made = c.in_ok-made.ensures.ok in
     let q = c.in_ok-made.made.prog in
     let image = c.in_ok-image.image in
     let shows : ShowsImage shown q c.args.limits.frames c.args.limits.cells (listing image.words) = record { limits = c.args.limits; are = (refl, refl); image = image; implements = c.in_ok-image.ensures.implements; text = refl } in
-    let works = Works-put (ShowsImage shown q c.args.limits.frames c.args.limits.cells) (listing image.words) shows (status_of c.put_words.result) _ _ put in
+    let works = Works-told [] (ShowsImage shown q c.args.limits.frames c.args.limits.cells) (listing image.words) shows (status_of c.put_words.result) _ _ put in
     inr ([], refl, inr (made.entries, made.profiled, inr (q, made.made, inr ((c.args.limits, (refl, refl), c.in_ok-image.ensures.within), works))))

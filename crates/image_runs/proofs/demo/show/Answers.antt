@@ -1,10 +1,10 @@
 -- The line was put and handed on, or one of the two failed.
 use Rattle.std.proofs.Common.{[], ◌∷◌, Some, refl, ap, inl, inr}
 use Rattle.std.proofs.lemmas.Result.{err_from_is_err_and}
-use Rattle.bril_commands.specs.commands.Demo.{words_told}
 use Rattle.bril_outside.proofs.SinkWrites.{PutSome-one}
 use Rattle.bril_report.proofs.Puts.{PutsAll-one}
 use Rattle.bril_report.proofs.Telling.{Tells-none}
+use Rattle.bril_report.specs.Stats.{words_pieces}
 use Rattle.bril_tree.specs.declared.limits.End.TheVariants.{Ended}
 use Rattle.image_runs.proofs.demo.show.Goals as goal
 
@@ -22,7 +22,7 @@ returns-in_err-put g c =
     rw (e.1, e.2) (record {
       same_output = refl;
       told = [];
-      does = (refl, record { ended = Some Ended; told = words_told c.args.end c.args.words; output = _; shows = (refl, refl, ap (λ l. l ∷ []) line); took = inl put });
+      does = (refl, record { ended = Some Ended; told = words_pieces c.args.words; output = _; shows = (refl, refl, ap (λ l. l ∷ []) line); took = inl put });
       tells = Tells-none g.E.Sink.seen c.args.outputs.now.err;
     })
 
@@ -34,7 +34,7 @@ returns-in_err-hand_on g c =
     rw (e.1, e.2) (record {
       same_output = refl;
       told = [];
-      does = (refl, record { ended = Some Ended; told = words_told c.args.end c.args.words; output = _; shows = (refl, refl, ap (λ l. l ∷ []) line); took = inr (record { between = _; puts = PutsAll-one took c.in_ok-put.ensures.times; flushed = c.in_err-hand_on.ensures.kept; rose = c.in_err-hand_on.ensures.err }) });
+      does = (refl, record { ended = Some Ended; told = words_pieces c.args.words; output = _; shows = (refl, refl, ap (λ l. l ∷ []) line); took = inr (record { between = _; puts = PutsAll-one took c.in_ok-put.ensures.times; flushed = c.in_err-hand_on.ensures.kept; rose = c.in_err-hand_on.ensures.err }) });
       tells = Tells-none g.E.Sink.seen c.args.outputs.now.err;
     })
 
@@ -42,4 +42,4 @@ pub returns : goal.returns
 returns g c =
     let took = rw c.as_slice.ensures at c.in_ok-put.ensures.ok in
     let line = c.in_ok-line.ensures in
-    record { same_output = refl; told = _; does = record { output = _; shows = (refl, refl, ap (λ l. l ∷ []) line); took = record { between = _; puts = PutsAll-one took c.in_ok-put.ensures.times; flushed = c.in_ok-hand_on.ensures.kept; out = c.in_ok-hand_on.ensures.ok } }; tells = c.tell_words.ensures }
+    record { same_output = refl; told = _; does = record { output = _; shows = (refl, refl, ap (λ l. l ∷ []) line); took = record { between = _; puts = PutsAll-one took c.in_ok-put.ensures.times; flushed = c.in_ok-hand_on.ensures.kept; out = c.in_ok-hand_on.ensures.ok } }; tells = c.put_words.ensures }

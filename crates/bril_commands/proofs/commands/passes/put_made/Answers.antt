@@ -14,7 +14,7 @@ returns-in_err-text g c =
 
 pub returns : goal.returns
 returns g c =
-    let put = rw c.as_slice.ensures at c.put_text-put.ensures.does in
+    let put = rw c.as_slice.ensures at c.put_text-put.ensures in
     let q = c.args.program.now in
-    let works = Works-told _ (PutsTextOf q) (c.in_ok-text.text ∷ []) (record { text = c.in_ok-text.text; is = c.in_ok-text.ensures; one = refl }) (status_of c.put_text-put.result) _ _ put c.put_text-put.ensures.memory in
+    let works = Works-told _ (PutsTextOf q) (c.in_ok-text.text ∷ []) (record { text = c.in_ok-text.text; is = c.in_ok-text.ensures; one = refl }) (status_of c.put_text-put.result) _ _ put in
     record { same_output = refl; told = _; does = works; tells = c.tell_tallies.ensures }
