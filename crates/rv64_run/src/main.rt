@@ -1,24 +1,25 @@
 //! A program that lists machine words as text, or runs them. `bench/words` and `bench/machine` use it.
 //!
-//! It reads words in hexadecimal, one a line, from standard input. With the word `list` it prints each word's text, with
+//! It reads words in hexadecimal, one a line, from standard input. With the word `list` it prints their listing, with
 //! `run` and ints it runs the words as an image with these arguments of `main`, and tells on standard error how many words
 //! were executed and how the run ended.
 //!
-//! 1. The program (`src/main.rt`), and the text of a word, from its bits (`src/text.rt`).
+//! 1. The program (`src/main.rt`).
 #![tactic(auto)]
 
-mod text;
-
 use bril_outside::os_sink::OsSink;
+use bril_tree::bytes::Bytes;
 use bril_tree::limits::{End, Limits};
 use bril_tree::sequence::Seq;
 use bril_tree::value::Value;
+use rv64_listing::write_listing;
 use rv64_machine::answer::RunAnswer;
 use rv64_machine::machine::Machine;
 use rv64_words::image::Image;
 use rv64_words::region::MOST_WORDS;
 use std::alloc::{AllocError, Global};
-use std::{env, io};
+use std::env;
+use std::io::{self, Write};
 
 const LIMITS: Limits = Limits {
     frames: 1,
@@ -38,10 +39,9 @@ fn main(rt: HostRuntime) -> anyhow::Result<()> {
     let _program = args.next();
     match args.next() {
         Some(command) if command.as_str() == "list" => {
-            for bits in words.as_slice() {
-                let line = text::of_bits(alloc, *bits)?;
-                println!(rt; "{line}")?;
-            }
+            let mut text = Bytes::new(alloc);
+            write_listing(words.as_slice(), &mut text)?;
+            io::writer(&rt).write_all(text.as_slice())?;
             Ok(())
         }
         Some(command) if command.as_str() == "run" => {

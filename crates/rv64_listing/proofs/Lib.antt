@@ -1,0 +1,9 @@
+pub mod Cut
+pub mod Uncut
+pub mod Front
+pub mod Names
+pub mod Fields
+pub mod Words
+pub mod Tells
+pub mod Written
+pub mod Listings

@@ -1,0 +1,8 @@
+use Rattle.std.proofs.Common.{[], ◌∷◌}
+use Rattle.std.proofs.lemmas.Bool.Decides.{Decides-eqb}
+use Rattle.std.proofs.lemmas.Slice.Eq.{strip_prefix_is}
+use Rattle.rv64_listing.proofs.Front.{comma_step}
+use Rattle.rv64_listing.proofs.tokens.comma.Goals as goal
+
+pub returns : goal.returns
+returns c = comma_step c.args.rest.now c.strip_prefix.result (strip_prefix_is Decides-eqb c.args.rest.now (44 ∷ []) c.strip_prefix.result c.strip_prefix.ensures.cases)
