@@ -1,0 +1,4 @@
+pub mod Made
+pub mod Numbers
+pub mod Shipped
+pub mod lemmas

@@ -1,0 +1,5 @@
+pub mod acceptance
+pub mod growth
+pub mod layout
+pub mod pairs
+pub mod refinement

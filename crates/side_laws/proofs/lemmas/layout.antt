@@ -1,0 +1,5 @@
+pub mod Laying
+pub mod Bound
+pub mod Sound
+pub mod Straight
+pub mod Plans
