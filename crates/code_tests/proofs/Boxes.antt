@@ -1,5 +1,5 @@
 -- Boxes whose passes make as the shipped ones do.
-use Rattle.std.proofs.Common.{◌≡◌, Bool, true, false, not, ◌&&◌, List, [], ◌∷◌, refl, sym, subst, ◌∙◌}
+use Rattle.std.proofs.Common.{◌≡◌, Bool, true, not, ◌&&◌, List, [], ◌∷◌, refl, sym, subst, ◌∙◌}
 use Rattle.std.proofs.lemmas.Bool.{and_parts, not-true, true≢false}
 use Rattle.std.specs.declared.dyn_box.DynBox.{DynBox}
 use Rattle.pass_budget_laws.specs.Shipped.{Shipped}

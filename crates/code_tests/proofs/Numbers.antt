@@ -3,7 +3,7 @@ use Rattle.std.proofs.Common.{◌≡◌, ℕ, Bool, List}
 use Rattle.bril_profile.specs.declared.profile.Profile.{Profile}
 use Rattle.bril_tree.specs.declared.program.Prog.{Prog}
 use Rattle.pass_law.proofs.Equations.{equation_number}
-use Rattle.pass_law.specs.Meaning.{Meaning, HasNumbers}
+use Rattle.pass_law.specs.Meaning.{HasNumbers}
 use Rattle.pass_pad.specs.Pad.{pad_meaning}
 
 pub bounded_numbers : (answers : List ℕ → Bool) (Makes : Prog → Profile → Prog → Type 0) (bound : ℕ) → HasNumbers (record pad_meaning { answers = answers; IsBound = λ P profile k. k ≡ bound; Makes = Makes })

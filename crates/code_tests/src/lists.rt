@@ -6,7 +6,7 @@ ghost use Rattle.std.specs.Prelude.{◌≡◌, true, IfOk};
 ghost use Rattle.std.specs.List.{All};
 ghost use Rattle.shipped_passes.specs.Shipped.{MakesAsShipped};
 
-use crate::passes::{boxed_lacking, boxed_pad, tally};
+use crate::passes::{boxed_lacking, boxed_pad, refusal, tally};
 use bril_checker::Checked;
 use bril_cli::top::bril_top;
 use bril_outside::mem_files::MemFiles;
@@ -14,7 +14,7 @@ use bril_outside::mem_sink::MemSink;
 use bril_profile::Profile;
 use bril_tree::sequence::Seq;
 use bril_tree::text::Text;
-use pass_law::{Pass, PassFault, Tally, room};
+use pass_law::{Pass, PassFault, Tally};
 use std::alloc::{AllocError, Global};
 use std::test::Fail;
 
@@ -47,10 +47,7 @@ impl Pass for Every {
         prog: &Checked,
         _profile: &Profile,
     ) -> Result<Checked, PassFault> {
-        match room(prog.prog(), self.bound) {
-            Ok(()) => Err(PassFault::Memory),
-            Err(fault) => Err(fault),
-        }
+        Err(refusal(prog, self.bound))
     }
 }
 

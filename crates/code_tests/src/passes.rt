@@ -2,7 +2,8 @@
 
 ghost use Rattle.std.specs.Prelude.{◌≡◌, [], codes, IfOk};
 ghost use Rattle.shipped_passes.specs.Shipped.{MakesAsShipped};
-ghost use Rattle.pass_law.specs.Meaning.{is_name};
+ghost use Rattle.bril_tree.specs.Size.{item_count};
+ghost use Rattle.pass_law.specs.Meaning.{IsRefused, is_name};
 ghost use Rattle.pass_law.specs.Tallies.{zero_tally};
 ghost use Rattle.pass_pad.specs.Pad.{pad_meaning};
 ghost use Rattle.pass_pad.specs.Plan.{padding, pad_plan};
@@ -76,10 +77,17 @@ impl Pass for Lacking {
         prog: &Checked,
         _profile: &Profile,
     ) -> Result<Checked, PassFault> {
-        match room(prog.prog(), self.bound) {
-            Ok(()) => Err(PassFault::Memory),
-            Err(fault) => Err(fault),
-        }
+        Err(refusal(prog, self.bound))
+    }
+}
+
+// The refusal of a program by a pass that makes nothing: its bound is too large, or it is out of memory.
+pub(crate) fn refusal(prog: &Checked, bound: u64) -> PassFault
+    ensures { IsRefused (λ b. b ≡ bound) (item_count prog.now.prog) result }
+{
+    match room(prog.prog(), bound) {
+        Ok(()) => PassFault::Memory,
+        Err(fault) => fault,
     }
 }
 

@@ -2,6 +2,7 @@
 
 ghost use Rattle.std.specs.Prelude.{◌<◌, ◌^◌, length};
 
+use crate::first::first_function;
 use crate::row::add_line;
 use bril_tree::numbered::VarInfo;
 use case_text::{LineFault, checked_of};
@@ -14,16 +15,10 @@ pub fn add_constants(alloc: Global, source: &[u8], shown: &mut Vec<u8>) -> Resul
     requires { length source.now < 2 ^ 32 }
 {
     let checked = checked_of(alloc, source)?;
-    let Some(func) = checked.prog().funcs.as_slice().first() else {
-        return Err(LineFault::Form);
-    };
+    let func = first_function(checked.prog())?;
     let count = func.code.as_slice().len();
-    let vars = func.vars.as_slice();
-    if count > 100_000 || vars.len() > 100_000 {
-        return Err(LineFault::Form);
-    }
     let constants = table(alloc, &checked, 0)?;
-    add_known(alloc, &constants, vars, shown)?;
+    add_known(alloc, &constants, func.vars.as_slice(), shown)?;
     add_reached(alloc, &constants, count as u32, shown)?;
     Ok(())
 }

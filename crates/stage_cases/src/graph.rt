@@ -2,6 +2,7 @@
 
 ghost use Rattle.std.specs.Prelude.{◌≡◌, ◌+◌, ◌<◌, ◌^◌, length};
 
+use crate::first::first_function;
 use crate::row::add_line;
 use case_text::{LineFault, program_of};
 use flow_graph::{Graph, GraphFault};
@@ -12,13 +13,8 @@ pub fn add_graph(alloc: Global, source: &[u8], shown: &mut Vec<u8>) -> Result<()
     requires { length source.now < 2 ^ 32 }
 {
     let prog = program_of(alloc, source)?;
-    let Some(func) = prog.funcs.as_slice().first() else {
-        return Err(LineFault::Form);
-    };
+    let func = first_function(&prog)?;
     let count = func.code.as_slice().len();
-    if count > 100_000 {
-        return Err(LineFault::Form);
-    }
     if func.shape_fault().is_some() {
         return Err(LineFault::Form);
     }

@@ -2,6 +2,7 @@
 
 ghost use Rattle.std.specs.Prelude.{◌≡◌, ◌<◌, ◌^◌, length};
 
+use crate::first::first_function;
 use crate::row::add_line;
 use bril_tree::numbered::VarInfo;
 use case_text::{LineFault, checked_of};
@@ -13,17 +14,11 @@ pub fn add_live(alloc: Global, source: &[u8], shown: &mut Vec<u8>) -> Result<(),
     requires { length source.now < 2 ^ 32 }
 {
     let checked = checked_of(alloc, source)?;
-    let Some(func) = checked.prog().funcs.as_slice().first() else {
-        return Err(LineFault::Form);
-    };
+    let func = first_function(checked.prog())?;
     let count = func.code.as_slice().len();
-    let vars = func.vars.as_slice();
-    if count > 100_000 || vars.len() > 100_000 {
-        return Err(LineFault::Form);
-    }
     let live = Live::of(alloc, &checked, 0)?;
     for point in 0..=count as u32 {
-        add_point(alloc, &live, point, vars, shown)?;
+        add_point(alloc, &live, point, func.vars.as_slice(), shown)?;
     }
     Ok(())
 }

@@ -71,8 +71,8 @@ fn image_of(alloc: Global, bits: &str) -> Result<Image, LineFault>
     })
 }
 
-// The numbers of eight hexadecimal digits each.
-fn words_of(alloc: Global, bits: &str) -> Result<Seq<u32>, LineFault> {
+/// The numbers of eight hexadecimal digits each.
+pub fn words_of(alloc: Global, bits: &str) -> Result<Seq<u32>, LineFault> {
     let mut words = Seq::new(alloc);
     for word in bits.split_whitespace() {
         words.push(bits_of(word)?)?;
@@ -80,8 +80,8 @@ fn words_of(alloc: Global, bits: &str) -> Result<Seq<u32>, LineFault> {
     Ok(words)
 }
 
-// A number in decimal.
-fn number_of(word: &str) -> Result<u64, LineFault> {
+/// A number in decimal.
+pub fn number_of(word: &str) -> Result<u64, LineFault> {
     word.parse::<u64>().map_err(|_| LineFault::Form)
 }
 

@@ -4,7 +4,8 @@
 //! 1. The rows, by their calls (`src/row.rt`).
 //! 2. The calls, a file for each topic: flow graphs (`src/graph.rt`), live locations (`src/live.rt`), constants
 //!    (`src/constants.rt`), SSA form (`src/ssa.rt`), profiles and their recorder (`src/profiles.rt`), single steps
-//!    (`src/steps.rt`), homes (`src/placed.rt`, `src/counted.rt`), machine words (`src/machine.rt`, `src/groups.rt`).
+//!    (`src/steps.rt`), homes (`src/placed.rt`, `src/counted.rt`), machine words (`src/machine.rt`, `src/groups.rt`),
+//!    their listings (`src/listings.rt`) and their files (`src/elf.rt`).
 
 // Makes the calls of standard input that no command line makes or shows, and shows what they answer.
 //
@@ -31,11 +32,18 @@
 //                            is, and what the first variable holds; the guards of the first function that failed, and how
 //                            often; and the output
 //     profile TEXT           the entries of the text's profile, each with its choices, 1 for a first label and 0 for a second,
-//                            and the text that is written of them; or the first line that isn't of the form
+//                            and its count, and the text that is written of them; or the first line that isn't of the form
 //     record HOT MOST SOURCE the text of what a recorder takes of the run of `main`: HOT arrivals make a label hot, and there
 //                            are at most MOST entries
 //     count PIECE PIECE ..   how many bytes a sink that counts took, after each piece
 //     decode BITS            the machine word of eight hexadecimal digits
+//     listing BITS BITS ..   the listing of these machine words
+//     words SOURCE           the machine words of a listing, or the first line that tells none
+//     wrapped WORDS BITS ..  the ELF file of the image of these machine words with a stack of so many words of 64 bits; what it opens
+//                            as; what fronts of it open as, where they aren't said to end too early; what it opens as with each byte
+//                            in turn changed in bits 0, 2, 4 and 6, where that isn't as for the byte before; and with a byte more
+//     filled WORDS COUNT     what the file of the image of so many words 0 opens as, with a stack of so many words of 64 bits
+//     opened SOURCE          what a file opens as: the stack and the words, or the fault
 //     ssa ARG ARG .. SOURCE  the canonical text of the source's program in SSA form, how a run of it with these arguments ends and what
 //                            it prints, and whether the program in SSA form does the same
 //     machine STEPS PUT ARG BITS BITS ..
@@ -47,8 +55,11 @@
 
 mod constants;
 mod counted;
+mod elf;
+mod first;
 mod graph;
 mod groups;
+mod listings;
 mod live;
 mod machine;
 mod numbered;

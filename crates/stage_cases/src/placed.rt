@@ -2,6 +2,7 @@
 
 ghost use Rattle.std.specs.Prelude.{◌<◌, ◌^◌, length};
 
+use crate::first::first_function;
 use crate::row::add_line;
 use bril_checker::Checked;
 use bril_tree::home::Home;
@@ -17,9 +18,7 @@ pub fn add_placed(alloc: Global, source: &[u8], shown: &mut Vec<u8>) -> Result<(
     requires { length source.now < 2 ^ 32 }
 {
     let checked = checked_of(alloc, source)?;
-    let Some(func) = checked.prog().funcs.as_slice().first() else {
-        return Err(LineFault::Form);
-    };
+    let func = first_function(checked.prog())?;
     add_first(alloc, &checked, func.vars.as_slice(), shown)
 }
 

@@ -35,7 +35,7 @@ pub fn add_profile(alloc: Global, text: &[u8], shown: &mut Vec<u8>) -> Result<()
             add_line(line.as_str(), shown)?;
         }
         Ok(profile) => {
-            add_entries(profile.entries.as_slice(), shown)?;
+            add_entries(alloc, profile.entries.as_slice(), shown)?;
             add_written(alloc, &profile, shown)?;
         }
     }
@@ -43,7 +43,7 @@ pub fn add_profile(alloc: Global, text: &[u8], shown: &mut Vec<u8>) -> Result<()
 }
 
 // Appends the entries.
-fn add_entries(entries: &[Entry], shown: &mut Vec<u8>) -> Result<(), AllocError> {
+fn add_entries(alloc: Global, entries: &[Entry], shown: &mut Vec<u8>) -> Result<(), AllocError> {
     for entry in entries {
         shown.extend_from_slice(b"entry ")?;
         shown.extend_from_slice(entry.func.as_bytes())?;
@@ -51,7 +51,8 @@ fn add_entries(entries: &[Entry], shown: &mut Vec<u8>) -> Result<(), AllocError>
         shown.extend_from_slice(entry.label.as_bytes())?;
         shown.extend_from_slice(b" [")?;
         add_choices(entry.choices.as_slice(), shown)?;
-        add_line("]", shown)?;
+        let end = format!(in alloc; "] {}", entry.count)?;
+        add_line(end.as_str(), shown)?;
     }
     Ok(())
 }
@@ -129,5 +130,5 @@ fn recorded(
             break;
         }
     }
-    Ok(recorder.into_profile())
+    recorder.into_profile()
 }

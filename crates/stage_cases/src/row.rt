@@ -4,8 +4,10 @@ ghost use Rattle.std.specs.Prelude.{◌<◌, ◌^◌, length};
 
 use crate::constants::add_constants;
 use crate::counted::add_counted;
+use crate::elf::{add_filled, add_opened, add_wrapped};
 use crate::graph::add_graph;
 use crate::groups::add_groups;
+use crate::listings::{add_listing, add_words};
 use crate::live::add_live;
 use crate::machine::{add_run, add_word};
 use crate::numbered::add_numbered;
@@ -30,6 +32,9 @@ pub fn add_row(alloc: Global, line: &str, shown: &mut Vec<u8>) -> Result<(), Lin
         "==" => Ok(()),
         "decode" => add_word(alloc, rest, shown),
         "machine" => add_run(alloc, rest, shown),
+        "listing" => add_listing(alloc, rest, shown),
+        "wrapped" => add_wrapped(alloc, rest, shown),
+        "filled" => add_filled(alloc, rest, shown),
         "count" => add_counts(alloc, rest, shown),
         "counted" => add_counted(alloc, rest, shown),
         "record" => add_record(alloc, rest, shown),
@@ -70,6 +75,8 @@ fn add_answer(
         "constants" => add_constants(alloc, source, shown),
         "steps" => add_steps(alloc, source, shown),
         "profile" => add_profile(alloc, source, shown),
+        "words" => add_words(alloc, source, shown),
+        "opened" => add_opened(alloc, source, shown),
         _ => Err(LineFault::Form),
     }
 }
