@@ -1,5 +1,5 @@
 -- Lines, and the bytes at which they are cut.
-use Rattle.std.proofs.Common.{◌≡◌, ◌≢◌, ℕ, suc, ◌≤◌, Bool, true, false, not, nat_eq, List, [], ◌∷◌, ◌++◌, length, refl, sym, ap, subst, ◌∙◌, arith, append_assoc}
+use Rattle.std.proofs.Common.{◌≡◌, ◌≢◌, ℕ, suc, ◌≤◌, Bool, true, false, nat_eq, List, [], ◌∷◌, ◌++◌, length, refl, sym, ap, subst, ◌∙◌, arith, append_assoc}
 use Rattle.std.specs.Prelude.{◌==◌}
 use Rattle.std.specs.List.{All}
 use Rattle.std.proofs.lemmas.List.Elements.{All-nil, All-cons, All-head, All-tail}
@@ -61,11 +61,6 @@ lacks_at b xs next after l e = by next (subst (Lacks b) e l)
     by (x ∷ next) l = by next (All-tail (λ c. c ≢ b) x (next ++ b ∷ after) l)
 
 -- what one test of slices says
-pub differs_from : (xs ys zs : List ℕ) (r : Bool) → r ≡ not (pointwise nat_eq xs ys) → r ≡ true → ys ≡ zs → xs ≡ zs → ⊥
-differs_from xs ys zs r e t same d =
-    let equal : pointwise nat_eq xs ys ≡ true = (slice_eq-Decides Decides-eqb xs ys (pointwise nat_eq xs ys) refl).1 (d ∙ sym same) in
-    let k : true ≡ false = sym t ∙ e ∙ ap not equal in cc
-
 pub equal_not : (xs ys zs : List ℕ) (r : Bool) → r ≡ pointwise nat_eq xs ys → r ≡ false → ys ≡ zs → xs ≡ zs → ⊥
 equal_not xs ys zs r e t same d =
     let equal : pointwise nat_eq xs ys ≡ true = (slice_eq-Decides Decides-eqb xs ys (pointwise nat_eq xs ys) refl).1 (d ∙ sym same) in
