@@ -1,12 +1,13 @@
 -- What a recorder saw of a run, step by step.
-use Rattle.std.proofs.Common.{◌≡◌, ◌⊎◌, ℕ, zero, suc, ◌+◌, ◌-◌, ◌<◌, ◌≤◌, false, true≢false, List, [], ◌∷◌, ◌++◌, map, min, append-nil, add-zero, add-suc, Option, Some, None, sym, ap, ◌∙◌, subst, arith, ⊎_elim}
+use Rattle.std.proofs.Common.{◌≡◌, ◌⊎◌, ℕ, zero, suc, ◌+◌, ◌-◌, ◌<◌, ◌≤◌, false, true≢false, List, [], ◌∷◌, ◌++◌, map, min, append-nil, add-zero, add-suc, Option, Some, None, refl, sym, ap, ap₂, ◌∙◌, subst, arith, ⊎_elim}
 use Rattle.std.specs.Prelude.{◌^◌}
-use Rattle.std.proofs.lemmas.List.{map-append}
+use Rattle.std.proofs.lemmas.List.{append_assoc, map-append}
 use Rattle.bril_checker.specs.Checked.{CheckedView}
 use Rattle.bril_interpreter.proofs.Printed.{after-final}
-use Rattle.bril_interpreter.proofs.Runs.{Reached-ended, Reached-more, behind, behind_reached}
+use Rattle.bril_interpreter.proofs.Runs.{Reached-ended, Reached-more, Reached-ran_quickly, after_behind, behind, behind_reached}
 use Rattle.bril_interpreter.specs.Interpreter.{InterpView, state_of}
-use Rattle.bril_interpreter.specs.StepAnswers.{HadFailed, PrintFailed, Reached, print_at, puts_within, reached_after}
+use Rattle.bril_interpreter.specs.StepAnswers.{HadFailed, PrintFailed, Reached, print_at, puts_within, reached_after, stepped}
+use Rattle.bril_interpreter.specs.Steps.{RanOn}
 use Rattle.bril_interpreter.specs.Line.{puts_of}
 use Rattle.bril_outside.specs.Sink.{Counted, SinkSeen, count_seen}
 use Rattle.bril_tree.specs.Run.{first_state, state_after}
@@ -17,7 +18,8 @@ use Rattle.bril_tree.specs.declared.program.Prog.{Prog}
 use Rattle.bril_tree.specs.declared.value.Value.{Value}
 use Rattle.trace_recorder.specs.Recorded.{counts_on, most_count, no_counts}
 use Rattle.trace_recorder.specs.Sight.{sight}
-use Rattle.trace_recorder.specs.Standing.{RecorderView, StandsFor, held_on}
+use Rattle.trace_recorder.specs.Standing.{RecorderView, StandsFor, held_on, states_before}
+use Rattle.simulation.proofs.After.{after-add}
 use Rattle.bril_commands.proofs.Interpreting.{reached}
 use Rattle.bril_commands.specs.Recording.{Records, before_step, states_within}
 use Rattle.bril_commands.specs.commands.Interp.{IsFresh}
@@ -50,6 +52,14 @@ module _ (p : Prog) (limits : Limits) (values : List Value) where
       ∙ ap (λ o. states_within p limits values (m + k) ++ before_step o (state_after p limits values (m + k))) (ended_later m k how e)
       ∙ append-nil (states_within p limits values (m + k))
       ∙ states_more m k how e
+
+  -- so a run that goes on after a step went on before it
+  pub runs_before : (m : ℕ) → (state_after p limits values (suc m)).ended ≡ None → (state_after p limits values m).ended ≡ None
+  runs_before m runs = by (state_after p limits values m).ended refl
+    where
+      by : (o : Option End) → (state_after p limits values m).ended ≡ o → (state_after p limits values m).ended ≡ None
+      by None e = e
+      by (Some how) e = absurd (let both : Some how ≡ None = sym (ended_later m 1 how e) ∙ ap (λ n. (state_after p limits values n).ended) (let one : m + 1 ≡ suc m = omega arith in one) ∙ runs in cc)
 
   states_final : (m n : ℕ) (how : End) → m ≤ n → (state_after p limits values m).ended ≡ Some how → states_within p limits values n ≡ states_within p limits values m
   states_final m n how h e = ap (states_within p limits values) (let all : n ≡ m + (n - m) = omega arith in all) ∙ states_more m (n - m) how e
@@ -95,6 +105,47 @@ module _ (i : InterpView) (p : Prog) (limits : Limits) (values : List Value) (fr
           stands = subst (λ run. StandsFor saw_next p hot most run) (sym all) stands;
           ends = ap (λ (t : State). t.ended) (sym (reached_at steps)) ∙ (Reached-ended n steps i mid new s t u how within has.made e two).0;
         }
+
+-- ---- steps that the interpreter and the recorder make together
+
+module _ (i : InterpView) (p : Prog) (limits : Limits) (values : List Value) (fresh : IsFresh i p limits values) (hot most n : ℕ) (mid : InterpView) (r : RecorderView) (s t : SinkSeen) (has : HasRecorded i p limits values hot most n mid r s t) where
+  -- a state behind them shows what the program's state does
+  shows_later : (j : ℕ) → sight p (reached_after mid j) ≡ sight p (state_after p limits values (n + j))
+  shows_later j = sym (ap (sight p) (after-add (stepped i) n j (state_of i) ∙ after_behind n j i mid s t has.made)) ∙ ap (sight p) (reached i p limits values fresh (n + j) (n + j))
+
+  shown_later : (j : ℕ) → (state_after p limits values (n + j)).ended ≡ None → map (sight p) (states_within p limits values n ++ states_before mid j) ≡ map (sight p) (states_within p limits values (n + j))
+  shown_later zero runs = ap (map (sight p)) (append-nil (states_within p limits values n)) ∙ ap (λ m. map (sight p) (states_within p limits values m)) (sym (add-zero n))
+  shown_later (suc j) runs =
+      let before : (state_after p limits values (n + j)).ended ≡ None = runs_before p limits values (n + j) (ap (λ m. (state_after p limits values m).ended) (sym (add-suc n j)) ∙ runs) in
+      let x = reached_after mid j in
+      let y = state_after p limits values (n + j) in
+      ap (map (sight p)) (sym (append_assoc (states_within p limits values n) (states_before mid j) (x ∷ [])))
+      ∙ map-append (sight p) (states_within p limits values n ++ states_before mid j) (x ∷ [])
+      ∙ ap₂ (λ seen one. seen ++ one ∷ []) (shown_later j before) (shows_later j)
+      ∙ sym (map-append (sight p) (states_within p limits values (n + j)) (y ∷ []))
+      ∙ ap (λ o. map (sight p) (states_within p limits values (n + j) ++ before_step o (state_after p limits values (n + j)))) (sym before)
+      ∙ ap (λ m. map (sight p) (states_within p limits values m)) (sym (add-suc n j))
+
+  -- the recorder stands for the states before them too
+  pub recorded_on : (k : ℕ) (new : InterpView) (saw_all : RecorderView) → RanOn k mid new
+      → ((hot most : ℕ) (run : List State) → StandsFor r mid.checked.prog hot most run → StandsFor saw_all mid.checked.prog hot most (run ++ states_before mid k))
+      → HasRecorded i p limits values hot most (n + k) new saw_all s t
+  recorded_on k new saw_all on sees =
+      let made : Reached (reached_after i (n + k)) (puts_within i (n + k)) i new s t = Reached-ran_quickly n k i mid new s t has.made on.ran in
+      let same : mid.checked.prog ≡ p = ap (λ (c : CheckedView). c.prog) has.made.became.checked ∙ fresh.of_program in
+      let goes : (state_after p limits values (n + k)).ended ≡ None = runs_later k new made on in
+      record {
+        made = made;
+        runs = goes;
+        stands = StandsFor-alike saw_all p hot most (states_within p limits values n ++ states_before mid k) (states_within p limits values (n + k)) (shown_later k goes)
+            (subst (λ q. StandsFor saw_all q hot most (states_within p limits values n ++ states_before mid k)) same
+            (sees hot most (states_within p limits values n) (subst (λ q. StandsFor r q hot most (states_within p limits values n)) (sym same) has.stands)));
+      }
+    where
+      runs_later : (k : ℕ) (new : InterpView) → Reached (reached_after i (n + k)) (puts_within i (n + k)) i new s t → RanOn k mid new → (state_after p limits values (n + k)).ended ≡ None
+      runs_later zero new made on = ap (λ m. (state_after p limits values m).ended) (add-zero n) ∙ has.runs
+      runs_later (suc k) new made on =
+          ap (λ (u : State). u.ended) (sym (reached i p limits values fresh (n + suc k) (n + suc k))) ∙ sym (ap (λ (u : State). u.ended) made.became.state) ∙ on.goes_on (omega arith)
 
 -- a sink that counts takes every piece
 pub never_fails : (before after : Counted) (a b : State) (puts : ℕ) (print : _) (mid new : InterpView) → mid.has_failed ≡ false

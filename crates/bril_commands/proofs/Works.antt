@@ -5,7 +5,7 @@ use Rattle.bril_report.specs.declared.status.Status.TheVariants as status
 use Rattle.bril_report.specs.declared.status.Status.{Status}
 use Rattle.bril_tree.specs.declared.limits.End.TheVariants.{Ended, Faulted}
 use Rattle.bril_tree.specs.declared.limits.End.{End}
-use Rattle.bril_commands.specs.Outcome.{Outcome, WritesPieces, PutsPieces, ShowsPut, ShowsWhole, ShowsPartly, Works, end_status, writes}
+use Rattle.bril_commands.specs.Outcome.{Outcome, WritesPieces, ShowsPut, ShowsWhole, ShowsPartly, Works, end_status, writes}
 
 module _ (a b : Outcome) (steps : a.steps ≡ b.steps) (unwritten : a.unwritten ≡ b.unwritten) (shows : (ended : Option End) (told output : List (List ℕ)) → a.Shows ended told output → b.Shows ended told output) (exhausts : (output : List (List ℕ)) → a.Exhausts output → b.Exhausts output) (told : List (List ℕ)) (s t : SinkSeen) where
   whole : (ended : Option End) → ShowsWhole a ended told s t → ShowsWhole b ended told s t
@@ -33,11 +33,6 @@ pub Works-told : (told : List (List ℕ)) (IsOutput : List (List ℕ) → Type 0
 Works-told told IsOutput pieces is status.Done s t puts = record { output = pieces; shows = (refl, refl, is); took = puts }
 Works-told told IsOutput pieces is status.CannotWrite s t puts = (refl, record { ended = _; told = _; output = pieces; shows = (refl, refl, is); took = puts })
 Works-told told IsOutput pieces is _ s t puts = absurd puts
-
--- pieces were put, and nothing is told
-pub Works-put : (IsOutput : List (List ℕ) → Type 0) (pieces : List (List ℕ)) → IsOutput pieces → (how : Status) (s t : SinkSeen) → PutsPieces how pieces s t → Works (writes [] IsOutput) how [] s t
-Works-put IsOutput pieces is status.OutOfMemory s t puts = (refl, inl puts)
-Works-put IsOutput pieces is how s t puts = Works-told [] IsOutput pieces is how s t puts
 
 -- it ended so, or goes on after the steps
 pub Works-ended : (o : Outcome) (ended : Option End) (told : List (List ℕ)) (s t : SinkSeen) → ShowsWhole o ended told s t → Works o (end_status ended o.steps) told s t

@@ -79,8 +79,3 @@ abbrev pub WritesPieces : Status → List (List ℕ) → SinkSeen → SinkSeen �
 WritesPieces status.Done pieces s t = WritesAll s pieces t
 WritesPieces status.CannotWrite pieces s t = WritesSome s pieces t
 WritesPieces _ pieces s t = ⊥
-
--- the same, where it takes memory before anything is put
-abbrev pub PutsPieces : Status → List (List ℕ) → SinkSeen → SinkSeen → Type 0
-PutsPieces status.OutOfMemory pieces s t = t ≡ s
-PutsPieces how pieces s t = WritesPieces how pieces s t

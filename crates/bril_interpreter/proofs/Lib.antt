@@ -1,5 +1,6 @@
 pub mod Held
 pub mod RanQuickly
+pub mod RunsCounting
 pub mod RunsQuickly
 pub mod Known
 pub mod Lines

@@ -1,3 +1,4 @@
+pub mod Arrivals
 pub mod StepAnswers
 pub mod Frames
 pub mod Interpreter

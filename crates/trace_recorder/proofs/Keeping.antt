@@ -25,17 +25,22 @@ number_sized rows a n =
 
 -- ---- after an arrival was counted
 
-module _ (old : Parts) (tables : Tables) (a : Option Arrival) (sound : IsSound old) where
-  sound_by : (first : Option (List (List ℕ))) → counts_in tables ≡ counted_at (counts_from first (counts_in old.tables)) a → numbers_in tables ≡ counts_from first (numbers_in old.tables)
-      → ((t : List (List ℕ)) → first ≡ Some t → counts_in old.tables ≡ []) → IsSound (record old { tables = tables })
-  sound_by None counts numbers none = record {
+module _ (old : Parts) (tables : Tables) (sound : IsSound old) where
+  -- with as many counts, and the same numbers
+  pub sound_sized : map length (counts_in tables) ≡ map length (counts_in old.tables) → numbers_in tables ≡ numbers_in old.tables → IsSound (record old { tables = tables })
+  sound_sized counts numbers = record {
     hot = sound.hot;
     most = sound.most;
     paths = sound.paths;
-    sized = ap (map length) numbers ∙ sound.sized ∙ sym (ap (map length) counts ∙ counted_sized (counts_in old.tables) a);
-    none = λ e. sound.none (no_rows (counts_in old.tables) (sym (counted_sized (counts_in old.tables) a) ∙ sym (ap (map length) counts) ∙ ap (map length) e));
+    sized = ap (map length) numbers ∙ sound.sized ∙ sym counts;
+    none = λ e. sound.none (no_rows (counts_in old.tables) (sym counts ∙ ap (map length) e));
     found = subst (λ rows. AreDistinct (places_of old.paths) → All (IsCounted rows) (places_of old.paths) → AreFound rows 1 (places_of old.paths)) (sym numbers) sound.found;
   }
+
+module _ (old : Parts) (tables : Tables) (a : Option Arrival) (sound : IsSound old) where
+  sound_by : (first : Option (List (List ℕ))) → counts_in tables ≡ counted_at (counts_from first (counts_in old.tables)) a → numbers_in tables ≡ counts_from first (numbers_in old.tables)
+      → ((t : List (List ℕ)) → first ≡ Some t → counts_in old.tables ≡ []) → IsSound (record old { tables = tables })
+  sound_by None counts numbers none = sound_sized old tables sound (ap (map length) counts ∙ counted_sized (counts_in old.tables) a) numbers
   sound_by (Some t) counts numbers none =
       let empty : old.paths.held.items ≡ [] = sound.none (none t refl) in
       record {

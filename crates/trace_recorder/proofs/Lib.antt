@@ -10,3 +10,4 @@ pub mod AllEntries
 pub mod Ranking
 pub mod Seeing
 pub mod Shapes
+pub mod Stretches

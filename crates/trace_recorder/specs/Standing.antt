@@ -1,6 +1,8 @@
 -- What a recorder holds, and when it stands for a run.
-use Rattle.std.specs.Prelude.{◌≡◌, ◌⊎◌, ℕ, ◌==◌, ◌&&◌, nat_lt, suc, if◌then◌else◌, Bool, true, List, [], ◌∷◌, ◌++◌, length, map, max, min, take, Option, Some, None, IsSome, slice_index, slice_index_or}
+use Rattle.std.specs.Prelude.{◌≡◌, ◌⊎◌, ℕ, ◌==◌, ◌&&◌, nat_lt, zero, suc, if◌then◌else◌, Bool, true, List, [], ◌∷◌, ◌++◌, length, map, max, min, take, Option, Some, None, IsSome, slice_index, slice_index_or}
 use Rattle.std.specs.List.{list_any}
+use Rattle.bril_interpreter.specs.Interpreter.{InterpView}
+use Rattle.bril_interpreter.specs.StepAnswers.{reached_after}
 use Rattle.bril_profile.specs.declared.profile.Entry.{Entry}
 use Rattle.bril_tree.specs.declared.numbered_function.Func.{Func}
 use Rattle.bril_tree.specs.declared.program.Prog.{Prog}
@@ -21,6 +23,13 @@ pub record Held : Type 0 where
   pub choices : List Bool
   pub fuel : ℕ
   pub room : ℕ
+
+-- ---- what a run goes through
+
+-- the states before the first n steps that an interpreter makes
+abbrev pub states_before : InterpView → ℕ → List State
+states_before i zero = []
+states_before i (suc n) = states_before i n ++ reached_after i n ∷ []
 
 -- ---- what is held of a run
 

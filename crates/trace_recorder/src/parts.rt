@@ -1,14 +1,15 @@
 // What a recorder holds, and how it sees a state.
 
-ghost use Rattle.std.specs.Prelude.{◌≡◌, ◌<◌, ◌∷◌, [], ◌++◌, ℕ, List, All, None, Some, false, length, map, vec_capacity, IsSome, MatchBool, OnOk, OnErr, IfOk, IfErr};
+ghost use Rattle.std.specs.Prelude.{◌≡◌, ◌<◌, ◌≤◌, ◌∷◌, [], ◌++◌, ℕ, List, All, None, Some, false, length, map, vec_capacity, IsSome, MatchBool, OnOk, OnErr, IfOk, IfErr};
 ghost use Rattle.std.specs.Option.{option_map};
 ghost use Rattle.bril_interpreter.specs.Interpreter.{state_of};
+ghost use Rattle.bril_interpreter.specs.Steps.{RanOn};
 ghost use Rattle.bril_tree.specs.State.{State};
 ghost use Rattle.trace_recorder.specs.declared.arrival.Arrival.{Arrival as Arrived};
 ghost use Rattle.trace_recorder.specs.Counts.{AreFirst, IsPlaceOf, counted_at, counts_from};
 ghost use Rattle.trace_recorder.specs.Kept.{view_of, counts_in, numbers_in, entry_at, ranks_from, AreBegun, HasRoom, HasTables, IsSound, StateSeen, begun_held};
 ghost use Rattle.trace_recorder.specs.Sight.{sight, arrival as arrival_of};
-ghost use Rattle.trace_recorder.specs.Standing.{StandsFor, TakesChoice, begins, entries_of, seeing};
+ghost use Rattle.trace_recorder.specs.Standing.{StandsFor, TakesChoice, begins, entries_of, seeing, states_before};
 
 use crate::arrival::{Arrival, arrival_at};
 use crate::counts::{Tables, count, count_at, first_tables, is_hot, set_number};
@@ -52,6 +53,30 @@ impl Parts {
             }
         }
         self.see_all(now, arrival)
+    }
+
+    // Makes at most so many steps at which nothing is to be done but to count arrivals, and gives how many: none while a path may go
+    // on, and before the first state. Takes no memory.
+    pub fn run_counting(&mut self, now: &mut Interp<'_>, most: u64) -> u64
+        requires { IsSound self.old }
+        ensures sound { IsSound self.new }
+        ensures most { result ≤ most }
+        ensures ran { RanOn result now.old now.new }
+        ensures stands { (hot most : ℕ) (run : List State) → StandsFor (view_of self.old) now.old.checked.prog hot most run
+            → StandsFor (view_of self.new) now.old.checked.prog hot most (run ++ states_before now.old result) }
+    {
+        if self.counts_alone() {
+            now.run_counting(most, self.hot, &mut self.tables.counts)
+        } else {
+            0
+        }
+    }
+
+    // Whether there are counts, and no path goes on.
+    fn counts_alone(&self) -> bool
+        ensures { MatchBool result (((view_of self.now).counts ≡ [] → ⊥) × (length self.now.paths.held.items ≤ self.now.paths.front)) (Unit {0}) }
+    {
+        !self.tables.counts.is_empty() && !self.paths.are_open()
     }
 
     // Whether there are counts, and the arrival isn't the hot one.

@@ -118,13 +118,17 @@ fn make_steps(
     ensures { IfOk result (λ ended. Records program.now settings.limits values.now settings.hot settings.most settings.steps recorder.new ended) }
 {
     let mut printed = CountSink::new();
-    for _made in 0..settings.steps {
-        recorder.see(interp)?;
-        match interp.step(&mut printed) {
-            StepAnswer::Go => {}
-            StepAnswer::End(end) => return Ok(Some(end)),
-            StepAnswer::WriteFault => unreachable!(),
-            StepAnswer::Memory => return Err(AllocError),
+    let mut made = 0;
+    while made < settings.steps {
+        made += recorder.run_counting(interp, settings.steps - made);
+        if made < settings.steps {
+            recorder.see(interp)?;
+            match interp.step(&mut printed) {
+                StepAnswer::Go => made += 1,
+                StepAnswer::End(end) => return Ok(Some(end)),
+                StepAnswer::WriteFault => unreachable!(),
+                StepAnswer::Memory => return Err(AllocError),
+            }
         }
     }
     Ok(None)
