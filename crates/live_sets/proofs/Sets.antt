@@ -1,14 +1,14 @@
 -- Sets of points: marks, and points in order.
 use Rattle.std.proofs.Common.{◌≡◌, ◌⊎◌, ◌↔◌, ℕ, zero, suc, ◌+◌, ◌-◌, ◌<◌, ◌≤◌, Bool, true, false, ◌||◌, List, [], ◌∷◌, ◌++◌, length, take, get_or, set, Result, Ok, Err, MatchResult, Some, refl, sym, ap, subst, ◌∙◌, inl, inr, ⊎_elim, arith, nat_cmp}
-use Rattle.std.specs.Prelude.{IsTrue, ◌==◌, is_ok, slice_get}
+use Rattle.std.specs.Prelude.{IsTrue, ◌==◌, is_ok, None, slice_get}
 use Rattle.std.specs.List.{Contains}
 use Rattle.std.specs.List.Sorted.{IsBinarySearchResult, IsNonDecreasing, IsPermutation}
 use Rattle.std.proofs.lemmas.Bool.{cases_eq, cases_lt, eq-eqb, eqb-true}
-use Rattle.std.proofs.lemmas.List.{get_or-set_same, get_or-set_other, take_more}
+use Rattle.std.proofs.lemmas.List.{get_or-set_same, get_or-set_other, get_or_default, take_more}
 use Rattle.std.proofs.lemmas.List.Sorted.{searched, Contains-permutation, IsPermutation-sym}
-use Rattle.std.proofs.lemmas.Option.{get_or_from_slice_get}
+use Rattle.std.proofs.lemmas.Option.{get_or_from_slice_get, slice_get_within}
 use Rattle.bril_tree.specs.Membership.{In}
-use Rattle.bril_tree.proofs.Elements.{get_in}
+use Rattle.bril_tree.proofs.Elements.{get_in, past_end}
 use Rattle.bril_tree.proofs.Members.{in_contains, contains_in, in_append_left, in_append_right, in_append_cases}
 use Rattle.flow_graph.specs.Faults.{IsLeastOf}
 use Rattle.live_sets.specs.Among.{is_among}
@@ -110,3 +110,35 @@ last-is xs last rising e = ((among-contains last xs).1 (contains_in last xs (get
     above p c =
         let low = c.1 in
         omega (arith, rising c.0 (length xs - 1) p (omega arith) (omega arith), get_or_from_slice_get xs (length xs - 1) last p e, c.2)
+
+-- ---- the first of points in rising order from a number on
+
+-- the number is one of them
+pub next-here : (xs : List ℕ) (from i : ℕ) → IsBinarySearchResult (λ y. nat_cmp y from) xs (Ok i) → IsNonDecreasing xs → IsLeastOf (λ point. (from ≤ point) × IsTrue (is_among point xs)) (Some from)
+next-here xs from i search rising = ((omega arith, sym (search-among xs from (Ok i) search rising)), λ p h. h.0)
+
+-- it isn't, and the points before this place are less
+module _ (xs : List ℕ) (from place : ℕ) (search : IsBinarySearchResult (λ y. nat_cmp y from) xs (Err place)) (rising : IsNonDecreasing xs) where
+  parted : (place ≤ length xs) × ((k : ℕ) → k < place → get_or xs k 0 < from) × ((k : ℕ) → place ≤ k → k < length xs → from < get_or xs k 0)
+  parted = searched xs from (Err place) search (λ i j low within. rising i j 0 low within)
+
+  -- each of them from the number on is at this place or after it
+  beyond : (p : ℕ) → from ≤ p → (c : Contains xs p) → place ≤ c.0
+  beyond p high c = ⊎_elim (λ l. absurd (let less = parted.1 c.0 l in let same = get_or_default xs c.0 p 0 c.1 in omega (arith, c.2))) (λ l. l) (cases_lt c.0 place)
+
+  pub next-later : (next : ℕ) → slice_get xs place ≡ Some next → IsLeastOf (λ point. (from ≤ point) × IsTrue (is_among point xs)) (Some next)
+  next-later next e = ((from_on, (among-contains next xs).1 (contains_in next xs (get_in xs place next e))), λ p h. below p h.0 ((among-contains p xs).0 h.1))
+    where
+      from_on : from ≤ next
+      from_on = let low = slice_get_within xs place next e in let more = parted.2 place (omega arith) low in omega (arith, get_or_from_slice_get xs place next 0 e)
+
+      below : (p : ℕ) → from ≤ p → Contains xs p → next ≤ p
+      below p high c = omega (arith, rising place c.0 p (beyond p high c) c.1, get_or_from_slice_get xs place next p e, c.2)
+
+  pub next-none : slice_get xs place ≡ None → IsLeastOf (λ point. (from ≤ point) × IsTrue (is_among point xs)) None
+  next-none e p h =
+      let c = (among-contains p xs).0 h.1 in
+      let past = past_end xs place e in
+      let low = c.1 in
+      let high = beyond p h.0 c in
+      omega arith

@@ -1,6 +1,6 @@
 // Which locations are live at which points of a function.
 
-ghost use Rattle.std.specs.Prelude.{◌≡◌, ◌<◌, ◌^◌, ◌-◌, ◌+◌, ◌↔◌, ℕ, List, IsTrue, None, is_some, length, slice_get, IfOk};
+ghost use Rattle.std.specs.Prelude.{◌≡◌, ◌<◌, ◌≤◌, ◌^◌, ◌-◌, ◌+◌, ◌↔◌, ℕ, List, IsTrue, None, is_some, length, slice_get, IfOk};
 ghost use Rattle.bril_tree.specs.Live.{IsLive};
 ghost use Rattle.bril_tree.specs.Operand.{Location, Variable, Shadow};
 ghost use Rattle.bril_tree.specs.Shape.{shape_fault_of};
@@ -65,6 +65,17 @@ impl Live {
         match self.rows.get(location as usize) {
             None => None,
             Some(points) => points.first(),
+        }
+    }
+
+    /// The first point from `from` on at which the location of a number, as in `first`, is live, and None exactly where it is
+    /// live at none of them. Takes no memory, and time in proportion to the points from `from` up to it, or less.
+    pub fn next(&self, location: u32, from: u32) -> Option<u32>
+        ensures { (x : Location) → number_of x ≡ location → IsLeastOf (λ point. (from ≤ point) × IsTrue (is_live self.now x point)) result }
+    {
+        match self.rows.get(location as usize) {
+            None => None,
+            Some(points) => points.next(from),
         }
     }
 

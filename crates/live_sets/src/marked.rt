@@ -45,6 +45,18 @@ impl MarkedPoints {
         None
     }
 
+    // The first point from `from` on that is marked, where there is one. Takes no memory.
+    pub fn next(&self, from: u32) -> Option<u32>
+        ensures { IsLeastOf (λ point. (from ≤ point) × IsTrue (slice_index_or self.now.marks.items point false)) result }
+    {
+        for point in from as usize..self.marks.len() {
+            if self.marks[point] {
+                return Some(point as u32);
+            }
+        }
+        None
+    }
+
     // The last point that is marked, where there is one. Takes no memory.
     pub fn last(&self) -> Option<u32>
         ensures { IsGreatestOf (λ point. IsTrue (slice_index_or self.now.marks.items point false)) result }

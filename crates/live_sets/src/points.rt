@@ -56,6 +56,16 @@ impl Points {
         }
     }
 
+    // The first of the points from `from` on, where there is one. Takes no memory.
+    pub fn next(&self, from: u32) -> Option<u32>
+        ensures { IsLeastOf (λ point. (from ≤ point) × IsTrue (has_point self.now point)) result }
+    {
+        match self {
+            Points::Marked(marked) => marked.next(from),
+            Points::Sorted(sorted) => sorted.next(from),
+        }
+    }
+
     // The last of the points, where there is one. Takes no memory.
     pub fn last(&self) -> Option<u32>
         ensures { IsGreatestOf (λ point. IsTrue (has_point self.now point)) result }

@@ -1,6 +1,6 @@
 // Points in rising order.
 
-ghost use Rattle.std.specs.Prelude.{◌≡◌, ◌↔◌, ℕ, IsTrue, IfOk};
+ghost use Rattle.std.specs.Prelude.{◌≡◌, ◌≤◌, ◌↔◌, ℕ, IsTrue, IfOk};
 ghost use Rattle.std.specs.List.{Contains};
 ghost use Rattle.std.specs.List.Sorted.{IsNonDecreasing};
 ghost use Rattle.flow_graph.specs.Faults.{IsLeastOf};
@@ -43,6 +43,19 @@ impl SortedPoints {
         match self.points.as_slice().first() {
             None => None,
             Some(point) => Some(*point),
+        }
+    }
+
+    // The first of the points from `from` on, where there is one. Takes no memory.
+    pub fn next(&self, from: u32) -> Option<u32>
+        ensures { IsLeastOf (λ point. (from ≤ point) × IsTrue (is_among point self.now.points.items)) result }
+    {
+        match self.points.as_slice().binary_search(&from) {
+            Ok(_) => Some(from),
+            Err(place) => match self.points.as_slice().get(place) {
+                None => None,
+                Some(point) => Some(*point),
+            },
         }
     }
 

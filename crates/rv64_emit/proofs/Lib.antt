@@ -2,7 +2,12 @@ pub mod Appending
 pub mod Arguments
 pub mod Emitting
 pub mod Frames
+pub mod Fronts
+pub mod LiveVariables
 pub mod Moving
 pub mod Placed
+pub mod PointHomes
+pub mod Pointing
+pub mod PointLists
 pub mod Serving
 pub mod Within

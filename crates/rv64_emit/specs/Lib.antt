@@ -1,7 +1,11 @@
 pub mod Bounds
+pub mod Front
+pub mod ListsPoints
+pub mod LiveVariables
 pub mod Moved
 pub mod Placed
 pub mod PlacedImage
+pub mod PointLists
 pub mod Refusal
 pub mod SlotMoves
 pub mod Tables

@@ -1,5 +1,5 @@
 //! Makes the machine words of an accepted program. `emit` gives exactly the image of `rv64_emit_laws::layout`, or answers the
-//! bound that is passed.
+//! bound that is passed; `emit_points` gives besides where each item begins, and where its live variables are.
 //!
 //! The program becomes code over slots, and `shadow_place` gives each of them a home: a register, or its own word of the
 //! frame. A first pass over the code tells where functions and items begin, a second one appends their words; both take time
@@ -13,41 +13,48 @@
 //! 4. The words of items (`src/item.rt`, `src/items.rt`), how many they have, and where they begin (`src/sizes.rt`,
 //!    `src/places.rt`).
 //! 5. The whole image (`src/image.rt`), and the two bounds (`src/bounds.rt`).
+//! 6. The points at which a stepping monitor may stop (`src/points.rt`, `specs/ListsPoints.antt`), with what is live there
+//!    (`src/live_variables.rt`).
 #![tactic(auto)]
 
 ghost use Rattle.std.specs.Prelude.{◌≡◌, ◌≤◌, length, IfOk, IfErr};
+ghost use Rattle.rv64_emit.specs.ListsPoints.{ListsPoints};
 ghost use Rattle.rv64_emit.specs.Refusal.{EmitRefuses};
 ghost use Rattle.rv64_emit.specs.PlacedImage.{ImplementsPlaced};
 ghost use Rattle.rv64_image_laws.specs.Implements.{Implements};
+ghost use Rattle.rv64_image_laws.specs.PointsShown.{Shows};
 ghost use Rattle.rv64_image_laws.specs.WordBounds.{IsStackSize, IsWithin};
 ghost use Rattle.rv64_words.specs.Region.{most_words};
 
 mod assembly;
 mod bounds;
 mod frame;
+mod front;
 mod homes;
 mod image;
 mod item;
 mod items;
+mod live_variables;
 mod moved;
 mod moves;
 mod operations;
 mod places;
+mod points;
 mod registers;
 mod saves;
 mod sequences;
 mod sizes;
 
-use crate::bounds::{fixed_bounds_within, stack_within};
+use crate::front::front_of;
 use crate::homes::ProgramHomes;
 use crate::image::image_of;
+use crate::points::points_of;
 use bril_checker::Checked;
 use bril_tree::limits::Limits;
 use bril_tree::literals::literals_are_in_range;
 use rv64_words::fault::EmitFault;
 use rv64_words::image::Image;
-use shadow_place::{all_lives, place};
-use slot_code::lower;
+use rv64_words::points::Points;
 use std::alloc::Global;
 
 /// The image of an accepted program for runs under these limits: it does what the program does, on the machine of
@@ -69,11 +76,35 @@ pub fn emit(alloc: Global, prog: &Checked, limits: Limits) -> Result<Image, Emit
     ensures fault { IfErr result (EmitRefuses prog.now.prog limits) }
 {
     literals_are_in_range(prog.prog());
-    fixed_bounds_within(prog, limits)?;
-    let slots = lower(alloc, prog)?;
-    let stack = stack_within(prog, slots.funcs.as_slice(), limits)?;
-    let lives = all_lives(alloc, prog)?;
-    let placed = place(alloc, prog, &slots, &lives)?;
-    let homes = ProgramHomes::of(&placed, lives.as_slice());
-    Ok(image_of(alloc, &homes, &slots, limits, stack)?)
+    let front = front_of(alloc, prog, limits)?;
+    let homes = ProgramHomes::of(&front.placed, front.lives.as_slice());
+    Ok(image_of(alloc, &homes, &front.slots, limits, front.stack)?)
+}
+
+/// The image of an accepted program as `emit` makes it, with the points at which a stepping monitor may stop: one for each item
+/// other than a label and `nop` that some walk leads to, in order, with the word at which the item begins and the variables that
+/// are live there, in order, with their types and homes. The machine is before the word of a point exactly where the program is
+/// at its item; then each of these variables is at its home, and both have printed the same.
+///
+/// The refusals are those of `emit`, at the same numbers; `Memory` comes also where there is none for the points.
+pub fn emit_points(
+    alloc: Global,
+    prog: &Checked,
+    limits: Limits,
+) -> Result<(Image, Points), EmitFault>
+    ensures shows { IfOk result (λ made. Shows made.0 made.1 prog.now.prog limits) }
+    ensures lists { IfOk result (λ made. ListsPoints prog.now.prog made.1) }
+    ensures words { IfOk result (λ made. length made.0.words ≤ most_words) }
+    ensures guards { IfOk result (λ made. length made.0.guards ≤ length made.0.words) }
+    ensures stack { IfOk result (λ made. IsStackSize prog.now.prog limits made.0.stack) }
+    ensures within { IfOk result (λ _. IsWithin prog.now.prog limits) }
+    ensures fault { IfErr result (EmitRefuses prog.now.prog limits) }
+{
+    literals_are_in_range(prog.prog());
+    let front = front_of(alloc, prog, limits)?;
+    let lives = front.lives.as_slice();
+    let homes = ProgramHomes::of(&front.placed, lives);
+    let image = image_of(alloc, &homes, &front.slots, limits, front.stack)?;
+    let points = points_of(alloc, prog.prog(), &homes, &front.slots, lives)?;
+    Ok((image, points))
 }

@@ -17,19 +17,18 @@ use Rattle.rv64_words.specs.declared.image.Image.{Image}
 use Rattle.slot_code.specs.declared.slots.Slots.{Slots}
 use Rattle.slot_code.specs.Lowered.{IsLowered}
 use Rattle.rv64_emit_laws.specs.Homes.{AllHomesServe, homes_of}
-use Rattle.rv64_emit_laws.specs.Laws.{ImagesEnterItems, ImagesImplementPrograms}
-use Rattle.rv64_emit_laws.proofs.Entering.{enters}
+use Rattle.rv64_emit_laws.specs.Laws.{ImagesImplementPrograms, ImagesMeetItems}
 use Rattle.rv64_emit_laws.proofs.GuardList.{lists_guards}
+use Rattle.rv64_emit_laws.proofs.Meeting.{implements_run, meets}
 use Rattle.rv64_emit_laws.proofs.Setting.{Setting}
-use Rattle.rv64_emit_laws.proofs.Whole.{implements_run}
 use Rattle.rv64_emit_laws.proofs.Homes.{have_homes, homes_within}
 
 module _ (p : Prog) (homes : ℕ → FunctionHomes) (slots : Slots) (limits : Limits) (image : Image) (accepted : IsAccepted p) (literals : AreLiteralsInRange p) (lowered : IsLowered p slots) (within : IsWithin p limits)
     (serve : AllHomesServe homes p slots) (is : IsImageOf homes slots limits image) where
-  is_laid : IsLaid homes slots limits image
+  pub is_laid : IsLaid homes slots limits image
   is_laid = laid p homes slots limits image accepted literals lowered within (have_homes p slots homes lowered serve) is
 
-  abbrev setting : (args : List Value) → FitMain p args → Setting
+  abbrev pub setting : (args : List Value) → FitMain p args → Setting
   setting args fit = record {
     p = p;
     homes = homes;
@@ -57,5 +56,5 @@ module _ (p : Prog) (homes : ℕ → FunctionHomes) (slots : Slots) (limits : Li
 pub images_implement_programs : ImagesImplementPrograms
 images_implement_programs p homes slots limits image accepted literals lowered within serve is = implements_at p homes slots limits image accepted literals lowered within serve is
 
-pub images_enter_items : ImagesEnterItems
-images_enter_items p homes slots limits image accepted literals lowered within serve is args fit m f point = enters (setting p homes slots limits image accepted literals lowered within serve is args fit) m f point
+pub images_meet_items : ImagesMeetItems
+images_meet_items p homes slots limits image accepted literals lowered within serve is args fit = meets (setting p homes slots limits image accepted literals lowered within serve is args fit)

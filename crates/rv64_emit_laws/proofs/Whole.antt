@@ -1,4 +1,4 @@
--- The image of an accepted program, laid out as it is, implements the program.
+-- What related states show of each other, and that the machine tracks the program.
 use Rattle.std.proofs.Common.{◌≡◌, ◌+◌, ◌*◌, List, ◌∷◌, length, Some, None, refl, sym, ap, ◌∙◌, subst, arith}
 use Rattle.std.specs.Prelude.{slice_get}
 use Rattle.simulation.specs.Simulation.{Tracks}
@@ -9,12 +9,12 @@ use Rattle.bril_tree.specs.declared.limits.End.{End}
 use Rattle.bril_tree.specs.declared.value.Value.{Value}
 use Rattle.bril_tree.specs.Live.{IsLive}
 use Rattle.bril_tree.specs.Locals.{location_value}
-use Rattle.bril_tree.specs.Run.{first_state, state_after}
+use Rattle.bril_tree.specs.Run.{first_state}
 use Rattle.bril_tree.specs.State as bril
 use Rattle.bril_tree.specs.Step.{code_of, items_of}
 use Rattle.bril_tree.specs.Value.{word_of}
 use Rattle.rv64_image_laws.specs.Home.{IsAt}
-use Rattle.rv64_image_laws.specs.Implements.{CountsFailures, ImplementsRun, ShowsLive, image_after, image_system, program_system}
+use Rattle.rv64_image_laws.specs.Implements.{CountsFailures, ShowsLive, image_system, program_system}
 use Rattle.rv64_image_laws.proofs.Systems.{image_is_system, mapped_is_system}
 use Rattle.rv64_words_laws.specs.sequences.Moves.{IsHomeInside, home_word}
 use Rattle.rv64_words_laws.specs.stretches.Core.{machine}
@@ -30,7 +30,7 @@ use Rattle.placement_laws.specs.Homes.{slot_of}
 use Rattle.placement_laws.specs.Needed.{Live}
 use Rattle.rv64_emit_laws.proofs.Relation.{HasWord, Related, RunsAlike, run, over}
 use Rattle.rv64_emit_laws.proofs.Setting.{Setting, entry_of, sizes}
-use Rattle.rv64_emit_laws.proofs.Starting.{main_room, start_cheap, start_related, start_steps}
+use Rattle.rv64_emit_laws.proofs.Starting.{start_cheap, start_related, start_steps}
 
 -- where a home has the word of a value, the machine shows it there
 module _ (S : Setting) (s : bril.State) (t : State) (r : RunsAlike S s t) (value : Value) where
@@ -69,21 +69,6 @@ module _ (S : Setting) where
   counts s t (run r) = λ g guard there. ap (λ x. x.arrivals guard.word) r.state ∙ r.guards g guard there
   counts s t (over r) = r.guards
 
-  tracks : Tracks (program_system S.p S.limits) (image_system S.image S.limits) S.cost (Related S) (first_state S.p S.limits S.args) (start S.args)
+  pub tracks : Tracks (program_system S.p S.limits) (image_system S.image S.limits) S.cost (Related S) (first_state S.p S.limits S.args) (start S.args)
   tracks = Tracks-from_star (program_system S.p S.limits) (image_system S.image S.limits) (Related S) (mapped_is_system S.p S.limits) (image_is_system S.image S.limits) S.cost (distance S) (simulation S)
       (first_state S.p S.limits S.args) (start S.args) (start_steps S) (start_cheap S) (start_related S)
-
-  pub implements_run : ImplementsRun (homes_of S.homes) S.image S.p S.limits S.args
-  implements_run = record {
-    room = main_room S;
-    count = tracks.count;
-    cost = S.cost;
-    is_cost = S.is_cost;
-    bounded = tracks.bounded;
-    rising = tracks.rising;
-    agrees = tracks.agrees;
-    shows = λ n. shows (state_after S.p S.limits S.args n) (image_after S.image S.limits S.args (tracks.count n)) (tracks.related n);
-    fails = λ n. counts (state_after S.p S.limits S.args n) (image_after S.image S.limits S.args (tracks.count n)) (tracks.related n);
-    ends_only = tracks.ends_only;
-    prints_only = tracks.prints_only;
-  }

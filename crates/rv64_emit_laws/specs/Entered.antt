@@ -1,13 +1,12 @@
--- When the machine is at the words of an item only where the program has come to that item.
-use Rattle.std.specs.Prelude.{◌≡◌, ◌≢◌, ℕ, ◌*◌, List, Some, None, slice_get}
+-- When the machine is at the words of items exactly where the program is at the items, by the count that tells what the image does.
+use Rattle.std.specs.Prelude.{◌≡◌, ◌≢◌, ℕ, ◌*◌, ◌<◌, List, Some, None, slice_get}
 use Rattle.bril_tree.specs.declared.home.Home.{Home}
 use Rattle.bril_tree.specs.declared.limits.Limits.{Limits}
 use Rattle.bril_tree.specs.declared.program.Prog.{Prog}
 use Rattle.bril_tree.specs.declared.value.Value.{Value}
 use Rattle.bril_tree.specs.Operand.{Location}
 use Rattle.bril_tree.specs.Run.{state_after}
-use Rattle.bril_tree.specs.State as bril
-use Rattle.rv64_image_laws.specs.Implements.{CountsFailures, ShowsLive, image_after}
+use Rattle.rv64_image_laws.specs.Implements.{ImplementsRun, image_after}
 use Rattle.rv64_image_laws.specs.Stands.{StandsAt}
 use Rattle.rv64_emit_laws.specs.layout.Homes.{FunctionHomes}
 use Rattle.rv64_emit_laws.specs.layout.Image.{entry_at}
@@ -29,15 +28,20 @@ pub record IsEntered (homes : ℕ → FunctionHomes) (slots : Slots) (t : rv64.S
   pub running : t.stopped ≡ None
   pub at_entry : t.pc ≡ 4 * entry_at homes slots f point
 
--- After n steps the program is at this item of this function, and the machine's state shows that of the program: the two have
--- printed the same, live locations are at their homes, and the guards have failed as often as their words were executed.
-pub record ShowsItem (homes : ℕ → Location → Home) (image : Image) (p : Prog) (limits : Limits) (s : bril.State) (t : rv64.State) (f item : ℕ) : Type 0 where
-  pub stands : StandsAt s f item
-  pub printed : s.printed ≡ t.printed
-  pub shows : ShowsLive homes image p limits s t
-  pub fails : CountsFailures image.guards s t
+-- The item at this point of this function is no label and no `nop`: it has words.
+pub record IsFullItem (slots : Slots) (f point : ℕ) : Type 0 where
+  pub function : SlotFunction
+  pub item : SlotItem
+  pub is_function : slice_get slots.funcs f ≡ Some function
+  pub is_item : slice_get function.code point ≡ Some item
+  pub has_words : item ≢ Pass
 
--- Wherever the machine is before the first word of an item, some number of steps has brought the program to that item.
-abbrev pub EntersItems : (ℕ → Location → Home) → (ℕ → FunctionHomes) → Slots → Image → Prog → Limits → List Value → Type 0
-EntersItems locations homes slots image p limits args =
-    (m f point : ℕ) → IsEntered homes slots (image_after image limits args m) f point → (n : ℕ) × ShowsItem locations image p limits (state_after p limits args n) (image_after image limits args m) f point
+-- One count tells what the image does, and where the machine is at items.
+pub record MeetsItems (locations : ℕ → Location → Home) (homes : ℕ → FunctionHomes) (slots : Slots) (image : Image) (p : Prog) (limits : Limits) (args : List Value) : Type 0 where
+  pub run : ImplementsRun locations image p limits args
+  -- where the program is at an item with words, the machine is then before the first one
+  pub there : (n f point : ℕ) → StandsAt (state_after p limits args n) f point → IsFullItem slots f point → IsEntered homes slots (image_after image limits args (run.count n)) f point
+  -- a later one is met after more words
+  pub rising : (n m f i g j : ℕ) → n < m → StandsAt (state_after p limits args n) f i → IsFullItem slots f i → StandsAt (state_after p limits args m) g j → IsFullItem slots g j → run.count n < run.count m
+  -- and the machine is before the first word of an item at no other moment
+  pub only : (m f point : ℕ) → IsEntered homes slots (image_after image limits args m) f point → (n : ℕ) × (run.count n ≡ m) × StandsAt (state_after p limits args n) f point

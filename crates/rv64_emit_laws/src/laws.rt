@@ -1,6 +1,6 @@
 // The laws of emitted code. Each function states one, and does nothing when it is called.
 
-ghost use Rattle.rv64_emit_laws.specs.Laws.{ImagesEnterItems, ImagesImplementPrograms};
+ghost use Rattle.rv64_emit_laws.specs.Laws.{ImagesImplementPrograms, ImagesMeetItems, ImagesShowPoints};
 
 /// The image of an accepted program, within the bounds of words and of the stack and laid out by homes that serve, does what the
 /// program does, with all arguments that fit. It prints the same and ends alike, within the cost of a step for each step of the
@@ -10,9 +10,14 @@ pub fn images_implement_programs()
     ensures { ImagesImplementPrograms }
 {}
 
-/// While that image runs, the machine is before the first word of an item only where the program has come to that item: after some
-/// number of steps the newest frame is at that item of that function, the two have printed the same, live locations are at their
-/// homes, and the guards have failed as often as their words were executed. All items but labels and `nop`s have words.
-pub fn images_enter_items()
-    ensures { ImagesEnterItems }
+/// One count of words tells what that image does and when its machine is before the first words of items: exactly where the program
+/// is at these items, in order. All items but labels and `nop`s have words.
+pub fn images_meet_items()
+    ensures { ImagesMeetItems }
+{}
+
+/// With a point for each item other than a label and `nop` that some walk leads to, that image shows the program: its machine is at
+/// the points exactly where the program is at their items, in order, and each live variable is at its home.
+pub fn images_show_points()
+    ensures { ImagesShowPoints }
 {}

@@ -13,10 +13,12 @@
 //! 2. Where locations are (`specs/Homes.antt`), and when the machine is at an item (`specs/Entered.antt`).
 //! 3. How the states of a program and of the machine are related (`proofs/Relation.antt`); the other files of `proofs/` have
 //!    one kind of item each.
-//! 4. The image implements the program (`specs/Laws.antt`, `src/laws.rt`).
+//! 4. One count of words for each step of the program (`proofs/Counting.antt`), by which the image implements the program, and its
+//!    machine is at items exactly where the program is (`proofs/Rising.antt`, `AtItems.antt`, `Meeting.antt`); so it shows the program
+//!    at points (`proofs/Showing.antt`). The laws are in `specs/Laws.antt` and `src/laws.rt`.
 #![tactic(auto)]
 
 mod laws;
 pub mod layout;
 
-pub use laws::{images_enter_items, images_implement_programs};
+pub use laws::{images_implement_programs, images_meet_items, images_show_points};

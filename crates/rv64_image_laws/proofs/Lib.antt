@@ -1,3 +1,5 @@
 pub mod Endings
+pub mod PointValues
 pub mod Sizes
+pub mod Stopping
 pub mod Systems

@@ -1,6 +1,9 @@
 pub mod Home
 pub mod Implements
 pub mod Laws
+pub mod PointsShown
+pub mod ProgramPoints
 pub mod Shown
 pub mod Stands
+pub mod Stops
 pub mod WordBounds

@@ -1,6 +1,7 @@
 // What an image that implements a program shows of it. Each function states a law, and does nothing when it is called.
 
 ghost use Rattle.rv64_image_laws.specs.Laws.{ImagesCountFailures, ImagesEndInTime, ImagesShowPrograms};
+ghost use Rattle.rv64_image_laws.specs.Stops.{FirstsAreLeast, NoneIsLeft, NoneIsPassed, ValuesAreShown};
 
 /// However many words of an image that implements a program are executed, the machine doesn't trap. Where it has ended, the
 /// program ends alike and prints the same. Where it runs on, the program has not ended after any number of steps n for which the
@@ -19,4 +20,17 @@ pub fn images_end_in_time()
 /// guard failed.
 pub fn images_count_failures()
     ensures { ImagesCountFailures }
+{}
+
+/// Where the machine is first at a chosen point, the program is at the first chosen item ahead of it, which the point shows. Where it
+/// comes to none, none is passed; where it has stopped, none is left.
+pub fn stops_are_least()
+    ensures least { FirstsAreLeast }
+    ensures passed { NoneIsPassed }
+    ensures left { NoneIsLeft }
+{}
+
+/// At a point that shows the program, the word at a variable's home is that of its value.
+pub fn values_are_shown()
+    ensures { ValuesAreShown }
 {}

@@ -8,4 +8,5 @@ pub mod Machine
 pub mod Mnemonics
 pub mod Points
 pub mod Region
+pub mod StackWords
 pub mod State
