@@ -1,0 +1,5 @@
+pub mod Absolute
+pub mod Marks
+pub mod Standing
+pub mod Stopping
+pub mod Values
