@@ -8,6 +8,7 @@ use Rattle.dead_code.proofs.Shipped.{dead_shipped}
 use Rattle.pass_budget_laws.specs.Rows.{Row}
 use Rattle.pass_budget_laws.specs.Shipped.{Shipped, rows_of}
 use Rattle.pass_law.specs.Meaning.{Meaning, SameMeaning}
+use Rattle.side_laws.proofs.Shipped.{side_shipped}
 use Rattle.ssa_exit.proofs.Shipped.{unssa_shipped}
 use Rattle.ssa_form_laws.proofs.Shipped.{ssa_shipped}
 use Rattle.tidy_code.proofs.Shipped.{tidy_shipped}
@@ -15,7 +16,7 @@ use Rattle.trace_laws.proofs.Shipped.{trace_shipped}
 
 -- all of them, in their order
 abbrev pub shipped : List Shipped
-shipped = trace_shipped ∷ ssa_shipped ∷ const_shipped ∷ dead_shipped ∷ unssa_shipped ∷ merge_shipped ∷ tidy_shipped ∷ []
+shipped = trace_shipped ∷ ssa_shipped ∷ const_shipped ∷ dead_shipped ∷ unssa_shipped ∷ merge_shipped ∷ tidy_shipped ∷ side_shipped ∷ []
 
 abbrev pub shipped_rows : List Row
 shipped_rows = rows_of shipped

@@ -7,6 +7,7 @@ use coalesce::Merge;
 use constant_pass::Const;
 use dead_code::Dead;
 use pass_law::Pass;
+use side_traces::Side;
 use ssa_exit::Unssa;
 use std::alloc::{AllocError, Global};
 use tidy_code::Tidy;
@@ -31,6 +32,7 @@ pub fn with_shipped_passes<J: Job>(alloc: Global, job: J) -> Result<J::Answer, A
     let unssa = Box::new(alloc, Unssa::new())?;
     let merge = Box::new(alloc, Merge::new())?;
     let tidy = Box::new(alloc, Tidy::new())?;
+    let side = Box::new(alloc, Side::new())?;
     let trace: Box<dyn Pass> = trace;
     let ssa: Box<dyn Pass> = ssa;
     let constant: Box<dyn Pass> = constant;
@@ -38,6 +40,7 @@ pub fn with_shipped_passes<J: Job>(alloc: Global, job: J) -> Result<J::Answer, A
     let unssa: Box<dyn Pass> = unssa;
     let merge: Box<dyn Pass> = merge;
     let tidy: Box<dyn Pass> = tidy;
-    let mut passes = [trace, ssa, constant, dead, unssa, merge, tidy];
+    let side: Box<dyn Pass> = side;
+    let mut passes = [trace, ssa, constant, dead, unssa, merge, tidy, side];
     Ok(job.work(passes.as_mut_slice()))
 }

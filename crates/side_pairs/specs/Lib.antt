@@ -1,0 +1,10 @@
+pub mod Adding
+pub mod Draft
+pub mod Items
+pub mod Meetings
+pub mod Pairs
+pub mod Readers
+pub mod Runs
+pub mod Steps
+pub mod Tables
+pub mod Walks

@@ -1,0 +1,4 @@
+pub mod Exits
+pub mod Made
+pub mod Names
+pub mod Rows
