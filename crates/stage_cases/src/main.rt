@@ -5,7 +5,7 @@
 //! 2. The calls, a file for each topic: flow graphs (`src/graph.rt`), live locations (`src/live.rt`), constants
 //!    (`src/constants.rt`), SSA form (`src/ssa.rt`), profiles and their recorder (`src/profiles.rt`), single steps
 //!    (`src/steps.rt`), homes (`src/placed.rt`, `src/counted.rt`), machine words (`src/machine.rt`, `src/groups.rt`),
-//!    their listings (`src/listings.rt`) and their files (`src/elf.rt`).
+//!    their listings (`src/listings.rt`), their files (`src/elf.rt`), and runs that stop at items (`src/monitors.rt`).
 
 // Makes the calls of standard input that no command line makes or shows, and shows what they answer.
 //
@@ -46,6 +46,9 @@
 //     opened SOURCE          what a file opens as: the stack and the words, or the fault
 //     ssa ARG ARG .. SOURCE  the canonical text of the source's program in SSA form, how a run of it with these arguments ends and what
 //                            it prints, and whether the program in SSA form does the same
+//     monitor ORDERS SOURCE  what a monitor of the image of the source's program answers, and the output; ORDERS are, with commas
+//                            between them, `mark=F.I`, `clear=F.I`, `go=WORDS`, `step=WORDS`, `show=COUNT` for the values of the
+//                            first variables, and `done=` for how many words were executed
 //     machine STEPS PUT ARG BITS BITS ..
 //                            a run of so many steps of the image with one argument, where the put of that number, from 1, fails,
 //                            and another run after it: each answer, and how many words were executed; and the output
@@ -62,6 +65,7 @@ mod groups;
 mod listings;
 mod live;
 mod machine;
+mod monitors;
 mod numbered;
 mod placed;
 mod profiles;

@@ -10,6 +10,7 @@ use crate::groups::add_groups;
 use crate::listings::{add_listing, add_words};
 use crate::live::add_live;
 use crate::machine::{add_run, add_word};
+use crate::monitors::add_monitored;
 use crate::numbered::add_numbered;
 use crate::placed::add_placed;
 use crate::profiles::{add_profile, add_record};
@@ -32,6 +33,7 @@ pub fn add_row(alloc: Global, line: &str, shown: &mut Vec<u8>) -> Result<(), Lin
         "==" => Ok(()),
         "decode" => add_word(alloc, rest, shown),
         "machine" => add_run(alloc, rest, shown),
+        "monitor" => add_monitored(alloc, rest, shown),
         "listing" => add_listing(alloc, rest, shown),
         "wrapped" => add_wrapped(alloc, rest, shown),
         "filled" => add_filled(alloc, rest, shown),
