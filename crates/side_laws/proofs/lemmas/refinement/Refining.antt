@@ -327,11 +327,11 @@ module _ (P Q : Prog) (limits : Limits) (accepted : IsAccepted P) (st : Laid P Q
 
     -- ---- the steps in
 
-    abbrev S0 : State
-    S0 = state (frame k h.run.start p ps ∷ fs) blocks printed None x
+    abbrev stateP : State
+    stateP = state (frame k h.run.start p ps ∷ fs) blocks printed None x
 
-    abbrev T0 : State
-    T0 = state (frame k (st.old k h.run.start) q qs ∷ gs) blocks printed None y
+    abbrev stateQ : State
+    stateQ = state (frame k (st.old k h.run.start) q qs ∷ gs) blocks printed None y
 
     abbrev InP : ℕ → Locals → State
     InP j p' = state (frame k j p' (p ∷ ps) ∷ fs) blocks printed None x
@@ -345,10 +345,10 @@ module _ (P Q : Prog) (limits : Limits) (accepted : IsAccepted P) (st : Laid P Q
     abbrev OutQ : (ℕ → ℕ → ℕ) → ℕ → Locals → State
     OutQ z j q' = state (frame k j q' qs ∷ gs) blocks printed None z
 
-    opens-P : step P limits S0 ≡ InP (suc r.start) p
-    opens-P = ap (λ o. item_step P limits o (frame k h.run.start p ps) fs S0) h.is.opens
+    opens-P : step P limits stateP ≡ InP (suc r.start) p
+    opens-P = ap (λ o. item_step P limits o (frame k h.run.start p ps) fs stateP) h.is.opens
 
-    opens-Q : step Q limits T0 ≡ InQ (old (suc r.start)) q
+    opens-Q : step Q limits stateQ ≡ InQ (old (suc r.start)) q
     opens-Q =
         let inside : h.run.start ≤ length (code_of P k) = (let w = slice_get_within (code_of P k) h.run.start (Act None None op.Speculate [] [] []) h.is.opens in omega (arith, w)) in
         let tree = sym (untouched P Q accepted st k h.run.start inside (outside-untouched P Q accepted st k h.run.start contents.points.1)) ∙ (found P k h.run.start (Act None None op.Speculate [] [] []) h.is.opens).tree in
@@ -356,7 +356,7 @@ module _ (P Q : Prog) (limits : Limits) (accepted : IsAccepted P) (st : Laid P Q
         let m = st.next k h.run.start in
         let z = st.alone k h.run.start (Act None None op.Speculate [] [] []) h.is.opens refl in
         let e : suc (st.old k h.run.start) ≡ st.old k (suc h.run.start) = omega (arith, m, z) in
-        ap (λ o. item_step Q limits o (frame k (st.old k h.run.start) q qs) gs T0) n.at ∙ ap (λ j. InQ j q) e
+        ap (λ o. item_step Q limits o (frame k (st.old k h.run.start) q qs) gs stateQ) n.at ∙ ap (λ j. InQ j q) e
 
     abbrev Lk : ℕ → Locals → State → Type 0
     Lk = Locked P Q limits accepted B k p q contents.locations ps qs fs gs blocks printed x y r h.is lab.number lab.at old next-in shared kept-trees guarded
@@ -365,10 +365,10 @@ module _ (P Q : Prog) (limits : Limits) (accepted : IsAccepted P) (st : Laid P Q
     attempt = comes P Q limits accepted B k p q contents.locations ps qs fs gs blocks printed x y r h.is lab.number lab.at old next-in shared kept-trees guarded h.here h.of
 
     -- after n steps in the run
-    came-P : (n j : ℕ) (p' : Locals) → after (step P limits) n (InP (suc r.start) p) ≡ InP j p' → after (step P limits) (suc n) S0 ≡ InP j p'
+    came-P : (n j : ℕ) (p' : Locals) → after (step P limits) n (InP (suc r.start) p) ≡ InP j p' → after (step P limits) (suc n) stateP ≡ InP j p'
     came-P n j p' e = ap (after (step P limits) n) opens-P ∙ e
 
-    came-Q : (n : ℕ) → after (step Q limits) (suc n) T0 ≡ after (step Q limits) n (InQ (old (suc r.start)) q)
+    came-Q : (n : ℕ) → after (step Q limits) (suc n) stateQ ≡ after (step Q limits) n (InQ (old (suc r.start)) q)
     came-Q n = ap (after (step Q limits) n) opens-Q
 
     -- both are out of the run, at matching points, over the saves that they had
@@ -378,7 +378,7 @@ module _ (P Q : Prog) (limits : Limits) (accepted : IsAccepted P) (st : Laid P Q
         (record { function = refl; contents = record { walk = w.walk; is = w.is; ends = w.ends; points = (refl, outside); locations = agree; known = λ a v n. absurd n; saves = subst (λ l. SavesMatch (M P Q accepted st) P Q k l ps qs) (sym w.sites) contents.saves } }) callers
 
     -- so many steps each, within the run, and one more
-    one-more : (n j : ℕ) (p' : Locals) → after (step P limits) n (InP (suc r.start) p) ≡ InP j p' → R (step P limits (InP j p')) (step Q limits (after (step Q limits) n (InQ (old (suc r.start)) q))) → Chunks S0 T0
+    one-more : (n j : ℕ) (p' : Locals) → after (step P limits) n (InP (suc r.start) p) ≡ InP j p' → R (step P limits (InP j p')) (step Q limits (after (step Q limits) n (InQ (old (suc r.start)) q))) → Chunks stateP stateQ
     one-more n j p' e again =
         let c = came-P n j p' e in
         record {
@@ -387,20 +387,20 @@ module _ (P Q : Prog) (limits : Limits) (accepted : IsAccepted P) (st : Laid P Q
           within = omega arith;
           quiet = ap (λ (z : State). z.printed) c;
           running = ap (λ (z : State). z.ended) c;
-          again = subst (λ z. R z (after (step Q limits) (suc (suc n)) T0)) (sym (after-suc (step P limits) (suc n) S0 ∙ ap (step P limits) c))
-              (subst (λ z. R (step P limits (InP j p')) z) (sym (after-suc (step Q limits) (suc n) T0 ∙ ap (step Q limits) (came-Q n))) again);
+          again = subst (λ z. R z (after (step Q limits) (suc (suc n)) stateQ)) (sym (after-suc (step P limits) (suc n) stateP ∙ ap (step P limits) c))
+              (subst (λ z. R (step P limits (InP j p')) z) (sym (after-suc (step Q limits) (suc n) stateQ ∙ ap (step Q limits) (came-Q n))) again);
         }
 
     -- ---- a fault
 
-    faulted-chunk : (n : ℕ) (kind : Fault) (j : ℕ) (p' : Locals) → suc r.start ≤ j → j < suc (r.start + r.size) → Lk j p' (after (step Q limits) n (InQ (old (suc r.start)) q)) → after (step P limits) n (InP (suc r.start) p) ≡ InP j p' → step P limits (InP j p') ≡ faulted kind (InP j p') → Chunks S0 T0
+    faulted-chunk : (n : ℕ) (kind : Fault) (j : ℕ) (p' : Locals) → suc r.start ≤ j → j < suc (r.start + r.size) → Lk j p' (after (step Q limits) n (InQ (old (suc r.start)) q)) → after (step P limits) n (InP (suc r.start) p) ≡ InP j p' → step P limits (InP j p') ≡ faulted kind (InP j p') → Chunks stateP stateQ
     faulted-chunk n kind j p' lo hi lk es ef =
         let f = faults-both P Q limits accepted B k p q contents.locations ps qs fs gs blocks printed x y r h.is lab.number lab.at old next-in shared kept-trees guarded j p' (after (step Q limits) n (InQ (old (suc r.start)) q)) kind lo hi lk ef in
         one-more n j p' es (inr (record { final = subst (λ (o : Option End). IsSome o) (sym (ap (λ (z : State). z.ended) ef)) refl; ended = f.ended; printed = f.printed_same }))
 
     -- ---- the commit
 
-    committed-chunk : (n : ℕ) (p' : Locals) → Lk (suc (r.start + r.size)) p' (after (step Q limits) n (InQ (old (suc r.start)) q)) → after (step P limits) n (InP (suc r.start) p) ≡ InP (suc (r.start + r.size)) p' → Chunks S0 T0
+    committed-chunk : (n : ℕ) (p' : Locals) → Lk (suc (r.start + r.size)) p' (after (step Q limits) n (InQ (old (suc r.start)) q)) → after (step P limits) n (InP (suc r.start) p) ≡ InP (suc (r.start + r.size)) p' → Chunks stateP stateQ
     committed-chunk n p' lk es = by (item_at P k (suc (h.run.start + h.run.size))) refl
       where
         j : ℕ
@@ -415,11 +415,11 @@ module _ (P Q : Prog) (limits : Limits) (accepted : IsAccepted P) (st : Laid P Q
             (λ l. let a = run-apart (code_of P k) s h.run is h.is (omega (arith, l, d)) in omega (arith, a, high)) (cases_lt h.run.start s.start))
             (cases_eq h.run.start s.start)
 
-        by : (o : Option Instr) → item_at P k (suc (h.run.start + h.run.size)) ≡ o → Chunks S0 T0
+        by : (o : Option Instr) → item_at P k (suc (h.run.start + h.run.size)) ≡ o → Chunks stateP stateQ
         by None e = absurd (let z : item_place None ≡ Commits = ap item_place (sym e) ∙ h.is.closes in cc)
         by (Some a) e = commits a e (commit-item a (ap item_place (sym e) ∙ h.is.closes))
           where
-            commits : (a : Instr) → item_at P k (suc (h.run.start + h.run.size)) ≡ Some a → IsCommit a → Chunks S0 T0
+            commits : (a : Instr) → item_at P k (suc (h.run.start + h.run.size)) ≡ Some a → IsCommit a → Chunks stateP stateQ
             commits a e c =
                 let inside : suc (h.run.start + h.run.size) ≤ length (code_of P k) = (let w = slice_get_within (code_of P k) (suc (h.run.start + h.run.size)) a e in omega (arith, w)) in
                 let none = plain-exit (suc (h.run.start + h.run.size)) a e (is-guard-plain a c) in
@@ -485,7 +485,7 @@ module _ (P Q : Prog) (limits : Limits) (accepted : IsAccepted P) (st : Laid P Q
 
     -- an unpaired guard: both are at the label
     unpaired-chunk : (n j : ℕ) (p' : Locals) (z : ℕ → ℕ → ℕ) → suc r.start ≤ j → j < suc (r.start + r.size) → is_guard (item_at P k j) ≡ true → exit_at (st.exits k) j ≡ None → (lk : Lk j p' (after (step Q limits) n (InQ (old (suc r.start)) q)))
-        → after (step P limits) n (InP (suc r.start) p) ≡ InP j p' → step P limits (InP j p') ≡ OutP z bail p → Chunks S0 T0
+        → after (step P limits) n (InP (suc r.start) p) ≡ InP j p' → step P limits (InP j p') ≡ OutP z bail p → Chunks stateP stateQ
     unpaired-chunk n j p' z lo hi is none lk es ef =
         let g = guarding j lo hi is in
         let F = (found P k j g.a g.at).function in
@@ -521,7 +521,7 @@ module _ (P Q : Prog) (limits : Limits) (accepted : IsAccepted P) (st : Laid P Q
 
     abbrev PairedCase : Pair → Type 0
     PairedCase pair = In pair h.here → (n : ℕ) (p' : Locals) (z : ℕ → ℕ → ℕ) → Lk pair.guard p' (after (step Q limits) n (InQ (old (suc r.start)) q)) → after (step P limits) n (InP (suc r.start) p) ≡ InP pair.guard p' → step P limits (InP pair.guard p') ≡ OutP z bail p
-        → LeadsOff P Q limits accepted B k p q contents.locations ps qs fs gs blocks printed x y r h.is lab.number lab.at old next-in shared kept-trees guarded z pair.kept pair.other p' → Chunks S0 T0
+        → LeadsOff P Q limits accepted B k p q contents.locations ps qs fs gs blocks printed x y r h.is lab.number lab.at old next-in shared kept-trees guarded z pair.kept pair.other p' → Chunks stateP stateQ
 
     paired-chunk : (w : SideExit) → In w (st.exits k) → exit_at (st.exits k) w.pair.guard ≡ Some w → PairedCase w.pair
     paired-chunk w among at here n p' z lk es ef u =
@@ -541,21 +541,21 @@ module _ (P Q : Prog) (limits : Limits) (accepted : IsAccepted P) (st : Laid P Q
         let to = first_target Q k (suc before.point + length w.pair.kept) None op.Jmp [] [] (named (labels_in P k) w.pair.other) j (old (point_of w.pair.other C)) ol in
         let jumped : step Q limits (OutQ f.z (suc before.point + length w.pair.kept) m.q) ≡ OutQ f.z (old (point_of w.pair.other C)) m.q =
         ap (λ o. item_step Q limits o (frame k (suc before.point + length w.pair.kept) m.q qs) gs (OutQ f.z (suc before.point + length w.pair.kept) m.q)) j.at ∙ ap (λ d. OutQ f.z d m.q) to in
-        let t0 : after (step Q limits) (suc n) T0 ≡ InQ (old w.pair.guard) lk.q = came-Q n ∙ lk.is in
-        let t1 : after (step Q limits) (suc (suc n)) T0 ≡ OutQ f.z before.point q = after-suc (step Q limits) (suc n) T0 ∙ ap (step Q limits) t0 ∙ f.is in
-        let t2 : after (step Q limits) (suc (suc (suc n))) T0 ≡ OutQ f.z (suc before.point) q = after-suc (step Q limits) (suc (suc n)) T0 ∙ ap (step Q limits) t1 ∙ over in
-        let t3 : after (step Q limits) (suc (suc (suc n)) + length w.pair.kept) T0 ≡ OutQ f.z (suc before.point + length w.pair.kept) m.q =
-        after-add (step Q limits) (suc (suc (suc n))) (length w.pair.kept) T0 ∙ ap (after (step Q limits) (length w.pair.kept)) t2 ∙ m.steps in
-        let t4 : after (step Q limits) (suc (suc (suc (suc n)) + length w.pair.kept)) T0 ≡ OutQ f.z (old (point_of w.pair.other C)) m.q =
-        after-suc (step Q limits) (suc (suc (suc n)) + length w.pair.kept) T0 ∙ ap (step Q limits) t3 ∙ jumped in
+        let t0 : after (step Q limits) (suc n) stateQ ≡ InQ (old w.pair.guard) lk.q = came-Q n ∙ lk.is in
+        let t1 : after (step Q limits) (suc (suc n)) stateQ ≡ OutQ f.z before.point q = after-suc (step Q limits) (suc n) stateQ ∙ ap (step Q limits) t0 ∙ f.is in
+        let t2 : after (step Q limits) (suc (suc (suc n))) stateQ ≡ OutQ f.z (suc before.point) q = after-suc (step Q limits) (suc (suc n)) stateQ ∙ ap (step Q limits) t1 ∙ over in
+        let t3 : after (step Q limits) (suc (suc (suc n)) + length w.pair.kept) stateQ ≡ OutQ f.z (suc before.point + length w.pair.kept) m.q =
+        after-add (step Q limits) (suc (suc (suc n))) (length w.pair.kept) stateQ ∙ ap (after (step Q limits) (length w.pair.kept)) t2 ∙ m.steps in
+        let t4 : after (step Q limits) (suc (suc (suc (suc n)) + length w.pair.kept)) stateQ ≡ OutQ f.z (old (point_of w.pair.other C)) m.q =
+        after-suc (step Q limits) (suc (suc (suc n)) + length w.pair.kept) stateQ ∙ ap (step Q limits) t3 ∙ jumped in
         let sum : suc (n + suc (length w.pair.kept + 2)) ≡ suc (suc (suc (suc n)) + length w.pair.kept) = omega arith in
         let a = aborted w.pair.guard fine.low fine.high g in
         let same : bail ≡ point_of w.pair.bail C = ap (λ b. point_of b C) (sym fine.bail) in
         let d = passage-reach C (point_of w.pair.bail C) w.pair.kept fine.turning.stands fine.turning.passage a.walk a.is (a.ends ∙ same) in
         let e = glide-turn C fine.turning.stands fine.turning.c fine.turning.on fine.turning.off w.pair.other fine.turning.turns fine.turning.other d.walk d.is d.ends in
         let reach : Reach C contents.walk (point_of w.pair.other C) = record { walk = e.walk; is = e.is; ends = e.ends; sites = e.sites ∙ d.sites ∙ a.sites } in
-        leads-off P Q limits accepted B k p q contents.locations ps qs fs gs blocks printed x y r h.is lab.number lab.at old next-in shared kept-trees guarded R S0 T0 (OutQ f.z (old (point_of w.pair.other C)) m.q) refl refl opens-P
-        w.pair n p' z es ef u (ap (λ c. after (step Q limits) c T0) sum ∙ t4)
+        leads-off P Q limits accepted B k p q contents.locations ps qs fs gs blocks printed x y r h.is lab.number lab.at old next-in shared kept-trees guarded R stateP stateQ (OutQ f.z (old (point_of w.pair.other C)) m.q) refl refl opens-P
+        w.pair n p' z es ef u (ap (λ c. after (step Q limits) c stateQ) sum ∙ t4)
         (inl (out z f.z (point_of w.pair.other C) u.w m.q reach (other-outside w fine.turning.c fine.turning.on fine.turning.off fine.turning.stands fine.turning.turns fine.turning.other) m.alike))
       where
         leads : (labels : List (List ℕ)) → labels-by (Some w) labels ≡ w.name ∷ []
@@ -580,7 +580,7 @@ module _ (P Q : Prog) (limits : Limits) (accepted : IsAccepted P) (st : Laid P Q
 
     -- the rest of a run, behind the last pair
     rest-chunk : (n j : ℕ) (p' : Locals) → suc r.start ≤ j → ((pair : Pair) → In pair h.here → pair.guard < j) → after (step P limits) n (InP (suc r.start) p) ≡ InP j p'
-        → Remains P Q limits accepted B k p q contents.locations ps qs fs gs blocks printed x y r h.is lab.number lab.at old next-in shared kept-trees guarded j p' (after (step Q limits) n (InQ (old (suc r.start)) q)) → Chunks S0 T0
+        → Remains P Q limits accepted B k p q contents.locations ps qs fs gs blocks printed x y r h.is lab.number lab.at old next-in shared kept-trees guarded j p' (after (step Q limits) n (InQ (old (suc r.start)) q)) → Chunks stateP stateQ
     rest-chunk n j p' low below es (RestFaults m kind j' p'' lo hi lk es' ef) =
         faulted-chunk (n + m) kind j' p'' lo hi (subst (Lk j' p'') (sym (after-add (step Q limits) n m (InQ (old (suc r.start)) q))) lk) (after-add (step P limits) n m (InP (suc r.start) p) ∙ ap (after (step P limits) m) es ∙ es') ef
     rest-chunk n j p' low below es (RestFails m j' p'' z up hi is lk es' ef) =
@@ -597,10 +597,10 @@ module _ (P Q : Prog) (limits : Limits) (accepted : IsAccepted P) (st : Laid P Q
     rest-chunk n j p' low below es (RestCommits m p'' lk es') =
         committed-chunk (n + m) p'' (subst (Lk (suc (r.start + r.size)) p'') (sym (after-add (step Q limits) n m (InQ (old (suc r.start)) q))) lk) (after-add (step P limits) n m (InP (suc r.start) p) ∙ ap (after (step P limits) m) es ∙ es')
 
-    run-chunk : Chunks S0 T0
+    run-chunk : Chunks stateP stateQ
     run-chunk = by attempt
       where
-        by : Comes P Q limits accepted B k p q contents.locations ps qs fs gs blocks printed x y r h.is lab.number lab.at old next-in shared kept-trees guarded h.here → Chunks S0 T0
+        by : Comes P Q limits accepted B k p q contents.locations ps qs fs gs blocks printed x y r h.is lab.number lab.at old next-in shared kept-trees guarded h.here → Chunks stateP stateQ
         by (Faulted n kind j p' lo hi lk es ef) = faulted-chunk n kind j p' lo hi lk es ef
         by (Failed pair among n p' z lk es ef u) =
             let w = h.exits_of pair among in
