@@ -25,7 +25,7 @@ use Rattle.rv64_words.specs.declared.points.PointAt.{PointAt}
 use Rattle.rv64_words.specs.declared.points.Points.{Points}
 use Rattle.rv64_emit.specs.declared.front.Front.{Front}
 use Rattle.rv64_emit.specs.Front.{IsFrontOf}
-use Rattle.rv64_emit.specs.ListsPoints.{ListsPoints}
+use Rattle.rv64_image_laws.specs.ListsPoints.{ListsPoints}
 use Rattle.rv64_emit.specs.Placed.{placed_homes}
 use Rattle.rv64_emit.specs.Tables.{SlotsFit}
 use Rattle.rv64_emit.proofs.Emitting.{IsEmitted, emitted, slots_fit, stack_is}

@@ -1,6 +1,5 @@
 pub mod Bounds
 pub mod Front
-pub mod ListsPoints
 pub mod LiveVariables
 pub mod Moved
 pub mod Placed

@@ -13,12 +13,11 @@
 //! 4. The words of items (`src/item.rt`, `src/items.rt`), how many they have, and where they begin (`src/sizes.rt`,
 //!    `src/places.rt`).
 //! 5. The whole image (`src/image.rt`), and the two bounds (`src/bounds.rt`).
-//! 6. The points at which a stepping monitor may stop (`src/points.rt`, `specs/ListsPoints.antt`), with what is live there
-//!    (`src/live_variables.rt`).
+//! 6. The points at which a stepping monitor may stop (`src/points.rt`), with what is live there (`src/live_variables.rt`).
 #![tactic(auto)]
 
 ghost use Rattle.std.specs.Prelude.{◌≡◌, ◌≤◌, length, IfOk, IfErr};
-ghost use Rattle.rv64_emit.specs.ListsPoints.{ListsPoints};
+ghost use Rattle.rv64_image_laws.specs.ListsPoints.{ListsPoints};
 ghost use Rattle.rv64_emit.specs.Refusal.{EmitRefuses};
 ghost use Rattle.rv64_emit.specs.PlacedImage.{ImplementsPlaced};
 ghost use Rattle.rv64_image_laws.specs.Implements.{Implements};

@@ -1,6 +1,7 @@
 pub mod Home
 pub mod Implements
 pub mod Laws
+pub mod ListsPoints
 pub mod PointsShown
 pub mod ProgramPoints
 pub mod Shown
